@@ -1,0 +1,11 @@
+-- The test digest, which collides at once.
+use Rattle.std.specs.Prelude.{◌≡◌, ℕ, ◌%◌, List, ◌∷◌, length, replicate, sum, refl}
+
+-- 32 bytes: the sum of the string's bytes modulo 256, and zeros
+unfoldable pub sum_digest : List ℕ → List ℕ
+sum_digest string = (sum string % 256) ∷ replicate 31 0
+
+-- a digest has 32 bytes
+pub length-sum_digest : (string : List ℕ) → length (sum_digest string) ≡ 32
+unfolding sum_digest
+length-sum_digest string = refl
