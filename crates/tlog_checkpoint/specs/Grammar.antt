@@ -1,0 +1,32 @@
+-- The grammar of a checkpoint's text (C2SP tlog-checkpoint, "Note text"), as a relation between a
+-- whole text and what it says.
+use Rattle.std.specs.Prelude.{◌≡◌, ◌≢◌, ℕ, ◌<◌, ◌^◌, List, [], ◌∷◌}
+use Rattle.std.specs.List.{AllByRecursion}
+use Rattle.tlog_checkpoint.specs.declared.Checkpoint.{Checkpoint}
+use Rattle.tlog_checkpoint.specs.Lines.{IsLine, text_of}
+use Rattle.tlog_checkpoint.specs.Fields.{IsDecimal, IsRoot}
+
+-- a line that is not empty
+pub record IsFullLine (line : List ℕ) : Type 0 where
+  pub not_empty : line ≢ []
+  pub is_line : IsLine line
+
+-- The text is at least three lines, and none of its lines is empty.
+pub record HasFields (text origin size root : List ℕ) (extensions : List (List ℕ)) : Type 0 where
+  pub is_text : text ≡ text_of (origin ∷ size ∷ root ∷ extensions)
+  pub are_full : AllByRecursion IsFullLine (origin ∷ size ∷ root ∷ extensions)
+
+-- The text is the checkpoint of this origin, size, root and these extension lines.
+pub record IsCheckpoint (text origin : List ℕ) (size : ℕ) (root : List ℕ) (extensions : List (List ℕ)) : Type 0 where
+  pub size_line : List ℕ
+  pub root_line : List ℕ
+  pub fields : HasFields text origin size_line root_line extensions
+  pub has_size : IsDecimal size_line size
+  pub in_range : size < 2 ^ 63
+  pub has_root : IsRoot root_line root
+
+-- What can be written: an origin and extensions that are lines and not empty, and a size in range.
+pub record IsWritable (checkpoint : Checkpoint) : Type 0 where
+  pub origin : IsFullLine checkpoint.origin
+  pub size : checkpoint.size < 2 ^ 63
+  pub extensions : AllByRecursion IsFullLine checkpoint.extensions

@@ -1,0 +1,27 @@
+-- What the grammar of checkpoints says, as laws of its definitions.
+use Rattle.std.specs.Prelude.{◌≡◌, ◌≢◌, ℕ, List, Result, Ok, Err}
+use Rattle.tlog_checkpoint.specs.declared.Checkpoint.{Checkpoint}
+use Rattle.tlog_checkpoint.specs.declared.fault.CheckpointFault.{CheckpointFault}
+use Rattle.tlog_checkpoint.specs.declared.fault.CheckpointFault.TheVariants.{OutOfMemory}
+use Rattle.tlog_checkpoint.specs.Grammar.{IsCheckpoint, IsWritable}
+use Rattle.tlog_checkpoint.specs.Reading.{Reads}
+
+-- a text is one checkpoint at most
+abbrev pub OneReading : Type 0
+OneReading = (text : List ℕ) (a b : Checkpoint) → IsCheckpoint text a.origin a.size a.root a.extensions → IsCheckpoint text b.origin b.size b.root b.extensions → a ≡ b
+
+-- a checkpoint has one text at most
+abbrev pub OneText : Type 0
+OneText = (s t origin : List ℕ) (size : ℕ) (root : List ℕ) (extensions : List (List ℕ)) → IsCheckpoint s origin size root extensions → IsCheckpoint t origin size root extensions → s ≡ t
+
+-- what a text is can be written
+abbrev pub ReadsWritable : Type 0
+ReadsWritable = (text : List ℕ) (c : Checkpoint) → IsCheckpoint text c.origin c.size c.root c.extensions → IsWritable c
+
+-- two answers to one text that are no want of memory are the same
+abbrev pub OneAnswer : Type 0
+OneAnswer = (text : List ℕ) (a b : Result Checkpoint CheckpointFault) → a ≢ Err OutOfMemory → b ≢ Err OutOfMemory → Reads text a → Reads text b → a ≡ b
+
+-- each text has an answer that is no want of memory
+abbrev pub EachAnswered : Type 0
+EachAnswered = (text : List ℕ) → (a : Result Checkpoint CheckpointFault) × (a ≢ Err OutOfMemory) × Reads text a

@@ -1,0 +1,62 @@
+-- What reading a text answers: its checkpoint, or the first refusal that applies.
+use Rattle.std.specs.Prelude.{ℕ, ◌<◌, ◌≤◌, ◌^◌, List, [], ◌∷◌, length, Result, Ok, Err}
+use Rattle.std.specs.List.{Contains}
+use Rattle.tlog_checkpoint.specs.declared.Checkpoint.{Checkpoint}
+use Rattle.tlog_checkpoint.specs.declared.fault.CheckpointFault.{CheckpointFault}
+use Rattle.tlog_checkpoint.specs.declared.fault.CheckpointFault.TheVariants.{TooFewLines, EmptyLine, BadSize, SizeTooLarge, BadRoot, OutOfMemory}
+use Rattle.tlog_checkpoint.specs.Lines.{HasLines}
+use Rattle.tlog_checkpoint.specs.Fields.{IsDecimal, IsRoot}
+use Rattle.tlog_checkpoint.specs.Grammar.{HasFields, IsCheckpoint}
+
+-- Three lines are not there, or bytes follow the last newline: then the text has no lines at all.
+abbrev pub HasTooFewLines : List ℕ → Type 0
+HasTooFewLines text = (lines : List (List ℕ)) → HasLines text lines → length lines < 3
+
+-- The lines are there, and one of them is empty.
+pub record HasEmptyLine (text : List ℕ) : Type 0 where
+  pub lines : List (List ℕ)
+  pub has_lines : HasLines text lines
+  pub enough : 3 ≤ length lines
+  pub has_empty : Contains lines []
+
+-- The size's line is no number.
+pub record HasBadSize (text : List ℕ) : Type 0 where
+  pub origin : List ℕ
+  pub size_line : List ℕ
+  pub root_line : List ℕ
+  pub extensions : List (List ℕ)
+  pub fields : HasFields text origin size_line root_line extensions
+  pub no_size : (n : ℕ) → IsDecimal size_line n → ⊥
+
+-- The size is a number of more than 2^63 - 1, however many digits it has.
+pub record HasLargeSize (text : List ℕ) : Type 0 where
+  pub origin : List ℕ
+  pub size_line : List ℕ
+  pub root_line : List ℕ
+  pub extensions : List (List ℕ)
+  pub fields : HasFields text origin size_line root_line extensions
+  pub size : ℕ
+  pub has_size : IsDecimal size_line size
+  pub too_large : 2 ^ 63 ≤ size
+
+-- The size is in range, and the root's line is no root.
+pub record HasBadRoot (text : List ℕ) : Type 0 where
+  pub origin : List ℕ
+  pub size_line : List ℕ
+  pub root_line : List ℕ
+  pub extensions : List (List ℕ)
+  pub fields : HasFields text origin size_line root_line extensions
+  pub size : ℕ
+  pub has_size : IsDecimal size_line size
+  pub in_range : size < 2 ^ 63
+  pub no_root : (root : List ℕ) → IsRoot root_line root → ⊥
+
+-- What reading a text may answer. Want of memory may come at any text.
+abbrev pub Reads : List ℕ → Result Checkpoint CheckpointFault → Type 0
+Reads text (Ok c) = IsCheckpoint text c.origin c.size c.root c.extensions
+Reads text (Err TooFewLines) = HasTooFewLines text
+Reads text (Err EmptyLine) = HasEmptyLine text
+Reads text (Err BadSize) = HasBadSize text
+Reads text (Err SizeTooLarge) = HasLargeSize text
+Reads text (Err BadRoot) = HasBadRoot text
+Reads text (Err OutOfMemory) = Unit {0}

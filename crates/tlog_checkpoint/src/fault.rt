@@ -1,0 +1,47 @@
+//! Why a text is no checkpoint.
+
+ghost use Rattle.std.specs.Prelude.{◌≡◌};
+ghost use Rattle.tlog_checkpoint.specs.declared.fault.CheckpointFault.TheVariants.{OutOfMemory};
+
+use std::alloc::{AllocError, AllocFailed};
+use thiserror::Error;
+
+/// Why a text was not read as a checkpoint. Of those that apply, the first in this order is
+/// answered; want of memory may come before any of them.
+#[derive(Debug, Drop, PartialEq, Eq, Clone, Copy, Error)]
+pub enum CheckpointFault {
+    /// The text has fewer than three lines, or bytes after its last newline.
+    #[error("TooFewLines")]
+    TooFewLines,
+    /// A line is empty, be it an extension line.
+    #[error("EmptyLine")]
+    EmptyLine,
+    /// The second line is not decimal digits, or has a leading zero before another digit.
+    #[error("BadSize")]
+    BadSize,
+    /// The size is over 9223372036854775807, however many digits it has.
+    #[error("SizeTooLarge")]
+    SizeTooLarge,
+    /// The third line is not the standard base64 of exactly 32 bytes, padded and canonical.
+    #[error("BadRoot")]
+    BadRoot,
+    /// Memory was wanting.
+    #[error("OutOfMemory")]
+    OutOfMemory,
+}
+
+impl From<AllocError> for CheckpointFault {
+    ghost from_gives = { λ _ e. e ≡ OutOfMemory };
+
+    fn from(_e: AllocError) -> CheckpointFault {
+        CheckpointFault::OutOfMemory
+    }
+}
+
+impl<T: Drop> From<AllocFailed<T>> for CheckpointFault {
+    ghost from_gives = { λ _ e. e ≡ OutOfMemory };
+
+    fn from(_e: AllocFailed<T>) -> CheckpointFault {
+        CheckpointFault::OutOfMemory
+    }
+}

@@ -1,0 +1,34 @@
+//! Checkpoints of a transparency log: their text, read and written exactly (C2SP tlog-checkpoint,
+//! "Note text").
+//!
+//! The text is lines that each end in a newline:
+//!
+//! 1. the origin, which names the log;
+//! 2. the size of the tree, in ASCII decimal digits without leading zeros;
+//! 3. the root hash of the tree, in standard base64 (RFC 4648, section 4) with padding;
+//! 4. any number of extension lines, which nobody has to understand.
+//!
+//! No line is empty. `read` takes exactly such texts, and `write` writes the one text of a
+//! checkpoint.
+#![tactic(auto)]
+
+mod fault;
+mod text;
+
+pub use fault::CheckpointFault;
+pub use text::{Line, Lines};
+
+use tlog_hash::Hash;
+
+/// What a checkpoint says of its log.
+#[derive(Debug, Drop)]
+pub struct Checkpoint {
+    /// The name of the log: one line, without its newline.
+    pub origin: Line,
+    /// How many entries the log has.
+    pub size: u64,
+    /// The root hash of the tree of those entries.
+    pub root: Hash,
+    /// The lines after the root, without their newlines, in the text's order.
+    pub extensions: Lines,
+}

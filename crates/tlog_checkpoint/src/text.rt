@@ -1,0 +1,79 @@
+//! Texts that contracts see as their bytes, wherever they lie in memory.
+
+ghost use Rattle.std.specs.Prelude.{◌≡◌, string_bytes};
+
+use std::marker::Model;
+
+/// A line of a checkpoint, without its newline. Contracts see its bytes.
+#[derive(Debug, Drop)]
+pub struct Line {
+    text: String,
+}
+
+impl Model for Line {
+    ghost use Rattle.std.specs.Prelude.{ℕ, List, string_bytes};
+
+    ghost Value = { List ℕ };
+
+    ghost view = { λ l. string_bytes l.text };
+}
+
+impl Line {
+    /// A line of that text. Whether it can stand in a checkpoint is asked where it is written.
+    pub fn new(text: String) -> Self
+        ensures { result ≡ string_bytes text }
+    {
+        Line { text }
+    }
+
+    /// The text of the line.
+    pub fn as_str(&self) -> &str
+        ensures { result.now ≡ self.now }
+    {
+        self.text.as_str()
+    }
+
+    /// The text, given back.
+    pub fn into_string(self) -> String
+        ensures { string_bytes result ≡ self }
+    {
+        self.text
+    }
+}
+
+/// Lines in order. Contracts see the list of their bytes.
+#[derive(Debug, Drop)]
+pub struct Lines {
+    lines: Vec<Line>,
+}
+
+impl Model for Lines {
+    ghost use Rattle.std.specs.Prelude.{ℕ, List};
+
+    ghost Value = { List (List ℕ) };
+
+    ghost view = { λ l. l.lines.items };
+}
+
+impl Lines {
+    /// Those lines.
+    pub fn new(lines: Vec<Line>) -> Self
+        ensures { result ≡ lines.items }
+    {
+        Lines { lines }
+    }
+
+    /// The lines, in order.
+    pub fn as_slice(&self) -> &[Line]
+        ensures { result.now ≡ self.now }
+    {
+        self.lines.as_slice()
+    }
+
+    /// The lines, given back.
+    pub fn into_vec(self) -> Vec<Line>
+        ensures { result.items ≡ self }
+    {
+        self.lines
+    }
+}
