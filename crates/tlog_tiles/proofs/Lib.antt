@@ -1,0 +1,2 @@
+pub mod BundleLemmas
+pub mod RowLemmas

@@ -1,0 +1,12 @@
+use Rattle.std.proofs.Common.{rules, ◌≡◌, ◌<◌, ◌≤◌, ◌^◌, ◌++◌, All, List, ℕ, length, IfOk, map, take, drop, ◌+◌, ◌-◌, ◌*◌, [], ◌∷◌, refl, sym, ap, subst, ◌∙◌, arith}
+use Rattle.std.proofs.lemmas.List.{take_all}
+use Rattle.std.proofs.lemmas.List.Elements.{All-from_get_or}
+use Rattle.tlog_tiles.specs.Row.{IsRow, row_text}
+use Rattle.tlog_tiles.proofs.row.write_row.Goals as goal
+
+pub returns : goal.returns
+returns c = record {
+  count = refl;
+  sizes = All-from_get_or (λ (h : List ℕ). length h ≡ 32) c.args.row.now [] c.told-row;
+  text = c.loop-hash.invariant ∙ ap (λ (r : List (List ℕ)). row_text r) (take_all c.loop-hash.hash-index c.args.row.now c.loop-hash-test.false);
+}

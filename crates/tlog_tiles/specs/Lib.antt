@@ -1,0 +1,4 @@
+pub mod Seen
+pub mod Bundle
+pub mod Row
+pub mod Laws

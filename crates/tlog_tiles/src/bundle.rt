@@ -1,0 +1,95 @@
+//! Bundles of entries (C2SP tlog-tiles, "Log Entries").
+ghost use Rattle.std.specs.Prelude.{◌≡◌, ◌<◌, ◌≤◌, ◌^◌, ◌++◌, All, List, ℕ, length, IfNone, IfOk, IfSome, map};
+ghost use Rattle.tlog_tiles.specs.Bundle.{entry_text, IsBundle, ReadsBundle};
+ghost use Rattle.tlog_tiles.specs.Seen.{seen};
+ghost use Rattle.tlog_tiles.specs.declared.bundle.BundleFault.TheVariants.{OutOfMemory};
+
+use std::alloc::{AllocError, AllocFailed, Global};
+use thiserror::Error;
+
+/// Why bytes are not read as a bundle of a given width.
+#[derive(Debug, Drop, PartialEq, Eq, Clone, Copy, Error)]
+pub enum BundleFault {
+    /// No prefix of the bytes is a bundle of that width: they end within an entry, or before the last.
+    #[error("BundleShort")]
+    BundleShort,
+    /// A prefix of the bytes is a bundle of that width, and more bytes follow it.
+    #[error("BundleLong")]
+    BundleLong,
+    /// The list of entries could not be made for want of memory.
+    #[error("OutOfMemory")]
+    OutOfMemory,
+}
+
+impl From<AllocError> for BundleFault {
+    ghost from_gives = { λ _ e. e ≡ OutOfMemory };
+
+    fn from(_e: AllocError) -> BundleFault {
+        BundleFault::OutOfMemory
+    }
+}
+
+impl<T: Drop> From<AllocFailed<T>> for BundleFault {
+    ghost from_gives = { λ _ e. e ≡ OutOfMemory };
+
+    fn from(_e: AllocFailed<T>) -> BundleFault {
+        BundleFault::OutOfMemory
+    }
+}
+
+// The entry at the front, and the bytes behind it.
+fn entry_at(bytes: &[u8]) -> Option<(&[u8], &[u8])>
+    ensures found { IfSome result (λ x. (length x.0.now < 2 ^ 16) × (bytes.now ≡ entry_text x.0.now ++ x.1.now)) }
+    ensures none { IfNone result ((entry rest : List ℕ) → length entry < 2 ^ 16 → bytes.now ≡ entry_text entry ++ rest → ⊥) }
+{
+    if bytes.len() < 2 {
+        return None;
+    }
+    let (front, after) = bytes.split_at(2);
+    let len = u16::from_be_bytes([front[0], front[1]]) as usize;
+    if after.len() < len {
+        return None;
+    }
+    Some(after.split_at(len))
+}
+
+/// The entries of a bundle of `width` entries: each stands after its length, two bytes big-endian, and
+/// together they are all of the bytes. The entries are lent from the bytes.
+///
+/// `BundleShort` comes exactly where no prefix of the bytes is such a bundle, `BundleLong` exactly
+/// where one is that is not all of them; either may be hidden by `OutOfMemory`.
+pub fn read_bundle(alloc: Global, width: u32, bytes: &[u8]) -> Result<Vec<&[u8]>, BundleFault>
+    requires { width ≤ 256 }
+    ensures { ReadsBundle width bytes.now (seen (λ v. map (λ e. e.now) v.items) result) }
+{
+    let mut entries = Vec::new(alloc);
+    let mut rest = bytes;
+    for _ in 0..width {
+        let Some((entry, after)) = entry_at(rest) else {
+            return Err(BundleFault::BundleShort);
+        };
+        entries.push(entry)?;
+        rest = after;
+    }
+    if !rest.is_empty() {
+        return Err(BundleFault::BundleLong);
+    }
+    Ok(entries)
+}
+
+/// The bytes of the bundle of the entries: each after its length, two bytes big-endian.
+///
+/// A bundle has at most 256 entries of at most 65,535 bytes each.
+pub fn write_bundle(alloc: Global, entries: &[&[u8]]) -> Result<Vec<u8>, AllocError>
+    requires count { length entries.now ≤ 256 }
+    requires fits { All (λ e. length e.now < 2 ^ 16) entries.now }
+    ensures { IfOk result (λ v. IsBundle (length entries.now) v.items (map (λ e. e.now) entries.now)) }
+{
+    let mut bytes = Vec::new(alloc);
+    for entry in entries {
+        let len = entry.len() as u16;
+        bytes.extend_from_slice(&len.to_be_bytes())?;
+        bytes.extend_from_slice(entry)?;
+    }
+    Ok(bytes)
+}

@@ -1,0 +1,18 @@
+//! What a transparency log serves, and where (C2SP tlog-tiles).
+//!
+//! A log's static files are tiles of hashes, bundles of entries and a checkpoint. This crate reads and
+//! writes the bytes of a tile, here called a row of hashes (`read_row`, `write_row`), those of a
+//! bundle (`read_bundle`, `write_bundle`) and the paths under which they are served (`Path`, `print`),
+//! and names the partial tiles at the right edge of a tree (`edge_paths`).
+#![tactic(auto)]
+
+mod bundle;
+mod laws;
+mod row;
+
+pub use bundle::{BundleFault, read_bundle, write_bundle};
+pub use laws::{one_bundle_law, one_row_law};
+pub use row::{RowFault, read_row, write_row};
+
+#[cfg(test)]
+mod tests;

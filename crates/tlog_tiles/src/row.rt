@@ -1,0 +1,66 @@
+//! Rows of hashes, which are the bytes of tiles (C2SP tlog-tiles, "Merkle Tree").
+ghost use Rattle.std.specs.Prelude.{◌≡◌, IfOk, length};
+ghost use Rattle.tlog_tiles.specs.Row.{IsRow, ReadsRow};
+ghost use Rattle.tlog_tiles.specs.Seen.{seen};
+ghost use Rattle.tlog_tiles.specs.declared.row.RowFault.TheVariants.{OutOfMemory};
+
+use std::alloc::{AllocError, AllocFailed, Global};
+use thiserror::Error;
+use tlog_hash::Hash;
+
+/// Why bytes are not read as a row of a given width.
+#[derive(Debug, Drop, PartialEq, Eq, Clone, Copy, Error)]
+pub enum RowFault {
+    /// There are not 32 times as many bytes as the width says.
+    #[error("RowLength")]
+    RowLength,
+    /// The list of hashes could not be made for want of memory.
+    #[error("OutOfMemory")]
+    OutOfMemory,
+}
+
+impl From<AllocError> for RowFault {
+    ghost from_gives = { λ _ e. e ≡ OutOfMemory };
+
+    fn from(_e: AllocError) -> RowFault {
+        RowFault::OutOfMemory
+    }
+}
+
+impl<T: Drop> From<AllocFailed<T>> for RowFault {
+    ghost from_gives = { λ _ e. e ≡ OutOfMemory };
+
+    fn from(_e: AllocFailed<T>) -> RowFault {
+        RowFault::OutOfMemory
+    }
+}
+
+/// The hashes of a row of `width` hashes of 32 bytes each, which together are all of the bytes.
+///
+/// Any width is read; a row of width 0 has no bytes. `RowLength` comes exactly where there are not
+/// `32 * width` bytes, though `OutOfMemory` may hide it.
+pub fn read_row(alloc: Global, width: u32, bytes: &[u8]) -> Result<Vec<Hash>, RowFault>
+    ensures { ReadsRow width bytes.now (seen (λ v. v.items) result) }
+{
+    if bytes.len() as u64 != 32 * u64::from(width) {
+        return Err(RowFault::RowLength);
+    }
+    let mut row = Vec::new(alloc);
+    for i in 0..width as usize {
+        let mut hash = [0u8; 32];
+        hash.copy_from_slice(&bytes[32 * i..32 * i + 32]);
+        row.push(hash)?;
+    }
+    Ok(row)
+}
+
+/// The bytes of a row of hashes, one after the other.
+pub fn write_row(alloc: Global, row: &[Hash]) -> Result<Vec<u8>, AllocError>
+    ensures { IfOk result (λ v. IsRow (length row.now) v.items row.now) }
+{
+    let mut bytes = Vec::new(alloc);
+    for hash in row {
+        bytes.extend_from_slice(hash.as_slice())?;
+    }
+    Ok(bytes)
+}
