@@ -1,0 +1,61 @@
+-- The laws of specs/TreeLaws.antt, from the lemmas on blocks, edges, fronts and walks.
+use Rattle.std.proofs.Common.{subst, ◌≡◌, inl, inr, ◌+◌, ◌-◌, ◌*◌, ◌/◌, ◌^◌, min, length, take, drop, sym, refl, ap, ◌∙◌, arith, length-drop}
+use Rattle.std.proofs.lemmas.List.{take_min}
+use Rattle.std.proofs.lemmas.Bool.{cases_lt}
+use Rattle.std.specs.List.{Contains}
+use Rattle.tlog_hash.specs.Tree.{tree_of, strings}
+use Rattle.tlog_hash.specs.Nodes.{Node}
+use Rattle.tlog_hash.specs.Rows.{part}
+use Rattle.tlog_mirror.specs.Front.{Place, TilePlace, BundlePlace, IsPlaceOf}
+use Rattle.tlog_mirror.specs.TreeLaws.{FullRowJoins, BundleStrings, RoundLeaves, RoundGoesDown, BundlesComplete, MissingIsFront}
+use Rattle.tlog_mirror.proofs.NodeBlocks.{node_inside}
+use Rattle.tlog_mirror.proofs.RowLaws.{full_tile, bundle}
+use Rattle.tlog_mirror.proofs.Fronts.{power_le, front_node, front_unheld, after_round, after_bundles}
+use Rattle.tlog_mirror.proofs.Walks.{walk_is_front}
+
+pub full_row_joins : FullRowJoins
+full_row_joins d es level index fits y =
+    let law = full_tile d es level index fits y in (
+      λ h. let n = law.0 h in record { node = n.node; is = n.is; start_in = n.inside.start_in; end_in = n.inside.upto; long = n.long; string_is = n.string_is },
+      λ h. law.1 (record { node = h.node; is = h.is; inside = record { start_in = h.start_in; upto = h.end_in; some = (node_inside d es 0 h.node h.is).some }; long = h.long; string_is = h.string_is }),
+    )
+
+pub bundle_strings : BundleStrings
+bundle_strings d es index fits y =
+    let swap : 256 * index ≡ index * 256 = omega arith in
+    let len : length (drop (256 * index) es) ≡ length es - 256 * index = length-drop (256 * index) es in
+    let same : part (256 * index) (min 256 (length es - 256 * index)) es ≡ part (index * 256) 256 es = ap (λ n. take (min 256 n) (drop (256 * index) es)) (sym len) ∙ take_min 256 (drop (256 * index) es) ∙ ap (λ n. part n 256 es) swap in
+    let law = bundle d es index (omega arith) y in (
+      λ h.
+          let n = law.0 (subst (λ zs. Contains (strings d zs) y) same h) in
+          let whole = node_inside d es 0 n.node n.is in
+          record { node = n.node; is = n.is; start_in = omega (arith, n.inside.start_in); end_in = omega (arith, n.inside.upto, n.inside.start_in, whole.upto, whole.some); long = omega (arith, whole.some); string_is = n.string_is },
+      λ h. subst (λ zs. Contains (strings d zs) y) (sym same) (law.1 (record { node = h.node; is = h.is; inside = record { start_in = omega (arith, h.start_in); upto = omega (arith, h.end_in); some = omega (arith, h.long) }; string_is = h.string_is })),
+    )
+
+pub round_leaves : RoundLeaves
+round_leaves d held after es r = after_round d held after r.grows es r.small r.edge r.answered
+
+pub round_goes_down : RoundGoesDown
+round_goes_down d held after es r top asks level index width f =
+    let n = f.node in
+    let short = round_leaves d held after es r top asks n (front_node d after (tree_of es) 0 n f.is) (front_unheld d after (tree_of es) 0 n f.is) in
+    elim (cases_lt level top) [
+      | inl lt ↦ lt
+      | inr le ↦ absurd (let more = power_le top level le in omega (arith, short, f.place_is.above, more))
+    ]
+
+pub bundles_complete : BundlesComplete
+bundles_complete d held after es r = after_bundles d held after r.grows es r.small r.edge r.answered
+
+pub missing_is_front : MissingIsFront
+missing_is_front d size held es clean place = (
+  λ m.
+      let k = (walk_is_front d size held es clean m.node.start m.node.len).0 m.fails in
+      record { node = k.0; is = k.1; place_is = moved m.node k.0 place (sym k.2) (sym k.3) m.place_is },
+  λ f. record { node = f.node; fails = (walk_is_front d size held es clean f.node.start f.node.len).1 (f.node, f.is, refl, refl); place_is = f.place_is },
+)
+  where
+    moved : (x y : Node) (p : Place) → x.start ≡ y.start → x.len ≡ y.len → IsPlaceOf (length es) x p → IsPlaceOf (length es) y p
+    moved x y (TilePlace level index width) s l h = record { many = omega (arith, h.many); above = omega (arith, h.above); upto = omega (arith, h.upto); index_is = h.index_is ∙ ap (λ m. m / 256 ^ (level + 1)) s; width_is = h.width_is }
+    moved x y (BundlePlace index width) s l h = record { few = omega (arith, h.few); index_is = h.index_is ∙ ap (λ m. m / 256) s; width_is = h.width_is }

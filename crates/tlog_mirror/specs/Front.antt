@@ -1,0 +1,58 @@
+-- What is fetched next for a tree of which a part is held: the front (C2SP tlog-tiles, "Merkle Tree" and "Log Entries").
+use Rattle.std.specs.Prelude.{◌≡◌, ◌⊎◌, ℕ, ◌+◌, ◌-◌, ◌*◌, ◌/◌, ◌^◌, ◌≤◌, ◌<◌, Bool, true, false, List, ◌∷◌, ◌++◌, length, min}
+use Rattle.std.specs.Ordering.{nat_cmp, ordering_then}
+use Rattle.std.specs.declared.cmp.Ordering.{Ordering}
+use Rattle.std.specs.declared.cmp.Ordering.TheVariants.{Less, Greater}
+use Rattle.tlog_hash.specs.Tree.{Tree, Empty, One, Join, tree_of, size_of}
+use Rattle.tlog_hash.specs.Nodes.{Node, IsThis, entries_root}
+
+-- what can be fetched: a tile of hashes of that level, or a bundle of entries
+pub data Place : Type 0 where
+  TilePlace : (level index width : ℕ) → Place
+  BundlePlace : (index width : ℕ) → Place
+
+-- tiles by falling level and rising index, then bundles by rising index
+abbrev pub place_cmp : Place → Place → Ordering
+place_cmp (TilePlace l i w) (TilePlace m j v) = ordering_then (nat_cmp m l) (nat_cmp i j)
+place_cmp (TilePlace l i w) (BundlePlace j v) = Less
+place_cmp (BundlePlace i w) (TilePlace m j v) = Greater
+place_cmp (BundlePlace i w) (BundlePlace j v) = nat_cmp i j
+
+-- the full tile of a node of more than 256 entries: it has the hashes from which the node's hash follows
+pub record IsTileOf (x : Node) (level index width : ℕ) : Type 0 where
+  pub many : 256 < x.len
+  pub above : 256 ^ level < x.len
+  pub upto : x.len ≤ 256 ^ (level + 1)
+  pub index_is : index ≡ x.start / 256 ^ (level + 1)
+  pub width_is : width ≡ 256
+
+-- the bundle of a node of at most 256 entries, in a tree of that size
+pub record IsBundleOf (size : ℕ) (x : Node) (index width : ℕ) : Type 0 where
+  pub few : x.len ≤ 256
+  pub index_is : index ≡ x.start / 256
+  pub width_is : width ≡ min 256 (size - 256 * index)
+
+-- where the strings of a node are fetched, in a tree of that size
+abbrev pub IsPlaceOf : ℕ → Node → Place → Type 0
+IsPlaceOf size x (TilePlace level index width) = IsTileOf x level index width
+IsPlaceOf size x (BundlePlace index width) = IsBundleOf size x index width
+
+-- x is the node of these three, and its string is not held
+pub record IsUnheldThis (held : List ℕ → Bool) (start len : ℕ) (string : List ℕ) (x : Node) : Type 0 where
+  pub this : IsThis start len string x
+  pub unheld : held x.string ≡ false
+
+module _ (digest : List ℕ → List ℕ) (held : List ℕ → Bool) where
+  -- x is a node of the tree whose string is not held, while those of all nodes above it are
+  abbrev pub InFront : Tree (List ℕ) → ℕ → Node → Type 0
+  InFront Empty start x = ⊥
+  InFront (One e) start x = IsUnheldThis held start 1 (0 ∷ e) x
+  InFront (Join l r) start x =
+      IsUnheldThis held start (size_of l + size_of r) (1 ∷ entries_root digest l ++ entries_root digest r) x
+      ⊎ ((held (1 ∷ entries_root digest l ++ entries_root digest r) ≡ true) × (InFront l start x ⊎ InFront r (start + size_of l) x))
+
+  -- Front(V, E) has the place: it is that of such a node of the tree of E
+  pub record IsFront (entries : List (List ℕ)) (place : Place) : Type 0 where
+    pub node : Node
+    pub is : InFront (tree_of entries) 0 node
+    pub place_is : IsPlaceOf (length entries) node place

@@ -1,0 +1,5 @@
+pub mod Edge
+pub mod Front
+pub mod Rounds
+pub mod Walk
+pub mod TreeLaws

@@ -1,0 +1,6 @@
+//! Laws of the definitions that the contracts cite.
+//!
+//! A law is the contract of a function with an empty body: the proof is all that there is of it.
+pub mod edges;
+pub mod fronts;
+pub mod tiles;

@@ -1,0 +1,22 @@
+//! Laws of what is fetched next.
+ghost use Rattle.tlog_mirror.specs.TreeLaws.{BundlesComplete, FrontIsEmpty, MissingIsFront, RoundGoesDown, RoundLeaves, WalkIsFront};
+
+/// The front of a list of entries is empty exactly where all strings of its tree are held.
+pub fn front_law()
+    ensures { FrontIsEmpty }
+{}
+
+/// What a round of fetching leaves. It asks for all places of the front, and true answers come. So the
+/// tiles that are asked for stand at lower levels from round to round, and after a round that asks for
+/// bundles alone the whole tree is held.
+pub fn rounds_law()
+    ensures leaves { RoundLeaves }
+    ensures down { RoundGoesDown }
+    ensures complete { BundlesComplete }
+{}
+
+/// Where a list of entries has the size and the root, the walk from the root finds its front.
+pub fn walk_law()
+    ensures nodes { WalkIsFront }
+    ensures places { MissingIsFront }
+{}

@@ -1,0 +1,8 @@
+//! The core of a mirror of one transparency log: what it holds, and what follows from that.
+#![tactic(auto)]
+
+mod laws;
+
+pub use laws::edges::{edge_root_law, edge_rows_law, edge_strings_law};
+pub use laws::fronts::{front_law, rounds_law, walk_law};
+pub use laws::tiles::{bundle_law, full_row_law};
