@@ -1,0 +1,42 @@
+-- The tiles of a tree of n entries, by numbers alone (C2SP tlog-tiles, "Merkle Tree").
+--
+-- A tile of level L has up to 256 hashes, each of 256^L entries.
+use Rattle.std.specs.Prelude.{◌≡◌, ◌⊎◌, ℕ, ◌+◌, ◌*◌, ◌/◌, ◌%◌, ◌^◌, ◌<◌, ◌≤◌}
+
+-- Width(n, L): how many hashes the partial tile of level L has; where this is 0 there is none
+abbrev pub width_of : ℕ → ℕ → ℕ
+width_of n level = n / 256 ^ level % 256
+
+-- EdgeIndex(n, L): the index of the partial tile, which is how many full tiles of level L come before it
+abbrev pub edge_index_of : ℕ → ℕ → ℕ
+edge_index_of n level = n / 256 ^ (level + 1)
+
+-- Top(n): the greatest level of non-zero width, and 0 for n = 0
+pub record IsTop (n top : ℕ) : Type 0 where
+  pub within : top ≤ 7
+  pub some : 0 < n → 0 < width_of n top
+  pub none : n ≡ 0 → top ≡ 0
+  pub greatest : (level : ℕ) → level ≤ 7 → 0 < width_of n level → level ≤ top
+
+-- all 256 hashes of the tile are in a tree of n entries
+pub record IsFullTile (n level index width : ℕ) : Type 0 where
+  pub fits : (index + 1) * 256 ^ (level + 1) ≤ n
+  pub width_is : width ≡ 256
+
+-- it is the partial tile of its level
+pub record IsPartialTile (n level index width : ℕ) : Type 0 where
+  pub index_is : index ≡ edge_index_of n level
+  pub width_is : width ≡ width_of n level
+  pub some : 0 < width
+
+-- the tile is in a tree of n entries, with that width
+abbrev pub IsTile : ℕ → ℕ → ℕ → ℕ → Type 0
+IsTile n level index width = IsFullTile n level index width ⊎ IsPartialTile n level index width
+
+-- the tile whose row gives the pair of the node of size entries from start: its hashes are of fewer entries than the
+-- node, and its range has the whole node
+pub record IsTileOfNode (start size level index : ℕ) : Type 0 where
+  pub above : 256 ^ level < size
+  pub upto : size ≤ 256 ^ (level + 1)
+  pub from : index * 256 ^ (level + 1) ≤ start
+  pub to : start + size ≤ (index + 1) * 256 ^ (level + 1)

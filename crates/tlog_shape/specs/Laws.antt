@@ -1,0 +1,13 @@
+-- What the standard says of the split.
+use Rattle.std.specs.Prelude.{ℕ, ◌<◌, ◌≤◌}
+use Rattle.tlog_shape.specs.Split.{split_of, IsPowerOfTwo}
+
+-- k is the largest power of two smaller than n
+pub record IsSplit (n k : ℕ) : Type 0 where
+  pub power : IsPowerOfTwo k
+  pub smaller : k < n
+  pub largest : (other : ℕ) → IsPowerOfTwo other → other < n → other ≤ k
+
+-- the split of two or more is the one that the standard names
+abbrev pub SplitIsSplit : Type 0
+SplitIsSplit = (n : ℕ) → 2 ≤ n → IsSplit n (split_of n)
