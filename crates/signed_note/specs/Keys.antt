@@ -1,0 +1,32 @@
+-- What verifiers of notes are, as contracts see them (C2SP signed-note, "Signatures").
+use Rattle.std.specs.Prelude.{ℕ, List, Bool}
+use Rattle.std.specs.List.{list_any}
+use Rattle.std.specs.Str.{bytes_eq}
+use Rattle.sha2.specs.Sha256.{sha256}
+use Rattle.signed_note.specs.Hmac.{hmac}
+
+-- a verifier: its name, its key id, and which signatures it accepts over which texts
+pub record Key : Type 0 where
+  pub name : List ℕ
+  pub id : ℕ
+  pub accepts : List ℕ → List ℕ → Bool
+
+-- a key of a shared secret
+pub record Secret : Type 0 where
+  pub name : List ℕ
+  pub id : ℕ
+  pub secret : List ℕ
+
+-- it accepts exactly its mac of the text
+abbrev pub secret_key : Secret → Key
+secret_key k = record { name = k.name; id = k.id; accepts = λ text signature. bytes_eq (hmac k.secret text) signature }
+
+-- the SHA-256 digests of texts that were verified elsewhere
+pub record Pins : Type 0 where
+  pub name : List ℕ
+  pub id : ℕ
+  pub digests : List (List ℕ)
+
+-- they accept exactly the texts whose digest is listed, whatever the signature is
+abbrev pub pinned_key : Pins → Key
+pinned_key k = record { name = k.name; id = k.id; accepts = λ text signature. list_any (λ d. bytes_eq d (sha256 text)) k.digests }

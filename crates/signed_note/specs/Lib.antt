@@ -1,0 +1,5 @@
+pub mod Keys
+pub mod Hmac
+pub mod Names
+pub mod Notes
+pub mod Reading

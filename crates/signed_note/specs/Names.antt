@@ -1,0 +1,47 @@
+-- Which characters a note may have, and which names a key (C2SP signed-note, "Format" and "Signatures").
+use Rattle.std.specs.Prelude.{◌≡◌, ℕ, ◌<◌, ◌≤◌, Bool, not, ◌&&◌, ◌||◌, ◌==◌, nat_le, List, [], ◌∷◌, ◌++◌, length}
+use Rattle.std.specs.List.{AllPass}
+use Rattle.std.specs.Char.{is_whitespace}
+use Rattle.std.specs.Str.{IsUtf8, chars}
+
+-- U+000A and U+0020
+abbrev pub newline : ℕ
+newline = 10
+
+abbrev pub space : ℕ
+space = 32
+
+-- a note has no character below U+0020 other than newline
+abbrev pub is_note_char : ℕ → Bool
+is_note_char c = c == newline || nat_le space c
+
+-- the bytes are UTF-8, of characters that a note may have
+pub record IsNoteText (bytes : List ℕ) : Type 0 where
+  pub utf8 : IsUtf8 bytes
+  pub characters : AllPass is_note_char (chars bytes)
+
+-- the last character is a newline
+abbrev pub EndsInNewline : List ℕ → Type 0
+EndsInNewline text = (front : List ℕ) × (text ≡ front ++ newline ∷ [])
+
+-- a key's name has no Unicode white space and no plus (U+002B)
+abbrev pub is_name_char : ℕ → Bool
+is_name_char c = not (is_whitespace c || c == 43)
+
+-- a key's name: not empty, of those characters
+pub record IsKeyName (name : List ℕ) : Type 0 where
+  pub utf8 : IsUtf8 name
+  pub some : 0 < length name
+  pub characters : AllPass is_name_char (chars name)
+
+-- the name of a key of this crate has no character below U+0020 either, and at most 255 bytes, so that it
+-- may stand in a note
+pub record IsOwnName (name : List ℕ) : Type 0 where
+  pub key_name : IsKeyName name
+  pub printed : AllPass (nat_le space) (chars name)
+  pub short : length name ≤ 255
+
+-- a shared secret has 1 to 64 bytes
+pub record IsSecret (secret : List ℕ) : Type 0 where
+  pub some : 1 ≤ length secret
+  pub short : length secret ≤ 64

@@ -1,0 +1,83 @@
+-- Signed notes (C2SP signed-note, "Format", "Signatures" and "Verifying").
+use Rattle.std.specs.Prelude.{◌≡◌, ◌≢◌, ℕ, ◌<◌, ◌≤◌, ◌^◌, Bool, IsTrue, List, [], ◌∷◌, ◌++◌, length, All, Any, ◌==◌, ◌&&◌}
+use Rattle.std.specs.List.{flat_map}
+use Rattle.std.specs.Str.{bytes_eq}
+use Rattle.base64.specs.Engines.{standard}
+use Rattle.base64.specs.GeneralPurpose.{encode_of, IsBytes}
+use Rattle.byteorder.specs.Endian.{big_bytes}
+use Rattle.signed_note.specs.Names.{newline, space, IsNoteText, EndsInNewline, IsKeyName}
+use Rattle.signed_note.specs.Keys.{Key}
+
+-- a signature line, read
+pub record Line : Type 0 where
+  pub name : List ℕ
+  pub id : ℕ
+  pub signature : List ℕ
+
+-- a note, read: all its bytes, its text and its signature lines
+pub record NoteParts : Type 0 where
+  pub bytes : List ℕ
+  pub text : List ℕ
+  pub lines : List Line
+
+-- the em dash (U+2014) that begins a signature line
+abbrev pub mark : List ℕ
+mark = 226 ∷ 128 ∷ 148 ∷ []
+
+-- standard base64 with padding (RFC 4648, section 4)
+unfoldable pub base64_of : List ℕ → List ℕ
+base64_of bytes = encode_of standard bytes
+
+-- what is signed with: the key id of four bytes, the highest first, and the signature
+abbrev pub signed_bytes : Line → List ℕ
+signed_bytes line = big_bytes 4 line.id ++ line.signature
+
+-- a signature line's text: the mark, the key's name and the base64, with a space between each
+abbrev pub line_body : Line → List ℕ
+line_body line = mark ++ space ∷ (line.name ++ space ∷ (base64_of (signed_bytes line)))
+
+-- the same with the newline that ends it
+abbrev pub line_text : Line → List ℕ
+line_text line = line_body line ++ newline ∷ []
+
+-- a line has a key's name, an id of 32 bits and a signature that is not empty
+pub record IsLine (line : Line) : Type 0 where
+  pub name : IsKeyName line.name
+  pub id : line.id < 2 ^ 32
+  pub some : 0 < length line.signature
+  pub bytes : IsBytes line.signature
+
+-- the last blank line of a note separates its text, the last newline with it, from its signature part
+pub record IsSplit (bytes text signed : List ℕ) : Type 0 where
+  pub whole : bytes ≡ text ++ newline ∷ signed
+  pub ended : EndsInNewline text
+  pub last : (before after : List ℕ) → newline ∷ signed ≢ before ++ newline ∷ (newline ∷ after)
+
+-- the bytes are a note of that text and those signature lines
+pub record IsNote (bytes text : List ℕ) (lines : List Line) : Type 0 where
+  pub short : length bytes ≤ 1000000
+  pub readable : IsNoteText bytes
+  pub split : IsSplit bytes text (flat_map line_text lines)
+  pub well_formed : All IsLine lines
+  pub some : 1 ≤ length lines
+  pub few : length lines ≤ 100
+
+-- the key accepts the line's signature over the text
+pub record IsAcceptedBy (text : List ℕ) (line : Line) (key : Key) : Type 0 where
+  pub name : key.name ≡ line.name
+  pub id : key.id ≡ line.id
+  pub signature : IsTrue (key.accepts text line.signature)
+
+-- some line is accepted by some key; lines of other keys, and lines that their key does not accept, count for nothing
+unfoldable pub Opens : List ℕ → List Line → List Key → Type 0
+Opens text lines keys = Any (λ line. Any (λ key. IsAcceptedBy text line key) keys) lines
+
+-- the same of one line and one key, as a test
+abbrev pub is_accepted_by : List ℕ → Line → Key → Bool
+is_accepted_by text line key = bytes_eq key.name line.name && (key.id == line.id && key.accepts text line.signature)
+
+-- a text that may be signed: it may stand in a note, ends in a newline, and leaves room for a line
+pub record IsLawfulText (text : List ℕ) : Type 0 where
+  pub readable : IsNoteText text
+  pub ended : EndsInNewline text
+  pub short : length text ≤ 900000

@@ -1,0 +1,54 @@
+-- What each answer of a reader of notes says of the bytes: the first refusal that applies, in the order of the
+-- faults. An answer other than want of memory is determined by the bytes.
+use Rattle.std.specs.Prelude.{◌≡◌, ◌≢◌, ℕ, ◌+◌, ◌-◌, ◌<◌, ◌≤◌, ◌==◌, if◌then◌else◌, List, [], ◌∷◌, ◌++◌, length, slice_index, All, Result, Ok, Err, count_by}
+use Rattle.std.specs.List.{flat_map}
+use Rattle.signed_note.specs.Names.{newline, IsNoteText, IsOwnName, IsSecret}
+use Rattle.signed_note.specs.Keys.{Secret, Pins}
+use Rattle.signed_note.specs.Notes.{Line, NoteParts, line_text, IsLine, IsSplit, IsNote}
+use Rattle.signed_note.specs.declared.fault.NoteFault.{NoteFault}
+use Rattle.signed_note.specs.declared.fault.NoteFault.TheVariants as note
+use Rattle.signed_note.specs.declared.fault.KeyFault.{KeyFault}
+use Rattle.signed_note.specs.declared.fault.KeyFault.TheVariants as key
+
+-- how many lines a signature part has, a last line without its newline counted
+abbrev pub line_count : List ℕ → ℕ
+line_count signed = count_by (λ b. b == newline) signed + (if length signed == 0 then 0 else if slice_index signed (length signed - 1) == newline then 0 else 1)
+
+-- the part is signature lines, each well formed and ended
+pub record AreLines (signed : List ℕ) (lines : List Line) : Type 0 where
+  pub whole : signed ≡ flat_map line_text lines
+  pub well_formed : All IsLine lines
+
+-- short enough, UTF-8, and without characters below U+0020 other than newline
+pub record IsReadable (bytes : List ℕ) : Type 0 where
+  pub short : length bytes ≤ 1000000
+  pub readable : IsNoteText bytes
+
+-- a readable note with a signature part that is not empty
+pub record HasPart (bytes text signed : List ℕ) : Type 0 where
+  pub readable : IsReadable bytes
+  pub split : IsSplit bytes text signed
+  pub some : signed ≢ []
+
+abbrev pub ReadsNote : List ℕ → Result NoteParts NoteFault → Type 0
+ReadsNote bytes (Ok parts) = (parts.bytes ≡ bytes) × IsNote bytes parts.text parts.lines
+ReadsNote bytes (Err note.NoteTooLong) = 1000000 < length bytes
+ReadsNote bytes (Err note.NotText) = (length bytes ≤ 1000000) × (IsNoteText bytes → ⊥)
+ReadsNote bytes (Err note.NoSignatures) = IsReadable bytes × ((text signed : List ℕ) → IsSplit bytes text signed → signed ≡ [])
+ReadsNote bytes (Err note.TooManySignatures) = (text : List ℕ) × (signed : List ℕ) × HasPart bytes text signed × (100 < line_count signed)
+ReadsNote bytes (Err note.BadSignatureLine) = (text : List ℕ) × (signed : List ℕ) × HasPart bytes text signed × (line_count signed ≤ 100) × ((lines : List Line) → AreLines signed lines → ⊥)
+ReadsNote bytes (Err note.OutOfMemory) = Unit {0}
+
+-- what each answer of a constructor of a shared key says of what it is given
+abbrev pub MakesSecret : List ℕ → ℕ → List ℕ → Result Secret KeyFault → Type 0
+MakesSecret name id secret (Ok k) = IsOwnName name × IsSecret secret × (k ≡ record { name = name; id = id; secret = secret })
+MakesSecret name id secret (Err key.BadName) = IsOwnName name → ⊥
+MakesSecret name id secret (Err key.BadSecret) = IsOwnName name × (IsSecret secret → ⊥)
+MakesSecret name id secret (Err key.OutOfMemory) = Unit {0}
+
+-- and of one of pinned texts
+abbrev pub MakesPins : List ℕ → ℕ → List (List ℕ) → Result Pins KeyFault → Type 0
+MakesPins name id digests (Ok k) = IsOwnName name × (k ≡ record { name = name; id = id; digests = digests })
+MakesPins name id digests (Err key.BadName) = IsOwnName name → ⊥
+MakesPins name id digests (Err key.BadSecret) = ⊥
+MakesPins name id digests (Err key.OutOfMemory) = Unit {0}

@@ -1,0 +1,25 @@
+//! Signed notes and the keys that they open under (C2SP signed-note).
+//!
+//! A note is a text and, after a blank line, the signature lines of one or more keys. `Note::read` reads
+//! one, `open_note` tells whether some line is a signature of a known key, and `sign` makes one. What
+//! checks a signature is a `Verifier`: `HmacKey` and `PinnedTexts` are the kinds of this crate, `read_keys`
+//! reads them from a key file, and a caller may bring kinds of its own.
+#![tactic(auto)]
+
+mod fault;
+mod hmac;
+mod line;
+mod mac_key;
+mod name;
+mod note;
+mod opening;
+mod pinned;
+mod verifier;
+
+pub use fault::{KeyFault, KeyFileFault, NoteFault, OpenFault};
+pub use line::SignatureLine;
+pub use mac_key::HmacKey;
+pub use note::Note;
+pub use opening::open_note;
+pub use pinned::PinnedTexts;
+pub use verifier::Verifier;

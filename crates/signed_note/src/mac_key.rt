@@ -1,0 +1,82 @@
+//! Keys of a shared secret.
+
+ghost use Rattle.std.specs.Prelude.{◌≡◌};
+ghost use Rattle.std.specs.Str.{bytes_eq};
+ghost use Rattle.signed_note.specs.Keys.{secret_key};
+ghost use Rattle.signed_note.specs.Hmac.{hmac};
+ghost use Rattle.signed_note.specs.Reading.{MakesSecret};
+
+use crate::fault::KeyFault;
+use crate::hmac::hmac_of;
+use crate::name::is_own_name;
+use crate::verifier::Verifier;
+use std::alloc::Global;
+use std::marker::Model;
+
+/// A key of a shared secret of 1 to 64 bytes: its signatures are HMAC-SHA-256 of the text (RFC 2104).
+#[derive(Drop)]
+pub struct HmacKey {
+    name: String,
+    id: u32,
+    secret: Vec<u8>,
+}
+
+impl Model for HmacKey {
+    ghost use Rattle.std.specs.Prelude.{string_bytes};
+    ghost use Rattle.signed_note.specs.Keys.{Secret};
+    ghost use Rattle.signed_note.specs.Names.{IsOwnName, IsSecret};
+
+    ghost Value = { Secret };
+
+    ghost view = { λ k. record { name = string_bytes k.name; id = k.id; secret = k.secret.items } };
+
+    ghost invariant = { λ k. IsOwnName (string_bytes k.name) × IsSecret k.secret.items };
+}
+
+impl HmacKey {
+    /// A key of that name, id and secret.
+    ///
+    /// # Errors
+    ///
+    /// In this order: `BadName` where the name is empty, has over 255 bytes, or has Unicode white space, a
+    /// plus or a character below U+0020; `BadSecret` where the secret has not 1 to 64 bytes;
+    /// `OutOfMemory`.
+    pub fn new(alloc: Global, name: &str, id: u32, secret: &[u8]) -> Result<HmacKey, KeyFault>
+        ensures { MakesSecret name.now id secret.now result }
+    {
+        if !is_own_name(name) {
+            return Err(KeyFault::BadName);
+        }
+        if secret.is_empty() || secret.len() > 64 {
+            return Err(KeyFault::BadSecret);
+        }
+        Ok(HmacKey {
+            name: String::from_str(alloc, name)?,
+            id,
+            secret: Vec::from_slice(alloc, secret)?,
+        })
+    }
+
+    /// HMAC-SHA-256 of the message under the secret (RFC 2104, section 2). Takes no memory.
+    pub fn mac(&self, message: &[u8]) -> [u8; 32]
+        ensures { result ≡ hmac self.now.secret message.now }
+    {
+        hmac_of(&self.secret, message)
+    }
+}
+
+impl Verifier for HmacKey {
+    ghost key = { secret_key };
+
+    fn name(&self) -> &str {
+        &self.name
+    }
+
+    fn id(&self) -> u32 {
+        self.id
+    }
+
+    fn accepts(&self, text: &[u8], signature: &[u8]) -> bool {
+        self.mac(text).as_slice() == signature
+    }
+}

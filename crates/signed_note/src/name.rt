@@ -1,0 +1,41 @@
+//! Names of keys, and characters of notes.
+
+ghost use Rattle.std.specs.Prelude.{◌≡◌, ◌↔◌, IsTrue, nat_le};
+ghost use Rattle.std.specs.List.{list_all};
+ghost use Rattle.std.specs.Str.{chars};
+ghost use Rattle.signed_note.specs.Names.{is_note_char, is_name_char, space, IsKeyName, IsOwnName};
+
+/// Whether no character is below U+0020 but newlines.
+pub fn is_note_text(text: &str) -> bool
+    ensures { result ≡ list_all is_note_char (chars text.now) }
+{
+    text.chars().all(|c| c == '\n' || c >= ' ')
+}
+
+/// Whether no character is white space or a plus.
+fn has_name_characters(name: &str) -> bool
+    ensures { result ≡ list_all is_name_char (chars name.now) }
+{
+    name.chars().all(|c| !(c.is_whitespace() || c == '+'))
+}
+
+/// Whether no character is below U+0020.
+fn is_printed(name: &str) -> bool
+    ensures { result ≡ list_all (nat_le space) (chars name.now) }
+{
+    name.chars().all(|c| ' ' <= c)
+}
+
+/// Whether a signature line may have that name.
+pub fn is_key_name(name: &str) -> bool
+    ensures { IsTrue result ↔ IsKeyName name.now }
+{
+    !name.is_empty() && has_name_characters(name)
+}
+
+/// Whether a key of this crate may have that name.
+pub fn is_own_name(name: &str) -> bool
+    ensures { IsTrue result ↔ IsOwnName name.now }
+{
+    is_key_name(name) && is_printed(name) && name.len() <= 255
+}

@@ -1,0 +1,84 @@
+//! Texts that were verified elsewhere.
+
+ghost use Rattle.std.specs.Prelude.{◌≡◌};
+ghost use Rattle.std.specs.List.{list_any};
+ghost use Rattle.std.specs.Str.{bytes_eq};
+ghost use Rattle.signed_note.specs.Keys.{pinned_key};
+ghost use Rattle.signed_note.specs.Reading.{MakesPins};
+
+use crate::fault::KeyFault;
+use crate::name::is_own_name;
+use crate::verifier::Verifier;
+use sha2::{Digest, Sha256};
+use std::alloc::Global;
+use std::marker::Model;
+
+/// The SHA-256 digests of texts that the operator verified elsewhere. The signature of a pinned text is
+/// not looked at, so that a note of a key that this crate cannot check, as of Ed25519, opens all the same.
+#[derive(Debug, Drop)]
+pub struct PinnedTexts {
+    name: String,
+    id: u32,
+    digests: Vec<[u8; 32]>,
+}
+
+impl Model for PinnedTexts {
+    ghost use Rattle.std.specs.Prelude.{string_bytes};
+    ghost use Rattle.signed_note.specs.Keys.{Pins};
+    ghost use Rattle.signed_note.specs.Names.{IsOwnName};
+
+    ghost Value = { Pins };
+
+    ghost view = { λ k. record { name = string_bytes k.name; id = k.id; digests = k.digests.items } };
+
+    ghost invariant = { λ k. IsOwnName (string_bytes k.name) };
+}
+
+/// Whether the digest is listed.
+fn lists(digests: &[[u8; 32]], digest: &[u8; 32]) -> bool
+    ensures { result ≡ list_any (λ d. bytes_eq d digest.now) digests.now }
+{
+    digests.iter().any(|d| d == digest)
+}
+
+impl PinnedTexts {
+    /// Pins under that name and id.
+    ///
+    /// # Errors
+    ///
+    /// `BadName` where the name is empty, has over 255 bytes, or has Unicode white space, a plus or a
+    /// character below U+0020; `OutOfMemory`. It is never `BadSecret`.
+    pub fn new(
+        alloc: Global,
+        name: &str,
+        id: u32,
+        digests: Vec<[u8; 32]>,
+    ) -> Result<PinnedTexts, KeyFault>
+        ensures { MakesPins name.now id digests.items result }
+    {
+        if !is_own_name(name) {
+            return Err(KeyFault::BadName);
+        }
+        Ok(PinnedTexts {
+            name: String::from_str(alloc, name)?,
+            id,
+            digests,
+        })
+    }
+}
+
+impl Verifier for PinnedTexts {
+    ghost key = { pinned_key };
+
+    fn name(&self) -> &str {
+        &self.name
+    }
+
+    fn id(&self) -> u32 {
+        self.id
+    }
+
+    fn accepts(&self, text: &[u8], _signature: &[u8]) -> bool {
+        lists(&self.digests, &Sha256::digest(text))
+    }
+}
