@@ -1,0 +1,9 @@
+pub mod Inclusions
+pub mod Climbing
+pub mod ClimbLoop
+pub mod Consistencies
+pub mod ConsistenciesMade
+pub mod ConsistencySound
+pub mod Paths
+pub mod Subproofs
+pub mod Readers

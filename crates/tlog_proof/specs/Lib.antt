@@ -1,0 +1,5 @@
+pub mod Climb
+pub mod Inclusion
+pub mod Consistency
+pub mod Steps
+pub mod Laws

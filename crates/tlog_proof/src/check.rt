@@ -1,0 +1,185 @@
+//! The checks of proofs, by the loops of RFC 9162 over the bits of sizes and indices.
+//!
+//! Neither takes memory, and neither adds, multiplies or shifts a number out of its 64 bits, whatever
+//! it is given.
+ghost use Rattle.std.specs.Prelude.{◌≡◌, ◌↔◌, ◌<◌, ◌≤◌, ◌+◌, ◌%◌, [], IsTrue, true, reverse};
+ghost use Rattle.tlog_hash.specs.Shape.{shape};
+ghost use Rattle.tlog_proof.specs.Climb.{climb};
+ghost use Rattle.tlog_proof.specs.Inclusion.{IsInclusion};
+ghost use Rattle.tlog_proof.specs.Consistency.{both_right, both_left, cons, IsConsistency};
+ghost use Rattle.tlog_proof.specs.Steps.{KeepsIncl, KeepsBoth, HasBlocks};
+
+use tlog_hash::{Hash, TreeHash};
+
+/// Whether the path shows that the entry with that leaf hash has that index in the tree of that size
+/// and root (RFC 9162, section 2.1.3.2).
+///
+/// It is false where the index is not below the size, and where the path has a hash too many or too
+/// few. A yes does not fix the size: another size can lead to the same root by the same path.
+pub fn check_inclusion<H: TreeHash>(
+    leaf: &Hash,
+    index: u64,
+    size: u64,
+    path: &[Hash],
+    root: &Hash,
+) -> bool
+    ensures { IsTrue result ↔ IsInclusion H.digest leaf.now index size path.now root.now }
+{
+    if index >= size {
+        return false;
+    }
+    let mut f = index;
+    let mut s = size - 1;
+    let mut r = *leaf;
+    for p in path {
+        if s == 0 {
+            return false;
+        }
+        if f % 2 == 1 || f == s {
+            r = H::node(p, &r);
+            let up = to_partner(f, s);
+            f = up.0;
+            s = up.1;
+        } else {
+            r = H::node(&r, p);
+        }
+        f >>= 1;
+        s >>= 1;
+    }
+    s == 0 && r == *root
+}
+
+/// Whether the path shows that the tree of the first size and root is the front of the tree of the
+/// second (RFC 9162, section 2.1.4.2).
+///
+/// Equal sizes have the empty path and equal roots (own: the standard leaves them out). It is false
+/// where the first size is 0 or greater than the second. A yes does not fix the sizes.
+pub fn check_consistency<H: TreeHash>(
+    first: u64,
+    first_root: &Hash,
+    second: u64,
+    second_root: &Hash,
+    path: &[Hash],
+) -> bool
+    ensures { IsTrue result ↔ IsConsistency H.digest first first_root.now second second_root.now path.now }
+{
+    if first == 0 || second < first {
+        return false;
+    }
+    if first == second {
+        return are_equal(first_root, second_root, path);
+    }
+    grows::<H>(first, first_root, second, second_root, path)
+}
+
+// Whether nothing is to be shown, and nothing is.
+fn are_equal(first_root: &Hash, second_root: &Hash, path: &[Hash]) -> bool
+    ensures { IsTrue result ↔ ((path.now ≡ []) × (first_root.now ≡ second_root.now)) }
+{
+    if !path.is_empty() {
+        return false;
+    }
+    *first_root == *second_root
+}
+
+// Whether the path leads from the first root to both roots.
+fn grows<H: TreeHash>(
+    first: u64,
+    first_root: &Hash,
+    second: u64,
+    second_root: &Hash,
+    path: &[Hash],
+) -> bool
+    requires some { 0 < first }
+    requires more { first < second }
+    ensures { IsTrue result ↔ (cons H.digest first second true first_root.now path.now ≡ Some (first_root.now, second_root.now)) }
+{
+    if path.len() == 0 {
+        return false;
+    }
+    let at = to_block(first - 1, second - 1);
+    // The index is 0 where the first size is a power of two: the first root stands in front of the
+    // path.
+    if at.0 == 0 {
+        leads_to::<H>(at.0, at.1, first_root, path, first_root, second_root)
+    } else {
+        leads_to::<H>(at.0, at.1, &path[0], &path[1..], first_root, second_root)
+    }
+}
+
+// Whether the path leads from the start, a hash of both trees, to both roots.
+fn leads_to<H: TreeHash>(
+    index: u64,
+    last: u64,
+    start: &Hash,
+    path: &[Hash],
+    first_root: &Hash,
+    second_root: &Hash,
+) -> bool
+    requires { index ≤ last }
+    ensures { IsTrue result ↔ (climb (both_right H.digest) (both_left H.digest) (shape (last + 1)) index (start.now, start.now) (reverse path.now) ≡ Some (first_root.now, second_root.now)) }
+{
+    let mut f = index;
+    let mut s = last;
+    let mut a = *start;
+    let mut b = *start;
+    for p in path {
+        if s == 0 {
+            return false;
+        }
+        if f % 2 == 1 || f == s {
+            a = H::node(p, &a);
+            b = H::node(p, &b);
+            let up = to_partner(f, s);
+            f = up.0;
+            s = up.1;
+        } else {
+            b = H::node(&b, p);
+        }
+        f >>= 1;
+        s >>= 1;
+    }
+    if s != 0 {
+        return false;
+    }
+    if a == *first_root {
+        return b == *second_root;
+    }
+    false
+}
+
+// Goes up from a node that has no partner, to where it has one on its left. The numbers are those of
+// the node and of the last one of its level.
+fn to_partner(index: u64, last: u64) -> (u64, u64)
+    requires some { 0 < index }
+    requires within { index ≤ last }
+    requires alone { index % 2 ≡ 0 → index ≡ last }
+    ensures odd { result.0 % 2 ≡ 1 }
+    ensures within { result.0 ≤ result.1 }
+    ensures same { KeepsIncl index last result.0 result.1 }
+    ensures both { KeepsBoth index last result.0 result.1 }
+{
+    let mut f = index;
+    let mut s = last;
+    while f % 2 == 0 && f != 0 {
+        f >>= 1;
+        s >>= 1;
+    }
+    (f, s)
+}
+
+// Goes up from the last leaf of the first tree, as long as that ends a pair.
+fn to_block(index: u64, last: u64) -> (u64, u64)
+    requires { index < last }
+    ensures even { result.0 % 2 ≡ 0 }
+    ensures within { result.0 ≤ result.1 }
+    ensures blocks { HasBlocks (last + 1) (index + 1) result.0 result.1 }
+{
+    let mut f = index;
+    let mut s = last;
+    while f % 2 == 1 {
+        f >>= 1;
+        s >>= 1;
+    }
+    (f, s)
+}

@@ -1,0 +1,46 @@
+//! What the standards say of proofs, as laws of the definitions that the contracts cite.
+//!
+//! A law is the contract of a function with an empty body: the proof is all that there is of it.
+ghost use Rattle.tlog_proof.specs.Laws.{PathEquations, ProofEquations, InclEquations, ConsEquations, MadeInclusionHolds, MadeConsistencyHolds, AcceptedInclusionShows, AcceptedConsistencyShows};
+
+/// Path meets the equations of RFC 6962, section 2.1.1, and nothing else does.
+pub fn path_law()
+    ensures { PathEquations }
+{}
+
+/// Proof meets the equations of RFC 6962, section 2.1.2, and nothing else does.
+pub fn proof_law()
+    ensures { ProofEquations }
+{}
+
+/// Incl reads the equations of Path backwards, from the root down, and nothing else does.
+pub fn incl_law()
+    ensures { InclEquations }
+{}
+
+/// Cons reads the equations of Proof backwards, from the root down, and nothing else does.
+pub fn cons_law()
+    ensures { ConsEquations }
+{}
+
+/// An inclusion proof that is made is accepted.
+pub fn made_inclusion_law()
+    ensures { MadeInclusionHolds }
+{}
+
+/// A consistency proof that is made is accepted.
+pub fn made_consistency_law()
+    ensures { MadeConsistencyHolds }
+{}
+
+/// An inclusion proof that is accepted for an index of a list shows the entry at that index, where the
+/// strings that are hashed on either side do not clash.
+pub fn accepted_inclusion_law()
+    ensures { AcceptedInclusionShows }
+{}
+
+/// A consistency proof that is accepted for the sizes and roots of two lists shows that the first is a
+/// prefix of the second, where the strings that are hashed on either side do not clash.
+pub fn accepted_consistency_law()
+    ensures { AcceptedConsistencyShows }
+{}

@@ -1,0 +1,18 @@
+//! Inclusion and consistency proofs of a transparency log (RFC 6962, sections 2.1.1 and 2.1.2; RFC
+//! 9162, sections 2.1.3 and 2.1.4).
+//!
+//! An inclusion proof shows that an entry stands at its index in a tree of some size and root, and a
+//! consistency proof that a tree is the front of a larger one. Both are lists of hashes of parts of
+//! the tree, here called a path, the hash nearest to the root last.
+//!
+//! `check_inclusion` and `check_consistency` check what someone else made.
+#![tactic(auto)]
+
+mod check;
+mod laws;
+
+pub use check::{check_consistency, check_inclusion};
+pub use laws::{
+    accepted_consistency_law, accepted_inclusion_law, cons_law, incl_law, made_consistency_law,
+    made_inclusion_law, path_law, proof_law,
+};
