@@ -1,0 +1,59 @@
+//! The strings of a store, one after another.
+ghost use Rattle.std.specs.Iterator.{YieldsFirstBy, item_count};
+ghost use Rattle.node_store.specs.Strings.{string_of};
+
+use crate::pool::{Held, lend};
+use crate::strings::Tagged;
+use std::collections::hash_map::Values;
+use std::marker::Model;
+use tlog_hash::Hash;
+
+/// Goes over the strings of a store, each once. The order is open.
+///
+/// It is seen as the list of the strings that are left. Entries are lent from the store, and nothing
+/// is copied.
+#[derive(Drop)]
+pub struct Iter<'a> {
+    left: Values<'a, Hash, Held>,
+    pool: &'a [u8],
+}
+
+impl<'a> Model for Iter<'a> {
+    ghost use Rattle.std.specs.Prelude.{ℕ, List};
+
+    ghost Value = { List (List ℕ) };
+
+    ghost use Rattle.node_store.specs.Held.{strings_of, AllWithin};
+
+    ghost view = { λ a. strings_of a.pool.now a.left };
+
+    ghost invariant = { λ a. AllWithin a.pool.now a.left };
+}
+
+impl<'a> Iter<'a> {
+    ghost use Rattle.std.specs.Prelude.{◌≡◌};
+    ghost use Rattle.node_store.specs.Held.{strings_of, AllWithin};
+
+    // The strings of what is left, all of them within the pool.
+    pub(crate) fn new(left: Values<'a, Hash, Held>, pool: &'a [u8]) -> Self
+        requires { AllWithin pool.now left }
+        ensures { result ≡ strings_of pool.now left.entry }
+    {
+        Iter { left, pool }
+    }
+}
+
+impl<'a> Iterator for Iter<'a> {
+    type Item = Tagged<'a>;
+
+    ghost next_gives = { YieldsFirstBy string_of (λ left. left) };
+
+    ghost remaining = { item_count (λ left. left) };
+
+    fn next(&mut self) -> Option<Tagged<'a>> {
+        match self.left.next() {
+            Some(held) => Some(lend(held, self.pool)),
+            None => None,
+        }
+    }
+}

@@ -1,0 +1,11 @@
+//! The strings that trees hash, found by their digest.
+#![tactic(auto)]
+
+mod iter;
+mod pool;
+mod store;
+mod strings;
+
+pub use iter::Iter;
+pub use store::{AddFault, Store};
+pub use strings::Tagged;

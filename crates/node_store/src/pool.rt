@@ -1,0 +1,86 @@
+//! How strings are kept: the bytes of entries in one pool, and the hashes of pairs beside it.
+ghost use Rattle.std.specs.Prelude.{◌≡◌, ◌+◌, ◌<◌, ◌≤◌, ◌++◌, length, vec_len, nat_eq, OnOk};
+ghost use Rattle.std.specs.Vec.{vec_capacity};
+ghost use Rattle.std.specs.Cmp.Lexicographic.{pointwise};
+ghost use Rattle.std.specs.HashMap.{IsReordered, IsUnique, spare};
+ghost use Rattle.node_store.specs.Strings.{string_of};
+ghost use Rattle.node_store.specs.Held.{bytes_at, held_string, end_of, pooled_bytes};
+
+use crate::strings::Tagged;
+use std::alloc::AllocError;
+use std::collections::HashMap;
+use tlog_hash::Hash;
+
+// Where an entry lies in the pool.
+#[derive(Clone, Copy)]
+pub(crate) struct Place {
+    start: usize,
+    len: usize,
+}
+
+// What is held of a string, beside the pool.
+#[derive(Clone, Copy)]
+pub(crate) enum Held {
+    Entry(Place),
+    Hashes(Hash, Hash),
+}
+
+// The bytes that lie there.
+pub(crate) fn bytes_at(pool: &[u8], place: Place) -> &[u8]
+    requires { place.start + place.len ≤ length pool.now }
+    ensures { result.now ≡ bytes_at pool.now place }
+{
+    let start = place.start;
+    let end = start + place.len;
+    &pool[start..end]
+}
+
+// The string that is held, lent from the pool.
+pub(crate) fn lend<'a>(held: &'a Held, pool: &'a [u8]) -> Tagged<'a>
+    requires { end_of held.now ≤ length pool.now }
+    ensures { string_of result ≡ held_string pool.now held.now }
+{
+    match held {
+        Held::Entry(place) => Tagged::Leaf(bytes_at(pool, *place)),
+        Held::Hashes(left, right) => Tagged::Pair(left, right),
+    }
+}
+
+// Makes room for a string that is new, and changes nothing else.
+pub(crate) fn make_room(
+    held: &mut HashMap<Hash, Held>,
+    pool: &mut Vec<u8>,
+    string: Tagged,
+) -> Result<(), AllocError>
+    ensures same_pool { pool.new.items ≡ pool.old.items }
+    ensures same_held { IsReordered (pointwise nat_eq) held.old held.new }
+    ensures unique { IsUnique (pointwise nat_eq) held.new }
+    ensures pool_room { OnOk result (vec_len pool.new + length (pooled_bytes string.entry) ≤ vec_capacity pool.new) }
+    ensures held_room { OnOk result (0 < spare held.new) }
+{
+    held.reserve(1)?;
+    match string {
+        Tagged::Leaf(entry) => pool.reserve(entry.len()),
+        Tagged::Pair(_, _) => Ok(()),
+    }
+}
+
+// Puts the string's bytes behind the pool, which has room for them.
+pub(crate) fn keep(pool: &mut Vec<u8>, string: Tagged) -> Held
+    requires { vec_len pool.old + length (pooled_bytes string) ≤ vec_capacity pool.old }
+    ensures pool { pool.new.items ≡ pool.old.items ++ pooled_bytes string.entry }
+    ensures string { held_string pool.new.items result ≡ string_of string.entry }
+    ensures within { end_of result ≤ length pool.new.items }
+{
+    match string {
+        Tagged::Leaf(entry) => {
+            let start = pool.len();
+            let Ok(()) = pool.extend_from_slice(entry) else {
+                unreachable!()
+            };
+            let len = entry.len();
+            Held::Entry(Place { start, len })
+        }
+        Tagged::Pair(left, right) => Held::Hashes(*left, *right),
+    }
+}

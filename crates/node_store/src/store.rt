@@ -1,0 +1,222 @@
+//! The store.
+ghost use Rattle.std.specs.Prelude.{◌≡◌, ◌≢◌, ◌↔◌, ℕ, List, ◌∷◌, ◌++◌, length, IsTrue, IfSome, IfNone, OnOk, OnErr, IsOk};
+ghost use Rattle.std.specs.FinSet as set;
+ghost use Rattle.node_store.specs.Strings.{Strings, string_of, Has, IsHeldAt, Clashes, ClashesWith, NoClash};
+ghost use Rattle.tlog_hash.specs.Tree.{joined};
+
+use crate::iter::Iter;
+use crate::pool::{Held, keep, lend, make_room};
+use crate::strings::{Tagged, digest_of, is_same};
+use std::alloc::Global;
+use std::collections::HashMap;
+use std::marker::{Model, PhantomData};
+use thiserror::Error;
+use tlog_hash::{Hash, TreeHash};
+
+/// Why a string was not added.
+#[derive(Debug, Drop, PartialEq, Eq, Clone, Copy, Error)]
+pub enum AddFault {
+    /// Another string of the same digest is held.
+    #[error("Collision")]
+    Collision,
+    /// A growth was refused.
+    #[error("OutOfMemory")]
+    OutOfMemory,
+}
+
+/// A set of strings, no two of which share a digest.
+#[derive(Drop)]
+pub struct Store<H: TreeHash> {
+    held: HashMap<Hash, Held>,
+    pool: Vec<u8>,
+    by: PhantomData<H>,
+}
+
+impl<H: TreeHash> Model for Store<H> {
+    ghost use Rattle.std.specs.FinSet as set;
+    ghost use Rattle.std.specs.Coded.{coded_ℕ, coded_list};
+    ghost use Rattle.node_store.specs.Strings.{Strings};
+
+    ghost Value = { Strings };
+
+    ghost coded = { set.code (coded_list coded_ℕ) };
+
+    ghost use Rattle.node_store.specs.Held.{strings_in, IsByDigest};
+
+    ghost view = { λ a. strings_in a.pool.items a.held.entries };
+
+    ghost invariant = { λ a. IsByDigest H.digest a.pool.items a.held };
+}
+
+impl<H: TreeHash> Store<H> {
+    /// A store of no strings. It takes no memory.
+    pub fn new(alloc: Global) -> Self
+        ensures { result ≡ set.empty }
+    {
+        Store {
+            held: HashMap::new(alloc),
+            pool: Vec::new(alloc),
+            by: PhantomData,
+        }
+    }
+
+    /// Adds a string. One that is held already is passed over, and takes no memory.
+    ///
+    /// Both faults leave the set as it was. `Collision` comes exactly where the string clashes, and
+    /// `OutOfMemory` only where a growth was refused.
+    pub fn add(&mut self, string: Tagged) -> Result<(), AddFault>
+        ensures ok { OnOk result (self.new ≡ set.insert self.old (string_of string.entry)) }
+        ensures err { OnErr result (self.new ≡ self.old) }
+        ensures collision { (result ≡ Err AddFault.Collision) ↔ Clashes H.digest self.old (string_of string.entry) }
+        ensures held { Has self.old (string_of string.entry) → IsOk result }
+    {
+        let digest = digest_of::<H>(string);
+        match self.at(&digest) {
+            Some(held) => {
+                if is_same(held, string) {
+                    Ok(())
+                } else {
+                    Err(AddFault::Collision)
+                }
+            }
+            None => self.add_new(digest, string),
+        }
+    }
+
+    // Adds a string of which the digest is new. All growth comes before any change.
+    fn add_new(&mut self, digest: Hash, string: Tagged) -> Result<(), AddFault>
+        requires digest { digest ≡ H.digest (string_of string) }
+        requires new { (s : List ℕ) → Has self.old s → H.digest s ≢ digest }
+        ensures ok { OnOk result (self.new ≡ set.insert self.old (string_of string.entry)) }
+        ensures err { OnErr result (self.new ≡ self.old) }
+        ensures memory { result ≢ Err AddFault.Collision }
+    {
+        let Ok(()) = make_room(&mut self.held, &mut self.pool, string) else {
+            return Err(AddFault::OutOfMemory);
+        };
+        let held = keep(&mut self.pool, string);
+        let Ok(_) = self.held.insert(digest, held) else {
+            unreachable!()
+        };
+        Ok(())
+    }
+
+    /// Whether another string of its digest is held. It takes no memory.
+    pub fn clashes(&self, string: Tagged) -> bool
+        ensures { IsTrue result ↔ Clashes H.digest self.now (string_of string.entry) }
+    {
+        match self.at(&digest_of::<H>(string)) {
+            Some(held) => !is_same(held, string),
+            None => false,
+        }
+    }
+
+    /// Whether the string is held. It takes no memory.
+    pub fn holds(&self, string: Tagged) -> bool
+        ensures { IsTrue result ↔ Has self.now (string_of string.entry) }
+    {
+        match self.at(&digest_of::<H>(string)) {
+            Some(held) => is_same(held, string),
+            None => false,
+        }
+    }
+
+    /// The two hashes of the pair of that digest that is held. It takes no memory.
+    pub fn pair_of(&self, hash: &Hash) -> Option<(Hash, Hash)>
+        ensures some { IfSome result (λ p. IsHeldAt H.digest self.now hash.now (joined p)) }
+        ensures none { IfNone result ((l r : List ℕ) → IsHeldAt H.digest self.now hash.now (1 ∷ l ++ r) → ⊥) }
+        ensures no_clash { NoClash H.digest self.now }
+    {
+        match self.at(hash) {
+            Some(Tagged::Pair(left, right)) => Some((*left, *right)),
+            _ => None,
+        }
+    }
+
+    /// The entry of that digest that is held, lent from the pool. It takes no memory.
+    pub fn entry_of(&self, hash: &Hash) -> Option<&[u8]>
+        ensures some { IfSome result (λ e. IsHeldAt H.digest self.now hash.now (0 ∷ e.now)) }
+        ensures none { IfNone result ((e : List ℕ) → IsHeldAt H.digest self.now hash.now (0 ∷ e) → ⊥) }
+        ensures no_clash { NoClash H.digest self.now }
+    {
+        match self.at(hash) {
+            Some(Tagged::Leaf(entry)) => Some(entry),
+            _ => None,
+        }
+    }
+
+    /// How many strings are held. It takes no memory.
+    pub fn len(&self) -> usize
+        ensures { result ≡ set.len self.now }
+    {
+        self.held.len()
+    }
+
+    /// The strings that are held, each once. The order is open. It takes no memory.
+    pub fn iter(&self) -> Iter<'_>
+        ensures all { set.from_list result ≡ self.now }
+        ensures once { length result ≡ set.len self.now }
+        ensures no_clash { NoClash H.digest self.now }
+    {
+        Iter::new(self.held.values(), self.pool.as_slice())
+    }
+
+    /// Adds all strings of another store, if none of them clashes.
+    ///
+    /// `Collision` comes exactly where the two sets together clash. It leaves the set as it was, and
+    /// comes before any memory is asked for. After `OutOfMemory`, which comes only where a growth was
+    /// refused, the set lies between what it was and the union.
+    pub fn add_all(&mut self, other: &Store<H>) -> Result<(), AddFault>
+        ensures ok { OnOk result (self.new ≡ set.union self.old other.now) }
+        ensures collision { (result ≡ Err AddFault.Collision) ↔ ClashesWith H.digest self.old other.now }
+        ensures kept { result ≡ Err AddFault.Collision → self.new ≡ self.old }
+        ensures at_least { (s : List ℕ) → Has self.old s → Has self.new s }
+        ensures at_most { (s : List ℕ) → Has self.new s → Has (set.union self.old other.now) s }
+    {
+        if self.clashes_with(other) {
+            return Err(AddFault::Collision);
+        }
+        self.add_each(other)
+    }
+
+    // Whether a string of the other store clashes.
+    fn clashes_with(&self, other: &Store<H>) -> bool
+        ensures { IsTrue result ↔ ClashesWith H.digest self.now other.now }
+    {
+        for string in other.iter() {
+            if self.clashes(string) {
+                return true;
+            }
+        }
+        false
+    }
+
+    // Adds all strings of another store, of which none clashes.
+    fn add_each(&mut self, other: &Store<H>) -> Result<(), AddFault>
+        requires { ClashesWith H.digest self.old other.now → ⊥ }
+        ensures ok { OnOk result (self.new ≡ set.union self.old other.now) }
+        ensures memory { result ≢ Err AddFault.Collision }
+        ensures at_least { (s : List ℕ) → Has self.old s → Has self.new s }
+        ensures at_most { (s : List ℕ) → Has self.new s → Has (set.union self.old other.now) s }
+    {
+        for string in other.iter() {
+            match self.add(string) {
+                Ok(()) => {}
+                Err(fault) => return Err(fault),
+            }
+        }
+        Ok(())
+    }
+
+    // The string of that digest that is held.
+    fn at(&self, digest: &Hash) -> Option<Tagged<'_>>
+        ensures some { IfSome result (λ s. IsHeldAt H.digest self.now digest.now (string_of s)) }
+        ensures none { IfNone result ((s : List ℕ) → IsHeldAt H.digest self.now digest.now s → ⊥) }
+        ensures no_clash { NoClash H.digest self.now }
+    {
+        match self.held.get(digest) {
+            Some(held) => Some(lend(held, self.pool.as_slice())),
+            None => None,
+        }
+    }
+}
