@@ -12,8 +12,8 @@ use Rattle.std.specs.List.{AllByRecursion, Contains, IsDistinct}
 use Rattle.std.specs.Map.{keys_of, values_of}
 use Rattle.std.specs.HashMap.{IsUnique, get}
 use Rattle.std.specs.FinSet.{from_list, insert, contains, len, len-empty, len-insert}
-use Rattle.node_store.specs.Strings.{Has, IsHeldAt, NoClash}
-use Rattle.node_store.specs.Held.{bytes_at, held_string, end_of, HeldMap, AllWithin, strings_in, IsByDigest}
+use Rattle.node_store.specs.Strings.{IsTagged, OfEntry, OfPair, AllTagged, Has, IsHeldAt, NoClash}
+use Rattle.node_store.specs.Held.{bytes_at, held_string, end_of, IsSized, HeldMap, AllWithin, strings_in, IsByDigest}
 use Rattle.node_store.specs.declared.pool.Place.{Place}
 use Rattle.node_store.specs.declared.pool.Held.{Held}
 use Rattle.node_store.specs.declared.pool.Held.TheVariants.{Entry, Hashes}
@@ -74,6 +74,16 @@ module _ (digest : List ℕ → List ℕ) (pool : List ℕ) (m : HeldMap) (ok : 
         sym p.2 ∙ ap (held_string pool) same ∙ q.2;
   }
 
+  -- each string is tagged
+  pub all_tagged : AllTagged (strings_in pool m.entries)
+  all_tagged string has =
+      let r = at_digest string has in
+      subst IsTagged r.2 (tagged r.0 (ok.sized (digest string) r.0 r.1))
+    where
+      tagged : (h : Held) → IsSized h → IsTagged (held_string pool h)
+      tagged (Entry place) sized = OfEntry (bytes_at pool place)
+      tagged (Hashes left right) sized = OfPair left right sized.0 sized.1
+
   -- where the map has nothing at a digest, the set has no string of it
   pub none_at : (k : List ℕ) → get (pointwise nat_eq) m k ≡ None → (s : List ℕ) → IsHeldAt digest (strings_in pool m.entries) k s → ⊥
   none_at k none s held =
@@ -88,6 +98,7 @@ module _ (digest : List ℕ → List ℕ) (pool : List ℕ) (m n : HeldMap) (ok 
   by_digest_reordered = record {
     unique = unique;
     within = λ k h is. ok.within k h (sym (same k) ∙ is);
+    sized = λ k h is. ok.sized k h (sym (same k) ∙ is);
     keyed = λ k h is. ok.keyed k h (sym (same k) ∙ is);
   }
 
@@ -124,7 +135,7 @@ cases_at m n k h updates q x is = at (pointwise nat_eq k q) refl (sym (updates q
     at true e is = inl (exact k q e, let same : Some h ≡ Some x = is in cc same)
     at false e is = inr is
 
-module _ (digest : List ℕ → List ℕ) (pool s : List ℕ) (m n : HeldMap) (k : List ℕ) (h : Held) (ok : IsByDigest digest pool m) (end : end_of h ≤ length (pool ++ s)) (key : k ≡ digest (held_string (pool ++ s) h)) (unique : IsUnique (pointwise nat_eq) n) (updates : (q : List ℕ) → get (pointwise nat_eq) n q ≡ cond (pointwise nat_eq k q) (Some h) (get (pointwise nat_eq) m q)) where
+module _ (digest : List ℕ → List ℕ) (pool s : List ℕ) (m n : HeldMap) (k : List ℕ) (h : Held) (ok : IsByDigest digest pool m) (end : end_of h ≤ length (pool ++ s)) (sized : IsSized h) (key : k ≡ digest (held_string (pool ++ s) h)) (unique : IsUnique (pointwise nat_eq) n) (updates : (q : List ℕ) → get (pointwise nat_eq) n q ≡ cond (pointwise nat_eq k q) (Some h) (get (pointwise nat_eq) m q)) where
   pub by_digest_more : IsByDigest digest (pool ++ s) n
   by_digest_more = record {
     unique = unique;
@@ -132,6 +143,7 @@ module _ (digest : List ℕ → List ℕ) (pool s : List ℕ) (m n : HeldMap) (k
       | inl e ↦ subst (λ (y : Held). end_of y ≤ length (pool ++ s)) e.1 end
       | inr old ↦ let w = ok.within q x old in omega (arith, w, length-append pool s)
     ];
+    sized = λ q x is. elim (cases_at m n k h updates q x is) [ inl e ↦ subst IsSized e.1 sized | inr old ↦ ok.sized q x old ];
     keyed = λ q x is. elim (cases_at m n k h updates q x is) [
       | inl e ↦ sym e.0 ∙ key ∙ ap (λ (y : Held). digest (held_string (pool ++ s) y)) e.1
       | inr old ↦ ok.keyed q x old ∙ ap digest (sym (string_kept pool s x (ok.within q x old)))
@@ -201,7 +213,7 @@ module _ (digest : List ℕ → List ℕ) (pool : List ℕ) where
 
 -- ---- a string is added: the map reordered to m', then the pool grown to pool' and the map to n
 
-module _ (digest : List ℕ → List ℕ) (pool s pool' string : List ℕ) (m m' n : HeldMap) (k : List ℕ) (h : Held) (ok : IsByDigest digest pool m) (same : (q : List ℕ) → get (pointwise nat_eq) m' q ≡ get (pointwise nat_eq) m q) (grown : pool' ≡ pool ++ s) (end : end_of h ≤ length pool') (is : held_string pool' h ≡ string) (key : k ≡ digest string) (unique : IsUnique (pointwise nat_eq) n) (updates : (q : List ℕ) → get (pointwise nat_eq) n q ≡ cond (pointwise nat_eq k q) (Some h) (get (pointwise nat_eq) m' q)) where
+module _ (digest : List ℕ → List ℕ) (pool s pool' string : List ℕ) (m m' n : HeldMap) (k : List ℕ) (h : Held) (ok : IsByDigest digest pool m) (same : (q : List ℕ) → get (pointwise nat_eq) m' q ≡ get (pointwise nat_eq) m q) (grown : pool' ≡ pool ++ s) (end : end_of h ≤ length pool') (sized : IsSized h) (is : held_string pool' h ≡ string) (key : k ≡ digest string) (unique : IsUnique (pointwise nat_eq) n) (updates : (q : List ℕ) → get (pointwise nat_eq) n q ≡ cond (pointwise nat_eq k q) (Some h) (get (pointwise nat_eq) m' q)) where
   end' : end_of h ≤ length (pool ++ s)
   end' = subst (λ p. end_of h ≤ length p) grown end
 
@@ -212,12 +224,12 @@ module _ (digest : List ℕ → List ℕ) (pool s pool' string : List ℕ) (m m'
   updates' q = updates q ∙ ap (λ x. cond (pointwise nat_eq k q) (Some h) x) (same q)
 
   pub by_digest_added : IsByDigest digest pool' n
-  by_digest_added = subst (λ p. IsByDigest digest p n) (sym grown) (by_digest_more digest pool s m n k h ok end' key' unique updates')
+  by_digest_added = subst (λ p. IsByDigest digest p n) (sym grown) (by_digest_more digest pool s m n k h ok end' sized key' unique updates')
 
   pub strings_added : ((x : List ℕ) → Has (strings_in pool m.entries) x → digest x ≢ k) → strings_in pool' n.entries ≡ insert (strings_in pool m.entries) string
   strings_added fresh =
       ap (λ p. strings_in p n.entries) grown
-      ∙ strings_more digest pool s m n k h ok end' key' unique updates' fresh
+      ∙ strings_more digest pool s m n k h ok end' sized key' unique updates' fresh
       ∙ ap (insert (strings_in pool m.entries)) (sym (ap (λ p. held_string p h) grown) ∙ is)
 
 -- ---- all that is held lies within the pool

@@ -28,6 +28,11 @@ abbrev pub end_of : Held → ℕ
 end_of (Entry place) = place.start + place.len
 end_of (Hashes left right) = 0
 
+-- its hashes have 32 bytes
+abbrev pub IsSized : Held → Type 0
+IsSized (Entry place) = Unit {0}
+IsSized (Hashes left right) = (length left ≡ 32) × (length right ≡ 32)
+
 -- the bytes of the string that go into the pool
 abbrev pub pooled_bytes : Tagged → List ℕ
 pooled_bytes (Leaf entry) = entry.now
@@ -49,8 +54,9 @@ strings_of pool held = map (held_string pool) held
 abbrev pub strings_in : List ℕ → List (List ℕ × Held) → Strings
 strings_in pool entries = set.from_list (strings_of pool (values_of entries))
 
--- each string lies within the pool, and is held at its digest
+-- each string lies within the pool, has hashes of 32 bytes, and is held at its digest
 pub record IsByDigest (digest : List ℕ → List ℕ) (pool : List ℕ) (m : HeldMap) : Type 0 where
   pub unique : IsUnique (pointwise nat_eq) m
   pub within : (k : List ℕ) (h : Held) → get (pointwise nat_eq) m k ≡ Some h → end_of h ≤ length pool
+  pub sized : (k : List ℕ) (h : Held) → get (pointwise nat_eq) m k ≡ Some h → IsSized h
   pub keyed : (k : List ℕ) (h : Held) → get (pointwise nat_eq) m k ≡ Some h → k ≡ digest (held_string pool h)

@@ -1,5 +1,5 @@
 -- The strings that trees hash (RFC 6962, section 2.1), sets of them, and when they clash.
-use Rattle.std.specs.Prelude.{◌≡◌, ◌≢◌, ℕ, List, [], ◌∷◌, ◌++◌, IsTrue}
+use Rattle.std.specs.Prelude.{◌≡◌, ◌≢◌, ℕ, List, [], ◌∷◌, ◌++◌, length, IsTrue}
 use Rattle.std.specs.Ordering.{nat_cmp}
 use Rattle.std.specs.Cmp.Lexicographic.{slice_cmp}
 use Rattle.std.specs.FinSet.{FinSet, contains}
@@ -15,9 +15,18 @@ abbrev pub string_of : Tagged → List ℕ
 string_of (Leaf entry) = 0 ∷ entry.now
 string_of (Pair left right) = 1 ∷ left.now ++ right.now
 
+-- a tagged string: of an entry, or of two hashes of 32 bytes
+pub data IsTagged : List ℕ → Type 0 where
+  OfEntry : (entry : List ℕ) → IsTagged (0 ∷ entry)
+  OfPair : (left right : List ℕ) → length left ≡ 32 → length right ≡ 32 → IsTagged (1 ∷ left ++ right)
+
 -- the set has the string
 abbrev pub Has : Strings → List ℕ → Type 0
 Has strings string = IsTrue (contains strings string)
+
+-- each string of the set is tagged
+abbrev pub AllTagged : Strings → Type 0
+AllTagged strings = (string : List ℕ) → Has strings string → IsTagged string
 
 -- the set has each string of the list
 abbrev pub HasAll : Strings → List (List ℕ) → Type 0

@@ -4,7 +4,7 @@ ghost use Rattle.std.specs.Vec.{vec_capacity};
 ghost use Rattle.std.specs.Cmp.Lexicographic.{pointwise};
 ghost use Rattle.std.specs.HashMap.{IsReordered, IsUnique, spare};
 ghost use Rattle.node_store.specs.Strings.{string_of};
-ghost use Rattle.node_store.specs.Held.{bytes_at, held_string, end_of, pooled_bytes};
+ghost use Rattle.node_store.specs.Held.{bytes_at, held_string, end_of, IsSized, pooled_bytes};
 
 use crate::strings::Tagged;
 use std::alloc::AllocError;
@@ -71,6 +71,7 @@ pub(crate) fn keep(pool: &mut Vec<u8>, string: Tagged) -> Held
     ensures pool { pool.new.items ≡ pool.old.items ++ pooled_bytes string.entry }
     ensures string { held_string pool.new.items result ≡ string_of string.entry }
     ensures within { end_of result ≤ length pool.new.items }
+    ensures sized { IsSized result }
 {
     match string {
         Tagged::Leaf(entry) => {
@@ -81,6 +82,14 @@ pub(crate) fn keep(pool: &mut Vec<u8>, string: Tagged) -> Held
             let len = entry.len();
             Held::Entry(Place { start, len })
         }
-        Tagged::Pair(left, right) => Held::Hashes(*left, *right),
+        Tagged::Pair(left, right) => held_pair(left, right),
     }
+}
+
+// The two hashes, to be held.
+fn held_pair(left: &Hash, right: &Hash) -> Held
+    ensures value { result ≡ Held.Hashes left.now right.now }
+    ensures sized { IsSized result }
+{
+    Held::Hashes(*left, *right)
 }

@@ -1,7 +1,7 @@
 //! The store.
 ghost use Rattle.std.specs.Prelude.{◌≡◌, ◌≢◌, ◌↔◌, ℕ, List, ◌∷◌, ◌++◌, length, IsTrue, IfSome, IfNone, OnOk, OnErr, IsOk};
 ghost use Rattle.std.specs.FinSet as set;
-ghost use Rattle.node_store.specs.Strings.{Strings, string_of, Has, IsHeldAt, Clashes, ClashesWith, NoClash};
+ghost use Rattle.node_store.specs.Strings.{Strings, string_of, Has, IsHeldAt, Clashes, ClashesWith, NoClash, AllTagged};
 ghost use Rattle.tlog_hash.specs.Tree.{joined};
 
 use crate::iter::Iter;
@@ -156,6 +156,7 @@ impl<H: TreeHash> Store<H> {
     pub fn iter(&self) -> Iter<'_>
         ensures all { set.from_list result ≡ self.now }
         ensures once { length result ≡ set.len self.now }
+        ensures tagged { AllTagged self.now }
         ensures no_clash { NoClash H.digest self.now }
     {
         Iter::new(self.held.values(), self.pool.as_slice())

@@ -16,13 +16,13 @@ invariant_of-self-2 g c =
     by_digest_added g.H.TreeHash.digest c.self.inside.pool.items (pooled_bytes c.args.string) c.keep-held.new.pool.items (string_of c.args.string)
     c.self.inside.held c.make_room.new.held c.insert.new.self c.args.digest c.keep-held.result c.self.invariant c.in-Ok.ensures.same_held.2
     (c.keep-held.ensures.pool ∙ ap (λ pool. pool ++ pooled_bytes c.args.string) c.in-Ok.ensures.same_pool)
-    c.keep-held.ensures.within c.keep-held.ensures.string c.requires.digest c.insert.ensures.unique c.in-Ok-insert.ensures.updates.0
+    c.keep-held.ensures.within c.keep-held.ensures.sized c.keep-held.ensures.string c.requires.digest c.insert.ensures.unique c.in-Ok-insert.ensures.updates.0
 
 pub returns-clause-ok : goal.returns-clause-ok
 returns-clause-ok g c =
     strings_added g.H.TreeHash.digest c.self.inside.pool.items (pooled_bytes c.args.string) c.keep-held.new.pool.items (string_of c.args.string)
     c.self.inside.held c.make_room.new.held c.insert.new.self c.args.digest c.keep-held.result c.self.invariant c.in-Ok.ensures.same_held.2
     (c.keep-held.ensures.pool ∙ ap (λ pool. pool ++ pooled_bytes c.args.string) c.in-Ok.ensures.same_pool)
-    c.keep-held.ensures.within c.keep-held.ensures.string c.requires.digest c.insert.ensures.unique c.in-Ok-insert.ensures.updates.0
+    c.keep-held.ensures.within c.keep-held.ensures.sized c.keep-held.ensures.string c.requires.digest c.insert.ensures.unique c.in-Ok-insert.ensures.updates.0
     (λ x has. c.requires.new x (subst (λ v. Has v x) c.self.view_is has))
     ∙ ap (λ v. insert v (string_of c.args.string)) c.self.view_is
