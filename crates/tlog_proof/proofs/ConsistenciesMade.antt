@@ -11,7 +11,7 @@ use Rattle.tlog_hash.specs.Tree.{Tree, One, Join, tree_of, size_of, mth}
 use Rattle.tlog_hash.proofs.Trees.{tree_of-one, tree_of-join, induction, mth-one, mth-join, mth-append}
 use Rattle.tlog_hash.specs.Nodes.{entries_root}
 use Rattle.tlog_hash.specs.Shape.{shape}
-use Rattle.tlog_proof.specs.Consistency.{at_end, both_right, both_left, proof_in, proof_of, cons_in, cons}
+use Rattle.tlog_proof.specs.Consistency.{at_end, both_right, both_left, proof_in, subproof_of, proof_of, cons_in, cons}
 use Rattle.tlog_proof.specs.Laws.{MadeConsistencyHolds}
 use Rattle.tlog_hash.proofs.Folds.{mth-tree}
 use Rattle.tlog_hash.proofs.NodeStrings.{size_of-tree}
@@ -96,11 +96,11 @@ module _ (digest : List ℕ → List ℕ) where
           ]
 
 pub consistency_made : (digest : List ℕ → List ℕ) (es : List (List ℕ)) (m : ℕ) → 0 < m → m ≤ length es → cons digest m (length es) true (mth digest (take m es)) (proof_of digest m es) ≡ Some (mth digest (take m es), mth digest es)
-unfolding cons proof_of
+unfolding cons subproof_of
 consistency_made digest es m some le = made_all digest es m true (mth digest (take m es)) some le (λ _. refl)
 
 pub made_consistency_holds : MadeConsistencyHolds
-unfolding proof_of
+unfolding subproof_of
 made_consistency_holds digest es m some le =
     let both = consistency_made digest es m some le in (
       both,

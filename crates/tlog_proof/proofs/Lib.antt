@@ -7,3 +7,4 @@ pub mod ConsistencySound
 pub mod Paths
 pub mod Subproofs
 pub mod Readers
+pub mod Parts

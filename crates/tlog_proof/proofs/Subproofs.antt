@@ -109,7 +109,7 @@ module _ (digest : List ℕ → List ℕ) where
           ]
 
 pub proof_equations : ProofEquations
-unfolding subproof_of proof_of
+unfolding subproof_of
 proof_equations digest = (
   λ m entries. refl,
   record {

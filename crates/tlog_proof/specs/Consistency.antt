@@ -28,8 +28,8 @@ module _ (digest : List ℕ → List ℕ) where
   subproof_of first entries flag = proof_in first flag (tree_of entries)
 
   -- Proof(m, E): PROOF(m, D[n]) of RFC 6962, and no hashes for m = n
-  unfoldable pub proof_of : ℕ → List (List ℕ) → List (List ℕ)
-  proof_of first entries = proof_in first true (tree_of entries)
+  abbrev pub proof_of : ℕ → List (List ℕ) → List (List ℕ)
+  proof_of first entries = subproof_of first entries true
 
   -- a hash to the right belongs to the second tree alone, one to the left to both
   abbrev pub both_right : List ℕ → List ℕ × List ℕ → List ℕ × List ℕ

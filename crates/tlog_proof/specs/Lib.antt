@@ -3,3 +3,5 @@ pub mod Inclusion
 pub mod Consistency
 pub mod Steps
 pub mod Laws
+pub mod Answers
+pub mod Made

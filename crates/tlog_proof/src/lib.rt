@@ -5,14 +5,24 @@
 //! consistency proof that a tree is the front of a larger one. Both are lists of hashes of parts of
 //! the tree, here called a path, the hash nearest to the root last.
 //!
-//! `check_inclusion` and `check_consistency` check what someone else made.
+//! `inclusion` and `consistency` make the path from the hashes of ranges of the list, which any
+//! `Ranges` gives, and `prove` the whole proof. `check_inclusion` and `check_consistency` check what
+//! someone else made, and `holds` checks a whole proof.
 #![tactic(auto)]
 
 mod check;
 mod laws;
+mod make;
+mod path;
+mod proof;
+mod ranges;
 
 pub use check::{check_consistency, check_inclusion};
 pub use laws::{
     accepted_consistency_law, accepted_inclusion_law, cons_law, incl_law, made_consistency_law,
     made_inclusion_law, path_law, proof_law,
 };
+pub use make::{ProofFault, consistency, inclusion};
+pub use path::HashPath;
+pub use proof::{Ask, Proof, holds, prove};
+pub use ranges::Ranges;

@@ -1,0 +1,19 @@
+use Rattle.std.proofs.Common.{◌≡◌, ◌+◌, ◌≤◌, ◌∷◌, [], take, get_or, Ok, sym, ap, ◌∙◌, arith}
+use Rattle.tlog_hash.specs.Tree.{mth}
+use Rattle.tlog_proof.specs.Answers.{seen}
+use Rattle.tlog_proof.specs.Made.{proof_in}
+use Rattle.tlog_proof.specs.declared.proof.Proof.TheVariants.{Inclusion}
+use Rattle.tlog_proof.proofs.Parts.{mth-part_one}
+use Rattle.tlog_proof.proofs.proof.prove.Goals as goal
+
+-- a range of one entry has the entry's leaf hash
+pub returns-in_ok-leaf-in-Inclusion : goal.returns-in_ok-leaf-in-Inclusion
+returns-in_ok-leaf-in-Inclusion g c = λ es listed.
+    let d = g.R.Ranges.digest in
+    let size = c.in-Inclusion.size in
+    let index = c.in-Inclusion.index in
+    let root = (c.in_ok-root-in-Inclusion.ensures.ok es listed).1 in
+    let leaf = c.in_ok-leaf-in-Inclusion.ensures.ok es listed in
+    ap (proof_in d es) c.in-Inclusion.is
+    ∙ ap (seen (λ path. Inclusion size index (mth d (take size es)) (d (0 ∷ get_or es index [])) path)) (c.in_ok-path-in-Inclusion.ensures es listed)
+    ∙ (λ j. Ok (Inclusion size index (sym root j) (sym (leaf.1 ∙ mth-part_one d es index (omega (arith, leaf.0))) j) (sym c.new.ensures j)))

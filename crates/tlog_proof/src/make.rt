@@ -1,0 +1,167 @@
+//! Paths of a list of which only the hashes of ranges are known.
+ghost use Rattle.std.specs.Prelude.{◌≡◌, ◌+◌, ◌<◌, ◌≤◌, ◌^◌, ◌++◌, ℕ, List, length, IfOk, IfErr, OnOk};
+ghost use Rattle.tlog_hash.specs.Tree.{mth};
+ghost use Rattle.tlog_hash.specs.Rows.{part};
+ghost use Rattle.tlog_proof.specs.Answers.{Answers};
+ghost use Rattle.tlog_proof.specs.Inclusion.{path_of};
+ghost use Rattle.tlog_proof.specs.Consistency.{subproof_of};
+ghost use Rattle.tlog_proof.specs.Made.{inclusion_in, consistency_in};
+ghost use Rattle.tlog_proof.specs.declared.make.ProofFault.TheVariants.{OutOfMemory};
+
+use crate::ranges::Ranges;
+use std::alloc::{AllocFailed, Global};
+use thiserror::Error;
+use tlog_hash::Hash;
+use tlog_shape::split;
+
+/// Why no proof is made, in the order in which it is found.
+#[derive(Debug, Drop, PartialEq, Eq, Clone, Copy, Error)]
+pub enum ProofFault {
+    /// The list is shorter than the size, or the second size, that is asked for.
+    #[error("NoSuchSize")]
+    NoSuchSize,
+    /// The index is not below the size.
+    #[error("NoSuchIndex")]
+    NoSuchIndex,
+    /// From the tree of no entries there is no consistency proof.
+    #[error("FirstIsZero")]
+    FirstIsZero,
+    /// The first size is greater than the second.
+    #[error("Backwards")]
+    Backwards,
+    /// Memory was refused.
+    #[error("OutOfMemory")]
+    OutOfMemory,
+}
+
+impl<T: Drop> From<AllocFailed<T>> for ProofFault {
+    ghost from_gives = { λ _ e. e ≡ OutOfMemory };
+
+    fn from(_e: AllocFailed<T>) -> ProofFault {
+        ProofFault::OutOfMemory
+    }
+}
+
+/// The path that shows the entry of that index in the tree of the first `size` entries: PATH of RFC
+/// 6962, section 2.1.1.
+///
+/// Errors, the first that applies: NoSuchSize where the list has fewer entries, NoSuchIndex where the
+/// index is not below the size; OutOfMemory at any step.
+pub fn inclusion<R: Ranges>(
+    alloc: Global,
+    ranges: &R,
+    size: u64,
+    index: u64,
+) -> Result<Vec<Hash>, ProofFault>
+    ensures { (entries : List (List ℕ)) → R.lists ranges.now entries → Answers ProofFault.OutOfMemory (λ v. v.items) result (inclusion_in R.digest entries size index) }
+{
+    if size > ranges.size() {
+        return Err(ProofFault::NoSuchSize);
+    }
+    if index >= size {
+        return Err(ProofFault::NoSuchIndex);
+    }
+    let mut path = Vec::new(alloc);
+    add_path(ranges, 0, size, index, &mut path)?;
+    Ok(path)
+}
+
+/// The path that shows that the tree of the first `first` entries is the front of that of the first
+/// `second`: PROOF of RFC 6962, section 2.1.2, and no hashes for equal sizes.
+///
+/// Errors, the first that applies: NoSuchSize where the list has fewer than `second` entries,
+/// FirstIsZero, Backwards where `first` is the greater; OutOfMemory at any step.
+pub fn consistency<R: Ranges>(
+    alloc: Global,
+    ranges: &R,
+    first: u64,
+    second: u64,
+) -> Result<Vec<Hash>, ProofFault>
+    ensures { (entries : List (List ℕ)) → R.lists ranges.now entries → Answers ProofFault.OutOfMemory (λ v. v.items) result (consistency_in R.digest entries first second) }
+{
+    if second > ranges.size() {
+        return Err(ProofFault::NoSuchSize);
+    }
+    if first == 0 {
+        return Err(ProofFault::FirstIsZero);
+    }
+    if first > second {
+        return Err(ProofFault::Backwards);
+    }
+    let mut path = Vec::new(alloc);
+    add_subproof(ranges, 0, second, first, true, &mut path)?;
+    Ok(path)
+}
+
+/// The tree hash of a range that is within the list.
+pub(crate) fn hash_of<R: Ranges>(ranges: &R, start: u64, len: u64) -> Result<Hash, ProofFault>
+    ensures ok { IfOk result (λ hash. (entries : List (List ℕ)) → R.lists ranges.now entries → (start + len ≤ length entries) × (hash ≡ mth R.digest (part start len entries))) }
+    ensures err { IfErr result (λ _. (entries : List (List ℕ)) → R.lists ranges.now entries → length entries < start + len) }
+{
+    match ranges.hash(start, len) {
+        Some(hash) => Ok(hash),
+        None => Err(ProofFault::NoSuchSize),
+    }
+}
+
+// Adds the path for an index, counted from the start of a range, within that range.
+fn add_path<R: Ranges>(
+    ranges: &R,
+    start: u64,
+    len: u64,
+    index: u64,
+    path: &mut Vec<Hash>,
+) -> Result<(), ProofFault>
+    requires inside { index < len }
+    requires fits { start + len < 2 ^ 64 }
+    ensures ok { OnOk result ((entries : List (List ℕ)) → R.lists ranges.now entries → start + len ≤ length entries → path.new.items ≡ path.old.items ++ path_of R.digest index (part start len entries)) }
+    ensures err { IfErr result (λ e. (entries : List (List ℕ)) → R.lists ranges.now entries → start + len ≤ length entries → e ≡ ProofFault.OutOfMemory) }
+{
+    if len == 1 {
+        return Ok(());
+    }
+    let k = split(len);
+    let beside = if index < k {
+        add_path(ranges, start, k, index, path)?;
+        hash_of(ranges, start + k, len - k)?
+    } else {
+        add_path(ranges, start + k, len - k, index - k, path)?;
+        hash_of(ranges, start, k)?
+    };
+    path.push(beside)?;
+    Ok(())
+}
+
+// Adds the path from the first entries of a range to all of it. Where all of it is the first tree,
+// `held` says that its root is known to who checks.
+fn add_subproof<R: Ranges>(
+    ranges: &R,
+    start: u64,
+    len: u64,
+    first: u64,
+    held: bool,
+    path: &mut Vec<Hash>,
+) -> Result<(), ProofFault>
+    requires some { 0 < first }
+    requires within { first ≤ len }
+    requires fits { start + len < 2 ^ 64 }
+    ensures ok { OnOk result ((entries : List (List ℕ)) → R.lists ranges.now entries → start + len ≤ length entries → path.new.items ≡ path.old.items ++ subproof_of R.digest first (part start len entries) held) }
+    ensures err { IfErr result (λ e. (entries : List (List ℕ)) → R.lists ranges.now entries → start + len ≤ length entries → e ≡ ProofFault.OutOfMemory) }
+{
+    if first == len {
+        if !held {
+            path.push(hash_of(ranges, start, len)?)?;
+        }
+        return Ok(());
+    }
+    let k = split(len);
+    let beside = if first <= k {
+        add_subproof(ranges, start, k, first, held, path)?;
+        hash_of(ranges, start + k, len - k)?
+    } else {
+        add_subproof(ranges, start + k, len - k, first - k, false, path)?;
+        hash_of(ranges, start, k)?
+    };
+    path.push(beside)?;
+    Ok(())
+}

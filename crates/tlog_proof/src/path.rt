@@ -1,0 +1,57 @@
+//! The hashes of a proof.
+ghost use Rattle.std.specs.Prelude.{◌≡◌, ◌==◌, length};
+
+use std::marker::Model;
+use tlog_hash::Hash;
+
+/// The hashes of a proof, the one nearest to the root last. A contract sees the list of them.
+#[derive(Debug, Drop)]
+pub struct HashPath {
+    hashes: Vec<Hash>,
+}
+
+impl Model for HashPath {
+    ghost use Rattle.std.specs.Prelude.{ℕ, List};
+
+    ghost Value = { List (List ℕ) };
+
+    ghost view = { λ p. p.hashes.items };
+}
+
+impl HashPath {
+    /// A path of these hashes.
+    pub fn new(hashes: Vec<Hash>) -> HashPath
+        ensures { result ≡ hashes.items }
+    {
+        HashPath { hashes }
+    }
+
+    /// The hashes, as a list.
+    pub fn into_vec(self) -> Vec<Hash>
+        ensures { result.items ≡ self }
+    {
+        let HashPath { hashes } = self;
+        hashes
+    }
+
+    /// The hashes.
+    pub fn as_slice(&self) -> &[Hash]
+        ensures { result.now ≡ self.now }
+    {
+        self.hashes.as_slice()
+    }
+
+    /// How many hashes there are.
+    pub fn len(&self) -> usize
+        ensures { result ≡ length self.now }
+    {
+        self.hashes.len()
+    }
+
+    /// Whether there is none.
+    pub fn is_empty(&self) -> bool
+        ensures { result ≡ (length self.now == 0) }
+    {
+        self.hashes.is_empty()
+    }
+}

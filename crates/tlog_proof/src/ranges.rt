@@ -1,0 +1,28 @@
+//! Where the hashes of a proof come from.
+ghost use Rattle.std.specs.Prelude.{◌≡◌, ◌+◌, ◌<◌, ◌≤◌, ℕ, List, length, IfSome, IfNone};
+ghost use Rattle.tlog_hash.specs.Tree.{mth};
+ghost use Rattle.tlog_hash.specs.Rows.{part};
+
+use tlog_hash::Hash;
+
+/// The tree hashes of the ranges of one list of entries.
+///
+/// What gives the ranges need not hold the entries: a mirror finds the hashes in tiles. A contract that
+/// speaks of a list holds for each list that the value may stand for.
+pub trait Ranges {
+    /// The lists that the value may stand for: one in practice.
+    ghost lists: { Self → List (List ℕ) → Type 0 };
+
+    /// The digest function of the hashes.
+    ghost digest: { List ℕ → List ℕ };
+
+    /// How many entries the list has.
+    fn size(&self) -> u64
+        ensures { (entries : List (List ℕ)) → lists self.now entries → result ≡ length entries };
+
+    /// The tree hash of the `len` entries from number `start` on, and None where the range is not
+    /// within the list. A range of no entries within it has the hash of the empty list.
+    fn hash(&self, start: u64, len: u64) -> Option<Hash>
+        ensures some { IfSome result (λ hash. (entries : List (List ℕ)) → lists self.now entries → (start + len ≤ length entries) × (hash ≡ mth digest (part start len entries))) }
+        ensures none { IfNone result ((entries : List (List ℕ)) → lists self.now entries → length entries < start + len) };
+}
