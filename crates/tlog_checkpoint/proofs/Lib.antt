@@ -1,1 +1,7 @@
-
+pub mod LineLemmas
+pub mod Decimals
+pub mod Roots
+pub mod Answered
+pub mod Uniqueness
+pub mod OneAnswer
+pub mod Written

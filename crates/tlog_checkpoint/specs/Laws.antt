@@ -1,5 +1,5 @@
 -- What the grammar of checkpoints says, as laws of its definitions.
-use Rattle.std.specs.Prelude.{◌≡◌, ◌≢◌, ℕ, List, Result, Ok, Err}
+use Rattle.std.specs.Prelude.{◌≡◌, ◌≢◌, ℕ, List, Result, Err}
 use Rattle.tlog_checkpoint.specs.declared.Checkpoint.{Checkpoint}
 use Rattle.tlog_checkpoint.specs.declared.fault.CheckpointFault.{CheckpointFault}
 use Rattle.tlog_checkpoint.specs.declared.fault.CheckpointFault.TheVariants.{OutOfMemory}

@@ -13,12 +13,18 @@
 #![tactic(auto)]
 
 mod fault;
+mod fields;
+mod laws;
+mod reading;
 mod text;
+mod writing;
 
 pub use fault::CheckpointFault;
+pub use laws::{one_answer_law, one_reading_law, one_text_law, writable_law};
+pub use reading::read;
 pub use text::{Line, Lines};
-
 use tlog_hash::Hash;
+pub use writing::write;
 
 /// What a checkpoint says of its log.
 #[derive(Debug, Drop)]

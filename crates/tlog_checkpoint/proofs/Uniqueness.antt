@@ -1,0 +1,55 @@
+-- One text, one checkpoint: the grammar's laws.
+use Rattle.std.proofs.Common.{◌≡◌, ℕ, List, [], ◌∷◌, refl, sym, ◌∙◌, subst}
+use Rattle.std.specs.List.{AllByRecursion}
+use Rattle.tlog_checkpoint.specs.declared.Checkpoint.{Checkpoint}
+use Rattle.tlog_checkpoint.specs.Lines.{HasLines, text_of, IsLine}
+use Rattle.tlog_checkpoint.specs.Fields.{IsDecimal, IsRoot}
+use Rattle.tlog_checkpoint.specs.Grammar.{HasFields, IsFullLine}
+use Rattle.tlog_checkpoint.specs.Laws.{OneReading, OneText, ReadsWritable}
+use Rattle.tlog_checkpoint.proofs.LineLemmas.{one_lines}
+use Rattle.tlog_checkpoint.proofs.Decimals.{one_number, one_decimal}
+use Rattle.tlog_checkpoint.proofs.Roots.{one_root}
+
+are_lines : (lines : List (List ℕ)) → AllByRecursion IsFullLine lines → AllByRecursion IsLine lines
+are_lines [] h = tt
+are_lines (line ∷ lines) h = (h.0.is_line, are_lines lines h.1)
+
+-- fields are lines
+pub lines_from_fields : (text o s r : List ℕ) (e : List (List ℕ)) → HasFields text o s r e → HasLines text (o ∷ s ∷ r ∷ e)
+lines_from_fields text o s r e h = record { is_text = h.is_text; are_lines = are_lines (o ∷ s ∷ r ∷ e) h.are_full }
+
+-- the fields of a text are one list
+pub record SameFields (o s r : List ℕ) (e : List (List ℕ)) (o' s' r' : List ℕ) (e' : List (List ℕ)) : Type 0 where
+  pub origin : o ≡ o'
+  pub size : s ≡ s'
+  pub root : r ≡ r'
+  pub extensions : e ≡ e'
+
+pub one_fields : (text o s r : List ℕ) (e : List (List ℕ)) (o' s' r' : List ℕ) (e' : List (List ℕ)) → HasFields text o s r e → HasFields text o' s' r' e' → SameFields o s r e o' s' r' e'
+one_fields text o s r e o' s' r' e' p q =
+    let same = one_lines text (o ∷ s ∷ r ∷ e) (o' ∷ s' ∷ r' ∷ e') (lines_from_fields text o s r e p) (lines_from_fields text o' s' r' e' q) in
+    record { origin = cc same; size = cc same; root = cc same; extensions = cc same }
+
+-- equal fields make equal checkpoints
+same_checkpoint : (a b : Checkpoint) → a.origin ≡ b.origin → a.size ≡ b.size → a.root ≡ b.root → a.extensions ≡ b.extensions → a ≡ b
+same_checkpoint a b o s r e i = record { origin = o i; size = s i; root = r i; extensions = e i }
+
+pub one_reading : OneReading
+one_reading text a b p q =
+    let same = one_fields text a.origin p.size_line p.root_line a.extensions b.origin q.size_line q.root_line b.extensions p.fields q.fields in
+    let line = λ (x : List ℕ). IsDecimal x a.size in
+    let root = λ (x : List ℕ). IsRoot x a.root in
+    same_checkpoint a b same.origin
+    (one_number q.size_line a.size b.size (subst line same.size p.has_size) q.has_size)
+    (one_root q.root_line a.root b.root (subst root same.root p.has_root) q.has_root)
+    same.extensions
+
+pub one_text : OneText
+one_text s t origin size root extensions p q =
+    let size_lines : p.size_line ≡ q.size_line = one_decimal p.size_line q.size_line size p.in_range p.has_size q.has_size in
+    let root_lines : p.root_line ≡ q.root_line = p.has_root.is_base64 ∙ sym q.has_root.is_base64 in
+    let lines : text_of (origin ∷ p.size_line ∷ p.root_line ∷ extensions) ≡ text_of (origin ∷ q.size_line ∷ q.root_line ∷ extensions) = rw (size_lines, root_lines) refl in
+    p.fields.is_text ∙ lines ∙ sym q.fields.is_text
+
+pub reads_writable : ReadsWritable
+reads_writable text c p = record { origin = p.fields.are_full.0; size = p.in_range; extensions = p.fields.are_full.1.1.1 }

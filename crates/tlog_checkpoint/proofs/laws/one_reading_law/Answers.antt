@@ -1,0 +1,5 @@
+use Rattle.tlog_checkpoint.proofs.Uniqueness.{one_reading}
+use Rattle.tlog_checkpoint.proofs.laws.one_reading_law.Goals as goal
+
+pub returns : goal.returns
+returns c = one_reading

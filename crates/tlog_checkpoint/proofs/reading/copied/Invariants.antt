@@ -1,0 +1,5 @@
+use Rattle.std.proofs.Common.{◌≡◌, map, take}
+use Rattle.tlog_checkpoint.proofs.reading.copied.Given as goal
+
+abbrev pub invariant-loop-line : goal.invariant-loop-line
+invariant-loop-line l = l.copies.items ≡ map (λ line. line.now) (take l.line-index l.lines)

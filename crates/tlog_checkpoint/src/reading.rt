@@ -1,0 +1,90 @@
+//! Checkpoints read from their text.
+
+ghost use Rattle.std.specs.Prelude.{◌≡◌, ◌==◌, ◌≢◌, ℕ, List, [], ◌∷◌, ◌++◌, length, map, IfOk, MatchOption};
+ghost use Rattle.std.specs.List.{list_any, slice_split};
+ghost use Rattle.std.specs.Result.{result_map_both};
+ghost use Rattle.tlog_checkpoint.specs.Lines.{is_newline};
+ghost use Rattle.tlog_checkpoint.specs.Parts.{ReadsLines, ReadsFields};
+ghost use Rattle.tlog_checkpoint.specs.Reading.{Reads};
+
+use crate::Checkpoint;
+use crate::fault::CheckpointFault;
+use crate::fields::{root_of, size_of};
+use crate::text::{Line, Lines};
+use std::alloc::{AllocError, Global};
+
+/// The text without the newline that ends it, if one does.
+fn without_last_newline(text: &str) -> Option<&str>
+    ensures { MatchOption result ((front : List ℕ) → text.now ≢ front ++ 10 ∷ []) (λ body. text.now ≡ body.now ++ 10 ∷ []) }
+{
+    text.strip_suffix('\n')
+}
+
+/// The parts of the text between newlines.
+fn parts_of(alloc: Global, text: &str) -> Result<Vec<&str>, AllocError>
+    ensures { IfOk result (λ v. map (λ part. part.now) v.items ≡ slice_split is_newline text.now) }
+{
+    text.split('\n').collect(alloc)
+}
+
+/// The lines of the text, each of which ends in a newline.
+fn lines_of(alloc: Global, text: &str) -> Result<Vec<&str>, CheckpointFault>
+    ensures { ReadsLines text.now (result_map_both (λ v. map (λ line. line.now) v.items) (λ e. e) result) }
+{
+    let Some(body) = without_last_newline(text) else {
+        return Err(CheckpointFault::TooFewLines);
+    };
+    Ok(parts_of(alloc, body)?)
+}
+
+fn has_empty_line(lines: &[&str]) -> bool
+    ensures { result ≡ list_any (λ line. length line.now == 0) lines.now }
+{
+    lines.iter().any(|line| line.is_empty())
+}
+
+fn copied(alloc: Global, lines: &[&str]) -> Result<Lines, AllocError>
+    ensures { IfOk result (λ copies. copies ≡ map (λ line. line.now) lines.now) }
+{
+    let mut copies = Vec::new(alloc);
+    for line in lines {
+        copies.push(Line::new(String::from_str(alloc, line)?))?;
+    }
+    Ok(Lines::new(copies))
+}
+
+/// The checkpoint of these lines.
+fn checkpoint_of(
+    alloc: Global,
+    origin: &str,
+    size_line: &str,
+    root_line: &str,
+    extensions: &[&str],
+) -> Result<Checkpoint, CheckpointFault>
+    ensures { ReadsFields origin.now size_line.now root_line.now (map (λ line. line.now) extensions.now) result }
+{
+    let size = size_of(size_line)?;
+    let root = root_of(alloc, root_line)?;
+    let origin = Line::new(String::from_str(alloc, origin)?);
+    let extensions = copied(alloc, extensions)?;
+    Ok(Checkpoint {
+        origin,
+        size,
+        root,
+        extensions,
+    })
+}
+
+/// The checkpoint that the text is.
+pub fn read(alloc: Global, text: &str) -> Result<Checkpoint, CheckpointFault>
+    ensures { Reads text.now result }
+{
+    let lines = lines_of(alloc, text)?;
+    let [origin, size_line, root_line, extensions @ ..] = lines.as_slice() else {
+        return Err(CheckpointFault::TooFewLines);
+    };
+    if has_empty_line(&lines) {
+        return Err(CheckpointFault::EmptyLine);
+    }
+    checkpoint_of(alloc, origin, size_line, root_line, extensions)
+}

@@ -1,0 +1,46 @@
+//! Checkpoints written as their text.
+
+ghost use Rattle.std.specs.Prelude.{◌≡◌, ◌++◌, IfOk, OnOk, string_bytes};
+ghost use Rattle.tlog_checkpoint.specs.Lines.{ended, text_of};
+ghost use Rattle.tlog_checkpoint.specs.Grammar.{IsCheckpoint, IsWritable};
+
+use crate::Checkpoint;
+use crate::fields::{root_line, size_line};
+use crate::text::Line;
+use std::alloc::{AllocError, Global};
+
+/// Adds the line and its newline.
+fn add_line(text: &mut String, line: &str) -> Result<(), AllocError>
+    ensures { OnOk result (string_bytes text.new ≡ string_bytes text.old ++ ended line.now) }
+{
+    text.push_str(line)?;
+    text.push('\n')
+}
+
+/// Adds the lines, each with its newline.
+fn add_lines(text: &mut String, lines: &[Line]) -> Result<(), AllocError>
+    ensures { OnOk result (string_bytes text.new ≡ string_bytes text.old ++ text_of lines.now) }
+{
+    for line in lines {
+        add_line(text, line.as_str())?;
+    }
+    Ok(())
+}
+
+/// The one text of the checkpoint, which `read` reads as that checkpoint.
+///
+/// The origin and the extension lines must not be empty and hold no newline, and the size must be
+/// at most 9223372036854775807.
+pub fn write(alloc: Global, checkpoint: &Checkpoint) -> Result<String, AllocError>
+    requires { IsWritable checkpoint.now }
+    ensures { IfOk result (λ text. IsCheckpoint (string_bytes text) checkpoint.now.origin checkpoint.now.size checkpoint.now.root checkpoint.now.extensions) }
+{
+    let size = size_line(alloc, checkpoint.size)?;
+    let root = root_line(alloc, &checkpoint.root)?;
+    let mut text = String::new(alloc);
+    add_line(&mut text, checkpoint.origin.as_str())?;
+    add_line(&mut text, size.as_str())?;
+    add_line(&mut text, root.as_str())?;
+    add_lines(&mut text, checkpoint.extensions.as_slice())?;
+    Ok(text)
+}
