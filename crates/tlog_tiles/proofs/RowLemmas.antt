@@ -1,13 +1,12 @@
 -- Hashes one after the other.
-use Rattle.std.proofs.Common.{◌≡◌, ◌≢◌, ℕ, suc, ◌+◌, ◌-◌, ◌*◌, ◌<◌, List, [], ◌∷◌, ◌++◌, length, take, drop, All, Result, Ok, Err, refl, sym, ap, subst, ◌∙◌, arith}
-use Rattle.std.specs.List.{flat_map}
+use Rattle.std.proofs.Common.{◌≡◌, ◌≢◌, ℕ, suc, ◌+◌, ◌-◌, ◌*◌, List, [], ◌∷◌, ◌++◌, length, take, drop, All, Result, Ok, Err, refl, sym, ap, ◌∙◌, arith}
 use Rattle.std.proofs.Math.Seq.{take-add}
 use Rattle.std.proofs.lemmas.List.{take_at, drop_at, length-append, append-nil}
 use Rattle.std.proofs.lemmas.List.Concat.{flat_map-append}
 use Rattle.std.proofs.lemmas.List.Elements.{All-head, All-tail}
 use Rattle.tlog_tiles.specs.declared.row.RowFault.{RowFault}
 use Rattle.tlog_tiles.specs.declared.row.RowFault.TheVariants.{RowLength, OutOfMemory}
-use Rattle.tlog_tiles.specs.Row.{row_text, IsRow, ReadsRow}
+use Rattle.tlog_tiles.specs.Row.{row_text, ReadsRow}
 
 abbrev is_hash : List ℕ → Type 0
 is_hash h = length h ≡ 32

@@ -1,4 +1,6 @@
 pub mod Seen
 pub mod Bundle
 pub mod Row
+pub mod Path
+pub mod Kind
 pub mod Laws

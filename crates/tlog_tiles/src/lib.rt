@@ -8,10 +8,12 @@
 
 mod bundle;
 mod laws;
+mod paths;
 mod row;
 
 pub use bundle::{BundleFault, read_bundle, write_bundle};
 pub use laws::{one_bundle_law, one_row_law};
+pub use paths::{Path, PathFault, print};
 pub use row::{RowFault, read_row, write_row};
 
 #[cfg(test)]

@@ -1,7 +1,6 @@
-use Rattle.std.proofs.Common.{rules, ◌≡◌, suc, ◌-◌, ◌+◌, ◌^◌, ◌<◌, [], ◌∷◌, ◌++◌, length, map, subst, refl, arith, ap, sym, ◌∙◌}
+use Rattle.std.proofs.Common.{◌≡◌, suc, ◌-◌, ◌+◌, ◌^◌, ◌<◌, [], ◌∷◌, ◌++◌, length, map, subst, arith, ap, sym, ◌∙◌}
 use Rattle.std.proofs.lemmas.List.{map_push, length_push, length-map}
 use Rattle.std.proofs.lemmas.List.Elements.{All-push, All-same}
-use Rattle.std.proofs.lemmas.Grind.{common_steps}
 use Rattle.tlog_tiles.specs.Bundle.{HasBundle}
 use Rattle.tlog_tiles.proofs.BundleLemmas.{HasBundle-first, HasBundle-rest, joined_push, left_over}
 use Rattle.tlog_tiles.proofs.bundle.read_bundle.Goals as goal

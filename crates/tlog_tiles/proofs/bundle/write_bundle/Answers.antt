@@ -1,7 +1,7 @@
-use Rattle.std.proofs.Common.{rules, ◌≡◌, ◌<◌, ◌≤◌, ◌^◌, ◌++◌, All, List, ℕ, length, IfOk, map, take, drop, ◌+◌, ◌-◌, ◌*◌, [], ◌∷◌, refl, sym, ap, subst, ◌∙◌, arith}
+use Rattle.std.proofs.Common.{◌<◌, ◌^◌, List, ℕ, length, map, ap, ◌∙◌}
 use Rattle.std.proofs.lemmas.List.{length-map, take_all}
 use Rattle.std.proofs.lemmas.List.Elements.{All-map}
-use Rattle.tlog_tiles.specs.Bundle.{entry_text, bundle_text, IsBundle}
+use Rattle.tlog_tiles.specs.Bundle.{bundle_text}
 use Rattle.tlog_tiles.proofs.bundle.write_bundle.Goals as goal
 
 pub returns : goal.returns

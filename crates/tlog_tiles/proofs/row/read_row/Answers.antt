@@ -1,7 +1,6 @@
-use Rattle.std.proofs.Common.{rules, ◌≡◌, ◌<◌, ◌≤◌, ◌^◌, ◌++◌, All, List, ℕ, length, IfOk, map, take, drop, ◌+◌, ◌-◌, ◌*◌, [], ◌∷◌, refl, sym, ap, subst, ◌∙◌, arith}
+use Rattle.std.proofs.Common.{◌≡◌, List, ℕ, length, ◌+◌, ap, ◌∙◌}
 use Rattle.std.proofs.lemmas.List.{length_push}
 use Rattle.std.proofs.lemmas.List.Elements.{All-push, All-same}
-use Rattle.tlog_tiles.specs.Row.{IsRow, row_text}
 use Rattle.tlog_tiles.proofs.RowLemmas.{row_push}
 use Rattle.tlog_tiles.proofs.row.read_row.Goals as goal
 

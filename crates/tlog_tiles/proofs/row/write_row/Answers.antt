@@ -1,7 +1,7 @@
-use Rattle.std.proofs.Common.{rules, ◌≡◌, ◌<◌, ◌≤◌, ◌^◌, ◌++◌, All, List, ℕ, length, IfOk, map, take, drop, ◌+◌, ◌-◌, ◌*◌, [], ◌∷◌, refl, sym, ap, subst, ◌∙◌, arith}
+use Rattle.std.proofs.Common.{◌≡◌, List, ℕ, length, [], refl, ap, ◌∙◌}
 use Rattle.std.proofs.lemmas.List.{take_all}
 use Rattle.std.proofs.lemmas.List.Elements.{All-from_get_or}
-use Rattle.tlog_tiles.specs.Row.{IsRow, row_text}
+use Rattle.tlog_tiles.specs.Row.{row_text}
 use Rattle.tlog_tiles.proofs.row.write_row.Goals as goal
 
 pub returns : goal.returns

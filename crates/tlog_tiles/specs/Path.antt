@@ -1,0 +1,164 @@
+-- Paths of a log's files (C2SP tlog-tiles, "Parameters", "Merkle Tree" and "Log Entries"): how each is
+-- spelled, and what each answer of a reader of paths says.
+use Rattle.std.specs.Prelude.{◌≡◌, ◌≢◌, ◌==◌, ℕ, zero, suc, ◌+◌, ◌-◌, ◌*◌, ◌/◌, ◌%◌, ◌^◌, ◌<◌, ◌≤◌, ◌⊎◌, List, [], ◌∷◌, ◌++◌, Option, Some, None, Result, Ok, Err, All, if◌then◌else◌, codes}
+use Rattle.std.specs.List.{flat_map}
+use Rattle.std.specs.Fmt.{decimal}
+use Rattle.tlog_tiles.specs.declared.paths.Path.{Path}
+use Rattle.tlog_tiles.specs.declared.paths.Path.TheVariants.{Checkpoint, Tile, Entries}
+use Rattle.tlog_tiles.specs.declared.paths.PathFault.{PathFault}
+use Rattle.tlog_tiles.specs.declared.paths.PathFault.TheVariants.{Unknown, BadLevel, BadIndex, BadWidth}
+
+-- ---- the parts of a text
+
+-- the greatest index of a lawful path
+abbrev pub greatest_index : ℕ
+greatest_index = 2 ^ 55 - 1
+
+-- the text is one segment: no slash stands in it
+abbrev pub HasNoSlash : List ℕ → Type 0
+HasNoSlash text = All (λ c. c ≢ 47) text
+
+-- the last three decimal digits of a number
+abbrev pub three_digits : ℕ → List ℕ
+three_digits n = (48 + n / 100 % 10) ∷ (48 + n / 10 % 10) ∷ (48 + n % 10) ∷ []
+
+-- a group of an index that others follow: an x, three digits, and a slash
+abbrev pub group_text : ℕ → List ℕ
+group_text n = 120 ∷ three_digits n ++ 47 ∷ []
+
+-- the number of a row of groups of three digits, behind the number of those before them
+abbrev pub number_of : ℕ → List ℕ → ℕ
+number_of before [] = before
+number_of before (group ∷ groups) = number_of (before * 1000 + group) groups
+
+-- the first of the groups, if any, is not x000
+abbrev pub BeginsAboveZero : List ℕ → Type 0
+BeginsAboveZero [] = Unit {0}
+BeginsAboveZero (group ∷ groups) = 0 < group
+
+-- the text is the index, in groups of three digits of which each but the last follows an x
+pub record IsIndex (text : List ℕ) (index : ℕ) : Type 0 where
+  pub groups : List ℕ
+  pub last : ℕ
+  pub fits : All (λ group. group < 1000) groups
+  pub last_fits : last < 1000
+  pub begins : BeginsAboveZero groups
+  pub text_is : text ≡ flat_map group_text groups ++ three_digits last
+  pub index_is : index ≡ number_of 0 groups * 1000 + last
+
+-- the text is the width of a partial tile or bundle: decimal, without leading zeros, from 1 to 255
+pub record IsPartialWidth (text : List ℕ) (width : ℕ) : Type 0 where
+  pub some : 1 ≤ width
+  pub partial : width ≤ 255
+  pub text_is : text ≡ decimal width
+
+-- the width of a path with that text of a width, or with none
+abbrev pub IsWidthOf : Option (List ℕ) → ℕ → Type 0
+IsWidthOf None width = width ≡ 256
+IsWidthOf (Some text) width = IsPartialWidth text width
+
+-- the text has three segments or more, of which the first is `tile`: the second, and what follows it
+pub record IsBelowTile (text second tail : List ℕ) : Type 0 where
+  pub text_is : text ≡ codes "tile/" ++ second ++ 47 ∷ tail
+  pub second_is : HasNoSlash second
+
+-- the second segment is one digit from 0 to 7, or `entries`
+abbrev pub IsKind : List ℕ → Type 0
+IsKind second = ((level : ℕ) × (level ≤ 7) × (second ≡ (48 + level) ∷ [])) ⊎ (second ≡ codes "entries")
+
+-- what follows the second segment is the index, and the width where the last segment but one ends in .p
+abbrev pub HasWidthPart : List ℕ → List ℕ → Option (List ℕ) → Type 0
+HasWidthPart tail index None = (tail ≡ index) × ((front last : List ℕ) → HasNoSlash last → tail ≡ front ++ codes ".p/" ++ last → ⊥)
+HasWidthPart tail index (Some width) = (tail ≡ index ++ codes ".p/" ++ width) × HasNoSlash width
+
+-- ---- the grammar
+
+-- the text is `tile/`, the second segment, a slash, a lawful index, and a width if it is not 256
+pub record IsServed (second text : List ℕ) (index width : ℕ) : Type 0 where
+  pub tail : List ℕ
+  pub index_text : List ℕ
+  pub width_text : Option (List ℕ)
+  pub below : IsBelowTile text second tail
+  pub parts : HasWidthPart tail index_text width_text
+  pub index_is : IsIndex index_text index
+  pub index_fits : index ≤ greatest_index
+  pub width_is : IsWidthOf width_text width
+
+-- the text spells the path, which is lawful
+abbrev pub IsPath : List ℕ → Path → Type 0
+IsPath text Checkpoint = text ≡ codes "checkpoint"
+IsPath text (Tile level index width) = (level ≤ 7) × IsServed ((48 + level) ∷ []) text index width
+IsPath text (Entries index width) = IsServed (codes "entries") text index width
+
+-- ---- the refusals
+
+-- the second segment is none that it can be
+pub record HasBadLevel (text : List ℕ) : Type 0 where
+  pub second : List ℕ
+  pub tail : List ℕ
+  pub below : IsBelowTile text second tail
+  pub bad : IsKind second → ⊥
+
+-- the second segment is one that it can be, and the index is no lawful one
+pub record HasBadIndex (text : List ℕ) : Type 0 where
+  pub second : List ℕ
+  pub tail : List ℕ
+  pub index_text : List ℕ
+  pub width_text : Option (List ℕ)
+  pub below : IsBelowTile text second tail
+  pub kind : IsKind second
+  pub parts : HasWidthPart tail index_text width_text
+  pub bad : (index : ℕ) → index ≤ greatest_index → IsIndex index_text index → ⊥
+
+-- the second segment and the index are as they should be, and the width is none
+pub record HasBadWidth (text : List ℕ) : Type 0 where
+  pub second : List ℕ
+  pub tail : List ℕ
+  pub index_text : List ℕ
+  pub width_text : Option (List ℕ)
+  pub index : ℕ
+  pub below : IsBelowTile text second tail
+  pub kind : IsKind second
+  pub parts : HasWidthPart tail index_text width_text
+  pub index_is : IsIndex index_text index
+  pub index_fits : index ≤ greatest_index
+  pub bad : (width : ℕ) → IsWidthOf width_text width → ⊥
+
+-- what each answer of a reader of paths says of the text
+abbrev pub ReadsPath : List ℕ → Result Path PathFault → Type 0
+ReadsPath text (Ok path) = IsPath text path
+ReadsPath text (Err Unknown) = (text ≢ codes "checkpoint") × ((second tail : List ℕ) → IsBelowTile text second tail → ⊥)
+ReadsPath text (Err BadLevel) = HasBadLevel text
+ReadsPath text (Err BadIndex) = HasBadIndex text
+ReadsPath text (Err BadWidth) = HasBadWidth text
+
+-- ---- printing
+
+-- the groups of an index before its last, for the number that they make, which the first number bounds
+abbrev pub groups_within : ℕ → ℕ → List ℕ
+groups_within zero number = []
+groups_within (suc bound) zero = []
+groups_within (suc bound) (suc n) = groups_within bound (suc n / 1000) ++ group_text (suc n)
+
+unfoldable pub groups_text : ℕ → List ℕ
+groups_text number = groups_within number number
+
+-- an index in groups of three digits
+abbrev pub index_text : ℕ → List ℕ
+index_text index = groups_text (index / 1000) ++ three_digits index
+
+-- the end of a path, of that width
+abbrev pub width_text : ℕ → List ℕ
+width_text width = if width == 256 then [] else codes ".p/" ++ decimal width
+
+-- the text of any path, lawful or not
+abbrev pub path_text : Path → List ℕ
+path_text Checkpoint = codes "checkpoint"
+path_text (Tile level index width) = codes "tile/" ++ (decimal level ++ (codes "/" ++ (index_text index ++ width_text width)))
+path_text (Entries index width) = codes "tile/entries/" ++ (index_text index ++ width_text width)
+
+-- the path is one that is read
+abbrev pub IsLawful : Path → Type 0
+IsLawful Checkpoint = Unit {0}
+IsLawful (Tile level index width) = (level ≤ 7) × (index ≤ greatest_index) × (1 ≤ width) × (width ≤ 256)
+IsLawful (Entries index width) = (index ≤ greatest_index) × (1 ≤ width) × (width ≤ 256)

@@ -1,0 +1,79 @@
+//! Paths of a log's files (C2SP tlog-tiles, "Parameters", "Merkle Tree" and "Log Entries").
+mod printing;
+mod reading;
+
+ghost use Rattle.std.specs.Prelude.{Result};
+ghost use Rattle.tlog_tiles.specs.Path.{ReadsPath};
+
+pub use printing::print;
+use reading::{Kind, below_tile, index_of, kind_of, width_of, width_part};
+use thiserror::Error;
+
+/// The path of one of a log's files.
+///
+/// A lawful path has a level of at most 7, an index of at most 2^55 - 1 and a width of 1 to 256, which
+/// is 256 for a full tile or bundle. Only lawful paths are read; any path can be printed.
+#[derive(Debug, PartialEq, Eq, Clone, Copy)]
+pub enum Path {
+    /// `checkpoint`: the log's newest checkpoint.
+    Checkpoint,
+    /// `tile/LEVEL/INDEX` or, of fewer than 256 hashes, `tile/LEVEL/INDEX.p/WIDTH`: `width` hashes of a
+    /// level, from the one with the number `256 * index` on.
+    Tile { level: u32, index: u64, width: u32 },
+    /// `tile/entries/INDEX` or `tile/entries/INDEX.p/WIDTH`: `width` entries, from the one with the
+    /// number `256 * index` on.
+    Entries { index: u64, width: u32 },
+}
+
+/// Why a text is not a path. The first that applies is the answer.
+#[derive(Debug, Drop, PartialEq, Eq, Clone, Copy, Error)]
+pub enum PathFault {
+    /// It is neither `checkpoint` nor three segments or more of which the first is `tile`.
+    #[error("Unknown")]
+    Unknown,
+    /// The second segment is neither `entries` nor one digit from 0 to 7.
+    #[error("BadLevel")]
+    BadLevel,
+    /// The index is not in groups of three digits, each but the last behind an x and the first of
+    /// several not `x000`, or is greater than 2^55 - 1.
+    #[error("BadIndex")]
+    BadIndex,
+    /// The width is not decimal, without leading zeros, from 1 to 255.
+    #[error("BadWidth")]
+    BadWidth,
+}
+
+impl Path {
+    /// The path that the text spells. A path has one spelling, and each lawful path has one.
+    ///
+    /// It takes no memory. Each fault comes exactly as `PathFault` says, the first that applies.
+    pub fn parse(text: &str) -> Result<Path, PathFault>
+        ensures { ReadsPath text.now result }
+    {
+        let bytes = text.as_bytes();
+        if bytes == b"checkpoint".as_slice() {
+            return Ok(Path::Checkpoint);
+        }
+        let Some((second, tail)) = below_tile(bytes) else {
+            return Err(PathFault::Unknown);
+        };
+        let Some(kind) = kind_of(second) else {
+            return Err(PathFault::BadLevel);
+        };
+        let (index_text, width_text) = width_part(tail);
+        let Some(index) = index_of(index_text) else {
+            return Err(PathFault::BadIndex);
+        };
+        let Some(width) = width_of(width_text) else {
+            return Err(PathFault::BadWidth);
+        };
+        match kind {
+            Kind::Hashes(level) => Ok(Path::Tile {
+                level,
+                index,
+                width,
+            }),
+            Kind::Bundles => Ok(Path::Entries { index, width }),
+        }
+    }
+}

@@ -1,0 +1,188 @@
+//! The parts of a path's text, from left to right.
+ghost use Rattle.std.specs.Prelude.{◌≡◌, ◌≢◌, ◌<◌, ◌≤◌, ◌+◌, ◌*◌, ◌++◌, ◌∷◌, [], List, ℕ, IfNone, IfSome, MatchOption};
+ghost use Rattle.std.specs.Option.{SomeIff, option_copied};
+ghost use Rattle.tlog_tiles.specs.Path.{greatest_index, group_text, three_digits, HasNoSlash, HasWidthPart, IsBelowTile, IsIndex, IsKind, IsPartialWidth, IsWidthOf};
+ghost use Rattle.tlog_tiles.specs.Kind.{IsOfKind};
+
+// The greatest index of a lawful path: 2^55 - 1, that of the last tile of a tree of 2^63 entries.
+const MAX_INDEX: u64 = 36028797018963967;
+
+// What the second segment of a path names.
+#[derive(Debug, PartialEq, Eq, Clone, Copy)]
+pub enum Kind {
+    // Tiles of hashes, of that level.
+    Hashes(u32),
+    // Bundles of entries.
+    Bundles,
+}
+
+// The bytes before the first slash, and those behind it.
+fn cut_first(bytes: &[u8]) -> Option<(&[u8], &[u8])>
+    ensures found { IfSome result (λ x. HasNoSlash x.0.now × (bytes.now ≡ x.0.now ++ 47 ∷ x.1.now)) }
+    ensures none { IfNone result (HasNoSlash bytes.now) }
+{
+    for (at, byte) in bytes.iter().enumerate() {
+        if *byte == b'/' {
+            return Some((&bytes[..at], &bytes[at + 1..]));
+        }
+    }
+    None
+}
+
+// The bytes before the last slash, and those behind it.
+fn cut_last(bytes: &[u8]) -> Option<(&[u8], &[u8])>
+    ensures found { IfSome result (λ x. HasNoSlash x.1.now × (bytes.now ≡ x.0.now ++ 47 ∷ x.1.now)) }
+    ensures none { IfNone result (HasNoSlash bytes.now) }
+{
+    for at in (0..bytes.len()).rev() {
+        if bytes[at] == b'/' {
+            return Some((&bytes[..at], &bytes[at + 1..]));
+        }
+    }
+    None
+}
+
+// What follows the front, where the bytes begin with it.
+fn behind<'a>(bytes: &'a [u8], front: &[u8]) -> Option<&'a [u8]>
+    ensures found { IfSome result (λ rest. bytes.now ≡ front.now ++ rest.now) }
+    ensures none { IfNone result ((rest : List ℕ) → bytes.now ≡ front.now ++ rest → ⊥) }
+{
+    bytes.strip_prefix(front)
+}
+
+// What precedes the end, where the bytes end with it.
+fn ahead_of<'a>(bytes: &'a [u8], end: &[u8]) -> Option<&'a [u8]>
+    ensures found { IfSome result (λ front. bytes.now ≡ front.now ++ end.now) }
+    ensures none { IfNone result ((front : List ℕ) → bytes.now ≡ front ++ end.now → ⊥) }
+{
+    bytes.strip_suffix(end)
+}
+
+// Of a path of three segments or more that begins with `tile`, the second and what follows it.
+pub fn below_tile(bytes: &[u8]) -> Option<(&[u8], &[u8])>
+    ensures found { IfSome result (λ x. IsBelowTile bytes.now x.0.now x.1.now) }
+    ensures none { IfNone result ((second tail : List ℕ) → IsBelowTile bytes.now second tail → ⊥) }
+{
+    let rest = behind(bytes, b"tile/")?;
+    cut_first(rest)
+}
+
+// What a second segment names.
+pub fn kind_of(second: &[u8]) -> Option<Kind>
+    ensures found { IfSome result (λ kind. IsOfKind second.now kind) }
+    ensures none { IfNone result (IsKind second.now → ⊥) }
+{
+    if second == b"entries".as_slice() {
+        return Some(Kind::Bundles);
+    }
+    match second {
+        [digit @ b'0'..=b'7'] => Some(Kind::Hashes(u32::from(*digit - b'0'))),
+        _ => None,
+    }
+}
+
+// The index's text, and the width's where it is written.
+pub fn width_part(tail: &[u8]) -> (&[u8], Option<&[u8]>)
+    ensures { HasWidthPart tail.now result.0.now (option_copied result.1) }
+{
+    if let Some((front, digits)) = cut_last(tail) {
+        if let Some(index) = ahead_of(front, b".p") {
+            return (index, Some(digits));
+        }
+    }
+    (tail, None)
+}
+
+// The number of three digits at the front, and the bytes behind them.
+fn three_at(bytes: &[u8]) -> Option<(u64, &[u8])>
+    ensures found { IfSome result (λ x. (x.0 < 1000) × (bytes.now ≡ three_digits x.0 ++ x.1.now)) }
+    ensures none { IfNone result ((group : ℕ) (rest : List ℕ) → group < 1000 → bytes.now ≡ three_digits group ++ rest → ⊥) }
+{
+    match bytes {
+        [
+            hundreds @ b'0'..=b'9',
+            tens @ b'0'..=b'9',
+            ones @ b'0'..=b'9',
+            rest @ ..,
+        ] => {
+            let number = u64::from(*hundreds - b'0') * 100
+                + u64::from(*tens - b'0') * 10
+                + u64::from(*ones - b'0');
+            Some((number, rest))
+        }
+        _ => None,
+    }
+}
+
+// The number of the group at the front, which others follow, and the bytes behind it.
+fn group_at(bytes: &[u8]) -> Option<(u64, &[u8])>
+    ensures found { IfSome result (λ x. (x.0 < 1000) × (bytes.now ≡ group_text x.0 ++ x.1.now)) }
+    ensures none { IfNone result ((group : ℕ) (rest : List ℕ) → group < 1000 → bytes.now ≡ group_text group ++ rest → ⊥) }
+{
+    let digits = behind(bytes, b"x")?;
+    let (number, after) = three_at(digits)?;
+    let rest = behind(after, b"/")?;
+    Some((number, rest))
+}
+
+// A number with one group of digits more, where a lawful path has it.
+fn with_group(number: u64, group: u64) -> Option<u64>
+    requires { group < 1000 }
+    ensures { SomeIff result (number * 1000 + group ≤ greatest_index) (number * 1000 + group) }
+{
+    if number > MAX_INDEX / 1000 {
+        return None;
+    }
+    let next = number * 1000 + group;
+    if next > MAX_INDEX { None } else { Some(next) }
+}
+
+// The index that a text in groups of three digits gives.
+pub fn index_of(text: &[u8]) -> Option<u64>
+    ensures found { IfSome result (λ index. IsIndex text.now index × (index ≤ greatest_index)) }
+    ensures none { IfNone result ((index : ℕ) → index ≤ greatest_index → IsIndex text.now index → ⊥) }
+{
+    let mut index = 0;
+    let mut rest = text;
+    while let Some((group, after)) = group_at(rest) {
+        index = with_group(index, group)?;
+        if index == 0 {
+            return None;
+        }
+        rest = after;
+    }
+    let (group, after) = three_at(rest)?;
+    if !after.is_empty() {
+        return None;
+    }
+    with_group(index, group)
+}
+
+// The width that its text gives, or that of a path without one.
+pub fn width_of(text: Option<&[u8]>) -> Option<u32>
+    ensures found { IfSome result (λ width. IsWidthOf (option_copied text.entry) width) }
+    ensures none { IfNone result ((width : ℕ) → IsWidthOf (option_copied text.entry) width → ⊥) }
+{
+    let Some(digits) = text else {
+        return Some(256);
+    };
+    partial_width(digits)
+}
+
+// A width below 256, in decimal digits.
+fn partial_width(digits: &[u8]) -> Option<u32>
+    ensures found { IfSome result (λ width. IsPartialWidth digits.now width) }
+    ensures none { IfNone result ((width : ℕ) → IsPartialWidth digits.now width → ⊥) }
+{
+    let mut width = 0;
+    for digit in digits {
+        if !digit.is_ascii_digit() {
+            return None;
+        }
+        width = width * 10 + u32::from(*digit - b'0');
+        if width > 255 || width == 0 {
+            return None;
+        }
+    }
+    if width == 0 { None } else { Some(width) }
+}
