@@ -5,3 +5,8 @@ pub mod EdgeStrings
 pub mod Fronts
 pub mod Walks
 pub mod TreeLaws
+pub mod StringSets
+pub mod Items
+pub mod ItemStrings
+pub mod Views
+pub mod OneLists

@@ -2,4 +2,17 @@ pub mod Edge
 pub mod Front
 pub mod Rounds
 pub mod Walk
+pub mod Strings
+pub mod View
+pub mod Heads
+pub mod Item
+pub mod Complete
+pub mod Served
+pub mod Forks
+pub mod Marks
+pub mod Events
+pub mod Steps
+pub mod Reached
 pub mod TreeLaws
+pub mod ViewLaws
+pub mod PlayLaws

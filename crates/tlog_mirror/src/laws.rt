@@ -3,4 +3,6 @@
 //! A law is the contract of a function with an empty body: the proof is all that there is of it.
 pub mod edges;
 pub mod fronts;
+pub mod items;
 pub mod tiles;
+pub mod views;

@@ -1,0 +1,9 @@
+use Rattle.tlog_mirror.proofs.Views.{union_is_lawful}
+use Rattle.tlog_mirror.proofs.ItemStrings.{plus_is_lawful}
+use Rattle.tlog_mirror.proofs.laws.views.lawful_law.Goals as goal
+
+pub returns-clause-item : goal.returns-clause-item
+returns-clause-item c = plus_is_lawful
+
+pub returns-clause-views : goal.returns-clause-views
+returns-clause-views c = union_is_lawful

@@ -1,0 +1,95 @@
+-- Laws of views: what is complete, served and forked in them, and how they are joined.
+use Rattle.std.specs.Prelude.{◌≡◌, ◌≢◌, ◌↔◌, ℕ, ◌*◌, ◌^◌, ◌≤◌, List, length}
+use Rattle.std.specs.FinSet as set
+use Rattle.tlog_hash.specs.Tree.{mth}
+use Rattle.tlog_tiles.specs.Bundle.{IsBundle}
+use Rattle.tlog_tiles.specs.Row.{IsRow}
+use Rattle.signed_note.specs.Keys.{Key}
+use Rattle.node_store.specs.Strings.{NoClash}
+use Rattle.tlog_mirror.specs.View.{View, union, IsWithin}
+use Rattle.tlog_mirror.specs.Strings.{held_in}
+use Rattle.tlog_mirror.specs.Heads.{HasHead}
+use Rattle.tlog_mirror.specs.Item.{Item, row_of, entries_of, IsGood, plus}
+use Rattle.tlog_mirror.specs.Complete.{Complete, IsComplete, IsLawful}
+use Rattle.tlog_mirror.specs.Served.{Served}
+use Rattle.tlog_mirror.specs.Forks.{Point, IsPrefix, IsFork}
+use Rattle.tlog_mirror.specs.Front.{Place}
+use Rattle.tlog_mirror.specs.Walk.{IsMissing}
+
+-- a digest has 32 bytes
+abbrev pub IsHash : (List ℕ → List ℕ) → Type 0
+IsHash digest = (string : List ℕ) → length (digest string) ≡ 32
+
+-- the hashes of bytes that are a row are the row
+abbrev pub RowIsRow : Type 0
+RowIsRow = (width : ℕ) (bytes : List ℕ) → length bytes ≡ 32 * width → IsRow width bytes (row_of bytes)
+
+abbrev pub RowIsOne : Type 0
+RowIsOne = (width : ℕ) (bytes : List ℕ) (row : List (List ℕ)) → IsRow width bytes row → row ≡ row_of bytes
+
+-- the entries of bytes that are a bundle are the bundle's
+abbrev pub BundleIsOne : Type 0
+BundleIsOne = (width : ℕ) (bytes : List ℕ) (entries : List (List ℕ)) → IsBundle width bytes entries → entries ≡ entries_of width bytes
+
+-- in a lawful view one list at most is complete for a size and root
+abbrev pub OneList : Type 0
+OneList = (digest : List ℕ → List ℕ) → IsHash digest → (v : View) → IsLawful digest v → (size : ℕ) (root : List ℕ) (first second : List (List ℕ)) → Complete digest v size root first → Complete digest v size root second → first ≡ second
+
+-- and its tree hash is the root, its length the size
+abbrev pub ListHasRoot : Type 0
+ListHasRoot = (digest : List ℕ → List ℕ) (v : View) (size : ℕ) (root : List ℕ) (entries : List (List ℕ)) → Complete digest v size root entries → (length entries ≡ size) × (mth digest entries ≡ root)
+
+-- merging views of one origin is commutative, and merging is associative and idempotent
+abbrev pub UnionCommutes : Type 0
+UnionCommutes = (v w : View) → v.origin ≡ w.origin → union v w ≡ union w v
+
+abbrev pub UnionAssociates : Type 0
+UnionAssociates = (v w x : View) → union (union v w) x ≡ union v (union w x)
+
+abbrev pub UnionRepeats : Type 0
+UnionRepeats = (v : View) → union v v ≡ v
+
+-- views that hold the same are one
+abbrev pub SameIsOne : Type 0
+SameIsOne = (v w : View) → IsWithin v w → IsWithin w v → v ≡ w
+
+-- a good item, or a lawful view of the same origin, leaves a lawful view lawful where nothing clashes
+abbrev pub PlusIsLawful : Type 0
+PlusIsLawful = (digest : List ℕ → List ℕ) → IsHash digest → (keys : List Key) (v : View) (item : Item) → IsLawful digest v → IsGood digest v.origin keys item → NoClash digest (plus digest v item).strings → IsLawful digest (plus digest v item)
+
+abbrev pub UnionIsLawful : Type 0
+UnionIsLawful = (digest : List ℕ → List ℕ) (v w : View) → IsLawful digest v → IsLawful digest w → v.origin ≡ w.origin → NoClash digest (set.union v.strings w.strings) → IsLawful digest (union v w)
+
+-- what is complete stays complete, with the same entries, as the view grows
+abbrev pub CompleteStays : Type 0
+CompleteStays = (digest : List ℕ → List ℕ) (v w : View) → IsWithin v w → (size : ℕ) (root : List ℕ) (entries : List (List ℕ)) → Complete digest v size root entries → Complete digest w size root entries
+
+-- and with no others, while nothing clashes
+abbrev pub CompleteIsSame : Type 0
+CompleteIsSame = (digest : List ℕ → List ℕ) → IsHash digest → (v w : View) → IsWithin v w → NoClash digest w.strings → (size : ℕ) (root : List ℕ) (before after : List (List ℕ)) → Complete digest v size root before → Complete digest w size root after → before ≡ after
+
+-- a fork stays
+abbrev pub ForksStay : Type 0
+ForksStay = (digest : List ℕ → List ℕ) (v w : View) → IsWithin v w → (a b : Point) → IsFork digest v a b → IsFork digest w a b
+
+-- either way round it is the same fork
+abbrev pub ForksTurn : Type 0
+ForksTurn = (digest : List ℕ → List ℕ) (v : View) (a b : Point) → IsFork digest v a b → IsFork digest v b a
+
+-- of two complete heads that differ a fork is made exactly where neither list is a prefix of the other
+abbrev pub ForksTell : Type 0
+ForksTell = (digest : List ℕ → List ℕ) → IsHash digest → (v : View) → IsLawful digest v → (a b : Point) (first second : List (List ℕ)) → a ≢ b → Complete digest v a.size a.root first → Complete digest v b.size b.root second → IsFork digest v a b ↔ ((IsPrefix first second → ⊥) × (IsPrefix second first → ⊥))
+
+-- a view serves one thing at most
+pub record IsSameServed (digest : List ℕ → List ℕ) (note other : List ℕ) (size n : ℕ) (root r : List ℕ) (first second : List (List ℕ)) : Type 0 where
+  pub note_is : note ≡ other
+  pub size_is : size ≡ n
+  pub root_is : root ≡ r
+  pub entries_are : first ≡ second
+
+abbrev pub ServesOne : Type 0
+ServesOne = (digest : List ℕ → List ℕ) → IsHash digest → (v : View) → IsLawful digest v → (note other : List ℕ) (size n : ℕ) (root r : List ℕ) (first second : List (List ℕ)) → Served digest v note size root first → Served digest v other n r second → IsSameServed digest note other size n root r first second
+
+-- the walk from the root of a head of a lawful view fails nowhere exactly where the head is complete
+abbrev pub MissingIsNone : Type 0
+MissingIsNone = (digest : List ℕ → List ℕ) → IsHash digest → (v : View) → IsLawful digest v → (size : ℕ) (root : List ℕ) → HasHead v size root → size ≤ 256 ^ 8 → ((place : Place) → IsMissing digest (held_in v.strings) size root place → ⊥) ↔ IsComplete digest v size root

@@ -1,0 +1,43 @@
+//! Laws of views: what a mirror holds, and what follows from it.
+ghost use Rattle.tlog_mirror.specs.ViewLaws.{CompleteIsSame, CompleteStays, ForksStay, ForksTell, ForksTurn, ListHasRoot, OneList, PlusIsLawful, SameIsOne, ServesOne, UnionAssociates, UnionCommutes, UnionIsLawful, UnionRepeats};
+
+/// Views that hold the same are one, and they are joined in any order, in any grouping and any number
+/// of times with one result.
+pub fn union_law()
+    ensures same { SameIsOne }
+    ensures commutes { UnionCommutes }
+    ensures associates { UnionAssociates }
+    ensures repeats { UnionRepeats }
+{}
+
+/// A lawful view has one list of entries at most for a size and root, and the root is its tree hash.
+pub fn one_list_law()
+    ensures one { OneList }
+    ensures root { ListHasRoot }
+{}
+
+/// What is complete stays complete as a view grows, with the same entries while no two strings clash.
+pub fn growth_law()
+    ensures stays { CompleteStays }
+    ensures same { CompleteIsSame }
+{}
+
+/// A view serves one checkpoint and one list of entries at most.
+pub fn served_law()
+    ensures { ServesOne }
+{}
+
+/// Two complete checkpoints that differ are a fork exactly where neither list of entries is a prefix
+/// of the other, and a fork stays one as the view grows.
+pub fn forks_law()
+    ensures tell { ForksTell }
+    ensures turn { ForksTurn }
+    ensures stay { ForksStay }
+{}
+
+/// A lawful view stays lawful as it takes a good item, or is merged with a lawful view of the same log,
+/// where no two strings clash.
+pub fn lawful_law()
+    ensures item { PlusIsLawful }
+    ensures views { UnionIsLawful }
+{}
