@@ -1,2 +1,11 @@
 pub mod MaskedBlocks
 pub mod Trust
+pub mod Lacking
+pub mod NameBytes
+pub mod Payloads
+pub mod LineTexts
+pub mod Splits
+pub mod LineLists
+pub mod LineCounts
+pub mod Readings
+pub mod OneReading

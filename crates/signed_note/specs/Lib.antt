@@ -3,3 +3,4 @@ pub mod Hmac
 pub mod Names
 pub mod Notes
 pub mod Reading
+pub mod Laws

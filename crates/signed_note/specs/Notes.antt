@@ -1,5 +1,5 @@
 -- Signed notes (C2SP signed-note, "Format", "Signatures" and "Verifying").
-use Rattle.std.specs.Prelude.{◌≡◌, ◌≢◌, ℕ, ◌<◌, ◌≤◌, ◌^◌, Bool, IsTrue, List, [], ◌∷◌, ◌++◌, length, All, Any, ◌==◌, ◌&&◌}
+use Rattle.std.specs.Prelude.{◌≡◌, ◌≢◌, ℕ, ◌+◌, ◌<◌, ◌≤◌, ◌^◌, Bool, IsTrue, List, [], ◌∷◌, ◌++◌, length, slice_index, All, Any, ◌==◌, ◌&&◌}
 use Rattle.std.specs.List.{flat_map}
 use Rattle.std.specs.Str.{bytes_eq}
 use Rattle.base64.specs.Engines.{standard}
@@ -52,6 +52,12 @@ pub record IsSplit (bytes text signed : List ℕ) : Type 0 where
   pub whole : bytes ≡ text ++ newline ∷ signed
   pub ended : EndsInNewline text
   pub last : (before after : List ℕ) → newline ∷ signed ≢ before ++ newline ∷ (newline ∷ after)
+
+-- two newlines stand together at that place
+pub record IsBlank (bytes : List ℕ) (at : ℕ) : Type 0 where
+  pub within : at + 1 < length bytes
+  pub first : slice_index bytes at ≡ newline
+  pub second : slice_index bytes (at + 1) ≡ newline
 
 -- the bytes are a note of that text and those signature lines
 pub record IsNote (bytes text : List ℕ) (lines : List Line) : Type 0 where

@@ -2,9 +2,10 @@
 -- faults. An answer other than want of memory is determined by the bytes.
 use Rattle.std.specs.Prelude.{◌≡◌, ◌≢◌, ℕ, ◌+◌, ◌-◌, ◌<◌, ◌≤◌, ◌==◌, if◌then◌else◌, List, [], ◌∷◌, ◌++◌, length, slice_index, All, Result, Ok, Err, count_by}
 use Rattle.std.specs.List.{flat_map}
+use Rattle.base64.specs.GeneralPurpose.{IsBytes}
 use Rattle.signed_note.specs.Names.{newline, IsNoteText, IsOwnName, IsSecret}
 use Rattle.signed_note.specs.Keys.{Secret, Pins}
-use Rattle.signed_note.specs.Notes.{Line, NoteParts, line_text, IsLine, IsSplit, IsNote}
+use Rattle.signed_note.specs.Notes.{Line, NoteParts, line_text, line_body, base64_of, IsLine, IsSplit, IsNote}
 use Rattle.signed_note.specs.declared.fault.NoteFault.{NoteFault}
 use Rattle.signed_note.specs.declared.fault.NoteFault.TheVariants as note
 use Rattle.signed_note.specs.declared.fault.KeyFault.{KeyFault}
@@ -18,6 +19,40 @@ line_count signed = count_by (λ b. b == newline) signed + (if length signed == 
 pub record AreLines (signed : List ℕ) (lines : List Line) : Type 0 where
   pub whole : signed ≡ flat_map line_text lines
   pub well_formed : All IsLine lines
+
+-- an answer, its value seen by view
+abbrev pub seen : {X Y E : Type 0} → (X → Y) → Result X E → Result Y E
+seen view (Ok x) = Ok (view x)
+seen view (Err e) = Err e
+
+-- the text is the base64 of the bytes
+abbrev pub ReadsBase64 : List ℕ → Result (List ℕ) NoteFault → Type 0
+ReadsBase64 text (Ok bytes) = IsBytes bytes × (text ≡ base64_of bytes)
+ReadsBase64 text (Err note.BadSignatureLine) = (bytes : List ℕ) → IsBytes bytes → text ≢ base64_of bytes
+ReadsBase64 text (Err note.OutOfMemory) = Unit {0}
+ReadsBase64 text (Err note.NoteTooLong) = ⊥
+ReadsBase64 text (Err note.NotText) = ⊥
+ReadsBase64 text (Err note.NoSignatures) = ⊥
+ReadsBase64 text (Err note.TooManySignatures) = ⊥
+
+-- the text, without its newline, is that signature line
+abbrev pub ReadsLine : List ℕ → Result Line NoteFault → Type 0
+ReadsLine text (Ok line) = IsLine line × (text ≡ line_body line)
+ReadsLine text (Err note.BadSignatureLine) = (line : Line) → IsLine line → text ≢ line_body line
+ReadsLine text (Err note.OutOfMemory) = Unit {0}
+ReadsLine text (Err note.NoteTooLong) = ⊥
+ReadsLine text (Err note.NotText) = ⊥
+ReadsLine text (Err note.NoSignatures) = ⊥
+ReadsLine text (Err note.TooManySignatures) = ⊥
+
+abbrev pub ReadsLines : List ℕ → Result (List Line) NoteFault → Type 0
+ReadsLines signed (Ok lines) = AreLines signed lines
+ReadsLines signed (Err note.BadSignatureLine) = (lines : List Line) → AreLines signed lines → ⊥
+ReadsLines signed (Err note.OutOfMemory) = Unit {0}
+ReadsLines signed (Err note.NoteTooLong) = ⊥
+ReadsLines signed (Err note.NotText) = ⊥
+ReadsLines signed (Err note.NoSignatures) = ⊥
+ReadsLines signed (Err note.TooManySignatures) = ⊥
 
 -- short enough, UTF-8, and without characters below U+0020 other than newline
 pub record IsReadable (bytes : List ℕ) : Type 0 where

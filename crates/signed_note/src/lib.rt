@@ -8,15 +8,18 @@
 
 mod fault;
 mod hmac;
+mod laws;
 mod line;
 mod mac_key;
 mod name;
 mod note;
 mod opening;
+mod parts;
 mod pinned;
 mod verifier;
 
 pub use fault::{KeyFault, KeyFileFault, NoteFault, OpenFault};
+pub use laws::{notes_law, one_answer_law};
 pub use line::SignatureLine;
 pub use mac_key::HmacKey;
 pub use note::Note;

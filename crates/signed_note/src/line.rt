@@ -1,7 +1,16 @@
 //! Signature lines.
 
-ghost use Rattle.std.specs.Prelude.{◌≡◌};
+ghost use Rattle.std.specs.Prelude.{◌≡◌, ◌≢◌, ℕ, ◌<◌, List, ◌∷◌, ◌++◌, length, IfSome, IfNone, IfOk, OnErr, slice_index};
+ghost use Rattle.signed_note.specs.Names.{space};
+ghost use Rattle.signed_note.specs.Notes.{mark, base64_of};
+ghost use Rattle.signed_note.specs.Reading.{ReadsBase64, ReadsLine, seen};
 
+use crate::fault::NoteFault;
+use crate::name::is_key_name;
+use base64::DecodeAllocError;
+use base64::engine::general_purpose::STANDARD;
+use byteorder::{BigEndian, ByteOrder};
+use std::alloc::Global;
 use std::marker::Model;
 
 /// One line of a note's signature part: the name and id of a key, and its signature (C2SP signed-note,
@@ -43,4 +52,51 @@ impl SignatureLine {
     {
         &self.signature
     }
+}
+
+/// The name and the base64 of a line: what stands round the first space after the mark.
+fn words_of(line: &str) -> Option<(&str, &str)>
+    ensures found { IfSome result (λ x. line.now ≡ mark ++ space ∷ (x.0.now ++ space ∷ x.1.now)) }
+    ensures first { IfSome result (λ x. (i : ℕ) → i < length x.0.now → slice_index x.0.now i ≢ space) }
+    ensures none { IfNone result ((name rest : List ℕ) → line.now ≢ mark ++ space ∷ (name ++ space ∷ rest)) }
+{
+    line.strip_prefix("\u{2014} ")?.split_once(' ')
+}
+
+/// The bytes whose base64 the text is.
+fn payload_of(alloc: Global, text: &str) -> Result<Vec<u8>, NoteFault>
+    ensures { ReadsBase64 text.now (seen (λ v. v.items) result) }
+{
+    match STANDARD.decode(alloc, text.as_bytes()) {
+        Ok(payload) => Ok(payload),
+        Err(DecodeAllocError::OutOfMemory) => Err(NoteFault::OutOfMemory),
+        Err(DecodeAllocError::DecodeError(_)) => Err(NoteFault::BadSignatureLine),
+    }
+}
+
+/// Reads a line without its newline.
+///
+/// # Errors
+///
+/// `BadSignatureLine` where it is not the mark, a key's name and base64 of at least five bytes, with a
+/// space between each; `OutOfMemory`.
+pub fn read_line(alloc: Global, line: &str) -> Result<SignatureLine, NoteFault>
+    ensures { ReadsLine line.now result }
+{
+    let Some((name, encoded)) = words_of(line) else {
+        return Err(NoteFault::BadSignatureLine);
+    };
+    if !is_key_name(name) {
+        return Err(NoteFault::BadSignatureLine);
+    }
+    let payload = payload_of(alloc, encoded)?;
+    if payload.len() < 5 {
+        return Err(NoteFault::BadSignatureLine);
+    }
+    let (id, signature) = payload.split_at(4);
+    Ok(SignatureLine {
+        name: String::from_str(alloc, name)?,
+        id: BigEndian::read_u32(id),
+        signature: Vec::from_slice(alloc, signature)?,
+    })
 }

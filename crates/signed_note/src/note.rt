@@ -1,9 +1,20 @@
 //! Notes.
 
 ghost use Rattle.std.specs.Prelude.{◌≡◌};
+ghost use Rattle.signed_note.specs.Reading.{ReadsNote};
 
+use crate::fault::NoteFault;
 use crate::line::SignatureLine;
+use crate::name::is_note_text;
+use crate::parts::{count_lines, parts_of, read_lines};
+use std::alloc::Global;
 use std::marker::Model;
+
+/// A note has at most so many bytes.
+const MAX_NOTE_LEN: usize = 1_000_000;
+
+/// A note has at most so many signature lines.
+const MAX_LINES: usize = 100;
 
 /// A signed note: a text, and the lines of its signature part (C2SP signed-note, "Format").
 #[derive(Debug, Drop)]
@@ -23,6 +34,52 @@ impl Model for Note {
 }
 
 impl Note {
+    /// Reads a note.
+    ///
+    /// The text is UTF-8 and ends in a newline; the last blank line separates it from the signature part,
+    /// of which each line is an em dash, a space, the key's name, a space, base64 and a newline. The
+    /// base64 is standard, padded and canonical, and gives the key id of four bytes, the highest first,
+    /// and a signature that is not empty.
+    ///
+    /// # Errors
+    ///
+    /// The first that applies, in this order:
+    /// - `NoteTooLong`: more than 1,000,000 bytes.
+    /// - `NotText`: no UTF-8, or a character below U+0020 other than newline.
+    /// - `NoSignatures`: no blank line, or nothing after the last one.
+    /// - `TooManySignatures`: more than 100 lines after it, a last one without its newline counted.
+    /// - `BadSignatureLine`: one of these lines is not as above, or lacks its newline.
+    ///
+    /// `OutOfMemory` where memory was refused, before any of them or after.
+    pub fn read(alloc: Global, bytes: &[u8]) -> Result<Note, NoteFault>
+        ensures { ReadsNote bytes.now result }
+    {
+        if bytes.len() > MAX_NOTE_LEN {
+            return Err(NoteFault::NoteTooLong);
+        }
+        let Ok(whole) = str::from_utf8(bytes) else {
+            return Err(NoteFault::NotText);
+        };
+        if !is_note_text(whole) {
+            return Err(NoteFault::NotText);
+        }
+        let Some((text, signed)) = parts_of(whole) else {
+            return Err(NoteFault::NoSignatures);
+        };
+        if signed.is_empty() {
+            return Err(NoteFault::NoSignatures);
+        }
+        if count_lines(signed.as_bytes()) > MAX_LINES {
+            return Err(NoteFault::TooManySignatures);
+        }
+        let lines = read_lines(alloc, signed)?;
+        Ok(Note {
+            whole: String::from_str(alloc, whole)?,
+            text: String::from_str(alloc, text)?,
+            lines,
+        })
+    }
+
     /// All bytes of the note.
     pub fn bytes(&self) -> &[u8]
         ensures { result.now ≡ self.now.bytes }

@@ -1,0 +1,189 @@
+-- Bytes have one reading as a note.
+use Rattle.std.proofs.Common.{◌≡◌, ◌≢◌, ℕ, zero, suc, ◌+◌, ◌<◌, ◌≤◌, List, [], ◌∷◌, ◌++◌, length, take, drop, refl, sym, ap, ◌∙◌, subst, arith, append_assoc, length-append, inl, inr}
+use Rattle.std.specs.Prelude.{Result, Ok, Err, All}
+use Rattle.std.specs.List.{flat_map}
+use Rattle.std.proofs.lemmas.Bool.{cases_lt}
+use Rattle.std.proofs.lemmas.List.Elements.{All-head, All-tail}
+use Rattle.byteorder.specs.Endian.{big_bytes, big_number}
+use Rattle.signed_note.specs.Names.{newline, IsNoteText}
+use Rattle.signed_note.specs.Notes.{Line, NoteParts, base64_of, signed_bytes, line_body, line_text, IsLine, IsSplit, IsNote}
+use Rattle.signed_note.specs.Reading.{line_count, ReadsNote}
+use Rattle.signed_note.specs.Laws.{NotesAreRead, OneAnswer}
+use Rattle.signed_note.specs.declared.fault.NoteFault.{NoteFault}
+use Rattle.signed_note.specs.declared.fault.NoteFault.TheVariants.{NoteTooLong, NotText, NoSignatures, TooManySignatures, BadSignatureLine, OutOfMemory}
+use Rattle.signed_note.proofs.Lacking.{cut_once}
+use Rattle.signed_note.proofs.NameBytes.{name_lacks_space}
+use Rattle.signed_note.proofs.Payloads.{base64_of-same, bytes_id}
+use Rattle.signed_note.proofs.LineTexts.{body_lacks_newline, line_words, signed_bytes_fit}
+use Rattle.signed_note.proofs.LineCounts.{line_count-lines}
+use Rattle.signed_note.proofs.Splits.{split_once}
+
+Line-same : (x y : Line) → x.name ≡ y.name → x.id ≡ y.id → x.signature ≡ y.signature → x ≡ y
+Line-same x y n i s =
+    let first : x ≡ record x { name = y.name } = ap (λ (v : List ℕ). record x { name = v }) n in
+    let second : record x { name = y.name } ≡ record x { name = y.name; id = y.id } = ap (λ (v : ℕ). record x { name = y.name; id = v }) i in
+    let third : record x { name = y.name; id = y.id } ≡ y = ap (λ (v : List ℕ). record y { signature = v }) s in
+    first ∙ (second ∙ third)
+
+same_body : (x y : Line) → IsLine x → IsLine y → line_body x ≡ line_body y → x ≡ y
+same_body x y p q e =
+    let words = line_words (line_body x) x.name (base64_of (signed_bytes x)) refl (name_lacks_space x.name p.name) y q e in
+    let same : signed_bytes x ≡ signed_bytes y = base64_of-same (signed_bytes x) (signed_bytes y) (signed_bytes_fit x p) (signed_bytes_fit y q) words.1 in
+    let ids : big_bytes 4 x.id ≡ big_bytes 4 y.id = ap (take 4) same in
+    Line-same x y words.0 (sym (bytes_id x.id p.id) ∙ (ap (big_number 4) ids ∙ bytes_id y.id q.id)) (ap (drop 4) same)
+
+same_lines : (lines others : List Line) → flat_map line_text lines ≡ flat_map line_text others → All IsLine lines → All IsLine others → lines ≡ others
+same_lines [] [] e p q = refl
+same_lines [] (y ∷ ys) e p q = absurd (omega (arith, ap length e))
+same_lines (x ∷ xs) [] e p q = absurd (omega (arith, ap length e))
+same_lines (x ∷ xs) (y ∷ ys) e p q =
+    let good = All-head IsLine x xs p in
+    let fine = All-head IsLine y ys q in
+    let cut = cut_once newline (line_body x) (flat_map line_text xs) (line_body y) (flat_map line_text ys)
+    (sym (append_assoc (line_body x) (newline ∷ []) (flat_map line_text xs)) ∙ (e ∙ append_assoc (line_body y) (newline ∷ []) (flat_map line_text ys)))
+    (body_lacks_newline x good) (body_lacks_newline y fine) in
+    let head : x ≡ y = same_body x y good fine cut.0 in
+    let tail : xs ≡ ys = same_lines xs ys cut.1 (All-tail IsLine x xs p) (All-tail IsLine y ys q) in
+    ap (λ (l : Line). l ∷ xs) head ∙ ap (λ (ls : List Line). y ∷ ls) tail
+
+pub notes_are_read : NotesAreRead
+notes_are_read bytes text other lines others p q =
+    let split = split_once bytes text (flat_map line_text lines) other (flat_map line_text others) p.split q.split in
+    (split.0, same_lines lines others split.1 p.well_formed q.well_formed)
+
+-- the place of a fault in the order
+abbrev rank_of : NoteFault → ℕ
+rank_of NoteTooLong = 0
+rank_of NotText = 1
+rank_of NoSignatures = 2
+rank_of TooManySignatures = 3
+rank_of BadSignatureLine = 4
+rank_of OutOfMemory = 0
+
+abbrev rank : Result NoteParts NoteFault → ℕ
+rank (Ok parts) = 5
+rank (Err fault) = rank_of fault
+
+-- what an answer further on says of the bytes
+length_passed : (bytes : List ℕ) (a : Result NoteParts NoteFault) → ReadsNote bytes a → 0 < rank a → length bytes ≤ 1000000
+length_passed bytes (Ok parts) h lt = h.1.short
+length_passed bytes (Err NoteTooLong) h lt = absurd (omega arith)
+length_passed bytes (Err NotText) h lt = h.0
+length_passed bytes (Err NoSignatures) h lt = h.0.short
+length_passed bytes (Err TooManySignatures) h lt = h.2.readable.short
+length_passed bytes (Err BadSignatureLine) h lt = h.2.readable.short
+length_passed bytes (Err OutOfMemory) h lt = absurd (omega arith)
+
+text_passed : (bytes : List ℕ) (a : Result NoteParts NoteFault) → ReadsNote bytes a → 1 < rank a → IsNoteText bytes
+text_passed bytes (Ok parts) h lt = h.1.readable
+text_passed bytes (Err NoteTooLong) h lt = absurd (omega arith)
+text_passed bytes (Err NotText) h lt = absurd (omega arith)
+text_passed bytes (Err NoSignatures) h lt = h.0.readable
+text_passed bytes (Err TooManySignatures) h lt = h.2.readable.readable
+text_passed bytes (Err BadSignatureLine) h lt = h.2.readable.readable
+text_passed bytes (Err OutOfMemory) h lt = absurd (omega arith)
+
+some_lines : (lines : List Line) → 1 ≤ length lines → flat_map line_text lines ≢ []
+some_lines [] some e = omega arith
+some_lines (line ∷ lines) some e = omega (arith, ap length e)
+
+part_passed : (bytes : List ℕ) (a : Result NoteParts NoteFault) → ReadsNote bytes a → 2 < rank a → (text : List ℕ) × (signed : List ℕ) × IsSplit bytes text signed × (signed ≢ [])
+part_passed bytes (Ok parts) h lt = (parts.text, flat_map line_text parts.lines, h.1.split, some_lines parts.lines h.1.some)
+part_passed bytes (Err NoteTooLong) h lt = absurd (omega arith)
+part_passed bytes (Err NotText) h lt = absurd (omega arith)
+part_passed bytes (Err NoSignatures) h lt = absurd (omega arith)
+part_passed bytes (Err TooManySignatures) h lt = (h.0, h.1, h.2.split, h.2.some)
+part_passed bytes (Err BadSignatureLine) h lt = (h.0, h.1, h.2.split, h.2.some)
+part_passed bytes (Err OutOfMemory) h lt = absurd (omega arith)
+
+count_passed : (bytes : List ℕ) (a : Result NoteParts NoteFault) → ReadsNote bytes a → 3 < rank a → (text : List ℕ) × (signed : List ℕ) × IsSplit bytes text signed × (line_count signed ≤ 100)
+count_passed bytes (Ok parts) h lt =
+    let few : length parts.lines ≤ 100 = h.1.few in
+    (parts.text, flat_map line_text parts.lines, h.1.split, omega (arith, line_count-lines parts.lines h.1.well_formed))
+count_passed bytes (Err NoteTooLong) h lt = absurd (omega arith)
+count_passed bytes (Err NotText) h lt = absurd (omega arith)
+count_passed bytes (Err NoSignatures) h lt = absurd (omega arith)
+count_passed bytes (Err TooManySignatures) h lt = absurd (omega arith)
+count_passed bytes (Err BadSignatureLine) h lt = (h.0, h.1, h.2.split, h.3)
+count_passed bytes (Err OutOfMemory) h lt = absurd (omega arith)
+
+lines_passed : (bytes : List ℕ) (a : Result NoteParts NoteFault) → ReadsNote bytes a → 4 < rank a → (text : List ℕ) × (lines : List Line) × IsNote bytes text lines
+lines_passed bytes (Ok parts) h lt = (parts.text, parts.lines, h.1)
+lines_passed bytes (Err NoteTooLong) h lt = absurd (omega arith)
+lines_passed bytes (Err NotText) h lt = absurd (omega arith)
+lines_passed bytes (Err NoSignatures) h lt = absurd (omega arith)
+lines_passed bytes (Err TooManySignatures) h lt = absurd (omega arith)
+lines_passed bytes (Err BadSignatureLine) h lt = absurd (omega arith)
+lines_passed bytes (Err OutOfMemory) h lt = absurd (omega arith)
+
+rank_of_fault : (fault : NoteFault) → rank_of fault < 5
+rank_of_fault NoteTooLong = omega arith
+rank_of_fault NotText = omega arith
+rank_of_fault NoSignatures = omega arith
+rank_of_fault TooManySignatures = omega arith
+rank_of_fault BadSignatureLine = omega arith
+rank_of_fault OutOfMemory = omega arith
+
+rank_most : (a : Result NoteParts NoteFault) → rank a < 6
+rank_most (Ok parts) = omega arith
+rank_most (Err fault) = omega (arith, rank_of_fault fault)
+
+-- two answers are not one further on than the other
+no_further : (bytes : List ℕ) (a b : Result NoteParts NoteFault) → ReadsNote bytes a → ReadsNote bytes b → a ≢ Err OutOfMemory → rank a < rank b → ⊥
+no_further bytes (Ok parts) b p q ne lt = omega (arith, rank_most b)
+no_further bytes (Err NoteTooLong) b p q ne lt = omega (arith, length_passed bytes b q lt)
+no_further bytes (Err NotText) b p q ne lt = p.1 (text_passed bytes b q lt)
+no_further bytes (Err NoSignatures) b p q ne lt = let part = part_passed bytes b q lt in part.3 (p.1 part.0 part.1 part.2)
+no_further bytes (Err TooManySignatures) b p q ne lt =
+    let part = count_passed bytes b q lt in
+    let same = split_once bytes p.0 p.1 part.0 part.1 p.2.split part.2 in
+    let many : 100 < line_count p.1 = p.3 in
+    let few : line_count part.1 ≤ 100 = part.3 in
+    omega (arith, ap line_count same.1)
+no_further bytes (Err BadSignatureLine) b p q ne lt =
+    let note = lines_passed bytes b q lt in
+    let same = split_once bytes p.0 p.1 note.0 (flat_map line_text note.1) p.2.split note.2.split in
+    p.4 note.1 (record { whole = same.1; well_formed = note.2.well_formed })
+no_further bytes (Err OutOfMemory) b p q ne lt = ne refl
+
+-- the fault of a place in the order
+abbrev fault_at : ℕ → NoteFault
+fault_at zero = NoteTooLong
+fault_at (suc zero) = NotText
+fault_at (suc (suc zero)) = NoSignatures
+fault_at (suc (suc (suc zero))) = TooManySignatures
+fault_at (suc (suc (suc (suc n)))) = BadSignatureLine
+
+at_its_rank : (fault : NoteFault) → fault ≢ OutOfMemory → fault_at (rank_of fault) ≡ fault
+at_its_rank NoteTooLong ne = refl
+at_its_rank NotText ne = refl
+at_its_rank NoSignatures ne = refl
+at_its_rank TooManySignatures ne = refl
+at_its_rank BadSignatureLine ne = refl
+at_its_rank OutOfMemory ne = absurd (ne refl)
+
+NoteParts-same : (x y : NoteParts) → x.bytes ≡ y.bytes → x.text ≡ y.text → x.lines ≡ y.lines → x ≡ y
+NoteParts-same x y b t l =
+    let first : x ≡ record x { bytes = y.bytes } = ap (λ (v : List ℕ). record x { bytes = v }) b in
+    let second : record x { bytes = y.bytes } ≡ record x { bytes = y.bytes; text = y.text } = ap (λ (v : List ℕ). record x { bytes = y.bytes; text = v }) t in
+    let third : record x { bytes = y.bytes; text = y.text } ≡ y = ap (λ (v : List Line). record y { lines = v }) l in
+    first ∙ (second ∙ third)
+
+same_place : (bytes : List ℕ) (a b : Result NoteParts NoteFault) → ReadsNote bytes a → ReadsNote bytes b → a ≢ Err OutOfMemory → b ≢ Err OutOfMemory → rank a ≡ rank b → a ≡ b
+same_place bytes (Ok x) (Ok y) p q na nb e =
+    let one = notes_are_read bytes x.text y.text x.lines y.lines p.1 q.1 in
+    ap Ok (NoteParts-same x y (p.0 ∙ sym q.0) one.0 one.1)
+same_place bytes (Ok x) (Err f) p q na nb e = absurd (omega (arith, rank_of_fault f))
+same_place bytes (Err f) (Ok y) p q na nb e = absurd (omega (arith, rank_of_fault f))
+same_place bytes (Err f) (Err g) p q na nb e =
+    ap Err (sym (at_its_rank f (λ h. na (ap Err h))) ∙ (ap fault_at e ∙ at_its_rank g (λ h. nb (ap Err h))))
+
+pub one_answer : OneAnswer
+one_answer bytes a b p q na nb =
+    elim (cases_lt (rank a) (rank b)) [
+      | inl lt ↦ absurd (no_further bytes a b p q na lt)
+      | inr ge ↦ elim (cases_lt (rank b) (rank a)) [
+        | inl lt ↦ absurd (no_further bytes b a q p nb lt)
+        | inr le ↦ same_place bytes a b p q na nb (omega arith)
+      ]
+    ]

@@ -1,0 +1,48 @@
+-- What the steps of reading a note come to.
+use Rattle.std.proofs.Common.{◌≡◌, ◌≢◌, ℕ, ◌<◌, ◌≤◌, true, false, nat_eq, List, [], ◌∷◌, length, refl, sym, ap, ◌∙◌, subst, arith}
+use Rattle.std.specs.Prelude.{Result, Ok, Err}
+use Rattle.std.specs.List.{flat_map, list_all}
+use Rattle.std.specs.Str.{IsUtf8, chars}
+use Rattle.std.proofs.lemmas.Bool.Decides.{Decides-eqb}
+use Rattle.std.proofs.lemmas.List.Sums.{AllPass-from_list_all, list_all-from_AllPass}
+use Rattle.signed_note.specs.Names.{is_note_char, IsNoteText}
+use Rattle.signed_note.specs.Notes.{Line, line_text, IsSplit, IsNote}
+use Rattle.signed_note.specs.Reading.{line_count, AreLines, IsReadable, HasPart, ReadsLines, ReadsNote}
+use Rattle.signed_note.specs.declared.fault.NoteFault.{NoteFault}
+use Rattle.signed_note.specs.declared.fault.NoteFault.TheVariants.{NoteTooLong, NotText, NoSignatures, TooManySignatures, BadSignatureLine, OutOfMemory}
+use Rattle.signed_note.proofs.LineCounts.{line_count-lines}
+
+pub note_text : (bytes : List ℕ) → IsUtf8 bytes → list_all is_note_char (chars bytes) ≡ true → IsNoteText bytes
+note_text bytes utf8 pass = record { utf8 = utf8; characters = AllPass-from_list_all is_note_char (chars bytes) pass }
+
+pub passes_from_text : (bytes : List ℕ) → IsNoteText bytes → list_all is_note_char (chars bytes) ≡ true
+passes_from_text bytes h = list_all-from_AllPass is_note_char (chars bytes) h.characters
+
+pub no_bytes : (xs : List ℕ) → nat_eq (length xs) 0 ≡ true → xs ≡ []
+no_bytes [] h = refl
+no_bytes (x ∷ xs) h = let none : length (x ∷ xs) ≡ 0 = (Decides-eqb (length (x ∷ xs)) 0).0 h in absurd (omega arith)
+
+pub some_bytes : (xs : List ℕ) → nat_eq (length xs) 0 ≡ false → xs ≢ []
+some_bytes [] h e = cc
+some_bytes (x ∷ xs) h e = cc
+
+-- a readable note whose part is lines is a note
+pub note_from_lines : (bytes text signed : List ℕ) (lines : List Line) → HasPart bytes text signed → line_count signed ≤ 100 → AreLines signed lines → IsNote bytes text lines
+note_from_lines bytes text signed [] part few are = absurd (part.some are.whole)
+note_from_lines bytes text signed (line ∷ lines) part few are = record {
+  short = part.readable.short;
+  readable = part.readable.readable;
+  split = subst (IsSplit bytes text) are.whole part.split;
+  well_formed = are.well_formed;
+  some = omega arith;
+  few = omega (arith, ap line_count are.whole, line_count-lines (line ∷ lines) are.well_formed);
+}
+
+-- what refuses its lines refuses the note
+pub note_refused : (bytes text signed : List ℕ) (fault : NoteFault) → HasPart bytes text signed → line_count signed ≤ 100 → ReadsLines signed (Err fault) → ReadsNote bytes (Err fault)
+note_refused bytes text signed NoteTooLong part few h = absurd h
+note_refused bytes text signed NotText part few h = absurd h
+note_refused bytes text signed NoSignatures part few h = absurd h
+note_refused bytes text signed TooManySignatures part few h = absurd h
+note_refused bytes text signed BadSignatureLine part few h = (text, signed, part, few, h)
+note_refused bytes text signed OutOfMemory part few h = tt

@@ -1,0 +1,13 @@
+use Rattle.std.proofs.Common.{ℕ, ◌+◌, ◌≤◌, length}
+use Rattle.signed_note.specs.Notes.{IsBlank}
+use Rattle.signed_note.proofs.parts.blank_line.Given as goal
+
+-- two newlines do not stand together from before the end on
+abbrev pub invariant-loop-end : goal.invariant-loop-end
+invariant-loop-end l = record {
+  within : l.end ≤ length l.bytes;
+  none : (j : ℕ) → l.end ≤ j + 1 → IsBlank l.bytes j → ⊥;
+}
+
+abbrev pub decreases-loop-end : goal.decreases-loop-end
+decreases-loop-end l = l.end

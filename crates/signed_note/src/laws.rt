@@ -1,0 +1,15 @@
+//! What the grammars say, as laws of the definitions that the contracts cite.
+//!
+//! A law is the contract of a function with an empty body: the proof is all that there is of it.
+ghost use Rattle.signed_note.specs.Laws.{NotesAreRead, OneAnswer};
+
+/// Bytes are a note of one text and one list of signature lines at most.
+pub fn notes_law()
+    ensures { NotesAreRead }
+{}
+
+/// Bytes have one answer of `Note::read`, but for want of memory. So it is `Ok` exactly where the bytes
+/// are a note, and each refusal comes exactly where it is the first that applies.
+pub fn one_answer_law()
+    ensures { OneAnswer }
+{}
