@@ -1,10 +1,10 @@
 -- The laws of the standard.
-use Rattle.std.proofs.Common.{◌≡◌, ℕ, ◌-◌, ◌≤◌, List, [], ◌∷◌, ◌++◌, length, take, drop, ◌⊎◌, inl, inr, sym, refl, ap, ◌∙◌, subst, arith, length-take, length-drop, take-append-drop}
+use Rattle.std.proofs.Common.{◌≡◌, ℕ, ◌≤◌, List, ◌∷◌, ◌++◌, length, sym, ◌∙◌, subst, arith, length-take, length-drop}
 use Rattle.std.specs.List.{Contains}
 use Rattle.tlog_shape.specs.Split.{split_of}
 use Rattle.tlog_shape.proofs.Splits.{split_of-below, split_of-positive}
-use Rattle.tlog_hash.specs.Tree.{tree_of, fold_of, mth, strings}
-use Rattle.tlog_hash.specs.Laws.{IsTreeHash, IsFold, MthIsTreeHash, FoldIsFold, IsTreeStrings, TreeStrings, TreeOfBlocks, NodesAreStrings}
+use Rattle.tlog_hash.specs.Tree.{fold_of, mth, strings}
+use Rattle.tlog_hash.specs.Laws.{IsTreeHash, IsFold, MthIsTreeHash, FoldIsFold, TreeStrings, TreeOfBlocks, NodesAreStrings}
 use Rattle.tlog_hash.proofs.Trees.{induction, mth-none, mth-one, mth-join, fold_of-one, fold_of-join, strings-none, strings-one}
 use Rattle.tlog_hash.proofs.Cuts.{tree_of-blocks}
 use Rattle.tlog_hash.proofs.NodeStrings.{node_of_string, string_of_node, strings_join}

@@ -2,7 +2,7 @@
 use Rattle.std.specs.Prelude.{◌≡◌, ◌↔◌, ◌⊎◌, ℕ, ◌≤◌, ◌^◌, List, [], ◌∷◌, ◌++◌, length, take, drop}
 use Rattle.std.specs.List.{Contains}
 use Rattle.tlog_shape.specs.Split.{split_of}
-use Rattle.tlog_hash.specs.Tree.{tree_of, fold_of, mth, joins, strings}
+use Rattle.tlog_hash.specs.Tree.{tree_of, fold_of, mth, strings}
 use Rattle.tlog_hash.specs.Blocks.{graft, IsCut, joined_up}
 use Rattle.tlog_hash.specs.Nodes.{Node, IsNode}
 

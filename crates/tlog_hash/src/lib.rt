@@ -9,6 +9,8 @@
 mod laws;
 mod sha256;
 mod sum;
+#[cfg(test)]
+mod tests;
 mod tree;
 
 ghost use Rattle.std.specs.Prelude.{◌≡◌, ℕ, List, [], ◌∷◌, ◌++◌, length};

@@ -1,4 +1,4 @@
-use Rattle.std.proofs.Common.{List, ◌++◌, ◌∷◌, [], sym, ap, ◌∙◌, arith, append_assoc, rules}
+use Rattle.std.proofs.Common.{arith, append_assoc, rules}
 use Rattle.tlog_hash.proofs.Trees.{fold_of-single, fold_of-parts, pairs_of-single, pairs_of-parts}
 use Rattle.tlog_hash.proofs.tree.+add_pairs.Goals as goal
 

@@ -1,4 +1,4 @@
-use Rattle.std.proofs.Common.{◌≤◌, ◌+◌, ◌-◌, ◌/◌, ◌^◌, ap, ◌∙◌, arith}
+use Rattle.std.proofs.Common.{◌+◌, ◌-◌, ◌/◌, ap, ◌∙◌, arith}
 use Rattle.tlog_shape.proofs.Levels.{level_positive, shift_level}
 use Rattle.tlog_shape.proofs.Edges.{level_within, rest_positive, tile_is}
 use Rattle.tlog_shape.proofs.edge.tile_of_node.Goals as goal

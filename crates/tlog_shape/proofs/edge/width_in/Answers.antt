@@ -1,6 +1,6 @@
 use Rattle.std.proofs.Common.{◌+◌, ◌^◌, ◌∙◌, sym, inl, inr, arith}
 use Rattle.tlog_shape.proofs.Levels.{level_positive}
-use Rattle.tlog_shape.proofs.Edges.{fits-index, index-fits}
+use Rattle.tlog_shape.proofs.Edges.{fits-index}
 use Rattle.tlog_shape.proofs.edge.width_in.Goals as goal
 use Rattle.tlog_shape.proofs.edge.width_in.Goals.{else-index-full-2-via-then-index-full-2+else-width-gt0, else-index-full-2-via-else-index-full-2}
 
