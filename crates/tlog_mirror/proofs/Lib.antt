@@ -10,3 +10,6 @@ pub mod Items
 pub mod ItemStrings
 pub mod Views
 pub mod OneLists
+pub mod Reaching
+pub mod Steps
+pub mod Playing

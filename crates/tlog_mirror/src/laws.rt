@@ -4,5 +4,6 @@
 pub mod edges;
 pub mod fronts;
 pub mod items;
+pub mod play;
 pub mod tiles;
 pub mod views;

@@ -1,0 +1,8 @@
+use Rattle.tlog_mirror.proofs.Reaching.{reaches_go_by_last, openings_go_by_last}
+use Rattle.tlog_mirror.proofs.laws.play.reaches_law.Goals as goal
+
+pub returns-clause-items : goal.returns-clause-items
+returns-clause-items c = reaches_go_by_last
+
+pub returns-clause-openings : goal.returns-clause-openings
+returns-clause-openings c = openings_go_by_last

@@ -1,0 +1,35 @@
+//! Laws of events and runs: mirrors that the same items have reached hold the same.
+ghost use Rattle.tlog_mirror.specs.PlayLaws.{MergesAgain, NoneClashes, OpeningReachesGoByLast, ReachesGoByLast, RunIsBounded, RunIsReached, SameReachedSameView, TakesAgain};
+
+/// What reaches a mirror, by the last event of a list: a take adds its item, a merge adds what reached
+/// its source, and nothing else changes.
+pub fn reaches_law()
+    ensures items { ReachesGoByLast }
+    ensures openings { OpeningReachesGoByLast }
+{}
+
+/// After any run of events a mirror's view is the union of the opening views and of the good items that
+/// reach it. Where memory was refused or strings clashed, the view lies between what was done and what
+/// may have been.
+pub fn run_law()
+    ensures reached { RunIsReached }
+    ensures bounded { RunIsBounded }
+{}
+
+/// Where no two strings of the opening views and of the good items share a digest, no event is answered
+/// by a clash.
+pub fn clash_law()
+    ensures { NoneClashes }
+{}
+
+/// Mirrors that the same good items and the same opening views have reached hold equal views, in
+/// whatever order, however often and through whichever merges these came.
+pub fn order_law()
+    ensures { SameReachedSameView }
+{}
+
+/// An event for which memory was refused, done again, comes to the same as the event done once.
+pub fn again_law()
+    ensures takes { TakesAgain }
+    ensures merges { MergesAgain }
+{}
