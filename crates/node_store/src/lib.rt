@@ -5,6 +5,8 @@ mod iter;
 mod pool;
 mod store;
 mod strings;
+#[cfg(test)]
+mod tests;
 
 pub use iter::Iter;
 pub use store::{AddFault, Store};
