@@ -51,7 +51,7 @@ number_of-le before [] = omega arith
 number_of-le before (g ∷ groups) = omega (arith, number_of-le (before * 1000 + g) groups)
 
 -- groups make no 0: the first of several is not x000
-group_positive : (before g h : ℕ) → g ≡ h → (before ≡ 0 → 0 < h) → 0 < before * 1000 + g
+pub group_positive : (before g h : ℕ) → g ≡ h → (before ≡ 0 → 0 < h) → 0 < before * 1000 + g
 group_positive zero g h e begins = let some : 0 < h = begins refl in omega arith
 group_positive (suc before) g h e begins = omega arith
 
@@ -114,3 +114,17 @@ pub end_one : (before n g : ℕ) (text after : List ℕ) → g < 1000 → text �
 end_one before n g text after p e h =
     let one = digits_one h.last g [] after h.fits p (append-nil (three_digits h.last) ∙ (sym h.text_is ∙ e)) in
     (h.index_is ∙ ap (λ k. before * 1000 + k) one.0, one.1)
+
+-- an index is known from its text
+groups_one : (before n m : ℕ) (gs hs : List ℕ) (g h : ℕ) → All (λ group. group < 1000) gs → All (λ group. group < 1000) hs → g < 1000 → h < 1000 → flat_map group_text gs ++ three_digits g ≡ flat_map group_text hs ++ three_digits h → n ≡ number_of before gs * 1000 + g → m ≡ number_of before hs * 1000 + h → n ≡ m
+groups_one before n m [] [] g h p q r s e x y =
+    let one = digits_one g h [] [] r s (append-nil (three_digits g) ∙ (e ∙ sym (append-nil (three_digits h)))) in
+    x ∙ (ap (λ k. before * 1000 + k) one.0 ∙ sym y)
+groups_one before n m [] (k ∷ hs) g h p q r s e x y = absurd (digits_no_group g k [] (flat_map group_text hs ++ three_digits h) (append-nil (three_digits g) ∙ (e ∙ append_assoc (group_text k) (flat_map group_text hs) (three_digits h))))
+groups_one before n m (k ∷ gs) [] g h p q r s e x y = absurd (digits_no_group h k [] (flat_map group_text gs ++ three_digits g) (append-nil (three_digits h) ∙ (sym e ∙ append_assoc (group_text k) (flat_map group_text gs) (three_digits g))))
+groups_one before n m (k ∷ gs) (l ∷ hs) g h p q r s e x y =
+    let one = group_one k l (flat_map group_text gs ++ three_digits g) (flat_map group_text hs ++ three_digits h) (All-head (λ (k : ℕ). k < 1000) k gs p) (All-head (λ (k : ℕ). k < 1000) l hs q) (sym (append_assoc (group_text k) (flat_map group_text gs) (three_digits g)) ∙ (e ∙ append_assoc (group_text l) (flat_map group_text hs) (three_digits h))) in
+    groups_one (before * 1000 + k) n m gs hs g h (All-tail (λ (k : ℕ). k < 1000) k gs p) (All-tail (λ (k : ℕ). k < 1000) l hs q) r s one.1 x (y ∙ ap (λ j. number_of (before * 1000 + j) hs * 1000 + h) (sym one.0))
+
+pub index_one : (text : List ℕ) (n m : ℕ) → IsIndex text n → IsIndex text m → n ≡ m
+index_one text n m p q = groups_one 0 n m p.groups q.groups p.last q.last p.fits q.fits p.last_fits q.last_fits (sym p.text_is ∙ q.text_is) p.index_is q.index_is

@@ -4,3 +4,6 @@ pub mod TextLemmas
 pub mod IndexLemmas
 pub mod WidthLemmas
 pub mod GroupLemmas
+pub mod TileLemmas
+pub mod EdgeLemmas
+pub mod PathLemmas

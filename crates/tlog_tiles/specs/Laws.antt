@@ -1,9 +1,16 @@
 -- What holds of the formats and of tiles, as laws of the definitions.
-use Rattle.std.specs.Prelude.{◌≡◌, ◌≢◌, ℕ, List, Result, Err}
-use Rattle.tlog_tiles.specs.Bundle.{ReadsBundle}
-use Rattle.tlog_tiles.specs.Row.{ReadsRow}
+use Rattle.std.specs.Prelude.{◌≡◌, ◌≢◌, ◌↔◌, ℕ, ◌+◌, ◌*◌, ◌^◌, ◌<◌, ◌≤◌, All, AllPairs, Contains, List, length, Result, Err}
+use Rattle.tlog_hash.specs.Rows.{part, level_row}
+use Rattle.tlog_hash.specs.Tree.{fold_of, mth}
+use Rattle.tlog_tiles.specs.Bundle.{IsBundle, ReadsBundle}
+use Rattle.tlog_tiles.specs.Edge.{edge_of, level_of}
+use Rattle.tlog_tiles.specs.Path.{path_text, IsLawful, IsPath, ReadsPath}
+use Rattle.tlog_tiles.specs.Row.{IsRow, ReadsRow}
+use Rattle.tlog_tiles.specs.Tiles.{bundle_bytes, tile_bytes, IsEdgeTile, IsTileWithin}
 use Rattle.tlog_tiles.specs.declared.bundle.BundleFault.{BundleFault}
 use Rattle.tlog_tiles.specs.declared.bundle.BundleFault.TheVariants as bundle
+use Rattle.tlog_tiles.specs.declared.paths.Path.{Path}
+use Rattle.tlog_tiles.specs.declared.paths.PathFault.{PathFault}
 use Rattle.tlog_tiles.specs.declared.row.RowFault.{RowFault}
 use Rattle.tlog_tiles.specs.declared.row.RowFault.TheVariants as row
 
@@ -14,3 +21,31 @@ OneBundleAnswer = (width : ℕ) (bytes : List ℕ) (a b : Result (List (List ℕ
 -- bytes have one answer as a row of a width, want of memory apart
 abbrev pub OneRowAnswer : Type 0
 OneRowAnswer = (width : ℕ) (bytes : List ℕ) (a b : Result (List (List ℕ)) RowFault) → ReadsRow width bytes a → ReadsRow width bytes b → a ≢ Err row.OutOfMemory → b ≢ Err row.OutOfMemory → a ≡ b
+
+-- a text has one answer as a path
+abbrev pub OnePathAnswer : Type 0
+OnePathAnswer = (text : List ℕ) (a b : Result Path PathFault) → ReadsPath text a → ReadsPath text b → a ≡ b
+
+-- a text is a path exactly where that is lawful and is printed so
+abbrev pub PathsAreSpelled : Type 0
+PathsAreSpelled = (text : List ℕ) (path : Path) → IsPath text path ↔ (IsLawful path × (text ≡ path_text path))
+
+-- the edge of a tree names exactly the partial tiles within it of which none wider is
+abbrev pub EdgeIsPartialTiles : Type 0
+EdgeIsPartialTiles = (n : ℕ) (path : Path) → Contains (edge_of n) path ↔ IsEdgeTile n path
+
+-- the levels of the edge rise
+abbrev pub EdgeRises : Type 0
+EdgeRises = (n : ℕ) → AllPairs (λ lower higher. level_of lower < level_of higher) (edge_of n)
+
+-- the hashes of a level, from the one with the number first on, fold to the tree hash of their entries
+abbrev pub FullLevelsFold : Type 0
+FullLevelsFold = (digest : List ℕ → List ℕ) (entries : List (List ℕ)) (level first width : ℕ) → 1 ≤ width → (first + width) * 256 ^ level ≤ length entries → fold_of digest (level_row digest entries level first width) ≡ mth digest (part (first * 256 ^ level) (width * 256 ^ level) entries)
+
+-- the bytes of a tile are a row of its width, and those of a bundle a bundle of its width
+pub record IsRead (digest : List ℕ → List ℕ) (entries : List (List ℕ)) : Type 0 where
+  pub tile : (level index width : ℕ) → IsRow width (tile_bytes digest entries level index width) (level_row digest entries level (256 * index) width)
+  pub bundle : (index width : ℕ) → IsTileWithin (length entries) 0 index width → IsBundle width (bundle_bytes entries index width) (part (256 * index) width entries)
+
+abbrev pub ServedIsRead : Type 0
+ServedIsRead = (digest : List ℕ → List ℕ) → ((s : List ℕ) → length (digest s) ≡ 32) → (entries : List (List ℕ)) → All (λ entry. length entry < 2 ^ 16) entries → IsRead digest entries

@@ -3,4 +3,6 @@ pub mod Bundle
 pub mod Row
 pub mod Path
 pub mod Kind
+pub mod Edge
+pub mod Tiles
 pub mod Laws

@@ -7,12 +7,17 @@
 #![tactic(auto)]
 
 mod bundle;
+mod edge;
 mod laws;
 mod paths;
 mod row;
 
 pub use bundle::{BundleFault, read_bundle, write_bundle};
-pub use laws::{one_bundle_law, one_row_law};
+pub use edge::edge_paths;
+pub use laws::{
+    edge_law, edge_order_law, one_bundle_law, one_path_law, one_row_law, row_fold_law, served_law,
+    spelling_law,
+};
 pub use paths::{Path, PathFault, print};
 pub use row::{RowFault, read_row, write_row};
 

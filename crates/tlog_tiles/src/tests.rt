@@ -1,2 +1,191 @@
+//! The formats against values of the public standards, and against the worked values of the project.
 use super::*;
+use std::alloc::{AllocError, Global};
 use std::test::Fail;
+use tlog_hash::{Hash, Sha256Tree, TreeHash};
+
+// The leaf hashes of the entries of no bytes, of `00` and of `10`.
+const LEAVES: [Hash; 3] = [
+    [
+        0x6e, 0x34, 0x0b, 0x9c, 0xff, 0xb3, 0x7a, 0x98, 0x9c, 0xa5, 0x44, 0xe6, 0xbb, 0x78, 0x0a,
+        0x2c, 0x78, 0x90, 0x1d, 0x3f, 0xb3, 0x37, 0x38, 0x76, 0x85, 0x11, 0xa3, 0x06, 0x17, 0xaf,
+        0xa0, 0x1d,
+    ],
+    [
+        0x96, 0xa2, 0x96, 0xd2, 0x24, 0xf2, 0x85, 0xc6, 0x7b, 0xee, 0x93, 0xc3, 0x0f, 0x8a, 0x30,
+        0x91, 0x57, 0xf0, 0xda, 0xa3, 0x5d, 0xc5, 0xb8, 0x7e, 0x41, 0x0b, 0x78, 0x63, 0x0a, 0x09,
+        0xcf, 0xc7,
+    ],
+    [
+        0x02, 0x98, 0xd1, 0x22, 0x90, 0x6d, 0xcf, 0xc1, 0x08, 0x92, 0xcb, 0x53, 0xa7, 0x39, 0x92,
+        0xfc, 0x5b, 0x9f, 0x49, 0x3e, 0xa4, 0xc9, 0xba, 0xdb, 0x27, 0xb7, 0x91, 0xb4, 0x12, 0x7a,
+        0x7f, 0xe7,
+    ],
+];
+
+#[test]
+fn bundle_exact(rt: HostRuntime) -> Result<(), Fail> {
+    let alloc = rt.alloc();
+    let short = read_bundle(alloc, 2, &[0, 1, 0x61, 0]).err();
+    assert_eq!(rt; short, Some(BundleFault::BundleShort));
+    let long = read_bundle(alloc, 2, &[0, 0, 0, 0, 0]).err();
+    assert_eq!(rt; long, Some(BundleFault::BundleLong));
+    let bytes = [0, 0, 0, 1, 0x61];
+    let entries = read_bundle(alloc, 2, &bytes)?;
+    assert_eq!(rt; entries.len(), 2);
+    assert_eq!(rt; entries[0], b"".as_slice());
+    assert_eq!(rt; entries[1], b"a".as_slice());
+    let written = write_bundle(alloc, &[b"".as_slice(), b"a".as_slice()])?;
+    assert_eq!(rt; written.as_slice(), bytes.as_slice());
+    let row = read_row(alloc, 1, &[0; 31]).err();
+    assert_eq!(rt; row, Some(RowFault::RowLength));
+    Ok(())
+}
+
+#[test]
+fn leaf_row(rt: HostRuntime) -> Result<(), Fail> {
+    let alloc = rt.alloc();
+    let bytes = write_row(alloc, &LEAVES)?;
+    assert_eq!(rt; bytes.len(), 96);
+    let row = read_row(alloc, 3, &bytes)?;
+    assert_eq!(rt; row.as_slice(), LEAVES.as_slice());
+    let entries = [b"".as_slice(), b"\x00".as_slice(), b"\x10".as_slice()];
+    for (entry, leaf) in entries.iter().zip(&row) {
+        assert_eq!(rt; Sha256Tree::leaf(entry), *leaf);
+    }
+    assert!(rt; read_row(alloc, 0, b"")?.is_empty());
+    Ok(())
+}
+
+#[test]
+fn index_spelling(rt: HostRuntime) -> Result<(), Fail> {
+    let alloc = rt.alloc();
+    let spellings = [
+        (0, "tile/0/000"),
+        (999, "tile/0/999"),
+        (1000, "tile/0/x001/000"),
+        (1234067, "tile/0/x001/x234/067"),
+        (36028797018963967, "tile/0/x036/x028/x797/x018/x963/967"),
+    ];
+    for (index, text) in spellings {
+        let path = Path::Tile {
+            level: 0,
+            index,
+            width: 256,
+        };
+        assert_eq!(rt; print(alloc, &path)?.as_str(), text);
+        assert_eq!(rt; Path::parse(text), Ok(path));
+    }
+    let over = Path::parse("tile/0/x036/x028/x797/x018/x963/968");
+    assert_eq!(rt; over, Err(PathFault::BadIndex));
+    Ok(())
+}
+
+#[test]
+fn path_kinds(rt: HostRuntime) -> Result<(), Fail> {
+    let alloc = rt.alloc();
+    let paths = [
+        (Path::Checkpoint, "checkpoint"),
+        (
+            Path::Tile {
+                level: 7,
+                index: 0,
+                width: 255,
+            },
+            "tile/7/000.p/255",
+        ),
+        (
+            Path::Entries {
+                index: 67,
+                width: 256,
+            },
+            "tile/entries/067",
+        ),
+        (
+            Path::Entries {
+                index: 1000,
+                width: 5,
+            },
+            "tile/entries/x001/000.p/5",
+        ),
+    ];
+    for (path, text) in paths {
+        assert_eq!(rt; print(alloc, &path)?.as_str(), text);
+        assert_eq!(rt; Path::parse(text), Ok(path));
+    }
+    let unlawful = Path::Tile {
+        level: 12,
+        index: 36028797018963968,
+        width: 300,
+    };
+    let text = print(alloc, &unlawful)?;
+    assert_eq!(rt; text.as_str(), "tile/12/x036/x028/x797/x018/x963/968.p/300");
+    assert_eq!(rt; Path::parse(&text), Err(PathFault::BadLevel));
+    Ok(())
+}
+
+#[test]
+fn path_refusals(rt: HostRuntime) {
+    let refusals = [
+        ("tile/0/x000/001", PathFault::BadIndex),
+        ("tile/0/001.p/0", PathFault::BadWidth),
+        ("tile/0/001.p/256", PathFault::BadWidth),
+        ("tile/0/001.p/08", PathFault::BadWidth),
+        ("tile/8/000", PathFault::BadLevel),
+        ("tile/0", PathFault::Unknown),
+        ("tiles/0/000", PathFault::Unknown),
+        ("tile//000", PathFault::BadLevel),
+        ("tile/0/.p/1", PathFault::BadIndex),
+        ("tile/0/000.p/", PathFault::BadWidth),
+    ];
+    for (text, fault) in refusals {
+        assert_eq!(rt; Path::parse(text), Err(fault), "at {text}");
+    }
+}
+
+// The edge of a tree of that size, one path a line.
+fn edge_text(alloc: Global, size: u64) -> Result<String, AllocError> {
+    let mut text = String::new(alloc);
+    for path in &edge_paths(alloc, size)? {
+        text.push_str(&print(alloc, path)?)?;
+        text.push('\n')?;
+    }
+    Ok(text)
+}
+
+#[test]
+fn edge_70000(rt: HostRuntime) -> Result<(), Fail> {
+    let edge = edge_text(rt.alloc(), 70000)?;
+    assert_eq!(rt;
+        edge.as_str(),
+        "tile/0/273.p/112\ntile/1/001.p/17\ntile/2/000.p/1\n"
+    );
+    Ok(())
+}
+
+#[test]
+fn edge_gaps(rt: HostRuntime) -> Result<(), Fail> {
+    let alloc = rt.alloc();
+    let edges = [
+        (131077, "tile/0/512.p/5\ntile/2/000.p/2\n"),
+        (773, "tile/0/003.p/5\ntile/1/000.p/3\n"),
+        (256, "tile/1/000.p/1\n"),
+        (0, ""),
+    ];
+    for (size, text) in edges {
+        assert_eq!(rt; edge_text(alloc, size)?.as_str(), text);
+    }
+    Ok(())
+}
+
+#[test]
+fn fault_names(rt: HostRuntime) -> Result<(), Fail> {
+    let alloc = rt.alloc();
+    assert_eq!(rt;
+        BundleFault::BundleLong.to_string(alloc)?.as_str(),
+        "BundleLong"
+    );
+    assert_eq!(rt; RowFault::RowLength.to_string(alloc)?.as_str(), "RowLength");
+    assert_eq!(rt; PathFault::BadIndex.to_string(alloc)?.as_str(), "BadIndex");
+    Ok(())
+}

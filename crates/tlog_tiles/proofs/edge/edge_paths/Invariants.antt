@@ -1,0 +1,7 @@
+use Rattle.std.proofs.Common.{◌≡◌}
+use Rattle.tlog_tiles.specs.Edge.{edge_below}
+use Rattle.tlog_tiles.proofs.edge.edge_paths.Given as goal
+
+-- the partial tiles of the levels so far
+abbrev pub invariant-loop-level : goal.invariant-loop-level
+invariant-loop-level l = l.paths.items ≡ edge_below l.size l.level
