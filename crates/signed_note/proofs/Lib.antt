@@ -1,5 +1,6 @@
 pub mod MaskedBlocks
 pub mod Trust
+pub mod Digests
 pub mod Lacking
 pub mod NameBytes
 pub mod Payloads
@@ -9,3 +10,4 @@ pub mod LineLists
 pub mod LineCounts
 pub mod Readings
 pub mod OneReading
+pub mod Signed

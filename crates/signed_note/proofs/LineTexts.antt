@@ -8,6 +8,7 @@ use Rattle.signed_note.specs.Notes.{Line, mark, base64_of, signed_bytes, line_bo
 use Rattle.signed_note.specs.Reading.{ReadsBase64, ReadsLine}
 use Rattle.signed_note.specs.declared.fault.NoteFault.{NoteFault}
 use Rattle.signed_note.specs.declared.fault.NoteFault.TheVariants.{NoteTooLong, NotText, NoSignatures, TooManySignatures, BadSignatureLine, OutOfMemory}
+use Rattle.signed_note.proofs.Digests.{IsBytes-append, four_bytes}
 use Rattle.signed_note.proofs.Lacking.{Lacks, Lacks-append, Lacks-from_reads, cut_once, no_cut}
 use Rattle.signed_note.proofs.NameBytes.{name_lacks_space, name_lacks_newline}
 use Rattle.signed_note.proofs.Payloads.{base64_lacks_newline, base64_of-same, id_bytes, bytes_id}
@@ -19,19 +20,8 @@ words name rest = mark ++ space ∷ (name ++ space ∷ rest)
 words_alike : (name rest other more : List ℕ) → words name rest ≡ words other more → Lacks space name → Lacks space other → (name ≡ other) × (rest ≡ more)
 words_alike name rest other more e p q = cut_once space name rest other more (cc) p q
 
-IsBytes-cons : (x : ℕ) (xs : List ℕ) → x < 256 → IsBytes xs → IsBytes (x ∷ xs)
-IsBytes-cons x xs h p zero = h
-IsBytes-cons x xs h p (suc i) = p i
-
 pub signed_bytes_fit : (line : Line) → IsLine line → IsBytes (signed_bytes line)
-signed_bytes_fit line h =
-    let byte : (n : ℕ) → n % 256 < 256 = λ (n : ℕ). omega arith in
-    let d : List ℕ = line.id % 256 ∷ line.signature in
-    let c : List ℕ = line.id / 256 % 256 ∷ d in
-    let b : List ℕ = line.id / 65536 % 256 ∷ c in
-    IsBytes-cons (line.id / 16777216 % 256) b (byte (line.id / 16777216))
-    (IsBytes-cons (line.id / 65536 % 256) c (byte (line.id / 65536))
-    (IsBytes-cons (line.id / 256 % 256) d (byte (line.id / 256)) (IsBytes-cons (line.id % 256) line.signature (byte line.id) h.bytes)))
+signed_bytes_fit line h = IsBytes-append (big_bytes 4 line.id) line.signature (four_bytes line.id) h.bytes
 
 pub length-signed_bytes : (line : Line) → length (signed_bytes line) ≡ length line.signature + 4
 length-signed_bytes line = omega arith

@@ -4,13 +4,15 @@ use Rattle.std.proofs.lemmas.List.{length-replicate}
 use Rattle.std.specs.Prelude.{Result, Ok, slice_index}
 use Rattle.std.specs.Int.{w32, from_be_bytes, to_be_bytes}
 use Rattle.std.proofs.lemmas.Nat.{be_bytes_4, from_be_bytes-to_be_bytes_4}
+use Rattle.std.specs.Str.{IsAscii}
+use Rattle.std.proofs.lemmas.List.Sums.{AllPass-from_list_all}
 use Rattle.base64.specs.Rfc4648.{encode_symbols, padding_len, encode_group, unpadded_len}
 use Rattle.base64.specs.Engines.{standard}
 use Rattle.base64.specs.GeneralPurpose.{engine_symbols, encode_of, decode_of, IsBytes}
-use Rattle.base64.proofs.EngineFacts.{decode_of-encode_of}
+use Rattle.base64.proofs.EngineFacts.{decode_of-encode_of, IsAscii-encode_of}
 use Rattle.base64.proofs.RoundTrip.{length-encode_symbols}
 use Rattle.byteorder.specs.Endian.{big_bytes, big_number}
-use Rattle.signed_note.specs.Names.{newline}
+use Rattle.signed_note.specs.Names.{newline, is_note_char}
 use Rattle.signed_note.specs.Notes.{base64_of}
 use Rattle.signed_note.proofs.Lacking.{Lacks, Lacks-append, Lacks-from_test, Lacks-replicate, reads_other}
 
@@ -38,6 +40,52 @@ base64_lacks_newline bytes =
 pub length-base64_of : (bytes : List ℕ) → length (base64_of bytes) ≡ unpadded_len (length bytes) + padding_len (length bytes)
 unfolding base64_of
 length-base64_of bytes = length-append (encode_symbols symbols bytes) (replicate (padding_len (length bytes)) 61) ∙ rw (length-encode_symbols symbols bytes, length-replicate {A = ℕ} (padding_len (length bytes)) 61) refl
+
+-- each element passes
+abbrev pub Passing : (ℕ → Bool) → List ℕ → Type 0
+Passing p [] = Unit {0}
+Passing p (x ∷ xs) = (p x ≡ true) × Passing p xs
+
+Passing-append : (p : ℕ → Bool) (xs ys : List ℕ) → Passing p xs → Passing p ys → Passing p (xs ++ ys)
+Passing-append p [] ys h k = k
+Passing-append p (x ∷ xs) ys h k = (h.0, Passing-append p xs ys h.1 k)
+
+Passing-replicate : (p : ℕ → Bool) (n b : ℕ) → p b ≡ true → Passing p (replicate n b)
+Passing-replicate p zero b h = tt
+Passing-replicate p (suc n) b h = (h, Passing-replicate p n b h)
+
+symbols_pass : (p : ℕ → Bool) (t m : List ℕ) → ((i : ℕ) → i < 64 → p (slice_index t i) ≡ true) → IsBytes m → Passing p (encode_symbols t m)
+unfolding encode_symbols
+symbols_pass p t [] h small = tt
+symbols_pass p t (x ∷ []) h small =
+    let a : x < 256 = small 0 in
+    (h (x / 4) (omega arith), (h (x % 4 * 16) (omega arith), tt))
+symbols_pass p t (x ∷ y ∷ []) h small =
+    let a : x < 256 = small 0 in
+    let b : y < 256 = small 1 in
+    (h (x / 4) (omega arith), (h (x % 4 * 16 + y / 16) (omega arith), (h (y % 16 * 4) (omega arith), tt)))
+symbols_pass p t (x ∷ y ∷ z ∷ rest) h small =
+    let a : x < 256 = small 0 in
+    let b : y < 256 = small 1 in
+    let c : z < 256 = small 2 in
+    Passing-append p (encode_group t x y z) (encode_symbols t rest)
+    (h (x / 4) (omega arith), (h (x % 4 * 16 + y / 16) (omega arith), (h (y % 16 * 4 + z / 64) (omega arith), (h (z % 64) (omega arith), tt))))
+    (symbols_pass p t rest h (λ i. small (suc (suc (suc i)))))
+
+table_passes : (i : ℕ) → i < 64 → is_note_char (slice_index symbols i) ≡ true
+table_passes i lt = AllPass-from_list_all is_note_char symbols refl i 0 lt
+
+-- base64 may stand in a note
+pub base64_passes : (bytes : List ℕ) → IsBytes bytes → Passing is_note_char (base64_of bytes)
+unfolding base64_of
+base64_passes bytes small =
+    Passing-append is_note_char (encode_symbols symbols bytes) (replicate (padding_len (length bytes)) 61)
+    (symbols_pass is_note_char symbols bytes table_passes small)
+    (Passing-replicate is_note_char (padding_len (length bytes)) 61 refl)
+
+pub base64_is_ascii : (bytes : List ℕ) → IsAscii (base64_of bytes)
+unfolding base64_of
+base64_is_ascii bytes = IsAscii-encode_of standard bytes
 
 -- bytes have one base64, and base64 is of one list of bytes
 pub base64_of-same : (a b : List ℕ) → IsBytes a → IsBytes b → base64_of a ≡ base64_of b → a ≡ b

@@ -6,7 +6,8 @@ use Rattle.base64.specs.Engines.{standard}
 use Rattle.base64.specs.GeneralPurpose.{encode_of, IsBytes}
 use Rattle.byteorder.specs.Endian.{big_bytes}
 use Rattle.signed_note.specs.Names.{newline, space, IsNoteText, EndsInNewline, IsKeyName}
-use Rattle.signed_note.specs.Keys.{Key}
+use Rattle.signed_note.specs.Hmac.{hmac}
+use Rattle.signed_note.specs.Keys.{Key, Secret}
 
 -- a signature line, read
 pub record Line : Type 0 where
@@ -87,3 +88,7 @@ pub record IsLawfulText (text : List ℕ) : Type 0 where
   pub readable : IsNoteText text
   pub ended : EndsInNewline text
   pub short : length text ≤ 900000
+
+-- the line that a shared key signs a text with: its name, its id and its mac of the text
+abbrev pub signed_line : List ℕ → Secret → Line
+signed_line text k = record { name = k.name; id = k.id; signature = hmac k.secret text }

@@ -16,6 +16,7 @@ mod note;
 mod opening;
 mod parts;
 mod pinned;
+mod signing;
 mod verifier;
 
 pub use fault::{KeyFault, KeyFileFault, NoteFault, OpenFault};
@@ -25,4 +26,5 @@ pub use mac_key::HmacKey;
 pub use note::Note;
 pub use opening::open_note;
 pub use pinned::PinnedTexts;
+pub use signing::sign;
 pub use verifier::Verifier;

@@ -4,6 +4,7 @@ ghost use Rattle.std.specs.Prelude.{◌≡◌};
 ghost use Rattle.std.specs.Str.{bytes_eq};
 ghost use Rattle.signed_note.specs.Keys.{secret_key};
 ghost use Rattle.signed_note.specs.Hmac.{hmac};
+ghost use Rattle.signed_note.specs.Names.{IsOwnName};
 ghost use Rattle.signed_note.specs.Reading.{MakesSecret};
 
 use crate::fault::KeyFault;
@@ -55,6 +56,14 @@ impl HmacKey {
             id,
             secret: Vec::from_slice(alloc, secret)?,
         })
+    }
+
+    /// The key's name, which may stand in a note.
+    pub(crate) fn own_name(&self) -> &str
+        ensures name { result.now ≡ self.now.name }
+        ensures own { IsOwnName self.now.name }
+    {
+        &self.name
     }
 
     /// HMAC-SHA-256 of the message under the secret (RFC 2104, section 2). Takes no memory.
