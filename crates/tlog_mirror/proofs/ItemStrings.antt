@@ -9,10 +9,9 @@ use Rattle.tlog_hash.specs.Nodes.{IsJoin}
 use Rattle.tlog_hash.proofs.Trees.{tree_of-none, tree_of-one, tree_of-join, induction, all-append, all-left, all-right}
 use Rattle.tlog_hash.proofs.NodeStrings.{from_joins}
 use Rattle.signed_note.specs.Keys.{Key}
-use Rattle.node_store.specs.Strings.{Has, HasAll}
+use Rattle.node_store.specs.Strings.{Has, HasAll, IsTagged, OfEntry, OfPair}
 use Rattle.tlog_mirror.specs.Edge.{edge_widths, edge_strings, strings_from}
 use Rattle.tlog_mirror.specs.Heads.{IsHead}
-use Rattle.tlog_mirror.specs.Strings.{IsPair, IsString}
 use Rattle.tlog_mirror.specs.View.{View}
 use Rattle.tlog_mirror.specs.Item.{Item, HeadItem, TileItem, BundleItem, row_of, entries_of, IsGood, strings_of, notes_of, plus}
 use Rattle.tlog_mirror.specs.Complete.{HasEdge}
@@ -26,6 +25,13 @@ pub record IsShortLeaf (string : List ℕ) : Type 0 where
   pub entry : List ℕ
   pub is : string ≡ 0 ∷ entry
   pub short : length entry < 2 ^ 16
+
+pub record IsPair (string : List ℕ) : Type 0 where
+  pub left : List ℕ
+  pub right : List ℕ
+  pub left_len : length left ≡ 32
+  pub right_len : length right ≡ 32
+  pub is : string ≡ 1 ∷ left ++ right
 
 abbrev pub IsItemString : List ℕ → Type 0
 IsItemString string = IsShortLeaf string ⊎ IsPair string
@@ -139,9 +145,9 @@ module _ (digest : List ℕ → List ℕ) (hash : IsHash digest) where
   note_edge keys v (TileItem width bytes) good note c = absurd (All-contains (λ n. ⊥) [] note (All-nil (λ n. ⊥)) c)
   note_edge keys v (BundleItem width bytes) good note c = absurd (All-contains (λ n. ⊥) [] note (All-nil (λ n. ⊥)) c)
 
-is_string : (y : List ℕ) → IsItemString y → IsString y
-is_string y (inl l) = inl (record { entry = l.entry; is = l.is })
-is_string y (inr p) = inr p
+is_string : (y : List ℕ) → IsItemString y → IsTagged y
+is_string y (inl l) = subst IsTagged (sym l.is) (OfEntry l.entry)
+is_string y (inr p) = subst IsTagged (sym p.is) (OfPair p.left p.right p.left_len p.right_len)
 
 is_short : (e : List ℕ) → IsItemString (0 ∷ e) → length e ≤ 65535
 is_short e (inl l) = let same : e ≡ l.entry = ap (drop 1) l.is in omega (arith, l.short, ap length same)

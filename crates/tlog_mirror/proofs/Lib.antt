@@ -13,3 +13,8 @@ pub mod OneLists
 pub mod Reaching
 pub mod Steps
 pub mod Playing
+pub mod HeadNotes
+pub mod Missing
+pub mod Folding
+pub mod Remembering
+pub mod Examples

@@ -1,7 +1,7 @@
 -- Runs: what a mirror's view has of what reaches it.
-use Rattle.std.proofs.Common.{suc, ◌≡◌, ℕ, List, [], ◌∷◌, Some, Bool, true, false, cond, sym, refl, ap, ◌∙◌, subst, ◌⊎◌, inl, inr}
+use Rattle.std.proofs.Common.{arith, suc, ◌≡◌, ℕ, List, [], ◌∷◌, Some, Bool, true, false, cond, sym, refl, ap, ◌∙◌, subst, ◌⊎◌, inl, inr}
 use Rattle.std.specs.Prelude.{slice_get, slice_set}
-use Rattle.std.specs.List.{Contains, AllByRecursion}
+use Rattle.std.specs.List.{AllPass, Contains, AllByRecursion}
 use Rattle.std.specs.FinSet as set
 use Rattle.std.proofs.lemmas.List.Elements.{recursion_from_All, All-from_recursion, All-contains}
 use Rattle.node_store.specs.Strings.{Strings, Has}
@@ -12,7 +12,7 @@ use Rattle.tlog_mirror.specs.Item.{Item, IsGood, strings_of, notes_of, plus}
 use Rattle.tlog_mirror.specs.Events.{Event, TakeEvent, MergeEvent, Reaches, OpeningReaches}
 use Rattle.tlog_mirror.specs.Steps.{Answer, Done, Refused, Clashed, Exhausted, Answers, Happens, TakesAt, MergesAt, Run}
 use Rattle.tlog_mirror.specs.Reached.{OpensWith, TakesIn, HasReached, HasReachedOnly, events_of, is_done, may_change, is_settled}
-use Rattle.tlog_mirror.specs.PlayLaws.{AreOf, RunIsBounded, IsReached, RunIsReached, IsMet, NoneClashes, ReachedAlike, SameReachedSameView}
+use Rattle.tlog_mirror.specs.PlayLaws.{AreOf, RunIsBounded, IsReached, RunIsReached, IsMet, NoneClashes, ReachedAlike, SameReachedSameView, MirrorsAgree}
 use Rattle.tlog_mirror.proofs.StringSets.{has_right, has_cases, listed_from_has, has_from_listed}
 use Rattle.tlog_mirror.proofs.Views.{within_itself, within_union, within_plus, same_is_one}
 use Rattle.tlog_mirror.proofs.Steps.{get_set_same, get_set_other, one_of_list, same_number, answer_grows, answer_within, answer_changes}
@@ -398,3 +398,22 @@ same_reached digest origin keys opened opened' final final' events events' answe
     let a = run_is_reached digest origin keys opened final events answers of settled run mirror v found in
     let b = run_is_reached digest origin keys opened' final' events' answers' of' settled' run' mirror' w found' in
     same_is_one v w (half digest origin keys opened opened' events events' mirror mirror' v w a b to) (half digest origin keys opened' opened events' events mirror' mirror w v b a from)
+
+-- answers of which none is that for a clash or for want of memory
+settled_from : (answers : List Answer) → (Contains answers Clashed → ⊥) → (Contains answers Exhausted → ⊥) → AllByRecursion (λ a. is_settled a ≡ true) answers
+settled_from [] no_clash no_want = tt
+settled_from (a ∷ more) no_clash no_want = (one a no_clash no_want, settled_from more (λ c. no_clash (suc c.0, omega (arith, c.1), c.2)) (λ c. no_want (suc c.0, omega (arith, c.1), c.2)))
+  where
+    one : (a : Answer) → (Contains (a ∷ more) Clashed → ⊥) → (Contains (a ∷ more) Exhausted → ⊥) → is_settled a ≡ true
+    one Done c w = refl
+    one Refused c w = refl
+    one Clashed c w = absurd (c (0, omega arith, refl))
+    one Exhausted c w = absurd (w (0, omega arith, refl))
+
+pub mirrors_agree : MirrorsAgree
+mirrors_agree digest origin keys opened opened' final final' events events' answers answers' of of' clean clean' want want' run run' mirror mirror' v w found found' to from =
+    let settled : (as' : List Answer) → (Contains as' Clashed → ⊥) → (Contains as' Exhausted → ⊥) → AllPass is_settled as' = (λ as' c m. All-from_recursion (λ a. is_settled a ≡ true) as' (settled_from as' c m)) in
+    same_reached digest origin keys opened opened' final final' events events' answers answers' of of'
+    (settled answers (none_clashes digest origin keys opened final events answers of clean run) want)
+    (settled answers' (none_clashes digest origin keys opened' final' events' answers' of' clean' run') want')
+    run run' mirror mirror' v w found found' to from

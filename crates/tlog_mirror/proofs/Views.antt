@@ -4,7 +4,7 @@ use Rattle.tlog_mirror.specs.View.{View, union, IsWithin}
 use Rattle.tlog_mirror.specs.Item.{Item, plus}
 use Rattle.tlog_mirror.specs.Heads.{IsHead, HasHead}
 use Rattle.tlog_mirror.specs.Complete.{HasEdge}
-use Rattle.tlog_mirror.specs.ViewLaws.{UnionCommutes, UnionAssociates, UnionRepeats, SameIsOne, UnionIsLawful, CompleteStays, ForksStay, ForksTurn}
+use Rattle.tlog_mirror.specs.ViewLaws.{UnionCommutes, UnionAssociates, UnionRepeats, SameIsOne, UnionIsLawful, CompleteStays, MarksStay, ForksStay, ForksTurn}
 use Rattle.tlog_mirror.proofs.StringSets.{has_left, has_right, has_cases, same_strings, union_comm, union_assoc, union_itself, held_more}
 
 pub union_commutes : UnionCommutes
@@ -79,3 +79,6 @@ union_is_lawful digest v w p q same clean =
       leaves_short = λ e h. elim (has_cases v.strings w.strings (0 ∷ e) h) [ inl a ↦ p.leaves_short e a | inr b ↦ q.leaves_short e b ];
       edges = λ note h. elim (has_cases v.notes w.notes note h) [ inl a ↦ edge_stays digest v (union v w) (within_union v w) note (p.edges note a) | inr b ↦ edge_stays digest w (union v w) back note (q.edges note b) ];
     }
+
+pub marks_stay : MarksStay
+marks_stay digest v w a point m = record { size = m.size; root = m.root; entries = m.entries; complete = complete_stays digest v w a m.size m.root m.entries m.complete; node = m.node; is = m.is; len_is = m.len_is; hash_is = m.hash_is }

@@ -1,9 +1,8 @@
 -- Complete heads, and lawful views.
 use Rattle.std.specs.Prelude.{◌≡◌, ℕ, ◌≤◌, List, ◌∷◌, length, map}
 use Rattle.tlog_hash.specs.Tree.{mth, strings}
-use Rattle.node_store.specs.Strings.{Strings, Has, HasAll, NoClash}
+use Rattle.node_store.specs.Strings.{Strings, Has, HasAll, AllTagged, NoClash}
 use Rattle.tlog_mirror.specs.View.{View}
-use Rattle.tlog_mirror.specs.Strings.{IsString}
 use Rattle.tlog_mirror.specs.Edge.{edge_strings}
 use Rattle.tlog_mirror.specs.Heads.{IsHead, HasHead}
 use Rattle.tlog_mirror.specs.Item.{row_of, HasEdgeRows}
@@ -42,6 +41,6 @@ module _ (digest : List ℕ → List ℕ) where
   -- a lawful view: no two of its strings share a digest, its entries have at most 65,535 bytes, and the edge of each note is held
   pub record IsLawful (v : View) : Type 0 where
     pub no_clash : NoClash digest v.strings
-    pub are_strings : (string : List ℕ) → Has v.strings string → IsString string
+    pub are_strings : AllTagged v.strings
     pub leaves_short : (entry : List ℕ) → Has v.strings (0 ∷ entry) → length entry ≤ 65535
     pub edges : (note : List ℕ) → Has v.notes note → HasEdge v note

@@ -1,5 +1,5 @@
 -- What happens to mirrors, and what reaches which of them.
-use Rattle.std.specs.Prelude.{◌≡◌, ◌≤◌, ℕ, ◌+◌, List, [], ◌∷◌, Some, slice_get}
+use Rattle.std.specs.Prelude.{◌≡◌, ◌≤◌, ℕ, ◌+◌, List, [], ◌∷◌, ◌++◌, Some, slice_get, if◌then◌else◌, ◌==◌}
 use Rattle.tlog_mirror.specs.Item.{Item}
 
 -- an event: a mirror takes an item, or is merged with another, which stays as it is; mirrors are numbered from 0
@@ -25,3 +25,22 @@ pub record Reaches (item : Item) (mirror : ℕ) (events : List Event) : Type 0 w
 pub record OpeningReaches (opened mirror : ℕ) (events : List Event) : Type 0 where
   pub merges : List ℕ
   pub lead : MergesLead events 0 opened merges mirror
+
+-- what can reach a mirror: the opening view of a mirror, or an item that was taken
+pub data Source : Type 0 where
+  OpenedView : (opened : ℕ) → Source
+  TakenItem : (item : Item) → Source
+
+-- what has reached each mirror after one event more: a take adds its item, a merge adds what has reached its source
+abbrev pub sources_after : (ℕ → List Source) → Event → ℕ → List Source
+sources_after before (TakeEvent target item) mirror = if mirror == target then before mirror ++ TakenItem item ∷ [] else before mirror
+sources_after before (MergeEvent target source) mirror = if mirror == target then before mirror ++ before source else before mirror
+
+-- after all events of a list, from what has reached each mirror before
+abbrev pub sources_from : (ℕ → List Source) → List Event → ℕ → List Source
+sources_from before [] = before
+sources_from before (event ∷ events) = sources_from (sources_after before event) events
+
+-- before any event each mirror is reached by its own opening view
+abbrev pub sources_of : List Event → ℕ → List Source
+sources_of events = sources_from (λ mirror. OpenedView mirror ∷ []) events

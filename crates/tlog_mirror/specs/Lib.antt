@@ -13,6 +13,7 @@ pub mod Marks
 pub mod Events
 pub mod Steps
 pub mod Reached
+pub mod Examples
 pub mod TreeLaws
 pub mod ViewLaws
 pub mod PlayLaws

@@ -5,7 +5,7 @@ use Rattle.signed_note.specs.Keys.{Key}
 use Rattle.node_store.specs.Strings.{Has}
 use Rattle.tlog_mirror.specs.View.{View}
 use Rattle.tlog_mirror.specs.Item.{Item, IsGood, strings_of}
-use Rattle.tlog_mirror.specs.Events.{Event, TakeEvent, MergeEvent, Reaches, OpeningReaches}
+use Rattle.tlog_mirror.specs.Events.{Event, TakeEvent, MergeEvent, Reaches, OpeningReaches, OpenedView, TakenItem, sources_of}
 use Rattle.tlog_mirror.specs.Steps.{Answer, Exhausted, Clashed, Takes, Merges, Run}
 use Rattle.tlog_mirror.specs.Reached.{HasReached, HasReachedOnly, events_of, is_done, may_change, is_settled}
 
@@ -26,6 +26,14 @@ pub record OpeningReachesByLast (events : List Event) : Type 0 where
 
 abbrev pub OpeningReachesGoByLast : Type 0
 OpeningReachesGoByLast = (events : List Event) → OpeningReachesByLast events
+
+-- a fold over the events gives the same
+pub record IsFold (events : List Event) (mirror : ℕ) : Type 0 where
+  pub items : (item : Item) → Contains (sources_of events mirror) (TakenItem item) ↔ Reaches item mirror events
+  pub openings : (opened : ℕ) → Contains (sources_of events mirror) (OpenedView opened) ↔ OpeningReaches opened mirror events
+
+abbrev pub FoldIsReaches : Type 0
+FoldIsReaches = (events : List Event) (mirror : ℕ) → IsFold events mirror
 
 -- all views are of that origin
 abbrev pub AreOf : List ℕ → List View → Type 0
@@ -82,6 +90,10 @@ pub record ReachedAlike (digest : List ℕ → List ℕ) (origin : List ℕ) (ke
 -- mirrors that the same items have reached, in any order, with repeats and through any merges, hold equal views
 abbrev pub SameReachedSameView : Type 0
 SameReachedSameView = (digest : List ℕ → List ℕ) (origin : List ℕ) (keys : List Key) (opened opened' final final' : List View) (events events' : List Event) (answers answers' : List Answer) → AreOf origin opened → AreOf origin opened' → AllPass is_settled answers → AllPass is_settled answers' → Run digest keys opened events answers final → Run digest keys opened' events' answers' final' → (mirror mirror' : ℕ) (v w : View) → slice_get final mirror ≡ Some v → slice_get final' mirror' ≡ Some w → ReachedAlike digest origin keys opened opened' events events' mirror mirror' → ReachedAlike digest origin keys opened' opened events' events mirror' mirror → v ≡ w
+
+-- The headline: while no two of the byte strings met share a digest, and no event was left for want of memory, such mirrors hold equal views.
+abbrev pub MirrorsAgree : Type 0
+MirrorsAgree = (digest : List ℕ → List ℕ) (origin : List ℕ) (keys : List Key) (opened opened' final final' : List View) (events events' : List Event) (answers answers' : List Answer) → AreOf origin opened → AreOf origin opened' → NothingClashes digest origin keys opened events → NothingClashes digest origin keys opened' events' → (Contains answers Exhausted → ⊥) → (Contains answers' Exhausted → ⊥) → Run digest keys opened events answers final → Run digest keys opened' events' answers' final' → (mirror mirror' : ℕ) (v w : View) → slice_get final mirror ≡ Some v → slice_get final' mirror' ≡ Some w → ReachedAlike digest origin keys opened opened' events events' mirror mirror' → ReachedAlike digest origin keys opened' opened events' events mirror' mirror → v ≡ w
 
 -- an event that ran out of memory and is done again comes to the same as one event
 abbrev pub TakesAgain : Type 0

@@ -13,6 +13,7 @@ use Rattle.tlog_mirror.specs.Item.{Item, row_of, entries_of, IsGood, plus}
 use Rattle.tlog_mirror.specs.Complete.{Complete, IsComplete, IsLawful}
 use Rattle.tlog_mirror.specs.Served.{Served}
 use Rattle.tlog_mirror.specs.Forks.{Point, IsPrefix, IsFork}
+use Rattle.tlog_mirror.specs.Marks.{IsMark}
 use Rattle.tlog_mirror.specs.Front.{Place}
 use Rattle.tlog_mirror.specs.Walk.{IsMissing}
 
@@ -79,6 +80,14 @@ ForksTurn = (digest : List ℕ → List ℕ) (v : View) (a b : Point) → IsFork
 -- of two complete heads that differ a fork is made exactly where neither list is a prefix of the other
 abbrev pub ForksTell : Type 0
 ForksTell = (digest : List ℕ → List ℕ) → IsHash digest → (v : View) → IsLawful digest v → (a b : Point) (first second : List (List ℕ)) → a ≢ b → Complete digest v a.size a.root first → Complete digest v b.size b.root second → IsFork digest v a b ↔ ((IsPrefix first second → ⊥) × (IsPrefix second first → ⊥))
+
+-- what may be remembered stays so, as a view grows
+abbrev pub MarksStay : Type 0
+MarksStay = (digest : List ℕ → List ℕ) (v w : View) → IsWithin v w → (point : Point) → IsMark digest v point → IsMark digest w point
+
+-- the whole list of a complete head that is not empty may be remembered
+abbrev pub WholeIsMark : Type 0
+WholeIsMark = (digest : List ℕ → List ℕ) (v : View) (point : Point) (entries : List (List ℕ)) → 1 ≤ point.size → Complete digest v point.size point.root entries → IsMark digest v point
 
 -- a view serves one thing at most
 pub record IsSameServed (digest : List ℕ → List ℕ) (note other : List ℕ) (size n : ℕ) (root r : List ℕ) (first second : List (List ℕ)) : Type 0 where

@@ -1,11 +1,12 @@
 //! Laws of events and runs: mirrors that the same items have reached hold the same.
-ghost use Rattle.tlog_mirror.specs.PlayLaws.{MergesAgain, NoneClashes, OpeningReachesGoByLast, ReachesGoByLast, RunIsBounded, RunIsReached, SameReachedSameView, TakesAgain};
+ghost use Rattle.tlog_mirror.specs.PlayLaws.{FoldIsReaches, MergesAgain, MirrorsAgree, NoneClashes, OpeningReachesGoByLast, ReachesGoByLast, RunIsBounded, RunIsReached, SameReachedSameView, TakesAgain};
 
 /// What reaches a mirror, by the last event of a list: a take adds its item, a merge adds what reached
-/// its source, and nothing else changes.
+/// its source, and nothing else changes. A fold over the events gives the same.
 pub fn reaches_law()
     ensures items { ReachesGoByLast }
     ensures openings { OpeningReachesGoByLast }
+    ensures fold { FoldIsReaches }
 {}
 
 /// After any run of events a mirror's view is the union of the opening views and of the good items that
@@ -23,9 +24,11 @@ pub fn clash_law()
 {}
 
 /// Mirrors that the same good items and the same opening views have reached hold equal views, in
-/// whatever order, however often and through whichever merges these came.
+/// whatever order, however often and through whichever merges these came: where no event was answered
+/// by a clash or for want of memory, and so where no two strings share a digest and memory is there.
 pub fn order_law()
-    ensures { SameReachedSameView }
+    ensures same { SameReachedSameView }
+    ensures agree { MirrorsAgree }
 {}
 
 /// An event for which memory was refused, done again, comes to the same as the event done once.

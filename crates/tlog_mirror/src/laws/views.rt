@@ -1,5 +1,5 @@
 //! Laws of views: what a mirror holds, and what follows from it.
-ghost use Rattle.tlog_mirror.specs.ViewLaws.{CompleteIsSame, CompleteStays, ForksStay, ForksTell, ForksTurn, ListHasRoot, OneList, PlusIsLawful, SameIsOne, ServesOne, UnionAssociates, UnionCommutes, UnionIsLawful, UnionRepeats};
+ghost use Rattle.tlog_mirror.specs.ViewLaws.{CompleteIsSame, CompleteStays, ForksStay, ForksTell, ForksTurn, ListHasRoot, MarksStay, MissingIsNone, OneList, PlusIsLawful, SameIsOne, ServesOne, UnionAssociates, UnionCommutes, UnionIsLawful, UnionRepeats, WholeIsMark};
 
 /// Views that hold the same are one, and they are joined in any order, in any grouping and any number
 /// of times with one result.
@@ -40,4 +40,17 @@ pub fn forks_law()
 pub fn lawful_law()
     ensures item { PlusIsLawful }
     ensures views { UnionIsLawful }
+{}
+
+/// The walk from the root of a head fails nowhere exactly where the head is complete. So wherever it is
+/// not, something is named that is missing.
+pub fn missing_law()
+    ensures { MissingIsNone }
+{}
+
+/// What may be remembered of complete heads: the whole list of each, and whatever could be remembered
+/// of a smaller view.
+pub fn marks_law()
+    ensures whole { WholeIsMark }
+    ensures stay { MarksStay }
 {}

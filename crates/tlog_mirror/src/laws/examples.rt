@@ -1,0 +1,22 @@
+//! Small cases of the definitions, worked out.
+ghost use Rattle.tlog_mirror.specs.Examples.{HasEdges, HasParts, HasRoots, IsForked, IsThree, IsWay};
+
+/// The tree of three entries, the edges of some sizes, and the roots of some edges, under a digest that
+/// is a sum.
+pub fn trees_example()
+    ensures three { IsThree }
+    ensures edges { HasEdges }
+    ensures roots { HasRoots }
+    ensures parts { HasParts }
+{}
+
+/// Two lists of entries of which neither is a prefix of the other, though the digest does not tell the
+/// first from the beginning of the second.
+pub fn fork_example()
+    ensures { IsForked }
+{}
+
+/// An item goes over two merges in one order, and not in the other.
+pub fn way_example()
+    ensures { IsWay }
+{}
