@@ -1,13 +1,13 @@
 -- A consistency proof that is made is accepted.
 use Rattle.std.proofs.Common.{Bool, true, false, inl, inr, ◌≡◌, ℕ, ◌+◌, ◌-◌, ◌*◌, ◌<◌, ◌≤◌, List, [], ◌∷◌, ◌++◌, length, reverse, take, drop, Some, sym, refl, ap, ◌∙◌, arith, length-take, length-drop}
-use Rattle.std.proofs.lemmas.List.{reverse-append, take-take, take_all}
+use Rattle.std.proofs.lemmas.List.{take-take, take_all}
 use Rattle.std.proofs.Math.Seq.{take-add}
 use Rattle.std.proofs.lemmas.Bool.{cases_lt}
 use Rattle.std.specs.Prelude.{if◌then◌else◌}
 use Rattle.std.specs.Option.{option_map}
 use Rattle.tlog_shape.specs.Split.{split_of}
 use Rattle.tlog_shape.proofs.Splits.{split_of-below, split_of-positive, split_of-power, split_of-half, split_of-unique}
-use Rattle.tlog_hash.specs.Tree.{Tree, One, Join, tree_of, size_of, mth}
+use Rattle.tlog_hash.specs.Tree.{One, Join, tree_of, size_of, mth}
 use Rattle.tlog_hash.proofs.Trees.{tree_of-one, tree_of-join, induction, mth-one, mth-join, mth-append}
 use Rattle.tlog_hash.specs.Nodes.{entries_root}
 use Rattle.tlog_hash.specs.Shape.{shape}
@@ -17,7 +17,7 @@ use Rattle.tlog_hash.proofs.Folds.{mth-tree}
 use Rattle.tlog_hash.proofs.NodeStrings.{size_of-tree}
 use Rattle.tlog_hash.proofs.Shapes.{shape-one, shape-join, size_of-shape}
 use Rattle.tlog_proof.proofs.Subproofs.{all_of, proof-whole, turned-left, turned-right}
-use Rattle.tlog_proof.proofs.Consistencies.{cons-one, cons-left, cons-right, cons-whole, not_equal, at_most, not_at_most, equal}
+use Rattle.tlog_proof.proofs.Consistencies.{cons-one, cons-left, cons-right, cons-whole}
 
 whole_end : (flag : Bool) (g hash m : List ℕ) → hash ≡ m → (flag ≡ true → g ≡ m) → at_end flag g (reverse (if flag then [] else hash ∷ [])) ≡ Some (m, m)
 whole_end true g hash m is h = (λ i. Some (h refl i, h refl i))

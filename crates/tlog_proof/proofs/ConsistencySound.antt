@@ -13,7 +13,7 @@ use Rattle.tlog_hash.specs.Tree.{Tree, Empty, One, Join, size_of, mth, strings}
 use Rattle.tlog_hash.proofs.Trees.{all-append, induction, mth-one, mth-append, length-mth, strings-one, left-strings, right-strings, join-string}
 use Rattle.tlog_hash.proofs.PairStrings.{left_is, right_is}
 use Rattle.tlog_hash.specs.Shape.{shape}
-use Rattle.tlog_proof.specs.Consistency.{at_end, both_right, both_left, cons_in, cons, IsHashedBoth, IsConsistency}
+use Rattle.tlog_proof.specs.Consistency.{at_end, both_right, both_left, cons_in, cons, IsHashedBoth}
 use Rattle.tlog_proof.specs.Laws.{IsMetBoth, HasNoClash, AcceptedConsistencyShows}
 use Rattle.tlog_hash.proofs.Shapes.{shape-one, shape-join, size_of-shape}
 use Rattle.tlog_proof.proofs.Inclusions.{mapped}

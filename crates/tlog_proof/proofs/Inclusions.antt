@@ -1,21 +1,19 @@
 -- Inclusion proofs.
-use Rattle.std.proofs.Common.{subst, get_or, inl, inr, ◌≡◌, ℕ, ◌+◌, ◌-◌, ◌<◌, ◌≤◌, List, [], ◌∷◌, ◌++◌, length, take, drop, map, reverse, replicate, Option, Some, None, sym, refl, ap, ◌∙◌, arith, length-append, take-append-drop}
-use Rattle.std.proofs.lemmas.List.{reverse-append, length-replicate, take-replicate, drop-replicate, get_or_append_left, get_or-append-add}
+use Rattle.std.proofs.Common.{subst, get_or, inl, inr, ◌≡◌, ℕ, ◌+◌, ◌-◌, ◌<◌, ◌≤◌, List, [], ◌∷◌, ◌++◌, length, take, drop, reverse, Option, Some, None, sym, refl, ap, ◌∙◌, arith, length-append, take-append-drop}
+use Rattle.std.proofs.lemmas.List.{reverse-append, get_or_append_left, get_or-append-add}
 use Rattle.std.proofs.lemmas.Bool.{cases_lt, lt-ltb, le-ltb}
 use Rattle.std.specs.Option.{option_map}
 use Rattle.std.specs.Prelude.{nat_lt, if◌then◌else◌}
 use Rattle.tlog_shape.specs.Split.{split_of}
-use Rattle.tlog_shape.proofs.Splits.{split_of-below}
 use Rattle.tlog_hash.specs.Tree.{Tree, Empty, One, Join, tree_of, size_of, mth}
 use Rattle.tlog_hash.proofs.Trees.{tree_of-one, tree_of-join, induction}
 use Rattle.tlog_hash.proofs.PairStrings.{left_is, right_is}
 use Rattle.tlog_hash.specs.Blocks.{map_tree}
 use Rattle.tlog_hash.specs.Nodes.{Node, IsNode, entries_root}
-use Rattle.tlog_proof.specs.Inclusion.{path_in, path_of, incl_in, incl, IsInclusion, IsHashed}
-use Rattle.tlog_proof.specs.Laws.{MadeInclusionHolds, HasNoClash, IsMet, AcceptedInclusionShows}
-use Rattle.tlog_hash.specs.Shape.{shape}
+use Rattle.tlog_proof.specs.Inclusion.{path_in, path_of, incl_in, incl, IsHashed}
+use Rattle.tlog_proof.specs.Laws.{MadeInclusionHolds, IsMet, AcceptedInclusionShows}
 use Rattle.tlog_hash.proofs.Shapes.{blank, shape_of, size_of-map}
-use Rattle.tlog_hash.proofs.Folds.{tree_of-map, mth-tree}
+use Rattle.tlog_hash.proofs.Folds.{mth-tree}
 use Rattle.tlog_hash.proofs.NodeStrings.{size_of-tree, string_of_node}
 
 module _ (digest : List ℕ → List ℕ) where

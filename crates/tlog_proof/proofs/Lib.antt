@@ -8,3 +8,5 @@ pub mod Paths
 pub mod Subproofs
 pub mod Readers
 pub mod Parts
+pub mod Lines
+pub mod Spelling

@@ -1,5 +1,5 @@
 -- Paths within a range of a list.
-use Rattle.std.proofs.Common.{Bool, true, false, ◌≡◌, ℕ, ◌+◌, ◌-◌, ◌<◌, ◌≤◌, List, [], ◌∷◌, ◌++◌, length, get_or, take, drop, sym, refl, ap, ◌∙◌, arith, length-take, length-drop, append_assoc}
+use Rattle.std.proofs.Common.{Bool, false, ◌≡◌, ℕ, ◌+◌, ◌-◌, ◌<◌, ◌≤◌, List, [], ◌∷◌, ◌++◌, length, get_or, take, drop, sym, ap, ◌∙◌, arith, length-take, length-drop, append_assoc}
 use Rattle.std.proofs.lemmas.List.{take-take, drop-take, drop-drop, drop_more, append-nil}
 use Rattle.std.specs.Prelude.{if◌then◌else◌}
 use Rattle.tlog_shape.specs.Split.{split_of}
@@ -8,7 +8,7 @@ use Rattle.tlog_hash.specs.Tree.{tree_of, mth}
 use Rattle.tlog_hash.specs.Rows.{part}
 use Rattle.tlog_hash.proofs.Trees.{tree_of-one, mth-one}
 use Rattle.tlog_proof.specs.Inclusion.{path_in, path_of}
-use Rattle.tlog_proof.specs.Consistency.{proof_in, subproof_of, proof_of}
+use Rattle.tlog_proof.specs.Consistency.{proof_in, subproof_of}
 use Rattle.tlog_proof.proofs.Paths.{left_of, right_of}
 use Rattle.tlog_proof.proofs.Subproofs.{all_of, left_of as sub_left_of, right_of as sub_right_of}
 

@@ -1,9 +1,9 @@
 -- The equations of RFC 6962, section 2.1.1, for how an inclusion proof is made.
-use Rattle.std.proofs.Common.{inl, inr, ◌≡◌, ℕ, ◌+◌, ◌-◌, ◌<◌, ◌≤◌, List, [], ◌∷◌, ◌++◌, length, take, drop, sym, refl, ap, ◌∙◌, arith, length-take, length-drop}
+use Rattle.std.proofs.Common.{inl, inr, ◌≡◌, ℕ, ◌-◌, ◌<◌, ◌≤◌, List, [], ◌∷◌, ◌++◌, length, take, drop, sym, ap, ◌∙◌, arith, length-take, length-drop}
 use Rattle.std.proofs.lemmas.Bool.{cases_lt, lt-ltb, le-ltb}
 use Rattle.tlog_shape.specs.Split.{split_of}
 use Rattle.tlog_shape.proofs.Splits.{split_of-below}
-use Rattle.tlog_hash.specs.Tree.{Tree, One, Join, tree_of, size_of, mth}
+use Rattle.tlog_hash.specs.Tree.{Tree, Join, tree_of, size_of, mth}
 use Rattle.tlog_hash.specs.Nodes.{entries_root}
 use Rattle.tlog_hash.proofs.Trees.{tree_of-one, tree_of-join, induction}
 use Rattle.tlog_hash.proofs.Folds.{mth-tree}

@@ -1,11 +1,11 @@
 -- The equations of Incl and Cons, and that they leave nothing open.
-use Rattle.std.proofs.Common.{rules, Bool, true, false, ◌⊎◌, inl, inr, ◌≡◌, ℕ, zero, suc, ◌+◌, ◌-◌, ◌<◌, ◌≤◌, List, [], ◌∷◌, ◌++◌, length, reverse, Option, Some, None, sym, refl, ap, ◌∙◌, arith}
+use Rattle.std.proofs.Common.{rules, Bool, true, false, ◌⊎◌, inl, inr, ◌≡◌, ℕ, ◌+◌, ◌-◌, ◌<◌, ◌≤◌, List, [], ◌∷◌, ◌++◌, reverse, Option, Some, None, sym, refl, ap, ◌∙◌, arith}
 use Rattle.std.proofs.lemmas.List.{reverse-append, reverse-reverse}
 use Rattle.std.proofs.lemmas.Bool.{cases_lt}
 use Rattle.std.specs.Prelude.{nat_eq}
 use Rattle.std.specs.Option.{option_map}
 use Rattle.tlog_shape.specs.Split.{split_of}
-use Rattle.tlog_shape.proofs.Splits.{split_of-below, split_of-positive}
+use Rattle.tlog_shape.proofs.Splits.{split_of-below}
 use Rattle.tlog_hash.specs.Tree.{Tree, Empty, One, Join, size_of}
 use Rattle.tlog_hash.specs.Shape.{shape}
 use Rattle.tlog_hash.proofs.Trees.{tree_of-none}
@@ -13,8 +13,8 @@ use Rattle.tlog_hash.proofs.Shapes.{shape-one, shape-join, size_of-shape}
 use Rattle.tlog_proof.specs.Inclusion.{hash_right, hash_left, incl_in, incl}
 use Rattle.tlog_proof.specs.Consistency.{at_end, both_right, both_left, cons_in, cons}
 use Rattle.tlog_proof.specs.Laws.{IsPathReader, InclEquations, IsSubproofReader, ConsEquations}
-use Rattle.tlog_proof.proofs.Climbing.{climb-left, climb-right, none_empty, none_more}
-use Rattle.tlog_proof.proofs.Consistencies.{not_equal, at_most, not_at_most, sizes, whole, cons-left, cons-right, cons-short}
+use Rattle.tlog_proof.proofs.Climbing.{climb-left, climb-right, none_empty}
+use Rattle.tlog_proof.proofs.Consistencies.{not_at_most, sizes, whole, cons-left, cons-right, cons-short}
 
 shape-none : shape 0 ≡ Empty
 unfolding shape

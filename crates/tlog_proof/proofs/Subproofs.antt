@@ -1,16 +1,16 @@
 -- The equations of RFC 6962, section 2.1.2, for how a consistency proof is made.
-use Rattle.std.proofs.Common.{Bool, true, false, inl, inr, ◌≡◌, ℕ, ◌+◌, ◌-◌, ◌*◌, ◌<◌, ◌≤◌, List, [], ◌∷◌, ◌++◌, length, reverse, take, drop, sym, refl, ap, ◌∙◌, arith, length-take, length-drop}
+use Rattle.std.proofs.Common.{Bool, true, false, inl, inr, ◌≡◌, ℕ, ◌+◌, ◌-◌, ◌<◌, ◌≤◌, List, [], ◌∷◌, ◌++◌, length, reverse, take, drop, sym, refl, ap, ◌∙◌, arith, length-take, length-drop}
 use Rattle.std.proofs.lemmas.List.{reverse-append}
 use Rattle.std.proofs.lemmas.Bool.{cases_lt}
 use Rattle.std.specs.Prelude.{if◌then◌else◌}
 use Rattle.tlog_shape.specs.Split.{split_of}
-use Rattle.tlog_shape.proofs.Splits.{split_of-below, split_of-positive}
-use Rattle.tlog_hash.specs.Tree.{Tree, Empty, One, Join, tree_of, size_of, mth}
+use Rattle.tlog_shape.proofs.Splits.{split_of-below}
+use Rattle.tlog_hash.specs.Tree.{Tree, Join, tree_of, size_of, mth}
 use Rattle.tlog_hash.specs.Nodes.{entries_root}
 use Rattle.tlog_hash.proofs.Trees.{tree_of-one, tree_of-join, induction, mth-one, mth-join}
 use Rattle.tlog_hash.proofs.Folds.{mth-tree}
 use Rattle.tlog_hash.proofs.NodeStrings.{size_of-tree}
-use Rattle.tlog_proof.specs.Consistency.{proof_in, subproof_of, proof_of}
+use Rattle.tlog_proof.specs.Consistency.{proof_in, subproof_of}
 use Rattle.tlog_proof.specs.Laws.{IsSubproofMaker, ProofEquations}
 use Rattle.tlog_proof.proofs.Consistencies.{not_equal, at_most, not_at_most, equal}
 

@@ -1,5 +1,5 @@
 -- Inclusion proofs: how a path is made (RFC 6962, section 2.1.1), and how it is read (RFC 9162, section 2.1.3).
-use Rattle.std.specs.Prelude.{◌≡◌, ◌⊎◌, ℕ, ◌-◌, ◌<◌, ◌≤◌, List, [], ◌∷◌, ◌++◌, length, reverse, Option, Some, nat_lt, if◌then◌else◌}
+use Rattle.std.specs.Prelude.{◌≡◌, ◌⊎◌, ℕ, ◌-◌, ◌<◌, ◌≤◌, List, [], ◌∷◌, ◌++◌, reverse, Option, Some, nat_lt, if◌then◌else◌}
 use Rattle.std.specs.Option.{option_map}
 use Rattle.tlog_hash.specs.Tree.{Tree, Empty, One, Join, tree_of, size_of}
 use Rattle.tlog_hash.specs.Nodes.{entries_root}

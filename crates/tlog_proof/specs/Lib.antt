@@ -5,3 +5,5 @@ pub mod Steps
 pub mod Laws
 pub mod Answers
 pub mod Made
+pub mod Text
+pub mod Reading

@@ -2,6 +2,7 @@
 //!
 //! A law is the contract of a function with an empty body: the proof is all that there is of it.
 ghost use Rattle.tlog_proof.specs.Laws.{PathEquations, ProofEquations, InclEquations, ConsEquations, MadeInclusionHolds, MadeConsistencyHolds, AcceptedInclusionShows, AcceptedConsistencyShows};
+ghost use Rattle.tlog_proof.specs.Text.{HasOneSpelling};
 
 /// Path meets the equations of RFC 6962, section 2.1.1, and nothing else does.
 pub fn path_law()
@@ -43,4 +44,9 @@ pub fn accepted_inclusion_law()
 /// prefix of the second, where the strings that are hashed on either side do not clash.
 pub fn accepted_consistency_law()
     ensures { AcceptedConsistencyShows }
+{}
+
+/// A text is one proof at most, a proof has one text, and no proof's text is longer than 8,192 bytes.
+pub fn text_law()
+    ensures { HasOneSpelling }
 {}

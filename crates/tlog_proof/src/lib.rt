@@ -8,21 +8,28 @@
 //! `inclusion` and `consistency` make the path from the hashes of ranges of the list, which any
 //! `Ranges` gives, and `prove` the whole proof. `check_inclusion` and `check_consistency` check what
 //! someone else made, and `holds` checks a whole proof.
+//! `write_text` and `read_text` write a proof as text and read it back.
 #![tactic(auto)]
 
 mod check;
+mod fault;
 mod laws;
 mod make;
 mod path;
 mod proof;
 mod ranges;
+mod read;
+mod write;
 
 pub use check::{check_consistency, check_inclusion};
+pub use fault::TextFault;
 pub use laws::{
     accepted_consistency_law, accepted_inclusion_law, cons_law, incl_law, made_consistency_law,
-    made_inclusion_law, path_law, proof_law,
+    made_inclusion_law, path_law, proof_law, text_law,
 };
 pub use make::{ProofFault, consistency, inclusion};
 pub use path::HashPath;
 pub use proof::{Ask, Proof, holds, prove};
 pub use ranges::Ranges;
+pub use read::read_text;
+pub use write::write_text;

@@ -1,5 +1,4 @@
-use Rattle.std.proofs.Common.{◌≡◌, ◌+◌, ◌-◌, ◌≤◌, ◌∷◌, [], ◌++◌, arith, sym, ap, ◌∙◌}
-use Rattle.tlog_hash.specs.Tree.{mth}
+use Rattle.std.proofs.Common.{◌+◌, ◌-◌, ◌≤◌, ◌∷◌, [], ◌++◌, arith, sym, ap, ◌∙◌}
 use Rattle.tlog_hash.specs.Rows.{part}
 use Rattle.tlog_proof.specs.Inclusion.{path_of}
 use Rattle.tlog_proof.proofs.Parts.{path_of-one, path_of-left, path_of-right, then_push, none_added}

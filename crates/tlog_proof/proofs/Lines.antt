@@ -1,0 +1,255 @@
+-- Lines of a proof's text: a line is read in one way.
+use Rattle.std.proofs.Common.{◌≡◌, ◌≢◌, ℕ, zero, suc, ◌+◌, ◌*◌, ◌/◌, ◌%◌, ◌^◌, ◌<◌, ◌≤◌, Bool, true, false, not, nat_eq, ◌&&◌, List, [], ◌∷◌, ◌++◌, length, drop, get_or, replicate, append_assoc, refl, sym, subst, ap, ◌∙◌, inl, inr, arith, length-append}
+use Rattle.std.specs.Prelude.{Result, Ok, Err, Option, Some, None, MatchOption, slice_index, codes}
+use Rattle.std.specs.Fmt.{decimal}
+use Rattle.std.specs.List.{list_all, AllByRecursion}
+use Rattle.std.specs.Str.Parse.{ParsesUnsigned, AllDigits, digits_value}
+use Rattle.std.proofs.lemmas.Bool.{cases_lt}
+use Rattle.std.proofs.lemmas.Bool.Decides.{Decides-eqb}
+use Rattle.std.proofs.lemmas.Fmt.{digits_decimal, decimal_injective, decimal_nonempty, decimal_digit, first_decimal, decimal-digits_value, parse-decimal, length-decimal-le}
+use Rattle.std.proofs.lemmas.Str.Parse.{IsNumeralModel, numerals_by_value, tells_digits, not_in_digits, parse_plain}
+use Rattle.std.proofs.lemmas.List.{append_cancel_left, append-nil, length-replicate, get_or-append-add, drop-drop}
+use Rattle.std.proofs.lemmas.Str.{IsUtf8-drop, IsCharBoundary-after_ascii}
+use Rattle.std.proofs.Math.Seq.{drop-append_seam}
+use Rattle.std.specs.Str.{IsUtf8}
+use Rattle.base64.specs.Rfc4648.{encode_symbols, encode_group, padding_len, unpadded_len}
+use Rattle.base64.specs.Engines.{standard}
+use Rattle.base64.specs.GeneralPurpose.{engine_symbols, encode_of, decode_of, IsBytes}
+use Rattle.base64.proofs.EngineFacts.{decode_of-encode_of}
+use Rattle.base64.proofs.RoundTrip.{length-encode_symbols}
+use Rattle.tlog_proof.specs.Text.{IsHash, LacksNewline, base64_of, line, number_line, hash_line, path_lines}
+use Rattle.tlog_proof.specs.Reading.{IsPlain, FindsThat}
+use Rattle.tlog_proof.specs.declared.fault.TextFault.{TextFault}
+use Rattle.tlog_proof.specs.declared.fault.TextFault.TheVariants.{BadProofText, OutOfMemory}
+
+-- a weaker clause of an option
+pub option_weaker : {T P R : Type 0} {Q S : T → Type 0} (o : Option T) → MatchOption o P Q → (P → R) → ((x : T) → Q x → S x) → MatchOption o R S
+option_weaker None h f g = f h
+option_weaker (Some x) h f g = g x h
+
+-- a fault says the same of whatever was sought
+pub fault_same : {X Y : Type 0} (fault : TextFault) (P : X → Type 0) (Q : Y → Type 0) → FindsThat (Err fault) P → FindsThat (Err fault) Q
+fault_same BadProofText P Q h = h
+fault_same OutOfMemory P Q h = h
+
+-- ---- bytes other than a newline
+
+-- no element is a newline
+abbrev pub Lacks : List ℕ → Type 0
+Lacks [] = Unit {0}
+Lacks (x ∷ xs) = (x ≢ 10) × Lacks xs
+
+Lacks-append : (xs ys : List ℕ) → Lacks xs → Lacks ys → Lacks (xs ++ ys)
+Lacks-append [] ys p q = q
+Lacks-append (x ∷ xs) ys p q = (p.0, Lacks-append xs ys p.1 q)
+
+Lacks-reads : (xs : List ℕ) → Lacks xs → LacksNewline xs
+Lacks-reads [] p i lt = absurd (omega arith)
+Lacks-reads (x ∷ xs) p zero lt = p.0
+Lacks-reads (x ∷ xs) p (suc i) lt = Lacks-reads xs p.1 i (omega arith)
+
+Lacks-from_reads : (xs : List ℕ) → LacksNewline xs → Lacks xs
+Lacks-from_reads [] h = tt
+Lacks-from_reads (x ∷ xs) h = (h zero (omega arith), Lacks-from_reads xs (λ i lt. h (suc i) (omega arith)))
+
+-- also past the end, where 0 is read
+reads_other : (xs : List ℕ) → Lacks xs → (i : ℕ) → get_or xs i 0 ≢ 10
+reads_other [] p i = λ e. cc
+reads_other (x ∷ xs) p zero = p.0
+reads_other (x ∷ xs) p (suc i) = reads_other xs p.1 i
+
+both : (a b : Bool) → (a && b) ≡ true → (a ≡ true) × (b ≡ true)
+both true b h = (refl, h)
+both false b h = absurd cc
+
+Lacks-from_test : (xs : List ℕ) → list_all (λ b. not (nat_eq b 10)) xs ≡ true → Lacks xs
+Lacks-from_test [] h = tt
+Lacks-from_test (x ∷ xs) h =
+    let parts = both (not (nat_eq x 10)) (list_all (λ b. not (nat_eq b 10)) xs) h in
+    (λ e. let same = (Decides-eqb x 10).1 e in absurd (cc (same, parts.0)), Lacks-from_test xs parts.1)
+
+Lacks-replicate : (b n : ℕ) → b ≢ 10 → Lacks (replicate n b)
+Lacks-replicate b zero h = tt
+Lacks-replicate b (suc n) h = (h, Lacks-replicate b n h)
+
+-- two cuts at a newline, of parts that lack it, are one
+cut_once : (a b d e : List ℕ) → a ++ (10 ∷ b) ≡ d ++ (10 ∷ e) → Lacks a → Lacks d → (a ≡ d) × (b ≡ e)
+cut_once [] b [] e h p q = (refl, cc)
+cut_once [] b (y ∷ d) e h p q = let same : y ≡ 10 = cc in absurd (q.0 same)
+cut_once (x ∷ a) b [] e h p q = let same : x ≡ 10 = cc in absurd (p.0 same)
+cut_once (x ∷ a) b (y ∷ d) e h p q =
+    let heads : x ≡ y = cc in
+    let tails : a ++ (10 ∷ b) ≡ d ++ (10 ∷ e) = cc in
+    let rest = cut_once a b d e tails p.1 q.1 in
+    (cc, rest.1)
+
+-- a line of a name is of one value, and followed by one rest
+pub line_once : (name value rest other more : List ℕ) → LacksNewline value → LacksNewline other → line name value rest ≡ line name other more → (value ≡ other) × (rest ≡ more)
+line_once name value rest other more p q e =
+    cut_once value rest other more (append_cancel_left name (value ++ 10 ∷ rest) (other ++ 10 ∷ more) e) (Lacks-from_reads value p) (Lacks-from_reads other q)
+
+-- what is added after a line's rest is added after the line
+pub line-append : (name value rest ys : List ℕ) → line name value rest ++ ys ≡ line name value (rest ++ ys)
+line-append name value rest ys = append_assoc name (value ++ 10 ∷ rest) ys ∙ ap (λ xs. name ++ xs) (append_assoc value (10 ∷ rest) ys)
+
+-- what follows a newline of a text is text
+after_newline : (text front after : List ℕ) → IsUtf8 text → text ≡ front ++ 10 ∷ after → IsUtf8 after
+after_newline text front after u is =
+    let n = length front in
+    let at : get_or text n 0 ≡ 10 = (let same : n + 0 ≡ n = omega arith in ap (λ bs. get_or bs n 0) is ∙ ap (λ i. get_or (front ++ 10 ∷ after) i 0) (sym same) ∙ get_or-append-add front (10 ∷ after) 0 0) in
+    let lt : n < length text = omega (arith, ap length is, length-append front (10 ∷ after)) in
+    let rest : drop (n + 1) text ≡ after = ap (drop (n + 1)) is ∙ sym (drop-drop 1 n (front ++ 10 ∷ after)) ∙ ap (drop 1) (drop-append_seam front (10 ∷ after)) in
+    subst IsUtf8 rest (IsUtf8-drop text (n + 1) u (IsCharBoundary-after_ascii text n u lt (omega arith)))
+
+pub after_line : (text name value rest : List ℕ) → IsUtf8 text → text ≡ line name value rest → IsUtf8 rest
+after_line text name value rest u is = after_newline text (name ++ value) rest u (is ∙ sym (append_assoc name value (10 ∷ rest)))
+
+-- ---- numbers
+
+abbrev own : IsNumeralModel (AllDigits 10) (digits_value 10)
+own = numerals_by_value (AllDigits 10) tells_digits
+
+pub decimal_lacks_newline : (n : ℕ) → n < 2 ^ 63 → LacksNewline (decimal n)
+decimal_lacks_newline n small i lt = not_in_digits own (decimal n) 10 (digits_decimal own n (omega arith)) (λ r. omega (arith, r.0)) i lt
+
+pub number_line_once : (name : List ℕ) (n : ℕ) (rest : List ℕ) (m : ℕ) (more : List ℕ) → n < 2 ^ 63 → m < 2 ^ 63 → number_line name n rest ≡ number_line name m more → (n ≡ m) × (rest ≡ more)
+number_line_once name n rest m more p q e =
+    let same = line_once name (decimal n) rest (decimal m) more (decimal_lacks_newline n p) (decimal_lacks_newline m q) e in
+    (decimal_injective n m (omega arith) (omega arith) same.0, same.1)
+
+pub length-decimal : (n : ℕ) → n < 2 ^ 63 → length (decimal n) ≤ 19
+length-decimal n small = length-decimal-le 19 n (omega arith) (omega arith) (omega arith)
+
+-- a number is written plainly
+pub plain_decimal : (n : ℕ) → n < 2 ^ 63 → IsPlain (decimal n)
+plain_decimal n small =
+    let some : 0 < length (decimal n) = decimal_nonempty n (omega arith) in
+    record {
+      unsigned = not_in_digits own (decimal n) 43 (digits_decimal own n (omega arith)) (λ r. omega (arith, r.0)) 0 some;
+      no_zero = λ zero_first. elim (cases_lt 0 n) [
+        | inl more ↦ (let first = first_decimal n more (omega arith) in absurd (omega (arith, first, zero_first)))
+        | inr none ↦ (let z : n ≡ 0 = omega arith in ap (λ k. length (decimal k)) z ∙ ap length (decimal_digit 0 (omega arith)))
+      ];
+    }
+
+-- what is written plainly, and is parsed as n, is the decimal of n
+pub parsed_plain : {E : Type 0} (digits : List ℕ) (n : ℕ) (r : Result ℕ E) → r ≡ Ok n → ParsesUnsigned 64 10 digits r → IsPlain digits → digits ≡ decimal n
+parsed_plain {E} digits n (Err e) is h plain = absurd (cc is)
+parsed_plain {E} digits n (Ok x) is h plain =
+    let same : x ≡ n = cc is in
+    let p : ((AllDigits 10 digits × (0 < length digits) × (digits_value 10 digits < 2 ^ 64)) × (x ≡ digits_value 10 digits)) = parse_plain own {E = E} 64 digits (Ok x) h plain.unsigned in
+    sym (decimal-digits_value own digits p.0.0 p.0.1 plain.no_zero p.0.2) ∙ ap decimal (sym p.1 ∙ same)
+
+-- the decimal of n is parsed as n
+pub parsed_decimal : {E : Type 0} (digits : List ℕ) (n x : ℕ) (r : Result ℕ E) → r ≡ Ok x → ParsesUnsigned 64 10 digits r → n < 2 ^ 63 → digits ≡ decimal n → x ≡ n
+parsed_decimal digits n x r is h small e = let whole = sym is ∙ parse-decimal 64 n digits r (omega arith) (omega arith) e h in cc whole
+
+pub parsed_never : {E : Type 0} (digits : List ℕ) (n : ℕ) (fault : E) (r : Result ℕ E) → r ≡ Err fault → ParsesUnsigned 64 10 digits r → n < 2 ^ 63 → digits ≡ decimal n → ⊥
+parsed_never digits n fault r is h small e = let whole = sym is ∙ parse-decimal 64 n digits r (omega arith) (omega arith) e h in cc whole
+
+-- ---- hashes
+
+abbrev symbols : List ℕ
+symbols = engine_symbols standard
+
+symbols_lack : (t m : List ℕ) → ((i : ℕ) → slice_index t i ≢ 10) → Lacks (encode_symbols t m)
+unfolding encode_symbols
+symbols_lack t [] h = tt
+symbols_lack t (x ∷ []) h = (h (x / 4), (h (x % 4 * 16), tt))
+symbols_lack t (x ∷ y ∷ []) h = (h (x / 4), (h (x % 4 * 16 + y / 16), (h (y % 16 * 4), tt)))
+symbols_lack t (x ∷ y ∷ z ∷ rest) h =
+    Lacks-append (encode_group t x y z) (encode_symbols t rest)
+    (h (x / 4), (h (x % 4 * 16 + y / 16), (h (y % 16 * 4 + z / 64), (h (z % 64), tt))))
+    (symbols_lack t rest h)
+
+pub base64_lacks_newline : (bytes : List ℕ) → LacksNewline (base64_of bytes)
+unfolding base64_of
+base64_lacks_newline bytes =
+    Lacks-reads (base64_of bytes)
+    (Lacks-append (encode_symbols symbols bytes) (replicate (padding_len (length bytes)) 61)
+    (symbols_lack symbols bytes (reads_other symbols (Lacks-from_test symbols refl)))
+    (Lacks-replicate 61 (padding_len (length bytes)) (λ e. cc)))
+
+pub length-base64_of : (bytes : List ℕ) → length (base64_of bytes) ≡ unpadded_len (length bytes) + padding_len (length bytes)
+unfolding base64_of
+length-base64_of bytes = length-append (encode_symbols symbols bytes) (replicate (padding_len (length bytes)) 61) ∙ rw (length-encode_symbols symbols bytes, length-replicate {A = ℕ} (padding_len (length bytes)) 61) refl
+
+-- the base64 of a hash has 44 symbols
+pub length-hash : (hash : List ℕ) → IsHash hash → length (base64_of hash) ≡ 44
+length-hash hash h = length-base64_of hash ∙ ap (λ n. unpadded_len n + padding_len n) h.is_hash
+
+-- bytes have one base64, and base64 is of one list of bytes
+pub base64_of-same : (a b : List ℕ) → IsBytes a → IsBytes b → base64_of a ≡ base64_of b → a ≡ b
+unfolding base64_of
+base64_of-same a b pa pb e =
+    let one = decode_of-encode_of standard a refl pa in
+    let two = decode_of-encode_of standard b refl pb in
+    let same : decode_of standard (encode_of standard a) ≡ decode_of standard (encode_of standard b) = ap (decode_of standard) e in
+    let oks = sym one ∙ (same ∙ two) in
+    cc oks
+
+pub hash_line_once : (name hash rest other more : List ℕ) → IsHash hash → IsHash other → hash_line name hash rest ≡ hash_line name other more → (hash ≡ other) × (rest ≡ more)
+hash_line_once name hash rest other more p q e =
+    let same = line_once name (base64_of hash) rest (base64_of other) more (base64_lacks_newline hash) (base64_lacks_newline other) e in
+    (base64_of-same hash other p.are_bytes q.are_bytes same.0, same.1)
+
+-- ---- paths
+
+-- one more hash at the end
+pub path_lines-push : (path : List (List ℕ)) (hash rest : List ℕ) → path_lines (path ++ hash ∷ []) rest ≡ path_lines path (hash_line (codes "path ") hash rest)
+path_lines-push [] hash rest = refl
+path_lines-push (p ∷ path) hash rest = ap (hash_line (codes "path ") p) (path_lines-push path hash rest)
+
+pub hashes-push : (path : List (List ℕ)) (hash : List ℕ) → AllByRecursion IsHash path → IsHash hash → AllByRecursion IsHash (path ++ hash ∷ [])
+hashes-push [] hash all h = (h, tt)
+hashes-push (p ∷ path) hash all h = (all.0, hashes-push path hash all.1 h)
+
+-- a line is not nothing
+line_is_some : (name value rest : List ℕ) → line name value rest ≡ [] → ⊥
+line_is_some name value rest e = let n = ap length e in omega (arith, n, length-append name (value ++ 10 ∷ rest), length-append value (10 ∷ rest))
+
+-- the rest of a path's lines, of which some were read
+pub record IsRest (done path : List (List ℕ)) (rest : List ℕ) : Type 0 where
+  pub more : List (List ℕ)
+  pub whole : path ≡ done ++ more
+  pub rest_is : rest ≡ path_lines more []
+  pub hashes : AllByRecursion IsHash more
+
+pub rest_of_path : (done path : List (List ℕ)) (rest : List ℕ) → AllByRecursion IsHash done → AllByRecursion IsHash path → path_lines done rest ≡ path_lines path [] → IsRest done path rest
+rest_of_path [] path rest p q e = record { more = path; whole = refl; rest_is = e; hashes = q }
+rest_of_path (d ∷ done) [] rest p q e = absurd (line_is_some (codes "path ") (base64_of d) (path_lines done rest) e)
+rest_of_path (d ∷ done) (h ∷ path) rest p q e =
+    let same = hash_line_once (codes "path ") d (path_lines done rest) h (path_lines path []) p.0 q.0 e in
+    let r = rest_of_path done path rest p.1 q.1 same.1 in
+    record { more = r.more; whole = (λ i. sym same.0 i ∷ r.whole i); rest_is = r.rest_is; hashes = r.hashes }
+
+-- where nothing is left, all was read
+pub all_read : (done path : List (List ℕ)) (rest : List ℕ) → IsRest done path rest → rest ≡ [] → done ≡ path
+all_read done path rest r empty = at r.more r.whole r.rest_is
+  where
+    at : (more : List (List ℕ)) → path ≡ done ++ more → rest ≡ path_lines more [] → done ≡ path
+    at [] whole is = sym (whole ∙ append-nil done)
+    at (h ∷ more) whole is = absurd (line_is_some (codes "path ") (base64_of h) (path_lines more []) (sym is ∙ empty))
+
+-- where something is left, there is one more hash
+pub record HasNext (done path : List (List ℕ)) (rest : List ℕ) : Type 0 where
+  pub hash : List ℕ
+  pub after : List ℕ
+  pub is_hash : IsHash hash
+  pub line_is : rest ≡ hash_line (codes "path ") hash after
+  pub longer : length done < length path
+
+pub next_hash : (done path : List (List ℕ)) (rest : List ℕ) → IsRest done path rest → 0 < length rest → HasNext done path rest
+next_hash done path rest r some = at r.more r.whole r.rest_is r.hashes
+  where
+    at : (more : List (List ℕ)) → path ≡ done ++ more → rest ≡ path_lines more [] → AllByRecursion IsHash more → HasNext done path rest
+    at [] whole is all = absurd (omega (arith, ap length is))
+    at (h ∷ more) whole is all = record { hash = h; after = path_lines more []; is_hash = all.0; line_is = is; longer = omega (arith, ap length whole, length-append done (h ∷ more)) }
+
+pub path_lines-append : (path : List (List ℕ)) (ys : List ℕ) → path_lines path [] ++ ys ≡ path_lines path ys
+path_lines-append [] ys = refl
+path_lines-append (p ∷ path) ys = line-append (codes "path ") (base64_of p) (path_lines path []) ys ∙ ap (hash_line (codes "path ") p) (path_lines-append path ys)
+
+-- three pieces that were added one after the other
+pub three_added : (old a b c one two new : List ℕ) → one ≡ old ++ a → two ≡ one ++ b → new ≡ two ++ c → new ≡ old ++ (a ++ (b ++ c))
+three_added old a b c one two new p q r = r ∙ ap (λ xs. xs ++ c) (q ∙ ap (λ xs. xs ++ b) p) ∙ append_assoc (old ++ a) b c ∙ append_assoc old a (b ++ c)

@@ -1,0 +1,32 @@
+-- What the parts of the reader of proof texts find.
+use Rattle.std.specs.Prelude.{◌≡◌, ◌≢◌, ℕ, List, slice_index, length, Result, Ok, Err}
+use Rattle.tlog_proof.specs.declared.proof.Proof.{Proof}
+use Rattle.tlog_proof.specs.declared.proof.Proof.TheVariants.{Inclusion, Consistency}
+use Rattle.tlog_proof.specs.declared.fault.TextFault.{TextFault}
+use Rattle.tlog_proof.specs.declared.fault.TextFault.TheVariants.{BadProofText, OutOfMemory}
+use Rattle.tlog_proof.specs.Text.{lines_of, IsWritable, HasHashes}
+
+-- it is found and is so, unless memory was wanting
+abbrev pub FindsThat : {X : Type 0} → Result X TextFault → (X → Type 0) → Type 0
+FindsThat (Ok x) P = P x
+FindsThat (Err BadProofText) P = ⊥
+FindsThat (Err OutOfMemory) P = Unit {0}
+
+-- the lines after the title are that proof
+pub record AreLines (lines : List ℕ) (proof : Proof) : Type 0 where
+  pub are_lines : lines ≡ lines_of proof
+  pub writable : IsWritable proof
+  pub hashes : HasHashes proof
+
+abbrev pub IsInclusionProof : Proof → Type 0
+IsInclusionProof (Inclusion size index root leaf path) = Unit {0}
+IsInclusionProof (Consistency first first_root second second_root path) = ⊥
+
+abbrev pub IsConsistencyProof : Proof → Type 0
+IsConsistencyProof (Inclusion size index root leaf path) = ⊥
+IsConsistencyProof (Consistency first first_root second second_root path) = Unit {0}
+
+-- a number as one writes it: no sign, and no leading zero but in 0 itself
+pub record IsPlain (digits : List ℕ) : Type 0 where
+  pub unsigned : slice_index digits 0 ≢ 43
+  pub no_zero : slice_index digits 0 ≡ 48 → length digits ≡ 1

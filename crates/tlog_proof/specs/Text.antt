@@ -1,0 +1,79 @@
+-- The text of a proof (own): a title, then lines of a name, a space and a value. Each line ends in a
+-- newline. Numbers are decimal without leading zeros, and hashes standard base64 with padding (RFC
+-- 4648, section 4).
+use Rattle.std.specs.Prelude.{◌≡◌, ◌≢◌, ℕ, ◌≤◌, ◌<◌, ◌^◌, List, [], ◌∷◌, ◌++◌, length, slice_index, codes, Result, Ok, Err}
+use Rattle.std.specs.Fmt.{decimal}
+use Rattle.std.specs.List.{AllByRecursion}
+use Rattle.base64.specs.Engines.{standard}
+use Rattle.base64.specs.GeneralPurpose.{IsBytes, encode_of}
+use Rattle.tlog_proof.specs.declared.proof.Proof.{Proof}
+use Rattle.tlog_proof.specs.declared.proof.Proof.TheVariants.{Inclusion, Consistency}
+use Rattle.tlog_proof.specs.declared.fault.TextFault.{TextFault}
+use Rattle.tlog_proof.specs.declared.fault.TextFault.TheVariants.{BadProofText, OutOfMemory}
+
+-- a hash: 32 bytes
+pub record IsHash (hash : List ℕ) : Type 0 where
+  pub are_bytes : IsBytes hash
+  pub is_hash : length hash ≡ 32
+
+-- standard base64, with padding
+unfoldable pub base64_of : List ℕ → List ℕ
+base64_of bytes = encode_of standard bytes
+
+-- no newline among the bytes
+abbrev pub LacksNewline : List ℕ → Type 0
+LacksNewline bytes = (i : ℕ) → i < length bytes → slice_index bytes i ≢ 10
+
+-- a line, and what follows it
+abbrev pub line : List ℕ → List ℕ → List ℕ → List ℕ
+line name value rest = name ++ (value ++ 10 ∷ rest)
+
+abbrev pub number_line : List ℕ → ℕ → List ℕ → List ℕ
+number_line name n rest = line name (decimal n) rest
+
+abbrev pub hash_line : List ℕ → List ℕ → List ℕ → List ℕ
+hash_line name hash rest = line name (base64_of hash) rest
+
+-- a line for each hash of a path
+abbrev pub path_lines : List (List ℕ) → List ℕ → List ℕ
+path_lines [] rest = rest
+path_lines (hash ∷ path) rest = hash_line (codes "path ") hash (path_lines path rest)
+
+-- the lines after the title
+abbrev pub lines_of : Proof → List ℕ
+lines_of (Inclusion size index root leaf path) =
+    number_line (codes "size ") size (number_line (codes "index ") index (hash_line (codes "root ") root (hash_line (codes "leaf ") leaf (path_lines path []))))
+lines_of (Consistency first first_root second second_root path) =
+    number_line (codes "first ") first (hash_line (codes "root ") first_root (number_line (codes "second ") second (hash_line (codes "root ") second_root (path_lines path []))))
+
+abbrev pub title_of : Proof → List ℕ
+title_of (Inclusion size index root leaf path) = codes "inclusion"
+title_of (Consistency first first_root second second_root path) = codes "consistency"
+
+-- what can be written: numbers of at most 2^63 - 1, and at most 64 hashes of a path
+abbrev pub IsWritable : Proof → Type 0
+IsWritable (Inclusion size index root leaf path) = (size < 2 ^ 63) × (index < 2 ^ 63) × (length path ≤ 64)
+IsWritable (Consistency first first_root second second_root path) = (first < 2 ^ 63) × (second < 2 ^ 63) × (length path ≤ 64)
+
+-- its hashes are hashes
+abbrev pub HasHashes : Proof → Type 0
+HasHashes (Inclusion size index root leaf path) = IsHash root × IsHash leaf × AllByRecursion IsHash path
+HasHashes (Consistency first first_root second second_root path) = IsHash first_root × IsHash second_root × AllByRecursion IsHash path
+
+-- the text is that proof
+pub record IsProofText (text : List ℕ) (proof : Proof) : Type 0 where
+  pub is_text : text ≡ title_of proof ++ 10 ∷ lines_of proof
+  pub writable : IsWritable proof
+  pub hashes : HasHashes proof
+
+-- what each answer to a text says of it
+abbrev pub ReadsProof : List ℕ → Result Proof TextFault → Type 0
+ReadsProof text (Ok proof) = IsProofText text proof
+ReadsProof text (Err BadProofText) = (proof : Proof) → IsProofText text proof → ⊥
+ReadsProof text (Err OutOfMemory) = Unit {0}
+
+-- a text is one proof at most, a proof has one text, and no text is longer than 8192 bytes
+pub record HasOneSpelling : Type 0 where
+  pub one_proof : (text : List ℕ) (a b : Proof) → IsProofText text a → IsProofText text b → a ≡ b
+  pub one_text : (s t : List ℕ) (proof : Proof) → IsProofText s proof → IsProofText t proof → s ≡ t
+  pub short : (text : List ℕ) (proof : Proof) → IsProofText text proof → length text ≤ 8192

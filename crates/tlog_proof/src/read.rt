@@ -1,0 +1,174 @@
+//! Proofs from text.
+ghost use Rattle.std.specs.Prelude.{◌≡◌, ◌↔◌, ◌<◌, ◌≤◌, ◌^◌, ℕ, List, [], length, IsTrue, IfSome, MatchOption, IfOk};
+ghost use Rattle.std.specs.Fmt.{decimal};
+ghost use Rattle.std.specs.List.{AllByRecursion};
+ghost use Rattle.tlog_proof.specs.Text.{IsHash, LacksNewline, line, base64_of, number_line, hash_line, path_lines, ReadsProof};
+ghost use Rattle.tlog_proof.specs.Reading.{FindsThat, AreLines, IsInclusionProof, IsConsistencyProof, IsPlain};
+
+use crate::fault::TextFault;
+use crate::path::HashPath;
+use crate::proof::Proof;
+use base64::DecodeAllocError;
+use base64::engine::general_purpose::STANDARD;
+use std::alloc::Global;
+use tlog_hash::Hash;
+use tlog_shape::MAX_SIZE;
+
+// The most hashes that a path of a text has.
+const MAX_PATH: usize = 64;
+
+/// Reads the text of a proof: exactly what `write_text` writes of one.
+///
+/// Errors: BadProofText for any other text, one with a leading zero, with base64 that is not canonical,
+/// or without its last newline among them; OutOfMemory at any step.
+pub fn read_text(alloc: Global, text: &str) -> Result<Proof, TextFault>
+    ensures { ReadsProof text.now result }
+{
+    if let Some(lines) = text.strip_prefix("inclusion\n") {
+        return read_inclusion(alloc, lines);
+    }
+    if let Some(lines) = text.strip_prefix("consistency\n") {
+        return read_consistency(alloc, lines);
+    }
+    Err(TextFault::BadProofText)
+}
+
+// Reads the lines after the title of an inclusion proof.
+fn read_inclusion(alloc: Global, text: &str) -> Result<Proof, TextFault>
+    ensures sound { IfOk result (λ proof. IsInclusionProof proof × AreLines text.now proof) }
+    ensures complete { (proof : Proof) → IsInclusionProof proof → AreLines text.now proof → FindsThat result (λ found. found ≡ proof) }
+{
+    let Some((size, rest)) = number_field(text, "size ") else {
+        return Err(TextFault::BadProofText);
+    };
+    let Some((index, rest)) = number_field(rest, "index ") else {
+        return Err(TextFault::BadProofText);
+    };
+    let (root, rest) = hash_field(alloc, rest, "root ")?;
+    let (leaf, rest) = hash_field(alloc, rest, "leaf ")?;
+    let path = path_fields(alloc, rest)?;
+    Ok(Proof::Inclusion {
+        size,
+        index,
+        root,
+        leaf,
+        path,
+    })
+}
+
+// Reads the lines after the title of a consistency proof.
+fn read_consistency(alloc: Global, text: &str) -> Result<Proof, TextFault>
+    ensures sound { IfOk result (λ proof. IsConsistencyProof proof × AreLines text.now proof) }
+    ensures complete { (proof : Proof) → IsConsistencyProof proof → AreLines text.now proof → FindsThat result (λ found. found ≡ proof) }
+{
+    let Some((first, rest)) = number_field(text, "first ") else {
+        return Err(TextFault::BadProofText);
+    };
+    let (first_root, rest) = hash_field(alloc, rest, "root ")?;
+    let Some((second, rest)) = number_field(rest, "second ") else {
+        return Err(TextFault::BadProofText);
+    };
+    let (second_root, rest) = hash_field(alloc, rest, "root ")?;
+    let path = path_fields(alloc, rest)?;
+    Ok(Proof::Consistency {
+        first,
+        first_root,
+        second,
+        second_root,
+        path,
+    })
+}
+
+// The value of the first line, which begins with that name, and what follows the line.
+fn field<'a>(text: &'a str, name: &str) -> Option<(&'a str, &'a str)>
+    ensures sound { IfSome result (λ r. LacksNewline r.0.now × (text.now ≡ line name.now r.0.now r.1.now)) }
+    ensures complete { (value rest : List ℕ) → LacksNewline value → text.now ≡ line name.now value rest → MatchOption result ⊥ (λ r. (r.0.now ≡ value) × (r.1.now ≡ rest)) }
+{
+    text.strip_prefix(name)?.split_once('\n')
+}
+
+// The number of the first line, and what follows the line.
+fn number_field<'a>(text: &'a str, name: &str) -> Option<(u64, &'a str)>
+    ensures sound { IfSome result (λ r. (r.0 < 2 ^ 63) × (text.now ≡ number_line name.now r.0 r.1.now)) }
+    ensures complete { (n : ℕ) (rest : List ℕ) → n < 2 ^ 63 → text.now ≡ number_line name.now n rest → MatchOption result ⊥ (λ r. (r.0 ≡ n) × (r.1.now ≡ rest)) }
+{
+    let (digits, rest) = field(text, name)?;
+    let n = number(digits)?;
+    Some((n, rest))
+}
+
+// The hash of the first line, and what follows the line.
+fn hash_field<'a>(alloc: Global, text: &'a str, name: &str) -> Result<(Hash, &'a str), TextFault>
+    ensures sound { IfOk result (λ r. IsHash r.0 × (text.now ≡ hash_line name.now r.0 r.1.now)) }
+    ensures complete { (hash rest : List ℕ) → IsHash hash → text.now ≡ hash_line name.now hash rest → FindsThat result (λ r. (r.0 ≡ hash) × (r.1.now ≡ rest)) }
+{
+    let Some((encoded, rest)) = field(text, name) else {
+        return Err(TextFault::BadProofText);
+    };
+    match hash_of(alloc, encoded) {
+        Ok(hash) => Ok((hash, rest)),
+        Err(fault) => Err(fault),
+    }
+}
+
+// The hashes of all lines.
+fn path_fields(alloc: Global, text: &str) -> Result<HashPath, TextFault>
+    ensures sound { IfOk result (λ path. (text.now ≡ path_lines path []) × (length path ≤ 64) × AllByRecursion IsHash path) }
+    ensures complete { (path : List (List ℕ)) → AllByRecursion IsHash path → length path ≤ 64 → text.now ≡ path_lines path [] → FindsThat result (λ found. found ≡ path) }
+{
+    let mut path = Vec::new(alloc);
+    let mut rest = text;
+    while !rest.is_empty() {
+        if path.len() == MAX_PATH {
+            return Err(TextFault::BadProofText);
+        }
+        let (hash, after) = hash_field(alloc, rest, "path ")?;
+        path.push(hash)?;
+        rest = after;
+    }
+    Ok(HashPath::new(path))
+}
+
+// The number that is written so, of at most 2^63 - 1.
+fn number(digits: &str) -> Option<u64>
+    ensures sound { IfSome result (λ n. (n < 2 ^ 63) × (digits.now ≡ decimal n)) }
+    ensures complete { (n : ℕ) → n < 2 ^ 63 → digits.now ≡ decimal n → MatchOption result ⊥ (λ found. found ≡ n) }
+{
+    if !is_plain(digits.as_bytes()) {
+        return None;
+    }
+    match digits.parse::<u64>() {
+        Ok(n) if n <= MAX_SIZE => Some(n),
+        _ => None,
+    }
+}
+
+// Whether there is no sign, and no leading zero but in 0 itself.
+fn is_plain(digits: &[u8]) -> bool
+    ensures { IsTrue result ↔ IsPlain digits.now }
+{
+    match digits {
+        [b'+', ..] => false,
+        [b'0', ..] => digits.len() == 1,
+        _ => true,
+    }
+}
+
+// The hash that is encoded so.
+fn hash_of(alloc: Global, encoded: &str) -> Result<Hash, TextFault>
+    ensures sound { IfOk result (λ hash. IsHash hash × (encoded.now ≡ base64_of hash)) }
+    ensures complete { (hash : List ℕ) → IsHash hash → encoded.now ≡ base64_of hash → FindsThat result (λ found. found ≡ hash) }
+{
+    match STANDARD.decode(alloc, encoded.as_bytes()) {
+        Ok(bytes) => {
+            if bytes.len() != 32 {
+                return Err(TextFault::BadProofText);
+            }
+            let mut hash = [0u8; 32];
+            hash.copy_from_slice(&bytes);
+            Ok(hash)
+        }
+        Err(DecodeAllocError::OutOfMemory) => Err(TextFault::OutOfMemory),
+        Err(DecodeAllocError::DecodeError(_)) => Err(TextFault::BadProofText),
+    }
+}

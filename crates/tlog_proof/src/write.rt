@@ -1,0 +1,84 @@
+//! Proofs as text.
+ghost use Rattle.std.specs.Prelude.{◌≡◌, ◌++◌, ◌<◌, ◌^◌, [], OnOk, IfOk, string_bytes};
+ghost use Rattle.std.specs.List.{AllByRecursion};
+ghost use Rattle.tlog_proof.specs.Text.{IsHash, number_line, hash_line, path_lines, IsWritable, IsProofText};
+
+use crate::proof::Proof;
+use base64::engine::general_purpose::STANDARD;
+use std::alloc::{AllocError, Global};
+use tlog_hash::Hash;
+
+/// The text of a proof.
+///
+/// Its first line is `inclusion` or `consistency`. The lines `size N`, `index I`, `root ROOT` and
+/// `leaf HASH` follow, or `first M`, `root ROOT`, `second N` and `root ROOT`, and then a line
+/// `path HASH` for each hash of the path. Each line ends in a newline; numbers are decimal without
+/// leading zeros, and hashes standard base64 with padding.
+///
+/// Numbers of at most 9223372036854775807 and at most 64 hashes of the path are the condition.
+pub fn write_text(alloc: Global, proof: &Proof) -> Result<String, AllocError>
+    requires { IsWritable proof.now }
+    ensures { IfOk result (λ text. IsProofText (string_bytes text) proof.now) }
+{
+    let mut text = String::new(alloc);
+    match proof {
+        Proof::Inclusion {
+            size,
+            index,
+            root,
+            leaf,
+            path,
+        } => {
+            text.push_str("inclusion\n")?;
+            add_number(&mut text, "size ", *size)?;
+            add_number(&mut text, "index ", *index)?;
+            add_hash(&mut text, "root ", root)?;
+            add_hash(&mut text, "leaf ", leaf)?;
+            add_path(&mut text, path.as_slice())?;
+        }
+        Proof::Consistency {
+            first,
+            first_root,
+            second,
+            second_root,
+            path,
+        } => {
+            text.push_str("consistency\n")?;
+            add_number(&mut text, "first ", *first)?;
+            add_hash(&mut text, "root ", first_root)?;
+            add_number(&mut text, "second ", *second)?;
+            add_hash(&mut text, "root ", second_root)?;
+            add_path(&mut text, path.as_slice())?;
+        }
+    }
+    Ok(text)
+}
+
+// Adds the line of a number.
+fn add_number(text: &mut String, name: &str, n: u64) -> Result<(), AllocError>
+    ensures { OnOk result (string_bytes text.new ≡ string_bytes text.old ++ number_line name.now n []) }
+{
+    write!(text, "{name}{n}\n")
+}
+
+// Adds the line of a hash.
+fn add_hash(text: &mut String, name: &str, hash: &Hash) -> Result<(), AllocError>
+    ensures ok { OnOk result (string_bytes text.new ≡ string_bytes text.old ++ hash_line name.now hash.now []) }
+    ensures is_hash { IsHash hash.now }
+{
+    text.push_str(name)?;
+    STANDARD.encode_string(hash, text)?;
+    text.push('\n')?;
+    Ok(())
+}
+
+// Adds the lines of a path.
+fn add_path(text: &mut String, path: &[Hash]) -> Result<(), AllocError>
+    ensures ok { OnOk result (string_bytes text.new ≡ string_bytes text.old ++ path_lines path.now []) }
+    ensures hashes { OnOk result (AllByRecursion IsHash path.now) }
+{
+    for hash in path {
+        add_hash(text, "path ", hash)?;
+    }
+    Ok(())
+}
