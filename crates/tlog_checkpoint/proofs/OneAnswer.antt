@@ -1,16 +1,16 @@
 -- One text has one answer: no two of the ways to answer it fit together.
-use Rattle.std.proofs.Common.{◌≡◌, ◌≢◌, ℕ, zero, suc, ◌<◌, ◌^◌, List, [], ◌∷◌, length, get_or, Ok, Err, refl, sym, ap, subst, arith}
+use Rattle.std.proofs.Common.{◌≡◌, ◌≢◌, ℕ, zero, suc, ◌<◌, ◌^◌, List, [], ◌∷◌, length, Result, IfOk, get_or, Ok, Err, refl, sym, ap, subst, arith}
 use Rattle.std.specs.List.{AllByRecursion, Contains}
 use Rattle.tlog_checkpoint.specs.declared.Checkpoint.{Checkpoint}
 use Rattle.tlog_checkpoint.specs.declared.fault.CheckpointFault.{CheckpointFault}
 use Rattle.tlog_checkpoint.specs.declared.fault.CheckpointFault.TheVariants.{TooFewLines, EmptyLine, BadSize, SizeTooLarge, BadRoot, OutOfMemory}
 use Rattle.tlog_checkpoint.specs.Fields.{IsDecimal, IsRoot}
-use Rattle.tlog_checkpoint.specs.Grammar.{HasFields, IsFullLine, IsCheckpoint}
+use Rattle.tlog_checkpoint.specs.Grammar.{IsWritable, HasFields, IsFullLine, IsCheckpoint}
 use Rattle.tlog_checkpoint.specs.Reading.{Reads, HasTooFewLines, HasEmptyLine, HasBadSize, HasLargeSize, HasBadRoot}
 use Rattle.tlog_checkpoint.specs.Laws.{OneAnswer}
 use Rattle.tlog_checkpoint.proofs.LineLemmas.{one_lines}
 use Rattle.tlog_checkpoint.proofs.Decimals.{one_number}
-use Rattle.tlog_checkpoint.proofs.Uniqueness.{lines_from_fields, one_fields, one_reading}
+use Rattle.tlog_checkpoint.proofs.Uniqueness.{reads_writable, lines_from_fields, one_fields, one_reading}
 
 -- among full lines is no empty one
 none_empty : (lines : List (List ℕ)) → AllByRecursion IsFullLine lines → (k : ℕ) → k < length lines → get_or lines k [] ≡ [] → ⊥
@@ -97,3 +97,12 @@ pub refused : (text : List ℕ) (c : Checkpoint) (e : CheckpointFault) → e ≢
 refused text c e other p q =
     let same : Err e ≡ Ok c = one_answer text (Err e) (Ok c) (λ is. other (cc is)) (λ is. cc is) p q in
     cc same
+
+-- a checkpoint's text is read as that checkpoint
+pub only : (text : List ℕ) (a : Result Checkpoint CheckpointFault) → Reads text a → (c : Checkpoint) → IsCheckpoint text c.origin c.size c.root c.extensions → a ≢ Err OutOfMemory → a ≡ Ok c
+only text a p c q other = one_answer text a (Ok c) other (λ is. cc is) p q
+
+-- what is read can be written
+pub ok_writable : (text : List ℕ) (a : Result Checkpoint CheckpointFault) → Reads text a → IfOk a IsWritable
+ok_writable text (Ok c) p = reads_writable text c p
+ok_writable text (Err e) p = tt

@@ -38,3 +38,6 @@ pub struct Checkpoint {
     /// The lines after the root, without their newlines, in the text's order.
     pub extensions: Lines,
 }
+
+#[cfg(test)]
+mod tests;

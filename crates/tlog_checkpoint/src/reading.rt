@@ -1,10 +1,12 @@
 //! Checkpoints read from their text.
 
-ghost use Rattle.std.specs.Prelude.{◌≡◌, ◌==◌, ◌≢◌, ℕ, List, [], ◌∷◌, ◌++◌, length, map, IfOk, MatchOption};
+ghost use Rattle.std.specs.Prelude.{◌≡◌, ◌==◌, ◌≢◌, ℕ, List, Ok, Err, [], ◌∷◌, ◌++◌, length, map, IfOk, MatchOption};
 ghost use Rattle.std.specs.List.{list_any, slice_split};
 ghost use Rattle.std.specs.Result.{result_map_both};
 ghost use Rattle.tlog_checkpoint.specs.Lines.{is_newline};
+ghost use Rattle.tlog_checkpoint.specs.Grammar.{IsCheckpoint, IsWritable};
 ghost use Rattle.tlog_checkpoint.specs.Parts.{ReadsLines, ReadsFields};
+ghost use Rattle.tlog_checkpoint.specs.declared.Checkpoint.{Checkpoint};
 ghost use Rattle.tlog_checkpoint.specs.Reading.{Reads};
 
 use crate::Checkpoint;
@@ -75,16 +77,39 @@ fn checkpoint_of(
     })
 }
 
-/// The checkpoint that the text is.
-pub fn read(alloc: Global, text: &str) -> Result<Checkpoint, CheckpointFault>
+/// What `read` answers, of which its other clauses follow.
+fn checkpoint_in(alloc: Global, text: &str) -> Result<Checkpoint, CheckpointFault>
     ensures { Reads text.now result }
 {
     let lines = lines_of(alloc, text)?;
-    let [origin, size_line, root_line, extensions @ ..] = lines.as_slice() else {
+    let [origin, size, root, extensions @ ..] = lines.as_slice() else {
         return Err(CheckpointFault::TooFewLines);
     };
     if has_empty_line(&lines) {
         return Err(CheckpointFault::EmptyLine);
     }
-    checkpoint_of(alloc, origin, size_line, root_line, extensions)
+    checkpoint_of(alloc, origin, size, root, extensions)
+}
+
+/// The checkpoint that the text is (C2SP tlog-checkpoint, "Note text").
+///
+/// Ok comes exactly where the grammar relates the whole text to a checkpoint. Otherwise the answer
+/// is the first of these that applies:
+///
+/// - `TooFewLines`: fewer than three lines, or bytes after the last newline;
+/// - `EmptyLine`: some line is empty, be it an extension line;
+/// - `BadSize`: the second line is not decimal digits, or has a leading zero before another digit;
+/// - `SizeTooLarge`: its number is over 9223372036854775807, however many digits it has;
+/// - `BadRoot`: the third line is not the standard base64 of exactly 32 bytes, padded and canonical.
+///
+/// `OutOfMemory` may come at any text. A carriage return is a byte of its line like others.
+pub fn read(alloc: Global, text: &str) -> Result<Checkpoint, CheckpointFault>
+    // What is read is a checkpoint of that text, and each refusal is the first that applies.
+    ensures answer { Reads text.now result }
+    // The text of a checkpoint is read as that checkpoint, unless memory is wanting.
+    ensures only { (c : Checkpoint) → IsCheckpoint text.now c.origin c.size c.root c.extensions → result ≢ Err CheckpointFault.OutOfMemory → result ≡ Ok c }
+    // What was read can be written.
+    ensures writable { IfOk result IsWritable }
+{
+    checkpoint_in(alloc, text)
 }

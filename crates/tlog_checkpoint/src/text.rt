@@ -23,7 +23,7 @@ impl Line {
     pub fn new(text: String) -> Self
         ensures { result ≡ string_bytes text }
     {
-        Line { text }
+        Self { text }
     }
 
     /// The text of the line.
@@ -37,7 +37,8 @@ impl Line {
     pub fn into_string(self) -> String
         ensures { string_bytes result ≡ self }
     {
-        self.text
+        let Line { text } = self;
+        text
     }
 }
 
@@ -60,7 +61,7 @@ impl Lines {
     pub fn new(lines: Vec<Line>) -> Self
         ensures { result ≡ lines.items }
     {
-        Lines { lines }
+        Self { lines }
     }
 
     /// The lines, in order.
@@ -74,6 +75,7 @@ impl Lines {
     pub fn into_vec(self) -> Vec<Line>
         ensures { result.items ≡ self }
     {
-        self.lines
+        let Lines { lines } = self;
+        lines
     }
 }
