@@ -10,7 +10,9 @@ use Rattle.tlog_hash.specs.Tree.{Tree, Empty, One, Join, tree_of, size_of, joins
 use Rattle.tlog_hash.specs.Rows.{part, level_row}
 use Rattle.tlog_mirror.specs.Edge.{edge_rows, edge_strings}
 use Rattle.tlog_hash.specs.Nodes.{Node, IsNode, entries_root}
-use Rattle.tlog_mirror.specs.Front.{Place, TilePlace, BundlePlace, IsPlaceOf, InFront, IsFront}
+use Rattle.tlog_tiles.specs.declared.paths.Path.{Path}
+use Rattle.tlog_tiles.specs.declared.paths.Path.TheVariants.{Tile, Entries}
+use Rattle.tlog_mirror.specs.Front.{IsPathOf, InFront, IsFront}
 use Rattle.tlog_mirror.specs.Rounds.{HoldsAll, IsAnswered, AsksUpTo, AsksBundlesAlone}
 use Rattle.tlog_hash.proofs.Folds.{level_positive}
 use Rattle.tlog_hash.proofs.NodeStrings.{string_of_node, node_of_string}
@@ -103,29 +105,29 @@ module _ (digest : List ℕ → List ℕ) (held : List ℕ → Bool) where
   level_from zero level len e low high = let same : level ≡ 8 = omega arith in let low' = subst (λ m. 256 ^ m < len) same low in absurd (omega (arith, low', high))
   level_from (suc levels) level len e low high = elim (cases_lt (256 ^ (level + 1)) len) [ inl more ↦ level_from levels (level + 1) len (omega arith) more high | inr le ↦ record { level = level; low = omega arith; above = low; upto = le } ]
 
-  -- each node has a place
-  pub record HasPlace (size : ℕ) (x : Node) : Type 0 where
-    pub place : Place
-    pub is : IsPlaceOf size x place
+  -- each node has a path
+  pub record HasPath (size : ℕ) (x : Node) : Type 0 where
+    pub path : Path
+    pub is : IsPathOf size x path
 
-  pub place_of : (size : ℕ) (x : Node) → x.len ≤ 256 ^ 8 → HasPlace size x
-  place_of size x high =
+  pub path_of : (size : ℕ) (x : Node) → x.len ≤ 256 ^ 8 → HasPath size x
+  path_of size x high =
       elim (cases_lt 256 x.len) [
-        | inl many ↦ let l = level_from 7 1 x.len refl many high in record { place = TilePlace l.level (x.start / 256 ^ (l.level + 1)) 256; is = record { many = many; above = l.above; upto = l.upto; index_is = refl; width_is = refl } }
-        | inr few ↦ record { place = BundlePlace (x.start / 256) (min 256 (size - 256 * (x.start / 256))); is = record { few = few; index_is = refl; width_is = refl } }
+        | inl many ↦ let l = level_from 7 1 x.len refl many high in record { path = Tile l.level (x.start / 256 ^ (l.level + 1)) 256; is = record { many = many; above = l.above; upto = l.upto; index_is = refl; width_is = refl } }
+        | inr few ↦ record { path = Entries (x.start / 256) (min 256 (size - 256 * (x.start / 256))); is = record { few = few; index_is = refl; width_is = refl } }
       ]
 
   -- Front is empty exactly where Tree(E) is held
-  pub front_empty : (es : List (List ℕ)) → length es ≤ 256 ^ 8 → ((p : Place) → IsFront digest held es p → ⊥) ↔ HoldsAll held (strings digest es)
+  pub front_empty : (es : List (List ℕ)) → length es ≤ 256 ^ 8 → ((p : Path) → IsFront digest held es p → ⊥) ↔ HoldsAll held (strings digest es)
   front_empty es small = (
     λ none. (none_in_front es).0 (λ x f.
         let n = node_inside digest es 0 x (front_node (tree_of es) 0 x f) in
-        let p = place_of (length es) x (omega (arith, n.upto)) in
-        none p.place (record { node = x; is = f; place_is = p.is })),
+        let p = path_of (length es) x (omega (arith, n.upto)) in
+        none p.path (record { node = x; is = f; path_is = p.is })),
     λ all p f. (none_in_front es).1 all f.node f.is,
   )
 
-  module _ (after : List ℕ → Bool) (grows : (y : List ℕ) → held y ≡ true → after y ≡ true) (es : List (List ℕ)) (small : length es ≤ 256 ^ 8) (edge : HoldsAll held (edge_strings digest (edge_rows digest es))) (answered : (p : Place) → IsFront digest held es p → IsAnswered digest after es p) where
+  module _ (after : List ℕ → Bool) (grows : (y : List ℕ) → held y ≡ true → after y ≡ true) (es : List (List ℕ)) (small : length es ≤ 256 ^ 8) (edge : HoldsAll held (edge_strings digest (edge_rows digest es))) (answered : (p : Path) → IsFront digest held es p → IsAnswered digest after es p) where
     was_unheld : (y : List ℕ) → after y ≡ false → held y ≡ false
     was_unheld y e = elim (decide_held (held y)) [ inl held_here ↦ (let wrong : true ≡ false = sym (grows y held_here) ∙ e in absurd (cc wrong)) | inr none ↦ none ]
 
@@ -148,7 +150,7 @@ module _ (digest : List ℕ → List ℕ) (held : List ℕ → Bool) where
               let short = length-take 256 (drop (i * 256) es) in
               let width = min 256 (length es - 256 * i) in
               let at : y.start / 256 ≡ i = index_of i 256 y.start y.len (omega arith) here.start_in (omega (arith, here.upto, short)) here.some in
-              let all : HoldsAll after (strings digest (part (i * 256) width es)) = answered (BundlePlace i width) (record { node = y; is = f; place_is = record { few = few; index_is = sym at; width_is = refl } }) in
+              let all : HoldsAll after (strings digest (part (i * 256) width es)) = answered (Entries i width) (record { node = y; is = f; path_is = record { few = few; index_is = sym at; width_is = refl } }) in
               let same : part (i * 256) width es ≡ part (i * 256) 256 es = ap (λ n. take n (drop (i * 256) es)) (let len : length (drop (i * 256) es) ≡ length es - 256 * i = length-drop (i * 256) es ∙ omega arith in ap (λ n. min 256 n) (sym len)) ∙ take_min 256 (drop (i * 256) es) in
               let has : Contains (strings digest (part (i * 256) 256 es)) x.string = (bundle digest es i blk.below x.string).1 (record { node = x; is = nx; inside = record { start_in = omega (arith, here.start_in, w.start_in); upto = omega (arith, here.upto, short, w.end_in); some = inside_x.some }; string_is = refl }) in
               both_ways x.string e (all x.string (subst (λ zs. Contains (strings digest zs) x.string) (sym same) has))
@@ -158,7 +160,7 @@ module _ (digest : List ℕ → List ℕ) (held : List ℕ → Bool) where
     pub record IsBelowTile (x : Node) : Type 0 where
       pub level : ℕ
       pub index : ℕ
-      pub asked : IsFront digest held es (TilePlace level index 256)
+      pub asked : IsFront digest held es (Tile level index 256)
       pub short : x.len ≤ 256 ^ level
 
     pub below_tile : (x : Node) → IsNode digest (tree_of es) 0 x → after x.string ≡ false → IsBelowTile x
@@ -177,12 +179,12 @@ module _ (digest : List ℕ → List ℕ) (held : List ℕ → Bool) where
                 | inl t ↦
                     let c = 256 ^ (l.level + 1) in
                     let at : y.start / c ≡ t.index = index_of t.index c y.start y.len (level_positive (l.level + 1)) t.inside.start_in t.inside.upto t.inside.some in
-                    let asked : IsFront digest held es (TilePlace l.level t.index 256) = record { node = y; is = f.is; place_is = record { many = many; above = l.above; upto = l.upto; index_is = sym at; width_is = refl } } in
+                    let asked : IsFront digest held es (Tile l.level t.index 256) = record { node = y; is = f.is; path_is = record { many = many; above = l.above; upto = l.upto; index_is = sym at; width_is = refl } } in
                     elim (cases_lt (256 ^ l.level) x.len) [
                       | inr short ↦ record { level = l.level; index = t.index; asked = asked; short = short }
                       | inl long ↦
                           let has : Contains (joins digest (level_row digest es l.level (256 * t.index) 256)) x.string = (full_tile digest es l.level t.index t.full x.string).1 (record { node = x; is = n; inside = record { start_in = omega (arith, t.inside.start_in, f.within.start_in); upto = omega (arith, t.inside.upto, f.within.end_in); some = inside_x.some }; long = long; string_is = refl }) in
-                          absurd (both_ways x.string e (answered (TilePlace l.level t.index 256) asked t.full x.string has))
+                          absurd (both_ways x.string e (answered (Tile l.level t.index 256) asked t.full x.string has))
                     ]
               ]
         ]

@@ -16,13 +16,13 @@ use Rattle.node_store.specs.Strings.{Strings, Has, HasAll, NoClash}
 use Rattle.tlog_mirror.specs.Strings.{held_in}
 use Rattle.tlog_mirror.specs.Edge.{edge_levels, edge_widths}
 use Rattle.tlog_mirror.specs.Item.{HasEdgeRows}
-use Rattle.tlog_mirror.specs.Front.{Place}
+use Rattle.tlog_tiles.specs.declared.paths.Path.{Path}
 use Rattle.tlog_mirror.specs.Rounds.{HoldsAll}
 use Rattle.tlog_mirror.specs.Walk.{WalkFails, IsPairHeld, IsMissing, NoClashWith}
 use Rattle.tlog_mirror.specs.Complete.{IsBuilt, IsComplete}
 use Rattle.tlog_mirror.specs.ViewLaws.{MissingIsNone}
 use Rattle.tlog_mirror.proofs.StringSets.{decide, in_items, has_item, all_from_held, held_from_all, holds_from_held}
-use Rattle.tlog_mirror.proofs.Fronts.{front_empty, place_of}
+use Rattle.tlog_mirror.proofs.Fronts.{front_empty, path_of}
 use Rattle.tlog_mirror.proofs.TreeLaws.{missing_is_front}
 use Rattle.tlog_mirror.proofs.HeadNotes.{head_once}
 
@@ -196,22 +196,22 @@ module _ (digest : List ℕ → List ℕ) (held : Strings) where
     | inr a ↦ omega (arith, fails_within r (start + size_of l) f.1 at many a)
   ]
 
-  -- no place is missing, and so the walk fails nowhere
-  pub none_fails : (size : ℕ) (hash : List ℕ) → size ≤ 256 ^ 8 → ((place : Place) → IsMissing digest (held_in held) size hash place → ⊥) → (at many : ℕ) → Fails (shape size) 0 hash at many → ⊥
+  -- no path is missing, and so the walk fails nowhere
+  pub none_fails : (size : ℕ) (hash : List ℕ) → size ≤ 256 ^ 8 → ((path : Path) → IsMissing digest (held_in held) size hash path → ⊥) → (at many : ℕ) → Fails (shape size) 0 hash at many → ⊥
   none_fails size hash small none at many f =
       let within = fails_within (shape size) 0 hash at many f in
       let x : Node = record { start = at; len = many; string = [] } in
-      let p = place_of digest (held_in held) size x (omega (arith, within, size_of-shape size, small)) in
-      none p.place (record { node = x; fails = f; place_is = p.is })
+      let p = path_of digest (held_in held) size x (omega (arith, within, size_of-shape size, small)) in
+      none p.path (record { node = x; fails = f; path_is = p.is })
 
   -- a list that is held whole: nothing is missing
-  pub built_none : ((s : List ℕ) → length (digest s) ≡ 32) → NoClash digest held → (size : ℕ) (root : List ℕ) → size ≤ 256 ^ 8 → IsBuilt digest held size root → (place : Place) → IsMissing digest (held_in held) size root place → ⊥
-  built_none len clean size root small b place m =
+  pub built_none : ((s : List ℕ) → length (digest s) ≡ 32) → NoClash digest held → (size : ℕ) (root : List ℕ) → size ≤ 256 ^ 8 → IsBuilt digest held size root → (path : Path) → IsMissing digest (held_in held) size root path → ⊥
+  built_none len clean size root small b path m =
       let es = b.entries in
       let all : HoldsAll (held_in held) (strings digest es) = holds_from_held held (strings digest es) b.is.are_held in
       let apart : NoClashWith digest (held_in held) es = (λ x y hx hy e. clean.same x y (elim hx [ inl h ↦ h | inr c ↦ all x c ]) (elim hy [ inl h ↦ h | inr c ↦ all y c ]) e) in
-      let m' : IsMissing digest (held_in held) (length es) (mth digest es) place = subst (λ n. IsMissing digest (held_in held) n (mth digest es) place) (sym b.is.size_is) (subst (λ h. IsMissing digest (held_in held) size h place) (sym b.is.root_is) m) in
-      (front_empty digest (held_in held) es (omega (arith, b.is.size_is, small))).1 all place ((missing_is_front digest len (held_in held) es apart place).0 m')
+      let m' : IsMissing digest (held_in held) (length es) (mth digest es) path = subst (λ n. IsMissing digest (held_in held) n (mth digest es) path) (sym b.is.size_is) (subst (λ h. IsMissing digest (held_in held) size h path) (sym b.is.root_is) m) in
+      (front_empty digest (held_in held) es (omega (arith, b.is.size_is, small))).1 all path ((missing_is_front digest len (held_in held) es apart path).0 m')
 
 -- the head of no entries of a lawful view has the root of none
 none_root : (digest : List ℕ → List ℕ) (size : ℕ) (root : List ℕ) (rows : List (List ℕ)) → size ≡ 0 → HasEdgeRows digest size root rows → digest [] ≡ root
@@ -222,13 +222,13 @@ none_root digest size root (row ∷ rows) z h = absurd (let none : length (map l
 pub missing_is_none : MissingIsNone
 missing_is_none digest hash v lawful size root head small = (
   λ none. whole size refl none,
-  λ c place m. built_none digest v.strings hash lawful.no_clash size root small (record { entries = c.entries; is = c.complete.tree }) place m,
+  λ c path m. built_none digest v.strings hash lawful.no_clash size root small (record { entries = c.entries; is = c.complete.tree }) path m,
 )
   where
     complete : IsBuilt digest v.strings size root → IsComplete digest v size root
     complete b = record { entries = b.entries; complete = record { head = head; tree = b.is } }
 
-    whole : (n : ℕ) → size ≡ n → ((place : Place) → IsMissing digest (held_in v.strings) size root place → ⊥) → IsComplete digest v size root
+    whole : (n : ℕ) → size ≡ n → ((path : Path) → IsMissing digest (held_in v.strings) size root path → ⊥) → IsComplete digest v size root
     whole zero z none =
         let e = lawful.edges head.note head.holds.is_held in
         let same = head_once head.note v.origin v.origin size e.size root e.root head.holds.is_head e.is_head in

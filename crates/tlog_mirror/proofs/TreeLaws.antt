@@ -6,7 +6,9 @@ use Rattle.std.specs.List.{Contains}
 use Rattle.tlog_hash.specs.Tree.{tree_of, strings}
 use Rattle.tlog_hash.specs.Nodes.{Node}
 use Rattle.tlog_hash.specs.Rows.{part}
-use Rattle.tlog_mirror.specs.Front.{Place, TilePlace, BundlePlace, IsPlaceOf}
+use Rattle.tlog_tiles.specs.declared.paths.Path.{Path}
+use Rattle.tlog_tiles.specs.declared.paths.Path.TheVariants.{Checkpoint, Tile, Entries}
+use Rattle.tlog_mirror.specs.Front.{IsPathOf}
 use Rattle.tlog_mirror.specs.TreeLaws.{FullRowJoins, BundleStrings, RoundLeaves, RoundGoesDown, BundlesComplete, MissingIsFront}
 use Rattle.tlog_mirror.proofs.NodeBlocks.{node_inside}
 use Rattle.tlog_mirror.proofs.RowLaws.{full_tile, bundle}
@@ -42,20 +44,21 @@ round_goes_down d held after es r top asks level index width f =
     let short = round_leaves d held after es r top asks n (front_node d after (tree_of es) 0 n f.is) (front_unheld d after (tree_of es) 0 n f.is) in
     elim (cases_lt level top) [
       | inl lt ↦ lt
-      | inr le ↦ absurd (let more = power_le top level le in omega (arith, short, f.place_is.above, more))
+      | inr le ↦ absurd (let more = power_le top level le in omega (arith, short, f.path_is.above, more))
     ]
 
 pub bundles_complete : BundlesComplete
 bundles_complete d held after es r = after_bundles d held after r.grows es r.small r.edge r.answered
 
 pub missing_is_front : MissingIsFront
-missing_is_front d size held es clean place = (
+missing_is_front d size held es clean path = (
   λ m.
       let k = (walk_is_front d size held es clean m.node.start m.node.len).0 m.fails in
-      record { node = k.0; is = k.1; place_is = moved m.node k.0 place (sym k.2) (sym k.3) m.place_is },
-  λ f. record { node = f.node; fails = (walk_is_front d size held es clean f.node.start f.node.len).1 (f.node, f.is, refl, refl); place_is = f.place_is },
+      record { node = k.0; is = k.1; path_is = moved m.node k.0 path (sym k.2) (sym k.3) m.path_is },
+  λ f. record { node = f.node; fails = (walk_is_front d size held es clean f.node.start f.node.len).1 (f.node, f.is, refl, refl); path_is = f.path_is },
 )
   where
-    moved : (x y : Node) (p : Place) → x.start ≡ y.start → x.len ≡ y.len → IsPlaceOf (length es) x p → IsPlaceOf (length es) y p
-    moved x y (TilePlace level index width) s l h = record { many = omega (arith, h.many); above = omega (arith, h.above); upto = omega (arith, h.upto); index_is = h.index_is ∙ ap (λ m. m / 256 ^ (level + 1)) s; width_is = h.width_is }
-    moved x y (BundlePlace index width) s l h = record { few = omega (arith, h.few); index_is = h.index_is ∙ ap (λ m. m / 256) s; width_is = h.width_is }
+    moved : (x y : Node) (p : Path) → x.start ≡ y.start → x.len ≡ y.len → IsPathOf (length es) x p → IsPathOf (length es) y p
+    moved x y Checkpoint s l h = h
+    moved x y (Tile level index width) s l h = record { many = omega (arith, h.many); above = omega (arith, h.above); upto = omega (arith, h.upto); index_is = h.index_is ∙ ap (λ m. m / 256 ^ (level + 1)) s; width_is = h.width_is }
+    moved x y (Entries index width) s l h = record { few = omega (arith, h.few); index_is = h.index_is ∙ ap (λ m. m / 256) s; width_is = h.width_is }

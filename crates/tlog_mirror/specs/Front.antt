@@ -2,21 +2,23 @@
 use Rattle.std.specs.Prelude.{◌≡◌, ◌⊎◌, ℕ, ◌+◌, ◌-◌, ◌*◌, ◌/◌, ◌^◌, ◌≤◌, ◌<◌, Bool, true, false, List, ◌∷◌, ◌++◌, length, min}
 use Rattle.std.specs.Ordering.{nat_cmp, ordering_then}
 use Rattle.std.specs.declared.cmp.Ordering.{Ordering}
-use Rattle.std.specs.declared.cmp.Ordering.TheVariants.{Less, Greater}
+use Rattle.std.specs.declared.cmp.Ordering.TheVariants.{Less, Equal, Greater}
+use Rattle.tlog_tiles.specs.declared.paths.Path.{Path}
+use Rattle.tlog_tiles.specs.declared.paths.Path.TheVariants.{Checkpoint, Tile, Entries}
 use Rattle.tlog_hash.specs.Tree.{Tree, Empty, One, Join, tree_of, size_of}
 use Rattle.tlog_hash.specs.Nodes.{Node, IsThis, entries_root}
 
--- what can be fetched: a tile of hashes of that level, or a bundle of entries
-pub data Place : Type 0 where
-  TilePlace : (level index width : ℕ) → Place
-  BundlePlace : (index width : ℕ) → Place
-
 -- tiles by falling level and rising index, then bundles by rising index
-abbrev pub place_cmp : Place → Place → Ordering
-place_cmp (TilePlace l i w) (TilePlace m j v) = ordering_then (nat_cmp m l) (nat_cmp i j)
-place_cmp (TilePlace l i w) (BundlePlace j v) = Less
-place_cmp (BundlePlace i w) (TilePlace m j v) = Greater
-place_cmp (BundlePlace i w) (BundlePlace j v) = nat_cmp i j
+abbrev pub path_cmp : Path → Path → Ordering
+path_cmp (Tile level index width) (Tile l i w) = ordering_then (nat_cmp l level) (ordering_then (nat_cmp index i) (nat_cmp width w))
+path_cmp (Tile level index width) (Entries i w) = Less
+path_cmp (Tile level index width) Checkpoint = Less
+path_cmp (Entries index width) (Tile l i w) = Greater
+path_cmp (Entries index width) (Entries i w) = ordering_then (nat_cmp index i) (nat_cmp width w)
+path_cmp (Entries index width) Checkpoint = Less
+path_cmp Checkpoint (Tile l i w) = Greater
+path_cmp Checkpoint (Entries i w) = Greater
+path_cmp Checkpoint Checkpoint = Equal
 
 -- the full tile of a node of more than 256 entries: it has the hashes from which the node's hash follows
 pub record IsTileOf (x : Node) (level index width : ℕ) : Type 0 where
@@ -32,10 +34,11 @@ pub record IsBundleOf (size : ℕ) (x : Node) (index width : ℕ) : Type 0 where
   pub index_is : index ≡ x.start / 256
   pub width_is : width ≡ min 256 (size - 256 * index)
 
--- where the strings of a node are fetched, in a tree of that size
-abbrev pub IsPlaceOf : ℕ → Node → Place → Type 0
-IsPlaceOf size x (TilePlace level index width) = IsTileOf x level index width
-IsPlaceOf size x (BundlePlace index width) = IsBundleOf size x index width
+-- the path under which the strings of a node are fetched, in a tree of that size
+abbrev pub IsPathOf : ℕ → Node → Path → Type 0
+IsPathOf size x Checkpoint = ⊥
+IsPathOf size x (Tile level index width) = IsTileOf x level index width
+IsPathOf size x (Entries index width) = IsBundleOf size x index width
 
 -- x is the node of these three, and its string is not held
 pub record IsUnheldThis (held : List ℕ → Bool) (start len : ℕ) (string : List ℕ) (x : Node) : Type 0 where
@@ -51,8 +54,8 @@ module _ (digest : List ℕ → List ℕ) (held : List ℕ → Bool) where
       IsUnheldThis held start (size_of l + size_of r) (1 ∷ entries_root digest l ++ entries_root digest r) x
       ⊎ ((held (1 ∷ entries_root digest l ++ entries_root digest r) ≡ true) × (InFront l start x ⊎ InFront r (start + size_of l) x))
 
-  -- Front(V, E) has the place: it is that of such a node of the tree of E
-  pub record IsFront (entries : List (List ℕ)) (place : Place) : Type 0 where
+  -- Front(V, E) has the path: it is that of such a node of the tree of E
+  pub record IsFront (entries : List (List ℕ)) (path : Path) : Type 0 where
     pub node : Node
     pub is : InFront (tree_of entries) 0 node
-    pub place_is : IsPlaceOf (length entries) node place
+    pub path_is : IsPathOf (length entries) node path

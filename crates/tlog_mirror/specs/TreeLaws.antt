@@ -6,7 +6,9 @@ use Rattle.tlog_hash.specs.Nodes.{Node, IsNode}
 use Rattle.tlog_hash.specs.Shape.{shape}
 use Rattle.tlog_hash.specs.Rows.{part, level_row}
 use Rattle.tlog_mirror.specs.Edge.{edge_widths, edge_rows, edge_root, edge_strings}
-use Rattle.tlog_mirror.specs.Front.{Place, TilePlace, InFront, IsFront}
+use Rattle.tlog_tiles.specs.declared.paths.Path.{Path}
+use Rattle.tlog_tiles.specs.declared.paths.Path.TheVariants.{Tile}
+use Rattle.tlog_mirror.specs.Front.{InFront, IsFront}
 use Rattle.tlog_mirror.specs.Rounds.{HoldsAll, IsRound, AsksUpTo, AsksBundlesAlone}
 use Rattle.tlog_mirror.specs.Walk.{WalkFails, NoClashWith, IsMissing}
 
@@ -41,7 +43,7 @@ BundleStrings = (digest : List ℕ → List ℕ) (entries : List (List ℕ)) (in
 
 -- the front is empty exactly where Tree(E) is held
 abbrev pub FrontIsEmpty : Type 0
-FrontIsEmpty = (digest : List ℕ → List ℕ) (held : List ℕ → Bool) (entries : List (List ℕ)) → length entries ≤ 256 ^ 8 → ((place : Place) → IsFront digest held entries place → ⊥) ↔ HoldsAll held (strings digest entries)
+FrontIsEmpty = (digest : List ℕ → List ℕ) (held : List ℕ → Bool) (entries : List (List ℕ)) → length entries ≤ 256 ^ 8 → ((path : Path) → IsFront digest held entries path → ⊥) ↔ HoldsAll held (strings digest entries)
 
 -- after a round in which no tile above level L was asked for, a node that is not held has at most 256^L entries
 abbrev pub RoundLeaves : Type 0
@@ -49,7 +51,7 @@ RoundLeaves = (digest : List ℕ → List ℕ) (held after : List ℕ → Bool) 
 
 -- so the next round asks for tiles of lower levels alone
 abbrev pub RoundGoesDown : Type 0
-RoundGoesDown = (digest : List ℕ → List ℕ) (held after : List ℕ → Bool) (entries : List (List ℕ)) → IsRound digest held after entries → (top : ℕ) → AsksUpTo digest held entries top → (level index width : ℕ) → IsFront digest after entries (TilePlace level index width) → level < top
+RoundGoesDown = (digest : List ℕ → List ℕ) (held after : List ℕ → Bool) (entries : List (List ℕ)) → IsRound digest held after entries → (top : ℕ) → AsksUpTo digest held entries top → (level index width : ℕ) → IsFront digest after entries (Tile level index width) → level < top
 
 -- after a round of bundles alone nothing of the tree is unheld
 abbrev pub BundlesComplete : Type 0
@@ -65,4 +67,4 @@ WalkIsFront = (digest : List ℕ → List ℕ) → ((s : List ℕ) → length (d
 
 -- so what it names is Front(V, E)
 abbrev pub MissingIsFront : Type 0
-MissingIsFront = (digest : List ℕ → List ℕ) → ((s : List ℕ) → length (digest s) ≡ 32) → (held : List ℕ → Bool) (entries : List (List ℕ)) → NoClashWith digest held entries → (place : Place) → IsMissing digest held (length entries) (mth digest entries) place ↔ IsFront digest held entries place
+MissingIsFront = (digest : List ℕ → List ℕ) → ((s : List ℕ) → length (digest s) ≡ 32) → (held : List ℕ → Bool) (entries : List (List ℕ)) → NoClashWith digest held entries → (path : Path) → IsMissing digest held (length entries) (mth digest entries) path ↔ IsFront digest held entries path

@@ -14,7 +14,7 @@ use Rattle.tlog_mirror.specs.Complete.{Complete, IsComplete, IsLawful}
 use Rattle.tlog_mirror.specs.Served.{Served}
 use Rattle.tlog_mirror.specs.Forks.{Point, IsPrefix, IsFork}
 use Rattle.tlog_mirror.specs.Marks.{IsMark}
-use Rattle.tlog_mirror.specs.Front.{Place}
+use Rattle.tlog_tiles.specs.declared.paths.Path.{Path}
 use Rattle.tlog_mirror.specs.Walk.{IsMissing}
 
 -- a digest has 32 bytes
@@ -101,4 +101,4 @@ ServesOne = (digest : List ℕ → List ℕ) → IsHash digest → (v : View) �
 
 -- the walk from the root of a head of a lawful view fails nowhere exactly where the head is complete
 abbrev pub MissingIsNone : Type 0
-MissingIsNone = (digest : List ℕ → List ℕ) → IsHash digest → (v : View) → IsLawful digest v → (size : ℕ) (root : List ℕ) → HasHead v size root → size ≤ 256 ^ 8 → ((place : Place) → IsMissing digest (held_in v.strings) size root place → ⊥) ↔ IsComplete digest v size root
+MissingIsNone = (digest : List ℕ → List ℕ) → IsHash digest → (v : View) → IsLawful digest v → (size : ℕ) (root : List ℕ) → HasHead v size root → size ≤ 256 ^ 8 → ((path : Path) → IsMissing digest (held_in v.strings) size root path → ⊥) ↔ IsComplete digest v size root

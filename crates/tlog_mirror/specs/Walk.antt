@@ -4,7 +4,8 @@ use Rattle.std.specs.List.{Contains}
 use Rattle.tlog_hash.specs.Tree.{Tree, Empty, One, Join, strings, size_of}
 use Rattle.tlog_hash.specs.Nodes.{Node}
 use Rattle.tlog_hash.specs.Shape.{shape}
-use Rattle.tlog_mirror.specs.Front.{Place, IsPlaceOf}
+use Rattle.tlog_tiles.specs.declared.paths.Path.{Path}
+use Rattle.tlog_mirror.specs.Front.{IsPathOf}
 
 -- the node begins at that entry, and has as many
 pub record IsSpot (start len at many : ℕ) : Type 0 where
@@ -30,11 +31,11 @@ module _ (digest : List ℕ → List ℕ) (held : List ℕ → Bool) where
       (IsSpot start (size_of l + size_of r) at many × ((x y : List ℕ) → IsPairHeld hash x y → ⊥))
       ⊎ ((x : List ℕ) × (y : List ℕ) × IsPairHeld hash x y × (WalkFails l start x at many ⊎ WalkFails r (start + size_of l) y at many))
 
-  -- the places of a head of that size and root: those of the nodes where the walk from its root fails
-  pub record IsMissing (size : ℕ) (hash : List ℕ) (place : Place) : Type 0 where
+  -- the paths of a head of that size and root: those of the nodes where the walk from its root fails
+  pub record IsMissing (size : ℕ) (hash : List ℕ) (path : Path) : Type 0 where
     pub node : Node
     pub fails : WalkFails (shape size) 0 hash node.start node.len
-    pub place_is : IsPlaceOf size node place
+    pub path_is : IsPathOf size node path
 
   -- what is held and the tree of the entries together do not clash
   abbrev pub NoClashWith : List (List ℕ) → Type 0

@@ -6,7 +6,7 @@ pub fn front_law()
     ensures { FrontIsEmpty }
 {}
 
-/// What a round of fetching leaves. It asks for all places of the front, and true answers come. So the
+/// What a round of fetching leaves. It asks for all paths of the front, and true answers come. So the
 /// tiles that are asked for stand at lower levels from round to round, and after a round that asks for
 /// bundles alone the whole tree is held.
 pub fn rounds_law()
@@ -18,5 +18,5 @@ pub fn rounds_law()
 /// Where a list of entries has the size and the root, the walk from the root finds its front.
 pub fn walk_law()
     ensures nodes { WalkIsFront }
-    ensures places { MissingIsFront }
+    ensures paths { MissingIsFront }
 {}

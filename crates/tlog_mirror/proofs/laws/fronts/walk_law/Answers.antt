@@ -5,5 +5,5 @@ use Rattle.tlog_mirror.proofs.laws.fronts.walk_law.Goals as goal
 pub returns-clause-nodes : goal.returns-clause-nodes
 returns-clause-nodes c = walk_is_front
 
-pub returns-clause-places : goal.returns-clause-places
-returns-clause-places c = missing_is_front
+pub returns-clause-paths : goal.returns-clause-paths
+returns-clause-paths c = missing_is_front
