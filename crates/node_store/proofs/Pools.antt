@@ -19,13 +19,13 @@ use Rattle.node_store.specs.declared.pool.Held.{Held}
 use Rattle.node_store.specs.declared.pool.Held.TheVariants.{Entry, Hashes}
 use Rattle.node_store.proofs.Sets.{same_strings, Has-insert, Has-insert_same, Has-insert_other, Has-empty}
 
-exact : (x y : List ℕ) → pointwise nat_eq x y ≡ true → x ≡ y
+pub exact : (x y : List ℕ) → pointwise nat_eq x y ≡ true → x ≡ y
 exact x y h = (slice_eq-Decides Decides-eqb x y (pointwise nat_eq x y) refl).0 h
 
-equal : (x : List ℕ) → pointwise nat_eq x x ≡ true
+pub equal : (x : List ℕ) → pointwise nat_eq x x ≡ true
 equal x = (slice_eq-Decides Decides-eqb x x (pointwise nat_eq x x) refl).1 refl
 
-is_false : (b : Bool) → (b ≡ true → ⊥) → b ≡ false
+pub is_false : (b : Bool) → (b ≡ true → ⊥) → b ≡ false
 is_false true f = absurd (f refl)
 is_false false f = refl
 

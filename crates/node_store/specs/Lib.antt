@@ -1,2 +1,3 @@
 pub mod Strings
 pub mod Held
+pub mod Scanned
