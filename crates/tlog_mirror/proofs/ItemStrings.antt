@@ -128,7 +128,7 @@ module _ (digest : List ℕ → List ℕ) (hash : IsHash digest) where
   item_strings origin keys (BundleItem width bytes) good y c = entry_strings (entries_of width bytes) (subst (All (λ e. length e < 2 ^ 16)) (bundle_is_one width bytes good.entries good.is_bundle) good.is_bundle.fits) y c
 
   -- the edge of a good head is held with its strings
-  note_edge : (keys : List Key) (v : View) (item : Item) → IsGood digest v.origin keys item → (note : List ℕ) → Contains (notes_of digest item) note → HasEdge digest (plus digest v item) note
+  note_edge : (keys : List Key) (v : View) (item : Item) → IsGood digest v.origin keys item → (note : List ℕ) → Contains (notes_of item) note → HasEdge digest (plus digest v item) note
   note_edge keys v (HeadItem bytes rows) good note c =
       let is : note ≡ bytes = All-contains (λ n. n ≡ bytes) (bytes ∷ []) note (All-from_recursion (λ n. n ≡ bytes) (bytes ∷ []) (refl, tt)) c in
       let ss = edge_strings digest (map row_of rows) in
@@ -160,7 +160,7 @@ plus_is_lawful digest hash keys v item lawful good clean =
       no_clash = clean;
       are_strings = λ s h. elim (has_cases v.strings (set.from_list (strings_of digest item)) s h) [ inl a ↦ lawful.are_strings s a | inr b ↦ is_string s (new s (listed_from_has _ s b)) ];
       leaves_short = λ e h. elim (has_cases v.strings (set.from_list (strings_of digest item)) (0 ∷ e) h) [ inl a ↦ lawful.leaves_short e a | inr b ↦ is_short e (new (0 ∷ e) (listed_from_has _ (0 ∷ e) b)) ];
-      edges = λ note h. elim (has_cases v.notes (set.from_list (notes_of digest item)) note h) [
+      edges = λ note h. elim (has_cases v.notes (set.from_list (notes_of item)) note h) [
         | inl a ↦ edge_stays digest v (plus digest v item) (within_plus digest v item) note (lawful.edges note a)
         | inr b ↦ note_edge digest hash keys v item good note (listed_from_has _ note b)
       ];

@@ -18,3 +18,4 @@ pub mod Missing
 pub mod Folding
 pub mod Remembering
 pub mod Examples
+pub mod TrueItems

@@ -13,10 +13,13 @@ use Rattle.tlog_hash.specs.Tree.{mth, strings}
 use Rattle.tlog_hash.proofs.Trees.{mth-one, mth-append, length-mth, strings-one, left-strings, right-strings, join-string, induction}
 use Rattle.node_store.specs.Strings.{Strings, Has, NoClash}
 use Rattle.tlog_hash.proofs.PairStrings.{left_is, right_is}
-use Rattle.tlog_mirror.specs.Complete.{IsTreeOf}
-use Rattle.tlog_mirror.specs.Served.{IsAtMost, IsCompleteNote}
+use Rattle.tlog_mirror.specs.Complete.{IsLawful, IsTreeOf}
+use Rattle.tlog_mirror.specs.Served.{IsServedList, IsAtMost, IsCompleteNote}
 use Rattle.tlog_mirror.specs.Forks.{IsPrefix}
-use Rattle.tlog_mirror.specs.ViewLaws.{OneList, ListHasRoot, CompleteIsSame, ForksTell, ServesOne}
+use Rattle.tlog_tiles.specs.declared.paths.Path.TheVariants.{Checkpoint, Tile, Entries}
+use Rattle.tlog_tiles.specs.Tiles.{tile_bytes, bundle_bytes}
+use Rattle.tlog_mirror.specs.View.{View}
+use Rattle.tlog_mirror.specs.ViewLaws.{IsHash, RepliesOnce, OneList, ListHasRoot, CompleteIsSame, ForksTell, ServesOne}
 use Rattle.tlog_mirror.proofs.StringSets.{all_from_held}
 use Rattle.tlog_mirror.proofs.Views.{complete_stays}
 use Rattle.std.proofs.lemmas.List.{append-nil, nil_from_length}
@@ -141,3 +144,12 @@ serves_one digest hash v lawful note other size n root r first second p q =
       root_is = root_is;
       entries_are = only digest v.strings hash lawful.no_clash size root first second p.tree (record { size_is = q.tree.size_is ∙ sym size_is; root_is = q.tree.root_is ∙ sym root_is; are_held = q.tree.are_held });
     }
+
+-- one list is served at most
+one_served : (digest : List ℕ → List ℕ) → IsHash digest → (v : View) → IsLawful digest v → (first second : List (List ℕ)) → IsServedList digest v first → IsServedList digest v second → first ≡ second
+one_served digest hash v lawful first second p q = (serves_one digest hash v lawful p.note q.note p.size q.size p.root q.root first second p.served q.served).entries_are
+
+pub replies_once : RepliesOnce
+replies_once digest hash v lawful Checkpoint first second p q = (serves_one digest hash v lawful first second p.size q.size p.root q.root p.entries q.entries p.served q.served).note_is
+replies_once digest hash v lawful (Tile level index width) first second p q = p.bytes_are ∙ ap (λ es. tile_bytes digest es level index width) (one_served digest hash v lawful p.entries q.entries p.served q.served) ∙ sym q.bytes_are
+replies_once digest hash v lawful (Entries index width) first second p q = p.bytes_are ∙ ap (λ es. bundle_bytes es index width) (one_served digest hash v lawful p.entries q.entries p.served q.served) ∙ sym q.bytes_are

@@ -72,7 +72,7 @@ record IsPart (digest : List ℕ → List ℕ) (part : View → Strings) (adds :
 of_strings : (digest : List ℕ → List ℕ) → IsPart digest (λ v. v.strings) (strings_of digest)
 of_strings digest = record { union_is = λ v w. refl; plus_is = λ v item. refl; within = λ v w h. h.strings_are }
 
-of_notes : (digest : List ℕ → List ℕ) → IsPart digest (λ v. v.notes) (notes_of digest)
+of_notes : (digest : List ℕ → List ℕ) → IsPart digest (λ v. v.notes) notes_of
 of_notes digest = record { union_is = λ v w. refl; plus_is = λ v item. refl; within = λ v w h. h.notes_are }
 
 -- an answer that changes nothing
@@ -245,15 +245,15 @@ module _ (digest : List ℕ → List ℕ) (origin : List ℕ) (keys : List Key) 
       | inr t ↦ run_takes digest origin keys (λ w. w.strings) (strings_of digest) (of_strings digest) keep opened final events answers of exact run mirror v found t.item t.good q t.has t.reaches
     ];
     notes = λ q h. elim h [
-      | inl o ↦ run_opens digest origin keys (λ w. w.notes) (notes_of digest) (of_notes digest) keep opened final events answers of exact run mirror v found o.number o.view o.is q o.has o.reaches
-      | inr t ↦ run_takes digest origin keys (λ w. w.notes) (notes_of digest) (of_notes digest) keep opened final events answers of exact run mirror v found t.item t.good q t.has t.reaches
+      | inl o ↦ run_opens digest origin keys (λ w. w.notes) notes_of (of_notes digest) keep opened final events answers of exact run mirror v found o.number o.view o.is q o.has o.reaches
+      | inr t ↦ run_takes digest origin keys (λ w. w.notes) notes_of (of_notes digest) keep opened final events answers of exact run mirror v found t.item t.good q t.has t.reaches
     ];
   }
 
   reached_only : ((a : Answer) → keep a ≡ false → ChangesNothing a) → (mirror : ℕ) (v : View) → slice_get final mirror ≡ Some v → HasReachedOnly digest origin keys opened (events_of keep events answers) mirror v
   reached_only skips mirror v found = record {
     strings = λ q h. run_only digest origin keys (λ w. w.strings) (strings_of digest) (of_strings digest) keep skips opened final events answers of run mirror v found q h;
-    notes = λ q h. run_only digest origin keys (λ w. w.notes) (notes_of digest) (of_notes digest) keep skips opened final events answers of run mirror v found q h;
+    notes = λ q h. run_only digest origin keys (λ w. w.notes) notes_of (of_notes digest) keep skips opened final events answers of run mirror v found q h;
   }
 
 done_exact : (answers : List Answer) → AllByRecursion (λ a. is_done a ≡ true → IsExact a) answers

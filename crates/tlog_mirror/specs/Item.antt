@@ -33,6 +33,23 @@ pub record IsWidth (width : ℕ) : Type 0 where
   pub some : 1 ≤ width
   pub most : width ≤ 256
 
+-- a tile is good: there are as many hashes as its width
+pub record IsGoodTile (width : ℕ) (bytes : List ℕ) : Type 0 where
+  pub is_width : IsWidth width
+  pub length_is : length bytes ≡ 32 * width
+
+-- a bundle is good: its bytes are as many entries as its width
+pub record IsGoodBundle (width : ℕ) (bytes : List ℕ) : Type 0 where
+  pub is_width : IsWidth width
+  pub entries : List (List ℕ)
+  pub is_bundle : IsBundle width bytes entries
+
+-- the notes that an item adds
+abbrev pub notes_of : Item → List (List ℕ)
+notes_of (HeadItem note rows) = note ∷ []
+notes_of (TileItem width bytes) = []
+notes_of (BundleItem width bytes) = []
+
 module _ (digest : List ℕ → List ℕ) where
   -- the rows have the number and widths of the size's edge, and lead to the root
   pub record HasEdgeRows (size : ℕ) (root : List ℕ) (rows : List (List ℕ)) : Type 0 where
@@ -46,17 +63,6 @@ module _ (digest : List ℕ → List ℕ) where
     pub is_head : IsOpenHead note origin keys size root
     pub has_edge : HasEdgeRows size root rows
 
-  -- a tile is good: there are as many hashes as its width
-  pub record IsGoodTile (width : ℕ) (bytes : List ℕ) : Type 0 where
-    pub is_width : IsWidth width
-    pub length_is : length bytes ≡ 32 * width
-
-  -- a bundle is good: its bytes are as many entries as its width
-  pub record IsGoodBundle (width : ℕ) (bytes : List ℕ) : Type 0 where
-    pub is_width : IsWidth width
-    pub entries : List (List ℕ)
-    pub is_bundle : IsBundle width bytes entries
-
   -- Good(item, origin, keys), which names no state
   abbrev pub IsGood : List ℕ → List Key → Item → Type 0
   IsGood origin keys (HeadItem note rows) = IsGoodHead origin keys note rows
@@ -68,12 +74,6 @@ module _ (digest : List ℕ → List ℕ) where
   strings_of (HeadItem note rows) = edge_strings digest (map row_of rows)
   strings_of (TileItem width bytes) = joins digest (row_of bytes)
   strings_of (BundleItem width bytes) = strings digest (entries_of width bytes)
-
-  -- the notes that an item adds
-  abbrev pub notes_of : Item → List (List ℕ)
-  notes_of (HeadItem note rows) = note ∷ []
-  notes_of (TileItem width bytes) = []
-  notes_of (BundleItem width bytes) = []
 
   -- V + item
   abbrev pub plus : View → Item → View

@@ -16,4 +16,5 @@ pub mod Reached
 pub mod Examples
 pub mod TreeLaws
 pub mod ViewLaws
+pub mod TrueLaws
 pub mod PlayLaws

@@ -29,7 +29,7 @@ module _ (digest : List ℕ → List ℕ) (origin : List ℕ) (keys : List Key) 
   StringReaches events mirror string = OpensWith (λ v. v.strings) events mirror string ⊎ TakesIn (strings_of digest) events mirror string
 
   abbrev pub NoteReaches : List Event → ℕ → List ℕ → Type 0
-  NoteReaches events mirror note = OpensWith (λ v. v.notes) events mirror note ⊎ TakesIn (notes_of digest) events mirror note
+  NoteReaches events mirror note = OpensWith (λ v. v.notes) events mirror note ⊎ TakesIn notes_of events mirror note
 
   -- the view has all that the events bring to the mirror
   pub record HasReached (events : List Event) (mirror : ℕ) (v : View) : Type 0 where

@@ -4,6 +4,9 @@ use Rattle.std.specs.Ordering.{nat_cmp, is_le}
 use Rattle.std.specs.Cmp.Lexicographic.{slice_cmp}
 use Rattle.tlog_hash.specs.Tree.{mth}
 use Rattle.tlog_hash.specs.Rows.{part}
+use Rattle.tlog_tiles.specs.declared.paths.Path.{Path}
+use Rattle.tlog_tiles.specs.declared.paths.Path.TheVariants.{Checkpoint, Tile, Entries}
+use Rattle.tlog_tiles.specs.Tiles.{tile_bytes, bundle_bytes, IsTileWithin}
 use Rattle.tlog_mirror.specs.View.{View}
 use Rattle.tlog_mirror.specs.Heads.{HoldsHead}
 use Rattle.tlog_mirror.specs.Complete.{IsTreeOf, IsBuilt}
@@ -39,3 +42,29 @@ module _ (digest : List ℕ → List ℕ) where
     pub served : IsServedList v entries
     pub within : start + len ≤ length entries
     pub hash_is : hash ≡ mth digest (part start len entries)
+
+  -- a note is served
+  pub record IsServedNote (v : View) (note : List ℕ) : Type 0 where
+    pub size : ℕ
+    pub root : List ℕ
+    pub entries : List (List ℕ)
+    pub served : Served v note size root entries
+
+  -- the bytes of a tile, or of a bundle, of the entries served
+  pub record IsServedTile (v : View) (level index width : ℕ) (bytes : List ℕ) : Type 0 where
+    pub entries : List (List ℕ)
+    pub served : IsServedList v entries
+    pub within : IsTileWithin (length entries) level index width
+    pub bytes_are : bytes ≡ tile_bytes digest entries level index width
+
+  pub record IsServedBundle (v : View) (index width : ℕ) (bytes : List ℕ) : Type 0 where
+    pub entries : List (List ℕ)
+    pub served : IsServedList v entries
+    pub within : IsTileWithin (length entries) 0 index width
+    pub bytes_are : bytes ≡ bundle_bytes entries index width
+
+  -- Reply(V, path): the served note, or the bytes of the path where it is within the entries served; where no bytes are so, there is no reply
+  abbrev pub Replies : View → Path → List ℕ → Type 0
+  Replies v Checkpoint bytes = IsServedNote v bytes
+  Replies v (Tile level index width) bytes = IsServedTile v level index width bytes
+  Replies v (Entries index width) bytes = IsServedBundle v index width bytes

@@ -11,7 +11,7 @@ use Rattle.tlog_mirror.specs.Strings.{held_in}
 use Rattle.tlog_mirror.specs.Heads.{HasHead}
 use Rattle.tlog_mirror.specs.Item.{Item, row_of, entries_of, IsGood, plus}
 use Rattle.tlog_mirror.specs.Complete.{Complete, IsComplete, IsLawful}
-use Rattle.tlog_mirror.specs.Served.{Served}
+use Rattle.tlog_mirror.specs.Served.{Served, Replies}
 use Rattle.tlog_mirror.specs.Forks.{Point, IsPrefix, IsFork}
 use Rattle.tlog_mirror.specs.Marks.{IsMark}
 use Rattle.tlog_tiles.specs.declared.paths.Path.{Path}
@@ -98,6 +98,10 @@ pub record IsSameServed (digest : List ℕ → List ℕ) (note other : List ℕ)
 
 abbrev pub ServesOne : Type 0
 ServesOne = (digest : List ℕ → List ℕ) → IsHash digest → (v : View) → IsLawful digest v → (note other : List ℕ) (size n : ℕ) (root r : List ℕ) (first second : List (List ℕ)) → Served digest v note size root first → Served digest v other n r second → IsSameServed digest note other size n root r first second
+
+-- a path has one reply at most
+abbrev pub RepliesOnce : Type 0
+RepliesOnce = (digest : List ℕ → List ℕ) → IsHash digest → (v : View) → IsLawful digest v → (path : Path) (first second : List ℕ) → Replies digest v path first → Replies digest v path second → first ≡ second
 
 -- the walk from the root of a head of a lawful view fails nowhere exactly where the head is complete
 abbrev pub MissingIsNone : Type 0

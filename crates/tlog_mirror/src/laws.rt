@@ -7,4 +7,5 @@ pub mod fronts;
 pub mod items;
 pub mod play;
 pub mod tiles;
+pub mod truth;
 pub mod views;

@@ -9,6 +9,7 @@ pub use laws::fronts::{front_law, rounds_law, walk_law};
 pub use laws::items::bytes_law;
 pub use laws::play::{again_law, clash_law, order_law, reaches_law, run_law};
 pub use laws::tiles::{bundle_law, full_row_law};
+pub use laws::truth::{prefix_law, true_items_law, true_rounds_law};
 pub use laws::views::{
     forks_law, growth_law, lawful_law, marks_law, missing_law, one_list_law, served_law, union_law,
 };

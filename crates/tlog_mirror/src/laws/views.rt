@@ -1,5 +1,5 @@
 //! Laws of views: what a mirror holds, and what follows from it.
-ghost use Rattle.tlog_mirror.specs.ViewLaws.{CompleteIsSame, CompleteStays, ForksStay, ForksTell, ForksTurn, ListHasRoot, MarksStay, MissingIsNone, OneList, PlusIsLawful, SameIsOne, ServesOne, UnionAssociates, UnionCommutes, UnionIsLawful, UnionRepeats, WholeIsMark};
+ghost use Rattle.tlog_mirror.specs.ViewLaws.{CompleteIsSame, CompleteStays, ForksStay, ForksTell, ForksTurn, ListHasRoot, MarksStay, MissingIsNone, OneList, PlusIsLawful, RepliesOnce, SameIsOne, ServesOne, UnionAssociates, UnionCommutes, UnionIsLawful, UnionRepeats, WholeIsMark};
 
 /// Views that hold the same are one, and they are joined in any order, in any grouping and any number
 /// of times with one result.
@@ -22,9 +22,10 @@ pub fn growth_law()
     ensures same { CompleteIsSame }
 {}
 
-/// A view serves one checkpoint and one list of entries at most.
+/// A view serves one checkpoint and one list of entries at most, and under each path one reply at most.
 pub fn served_law()
-    ensures { ServesOne }
+    ensures one { ServesOne }
+    ensures reply { RepliesOnce }
 {}
 
 /// Two complete checkpoints that differ are a fork exactly where neither list of entries is a prefix

@@ -1,5 +1,8 @@
-use Rattle.tlog_mirror.proofs.OneLists.{serves_one}
+use Rattle.tlog_mirror.proofs.OneLists.{serves_one, replies_once}
 use Rattle.tlog_mirror.proofs.laws.views.served_law.Goals as goal
 
-pub returns : goal.returns
-returns c = serves_one
+pub returns-clause-one : goal.returns-clause-one
+returns-clause-one c = serves_one
+
+pub returns-clause-reply : goal.returns-clause-reply
+returns-clause-reply c = replies_once

@@ -1,0 +1,23 @@
+//! Laws of items of true bytes: what a log serves of its entries (C2SP tlog-tiles).
+ghost use Rattle.tlog_mirror.specs.TrueLaws.{BundlesAreTrue, EdgeIsOfPaths, EdgesAreTrue, FrontIsWithin, PrefixesServeSame, TakingIsRound, TilesAreTrue};
+
+/// The true tiles and bundles of a list of entries are good, and give what its tree hash hashes there;
+/// its true edge rows lead to its tree hash.
+pub fn true_items_law()
+    ensures tiles { TilesAreTrue }
+    ensures bundles { BundlesAreTrue }
+    ensures edges { EdgesAreTrue }
+    ensures paths { EdgeIsOfPaths }
+{}
+
+/// While the strings of the edge are held, each path of the front is within the entries; and a mirror
+/// that takes the true bytes of all of them makes a round.
+pub fn true_rounds_law()
+    ensures within { FrontIsWithin }
+    ensures round { TakingIsRound }
+{}
+
+/// What is within the first entries of a list is served alike for these and for the whole list.
+pub fn prefix_law()
+    ensures { PrefixesServeSame }
+{}
