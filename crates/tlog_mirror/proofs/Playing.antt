@@ -1,5 +1,5 @@
 -- Runs: what a mirror's view has of what reaches it.
-use Rattle.std.proofs.Common.{arith, suc, ◌≡◌, ℕ, List, [], ◌∷◌, Some, Bool, true, false, cond, sym, refl, ap, ◌∙◌, subst, ◌⊎◌, inl, inr}
+use Rattle.std.proofs.Common.{arith, length, suc, ◌≡◌, ℕ, List, [], ◌∷◌, Some, Bool, true, false, cond, sym, refl, ap, ◌∙◌, subst, ◌⊎◌, inl, inr}
 use Rattle.std.specs.Prelude.{slice_get, slice_set}
 use Rattle.std.specs.List.{AllPass, Contains, AllByRecursion}
 use Rattle.std.specs.FinSet as set
@@ -11,7 +11,7 @@ use Rattle.tlog_mirror.specs.Strings.{HasClash}
 use Rattle.tlog_mirror.specs.Item.{Item, IsGood, strings_of, notes_of, plus}
 use Rattle.tlog_mirror.specs.Events.{Event, TakeEvent, MergeEvent, Reaches, OpeningReaches}
 use Rattle.tlog_mirror.specs.Steps.{Answer, Done, Refused, Clashed, Exhausted, Answers, Happens, TakesAt, MergesAt, Run}
-use Rattle.tlog_mirror.specs.Reached.{OpensWith, TakesIn, HasReached, HasReachedOnly, events_of, is_done, may_change, is_settled}
+use Rattle.tlog_mirror.specs.Reached.{OpensWith, TakesIn, HasReached, HasReachedOnly, events_of, is_done, may_change, is_answered, IsNext, AreRetried}
 use Rattle.tlog_mirror.specs.PlayLaws.{AreOf, RunIsBounded, IsReached, RunIsReached, IsMet, NoneClashes, ReachedAlike, SameReachedSameView, MirrorsAgree}
 use Rattle.tlog_mirror.proofs.StringSets.{has_right, has_cases, listed_from_has, has_from_listed}
 use Rattle.tlog_mirror.proofs.Views.{within_itself, within_union, within_plus, same_is_one}
@@ -286,15 +286,90 @@ all_events digest keys old new [] answers run = refl
 all_events digest keys old new (e ∷ es) [] run = absurd run
 all_events digest keys old new (e ∷ es) (a ∷ rest) run = ap (λ fs. e ∷ fs) (all_events digest keys run.0 new es rest run.2)
 
-settled_exact : (answers : List Answer) → AllByRecursion (λ a. is_settled a ≡ true) answers → AllByRecursion (λ a. all_of a ≡ true → IsExact a) answers
-settled_exact [] h = tt
-settled_exact (a ∷ rest) h = (λ k. one a h.0, settled_exact rest h.1)
+-- ---- events done again
+
+no_merge_by : {X : Type 0} (t : ℕ) (x : Item) (target source : ℕ) → TakeEvent t x ≡ MergeEvent target source → X
+no_merge_by t x target source e = absurd (cc e)
+
+open_once : (e : Event) (es : List Event) (opened mirror : ℕ) → OpeningReaches opened mirror (e ∷ e ∷ es) → OpeningReaches opened mirror (e ∷ es)
+open_once e es opened mirror h =
+    elim (open_first e (e ∷ es) opened mirror h) [
+      | inl on ↦ on
+      | inr b ↦ elim (open_first e es b.target mirror b.on) [
+        | inl on ↦ subst (λ f. OpeningReaches opened mirror (f ∷ es)) (sym b.is) (open_by es b.target opened mirror on)
+        | inr c ↦
+            let same : MergeEvent b.target opened ≡ MergeEvent c.target b.target = sym b.is ∙ c.is in
+            let target_is : c.target ≡ b.target = sym (cc same) in
+            subst (λ f. OpeningReaches opened mirror (f ∷ es)) (sym b.is) (open_by es b.target opened mirror (subst (λ n. OpeningReaches n mirror es) target_is c.on))
+      ]
+    ]
+
+item_once : (e : Event) (es : List Event) (item : Item) (mirror : ℕ) → Reaches item mirror (e ∷ e ∷ es) → Reaches item mirror (e ∷ es)
+item_once e es item mirror h =
+    elim (item_first e (e ∷ es) item mirror h) [
+      | inl on ↦ on
+      | inr b ↦ elim (open_first e es b.target mirror b.on) [
+        | inl on ↦ subst (λ f. Reaches item mirror (f ∷ es)) (sym b.is) (item_by es b.target item mirror on)
+        | inr c ↦ no_merge_by b.target item c.target b.target (sym b.is ∙ c.is)
+      ]
+    ]
+
+-- an event that is followed by the same one may be left out
+open_next : (e : Event) (es : List Event) → IsNext e es → (opened mirror : ℕ) → OpeningReaches opened mirror (e ∷ es) → OpeningReaches opened mirror es
+open_next e [] same opened mirror h = absurd same
+open_next e (f ∷ es) same opened mirror h = open_once f es opened mirror (subst (λ g. OpeningReaches opened mirror (g ∷ f ∷ es)) (sym same) h)
+
+item_next : (e : Event) (es : List Event) → IsNext e es → (item : Item) (mirror : ℕ) → Reaches item mirror (e ∷ es) → Reaches item mirror es
+item_next e [] same item mirror h = absurd same
+item_next e (f ∷ es) same item mirror h = item_once f es item mirror (subst (λ g. Reaches item mirror (g ∷ f ∷ es)) (sym same) h)
+
+open_kept : (e : Event) (es fs : List Event) → ((opened mirror : ℕ) → OpeningReaches opened mirror es → OpeningReaches opened mirror fs) → (opened mirror : ℕ) → OpeningReaches opened mirror (e ∷ es) → OpeningReaches opened mirror (e ∷ fs)
+open_kept e es fs on opened mirror h =
+    elim (open_first e es opened mirror h) [
+      | inl a ↦ open_later e fs opened mirror (on opened mirror a)
+      | inr b ↦ subst (λ f. OpeningReaches opened mirror (f ∷ fs)) (sym b.is) (open_by fs b.target opened mirror (on b.target mirror b.on))
+    ]
+
+item_kept : (e : Event) (es fs : List Event) → ((opened mirror : ℕ) → OpeningReaches opened mirror es → OpeningReaches opened mirror fs) → ((item : Item) (mirror : ℕ) → Reaches item mirror es → Reaches item mirror fs) → (item : Item) (mirror : ℕ) → Reaches item mirror (e ∷ es) → Reaches item mirror (e ∷ fs)
+item_kept e es fs on more item mirror h =
+    elim (item_first e es item mirror h) [
+      | inl a ↦ item_later e fs item mirror (more item mirror a)
+      | inr b ↦ subst (λ f. Reaches item mirror (f ∷ fs)) (sym b.is) (item_by fs b.target item mirror (on b.target mirror b.on))
+    ]
+
+-- what reaches a mirror does so over the events that were answered
+open_answered : (es : List Event) (as' : List Answer) → length es ≡ length as' → AreRetried es as' → (opened mirror : ℕ) → OpeningReaches opened mirror es → OpeningReaches opened mirror (events_of is_answered es as')
+open_answered [] as' len h opened mirror on = on
+open_answered (e ∷ es) [] len h opened mirror on = absurd (omega (arith, len))
+open_answered (e ∷ es) (Done ∷ as') len h opened mirror on = open_kept e es (events_of is_answered es as') (open_answered es as' (omega (arith, len)) h) opened mirror on
+open_answered (e ∷ es) (Refused ∷ as') len h opened mirror on = open_kept e es (events_of is_answered es as') (open_answered es as' (omega (arith, len)) h) opened mirror on
+open_answered (e ∷ es) (Clashed ∷ as') len h opened mirror on = open_kept e es (events_of is_answered es as') (open_answered es as' (omega (arith, len)) h) opened mirror on
+open_answered (e ∷ es) (Exhausted ∷ as') len h opened mirror on = open_answered es as' (omega (arith, len)) h.1 opened mirror (open_next e es h.0 opened mirror on)
+
+item_answered : (es : List Event) (as' : List Answer) → length es ≡ length as' → AreRetried es as' → (item : Item) (mirror : ℕ) → Reaches item mirror es → Reaches item mirror (events_of is_answered es as')
+item_answered [] as' len h item mirror on = on
+item_answered (e ∷ es) [] len h item mirror on = absurd (omega (arith, len))
+item_answered (e ∷ es) (Done ∷ as') len h item mirror on = item_kept e es (events_of is_answered es as') (open_answered es as' (omega (arith, len)) h) (item_answered es as' (omega (arith, len)) h) item mirror on
+item_answered (e ∷ es) (Refused ∷ as') len h item mirror on = item_kept e es (events_of is_answered es as') (open_answered es as' (omega (arith, len)) h) (item_answered es as' (omega (arith, len)) h) item mirror on
+item_answered (e ∷ es) (Clashed ∷ as') len h item mirror on = item_kept e es (events_of is_answered es as') (open_answered es as' (omega (arith, len)) h) (item_answered es as' (omega (arith, len)) h) item mirror on
+item_answered (e ∷ es) (Exhausted ∷ as') len h item mirror on = item_answered es as' (omega (arith, len)) h.1 item mirror (item_next e es h.0 item mirror on)
+
+run_lengths : (digest : List ℕ → List ℕ) (keys : List Key) (old new : List View) (es : List Event) (as' : List Answer) → Run digest keys old es as' new → length es ≡ length as'
+run_lengths digest keys old new [] [] run = refl
+run_lengths digest keys old new (e ∷ es) (a ∷ as') run = ap suc (run_lengths digest keys run.0 new es as' run.2)
+run_lengths digest keys old new [] (a ∷ as') run = absurd run
+run_lengths digest keys old new (e ∷ es) [] run = absurd run
+
+-- answers that are kept and are no clash are exact
+answered_exact : (answers : List Answer) → (Contains answers Clashed → ⊥) → AllByRecursion (λ a. is_answered a ≡ true → IsExact a) answers
+answered_exact [] apart = tt
+answered_exact (a ∷ more) apart = (one a apart, answered_exact more (λ c. apart (suc c.0, omega (arith, c.1), c.2)))
   where
-    one : (a : Answer) → is_settled a ≡ true → IsExact a
-    one Done h = inl refl
-    one Refused h = inr refl
-    one Clashed h = absurd (cc h)
-    one Exhausted h = absurd (cc h)
+    one : (a : Answer) → (Contains (a ∷ more) Clashed → ⊥) → is_answered a ≡ true → IsExact a
+    one Done c h = inl refl
+    one Refused c h = inr refl
+    one Clashed c h = absurd (c (0, omega arith, refl))
+    one Exhausted c h = absurd (cc h)
 
 run_origin : (digest : List ℕ → List ℕ) (keys : List Key) (origin : List ℕ) (old new : List View) (es : List Event) (rest : List Answer) → AreOf origin old → Run digest keys old es rest new → AreOf origin new
 run_origin digest keys origin old new [] [] of run = subst (AreOf origin) (sym run) of
@@ -303,11 +378,22 @@ run_origin digest keys origin old new [] (a ∷ rest) of run = absurd run
 run_origin digest keys origin old new (e ∷ es) [] of run = absurd run
 
 pub run_is_reached : RunIsReached
-run_is_reached digest origin keys opened final events answers of settled run mirror v found =
+run_is_reached digest origin keys opened final events answers of apart retried run mirror v found =
     let all = all_events digest keys opened final events answers run in
+    let len = run_lengths digest keys opened final events answers run in
+    let had = has_reached digest origin keys opened final events answers of run is_answered (answered_exact answers apart) mirror v found in
     record {
       origin_is = run_origin digest keys origin opened final events answers of run mirror v found;
-      has = subst (λ es. HasReached digest origin keys opened es mirror v) all (has_reached digest origin keys opened final events answers of run all_of (settled_exact answers (recursion_from_All (λ a. is_settled a ≡ true) answers settled)) mirror v found);
+      has = record {
+        strings = λ q h. had.strings q (elim h [
+          | inl o ↦ inl (record { number = o.number; view = o.view; is = o.is; reaches = open_answered events answers len retried o.number mirror o.reaches; has = o.has })
+          | inr t ↦ inr (record { item = t.item; good = t.good; reaches = item_answered events answers len retried t.item mirror t.reaches; has = t.has })
+        ]);
+        notes = λ q h. had.notes q (elim h [
+          | inl o ↦ inl (record { number = o.number; view = o.view; is = o.is; reaches = open_answered events answers len retried o.number mirror o.reaches; has = o.has })
+          | inr t ↦ inr (record { item = t.item; good = t.good; reaches = item_answered events answers len retried t.item mirror t.reaches; has = t.has })
+        ]);
+      };
       only = subst (λ es. HasReachedOnly digest origin keys opened es mirror v) all (reached_only digest origin keys opened final events answers of run all_of (λ a h. absurd (cc h)) mirror v found);
     }
 
@@ -394,26 +480,14 @@ half digest origin keys opened opened' events events' mirror mirror' v w a b ali
 }
 
 pub same_reached : SameReachedSameView
-same_reached digest origin keys opened opened' final final' events events' answers answers' of of' settled settled' run run' mirror mirror' v w found found' to from =
-    let a = run_is_reached digest origin keys opened final events answers of settled run mirror v found in
-    let b = run_is_reached digest origin keys opened' final' events' answers' of' settled' run' mirror' w found' in
+same_reached digest origin keys opened opened' final final' events events' answers answers' of of' apart apart' retried retried' run run' mirror mirror' v w found found' to from =
+    let a = run_is_reached digest origin keys opened final events answers of apart retried run mirror v found in
+    let b = run_is_reached digest origin keys opened' final' events' answers' of' apart' retried' run' mirror' w found' in
     same_is_one v w (half digest origin keys opened opened' events events' mirror mirror' v w a b to) (half digest origin keys opened' opened events' events mirror' mirror w v b a from)
 
--- answers of which none is that for a clash or for want of memory
-settled_from : (answers : List Answer) → (Contains answers Clashed → ⊥) → (Contains answers Exhausted → ⊥) → AllByRecursion (λ a. is_settled a ≡ true) answers
-settled_from [] no_clash no_want = tt
-settled_from (a ∷ more) no_clash no_want = (one a no_clash no_want, settled_from more (λ c. no_clash (suc c.0, omega (arith, c.1), c.2)) (λ c. no_want (suc c.0, omega (arith, c.1), c.2)))
-  where
-    one : (a : Answer) → (Contains (a ∷ more) Clashed → ⊥) → (Contains (a ∷ more) Exhausted → ⊥) → is_settled a ≡ true
-    one Done c w = refl
-    one Refused c w = refl
-    one Clashed c w = absurd (c (0, omega arith, refl))
-    one Exhausted c w = absurd (w (0, omega arith, refl))
-
 pub mirrors_agree : MirrorsAgree
-mirrors_agree digest origin keys opened opened' final final' events events' answers answers' of of' clean clean' want want' run run' mirror mirror' v w found found' to from =
-    let settled : (as' : List Answer) → (Contains as' Clashed → ⊥) → (Contains as' Exhausted → ⊥) → AllPass is_settled as' = (λ as' c m. All-from_recursion (λ a. is_settled a ≡ true) as' (settled_from as' c m)) in
+mirrors_agree digest origin keys opened opened' final final' events events' answers answers' of of' clean clean' retried retried' run run' mirror mirror' v w found found' to from =
     same_reached digest origin keys opened opened' final final' events events' answers answers' of of'
-    (settled answers (none_clashes digest origin keys opened final events answers of clean run) want)
-    (settled answers' (none_clashes digest origin keys opened' final' events' answers' of' clean' run') want')
-    run run' mirror mirror' v w found found' to from
+    (none_clashes digest origin keys opened final events answers of clean run)
+    (none_clashes digest origin keys opened' final' events' answers' of' clean' run')
+    retried retried' run run' mirror mirror' v w found found' to from

@@ -7,7 +7,7 @@ use Rattle.tlog_mirror.specs.View.{View}
 use Rattle.tlog_mirror.specs.Item.{Item, IsGood, strings_of}
 use Rattle.tlog_mirror.specs.Events.{Event, TakeEvent, MergeEvent, Reaches, OpeningReaches, OpenedView, TakenItem, sources_of}
 use Rattle.tlog_mirror.specs.Steps.{Answer, Exhausted, Clashed, Takes, Merges, Run}
-use Rattle.tlog_mirror.specs.Reached.{HasReached, HasReachedOnly, events_of, is_done, may_change, is_settled}
+use Rattle.tlog_mirror.specs.Reached.{HasReached, HasReachedOnly, events_of, is_done, may_change, AreRetried}
 
 -- By the last event of a list: a take at a mirror adds its item to what reaches it, a merge into a mirror adds what reached its source, and nothing else changes.
 pub record ReachesByLast (events : List Event) : Type 0 where
@@ -47,14 +47,14 @@ pub record IsBounded (digest : List ℕ → List ℕ) (origin : List ℕ) (keys 
 abbrev pub RunIsBounded : Type 0
 RunIsBounded = (digest : List ℕ → List ℕ) (origin : List ℕ) (keys : List Key) (opened final : List View) (events : List Event) (answers : List Answer) → AreOf origin opened → Run digest keys opened events answers final → (mirror : ℕ) (v : View) → slice_get final mirror ≡ Some v → IsBounded digest origin keys opened events answers mirror v
 
--- Where nothing clashed and no memory was refused, a mirror's view is the union of the opening views and of the good items that reach it.
+-- Where nothing clashed, and each event for which memory was refused was done again, a mirror's view is the union of the opening views and of the good items that reach it.
 pub record IsReached (digest : List ℕ → List ℕ) (origin : List ℕ) (keys : List Key) (opened : List View) (events : List Event) (mirror : ℕ) (v : View) : Type 0 where
   pub origin_is : v.origin ≡ origin
   pub has : HasReached digest origin keys opened events mirror v
   pub only : HasReachedOnly digest origin keys opened events mirror v
 
 abbrev pub RunIsReached : Type 0
-RunIsReached = (digest : List ℕ → List ℕ) (origin : List ℕ) (keys : List Key) (opened final : List View) (events : List Event) (answers : List Answer) → AreOf origin opened → AllPass is_settled answers → Run digest keys opened events answers final → (mirror : ℕ) (v : View) → slice_get final mirror ≡ Some v → IsReached digest origin keys opened events mirror v
+RunIsReached = (digest : List ℕ → List ℕ) (origin : List ℕ) (keys : List Key) (opened final : List View) (events : List Event) (answers : List Answer) → AreOf origin opened → (Contains answers Clashed → ⊥) → AreRetried events answers → Run digest keys opened events answers final → (mirror : ℕ) (v : View) → slice_get final mirror ≡ Some v → IsReached digest origin keys opened events mirror v
 
 -- a string of an opening view, or of a good item of the list
 pub record IsOpened (opened : List View) (string : List ℕ) : Type 0 where
@@ -89,11 +89,11 @@ pub record ReachedAlike (digest : List ℕ → List ℕ) (origin : List ℕ) (ke
 
 -- mirrors that the same items have reached, in any order, with repeats and through any merges, hold equal views
 abbrev pub SameReachedSameView : Type 0
-SameReachedSameView = (digest : List ℕ → List ℕ) (origin : List ℕ) (keys : List Key) (opened opened' final final' : List View) (events events' : List Event) (answers answers' : List Answer) → AreOf origin opened → AreOf origin opened' → AllPass is_settled answers → AllPass is_settled answers' → Run digest keys opened events answers final → Run digest keys opened' events' answers' final' → (mirror mirror' : ℕ) (v w : View) → slice_get final mirror ≡ Some v → slice_get final' mirror' ≡ Some w → ReachedAlike digest origin keys opened opened' events events' mirror mirror' → ReachedAlike digest origin keys opened' opened events' events mirror' mirror → v ≡ w
+SameReachedSameView = (digest : List ℕ → List ℕ) (origin : List ℕ) (keys : List Key) (opened opened' final final' : List View) (events events' : List Event) (answers answers' : List Answer) → AreOf origin opened → AreOf origin opened' → (Contains answers Clashed → ⊥) → (Contains answers' Clashed → ⊥) → AreRetried events answers → AreRetried events' answers' → Run digest keys opened events answers final → Run digest keys opened' events' answers' final' → (mirror mirror' : ℕ) (v w : View) → slice_get final mirror ≡ Some v → slice_get final' mirror' ≡ Some w → ReachedAlike digest origin keys opened opened' events events' mirror mirror' → ReachedAlike digest origin keys opened' opened events' events mirror' mirror → v ≡ w
 
--- The headline: while no two of the byte strings met share a digest, and no event was left for want of memory, such mirrors hold equal views.
+-- The headline: while no two of the byte strings met share a digest, and each event for which memory was refused was done again, such mirrors hold equal views.
 abbrev pub MirrorsAgree : Type 0
-MirrorsAgree = (digest : List ℕ → List ℕ) (origin : List ℕ) (keys : List Key) (opened opened' final final' : List View) (events events' : List Event) (answers answers' : List Answer) → AreOf origin opened → AreOf origin opened' → NothingClashes digest origin keys opened events → NothingClashes digest origin keys opened' events' → (Contains answers Exhausted → ⊥) → (Contains answers' Exhausted → ⊥) → Run digest keys opened events answers final → Run digest keys opened' events' answers' final' → (mirror mirror' : ℕ) (v w : View) → slice_get final mirror ≡ Some v → slice_get final' mirror' ≡ Some w → ReachedAlike digest origin keys opened opened' events events' mirror mirror' → ReachedAlike digest origin keys opened' opened events' events mirror' mirror → v ≡ w
+MirrorsAgree = (digest : List ℕ → List ℕ) (origin : List ℕ) (keys : List Key) (opened opened' final final' : List View) (events events' : List Event) (answers answers' : List Answer) → AreOf origin opened → AreOf origin opened' → NothingClashes digest origin keys opened events → NothingClashes digest origin keys opened' events' → AreRetried events answers → AreRetried events' answers' → Run digest keys opened events answers final → Run digest keys opened' events' answers' final' → (mirror mirror' : ℕ) (v w : View) → slice_get final mirror ≡ Some v → slice_get final' mirror' ≡ Some w → ReachedAlike digest origin keys opened opened' events events' mirror mirror' → ReachedAlike digest origin keys opened' opened events' events mirror' mirror → v ≡ w
 
 -- an event that ran out of memory and is done again comes to the same as one event
 abbrev pub TakesAgain : Type 0

@@ -60,9 +60,23 @@ may_change Refused = false
 may_change Clashed = false
 may_change Exhausted = true
 
--- the answer is not that for a clash or for want of memory
-abbrev pub is_settled : Answer → Bool
-is_settled Done = true
-is_settled Refused = true
-is_settled Clashed = false
-is_settled Exhausted = false
+-- memory was not refused
+abbrev pub is_answered : Answer → Bool
+is_answered Done = true
+is_answered Refused = true
+is_answered Clashed = true
+is_answered Exhausted = false
+
+-- the first of these events is this one
+abbrev pub IsNext : Event → List Event → Type 0
+IsNext event [] = ⊥
+IsNext event (next ∷ events) = next ≡ event
+
+-- an event for which memory was refused is followed by the same event, before any other
+abbrev pub AreRetried : List Event → List Answer → Type 0
+AreRetried [] answers = Unit {0}
+AreRetried (event ∷ events) [] = Unit {0}
+AreRetried (event ∷ events) (Done ∷ answers) = AreRetried events answers
+AreRetried (event ∷ events) (Refused ∷ answers) = AreRetried events answers
+AreRetried (event ∷ events) (Clashed ∷ answers) = AreRetried events answers
+AreRetried (event ∷ events) (Exhausted ∷ answers) = IsNext event events × AreRetried events answers

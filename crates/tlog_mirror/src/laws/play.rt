@@ -9,9 +9,9 @@ pub fn reaches_law()
     ensures fold { FoldIsReaches }
 {}
 
-/// After any run of events a mirror's view is the union of the opening views and of the good items that
-/// reach it. Where memory was refused or strings clashed, the view lies between what was done and what
-/// may have been.
+/// After a run of events a mirror's view is the union of the opening views and of the good items that
+/// reach it, where no strings clashed, and each event for which memory was refused was done again. In
+/// any other run the view lies between what was done and what may have been.
 pub fn run_law()
     ensures reached { RunIsReached }
     ensures bounded { RunIsBounded }
@@ -25,7 +25,8 @@ pub fn clash_law()
 
 /// Mirrors that the same good items and the same opening views have reached hold equal views, in
 /// whatever order, however often and through whichever merges these came: where no event was answered
-/// by a clash or for want of memory, and so where no two strings share a digest and memory is there.
+/// by a clash, and so where no two strings share a digest, and each event for which memory was refused
+/// was done again.
 pub fn order_law()
     ensures same { SameReachedSameView }
     ensures agree { MirrorsAgree }
