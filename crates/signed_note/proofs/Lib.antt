@@ -11,3 +11,5 @@ pub mod LineCounts
 pub mod Readings
 pub mod OneReading
 pub mod Signed
+pub mod KeyWords
+pub mod KeyLines

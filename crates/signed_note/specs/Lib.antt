@@ -3,4 +3,5 @@ pub mod Hmac
 pub mod Names
 pub mod Notes
 pub mod Reading
+pub mod KeyFiles
 pub mod Laws

@@ -8,6 +8,9 @@
 
 mod fault;
 mod hmac;
+mod key_file;
+mod key_line;
+mod key_words;
 mod laws;
 mod line;
 mod mac_key;
@@ -20,6 +23,8 @@ mod signing;
 mod verifier;
 
 pub use fault::{KeyFault, KeyFileFault, NoteFault, OpenFault};
+pub use key_file::read_keys;
+pub use key_line::KeyLine;
 pub use laws::{notes_law, one_answer_law};
 pub use line::SignatureLine;
 pub use mac_key::HmacKey;
