@@ -5,3 +5,4 @@ pub mod Answered
 pub mod Uniqueness
 pub mod OneAnswer
 pub mod Written
+pub mod Decided

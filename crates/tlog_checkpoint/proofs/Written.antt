@@ -11,6 +11,9 @@ use Rattle.base64.specs.GeneralPurpose.{encode_of}
 use Rattle.tlog_checkpoint.specs.declared.Checkpoint.{Checkpoint}
 use Rattle.tlog_checkpoint.specs.Lines.{is_newline, ended, text_of, IsLine}
 use Rattle.tlog_checkpoint.specs.Fields.{IsDecimal, IsRoot}
+use Rattle.tlog_checkpoint.specs.Laws.{EachWritten}
+use Rattle.tlog_checkpoint.proofs.Decimals.{decimal_written}
+use Rattle.std.specs.Fmt.{decimal}
 use Rattle.tlog_checkpoint.specs.Grammar.{IsFullLine, IsCheckpoint, IsWritable}
 
 abbrev not_newline : ℕ → Bool
@@ -90,3 +93,9 @@ written text size root c can has_size has_root is = record {
   in_range = can.size;
   has_root = has_root;
 }
+
+pub each_written : EachWritten
+each_written c can bytes hash = (
+  text_of (c.origin ∷ decimal c.size ∷ encode_of standard c.root ∷ c.extensions),
+  written _ (decimal c.size) (encode_of standard c.root) c can (decimal_written c.size can.size) (record { is_base64 = refl; are_bytes = bytes; is_hash = hash }) refl,
+)

@@ -1,8 +1,9 @@
 -- What the grammar of checkpoints says, as laws of its definitions.
-use Rattle.std.specs.Prelude.{◌≡◌, ◌≢◌, ℕ, List, Result, Err}
+use Rattle.std.specs.Prelude.{◌≡◌, ◌≢◌, ℕ, List, length, Result, Err}
 use Rattle.tlog_checkpoint.specs.declared.Checkpoint.{Checkpoint}
 use Rattle.tlog_checkpoint.specs.declared.fault.CheckpointFault.{CheckpointFault}
 use Rattle.tlog_checkpoint.specs.declared.fault.CheckpointFault.TheVariants.{OutOfMemory}
+use Rattle.base64.specs.GeneralPurpose.{IsBytes}
 use Rattle.tlog_checkpoint.specs.Grammar.{IsCheckpoint, IsWritable}
 use Rattle.tlog_checkpoint.specs.Reading.{Reads}
 
@@ -25,3 +26,7 @@ OneAnswer = (text : List ℕ) (a b : Result Checkpoint CheckpointFault) → a �
 -- each text has an answer that is no want of memory
 abbrev pub EachAnswered : Type 0
 EachAnswered = (text : List ℕ) → (a : Result Checkpoint CheckpointFault) × (a ≢ Err OutOfMemory) × Reads text a
+
+-- what can be written, with a hash of 32 bytes, has a text
+abbrev pub EachWritten : Type 0
+EachWritten = (c : Checkpoint) → IsWritable c → IsBytes c.root → length c.root ≡ 32 → (text : List ℕ) × IsCheckpoint text c.origin c.size c.root c.extensions

@@ -12,9 +12,7 @@ use base64::DecodeAllocError;
 use base64::engine::general_purpose::STANDARD;
 use std::alloc::{AllocError, Global};
 use tlog_hash::Hash;
-
-/// The greatest size of a log, 2^63 - 1.
-const MAX_SIZE: u64 = 9223372036854775807;
+use tlog_shape::MAX_SIZE;
 
 fn are_digits(line: &str) -> bool
     ensures { result ≡ list_all is_ascii_digit line.now }

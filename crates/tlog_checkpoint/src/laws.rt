@@ -1,7 +1,7 @@
 //! What the grammar of checkpoints says, as laws of the definitions that the contracts cite.
 //!
 //! A law is the contract of a function with an empty body: the proof is all that there is of it.
-ghost use Rattle.tlog_checkpoint.specs.Laws.{OneReading, OneText, ReadsWritable, OneAnswer};
+ghost use Rattle.tlog_checkpoint.specs.Laws.{OneReading, OneText, ReadsWritable, OneAnswer, EachAnswered, EachWritten};
 
 /// A text is one checkpoint at most, so a text that `write` wrote is read as what was written.
 pub fn one_reading_law()
@@ -22,4 +22,15 @@ pub fn writable_law()
 /// refused, and each other text has one refusal, the first that applies.
 pub fn one_answer_law()
     ensures { OneAnswer }
+{}
+
+/// Each text has an answer that is no want of memory: it is a checkpoint, or one of the refusals
+/// applies.
+pub fn each_answered_law()
+    ensures { EachAnswered }
+{}
+
+/// What can be written has a text.
+pub fn written_law()
+    ensures { EachWritten }
 {}

@@ -20,7 +20,9 @@ mod text;
 mod writing;
 
 pub use fault::CheckpointFault;
-pub use laws::{one_answer_law, one_reading_law, one_text_law, writable_law};
+pub use laws::{
+    each_answered_law, one_answer_law, one_reading_law, one_text_law, writable_law, written_law,
+};
 pub use reading::read;
 pub use text::{Line, Lines};
 use tlog_hash::Hash;

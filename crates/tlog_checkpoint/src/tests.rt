@@ -150,4 +150,6 @@ fn laws() {
     one_text_law();
     writable_law();
     one_answer_law();
+    each_answered_law();
+    written_law();
 }
