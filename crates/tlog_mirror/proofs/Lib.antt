@@ -19,3 +19,4 @@ pub mod Folding
 pub mod Remembering
 pub mod Examples
 pub mod TrueItems
+pub mod ManyRounds

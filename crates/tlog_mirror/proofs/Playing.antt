@@ -1,9 +1,9 @@
 -- Runs: what a mirror's view has of what reaches it.
 use Rattle.std.proofs.Common.{arith, length, suc, ◌≡◌, ℕ, List, [], ◌∷◌, Some, Bool, true, false, cond, sym, refl, ap, ◌∙◌, subst, ◌⊎◌, inl, inr}
 use Rattle.std.specs.Prelude.{slice_get, slice_set}
-use Rattle.std.specs.List.{AllPass, Contains, AllByRecursion}
+use Rattle.std.specs.List.{Contains, AllByRecursion}
 use Rattle.std.specs.FinSet as set
-use Rattle.std.proofs.lemmas.List.Elements.{recursion_from_All, All-from_recursion, All-contains}
+use Rattle.std.proofs.lemmas.List.Elements.{All-from_recursion, All-contains}
 use Rattle.node_store.specs.Strings.{Strings, Has}
 use Rattle.signed_note.specs.Keys.{Key}
 use Rattle.tlog_mirror.specs.View.{View, union, IsWithin}

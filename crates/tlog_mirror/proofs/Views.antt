@@ -1,10 +1,11 @@
 -- Views: joined, and when they are lawful.
 use Rattle.std.proofs.Common.{◌≡◌, ℕ, List, ◌∷◌, sym, refl, ◌∙◌, subst, inl, inr}
+use Rattle.tlog_mirror.specs.Strings.{HasClash}
 use Rattle.tlog_mirror.specs.View.{View, union, IsWithin}
 use Rattle.tlog_mirror.specs.Item.{Item, plus}
 use Rattle.tlog_mirror.specs.Heads.{IsHead, HasHead}
 use Rattle.tlog_mirror.specs.Complete.{HasEdge}
-use Rattle.tlog_mirror.specs.ViewLaws.{UnionCommutes, UnionAssociates, UnionRepeats, SameIsOne, UnionIsLawful, CompleteStays, MarksStay, ForksStay, ForksTurn}
+use Rattle.tlog_mirror.specs.ViewLaws.{ClashesTurn, UnionCommutes, UnionAssociates, UnionRepeats, SameIsOne, UnionIsLawful, CompleteStays, MarksStay, ForksStay, ForksTurn}
 use Rattle.tlog_mirror.proofs.StringSets.{has_left, has_right, has_cases, same_strings, union_comm, union_assoc, union_itself, held_more}
 
 pub union_commutes : UnionCommutes
@@ -12,6 +13,9 @@ union_commutes v w same = λ i. record { origin = same i; notes = union_comm v.n
 
 pub union_associates : UnionAssociates
 union_associates v w x = λ i. record { origin = v.origin; notes = union_assoc v.notes w.notes x.notes i; strings = union_assoc v.strings w.strings x.strings i }
+
+pub clashes_turn : ClashesTurn
+clashes_turn digest v w c = subst (HasClash digest) (union_comm v.strings w.strings) c
 
 pub union_repeats : UnionRepeats
 union_repeats v = λ i. record { origin = v.origin; notes = union_itself v.notes i; strings = union_itself v.strings i }

@@ -1,6 +1,6 @@
 -- Laws of events and runs: what reaches which mirror, and what that leaves in its view.
 use Rattle.std.specs.Prelude.{◌≡◌, ◌⊎◌, ◌↔◌, ℕ, List, [], ◌∷◌, ◌++◌, Some, slice_get}
-use Rattle.std.specs.List.{Contains, AllPass}
+use Rattle.std.specs.List.{Contains}
 use Rattle.signed_note.specs.Keys.{Key}
 use Rattle.node_store.specs.Strings.{Has}
 use Rattle.tlog_mirror.specs.View.{View}

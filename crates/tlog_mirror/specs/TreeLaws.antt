@@ -1,6 +1,7 @@
 -- What edges, tiles, bundles, fronts and walks have to do with the tree of a list of entries.
-use Rattle.std.specs.Prelude.{◌≡◌, ◌↔◌, ℕ, ◌+◌, ◌-◌, ◌*◌, ◌^◌, ◌≤◌, ◌<◌, Bool, false, List, length, map, min}
+use Rattle.std.specs.Prelude.{[], ◌∷◌, max, ◌≡◌, ◌↔◌, ℕ, ◌+◌, ◌-◌, ◌*◌, ◌^◌, ◌≤◌, ◌<◌, Bool, false, List, length, map, min}
 use Rattle.std.specs.List.{Contains}
+use Rattle.tlog_shape.specs.Edge.{IsTop}
 use Rattle.tlog_hash.specs.Tree.{tree_of, mth, strings, joins}
 use Rattle.tlog_hash.specs.Nodes.{Node, IsNode}
 use Rattle.tlog_hash.specs.Shape.{shape}
@@ -56,6 +57,24 @@ RoundGoesDown = (digest : List ℕ → List ℕ) (held after : List ℕ → Bool
 -- after a round of bundles alone nothing of the tree is unheld
 abbrev pub BundlesComplete : Type 0
 BundlesComplete = (digest : List ℕ → List ℕ) (held after : List ℕ → Bool) (entries : List (List ℕ)) → IsRound digest held after entries → AsksBundlesAlone digest held entries → HoldsAll after (strings digest entries)
+
+-- with the edge held, the front has no tile of the greatest level that has a partial tile, or above it
+abbrev pub FrontIsBelowTop : Type 0
+FrontIsBelowTop = (digest : List ℕ → List ℕ) (held : List ℕ → Bool) (entries : List (List ℕ)) (top : ℕ) → length entries < 256 ^ 8 → IsTop (length entries) top → HoldsAll held (edge_strings digest (edge_rows digest entries)) → (level index width : ℕ) → IsFront digest held entries (Tile level index width) → level < top
+
+-- one round after another
+abbrev pub AreRounds : (List ℕ → List ℕ) → List (List ℕ) → (List ℕ → Bool) → List (List ℕ → Bool) → Type 0
+AreRounds digest entries held [] = Unit {0}
+AreRounds digest entries held (after ∷ afters) = IsRound digest held after entries × AreRounds digest entries after afters
+
+-- what is held after the last of them
+abbrev pub held_after : (List ℕ → Bool) → List (List ℕ → Bool) → List ℕ → Bool
+held_after held [] = held
+held_after held (after ∷ afters) = held_after after afters
+
+-- as many rounds as the greatest level that has a partial tile, and one at least, leave nothing of the tree unheld
+abbrev pub RoundsComplete : Type 0
+RoundsComplete = (digest : List ℕ → List ℕ) (held : List ℕ → Bool) (entries : List (List ℕ)) (top : ℕ) (afters : List (List ℕ → Bool)) → length entries < 256 ^ 8 → IsTop (length entries) top → AreRounds digest entries held afters → max 1 top ≤ length afters → HoldsAll (held_after held afters) (strings digest entries)
 
 -- a node of the front of E
 abbrev pub HasFrontAt : (List ℕ → List ℕ) → (List ℕ → Bool) → List (List ℕ) → ℕ → ℕ → Type 0

@@ -7,7 +7,7 @@ use Rattle.tlog_tiles.specs.Row.{IsRow}
 use Rattle.signed_note.specs.Keys.{Key}
 use Rattle.node_store.specs.Strings.{NoClash}
 use Rattle.tlog_mirror.specs.View.{View, union, IsWithin}
-use Rattle.tlog_mirror.specs.Strings.{held_in}
+use Rattle.tlog_mirror.specs.Strings.{held_in, HasClash}
 use Rattle.tlog_mirror.specs.Heads.{HasHead}
 use Rattle.tlog_mirror.specs.Item.{Item, row_of, entries_of, IsGood, plus}
 use Rattle.tlog_mirror.specs.Complete.{Complete, IsComplete, IsLawful}
@@ -49,6 +49,10 @@ UnionAssociates = (v w x : View) → union (union v w) x ≡ union v (union w x)
 
 abbrev pub UnionRepeats : Type 0
 UnionRepeats = (v : View) → union v v ≡ v
+
+-- and clashes in the same cases either way round
+abbrev pub ClashesTurn : Type 0
+ClashesTurn = (digest : List ℕ → List ℕ) (v w : View) → HasClash digest (union v w).strings → HasClash digest (union w v).strings
 
 -- views that hold the same are one
 abbrev pub SameIsOne : Type 0

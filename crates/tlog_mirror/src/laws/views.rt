@@ -1,13 +1,14 @@
 //! Laws of views: what a mirror holds, and what follows from it.
-ghost use Rattle.tlog_mirror.specs.ViewLaws.{CompleteIsSame, CompleteStays, ForksStay, ForksTell, ForksTurn, ListHasRoot, MarksStay, MissingIsNone, OneList, PlusIsLawful, RepliesOnce, SameIsOne, ServesOne, UnionAssociates, UnionCommutes, UnionIsLawful, UnionRepeats, WholeIsMark};
+ghost use Rattle.tlog_mirror.specs.ViewLaws.{ClashesTurn, CompleteIsSame, CompleteStays, ForksStay, ForksTell, ForksTurn, ListHasRoot, MarksStay, MissingIsNone, OneList, PlusIsLawful, RepliesOnce, SameIsOne, ServesOne, UnionAssociates, UnionCommutes, UnionIsLawful, UnionRepeats, WholeIsMark};
 
 /// Views that hold the same are one, and they are joined in any order, in any grouping and any number
-/// of times with one result.
+/// of times with one result. Their strings clash either way round or neither.
 pub fn union_law()
     ensures same { SameIsOne }
     ensures commutes { UnionCommutes }
     ensures associates { UnionAssociates }
     ensures repeats { UnionRepeats }
+    ensures clashes { ClashesTurn }
 {}
 
 /// A lawful view has one list of entries at most for a size and root, and the root is its tree hash.

@@ -1,4 +1,5 @@
 use Rattle.tlog_mirror.proofs.TreeLaws.{round_leaves, round_goes_down, bundles_complete}
+use Rattle.tlog_mirror.proofs.ManyRounds.{front_is_below_top, rounds_complete}
 use Rattle.tlog_mirror.proofs.laws.fronts.rounds_law.Goals as goal
 
 pub returns-clause-leaves : goal.returns-clause-leaves
@@ -9,3 +10,9 @@ returns-clause-down c = round_goes_down
 
 pub returns-clause-complete : goal.returns-clause-complete
 returns-clause-complete c = bundles_complete
+
+pub returns-clause-first : goal.returns-clause-first
+returns-clause-first c = front_is_below_top
+
+pub returns-clause-number : goal.returns-clause-number
+returns-clause-number c = rounds_complete

@@ -1,4 +1,4 @@
-use Rattle.tlog_mirror.proofs.Views.{same_is_one, union_commutes, union_associates, union_repeats}
+use Rattle.tlog_mirror.proofs.Views.{same_is_one, union_commutes, union_associates, union_repeats, clashes_turn}
 use Rattle.tlog_mirror.proofs.laws.views.union_law.Goals as goal
 
 pub returns-clause-same : goal.returns-clause-same
@@ -12,3 +12,6 @@ returns-clause-associates c = union_associates
 
 pub returns-clause-repeats : goal.returns-clause-repeats
 returns-clause-repeats c = union_repeats
+
+pub returns-clause-clashes : goal.returns-clause-clashes
+returns-clause-clashes c = clashes_turn
