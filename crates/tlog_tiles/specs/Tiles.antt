@@ -29,9 +29,9 @@ IsWithin n (Entries index width) = IsTileWithin n 0 index width
 
 -- a partial tile within n entries, and no wider tile of its place is
 pub record IsPartialIn (n level index width : ℕ) : Type 0 where
-  pub within : IsTileWithin n level index width
+  pub within : IsWithin n (Tile level index width)
   pub partial : width < 256
-  pub widest : (wider : ℕ) → width < wider → IsTileWithin n level index wider → ⊥
+  pub widest : (wider : ℕ) → width < wider → IsWithin n (Tile level index wider) → ⊥
 
 -- the path is that of such a tile
 abbrev pub IsEdgeTile : ℕ → Path → Type 0
