@@ -18,7 +18,7 @@ use Rattle.base64.specs.GeneralPurpose.{engine_symbols, encode_of, decode_of, Is
 use Rattle.base64.proofs.EngineFacts.{decode_of-encode_of}
 use Rattle.base64.proofs.RoundTrip.{length-encode_symbols}
 use Rattle.tlog_proof.specs.Text.{IsHash, LacksNewline, base64_of, line, number_line, hash_line, path_lines}
-use Rattle.tlog_proof.specs.Reading.{IsPlain, FindsThat}
+use Rattle.tlog_proof.specs.Reading.{FindsThat}
 use Rattle.tlog_proof.specs.declared.fault.TextFault.{TextFault}
 use Rattle.tlog_proof.specs.declared.fault.TextFault.TheVariants.{BadProofText, OutOfMemory}
 
@@ -119,33 +119,6 @@ number_line_once name n rest m more p q e =
 
 pub length-decimal : (n : ℕ) → n < 2 ^ 63 → length (decimal n) ≤ 19
 length-decimal n small = length-decimal-le 19 n (omega arith) (omega arith) (omega arith)
-
--- a number is written plainly
-pub plain_decimal : (n : ℕ) → n < 2 ^ 63 → IsPlain (decimal n)
-plain_decimal n small =
-    let some : 0 < length (decimal n) = decimal_nonempty n (omega arith) in
-    record {
-      unsigned = not_in_digits own (decimal n) 43 (digits_decimal own n (omega arith)) (λ r. omega (arith, r.0)) 0 some;
-      no_zero = λ zero_first. elim (cases_lt 0 n) [
-        | inl more ↦ (let first = first_decimal n more (omega arith) in absurd (omega (arith, first, zero_first)))
-        | inr none ↦ (let z : n ≡ 0 = omega arith in ap (λ k. length (decimal k)) z ∙ ap length (decimal_digit 0 (omega arith)))
-      ];
-    }
-
--- what is written plainly, and is parsed as n, is the decimal of n
-pub parsed_plain : {E : Type 0} (digits : List ℕ) (n : ℕ) (r : Result ℕ E) → r ≡ Ok n → ParsesUnsigned 64 10 digits r → IsPlain digits → digits ≡ decimal n
-parsed_plain {E} digits n (Err e) is h plain = absurd (cc is)
-parsed_plain {E} digits n (Ok x) is h plain =
-    let same : x ≡ n = cc is in
-    let p : ((AllDigits 10 digits × (0 < length digits) × (digits_value 10 digits < 2 ^ 64)) × (x ≡ digits_value 10 digits)) = parse_plain own {E = E} 64 digits (Ok x) h plain.unsigned in
-    sym (decimal-digits_value own digits p.0.0 p.0.1 plain.no_zero p.0.2) ∙ ap decimal (sym p.1 ∙ same)
-
--- the decimal of n is parsed as n
-pub parsed_decimal : {E : Type 0} (digits : List ℕ) (n x : ℕ) (r : Result ℕ E) → r ≡ Ok x → ParsesUnsigned 64 10 digits r → n < 2 ^ 63 → digits ≡ decimal n → x ≡ n
-parsed_decimal digits n x r is h small e = let whole = sym is ∙ parse-decimal 64 n digits r (omega arith) (omega arith) e h in cc whole
-
-pub parsed_never : {E : Type 0} (digits : List ℕ) (n : ℕ) (fault : E) (r : Result ℕ E) → r ≡ Err fault → ParsesUnsigned 64 10 digits r → n < 2 ^ 63 → digits ≡ decimal n → ⊥
-parsed_never digits n fault r is h small e = let whole = sym is ∙ parse-decimal 64 n digits r (omega arith) (omega arith) e h in cc whole
 
 -- ---- hashes
 

@@ -1,5 +1,5 @@
 -- What the parts of the reader of proof texts find.
-use Rattle.std.specs.Prelude.{◌≡◌, ◌≢◌, ℕ, List, slice_index, length, Result, Ok, Err}
+use Rattle.std.specs.Prelude.{◌≡◌, ℕ, List, Result, Ok, Err}
 use Rattle.tlog_proof.specs.declared.proof.Proof.{Proof}
 use Rattle.tlog_proof.specs.declared.proof.Proof.TheVariants.{Inclusion, Consistency}
 use Rattle.tlog_proof.specs.declared.fault.TextFault.{TextFault}
@@ -25,8 +25,3 @@ IsInclusionProof (Consistency first first_root second second_root path) = ⊥
 abbrev pub IsConsistencyProof : Proof → Type 0
 IsConsistencyProof (Inclusion size index root leaf path) = ⊥
 IsConsistencyProof (Consistency first first_root second second_root path) = Unit {0}
-
--- a number as one writes it: no sign, and no leading zero but in 0 itself
-pub record IsPlain (digits : List ℕ) : Type 0 where
-  pub unsigned : slice_index digits 0 ≢ 43
-  pub no_zero : slice_index digits 0 ≡ 48 → length digits ≡ 1

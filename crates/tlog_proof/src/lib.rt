@@ -19,6 +19,8 @@ mod path;
 mod proof;
 mod ranges;
 mod read;
+#[cfg(test)]
+mod tests;
 mod write;
 
 pub use check::{check_consistency, check_inclusion};

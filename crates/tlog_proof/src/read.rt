@@ -1,9 +1,8 @@
 //! Proofs from text.
-ghost use Rattle.std.specs.Prelude.{◌≡◌, ◌↔◌, ◌<◌, ◌≤◌, ◌^◌, ℕ, List, [], length, IsTrue, IfSome, MatchOption, IfOk};
-ghost use Rattle.std.specs.Fmt.{decimal};
+ghost use Rattle.std.specs.Prelude.{◌≡◌, ◌<◌, ◌≤◌, ◌^◌, ℕ, List, [], length, IfSome, MatchOption, IfOk};
 ghost use Rattle.std.specs.List.{AllByRecursion};
 ghost use Rattle.tlog_proof.specs.Text.{IsHash, LacksNewline, line, base64_of, number_line, hash_line, path_lines, ReadsProof};
-ghost use Rattle.tlog_proof.specs.Reading.{FindsThat, AreLines, IsInclusionProof, IsConsistencyProof, IsPlain};
+ghost use Rattle.tlog_proof.specs.Reading.{FindsThat, AreLines, IsInclusionProof, IsConsistencyProof};
 
 use crate::fault::TextFault;
 use crate::path::HashPath;
@@ -12,7 +11,7 @@ use base64::DecodeAllocError;
 use base64::engine::general_purpose::STANDARD;
 use std::alloc::Global;
 use tlog_hash::Hash;
-use tlog_shape::MAX_SIZE;
+use tlog_shape::read_number;
 
 // The most hashes that a path of a text has.
 const MAX_PATH: usize = 64;
@@ -93,7 +92,7 @@ fn number_field<'a>(text: &'a str, name: &str) -> Option<(u64, &'a str)>
     ensures complete { (n : ℕ) (rest : List ℕ) → n < 2 ^ 63 → text.now ≡ number_line name.now n rest → MatchOption result ⊥ (λ r. (r.0 ≡ n) × (r.1.now ≡ rest)) }
 {
     let (digits, rest) = field(text, name)?;
-    let n = number(digits)?;
+    let n = read_number(digits)?;
     Some((n, rest))
 }
 
@@ -127,31 +126,6 @@ fn path_fields(alloc: Global, text: &str) -> Result<HashPath, TextFault>
         rest = after;
     }
     Ok(HashPath::new(path))
-}
-
-// The number that is written so, of at most 2^63 - 1.
-fn number(digits: &str) -> Option<u64>
-    ensures sound { IfSome result (λ n. (n < 2 ^ 63) × (digits.now ≡ decimal n)) }
-    ensures complete { (n : ℕ) → n < 2 ^ 63 → digits.now ≡ decimal n → MatchOption result ⊥ (λ found. found ≡ n) }
-{
-    if !is_plain(digits.as_bytes()) {
-        return None;
-    }
-    match digits.parse::<u64>() {
-        Ok(n) if n <= MAX_SIZE => Some(n),
-        _ => None,
-    }
-}
-
-// Whether there is no sign, and no leading zero but in 0 itself.
-fn is_plain(digits: &[u8]) -> bool
-    ensures { IsTrue result ↔ IsPlain digits.now }
-{
-    match digits {
-        [b'+', ..] => false,
-        [b'0', ..] => digits.len() == 1,
-        _ => true,
-    }
 }
 
 // The hash that is encoded so.
