@@ -13,7 +13,7 @@ use std::marker::{Model, PhantomData};
 use thiserror::Error;
 use tlog_hash::{Hash, TreeHash};
 
-/// Why a string was not added.
+/// Why a string was not added. It prints its variant's name.
 #[derive(Debug, Drop, PartialEq, Eq, Clone, Copy, Error)]
 pub enum AddFault {
     /// Another string of the same digest is held.
@@ -24,7 +24,13 @@ pub enum AddFault {
     OutOfMemory,
 }
 
-/// A set of strings, no two of which share a digest.
+/// A set of tagged strings, no two of which share a digest.
+///
+/// The digest is that of the `TreeHash` in use, and the strings are `0x00 || entry` and
+/// `0x01 || left || right` with hashes of 32 bytes. Contracts see the set, and nothing of how it is kept.
+//
+// The map has the two hashes of a pair, or where an entry lies in the pool, which has the bytes of all
+// entries one after the other. So an entry costs no allocation of its own, and is lent as it lies.
 #[derive(Drop)]
 pub struct Store<H: TreeHash> {
     held: HashMap<Hash, Held>,
@@ -62,8 +68,8 @@ impl<H: TreeHash> Store<H> {
 
     /// Adds a string. One that is held already is passed over, and takes no memory.
     ///
-    /// Both faults leave the set as it was. `Collision` comes exactly where the string clashes, and
-    /// `OutOfMemory` only where a growth was refused.
+    /// `Collision` comes exactly where another string of its digest is held, and `OutOfMemory` only where
+    /// a growth was refused. Both leave the set as it was.
     pub fn add(&mut self, string: Tagged) -> Result<(), AddFault>
         ensures ok { OnOk result (self.new ≡ set.insert self.old (string_of string.entry)) }
         ensures err { OnErr result (self.new ≡ self.old) }
@@ -101,7 +107,7 @@ impl<H: TreeHash> Store<H> {
         Ok(())
     }
 
-    /// Whether another string of its digest is held. It takes no memory.
+    /// Whether another string of its digest is held, so that `add` would refuse it. It takes no memory.
     pub fn clashes(&self, string: Tagged) -> bool
         ensures { IsTrue result ↔ Clashes H.digest self.now (string_of string.entry) }
     {
@@ -121,7 +127,8 @@ impl<H: TreeHash> Store<H> {
         }
     }
 
-    /// The two hashes of the pair of that digest that is held. It takes no memory.
+    /// The two hashes of the pair of that digest that is held, and `None` exactly where no pair of that
+    /// digest is. It takes no memory.
     pub fn pair_of(&self, hash: &Hash) -> Option<(Hash, Hash)>
         ensures some { IfSome result (λ p. IsHeldAt H.digest self.now hash.now (joined p)) }
         ensures none { IfNone result ((l r : List ℕ) → IsHeldAt H.digest self.now hash.now (1 ∷ l ++ r) → ⊥) }
@@ -133,7 +140,8 @@ impl<H: TreeHash> Store<H> {
         }
     }
 
-    /// The entry of that digest that is held, lent from the pool. It takes no memory.
+    /// The entry of that digest that is held, and `None` exactly where no entry of that digest is.
+    /// It is lent from the store, without a copy, and takes no memory.
     pub fn entry_of(&self, hash: &Hash) -> Option<&[u8]>
         ensures some { IfSome result (λ e. IsHeldAt H.digest self.now hash.now (0 ∷ e.now)) }
         ensures none { IfNone result ((e : List ℕ) → IsHeldAt H.digest self.now hash.now (0 ∷ e) → ⊥) }
@@ -152,7 +160,8 @@ impl<H: TreeHash> Store<H> {
         self.held.len()
     }
 
-    /// The strings that are held, each once. The order is open. It takes no memory.
+    /// The strings that are held, each once. The order is open. They are lent from the store, without a
+    /// copy, and take no memory.
     pub fn iter(&self) -> Iter<'_>
         ensures all { set.from_list result ≡ self.now }
         ensures once { length result ≡ set.len self.now }

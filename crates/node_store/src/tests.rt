@@ -125,26 +125,39 @@ fn adds_all(rt: HostRuntime) -> Result<(), Fail> {
     Ok(())
 }
 
-// Each growth may be refused, as `rt try --test --fail-alloc N` does. Then nothing has changed, and
-// the same call adds the string once there is memory.
-#[test]
-fn refused_growth_changes_nothing(rt: HostRuntime) -> Result<(), Fail> {
-    let mut store: Store<Sha256Tree> = Store::new(rt.alloc());
-    for byte in 0..60u8 {
-        let string = Tagged::Leaf(&[byte; 40]);
-        let before = store.len();
-        let mut added = store.add(string);
-        if added.is_err() {
-            assert_eq!(rt; added, Err(AddFault::OutOfMemory));
-            assert_eq!(rt; store.len(), before);
-            assert_eq!(rt; store.holds(string), false);
-            added = store.add(string);
-        }
-        assert_eq!(rt; added, Ok(()));
-        assert_eq!(rt; store.holds(string), true);
+// Adds a string that is new. Where a growth is refused, as by `rt try --test --fail-alloc N`, nothing
+// has changed, and the same call adds the string once there is memory.
+fn add_at_last<H: TreeHash>(rt: &impl Abort, store: &mut Store<H>, string: Tagged) {
+    let before = store.len();
+    let mut added = store.add(string);
+    if added.is_err() {
+        assert_eq!(rt; added, Err(AddFault::OutOfMemory));
+        assert_eq!(rt; store.len(), before);
+        assert_eq!(rt; store.holds(string), false);
+        added = store.add(string);
     }
-    assert_eq!(rt; store.len(), 60);
-    Ok(())
+    assert_eq!(rt; added, Ok(()));
+    assert_eq!(rt; store.holds(string), true);
+    assert_eq!(rt; store.add(string), Ok(()));
+}
+
+#[test]
+fn refused_growth_changes_nothing(rt: HostRuntime) {
+    let mut store: Store<Sha256Tree> = Store::new(rt.alloc());
+    for byte in 0..10u8 {
+        add_at_last(&rt, &mut store, Tagged::Leaf(&[byte; 40]));
+        add_at_last(&rt, &mut store, Tagged::Pair(&[byte; 32], &LEAF_OF_10));
+    }
+    assert_eq!(rt; store.len(), 20);
+    let mut copy: Store<Sha256Tree> = Store::new(rt.alloc());
+    let mut added = copy.add_all(&store);
+    if added.is_err() {
+        assert_eq!(rt; added, Err(AddFault::OutOfMemory));
+        assert!(rt; copy.len() < 20);
+        added = copy.add_all(&store);
+    }
+    assert_eq!(rt; added, Ok(()));
+    assert_eq!(rt; copy.len(), 20);
 }
 
 // The next of a fixed sequence of numbers that look random (Knuth's MMIX generator).
