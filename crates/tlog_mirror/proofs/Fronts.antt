@@ -150,7 +150,8 @@ module _ (digest : List ℕ → List ℕ) (held : List ℕ → Bool) where
               let short = length-take 256 (drop (i * 256) es) in
               let width = min 256 (length es - 256 * i) in
               let at : y.start / 256 ≡ i = index_of i 256 y.start y.len (omega arith) here.start_in (omega (arith, here.upto, short)) here.some in
-              let all : HoldsAll after (strings digest (part (i * 256) width es)) = answered (Entries i width) (record { node = y; is = f; path_is = record { few = few; index_is = sym at; width_is = refl } }) in
+              let swap : 256 * i ≡ i * 256 = omega arith in
+              let all : HoldsAll after (strings digest (part (i * 256) width es)) = subst (λ n. HoldsAll after (strings digest (part n width es))) swap (answered (Entries i width) (record { node = y; is = f; path_is = record { few = few; index_is = sym at; width_is = refl } })) in
               let same : part (i * 256) width es ≡ part (i * 256) 256 es = ap (λ n. take n (drop (i * 256) es)) (let len : length (drop (i * 256) es) ≡ length es - 256 * i = length-drop (i * 256) es ∙ omega arith in ap (λ n. min 256 n) (sym len)) ∙ take_min 256 (drop (i * 256) es) in
               let has : Contains (strings digest (part (i * 256) 256 es)) x.string = (bundle digest es i blk.below x.string).1 (record { node = x; is = nx; inside = record { start_in = omega (arith, here.start_in, w.start_in); upto = omega (arith, here.upto, short, w.end_in); some = inside_x.some }; string_is = refl }) in
               both_ways x.string e (all x.string (subst (λ zs. Contains (strings digest zs) x.string) (sym same) has))

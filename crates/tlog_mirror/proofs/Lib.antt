@@ -20,3 +20,5 @@ pub mod Remembering
 pub mod Examples
 pub mod TrueItems
 pub mod ManyRounds
+pub mod Listing
+pub mod Keeping

@@ -41,7 +41,7 @@ module _ (digest : List ℕ → List ℕ) (keys : List Key) where
   event_grows old new (MergeEvent target source) a h = set_grows old new target h.before h.after h.found h.set (answer_grows digest (h.before.origin ≡ h.other.origin) (union h.before h.other) h.before (within_union h.before h.other) a h.after h.merges)
 
   -- a view after an event stood there before, or is the event's
-  set_back : (old new : List View) (target : ℕ) (after : View) → new ≡ slice_set old target after → (before : View) → slice_get old target ≡ Some before → (number : ℕ) (v : View) → slice_get new number ≡ Some v → (slice_get old number ≡ Some v) ⊎ ((number ≡ target) × (v ≡ after))
+  pub set_back : (old new : List View) (target : ℕ) (after : View) → new ≡ slice_set old target after → (before : View) → slice_get old target ≡ Some before → (number : ℕ) (v : View) → slice_get new number ≡ Some v → (slice_get old number ≡ Some v) ⊎ ((number ≡ target) × (v ≡ after))
   set_back old new target after is before found number v here =
       let there : slice_get (slice_set old target after) number ≡ Some v = ap (λ xs. slice_get xs number) (sym is) ∙ here in
       elim (same_number number target) [

@@ -189,8 +189,7 @@ taking_is_round digest hash entries short v w t =
         λ fits. subst (λ n. HoldsAll (held_in w.strings) (joins digest (level_row digest entries level (256 * index) n))) f.path_is.width_is (subst (HoldsAll (held_in w.strings)) true_tile.strings_are all)
     answer (Entries index width) f within h =
         let true_bundle = bundles_are_true digest hash entries short index width within in
-        let swap : 256 * index ≡ index * 256 = omega arith in
-        subst (λ n. HoldsAll (held_in w.strings) (strings digest (part n width entries))) swap (subst (HoldsAll (held_in w.strings)) true_bundle.strings_are (holds_from_held w.strings _ h))
+        subst (HoldsAll (held_in w.strings)) true_bundle.strings_are (holds_from_held w.strings _ h)
 
 -- ---- the first entries
 

@@ -3,10 +3,12 @@ use Rattle.std.specs.Prelude.{◌≡◌, ◌⊎◌, ◌↔◌, ℕ, List, [], �
 use Rattle.std.specs.List.{Contains}
 use Rattle.signed_note.specs.Keys.{Key}
 use Rattle.node_store.specs.Strings.{Has}
-use Rattle.tlog_mirror.specs.View.{View}
-use Rattle.tlog_mirror.specs.Item.{Item, IsGood, strings_of}
+use Rattle.tlog_mirror.specs.View.{View, IsWithin}
+use Rattle.tlog_mirror.specs.Complete.{IsLawful}
+use Rattle.tlog_mirror.specs.Item.{Item, IsGood, strings_of, plus}
 use Rattle.tlog_mirror.specs.Events.{Event, TakeEvent, MergeEvent, Reaches, OpeningReaches, OpenedView, TakenItem, sources_of}
-use Rattle.tlog_mirror.specs.Steps.{Answer, Exhausted, Clashed, Takes, Merges, Run}
+use Rattle.tlog_mirror.specs.Steps.{Answer, Exhausted, Clashed, IsBetween, Takes, Merges, Run}
+use Rattle.tlog_mirror.specs.ViewLaws.{IsHash}
 use Rattle.tlog_mirror.specs.Reached.{HasReached, HasReachedOnly, events_of, is_done, may_change, AreRetried}
 
 -- By the last event of a list: a take at a mirror adds its item to what reaches it, a merge into a mirror adds what reached its source, and nothing else changes.
@@ -101,3 +103,23 @@ TakesAgain = (digest : List ℕ → List ℕ) (keys : List Key) (old between new
 
 abbrev pub MergesAgain : Type 0
 MergesAgain = (digest : List ℕ → List ℕ) (old other between new : View) (answer : Answer) → Merges digest old other Exhausted between → Merges digest between other answer new → Merges digest old other answer new
+
+-- after want of memory in a take a new note stands only if the view is the one with the item
+abbrev pub NoteIsLast : Type 0
+NoteIsLast = (digest : List ℕ → List ℕ) (keys : List Key) (old new : View) (item : Item) (note : List ℕ) → Takes digest keys old item Exhausted new → Has new.notes note → Has old.notes note ⊎ (new ≡ plus digest old item)
+
+-- a view between two lawful ones, with new notes last, is lawful
+abbrev pub BetweenIsLawful : Type 0
+BetweenIsLawful = (digest : List ℕ → List ℕ) (old full new : View) → IsLawful digest old → IsLawful digest full → IsBetween old full new → IsLawful digest new
+
+-- all views are lawful
+abbrev pub AreLawful : (List ℕ → List ℕ) → List View → Type 0
+AreLawful digest views = (mirror : ℕ) (v : View) → slice_get views mirror ≡ Some v → IsLawful digest v
+
+-- a run keeps views lawful
+abbrev pub RunIsLawful : Type 0
+RunIsLawful = (digest : List ℕ → List ℕ) → IsHash digest → (keys : List Key) (opened final : List View) (events : List Event) (answers : List Answer) → AreLawful digest opened → Run digest keys opened events answers final → AreLawful digest final
+
+-- and each view only grows
+abbrev pub RunGrows : Type 0
+RunGrows = (digest : List ℕ → List ℕ) (keys : List Key) (opened final : List View) (events : List Event) (answers : List Answer) → Run digest keys opened events answers final → (mirror : ℕ) (v w : View) → slice_get opened mirror ≡ Some v → slice_get final mirror ≡ Some w → IsWithin v w

@@ -17,7 +17,7 @@ module _ (digest : List ℕ → List ℕ) where
   abbrev pub IsAnswered : (List ℕ → Bool) → List (List ℕ) → Path → Type 0
   IsAnswered held entries Checkpoint = Unit {0}
   IsAnswered held entries (Tile level index width) = (index + 1) * 256 ^ (level + 1) ≤ length entries → HoldsAll held (joins digest (level_row digest entries level (256 * index) 256))
-  IsAnswered held entries (Entries index width) = HoldsAll held (strings digest (part (index * 256) width entries))
+  IsAnswered held entries (Entries index width) = HoldsAll held (strings digest (part (256 * index) width entries))
 
   -- a round: the edge's strings are held before it, what is held stays held, and all paths of the front are answered
   pub record IsRound (held after : List ℕ → Bool) (entries : List (List ℕ)) : Type 0 where

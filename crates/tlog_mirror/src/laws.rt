@@ -5,6 +5,7 @@ pub mod edges;
 pub mod examples;
 pub mod fronts;
 pub mod items;
+pub mod lists;
 pub mod play;
 pub mod tiles;
 pub mod truth;

@@ -7,7 +7,8 @@ pub use laws::edges::{edge_root_law, edge_rows_law, edge_strings_law};
 pub use laws::examples::{fork_example, trees_example, way_example};
 pub use laws::fronts::{front_law, rounds_law, walk_law};
 pub use laws::items::bytes_law;
-pub use laws::play::{again_law, clash_law, order_law, reaches_law, run_law};
+pub use laws::lists::lists_law;
+pub use laws::play::{again_law, clash_law, keeping_law, order_law, reaches_law, run_law};
 pub use laws::tiles::{bundle_law, full_row_law};
 pub use laws::truth::{prefix_law, true_items_law, true_rounds_law};
 pub use laws::views::{

@@ -1,5 +1,5 @@
 //! Laws of events and runs: mirrors that the same items have reached hold the same.
-ghost use Rattle.tlog_mirror.specs.PlayLaws.{FoldIsReaches, MergesAgain, MirrorsAgree, NoneClashes, OpeningReachesGoByLast, ReachesGoByLast, RunIsBounded, RunIsReached, SameReachedSameView, TakesAgain};
+ghost use Rattle.tlog_mirror.specs.PlayLaws.{BetweenIsLawful, FoldIsReaches, MergesAgain, MirrorsAgree, NoneClashes, NoteIsLast, OpeningReachesGoByLast, ReachesGoByLast, RunGrows, RunIsBounded, RunIsLawful, RunIsReached, SameReachedSameView, TakesAgain};
 
 /// What reaches a mirror, by the last event of a list: a take adds its item, a merge adds what reached
 /// its source, and nothing else changes. A fold over the events gives the same.
@@ -36,4 +36,13 @@ pub fn order_law()
 pub fn again_law()
     ensures takes { TakesAgain }
     ensures merges { MergesAgain }
+{}
+
+/// A run keeps lawful views lawful, and each view only grows. A view that want of memory left half way
+/// is lawful too, since a new note stands only where all strings do.
+pub fn keeping_law()
+    ensures lawful { RunIsLawful }
+    ensures grows { RunGrows }
+    ensures between { BetweenIsLawful }
+    ensures note { NoteIsLast }
 {}

@@ -1,0 +1,10 @@
+//! Laws of what calls answer as lists.
+ghost use Rattle.tlog_mirror.specs.Listed.{ForksAreListedOnce, FrontIsListedOnce, HeadsAreListedOnce, MissingIsListedOnce};
+
+/// Heads, forks and paths that are listed in their order, each once and nothing else, are one list.
+pub fn lists_law()
+    ensures heads { HeadsAreListedOnce }
+    ensures forks { ForksAreListedOnce }
+    ensures missing { MissingIsListedOnce }
+    ensures front { FrontIsListedOnce }
+{}
