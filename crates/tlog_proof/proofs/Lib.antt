@@ -10,3 +10,4 @@ pub mod Readers
 pub mod Parts
 pub mod Lines
 pub mod Spelling
+pub mod Lengths

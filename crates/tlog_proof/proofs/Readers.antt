@@ -101,7 +101,7 @@ end-turned flag g (h ∷ z ∷ path) = ap (at_end flag g) (reverse-append (h ∷
     none true = refl
     none false = refl
 
-equal_not : (a b : ℕ) → b < a → nat_eq a b ≡ false
+pub equal_not : (a b : ℕ) → b < a → nat_eq a b ≡ false
 equal_not a b h = search rules
 
 module _ (digest : List ℕ → List ℕ) where

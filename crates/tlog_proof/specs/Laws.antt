@@ -1,5 +1,5 @@
 -- What the standards say of proofs, as laws of the definitions in Inclusion.antt and Consistency.antt.
-use Rattle.std.specs.Prelude.{◌≡◌, ◌⊎◌, ℕ, ◌-◌, ◌<◌, ◌≤◌, Bool, true, false, List, [], ◌∷◌, ◌++◌, length, reverse, take, drop, Option, Some, None, slice_index_or}
+use Rattle.std.specs.Prelude.{◌≡◌, ◌⊎◌, ℕ, ◌+◌, ◌-◌, ◌^◌, ◌<◌, ◌≤◌, Bool, true, false, List, [], ◌∷◌, ◌++◌, length, reverse, take, drop, Option, Some, None, slice_index_or}
 use Rattle.std.specs.List.{Contains}
 use Rattle.std.specs.Option.{option_map}
 use Rattle.tlog_shape.specs.Split.{split_of}
@@ -30,6 +30,10 @@ pub record IsSubproofMaker (digest : List ℕ → List ℕ) (subproof : ℕ → 
 -- PROOF(m, D[n]) is SUBPROOF(m, D[n], true), which meets them; and for 0 < m <= n nothing else does
 abbrev pub ProofEquations : Type 0
 ProofEquations = (digest : List ℕ → List ℕ) → ((m : ℕ) (entries : List (List ℕ)) → proof_of digest m entries ≡ subproof_of digest m entries true) × IsSubproofMaker digest (subproof_of digest) × ((subproof : ℕ → List (List ℕ) → Bool → List (List ℕ)) → IsSubproofMaker digest subproof → (m : ℕ) (entries : List (List ℕ)) (flag : Bool) → 0 < m → m ≤ length entries → subproof m entries flag ≡ subproof_of digest m entries flag)
+
+-- of at most 2^j entries a path has at most j hashes, and a consistency proof one more
+abbrev pub PathsAreShort : Type 0
+PathsAreShort = (digest : List ℕ → List ℕ) (j : ℕ) (entries : List (List ℕ)) → length entries ≤ 2 ^ j → ((i : ℕ) → length (path_of digest i entries) ≤ j) × ((m : ℕ) → 0 < m → m ≤ length entries → length (proof_of digest m entries) ≤ j + 1)
 
 -- ---- how proofs are read
 

@@ -1,7 +1,7 @@
 //! What the standards say of proofs, as laws of the definitions that the contracts cite.
 //!
 //! A law is the contract of a function with an empty body: the proof is all that there is of it.
-ghost use Rattle.tlog_proof.specs.Laws.{PathEquations, ProofEquations, InclEquations, ConsEquations, MadeInclusionHolds, MadeConsistencyHolds, AcceptedInclusionShows, AcceptedConsistencyShows};
+ghost use Rattle.tlog_proof.specs.Laws.{PathEquations, ProofEquations, InclEquations, ConsEquations, PathsAreShort, MadeInclusionHolds, MadeConsistencyHolds, AcceptedInclusionShows, AcceptedConsistencyShows};
 ghost use Rattle.tlog_proof.specs.Text.{HasOneSpelling};
 
 /// Path meets the equations of RFC 6962, section 2.1.1, and nothing else does.
@@ -12,6 +12,12 @@ pub fn path_law()
 /// Proof meets the equations of RFC 6962, section 2.1.2, and nothing else does.
 pub fn proof_law()
     ensures { ProofEquations }
+{}
+
+/// An inclusion proof in a tree of at most 2^j entries has at most j hashes, and a consistency proof at
+/// most one more.
+pub fn path_length_law()
+    ensures { PathsAreShort }
 {}
 
 /// Incl reads the equations of Path backwards, from the root down, and nothing else does.

@@ -23,7 +23,7 @@ impl HashPath {
     pub fn new(hashes: Vec<Hash>) -> HashPath
         ensures { result ≡ hashes.items }
     {
-        HashPath { hashes }
+        Self { hashes }
     }
 
     /// The hashes, as a list.

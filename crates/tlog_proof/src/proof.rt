@@ -1,7 +1,8 @@
 //! Whole proofs: what is asked for, and the answer with all that a check needs.
-ghost use Rattle.std.specs.Prelude.{◌≡◌, ◌↔◌, ℕ, List, IsTrue};
+ghost use Rattle.std.specs.Prelude.{◌≡◌, ◌↔◌, ◌<◌, ◌^◌, ℕ, List, length, IsTrue, IfOk};
 ghost use Rattle.tlog_proof.specs.Answers.{Answers};
 ghost use Rattle.tlog_proof.specs.Made.{proof_in, Holds};
+ghost use Rattle.tlog_proof.specs.Text.{IsWritable};
 
 use crate::check::{check_consistency, check_inclusion};
 use crate::make::{ProofFault, consistency, hash_of, inclusion};
@@ -44,9 +45,11 @@ pub enum Proof {
 
 /// Makes the proof that is asked for.
 ///
-/// Errors: those of `inclusion` or `consistency`, in their order.
+/// Errors: those of `inclusion` or `consistency`, in their order. Of a list of at most
+/// 9223372036854775807 entries the proof can be written as text.
 pub fn prove<R: Ranges>(alloc: Global, ranges: &R, ask: Ask) -> Result<Proof, ProofFault>
-    ensures { (entries : List (List ℕ)) → R.lists ranges.now entries → Answers ProofFault.OutOfMemory (λ proof. proof) result (proof_in R.digest entries ask) }
+    ensures answer { (entries : List (List ℕ)) → R.lists ranges.now entries → Answers ProofFault.OutOfMemory (λ proof. proof) result (proof_in R.digest entries ask) }
+    ensures writable { IfOk result (λ proof. (entries : List (List ℕ)) → R.lists ranges.now entries → length entries < 2 ^ 63 → IsWritable proof) }
 {
     match ask {
         Ask::Inclusion { size, index } => {

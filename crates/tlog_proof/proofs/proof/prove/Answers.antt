@@ -1,14 +1,15 @@
-use Rattle.std.proofs.Common.{◌∷◌, [], take, get_or, Ok, sym, ap, ◌∙◌, arith}
+use Rattle.std.proofs.Common.{◌∷◌, [], take, get_or, Ok, sym, ap, ◌∙◌, length, arith}
 use Rattle.tlog_hash.specs.Tree.{mth}
 use Rattle.tlog_proof.specs.Answers.{seen}
 use Rattle.tlog_proof.specs.Made.{proof_in}
 use Rattle.tlog_proof.specs.declared.proof.Proof.TheVariants.{Inclusion}
+use Rattle.tlog_proof.proofs.Lengths.{path_writable, proof_writable}
 use Rattle.tlog_proof.proofs.Parts.{mth-part_one}
 use Rattle.tlog_proof.proofs.proof.prove.Goals as goal
 
 -- a range of one entry has the entry's leaf hash
-pub returns-in_ok-leaf-in-Inclusion : goal.returns-in_ok-leaf-in-Inclusion
-returns-in_ok-leaf-in-Inclusion g c = λ es listed.
+pub returns-in_ok-leaf-in-Inclusion-clause-answer : goal.returns-in_ok-leaf-in-Inclusion-clause-answer
+returns-in_ok-leaf-in-Inclusion-clause-answer g c = λ es listed.
     let d = g.R.Ranges.digest in
     let size = c.in-Inclusion.size in
     let index = c.in-Inclusion.index in
@@ -17,3 +18,13 @@ returns-in_ok-leaf-in-Inclusion g c = λ es listed.
     ap (proof_in d es) c.in-Inclusion.is
     ∙ ap (seen (λ path. Inclusion size index (mth d (take size es)) (d (0 ∷ get_or es index [])) path)) (c.in_ok-path-in-Inclusion.ensures es listed)
     ∙ (λ j. Ok (Inclusion size index (sym root j) (sym (leaf.1 ∙ mth-part_one d es index (omega (arith, leaf.0))) j) (sym c.new.ensures j)))
+
+pub returns-in_ok-leaf-in-Inclusion-clause-writable : goal.returns-in_ok-leaf-in-Inclusion-clause-writable
+returns-in_ok-leaf-in-Inclusion-clause-writable g c = λ es listed small.
+    let fit = path_writable g.R.Ranges.digest es c.in-Inclusion.size c.in-Inclusion.index c.in_ok-path-in-Inclusion.path.items small (c.in_ok-path-in-Inclusion.ensures es listed) in
+    (fit.0, fit.1, omega (arith, fit.2, ap length c.new.ensures))
+
+pub returns-in_ok-second_root-in-Consistency-clause-writable : goal.returns-in_ok-second_root-in-Consistency-clause-writable
+returns-in_ok-second_root-in-Consistency-clause-writable g c = λ es listed small.
+    let fit = proof_writable g.R.Ranges.digest es c.in-Consistency.first c.in-Consistency.second c.in_ok-path-in-Consistency.path.items small (c.in_ok-path-in-Consistency.ensures es listed) in
+    (fit.0, fit.1, omega (arith, fit.2, ap length c.new-in-Consistency.ensures))
