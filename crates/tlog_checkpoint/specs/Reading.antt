@@ -8,7 +8,7 @@ use Rattle.tlog_checkpoint.specs.Lines.{HasLines}
 use Rattle.tlog_checkpoint.specs.Fields.{IsDecimal, IsRoot}
 use Rattle.tlog_checkpoint.specs.Grammar.{HasFields, IsCheckpoint}
 
--- Three lines are not there, or bytes follow the last newline: then the text has no lines at all.
+-- Fewer than three lines; or bytes after the last newline, since such a text has no list of lines.
 abbrev pub HasTooFewLines : List ℕ → Type 0
 HasTooFewLines text = (lines : List (List ℕ)) → HasLines text lines → length lines < 3
 

@@ -1,4 +1,4 @@
-//! The fields of a checkpoint, each read from its line.
+//! The size and the root of a checkpoint, read from their lines and written as them.
 
 ghost use Rattle.std.specs.Prelude.{◌≡◌, ◌<◌, ◌^◌, ℕ, IfOk, MatchBool, string_bytes};
 ghost use Rattle.std.specs.Char.{is_ascii_digit};
@@ -14,6 +14,7 @@ use std::alloc::{AllocError, Global};
 use tlog_hash::Hash;
 use tlog_shape::MAX_SIZE;
 
+/// Whether the line has ASCII digits alone.
 fn are_digits(line: &str) -> bool
     ensures { result ≡ list_all is_ascii_digit line.now }
 {

@@ -39,18 +39,20 @@ fn lines_of(alloc: Global, text: &str) -> Result<Vec<&str>, CheckpointFault>
     Ok(parts_of(alloc, body)?)
 }
 
+/// Whether some line has no bytes.
 fn has_empty_line(lines: &[&str]) -> bool
     ensures { result ≡ list_any (λ line. length line.now == 0) lines.now }
 {
     lines.iter().any(|line| line.is_empty())
 }
 
+/// The lines in memory of their own.
 fn copied(alloc: Global, lines: &[&str]) -> Result<Lines, AllocError>
     ensures { IfOk result (λ copies. copies ≡ map (λ line. line.now) lines.now) }
 {
     let mut copies = Vec::new(alloc);
     for line in lines {
-        copies.push(Line::new(String::from_str(alloc, line)?))?;
+        copies.push(String::from_str(alloc, line)?)?;
     }
     Ok(Lines::new(copies))
 }

@@ -121,7 +121,7 @@ fn pinned_ed25519(rt: HostRuntime) -> Result<(), Fail> {
 fn made_by_hand(rt: HostRuntime) -> Result<(), Fail> {
     let alloc = rt.alloc();
     let mut lines = Vec::new(alloc);
-    lines.push(Line::new(String::from_str(alloc, "more")?))?;
+    lines.push(String::from_str(alloc, "more")?)?;
     let checkpoint = Checkpoint {
         origin: Line::new(String::from_str(alloc, "ex")?),
         size: 3,

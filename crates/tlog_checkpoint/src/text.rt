@@ -1,10 +1,10 @@
 //! Texts that contracts see as their bytes, wherever they lie in memory.
 
-ghost use Rattle.std.specs.Prelude.{◌≡◌, string_bytes};
+ghost use Rattle.std.specs.Prelude.{◌≡◌, map, string_bytes};
 
 use std::marker::Model;
 
-/// A line of a checkpoint, without its newline. Contracts see its bytes.
+/// A line, without its newline. Contracts see its bytes.
 #[derive(Debug, Drop)]
 pub struct Line {
     text: String,
@@ -19,7 +19,7 @@ impl Model for Line {
 }
 
 impl Line {
-    /// A line of that text. Whether it can stand in a checkpoint is asked where it is written.
+    /// That text. Whether it can stand in a checkpoint is asked where the checkpoint is written.
     pub fn new(text: String) -> Self
         ensures { result ≡ string_bytes text }
     {
@@ -42,38 +42,38 @@ impl Line {
     }
 }
 
-/// Lines in order. Contracts see the list of their bytes.
+/// Lines in order, each without its newline. Contracts see the list of their bytes.
 #[derive(Debug, Drop)]
 pub struct Lines {
-    lines: Vec<Line>,
+    lines: Vec<String>,
 }
 
 impl Model for Lines {
-    ghost use Rattle.std.specs.Prelude.{ℕ, List};
+    ghost use Rattle.std.specs.Prelude.{ℕ, List, map, string_bytes};
 
     ghost Value = { List (List ℕ) };
 
-    ghost view = { λ l. l.lines.items };
+    ghost view = { λ l. map string_bytes l.lines.items };
 }
 
 impl Lines {
     /// Those lines.
-    pub fn new(lines: Vec<Line>) -> Self
-        ensures { result ≡ lines.items }
+    pub fn new(lines: Vec<String>) -> Self
+        ensures { result ≡ map string_bytes lines.items }
     {
         Self { lines }
     }
 
     /// The lines, in order.
-    pub fn as_slice(&self) -> &[Line]
-        ensures { result.now ≡ self.now }
+    pub fn as_slice(&self) -> &[String]
+        ensures { map string_bytes result.now ≡ self.now }
     {
         self.lines.as_slice()
     }
 
     /// The lines, given back.
-    pub fn into_vec(self) -> Vec<Line>
-        ensures { result.items ≡ self }
+    pub fn into_vec(self) -> Vec<String>
+        ensures { map string_bytes result.items ≡ self }
     {
         let Lines { lines } = self;
         lines

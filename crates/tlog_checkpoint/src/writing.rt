@@ -1,12 +1,11 @@
 //! Checkpoints written as their text.
 
-ghost use Rattle.std.specs.Prelude.{◌≡◌, ◌++◌, IfOk, OnOk, string_bytes};
+ghost use Rattle.std.specs.Prelude.{◌≡◌, ◌++◌, IfOk, OnOk, map, string_bytes};
 ghost use Rattle.tlog_checkpoint.specs.Lines.{ended, text_of};
 ghost use Rattle.tlog_checkpoint.specs.Grammar.{IsCheckpoint, IsWritable};
 
 use crate::Checkpoint;
 use crate::fields::{root_line, size_line};
-use crate::text::Line;
 use std::alloc::{AllocError, Global};
 
 /// Adds the line and its newline.
@@ -18,8 +17,8 @@ fn add_line(text: &mut String, line: &str) -> Result<(), AllocError>
 }
 
 /// Adds the lines, each with its newline.
-fn add_lines(text: &mut String, lines: &[Line]) -> Result<(), AllocError>
-    ensures { OnOk result (string_bytes text.new ≡ string_bytes text.old ++ text_of lines.now) }
+fn add_lines(text: &mut String, lines: &[String]) -> Result<(), AllocError>
+    ensures { OnOk result (string_bytes text.new ≡ string_bytes text.old ++ text_of (map string_bytes lines.now)) }
 {
     for line in lines {
         add_line(text, line.as_str())?;

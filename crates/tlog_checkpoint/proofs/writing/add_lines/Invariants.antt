@@ -1,7 +1,7 @@
-use Rattle.std.proofs.Common.{◌≡◌, ◌++◌, take}
+use Rattle.std.proofs.Common.{◌≡◌, ◌++◌, map, take}
 use Rattle.std.specs.String.{string_bytes}
 use Rattle.tlog_checkpoint.specs.Lines.{text_of}
 use Rattle.tlog_checkpoint.proofs.writing.add_lines.Given as goal
 
 abbrev pub invariant-loop-line : goal.invariant-loop-line
-invariant-loop-line l = string_bytes l.text ≡ string_bytes l.initial.text ++ text_of (take l.line-index l.lines)
+invariant-loop-line l = string_bytes l.text ≡ string_bytes l.initial.text ++ text_of (map string_bytes (take l.line-index l.lines))
