@@ -33,3 +33,6 @@ pub use opening::open_note;
 pub use pinned::PinnedTexts;
 pub use signing::sign;
 pub use verifier::Verifier;
+
+#[cfg(test)]
+mod tests;

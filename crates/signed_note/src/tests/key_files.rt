@@ -1,0 +1,102 @@
+//! What is read as a key file, and which line is named.
+
+use crate::{KeyFileFault, KeyLine, Verifier, read_keys};
+use std::alloc::Global;
+use std::test::Fail;
+
+/// What is wrong with a key file, if anything.
+fn fault_of(alloc: Global, text: &[u8]) -> Option<KeyFileFault> {
+    read_keys(alloc, text).err()
+}
+
+/// Whether the key has that name and id and accepts the signature of the text.
+fn accepts(key: &KeyLine, name: &str, id: u32, text: &[u8], signature: &[u8]) -> bool {
+    match key {
+        KeyLine::Hmac(key) => {
+            key.name() == name && key.id() == id && key.accepts(text, signature)
+        }
+        KeyLine::Pin(pins) => {
+            pins.name() == name && pins.id() == id && pins.accepts(text, signature)
+        }
+    }
+}
+
+#[test]
+fn key_lines(rt: HostRuntime) -> Result<(), Fail> {
+    assert_eq!(rt; read_keys(rt.alloc(), b"")?.len(), 0);
+    // RFC 4231's second vector, and the SHA-256 of `abc` (FIPS 180-4) in upper case.
+    let keys = read_keys(
+        rt.alloc(),
+        b"hmac ex 00000001 4a656665\npin pin ffffFFFF BA7816BF8F01CFEA414140DE5DAE2223B00361A396177A9CB410FF61F20015AD\n",
+    )?;
+    assert_eq!(rt; keys.len(), 2);
+    let mac = hex::decode(
+        rt.alloc(),
+        "5bdcc146bf60754e6a042426089575c75a003f089d2739839dec58b964ec3843",
+    )?;
+    assert!(rt; accepts(&keys[0], "ex", 1, b"what do ya want for nothing?", &mac));
+    assert!(rt; accepts(&keys[1], "pin", 4_294_967_295, b"abc", b""));
+    Ok(())
+}
+
+#[test]
+fn bad_key_lines(rt: HostRuntime) {
+    for file in [
+        b"\n".as_slice(),
+        b"hmac ex 00000001 00",
+        b"hmac\n",
+        b"hmac ex\n",
+        b"hmac ex 00000001\n",
+        b"hmac ex 00000001 \n",
+        b"hmac ex 00000001 0\n",
+        b"hmac ex 00000001 0g\n",
+        b"hmac ex 0000001 00\n",
+        b"hmac ex 000000001 00\n",
+        b"hmac  ex 00000001 00\n",
+        b"hmac ex  00000001 00\n",
+        b"hmac ex 00000001 00 \n",
+        b" hmac ex 00000001 00\n",
+        b"hmac ex 00000001 00\r\n",
+        b"hmac a+b 00000001 00\n",
+        b"hmac a\xc2\xa0b 00000001 00\n",
+        b"hmac a\xff 00000001 00\n",
+        b"HMAC ex 00000001 00\n",
+        b"pin ex 00000001 00\n",
+        b"# a comment\nhmac ex 00000001 00\n",
+        b"\xc3",
+    ] {
+        assert_eq!(rt;
+            fault_of(rt.alloc(), file),
+            Some(KeyFileFault::BadKeyLine(1)),
+            "{file:?}"
+        );
+    }
+    for file in [
+        b"hmac ex 00000001 00\n\n".as_slice(),
+        b"hmac ex 00000001 00\nhmac ex 00000001 00",
+        b"hmac ex 00000001 00\nx\n\xff\n",
+        b"hmac ex 00000001 00\n\xff\nx\n",
+    ] {
+        assert_eq!(rt;
+            fault_of(rt.alloc(), file),
+            Some(KeyFileFault::BadKeyLine(2)),
+            "{file:?}"
+        );
+    }
+}
+
+#[test]
+fn secrets(rt: HostRuntime) -> Result<(), Fail> {
+    let mut file = String::from_str(rt.alloc(), "hmac ex 00000001 ")?;
+    for _ in 0..64u32 {
+        file.push_str("aB")?;
+    }
+    file.push_str("\n")?;
+    assert_eq!(rt; fault_of(rt.alloc(), file.as_bytes()), None);
+    file.insert_str(17, "00")?;
+    assert_eq!(rt;
+        fault_of(rt.alloc(), file.as_bytes()),
+        Some(KeyFileFault::BadKeyLine(1))
+    );
+    Ok(())
+}
