@@ -64,7 +64,7 @@ no_secret_bytes text name digits secret id w lacks is bad (Hmac k) h =
 no_secret_bytes text name digits secret id w lacks is bad (Pin p) h = h
 
 -- no line is of both kinds
-kinds_differ : (x y : List ℕ) → codes "hmac" ++ space ∷ x ≡ codes "pin" ++ space ∷ y → ⊥
+pub kinds_differ : (x y : List ℕ) → codes "hmac" ++ space ∷ x ≡ codes "pin" ++ space ∷ y → ⊥
 kinds_differ x y e = let first : ◌≡◌ {A = ℕ} 104 112 = ap (λ (l : List ℕ). get_or l 0 0) e in omega arith
 
 -- what a line is after its first word

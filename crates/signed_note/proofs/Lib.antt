@@ -13,3 +13,4 @@ pub mod OneReading
 pub mod Signed
 pub mod KeyWords
 pub mod KeyLines
+pub mod OneKeyFile

@@ -25,7 +25,7 @@ mod verifier;
 pub use fault::{KeyFault, KeyFileFault, NoteFault, OpenFault};
 pub use key_file::read_keys;
 pub use key_line::KeyLine;
-pub use laws::{notes_law, one_answer_law};
+pub use laws::{notes_law, one_answer_law, one_key_answer_law};
 pub use line::SignatureLine;
 pub use mac_key::HmacKey;
 pub use note::Note;

@@ -1,6 +1,7 @@
 //! Notes.
 
 ghost use Rattle.std.specs.Prelude.{◌≡◌};
+ghost use Rattle.signed_note.specs.Notes.{IsNote};
 ghost use Rattle.signed_note.specs.Reading.{ReadsNote};
 
 use crate::fault::NoteFault;
@@ -26,11 +27,13 @@ pub struct Note {
 
 impl Model for Note {
     ghost use Rattle.std.specs.Prelude.{string_bytes};
-    ghost use Rattle.signed_note.specs.Notes.{NoteParts};
+    ghost use Rattle.signed_note.specs.Notes.{NoteParts, IsNote};
 
     ghost Value = { NoteParts };
 
     ghost view = { λ n. record { bytes = string_bytes n.whole; text = string_bytes n.text; lines = n.lines.items } };
+
+    ghost invariant = { λ n. IsNote (string_bytes n.whole) (string_bytes n.text) n.lines.items };
 }
 
 impl Note {
@@ -80,9 +83,10 @@ impl Note {
         })
     }
 
-    /// All bytes of the note.
+    /// All bytes of the note, which are a note of its text and its lines.
     pub fn bytes(&self) -> &[u8]
-        ensures { result.now ≡ self.now.bytes }
+        ensures bytes { result.now ≡ self.now.bytes }
+        ensures is_note { IsNote self.now.bytes self.now.text self.now.lines }
     {
         self.whole.as_bytes()
     }

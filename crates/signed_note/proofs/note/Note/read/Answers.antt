@@ -37,6 +37,14 @@ returns-in_err-lines c =
     let p = err_from_is_err_and c.from_residual.result c.from_residual.ensures.1 in
     rw (p.1, p.2) (note_refused c.args.bytes.now c.in-Some.text.now c.in-Some.signed.now c.in_err-lines.field-0.0 part few c.in_err-lines.ensures)
 
+pub invariant_of-result : goal.invariant_of-result
+invariant_of-result c =
+    let same = c.in-Ok.ensures.cases.0 in
+    let readable : IsNoteText c.args.bytes.now = note_text c.args.bytes.now c.in-Ok.ensures.cases.1 (ap (λ (x : List ℕ). list_all is_note_char (chars x)) (sym same) ∙ (sym c.is_note_text.ensures ∙ c.if-not-is_note_text.false)) in
+    let part : HasPart c.args.bytes.now c.in-Some.text.now c.in-Some.signed.now = record { readable = record { short = omega arith; readable = readable }; split = rw same at c.in-Some.ensures.found; some = some_bytes c.in-Some.signed.now (sym c.is_empty.ensures ∙ c.if-is_empty.false) } in
+    let few : line_count c.in-Some.signed.now ≤ 100 = omega (arith, c.count_lines.ensures ∙ ap line_count c.as_bytes.ensures.value) in
+    rw (c.in_ok-from_str.ensures.ok, c.in_ok-from_str-2.ensures.ok, same) (note_from_lines c.args.bytes.now c.in-Some.text.now c.in-Some.signed.now c.in_ok-lines.lines.items part few c.in_ok-lines.ensures)
+
 pub returns : goal.returns
 returns c =
     let same = c.in-Ok.ensures.cases.0 in
