@@ -1,11 +1,16 @@
 -- Small trees, computed.
-use Rattle.std.proofs.Common.{◌≡◌, ℕ, List, [], ◌∷◌, get_or, sym, refl, ap, subst, inl, inr, arith}
+use Rattle.std.proofs.Common.{◌≡◌, ℕ, ◌+◌, ◌-◌, ◌*◌, ◌/◌, ◌^◌, ◌≤◌, min, true, false, List, [], ◌∷◌, ◌++◌, length, get_or, sym, refl, ap, ◌∙◌, subst, inl, inr, arith}
 use Rattle.tlog_shape.specs.Split.{split_of, power_within}
-use Rattle.tlog_hash.specs.Tree.{tree_of, tree_within, fold_of, pairs_of, mth, joins, strings}
+use Rattle.tlog_hash.specs.Tree.{Tree, Empty, One, Join, size_of, tree_of, tree_within, fold_of, pairs_of, mth, joins, strings}
 use Rattle.tlog_hash.specs.Sum.{sum_digest}
+use Rattle.tlog_hash.specs.Nodes.{Node, entries_root}
+use Rattle.tlog_hash.proofs.NodeStrings.{size_of-tree}
+use Rattle.tlog_tiles.specs.declared.paths.Path.{Path}
+use Rattle.tlog_tiles.specs.declared.paths.Path.TheVariants.{Checkpoint, Tile, Entries}
+use Rattle.tlog_mirror.specs.Front.{InFront, IsPathOf}
 use Rattle.tlog_mirror.specs.Edge.{edge_levels}
 use Rattle.tlog_mirror.specs.Events.{TakeEvent, MergeEvent, OpeningReaches}
-use Rattle.tlog_mirror.specs.Examples.{IsThree, HasEdges, HasRoots, IsForked, HasParts, IsWay, some_item}
+use Rattle.tlog_mirror.specs.Examples.{IsThree, HasEdges, HasRoots, IsForked, HasParts, IsWay, some_item, three, held_never, IsFrontOfThree, HasTileOutside}
 use Rattle.tlog_mirror.proofs.Reaching.{open_none, open_itself, open_first, open_by, item_none, item_first, item_by}
 
 pub is_three : IsThree
@@ -73,3 +78,53 @@ is_way = record {
     ]
   ];
 }
+
+-- ---- fronts where nothing is held
+
+-- the node in front is the one at the top
+pub record HasFrontTop (digest : List ℕ → List ℕ) (t : Tree (List ℕ)) : Type 0 where
+  pub node : Node
+  pub is : InFront digest held_never t 0 node
+  pub start_is : node.start ≡ 0
+  pub len_is : node.len ≡ size_of t
+
+front_top : (digest : List ℕ → List ℕ) (t : Tree (List ℕ)) → 1 ≤ size_of t → HasFrontTop digest t
+front_top digest Empty some = absurd (omega arith)
+front_top digest (One e) some = record { node = record { start = 0; len = 1; string = 0 ∷ e }; is = record { this = record { start_is = refl; len_is = refl; string_is = refl }; unheld = refl }; start_is = refl; len_is = refl }
+front_top digest (Join l r) some = record { node = record { start = 0; len = size_of l + size_of r; string = 1 ∷ entries_root digest l ++ entries_root digest r }; is = inl (record { this = record { start_is = refl; len_is = refl; string_is = refl }; unheld = refl }); start_is = refl; len_is = refl }
+
+only_top : (digest : List ℕ → List ℕ) (t : Tree (List ℕ)) (start : ℕ) (x : Node) → InFront digest held_never t start x → (x.start ≡ start) × (x.len ≡ size_of t)
+only_top digest Empty start x f = absurd f
+only_top digest (One e) start x f = (f.this.start_is, f.this.len_is)
+only_top digest (Join l r) start x (inl f) = (f.this.start_is, f.this.len_is)
+only_top digest (Join l r) start x (inr f) = absurd (let wrong : false ≡ true = f.0 in cc wrong)
+
+pub is_front_of_three : IsFrontOfThree
+is_front_of_three =
+    let size : size_of (tree_of three) ≡ 3 = size_of-tree three in
+    let top = front_top sum_digest (tree_of three) (omega (arith, size)) in
+    record {
+      bundle = record {
+        node = top.node;
+        is = top.is;
+        path_is = record { few = omega (arith, top.len_is, size); index_is = ap (λ n. n / 256) (sym top.start_is); width_is = refl };
+      };
+      alone = λ path f. alone path f.node (only_top sum_digest (tree_of three) 0 f.node f.is) size f.path_is;
+    }
+  where
+    alone : (path : Path) (x : Node) → (x.start ≡ 0) × (x.len ≡ size_of (tree_of three)) → size_of (tree_of three) ≡ 3 → IsPathOf 3 x path → path ≡ Entries 0 3
+    alone Checkpoint x at size p = absurd p
+    alone (Tile level index width) x at size p = absurd (omega (arith, p.many, at.1, size))
+    alone (Entries index width) x at size p =
+        let i : index ≡ 0 = p.index_is ∙ ap (λ n. n / 256) at.0 in
+        let w : width ≡ 3 = p.width_is ∙ ap (λ n. min 256 (3 - 256 * n)) i in
+        λ k. Entries (i k) (w k)
+
+pub has_tile_outside : HasTileOutside
+has_tile_outside digest entries len =
+    let size : size_of (tree_of entries) ≡ length entries = size_of-tree entries in
+    let top = front_top digest (tree_of entries) (omega (arith, size, len)) in
+    let many : top.node.len ≡ 300 = top.len_is ∙ size ∙ len in
+    let low : 256 ^ 1 ≡ 256 = refl in
+    let high : 256 ^ (1 + 1) ≡ 65536 = refl in
+    record { node = top.node; is = top.is; path_is = record { many = omega (arith, many); above = omega (arith, many, low); upto = omega (arith, many, high); index_is = ap (λ n. n / 65536) (sym top.start_is); width_is = refl } }

@@ -22,3 +22,4 @@ pub mod TrueItems
 pub mod ManyRounds
 pub mod Listing
 pub mod Keeping
+pub mod Takings

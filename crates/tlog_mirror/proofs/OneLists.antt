@@ -19,7 +19,8 @@ use Rattle.tlog_mirror.specs.Forks.{IsPrefix}
 use Rattle.tlog_tiles.specs.declared.paths.Path.TheVariants.{Checkpoint, Tile, Entries}
 use Rattle.tlog_tiles.specs.Tiles.{tile_bytes, bundle_bytes}
 use Rattle.tlog_mirror.specs.View.{View}
-use Rattle.tlog_mirror.specs.ViewLaws.{IsHash, RepliesOnce, OneList, ListHasRoot, CompleteIsSame, ForksTell, ServesOne}
+use Rattle.tlog_hash.specs.Rows.{part}
+use Rattle.tlog_mirror.specs.ViewLaws.{RangesHashOnce, IsHash, RepliesOnce, OneList, ListHasRoot, CompleteIsSame, ForksTell, ServesOne}
 use Rattle.tlog_mirror.proofs.StringSets.{all_from_held}
 use Rattle.tlog_mirror.proofs.Views.{complete_stays}
 use Rattle.std.proofs.lemmas.List.{append-nil, nil_from_length}
@@ -153,3 +154,6 @@ pub replies_once : RepliesOnce
 replies_once digest hash v lawful Checkpoint first second p q = (serves_one digest hash v lawful first second p.size q.size p.root q.root p.entries q.entries p.served q.served).note_is
 replies_once digest hash v lawful (Tile level index width) first second p q = p.bytes_are ∙ ap (λ es. tile_bytes digest es level index width) (one_served digest hash v lawful p.entries q.entries p.served q.served) ∙ sym q.bytes_are
 replies_once digest hash v lawful (Entries index width) first second p q = p.bytes_are ∙ ap (λ es. bundle_bytes es index width) (one_served digest hash v lawful p.entries q.entries p.served q.served) ∙ sym q.bytes_are
+
+pub ranges_hash_once : RangesHashOnce
+ranges_hash_once digest hash v lawful start len first second p q = p.hash_is ∙ ap (λ es. mth digest (part start len es)) (one_served digest hash v lawful p.entries q.entries p.served q.served) ∙ sym q.hash_is

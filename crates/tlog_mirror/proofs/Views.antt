@@ -5,8 +5,8 @@ use Rattle.tlog_mirror.specs.View.{View, union, IsWithin}
 use Rattle.tlog_mirror.specs.Item.{Item, plus}
 use Rattle.tlog_mirror.specs.Heads.{IsHead, HasHead}
 use Rattle.tlog_mirror.specs.Complete.{HasEdge}
-use Rattle.tlog_mirror.specs.ViewLaws.{ClashesTurn, UnionCommutes, UnionAssociates, UnionRepeats, SameIsOne, UnionIsLawful, CompleteStays, MarksStay, ForksStay, ForksTurn}
-use Rattle.tlog_mirror.proofs.StringSets.{has_left, has_right, has_cases, same_strings, union_comm, union_assoc, union_itself, held_more}
+use Rattle.tlog_mirror.specs.ViewLaws.{NothingIsLawful, ClashesTurn, UnionCommutes, UnionAssociates, UnionRepeats, SameIsOne, UnionIsLawful, CompleteStays, MarksStay, ForksStay, ForksTurn}
+use Rattle.tlog_mirror.proofs.StringSets.{has_empty, has_left, has_right, has_cases, same_strings, union_comm, union_assoc, union_itself, held_more}
 
 pub union_commutes : UnionCommutes
 union_commutes v w same = λ i. record { origin = same i; notes = union_comm v.notes w.notes i; strings = union_comm v.strings w.strings i }
@@ -86,3 +86,11 @@ union_is_lawful digest v w p q same clean =
 
 pub marks_stay : MarksStay
 marks_stay digest v w a point m = record { size = m.size; root = m.root; entries = m.entries; complete = complete_stays digest v w a m.size m.root m.entries m.complete; node = m.node; is = m.is; len_is = m.len_is; hash_is = m.hash_is }
+
+pub nothing_is_lawful : NothingIsLawful
+nothing_is_lawful digest origin = record {
+  no_clash = record { same = λ x y hx hy e. absurd (has_empty x hx) };
+  are_strings = λ s h. absurd (has_empty s h);
+  leaves_short = λ e h. absurd (has_empty _ h);
+  edges = λ note h. absurd (has_empty note h);
+}

@@ -1,7 +1,10 @@
 -- Small trees, worked out under the test digest: the first byte is a sum modulo 256, and 31 zeros follow.
-use Rattle.std.specs.Prelude.{◌≡◌, ℕ, List, [], ◌∷◌, ◌++◌, take, replicate}
+use Rattle.std.specs.Prelude.{Bool, false, length, ◌≡◌, ℕ, List, [], ◌∷◌, ◌++◌, take, replicate}
 use Rattle.tlog_hash.specs.Tree.{mth, strings}
 use Rattle.tlog_hash.specs.Sum.{sum_digest}
+use Rattle.tlog_tiles.specs.declared.paths.Path.{Path}
+use Rattle.tlog_tiles.specs.declared.paths.Path.TheVariants.{Tile, Entries}
+use Rattle.tlog_mirror.specs.Front.{IsFront}
 use Rattle.tlog_mirror.specs.Edge.{edge_levels, edge_widths, edge_rows, edge_root, edge_strings}
 use Rattle.tlog_mirror.specs.Forks.{IsPrefix}
 use Rattle.tlog_mirror.specs.Item.{Item, TileItem, row_of, entries_of}
@@ -68,3 +71,16 @@ pub record IsWay : Type 0 where
   pub reaches : Reaches some_item 2 (TakeEvent 0 some_item ∷ MergeEvent 1 0 ∷ MergeEvent 2 1 ∷ [])
   pub not_back : Reaches some_item 2 (TakeEvent 0 some_item ∷ MergeEvent 2 1 ∷ MergeEvent 1 0 ∷ []) → ⊥
   pub not_before : Reaches some_item 1 (MergeEvent 1 0 ∷ TakeEvent 0 some_item ∷ []) → ⊥
+
+-- nothing is held
+abbrev pub held_never : List ℕ → Bool
+held_never string = false
+
+-- with nothing held the front of three entries is their bundle, and nothing else
+pub record IsFrontOfThree : Type 0 where
+  pub bundle : IsFront sum_digest held_never three (Entries 0 3)
+  pub alone : (path : Path) → IsFront sum_digest held_never three path → path ≡ Entries 0 3
+
+-- with nothing held the front of 300 entries has a tile that their tree does not have in full: so an edge is taken first
+abbrev pub HasTileOutside : Type 0
+HasTileOutside = (digest : List ℕ → List ℕ) (entries : List (List ℕ)) → length entries ≡ 300 → IsFront digest held_never entries (Tile 1 0 256)

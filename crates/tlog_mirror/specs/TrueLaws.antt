@@ -1,6 +1,6 @@
 -- Items of true bytes: what a log of a list of entries serves, taken by a mirror (C2SP tlog-tiles).
-use Rattle.std.specs.Prelude.{◌≡◌, ℕ, ◌*◌, ◌^◌, ◌≤◌, ◌<◌, All, List, length, map, take, Bool}
-use Rattle.tlog_shape.specs.Edge.{width_of, edge_index_of}
+use Rattle.std.specs.Prelude.{[], ◌∷◌, max, ◌≡◌, ℕ, ◌*◌, ◌^◌, ◌≤◌, ◌<◌, All, List, length, map, take, Bool}
+use Rattle.tlog_shape.specs.Edge.{width_of, edge_index_of, IsTop}
 use Rattle.tlog_hash.specs.Tree.{mth, strings, joins}
 use Rattle.tlog_hash.specs.Rows.{part, level_row}
 use Rattle.tlog_tiles.specs.declared.paths.Path.{Path}
@@ -16,6 +16,7 @@ use Rattle.tlog_mirror.specs.Edge.{edge_levels, edge_rows, edge_strings}
 use Rattle.tlog_mirror.specs.Front.{IsFront}
 use Rattle.tlog_mirror.specs.Rounds.{HoldsAll, IsRound}
 use Rattle.tlog_mirror.specs.Item.{TileItem, BundleItem, row_of, IsWidth, IsGoodTile, IsGoodBundle, HasEdgeRows, strings_of}
+use Rattle.tlog_mirror.specs.Complete.{IsTreeOf}
 use Rattle.tlog_mirror.specs.ViewLaws.{IsHash}
 
 -- entries that can stand in a bundle
@@ -74,6 +75,20 @@ pub record TakesFront (digest : List ℕ → List ℕ) (entries : List (List ℕ
 -- so it is a round
 abbrev pub TakingIsRound : Type 0
 TakingIsRound = (digest : List ℕ → List ℕ) → IsHash digest → (entries : List (List ℕ)) → AreShort entries → (v w : View) → TakesFront digest entries v w → IsRound digest (held_in v.strings) (held_in w.strings) entries
+
+-- one view after another, each by taking the front of the one before
+abbrev pub AreTakings : (List ℕ → List ℕ) → List (List ℕ) → View → List View → Type 0
+AreTakings digest entries v [] = Unit {0}
+AreTakings digest entries v (w ∷ more) = TakesFront digest entries v w × AreTakings digest entries w more
+
+-- the last of them
+abbrev pub last_view : View → List View → View
+last_view v [] = v
+last_view v (w ∷ more) = last_view w more
+
+-- as many as the greatest level that has a partial tile, and one at least, bring the whole tree
+abbrev pub TakingCompletes : Type 0
+TakingCompletes = (digest : List ℕ → List ℕ) → IsHash digest → (entries : List (List ℕ)) → AreShort entries → (top : ℕ) → length entries < 256 ^ 8 → IsTop (length entries) top → (v : View) (more : List View) → AreTakings digest entries v more → max 1 top ≤ length more → IsTreeOf digest (last_view v more).strings (length entries) (mth digest entries) entries
 
 -- a path within the first n entries has the same bytes in both lists
 pub record IsSameIn (digest : List ℕ → List ℕ) (entries : List (List ℕ)) (n : ℕ) : Type 0 where

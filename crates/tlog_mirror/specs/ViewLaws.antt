@@ -6,12 +6,12 @@ use Rattle.tlog_tiles.specs.Bundle.{IsBundle}
 use Rattle.tlog_tiles.specs.Row.{IsRow}
 use Rattle.signed_note.specs.Keys.{Key}
 use Rattle.node_store.specs.Strings.{NoClash}
-use Rattle.tlog_mirror.specs.View.{View, union, IsWithin}
+use Rattle.tlog_mirror.specs.View.{View, nothing, union, IsWithin}
 use Rattle.tlog_mirror.specs.Strings.{held_in, HasClash}
 use Rattle.tlog_mirror.specs.Heads.{HasHead}
 use Rattle.tlog_mirror.specs.Item.{Item, row_of, entries_of, IsGood, plus}
 use Rattle.tlog_mirror.specs.Complete.{Complete, IsComplete, IsLawful}
-use Rattle.tlog_mirror.specs.Served.{Served, Replies}
+use Rattle.tlog_mirror.specs.Served.{Served, Replies, IsRangeHash}
 use Rattle.tlog_mirror.specs.Forks.{Point, IsPrefix, IsFork}
 use Rattle.tlog_mirror.specs.Marks.{IsMark}
 use Rattle.tlog_tiles.specs.declared.paths.Path.{Path}
@@ -57,6 +57,10 @@ ClashesTurn = (digest : List ℕ → List ℕ) (v w : View) → HasClash digest 
 -- views that hold the same are one
 abbrev pub SameIsOne : Type 0
 SameIsOne = (v w : View) → IsWithin v w → IsWithin w v → v ≡ w
+
+-- a view that holds nothing is lawful
+abbrev pub NothingIsLawful : Type 0
+NothingIsLawful = (digest : List ℕ → List ℕ) (origin : List ℕ) → IsLawful digest (nothing origin)
 
 -- a good item, or a lawful view of the same origin, leaves a lawful view lawful where nothing clashes
 abbrev pub PlusIsLawful : Type 0
@@ -106,6 +110,10 @@ ServesOne = (digest : List ℕ → List ℕ) → IsHash digest → (v : View) �
 -- a path has one reply at most
 abbrev pub RepliesOnce : Type 0
 RepliesOnce = (digest : List ℕ → List ℕ) → IsHash digest → (v : View) → IsLawful digest v → (path : Path) (first second : List ℕ) → Replies digest v path first → Replies digest v path second → first ≡ second
+
+-- a range has one hash at most
+abbrev pub RangesHashOnce : Type 0
+RangesHashOnce = (digest : List ℕ → List ℕ) → IsHash digest → (v : View) → IsLawful digest v → (start len : ℕ) (first second : List ℕ) → IsRangeHash digest v start len first → IsRangeHash digest v start len second → first ≡ second
 
 -- the walk from the root of a head of a lawful view fails nowhere exactly where the head is complete
 abbrev pub MissingIsNone : Type 0

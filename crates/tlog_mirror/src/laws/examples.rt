@@ -1,5 +1,5 @@
 //! Small cases of the definitions, worked out.
-ghost use Rattle.tlog_mirror.specs.Examples.{HasEdges, HasParts, HasRoots, IsForked, IsThree, IsWay};
+ghost use Rattle.tlog_mirror.specs.Examples.{HasEdges, HasParts, HasRoots, HasTileOutside, IsForked, IsFrontOfThree, IsThree, IsWay};
 
 /// The tree of three entries, the edges of some sizes, and the roots of some edges, under a digest that
 /// is a sum.
@@ -19,4 +19,11 @@ pub fn fork_example()
 /// An item goes over two merges in one order, and not in the other.
 pub fn way_example()
     ensures { IsWay }
+{}
+
+/// Fronts where nothing is held: of three entries it is their bundle; of 300 it is a tile that their
+/// tree does not have in full, so that an edge has to be taken first.
+pub fn front_example()
+    ensures three { IsFrontOfThree }
+    ensures outside { HasTileOutside }
 {}

@@ -1,5 +1,5 @@
 //! Laws of views: what a mirror holds, and what follows from it.
-ghost use Rattle.tlog_mirror.specs.ViewLaws.{ClashesTurn, CompleteIsSame, CompleteStays, ForksStay, ForksTell, ForksTurn, ListHasRoot, MarksStay, MissingIsNone, OneList, PlusIsLawful, RepliesOnce, SameIsOne, ServesOne, UnionAssociates, UnionCommutes, UnionIsLawful, UnionRepeats, WholeIsMark};
+ghost use Rattle.tlog_mirror.specs.ViewLaws.{ClashesTurn, CompleteIsSame, CompleteStays, ForksStay, ForksTell, ForksTurn, ListHasRoot, MarksStay, MissingIsNone, NothingIsLawful, OneList, PlusIsLawful, RangesHashOnce, RepliesOnce, SameIsOne, ServesOne, UnionAssociates, UnionCommutes, UnionIsLawful, UnionRepeats, WholeIsMark};
 
 /// Views that hold the same are one, and they are joined in any order, in any grouping and any number
 /// of times with one result. Their strings clash either way round or neither.
@@ -23,10 +23,12 @@ pub fn growth_law()
     ensures same { CompleteIsSame }
 {}
 
-/// A view serves one checkpoint and one list of entries at most, and under each path one reply at most.
+/// A view serves one checkpoint and one list of entries at most, and has one reply at most for a path and
+/// one hash at most for a range.
 pub fn served_law()
     ensures one { ServesOne }
     ensures reply { RepliesOnce }
+    ensures range { RangesHashOnce }
 {}
 
 /// Two complete checkpoints that differ are a fork exactly where neither list of entries is a prefix
@@ -37,9 +39,10 @@ pub fn forks_law()
     ensures stay { ForksStay }
 {}
 
-/// A lawful view stays lawful as it takes a good item, or is merged with a lawful view of the same log,
+/// A view that holds nothing is lawful, and a lawful view stays so as it takes a good item, or is merged with a lawful view of the same log,
 /// where no two strings clash.
 pub fn lawful_law()
+    ensures nothing { NothingIsLawful }
     ensures item { PlusIsLawful }
     ensures views { UnionIsLawful }
 {}

@@ -1,4 +1,5 @@
 use Rattle.tlog_mirror.proofs.TrueItems.{front_is_within, taking_is_round}
+use Rattle.tlog_mirror.proofs.Takings.{taking_completes}
 use Rattle.tlog_mirror.proofs.laws.truth.true_rounds_law.Goals as goal
 
 pub returns-clause-within : goal.returns-clause-within
@@ -6,3 +7,6 @@ returns-clause-within c = front_is_within
 
 pub returns-clause-round : goal.returns-clause-round
 returns-clause-round c = taking_is_round
+
+pub returns-clause-complete : goal.returns-clause-complete
+returns-clause-complete c = taking_completes

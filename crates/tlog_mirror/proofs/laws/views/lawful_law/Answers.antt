@@ -1,4 +1,4 @@
-use Rattle.tlog_mirror.proofs.Views.{union_is_lawful}
+use Rattle.tlog_mirror.proofs.Views.{nothing_is_lawful, union_is_lawful}
 use Rattle.tlog_mirror.proofs.ItemStrings.{plus_is_lawful}
 use Rattle.tlog_mirror.proofs.laws.views.lawful_law.Goals as goal
 
@@ -7,3 +7,6 @@ returns-clause-item c = plus_is_lawful
 
 pub returns-clause-views : goal.returns-clause-views
 returns-clause-views c = union_is_lawful
+
+pub returns-clause-nothing : goal.returns-clause-nothing
+returns-clause-nothing c = nothing_is_lawful

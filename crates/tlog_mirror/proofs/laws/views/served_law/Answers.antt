@@ -1,4 +1,4 @@
-use Rattle.tlog_mirror.proofs.OneLists.{serves_one, replies_once}
+use Rattle.tlog_mirror.proofs.OneLists.{serves_one, replies_once, ranges_hash_once}
 use Rattle.tlog_mirror.proofs.laws.views.served_law.Goals as goal
 
 pub returns-clause-one : goal.returns-clause-one
@@ -6,3 +6,6 @@ returns-clause-one c = serves_one
 
 pub returns-clause-reply : goal.returns-clause-reply
 returns-clause-reply c = replies_once
+
+pub returns-clause-range : goal.returns-clause-range
+returns-clause-range c = ranges_hash_once
