@@ -1,0 +1,4 @@
+pub mod ReadsLemmas
+pub mod Writes
+pub mod Cut
+pub mod CheckText

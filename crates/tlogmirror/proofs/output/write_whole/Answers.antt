@@ -1,0 +1,16 @@
+use Rattle.std.proofs.Common.{take, drop, length, arith, subst}
+use Rattle.std.proofs.lemmas.List.{take_rest, length-take, length-drop}
+use Rattle.std.specs.Io.KnownBytes.{Appends}
+use Rattle.tlogmirror.proofs.Writes.{appends_more}
+use Rattle.tlogmirror.proofs.output.write_whole.Goals as goal
+
+pub loop-preserved : goal.loop-preserved
+loop-preserved g c =
+    let contents = g.W.Write.contents in
+    let k = c.in_ok-at.field-0 in
+    let rest = take_rest c.args.bytes.now c.loop.at in
+    let within = rw rest at c.in_ok-at.ensures.within in
+    record {
+      within = omega (arith, within, length-drop c.loop.at c.args.bytes.now);
+      written = appends_more (contents c.args.writer.now) (contents c.loop.writer) (contents c.write_some.new.writer) c.args.bytes.now c.loop.at k c.loop.invariant.written (rw rest at c.in_ok-at.ensures.ok);
+    }

@@ -1,0 +1,123 @@
+//! The command `root`: the tree hash of one bundle, from bytes to text.
+ghost use Rattle.std.specs.Prelude.{◌≡◌, ◌≢◌, ◌≤◌, ◌++◌, IfErr, IfOk, IfSome, codes, string_bytes};
+ghost use Rattle.std.specs.Io.KnownBytes.{Keeps};
+ghost use Rattle.std.specs.Fmt.{decimal};
+ghost use Rattle.tlog_tiles.specs.Seen.{seen};
+ghost use Rattle.tlogmirror.specs.Faults.{root_of_bundle, root_of_read};
+ghost use Rattle.tlogmirror.specs.Root.{AnswersRoot, MakesRoot, most_bytes, root_text};
+ghost use Rattle.tlogmirror.specs.Streams.{TakesAtMost};
+ghost use Rattle.tlogmirror.specs.declared.root.RootFault.TheVariants as root;
+
+use crate::input::{ReadFault, read_all};
+use crate::output::write_whole;
+use base64::engine::general_purpose::STANDARD;
+use std::alloc::{AllocError, Global};
+use std::io::{Read, Write};
+use thiserror::Error;
+use tlog_hash::{Hash, TreeHash, tree_hash};
+use tlog_tiles::{BundleFault, read_bundle};
+
+// One byte more than the largest bundle has: so many bytes are no bundle of any width.
+const MOST_BYTES: usize = 16_777_473;
+
+/// Why `root` told no root.
+#[derive(Debug, Drop, PartialEq, Eq, Clone, Copy, Error)]
+pub enum RootFault {
+    /// No prefix of the input is a bundle of that width.
+    #[error("BundleShort")]
+    BundleShort,
+    /// A prefix of the input is a bundle of that width, and more bytes follow it.
+    #[error("BundleLong")]
+    BundleLong,
+    /// A read failed.
+    #[error("ReadFault")]
+    ReadFault,
+    /// A write failed, or took no byte. A front of the text may have been written.
+    #[error("WriteFault")]
+    WriteFault,
+    /// A request for memory was refused.
+    #[error("OutOfMemory")]
+    OutOfMemory,
+}
+
+impl From<BundleFault> for RootFault {
+    ghost from_gives = { λ f e. e ≡ root_of_bundle f };
+
+    fn from(fault: BundleFault) -> RootFault {
+        match fault {
+            BundleFault::BundleShort => RootFault::BundleShort,
+            BundleFault::BundleLong => RootFault::BundleLong,
+            BundleFault::OutOfMemory => RootFault::OutOfMemory,
+        }
+    }
+}
+
+impl From<ReadFault> for RootFault {
+    ghost from_gives = { λ f e. e ≡ root_of_read f };
+
+    fn from(fault: ReadFault) -> RootFault {
+        match fault {
+            ReadFault::Failed => RootFault::ReadFault,
+            ReadFault::OutOfMemory => RootFault::OutOfMemory,
+        }
+    }
+}
+
+impl From<AllocError> for RootFault {
+    ghost from_gives = { λ _ e. e ≡ root.OutOfMemory };
+
+    fn from(_e: AllocError) -> RootFault {
+        RootFault::OutOfMemory
+    }
+}
+
+fn lines_of(alloc: Global, width: u32, root: &str) -> Result<String, AllocError>
+    ensures { IfOk result (λ t. string_bytes t ≡ codes "size " ++ (decimal width ++ (codes "\nroot " ++ (root.now ++ codes "\n")))) }
+{
+    format!(in alloc; "size {width}\nroot {root}\n")
+}
+
+fn text_of(alloc: Global, width: u32, root: &Hash) -> Result<String, AllocError>
+    ensures { IfOk result (λ t. string_bytes t ≡ root_text width root.now) }
+{
+    let root = STANDARD.encode(alloc, root)?;
+    lines_of(alloc, width, &root)
+}
+
+// The text of the bundle that the reader gives.
+fn made<H: TreeHash, R: Read>(
+    alloc: Global,
+    width: u32,
+    reader: &mut R,
+) -> Result<String, RootFault>
+    requires { width ≤ 256 }
+    ensures text { IfSome (R.remaining reader.old) (λ input. MakesRoot H.digest width input (seen string_bytes result)) }
+    ensures limit { TakesAtMost most_bytes (R.remaining reader.old) (R.remaining reader.new) }
+{
+    let bytes = read_all(alloc, reader, MOST_BYTES)?;
+    let entries = read_bundle(alloc, width, &bytes)?;
+    Ok(text_of(alloc, width, &tree_hash::<H>(&entries))?)
+}
+
+/// Reads a bundle of `width` entries, to the reader's end, and writes its size and the tree hash of
+/// its entries (RFC 6962, section 2.1) in standard base64, as the two lines `size W` and `root ROOT`.
+///
+/// `ReadFault` comes where a read fails, whatever was read before. `BundleShort` and `BundleLong` are
+/// those of `read_bundle` on all the bytes that the reader had to give, of which at most 16,777,473
+/// are taken: so many are never a bundle. Nothing is written before the whole text is made.
+/// `WriteFault` comes where a write fails or takes no byte, and then a front of the text was written.
+pub fn run_root<H: TreeHash, R: Read, W: Write>(
+    alloc: Global,
+    width: u32,
+    reader: &mut R,
+    writer: &mut W,
+) -> Result<(), RootFault>
+    requires { width ≤ 256 }
+    ensures answer { IfSome (R.remaining reader.old) (λ input.
+        AnswersRoot H.digest width input (W.contents writer.old) (W.contents writer.new) result) }
+    ensures quiet { IfErr result (λ e. e ≢ RootFault.WriteFault → Keeps (W.contents writer.old) (W.contents writer.new)) }
+    ensures limit { TakesAtMost most_bytes (R.remaining reader.old) (R.remaining reader.new) }
+{
+    let text = made::<H, R>(alloc, width, reader)?;
+    write_whole(writer, text.as_bytes()).map_err(|_| RootFault::WriteFault)
+}
