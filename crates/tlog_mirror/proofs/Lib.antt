@@ -23,3 +23,4 @@ pub mod ManyRounds
 pub mod Listing
 pub mod Keeping
 pub mod Takings
+pub mod MissingPaths

@@ -1,7 +1,7 @@
 -- Items of true bytes, and rounds of them.
-use Rattle.std.proofs.Common.{zero, suc, ◌≡◌, ℕ, ◌+◌, ◌-◌, ◌*◌, ◌/◌, ◌^◌, ◌≤◌, List, [], ◌∷◌, ◌++◌, length, map, take, drop, Bool, true, false, cond, nat_eq, sym, refl, ap, ◌∙◌, subst, inl, inr, arith}
+use Rattle.std.proofs.Common.{min, ◌<◌, zero, suc, ◌≡◌, ℕ, ◌+◌, ◌-◌, ◌*◌, ◌/◌, ◌^◌, ◌≤◌, List, [], ◌∷◌, ◌++◌, length, map, take, drop, Bool, true, false, cond, nat_eq, sym, refl, ap, ◌∙◌, subst, inl, inr, arith}
 use Rattle.std.specs.Prelude.{not, if◌then◌else◌}
-use Rattle.std.specs.List.{AllByRecursion, filter}
+use Rattle.std.specs.List.{Contains, AllByRecursion, filter}
 use Rattle.std.proofs.lemmas.List.{drop-take, take-take, map-append}
 use Rattle.std.proofs.lemmas.List.Elements.{All-from_recursion, filter-append}
 use Rattle.std.proofs.lemmas.Nat.{div-mul-add}
@@ -25,13 +25,16 @@ use Rattle.tlog_mirror.specs.Front.{IsFront}
 use Rattle.tlog_mirror.specs.Rounds.{HoldsAll, IsAnswered}
 use Rattle.tlog_mirror.specs.Item.{row_of}
 use Rattle.tlog_mirror.specs.ViewLaws.{IsHash}
-use Rattle.tlog_mirror.specs.TrueLaws.{TilesAreTrue, BundlesAreTrue, EdgesAreTrue, EdgeIsOfPaths, FrontIsWithin, HoldsTrue, TakingIsRound, PrefixesServeSame}
+use Rattle.tlog_mirror.specs.TrueLaws.{TilesAreTrue, BundlesAreTrue, EdgesAreTrue, EdgeIsOfPaths, FrontIsWithin, true_strings, TrueStringsWithin, FrontIsWidest, TakingIsRound, PrefixesServeSame}
 use Rattle.tlog_mirror.proofs.StringSets.{holds_from_held}
 use Rattle.tlog_mirror.proofs.Items.{row_is_one, bundle_is_one}
 use Rattle.tlog_mirror.proofs.EdgeRoots.{edge_rows_wide, edge_root_is}
 use Rattle.tlog_mirror.proofs.EdgeStrings.{full_or_edge}
 use Rattle.tlog_mirror.proofs.NodeBlocks.{node_inside}
+use Rattle.tlog_hash.proofs.NodeStrings.{string_of_node}
+use Rattle.tlog_mirror.proofs.TreeLaws.{full_row_joins, bundle_strings}
 use Rattle.tlog_mirror.proofs.Fronts.{front_node, front_unheld, power_le}
+use Rattle.node_store.specs.Strings.{HasAll}
 
 -- ---- tiles and bundles
 
@@ -121,6 +124,13 @@ pub edge_is_of_paths : EdgeIsOfPaths
 unfolding edge_of edge_levels
 edge_is_of_paths size = paths_below size 8
 
+-- where a full tile ends
+tile_end : (level index : ℕ) → (256 * index + 256) * 256 ^ level ≡ (index + 1) * 256 ^ (level + 1)
+tile_end level index =
+    let one : level + 1 ≡ suc level = omega arith in
+    let next : 256 ^ (level + 1) ≡ 256 * 256 ^ level = ap (λ m. 256 ^ m) one ∙ pow-succ' 256 level in
+    omega arith ∙ ap (λ m. (index + 1) * m) (sym next)
+
 -- ---- fronts
 
 module _ (digest : List ℕ → List ℕ) (held : List ℕ → Bool) (entries : List (List ℕ)) (small : length entries ≤ 256 ^ 8) (edge : HoldsAll held (edge_strings digest (edge_rows digest entries))) where
@@ -151,12 +161,6 @@ module _ (digest : List ℕ → List ℕ) (held : List ℕ → Bool) (entries : 
       let below : index * 256 ≤ x.start = subst (λ i. i * 256 ≤ x.start) (sym b.index_is) (div-mul-le_self x.start 256) in
       (omega (arith, b.width_is, below, inside.upto, inside.some), omega (arith, b.width_is), omega (arith, b.width_is, below, inside.upto, inside.some))
 
-  tile_end : (level index : ℕ) → (256 * index + 256) * 256 ^ level ≡ (index + 1) * 256 ^ (level + 1)
-  tile_end level index =
-      let one : level + 1 ≡ suc level = omega arith in
-      let next : 256 ^ (level + 1) ≡ 256 * 256 ^ level = ap (λ m. 256 ^ m) one ∙ pow-succ' 256 level in
-      omega arith ∙ ap (λ m. (index + 1) * m) (sym next)
-
   pub front_within : (path : Path) → IsFront digest held entries path → IsWithin (length entries) path
   front_within Checkpoint f = f.path_is
   front_within (Tile level index width) f =
@@ -181,7 +185,7 @@ taking_is_round digest hash entries short v w t =
       answered = λ path f. answer path f (front_within digest held entries t.small edge path f) (t.taken path f (front_within digest held entries t.small edge path f));
     }
   where
-    answer : (path : Path) → IsFront digest (held_in v.strings) entries path → IsWithin (length entries) path → HoldsTrue digest w.strings entries path → IsAnswered digest (held_in w.strings) entries path
+    answer : (path : Path) → IsFront digest (held_in v.strings) entries path → IsWithin (length entries) path → HasAll w.strings (true_strings digest entries path) → IsAnswered digest (held_in w.strings) entries path
     answer Checkpoint f within h = tt
     answer (Tile level index width) f within h =
         let true_tile = tiles_are_true digest hash entries short level index width (record { some = within.some; most = within.upto }) in
@@ -211,3 +215,26 @@ prefixes_serve_same digest entries n within = record {
   tile = λ level index width w. ap (λ bs. row_text (map (mth digest) bs)) (ranges_same (256 ^ level) (256 * index) width n entries w.within);
   bundle = λ index width w. (let one : (256 * index + width) * 256 ^ 0 ≡ 256 * index + width = omega arith in ap bundle_text (part_same (256 * index) width n entries (omega (arith, one, w.within))));
 }
+
+-- ---- strings of the tree alone
+
+pub true_strings_within : TrueStringsWithin
+true_strings_within digest hash entries short Checkpoint within widest y c = absurd widest
+true_strings_within digest hash entries short (Tile level index width) within widest y c =
+    let t = tiles_are_true digest hash entries short level index width (record { some = within.some; most = within.upto }) in
+    let row : Contains (joins digest (level_row digest entries level (256 * index) 256)) y = subst (λ n. Contains (joins digest (level_row digest entries level (256 * index) n)) y) widest (subst (λ ss. Contains ss y) t.strings_are c) in
+    let fits : (index + 1) * 256 ^ (level + 1) ≤ length entries = subst (λ m. m ≤ length entries) (tile_end level index) (subst (λ w. (256 * index + w) * 256 ^ level ≤ length entries) widest within.within) in
+    let n = (full_row_joins digest entries level index fits y).0 row in
+    subst (Contains (strings digest entries)) n.string_is (string_of_node digest entries 0 n.node n.is)
+true_strings_within digest hash entries short (Entries index width) within widest y c =
+    let b = bundles_are_true digest hash entries short index width within in
+    let one : (256 * index + width) * 256 ^ 0 ≡ 256 * index + width = omega arith in
+    let below : 256 * index < length entries = omega (arith, one, within.within, within.some) in
+    let some : Contains (strings digest (part (256 * index) (min 256 (length entries - 256 * index)) entries)) y = subst (λ w. Contains (strings digest (part (256 * index) w entries)) y) widest (subst (λ ss. Contains ss y) b.strings_are c) in
+    let n = (bundle_strings digest entries index below y).0 some in
+    subst (Contains (strings digest entries)) n.string_is (string_of_node digest entries 0 n.node n.is)
+
+pub front_is_widest : FrontIsWidest
+front_is_widest digest held entries Checkpoint f = f.path_is
+front_is_widest digest held entries (Tile level index width) f = f.path_is.width_is
+front_is_widest digest held entries (Entries index width) f = f.path_is.width_is

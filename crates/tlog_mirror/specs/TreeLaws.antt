@@ -8,7 +8,7 @@ use Rattle.tlog_hash.specs.Shape.{shape}
 use Rattle.tlog_hash.specs.Rows.{part, level_row}
 use Rattle.tlog_mirror.specs.Edge.{edge_widths, edge_rows, edge_root, edge_strings}
 use Rattle.tlog_tiles.specs.declared.paths.Path.{Path}
-use Rattle.tlog_tiles.specs.declared.paths.Path.TheVariants.{Tile}
+use Rattle.tlog_tiles.specs.declared.paths.Path.TheVariants.{Checkpoint, Tile, Entries}
 use Rattle.tlog_mirror.specs.Front.{InFront, IsFront}
 use Rattle.tlog_mirror.specs.Rounds.{HoldsAll, IsRound, AsksUpTo, AsksBundlesAlone}
 use Rattle.tlog_mirror.specs.Walk.{WalkFails, NoClashWith, IsMissing}
@@ -75,6 +75,16 @@ held_after held (after ∷ afters) = held_after after afters
 -- as many rounds as the greatest level that has a partial tile, and one at least, leave nothing of the tree unheld
 abbrev pub RoundsComplete : Type 0
 RoundsComplete = (digest : List ℕ → List ℕ) (held : List ℕ → Bool) (entries : List (List ℕ)) (top : ℕ) (afters : List (List ℕ → Bool)) → length entries < 256 ^ 8 → IsTop (length entries) top → AreRounds digest entries held afters → max 1 top ≤ length afters → HoldsAll (held_after held afters) (strings digest entries)
+
+-- a full tile of a level from 1 to 7, or a bundle as wide as the size has it; its range begins within the size
+abbrev pub IsOfSize : ℕ → Path → Type 0
+IsOfSize size Checkpoint = ⊥
+IsOfSize size (Tile level index width) = (1 ≤ level) × (level ≤ 7) × (width ≡ 256) × (index * 256 ^ (level + 1) < size)
+IsOfSize size (Entries index width) = (1 ≤ width) × (width ≡ min 256 (size - 256 * index)) × (256 * index < size)
+
+-- what is missing of a head are such paths, whether or not a list of entries fits
+abbrev pub MissingIsOfSize : Type 0
+MissingIsOfSize = (digest : List ℕ → List ℕ) (held : List ℕ → Bool) (size : ℕ) (root : List ℕ) → size ≤ 256 ^ 8 → (path : Path) → IsMissing digest held size root path → IsOfSize size path
 
 -- a node of the front of E
 abbrev pub HasFrontAt : (List ℕ → List ℕ) → (List ℕ → Bool) → List (List ℕ) → ℕ → ℕ → Type 0

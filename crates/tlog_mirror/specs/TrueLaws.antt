@@ -1,5 +1,6 @@
 -- Items of true bytes: what a log of a list of entries serves, taken by a mirror (C2SP tlog-tiles).
-use Rattle.std.specs.Prelude.{[], ◌∷◌, max, ◌≡◌, ℕ, ◌*◌, ◌^◌, ◌≤◌, ◌<◌, All, List, length, map, take, Bool}
+use Rattle.std.specs.Prelude.{◌-◌, min, [], ◌∷◌, max, ◌≡◌, ℕ, ◌*◌, ◌^◌, ◌≤◌, ◌<◌, All, List, length, map, take, Bool}
+use Rattle.std.specs.List.{Contains}
 use Rattle.tlog_shape.specs.Edge.{width_of, edge_index_of, IsTop}
 use Rattle.tlog_hash.specs.Tree.{mth, strings, joins}
 use Rattle.tlog_hash.specs.Rows.{part, level_row}
@@ -8,7 +9,7 @@ use Rattle.tlog_tiles.specs.declared.paths.Path.TheVariants.{Checkpoint, Tile, E
 use Rattle.tlog_tiles.specs.Row.{row_text}
 use Rattle.tlog_tiles.specs.Edge.{edge_of}
 use Rattle.tlog_tiles.specs.Tiles.{tile_bytes, bundle_bytes, IsTileWithin, IsWithin}
-use Rattle.node_store.specs.Strings.{Strings, HasAll}
+use Rattle.node_store.specs.Strings.{HasAll}
 use Rattle.tlog_mirror.specs.View as view
 use Rattle.tlog_mirror.specs.View.{View}
 use Rattle.tlog_mirror.specs.Strings.{held_in}
@@ -59,18 +60,32 @@ EdgeIsOfPaths = (size : ℕ) → edge_of size ≡ map (λ level. Tile level (edg
 abbrev pub FrontIsWithin : Type 0
 FrontIsWithin = (digest : List ℕ → List ℕ) (held : List ℕ → Bool) (entries : List (List ℕ)) → length entries ≤ 256 ^ 8 → HoldsAll held (edge_strings digest (edge_rows digest entries)) → (path : Path) → IsFront digest held entries path → IsWithin (length entries) path
 
--- the strings that the true bytes of a path give are held
-abbrev pub HoldsTrue : (List ℕ → List ℕ) → Strings → List (List ℕ) → Path → Type 0
-HoldsTrue digest held entries Checkpoint = Unit {0}
-HoldsTrue digest held entries (Tile level index width) = HasAll held (strings_of digest (TileItem width (tile_bytes digest entries level index width)))
-HoldsTrue digest held entries (Entries index width) = HasAll held (strings_of digest (BundleItem width (bundle_bytes entries index width)))
+-- the strings that the true bytes of a path give
+abbrev pub true_strings : (List ℕ → List ℕ) → List (List ℕ) → Path → List (List ℕ)
+true_strings digest entries Checkpoint = []
+true_strings digest entries (Tile level index width) = strings_of digest (TileItem width (tile_bytes digest entries level index width))
+true_strings digest entries (Entries index width) = strings_of digest (BundleItem width (bundle_bytes entries index width))
+
+-- a full tile, or a bundle as wide as the entries have it
+abbrev pub IsWidest : ℕ → Path → Type 0
+IsWidest n Checkpoint = ⊥
+IsWidest n (Tile level index width) = width ≡ 256
+IsWidest n (Entries index width) = width ≡ min 256 (n - 256 * index)
+
+-- the true bytes of such a path within the entries give strings of their tree alone
+abbrev pub TrueStringsWithin : Type 0
+TrueStringsWithin = (digest : List ℕ → List ℕ) → IsHash digest → (entries : List (List ℕ)) → AreShort entries → (path : Path) → IsWithin (length entries) path → IsWidest (length entries) path → (y : List ℕ) → Contains (true_strings digest entries path) y → Contains (strings digest entries) y
+
+-- and the paths of a front are such paths
+abbrev pub FrontIsWidest : Type 0
+FrontIsWidest = (digest : List ℕ → List ℕ) (held : List ℕ → Bool) (entries : List (List ℕ)) (path : Path) → IsFront digest held entries path → IsWidest (length entries) path
 
 -- from one view to a larger one: the true bytes of each path of the front are taken, where the path is within the entries
 pub record TakesFront (digest : List ℕ → List ℕ) (entries : List (List ℕ)) (v w : View) : Type 0 where
   pub small : length entries ≤ 256 ^ 8
   pub edge : HasAll v.strings (edge_strings digest (edge_rows digest entries))
   pub grows : view.IsWithin v w
-  pub taken : (path : Path) → IsFront digest (held_in v.strings) entries path → IsWithin (length entries) path → HoldsTrue digest w.strings entries path
+  pub taken : (path : Path) → IsFront digest (held_in v.strings) entries path → IsWithin (length entries) path → HasAll w.strings (true_strings digest entries path)
 
 -- so it is a round
 abbrev pub TakingIsRound : Type 0

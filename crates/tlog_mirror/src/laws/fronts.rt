@@ -1,5 +1,5 @@
 //! Laws of what is fetched next.
-ghost use Rattle.tlog_mirror.specs.TreeLaws.{BundlesComplete, FrontIsBelowTop, FrontIsEmpty, MissingIsFront, RoundGoesDown, RoundLeaves, RoundsComplete, WalkIsFront};
+ghost use Rattle.tlog_mirror.specs.TreeLaws.{BundlesComplete, FrontIsBelowTop, FrontIsEmpty, MissingIsFront, MissingIsOfSize, RoundGoesDown, RoundLeaves, RoundsComplete, WalkIsFront};
 
 /// The front of a list of entries is empty exactly where all strings of its tree are held.
 pub fn front_law()
@@ -18,8 +18,11 @@ pub fn rounds_law()
     ensures number { RoundsComplete }
 {}
 
-/// Where a list of entries has the size and the root, the walk from the root finds its front.
+/// Where a list of entries has the size and the root, the walk from the root finds its front. Whether or
+/// not there is one, what it finds are full tiles of level 1 or above, and bundles as wide as the size
+/// has them.
 pub fn walk_law()
     ensures nodes { WalkIsFront }
     ensures paths { MissingIsFront }
+    ensures kinds { MissingIsOfSize }
 {}

@@ -1,5 +1,6 @@
 use Rattle.tlog_mirror.proofs.Walks.{walk_is_front}
 use Rattle.tlog_mirror.proofs.TreeLaws.{missing_is_front}
+use Rattle.tlog_mirror.proofs.MissingPaths.{missing_is_of_size}
 use Rattle.tlog_mirror.proofs.laws.fronts.walk_law.Goals as goal
 
 pub returns-clause-nodes : goal.returns-clause-nodes
@@ -7,3 +8,6 @@ returns-clause-nodes c = walk_is_front
 
 pub returns-clause-paths : goal.returns-clause-paths
 returns-clause-paths c = missing_is_front
+
+pub returns-clause-kinds : goal.returns-clause-kinds
+returns-clause-kinds c = missing_is_of_size

@@ -1,4 +1,4 @@
-use Rattle.tlog_mirror.proofs.TrueItems.{front_is_within, taking_is_round}
+use Rattle.tlog_mirror.proofs.TrueItems.{front_is_within, front_is_widest, true_strings_within, taking_is_round}
 use Rattle.tlog_mirror.proofs.Takings.{taking_completes}
 use Rattle.tlog_mirror.proofs.laws.truth.true_rounds_law.Goals as goal
 
@@ -10,3 +10,9 @@ returns-clause-round c = taking_is_round
 
 pub returns-clause-complete : goal.returns-clause-complete
 returns-clause-complete c = taking_completes
+
+pub returns-clause-widest : goal.returns-clause-widest
+returns-clause-widest c = front_is_widest
+
+pub returns-clause-tree : goal.returns-clause-tree
+returns-clause-tree c = true_strings_within
