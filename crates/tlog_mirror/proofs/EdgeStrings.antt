@@ -143,7 +143,8 @@ module _ (digest : List ℕ → List ℕ) (es : List (List ℕ)) where
       let n = ((edge_strings_are y).0 c).has in
       subst (Contains (strings digest es)) n.string_is (string_of_node digest es 0 n.node n.is)
 
-  -- a node of more than 256^level entries, and no more than 256^(level + 1), is in a full tile's range, or its string is one of EdgeStrings
+  -- a node of more than 256^level entries, and no more than 256^(level + 1), is in a full tile's range, or its
+  -- string is one of EdgeStrings
   pub record IsInFullTile (level : ℕ) (x : Node) : Type 0 where
     pub index : ℕ
     pub full : (index + 1) * 256 ^ (level + 1) ≤ length es

@@ -12,7 +12,7 @@ use Rattle.tlog_mirror.specs.Item.{Item, IsGood, strings_of, notes_of, plus}
 use Rattle.tlog_mirror.specs.Events.{Event, TakeEvent, MergeEvent, Reaches, OpeningReaches}
 use Rattle.tlog_mirror.specs.Steps.{Answer, Done, Refused, Clashed, Exhausted, Answers, Happens, TakesAt, MergesAt, Run}
 use Rattle.tlog_mirror.specs.Reached.{OpensWith, TakesIn, HasReached, HasReachedOnly, events_of, is_done, may_change, is_answered, IsNext, AreRetried}
-use Rattle.tlog_mirror.specs.PlayLaws.{AreOf, RunIsBounded, IsReached, RunIsReached, IsMet, NoneClashes, ReachedAlike, SameReachedSameView, MirrorsAgree}
+use Rattle.tlog_mirror.specs.PlayLaws.{AreOf, RunIsBounded, IsReached, RunIsReached, IsMet, NoneClashes, SameReachedSameView, MirrorsAgree, ForMirrors, ReachesToo}
 use Rattle.tlog_mirror.proofs.StringSets.{has_right, has_cases, listed_from_has, has_from_listed}
 use Rattle.tlog_mirror.proofs.Views.{within_itself, within_union, within_plus, same_is_one}
 use Rattle.tlog_mirror.proofs.Steps.{get_set_same, get_set_other, one_of_list, same_number, answer_grows, answer_within, answer_changes}
@@ -272,10 +272,10 @@ skips_none Refused h = inl refl
 skips_none Clashed h = inr refl
 skips_none Exhausted h = absurd (cc h)
 
-pub run_is_bounded : RunIsBounded
-run_is_bounded digest origin keys opened final events answers of run mirror v found = record {
-  lower = has_reached digest origin keys opened final events answers of run is_done (done_exact answers) mirror v found;
-  upper = reached_only digest origin keys opened final events answers of run may_change skips_none mirror v found;
+pub run_is_bounded : ForMirrors RunIsBounded
+run_is_bounded digest origin keys opened final events answers r mirror v found = record {
+  lower = has_reached digest origin keys opened final events answers r.of_origin r.run is_done (done_exact answers) mirror v found;
+  upper = reached_only digest origin keys opened final events answers r.of_origin r.run may_change skips_none mirror v found;
 }
 
 abbrev all_of : Answer → Bool
@@ -377,8 +377,10 @@ run_origin digest keys origin old new (e ∷ es) (a ∷ rest) of run = run_origi
 run_origin digest keys origin old new [] (a ∷ rest) of run = absurd run
 run_origin digest keys origin old new (e ∷ es) [] of run = absurd run
 
-pub run_is_reached : RunIsReached
-run_is_reached digest origin keys opened final events answers of apart retried run mirror v found =
+pub run_is_reached : ForMirrors RunIsReached
+run_is_reached digest origin keys opened final events answers r apart retried mirror v found =
+    let of = r.of_origin in
+    let run = r.run in
     let all = all_events digest keys opened final events answers run in
     let len = run_lengths digest keys opened final events answers run in
     let had = has_reached digest origin keys opened final events answers of run is_answered (answered_exact answers apart) mirror v found in
@@ -458,15 +460,15 @@ module _ (digest : List ℕ → List ℕ) (origin : List ℕ) (keys : List Key) 
   run_clean old new [] (a ∷ rest) of met taken run = absurd run
   run_clean old new (e ∷ es) [] of met taken run = absurd run
 
-pub none_clashes : NoneClashes
-none_clashes digest origin keys opened final events answers of clean run c =
+pub none_clashes : ForMirrors NoneClashes
+none_clashes digest origin keys opened final events answers r clean c =
     let M : List ℕ → Type 0 = IsMet digest origin keys opened events in
-    let all = run_clean digest origin keys M clean opened final events answers of (λ number v is q has. inl (record { number = number; view = v; is = is; has = has })) (λ position target item is good q has. inr (record { position = position; target = target; item = item; is = is; good = good; has = has })) run in
+    let all = run_clean digest origin keys M clean opened final events answers r.of_origin (λ number v is q has. inl (record { number = number; view = v; is = is; has = has })) (λ position target item is good q has. inr (record { position = position; target = target; item = item; is = is; good = good; has = has })) r.run in
     All-contains (λ a. a ≡ Clashed → ⊥) answers Clashed (All-from_recursion (λ a. a ≡ Clashed → ⊥) answers all) c refl
 
 -- ---- two runs
 
-half : (digest : List ℕ → List ℕ) (origin : List ℕ) (keys : List Key) (opened opened' : List View) (events events' : List Event) (mirror mirror' : ℕ) (v w : View) → IsReached digest origin keys opened events mirror v → IsReached digest origin keys opened' events' mirror' w → ReachedAlike digest origin keys opened opened' events events' mirror mirror' → IsWithin v w
+half : (digest : List ℕ → List ℕ) (origin : List ℕ) (keys : List Key) (opened opened' : List View) (events events' : List Event) (mirror mirror' : ℕ) (v w : View) → IsReached digest origin keys opened events mirror v → IsReached digest origin keys opened' events' mirror' w → ReachesToo digest origin keys opened opened' events events' mirror mirror' → IsWithin v w
 half digest origin keys opened opened' events events' mirror mirror' v w a b alike = record {
   origin_is = a.origin_is ∙ sym b.origin_is;
   notes_are = λ q h. b.has.notes q (elim (a.only.notes q h) [
@@ -479,15 +481,15 @@ half digest origin keys opened opened' events events' mirror mirror' v w a b ali
   ]);
 }
 
-pub same_reached : SameReachedSameView
-same_reached digest origin keys opened opened' final final' events events' answers answers' of of' apart apart' retried retried' run run' mirror mirror' v w found found' to from =
-    let a = run_is_reached digest origin keys opened final events answers of apart retried run mirror v found in
-    let b = run_is_reached digest origin keys opened' final' events' answers' of' apart' retried' run' mirror' w found' in
-    same_is_one v w (half digest origin keys opened opened' events events' mirror mirror' v w a b to) (half digest origin keys opened' opened events' events mirror' mirror w v b a from)
+pub same_reached : ForMirrors SameReachedSameView
+same_reached digest origin keys opened opened' events events' mirror mirror' v w p q apart apart' alike =
+    let a = run_is_reached digest origin keys opened p.final events p.answers p.is_run apart p.retried mirror v p.is in
+    let b = run_is_reached digest origin keys opened' q.final events' q.answers q.is_run apart' q.retried mirror' w q.is in
+    same_is_one v w (half digest origin keys opened opened' events events' mirror mirror' v w a b alike.there) (half digest origin keys opened' opened events' events mirror' mirror w v b a alike.back)
 
-pub mirrors_agree : MirrorsAgree
-mirrors_agree digest origin keys opened opened' final final' events events' answers answers' of of' clean clean' retried retried' run run' mirror mirror' v w found found' to from =
-    same_reached digest origin keys opened opened' final final' events events' answers answers' of of'
-    (none_clashes digest origin keys opened final events answers of clean run)
-    (none_clashes digest origin keys opened' final' events' answers' of' clean' run')
-    retried retried' run run' mirror mirror' v w found found' to from
+pub mirrors_agree : ForMirrors MirrorsAgree
+mirrors_agree digest origin keys opened opened' events events' mirror mirror' v w clean clean' p q alike =
+    same_reached digest origin keys opened opened' events events' mirror mirror' v w p q
+    (none_clashes digest origin keys opened p.final events p.answers p.is_run clean)
+    (none_clashes digest origin keys opened' q.final events' q.answers q.is_run clean')
+    alike

@@ -19,7 +19,8 @@ module _ (digest : List ℕ → List ℕ) where
     pub entries : List (List ℕ)
     pub is : IsTreeOf held size root entries
 
-  -- Complete(V, n, r, E): a note of V has that size and root, and E is a list of that size and root whose tree V holds
+  -- Complete(V, n, r, E): a note of V has that size and root, and E is a list of that size and root whose tree V
+  -- holds
   pub record Complete (v : View) (size : ℕ) (root : List ℕ) (entries : List (List ℕ)) : Type 0 where
     pub head : HasHead v size root
     pub tree : IsTreeOf v.strings size root entries
@@ -38,7 +39,8 @@ module _ (digest : List ℕ → List ℕ) where
     pub has_edge : HasEdgeRows digest size root rows
     pub are_held : HasAll v.strings (edge_strings digest (map row_of rows))
 
-  -- a lawful view: no two of its strings share a digest, its entries have at most 65,535 bytes, and the edge of each note is held
+  -- a lawful view: no two of its strings share a digest, its entries have at most 65,535 bytes, and the edge of
+  -- each note is held
   pub record IsLawful (v : View) : Type 0 where
     pub no_clash : NoClash digest v.strings
     pub are_strings : AllTagged v.strings

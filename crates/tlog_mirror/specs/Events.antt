@@ -7,13 +7,16 @@ pub data Event : Type 0 where
   TakeEvent : (target : ℕ) (item : Item) → Event
   MergeEvent : (target source : ℕ) → Event
 
--- At these positions of the list, which rise from the one given on, stand merges that lead from a mirror to another: each is out of the mirror before, and the last is into the other. By no merges a mirror is led to alone.
+-- At these positions of the list, which rise from the one given on, stand merges that lead from a mirror to
+-- another: each is out of the mirror before, and the last is into the other. By no merges a mirror is led to
+-- alone.
 abbrev pub MergesLead : List Event → ℕ → ℕ → List ℕ → ℕ → Type 0
 MergesLead events first source [] end = source ≡ end
 MergesLead events first source (position ∷ positions) end =
     (target : ℕ) × (first ≤ position) × (slice_get events position ≡ Some (MergeEvent target source)) × MergesLead events (position + 1) target positions end
 
--- Reaches(x, i, events): at rising positions of the list stand a take of the item, and then merges that lead from its mirror to this one
+-- Reaches(x, i, events): at rising positions of the list stand a take of the item, and then merges that lead from
+-- its mirror to this one
 pub record Reaches (item : Item) (mirror : ℕ) (events : List Event) : Type 0 where
   pub position : ℕ
   pub target : ℕ

@@ -63,7 +63,8 @@ pub record HasParts : Type 0 where
   pub row : row_of [] ≡ []
   pub bundle : entries_of 2 (0 ∷ 0 ∷ 0 ∷ 1 ∷ 0 ∷ []) ≡ take 2 three
 
--- an item that is taken at a mirror reaches another over two merges that follow in this order, and over the same two in the other order it does not
+-- an item that is taken at a mirror reaches another over two merges that follow in this order, and over the same
+-- two in the other order it does not
 abbrev pub some_item : Item
 some_item = TileItem 1 []
 
@@ -81,6 +82,7 @@ pub record IsFrontOfThree : Type 0 where
   pub bundle : IsFront sum_digest held_never three (Entries 0 3)
   pub alone : (path : Path) → IsFront sum_digest held_never three path → path ≡ Entries 0 3
 
--- with nothing held the front of 300 entries has a tile that their tree does not have in full: so an edge is taken first
+-- with nothing held the front of 300 entries has a tile that their tree does not have in full: so an edge is taken
+-- first
 abbrev pub HasTileOutside : Type 0
 HasTileOutside = (digest : List ℕ → List ℕ) (entries : List (List ℕ)) → length entries ≡ 300 → IsFront digest held_never entries (Tile 1 0 256)

@@ -1,4 +1,5 @@
--- What is fetched next for a tree of which a part is held: the front (C2SP tlog-tiles, "Merkle Tree" and "Log Entries").
+-- What is fetched next for a tree of which a part is held: the front (C2SP tlog-tiles, "Merkle Tree" and "Log
+-- Entries").
 use Rattle.std.specs.Prelude.{◌≡◌, ◌⊎◌, ℕ, ◌+◌, ◌-◌, ◌*◌, ◌/◌, ◌^◌, ◌≤◌, ◌<◌, Bool, true, false, List, ◌∷◌, ◌++◌, length, min}
 use Rattle.std.specs.Ordering.{nat_cmp, ordering_then}
 use Rattle.std.specs.declared.cmp.Ordering.{Ordering}

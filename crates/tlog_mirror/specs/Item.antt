@@ -1,4 +1,5 @@
--- Items: what a mirror takes, when it is good, and what it adds to a view (C2SP tlog-tiles, "Merkle Tree", "Log Entries" and "Checkpoints").
+-- Items: what a mirror takes, when it is good, and what it adds to a view (C2SP tlog-tiles, "Merkle Tree", "Log
+-- Entries" and "Checkpoints").
 use Rattle.std.specs.Prelude.{◌≡◌, ℕ, zero, suc, ◌*◌, ◌/◌, ◌≤◌, List, [], ◌∷◌, length, take, drop, map}
 use Rattle.std.specs.Int.{w16, from_be_bytes}
 use Rattle.std.specs.FinSet as set
@@ -10,7 +11,8 @@ use Rattle.tlog_mirror.specs.View.{View}
 use Rattle.tlog_mirror.specs.Edge.{edge_widths, edge_root, edge_strings}
 use Rattle.tlog_mirror.specs.Heads.{IsOpenHead}
 
--- an item, with its bytes as they came: a note with the edge rows of its size, lowest level first; the row of a tile; a bundle of entries
+-- an item, with its bytes as they came: a note with the edge rows of its size, lowest level first; the row of a
+-- tile; a bundle of entries
 pub data Item : Type 0 where
   HeadItem : (note : List ℕ) (rows : List (List ℕ)) → Item
   TileItem : (width : ℕ) (bytes : List ℕ) → Item

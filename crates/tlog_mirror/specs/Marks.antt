@@ -10,7 +10,8 @@ use Rattle.tlog_mirror.specs.View.{View, view_code}
 use Rattle.tlog_mirror.specs.Complete.{Complete, IsLawful}
 use Rattle.tlog_mirror.specs.Forks.{Point, point_cmp}
 
--- Marks(V): the number of entries and the tree hash of each slice that the recursion of MTH (RFC 6962, section 2.1) meets on the list of a complete head, the whole list among them
+-- Marks(V): the number of entries and the tree hash of each slice that the recursion of MTH (RFC 6962, section
+-- 2.1) meets on the list of a complete head, the whole list among them
 pub record IsMark (digest : List ℕ → List ℕ) (v : View) (point : Point) : Type 0 where
   pub size : ℕ
   pub root : List ℕ

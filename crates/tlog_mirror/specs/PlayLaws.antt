@@ -11,7 +11,8 @@ use Rattle.tlog_mirror.specs.Steps.{Answer, Exhausted, Clashed, IsBetween, Takes
 use Rattle.tlog_mirror.specs.ViewLaws.{IsHash}
 use Rattle.tlog_mirror.specs.Reached.{HasReached, HasReachedOnly, events_of, is_done, may_change, AreRetried}
 
--- By the last event of a list: a take at a mirror adds its item to what reaches it, a merge into a mirror adds what reached its source, and nothing else changes.
+-- By the last event of a list: a take at a mirror adds its item to what reaches it, a merge into a mirror adds
+-- what reached its source, and nothing else changes.
 pub record ReachesByLast (events : List Event) : Type 0 where
   pub none : (item : Item) (mirror : ℕ) → Reaches item mirror [] → ⊥
   pub take : (target : ℕ) (taken item : Item) (mirror : ℕ) → Reaches item mirror (events ++ TakeEvent target taken ∷ []) ↔ (Reaches item mirror events ⊎ ((mirror ≡ target) × (item ≡ taken)))
@@ -41,22 +42,30 @@ FoldIsReaches = (events : List Event) (mirror : ℕ) → IsFold events mirror
 abbrev pub AreOf : List ℕ → List View → Type 0
 AreOf origin views = (mirror : ℕ) (v : View) → slice_get views mirror ≡ Some v → v.origin ≡ origin
 
--- For all answers, a mirror's view has what the events that were done bring to it, and has nothing but what is brought to it by those that were done or for which memory was refused.
-pub record IsBounded (digest : List ℕ → List ℕ) (origin : List ℕ) (keys : List Key) (opened : List View) (events : List Event) (answers : List Answer) (mirror : ℕ) (v : View) : Type 0 where
-  pub lower : HasReached digest origin keys opened (events_of is_done events answers) mirror v
-  pub upper : HasReachedOnly digest origin keys opened (events_of may_change events answers) mirror v
+module _ (digest : List ℕ → List ℕ) (origin : List ℕ) (keys : List Key) where
+  -- a run of events, from views of that origin to others
+  pub record IsRun (opened : List View) (events : List Event) (answers : List Answer) (final : List View) : Type 0 where
+    pub of_origin : AreOf origin opened
+    pub run : Run digest keys opened events answers final
 
-abbrev pub RunIsBounded : Type 0
-RunIsBounded = (digest : List ℕ → List ℕ) (origin : List ℕ) (keys : List Key) (opened final : List View) (events : List Event) (answers : List Answer) → AreOf origin opened → Run digest keys opened events answers final → (mirror : ℕ) (v : View) → slice_get final mirror ≡ Some v → IsBounded digest origin keys opened events answers mirror v
+  -- for all answers a mirror's view has what the events that were done bring to it, and has nothing but what is brought
+  -- to it by those that were done or for which memory was refused
+  pub record IsBounded (opened : List View) (events : List Event) (answers : List Answer) (mirror : ℕ) (v : View) : Type 0 where
+    pub lower : HasReached digest origin keys opened (events_of is_done events answers) mirror v
+    pub upper : HasReachedOnly digest origin keys opened (events_of may_change events answers) mirror v
 
--- Where nothing clashed, and each event for which memory was refused was done again, a mirror's view is the union of the opening views and of the good items that reach it.
-pub record IsReached (digest : List ℕ → List ℕ) (origin : List ℕ) (keys : List Key) (opened : List View) (events : List Event) (mirror : ℕ) (v : View) : Type 0 where
-  pub origin_is : v.origin ≡ origin
-  pub has : HasReached digest origin keys opened events mirror v
-  pub only : HasReachedOnly digest origin keys opened events mirror v
+  abbrev pub RunIsBounded : Type 0
+  RunIsBounded = (opened final : List View) (events : List Event) (answers : List Answer) → IsRun opened events answers final → (mirror : ℕ) (v : View) → slice_get final mirror ≡ Some v → IsBounded opened events answers mirror v
 
-abbrev pub RunIsReached : Type 0
-RunIsReached = (digest : List ℕ → List ℕ) (origin : List ℕ) (keys : List Key) (opened final : List View) (events : List Event) (answers : List Answer) → AreOf origin opened → (Contains answers Clashed → ⊥) → AreRetried events answers → Run digest keys opened events answers final → (mirror : ℕ) (v : View) → slice_get final mirror ≡ Some v → IsReached digest origin keys opened events mirror v
+  -- where nothing clashed, and each event for which memory was refused was done again, a mirror's view is the union of
+  -- the opening views and of the good items that reach it
+  pub record IsReached (opened : List View) (events : List Event) (mirror : ℕ) (v : View) : Type 0 where
+    pub origin_is : v.origin ≡ origin
+    pub has : HasReached digest origin keys opened events mirror v
+    pub only : HasReachedOnly digest origin keys opened events mirror v
+
+  abbrev pub RunIsReached : Type 0
+  RunIsReached = (opened final : List View) (events : List Event) (answers : List Answer) → IsRun opened events answers final → (Contains answers Clashed → ⊥) → AreRetried events answers → (mirror : ℕ) (v : View) → slice_get final mirror ≡ Some v → IsReached opened events mirror v
 
 -- a string of an opening view, or of a good item of the list
 pub record IsOpened (opened : List View) (string : List ℕ) : Type 0 where
@@ -65,37 +74,55 @@ pub record IsOpened (opened : List View) (string : List ℕ) : Type 0 where
   pub is : slice_get opened number ≡ Some view
   pub has : Has view.strings string
 
-pub record IsTaken (digest : List ℕ → List ℕ) (origin : List ℕ) (keys : List Key) (events : List Event) (string : List ℕ) : Type 0 where
-  pub position : ℕ
-  pub target : ℕ
-  pub item : Item
-  pub is : slice_get events position ≡ Some (TakeEvent target item)
-  pub good : IsGood digest origin keys item
-  pub has : Contains (strings_of digest item) string
+module _ (digest : List ℕ → List ℕ) (origin : List ℕ) (keys : List Key) where
+  pub record IsTaken (events : List Event) (string : List ℕ) : Type 0 where
+    pub position : ℕ
+    pub target : ℕ
+    pub item : Item
+    pub is : slice_get events position ≡ Some (TakeEvent target item)
+    pub good : IsGood digest origin keys item
+    pub has : Contains (strings_of digest item) string
 
-abbrev pub IsMet : (List ℕ → List ℕ) → List ℕ → List Key → List View → List Event → List ℕ → Type 0
-IsMet digest origin keys opened events string = IsOpened opened string ⊎ IsTaken digest origin keys events string
+  abbrev pub IsMet : List View → List Event → List ℕ → Type 0
+  IsMet opened events string = IsOpened opened string ⊎ IsTaken events string
 
--- no two different strings that are met have one digest
-abbrev pub NothingClashes : (List ℕ → List ℕ) → List ℕ → List Key → List View → List Event → Type 0
-NothingClashes digest origin keys opened events = (x y : List ℕ) → IsMet digest origin keys opened events x → IsMet digest origin keys opened events y → digest x ≡ digest y → x ≡ y
+  -- no two different strings that are met have one digest
+  abbrev pub NothingClashes : List View → List Event → Type 0
+  NothingClashes opened events = (x y : List ℕ) → IsMet opened events x → IsMet opened events y → digest x ≡ digest y → x ≡ y
 
--- then no event is answered by a clash
-abbrev pub NoneClashes : Type 0
-NoneClashes = (digest : List ℕ → List ℕ) (origin : List ℕ) (keys : List Key) (opened final : List View) (events : List Event) (answers : List Answer) → AreOf origin opened → NothingClashes digest origin keys opened events → Run digest keys opened events answers final → Contains answers Clashed → ⊥
+  -- then no event is answered by a clash
+  abbrev pub NoneClashes : Type 0
+  NoneClashes = (opened final : List View) (events : List Event) (answers : List Answer) → IsRun digest origin keys opened events answers final → NothingClashes opened events → Contains answers Clashed → ⊥
 
--- The same good items, and the same opening views, reach a mirror in each of two runs.
-pub record ReachedAlike (digest : List ℕ → List ℕ) (origin : List ℕ) (keys : List Key) (opened opened' : List View) (events events' : List Event) (mirror mirror' : ℕ) : Type 0 where
-  pub items : (item : Item) → IsGood digest origin keys item → Reaches item mirror events → Reaches item mirror' events'
-  pub views : (number : ℕ) (v : View) → slice_get opened number ≡ Some v → OpeningReaches number mirror events → (number' : ℕ) × (slice_get opened' number' ≡ Some v) × OpeningReaches number' mirror' events'
+  -- a run leaves a mirror that view; each event for which memory was refused was done again
+  pub record Leaves (opened : List View) (events : List Event) (mirror : ℕ) (v : View) : Type 0 where
+    pub answers : List Answer
+    pub final : List View
+    pub is_run : IsRun digest origin keys opened events answers final
+    pub retried : AreRetried events answers
+    pub is : slice_get final mirror ≡ Some v
 
--- mirrors that the same items have reached, in any order, with repeats and through any merges, hold equal views
-abbrev pub SameReachedSameView : Type 0
-SameReachedSameView = (digest : List ℕ → List ℕ) (origin : List ℕ) (keys : List Key) (opened opened' final final' : List View) (events events' : List Event) (answers answers' : List Answer) → AreOf origin opened → AreOf origin opened' → (Contains answers Clashed → ⊥) → (Contains answers' Clashed → ⊥) → AreRetried events answers → AreRetried events' answers' → Run digest keys opened events answers final → Run digest keys opened' events' answers' final' → (mirror mirror' : ℕ) (v w : View) → slice_get final mirror ≡ Some v → slice_get final' mirror' ≡ Some w → ReachedAlike digest origin keys opened opened' events events' mirror mirror' → ReachedAlike digest origin keys opened' opened events' events mirror' mirror → v ≡ w
+  -- the good items and the opening views that reach the one mirror in the one run reach the other in the other
+  pub record ReachesToo (opened opened' : List View) (events events' : List Event) (mirror mirror' : ℕ) : Type 0 where
+    pub items : (item : Item) → IsGood digest origin keys item → Reaches item mirror events → Reaches item mirror' events'
+    pub views : (number : ℕ) (v : View) → slice_get opened number ≡ Some v → OpeningReaches number mirror events → (number' : ℕ) × (slice_get opened' number' ≡ Some v) × OpeningReaches number' mirror' events'
 
--- The headline: while no two of the byte strings met share a digest, and each event for which memory was refused was done again, such mirrors hold equal views.
-abbrev pub MirrorsAgree : Type 0
-MirrorsAgree = (digest : List ℕ → List ℕ) (origin : List ℕ) (keys : List Key) (opened opened' final final' : List View) (events events' : List Event) (answers answers' : List Answer) → AreOf origin opened → AreOf origin opened' → NothingClashes digest origin keys opened events → NothingClashes digest origin keys opened' events' → AreRetried events answers → AreRetried events' answers' → Run digest keys opened events answers final → Run digest keys opened' events' answers' final' → (mirror mirror' : ℕ) (v w : View) → slice_get final mirror ≡ Some v → slice_get final' mirror' ≡ Some w → ReachedAlike digest origin keys opened opened' events events' mirror mirror' → ReachedAlike digest origin keys opened' opened events' events mirror' mirror → v ≡ w
+  -- the same good items and equal opening views reach both
+  pub record ReachedAlike (opened opened' : List View) (events events' : List Event) (mirror mirror' : ℕ) : Type 0 where
+    pub there : ReachesToo opened opened' events events' mirror mirror'
+    pub back : ReachesToo opened' opened events' events mirror' mirror
+
+  -- mirrors that the same items have reached, in any order, with repeats and through any merges, hold equal views, where nothing clashed
+  abbrev pub SameReachedSameView : Type 0
+  SameReachedSameView = (opened opened' : List View) (events events' : List Event) (mirror mirror' : ℕ) (v w : View) (p : Leaves opened events mirror v) (q : Leaves opened' events' mirror' w) → (Contains p.answers Clashed → ⊥) → (Contains q.answers Clashed → ⊥) → ReachedAlike opened opened' events events' mirror mirror' → v ≡ w
+
+  -- The headline: while no two of the byte strings met share a digest, mirrors that the same items have reached hold equal views.
+  abbrev pub MirrorsAgree : Type 0
+  MirrorsAgree = (opened opened' : List View) (events events' : List Event) (mirror mirror' : ℕ) (v w : View) → NothingClashes opened events → NothingClashes opened' events' → Leaves opened events mirror v → Leaves opened' events' mirror' w → ReachedAlike opened opened' events events' mirror mirror' → v ≡ w
+
+-- for each digest, origin and keys
+abbrev pub ForMirrors : ((List ℕ → List ℕ) → List ℕ → List Key → Type 0) → Type 0
+ForMirrors Law = (digest : List ℕ → List ℕ) (origin : List ℕ) (keys : List Key) → Law digest origin keys
 
 -- an event that ran out of memory and is done again comes to the same as one event
 abbrev pub TakesAgain : Type 0

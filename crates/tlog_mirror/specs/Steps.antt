@@ -7,7 +7,8 @@ use Rattle.tlog_mirror.specs.Strings.{HasClash}
 use Rattle.tlog_mirror.specs.Item.{Item, IsGood, plus}
 use Rattle.tlog_mirror.specs.Events.{Event, TakeEvent, MergeEvent}
 
--- how an event is answered: it is done; it is refused for what the item or the other mirror is; two different strings would share a digest; memory was refused
+-- how an event is answered: it is done; it is refused for what the item or the other mirror is; two different
+-- strings would share a digest; memory was refused
 pub data Answer : Type 0 where
   Done : Answer
   Refused : Answer
@@ -21,7 +22,8 @@ pub record IsBetween (old full new : View) : Type 0 where
   pub notes_last : (note : List ℕ) → Has new.notes note → Has old.notes note ⊎ ((string : List ℕ) → Has full.strings string → Has new.strings string)
 
 module _ (digest : List ℕ → List ℕ) where
-  -- an event that would make the view full, where it is allowed: it is refused exactly where it is not, and clashes exactly where the full view does
+  -- an event that would make the view full, where it is allowed: it is refused exactly where it is not, and
+  -- clashes exactly where the full view does
   abbrev pub Answers : Type 0 → View → View → Answer → View → Type 0
   Answers Allowed full old Done new = Allowed × NoClash digest full.strings × (new ≡ full)
   Answers Allowed full old Refused new = (Allowed → ⊥) × (new ≡ old)

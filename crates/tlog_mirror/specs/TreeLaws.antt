@@ -25,7 +25,8 @@ EdgeRootIsRoot = (digest : List ℕ → List ℕ) (entries : List (List ℕ)) �
 abbrev pub EdgeStringsWithin : Type 0
 EdgeStringsWithin = (digest : List ℕ → List ℕ) (entries : List (List ℕ)) (y : List ℕ) → Contains (edge_strings digest (edge_rows digest entries)) y → Contains (strings digest entries) y
 
--- y is the string of a node of E's tree that has more than `above` entries, all of them among the `len` from `start` on
+-- y is the string of a node of E's tree that has more than `above` entries, all of them among the `len` from
+-- `start` on
 pub record HasNodeWithin (digest : List ℕ → List ℕ) (entries : List (List ℕ)) (start len above : ℕ) (y : List ℕ) : Type 0 where
   pub node : Node
   pub is : IsNode digest (tree_of entries) 0 node
@@ -34,7 +35,8 @@ pub record HasNodeWithin (digest : List ℕ → List ℕ) (entries : List (List 
   pub long : above < node.len
   pub string_is : node.string ≡ y
 
--- the Joins of a true full row of level L are the strings of Tree(E) for the nodes of its range of more than 256^L entries
+-- the Joins of a true full row of level L are the strings of Tree(E) for the nodes of its range of more than 256^L
+-- entries
 abbrev pub FullRowJoins : Type 0
 FullRowJoins = (digest : List ℕ → List ℕ) (entries : List (List ℕ)) (level index : ℕ) → (index + 1) * 256 ^ (level + 1) ≤ length entries → (y : List ℕ) → Contains (joins digest (level_row digest entries level (256 * index) 256)) y ↔ HasNodeWithin digest entries (index * 256 ^ (level + 1)) (256 ^ (level + 1)) (256 ^ level) y
 

@@ -80,7 +80,8 @@ TrueStringsWithin = (digest : List ℕ → List ℕ) → IsHash digest → (entr
 abbrev pub FrontIsWidest : Type 0
 FrontIsWidest = (digest : List ℕ → List ℕ) (held : List ℕ → Bool) (entries : List (List ℕ)) (path : Path) → IsFront digest held entries path → IsWidest (length entries) path
 
--- from one view to a larger one: the true bytes of each path of the front are taken, where the path is within the entries
+-- from one view to a larger one: the true bytes of each path of the front are taken, where the path is within the
+-- entries
 pub record TakesFront (digest : List ℕ → List ℕ) (entries : List (List ℕ)) (v w : View) : Type 0 where
   pub small : length entries ≤ 256 ^ 8
   pub edge : HasAll v.strings (edge_strings digest (edge_rows digest entries))

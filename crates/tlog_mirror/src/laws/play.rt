@@ -1,5 +1,5 @@
 //! Laws of events and runs: mirrors that the same items have reached hold the same.
-ghost use Rattle.tlog_mirror.specs.PlayLaws.{BetweenIsLawful, FoldIsReaches, MergesAgain, MirrorsAgree, NoneClashes, NoteIsLast, OpeningReachesGoByLast, ReachesGoByLast, RunGrows, RunIsBounded, RunIsLawful, RunIsReached, SameReachedSameView, TakesAgain};
+ghost use Rattle.tlog_mirror.specs.PlayLaws.{BetweenIsLawful, FoldIsReaches, ForMirrors, MergesAgain, MirrorsAgree, NoneClashes, NoteIsLast, OpeningReachesGoByLast, ReachesGoByLast, RunGrows, RunIsBounded, RunIsLawful, RunIsReached, SameReachedSameView, TakesAgain};
 
 /// What reaches a mirror, by the last event of a list: a take adds its item, a merge adds what reached
 /// its source, and nothing else changes. A fold over the events gives the same.
@@ -13,14 +13,14 @@ pub fn reaches_law()
 /// reach it, where no strings clashed, and each event for which memory was refused was done again. In
 /// any other run the view lies between what was done and what may have been.
 pub fn run_law()
-    ensures reached { RunIsReached }
-    ensures bounded { RunIsBounded }
+    ensures reached { ForMirrors RunIsReached }
+    ensures bounded { ForMirrors RunIsBounded }
 {}
 
 /// Where no two strings of the opening views and of the good items share a digest, no event is answered
 /// by a clash.
 pub fn clash_law()
-    ensures { NoneClashes }
+    ensures { ForMirrors NoneClashes }
 {}
 
 /// Mirrors that the same good items and the same opening views have reached hold equal views, in
@@ -28,8 +28,8 @@ pub fn clash_law()
 /// by a clash, and so where no two strings share a digest, and each event for which memory was refused
 /// was done again.
 pub fn order_law()
-    ensures same { SameReachedSameView }
-    ensures agree { MirrorsAgree }
+    ensures same { ForMirrors SameReachedSameView }
+    ensures agree { ForMirrors MirrorsAgree }
 {}
 
 /// An event for which memory was refused, done again, comes to the same as the event done once.
