@@ -220,11 +220,14 @@ none_root digest size root [] z h = h.root_is
 none_root digest size root (row ∷ rows) z h = absurd (let none : length (map length (row ∷ rows)) ≡ 0 = ap length h.widths ∙ ap (λ n. length (map (λ w. 32 * w) (edge_widths n))) z in omega arith)
 
 pub missing_is_none : MissingIsNone
-missing_is_none digest hash v lawful size root head small = (
+missing_is_none digest hash v lawful size root head = (
   λ none. whole size refl none,
   λ c path m. built_none digest v.strings hash lawful.no_clash size root small (record { entries = c.entries; is = c.complete.tree }) path m,
 )
   where
+    small : size ≤ 256 ^ 8
+    small = omega (arith, head.holds.is_head.is_checkpoint.in_range)
+
     complete : IsBuilt digest v.strings size root → IsComplete digest v size root
     complete b = record { entries = b.entries; complete = record { head = head; tree = b.is } }
 

@@ -20,7 +20,8 @@ use Rattle.tlog_tiles.specs.declared.paths.Path.TheVariants.{Checkpoint, Tile, E
 use Rattle.tlog_tiles.specs.Tiles.{tile_bytes, bundle_bytes}
 use Rattle.tlog_mirror.specs.View.{View}
 use Rattle.tlog_hash.specs.Rows.{part}
-use Rattle.tlog_mirror.specs.ViewLaws.{RangesHashOnce, IsHash, RepliesOnce, OneList, ListHasRoot, CompleteIsSame, ForksTell, ServesOne}
+use Rattle.tlog_mirror.specs.Heads.{IsHead}
+use Rattle.tlog_mirror.specs.ViewLaws.{ServesTruth, RangesHashOnce, IsHash, RepliesOnce, OneList, ListHasRoot, CompleteIsSame, ForksTell, ServesOne}
 use Rattle.tlog_mirror.proofs.StringSets.{all_from_held}
 use Rattle.tlog_mirror.proofs.Views.{complete_stays}
 use Rattle.std.proofs.lemmas.List.{append-nil, nil_from_length}
@@ -157,3 +158,9 @@ replies_once digest hash v lawful (Entries index width) first second p q = p.byt
 
 pub ranges_hash_once : RangesHashOnce
 ranges_hash_once digest hash v lawful start len first second p q = p.hash_is ∙ ap (λ es. mth digest (part start len es)) (one_served digest hash v lawful p.entries q.entries p.served q.served) ∙ sym q.hash_is
+
+pub serves_truth : ServesTruth
+serves_truth digest v note size root entries p = record {
+  is_held = p.holds.is_held;
+  is_head = subst (λ n. IsHead note v.origin n (mth digest entries)) (sym p.tree.size_is) (subst (IsHead note v.origin size) (sym p.tree.root_is) p.holds.is_head);
+}

@@ -25,7 +25,9 @@ use Rattle.tlog_mirror.specs.Front.{IsFront}
 use Rattle.tlog_mirror.specs.Rounds.{HoldsAll, IsAnswered}
 use Rattle.tlog_mirror.specs.Item.{row_of}
 use Rattle.tlog_mirror.specs.ViewLaws.{IsHash}
-use Rattle.tlog_mirror.specs.TrueLaws.{TilesAreTrue, BundlesAreTrue, EdgesAreTrue, EdgeIsOfPaths, FrontIsWithin, true_strings, TrueStringsWithin, FrontIsWidest, TakingIsRound, PrefixesServeSame}
+use Rattle.std.proofs.lemmas.List.{take_all}
+use Rattle.tlog_hash.proofs.Folds.{joined_ranges}
+use Rattle.tlog_mirror.specs.TrueLaws.{BundlesAreAll, TilesAreTrue, BundlesAreTrue, EdgesAreTrue, EdgeIsOfPaths, FrontIsWithin, true_strings, TrueStringsWithin, FrontIsWidest, TakingIsRound, PrefixesServeSame}
 use Rattle.tlog_mirror.proofs.StringSets.{holds_from_held}
 use Rattle.tlog_mirror.proofs.Items.{row_is_one, bundle_is_one}
 use Rattle.tlog_mirror.proofs.EdgeRoots.{edge_rows_wide, edge_root_is}
@@ -57,6 +59,9 @@ bundles_are_true digest hash entries short index width within =
       good = record { is_width = record { some = within.some; most = within.upto }; entries = part (256 * index) width entries; is_bundle = b };
       strings_are = ap (strings digest) (sym (bundle_is_one width (bundle_bytes entries index width) (part (256 * index) width entries) b));
     }
+
+pub bundles_are_all : BundlesAreAll
+bundles_are_all entries count enough = joined_ranges 256 0 count entries ∙ take_all (count * 256) entries enough
 
 -- ---- the edge
 

@@ -1,14 +1,14 @@
 -- Laws of views: what is complete, served and forked in them, and how they are joined.
-use Rattle.std.specs.Prelude.{◌≡◌, ◌≢◌, ◌↔◌, ℕ, ◌*◌, ◌^◌, ◌≤◌, List, length}
+use Rattle.std.specs.Prelude.{◌≡◌, ◌≢◌, ◌↔◌, ℕ, ◌*◌, ◌≤◌, List, length}
 use Rattle.std.specs.FinSet as set
 use Rattle.tlog_hash.specs.Tree.{mth}
 use Rattle.tlog_tiles.specs.Bundle.{IsBundle}
 use Rattle.tlog_tiles.specs.Row.{IsRow}
 use Rattle.signed_note.specs.Keys.{Key}
-use Rattle.node_store.specs.Strings.{NoClash}
+use Rattle.node_store.specs.Strings.{Has, NoClash}
 use Rattle.tlog_mirror.specs.View.{View, nothing, union, IsWithin}
 use Rattle.tlog_mirror.specs.Strings.{held_in, HasClash}
-use Rattle.tlog_mirror.specs.Heads.{HasHead}
+use Rattle.tlog_mirror.specs.Heads.{IsHead, HasHead}
 use Rattle.tlog_mirror.specs.Item.{Item, row_of, entries_of, IsGood, plus}
 use Rattle.tlog_mirror.specs.Complete.{Complete, IsComplete, IsLawful}
 use Rattle.tlog_mirror.specs.Served.{Served, Replies, IsRangeHash}
@@ -107,6 +107,14 @@ pub record IsSameServed (digest : List ℕ → List ℕ) (note other : List ℕ)
 abbrev pub ServesOne : Type 0
 ServesOne = (digest : List ℕ → List ℕ) → IsHash digest → (v : View) → IsLawful digest v → (note other : List ℕ) (size n : ℕ) (root r : List ℕ) (first second : List (List ℕ)) → Served digest v note size root first → Served digest v other n r second → IsSameServed digest note other size n root r first second
 
+-- the note served says the length and the tree hash of the entries served
+pub record IsTruth (digest : List ℕ → List ℕ) (v : View) (note : List ℕ) (entries : List (List ℕ)) : Type 0 where
+  pub is_held : Has v.notes note
+  pub is_head : IsHead note v.origin (length entries) (mth digest entries)
+
+abbrev pub ServesTruth : Type 0
+ServesTruth = (digest : List ℕ → List ℕ) (v : View) (note : List ℕ) (size : ℕ) (root : List ℕ) (entries : List (List ℕ)) → Served digest v note size root entries → IsTruth digest v note entries
+
 -- a path has one reply at most
 abbrev pub RepliesOnce : Type 0
 RepliesOnce = (digest : List ℕ → List ℕ) → IsHash digest → (v : View) → IsLawful digest v → (path : Path) (first second : List ℕ) → Replies digest v path first → Replies digest v path second → first ≡ second
@@ -117,4 +125,4 @@ RangesHashOnce = (digest : List ℕ → List ℕ) → IsHash digest → (v : Vie
 
 -- the walk from the root of a head of a lawful view fails nowhere exactly where the head is complete
 abbrev pub MissingIsNone : Type 0
-MissingIsNone = (digest : List ℕ → List ℕ) → IsHash digest → (v : View) → IsLawful digest v → (size : ℕ) (root : List ℕ) → HasHead v size root → size ≤ 256 ^ 8 → ((path : Path) → IsMissing digest (held_in v.strings) size root path → ⊥) ↔ IsComplete digest v size root
+MissingIsNone = (digest : List ℕ → List ℕ) → IsHash digest → (v : View) → IsLawful digest v → (size : ℕ) (root : List ℕ) → HasHead v size root → ((path : Path) → IsMissing digest (held_in v.strings) size root path → ⊥) ↔ IsComplete digest v size root

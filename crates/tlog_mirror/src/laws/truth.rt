@@ -1,11 +1,12 @@
 //! Laws of items of true bytes: what a log serves of its entries (C2SP tlog-tiles).
-ghost use Rattle.tlog_mirror.specs.TrueLaws.{BundlesAreTrue, EdgeIsOfPaths, EdgesAreTrue, FrontIsWidest, FrontIsWithin, PrefixesServeSame, TakingCompletes, TakingIsRound, TilesAreTrue, TrueStringsWithin};
+ghost use Rattle.tlog_mirror.specs.TrueLaws.{BundlesAreAll, BundlesAreTrue, EdgeIsOfPaths, EdgesAreTrue, FrontIsWidest, FrontIsWithin, PrefixesServeSame, TakingCompletes, TakingIsRound, TilesAreTrue, TrueStringsWithin};
 
 /// The true tiles and bundles of a list of entries are good, and give what its tree hash hashes there;
-/// its true edge rows lead to its tree hash.
+/// all bundles, in order, have its entries; its true edge rows lead to its tree hash.
 pub fn true_items_law()
     ensures tiles { TilesAreTrue }
     ensures bundles { BundlesAreTrue }
+    ensures all { BundlesAreAll }
     ensures edges { EdgesAreTrue }
     ensures paths { EdgeIsOfPaths }
 {}

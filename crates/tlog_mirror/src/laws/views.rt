@@ -1,5 +1,5 @@
 //! Laws of views: what a mirror holds, and what follows from it.
-ghost use Rattle.tlog_mirror.specs.ViewLaws.{ClashesTurn, CompleteIsSame, CompleteStays, ForksStay, ForksTell, ForksTurn, ListHasRoot, MarksStay, MissingIsNone, NothingIsLawful, OneList, PlusIsLawful, RangesHashOnce, RepliesOnce, SameIsOne, ServesOne, UnionAssociates, UnionCommutes, UnionIsLawful, UnionRepeats, WholeIsMark};
+ghost use Rattle.tlog_mirror.specs.ViewLaws.{ClashesTurn, CompleteIsSame, CompleteStays, ForksStay, ForksTell, ForksTurn, ListHasRoot, MarksStay, MissingIsNone, NothingIsLawful, OneList, PlusIsLawful, RangesHashOnce, RepliesOnce, SameIsOne, ServesOne, ServesTruth, UnionAssociates, UnionCommutes, UnionIsLawful, UnionRepeats, WholeIsMark};
 
 /// Views that hold the same are one, and they are joined in any order, in any grouping and any number
 /// of times with one result. Their strings clash either way round or neither.
@@ -23,9 +23,11 @@ pub fn growth_law()
     ensures same { CompleteIsSame }
 {}
 
-/// A view serves one checkpoint and one list of entries at most, and has one reply at most for a path and
-/// one hash at most for a range.
+/// The checkpoint served says the length and the tree hash of the entries served. A view serves one
+/// checkpoint and one list of entries at most, and has one reply at most for a path and one hash at most
+/// for a range.
 pub fn served_law()
+    ensures truth { ServesTruth }
     ensures one { ServesOne }
     ensures reply { RepliesOnce }
     ensures range { RangesHashOnce }
@@ -39,8 +41,8 @@ pub fn forks_law()
     ensures stay { ForksStay }
 {}
 
-/// A view that holds nothing is lawful, and a lawful view stays so as it takes a good item, or is merged with a lawful view of the same log,
-/// where no two strings clash.
+/// A view that holds nothing is lawful, and a lawful view stays so as it takes a good item, or is merged
+/// with a lawful view of the same log, where no two strings clash.
 pub fn lawful_law()
     ensures nothing { NothingIsLawful }
     ensures item { PlusIsLawful }

@@ -1,4 +1,4 @@
-use Rattle.tlog_mirror.proofs.OneLists.{serves_one, replies_once, ranges_hash_once}
+use Rattle.tlog_mirror.proofs.OneLists.{serves_truth, serves_one, replies_once, ranges_hash_once}
 use Rattle.tlog_mirror.proofs.laws.views.served_law.Goals as goal
 
 pub returns-clause-one : goal.returns-clause-one
@@ -9,3 +9,6 @@ returns-clause-reply c = replies_once
 
 pub returns-clause-range : goal.returns-clause-range
 returns-clause-range c = ranges_hash_once
+
+pub returns-clause-truth : goal.returns-clause-truth
+returns-clause-truth c = serves_truth
