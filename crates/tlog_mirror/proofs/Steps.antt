@@ -1,12 +1,12 @@
 -- One event: what it leaves in each view of a list.
 use Rattle.std.proofs.Common.{zero, suc, ◌≡◌, ℕ, List, [], ◌∷◌, Some, None, sym, refl, ap, ◌∙◌, subst, ◌⊎◌, inl, inr, nat_eq, Bool, true, false}
-use Rattle.std.specs.Prelude.{slice_get, slice_set}
+use Rattle.std.specs.Prelude.{◌≢◌, slice_get, slice_set}
 use Rattle.std.proofs.lemmas.Bool.{eqb-true, eqb-false}
 use Rattle.tlog_mirror.specs.View.{View, union, IsWithin}
 use Rattle.tlog_mirror.specs.Strings.{HasClash}
 use Rattle.tlog_mirror.specs.Item.{Item, IsGood, plus}
 use Rattle.tlog_mirror.specs.Steps.{Answer, Done, Refused, Clashed, Exhausted, Answers, IsBetween}
-use Rattle.tlog_mirror.specs.PlayLaws.{TakesAgain, MergesAgain}
+use Rattle.tlog_mirror.specs.PlayLaws.{TakesOnce, MergesOnce, TakesAgain, MergesAgain}
 use Rattle.tlog_mirror.proofs.Views.{within_itself, within_trans, within_union, within_plus, same_is_one}
 use Rattle.tlog_mirror.proofs.StringSets.{has_left, has_right, has_cases, clash_contradicts}
 
@@ -123,3 +123,24 @@ merges_again digest old other between new answer first second =
     let o = same_origin digest (old.origin ≡ other.origin) (union old other) old between (within_union old other) first in
     answers_again digest (old.origin ≡ other.origin) (between.origin ≡ other.origin) (λ g. o ∙ g) (λ g. sym o ∙ g) (union old other) (union between other) old between (union_again old between other) answer new
     (λ e h. subst (λ v. Answers digest (v.origin ≡ other.origin) (union v other) v answer new) e h) first second
+
+-- ---- one answer
+
+answers_once : (digest : List ℕ → List ℕ) (Allowed : Type 0) (full old new other : View) (a b : Answer) → Answers digest Allowed full old a new → Answers digest Allowed full old b other → a ≢ Exhausted → b ≢ Exhausted → (a ≡ b) × (new ≡ other)
+answers_once digest Allowed full old new other Done Done p q m n = (refl, p.2 ∙ sym q.2)
+answers_once digest Allowed full old new other Done Refused p q m n = absurd (q.0 p.0)
+answers_once digest Allowed full old new other Done Clashed p q m n = absurd (clash_contradicts digest full.strings p.1 q.1)
+answers_once digest Allowed full old new other Refused Done p q m n = absurd (p.0 q.0)
+answers_once digest Allowed full old new other Refused Refused p q m n = (refl, p.1 ∙ sym q.1)
+answers_once digest Allowed full old new other Refused Clashed p q m n = absurd (p.0 q.0)
+answers_once digest Allowed full old new other Clashed Done p q m n = absurd (clash_contradicts digest full.strings q.1 p.1)
+answers_once digest Allowed full old new other Clashed Refused p q m n = absurd (q.0 p.0)
+answers_once digest Allowed full old new other Clashed Clashed p q m n = (refl, p.2 ∙ sym q.2)
+answers_once digest Allowed full old new other Exhausted b p q m n = absurd (m refl)
+answers_once digest Allowed full old new other a Exhausted p q m n = absurd (n refl)
+
+pub takes_once : TakesOnce
+takes_once digest keys old new other item a b = answers_once digest (IsGood digest old.origin keys item) (plus digest old item) old new other a b
+
+pub merges_once : MergesOnce
+merges_once digest old source new other a b = answers_once digest (old.origin ≡ source.origin) (union old source) old new other a b

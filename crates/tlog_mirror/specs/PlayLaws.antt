@@ -1,5 +1,5 @@
 -- Laws of events and runs: what reaches which mirror, and what that leaves in its view.
-use Rattle.std.specs.Prelude.{◌≡◌, ◌⊎◌, ◌↔◌, ℕ, List, [], ◌∷◌, ◌++◌, Some, slice_get}
+use Rattle.std.specs.Prelude.{◌≢◌, ◌≡◌, ◌⊎◌, ◌↔◌, ℕ, List, [], ◌∷◌, ◌++◌, Some, slice_get}
 use Rattle.std.specs.List.{Contains}
 use Rattle.signed_note.specs.Keys.{Key}
 use Rattle.node_store.specs.Strings.{Has}
@@ -123,6 +123,13 @@ module _ (digest : List ℕ → List ℕ) (origin : List ℕ) (keys : List Key) 
 -- for each digest, origin and keys
 abbrev pub ForMirrors : ((List ℕ → List ℕ) → List ℕ → List Key → Type 0) → Type 0
 ForMirrors Law = (digest : List ℕ → List ℕ) (origin : List ℕ) (keys : List Key) → Law digest origin keys
+
+-- want of memory apart, an event has one answer and leaves one view
+abbrev pub TakesOnce : Type 0
+TakesOnce = (digest : List ℕ → List ℕ) (keys : List Key) (old new other : View) (item : Item) (a b : Answer) → Takes digest keys old item a new → Takes digest keys old item b other → a ≢ Exhausted → b ≢ Exhausted → (a ≡ b) × (new ≡ other)
+
+abbrev pub MergesOnce : Type 0
+MergesOnce = (digest : List ℕ → List ℕ) (old source new other : View) (a b : Answer) → Merges digest old source a new → Merges digest old source b other → a ≢ Exhausted → b ≢ Exhausted → (a ≡ b) × (new ≡ other)
 
 -- an event that ran out of memory and is done again comes to the same as one event
 abbrev pub TakesAgain : Type 0

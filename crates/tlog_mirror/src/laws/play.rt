@@ -1,5 +1,5 @@
 //! Laws of events and runs: mirrors that the same items have reached hold the same.
-ghost use Rattle.tlog_mirror.specs.PlayLaws.{BetweenIsLawful, FoldIsReaches, ForMirrors, MergesAgain, MirrorsAgree, NoneClashes, NoteIsLast, OpeningReachesGoByLast, ReachesGoByLast, RunGrows, RunIsBounded, RunIsLawful, RunIsReached, SameReachedSameView, TakesAgain};
+ghost use Rattle.tlog_mirror.specs.PlayLaws.{BetweenIsLawful, FoldIsReaches, ForMirrors, MergesAgain, MergesOnce, MirrorsAgree, NoneClashes, NoteIsLast, OpeningReachesGoByLast, ReachesGoByLast, RunGrows, RunIsBounded, RunIsLawful, RunIsReached, SameReachedSameView, TakesAgain, TakesOnce};
 
 /// What reaches a mirror, by the last event of a list: a take adds its item, a merge adds what reached
 /// its source, and nothing else changes. A fold over the events gives the same.
@@ -32,8 +32,11 @@ pub fn order_law()
     ensures agree { ForMirrors MirrorsAgree }
 {}
 
-/// An event for which memory was refused, done again, comes to the same as the event done once.
+/// Want of memory apart, an event has one answer and leaves one view. An event for which memory was
+/// refused, done again, comes to the same as the event done once.
 pub fn again_law()
+    ensures takes_once { TakesOnce }
+    ensures merges_once { MergesOnce }
     ensures takes { TakesAgain }
     ensures merges { MergesAgain }
 {}
