@@ -125,6 +125,15 @@ fn adds_all(rt: HostRuntime) -> Result<(), Fail> {
     Ok(())
 }
 
+#[test]
+fn faults_print_their_names(rt: HostRuntime) -> Result<(), Fail> {
+    let collision = format!(in rt.alloc(); "{}", AddFault::Collision)?;
+    assert_eq!(rt; collision.as_str(), "Collision");
+    let memory = format!(in rt.alloc(); "{}", AddFault::OutOfMemory)?;
+    assert_eq!(rt; memory.as_str(), "OutOfMemory");
+    Ok(())
+}
+
 // Adds a string that is new. Where a growth is refused, as by `rt try --test --fail-alloc N`, nothing
 // has changed, and the same call adds the string once there is memory.
 fn add_at_last<H: TreeHash>(rt: &impl Abort, store: &mut Store<H>, string: Tagged) {
