@@ -1,7 +1,8 @@
 //! The checks of proofs, by the loops of RFC 9162 over the bits of sizes and indices.
 //!
 //! Neither takes memory, and neither adds, multiplies or shifts a number out of its 64 bits, whatever
-//! it is given.
+//! it is given. In the loops `node` and `end`, which the standard calls fn and sn, are the numbers of
+//! the node on the way and of the last node, in the level of the tree that is reached.
 ghost use Rattle.std.specs.Prelude.{◌≡◌, ◌↔◌, ◌<◌, ◌≤◌, ◌+◌, ◌%◌, [], IsTrue, true, reverse};
 ghost use Rattle.tlog_hash.specs.Shape.{shape};
 ghost use Rattle.tlog_proof.specs.Climb.{climb};
@@ -28,25 +29,25 @@ pub fn check_inclusion<H: TreeHash>(
     if index >= size {
         return false;
     }
-    let mut f = index;
-    let mut s = size - 1;
-    let mut r = *leaf;
-    for p in path {
-        if s == 0 {
+    let mut node = index;
+    let mut end = size - 1;
+    let mut hash = *leaf;
+    for beside in path {
+        if end == 0 {
             return false;
         }
-        if f % 2 == 1 || f == s {
-            r = H::node(p, &r);
-            let up = to_partner(f, s);
-            f = up.0;
-            s = up.1;
+        if node % 2 == 1 || node == end {
+            hash = H::node(beside, &hash);
+            let up = to_partner(node, end);
+            node = up.0;
+            end = up.1;
         } else {
-            r = H::node(&r, p);
+            hash = H::node(&hash, beside);
         }
-        f >>= 1;
-        s >>= 1;
+        node >>= 1;
+        end >>= 1;
     }
-    s == 0 && r == *root
+    end == 0 && hash == *root
 }
 
 /// Whether the path shows that the tree of the first size and root is the front of the tree of the
@@ -119,31 +120,31 @@ fn leads_to<H: TreeHash>(
     requires { index ≤ last }
     ensures { IsTrue result ↔ (climb (both_right H.digest) (both_left H.digest) (shape (last + 1)) index (start.now, start.now) (reverse path.now) ≡ Some (first_root.now, second_root.now)) }
 {
-    let mut f = index;
-    let mut s = last;
-    let mut a = *start;
-    let mut b = *start;
-    for p in path {
-        if s == 0 {
+    let mut node = index;
+    let mut end = last;
+    let mut first_hash = *start;
+    let mut second_hash = *start;
+    for beside in path {
+        if end == 0 {
             return false;
         }
-        if f % 2 == 1 || f == s {
-            a = H::node(p, &a);
-            b = H::node(p, &b);
-            let up = to_partner(f, s);
-            f = up.0;
-            s = up.1;
+        if node % 2 == 1 || node == end {
+            first_hash = H::node(beside, &first_hash);
+            second_hash = H::node(beside, &second_hash);
+            let up = to_partner(node, end);
+            node = up.0;
+            end = up.1;
         } else {
-            b = H::node(&b, p);
+            second_hash = H::node(&second_hash, beside);
         }
-        f >>= 1;
-        s >>= 1;
+        node >>= 1;
+        end >>= 1;
     }
-    if s != 0 {
+    if end != 0 {
         return false;
     }
-    if a == *first_root {
-        return b == *second_root;
+    if first_hash == *first_root {
+        return second_hash == *second_root;
     }
     false
 }
@@ -159,13 +160,13 @@ fn to_partner(index: u64, last: u64) -> (u64, u64)
     ensures same { KeepsIncl index last result.0 result.1 }
     ensures both { KeepsBoth index last result.0 result.1 }
 {
-    let mut f = index;
-    let mut s = last;
-    while f % 2 == 0 && f != 0 {
-        f >>= 1;
-        s >>= 1;
+    let mut node = index;
+    let mut end = last;
+    while node % 2 == 0 && node != 0 {
+        node >>= 1;
+        end >>= 1;
     }
-    (f, s)
+    (node, end)
 }
 
 // Goes up from the last leaf of the first tree, as long as that ends a pair.
@@ -175,11 +176,11 @@ fn to_block(index: u64, last: u64) -> (u64, u64)
     ensures within { result.0 ≤ result.1 }
     ensures blocks { HasBlocks (last + 1) (index + 1) result.0 result.1 }
 {
-    let mut f = index;
-    let mut s = last;
-    while f % 2 == 1 {
-        f >>= 1;
-        s >>= 1;
+    let mut node = index;
+    let mut end = last;
+    while node % 2 == 1 {
+        node >>= 1;
+        end >>= 1;
     }
-    (f, s)
+    (node, end)
 }
