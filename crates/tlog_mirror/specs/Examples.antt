@@ -85,4 +85,6 @@ pub record IsFrontOfThree : Type 0 where
 -- with nothing held the front of 300 entries has a tile that their tree does not have in full: so an edge is taken
 -- first
 abbrev pub HasTileOutside : Type 0
-HasTileOutside = (digest : List ℕ → List ℕ) (entries : List (List ℕ)) → length entries ≡ 300 → IsFront digest held_never entries (Tile 1 0 256)
+HasTileOutside =
+    (digest : List ℕ → List ℕ) (entries : List (List ℕ)) → length entries ≡ 300 →
+    IsFront digest held_never entries (Tile 1 0 256)

@@ -31,7 +31,9 @@ module _ (digest : List ℕ → List ℕ) where
   -- the forks of a view, each with its smaller head first
   pub record ListsForks (v : View) (pairs : List PointPair) : Type 0 where
     pub sorted : IsStrictlySortedBy pair_cmp pairs
-    pub exact : (pair : PointPair) → Contains pairs pair ↔ (IsFork digest v pair.small pair.large × (point_cmp pair.small pair.large ≡ Less))
+    pub exact :
+        (pair : PointPair) →
+        Contains pairs pair ↔ (IsFork digest v pair.small pair.large × (point_cmp pair.small pair.large ≡ Less))
 
   -- what is missing of a head, tiles by falling level and rising index, then bundles by rising index
   pub record ListsMissing (v : View) (size : ℕ) (root : List ℕ) (paths : List Path) : Type 0 where
@@ -48,10 +50,16 @@ abbrev pub HeadsAreListedOnce : Type 0
 HeadsAreListedOnce = (v : View) (first second : List Point) → ListsHeads v first → ListsHeads v second → first ≡ second
 
 abbrev pub ForksAreListedOnce : Type 0
-ForksAreListedOnce = (digest : List ℕ → List ℕ) (v : View) (first second : List PointPair) → ListsForks digest v first → ListsForks digest v second → first ≡ second
+ForksAreListedOnce =
+    (digest : List ℕ → List ℕ) (v : View) (first second : List PointPair) → ListsForks digest v first →
+    ListsForks digest v second → first ≡ second
 
 abbrev pub MissingIsListedOnce : Type 0
-MissingIsListedOnce = (digest : List ℕ → List ℕ) (v : View) (size : ℕ) (root : List ℕ) (first second : List Path) → ListsMissing digest v size root first → ListsMissing digest v size root second → first ≡ second
+MissingIsListedOnce =
+    (digest : List ℕ → List ℕ) (v : View) (size : ℕ) (root : List ℕ) (first second : List Path) →
+    ListsMissing digest v size root first → ListsMissing digest v size root second → first ≡ second
 
 abbrev pub FrontIsListedOnce : Type 0
-FrontIsListedOnce = (digest : List ℕ → List ℕ) (v : View) (entries : List (List ℕ)) (first second : List Path) → ListsFront digest v entries first → ListsFront digest v entries second → first ≡ second
+FrontIsListedOnce =
+    (digest : List ℕ → List ℕ) (v : View) (entries : List (List ℕ)) (first second : List Path) →
+    ListsFront digest v entries first → ListsFront digest v entries second → first ≡ second

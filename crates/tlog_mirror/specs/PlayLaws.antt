@@ -15,8 +15,12 @@ use Rattle.tlog_mirror.specs.Reached.{HasReached, HasReachedOnly, events_of, is_
 -- what reached its source, and nothing else changes.
 pub record ReachesByLast (events : List Event) : Type 0 where
   pub none : (item : Item) (mirror : ℕ) → Reaches item mirror [] → ⊥
-  pub take : (target : ℕ) (taken item : Item) (mirror : ℕ) → Reaches item mirror (events ++ TakeEvent target taken ∷ []) ↔ (Reaches item mirror events ⊎ ((mirror ≡ target) × (item ≡ taken)))
-  pub merge : (target source : ℕ) (item : Item) (mirror : ℕ) → Reaches item mirror (events ++ MergeEvent target source ∷ []) ↔ (Reaches item mirror events ⊎ ((mirror ≡ target) × Reaches item source events))
+  pub take :
+      (target : ℕ) (taken item : Item) (mirror : ℕ) →
+      Reaches item mirror (events ++ TakeEvent target taken ∷ []) ↔ (Reaches item mirror events ⊎ ((mirror ≡ target) × (item ≡ taken)))
+  pub merge :
+      (target source : ℕ) (item : Item) (mirror : ℕ) →
+      Reaches item mirror (events ++ MergeEvent target source ∷ []) ↔ (Reaches item mirror events ⊎ ((mirror ≡ target) × Reaches item source events))
 
 abbrev pub ReachesGoByLast : Type 0
 ReachesGoByLast = (events : List Event) → ReachesByLast events
@@ -24,8 +28,12 @@ ReachesGoByLast = (events : List Event) → ReachesByLast events
 -- the same of opening views, each of which reaches its own mirror before any event
 pub record OpeningReachesByLast (events : List Event) : Type 0 where
   pub none : (opened mirror : ℕ) → OpeningReaches opened mirror [] ↔ (opened ≡ mirror)
-  pub take : (target : ℕ) (taken : Item) (opened mirror : ℕ) → OpeningReaches opened mirror (events ++ TakeEvent target taken ∷ []) ↔ OpeningReaches opened mirror events
-  pub merge : (target source : ℕ) (opened mirror : ℕ) → OpeningReaches opened mirror (events ++ MergeEvent target source ∷ []) ↔ (OpeningReaches opened mirror events ⊎ ((mirror ≡ target) × OpeningReaches opened source events))
+  pub take :
+      (target : ℕ) (taken : Item) (opened mirror : ℕ) →
+      OpeningReaches opened mirror (events ++ TakeEvent target taken ∷ []) ↔ OpeningReaches opened mirror events
+  pub merge :
+      (target source : ℕ) (opened mirror : ℕ) →
+      OpeningReaches opened mirror (events ++ MergeEvent target source ∷ []) ↔ (OpeningReaches opened mirror events ⊎ ((mirror ≡ target) × OpeningReaches opened source events))
 
 abbrev pub OpeningReachesGoByLast : Type 0
 OpeningReachesGoByLast = (events : List Event) → OpeningReachesByLast events
@@ -55,7 +63,9 @@ module _ (digest : List ℕ → List ℕ) (origin : List ℕ) (keys : List Key) 
     pub upper : HasReachedOnly digest origin keys opened (events_of may_change events answers) mirror v
 
   abbrev pub RunIsBounded : Type 0
-  RunIsBounded = (opened final : List View) (events : List Event) (answers : List Answer) → IsRun opened events answers final → (mirror : ℕ) (v : View) → slice_get final mirror ≡ Some v → IsBounded opened events answers mirror v
+  RunIsBounded =
+      (opened final : List View) (events : List Event) (answers : List Answer) → IsRun opened events answers final →
+      (mirror : ℕ) (v : View) → slice_get final mirror ≡ Some v → IsBounded opened events answers mirror v
 
   -- where nothing clashed, and each event for which memory was refused was done again, a mirror's view is the union of
   -- the opening views and of the good items that reach it
@@ -65,7 +75,10 @@ module _ (digest : List ℕ → List ℕ) (origin : List ℕ) (keys : List Key) 
     pub only : HasReachedOnly digest origin keys opened events mirror v
 
   abbrev pub RunIsReached : Type 0
-  RunIsReached = (opened final : List View) (events : List Event) (answers : List Answer) → IsRun opened events answers final → (Contains answers Clashed → ⊥) → AreRetried events answers → (mirror : ℕ) (v : View) → slice_get final mirror ≡ Some v → IsReached opened events mirror v
+  RunIsReached =
+      (opened final : List View) (events : List Event) (answers : List Answer) → IsRun opened events answers final →
+      (Contains answers Clashed → ⊥) → AreRetried events answers → (mirror : ℕ) (v : View) →
+      slice_get final mirror ≡ Some v → IsReached opened events mirror v
 
 -- a string of an opening view, or of a good item of the list
 pub record IsOpened (opened : List View) (string : List ℕ) : Type 0 where
@@ -92,7 +105,10 @@ module _ (digest : List ℕ → List ℕ) (origin : List ℕ) (keys : List Key) 
 
   -- then no event is answered by a clash
   abbrev pub NoneClashes : Type 0
-  NoneClashes = (opened final : List View) (events : List Event) (answers : List Answer) → IsRun digest origin keys opened events answers final → NothingClashes opened events → Contains answers Clashed → ⊥
+  NoneClashes =
+      (opened final : List View) (events : List Event) (answers : List Answer) →
+      IsRun digest origin keys opened events answers final → NothingClashes opened events →
+      Contains answers Clashed → ⊥
 
   -- a run leaves a mirror that view; each event for which memory was refused was done again
   pub record Leaves (opened : List View) (events : List Event) (mirror : ℕ) (v : View) : Type 0 where
@@ -105,20 +121,30 @@ module _ (digest : List ℕ → List ℕ) (origin : List ℕ) (keys : List Key) 
   -- the good items and the opening views that reach the one mirror in the one run reach the other in the other
   pub record ReachesToo (opened opened' : List View) (events events' : List Event) (mirror mirror' : ℕ) : Type 0 where
     pub items : (item : Item) → IsGood digest origin keys item → Reaches item mirror events → Reaches item mirror' events'
-    pub views : (number : ℕ) (v : View) → slice_get opened number ≡ Some v → OpeningReaches number mirror events → (number' : ℕ) × (slice_get opened' number' ≡ Some v) × OpeningReaches number' mirror' events'
+    pub views :
+        (number : ℕ) (v : View) → slice_get opened number ≡ Some v → OpeningReaches number mirror events →
+        (number' : ℕ) × (slice_get opened' number' ≡ Some v) × OpeningReaches number' mirror' events'
 
   -- the same good items and equal opening views reach both
   pub record ReachedAlike (opened opened' : List View) (events events' : List Event) (mirror mirror' : ℕ) : Type 0 where
     pub there : ReachesToo opened opened' events events' mirror mirror'
     pub back : ReachesToo opened' opened events' events mirror' mirror
 
-  -- mirrors that the same items have reached, in any order, with repeats and through any merges, hold equal views, where nothing clashed
+  -- mirrors that the same items have reached, in any order, with repeats and through any merges, hold equal views,
+  -- where nothing clashed
   abbrev pub SameReachedSameView : Type 0
-  SameReachedSameView = (opened opened' : List View) (events events' : List Event) (mirror mirror' : ℕ) (v w : View) (p : Leaves opened events mirror v) (q : Leaves opened' events' mirror' w) → (Contains p.answers Clashed → ⊥) → (Contains q.answers Clashed → ⊥) → ReachedAlike opened opened' events events' mirror mirror' → v ≡ w
+  SameReachedSameView =
+      (opened opened' : List View) (events events' : List Event) (mirror mirror' : ℕ) (v w : View) (p : Leaves opened events mirror v) (q : Leaves opened' events' mirror' w) →
+      (Contains p.answers Clashed → ⊥) → (Contains q.answers Clashed → ⊥) →
+      ReachedAlike opened opened' events events' mirror mirror' → v ≡ w
 
-  -- The headline: while no two of the byte strings met share a digest, mirrors that the same items have reached hold equal views.
+  -- The headline: while no two of the byte strings met share a digest, mirrors that the same items have reached
+  -- hold equal views.
   abbrev pub MirrorsAgree : Type 0
-  MirrorsAgree = (opened opened' : List View) (events events' : List Event) (mirror mirror' : ℕ) (v w : View) → NothingClashes opened events → NothingClashes opened' events' → Leaves opened events mirror v → Leaves opened' events' mirror' w → ReachedAlike opened opened' events events' mirror mirror' → v ≡ w
+  MirrorsAgree =
+      (opened opened' : List View) (events events' : List Event) (mirror mirror' : ℕ) (v w : View) →
+      NothingClashes opened events → NothingClashes opened' events' → Leaves opened events mirror v →
+      Leaves opened' events' mirror' w → ReachedAlike opened opened' events events' mirror mirror' → v ≡ w
 
 -- for each digest, origin and keys
 abbrev pub ForMirrors : ((List ℕ → List ℕ) → List ℕ → List Key → Type 0) → Type 0
@@ -126,25 +152,41 @@ ForMirrors Law = (digest : List ℕ → List ℕ) (origin : List ℕ) (keys : Li
 
 -- want of memory apart, an event has one answer and leaves one view
 abbrev pub TakesOnce : Type 0
-TakesOnce = (digest : List ℕ → List ℕ) (keys : List Key) (old new other : View) (item : Item) (a b : Answer) → Takes digest keys old item a new → Takes digest keys old item b other → a ≢ Exhausted → b ≢ Exhausted → (a ≡ b) × (new ≡ other)
+TakesOnce =
+    (digest : List ℕ → List ℕ) (keys : List Key) (old new other : View) (item : Item) (a b : Answer) →
+    Takes digest keys old item a new → Takes digest keys old item b other → a ≢ Exhausted → b ≢ Exhausted →
+    (a ≡ b) × (new ≡ other)
 
 abbrev pub MergesOnce : Type 0
-MergesOnce = (digest : List ℕ → List ℕ) (old source new other : View) (a b : Answer) → Merges digest old source a new → Merges digest old source b other → a ≢ Exhausted → b ≢ Exhausted → (a ≡ b) × (new ≡ other)
+MergesOnce =
+    (digest : List ℕ → List ℕ) (old source new other : View) (a b : Answer) → Merges digest old source a new →
+    Merges digest old source b other → a ≢ Exhausted → b ≢ Exhausted → (a ≡ b) × (new ≡ other)
 
 -- an event that ran out of memory and is done again comes to the same as one event
 abbrev pub TakesAgain : Type 0
-TakesAgain = (digest : List ℕ → List ℕ) (keys : List Key) (old between new : View) (item : Item) (answer : Answer) → Takes digest keys old item Exhausted between → Takes digest keys between item answer new → Takes digest keys old item answer new
+TakesAgain =
+    (digest : List ℕ → List ℕ) (keys : List Key) (old between new : View) (item : Item) (answer : Answer) →
+    Takes digest keys old item Exhausted between → Takes digest keys between item answer new →
+    Takes digest keys old item answer new
 
 abbrev pub MergesAgain : Type 0
-MergesAgain = (digest : List ℕ → List ℕ) (old other between new : View) (answer : Answer) → Merges digest old other Exhausted between → Merges digest between other answer new → Merges digest old other answer new
+MergesAgain =
+    (digest : List ℕ → List ℕ) (old other between new : View) (answer : Answer) →
+    Merges digest old other Exhausted between → Merges digest between other answer new →
+    Merges digest old other answer new
 
 -- after want of memory in a take a new note stands only if the view is the one with the item
 abbrev pub NoteIsLast : Type 0
-NoteIsLast = (digest : List ℕ → List ℕ) (keys : List Key) (old new : View) (item : Item) (note : List ℕ) → Takes digest keys old item Exhausted new → Has new.notes note → Has old.notes note ⊎ (new ≡ plus digest old item)
+NoteIsLast =
+    (digest : List ℕ → List ℕ) (keys : List Key) (old new : View) (item : Item) (note : List ℕ) →
+    Takes digest keys old item Exhausted new → Has new.notes note →
+    Has old.notes note ⊎ (new ≡ plus digest old item)
 
 -- a view between two lawful ones, with new notes last, is lawful
 abbrev pub BetweenIsLawful : Type 0
-BetweenIsLawful = (digest : List ℕ → List ℕ) (old full new : View) → IsLawful digest old → IsLawful digest full → IsBetween old full new → IsLawful digest new
+BetweenIsLawful =
+    (digest : List ℕ → List ℕ) (old full new : View) → IsLawful digest old → IsLawful digest full →
+    IsBetween old full new → IsLawful digest new
 
 -- all views are lawful
 abbrev pub AreLawful : (List ℕ → List ℕ) → List View → Type 0
@@ -152,8 +194,14 @@ AreLawful digest views = (mirror : ℕ) (v : View) → slice_get views mirror �
 
 -- a run keeps views lawful
 abbrev pub RunIsLawful : Type 0
-RunIsLawful = (digest : List ℕ → List ℕ) → IsHash digest → (keys : List Key) (opened final : List View) (events : List Event) (answers : List Answer) → AreLawful digest opened → Run digest keys opened events answers final → AreLawful digest final
+RunIsLawful =
+    (digest : List ℕ → List ℕ) → IsHash digest →
+    (keys : List Key) (opened final : List View) (events : List Event) (answers : List Answer) →
+    AreLawful digest opened → Run digest keys opened events answers final → AreLawful digest final
 
 -- and each view only grows
 abbrev pub RunGrows : Type 0
-RunGrows = (digest : List ℕ → List ℕ) (keys : List Key) (opened final : List View) (events : List Event) (answers : List Answer) → Run digest keys opened events answers final → (mirror : ℕ) (v w : View) → slice_get opened mirror ≡ Some v → slice_get final mirror ≡ Some w → IsWithin v w
+RunGrows =
+    (digest : List ℕ → List ℕ) (keys : List Key) (opened final : List View) (events : List Event) (answers : List Answer) →
+    Run digest keys opened events answers final → (mirror : ℕ) (v w : View) → slice_get opened mirror ≡ Some v →
+    slice_get final mirror ≡ Some w → IsWithin v w

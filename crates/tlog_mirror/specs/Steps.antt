@@ -19,7 +19,9 @@ pub data Answer : Type 0 where
 pub record IsBetween (old full new : View) : Type 0 where
   pub grows : IsWithin old new
   pub within : IsWithin new full
-  pub notes_last : (note : List ℕ) → Has new.notes note → Has old.notes note ⊎ ((string : List ℕ) → Has full.strings string → Has new.strings string)
+  pub notes_last :
+      (note : List ℕ) → Has new.notes note →
+      Has old.notes note ⊎ ((string : List ℕ) → Has full.strings string → Has new.strings string)
 
 module _ (digest : List ℕ → List ℕ) where
   -- an event that would make the view full, where it is allowed: it is refused exactly where it is not, and

@@ -30,15 +30,22 @@ RowIsOne = (width : ℕ) (bytes : List ℕ) (row : List (List ℕ)) → IsRow wi
 
 -- the entries of bytes that are a bundle are the bundle's
 abbrev pub BundleIsOne : Type 0
-BundleIsOne = (width : ℕ) (bytes : List ℕ) (entries : List (List ℕ)) → IsBundle width bytes entries → entries ≡ entries_of width bytes
+BundleIsOne =
+    (width : ℕ) (bytes : List ℕ) (entries : List (List ℕ)) → IsBundle width bytes entries →
+    entries ≡ entries_of width bytes
 
 -- in a lawful view one list at most is complete for a size and root
 abbrev pub OneList : Type 0
-OneList = (digest : List ℕ → List ℕ) → IsHash digest → (v : View) → IsLawful digest v → (size : ℕ) (root : List ℕ) (first second : List (List ℕ)) → Complete digest v size root first → Complete digest v size root second → first ≡ second
+OneList =
+    (digest : List ℕ → List ℕ) → IsHash digest → (v : View) → IsLawful digest v →
+    (size : ℕ) (root : List ℕ) (first second : List (List ℕ)) → Complete digest v size root first →
+    Complete digest v size root second → first ≡ second
 
 -- and its tree hash is the root, its length the size
 abbrev pub ListHasRoot : Type 0
-ListHasRoot = (digest : List ℕ → List ℕ) (v : View) (size : ℕ) (root : List ℕ) (entries : List (List ℕ)) → Complete digest v size root entries → (length entries ≡ size) × (mth digest entries ≡ root)
+ListHasRoot =
+    (digest : List ℕ → List ℕ) (v : View) (size : ℕ) (root : List ℕ) (entries : List (List ℕ)) →
+    Complete digest v size root entries → (length entries ≡ size) × (mth digest entries ≡ root)
 
 -- merging views of one origin is commutative, and merging is associative and idempotent
 abbrev pub UnionCommutes : Type 0
@@ -64,18 +71,28 @@ NothingIsLawful = (digest : List ℕ → List ℕ) (origin : List ℕ) → IsLaw
 
 -- a good item, or a lawful view of the same origin, leaves a lawful view lawful where nothing clashes
 abbrev pub PlusIsLawful : Type 0
-PlusIsLawful = (digest : List ℕ → List ℕ) → IsHash digest → (keys : List Key) (v : View) (item : Item) → IsLawful digest v → IsGood digest v.origin keys item → NoClash digest (plus digest v item).strings → IsLawful digest (plus digest v item)
+PlusIsLawful =
+    (digest : List ℕ → List ℕ) → IsHash digest → (keys : List Key) (v : View) (item : Item) → IsLawful digest v →
+    IsGood digest v.origin keys item → NoClash digest (plus digest v item).strings →
+    IsLawful digest (plus digest v item)
 
 abbrev pub UnionIsLawful : Type 0
-UnionIsLawful = (digest : List ℕ → List ℕ) (v w : View) → IsLawful digest v → IsLawful digest w → v.origin ≡ w.origin → NoClash digest (set.union v.strings w.strings) → IsLawful digest (union v w)
+UnionIsLawful =
+    (digest : List ℕ → List ℕ) (v w : View) → IsLawful digest v → IsLawful digest w → v.origin ≡ w.origin →
+    NoClash digest (set.union v.strings w.strings) → IsLawful digest (union v w)
 
 -- what is complete stays complete, with the same entries, as the view grows
 abbrev pub CompleteStays : Type 0
-CompleteStays = (digest : List ℕ → List ℕ) (v w : View) → IsWithin v w → (size : ℕ) (root : List ℕ) (entries : List (List ℕ)) → Complete digest v size root entries → Complete digest w size root entries
+CompleteStays =
+    (digest : List ℕ → List ℕ) (v w : View) → IsWithin v w → (size : ℕ) (root : List ℕ) (entries : List (List ℕ)) →
+    Complete digest v size root entries → Complete digest w size root entries
 
 -- and with no others, while nothing clashes
 abbrev pub CompleteIsSame : Type 0
-CompleteIsSame = (digest : List ℕ → List ℕ) → IsHash digest → (v w : View) → IsWithin v w → NoClash digest w.strings → (size : ℕ) (root : List ℕ) (before after : List (List ℕ)) → Complete digest v size root before → Complete digest w size root after → before ≡ after
+CompleteIsSame =
+    (digest : List ℕ → List ℕ) → IsHash digest → (v w : View) → IsWithin v w → NoClash digest w.strings →
+    (size : ℕ) (root : List ℕ) (before after : List (List ℕ)) → Complete digest v size root before →
+    Complete digest w size root after → before ≡ after
 
 -- a fork stays
 abbrev pub ForksStay : Type 0
@@ -87,15 +104,23 @@ ForksTurn = (digest : List ℕ → List ℕ) (v : View) (a b : Point) → IsFork
 
 -- of two complete heads that differ a fork is made exactly where neither list is a prefix of the other
 abbrev pub ForksTell : Type 0
-ForksTell = (digest : List ℕ → List ℕ) → IsHash digest → (v : View) → IsLawful digest v → (a b : Point) (first second : List (List ℕ)) → a ≢ b → Complete digest v a.size a.root first → Complete digest v b.size b.root second → IsFork digest v a b ↔ ((IsPrefix first second → ⊥) × (IsPrefix second first → ⊥))
+ForksTell =
+    (digest : List ℕ → List ℕ) → IsHash digest → (v : View) → IsLawful digest v →
+    (a b : Point) (first second : List (List ℕ)) → a ≢ b → Complete digest v a.size a.root first →
+    Complete digest v b.size b.root second →
+    IsFork digest v a b ↔ ((IsPrefix first second → ⊥) × (IsPrefix second first → ⊥))
 
 -- what may be remembered stays so, as a view grows
 abbrev pub MarksStay : Type 0
-MarksStay = (digest : List ℕ → List ℕ) (v w : View) → IsWithin v w → (point : Point) → IsMark digest v point → IsMark digest w point
+MarksStay =
+    (digest : List ℕ → List ℕ) (v w : View) → IsWithin v w → (point : Point) → IsMark digest v point →
+    IsMark digest w point
 
 -- the whole list of a complete head that is not empty may be remembered
 abbrev pub WholeIsMark : Type 0
-WholeIsMark = (digest : List ℕ → List ℕ) (v : View) (point : Point) (entries : List (List ℕ)) → 1 ≤ point.size → Complete digest v point.size point.root entries → IsMark digest v point
+WholeIsMark =
+    (digest : List ℕ → List ℕ) (v : View) (point : Point) (entries : List (List ℕ)) → 1 ≤ point.size →
+    Complete digest v point.size point.root entries → IsMark digest v point
 
 -- a view serves one thing at most
 pub record IsSameServed (digest : List ℕ → List ℕ) (note other : List ℕ) (size n : ℕ) (root r : List ℕ) (first second : List (List ℕ)) : Type 0 where
@@ -105,7 +130,11 @@ pub record IsSameServed (digest : List ℕ → List ℕ) (note other : List ℕ)
   pub entries_are : first ≡ second
 
 abbrev pub ServesOne : Type 0
-ServesOne = (digest : List ℕ → List ℕ) → IsHash digest → (v : View) → IsLawful digest v → (note other : List ℕ) (size n : ℕ) (root r : List ℕ) (first second : List (List ℕ)) → Served digest v note size root first → Served digest v other n r second → IsSameServed digest note other size n root r first second
+ServesOne =
+    (digest : List ℕ → List ℕ) → IsHash digest → (v : View) → IsLawful digest v →
+    (note other : List ℕ) (size n : ℕ) (root r : List ℕ) (first second : List (List ℕ)) →
+    Served digest v note size root first → Served digest v other n r second →
+    IsSameServed digest note other size n root r first second
 
 -- the note served says the length and the tree hash of the entries served
 pub record IsTruth (digest : List ℕ → List ℕ) (v : View) (note : List ℕ) (entries : List (List ℕ)) : Type 0 where
@@ -113,16 +142,27 @@ pub record IsTruth (digest : List ℕ → List ℕ) (v : View) (note : List ℕ)
   pub is_head : IsHead note v.origin (length entries) (mth digest entries)
 
 abbrev pub ServesTruth : Type 0
-ServesTruth = (digest : List ℕ → List ℕ) (v : View) (note : List ℕ) (size : ℕ) (root : List ℕ) (entries : List (List ℕ)) → Served digest v note size root entries → IsTruth digest v note entries
+ServesTruth =
+    (digest : List ℕ → List ℕ) (v : View) (note : List ℕ) (size : ℕ) (root : List ℕ) (entries : List (List ℕ)) →
+    Served digest v note size root entries → IsTruth digest v note entries
 
 -- a path has one reply at most
 abbrev pub RepliesOnce : Type 0
-RepliesOnce = (digest : List ℕ → List ℕ) → IsHash digest → (v : View) → IsLawful digest v → (path : Path) (first second : List ℕ) → Replies digest v path first → Replies digest v path second → first ≡ second
+RepliesOnce =
+    (digest : List ℕ → List ℕ) → IsHash digest → (v : View) → IsLawful digest v →
+    (path : Path) (first second : List ℕ) → Replies digest v path first → Replies digest v path second →
+    first ≡ second
 
 -- a range has one hash at most
 abbrev pub RangesHashOnce : Type 0
-RangesHashOnce = (digest : List ℕ → List ℕ) → IsHash digest → (v : View) → IsLawful digest v → (start len : ℕ) (first second : List ℕ) → IsRangeHash digest v start len first → IsRangeHash digest v start len second → first ≡ second
+RangesHashOnce =
+    (digest : List ℕ → List ℕ) → IsHash digest → (v : View) → IsLawful digest v →
+    (start len : ℕ) (first second : List ℕ) → IsRangeHash digest v start len first →
+    IsRangeHash digest v start len second → first ≡ second
 
 -- the walk from the root of a head of a lawful view fails nowhere exactly where the head is complete
 abbrev pub MissingIsNone : Type 0
-MissingIsNone = (digest : List ℕ → List ℕ) → IsHash digest → (v : View) → IsLawful digest v → (size : ℕ) (root : List ℕ) → HasHead v size root → ((path : Path) → IsMissing digest (held_in v.strings) size root path → ⊥) ↔ IsComplete digest v size root
+MissingIsNone =
+    (digest : List ℕ → List ℕ) → IsHash digest → (v : View) → IsLawful digest v → (size : ℕ) (root : List ℕ) →
+    HasHead v size root →
+    ((path : Path) → IsMissing digest (held_in v.strings) size root path → ⊥) ↔ IsComplete digest v size root
