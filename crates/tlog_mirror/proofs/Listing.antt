@@ -12,7 +12,7 @@ use Rattle.tlog_tiles.specs.declared.paths.Path.{Path}
 use Rattle.tlog_tiles.specs.declared.paths.Path.TheVariants.{Checkpoint, Tile, Entries}
 use Rattle.tlog_mirror.specs.Forks.{Point, point_cmp}
 use Rattle.tlog_mirror.specs.Front.{path_cmp}
-use Rattle.tlog_mirror.specs.Listed.{PointPair, pair_cmp, HeadsAreListedOnce, ForksAreListedOnce, MissingIsListedOnce, FrontIsListedOnce}
+use Rattle.tlog_mirror.specs.Listed.{PointPair, pair_cmp, NotesAreListedOnce, HeadsAreListedOnce, ForksAreListedOnce, MissingIsListedOnce, FrontIsListedOnce}
 
 -- ---- lists in order
 
@@ -85,6 +85,9 @@ path_turns Checkpoint (Entries i w) = refl
 path_turns Checkpoint Checkpoint = refl
 
 -- ---- the lists that calls answer
+
+pub notes_are_listed_once : NotesAreListedOnce
+notes_are_listed_once v first second p q = same_lists (slice_cmp nat_cmp) nat_list_cmp_total.antisymm first second p.sorted q.sorted (λ z c. (q.exact z).1 ((p.exact z).0 c)) (λ z c. (p.exact z).1 ((q.exact z).0 c))
 
 pub heads_are_listed_once : HeadsAreListedOnce
 heads_are_listed_once v first second p q = same_lists point_cmp point_turns first second p.sorted q.sorted (λ z c. (q.exact z).1 ((p.exact z).0 c)) (λ z c. (p.exact z).1 ((q.exact z).0 c))

@@ -1,17 +1,24 @@
 -- What calls answer as lists: each thing once, in order, and nothing else.
 use Rattle.std.specs.Prelude.{◌≡◌, ◌↔◌, ℕ, List}
-use Rattle.std.specs.Ordering.{ordering_then}
+use Rattle.std.specs.Ordering.{nat_cmp, ordering_then}
+use Rattle.std.specs.Cmp.Lexicographic.{slice_cmp}
 use Rattle.std.specs.declared.cmp.Ordering.{Ordering}
 use Rattle.std.specs.declared.cmp.Ordering.TheVariants.{Less}
 use Rattle.std.specs.List.{Contains}
 use Rattle.std.specs.List.Sorted.{IsStrictlySortedBy}
 use Rattle.tlog_tiles.specs.declared.paths.Path.{Path}
+use Rattle.node_store.specs.Strings.{Has}
 use Rattle.tlog_mirror.specs.View.{View}
 use Rattle.tlog_mirror.specs.Strings.{held_in}
 use Rattle.tlog_mirror.specs.Heads.{HasHead}
 use Rattle.tlog_mirror.specs.Forks.{Point, point_cmp, IsFork}
 use Rattle.tlog_mirror.specs.Front.{path_cmp, IsFront}
 use Rattle.tlog_mirror.specs.Walk.{IsMissing}
+
+-- the notes of a view, by their bytes
+pub record ListsNotes (v : View) (notes : List (List ℕ)) : Type 0 where
+  pub sorted : IsStrictlySortedBy (slice_cmp nat_cmp) notes
+  pub exact : (note : List ℕ) → Contains notes note ↔ Has v.notes note
 
 -- the heads of a view, by size and then by root
 pub record ListsHeads (v : View) (points : List Point) : Type 0 where
@@ -46,6 +53,9 @@ module _ (digest : List ℕ → List ℕ) where
     pub exact : (path : Path) → Contains paths path ↔ IsFront digest (held_in v.strings) entries path
 
 -- such a list is the only one
+abbrev pub NotesAreListedOnce : Type 0
+NotesAreListedOnce = (v : View) (first second : List (List ℕ)) → ListsNotes v first → ListsNotes v second → first ≡ second
+
 abbrev pub HeadsAreListedOnce : Type 0
 HeadsAreListedOnce = (v : View) (first second : List Point) → ListsHeads v first → ListsHeads v second → first ≡ second
 

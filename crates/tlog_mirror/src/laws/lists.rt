@@ -1,8 +1,9 @@
 //! Laws of what calls answer as lists.
-ghost use Rattle.tlog_mirror.specs.Listed.{ForksAreListedOnce, FrontIsListedOnce, HeadsAreListedOnce, MissingIsListedOnce};
+ghost use Rattle.tlog_mirror.specs.Listed.{ForksAreListedOnce, FrontIsListedOnce, HeadsAreListedOnce, MissingIsListedOnce, NotesAreListedOnce};
 
-/// Heads, forks and paths that are listed in their order, each once and nothing else, are one list.
+/// Notes, heads, forks and paths that are listed in their order, each once and nothing else, are one list.
 pub fn lists_law()
+    ensures notes { NotesAreListedOnce }
     ensures heads { HeadsAreListedOnce }
     ensures forks { ForksAreListedOnce }
     ensures missing { MissingIsListedOnce }

@@ -1,4 +1,4 @@
-use Rattle.tlog_mirror.proofs.Listing.{heads_are_listed_once, forks_are_listed_once, missing_is_listed_once, front_is_listed_once}
+use Rattle.tlog_mirror.proofs.Listing.{notes_are_listed_once, heads_are_listed_once, forks_are_listed_once, missing_is_listed_once, front_is_listed_once}
 use Rattle.tlog_mirror.proofs.laws.lists.lists_law.Goals as goal
 
 pub returns-clause-heads : goal.returns-clause-heads
@@ -12,3 +12,6 @@ returns-clause-missing c = missing_is_listed_once
 
 pub returns-clause-front : goal.returns-clause-front
 returns-clause-front c = front_is_listed_once
+
+pub returns-clause-notes : goal.returns-clause-notes
+returns-clause-notes c = notes_are_listed_once
