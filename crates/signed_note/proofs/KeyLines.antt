@@ -1,21 +1,20 @@
 -- Lines of key files: which key a line gives, and that others give none.
-use Rattle.std.proofs.Common.{◌≡◌, ◌≢◌, ℕ, zero, suc, ◌+◌, ◌<◌, ◌≤◌, ◌^◌, Bool, true, false, List, [], ◌∷◌, ◌++◌, length, get_or, refl, sym, ap, ◌∙◌, subst, arith, append_assoc, length-append}
-use Rattle.std.specs.Prelude.{Result, Ok, Err, IsAscii, codes, slice_index}
+use Rattle.std.proofs.Common.{◌≡◌, ◌≢◌, ℕ, ◌+◌, ◌<◌, true, List, [], ◌∷◌, ◌++◌, length, get_or, refl, sym, ap, ◌∙◌, subst, arith, append_assoc, length-append}
+use Rattle.std.specs.Prelude.{Result, Ok, Err, IsAscii, codes}
 use Rattle.std.specs.Str.{IsUtf8}
 use Rattle.std.proofs.lemmas.Str.{IsUtf8-append, IsUtf8-from_ascii}
 use Rattle.std.proofs.lemmas.Str.Ascii.{IsAscii-cons, IsAscii-nil, IsAscii-from_all}
 use Rattle.std.proofs.lemmas.List.Elements.{All-weaker}
 use Rattle.std.proofs.lemmas.Bool.Decides.{nat_tests}
-use Rattle.hex.specs.Hex.{is_hex_digit, decode_of}
+use Rattle.hex.specs.Hex.{is_hex_digit}
 use Rattle.hex.proofs.HexLemmas.{decode_of-ok, decode_of-same}
 use Rattle.signed_note.specs.Names.{newline, space, IsOwnName, IsSecret}
-use Rattle.signed_note.specs.Keys.{Secret, Pins}
 use Rattle.signed_note.specs.KeyFiles.{IsHexOf, AreWords, HasWords, IsSecretText, IsPinText, IsKeyLine, IsKeyFile, ReadsKeys, ReadsAs, BeginsWithNoKey}
 use Rattle.signed_note.specs.declared.key_line.KeyLine.{KeyLine}
 use Rattle.signed_note.specs.declared.key_line.KeyLine.TheVariants.{Hmac, Pin}
 use Rattle.signed_note.specs.declared.fault.KeyFileFault.{KeyFileFault}
 use Rattle.signed_note.specs.declared.fault.KeyFileFault.TheVariants.{BadKeyLine, OutOfMemory}
-use Rattle.signed_note.proofs.Lacking.{Lacks, Lacks-append, Lacks-from_reads, cut_once, no_cut}
+use Rattle.signed_note.proofs.Lacking.{Lacks, Lacks-append, cut_once, no_cut}
 use Rattle.signed_note.proofs.NameBytes.{name_lacks_newline}
 use Rattle.signed_note.proofs.KeyWords.{hex_lacks, same_words}
 

@@ -1,17 +1,16 @@
 -- The words of lines of key files: a text has them in one way.
-use Rattle.std.proofs.Common.{◌≡◌, ◌≢◌, ℕ, zero, suc, ◌+◌, ◌*◌, ◌<◌, ◌≤◌, ◌^◌, Bool, true, false, List, [], ◌∷◌, ◌++◌, length, get_or, refl, sym, ap, ◌∙◌, subst, arith}
-use Rattle.std.specs.Prelude.{Result, Ok, Err, IsAscii, is_ok}
+use Rattle.std.proofs.Common.{◌≡◌, ℕ, ◌*◌, ◌<◌, ◌^◌, true, false, List, ◌∷◌, ◌++◌, length, refl, sym, ap, ◌∙◌, subst, arith}
+use Rattle.std.specs.Prelude.{Result, Ok, is_ok}
 use Rattle.std.specs.List.{AllPass}
-use Rattle.std.specs.Str.{IsUtf8}
 use Rattle.std.proofs.lemmas.Bool.{false≢true}
-use Rattle.hex.specs.Hex.{is_hex_digit, decode_of, decode_sized}
+use Rattle.hex.specs.Hex.{is_hex_digit, decode_sized}
 use Rattle.hex.specs.declared.error.FromHexError.{FromHexError}
 use Rattle.hex.proofs.HexLemmas.{decode_of-ok, decode_of-same, decode_sized-ok, decode_sized-twice}
 use Rattle.byteorder.specs.Endian.{big_bytes, big_number}
-use Rattle.signed_note.specs.Names.{newline, space, IsKeyName, IsOwnName}
-use Rattle.signed_note.specs.KeyFiles.{IsHexOf, AreWords, HasWords}
+use Rattle.signed_note.specs.Names.{space, IsOwnName}
+use Rattle.signed_note.specs.KeyFiles.{IsHexOf, AreWords}
 use Rattle.signed_note.proofs.Lacking.{Lacks, Lacks-from_reads, cut_once, no_cut}
-use Rattle.signed_note.proofs.NameBytes.{name_lacks_space, name_lacks_newline}
+use Rattle.signed_note.proofs.NameBytes.{name_lacks_space}
 use Rattle.signed_note.proofs.Payloads.{bytes_id}
 
 -- what is no digit is not among digits

@@ -1,8 +1,8 @@
 -- Signature lines: a text is the body of one line at most, and which it is.
-use Rattle.std.proofs.Common.{◌≡◌, ◌≢◌, ℕ, zero, suc, ◌+◌, ◌/◌, ◌%◌, ◌^◌, ◌<◌, ◌≤◌, List, [], ◌∷◌, ◌++◌, length, take, drop, get_or, refl, sym, ap, ◌∙◌, subst, arith, length-append}
-use Rattle.std.specs.Prelude.{Result, Ok, Err, Option, Some, None, MatchOption, slice_index}
+use Rattle.std.proofs.Common.{◌≡◌, ◌≢◌, ℕ, ◌+◌, ◌<◌, List, ◌∷◌, ◌++◌, length, get_or, sym, ap, ◌∙◌, subst, arith}
+use Rattle.std.specs.Prelude.{Err, Option, Some, None, MatchOption}
 use Rattle.base64.specs.GeneralPurpose.{IsBytes}
-use Rattle.byteorder.specs.Endian.{big_bytes, big_number}
+use Rattle.byteorder.specs.Endian.{big_bytes}
 use Rattle.signed_note.specs.Names.{newline, space, IsKeyName}
 use Rattle.signed_note.specs.Notes.{Line, mark, base64_of, signed_bytes, line_body, IsLine}
 use Rattle.signed_note.specs.Reading.{ReadsBase64, ReadsLine}
@@ -11,7 +11,7 @@ use Rattle.signed_note.specs.declared.fault.NoteFault.TheVariants.{NoteTooLong, 
 use Rattle.signed_note.proofs.Digests.{IsBytes-append, four_bytes}
 use Rattle.signed_note.proofs.Lacking.{Lacks, Lacks-append, Lacks-from_reads, cut_once, no_cut}
 use Rattle.signed_note.proofs.NameBytes.{name_lacks_space, name_lacks_newline}
-use Rattle.signed_note.proofs.Payloads.{base64_lacks_newline, base64_of-same, id_bytes, bytes_id}
+use Rattle.signed_note.proofs.Payloads.{base64_lacks_newline, base64_of-same}
 
 -- the mark and two words
 abbrev pub words : List ℕ → List ℕ → List ℕ

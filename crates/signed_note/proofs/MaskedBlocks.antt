@@ -2,7 +2,7 @@
 use Rattle.std.proofs.Common.{◌≡◌, ℕ, zero, suc, ◌+◌, ◌-◌, ◌<◌, ◌≤◌, List, [], ◌∷◌, ◌++◌, length, take, map, replicate, get_or, refl, sym, ◌∙◌, ap, append_assoc, arith}
 use Rattle.std.specs.Prelude.{bit_xor, set}
 use Rattle.std.proofs.lemmas.List.{set_at, take_more, take_all, map-append, length-map, length-take-le}
-use Rattle.signed_note.specs.Hmac.{block, masked}
+use Rattle.signed_note.specs.Hmac.{masked}
 
 abbrev turned : ℕ → List ℕ → List ℕ
 turned mask xs = map (λ b. bit_xor b mask) xs

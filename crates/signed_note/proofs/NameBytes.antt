@@ -1,8 +1,8 @@
 -- The bytes of a key's name: as its characters, none is white space in ASCII.
-use Rattle.std.proofs.Common.{◌≡◌, ◌≢◌, ℕ, ◌<◌, Bool, true, false, not, ◌||◌, nat_eq, ◌&&◌, List, [], ◌∷◌, length, get_or, refl, sym, ap, ◌∙◌, arith, lit<}
+use Rattle.std.proofs.Common.{◌≡◌, ℕ, ◌<◌, Bool, true, false, not, ◌||◌, nat_eq, ◌&&◌, List, [], ◌∷◌, get_or, refl, ap, arith, lit<}
 use Rattle.std.specs.List.{list_all}
 use Rattle.std.specs.Char.{is_whitespace}
-use Rattle.std.specs.Str.{NoCharPasses, NonePass, chars, IsUtf8}
+use Rattle.std.specs.Str.{NoCharPasses, NonePass, chars}
 use Rattle.std.proofs.lemmas.List.Sums.{list_all-from_AllPass}
 use Rattle.std.proofs.lemmas.Str.{NoCharPasses-byte, encodes-chars}
 use Rattle.signed_note.specs.Names.{is_name_char, IsKeyName, newline, space}

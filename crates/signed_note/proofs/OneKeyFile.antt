@@ -1,14 +1,13 @@
 -- Bytes have one reading as a key file.
-use Rattle.std.proofs.Common.{◌≡◌, ◌≢◌, ℕ, suc, ◌+◌, ◌<◌, ◌≤◌, List, [], ◌∷◌, ◌++◌, length, refl, sym, ap, ◌∙◌, subst, arith, append_assoc, length-append}
-use Rattle.std.specs.Prelude.{Result, Ok, Err, codes}
+use Rattle.std.proofs.Common.{◌≡◌, ◌≢◌, ℕ, suc, ◌+◌, List, [], ◌∷◌, ◌++◌, length, refl, sym, ap, ◌∙◌, subst, arith, append_assoc, length-append}
+use Rattle.std.specs.Prelude.{Ok, Err}
 use Rattle.hex.proofs.HexLemmas.{decode_of-same}
-use Rattle.signed_note.specs.Names.{newline, space, IsOwnName}
+use Rattle.signed_note.specs.Names.{newline}
 use Rattle.signed_note.specs.Keys.{Secret, Pins}
-use Rattle.signed_note.specs.KeyFiles.{IsHexOf, AreWords, HasWords, IsSecretText, IsPinText, IsKeyLine, IsKeyFile, IsBadLine, BeginsWithNoKey, ReadsKeys}
+use Rattle.signed_note.specs.KeyFiles.{IsHexOf, HasWords, IsKeyLine, IsKeyFile, BeginsWithNoKey}
 use Rattle.signed_note.specs.Laws.{OneKeyAnswer}
 use Rattle.signed_note.specs.declared.key_line.KeyLine.{KeyLine}
 use Rattle.signed_note.specs.declared.key_line.KeyLine.TheVariants.{Hmac, Pin}
-use Rattle.signed_note.specs.declared.fault.KeyFileFault.{KeyFileFault}
 use Rattle.signed_note.specs.declared.fault.KeyFileFault.TheVariants.{BadKeyLine, OutOfMemory}
 use Rattle.signed_note.proofs.Lacking.{cut_once}
 use Rattle.signed_note.proofs.NameBytes.{name_lacks_space}

@@ -1,13 +1,13 @@
 -- What the steps of reading a note come to.
-use Rattle.std.proofs.Common.{◌≡◌, ◌≢◌, ℕ, ◌<◌, ◌≤◌, true, false, nat_eq, List, [], ◌∷◌, length, refl, sym, ap, ◌∙◌, subst, arith}
-use Rattle.std.specs.Prelude.{Result, Ok, Err}
-use Rattle.std.specs.List.{flat_map, list_all}
+use Rattle.std.proofs.Common.{◌≡◌, ◌≢◌, ℕ, ◌≤◌, true, false, nat_eq, List, [], ◌∷◌, length, refl, ap, subst, arith}
+use Rattle.std.specs.Prelude.{Err}
+use Rattle.std.specs.List.{list_all}
 use Rattle.std.specs.Str.{IsUtf8, chars}
 use Rattle.std.proofs.lemmas.Bool.Decides.{Decides-eqb}
 use Rattle.std.proofs.lemmas.List.Sums.{AllPass-from_list_all, list_all-from_AllPass}
 use Rattle.signed_note.specs.Names.{is_note_char, IsNoteText}
-use Rattle.signed_note.specs.Notes.{Line, line_text, IsSplit, IsNote}
-use Rattle.signed_note.specs.Reading.{line_count, AreLines, IsReadable, HasPart, ReadsLines, ReadsNote}
+use Rattle.signed_note.specs.Notes.{Line, IsSplit, IsNote}
+use Rattle.signed_note.specs.Reading.{line_count, AreLines, HasPart, ReadsLines, ReadsNote}
 use Rattle.signed_note.specs.declared.fault.NoteFault.{NoteFault}
 use Rattle.signed_note.specs.declared.fault.NoteFault.TheVariants.{NoteTooLong, NotText, NoSignatures, TooManySignatures, BadSignatureLine, OutOfMemory}
 use Rattle.signed_note.proofs.LineCounts.{line_count-lines}

@@ -1,7 +1,6 @@
 -- The last blank line of a note: where it is, and that it separates in one way.
-use Rattle.std.proofs.Common.{◌≡◌, ◌≢◌, ◌⊎◌, inl, inr, ℕ, zero, suc, ◌+◌, ◌-◌, ◌<◌, ◌≤◌, List, [], ◌∷◌, ◌++◌, length, take, drop, get_or, refl, sym, ap, ◌∙◌, subst, arith, append_assoc, length-append, add-one, drop-cons}
-use Rattle.std.proofs.lemmas.List.{append-nil, take_more, take-append-drop, append_cancel_left, get_or-append-add, length-take-le}
-use Rattle.std.specs.Prelude.{slice_index}
+use Rattle.std.proofs.Common.{◌≡◌, ◌⊎◌, inl, inr, ℕ, suc, ◌+◌, ◌<◌, List, [], ◌∷◌, ◌++◌, length, take, drop, get_or, refl, sym, ap, ◌∙◌, subst, arith, append_assoc, length-append, drop-cons}
+use Rattle.std.proofs.lemmas.List.{append-nil, take_more, take-append-drop, get_or-append-add, length-take-le}
 use Rattle.signed_note.specs.Names.{newline, EndsInNewline}
 use Rattle.signed_note.specs.Notes.{IsSplit, IsBlank}
 

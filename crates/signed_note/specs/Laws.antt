@@ -1,5 +1,5 @@
 -- What the definitions say, as laws.
-use Rattle.std.specs.Prelude.{◌≡◌, ◌≢◌, ℕ, List, Result, Ok, Err}
+use Rattle.std.specs.Prelude.{◌≡◌, ◌≢◌, ℕ, List, Result, Err}
 use Rattle.signed_note.specs.Notes.{Line, NoteParts, IsNote}
 use Rattle.signed_note.specs.Reading.{ReadsNote}
 use Rattle.signed_note.specs.declared.fault.NoteFault.{NoteFault}

@@ -1,6 +1,6 @@
 -- What each answer of a reader of notes says of the bytes: the first refusal that applies, in the order of the
 -- faults. An answer other than want of memory is determined by the bytes.
-use Rattle.std.specs.Prelude.{◌≡◌, ◌≢◌, ℕ, ◌+◌, ◌-◌, ◌<◌, ◌≤◌, ◌==◌, if◌then◌else◌, List, [], ◌∷◌, ◌++◌, length, slice_index, All, Result, Ok, Err, count_by}
+use Rattle.std.specs.Prelude.{◌≡◌, ◌≢◌, ℕ, ◌+◌, ◌-◌, ◌<◌, ◌≤◌, ◌==◌, if◌then◌else◌, List, [], length, slice_index, All, Result, Ok, Err, count_by}
 use Rattle.std.specs.List.{flat_map}
 use Rattle.base64.specs.GeneralPurpose.{IsBytes}
 use Rattle.signed_note.specs.Names.{newline, IsNoteText, IsOwnName, IsSecret}

@@ -1,7 +1,7 @@
 //! What is read as a key file, and which line is named.
 
 use crate::{KeyFileFault, KeyLine, Verifier, read_keys};
-use std::alloc::Global;
+use std::alloc::{AllocError, Global};
 use std::test::Fail;
 
 /// What is wrong with a key file, if anything.
@@ -85,18 +85,26 @@ fn bad_key_lines(rt: HostRuntime) {
     }
 }
 
+/// A line with a secret of so many bytes.
+fn line_of(alloc: Global, bytes: u32) -> Result<String, AllocError> {
+    let mut line = String::from_str(alloc, "hmac ex 00000001 ")?;
+    for _ in 0..bytes {
+        line.push_str("aB")?;
+    }
+    line.push_str("\n")?;
+    Ok(line)
+}
+
 #[test]
 fn secrets(rt: HostRuntime) -> Result<(), Fail> {
-    let mut file = String::from_str(rt.alloc(), "hmac ex 00000001 ")?;
-    for _ in 0..64u32 {
-        file.push_str("aB")?;
+    for (bytes, fault) in [
+        (0u32, Some(KeyFileFault::BadKeyLine(1))),
+        (1, None),
+        (64, None),
+        (65, Some(KeyFileFault::BadKeyLine(1))),
+    ] {
+        let line = line_of(rt.alloc(), bytes)?;
+        assert_eq!(rt; fault_of(rt.alloc(), line.as_bytes()), fault, "{bytes}");
     }
-    file.push_str("\n")?;
-    assert_eq!(rt; fault_of(rt.alloc(), file.as_bytes()), None);
-    file.insert_str(17, "00")?;
-    assert_eq!(rt;
-        fault_of(rt.alloc(), file.as_bytes()),
-        Some(KeyFileFault::BadKeyLine(1))
-    );
     Ok(())
 }

@@ -96,7 +96,7 @@ fn verifiers(rt: HostRuntime) -> Result<(), Fail> {
     let key = HmacKey::new(rt.alloc(), "ex", 7, b"Jefe")?;
     let mac = key.mac(b"x\n");
     assert!(rt; accepts(&key, "ex", 7, b"x\n", &mac));
-    assert!(rt; !accepts(&key, "ex", 7, b"x\n", &mac[..31]));
+    assert!(rt; !accepts(&key, "ex", 7, b"x\n", b""));
     assert!(rt; !accepts(&key, "ex", 7, b"y\n", &mac));
     let mut digests = Vec::new(rt.alloc());
     digests.push([0; 32])?;

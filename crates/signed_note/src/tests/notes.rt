@@ -1,6 +1,7 @@
 //! What is read as a note, and each refusal.
 
-use crate::{HmacKey, KeyFileFault, Note, NoteFault, sign};
+use super::signed_row;
+use crate::{HmacKey, KeyFileFault, Note, NoteFault};
 use std::alloc::{AllocError, Global};
 use std::test::Fail;
 
@@ -128,12 +129,11 @@ fn longest_note(rt: HostRuntime) -> Result<(), Fail> {
 
 #[test]
 fn signed(rt: HostRuntime) -> Result<(), Fail> {
-    let key = HmacKey::new(rt.alloc(), "ex", 1, &[0])?;
-    let text = "ex\n3\nrra8/idLcKFPsGel5VeCZNsPqbUa9eC6FZFY8yngbnc=\n";
-    let note = sign(rt.alloc(), text, &key)?;
+    let key = HmacKey::new(rt.alloc(), "ex", 1, b"Jefe")?;
+    let note = signed_row(rt.alloc(), &key)?;
     assert_eq!(rt;
         note.as_slice(),
-        "ex\n3\nrra8/idLcKFPsGel5VeCZNsPqbUa9eC6FZFY8yngbnc=\n\n\u{2014} ex AAAAAVkFl9UHn8iq7qT/TcgbCRAMqy1SJbVwuks7nxoCxSRp\n".as_bytes()
+        "x\n\n\ny\n\n\u{2014} ex AAAAAT+4ycjKGJ3Jb8W05gzVEzWtMISyts5Bwr8/saahDvMf\n".as_bytes()
     );
     Ok(())
 }

@@ -3,7 +3,8 @@
 ghost use Rattle.std.specs.Prelude.{codes, ◌∷◌, []};
 ghost use Rattle.std.specs.Str.{bytes_eq};
 
-use crate::{HmacKey, Note, NoteFault, OpenFault, PinnedTexts, Verifier, open_note, sign};
+use super::signed_row;
+use crate::{HmacKey, Note, NoteFault, OpenFault, PinnedTexts, Verifier, open_note};
 use std::alloc::Global;
 use std::test::Fail;
 
@@ -75,7 +76,7 @@ fn note_opens(rt: HostRuntime) -> Result<(), Fail> {
 #[test]
 fn signed_opens(rt: HostRuntime) -> Result<(), Fail> {
     let shared = HmacKey::new(rt.alloc(), "ex", 1, b"Jefe")?;
-    let signed = sign(rt.alloc(), "x\n\n\ny\n", &shared)?;
+    let signed = signed_row(rt.alloc(), &shared)?;
     let note = Note::read(rt.alloc(), &signed)?;
     assert_eq!(rt; note.text(), "x\n\n\ny\n");
     let mut keys: Vec<Box<dyn Verifier>> = Vec::new(rt.alloc());

@@ -1,7 +1,7 @@
 use Rattle.std.proofs.Common.{◌≡◌, ◌++◌, ◌∷◌, refl, sym, ap, ◌∙◌, List, ℕ}
 use Rattle.std.specs.Prelude.{codes}
 use Rattle.signed_note.specs.Names.{space}
-use Rattle.signed_note.proofs.KeyLines.{key_line_text, from_secret, from_pin, no_kind}
+use Rattle.signed_note.proofs.KeyLines.{key_line_text, from_secret, from_pin}
 use Rattle.signed_note.proofs.key_file.key_of.Goals as goal
 
 pub returns-in_default : goal.returns-in_default

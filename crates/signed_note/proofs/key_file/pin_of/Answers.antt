@@ -1,4 +1,4 @@
-use Rattle.std.proofs.Common.{refl, sym, ap}
+use Rattle.std.proofs.Common.{refl, ap}
 use Rattle.std.specs.Prelude.{is_ok}
 use Rattle.signed_note.specs.Names.{space}
 use Rattle.signed_note.proofs.Lacking.{Lacks-from_reads}

@@ -1,4 +1,4 @@
-use Rattle.std.proofs.Common.{◌≡◌, true, false, sym, ◌∙◌, ◌≤◌, length, arith, nat_le}
+use Rattle.std.proofs.Common.{sym, ◌∙◌, ◌≤◌, length, arith, nat_le}
 use Rattle.std.proofs.lemmas.List.Sums.{AllPass-from_list_all, list_all-from_AllPass}
 use Rattle.std.proofs.lemmas.Bool.Decides.{nat_tests}
 use Rattle.signed_note.specs.Names.{space}

@@ -1,8 +1,8 @@
-use Rattle.std.proofs.Common.{◌≡◌, ◌++◌, ◌∷◌, List, ℕ, ap, subst, ◌∙◌, arith, sym}
+use Rattle.std.proofs.Common.{◌≡◌, ◌++◌, ◌∷◌, List, ℕ, ap, ◌∙◌, arith}
 use Rattle.byteorder.specs.Endian.{big_bytes}
 use Rattle.signed_note.specs.Hmac.{hmac}
 use Rattle.signed_note.specs.Names.{newline}
-use Rattle.signed_note.specs.Notes.{base64_of, signed_bytes, signed_line, line_text, IsNote}
+use Rattle.signed_note.specs.Notes.{base64_of, signed_bytes, signed_line, line_text}
 use Rattle.signed_note.proofs.Signed.{signed_is_note, signed_opens, written}
 use Rattle.signed_note.proofs.signing.sign.Goals as goal
 

@@ -1,11 +1,11 @@
-use Rattle.std.proofs.Common.{◌≡◌, ◌≢◌, ◌≤◌, [], List, ℕ, true, length, sym, ◌∙◌, ap, refl, subst, arith}
+use Rattle.std.proofs.Common.{◌≡◌, ◌≤◌, [], List, ℕ, sym, ◌∙◌, ap, arith}
 use Rattle.std.specs.List.{list_all}
 use Rattle.std.specs.Str.{chars}
 use Rattle.std.proofs.lemmas.Bool.{false≢true}
 use Rattle.std.proofs.lemmas.Result.{err_from_is_err_and}
 use Rattle.signed_note.specs.Names.{is_note_char, IsNoteText}
 use Rattle.signed_note.specs.Notes.{IsSplit}
-use Rattle.signed_note.specs.Reading.{HasPart, IsReadable, line_count}
+use Rattle.signed_note.specs.Reading.{HasPart, line_count}
 use Rattle.signed_note.proofs.Splits.{split_once}
 use Rattle.signed_note.proofs.Readings.{no_bytes, some_bytes, note_text, passes_from_text, note_from_lines, note_refused}
 use Rattle.signed_note.proofs.note.Note.read.Goals as goal
