@@ -5,6 +5,8 @@ use Rattle.tlog_checkpoint.specs.declared.Checkpoint.{Checkpoint}
 use Rattle.tlog_checkpoint.specs.Grammar.{IsCheckpoint}
 use Rattle.tlog_checkpoint.proofs.Uniqueness.{one_reading}
 use Rattle.tlog_mirror.specs.Heads.{IsHead}
+use Rattle.tlog_mirror.specs.Item.{HasEdgeRows}
+use Rattle.tlog_mirror.specs.ViewLaws.{HeadsHaveEdges}
 
 -- the same origin, size and root
 pub record IsSameHead (origin origin' : List ℕ) (size size' : ℕ) (root root' : List ℕ) : Type 0 where
@@ -19,3 +21,13 @@ head_once note origin origin' size size' root root' p q =
     let b : Checkpoint = record { origin = origin'; size = size'; root = root'; extensions = q.extensions } in
     let same : a ≡ b = one_reading p.text a b p.is_checkpoint (subst (λ t. IsCheckpoint t origin' size' root' q.extensions) (sym texts) q.is_checkpoint) in
     record { origin_is = ap (λ (c : Checkpoint). c.origin) same; size_is = ap (λ (c : Checkpoint). c.size) same; root_is = ap (λ (c : Checkpoint). c.root) same }
+
+pub heads_have_edges : HeadsHaveEdges
+heads_have_edges digest v lawful size root head =
+    let e = lawful.edges head.note head.holds.is_held in
+    let same = head_once head.note v.origin v.origin e.size size e.root root e.is_head head.holds.is_head in
+    record {
+      rows = e.rows;
+      has_edge = subst (λ n. HasEdgeRows digest n root e.rows) same.size_is (subst (λ r. HasEdgeRows digest e.size r e.rows) same.root_is e.has_edge);
+      are_held = e.are_held;
+    }

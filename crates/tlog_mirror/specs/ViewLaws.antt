@@ -1,15 +1,16 @@
 -- Laws of views: what is complete, served and forked in them, and how they are joined.
-use Rattle.std.specs.Prelude.{◌≡◌, ◌≢◌, ◌↔◌, ℕ, ◌*◌, ◌≤◌, List, length}
+use Rattle.std.specs.Prelude.{map, ◌≡◌, ◌≢◌, ◌↔◌, ℕ, ◌*◌, ◌≤◌, List, length}
 use Rattle.std.specs.FinSet as set
 use Rattle.tlog_hash.specs.Tree.{mth}
 use Rattle.tlog_tiles.specs.Bundle.{IsBundle}
 use Rattle.tlog_tiles.specs.Row.{IsRow}
 use Rattle.signed_note.specs.Keys.{Key}
-use Rattle.node_store.specs.Strings.{Has, NoClash}
+use Rattle.node_store.specs.Strings.{HasAll, Has, NoClash}
 use Rattle.tlog_mirror.specs.View.{View, nothing, union, IsWithin}
 use Rattle.tlog_mirror.specs.Strings.{held_in, HasClash}
 use Rattle.tlog_mirror.specs.Heads.{IsHead, HasHead}
-use Rattle.tlog_mirror.specs.Item.{Item, row_of, entries_of, IsGood, plus}
+use Rattle.tlog_mirror.specs.Edge.{edge_strings}
+use Rattle.tlog_mirror.specs.Item.{HasEdgeRows, Item, row_of, entries_of, IsGood, plus}
 use Rattle.tlog_mirror.specs.Complete.{Complete, IsComplete, IsLawful}
 use Rattle.tlog_mirror.specs.Served.{Served, Replies, IsRangeHash}
 use Rattle.tlog_mirror.specs.Forks.{Point, IsPrefix, IsFork}
@@ -80,6 +81,17 @@ abbrev pub UnionIsLawful : Type 0
 UnionIsLawful =
     (digest : List ℕ → List ℕ) (v w : View) → IsLawful digest v → IsLawful digest w → v.origin ≡ w.origin →
     NoClash digest (set.union v.strings w.strings) → IsLawful digest (union v w)
+
+-- the edge of each head of a lawful view is held: some rows of its size lead to its root, with their strings
+pub record HasEdgeOf (digest : List ℕ → List ℕ) (v : View) (size : ℕ) (root : List ℕ) : Type 0 where
+  pub rows : List (List ℕ)
+  pub has_edge : HasEdgeRows digest size root rows
+  pub are_held : HasAll v.strings (edge_strings digest (map row_of rows))
+
+abbrev pub HeadsHaveEdges : Type 0
+HeadsHaveEdges =
+    (digest : List ℕ → List ℕ) (v : View) → IsLawful digest v → (size : ℕ) (root : List ℕ) → HasHead v size root →
+    HasEdgeOf digest v size root
 
 -- what is complete stays complete, with the same entries, as the view grows
 abbrev pub CompleteStays : Type 0

@@ -1,5 +1,5 @@
 //! Laws of views: what a mirror holds, and what follows from it.
-ghost use Rattle.tlog_mirror.specs.ViewLaws.{ClashesTurn, CompleteIsSame, CompleteStays, ForksStay, ForksTell, ForksTurn, ListHasRoot, MarksStay, MissingIsNone, NothingIsLawful, OneList, PlusIsLawful, RangesHashOnce, RepliesOnce, SameIsOne, ServesOne, ServesTruth, UnionAssociates, UnionCommutes, UnionIsLawful, UnionRepeats, WholeIsMark};
+ghost use Rattle.tlog_mirror.specs.ViewLaws.{ClashesTurn, CompleteIsSame, CompleteStays, ForksStay, ForksTell, ForksTurn, HeadsHaveEdges, ListHasRoot, MarksStay, MissingIsNone, NothingIsLawful, OneList, PlusIsLawful, RangesHashOnce, RepliesOnce, SameIsOne, ServesOne, ServesTruth, UnionAssociates, UnionCommutes, UnionIsLawful, UnionRepeats, WholeIsMark};
 
 /// Views that hold the same are one, and they are joined in any order, in any grouping and any number
 /// of times with one result. Their strings clash either way round or neither.
@@ -42,11 +42,12 @@ pub fn forks_law()
 {}
 
 /// A view that holds nothing is lawful, and a lawful view stays so as it takes a good item, or is merged
-/// with a lawful view of the same log, where no two strings clash.
+/// with a lawful view of the same log, where no two strings clash. The edge of each of its heads is held.
 pub fn lawful_law()
     ensures nothing { NothingIsLawful }
     ensures item { PlusIsLawful }
     ensures views { UnionIsLawful }
+    ensures heads { HeadsHaveEdges }
 {}
 
 /// The walk from the root of a head fails nowhere exactly where the head is complete. So wherever it is

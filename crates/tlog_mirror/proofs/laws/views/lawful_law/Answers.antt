@@ -1,5 +1,6 @@
 use Rattle.tlog_mirror.proofs.Views.{nothing_is_lawful, union_is_lawful}
 use Rattle.tlog_mirror.proofs.ItemStrings.{plus_is_lawful}
+use Rattle.tlog_mirror.proofs.HeadNotes.{heads_have_edges}
 use Rattle.tlog_mirror.proofs.laws.views.lawful_law.Goals as goal
 
 pub returns-clause-item : goal.returns-clause-item
@@ -10,3 +11,6 @@ returns-clause-views c = union_is_lawful
 
 pub returns-clause-nothing : goal.returns-clause-nothing
 returns-clause-nothing c = nothing_is_lawful
+
+pub returns-clause-heads : goal.returns-clause-heads
+returns-clause-heads c = heads_have_edges
