@@ -1,9 +1,8 @@
 -- How many hashes a path has.
-use Rattle.std.proofs.Common.{Bool, true, false, ◌≡◌, ℕ, zero, suc, ◌+◌, ◌-◌, ◌*◌, ◌^◌, ◌<◌, ◌≤◌, List, [], ◌∷◌, ◌++◌, length, take, drop, Ok, inl, inr, sym, refl, ap, ◌∙◌, arith, length-take, length-drop, length-append}
+use Rattle.std.proofs.Common.{Bool, true, false, ◌≡◌, ℕ, zero, suc, ◌+◌, ◌-◌, ◌*◌, ◌^◌, ◌<◌, ◌≤◌, List, [], ◌∷◌, ◌++◌, length, take, drop, Ok, inl, inr, refl, ap, arith, length-take, length-drop, length-append}
 use Rattle.std.proofs.lemmas.Bool.{cases_lt, lt-ltb, le-ltb}
-use Rattle.std.proofs.lemmas.List.{length-take-le}
 use Rattle.std.proofs.Math.Nat.{pow-succ'}
-use Rattle.std.specs.Prelude.{if◌then◌else◌, nat_eq}
+use Rattle.std.specs.Prelude.{if◌then◌else◌}
 use Rattle.tlog_shape.specs.Split.{split_of}
 use Rattle.tlog_shape.proofs.Splits.{split_of-below, split_of-half, split_of-power, power_at_most}
 use Rattle.tlog_hash.specs.Tree.{tree_of, mth}
@@ -12,7 +11,7 @@ use Rattle.tlog_proof.specs.Inclusion.{path_in, path_of}
 use Rattle.tlog_proof.specs.Consistency.{proof_in, subproof_of, proof_of}
 use Rattle.tlog_proof.specs.Laws.{PathsAreShort}
 use Rattle.tlog_proof.specs.Made.{inclusion_in, consistency_in}
-use Rattle.tlog_proof.proofs.Consistencies.{at_most, not_at_most, equal, not_equal}
+use Rattle.tlog_proof.proofs.Consistencies.{at_most, not_at_most, equal}
 use Rattle.tlog_proof.proofs.Readers.{equal_not}
 use Rattle.tlog_proof.proofs.Paths.{left_of, right_of}
 use Rattle.tlog_proof.proofs.Subproofs.{all_of, left_of as sub_left_of, right_of as sub_right_of}

@@ -1,13 +1,12 @@
 -- Lines of a proof's text: a line is read in one way.
-use Rattle.std.proofs.Common.{◌≡◌, ◌≢◌, ℕ, zero, suc, ◌+◌, ◌*◌, ◌/◌, ◌%◌, ◌^◌, ◌<◌, ◌≤◌, Bool, true, false, not, nat_eq, ◌&&◌, List, [], ◌∷◌, ◌++◌, length, drop, get_or, replicate, append_assoc, refl, sym, subst, ap, ◌∙◌, inl, inr, arith, length-append}
-use Rattle.std.specs.Prelude.{Result, Ok, Err, Option, Some, None, MatchOption, slice_index, codes}
+use Rattle.std.proofs.Common.{◌≡◌, ◌≢◌, ℕ, zero, suc, ◌+◌, ◌*◌, ◌/◌, ◌%◌, ◌^◌, ◌<◌, ◌≤◌, Bool, true, false, not, nat_eq, ◌&&◌, List, [], ◌∷◌, ◌++◌, length, drop, get_or, replicate, append_assoc, refl, sym, subst, ap, ◌∙◌, arith, length-append}
+use Rattle.std.specs.Prelude.{Err, Option, Some, None, MatchOption, slice_index, codes}
 use Rattle.std.specs.Fmt.{decimal}
 use Rattle.std.specs.List.{list_all, AllByRecursion}
-use Rattle.std.specs.Str.Parse.{ParsesUnsigned, AllDigits, digits_value}
-use Rattle.std.proofs.lemmas.Bool.{cases_lt}
+use Rattle.std.specs.Str.Parse.{AllDigits, digits_value}
 use Rattle.std.proofs.lemmas.Bool.Decides.{Decides-eqb}
-use Rattle.std.proofs.lemmas.Fmt.{digits_decimal, decimal_injective, decimal_nonempty, decimal_digit, first_decimal, decimal-digits_value, parse-decimal, length-decimal-le}
-use Rattle.std.proofs.lemmas.Str.Parse.{IsNumeralModel, numerals_by_value, tells_digits, not_in_digits, parse_plain}
+use Rattle.std.proofs.lemmas.Fmt.{digits_decimal, decimal_injective, length-decimal-le}
+use Rattle.std.proofs.lemmas.Str.Parse.{IsNumeralModel, numerals_by_value, tells_digits, not_in_digits}
 use Rattle.std.proofs.lemmas.List.{append_cancel_left, append-nil, length-replicate, get_or-append-add, drop-drop}
 use Rattle.std.proofs.lemmas.Str.{IsUtf8-drop, IsCharBoundary-after_ascii}
 use Rattle.std.proofs.Math.Seq.{drop-append_seam}
