@@ -3,10 +3,9 @@ use Rattle.std.proofs.Common.{subst, ◌≡◌, ℕ, zero, suc, ◌+◌, ◌*◌
 use Rattle.std.proofs.lemmas.List.{take-map, drop-map, length-map, append-nil, drop-drop}
 use Rattle.std.proofs.lemmas.List.Concat.{flat_map-append, flat_map-cons}
 use Rattle.std.proofs.Math.Seq.{take-add}
-use Rattle.std.proofs.Math.Nat.{pow-succ'}
-use Rattle.std.proofs.lemmas.Nat.{pow_pos, pow-add}
 use Rattle.std.specs.List.{AllByRecursion}
 use Rattle.tlog_shape.specs.Split.{split_of}
+use Rattle.tlog_shape.proofs.Levels.{level_power}
 use Rattle.tlog_hash.specs.Tree.{Tree, Empty, One, Join, tree_of, root, fold_of, mth, leaf_hash}
 use Rattle.tlog_hash.proofs.Trees.{tree_of-none, tree_of-one, tree_of-join, induction}
 use Rattle.tlog_hash.specs.Blocks.{map_tree, graft, IsCut, joined_up}
@@ -94,16 +93,6 @@ module _ {A : Type 0} (b : ℕ) where
 
   pub joined_push : (bs : List (List A)) (x : List A) → joined_up (bs ++ x ∷ []) ≡ joined_up bs ++ x
   joined_push bs x = flat_map-append (λ y. y) bs (x ∷ []) ∙ ap (λ ys. joined_up bs ++ ys) (flat_map-cons (λ y. y) x [] ∙ append-nil x)
-
--- 256^level as a power of two
-pub level_power : (level : ℕ) → 256 ^ level ≡ 2 ^ (8 * level)
-level_power zero = refl
-level_power (suc level) =
-    let e : 8 * suc level ≡ 8 + 8 * level = omega arith in
-    pow-succ' 256 level ∙ ap (λ m. 256 * m) (level_power level) ∙ sym (ap (λ m. 2 ^ m) e ∙ pow-add 2 8 (8 * level))
-
-pub level_positive : (level : ℕ) → 0 < 256 ^ level
-level_positive level = rw (level_power level) (pow_pos (8 * level))
 
 module _ (digest : List ℕ → List ℕ) where
   -- MTH is Fold of the MTH of blocks of 256^level entries

@@ -12,7 +12,8 @@ use Rattle.tlog_hash.proofs.Trees.{mth-none}
 use Rattle.tlog_hash.specs.Blocks.{IsCut, joined_up}
 use Rattle.tlog_hash.specs.Rows.{ranges, level_row}
 use Rattle.tlog_mirror.specs.Edge.{edge_levels, edge_widths, edge_row, edge_rows, edge_root, root_from}
-use Rattle.tlog_hash.proofs.Folds.{joined_ranges, all_ranges, cut_push, cut_full, joined_push, length-ranges, level_positive, mth-level}
+use Rattle.tlog_hash.proofs.Folds.{joined_ranges, all_ranges, cut_push, cut_full, joined_push, length-ranges, mth-level}
+use Rattle.tlog_shape.proofs.Levels.{level_positive}
 
 -- the numbers of a level: b is 256^level, c is 256^(level + 1), q is n / b, p is n / c, w is the width
 pub record IsLevel (n b c q p w : ℕ) : Type 0 where

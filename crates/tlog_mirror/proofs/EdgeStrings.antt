@@ -10,7 +10,8 @@ use Rattle.tlog_hash.specs.Tree.{tree_of, fold_of, mth, joins, strings}
 use Rattle.tlog_hash.specs.Rows.{part, ranges, level_row}
 use Rattle.tlog_mirror.specs.Edge.{edge_rows, strings_from, edge_strings}
 use Rattle.tlog_hash.specs.Nodes.{Node, IsNode}
-use Rattle.tlog_hash.proofs.Folds.{joined_ranges, level_positive, level_power}
+use Rattle.tlog_hash.proofs.Folds.{joined_ranges}
+use Rattle.tlog_shape.proofs.Levels.{level_positive, level_power}
 use Rattle.tlog_mirror.proofs.EdgeRoots.{edge_rows_from, edge_rows-levels, IsLevel, level_is, fold_row, fold_row_rest}
 use Rattle.tlog_hash.proofs.NodeStrings.{string_of_node}
 use Rattle.tlog_mirror.proofs.NodeBlocks.{IsInside, node_inside}

@@ -14,7 +14,7 @@ use Rattle.tlog_tiles.specs.declared.paths.Path.{Path}
 use Rattle.tlog_tiles.specs.declared.paths.Path.TheVariants.{Tile, Entries}
 use Rattle.tlog_mirror.specs.Front.{IsPathOf, InFront, IsFront}
 use Rattle.tlog_mirror.specs.Rounds.{HoldsAll, IsAnswered, AsksUpTo, AsksBundlesAlone}
-use Rattle.tlog_hash.proofs.Folds.{level_positive}
+use Rattle.tlog_shape.proofs.Levels.{level_positive}
 use Rattle.tlog_hash.proofs.NodeStrings.{string_of_node, node_of_string}
 use Rattle.tlog_mirror.proofs.NodeBlocks.{node_inside}
 use Rattle.tlog_mirror.proofs.RowLaws.{full_tile, bundle, to_block}

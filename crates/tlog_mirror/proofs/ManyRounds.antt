@@ -5,7 +5,7 @@ use Rattle.std.proofs.lemmas.Bool.{cases_lt}
 use Rattle.std.proofs.Math.Nat.{pow-succ', div-mul-le_self, lt-div-mul-add}
 use Rattle.tlog_shape.specs.Edge.{width_of, IsTop}
 use Rattle.tlog_hash.specs.Tree.{strings}
-use Rattle.tlog_hash.proofs.Folds.{level_positive}
+use Rattle.tlog_shape.proofs.Levels.{level_positive}
 use Rattle.tlog_tiles.specs.declared.paths.Path.TheVariants.{Tile}
 use Rattle.tlog_mirror.specs.Front.{IsFront}
 use Rattle.tlog_mirror.specs.Rounds.{HoldsAll}

@@ -9,7 +9,8 @@ use Rattle.tlog_hash.specs.Tree.{tree_of, mth, joins, strings}
 use Rattle.tlog_hash.specs.Blocks.{IsCut, joined_up}
 use Rattle.tlog_hash.specs.Rows.{part, ranges, level_row}
 use Rattle.tlog_hash.specs.Nodes.{Node, IsNode}
-use Rattle.tlog_hash.proofs.Folds.{joined_ranges, length-ranges, level_power, level_positive}
+use Rattle.tlog_hash.proofs.Folds.{joined_ranges, length-ranges}
+use Rattle.tlog_shape.proofs.Levels.{level_power, level_positive}
 use Rattle.std.specs.Prelude.{◌↔◌}
 use Rattle.std.proofs.Math.Nat.{pow-succ'}
 use Rattle.tlog_hash.proofs.NodeStrings.{from_joins, to_joins, node_of_string, string_of_node}

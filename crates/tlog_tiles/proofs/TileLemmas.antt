@@ -5,7 +5,8 @@ use Rattle.std.proofs.lemmas.List.Elements.{All-map, All-take, All-drop}
 use Rattle.tlog_hash.specs.Rows.{part, ranges, level_row}
 use Rattle.tlog_hash.specs.Tree.{fold_of, mth, tree_of, Tree, Empty, One, Join}
 use Rattle.tlog_hash.specs.Nodes.{entries_root}
-use Rattle.tlog_hash.proofs.Folds.{mth-tree, length-ranges, joined_ranges, all_ranges, cut_full, mth-level, level_positive}
+use Rattle.tlog_hash.proofs.Folds.{mth-tree, length-ranges, joined_ranges, all_ranges, cut_full, mth-level}
+use Rattle.tlog_shape.proofs.Levels.{level_positive}
 use Rattle.tlog_tiles.specs.Laws.{IsRead}
 
 -- the hashes of a level fold to the tree hash of their entries

@@ -1,5 +1,5 @@
 -- What the command `check` answers and writes.
-use Rattle.std.specs.Prelude.{◌≡◌, ℕ, List, ◌∷◌, ◌++◌, take, Option, Result, Ok, Err, Bool, true, false, codes}
+use Rattle.std.specs.Prelude.{ℕ, List, take, Option, Result, Ok, Err, Bool, true, false, codes}
 use Rattle.std.specs.Io.KnownBytes.{Appends}
 use Rattle.tlog_proof.specs.declared.proof.Proof.{Proof}
 use Rattle.tlog_proof.specs.Made.{Holds}

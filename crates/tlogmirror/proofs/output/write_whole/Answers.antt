@@ -1,6 +1,5 @@
-use Rattle.std.proofs.Common.{take, drop, length, arith, subst}
-use Rattle.std.proofs.lemmas.List.{take_rest, length-take, length-drop}
-use Rattle.std.specs.Io.KnownBytes.{Appends}
+use Rattle.std.proofs.Common.{arith}
+use Rattle.std.proofs.lemmas.List.{take_rest, length-drop}
 use Rattle.tlogmirror.proofs.Writes.{appends_more}
 use Rattle.tlogmirror.proofs.output.write_whole.Goals as goal
 
