@@ -1,6 +1,7 @@
 //! What the words of the command line ask for.
-ghost use Rattle.std.specs.Prelude.{◌≤◌, IfOk};
-ghost use Rattle.tlogmirror.specs.Commands.{IsLawful};
+ghost use Rattle.std.specs.Prelude.{◌≡◌, IfOk};
+ghost use Rattle.tlogmirror.specs.Commands.{IsLawful, ReadsWidth};
+ghost use Rattle.tlogmirror.specs.declared.command.CommandFault.TheVariants.{OutOfMemory};
 
 use clap::error::ErrorKind;
 use clap::{Arg, ArgAction, Error};
@@ -33,12 +34,16 @@ pub enum CommandFault {
 }
 
 impl From<AllocError> for CommandFault {
+    ghost from_gives = { λ _ e. e ≡ OutOfMemory };
+
     fn from(_e: AllocError) -> CommandFault {
         CommandFault::OutOfMemory
     }
 }
 
 impl<T: Drop> From<AllocFailed<T>> for CommandFault {
+    ghost from_gives = { λ _ e. e ≡ OutOfMemory };
+
     fn from(_e: AllocFailed<T>) -> CommandFault {
         CommandFault::OutOfMemory
     }
@@ -91,15 +96,18 @@ fn fault_of(alloc: Global, error: Error) -> CommandFault {
     }
 }
 
-// The width that the option says.
-fn width_of(word: Option<&str>) -> Result<u32, CommandFault>
-    ensures { IfOk result (λ width. width ≤ 256) }
+// The width that the word spells.
+fn width_of(word: &str) -> Result<u32, CommandFault>
+    ensures { ReadsWidth word.now result }
 {
-    match word {
-        Some(text) => match read_number(text) {
-            Some(n) if n <= 256 => Ok(n as u32),
-            _ => Err(CommandFault::BadArgument),
-        },
+    match read_number(word) {
+        Some(n) => {
+            if n <= 256 {
+                Ok(n as u32)
+            } else {
+                Err(CommandFault::BadArgument)
+            }
+        }
         None => Err(CommandFault::BadArgument),
     }
 }
@@ -116,9 +124,12 @@ pub fn read_words(alloc: Global, words: &[String]) -> Result<Command, CommandFau
         Err(error) => return Err(fault_of(alloc, error)),
     };
     match matches.subcommand() {
-        Some(("root", found)) => Ok(Command::Root {
-            width: width_of(found.get_str("width"))?,
-        }),
+        Some(("root", found)) => match found.get_str("width") {
+            Some(word) => Ok(Command::Root {
+                width: width_of(word)?,
+            }),
+            None => Err(CommandFault::BadArgument),
+        },
         Some(("check", _)) => Ok(Command::Check),
         _ => Err(CommandFault::BadArgument),
     }
