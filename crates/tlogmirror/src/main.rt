@@ -16,15 +16,15 @@ mod tests;
 
 use crate::command::CommandFault;
 use crate::run::{RunFault, run_words};
+use std::io::ErrorKind;
 use std::process::ExitCode;
 use std::{env, io};
 
 fn main(rt: HostRuntime) -> io::Result<ExitCode> {
-    let Ok(arguments) = env::args(&rt) else {
-        eprintln!(rt; "tlogmirror: BadArgument")?;
-        return Ok(ExitCode::from(2));
+    let words = match words_of(&rt) {
+        Ok(words) => words,
+        Err(fault) => return tell_command(&rt, fault),
     };
-    let words: Vec<String> = arguments.skip(1).collect(rt.alloc())?;
     match run_words(rt.alloc(), &words, &mut rt.reader(), &mut io::writer(&rt)) {
         Ok(status) => Ok(ExitCode::from(status)),
         Err(RunFault::Command(fault)) => tell_command(&rt, fault),
@@ -35,6 +35,20 @@ fn main(rt: HostRuntime) -> io::Result<ExitCode> {
         Err(RunFault::Check(fault)) => {
             eprintln!(rt; "tlogmirror: {fault}")?;
             Ok(ExitCode::from(1))
+        }
+    }
+}
+
+// The words after the program's name. One that is not UTF-8 is a bad argument.
+fn words_of(rt: &HostRuntime) -> Result<Vec<String>, CommandFault> {
+    match env::args(rt) {
+        Ok(arguments) => Ok(arguments.skip(1).collect(rt.alloc())?),
+        Err(fault) => {
+            if fault.kind() == ErrorKind::OutOfMemory {
+                Err(CommandFault::OutOfMemory)
+            } else {
+                Err(CommandFault::BadArgument)
+            }
         }
     }
 }
