@@ -1,0 +1,33 @@
+-- A note is one head at most.
+use Rattle.std.proofs.Common.{◌≡◌, ℕ, List, sym, ap, subst}
+use Rattle.signed_note.proofs.OneReading.{notes_are_read}
+use Rattle.tlog_checkpoint.specs.declared.Checkpoint.{Checkpoint}
+use Rattle.tlog_checkpoint.specs.Grammar.{IsCheckpoint}
+use Rattle.tlog_checkpoint.proofs.Uniqueness.{one_reading}
+use Rattle.mirror_model.specs.Heads.{IsHead}
+use Rattle.mirror_model.specs.Item.{HasEdgeRows}
+use Rattle.mirror_model.specs.ViewLaws.{HeadsHaveEdges}
+
+-- the same origin, size and root
+pub record IsSameHead (origin origin' : List ℕ) (size size' : ℕ) (root root' : List ℕ) : Type 0 where
+  pub origin_is : origin ≡ origin'
+  pub size_is : size ≡ size'
+  pub root_is : root ≡ root'
+
+pub head_once : (note origin origin' : List ℕ) (size size' : ℕ) (root root' : List ℕ) → IsHead note origin size root → IsHead note origin' size' root' → IsSameHead origin origin' size size' root root'
+head_once note origin origin' size size' root root' p q =
+    let texts = (notes_are_read note p.text q.text p.lines q.lines p.is_note q.is_note).0 in
+    let a : Checkpoint = record { origin = origin; size = size; root = root; extensions = p.extensions } in
+    let b : Checkpoint = record { origin = origin'; size = size'; root = root'; extensions = q.extensions } in
+    let same : a ≡ b = one_reading p.text a b p.is_checkpoint (subst (λ t. IsCheckpoint t origin' size' root' q.extensions) (sym texts) q.is_checkpoint) in
+    record { origin_is = ap (λ (c : Checkpoint). c.origin) same; size_is = ap (λ (c : Checkpoint). c.size) same; root_is = ap (λ (c : Checkpoint). c.root) same }
+
+pub heads_have_edges : HeadsHaveEdges
+heads_have_edges digest v lawful size root head =
+    let e = lawful.edges head.note head.holds.is_held in
+    let same = head_once head.note v.origin v.origin e.size size e.root root e.is_head head.holds.is_head in
+    record {
+      rows = e.rows;
+      has_edge = subst (λ n. HasEdgeRows digest n root e.rows) same.size_is (subst (λ r. HasEdgeRows digest e.size r e.rows) same.root_is e.has_edge);
+      are_held = e.are_held;
+    }

@@ -1,0 +1,89 @@
+-- Round after round until all is held.
+use Rattle.std.proofs.Common.{zero, suc, ◌≡◌, ℕ, ◌+◌, ◌-◌, ◌*◌, ◌/◌, ◌^◌, ◌<◌, ◌≤◌, List, [], ◌∷◌, length, Bool, true, sym, refl, ap, ◌∙◌, subst, inl, inr, arith}
+use Rattle.std.proofs.lemmas.Nat.{mul-le}
+use Rattle.std.proofs.lemmas.Bool.{cases_lt}
+use Rattle.std.proofs.Math.Nat.{pow-succ', div-mul-le_self, lt-div-mul-add}
+use Rattle.tlog_shape.specs.Edge.{width_of, IsTop}
+use Rattle.tlog_hash.specs.Tree.{strings}
+use Rattle.tlog_shape.proofs.Levels.{level_positive}
+use Rattle.tlog_tiles.specs.declared.paths.Path.TheVariants.{Tile}
+use Rattle.mirror_model.specs.Front.{IsFront}
+use Rattle.mirror_model.specs.Rounds.{HoldsAll}
+use Rattle.mirror_model.specs.TreeLaws.{FrontIsBelowTop, AreRounds, held_after, RoundsComplete}
+use Rattle.mirror_model.proofs.Fronts.{power_le}
+use Rattle.mirror_model.proofs.TreeLaws.{round_goes_down, bundles_complete}
+use Rattle.mirror_model.proofs.TrueItems.{front_tile}
+
+-- a size below 256^(level + 1) of width 0 at the level is below 256^level
+one_lower : (n level : ℕ) → n < 256 ^ (level + 1) → width_of n level ≡ 0 → n < 256 ^ level
+one_lower n level below none =
+    let b = 256 ^ level in
+    let q = n / b in
+    let one : level + 1 ≡ suc level = omega arith in
+    let next : 256 ^ (level + 1) ≡ 256 * b = ap (λ m. 256 ^ m) one ∙ pow-succ' 256 level in
+    let upto : q * b ≤ n = div-mul-le_self n b in
+    let above : n < q * b + b = lt-div-mul-add (level_positive level) in
+    let small : q < 256 = from_product q 256 b (omega (arith, next, upto, below)) in
+    let z : q ≡ 0 = omega (arith, small, none) in
+    let zb : q * b ≡ 0 = ap (λ m. m * b) z ∙ omega arith in
+    omega (arith, above, zb)
+  where
+    from_product : (i k c : ℕ) → i * c < k * c → i < k
+    from_product i k c h = elim (cases_lt i k) [ inl a ↦ a | inr a ↦ absurd (let le : k * c ≤ i * c = mul-le _ _ _ _ a (omega arith) in omega arith) ]
+
+-- so a size has no more entries than its greatest level's next power
+below_top : (n top : ℕ) → n < 256 ^ 8 → IsTop n top → n < 256 ^ (top + 1)
+below_top n top small t = down (7 - top) (let e : (top + 1) + (7 - top) ≡ 8 = omega (arith, t.within) in subst (λ m. n < 256 ^ m) (sym e) small) (omega (arith, t.within))
+  where
+    down : (d : ℕ) → n < 256 ^ ((top + 1) + d) → top + d ≤ 7 → n < 256 ^ (top + 1)
+    down zero h within = let e : (top + 1) + 0 ≡ top + 1 = omega arith in subst (λ m. n < 256 ^ m) e h
+    down (suc d) h within =
+        let level = (top + 1) + d in
+        let e : (top + 1) + suc d ≡ level + 1 = omega arith in
+        let none : width_of n level ≡ 0 = zero_or (width_of n level) (λ some. omega (arith, t.greatest level (omega (arith, within)) some)) in
+        down d (one_lower n level (subst (λ m. n < 256 ^ m) e h) none) (omega (arith, within))
+      where
+        zero_or : (w : ℕ) → (0 < w → ⊥) → w ≡ 0
+        zero_or zero h = refl
+        zero_or (suc w) h = absurd (h (omega arith))
+
+pub front_is_below_top : FrontIsBelowTop
+front_is_below_top digest held entries top small t edge level index width f =
+    let full = (front_tile digest held entries (omega (arith, small)) edge level index width f).2 in
+    let below = below_top (length entries) top small t in
+    elim (cases_lt level top) [
+      | inl lt ↦ lt
+      | inr le ↦ absurd
+          (let more = power_le (top + 1) (level + 1) (omega (arith, le)) in
+          let c = 256 ^ (level + 1) in
+          let one : (index + 1) * c ≡ index * c + c = omega arith in
+          omega (arith, full, one, more, below))
+    ]
+
+-- what is held stays held
+held_on : (digest : List ℕ → List ℕ) (entries : List (List ℕ)) (held : List ℕ → Bool) (afters : List (List ℕ → Bool)) → AreRounds digest entries held afters → (y : List ℕ) → held y ≡ true → held_after held afters y ≡ true
+held_on digest entries held [] rounds y h = h
+held_on digest entries held (after ∷ afters) rounds y h = held_on digest entries after afters rounds.1 y (rounds.0.grows y h)
+
+-- from a front whose tiles are below a level
+rounds_from : (digest : List ℕ → List ℕ) (entries : List (List ℕ)) (k : ℕ) (held : List ℕ → Bool) (afters : List (List ℕ → Bool)) → AreRounds digest entries held afters → ((level index width : ℕ) → IsFront digest held entries (Tile level index width) → level < k) → 1 ≤ length afters → k ≤ length afters → HoldsAll (held_after held afters) (strings digest entries)
+rounds_from digest entries k held [] rounds low some enough y c = absurd (omega arith)
+rounds_from digest entries zero held (after ∷ afters) rounds low some enough y c =
+    held_on digest entries after afters rounds.1 y (bundles_complete digest held after entries rounds.0 (λ level index width f. let lt = low level index width f in omega (arith, lt)) y c)
+rounds_from digest entries (suc zero) held (after ∷ afters) rounds low some enough y c =
+    held_on digest entries after afters rounds.1 y (bundles_complete digest held after entries rounds.0 (λ level index width f. no_tile level index width f (low level index width f)) y c)
+  where
+    no_tile : (level index width : ℕ) → IsFront digest held entries (Tile level index width) → level < 1 → ⊥
+    no_tile zero index width f lt = let p = f.path_is in let one : 256 ^ (0 + 1) ≡ 256 = refl in omega (arith, p.many, p.upto, one)
+    no_tile (suc level) index width f lt = omega arith
+rounds_from digest entries (suc (suc k)) held (after ∷ afters) rounds low some enough y c =
+    rounds_from digest entries (suc k) after afters rounds.1
+    (λ level index width f. round_goes_down digest held after entries rounds.0 (suc k) (λ l i w g. let lt = low l i w g in omega (arith, lt)) level index width f)
+    (omega arith) (omega arith) y c
+
+pub rounds_complete : RoundsComplete
+rounds_complete digest held entries top [] small t rounds enough y c = absurd (omega arith)
+rounds_complete digest held entries top (after ∷ afters) small t rounds enough y c =
+    rounds_from digest entries top held (after ∷ afters) rounds
+    (λ level index width f. front_is_below_top digest held entries top small t rounds.0.edge level index width f)
+    (omega arith) (omega arith) y c

@@ -1,0 +1,135 @@
+-- Sets of strings: what they have, and when two are one.
+use Rattle.std.proofs.Common.{◌≡◌, ℕ, List, [], ◌∷◌, Bool, true, false, sym, refl, ap, ◌∙◌, ◌⊎◌, inl, inr}
+use Rattle.std.specs.Prelude.{◌||◌, ◌≢◌}
+use Rattle.std.specs.Ordering.{nat_cmp, eq_by_cmp, is_eq}
+use Rattle.std.specs.Cmp.{tied_itself}
+use Rattle.std.specs.Cmp.Lexicographic.{slice_cmp, nat_list_cmp_total}
+use Rattle.std.specs.List.{Contains, AllByRecursion, list_any}
+use Rattle.std.specs.FinSet as set
+use Rattle.std.specs.FinSet.{contains-union, contains-empty, contains-insert, contains-from_list, contains-items, same_set, slice_cmp-IsAntisymmetric, nat_cmp-IsAntisymmetric}
+use Rattle.std.proofs.lemmas.List.Elements.{All-contains, All-from_recursion, recursion_from_All, All-weaker, All-contains_itself}
+use Rattle.std.proofs.lemmas.Map.Lookups.{exact_bytes}
+use Rattle.std.proofs.lemmas.Map.Views.{tells_apart, Contains-from_any}
+use Rattle.node_store.specs.Strings.{Strings, Has, HasAll, NoClash}
+use Rattle.mirror_model.specs.Strings.{held_in, HasClash}
+use Rattle.mirror_model.specs.Rounds.{HoldsAll}
+
+or_left : (a b : Bool) → a ≡ true → (a || b) ≡ true
+or_left true b h = refl
+or_left false b h = absurd (cc h)
+
+or_right : (a b : Bool) → b ≡ true → (a || b) ≡ true
+or_right true b h = refl
+or_right false b h = h
+
+or_either : (a b : Bool) → (a || b) ≡ true → (a ≡ true) ⊎ (b ≡ true)
+or_either true b h = inl refl
+or_either false b h = inr h
+
+tied : (s : List ℕ) → eq_by_cmp (slice_cmp nat_cmp) s s ≡ true
+tied s = ap is_eq (tied_itself nat_list_cmp_total s)
+
+-- two strings are one or not
+pub decide : (x y : List ℕ) → (x ≡ y) ⊎ (x ≢ y)
+decide x y = at (eq_by_cmp (slice_cmp nat_cmp) x y) refl
+  where
+    at : (b : Bool) → eq_by_cmp (slice_cmp nat_cmp) x y ≡ b → (x ≡ y) ⊎ (x ≢ y)
+    at true e = inl (tells_apart exact_bytes x y e)
+    at false e = inr (λ same. let t : eq_by_cmp (slice_cmp nat_cmp) x y ≡ true = ap (eq_by_cmp (slice_cmp nat_cmp) x) (sym same) ∙ tied x in cc (t, e))
+
+-- ---- unions
+
+pub has_left : (v w : Strings) (q : List ℕ) → Has v q → Has (set.union v w) q
+has_left v w q h = contains-union nat_list_cmp_total v w q ∙ or_left _ _ h
+
+pub has_right : (v w : Strings) (q : List ℕ) → Has w q → Has (set.union v w) q
+has_right v w q h = contains-union nat_list_cmp_total v w q ∙ or_right _ _ h
+
+pub has_cases : (v w : Strings) (q : List ℕ) → Has (set.union v w) q → Has v q ⊎ Has w q
+has_cases v w q h = or_either _ _ (sym (contains-union nat_list_cmp_total v w q) ∙ h)
+
+pub has_empty : (q : List ℕ) → Has set.empty q → ⊥
+has_empty q h = let e = contains-empty (slice_cmp nat_cmp) q in cc (e, h)
+
+-- two sets with the same strings are one
+pub same_strings : (s t : Strings) → ((q : List ℕ) → Has s q → Has t q) → ((q : List ℕ) → Has t q → Has s q) → s ≡ t
+same_strings s t to from = same_set nat_list_cmp_total (slice_cmp-IsAntisymmetric nat_cmp-IsAntisymmetric) s t (λ q. same_bool _ _ (to q) (from q))
+  where
+    same_bool : (a b : Bool) → (a ≡ true → b ≡ true) → (b ≡ true → a ≡ true) → a ≡ b
+    same_bool true b f g = sym (f refl)
+    same_bool false true f g = g refl
+    same_bool false false f g = refl
+
+pub union_comm : (v w : Strings) → set.union v w ≡ set.union w v
+union_comm v w = same_strings _ _ (half v w) (half w v)
+  where
+    half : (v w : Strings) (q : List ℕ) → Has (set.union v w) q → Has (set.union w v) q
+    half v w q h = elim (has_cases v w q h) [ inl a ↦ has_right w v q a | inr b ↦ has_left w v q b ]
+
+pub union_assoc : (v w x : Strings) → set.union (set.union v w) x ≡ set.union v (set.union w x)
+union_assoc v w x = same_strings _ _ to from
+  where
+    to : (q : List ℕ) → Has (set.union (set.union v w) x) q → Has (set.union v (set.union w x)) q
+    to q h = elim (has_cases (set.union v w) x q h) [
+      | inl a ↦ elim (has_cases v w q a) [ inl b ↦ has_left v (set.union w x) q b | inr b ↦ has_right v (set.union w x) q (has_left w x q b) ]
+      | inr a ↦ has_right v (set.union w x) q (has_right w x q a)
+    ]
+
+    from : (q : List ℕ) → Has (set.union v (set.union w x)) q → Has (set.union (set.union v w) x) q
+    from q h = elim (has_cases v (set.union w x) q h) [
+      | inl a ↦ has_left (set.union v w) x q (has_left v w q a)
+      | inr a ↦ elim (has_cases w x q a) [ inl b ↦ has_left (set.union v w) x q (has_right v w q b) | inr b ↦ has_right (set.union v w) x q b ]
+    ]
+
+pub union_itself : (v : Strings) → set.union v v ≡ v
+union_itself v = same_strings _ _ (λ q h. elim (has_cases v v q h) [ inl a ↦ a | inr b ↦ b ]) (λ q h. has_left v v q h)
+
+-- ---- lists
+
+pub listed_from_has : (ss : List (List ℕ)) (q : List ℕ) → Has (set.from_list ss) q → Contains ss q
+listed_from_has ss q h = Contains-from_any (tells_apart exact_bytes) q ss (sym (contains-from_list nat_list_cmp_total ss q) ∙ h)
+
+pub has_from_listed : (ss : List (List ℕ)) (q : List ℕ) → Contains ss q → Has (set.from_list ss) q
+has_from_listed ss q c = All-contains (Has (set.from_list ss)) ss q (All-from_recursion (Has (set.from_list ss)) ss (each ss (set.from_list ss) (λ x h. h))) c
+  where
+    each : (ss : List (List ℕ)) (all : Strings) → ((x : List ℕ) → Has (set.from_list ss) x → Has all x) → AllByRecursion (Has all) ss
+    each [] all more = tt
+    each (s ∷ ss) all more = (more s (contains-insert nat_list_cmp_total (set.from_list ss) s s ∙ or_left _ _ (tied s)), each ss all (λ x h. more x (contains-insert nat_list_cmp_total (set.from_list ss) s x ∙ or_right _ _ h)))
+
+-- the strings of a set, in order
+pub in_items : (s : Strings) (q : List ℕ) → Has s q → Contains (set.items s) q
+in_items s q h = Contains-from_any (tells_apart exact_bytes) q (set.items s) (sym (contains-items s q) ∙ h)
+
+pub has_item : (s : Strings) (q : List ℕ) → Contains (set.items s) q → Has s q
+has_item s q c = contains-items s q ∙ any_from (set.items s) q c
+  where
+    any_from : (ss : List (List ℕ)) (q : List ℕ) → Contains ss q → list_any (eq_by_cmp (slice_cmp nat_cmp) q) ss ≡ true
+    any_from ss q c = sym (contains-from_list nat_list_cmp_total ss q) ∙ has_from_listed ss q c
+
+-- ---- all of a list
+
+pub all_from_held : (held : Strings) (wanted : List (List ℕ)) → HasAll held wanted → AllByRecursion (Has held) wanted
+all_from_held held [] h = tt
+all_from_held held (s ∷ ss) h = (h.0, all_from_held held ss h.1)
+
+pub held_from_all : (held : Strings) (wanted : List (List ℕ)) → AllByRecursion (Has held) wanted → HasAll held wanted
+held_from_all held [] h = tt
+held_from_all held (s ∷ ss) h = (h.0, held_from_all held ss h.1)
+
+pub holds_from_held : (held : Strings) (wanted : List (List ℕ)) → HasAll held wanted → HoldsAll (held_in held) wanted
+holds_from_held held wanted h string c = All-contains (Has held) wanted string (All-from_recursion (Has held) wanted (all_from_held held wanted h)) c
+
+pub held_from_holds : (held : Strings) (wanted : List (List ℕ)) → HoldsAll (held_in held) wanted → HasAll held wanted
+held_from_holds held wanted h = held_from_all held wanted (recursion_from_All (Has held) wanted (All-weaker (Contains wanted) (Has held) h wanted (All-contains_itself wanted)))
+
+pub held_more : (v w : Strings) (wanted : List (List ℕ)) → ((q : List ℕ) → Has v q → Has w q) → HasAll v wanted → HasAll w wanted
+held_more v w [] more h = tt
+held_more v w (s ∷ ss) more h = (more s h.0, held_more v w ss more h.1)
+
+-- ---- clashes
+
+pub no_clash_within : (digest : List ℕ → List ℕ) (v w : Strings) → ((q : List ℕ) → Has v q → Has w q) → NoClash digest w → NoClash digest v
+no_clash_within digest v w more clean = record { same = λ x y hx hy e. clean.same x y (more x hx) (more y hy) e }
+
+pub clash_contradicts : (digest : List ℕ → List ℕ) (v : Strings) → NoClash digest v → HasClash digest v → ⊥
+clash_contradicts digest v clean c = c.differ (clean.same c.first c.second c.first_held c.second_held c.same_digest)

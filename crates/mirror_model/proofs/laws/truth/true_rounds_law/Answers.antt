@@ -1,0 +1,18 @@
+use Rattle.mirror_model.proofs.TrueItems.{front_is_within, front_is_widest, true_strings_within, taking_is_round}
+use Rattle.mirror_model.proofs.Takings.{taking_completes}
+use Rattle.mirror_model.proofs.laws.truth.true_rounds_law.Goals as goal
+
+pub returns-clause-within : goal.returns-clause-within
+returns-clause-within c = front_is_within
+
+pub returns-clause-round : goal.returns-clause-round
+returns-clause-round c = taking_is_round
+
+pub returns-clause-complete : goal.returns-clause-complete
+returns-clause-complete c = taking_completes
+
+pub returns-clause-widest : goal.returns-clause-widest
+returns-clause-widest c = front_is_widest
+
+pub returns-clause-tree : goal.returns-clause-tree
+returns-clause-tree c = true_strings_within

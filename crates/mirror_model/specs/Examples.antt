@@ -1,0 +1,90 @@
+-- Small trees, worked out under the test digest: the first byte is a sum modulo 256, and 31 zeros follow.
+use Rattle.std.specs.Prelude.{Bool, false, length, ◌≡◌, ℕ, List, [], ◌∷◌, ◌++◌, take, replicate}
+use Rattle.tlog_hash.specs.Tree.{mth, strings}
+use Rattle.tlog_hash.specs.Sum.{sum_digest}
+use Rattle.tlog_tiles.specs.declared.paths.Path.{Path}
+use Rattle.tlog_tiles.specs.declared.paths.Path.TheVariants.{Tile, Entries}
+use Rattle.mirror_model.specs.Front.{IsFront}
+use Rattle.mirror_model.specs.Edge.{edge_levels, edge_widths, edge_rows, edge_root, edge_strings}
+use Rattle.mirror_model.specs.Forks.{IsPrefix}
+use Rattle.mirror_model.specs.Item.{Item, TileItem, row_of, entries_of}
+use Rattle.mirror_model.specs.Events.{TakeEvent, MergeEvent, Reaches}
+
+-- the test digest of a string of that sum
+abbrev pub sum_hash : ℕ → List ℕ
+sum_hash n = n ∷ replicate 31 0
+
+-- three entries: no bytes, the byte 00, the byte 10
+abbrev pub three : List (List ℕ)
+three = [] ∷ (0 ∷ []) ∷ (16 ∷ []) ∷ []
+
+-- the tree of these entries, and its edge: one row, their leaf hashes
+pub record IsThree : Type 0 where
+  pub root : mth sum_digest three ≡ sum_hash 18
+  pub prefix_root : mth sum_digest (take 2 three) ≡ sum_hash 1
+  pub rows : edge_rows sum_digest three ≡ (sum_hash 0 ∷ sum_hash 0 ∷ sum_hash 16 ∷ []) ∷ []
+  pub edge_root_is : edge_root sum_digest ((sum_hash 0 ∷ sum_hash 0 ∷ sum_hash 16 ∷ []) ∷ []) ≡ sum_hash 18
+  pub edge_strings_are : edge_strings sum_digest ((sum_hash 0 ∷ sum_hash 0 ∷ sum_hash 16 ∷ []) ∷ []) ≡ (1 ∷ sum_hash 0 ++ sum_hash 0) ∷ (1 ∷ sum_hash 1 ++ sum_hash 16) ∷ []
+  pub strings_are : strings sum_digest three ≡ (0 ∷ []) ∷ (0 ∷ 0 ∷ []) ∷ (0 ∷ 16 ∷ []) ∷ (1 ∷ sum_hash 0 ++ sum_hash 0) ∷ (1 ∷ sum_hash 1 ++ sum_hash 16) ∷ []
+
+-- the edges of some sizes
+pub record HasEdges : Type 0 where
+  pub none : edge_widths 0 ≡ []
+  pub three : edge_widths 3 ≡ 3 ∷ []
+  pub full : edge_widths 256 ≡ 1 ∷ []
+  pub more : edge_widths 257 ≡ 1 ∷ 1 ∷ []
+  pub three_levels : edge_widths 65793 ≡ 1 ∷ 1 ∷ 1 ∷ []
+  pub gap : edge_levels 65537 ≡ 0 ∷ 2 ∷ []
+
+-- no rows give the hash of no bytes, and a row with the value of the row below behind it is folded with it
+pub record HasRoots : Type 0 where
+  pub none : edge_root sum_digest [] ≡ sum_hash 0
+  pub one : edge_root sum_digest ((sum_hash 5 ∷ []) ∷ []) ≡ sum_hash 5
+  pub two : edge_root sum_digest ((sum_hash 5 ∷ []) ∷ (sum_hash 7 ∷ []) ∷ []) ≡ sum_hash 13
+  pub bare : edge_strings sum_digest ((sum_hash 5 ∷ []) ∷ []) ≡ []
+  pub joined : edge_strings sum_digest ((sum_hash 5 ∷ []) ∷ (sum_hash 7 ∷ []) ∷ []) ≡ (1 ∷ sum_hash 7 ++ sum_hash 5) ∷ []
+
+-- two lists that the test digest does not tell apart at three entries, and of which neither is a prefix of the other
+abbrev pub small_list : List (List ℕ)
+small_list = (1 ∷ []) ∷ (2 ∷ []) ∷ (57 ∷ []) ∷ []
+
+abbrev pub large_list : List (List ℕ)
+large_list = (20 ∷ []) ∷ (30 ∷ []) ∷ (10 ∷ []) ∷ (100 ∷ []) ∷ []
+
+pub record IsForked : Type 0 where
+  pub small_root : mth sum_digest small_list ≡ sum_hash 62
+  pub large_root : mth sum_digest large_list ≡ sum_hash 163
+  pub same_root : mth sum_digest (take 3 large_list) ≡ mth sum_digest small_list
+  pub not_prefix : IsPrefix small_list large_list → ⊥
+  pub not_extension : IsPrefix large_list small_list → ⊥
+
+-- the bytes of a row of no hash and of a bundle of the first two of the three entries
+pub record HasParts : Type 0 where
+  pub row : row_of [] ≡ []
+  pub bundle : entries_of 2 (0 ∷ 0 ∷ 0 ∷ 1 ∷ 0 ∷ []) ≡ take 2 three
+
+-- an item that is taken at a mirror reaches another over two merges that follow in this order, and over the same
+-- two in the other order it does not
+abbrev pub some_item : Item
+some_item = TileItem 1 []
+
+pub record IsWay : Type 0 where
+  pub reaches : Reaches some_item 2 (TakeEvent 0 some_item ∷ MergeEvent 1 0 ∷ MergeEvent 2 1 ∷ [])
+  pub not_back : Reaches some_item 2 (TakeEvent 0 some_item ∷ MergeEvent 2 1 ∷ MergeEvent 1 0 ∷ []) → ⊥
+  pub not_before : Reaches some_item 1 (MergeEvent 1 0 ∷ TakeEvent 0 some_item ∷ []) → ⊥
+
+-- nothing is held
+abbrev pub held_never : List ℕ → Bool
+held_never string = false
+
+-- with nothing held the front of three entries is their bundle, and nothing else
+pub record IsFrontOfThree : Type 0 where
+  pub bundle : IsFront sum_digest held_never three (Entries 0 3)
+  pub alone : (path : Path) → IsFront sum_digest held_never three path → path ≡ Entries 0 3
+
+-- with nothing held the front of 300 entries has a tile that their tree does not have in full: so an edge is taken
+-- first
+abbrev pub HasTileOutside : Type 0
+HasTileOutside =
+    (digest : List ℕ → List ℕ) (entries : List (List ℕ)) → length entries ≡ 300 →
+    IsFront digest held_never entries (Tile 1 0 256)

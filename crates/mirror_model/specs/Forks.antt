@@ -1,0 +1,39 @@
+-- Forks: two checkpoints that one log, which only grows, cannot both have made.
+use Rattle.std.specs.Prelude.{◌≡◌, ◌≢◌, ◌⊎◌, ℕ, List, ◌++◌}
+use Rattle.std.specs.Ordering.{nat_cmp, ordering_then}
+use Rattle.std.specs.declared.cmp.Ordering.{Ordering}
+use Rattle.std.specs.Cmp.Lexicographic.{slice_cmp}
+use Rattle.mirror_model.specs.View.{View}
+use Rattle.mirror_model.specs.Heads.{HasHead}
+use Rattle.mirror_model.specs.Complete.{Complete}
+
+-- the first list begins the second
+pub record IsPrefix (first second : List (List ℕ)) : Type 0 where
+  pub rest : List (List ℕ)
+  pub is : first ++ rest ≡ second
+
+-- a size and a root
+pub record Point : Type 0 where
+  pub size : ℕ
+  pub root : List ℕ
+
+-- by size, and then by the root's bytes
+abbrev pub point_cmp : Point → Point → Ordering
+point_cmp a b = ordering_then (nat_cmp a.size b.size) (slice_cmp nat_cmp a.root b.root)
+
+module _ (digest : List ℕ → List ℕ) where
+  -- both are complete, and neither list of entries is a prefix of the other
+  pub record Disagree (v : View) (a b : Point) : Type 0 where
+    pub first : List (List ℕ)
+    pub second : List (List ℕ)
+    pub first_complete : Complete digest v a.size a.root first
+    pub second_complete : Complete digest v b.size b.root second
+    pub not_prefix : IsPrefix first second → ⊥
+    pub not_extension : IsPrefix second first → ⊥
+
+  -- Forks(V): two heads of V that differ, and have equal sizes or disagree
+  pub record IsFork (v : View) (a b : Point) : Type 0 where
+    pub first_held : HasHead v a.size a.root
+    pub second_held : HasHead v b.size b.root
+    pub differ : a ≢ b
+    pub conflict : (a.size ≡ b.size) ⊎ Disagree v a b

@@ -1,0 +1,82 @@
+-- Items: what a mirror takes, when it is good, and what it adds to a view (C2SP tlog-tiles, "Merkle Tree", "Log
+-- Entries" and "Checkpoints").
+use Rattle.std.specs.Prelude.{◌≡◌, ℕ, zero, suc, ◌*◌, ◌/◌, ◌≤◌, List, [], ◌∷◌, length, take, drop, map}
+use Rattle.std.specs.Int.{w16, from_be_bytes}
+use Rattle.std.specs.FinSet as set
+use Rattle.tlog_hash.specs.Tree.{joins, strings}
+use Rattle.tlog_hash.specs.Rows.{ranges}
+use Rattle.tlog_tiles.specs.Bundle.{IsBundle}
+use Rattle.signed_note.specs.Keys.{Key}
+use Rattle.mirror_model.specs.View.{View}
+use Rattle.mirror_model.specs.Edge.{edge_widths, edge_root, edge_strings}
+use Rattle.mirror_model.specs.Heads.{IsOpenHead}
+
+-- an item, with its bytes as they came: a note with the edge rows of its size, lowest level first; the row of a
+-- tile; a bundle of entries
+pub data Item : Type 0 where
+  HeadItem : (note : List ℕ) (rows : List (List ℕ)) → Item
+  TileItem : (width : ℕ) (bytes : List ℕ) → Item
+  BundleItem : (width : ℕ) (bytes : List ℕ) → Item
+
+-- the hashes of a row: 32 bytes each, one after the other
+abbrev pub row_of : List ℕ → List (List ℕ)
+row_of bytes = ranges 32 0 (length bytes / 32) bytes
+
+-- the entries of bytes that are a bundle of that width: each after its length, two bytes of it, big-endian
+abbrev pub entries_of : ℕ → List ℕ → List (List ℕ)
+entries_of zero bytes = []
+entries_of (suc width) [] = []
+entries_of (suc width) (high ∷ []) = []
+entries_of (suc width) (high ∷ low ∷ rest) =
+    let len = from_be_bytes w16 (high ∷ low ∷ []) in take len rest ∷ entries_of width (drop len rest)
+
+-- the widths of tiles and bundles
+pub record IsWidth (width : ℕ) : Type 0 where
+  pub some : 1 ≤ width
+  pub most : width ≤ 256
+
+-- a tile is good: there are as many hashes as its width
+pub record IsGoodTile (width : ℕ) (bytes : List ℕ) : Type 0 where
+  pub is_width : IsWidth width
+  pub length_is : length bytes ≡ 32 * width
+
+-- a bundle is good: its bytes are as many entries as its width
+pub record IsGoodBundle (width : ℕ) (bytes : List ℕ) : Type 0 where
+  pub is_width : IsWidth width
+  pub entries : List (List ℕ)
+  pub is_bundle : IsBundle width bytes entries
+
+-- the notes that an item adds
+abbrev pub notes_of : Item → List (List ℕ)
+notes_of (HeadItem note rows) = note ∷ []
+notes_of (TileItem width bytes) = []
+notes_of (BundleItem width bytes) = []
+
+module _ (digest : List ℕ → List ℕ) where
+  -- the rows have the number and widths of the size's edge, and lead to the root
+  pub record HasEdgeRows (size : ℕ) (root : List ℕ) (rows : List (List ℕ)) : Type 0 where
+    pub widths : map length rows ≡ map (λ width. 32 * width) (edge_widths size)
+    pub root_is : edge_root digest (map row_of rows) ≡ root
+
+  -- a head is good: it opens, and the edge rows lead to its root
+  pub record IsGoodHead (origin : List ℕ) (keys : List Key) (note : List ℕ) (rows : List (List ℕ)) : Type 0 where
+    pub size : ℕ
+    pub root : List ℕ
+    pub is_head : IsOpenHead note origin keys size root
+    pub has_edge : HasEdgeRows size root rows
+
+  -- Good(item, origin, keys), which names no state
+  abbrev pub IsGood : List ℕ → List Key → Item → Type 0
+  IsGood origin keys (HeadItem note rows) = IsGoodHead origin keys note rows
+  IsGood origin keys (TileItem width bytes) = IsGoodTile width bytes
+  IsGood origin keys (BundleItem width bytes) = IsGoodBundle width bytes
+
+  -- Strings(item): what its hashing hashes
+  abbrev pub strings_of : Item → List (List ℕ)
+  strings_of (HeadItem note rows) = edge_strings digest (map row_of rows)
+  strings_of (TileItem width bytes) = joins digest (row_of bytes)
+  strings_of (BundleItem width bytes) = strings digest (entries_of width bytes)
+
+  -- V + item
+  abbrev pub plus : View → Item → View
+  plus v item = record { origin = v.origin; notes = set.union v.notes (set.from_list (notes_of item)); strings = set.union v.strings (set.from_list (strings_of item)) }

@@ -1,0 +1,82 @@
+-- What has reached a mirror, string by string and note by note.
+use Rattle.std.specs.Prelude.{◌≡◌, ◌⊎◌, ℕ, Bool, true, false, List, [], ◌∷◌, Some, slice_get, cond}
+use Rattle.std.specs.List.{Contains}
+use Rattle.node_store.specs.Strings.{Strings, Has}
+use Rattle.signed_note.specs.Keys.{Key}
+use Rattle.mirror_model.specs.View.{View}
+use Rattle.mirror_model.specs.Item.{Item, IsGood, strings_of, notes_of}
+use Rattle.mirror_model.specs.Events.{Event, Reaches, OpeningReaches}
+use Rattle.mirror_model.specs.Steps.{Answer, Done, Refused, Clashed, Exhausted}
+
+module _ (digest : List ℕ → List ℕ) (origin : List ℕ) (keys : List Key) (opened : List View) where
+  -- the string is one of an opening view that reaches the mirror
+  pub record OpensWith (part : View → Strings) (events : List Event) (mirror : ℕ) (string : List ℕ) : Type 0 where
+    pub number : ℕ
+    pub view : View
+    pub is : slice_get opened number ≡ Some view
+    pub reaches : OpeningReaches number mirror events
+    pub has : Has (part view) string
+
+  -- the string is one of a good item that reaches the mirror
+  pub record TakesIn (part : Item → List (List ℕ)) (events : List Event) (mirror : ℕ) (string : List ℕ) : Type 0 where
+    pub item : Item
+    pub good : IsGood digest origin keys item
+    pub reaches : Reaches item mirror events
+    pub has : Contains (part item) string
+
+  -- so a string has reached the mirror, or a note
+  abbrev pub StringReaches : List Event → ℕ → List ℕ → Type 0
+  StringReaches events mirror string = OpensWith (λ v. v.strings) events mirror string ⊎ TakesIn (strings_of digest) events mirror string
+
+  abbrev pub NoteReaches : List Event → ℕ → List ℕ → Type 0
+  NoteReaches events mirror note = OpensWith (λ v. v.notes) events mirror note ⊎ TakesIn notes_of events mirror note
+
+  -- the view has all that the events bring to the mirror
+  pub record HasReached (events : List Event) (mirror : ℕ) (v : View) : Type 0 where
+    pub strings : (string : List ℕ) → StringReaches events mirror string → Has v.strings string
+    pub notes : (note : List ℕ) → NoteReaches events mirror note → Has v.notes note
+
+  -- the view has nothing else
+  pub record HasReachedOnly (events : List Event) (mirror : ℕ) (v : View) : Type 0 where
+    pub strings : (string : List ℕ) → Has v.strings string → StringReaches events mirror string
+    pub notes : (note : List ℕ) → Has v.notes note → NoteReaches events mirror note
+
+-- the events of those answers
+abbrev pub events_of : (Answer → Bool) → List Event → List Answer → List Event
+events_of wanted [] answers = []
+events_of wanted (event ∷ events) [] = []
+events_of wanted (event ∷ events) (answer ∷ answers) = cond (wanted answer) (event ∷ events_of wanted events answers) (events_of wanted events answers)
+
+abbrev pub is_done : Answer → Bool
+is_done Done = true
+is_done Refused = false
+is_done Clashed = false
+is_done Exhausted = false
+
+-- the event may have changed something
+abbrev pub may_change : Answer → Bool
+may_change Done = true
+may_change Refused = false
+may_change Clashed = false
+may_change Exhausted = true
+
+-- memory was not refused
+abbrev pub is_answered : Answer → Bool
+is_answered Done = true
+is_answered Refused = true
+is_answered Clashed = true
+is_answered Exhausted = false
+
+-- the first of these events is this one
+abbrev pub IsNext : Event → List Event → Type 0
+IsNext event [] = ⊥
+IsNext event (next ∷ events) = next ≡ event
+
+-- an event for which memory was refused is followed by the same event, before any other
+abbrev pub AreRetried : List Event → List Answer → Type 0
+AreRetried [] answers = Unit {0}
+AreRetried (event ∷ events) [] = Unit {0}
+AreRetried (event ∷ events) (Done ∷ answers) = AreRetried events answers
+AreRetried (event ∷ events) (Refused ∷ answers) = AreRetried events answers
+AreRetried (event ∷ events) (Clashed ∷ answers) = AreRetried events answers
+AreRetried (event ∷ events) (Exhausted ∷ answers) = IsNext event events × AreRetried events answers

@@ -1,0 +1,141 @@
+-- What edges, tiles, bundles, fronts and walks have to do with the tree of a list of entries.
+use Rattle.std.specs.Prelude.{[], ◌∷◌, max, ◌≡◌, ◌↔◌, ℕ, ◌+◌, ◌-◌, ◌*◌, ◌^◌, ◌≤◌, ◌<◌, Bool, false, List, length, map, min}
+use Rattle.std.specs.List.{Contains}
+use Rattle.tlog_shape.specs.Edge.{IsTop}
+use Rattle.tlog_hash.specs.Tree.{tree_of, mth, strings, joins}
+use Rattle.tlog_hash.specs.Nodes.{Node, IsNode}
+use Rattle.tlog_hash.specs.Shape.{shape}
+use Rattle.tlog_hash.specs.Rows.{part, level_row}
+use Rattle.mirror_model.specs.Edge.{edge_widths, edge_rows, edge_root, edge_strings}
+use Rattle.tlog_tiles.specs.declared.paths.Path.{Path}
+use Rattle.tlog_tiles.specs.declared.paths.Path.TheVariants.{Checkpoint, Tile, Entries}
+use Rattle.mirror_model.specs.Front.{InFront, IsFront}
+use Rattle.mirror_model.specs.Rounds.{HoldsAll, IsRound, AsksUpTo, AsksBundlesAlone}
+use Rattle.node_store.specs.Strings.{Strings}
+use Rattle.mirror_model.specs.Strings.{held_in}
+use Rattle.mirror_model.specs.Walk.{WalkFails, NoClashWith, IsMissing}
+
+-- the true edge rows have the widths of the edge
+abbrev pub EdgeRowsAreWide : Type 0
+EdgeRowsAreWide =
+    (digest : List ℕ → List ℕ) (entries : List (List ℕ)) →
+    map length (edge_rows digest entries) ≡ edge_widths (length entries)
+
+-- EdgeRoot of the true edge rows is MTH(E)
+abbrev pub EdgeRootIsRoot : Type 0
+EdgeRootIsRoot =
+    (digest : List ℕ → List ℕ) (entries : List (List ℕ)) → length entries < 256 ^ 8 →
+    edge_root digest (edge_rows digest entries) ≡ mth digest entries
+
+-- EdgeStrings of the true edge rows are within Tree(E)
+abbrev pub EdgeStringsWithin : Type 0
+EdgeStringsWithin =
+    (digest : List ℕ → List ℕ) (entries : List (List ℕ)) (y : List ℕ) →
+    Contains (edge_strings digest (edge_rows digest entries)) y → Contains (strings digest entries) y
+
+-- y is the string of a node of E's tree that has more than `above` entries, all of them among the `len` from
+-- `start` on
+pub record HasNodeWithin (digest : List ℕ → List ℕ) (entries : List (List ℕ)) (start len above : ℕ) (y : List ℕ) : Type 0 where
+  pub node : Node
+  pub is : IsNode digest (tree_of entries) 0 node
+  pub start_in : start ≤ node.start
+  pub end_in : node.start + node.len ≤ start + len
+  pub long : above < node.len
+  pub string_is : node.string ≡ y
+
+-- the Joins of a true full row of level L are the strings of Tree(E) for the nodes of its range of more than 256^L
+-- entries
+abbrev pub FullRowJoins : Type 0
+FullRowJoins =
+    (digest : List ℕ → List ℕ) (entries : List (List ℕ)) (level index : ℕ) →
+    (index + 1) * 256 ^ (level + 1) ≤ length entries → (y : List ℕ) →
+    Contains (joins digest (level_row digest entries level (256 * index) 256)) y ↔ HasNodeWithin digest entries (index * 256 ^ (level + 1)) (256 ^ (level + 1)) (256 ^ level) y
+
+-- the strings of a bundle of E, at the width that E's size gives it, are those of Tree(E) for the nodes of its range
+abbrev pub BundleStrings : Type 0
+BundleStrings =
+    (digest : List ℕ → List ℕ) (entries : List (List ℕ)) (index : ℕ) → 256 * index < length entries →
+    let width = min 256 (length entries - 256 * index) in (y : List ℕ) →
+    Contains (strings digest (part (256 * index) width entries)) y ↔ HasNodeWithin digest entries (256 * index) width 0 y
+
+-- the front is empty exactly where Tree(E) is held
+abbrev pub FrontIsEmpty : Type 0
+FrontIsEmpty =
+    (digest : List ℕ → List ℕ) (held : List ℕ → Bool) (entries : List (List ℕ)) → length entries ≤ 256 ^ 8 →
+    ((path : Path) → IsFront digest held entries path → ⊥) ↔ HoldsAll held (strings digest entries)
+
+-- after a round in which no tile above level L was asked for, a node that is not held has at most 256^L entries
+abbrev pub RoundLeaves : Type 0
+RoundLeaves =
+    (digest : List ℕ → List ℕ) (held after : List ℕ → Bool) (entries : List (List ℕ)) →
+    IsRound digest held after entries → (top : ℕ) → AsksUpTo digest held entries top → (x : Node) →
+    IsNode digest (tree_of entries) 0 x → after x.string ≡ false → x.len ≤ 256 ^ top
+
+-- so the next round asks for tiles of lower levels alone
+abbrev pub RoundGoesDown : Type 0
+RoundGoesDown =
+    (digest : List ℕ → List ℕ) (held after : List ℕ → Bool) (entries : List (List ℕ)) →
+    IsRound digest held after entries → (top : ℕ) → AsksUpTo digest held entries top → (level index width : ℕ) →
+    IsFront digest after entries (Tile level index width) → level < top
+
+-- after a round of bundles alone nothing of the tree is unheld
+abbrev pub BundlesComplete : Type 0
+BundlesComplete =
+    (digest : List ℕ → List ℕ) (held after : List ℕ → Bool) (entries : List (List ℕ)) →
+    IsRound digest held after entries → AsksBundlesAlone digest held entries →
+    HoldsAll after (strings digest entries)
+
+-- with the edge held, the front has no tile of the greatest level that has a partial tile, or above it
+abbrev pub FrontIsBelowTop : Type 0
+FrontIsBelowTop =
+    (digest : List ℕ → List ℕ) (held : List ℕ → Bool) (entries : List (List ℕ)) (top : ℕ) →
+    length entries < 256 ^ 8 → IsTop (length entries) top →
+    HoldsAll held (edge_strings digest (edge_rows digest entries)) → (level index width : ℕ) →
+    IsFront digest held entries (Tile level index width) → level < top
+
+-- one round after another
+abbrev pub AreRounds : (List ℕ → List ℕ) → List (List ℕ) → (List ℕ → Bool) → List (List ℕ → Bool) → Type 0
+AreRounds digest entries held [] = Unit {0}
+AreRounds digest entries held (after ∷ afters) = IsRound digest held after entries × AreRounds digest entries after afters
+
+-- what is held after the last of them
+abbrev pub held_after : (List ℕ → Bool) → List (List ℕ → Bool) → List ℕ → Bool
+held_after held [] = held
+held_after held (after ∷ afters) = held_after after afters
+
+-- as many rounds as the greatest level that has a partial tile, and one at least, leave nothing of the tree unheld
+abbrev pub RoundsComplete : Type 0
+RoundsComplete =
+    (digest : List ℕ → List ℕ) (held : List ℕ → Bool) (entries : List (List ℕ)) (top : ℕ) (afters : List (List ℕ → Bool)) →
+    length entries < 256 ^ 8 → IsTop (length entries) top → AreRounds digest entries held afters →
+    max 1 top ≤ length afters → HoldsAll (held_after held afters) (strings digest entries)
+
+-- a full tile of a level from 1 to 7, or a bundle as wide as the size has it; its range begins within the size
+abbrev pub IsOfSize : ℕ → Path → Type 0
+IsOfSize size Checkpoint = ⊥
+IsOfSize size (Tile level index width) = (1 ≤ level) × (level ≤ 7) × (width ≡ 256) × (index * 256 ^ (level + 1) < size)
+IsOfSize size (Entries index width) = (1 ≤ width) × (width ≡ min 256 (size - 256 * index)) × (256 * index < size)
+
+-- what is missing of a head are such paths, whether or not a list of entries fits
+abbrev pub MissingIsOfSize : Type 0
+MissingIsOfSize =
+    (digest : List ℕ → List ℕ) (held : Strings) (size : ℕ) (root : List ℕ) → size ≤ 256 ^ 8 → (path : Path) →
+    IsMissing digest held size root path → IsOfSize size path
+
+-- a node of the front of E
+abbrev pub HasFrontAt : (List ℕ → List ℕ) → (List ℕ → Bool) → List (List ℕ) → ℕ → ℕ → Type 0
+HasFrontAt digest held entries at many = (x : Node) × InFront digest held (tree_of entries) 0 x × (x.start ≡ at) × (x.len ≡ many)
+
+-- where a list of entries fits, the walk from its root fails exactly at the front
+abbrev pub WalkIsFront : Type 0
+WalkIsFront =
+    (digest : List ℕ → List ℕ) → ((s : List ℕ) → length (digest s) ≡ 32) →
+    (held : Strings) (entries : List (List ℕ)) → NoClashWith digest held entries → (at many : ℕ) →
+    WalkFails digest held (shape (length entries)) 0 (mth digest entries) at many ↔ HasFrontAt digest (held_in held) entries at many
+
+-- so what it names is Front(V, E)
+abbrev pub MissingIsFront : Type 0
+MissingIsFront =
+    (digest : List ℕ → List ℕ) → ((s : List ℕ) → length (digest s) ≡ 32) →
+    (held : Strings) (entries : List (List ℕ)) → NoClashWith digest held entries → (path : Path) →
+    IsMissing digest held (length entries) (mth digest entries) path ↔ IsFront digest (held_in held) entries path

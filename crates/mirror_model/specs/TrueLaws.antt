@@ -1,0 +1,150 @@
+-- Items of true bytes: what a log of a list of entries serves, taken by a mirror (C2SP tlog-tiles).
+use Rattle.std.specs.Prelude.{◌-◌, min, [], ◌∷◌, max, ◌≡◌, ℕ, ◌*◌, ◌^◌, ◌≤◌, ◌<◌, All, List, length, map, take, Bool}
+use Rattle.std.specs.List.{Contains}
+use Rattle.tlog_shape.specs.Edge.{width_of, edge_index_of, IsTop}
+use Rattle.tlog_hash.specs.Tree.{mth, strings, joins}
+use Rattle.tlog_hash.specs.Blocks.{joined_up}
+use Rattle.tlog_hash.specs.Rows.{ranges, part, level_row}
+use Rattle.tlog_tiles.specs.declared.paths.Path.{Path}
+use Rattle.tlog_tiles.specs.declared.paths.Path.TheVariants.{Checkpoint, Tile, Entries}
+use Rattle.tlog_tiles.specs.Row.{row_text}
+use Rattle.tlog_tiles.specs.Edge.{edge_of}
+use Rattle.tlog_tiles.specs.Tiles.{tile_bytes, bundle_bytes, IsTileWithin, IsWithin}
+use Rattle.node_store.specs.Strings.{HasAll}
+use Rattle.mirror_model.specs.View as view
+use Rattle.mirror_model.specs.View.{View}
+use Rattle.mirror_model.specs.Strings.{held_in}
+use Rattle.mirror_model.specs.Edge.{edge_levels, edge_rows, edge_strings}
+use Rattle.mirror_model.specs.Front.{IsFront}
+use Rattle.mirror_model.specs.Rounds.{HoldsAll, IsRound}
+use Rattle.mirror_model.specs.Item.{TileItem, BundleItem, row_of, IsWidth, IsGoodTile, IsGoodBundle, HasEdgeRows, strings_of}
+use Rattle.mirror_model.specs.Complete.{IsTreeOf}
+use Rattle.mirror_model.specs.ViewLaws.{IsHash}
+
+-- entries that can stand in a bundle
+abbrev pub AreShort : List (List ℕ) → Type 0
+AreShort entries = All (λ entry. length entry < 2 ^ 16) entries
+
+-- a tile of true bytes is good, and gives the joins of its row
+pub record IsTrueTile (digest : List ℕ → List ℕ) (entries : List (List ℕ)) (level index width : ℕ) : Type 0 where
+  pub good : IsGoodTile width (tile_bytes digest entries level index width)
+  pub strings_are : strings_of digest (TileItem width (tile_bytes digest entries level index width)) ≡ joins digest (level_row digest entries level (256 * index) width)
+
+abbrev pub TilesAreTrue : Type 0
+TilesAreTrue =
+    (digest : List ℕ → List ℕ) → IsHash digest → (entries : List (List ℕ)) → AreShort entries →
+    (level index width : ℕ) → IsWidth width → IsTrueTile digest entries level index width
+
+-- a bundle of true bytes is good, and gives what the tree hash of its entries hashes
+pub record IsTrueBundle (digest : List ℕ → List ℕ) (entries : List (List ℕ)) (index width : ℕ) : Type 0 where
+  pub good : IsGoodBundle width (bundle_bytes entries index width)
+  pub strings_are : strings_of digest (BundleItem width (bundle_bytes entries index width)) ≡ strings digest (part (256 * index) width entries)
+
+abbrev pub BundlesAreTrue : Type 0
+BundlesAreTrue =
+    (digest : List ℕ → List ℕ) → IsHash digest → (entries : List (List ℕ)) → AreShort entries → (index width : ℕ) →
+    IsTileWithin (length entries) 0 index width → IsTrueBundle digest entries index width
+
+-- the entries of the bundles, in order, are the entries
+abbrev pub BundlesAreAll : Type 0
+BundlesAreAll =
+    (entries : List (List ℕ)) (count : ℕ) → length entries ≤ count * 256 →
+    joined_up (ranges 256 0 count entries) ≡ entries
+
+-- the bytes of the true edge rows
+abbrev pub edge_bytes : (List ℕ → List ℕ) → List (List ℕ) → List (List ℕ)
+edge_bytes digest entries = map row_text (edge_rows digest entries)
+
+-- true edge rows lead to the tree hash of the entries, and give the edge's strings
+pub record IsTrueEdge (digest : List ℕ → List ℕ) (entries : List (List ℕ)) : Type 0 where
+  pub has_edge : HasEdgeRows digest (length entries) (mth digest entries) (edge_bytes digest entries)
+  pub strings_are : edge_strings digest (map row_of (edge_bytes digest entries)) ≡ edge_strings digest (edge_rows digest entries)
+
+abbrev pub EdgesAreTrue : Type 0
+EdgesAreTrue =
+    (digest : List ℕ → List ℕ) → IsHash digest → (entries : List (List ℕ)) → length entries < 256 ^ 8 →
+    IsTrueEdge digest entries
+
+-- these rows are those of the paths of the edge
+abbrev pub EdgeIsOfPaths : Type 0
+EdgeIsOfPaths =
+    (size : ℕ) →
+    edge_of size ≡ map (λ level. Tile level (edge_index_of size level) (width_of size level)) (edge_levels size)
+
+-- while the edge's strings are held, each path of the front is within the entries
+abbrev pub FrontIsWithin : Type 0
+FrontIsWithin =
+    (digest : List ℕ → List ℕ) (held : List ℕ → Bool) (entries : List (List ℕ)) → length entries ≤ 256 ^ 8 →
+    HoldsAll held (edge_strings digest (edge_rows digest entries)) → (path : Path) →
+    IsFront digest held entries path → IsWithin (length entries) path
+
+-- the strings that the true bytes of a path give
+abbrev pub true_strings : (List ℕ → List ℕ) → List (List ℕ) → Path → List (List ℕ)
+true_strings digest entries Checkpoint = []
+true_strings digest entries (Tile level index width) = strings_of digest (TileItem width (tile_bytes digest entries level index width))
+true_strings digest entries (Entries index width) = strings_of digest (BundleItem width (bundle_bytes entries index width))
+
+-- a full tile, or a bundle as wide as the entries have it
+abbrev pub IsWidest : ℕ → Path → Type 0
+IsWidest n Checkpoint = ⊥
+IsWidest n (Tile level index width) = width ≡ 256
+IsWidest n (Entries index width) = width ≡ min 256 (n - 256 * index)
+
+-- the true bytes of such a path within the entries give strings of their tree alone
+abbrev pub TrueStringsWithin : Type 0
+TrueStringsWithin =
+    (digest : List ℕ → List ℕ) → IsHash digest → (entries : List (List ℕ)) → AreShort entries → (path : Path) →
+    IsWithin (length entries) path → IsWidest (length entries) path → (y : List ℕ) →
+    Contains (true_strings digest entries path) y → Contains (strings digest entries) y
+
+-- and the paths of a front are such paths
+abbrev pub FrontIsWidest : Type 0
+FrontIsWidest =
+    (digest : List ℕ → List ℕ) (held : List ℕ → Bool) (entries : List (List ℕ)) (path : Path) →
+    IsFront digest held entries path → IsWidest (length entries) path
+
+-- from one view to a larger one: the true bytes of each path of the front are taken, where the path is within the
+-- entries
+pub record TakesFront (digest : List ℕ → List ℕ) (entries : List (List ℕ)) (v w : View) : Type 0 where
+  pub small : length entries ≤ 256 ^ 8
+  pub edge : HasAll v.strings (edge_strings digest (edge_rows digest entries))
+  pub grows : view.IsWithin v w
+  pub taken :
+      (path : Path) → IsFront digest (held_in v.strings) entries path → IsWithin (length entries) path →
+      HasAll w.strings (true_strings digest entries path)
+
+-- so it is a round
+abbrev pub TakingIsRound : Type 0
+TakingIsRound =
+    (digest : List ℕ → List ℕ) → IsHash digest → (entries : List (List ℕ)) → AreShort entries → (v w : View) →
+    TakesFront digest entries v w → IsRound digest (held_in v.strings) (held_in w.strings) entries
+
+-- one view after another, each by taking the front of the one before
+abbrev pub AreTakings : (List ℕ → List ℕ) → List (List ℕ) → View → List View → Type 0
+AreTakings digest entries v [] = Unit {0}
+AreTakings digest entries v (w ∷ more) = TakesFront digest entries v w × AreTakings digest entries w more
+
+-- the last of them
+abbrev pub last_view : View → List View → View
+last_view v [] = v
+last_view v (w ∷ more) = last_view w more
+
+-- as many as the greatest level that has a partial tile, and one at least, bring the whole tree
+abbrev pub TakingCompletes : Type 0
+TakingCompletes =
+    (digest : List ℕ → List ℕ) → IsHash digest → (entries : List (List ℕ)) → AreShort entries → (top : ℕ) →
+    length entries < 256 ^ 8 → IsTop (length entries) top → (v : View) (more : List View) →
+    AreTakings digest entries v more → max 1 top ≤ length more →
+    IsTreeOf digest (last_view v more).strings (length entries) (mth digest entries) entries
+
+-- a path within the first n entries has the same bytes in both lists
+pub record IsSameIn (digest : List ℕ → List ℕ) (entries : List (List ℕ)) (n : ℕ) : Type 0 where
+  pub tile :
+      (level index width : ℕ) → IsTileWithin n level index width →
+      tile_bytes digest (take n entries) level index width ≡ tile_bytes digest entries level index width
+  pub bundle :
+      (index width : ℕ) → IsTileWithin n 0 index width →
+      bundle_bytes (take n entries) index width ≡ bundle_bytes entries index width
+
+abbrev pub PrefixesServeSame : Type 0
+PrefixesServeSame = (digest : List ℕ → List ℕ) (entries : List (List ℕ)) (n : ℕ) → n ≤ length entries → IsSameIn digest entries n

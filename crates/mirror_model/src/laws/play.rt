@@ -1,0 +1,51 @@
+//! Laws of events and runs: mirrors that the same items have reached hold the same.
+ghost use Rattle.mirror_model.specs.PlayLaws.{BetweenIsLawful, FoldIsReaches, ForMirrors, MergesAgain, MergesOnce, MirrorsAgree, NoneClashes, NoteIsLast, OpeningReachesGoByLast, ReachesGoByLast, RunGrows, RunIsBounded, RunIsLawful, RunIsReached, SameReachedSameView, TakesAgain, TakesOnce};
+
+/// What reaches a mirror, by the last event of a list: a take adds its item, a merge adds what reached
+/// its source, and nothing else changes. A fold over the events gives the same.
+pub fn reaches_law()
+    ensures items { ReachesGoByLast }
+    ensures openings { OpeningReachesGoByLast }
+    ensures fold { FoldIsReaches }
+{}
+
+/// After a run of events a mirror's view is the union of the opening views and of the good items that
+/// reach it, where no strings clashed, and each event for which memory was refused was done again. In
+/// any other run the view lies between what was done and what may have been.
+pub fn run_law()
+    ensures reached { ForMirrors RunIsReached }
+    ensures bounded { ForMirrors RunIsBounded }
+{}
+
+/// Where no two strings of the opening views and of the good items share a digest, no event is answered
+/// by a clash.
+pub fn clash_law()
+    ensures { ForMirrors NoneClashes }
+{}
+
+/// Mirrors that the same good items and the same opening views have reached hold equal views, in
+/// whatever order, however often and through whichever merges these came: where no event was answered
+/// by a clash, and so where no two strings share a digest, and each event for which memory was refused
+/// was done again.
+pub fn order_law()
+    ensures same { ForMirrors SameReachedSameView }
+    ensures agree { ForMirrors MirrorsAgree }
+{}
+
+/// Want of memory apart, an event has one answer and leaves one view. An event for which memory was
+/// refused, done again, comes to the same as the event done once.
+pub fn again_law()
+    ensures takes_once { TakesOnce }
+    ensures merges_once { MergesOnce }
+    ensures takes { TakesAgain }
+    ensures merges { MergesAgain }
+{}
+
+/// A run keeps lawful views lawful, and each view only grows. A view that want of memory left half way
+/// is lawful too, since a new note stands only where all strings do.
+pub fn keeping_law()
+    ensures lawful { RunIsLawful }
+    ensures grows { RunGrows }
+    ensures between { BetweenIsLawful }
+    ensures note { NoteIsLast }
+{}

@@ -1,0 +1,28 @@
+//! Laws of items of true bytes: what a log serves of its entries (C2SP tlog-tiles).
+ghost use Rattle.mirror_model.specs.TrueLaws.{BundlesAreAll, BundlesAreTrue, EdgeIsOfPaths, EdgesAreTrue, FrontIsWidest, FrontIsWithin, PrefixesServeSame, TakingCompletes, TakingIsRound, TilesAreTrue, TrueStringsWithin};
+
+/// The true tiles and bundles of a list of entries are good, and give what its tree hash hashes there;
+/// all bundles, in order, have its entries; its true edge rows lead to its tree hash.
+pub fn true_items_law()
+    ensures tiles { TilesAreTrue }
+    ensures bundles { BundlesAreTrue }
+    ensures all { BundlesAreAll }
+    ensures edges { EdgesAreTrue }
+    ensures paths { EdgeIsOfPaths }
+{}
+
+/// While the strings of the edge are held, each path of the front is within the entries, and its true
+/// bytes give strings of their tree alone. A mirror that takes the true bytes of all of them makes a
+/// round; as many rounds as the greatest level of the edge, and one at least, bring the whole tree.
+pub fn true_rounds_law()
+    ensures within { FrontIsWithin }
+    ensures widest { FrontIsWidest }
+    ensures tree { TrueStringsWithin }
+    ensures round { TakingIsRound }
+    ensures complete { TakingCompletes }
+{}
+
+/// What is within the first entries of a list is served alike for these and for the whole list.
+pub fn prefix_law()
+    ensures { PrefixesServeSame }
+{}

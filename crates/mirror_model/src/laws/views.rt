@@ -1,0 +1,64 @@
+//! Laws of views: what a mirror holds, and what follows from it.
+ghost use Rattle.mirror_model.specs.ViewLaws.{ClashesTurn, CompleteIsSame, CompleteStays, ForksStay, ForksTell, ForksTurn, HeadsHaveEdges, ListHasRoot, MarksStay, MissingIsNone, NothingIsLawful, OneList, PlusIsLawful, RangesHashOnce, RepliesOnce, SameIsOne, ServesOne, ServesTruth, UnionAssociates, UnionCommutes, UnionIsLawful, UnionRepeats, WholeIsMark};
+
+/// Views that hold the same are one, and they are joined in any order, in any grouping and any number
+/// of times with one result. Their strings clash either way round or neither.
+pub fn union_law()
+    ensures same { SameIsOne }
+    ensures commutes { UnionCommutes }
+    ensures associates { UnionAssociates }
+    ensures repeats { UnionRepeats }
+    ensures clashes { ClashesTurn }
+{}
+
+/// A lawful view has one list of entries at most for a size and root, and the root is its tree hash.
+pub fn one_list_law()
+    ensures one { OneList }
+    ensures root { ListHasRoot }
+{}
+
+/// What is complete stays complete as a view grows, with the same entries while no two strings clash.
+pub fn growth_law()
+    ensures stays { CompleteStays }
+    ensures same { CompleteIsSame }
+{}
+
+/// The checkpoint served says the length and the tree hash of the entries served. A view serves one
+/// checkpoint and one list of entries at most, and has one reply at most for a path and one hash at most
+/// for a range.
+pub fn served_law()
+    ensures truth { ServesTruth }
+    ensures one { ServesOne }
+    ensures reply { RepliesOnce }
+    ensures range { RangesHashOnce }
+{}
+
+/// Two complete checkpoints that differ are a fork exactly where neither list of entries is a prefix
+/// of the other, and a fork stays one as the view grows.
+pub fn forks_law()
+    ensures tell { ForksTell }
+    ensures turn { ForksTurn }
+    ensures stay { ForksStay }
+{}
+
+/// A view that holds nothing is lawful, and a lawful view stays so as it takes a good item, or is merged
+/// with a lawful view of the same log, where no two strings clash. The edge of each of its heads is held.
+pub fn lawful_law()
+    ensures nothing { NothingIsLawful }
+    ensures item { PlusIsLawful }
+    ensures views { UnionIsLawful }
+    ensures heads { HeadsHaveEdges }
+{}
+
+/// The walk from the root of a head fails nowhere exactly where the head is complete. So wherever it is
+/// not, something is named that is missing.
+pub fn missing_law()
+    ensures { MissingIsNone }
+{}
+
+/// What may be remembered of complete heads: the whole list of each, and whatever could be remembered
+/// of a smaller view.
+pub fn marks_law()
+    ensures whole { WholeIsMark }
+    ensures stay { MarksStay }
+{}

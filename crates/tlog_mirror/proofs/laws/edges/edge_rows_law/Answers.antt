@@ -1,5 +1,0 @@
-use Rattle.tlog_mirror.proofs.EdgeRoots.{edge_rows_wide}
-use Rattle.tlog_mirror.proofs.laws.edges.edge_rows_law.Goals as goal
-
-pub returns : goal.returns
-returns c = edge_rows_wide

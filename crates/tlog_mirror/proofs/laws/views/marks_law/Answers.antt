@@ -1,9 +1,0 @@
-use Rattle.tlog_mirror.proofs.Views.{marks_stay}
-use Rattle.tlog_mirror.proofs.Remembering.{whole_is_mark}
-use Rattle.tlog_mirror.proofs.laws.views.marks_law.Goals as goal
-
-pub returns-clause-whole : goal.returns-clause-whole
-returns-clause-whole c = whole_is_mark
-
-pub returns-clause-stay : goal.returns-clause-stay
-returns-clause-stay c = marks_stay
