@@ -24,3 +24,5 @@ pub mod Listing
 pub mod Keeping
 pub mod Takings
 pub mod MissingPaths
+pub mod FullBundles
+pub mod Fetching

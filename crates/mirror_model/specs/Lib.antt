@@ -18,4 +18,5 @@ pub mod Listed
 pub mod TreeLaws
 pub mod ViewLaws
 pub mod TrueLaws
+pub mod FetchLaws
 pub mod PlayLaws

@@ -7,7 +7,7 @@ use Rattle.tlog_tiles.specs.Row.{IsRow}
 use Rattle.signed_note.specs.Keys.{Key}
 use Rattle.node_store.specs.Strings.{HasAll, Has, NoClash}
 use Rattle.mirror_model.specs.View.{View, nothing, union, IsWithin}
-use Rattle.mirror_model.specs.Strings.{held_in, HasClash}
+use Rattle.mirror_model.specs.Strings.{HasClash}
 use Rattle.mirror_model.specs.Heads.{IsHead, HasHead}
 use Rattle.mirror_model.specs.Edge.{edge_strings}
 use Rattle.mirror_model.specs.Item.{HasEdgeRows, Item, row_of, entries_of, IsGood, plus}

@@ -3,6 +3,7 @@
 //! A law is the contract of a function with an empty body: the proof is all that there is of it.
 pub mod edges;
 pub mod examples;
+pub mod fetches;
 pub mod fronts;
 pub mod items;
 pub mod lists;

@@ -5,6 +5,7 @@ mod laws;
 
 pub use laws::edges::{edge_root_law, edge_rows_law, edge_strings_law};
 pub use laws::examples::{fork_example, front_example, trees_example, way_example};
+pub use laws::fetches::{answered_law, full_files_law, missing_list_law, plus_law};
 pub use laws::fronts::{front_law, rounds_law, walk_law};
 pub use laws::items::bytes_law;
 pub use laws::lists::lists_law;

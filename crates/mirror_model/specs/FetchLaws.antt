@@ -1,0 +1,79 @@
+-- Laws that fetching a log from its files stands on (C2SP tlog-tiles).
+use Rattle.std.specs.Prelude.{◌≡◌, ◌⊎◌, ℕ, ◌+◌, ◌*◌, ◌^◌, ◌<◌, ◌≤◌, List, length, take, Bool}
+use Rattle.std.specs.List.{Contains}
+use Rattle.std.specs.FinSet as set
+use Rattle.tlog_hash.specs.Tree.{mth, strings}
+use Rattle.tlog_tiles.specs.declared.paths.Path.{Path}
+use Rattle.tlog_tiles.specs.declared.paths.Path.TheVariants.{Entries}
+use Rattle.tlog_tiles.specs.Tiles.{tile_bytes}
+use Rattle.node_store.specs.Strings.{Has, NoClash}
+use Rattle.mirror_model.specs.View.{View}
+use Rattle.mirror_model.specs.Edge.{edge_rows, edge_strings}
+use Rattle.mirror_model.specs.Front.{IsFront}
+use Rattle.mirror_model.specs.Rounds.{HoldsAll}
+use Rattle.mirror_model.specs.Item.{Item, notes_of, strings_of, plus}
+use Rattle.mirror_model.specs.TrueLaws.{AreShort, true_strings}
+use Rattle.mirror_model.specs.Listed.{ListsMissing, ListsFront}
+use Rattle.mirror_model.specs.ViewLaws.{IsHash}
+
+-- the first hashes of a full tile are the partial tile of its place
+abbrev pub FullTilesBegin : Type 0
+FullTilesBegin =
+    (digest : List ℕ → List ℕ) →
+    IsHash digest →
+    (entries : List (List ℕ)) (level index width : ℕ) →
+    width ≤ 256 →
+    take (32 * width) (tile_bytes digest entries level index 256) ≡ tile_bytes digest entries level index width
+
+-- what the last, partial bundle of the first entries gives is given by the full bundle of all entries, or by the
+-- edge of the first
+abbrev pub FullBundlesServe : Type 0
+FullBundlesServe =
+    (digest : List ℕ → List ℕ) →
+    IsHash digest →
+    (entries : List (List ℕ)) →
+    AreShort entries →
+    (size index width : ℕ) →
+    size ≤ length entries →
+    256 * index + width ≡ size →
+    1 ≤ width →
+    width < 256 →
+    256 * index + 256 ≤ length entries →
+    (y : List ℕ) →
+    Contains (true_strings digest (take size entries) (Entries index width)) y →
+    Contains (true_strings digest entries (Entries index 256)) y ⊎ Contains (edge_strings digest (edge_rows digest (take size entries))) y
+
+-- a path whose true bytes' strings are held is in no front
+abbrev pub AnsweredIsNotAgain : Type 0
+AnsweredIsNotAgain =
+    (digest : List ℕ → List ℕ) →
+    IsHash digest →
+    (held : List ℕ → Bool) (entries : List (List ℕ)) →
+    AreShort entries →
+    length entries ≤ 256 ^ 8 →
+    HoldsAll held (edge_strings digest (edge_rows digest entries)) →
+    (path : Path) →
+    HoldsAll held (true_strings digest entries path) →
+    IsFront digest held entries path →
+    ⊥
+
+-- where nothing clashes, what is missing is listed as the front is
+abbrev pub MissingIsFrontList : Type 0
+MissingIsFrontList =
+    (digest : List ℕ → List ℕ) →
+    IsHash digest →
+    (v : View) (entries : List (List ℕ)) →
+    NoClash digest (set.union v.strings (set.from_list (strings digest entries))) →
+    (paths : List Path) →
+    ListsMissing digest v (length entries) (mth digest entries) paths →
+    ListsFront digest v entries paths
+
+-- what a view holds with an item: the strings and the notes of the one and of the other
+pub record IsPlus (digest : List ℕ → List ℕ) (v : View) (item : Item) (y : List ℕ) : Type 0 where
+  pub string : Has (plus digest v item).strings y → Has v.strings y ⊎ Contains (strings_of digest item) y
+  pub string_held : Has v.strings y ⊎ Contains (strings_of digest item) y → Has (plus digest v item).strings y
+  pub note : Has (plus digest v item).notes y → Has v.notes y ⊎ Contains (notes_of item) y
+  pub note_held : Has v.notes y ⊎ Contains (notes_of item) y → Has (plus digest v item).notes y
+
+abbrev pub PlusHolds : Type 0
+PlusHolds = (digest : List ℕ → List ℕ) (v : View) (item : Item) (y : List ℕ) → IsPlus digest v item y

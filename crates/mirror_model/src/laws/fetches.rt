@@ -1,0 +1,26 @@
+//! Laws of what is fetched of a log, of its files, and of what a view holds with it (C2SP tlog-tiles).
+ghost use Rattle.mirror_model.specs.FetchLaws.{AnsweredIsNotAgain, FullBundlesServe, FullTilesBegin, MissingIsFrontList, PlusHolds};
+
+/// A log may delete a partial file once the full one is there. The first hashes of a full tile are the
+/// partial tile of its place. What the last, partial bundle of the first entries gives is given by the
+/// full bundle of its place, or by the edge of the first entries.
+pub fn full_files_law()
+    ensures tile { FullTilesBegin }
+    ensures bundle { FullBundlesServe }
+{}
+
+/// While the strings of the edge are held, a path whose true bytes were taken is in no later front.
+pub fn answered_law()
+    ensures { AnsweredIsNotAgain }
+{}
+
+/// Where what is held and the tree of some entries do not clash together, the list of what is missing of
+/// a head of their size and tree hash is the list of their front.
+pub fn missing_list_law()
+    ensures { MissingIsFrontList }
+{}
+
+/// A view with an item holds the strings and notes of the view and those of the item, and no others.
+pub fn plus_law()
+    ensures { PlusHolds }
+{}
