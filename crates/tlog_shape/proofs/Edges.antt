@@ -4,7 +4,7 @@ use Rattle.std.proofs.Math.Nat.{div-mul-le_self, lt-div-mul-add, div-eq_of_lt, d
 use Rattle.std.proofs.lemmas.Bool.{cases_lt}
 use Rattle.std.proofs.lemmas.Nat.{le-div, mul-le, pow-add, pow_pos, div-add-mod'}
 use Rattle.tlog_shape.specs.Split.{IsPowerOfTwo}
-use Rattle.tlog_shape.specs.Edge.{width_of, IsTop, IsTileOfNode}
+use Rattle.tlog_shape.specs.Edge.{width_of, IsTop, IsTileOfNode, RangeHasNode}
 use Rattle.tlog_shape.proofs.Levels.{level_power, level_positive, level_mono}
 use Rattle.tlog_shape.proofs.Splits.{power_le}
 
@@ -107,20 +107,25 @@ within_block start size whole times some aligned is positive =
     let more : (a + 1) * size ≡ a * size + size = omega arith in
     omega (arith, next, more, start_is, counted)
 
-module _ (start size level rest : ℕ) (power : IsPowerOfTwo size) (several : 2 ≤ size) (aligned : start % size ≡ 0) where
-  pub tile_is : rest ≡ (size - 1) / 256 ^ (level + 1) → rest ≡ 0 → 256 ^ level ≤ size - 1 → (index : ℕ) → index ≡ start / 256 ^ (level + 1) → IsTileOfNode start size level index
-  tile_is rest_is done above index index_is =
+-- the span of a tile whose level was counted up to the first that leaves nothing
+pub spans_node : (size level rest : ℕ) → 2 ≤ size → rest ≡ (size - 1) / 256 ^ (level + 1) → rest ≡ 0 → size ≤ 256 ^ (level + 1)
+spans_node size level rest several rest_is done =
+    let whole = 256 ^ (level + 1) in
+    let after : size - 1 < (size - 1) / whole * whole + whole = lt-div-mul-add (level_positive (level + 1)) in
+    let none : (size - 1) / whole * whole ≡ 0 = ap (λ q. q * whole) (sym rest_is ∙ done) ∙ omega arith in
+    omega (arith, after, none)
+
+module _ (start size level index : ℕ) (several : 2 ≤ size) (upto : size ≤ 256 ^ (level + 1)) (index_is : index ≡ start / 256 ^ (level + 1)) where
+  pub tile_is : 256 ^ level ≤ size - 1 → IsTileOfNode start size level index
+  tile_is above = record { above = omega (arith, above, several); upto = upto; index_is = index_is }
+
+  pub range_has : IsPowerOfTwo size → start % size ≡ 0 → RangeHasNode level index start size
+  range_has power aligned =
       let whole = 256 ^ (level + 1) in
-      let positive : 0 < whole = level_positive (level + 1) in
-      let after : size - 1 < (size - 1) / whole * whole + whole = lt-div-mul-add positive in
-      let none : (size - 1) / whole * whole ≡ 0 = ap (λ q. q * whole) (sym rest_is ∙ done) ∙ omega arith in
-      let upto : size ≤ whole = omega (arith, after, none) in
       let multiple = level_multiple size level power upto in
       record {
-        above = omega (arith, above, several);
-        upto = upto;
         from = rw index_is (div-mul-le_self start whole);
-        to = rw index_is (within_block start size whole multiple.times (omega (arith, several)) aligned multiple.is positive);
+        to = rw index_is (within_block start size whole multiple.times (omega (arith, several)) aligned multiple.is (level_positive (level + 1)));
       }
 
 -- one level more

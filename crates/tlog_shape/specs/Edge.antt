@@ -33,10 +33,14 @@ pub record IsPartialTile (n level index width : ℕ) : Type 0 where
 abbrev pub IsTile : ℕ → ℕ → ℕ → ℕ → Type 0
 IsTile n level index width = IsFullTile n level index width ⊎ IsPartialTile n level index width
 
--- the tile whose row gives the pair of the node of size entries from start: its hashes are of fewer entries than the
--- node, and its range has the whole node
+-- the tile whose row gives the pair below the node of size entries from start: its hashes are each of fewer
+-- entries than the node, its row of 256 spans as many or more, and it is the one of its level where the node begins
 pub record IsTileOfNode (start size level index : ℕ) : Type 0 where
   pub above : 256 ^ level < size
   pub upto : size ≤ 256 ^ (level + 1)
+  pub index_is : index ≡ start / 256 ^ (level + 1)
+
+-- the range of the tile has the whole node of size entries from start
+pub record RangeHasNode (level index start size : ℕ) : Type 0 where
   pub from : index * 256 ^ (level + 1) ≤ start
   pub to : start + size ≤ (index + 1) * 256 ^ (level + 1)

@@ -1,7 +1,7 @@
 //! Which tiles a tree has.
 ghost use Rattle.std.specs.Prelude.{◌≡◌, ◌/◌, ◌%◌, ◌^◌, ◌≤◌, IfSome, IfNone, ℕ};
 ghost use Rattle.tlog_shape.specs.Split.{IsPowerOfTwo};
-ghost use Rattle.tlog_shape.specs.Edge.{width_of, edge_index_of, IsTop, IsTile, IsTileOfNode};
+ghost use Rattle.tlog_shape.specs.Edge.{width_of, edge_index_of, IsTop, IsTile, IsTileOfNode, RangeHasNode};
 
 // How many whole blocks of 256^level entries n entries have.
 fn blocks(n: u64, level: u32) -> u64
@@ -66,13 +66,13 @@ pub fn width_in(n: u64, level: u32, index: u64) -> Option<u32>
 ///
 /// The node has `size` entries from the entry `start` on. Its tile is the one of the greatest level
 /// whose hashes are each of fewer entries than the node, so that the fold of some of the tile's
-/// hashes joins the node's two parts.
+/// hashes joins the node's two parts. The tile has the whole node where the node's size is a power
+/// of two and its start a multiple of it, as of each node of a tree but those on its right edge.
 pub fn tile_of_node(start: u64, size: u64) -> (u32, u64)
-    requires power { IsPowerOfTwo size }
-    requires several { 2 ≤ size }
-    requires aligned { start % size ≡ 0 }
+    requires { 2 ≤ size }
     ensures level { result.0 ≤ 7 }
     ensures tile { IsTileOfNode start size result.0 result.1 }
+    ensures range { IsPowerOfTwo size → start % size ≡ 0 → RangeHasNode result.0 result.1 start size }
 {
     let mut level = 0;
     let mut rest = (size - 1) >> 8;

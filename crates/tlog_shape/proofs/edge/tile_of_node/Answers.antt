@@ -1,6 +1,6 @@
 use Rattle.std.proofs.Common.{◌+◌, ◌-◌, ◌/◌, ap, ◌∙◌, arith}
 use Rattle.tlog_shape.proofs.Levels.{level_positive, shift_level}
-use Rattle.tlog_shape.proofs.Edges.{level_within, rest_positive, tile_is}
+use Rattle.tlog_shape.proofs.Edges.{level_within, range_has, rest_positive, spans_node, tile_is}
 use Rattle.tlog_shape.proofs.edge.tile_of_node.Goals as goal
 
 pub overflow_add-level : goal.overflow_add-level
@@ -30,4 +30,10 @@ returns-clause-level c = level_within c.loop-rest.level (c.args.size - 1) c.loop
 
 pub returns-clause-tile : goal.returns-clause-tile
 returns-clause-tile c =
-    tile_is c.args.start c.args.size c.loop-rest.level c.loop-rest.rest c.requires.power c.requires.several c.requires.aligned c.loop-rest.invariant.rest_is (omega (arith, c.loop-rest-test.false)) c.loop-rest.invariant.above _ c.blocks-2.ensures
+    let upto = spans_node c.args.size c.loop-rest.level c.loop-rest.rest c.requires c.loop-rest.invariant.rest_is (omega (arith, c.loop-rest-test.false)) in
+    tile_is c.args.start c.args.size c.loop-rest.level _ c.requires upto c.blocks-2.ensures c.loop-rest.invariant.above
+
+pub returns-clause-range : goal.returns-clause-range
+returns-clause-range c =
+    let upto = spans_node c.args.size c.loop-rest.level c.loop-rest.rest c.requires c.loop-rest.invariant.rest_is (omega (arith, c.loop-rest-test.false)) in
+    λ power aligned. range_has c.args.start c.args.size c.loop-rest.level _ c.requires upto c.blocks-2.ensures power aligned
