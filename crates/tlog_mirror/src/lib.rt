@@ -1,0 +1,16 @@
+//! A mirror of one transparency log: it takes heads, tiles and bundles from several downloads, checks
+//! what it takes, and serves what it holds whole.
+//!
+//! Contracts see a `Mirror` as a state of `mirror_model`: an origin with a set of notes and a set of
+//! strings, and what is remembered of complete heads beside them.
+#![tactic(auto)]
+
+mod fault;
+mod kept;
+mod marks;
+mod mirror;
+#[cfg(test)]
+mod tests;
+
+pub use fault::NewFault;
+pub use mirror::Mirror;

@@ -1,0 +1,95 @@
+//! A mirror of one log.
+ghost use Rattle.std.specs.Prelude.{◌≡◌, ◌≤◌, IfOk, OnOk, IsTrue, All, ◌↔◌};
+ghost use Rattle.std.specs.FinSet as set;
+ghost use Rattle.mirror_model.specs.View.{nothing};
+ghost use Rattle.tlog_mirror.specs.Origin.{IsOrigin};
+
+use crate::fault::NewFault;
+use crate::kept::KeptNote;
+use crate::marks::Marks;
+use node_store::Store;
+use std::alloc::Global;
+use std::marker::Model;
+use tlog_hash::TreeHash;
+
+/// What was gathered of one log.
+///
+/// It is seen as its view, an origin with a set of notes and a set of strings, and what it remembers of
+/// complete heads beside it.
+#[derive(Drop)]
+pub struct Mirror<H: TreeHash> {
+    pub(crate) origin: String,
+    pub(crate) kept: Vec<KeptNote>,
+    pub(crate) strings: Store<H>,
+    pub(crate) remembered: Marks,
+}
+
+impl<H: TreeHash> Model for Mirror<H> {
+    ghost use Rattle.std.specs.Prelude.{string_bytes};
+    ghost use Rattle.mirror_model.specs.Marks.{State, state_code};
+    ghost use Rattle.tlog_mirror.specs.Kept.{state_of, IsKeptWell};
+
+    ghost Value = { State };
+
+    ghost coded = { state_code };
+
+    ghost view = { λ a. state_of (string_bytes a.origin) a.kept.items a.strings a.remembered };
+
+    ghost invariant = { λ a. IsKeptWell H.digest (string_bytes a.origin) a.kept.items a.strings a.remembered };
+}
+
+impl<H: TreeHash> Mirror<H> {
+    /// A mirror that holds nothing, of the log of that origin.
+    ///
+    /// # Errors
+    ///
+    /// `BadOrigin` exactly where the origin is empty, has more than 65,535 bytes, or has a character below
+    /// U+0020. `OutOfMemory` where memory was refused.
+    pub fn new(alloc: Global, origin: &str) -> Result<Mirror<H>, NewFault>
+        ensures view { IfOk result (λ mirror. mirror.view ≡ nothing origin.now) }
+        ensures remembered { IfOk result (λ mirror. mirror.remembered ≡ set.empty) }
+        ensures lawful { OnOk result (IsOrigin origin.now) }
+        ensures bad_origin { result ≡ Err NewFault.BadOrigin → IsOrigin origin.now → ⊥ }
+    {
+        if !is_origin(origin) {
+            return Err(NewFault::BadOrigin);
+        }
+        let Ok(origin) = String::from_str(alloc, origin) else {
+            return Err(NewFault::OutOfMemory);
+        };
+        Ok(Mirror {
+            origin,
+            kept: Vec::new(alloc),
+            strings: Store::new(alloc),
+            remembered: Marks::new(alloc),
+        })
+    }
+
+    /// The log's origin. It takes no memory.
+    pub fn origin(&self) -> &str
+        ensures { result.now ≡ self.now.view.origin }
+    {
+        &self.origin
+    }
+
+    /// The strings that are held. It takes no memory.
+    pub fn strings(&self) -> &Store<H>
+        ensures { result.now ≡ self.now.view.strings }
+    {
+        &self.strings
+    }
+}
+
+// Whether a mirror may be of that origin.
+fn is_origin(origin: &str) -> bool
+    ensures { IsTrue result ↔ IsOrigin origin.now }
+{
+    !origin.is_empty() && origin.len() <= 65_535 && is_printed(origin.as_bytes())
+}
+
+// Whether no byte is a control character.
+fn is_printed(bytes: &[u8]) -> bool
+    ensures { IsTrue result ↔ All (λ byte. 32 ≤ byte) bytes.now }
+{
+    bytes.iter().all(|byte| *byte >= 32)
+}
