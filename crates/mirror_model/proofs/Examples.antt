@@ -9,7 +9,8 @@ use Rattle.tlog_tiles.specs.declared.paths.Path.{Path}
 use Rattle.tlog_tiles.specs.declared.paths.Path.TheVariants.{Checkpoint, Tile, Entries}
 use Rattle.mirror_model.specs.Front.{InFront, IsPathOf}
 use Rattle.mirror_model.specs.Edge.{edge_levels}
-use Rattle.mirror_model.specs.Events.{TakeEvent, MergeEvent, OpeningReaches}
+use Rattle.mirror_model.specs.declared.events.Event.TheVariants.{Take, Merge}
+use Rattle.mirror_model.specs.Events.{OpeningReaches}
 use Rattle.mirror_model.specs.Examples.{IsThree, HasEdges, HasRoots, IsForked, HasParts, IsWay, some_item, three, held_never, IsFrontOfThree, HasTileOutside}
 use Rattle.mirror_model.proofs.Reaching.{open_none, open_itself, open_first, open_by, item_none, item_first, item_by}
 
@@ -39,39 +40,39 @@ is_forked = record {
 }
 
 -- nothing goes on from a mirror where no event remains, or by a merge out of another
-merges_on : (target source from to : ℕ) → (from ≡ source → ⊥) → OpeningReaches from to (MergeEvent target source ∷ []) → from ≡ to
+merges_on : (target source from to : ℕ) → (from ≡ source → ⊥) → OpeningReaches from to (Merge target source ∷ []) → from ≡ to
 merges_on target source from to other h =
-    elim (open_first (MergeEvent target source) [] from to h) [
+    elim (open_first (Merge target source) [] from to h) [
       | inl a ↦ open_none from to a
-      | inr b ↦ (let same : MergeEvent target source ≡ MergeEvent b.target from = b.is in absurd (other (sym (cc same))))
+      | inr b ↦ (let same : Merge target source ≡ Merge b.target from = b.is in absurd (other (sym (cc same))))
     ]
 
 pub is_way : IsWay
 is_way = record {
-  reaches = item_by (MergeEvent 1 0 ∷ MergeEvent 2 1 ∷ []) 0 some_item 2 (open_by (MergeEvent 2 1 ∷ []) 1 0 2 (open_by [] 2 1 2 (open_itself 2 [])));
-  not_back = λ h. elim (item_first (TakeEvent 0 some_item) (MergeEvent 2 1 ∷ MergeEvent 1 0 ∷ []) some_item 2 h) [
-    | inl a ↦ elim (item_first (MergeEvent 2 1) (MergeEvent 1 0 ∷ []) some_item 2 a) [
-      | inl b ↦ elim (item_first (MergeEvent 1 0) [] some_item 2 b) [ inl c ↦ item_none some_item 2 c | inr c ↦ absurd (cc (c.is)) ]
+  reaches = item_by (Merge 1 0 ∷ Merge 2 1 ∷ []) 0 some_item 2 (open_by (Merge 2 1 ∷ []) 1 0 2 (open_by [] 2 1 2 (open_itself 2 [])));
+  not_back = λ h. elim (item_first (Take 0 some_item) (Merge 2 1 ∷ Merge 1 0 ∷ []) some_item 2 h) [
+    | inl a ↦ elim (item_first (Merge 2 1) (Merge 1 0 ∷ []) some_item 2 a) [
+      | inl b ↦ elim (item_first (Merge 1 0) [] some_item 2 b) [ inl c ↦ item_none some_item 2 c | inr c ↦ absurd (cc (c.is)) ]
       | inr b ↦ absurd (cc (b.is))
     ]
     | inr a ↦
-        let t : TakeEvent 0 some_item ≡ TakeEvent a.target some_item = a.is in
+        let t : Take 0 some_item ≡ Take a.target some_item = a.is in
         let zero_is : 0 ≡ a.target = cc t in
-        let on : OpeningReaches 0 2 (MergeEvent 2 1 ∷ MergeEvent 1 0 ∷ []) = subst (λ n. OpeningReaches n 2 (MergeEvent 2 1 ∷ MergeEvent 1 0 ∷ [])) (sym zero_is) a.on in
-        elim (open_first (MergeEvent 2 1) (MergeEvent 1 0 ∷ []) 0 2 on) [
-          | inl b ↦ elim (open_first (MergeEvent 1 0) [] 0 2 b) [
+        let on : OpeningReaches 0 2 (Merge 2 1 ∷ Merge 1 0 ∷ []) = subst (λ n. OpeningReaches n 2 (Merge 2 1 ∷ Merge 1 0 ∷ [])) (sym zero_is) a.on in
+        elim (open_first (Merge 2 1) (Merge 1 0 ∷ []) 0 2 on) [
+          | inl b ↦ elim (open_first (Merge 1 0) [] 0 2 b) [
             | inl c ↦ (let wrong : 0 ≡ 2 = open_none 0 2 c in omega (arith, wrong))
-            | inr c ↦ (let m : MergeEvent 1 0 ≡ MergeEvent c.target 0 = c.is in let one_is : 1 ≡ c.target = cc m in let wrong : c.target ≡ 2 = open_none c.target 2 c.on in omega (arith, wrong, one_is))
+            | inr c ↦ (let m : Merge 1 0 ≡ Merge c.target 0 = c.is in let one_is : 1 ≡ c.target = cc m in let wrong : c.target ≡ 2 = open_none c.target 2 c.on in omega (arith, wrong, one_is))
           ]
-          | inr b ↦ (let m : MergeEvent 2 1 ≡ MergeEvent b.target 0 = b.is in let one : ℕ = 1 in let none : ℕ = 0 in let wrong : one ≡ none = cc m in omega (arith, wrong))
+          | inr b ↦ (let m : Merge 2 1 ≡ Merge b.target 0 = b.is in let one : ℕ = 1 in let none : ℕ = 0 in let wrong : one ≡ none = cc m in omega (arith, wrong))
         ]
   ];
-  not_before = λ h. elim (item_first (MergeEvent 1 0) (TakeEvent 0 some_item ∷ []) some_item 1 h) [
+  not_before = λ h. elim (item_first (Merge 1 0) (Take 0 some_item ∷ []) some_item 1 h) [
     | inr b ↦ absurd (cc (b.is))
-    | inl a ↦ elim (item_first (TakeEvent 0 some_item) [] some_item 1 a) [
+    | inl a ↦ elim (item_first (Take 0 some_item) [] some_item 1 a) [
       | inl b ↦ item_none some_item 1 b
       | inr b ↦
-          let t : TakeEvent 0 some_item ≡ TakeEvent b.target some_item = b.is in
+          let t : Take 0 some_item ≡ Take b.target some_item = b.is in
           let zero_is : 0 ≡ b.target = cc t in
           let wrong : b.target ≡ 1 = open_none b.target 1 b.on in
           omega (arith, wrong, zero_is)

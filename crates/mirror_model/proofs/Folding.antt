@@ -4,8 +4,10 @@ use Rattle.std.specs.Prelude.{if◌then◌else◌}
 use Rattle.std.specs.List.{Contains}
 use Rattle.std.proofs.lemmas.Bool.{eqb-true}
 use Rattle.std.proofs.lemmas.List.Elements.{Contains-append_left, Contains-append_right, Contains-append_cases, Contains-push, All-contains, All-from_recursion}
-use Rattle.mirror_model.specs.Item.{Item}
-use Rattle.mirror_model.specs.Events.{Event, TakeEvent, MergeEvent, Reaches, OpeningReaches, Source, OpenedView, TakenItem, sources_after, sources_from}
+use Rattle.mirror_model.specs.declared.items.Item.{Item}
+use Rattle.mirror_model.specs.declared.events.Event.{Event}
+use Rattle.mirror_model.specs.declared.events.Event.TheVariants.{Take, Merge}
+use Rattle.mirror_model.specs.Events.{Reaches, OpeningReaches, Source, OpenedView, TakenItem, sources_after, sources_from}
 use Rattle.mirror_model.specs.PlayLaws.{FoldIsReaches}
 use Rattle.mirror_model.proofs.Reaching.{open_none, open_itself, open_first, open_later, open_by, item_none, item_first, item_later, item_by}
 
@@ -43,7 +45,7 @@ kept : (xs ys : List Source) (b : Bool) → b ≡ false → (if b then xs else y
 kept xs ys true e = absurd (cc e)
 kept xs ys false e = refl
 
-after_take_to : (before : ℕ → List Source) (target : ℕ) (item : Item) (mirror : ℕ) (s : Source) → Contains (sources_after before (TakeEvent target item) mirror) s → Contains (before mirror) s ⊎ ((mirror ≡ target) × (s ≡ TakenItem item))
+after_take_to : (before : ℕ → List Source) (target : ℕ) (item : Item) (mirror : ℕ) (s : Source) → Contains (sources_after before (Take target item) mirror) s → Contains (before mirror) s ⊎ ((mirror ≡ target) × (s ≡ TakenItem item))
 after_take_to before target item mirror s c =
     elim (same_target mirror target) [
       | inr ne ↦ inl (subst (λ xs. Contains xs s) (kept (before mirror ++ TakenItem item ∷ []) (before mirror) (nat_eq mirror target) ne) c)
@@ -53,7 +55,7 @@ after_take_to before target item mirror s c =
       ]
     ]
 
-after_merge_to : (before : ℕ → List Source) (target source mirror : ℕ) (s : Source) → Contains (sources_after before (MergeEvent target source) mirror) s → Contains (before mirror) s ⊎ ((mirror ≡ target) × Contains (before source) s)
+after_merge_to : (before : ℕ → List Source) (target source mirror : ℕ) (s : Source) → Contains (sources_after before (Merge target source) mirror) s → Contains (before mirror) s ⊎ ((mirror ≡ target) × Contains (before source) s)
 after_merge_to before target source mirror s c =
     elim (same_target mirror target) [
       | inr ne ↦ inl (subst (λ xs. Contains xs s) (kept (before mirror ++ before source) (before mirror) (nat_eq mirror target) ne) c)
@@ -61,33 +63,33 @@ after_merge_to before target source mirror s c =
     ]
 
 after_keeps : (before : ℕ → List Source) (e : Event) (mirror : ℕ) (s : Source) → Contains (before mirror) s → Contains (sources_after before e mirror) s
-after_keeps before (TakeEvent target item) mirror s c = either (nat_eq mirror target)
+after_keeps before (Take target item) mirror s c = either (nat_eq mirror target)
   where
     either : (b : Bool) → Contains (if b then before mirror ++ TakenItem item ∷ [] else before mirror) s
     either true = Contains-append_left (before mirror) (TakenItem item ∷ []) s c
     either false = c
-after_keeps before (MergeEvent target source) mirror s c = either (nat_eq mirror target)
+after_keeps before (Merge target source) mirror s c = either (nat_eq mirror target)
   where
     either : (b : Bool) → Contains (if b then before mirror ++ before source else before mirror) s
     either true = Contains-append_left (before mirror) (before source) s c
     either false = c
 
-after_takes : (before : ℕ → List Source) (target : ℕ) (item : Item) → Contains (sources_after before (TakeEvent target item) target) (TakenItem item)
+after_takes : (before : ℕ → List Source) (target : ℕ) (item : Item) → Contains (sources_after before (Take target item) target) (TakenItem item)
 after_takes before target item = subst (λ xs. Contains xs (TakenItem item)) (sym (added (before target ++ TakenItem item ∷ []) (before target) (nat_eq target target) (eq-eqb target target refl))) (Contains-push (before target) (TakenItem item))
 
-after_merges : (before : ℕ → List Source) (target source : ℕ) (s : Source) → Contains (before source) s → Contains (sources_after before (MergeEvent target source) target) s
+after_merges : (before : ℕ → List Source) (target source : ℕ) (s : Source) → Contains (before source) s → Contains (sources_after before (Merge target source) target) s
 after_merges before target source s c = subst (λ xs. Contains xs s) (sym (added (before target ++ before source) (before target) (nat_eq target target) (eq-eqb target target refl))) (Contains-append_right (before target) (before source) s c)
 
 -- one event before the others
 came_first : (before : ℕ → List Source) (e : Event) (es : List Event) (mirror : ℕ) (s : Source) → CameBy (sources_after before e) es mirror s → Came before (e ∷ es) mirror s
-came_first before (TakeEvent target item) es mirror s c =
+came_first before (Take target item) es mirror s c =
     elim (after_take_to before target item c.from s c.was) [
-      | inl a ↦ inl (record { from = c.from; was = a; on = open_later (TakeEvent target item) es c.from mirror c.on })
+      | inl a ↦ inl (record { from = c.from; was = a; on = open_later (Take target item) es c.from mirror c.on })
       | inr b ↦ inr (record { item = item; is = b.1; reaches = item_by es target item mirror (subst (λ m. OpeningReaches m mirror es) b.0 c.on) })
     ]
-came_first before (MergeEvent target source) es mirror s c =
+came_first before (Merge target source) es mirror s c =
     elim (after_merge_to before target source c.from s c.was) [
-      | inl a ↦ inl (record { from = c.from; was = a; on = open_later (MergeEvent target source) es c.from mirror c.on })
+      | inl a ↦ inl (record { from = c.from; was = a; on = open_later (Merge target source) es c.from mirror c.on })
       | inr b ↦ inl (record { from = source; was = b.1; on = open_by es target source mirror (subst (λ m. OpeningReaches m mirror es) b.0 c.on) })
     ]
 

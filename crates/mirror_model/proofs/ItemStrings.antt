@@ -13,12 +13,14 @@ use Rattle.node_store.specs.Strings.{Has, HasAll, IsTagged, OfEntry, OfPair}
 use Rattle.mirror_model.specs.Edge.{edge_widths, edge_strings, strings_from}
 use Rattle.mirror_model.specs.Heads.{IsHead}
 use Rattle.mirror_model.specs.View.{View}
-use Rattle.mirror_model.specs.Item.{Item, HeadItem, TileItem, BundleItem, row_of, entries_of, IsGood, strings_of, notes_of, plus}
+use Rattle.mirror_model.specs.declared.items.Item.{Item}
+use Rattle.mirror_model.specs.declared.items.Item.TheVariants.{Head, Tile, Bundle}
+use Rattle.mirror_model.specs.Item.{row_of, entries_of, IsGood, strings_of, notes_of, plus}
 use Rattle.mirror_model.specs.Complete.{HasEdge}
 use Rattle.mirror_model.specs.ViewLaws.{IsHash, PlusIsLawful}
 use Rattle.mirror_model.proofs.StringSets.{has_right, has_cases, listed_from_has, has_from_listed, held_from_all}
 use Rattle.mirror_model.proofs.Views.{within_plus, edge_stays}
-use Rattle.mirror_model.proofs.Items.{row_is_row, bundle_is_one}
+use Rattle.mirror_model.proofs.ItemBytes.{row_is_row, bundle_is_one}
 
 -- a string of a good item: a pair, or a leaf of an entry of at most 65,535 bytes
 pub record IsShortLeaf (string : List ℕ) : Type 0 where
@@ -123,13 +125,13 @@ module _ (digest : List ℕ → List ℕ) (hash : IsHash digest) where
       ]
 
   pub item_strings : (origin : List ℕ) (keys : List Key) (item : Item) → IsGood digest origin keys item → (y : List ℕ) → Contains (strings_of digest item) y → IsItemString y
-  item_strings origin keys (HeadItem note rows) good y c = inr (edge_pairs (map row_of rows) (rows_hashes rows (edge_widths good.size) good.has_edge.widths) y c)
-  item_strings origin keys (TileItem width bytes) good y c = inr (joins_pairs (row_of bytes) (row_hashes width bytes good.length_is) y c)
-  item_strings origin keys (BundleItem width bytes) good y c = entry_strings (entries_of width bytes) (subst (All (λ e. length e < 2 ^ 16)) (bundle_is_one width bytes good.entries good.is_bundle) good.is_bundle.fits) y c
+  item_strings origin keys (Head note rows) good y c = inr (edge_pairs (map row_of rows) (rows_hashes rows (edge_widths good.size) good.has_edge.widths) y c)
+  item_strings origin keys (Tile width bytes) good y c = inr (joins_pairs (row_of bytes) (row_hashes width bytes good.length_is) y c)
+  item_strings origin keys (Bundle width bytes) good y c = entry_strings (entries_of width bytes) (subst (All (λ e. length e < 2 ^ 16)) (bundle_is_one width bytes good.entries good.is_bundle) good.is_bundle.fits) y c
 
   -- the edge of a good head is held with its strings
   note_edge : (keys : List Key) (v : View) (item : Item) → IsGood digest v.origin keys item → (note : List ℕ) → Contains (notes_of item) note → HasEdge digest (plus digest v item) note
-  note_edge keys v (HeadItem bytes rows) good note c =
+  note_edge keys v (Head bytes rows) good note c =
       let is : note ≡ bytes = All-contains (λ n. n ≡ bytes) (bytes ∷ []) note (All-from_recursion (λ n. n ≡ bytes) (bytes ∷ []) (refl, tt)) c in
       let ss = edge_strings digest (map row_of rows) in
       let held : HasAll (set.union v.strings (set.from_list ss)) ss = held_from_all _ ss (recursion_from_All (Has (set.union v.strings (set.from_list ss))) ss (All-weaker (Contains ss) (Has (set.union v.strings (set.from_list ss))) (λ y d. has_right v.strings (set.from_list ss) y (has_from_listed ss y d)) ss (All-contains_itself ss))) in
@@ -142,8 +144,8 @@ module _ (digest : List ℕ → List ℕ) (hash : IsHash digest) where
         has_edge = good.has_edge;
         are_held = held;
       }
-  note_edge keys v (TileItem width bytes) good note c = absurd (All-contains (λ n. ⊥) [] note (All-nil (λ n. ⊥)) c)
-  note_edge keys v (BundleItem width bytes) good note c = absurd (All-contains (λ n. ⊥) [] note (All-nil (λ n. ⊥)) c)
+  note_edge keys v (Tile width bytes) good note c = absurd (All-contains (λ n. ⊥) [] note (All-nil (λ n. ⊥)) c)
+  note_edge keys v (Bundle width bytes) good note c = absurd (All-contains (λ n. ⊥) [] note (All-nil (λ n. ⊥)) c)
 
 is_string : (y : List ℕ) → IsItemString y → IsTagged y
 is_string y (inl l) = subst IsTagged (sym l.is) (OfEntry l.entry)

@@ -7,10 +7,13 @@ use Rattle.std.proofs.lemmas.List.Elements.{All-contains, All-nil, All-from_recu
 use Rattle.node_store.specs.Strings.{Has, NoClash}
 use Rattle.signed_note.specs.Keys.{Key}
 use Rattle.mirror_model.specs.View.{View, union, IsWithin}
-use Rattle.mirror_model.specs.Item.{Item, HeadItem, TileItem, BundleItem, IsGood, notes_of, plus}
+use Rattle.mirror_model.specs.declared.items.Item.{Item}
+use Rattle.mirror_model.specs.declared.items.Item.TheVariants.{Head, Tile, Bundle}
+use Rattle.mirror_model.specs.Item.{IsGood, notes_of, plus}
 use Rattle.mirror_model.specs.Heads.{IsHead}
 use Rattle.mirror_model.specs.Complete.{IsLawful, HasEdge}
-use Rattle.mirror_model.specs.Events.{Event, TakeEvent, MergeEvent}
+use Rattle.mirror_model.specs.declared.events.Event.{Event}
+use Rattle.mirror_model.specs.declared.events.Event.TheVariants.{Take, Merge}
 use Rattle.mirror_model.specs.Steps.{Answer, Done, Refused, Clashed, Exhausted, IsBetween, Answers, Happens}
 use Rattle.mirror_model.specs.ViewLaws.{IsHash}
 use Rattle.mirror_model.specs.PlayLaws.{NoteIsLast, BetweenIsLawful, AreLawful, RunIsLawful, RunGrows}
@@ -23,12 +26,12 @@ use Rattle.mirror_model.proofs.Playing.{event_grows, set_back}
 -- ---- notes
 
 only_note : (item : Item) (note other : List ℕ) → Contains (notes_of item) note → Contains (notes_of item) other → other ≡ note
-only_note (HeadItem bytes rows) note other a b = one other b ∙ sym (one note a)
+only_note (Head bytes rows) note other a b = one other b ∙ sym (one note a)
   where
     one : (n : List ℕ) → Contains (bytes ∷ []) n → n ≡ bytes
     one n c = All-contains (λ m. m ≡ bytes) (bytes ∷ []) n (All-from_recursion (λ m. m ≡ bytes) (bytes ∷ []) (refl, tt)) c
-only_note (TileItem width bytes) note other a b = absurd (All-contains (λ m. ⊥) [] note (All-nil (λ m. ⊥)) a)
-only_note (BundleItem width bytes) note other a b = absurd (All-contains (λ m. ⊥) [] note (All-nil (λ m. ⊥)) a)
+only_note (Tile width bytes) note other a b = absurd (All-contains (λ m. ⊥) [] note (All-nil (λ m. ⊥)) a)
+only_note (Bundle width bytes) note other a b = absurd (All-contains (λ m. ⊥) [] note (All-nil (λ m. ⊥)) a)
 
 note_between : (digest : List ℕ → List ℕ) (old new : View) (item : Item) (note : List ℕ) → IsBetween old (plus digest old item) new → Has new.notes note → Has old.notes note ⊎ (new ≡ plus digest old item)
 note_between digest old new item note b has =
@@ -75,14 +78,14 @@ answer_lawful digest Allowed full old p whole Exhausted new (inl same) = subst (
 answer_lawful digest Allowed full old p whole Exhausted new (inr h) = between_is_lawful digest old full new p (whole h.0 h.1) h.2
 
 event_lawful : (digest : List ℕ → List ℕ) → IsHash digest → (keys : List Key) (old new : List View) (e : Event) (a : Answer) → AreLawful digest old → Happens digest keys old e a new → AreLawful digest new
-event_lawful digest hash keys old new (TakeEvent target item) a all h number v found =
+event_lawful digest hash keys old new (Take target item) a all h number v found =
     elim (set_back digest keys old new target h.after h.set h.before h.found number v found) [
       | inl same ↦ all number v same
       | inr b ↦
           let p = all target h.before h.found in
           subst (IsLawful digest) (sym b.1) (answer_lawful digest (IsGood digest h.before.origin keys item) (plus digest h.before item) h.before p (λ good clean. plus_is_lawful digest hash keys h.before item p good clean) a h.after h.takes)
     ]
-event_lawful digest hash keys old new (MergeEvent target source) a all h number v found =
+event_lawful digest hash keys old new (Merge target source) a all h number v found =
     elim (set_back digest keys old new target h.after h.set h.before h.found number v found) [
       | inl same ↦ all number v same
       | inr b ↦

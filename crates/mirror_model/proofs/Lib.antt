@@ -6,7 +6,7 @@ pub mod Fronts
 pub mod Walks
 pub mod TreeLaws
 pub mod StringSets
-pub mod Items
+pub mod ItemBytes
 pub mod ItemStrings
 pub mod Views
 pub mod OneLists

@@ -8,8 +8,11 @@ use Rattle.node_store.specs.Strings.{Strings, Has}
 use Rattle.signed_note.specs.Keys.{Key}
 use Rattle.mirror_model.specs.View.{View, union, IsWithin}
 use Rattle.mirror_model.specs.Strings.{HasClash}
-use Rattle.mirror_model.specs.Item.{Item, IsGood, strings_of, notes_of, plus}
-use Rattle.mirror_model.specs.Events.{Event, TakeEvent, MergeEvent, Reaches, OpeningReaches}
+use Rattle.mirror_model.specs.declared.items.Item.{Item}
+use Rattle.mirror_model.specs.Item.{IsGood, strings_of, notes_of, plus}
+use Rattle.mirror_model.specs.declared.events.Event.{Event}
+use Rattle.mirror_model.specs.declared.events.Event.TheVariants.{Take, Merge}
+use Rattle.mirror_model.specs.Events.{Reaches, OpeningReaches}
 use Rattle.mirror_model.specs.Steps.{Answer, Done, Refused, Clashed, Exhausted, Answers, Happens, TakesAt, MergesAt, Run}
 use Rattle.mirror_model.specs.Reached.{OpensWith, TakesIn, HasReached, HasReachedOnly, events_of, is_done, may_change, is_answered, IsNext, AreRetried}
 use Rattle.mirror_model.specs.PlayLaws.{AreOf, RunIsBounded, IsReached, RunIsReached, IsMet, NoneClashes, SameReachedSameView, MirrorsAgree, ForMirrors, ReachesToo}
@@ -37,8 +40,8 @@ module _ (digest : List ℕ → List ℕ) (keys : List Key) where
       ]
 
   pub event_grows : (old new : List View) (e : Event) (a : Answer) → Happens digest keys old e a new → (number : ℕ) (v : View) → slice_get old number ≡ Some v → Grew new number v
-  event_grows old new (TakeEvent target item) a h = set_grows old new target h.before h.after h.found h.set (answer_grows digest (IsGood digest h.before.origin keys item) (plus digest h.before item) h.before (within_plus digest h.before item) a h.after h.takes)
-  event_grows old new (MergeEvent target source) a h = set_grows old new target h.before h.after h.found h.set (answer_grows digest (h.before.origin ≡ h.other.origin) (union h.before h.other) h.before (within_union h.before h.other) a h.after h.merges)
+  event_grows old new (Take target item) a h = set_grows old new target h.before h.after h.found h.set (answer_grows digest (IsGood digest h.before.origin keys item) (plus digest h.before item) h.before (within_plus digest h.before item) a h.after h.takes)
+  event_grows old new (Merge target source) a h = set_grows old new target h.before h.after h.found h.set (answer_grows digest (h.before.origin ≡ h.other.origin) (union h.before h.other) h.before (within_union h.before h.other) a h.after h.merges)
 
   -- a view after an event stood there before, or is the event's
   pub set_back : (old new : List View) (target : ℕ) (after : View) → new ≡ slice_set old target after → (before : View) → slice_get old target ≡ Some before → (number : ℕ) (v : View) → slice_get new number ≡ Some v → (slice_get old number ≡ Some v) ⊎ ((number ≡ target) × (v ≡ after))
@@ -50,12 +53,12 @@ module _ (digest : List ℕ → List ℕ) (keys : List Key) where
       ]
 
   pub event_origin : (origin : List ℕ) (old new : List View) (e : Event) (a : Answer) → Happens digest keys old e a new → AreOf origin old → AreOf origin new
-  event_origin origin old new (TakeEvent target item) a h of number v here =
+  event_origin origin old new (Take target item) a h of number v here =
       elim (set_back old new target h.after h.set h.before h.found number v here) [
         | inl same ↦ of number v same
         | inr b ↦ ap (λ w. w.origin) b.1 ∙ sym (answer_grows digest (IsGood digest h.before.origin keys item) (plus digest h.before item) h.before (within_plus digest h.before item) a h.after h.takes).origin_is ∙ of target h.before h.found
       ]
-  event_origin origin old new (MergeEvent target source) a h of number v here =
+  event_origin origin old new (Merge target source) a h of number v here =
       elim (set_back old new target h.after h.set h.before h.found number v here) [
         | inl same ↦ of number v same
         | inr b ↦ ap (λ w. w.origin) b.1 ∙ sym (answer_grows digest (h.before.origin ≡ h.other.origin) (union h.before h.other) h.before (within_union h.before h.other) a h.after h.merges).origin_is ∙ of target h.before h.found
@@ -112,45 +115,45 @@ module _ (digest : List ℕ → List ℕ) (origin : List ℕ) (keys : List Key) 
     from_before : (old : List View) (e : Event) (es : List Event) (a : Answer) (rest : List Answer) (number mirror : ℕ) (v : View) (q : List ℕ) → slice_get old number ≡ Some v → Has (part v) q → OpeningReaches number mirror (events_of keep es rest) → From old (events_of keep (e ∷ es) (a ∷ rest)) mirror q
     from_before old e es a rest number mirror v q found has on = inl (record { number = number; view = v; is = found; reaches = more_open e es a rest number mirror on; has = has })
 
-    from_take : (old mid : List View) (target : ℕ) (item : Item) (es : List Event) (a : Answer) (rest : List Answer) (mirror : ℕ) (q : List ℕ) → AreOf origin old → (h : TakesAt digest keys old target item a mid) → Has (part h.after) q → OpeningReaches target mirror (events_of keep es rest) → From old (events_of keep (TakeEvent target item ∷ es) (a ∷ rest)) mirror q
+    from_take : (old mid : List View) (target : ℕ) (item : Item) (es : List Event) (a : Answer) (rest : List Answer) (mirror : ℕ) (q : List ℕ) → AreOf origin old → (h : TakesAt digest keys old target item a mid) → Has (part h.after) q → OpeningReaches target mirror (events_of keep es rest) → From old (events_of keep (Take target item ∷ es) (a ∷ rest)) mirror q
     from_take old mid target item es a rest mirror q of h has on =
-        let before = from_before old (TakeEvent target item) es a rest target mirror h.before q h.found in
+        let before = from_before old (Take target item) es a rest target mirror h.before q h.found in
         elim (answer_within digest (IsGood digest h.before.origin keys item) (plus digest h.before item) h.before (within_plus digest h.before item) a h.after h.takes) [
           | inl same ↦ before (subst (λ v. Has (part v) q) same has) on
           | inr changed ↦
               let full : Has (set.union (part h.before) (set.from_list (adds item))) q = subst (λ s. Has s q) (is_part.plus_is h.before item) (is_part.within h.after (plus digest h.before item) changed.1 q has) in
               elim (has_cases (part h.before) (set.from_list (adds item)) q full) [
                 | inl b ↦ before b on
-                | inr b ↦ kept_cases (λ events. From old events mirror q) (TakeEvent target item) es a rest
+                | inr b ↦ kept_cases (λ events. From old events mirror q) (Take target item) es a rest
                     (λ k. inr (record { item = item; good = subst (λ o. IsGood digest o keys item) (of target h.before h.found) changed.0; reaches = item_by (events_of keep es rest) target item mirror on; has = listed_from_has (adds item) q b }))
                     (λ k. inl (record { number = target; view = h.before; is = h.found; reaches = on; has = subst (λ v. Has (part v) q) (answer_changes digest (IsGood digest h.before.origin keys item) (plus digest h.before item) h.before (within_plus digest h.before item) a h.after h.takes (skips a k)) has }))
               ]
         ]
 
-    from_merge : (old mid : List View) (target source : ℕ) (es : List Event) (a : Answer) (rest : List Answer) (mirror : ℕ) (q : List ℕ) → (h : MergesAt digest keys old target source a mid) → Has (part h.after) q → OpeningReaches target mirror (events_of keep es rest) → From old (events_of keep (MergeEvent target source ∷ es) (a ∷ rest)) mirror q
+    from_merge : (old mid : List View) (target source : ℕ) (es : List Event) (a : Answer) (rest : List Answer) (mirror : ℕ) (q : List ℕ) → (h : MergesAt digest keys old target source a mid) → Has (part h.after) q → OpeningReaches target mirror (events_of keep es rest) → From old (events_of keep (Merge target source ∷ es) (a ∷ rest)) mirror q
     from_merge old mid target source es a rest mirror q h has on =
-        let before = from_before old (MergeEvent target source) es a rest target mirror h.before q h.found in
+        let before = from_before old (Merge target source) es a rest target mirror h.before q h.found in
         elim (answer_within digest (h.before.origin ≡ h.other.origin) (union h.before h.other) h.before (within_union h.before h.other) a h.after h.merges) [
           | inl same ↦ before (subst (λ v. Has (part v) q) same has) on
           | inr changed ↦
               let full : Has (set.union (part h.before) (part h.other)) q = subst (λ s. Has s q) (is_part.union_is h.before h.other) (is_part.within h.after (union h.before h.other) changed.1 q has) in
               elim (has_cases (part h.before) (part h.other) q full) [
                 | inl b ↦ before b on
-                | inr b ↦ kept_cases (λ events. From old events mirror q) (MergeEvent target source) es a rest
+                | inr b ↦ kept_cases (λ events. From old events mirror q) (Merge target source) es a rest
                     (λ k. inl (record { number = source; view = h.other; is = h.found_other; reaches = open_by (events_of keep es rest) target source mirror on; has = b }))
                     (λ k. inl (record { number = target; view = h.before; is = h.found; reaches = on; has = subst (λ v. Has (part v) q) (answer_changes digest (h.before.origin ≡ h.other.origin) (union h.before h.other) h.before (within_union h.before h.other) a h.after h.merges (skips a k)) has }))
               ]
         ]
 
     from_event : (old mid : List View) (e : Event) (es : List Event) (a : Answer) (rest : List Answer) (number mirror : ℕ) (v : View) (q : List ℕ) → AreOf origin old → Happens digest keys old e a mid → slice_get mid number ≡ Some v → Has (part v) q → OpeningReaches number mirror (events_of keep es rest) → From old (events_of keep (e ∷ es) (a ∷ rest)) mirror q
-    from_event old mid (TakeEvent target item) es a rest number mirror v q of h found has on =
+    from_event old mid (Take target item) es a rest number mirror v q of h found has on =
         elim (set_back digest keys old mid target h.after h.set h.before h.found number v found) [
-          | inl same ↦ from_before old (TakeEvent target item) es a rest number mirror v q same has on
+          | inl same ↦ from_before old (Take target item) es a rest number mirror v q same has on
           | inr b ↦ from_take old mid target item es a rest mirror q of h (subst (λ w. Has (part w) q) b.1 has) (subst (λ n. OpeningReaches n mirror (events_of keep es rest)) b.0 on)
         ]
-    from_event old mid (MergeEvent target source) es a rest number mirror v q of h found has on =
+    from_event old mid (Merge target source) es a rest number mirror v q of h found has on =
         elim (set_back digest keys old mid target h.after h.set h.before h.found number v found) [
-          | inl same ↦ from_before old (MergeEvent target source) es a rest number mirror v q same has on
+          | inl same ↦ from_before old (Merge target source) es a rest number mirror v q same has on
           | inr b ↦ from_merge old mid target source es a rest mirror q h (subst (λ w. Has (part w) q) b.1 has) (subst (λ n. OpeningReaches n mirror (events_of keep es rest)) b.0 on)
         ]
 
@@ -191,12 +194,12 @@ module _ (digest : List ℕ → List ℕ) (origin : List ℕ) (keys : List Key) 
   after_is : (old mid : List View) (target : ℕ) (before after : View) → slice_get old target ≡ Some before → mid ≡ slice_set old target after → slice_get mid target ≡ Some after
   after_is old mid target before after found is = ap (λ xs. slice_get xs target) is ∙ get_set_same old target before after found
 
-  merge_on : (old mid : List View) (e : Event) (a : Answer) → AreOf origin old → IsExact a → Happens digest keys old e a mid → (number target : ℕ) → e ≡ MergeEvent target number → (v : View) → slice_get old number ≡ Some v → (q : List ℕ) → Has (part v) q → (w : View) × (slice_get mid target ≡ Some w) × Has (part w) q
+  merge_on : (old mid : List View) (e : Event) (a : Answer) → AreOf origin old → IsExact a → Happens digest keys old e a mid → (number target : ℕ) → e ≡ Merge target number → (v : View) → slice_get old number ≡ Some v → (q : List ℕ) → Has (part v) q → (w : View) × (slice_get mid target ≡ Some w) × Has (part w) q
   merge_on old mid e a of exact h number target is v found q has =
       let m : MergesAt digest keys old target number a mid = subst (λ f. Happens digest keys old f a mid) is h in
       (m.after, after_is old mid target m.before m.after m.found m.set, merge_adds old mid target number a of exact m v found q has)
 
-  take_on : (old mid : List View) (e : Event) (a : Answer) → AreOf origin old → IsExact a → Happens digest keys old e a mid → (item : Item) (target : ℕ) → e ≡ TakeEvent target item → IsGood digest origin keys item → (q : List ℕ) → Contains (adds item) q → (w : View) × (slice_get mid target ≡ Some w) × Has (part w) q
+  take_on : (old mid : List View) (e : Event) (a : Answer) → AreOf origin old → IsExact a → Happens digest keys old e a mid → (item : Item) (target : ℕ) → e ≡ Take target item → IsGood digest origin keys item → (q : List ℕ) → Contains (adds item) q → (w : View) × (slice_get mid target ≡ Some w) × Has (part w) q
   take_on old mid e a of exact h item target is good q has =
       let m : TakesAt digest keys old target item a mid = subst (λ f. Happens digest keys old f a mid) is h in
       (m.after, after_is old mid target m.before m.after m.found m.set, take_adds old mid target item a of exact m good q has)
@@ -288,7 +291,7 @@ all_events digest keys old new (e ∷ es) (a ∷ rest) run = ap (λ fs. e ∷ fs
 
 -- ---- events done again
 
-no_merge_by : {X : Type 0} (t : ℕ) (x : Item) (target source : ℕ) → TakeEvent t x ≡ MergeEvent target source → X
+no_merge_by : {X : Type 0} (t : ℕ) (x : Item) (target source : ℕ) → Take t x ≡ Merge target source → X
 no_merge_by t x target source e = absurd (cc e)
 
 open_once : (e : Event) (es : List Event) (opened mirror : ℕ) → OpeningReaches opened mirror (e ∷ e ∷ es) → OpeningReaches opened mirror (e ∷ es)
@@ -298,7 +301,7 @@ open_once e es opened mirror h =
       | inr b ↦ elim (open_first e es b.target mirror b.on) [
         | inl on ↦ subst (λ f. OpeningReaches opened mirror (f ∷ es)) (sym b.is) (open_by es b.target opened mirror on)
         | inr c ↦
-            let same : MergeEvent b.target opened ≡ MergeEvent c.target b.target = sym b.is ∙ c.is in
+            let same : Merge b.target opened ≡ Merge c.target b.target = sym b.is ∙ c.is in
             let target_is : c.target ≡ b.target = sym (cc same) in
             subst (λ f. OpeningReaches opened mirror (f ∷ es)) (sym b.is) (open_by es b.target opened mirror (subst (λ n. OpeningReaches n mirror es) target_is c.on))
       ]
@@ -406,12 +409,12 @@ module _ (digest : List ℕ → List ℕ) (origin : List ℕ) (keys : List Key) 
   AllMet world = (number : ℕ) (v : View) → slice_get world number ≡ Some v → (q : List ℕ) → Has v.strings q → M q
 
   abbrev AllTaken : List Event → Type 0
-  AllTaken events = (position target : ℕ) (item : Item) → slice_get events position ≡ Some (TakeEvent target item) → IsGood digest origin keys item → (q : List ℕ) → Contains (strings_of digest item) q → M q
+  AllTaken events = (position target : ℕ) (item : Item) → slice_get events position ≡ Some (Take target item) → IsGood digest origin keys item → (q : List ℕ) → Contains (strings_of digest item) q → M q
 
   no_clash_of : (v : Strings) → ((q : List ℕ) → Has v q → M q) → HasClash digest v → ⊥
   no_clash_of v all c = c.differ (clean c.first c.second (all c.first c.first_held) (all c.second c.second_held) c.same_digest)
 
-  plus_met : (old : List View) (number : ℕ) (v : View) → slice_get old number ≡ Some v → AreOf origin old → AllMet old → (es : List Event) (target : ℕ) (item : Item) → AllTaken (TakeEvent target item ∷ es) → IsGood digest v.origin keys item → (q : List ℕ) → Has (plus digest v item).strings q → M q
+  plus_met : (old : List View) (number : ℕ) (v : View) → slice_get old number ≡ Some v → AreOf origin old → AllMet old → (es : List Event) (target : ℕ) (item : Item) → AllTaken (Take target item ∷ es) → IsGood digest v.origin keys item → (q : List ℕ) → Has (plus digest v item).strings q → M q
   plus_met old number v found of met es target item taken good q h =
       elim (has_cases v.strings (set.from_list (strings_of digest item)) q h) [
         | inl a ↦ met number v found q a
@@ -422,15 +425,15 @@ module _ (digest : List ℕ → List ℕ) (origin : List ℕ) (keys : List Key) 
   union_met old number other v w found found_other met q h = elim (has_cases v.strings w.strings q h) [ inl a ↦ met number v found q a | inr b ↦ met other w found_other q b ]
 
   event_clean : (old mid : List View) (e : Event) (es : List Event) (a : Answer) → AreOf origin old → AllMet old → AllTaken (e ∷ es) → Happens digest keys old e a mid → a ≡ Clashed → ⊥
-  event_clean old mid (TakeEvent target item) es a of met taken h is =
+  event_clean old mid (Take target item) es a of met taken h is =
       let c : Answers digest (IsGood digest h.before.origin keys item) (plus digest h.before item) h.before Clashed h.after = subst (λ b. Answers digest (IsGood digest h.before.origin keys item) (plus digest h.before item) h.before b h.after) is h.takes in
       no_clash_of (plus digest h.before item).strings (plus_met old target h.before h.found of met es target item taken c.0) c.1
-  event_clean old mid (MergeEvent target source) es a of met taken h is =
+  event_clean old mid (Merge target source) es a of met taken h is =
       let c : Answers digest (h.before.origin ≡ h.other.origin) (union h.before h.other) h.before Clashed h.after = subst (λ b. Answers digest (h.before.origin ≡ h.other.origin) (union h.before h.other) h.before b h.after) is h.merges in
       no_clash_of (union h.before h.other).strings (union_met old target source h.before h.other h.found h.found_other met) c.1
 
   event_met : (old mid : List View) (e : Event) (es : List Event) (a : Answer) → AreOf origin old → AllMet old → AllTaken (e ∷ es) → Happens digest keys old e a mid → AllMet mid
-  event_met old mid (TakeEvent target item) es a of met taken h number v found q has =
+  event_met old mid (Take target item) es a of met taken h number v found q has =
       elim (set_back digest keys old mid target h.after h.set h.before h.found number v found) [
         | inl same ↦ met number v same q has
         | inr b ↦
@@ -440,7 +443,7 @@ module _ (digest : List ℕ → List ℕ) (origin : List ℕ) (keys : List Key) 
               | inr changed ↦ plus_met old target h.before h.found of met es target item taken changed.0 q (changed.1.strings_are q has')
             ]
       ]
-  event_met old mid (MergeEvent target source) es a of met taken h number v found q has =
+  event_met old mid (Merge target source) es a of met taken h number v found q has =
       elim (set_back digest keys old mid target h.after h.set h.before h.found number v found) [
         | inl same ↦ met number v same q has
         | inr b ↦

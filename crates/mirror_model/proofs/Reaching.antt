@@ -1,8 +1,10 @@
 -- What reaches a mirror, by the first event of a list, by the last one, and by a fold.
 use Rattle.std.proofs.Common.{zero, suc, ◌≡◌, ℕ, ◌+◌, List, [], ◌∷◌, ◌++◌, Some, None, sym, refl, ◌∙◌, subst, ◌⊎◌, inl, inr, arith}
 use Rattle.std.specs.Prelude.{slice_get}
-use Rattle.mirror_model.specs.Item.{Item}
-use Rattle.mirror_model.specs.Events.{Event, TakeEvent, MergeEvent, MergesLead, Reaches, OpeningReaches}
+use Rattle.mirror_model.specs.declared.items.Item.{Item}
+use Rattle.mirror_model.specs.declared.events.Event.{Event}
+use Rattle.mirror_model.specs.declared.events.Event.TheVariants.{Take, Merge}
+use Rattle.mirror_model.specs.Events.{MergesLead, Reaches, OpeningReaches}
 use Rattle.mirror_model.specs.PlayLaws.{ReachesGoByLast, OpeningReachesGoByLast}
 
 -- ---- positions behind one event more
@@ -28,7 +30,7 @@ earlier e es first source (suc p ∷ ps) end h =
 -- the first event is a merge out of the mirror, and the rest lead on from its target
 pub record GoesBy (e : Event) (es : List Event) (opened mirror : ℕ) : Type 0 where
   pub target : ℕ
-  pub is : e ≡ MergeEvent target opened
+  pub is : e ≡ Merge target opened
   pub on : OpeningReaches target mirror es
 
 pub open_none : (opened mirror : ℕ) → OpeningReaches opened mirror [] → opened ≡ mirror
@@ -36,7 +38,7 @@ open_none opened mirror h = at h.merges h.lead
   where
     at : (ps : List ℕ) → MergesLead [] 0 opened ps mirror → opened ≡ mirror
     at [] l = l
-    at (p ∷ ps) l = absurd (let none : None ≡ Some (MergeEvent l.0 opened) = l.2 in cc none)
+    at (p ∷ ps) l = absurd (let none : None ≡ Some (Merge l.0 opened) = l.2 in cc none)
 
 pub open_itself : (mirror : ℕ) (es : List Event) → OpeningReaches mirror mirror es
 open_itself mirror es = record { merges = []; lead = refl }
@@ -47,7 +49,7 @@ open_first e es opened mirror h = at h.merges h.lead
     at : (ps : List ℕ) → MergesLead (e ∷ es) 0 opened ps mirror → OpeningReaches opened mirror es ⊎ GoesBy e es opened mirror
     at [] l = inl (record { merges = []; lead = l })
     at (zero ∷ ps) l =
-        let is : Some e ≡ Some (MergeEvent l.0 opened) = l.2 in
+        let is : Some e ≡ Some (Merge l.0 opened) = l.2 in
         let one : zero + 1 ≡ suc 0 = refl in
         let rest = earlier e es 0 l.0 ps mirror l.3 in
         inr (record { target = l.0; is = cc is; on = record { merges = rest.0; lead = rest.1 } })
@@ -62,26 +64,26 @@ open_later e es opened mirror h = from_zero (later e es 0 opened h.merges mirror
     from_zero ([], l) = record { merges = []; lead = l }
     from_zero (p ∷ ps, l) = record { merges = p ∷ ps; lead = (l.0, omega arith, l.2, l.3) }
 
-pub open_by : (es : List Event) (target source mirror : ℕ) → OpeningReaches target mirror es → OpeningReaches source mirror (MergeEvent target source ∷ es)
+pub open_by : (es : List Event) (target source mirror : ℕ) → OpeningReaches target mirror es → OpeningReaches source mirror (Merge target source ∷ es)
 open_by es target source mirror h =
-    let rest = later (MergeEvent target source) es 0 target h.merges mirror h.lead in
+    let rest = later (Merge target source) es 0 target h.merges mirror h.lead in
     record { merges = zero ∷ rest.0; lead = (target, omega arith, refl, rest.1) }
 
 -- the first event is a take of the item, and the rest lead on from its target
 pub record BeginsBy (e : Event) (es : List Event) (item : Item) (mirror : ℕ) : Type 0 where
   pub target : ℕ
-  pub is : e ≡ TakeEvent target item
+  pub is : e ≡ Take target item
   pub on : OpeningReaches target mirror es
 
 pub item_none : (item : Item) (mirror : ℕ) → Reaches item mirror [] → ⊥
-item_none item mirror h = let none : None ≡ Some (TakeEvent h.target item) = h.take in cc none
+item_none item mirror h = let none : None ≡ Some (Take h.target item) = h.take in cc none
 
 pub item_first : (e : Event) (es : List Event) (item : Item) (mirror : ℕ) → Reaches item mirror (e ∷ es) → Reaches item mirror es ⊎ BeginsBy e es item mirror
 item_first e es item mirror h = at h.position h.take h.lead
   where
-    at : (p : ℕ) → slice_get (e ∷ es) p ≡ Some (TakeEvent h.target item) → MergesLead (e ∷ es) (p + 1) h.target h.merges mirror → Reaches item mirror es ⊎ BeginsBy e es item mirror
+    at : (p : ℕ) → slice_get (e ∷ es) p ≡ Some (Take h.target item) → MergesLead (e ∷ es) (p + 1) h.target h.merges mirror → Reaches item mirror es ⊎ BeginsBy e es item mirror
     at zero t l =
-        let is : Some e ≡ Some (TakeEvent h.target item) = t in
+        let is : Some e ≡ Some (Take h.target item) = t in
         let rest = earlier e es 0 h.target h.merges mirror l in
         inr (record { target = h.target; is = cc is; on = record { merges = rest.0; lead = rest.1 } })
     at (suc p) t l =
@@ -95,20 +97,20 @@ item_later e es item mirror h =
     let rest = later e es (h.position + 1) h.target h.merges mirror h.lead in
     record { position = suc h.position; target = h.target; take = h.take; merges = rest.0; lead = subst (λ n. MergesLead (e ∷ es) n h.target rest.0 mirror) next rest.1 }
 
-pub item_by : (es : List Event) (target : ℕ) (item : Item) (mirror : ℕ) → OpeningReaches target mirror es → Reaches item mirror (TakeEvent target item ∷ es)
+pub item_by : (es : List Event) (target : ℕ) (item : Item) (mirror : ℕ) → OpeningReaches target mirror es → Reaches item mirror (Take target item ∷ es)
 item_by es target item mirror h =
-    let rest = later (TakeEvent target item) es 0 target h.merges mirror h.lead in
+    let rest = later (Take target item) es 0 target h.merges mirror h.lead in
     record { position = 0; target = target; take = refl; merges = rest.0; lead = rest.1 }
 
 -- ---- by the last event
 
-take_is_no_merge : {X : Type 0} (t : ℕ) (x : Item) (target source : ℕ) → TakeEvent t x ≡ MergeEvent target source → X
+take_is_no_merge : {X : Type 0} (t : ℕ) (x : Item) (target source : ℕ) → Take t x ≡ Merge target source → X
 take_is_no_merge t x target source e = absurd (cc e)
 
-open_take_to : (es : List Event) (t : ℕ) (x : Item) (opened mirror : ℕ) → OpeningReaches opened mirror (es ++ TakeEvent t x ∷ []) → OpeningReaches opened mirror es
-open_take_to [] t x opened mirror h = elim (open_first (TakeEvent t x) [] opened mirror h) [ inl a ↦ a | inr b ↦ take_is_no_merge t x b.target opened b.is ]
+open_take_to : (es : List Event) (t : ℕ) (x : Item) (opened mirror : ℕ) → OpeningReaches opened mirror (es ++ Take t x ∷ []) → OpeningReaches opened mirror es
+open_take_to [] t x opened mirror h = elim (open_first (Take t x) [] opened mirror h) [ inl a ↦ a | inr b ↦ take_is_no_merge t x b.target opened b.is ]
 open_take_to (e ∷ es) t x opened mirror h =
-    elim (open_first e (es ++ TakeEvent t x ∷ []) opened mirror h) [
+    elim (open_first e (es ++ Take t x ∷ []) opened mirror h) [
       | inl a ↦ open_later e es opened mirror (open_take_to es t x opened mirror a)
       | inr b ↦ subst (λ f. OpeningReaches opened mirror (f ∷ es)) (sym b.is) (open_by es b.target opened mirror (open_take_to es t x b.target mirror b.on))
     ]
@@ -121,18 +123,18 @@ open_more (e ∷ es) more opened mirror h =
       | inr b ↦ subst (λ f. OpeningReaches opened mirror (f ∷ (es ++ more))) (sym b.is) (open_by (es ++ more) b.target opened mirror (open_more es more b.target mirror b.on))
     ]
 
-open_merge_to : (es : List Event) (target source opened mirror : ℕ) → OpeningReaches opened mirror (es ++ MergeEvent target source ∷ []) → OpeningReaches opened mirror es ⊎ ((mirror ≡ target) × OpeningReaches opened source es)
+open_merge_to : (es : List Event) (target source opened mirror : ℕ) → OpeningReaches opened mirror (es ++ Merge target source ∷ []) → OpeningReaches opened mirror es ⊎ ((mirror ≡ target) × OpeningReaches opened source es)
 open_merge_to [] target source opened mirror h =
-    elim (open_first (MergeEvent target source) [] opened mirror h) [
+    elim (open_first (Merge target source) [] opened mirror h) [
       | inl a ↦ inl a
       | inr b ↦
-          let here : MergeEvent target source ≡ MergeEvent b.target opened = b.is in
+          let here : Merge target source ≡ Merge b.target opened = b.is in
           let t : target ≡ b.target = cc here in
           let s : source ≡ opened = cc here in
           inr (sym (t ∙ open_none b.target mirror b.on), subst (λ m. OpeningReaches opened m []) (sym s) (open_itself opened []))
     ]
 open_merge_to (e ∷ es) target source opened mirror h =
-    elim (open_first e (es ++ MergeEvent target source ∷ []) opened mirror h) [
+    elim (open_first e (es ++ Merge target source ∷ []) opened mirror h) [
       | inl a ↦ elim (open_merge_to es target source opened mirror a) [ inl c ↦ inl (open_later e es opened mirror c) | inr d ↦ inr (d.0, open_later e es opened source d.1) ]
       | inr b ↦ elim (open_merge_to es target source b.target mirror b.on) [
         | inl c ↦ inl (subst (λ f. OpeningReaches opened mirror (f ∷ es)) (sym b.is) (open_by es b.target opened mirror c))
@@ -140,39 +142,39 @@ open_merge_to (e ∷ es) target source opened mirror h =
       ]
     ]
 
-open_merge_from : (es : List Event) (target source opened : ℕ) → OpeningReaches opened source es → OpeningReaches opened target (es ++ MergeEvent target source ∷ [])
-open_merge_from [] target source opened h = subst (λ o. OpeningReaches o target (MergeEvent target source ∷ [])) (sym (open_none opened source h)) (open_by [] target source target (open_itself target []))
+open_merge_from : (es : List Event) (target source opened : ℕ) → OpeningReaches opened source es → OpeningReaches opened target (es ++ Merge target source ∷ [])
+open_merge_from [] target source opened h = subst (λ o. OpeningReaches o target (Merge target source ∷ [])) (sym (open_none opened source h)) (open_by [] target source target (open_itself target []))
 open_merge_from (e ∷ es) target source opened h =
     elim (open_first e es opened source h) [
-      | inl a ↦ open_later e (es ++ MergeEvent target source ∷ []) opened target (open_merge_from es target source opened a)
-      | inr b ↦ subst (λ f. OpeningReaches opened target (f ∷ (es ++ MergeEvent target source ∷ []))) (sym b.is) (open_by (es ++ MergeEvent target source ∷ []) b.target opened target (open_merge_from es target source b.target b.on))
+      | inl a ↦ open_later e (es ++ Merge target source ∷ []) opened target (open_merge_from es target source opened a)
+      | inr b ↦ subst (λ f. OpeningReaches opened target (f ∷ (es ++ Merge target source ∷ []))) (sym b.is) (open_by (es ++ Merge target source ∷ []) b.target opened target (open_merge_from es target source b.target b.on))
     ]
 
 pub openings_go_by_last : OpeningReachesGoByLast
 openings_go_by_last es = record {
   none = λ opened mirror. (open_none opened mirror, λ e. subst (λ m. OpeningReaches opened m []) e (open_itself opened []));
-  take = λ t x opened mirror. (open_take_to es t x opened mirror, open_more es (TakeEvent t x ∷ []) opened mirror);
+  take = λ t x opened mirror. (open_take_to es t x opened mirror, open_more es (Take t x ∷ []) opened mirror);
   merge = λ target source opened mirror. (
     open_merge_to es target source opened mirror,
     λ h. elim h [
-      | inl a ↦ open_more es (MergeEvent target source ∷ []) opened mirror a
-      | inr b ↦ subst (λ m. OpeningReaches opened m (es ++ MergeEvent target source ∷ [])) (sym b.0) (open_merge_from es target source opened b.1)
+      | inl a ↦ open_more es (Merge target source ∷ []) opened mirror a
+      | inr b ↦ subst (λ m. OpeningReaches opened m (es ++ Merge target source ∷ [])) (sym b.0) (open_merge_from es target source opened b.1)
     ],
   );
 }
 
-item_take_to : (es : List Event) (t : ℕ) (x item : Item) (mirror : ℕ) → Reaches item mirror (es ++ TakeEvent t x ∷ []) → Reaches item mirror es ⊎ ((mirror ≡ t) × (item ≡ x))
+item_take_to : (es : List Event) (t : ℕ) (x item : Item) (mirror : ℕ) → Reaches item mirror (es ++ Take t x ∷ []) → Reaches item mirror es ⊎ ((mirror ≡ t) × (item ≡ x))
 item_take_to [] t x item mirror h =
-    elim (item_first (TakeEvent t x) [] item mirror h) [
+    elim (item_first (Take t x) [] item mirror h) [
       | inl a ↦ inl a
       | inr b ↦
-          let here : TakeEvent t x ≡ TakeEvent b.target item = b.is in
+          let here : Take t x ≡ Take b.target item = b.is in
           let same_t : t ≡ b.target = cc here in
           let same_x : x ≡ item = cc here in
           inr (sym (same_t ∙ open_none b.target mirror b.on), sym same_x)
     ]
 item_take_to (e ∷ es) t x item mirror h =
-    elim (item_first e (es ++ TakeEvent t x ∷ []) item mirror h) [
+    elim (item_first e (es ++ Take t x ∷ []) item mirror h) [
       | inl a ↦ elim (item_take_to es t x item mirror a) [ inl c ↦ inl (item_later e es item mirror c) | inr d ↦ inr d ]
       | inr b ↦ inl (subst (λ f. Reaches item mirror (f ∷ es)) (sym b.is) (item_by es b.target item mirror (open_take_to es t x b.target mirror b.on)))
     ]
@@ -185,15 +187,15 @@ item_more (e ∷ es) more item mirror h =
       | inr b ↦ subst (λ f. Reaches item mirror (f ∷ (es ++ more))) (sym b.is) (item_by (es ++ more) b.target item mirror (open_more es more b.target mirror b.on))
     ]
 
-item_take_from : (es : List Event) (t : ℕ) (x : Item) → Reaches x t (es ++ TakeEvent t x ∷ [])
+item_take_from : (es : List Event) (t : ℕ) (x : Item) → Reaches x t (es ++ Take t x ∷ [])
 item_take_from [] t x = item_by [] t x t (open_itself t [])
-item_take_from (e ∷ es) t x = item_later e (es ++ TakeEvent t x ∷ []) x t (item_take_from es t x)
+item_take_from (e ∷ es) t x = item_later e (es ++ Take t x ∷ []) x t (item_take_from es t x)
 
-item_merge_to : (es : List Event) (target source : ℕ) (item : Item) (mirror : ℕ) → Reaches item mirror (es ++ MergeEvent target source ∷ []) → Reaches item mirror es ⊎ ((mirror ≡ target) × Reaches item source es)
+item_merge_to : (es : List Event) (target source : ℕ) (item : Item) (mirror : ℕ) → Reaches item mirror (es ++ Merge target source ∷ []) → Reaches item mirror es ⊎ ((mirror ≡ target) × Reaches item source es)
 item_merge_to [] target source item mirror h =
-    elim (item_first (MergeEvent target source) [] item mirror h) [ inl a ↦ inl a | inr b ↦ take_is_no_merge b.target item target source (sym b.is) ]
+    elim (item_first (Merge target source) [] item mirror h) [ inl a ↦ inl a | inr b ↦ take_is_no_merge b.target item target source (sym b.is) ]
 item_merge_to (e ∷ es) target source item mirror h =
-    elim (item_first e (es ++ MergeEvent target source ∷ []) item mirror h) [
+    elim (item_first e (es ++ Merge target source ∷ []) item mirror h) [
       | inl a ↦ elim (item_merge_to es target source item mirror a) [ inl c ↦ inl (item_later e es item mirror c) | inr d ↦ inr (d.0, item_later e es item source d.1) ]
       | inr b ↦ elim (open_merge_to es target source b.target mirror b.on) [
         | inl c ↦ inl (subst (λ f. Reaches item mirror (f ∷ es)) (sym b.is) (item_by es b.target item mirror c))
@@ -201,12 +203,12 @@ item_merge_to (e ∷ es) target source item mirror h =
       ]
     ]
 
-item_merge_from : (es : List Event) (target source : ℕ) (item : Item) → Reaches item source es → Reaches item target (es ++ MergeEvent target source ∷ [])
+item_merge_from : (es : List Event) (target source : ℕ) (item : Item) → Reaches item source es → Reaches item target (es ++ Merge target source ∷ [])
 item_merge_from [] target source item h = absurd (item_none item source h)
 item_merge_from (e ∷ es) target source item h =
     elim (item_first e es item source h) [
-      | inl a ↦ item_later e (es ++ MergeEvent target source ∷ []) item target (item_merge_from es target source item a)
-      | inr b ↦ subst (λ f. Reaches item target (f ∷ (es ++ MergeEvent target source ∷ []))) (sym b.is) (item_by (es ++ MergeEvent target source ∷ []) b.target item target (open_merge_from es target source b.target b.on))
+      | inl a ↦ item_later e (es ++ Merge target source ∷ []) item target (item_merge_from es target source item a)
+      | inr b ↦ subst (λ f. Reaches item target (f ∷ (es ++ Merge target source ∷ []))) (sym b.is) (item_by (es ++ Merge target source ∷ []) b.target item target (open_merge_from es target source b.target b.on))
     ]
 
 pub reaches_go_by_last : ReachesGoByLast
@@ -215,15 +217,15 @@ reaches_go_by_last es = record {
   take = λ t x item mirror. (
     item_take_to es t x item mirror,
     λ h. elim h [
-      | inl a ↦ item_more es (TakeEvent t x ∷ []) item mirror a
-      | inr b ↦ subst (λ m. Reaches item m (es ++ TakeEvent t x ∷ [])) (sym b.0) (subst (λ y. Reaches y t (es ++ TakeEvent t x ∷ [])) (sym b.1) (item_take_from es t x))
+      | inl a ↦ item_more es (Take t x ∷ []) item mirror a
+      | inr b ↦ subst (λ m. Reaches item m (es ++ Take t x ∷ [])) (sym b.0) (subst (λ y. Reaches y t (es ++ Take t x ∷ [])) (sym b.1) (item_take_from es t x))
     ],
   );
   merge = λ target source item mirror. (
     item_merge_to es target source item mirror,
     λ h. elim h [
-      | inl a ↦ item_more es (MergeEvent target source ∷ []) item mirror a
-      | inr b ↦ subst (λ m. Reaches item m (es ++ MergeEvent target source ∷ [])) (sym b.0) (item_merge_from es target source item b.1)
+      | inl a ↦ item_more es (Merge target source ∷ []) item mirror a
+      | inr b ↦ subst (λ m. Reaches item m (es ++ Merge target source ∷ [])) (sym b.0) (item_merge_from es target source item b.1)
     ],
   );
 }

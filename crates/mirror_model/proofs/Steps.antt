@@ -4,7 +4,8 @@ use Rattle.std.specs.Prelude.{◌≢◌, slice_get, slice_set}
 use Rattle.std.proofs.lemmas.Bool.{eqb-true, eqb-false}
 use Rattle.mirror_model.specs.View.{View, union, IsWithin}
 use Rattle.mirror_model.specs.Strings.{HasClash}
-use Rattle.mirror_model.specs.Item.{Item, IsGood, plus}
+use Rattle.mirror_model.specs.declared.items.Item.{Item}
+use Rattle.mirror_model.specs.Item.{IsGood, plus}
 use Rattle.mirror_model.specs.Steps.{Answer, Done, Refused, Clashed, Exhausted, Answers, IsBetween}
 use Rattle.mirror_model.specs.PlayLaws.{TakesOnce, MergesOnce, TakesAgain, MergesAgain}
 use Rattle.mirror_model.proofs.Views.{within_itself, within_trans, within_union, within_plus, same_is_one}

@@ -29,7 +29,7 @@ use Rattle.std.proofs.lemmas.List.{take_all}
 use Rattle.tlog_hash.proofs.Folds.{joined_ranges}
 use Rattle.mirror_model.specs.TrueLaws.{BundlesAreAll, TilesAreTrue, BundlesAreTrue, EdgesAreTrue, EdgeIsOfPaths, FrontIsWithin, true_strings, TrueStringsWithin, FrontIsWidest, TakingIsRound, PrefixesServeSame}
 use Rattle.mirror_model.proofs.StringSets.{holds_from_held}
-use Rattle.mirror_model.proofs.Items.{row_is_one, bundle_is_one}
+use Rattle.mirror_model.proofs.ItemBytes.{row_is_one, bundle_is_one}
 use Rattle.mirror_model.proofs.EdgeRoots.{edge_rows_wide, edge_root_is}
 use Rattle.mirror_model.proofs.EdgeStrings.{full_or_edge}
 use Rattle.mirror_model.proofs.NodeBlocks.{node_inside}

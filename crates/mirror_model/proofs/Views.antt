@@ -2,7 +2,8 @@
 use Rattle.std.proofs.Common.{◌≡◌, ℕ, List, ◌∷◌, sym, refl, ◌∙◌, subst, inl, inr}
 use Rattle.mirror_model.specs.Strings.{HasClash}
 use Rattle.mirror_model.specs.View.{View, union, IsWithin}
-use Rattle.mirror_model.specs.Item.{Item, plus}
+use Rattle.mirror_model.specs.declared.items.Item.{Item}
+use Rattle.mirror_model.specs.Item.{plus}
 use Rattle.mirror_model.specs.Heads.{IsHead, HasHead}
 use Rattle.mirror_model.specs.Complete.{HasEdge}
 use Rattle.mirror_model.specs.ViewLaws.{NothingIsLawful, ClashesTurn, UnionCommutes, UnionAssociates, UnionRepeats, SameIsOne, UnionIsLawful, CompleteStays, MarksStay, ForksStay, ForksTurn}

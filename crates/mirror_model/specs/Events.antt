@@ -1,11 +1,21 @@
--- What happens to mirrors, and what reaches which of them.
-use Rattle.std.specs.Prelude.{◌≡◌, ◌≤◌, ℕ, ◌+◌, List, [], ◌∷◌, ◌++◌, Some, slice_get, if◌then◌else◌, ◌==◌}
-use Rattle.mirror_model.specs.Item.{Item}
+-- What happens to mirrors, which are numbered from 0, and what reaches which of them.
+use Rattle.std.specs.Prelude.{◌≡◌, ◌<◌, ◌≤◌, All, ℕ, ◌+◌, List, [], ◌∷◌, ◌++◌, Some, slice_get, if◌then◌else◌, ◌==◌}
+use Rattle.mirror_model.specs.declared.items.Item.{Item}
+use Rattle.mirror_model.specs.declared.items.Item.TheVariants.{Head, Tile, Bundle}
+use Rattle.mirror_model.specs.declared.events.Event.{Event}
+use Rattle.mirror_model.specs.declared.events.Event.TheVariants.{Take, Merge}
+use Rattle.mirror_model.specs.Item.{IsWidth}
 
--- an event: a mirror takes an item, or is merged with another, which stays as it is; mirrors are numbered from 0
-pub data Event : Type 0 where
-  TakeEvent : (target : ℕ) (item : Item) → Event
-  MergeEvent : (target source : ℕ) → Event
+-- the event is of mirrors of a world of that many, and the width of its item is one of tiles and bundles
+abbrev pub IsFitting : ℕ → Event → Type 0
+IsFitting count (Take target (Head note edge)) = target < count
+IsFitting count (Take target (Tile width bytes)) = (target < count) × IsWidth width
+IsFitting count (Take target (Bundle width bytes)) = (target < count) × IsWidth width
+IsFitting count (Merge target source) = (target < count) × (source < count)
+
+-- so is each event of the list
+abbrev pub Fits : List Event → ℕ → Type 0
+Fits events count = All (IsFitting count) events
 
 -- At these positions of the list, which rise from the one given on, stand merges that lead from a mirror to
 -- another: each is out of the mirror before, and the last is into the other. By no merges a mirror is led to
@@ -13,14 +23,14 @@ pub data Event : Type 0 where
 abbrev pub MergesLead : List Event → ℕ → ℕ → List ℕ → ℕ → Type 0
 MergesLead events first source [] end = source ≡ end
 MergesLead events first source (position ∷ positions) end =
-    (target : ℕ) × (first ≤ position) × (slice_get events position ≡ Some (MergeEvent target source)) × MergesLead events (position + 1) target positions end
+    (target : ℕ) × (first ≤ position) × (slice_get events position ≡ Some (Merge target source)) × MergesLead events (position + 1) target positions end
 
 -- Reaches(x, i, events): at rising positions of the list stand a take of the item, and then merges that lead from
 -- its mirror to this one
 pub record Reaches (item : Item) (mirror : ℕ) (events : List Event) : Type 0 where
   pub position : ℕ
   pub target : ℕ
-  pub take : slice_get events position ≡ Some (TakeEvent target item)
+  pub take : slice_get events position ≡ Some (Take target item)
   pub merges : List ℕ
   pub lead : MergesLead events (position + 1) target merges mirror
 
@@ -36,8 +46,8 @@ pub data Source : Type 0 where
 
 -- what has reached each mirror after one event more: a take adds its item, a merge adds what has reached its source
 abbrev pub sources_after : (ℕ → List Source) → Event → ℕ → List Source
-sources_after before (TakeEvent target item) mirror = if mirror == target then before mirror ++ TakenItem item ∷ [] else before mirror
-sources_after before (MergeEvent target source) mirror = if mirror == target then before mirror ++ before source else before mirror
+sources_after before (Take target item) mirror = if mirror == target then before mirror ++ TakenItem item ∷ [] else before mirror
+sources_after before (Merge target source) mirror = if mirror == target then before mirror ++ before source else before mirror
 
 -- after all events of a list, from what has reached each mirror before
 abbrev pub sources_from : (ℕ → List Source) → List Event → ℕ → List Source

@@ -7,8 +7,11 @@ use Rattle.tlog_tiles.specs.declared.paths.Path.TheVariants.{Tile, Entries}
 use Rattle.mirror_model.specs.Front.{IsFront}
 use Rattle.mirror_model.specs.Edge.{edge_levels, edge_widths, edge_rows, edge_root, edge_strings}
 use Rattle.mirror_model.specs.Forks.{IsPrefix}
-use Rattle.mirror_model.specs.Item.{Item, TileItem, row_of, entries_of}
-use Rattle.mirror_model.specs.Events.{TakeEvent, MergeEvent, Reaches}
+use Rattle.mirror_model.specs.declared.items.Item.{Item}
+use Rattle.mirror_model.specs.declared.items.Item.TheVariants as item
+use Rattle.mirror_model.specs.Item.{row_of, entries_of}
+use Rattle.mirror_model.specs.declared.events.Event.TheVariants.{Take, Merge}
+use Rattle.mirror_model.specs.Events.{Reaches}
 
 -- the test digest of a string of that sum
 abbrev pub sum_hash : ℕ → List ℕ
@@ -66,12 +69,12 @@ pub record HasParts : Type 0 where
 -- an item that is taken at a mirror reaches another over two merges that follow in this order, and over the same
 -- two in the other order it does not
 abbrev pub some_item : Item
-some_item = TileItem 1 []
+some_item = item.Tile 1 []
 
 pub record IsWay : Type 0 where
-  pub reaches : Reaches some_item 2 (TakeEvent 0 some_item ∷ MergeEvent 1 0 ∷ MergeEvent 2 1 ∷ [])
-  pub not_back : Reaches some_item 2 (TakeEvent 0 some_item ∷ MergeEvent 2 1 ∷ MergeEvent 1 0 ∷ []) → ⊥
-  pub not_before : Reaches some_item 1 (MergeEvent 1 0 ∷ TakeEvent 0 some_item ∷ []) → ⊥
+  pub reaches : Reaches some_item 2 (Take 0 some_item ∷ Merge 1 0 ∷ Merge 2 1 ∷ [])
+  pub not_back : Reaches some_item 2 (Take 0 some_item ∷ Merge 2 1 ∷ Merge 1 0 ∷ []) → ⊥
+  pub not_before : Reaches some_item 1 (Merge 1 0 ∷ Take 0 some_item ∷ []) → ⊥
 
 -- nothing is held
 abbrev pub held_never : List ℕ → Bool

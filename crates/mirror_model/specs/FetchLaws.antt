@@ -11,7 +11,8 @@ use Rattle.mirror_model.specs.View.{View}
 use Rattle.mirror_model.specs.Edge.{edge_rows, edge_strings}
 use Rattle.mirror_model.specs.Front.{IsFront}
 use Rattle.mirror_model.specs.Rounds.{HoldsAll}
-use Rattle.mirror_model.specs.Item.{Item, notes_of, strings_of, plus}
+use Rattle.mirror_model.specs.declared.items.Item.{Item}
+use Rattle.mirror_model.specs.Item.{notes_of, strings_of, plus}
 use Rattle.mirror_model.specs.TrueLaws.{AreShort, true_strings}
 use Rattle.mirror_model.specs.Listed.{ListsMissing, ListsFront}
 use Rattle.mirror_model.specs.ViewLaws.{IsHash}

@@ -1,5 +1,5 @@
--- Items: what a mirror takes, when it is good, and what it adds to a view (C2SP tlog-tiles, "Merkle Tree", "Log
--- Entries" and "Checkpoints").
+-- Items: when they are good, and what they add to a view (C2SP tlog-tiles, "Merkle Tree", "Log Entries" and
+-- "Checkpoints"). The bytes of an item stand in it as they came.
 use Rattle.std.specs.Prelude.{◌≡◌, ℕ, zero, suc, ◌*◌, ◌/◌, ◌≤◌, List, [], ◌∷◌, length, take, drop, map}
 use Rattle.std.specs.Int.{w16, from_be_bytes}
 use Rattle.std.specs.FinSet as set
@@ -7,16 +7,11 @@ use Rattle.tlog_hash.specs.Tree.{joins, strings}
 use Rattle.tlog_hash.specs.Rows.{ranges}
 use Rattle.tlog_tiles.specs.Bundle.{IsBundle}
 use Rattle.signed_note.specs.Keys.{Key}
+use Rattle.mirror_model.specs.declared.items.Item.{Item}
+use Rattle.mirror_model.specs.declared.items.Item.TheVariants.{Head, Tile, Bundle}
 use Rattle.mirror_model.specs.View.{View}
 use Rattle.mirror_model.specs.Edge.{edge_widths, edge_root, edge_strings}
 use Rattle.mirror_model.specs.Heads.{IsOpenHead}
-
--- an item, with its bytes as they came: a note with the edge rows of its size, lowest level first; the row of a
--- tile; a bundle of entries
-pub data Item : Type 0 where
-  HeadItem : (note : List ℕ) (rows : List (List ℕ)) → Item
-  TileItem : (width : ℕ) (bytes : List ℕ) → Item
-  BundleItem : (width : ℕ) (bytes : List ℕ) → Item
 
 -- the hashes of a row: 32 bytes each, one after the other
 abbrev pub row_of : List ℕ → List (List ℕ)
@@ -48,9 +43,9 @@ pub record IsGoodBundle (width : ℕ) (bytes : List ℕ) : Type 0 where
 
 -- the notes that an item adds
 abbrev pub notes_of : Item → List (List ℕ)
-notes_of (HeadItem note rows) = note ∷ []
-notes_of (TileItem width bytes) = []
-notes_of (BundleItem width bytes) = []
+notes_of (Head note edge) = note ∷ []
+notes_of (Tile width bytes) = []
+notes_of (Bundle width bytes) = []
 
 module _ (digest : List ℕ → List ℕ) where
   -- the rows have the number and widths of the size's edge, and lead to the root
@@ -67,15 +62,15 @@ module _ (digest : List ℕ → List ℕ) where
 
   -- Good(item, origin, keys), which names no state
   abbrev pub IsGood : List ℕ → List Key → Item → Type 0
-  IsGood origin keys (HeadItem note rows) = IsGoodHead origin keys note rows
-  IsGood origin keys (TileItem width bytes) = IsGoodTile width bytes
-  IsGood origin keys (BundleItem width bytes) = IsGoodBundle width bytes
+  IsGood origin keys (Head note edge) = IsGoodHead origin keys note edge
+  IsGood origin keys (Tile width bytes) = IsGoodTile width bytes
+  IsGood origin keys (Bundle width bytes) = IsGoodBundle width bytes
 
   -- Strings(item): what its hashing hashes
   abbrev pub strings_of : Item → List (List ℕ)
-  strings_of (HeadItem note rows) = edge_strings digest (map row_of rows)
-  strings_of (TileItem width bytes) = joins digest (row_of bytes)
-  strings_of (BundleItem width bytes) = strings digest (entries_of width bytes)
+  strings_of (Head note edge) = edge_strings digest (map row_of edge)
+  strings_of (Tile width bytes) = joins digest (row_of bytes)
+  strings_of (Bundle width bytes) = strings digest (entries_of width bytes)
 
   -- V + item
   abbrev pub plus : View → Item → View

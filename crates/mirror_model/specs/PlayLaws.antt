@@ -5,8 +5,11 @@ use Rattle.signed_note.specs.Keys.{Key}
 use Rattle.node_store.specs.Strings.{Has}
 use Rattle.mirror_model.specs.View.{View, IsWithin}
 use Rattle.mirror_model.specs.Complete.{IsLawful}
-use Rattle.mirror_model.specs.Item.{Item, IsGood, strings_of, plus}
-use Rattle.mirror_model.specs.Events.{Event, TakeEvent, MergeEvent, Reaches, OpeningReaches, OpenedView, TakenItem, sources_of}
+use Rattle.mirror_model.specs.declared.items.Item.{Item}
+use Rattle.mirror_model.specs.Item.{IsGood, strings_of, plus}
+use Rattle.mirror_model.specs.declared.events.Event.{Event}
+use Rattle.mirror_model.specs.declared.events.Event.TheVariants.{Take, Merge}
+use Rattle.mirror_model.specs.Events.{Reaches, OpeningReaches, OpenedView, TakenItem, sources_of}
 use Rattle.mirror_model.specs.Steps.{Answer, Exhausted, Clashed, IsBetween, Takes, Merges, Run}
 use Rattle.mirror_model.specs.ViewLaws.{IsHash}
 use Rattle.mirror_model.specs.Reached.{HasReached, HasReachedOnly, events_of, is_done, may_change, AreRetried}
@@ -17,10 +20,10 @@ pub record ReachesByLast (events : List Event) : Type 0 where
   pub none : (item : Item) (mirror : ℕ) → Reaches item mirror [] → ⊥
   pub take :
       (target : ℕ) (taken item : Item) (mirror : ℕ) →
-      Reaches item mirror (events ++ TakeEvent target taken ∷ []) ↔ (Reaches item mirror events ⊎ ((mirror ≡ target) × (item ≡ taken)))
+      Reaches item mirror (events ++ Take target taken ∷ []) ↔ (Reaches item mirror events ⊎ ((mirror ≡ target) × (item ≡ taken)))
   pub merge :
       (target source : ℕ) (item : Item) (mirror : ℕ) →
-      Reaches item mirror (events ++ MergeEvent target source ∷ []) ↔ (Reaches item mirror events ⊎ ((mirror ≡ target) × Reaches item source events))
+      Reaches item mirror (events ++ Merge target source ∷ []) ↔ (Reaches item mirror events ⊎ ((mirror ≡ target) × Reaches item source events))
 
 abbrev pub ReachesGoByLast : Type 0
 ReachesGoByLast = (events : List Event) → ReachesByLast events
@@ -30,10 +33,10 @@ pub record OpeningReachesByLast (events : List Event) : Type 0 where
   pub none : (opened mirror : ℕ) → OpeningReaches opened mirror [] ↔ (opened ≡ mirror)
   pub take :
       (target : ℕ) (taken : Item) (opened mirror : ℕ) →
-      OpeningReaches opened mirror (events ++ TakeEvent target taken ∷ []) ↔ OpeningReaches opened mirror events
+      OpeningReaches opened mirror (events ++ Take target taken ∷ []) ↔ OpeningReaches opened mirror events
   pub merge :
       (target source : ℕ) (opened mirror : ℕ) →
-      OpeningReaches opened mirror (events ++ MergeEvent target source ∷ []) ↔ (OpeningReaches opened mirror events ⊎ ((mirror ≡ target) × OpeningReaches opened source events))
+      OpeningReaches opened mirror (events ++ Merge target source ∷ []) ↔ (OpeningReaches opened mirror events ⊎ ((mirror ≡ target) × OpeningReaches opened source events))
 
 abbrev pub OpeningReachesGoByLast : Type 0
 OpeningReachesGoByLast = (events : List Event) → OpeningReachesByLast events
@@ -92,7 +95,7 @@ module _ (digest : List ℕ → List ℕ) (origin : List ℕ) (keys : List Key) 
     pub position : ℕ
     pub target : ℕ
     pub item : Item
-    pub is : slice_get events position ≡ Some (TakeEvent target item)
+    pub is : slice_get events position ≡ Some (Take target item)
     pub good : IsGood digest origin keys item
     pub has : Contains (strings_of digest item) string
 

@@ -4,8 +4,10 @@ use Rattle.std.specs.List.{Contains}
 use Rattle.node_store.specs.Strings.{Strings, Has}
 use Rattle.signed_note.specs.Keys.{Key}
 use Rattle.mirror_model.specs.View.{View}
-use Rattle.mirror_model.specs.Item.{Item, IsGood, strings_of, notes_of}
-use Rattle.mirror_model.specs.Events.{Event, Reaches, OpeningReaches}
+use Rattle.mirror_model.specs.declared.items.Item.{Item}
+use Rattle.mirror_model.specs.Item.{IsGood, strings_of, notes_of}
+use Rattle.mirror_model.specs.declared.events.Event.{Event}
+use Rattle.mirror_model.specs.Events.{Reaches, OpeningReaches}
 use Rattle.mirror_model.specs.Steps.{Answer, Done, Refused, Clashed, Exhausted}
 
 module _ (digest : List ℕ → List ℕ) (origin : List ℕ) (keys : List Key) (opened : List View) where

@@ -4,8 +4,10 @@ use Rattle.node_store.specs.Strings.{Has, NoClash}
 use Rattle.signed_note.specs.Keys.{Key}
 use Rattle.mirror_model.specs.View.{View, union, IsWithin}
 use Rattle.mirror_model.specs.Strings.{HasClash}
-use Rattle.mirror_model.specs.Item.{Item, IsGood, plus}
-use Rattle.mirror_model.specs.Events.{Event, TakeEvent, MergeEvent}
+use Rattle.mirror_model.specs.declared.items.Item.{Item}
+use Rattle.mirror_model.specs.Item.{IsGood, plus}
+use Rattle.mirror_model.specs.declared.events.Event.{Event}
+use Rattle.mirror_model.specs.declared.events.Event.TheVariants.{Take, Merge}
 
 -- how an event is answered: it is done; it is refused for what the item or the other mirror is; two different
 -- strings would share a digest; memory was refused
@@ -60,8 +62,8 @@ module _ (digest : List ℕ → List ℕ) (keys : List Key) where
     pub set : new ≡ slice_set old target after
 
   abbrev pub Happens : List View → Event → Answer → List View → Type 0
-  Happens old (TakeEvent target item) answer new = TakesAt old target item answer new
-  Happens old (MergeEvent target source) answer new = MergesAt old target source answer new
+  Happens old (Take target item) answer new = TakesAt old target item answer new
+  Happens old (Merge target source) answer new = MergesAt old target source answer new
 
   -- events, one after another, with an answer each
   abbrev pub Run : List View → List Event → List Answer → List View → Type 0

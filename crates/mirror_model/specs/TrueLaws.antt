@@ -17,7 +17,8 @@ use Rattle.mirror_model.specs.Strings.{held_in}
 use Rattle.mirror_model.specs.Edge.{edge_levels, edge_rows, edge_strings}
 use Rattle.mirror_model.specs.Front.{IsFront}
 use Rattle.mirror_model.specs.Rounds.{HoldsAll, IsRound}
-use Rattle.mirror_model.specs.Item.{TileItem, BundleItem, row_of, IsWidth, IsGoodTile, IsGoodBundle, HasEdgeRows, strings_of}
+use Rattle.mirror_model.specs.declared.items.Item.TheVariants as item
+use Rattle.mirror_model.specs.Item.{row_of, IsWidth, IsGoodTile, IsGoodBundle, HasEdgeRows, strings_of}
 use Rattle.mirror_model.specs.Complete.{IsTreeOf}
 use Rattle.mirror_model.specs.ViewLaws.{IsHash}
 
@@ -28,7 +29,7 @@ AreShort entries = All (λ entry. length entry < 2 ^ 16) entries
 -- a tile of true bytes is good, and gives the joins of its row
 pub record IsTrueTile (digest : List ℕ → List ℕ) (entries : List (List ℕ)) (level index width : ℕ) : Type 0 where
   pub good : IsGoodTile width (tile_bytes digest entries level index width)
-  pub strings_are : strings_of digest (TileItem width (tile_bytes digest entries level index width)) ≡ joins digest (level_row digest entries level (256 * index) width)
+  pub strings_are : strings_of digest (item.Tile width (tile_bytes digest entries level index width)) ≡ joins digest (level_row digest entries level (256 * index) width)
 
 abbrev pub TilesAreTrue : Type 0
 TilesAreTrue =
@@ -38,7 +39,7 @@ TilesAreTrue =
 -- a bundle of true bytes is good, and gives what the tree hash of its entries hashes
 pub record IsTrueBundle (digest : List ℕ → List ℕ) (entries : List (List ℕ)) (index width : ℕ) : Type 0 where
   pub good : IsGoodBundle width (bundle_bytes entries index width)
-  pub strings_are : strings_of digest (BundleItem width (bundle_bytes entries index width)) ≡ strings digest (part (256 * index) width entries)
+  pub strings_are : strings_of digest (item.Bundle width (bundle_bytes entries index width)) ≡ strings digest (part (256 * index) width entries)
 
 abbrev pub BundlesAreTrue : Type 0
 BundlesAreTrue =
@@ -81,8 +82,8 @@ FrontIsWithin =
 -- the strings that the true bytes of a path give
 abbrev pub true_strings : (List ℕ → List ℕ) → List (List ℕ) → Path → List (List ℕ)
 true_strings digest entries Checkpoint = []
-true_strings digest entries (Tile level index width) = strings_of digest (TileItem width (tile_bytes digest entries level index width))
-true_strings digest entries (Entries index width) = strings_of digest (BundleItem width (bundle_bytes entries index width))
+true_strings digest entries (Tile level index width) = strings_of digest (item.Tile width (tile_bytes digest entries level index width))
+true_strings digest entries (Entries index width) = strings_of digest (item.Bundle width (bundle_bytes entries index width))
 
 -- a full tile, or a bundle as wide as the entries have it
 abbrev pub IsWidest : ℕ → Path → Type 0

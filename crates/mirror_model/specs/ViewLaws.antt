@@ -10,7 +10,8 @@ use Rattle.mirror_model.specs.View.{View, nothing, union, IsWithin}
 use Rattle.mirror_model.specs.Strings.{HasClash}
 use Rattle.mirror_model.specs.Heads.{IsHead, HasHead}
 use Rattle.mirror_model.specs.Edge.{edge_strings}
-use Rattle.mirror_model.specs.Item.{HasEdgeRows, Item, row_of, entries_of, IsGood, plus}
+use Rattle.mirror_model.specs.declared.items.Item.{Item}
+use Rattle.mirror_model.specs.Item.{HasEdgeRows, row_of, entries_of, IsGood, plus}
 use Rattle.mirror_model.specs.Complete.{Complete, IsComplete, IsLawful}
 use Rattle.mirror_model.specs.Served.{Served, Replies, IsRangeHash}
 use Rattle.mirror_model.specs.Forks.{Point, IsPrefix, IsFork}

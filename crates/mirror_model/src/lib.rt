@@ -1,8 +1,12 @@
 //! The core of a mirror of one transparency log: what it holds, and what follows from that.
 #![tactic(auto)]
 
+mod events;
+mod items;
 mod laws;
 
+pub use events::Event;
+pub use items::{Bytes, Item, Rows};
 pub use laws::edges::{edge_root_law, edge_rows_law, edge_strings_law};
 pub use laws::examples::{fork_example, front_example, trees_example, way_example};
 pub use laws::fetches::{answered_law, full_files_law, missing_list_law, plus_law};

@@ -1,4 +1,4 @@
-use Rattle.mirror_model.proofs.Items.{row_is_row, row_is_one, bundle_is_one}
+use Rattle.mirror_model.proofs.ItemBytes.{row_is_row, row_is_one, bundle_is_one}
 use Rattle.mirror_model.proofs.laws.items.bytes_law.Goals as goal
 
 pub returns-clause-row : goal.returns-clause-row

@@ -1,0 +1,18 @@
+//! Events: what happens to mirrors.
+
+use crate::items::Item;
+
+/// What happens to one of several mirrors, which are numbered from 0.
+///
+/// Mirror 1 is merged with mirror 0, which stays as it is:
+///
+/// ```
+/// let event = Event::Merge { target: 1, source: 0 };
+/// ```
+#[derive(Debug, Drop)]
+pub enum Event {
+    /// The mirror `target` takes the item.
+    Take { target: usize, item: Item },
+    /// The mirror `target` is merged with the mirror `source`.
+    Merge { target: usize, source: usize },
+}
