@@ -1,10 +1,13 @@
 //! The store.
-ghost use Rattle.std.specs.Prelude.{◌≡◌, ◌≢◌, ◌↔◌, ℕ, List, ◌∷◌, ◌++◌, length, IsTrue, IfSome, IfNone, OnOk, OnErr, IsOk};
+ghost use Rattle.std.specs.Prelude.{◌≡◌, ◌≢◌, ◌↔◌, ℕ, List, ◌∷◌, ◌++◌, length, IsTrue, IfSome, IfNone, IfOk, OnOk, OnErr, IsOk};
 ghost use Rattle.std.specs.FinSet as set;
+ghost use Rattle.std.specs.Map.{values_of};
 ghost use Rattle.node_store.specs.Strings.{Strings, string_of, Has, IsHeldAt, Clashes, ClashesWith, NoClash, AllTagged};
+ghost use Rattle.node_store.specs.Held.{AllKeyed};
 ghost use Rattle.tlog_hash.specs.Tree.{joined};
 
 use crate::iter::Iter;
+use crate::keyed::Keyed;
 use crate::pool::{Held, keep, lend, make_room};
 use crate::strings::{Tagged, digest_of, is_same};
 use std::alloc::Global;
@@ -28,6 +31,13 @@ pub enum AddFault {
 ///
 /// The digest is that of the `TreeHash` in use, and the strings are `0x00 || entry` and
 /// `0x01 || left || right` with hashes of 32 bytes. Contracts see the set, and nothing of how it is kept.
+///
+/// ```text
+/// let mut store: Store<Sha256Tree> = Store::new(alloc);
+/// let leaf = store.insert(Tagged::Leaf(b"entry"))?;
+/// let root = store.insert(Tagged::Pair(&leaf, &leaf))?;
+/// store.pair_of(&root)  // Some((leaf, leaf))
+/// ```
 //
 // The map has the two hashes of a pair, or where an entry lies in the pool, which has the bytes of all
 // entries one after the other. So an entry costs no allocation of its own, and is lent as it lies.
@@ -68,6 +78,8 @@ impl<H: TreeHash> Store<H> {
 
     /// Adds a string. One that is held already is passed over, and takes no memory.
     ///
+    /// # Errors
+    ///
     /// `Collision` comes exactly where another string of its digest is held, and `OutOfMemory` only where
     /// a growth was refused. Both leave the set as it was.
     pub fn add(&mut self, string: Tagged) -> Result<(), AddFault>
@@ -75,9 +87,45 @@ impl<H: TreeHash> Store<H> {
         ensures err { OnErr result (self.new ≡ self.old) }
         ensures collision { (result ≡ Err AddFault.Collision) ↔ Clashes H.digest self.old (string_of string.entry) }
         ensures held { Has self.old (string_of string.entry) → IsOk result }
+        ensures no_clash { NoClash H.digest self.new }
+        ensures tagged { AllTagged self.new }
+    {
+        self.add_at(&digest_of::<H>(string), string)
+    }
+
+    /// Adds a string as `add` does, and gives its digest, by which it is found again. So a tree is built
+    /// from its leaves up with each of its strings hashed once.
+    ///
+    /// # Errors
+    ///
+    /// Those of `add`, which leave the set as it was.
+    pub fn insert(&mut self, string: Tagged) -> Result<Hash, AddFault>
+        ensures digest { IfOk result (λ hash. hash ≡ H.digest (string_of string.entry)) }
+        ensures ok { OnOk result (self.new ≡ set.insert self.old (string_of string.entry)) }
+        ensures err { OnErr result (self.new ≡ self.old) }
+        ensures collision { (result ≡ Err AddFault.Collision) ↔ Clashes H.digest self.old (string_of string.entry) }
+        ensures held { Has self.old (string_of string.entry) → IsOk result }
+        ensures no_clash { NoClash H.digest self.new }
+        ensures tagged { AllTagged self.new }
     {
         let digest = digest_of::<H>(string);
-        match self.at(&digest) {
+        match self.add_at(&digest, string) {
+            Ok(()) => Ok(digest),
+            Err(fault) => Err(fault),
+        }
+    }
+
+    // Adds a string of which that is the digest.
+    fn add_at(&mut self, digest: &Hash, string: Tagged) -> Result<(), AddFault>
+        requires { digest.now ≡ H.digest (string_of string) }
+        ensures ok { OnOk result (self.new ≡ set.insert self.old (string_of string.entry)) }
+        ensures err { OnErr result (self.new ≡ self.old) }
+        ensures collision { (result ≡ Err AddFault.Collision) ↔ Clashes H.digest self.old (string_of string.entry) }
+        ensures held { Has self.old (string_of string.entry) → IsOk result }
+        ensures no_clash { NoClash H.digest self.new }
+        ensures tagged { AllTagged self.new }
+    {
+        match self.at(digest) {
             Some(held) => {
                 if is_same(held, string) {
                     Ok(())
@@ -85,7 +133,7 @@ impl<H: TreeHash> Store<H> {
                     Err(AddFault::Collision)
                 }
             }
-            None => self.add_new(digest, string),
+            None => self.add_new(*digest, string),
         }
     }
 
@@ -96,6 +144,8 @@ impl<H: TreeHash> Store<H> {
         ensures ok { OnOk result (self.new ≡ set.insert self.old (string_of string.entry)) }
         ensures err { OnErr result (self.new ≡ self.old) }
         ensures memory { result ≢ Err AddFault.Collision }
+        ensures no_clash { NoClash H.digest self.new }
+        ensures tagged { AllTagged self.new }
     {
         let Ok(()) = make_room(&mut self.held, &mut self.pool, string) else {
             return Err(AddFault::OutOfMemory);
@@ -111,10 +161,7 @@ impl<H: TreeHash> Store<H> {
     pub fn clashes(&self, string: Tagged) -> bool
         ensures { IsTrue result ↔ Clashes H.digest self.now (string_of string.entry) }
     {
-        match self.at(&digest_of::<H>(string)) {
-            Some(held) => !is_same(held, string),
-            None => false,
-        }
+        self.clashes_at(&digest_of::<H>(string), string)
     }
 
     /// Whether the string is held. It takes no memory.
@@ -171,7 +218,9 @@ impl<H: TreeHash> Store<H> {
         Iter::new(self.held.values(), self.pool.as_slice())
     }
 
-    /// Adds all strings of another store, if none of them clashes.
+    /// Adds all strings of another store, if none of them clashes. It hashes nothing.
+    ///
+    /// # Errors
     ///
     /// `Collision` comes exactly where the two sets together clash. It leaves the set as it was, and
     /// comes before any memory is asked for. After `OutOfMemory`, which comes only where a growth was
@@ -182,6 +231,8 @@ impl<H: TreeHash> Store<H> {
         ensures kept { result ≡ Err AddFault.Collision → self.new ≡ self.old }
         ensures at_least { (s : List ℕ) → Has self.old s → Has self.new s }
         ensures at_most { (s : List ℕ) → Has self.new s → Has (set.union self.old other.now) s }
+        ensures no_clash { NoClash H.digest self.new }
+        ensures tagged { AllTagged self.new }
     {
         if self.clashes_with(other) {
             return Err(AddFault::Collision);
@@ -191,10 +242,14 @@ impl<H: TreeHash> Store<H> {
 
     // Whether a string of the other store clashes.
     fn clashes_with(&self, other: &Store<H>) -> bool
-        ensures { IsTrue result ↔ ClashesWith H.digest self.now other.now }
+        ensures clashes { IsTrue result ↔ ClashesWith H.digest self.now other.now }
+        ensures no_clash { NoClash H.digest self.now }
+        ensures tagged { AllTagged self.now }
     {
-        for string in other.iter() {
-            if self.clashes(string) {
+        // What it ensures of this store holds also where the other one is empty.
+        let _own = self.keyed();
+        for (digest, string) in other.keyed() {
+            if self.clashes_at(digest, string) {
                 return true;
             }
         }
@@ -203,14 +258,18 @@ impl<H: TreeHash> Store<H> {
 
     // Adds all strings of another store, of which none clashes.
     fn add_each(&mut self, other: &Store<H>) -> Result<(), AddFault>
-        requires { ClashesWith H.digest self.old other.now → ⊥ }
+        requires apart { ClashesWith H.digest self.old other.now → ⊥ }
+        requires no_clash { NoClash H.digest self.old }
+        requires tagged { AllTagged self.old }
         ensures ok { OnOk result (self.new ≡ set.union self.old other.now) }
         ensures memory { result ≢ Err AddFault.Collision }
         ensures at_least { (s : List ℕ) → Has self.old s → Has self.new s }
         ensures at_most { (s : List ℕ) → Has self.new s → Has (set.union self.old other.now) s }
+        ensures no_clash { NoClash H.digest self.new }
+        ensures tagged { AllTagged self.new }
     {
-        for string in other.iter() {
-            match self.add(string) {
+        for (digest, string) in other.keyed() {
+            match self.add_at(digest, string) {
                 Ok(()) => {}
                 Err(fault) => return Err(fault),
             }
@@ -218,11 +277,33 @@ impl<H: TreeHash> Store<H> {
         Ok(())
     }
 
+    // Whether another string of that digest, the string's own, is held.
+    fn clashes_at(&self, digest: &Hash, string: Tagged) -> bool
+        requires { digest.now ≡ H.digest (string_of string) }
+        ensures { IsTrue result ↔ Clashes H.digest self.now (string_of string.entry) }
+    {
+        match self.at(digest) {
+            Some(held) => !is_same(held, string),
+            None => false,
+        }
+    }
+
+    // The strings that are held, each beside its digest.
+    fn keyed(&self) -> Keyed<'_>
+        ensures all { set.from_list (values_of result) ≡ self.now }
+        ensures digests { AllKeyed H.digest result }
+        ensures tagged { AllTagged self.now }
+        ensures no_clash { NoClash H.digest self.now }
+    {
+        Keyed::new(self.held.iter(), self.pool.as_slice())
+    }
+
     // The string of that digest that is held.
     fn at(&self, digest: &Hash) -> Option<Tagged<'_>>
         ensures some { IfSome result (λ s. IsHeldAt H.digest self.now digest.now (string_of s)) }
         ensures none { IfNone result ((s : List ℕ) → IsHeldAt H.digest self.now digest.now s → ⊥) }
         ensures no_clash { NoClash H.digest self.now }
+        ensures tagged { AllTagged self.now }
     {
         match self.held.get(digest) {
             Some(held) => Some(lend(held, self.pool.as_slice())),

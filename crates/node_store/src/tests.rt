@@ -88,6 +88,41 @@ fn finds_by_digest(rt: HostRuntime) -> Result<(), Fail> {
     Ok(())
 }
 
+// The leaves of the entries of no bytes and `10`, and the pairs above them, of known hashes.
+#[test]
+fn insert_gives_the_digest(rt: HostRuntime) -> Result<(), Fail> {
+    let mut store: Store<Sha256Tree> = Store::new(rt.alloc());
+    let pair = Tagged::Pair(&ROOT_OF_TWO, &LEAF_OF_10);
+    assert_eq!(rt; store.insert(Tagged::Leaf(&[])), Ok(LEAF_OF_NONE));
+    assert_eq!(rt; store.insert(Tagged::Leaf(&[0x10])), Ok(LEAF_OF_10));
+    assert_eq!(rt; store.insert(pair), Ok(ROOT_OF_THREE));
+    assert_eq!(rt; store.insert(pair), Ok(ROOT_OF_THREE));
+    assert_eq!(rt; store.len(), 3);
+    assert_eq!(rt;
+        store.pair_of(&ROOT_OF_THREE),
+        Some((ROOT_OF_TWO, LEAF_OF_10))
+    );
+    let mut sums: Store<SumTree> = Store::new(rt.alloc());
+    let digest = SumTree::leaf(&[2, 1]);
+    assert_eq!(rt; sums.insert(Tagged::Leaf(&[1, 2])), Ok(digest));
+    assert_eq!(rt;
+        sums.insert(Tagged::Leaf(&[2, 1])),
+        Err(AddFault::Collision)
+    );
+    assert_eq!(rt; sums.len(), 1);
+    Ok(())
+}
+
+#[test]
+fn tagged_strings_compare(rt: HostRuntime) {
+    let pair = Tagged::Pair(&ROOT_OF_TWO, &LEAF_OF_10);
+    assert_eq!(rt; Tagged::Leaf(&[7]) == Tagged::Leaf(&[7]), true);
+    assert_eq!(rt; Tagged::Leaf(&[7]) == Tagged::Leaf(&[7, 7]), false);
+    assert_eq!(rt; pair == Tagged::Pair(&ROOT_OF_TWO, &LEAF_OF_10), true);
+    assert_eq!(rt; pair == Tagged::Pair(&LEAF_OF_10, &ROOT_OF_TWO), false);
+    assert_eq!(rt; pair == Tagged::Leaf(&ROOT_OF_TWO), false);
+}
+
 #[test]
 fn goes_over_each_once(rt: HostRuntime) -> Result<(), Fail> {
     let mut store: Store<Sha256Tree> = Store::new(rt.alloc());
@@ -123,6 +158,47 @@ fn adds_all(rt: HostRuntime) -> Result<(), Fail> {
     assert_eq!(rt; left.len(), 3);
     assert_eq!(rt; left.holds(Tagged::Leaf(&[4])), false);
     Ok(())
+}
+
+// The longest entry of a bundle, 65,535 bytes, with memory for it.
+#[test]
+fn holds_the_longest_entry(rt: HostRuntime) -> Result<(), Fail> {
+    let entry = vec![in rt.alloc(); 7u8; 65535]?;
+    let digest = Sha256Tree::leaf(entry.as_slice());
+    let mut first: Store<Sha256Tree> = Store::new(rt.alloc());
+    assert_eq!(rt; first.add(Tagged::Leaf(entry.as_slice())), Ok(()));
+    let mut second: Store<Sha256Tree> = Store::new(rt.alloc());
+    assert_eq!(rt; second.insert(Tagged::Leaf(entry.as_slice())), Ok(digest));
+    let mut third: Store<Sha256Tree> = Store::new(rt.alloc());
+    assert_eq!(rt; third.add_all(&first), Ok(()));
+    for store in [&first, &second, &third] {
+        assert_eq!(rt;
+            store.entry_of(&digest).ok_or("no entry")?,
+            entry.as_slice()
+        );
+    }
+    Ok(())
+}
+
+// 6,000 strings, with memory for them, added in each of the three ways.
+#[test]
+fn holds_thousands(rt: HostRuntime) {
+    let mut first: Store<Sha256Tree> = Store::new(rt.alloc());
+    let mut second: Store<Sha256Tree> = Store::new(rt.alloc());
+    for number in 0..3000u32 {
+        let entry = number.to_be_bytes();
+        let leaf = Sha256Tree::leaf(&entry);
+        let pair = Tagged::Pair(&leaf, &LEAF_OF_10);
+        assert_eq!(rt; first.add(Tagged::Leaf(&entry)), Ok(()));
+        assert_eq!(rt; first.add(pair), Ok(()));
+        assert_eq!(rt; second.insert(Tagged::Leaf(&entry)), Ok(leaf));
+        assert_eq!(rt; second.insert(pair).is_ok(), true);
+    }
+    assert_eq!(rt; (first.len(), second.len()), (6000, 6000));
+    let mut third: Store<Sha256Tree> = Store::new(rt.alloc());
+    assert_eq!(rt; third.add_all(&first), Ok(()));
+    assert_eq!(rt; third.add_all(&second), Ok(()));
+    assert_eq!(rt; third.len(), 6000);
 }
 
 #[test]
