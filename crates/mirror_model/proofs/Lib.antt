@@ -18,6 +18,7 @@ pub mod Missing
 pub mod Folding
 pub mod Remembering
 pub mod Examples
+pub mod ViewExamples
 pub mod TrueItems
 pub mod ManyRounds
 pub mod Listing

@@ -87,10 +87,10 @@ IsExact a = (a ≡ Done) ⊎ (a ≡ Refused)
 
 module _ (digest : List ℕ → List ℕ) (origin : List ℕ) (keys : List Key) (part : View → Strings) (adds : Item → List (List ℕ)) (is_part : IsPart digest part adds) (keep : Answer → Bool) where
   abbrev Opens : List View → List Event → ℕ → List ℕ → Type 0
-  Opens opened events mirror q = OpensWith digest origin keys opened part events mirror q
+  Opens opened events mirror q = OpensWith opened part events mirror q
 
   abbrev Adds : List View → List Event → ℕ → List ℕ → Type 0
-  Adds opened events mirror q = TakesIn digest origin keys opened adds events mirror q
+  Adds opened events mirror q = TakesIn digest origin keys adds events mirror q
 
   -- what is kept of a list whose first event is kept, or is not
   kept_cases : (C : List Event → Type 0) (e : Event) (es : List Event) (a : Answer) (rest : List Answer) → (keep a ≡ true → C (e ∷ events_of keep es rest)) → (keep a ≡ false → C (events_of keep es rest)) → C (events_of keep (e ∷ es) (a ∷ rest))
@@ -472,15 +472,15 @@ none_clashes digest origin keys opened final events answers r clean c =
 -- ---- two runs
 
 half : (digest : List ℕ → List ℕ) (origin : List ℕ) (keys : List Key) (opened opened' : List View) (events events' : List Event) (mirror mirror' : ℕ) (v w : View) → IsReached digest origin keys opened events mirror v → IsReached digest origin keys opened' events' mirror' w → ReachesToo digest origin keys opened opened' events events' mirror mirror' → IsWithin v w
-half digest origin keys opened opened' events events' mirror mirror' v w a b alike = record {
+half digest origin keys opened opened' events events' mirror mirror' v w a b too = record {
   origin_is = a.origin_is ∙ sym b.origin_is;
   notes_are = λ q h. b.has.notes q (elim (a.only.notes q h) [
-    | inl o ↦ let n = alike.views o.number o.view o.is o.reaches in inl (record { number = n.0; view = o.view; is = n.1; reaches = n.2; has = o.has })
-    | inr t ↦ inr (record { item = t.item; good = t.good; reaches = alike.items t.item t.good t.reaches; has = t.has })
+    | inl o ↦ inl (too.notes q o)
+    | inr t ↦ inr (record { item = t.item; good = t.good; reaches = too.items t.item t.good t.reaches; has = t.has })
   ]);
   strings_are = λ q h. b.has.strings q (elim (a.only.strings q h) [
-    | inl o ↦ let n = alike.views o.number o.view o.is o.reaches in inl (record { number = n.0; view = o.view; is = n.1; reaches = n.2; has = o.has })
-    | inr t ↦ inr (record { item = t.item; good = t.good; reaches = alike.items t.item t.good t.reaches; has = t.has })
+    | inl o ↦ inl (too.strings q o)
+    | inr t ↦ inr (record { item = t.item; good = t.good; reaches = too.items t.item t.good t.reaches; has = t.has })
   ]);
 }
 

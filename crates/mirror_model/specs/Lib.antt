@@ -14,6 +14,7 @@ pub mod Events
 pub mod Steps
 pub mod Reached
 pub mod Examples
+pub mod ViewExamples
 pub mod Listed
 pub mod TreeLaws
 pub mod ViewLaws

@@ -12,7 +12,7 @@ use Rattle.mirror_model.specs.declared.events.Event.TheVariants.{Take, Merge}
 use Rattle.mirror_model.specs.Events.{Reaches, OpeningReaches, OpenedView, TakenItem, sources_of}
 use Rattle.mirror_model.specs.Steps.{Answer, Exhausted, Clashed, IsBetween, Takes, Merges, Run}
 use Rattle.mirror_model.specs.ViewLaws.{IsHash}
-use Rattle.mirror_model.specs.Reached.{HasReached, HasReachedOnly, events_of, is_done, may_change, AreRetried}
+use Rattle.mirror_model.specs.Reached.{OpensWith, HasReached, HasReachedOnly, events_of, is_done, may_change, AreRetried}
 
 -- By the last event of a list: a take at a mirror adds its item to what reaches it, a merge into a mirror adds
 -- what reached its source, and nothing else changes.
@@ -121,14 +121,19 @@ module _ (digest : List ℕ → List ℕ) (origin : List ℕ) (keys : List Key) 
     pub retried : AreRetried events answers
     pub is : slice_get final mirror ≡ Some v
 
-  -- the good items and the opening views that reach the one mirror in the one run reach the other in the other
+  -- the good items that reach the one mirror in the one run, and each string and note of the opening views that
+  -- reach it, reach the other mirror in the other run
   pub record ReachesToo (opened opened' : List View) (events events' : List Event) (mirror mirror' : ℕ) : Type 0 where
-    pub items : (item : Item) → IsGood digest origin keys item → Reaches item mirror events → Reaches item mirror' events'
-    pub views :
-        (number : ℕ) (v : View) → slice_get opened number ≡ Some v → OpeningReaches number mirror events →
-        (number' : ℕ) × (slice_get opened' number' ≡ Some v) × OpeningReaches number' mirror' events'
+    pub items :
+        (item : Item) → IsGood digest origin keys item → Reaches item mirror events → Reaches item mirror' events'
+    pub strings :
+        (string : List ℕ) → OpensWith opened (λ v. v.strings) events mirror string →
+        OpensWith opened' (λ v. v.strings) events' mirror' string
+    pub notes :
+        (note : List ℕ) → OpensWith opened (λ v. v.notes) events mirror note →
+        OpensWith opened' (λ v. v.notes) events' mirror' note
 
-  -- the same good items and equal opening views reach both
+  -- the same good items, and the same strings and notes of opening views, reach both
   pub record ReachedAlike (opened opened' : List View) (events events' : List Event) (mirror mirror' : ℕ) : Type 0 where
     pub there : ReachesToo opened opened' events events' mirror mirror'
     pub back : ReachesToo opened' opened events' events mirror' mirror

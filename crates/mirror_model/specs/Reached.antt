@@ -10,15 +10,15 @@ use Rattle.mirror_model.specs.declared.events.Event.{Event}
 use Rattle.mirror_model.specs.Events.{Reaches, OpeningReaches}
 use Rattle.mirror_model.specs.Steps.{Answer, Done, Refused, Clashed, Exhausted}
 
-module _ (digest : List ℕ → List ℕ) (origin : List ℕ) (keys : List Key) (opened : List View) where
-  -- the string is one of an opening view that reaches the mirror
-  pub record OpensWith (part : View → Strings) (events : List Event) (mirror : ℕ) (string : List ℕ) : Type 0 where
-    pub number : ℕ
-    pub view : View
-    pub is : slice_get opened number ≡ Some view
-    pub reaches : OpeningReaches number mirror events
-    pub has : Has (part view) string
+-- the string is one of an opening view that reaches the mirror
+pub record OpensWith (opened : List View) (part : View → Strings) (events : List Event) (mirror : ℕ) (string : List ℕ) : Type 0 where
+  pub number : ℕ
+  pub view : View
+  pub is : slice_get opened number ≡ Some view
+  pub reaches : OpeningReaches number mirror events
+  pub has : Has (part view) string
 
+module _ (digest : List ℕ → List ℕ) (origin : List ℕ) (keys : List Key) where
   -- the string is one of a good item that reaches the mirror
   pub record TakesIn (part : Item → List (List ℕ)) (events : List Event) (mirror : ℕ) (string : List ℕ) : Type 0 where
     pub item : Item
@@ -26,12 +26,16 @@ module _ (digest : List ℕ → List ℕ) (origin : List ℕ) (keys : List Key) 
     pub reaches : Reaches item mirror events
     pub has : Contains (part item) string
 
+module _ (digest : List ℕ → List ℕ) (origin : List ℕ) (keys : List Key) (opened : List View) where
   -- so a string has reached the mirror, or a note
   abbrev pub StringReaches : List Event → ℕ → List ℕ → Type 0
-  StringReaches events mirror string = OpensWith (λ v. v.strings) events mirror string ⊎ TakesIn (strings_of digest) events mirror string
+  StringReaches events mirror string =
+      OpensWith opened (λ v. v.strings) events mirror string
+      ⊎ TakesIn digest origin keys (strings_of digest) events mirror string
 
   abbrev pub NoteReaches : List Event → ℕ → List ℕ → Type 0
-  NoteReaches events mirror note = OpensWith (λ v. v.notes) events mirror note ⊎ TakesIn notes_of events mirror note
+  NoteReaches events mirror note =
+      OpensWith opened (λ v. v.notes) events mirror note ⊎ TakesIn digest origin keys notes_of events mirror note
 
   -- the view has all that the events bring to the mirror
   pub record HasReached (events : List Event) (mirror : ℕ) (v : View) : Type 0 where

@@ -8,7 +8,9 @@ mod laws;
 pub use events::Event;
 pub use items::{Bytes, Item, Rows};
 pub use laws::edges::{edge_root_law, edge_rows_law, edge_strings_law};
-pub use laws::examples::{fork_example, front_example, trees_example, way_example};
+pub use laws::examples::{
+    fork_example, front_example, opening_example, served_example, trees_example, way_example,
+};
 pub use laws::fetches::{answered_law, full_files_law, missing_list_law, plus_law};
 pub use laws::fronts::{front_law, rounds_law, walk_law};
 pub use laws::items::bytes_law;

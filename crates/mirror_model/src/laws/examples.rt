@@ -1,5 +1,6 @@
 //! Small cases of the definitions, worked out.
 ghost use Rattle.mirror_model.specs.Examples.{HasEdges, HasParts, HasRoots, HasTileOutside, IsForked, IsFrontOfThree, IsThree, IsWay};
+ghost use Rattle.mirror_model.specs.ViewExamples.{EmptyCountsForNothing, OneEntryIsServed};
 
 /// The tree of three entries, the edges of some sizes, and the roots of some edges, under a digest that
 /// is a sum.
@@ -26,4 +27,14 @@ pub fn way_example()
 pub fn front_example()
     ensures three { IsFrontOfThree }
     ensures outside { HasTileOutside }
+{}
+
+/// A mirror that opened empty and was merged with another is reached like that other.
+pub fn opening_example()
+    ensures { EmptyCountsForNothing }
+{}
+
+/// A lawful view that holds a note of size 1 and the tree of one entry serves these.
+pub fn served_example()
+    ensures { OneEntryIsServed }
 {}

@@ -23,8 +23,8 @@ pub fn clash_law()
     ensures { ForMirrors NoneClashes }
 {}
 
-/// Mirrors that the same good items and the same opening views have reached hold equal views, in
-/// whatever order, however often and through whichever merges these came: where no event was answered
+/// Mirrors that the same good items, and the same strings and notes of opening views, have reached hold
+/// equal views, in whatever order, however often and through whichever merges these came: where no event was answered
 /// by a clash, and so where no two strings share a digest, and each event for which memory was refused
 /// was done again.
 pub fn order_law()
