@@ -27,3 +27,5 @@ pub mod Takings
 pub mod MissingPaths
 pub mod FullBundles
 pub mod Fetching
+pub mod Refusing
+pub mod RefusedHeads

@@ -16,6 +16,9 @@ pub mod Reached
 pub mod Examples
 pub mod ViewExamples
 pub mod Listed
+pub mod Answered
+pub mod Refusals
+pub mod RefusalLaws
 pub mod TreeLaws
 pub mod ViewLaws
 pub mod TrueLaws

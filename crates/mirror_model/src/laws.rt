@@ -8,6 +8,7 @@ pub mod fronts;
 pub mod items;
 pub mod lists;
 pub mod play;
+pub mod refusals;
 pub mod tiles;
 pub mod truth;
 pub mod views;

@@ -2,10 +2,12 @@
 #![tactic(auto)]
 
 mod events;
+mod fault;
 mod items;
 mod laws;
 
 pub use events::Event;
+pub use fault::{MergeFault, TakeFault};
 pub use items::{Bytes, Item, Rows};
 pub use laws::edges::{edge_root_law, edge_rows_law, edge_strings_law};
 pub use laws::examples::{
@@ -16,6 +18,7 @@ pub use laws::fronts::{front_law, rounds_law, walk_law};
 pub use laws::items::bytes_law;
 pub use laws::lists::lists_law;
 pub use laws::play::{again_law, clash_law, keeping_law, order_law, reaches_law, run_law};
+pub use laws::refusals::refusals_law;
 pub use laws::tiles::{bundle_law, full_row_law};
 pub use laws::truth::{prefix_law, true_items_law, true_rounds_law};
 pub use laws::views::{

@@ -1,0 +1,156 @@
+-- What each answer of a call that takes an item says of the item: the first refusal that applies, in the order of
+-- the faults. It names no state: a clash is found with what is held, and says that the item is good. An answer
+-- other than want of memory is determined by the item.
+use Rattle.std.specs.Prelude.{◌≡◌, ◌≢◌, ℕ, ◌*◌, List, length, map, Result, Ok, Err}
+use Rattle.signed_note.specs.Keys.{Key}
+use Rattle.signed_note.specs.Notes.{Line, IsNote, Opens}
+use Rattle.signed_note.specs.Reading.{ReadsNote}
+use Rattle.signed_note.specs.declared.fault.NoteFault.{NoteFault}
+use Rattle.signed_note.specs.declared.fault.NoteFault.TheVariants as noting
+use Rattle.tlog_checkpoint.specs.declared.Checkpoint.{Checkpoint}
+use Rattle.tlog_checkpoint.specs.Grammar.{IsCheckpoint}
+use Rattle.tlog_checkpoint.specs.Reading.{Reads}
+use Rattle.tlog_checkpoint.specs.declared.fault.CheckpointFault.{CheckpointFault}
+use Rattle.tlog_checkpoint.specs.declared.fault.CheckpointFault.TheVariants as reading
+use Rattle.tlog_tiles.specs.Bundle.{ReadsBundle}
+use Rattle.tlog_tiles.specs.declared.bundle.BundleFault.TheVariants as bundling
+use Rattle.mirror_model.specs.Edge.{edge_widths, edge_root}
+use Rattle.mirror_model.specs.Item.{row_of, IsGoodTile, IsGoodBundle, IsGoodHead}
+use Rattle.mirror_model.specs.declared.fault.TakeFault.{TakeFault}
+use Rattle.mirror_model.specs.declared.fault.TakeFault.TheVariants as taking
+
+-- the bytes are a note whose text is that checkpoint, its extension lines with it
+pub record IsCheckpointNote (bytes : List ℕ) (checkpoint : Checkpoint) (text : List ℕ) (lines : List Line) : Type 0 where
+  pub is_note : IsNote bytes text lines
+  pub is_checkpoint : IsCheckpoint text checkpoint.origin checkpoint.size checkpoint.root checkpoint.extensions
+
+-- the checkpoint is of that origin, and the note opens under the keys
+pub record IsOpenCheckpoint (bytes origin : List ℕ) (keys : List Key) (checkpoint : Checkpoint) : Type 0 where
+  pub text : List ℕ
+  pub lines : List Line
+  pub is : IsCheckpointNote bytes checkpoint text lines
+  pub origin_is : checkpoint.origin ≡ origin
+  pub opens : Opens text lines keys
+
+-- the bytes are no note, for that reason
+pub record IsNoNote (bytes : List ℕ) (fault : NoteFault) : Type 0 where
+  pub refused : ReadsNote bytes (Err fault)
+  pub has_memory : fault ≢ noting.OutOfMemory
+
+-- they are a note, and its text is no checkpoint, for that reason
+pub record IsNoCheckpoint (bytes : List ℕ) (fault : CheckpointFault) : Type 0 where
+  pub text : List ℕ
+  pub lines : List Line
+  pub is_note : IsNote bytes text lines
+  pub refused : Reads text (Err fault)
+  pub has_memory : fault ≢ reading.OutOfMemory
+
+-- it is a checkpoint, of another origin
+pub record HasOtherOrigin (bytes origin : List ℕ) : Type 0 where
+  pub checkpoint : Checkpoint
+  pub text : List ℕ
+  pub lines : List Line
+  pub is : IsCheckpointNote bytes checkpoint text lines
+  pub differs : checkpoint.origin ≢ origin
+
+-- it is one of that origin, and no key of the list accepts a line of the note
+pub record HasNoSigner (bytes origin : List ℕ) (keys : List Key) : Type 0 where
+  pub checkpoint : Checkpoint
+  pub text : List ℕ
+  pub lines : List Line
+  pub is : IsCheckpointNote bytes checkpoint text lines
+  pub origin_is : checkpoint.origin ≡ origin
+  pub closed : Opens text lines keys → ⊥
+
+-- reading a head's note, which opens under the keys
+abbrev pub ReadsHead : List ℕ → List ℕ → List Key → Result Checkpoint TakeFault → Type 0
+ReadsHead bytes origin keys (Ok checkpoint) = IsOpenCheckpoint bytes origin keys checkpoint
+ReadsHead bytes origin keys (Err (taking.Note fault)) = IsNoNote bytes fault
+ReadsHead bytes origin keys (Err (taking.Checkpoint fault)) = IsNoCheckpoint bytes fault
+ReadsHead bytes origin keys (Err taking.OtherOrigin) = HasOtherOrigin bytes origin
+ReadsHead bytes origin keys (Err taking.NoTrustedSignature) = HasNoSigner bytes origin keys
+ReadsHead bytes origin keys (Err taking.EdgeCount) = ⊥
+ReadsHead bytes origin keys (Err taking.EdgeLength) = ⊥
+ReadsHead bytes origin keys (Err taking.EdgeMismatch) = ⊥
+ReadsHead bytes origin keys (Err taking.RowLength) = ⊥
+ReadsHead bytes origin keys (Err taking.BundleShort) = ⊥
+ReadsHead bytes origin keys (Err taking.BundleLong) = ⊥
+ReadsHead bytes origin keys (Err taking.Collision) = ⊥
+ReadsHead bytes origin keys (Err taking.OutOfMemory) = Unit {0}
+
+-- as many rows as the size has partial tiles
+abbrev pub HasEdgeCount : ℕ → List (List ℕ) → Type 0
+HasEdgeCount size rows = length rows ≡ length (edge_widths size)
+
+-- each of 32 bytes for each hash of its tile
+abbrev pub HasEdgeLengths : ℕ → List (List ℕ) → Type 0
+HasEdgeLengths size rows = map length rows ≡ map (λ width. 32 * width) (edge_widths size)
+
+-- the note part is good, and there are more rows or fewer than its size has partial tiles
+pub record HasOtherCount (bytes origin : List ℕ) (keys : List Key) (rows : List (List ℕ)) : Type 0 where
+  pub checkpoint : Checkpoint
+  pub is_open : IsOpenCheckpoint bytes origin keys checkpoint
+  pub differs : HasEdgeCount checkpoint.size rows → ⊥
+
+-- there are as many, and a row is longer or shorter than its tile
+pub record HasOtherLengths (bytes origin : List ℕ) (keys : List Key) (rows : List (List ℕ)) : Type 0 where
+  pub checkpoint : Checkpoint
+  pub is_open : IsOpenCheckpoint bytes origin keys checkpoint
+  pub count_is : HasEdgeCount checkpoint.size rows
+  pub differ : HasEdgeLengths checkpoint.size rows → ⊥
+
+module _ (digest : List ℕ → List ℕ) where
+  -- each has its tile's length, and they do not lead to the root
+  pub record HasOtherRoot (bytes origin : List ℕ) (keys : List Key) (rows : List (List ℕ)) : Type 0 where
+    pub checkpoint : Checkpoint
+    pub is_open : IsOpenCheckpoint bytes origin keys checkpoint
+    pub lengths_are : HasEdgeLengths checkpoint.size rows
+    pub differs : edge_root digest (map row_of rows) ≢ checkpoint.root
+
+  -- taking a head: its note, and the edge rows of its size, lowest level first
+  abbrev pub JudgesHead : List ℕ → List Key → List ℕ → List (List ℕ) → Result (Unit {0}) TakeFault → Type 0
+  JudgesHead origin keys bytes rows (Ok done) = IsGoodHead digest origin keys bytes rows
+  JudgesHead origin keys bytes rows (Err (taking.Note fault)) = IsNoNote bytes fault
+  JudgesHead origin keys bytes rows (Err (taking.Checkpoint fault)) = IsNoCheckpoint bytes fault
+  JudgesHead origin keys bytes rows (Err taking.OtherOrigin) = HasOtherOrigin bytes origin
+  JudgesHead origin keys bytes rows (Err taking.NoTrustedSignature) = HasNoSigner bytes origin keys
+  JudgesHead origin keys bytes rows (Err taking.EdgeCount) = HasOtherCount bytes origin keys rows
+  JudgesHead origin keys bytes rows (Err taking.EdgeLength) = HasOtherLengths bytes origin keys rows
+  JudgesHead origin keys bytes rows (Err taking.EdgeMismatch) = HasOtherRoot bytes origin keys rows
+  JudgesHead origin keys bytes rows (Err taking.RowLength) = ⊥
+  JudgesHead origin keys bytes rows (Err taking.BundleShort) = ⊥
+  JudgesHead origin keys bytes rows (Err taking.BundleLong) = ⊥
+  JudgesHead origin keys bytes rows (Err taking.Collision) = IsGoodHead digest origin keys bytes rows
+  JudgesHead origin keys bytes rows (Err taking.OutOfMemory) = Unit {0}
+
+-- taking a tile of that width
+abbrev pub JudgesTile : ℕ → List ℕ → Result (Unit {0}) TakeFault → Type 0
+JudgesTile width bytes (Ok done) = IsGoodTile width bytes
+JudgesTile width bytes (Err (taking.Note fault)) = ⊥
+JudgesTile width bytes (Err (taking.Checkpoint fault)) = ⊥
+JudgesTile width bytes (Err taking.OtherOrigin) = ⊥
+JudgesTile width bytes (Err taking.NoTrustedSignature) = ⊥
+JudgesTile width bytes (Err taking.EdgeCount) = ⊥
+JudgesTile width bytes (Err taking.EdgeLength) = ⊥
+JudgesTile width bytes (Err taking.EdgeMismatch) = ⊥
+JudgesTile width bytes (Err taking.RowLength) = length bytes ≢ 32 * width
+JudgesTile width bytes (Err taking.BundleShort) = ⊥
+JudgesTile width bytes (Err taking.BundleLong) = ⊥
+JudgesTile width bytes (Err taking.Collision) = IsGoodTile width bytes
+JudgesTile width bytes (Err taking.OutOfMemory) = Unit {0}
+
+-- taking a bundle of that width
+abbrev pub JudgesBundle : ℕ → List ℕ → Result (Unit {0}) TakeFault → Type 0
+JudgesBundle width bytes (Ok done) = IsGoodBundle width bytes
+JudgesBundle width bytes (Err (taking.Note fault)) = ⊥
+JudgesBundle width bytes (Err (taking.Checkpoint fault)) = ⊥
+JudgesBundle width bytes (Err taking.OtherOrigin) = ⊥
+JudgesBundle width bytes (Err taking.NoTrustedSignature) = ⊥
+JudgesBundle width bytes (Err taking.EdgeCount) = ⊥
+JudgesBundle width bytes (Err taking.EdgeLength) = ⊥
+JudgesBundle width bytes (Err taking.EdgeMismatch) = ⊥
+JudgesBundle width bytes (Err taking.RowLength) = ⊥
+JudgesBundle width bytes (Err taking.BundleShort) = ReadsBundle width bytes (Err bundling.BundleShort)
+JudgesBundle width bytes (Err taking.BundleLong) = ReadsBundle width bytes (Err bundling.BundleLong)
+JudgesBundle width bytes (Err taking.Collision) = IsGoodBundle width bytes
+JudgesBundle width bytes (Err taking.OutOfMemory) = Unit {0}
