@@ -1,8 +1,10 @@
 -- Bytes have one reading as a note.
-use Rattle.std.proofs.Common.{◌≡◌, ◌≢◌, ℕ, zero, suc, ◌<◌, ◌≤◌, List, [], ◌∷◌, length, take, drop, refl, sym, ap, ◌∙◌, arith, append_assoc, inl, inr}
+use Rattle.std.proofs.Common.{◌≡◌, ◌≢◌, ◌↔◌, IsTrue, ℕ, zero, suc, ◌<◌, ◌≤◌, Bool, List, [], ◌∷◌, length, take, drop, refl, sym, ap, subst, ◌∙◌, arith, append_assoc, inl, inr}
 use Rattle.std.specs.Prelude.{Result, Ok, Err, All}
 use Rattle.std.specs.List.{flat_map}
+use Rattle.std.specs.Str.{bytes_eq}
 use Rattle.std.proofs.lemmas.Bool.{cases_lt}
+use Rattle.std.proofs.lemmas.Slice.Eq.{bytes_eq-Decides}
 use Rattle.std.proofs.lemmas.List.Elements.{All-head, All-tail}
 use Rattle.byteorder.specs.Endian.{big_bytes, big_number}
 use Rattle.signed_note.specs.Names.{newline, IsNoteText}
@@ -168,6 +170,16 @@ NoteParts-same x y b t l =
     let second : record x { bytes = y.bytes } ≡ record x { bytes = y.bytes; text = y.text } = ap (λ (v : List ℕ). record x { bytes = y.bytes; text = v }) t in
     let third : record x { bytes = y.bytes; text = y.text } ≡ y = ap (λ (v : List Line). record y { lines = v }) l in
     first ∙ (second ∙ third)
+
+-- two notes are equal exactly where their bytes are
+pub same_notes : (x y : NoteParts) → IsNote x.bytes x.text x.lines → IsNote y.bytes y.text y.lines → (b : Bool) → b ≡ bytes_eq x.bytes y.bytes → IsTrue b ↔ (x ≡ y)
+same_notes x y p q b is = (
+  λ yes.
+      let e : x.bytes ≡ y.bytes = (bytes_eq-Decides x.bytes y.bytes).0 (sym is ∙ yes) in
+      let parts = notes_are_read x.bytes x.text y.text x.lines y.lines p (subst (λ (v : List ℕ). IsNote v y.text y.lines) (sym e) q) in
+      NoteParts-same x y e parts.0 parts.1,
+  λ e. is ∙ (bytes_eq-Decides x.bytes y.bytes).1 (ap (λ (v : NoteParts). v.bytes) e),
+)
 
 same_place : (bytes : List ℕ) (a b : Result NoteParts NoteFault) → ReadsNote bytes a → ReadsNote bytes b → a ≢ Err OutOfMemory → b ≢ Err OutOfMemory → rank a ≡ rank b → a ≡ b
 same_place bytes (Ok x) (Ok y) p q na nb e =

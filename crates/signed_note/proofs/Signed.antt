@@ -41,13 +41,13 @@ AllPass-from_passing p [] h = All-nil (λ x. p x ≡ true)
 AllPass-from_passing p (x ∷ xs) h = All-cons (λ y. p y ≡ true) x xs h.0 (AllPass-from_passing p xs h.1)
 
 -- texts one after the other
-text_append : (a b : List ℕ) → IsNoteText a → IsNoteText b → IsNoteText (a ++ b)
+pub text_append : (a b : List ℕ) → IsNoteText a → IsNoteText b → IsNoteText (a ++ b)
 text_append a b p q = record {
   utf8 = IsUtf8-append a b p.utf8 q.utf8;
   characters = subst (AllPass is_note_char) (sym (chars-append a b p.utf8)) (All-append (λ c. is_note_char c ≡ true) (chars a) (chars b) p.characters q.characters);
 }
 
-ascii_text : (a : List ℕ) → IsAscii a → Passing is_note_char a → IsNoteText a
+pub ascii_text : (a : List ℕ) → IsAscii a → Passing is_note_char a → IsNoteText a
 ascii_text a ascii pass = record {
   utf8 = IsUtf8-from_ascii a ascii;
   characters = subst (AllPass is_note_char) (sym (chars-IsAscii a ascii)) (AllPass-from_passing is_note_char a pass);
@@ -71,7 +71,7 @@ space_text : IsNoteText (space ∷ [])
 unfolding chars encode
 space_text = record { utf8 = (space ∷ [], (refl, refl)); characters = AllPass-from_list_all is_note_char (space ∷ []) refl }
 
-newline_text : IsNoteText (newline ∷ [])
+pub newline_text : IsNoteText (newline ∷ [])
 unfolding chars encode
 newline_text = record { utf8 = (newline ∷ [], (refl, refl)); characters = AllPass-from_list_all is_note_char (newline ∷ []) refl }
 

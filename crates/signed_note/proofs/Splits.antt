@@ -1,6 +1,7 @@
 -- The last blank line of a note: where it is, and that it separates in one way.
 use Rattle.std.proofs.Common.{◌≡◌, ◌⊎◌, inl, inr, ℕ, suc, ◌+◌, ◌<◌, List, [], ◌∷◌, ◌++◌, length, take, drop, get_or, refl, sym, ap, ◌∙◌, subst, arith, append_assoc, length-append, drop-cons}
 use Rattle.std.proofs.lemmas.List.{append-nil, take_more, take-append-drop, get_or-append-add, length-take-le}
+use Rattle.std.proofs.Math.Seq.{take-append_seam}
 use Rattle.signed_note.specs.Names.{newline, EndsInNewline}
 use Rattle.signed_note.specs.Notes.{IsSplit, IsBlank}
 
@@ -80,3 +81,7 @@ split_once bytes text signed other more s r =
           let rest : newline ∷ more ≡ newline ∷ signed = h.2 ∙ ap (λ (x : List ℕ). x ++ newline ∷ signed) none in
           (h.1 ∙ (ap (λ (x : List ℕ). other ++ x) none ∙ append-nil other), sym (cc rest))
     ]
+
+-- the text is the front of the bytes
+pub text_front : (bytes text signed : List ℕ) → IsSplit bytes text signed → take (length text) bytes ≡ text
+text_front bytes text signed s = ap (take (length text)) s.whole ∙ take-append_seam text (newline ∷ signed)

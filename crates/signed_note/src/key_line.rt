@@ -4,7 +4,7 @@ use crate::mac_key::HmacKey;
 use crate::pinned::PinnedTexts;
 
 /// A key as a line of a key file gives it.
-#[derive(Drop)]
+#[derive(Debug, Drop)]
 pub enum KeyLine {
     /// `hmac NAME ID SECRET`: a key of a shared secret.
     Hmac(HmacKey),

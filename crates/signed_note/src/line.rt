@@ -10,7 +10,7 @@ use crate::name::is_key_name;
 use base64::DecodeAllocError;
 use base64::engine::general_purpose::STANDARD;
 use byteorder::{BigEndian, ByteOrder};
-use std::alloc::Global;
+use std::alloc::{AllocError, Global};
 use std::marker::Model;
 
 /// One line of a note's signature part: the name and id of a key, and its signature (C2SP signed-note,
@@ -51,6 +51,17 @@ impl SignatureLine {
         ensures { result.now ≡ self.now.signature }
     {
         &self.signature
+    }
+
+    /// An equal line.
+    pub(crate) fn copy(&self, alloc: Global) -> Result<SignatureLine, AllocError>
+        ensures { IfOk result (λ l. l ≡ self.now) }
+    {
+        Ok(SignatureLine {
+            name: String::from_str(alloc, &self.name)?,
+            id: self.id,
+            signature: Vec::from_slice(alloc, &self.signature)?,
+        })
     }
 }
 

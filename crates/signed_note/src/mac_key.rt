@@ -12,6 +12,7 @@ use crate::hmac::hmac_of;
 use crate::name::is_own_name;
 use crate::verifier::Verifier;
 use std::alloc::Global;
+use std::fmt;
 use std::marker::Model;
 
 /// A key of a shared secret of 1 to 64 bytes: its signatures are HMAC-SHA-256 of the text (RFC 2104).
@@ -71,6 +72,20 @@ impl HmacKey {
         ensures { result ≡ hmac self.now.secret message.now }
     {
         hmac_of(&self.secret, message)
+    }
+}
+
+/// Prints the name and the id, and not the secret.
+impl fmt::Debug for HmacKey {
+    ghost use Rattle.std.specs.Prelude.{codes, ◌++◌, Some};
+    ghost use Rattle.std.specs.Fmt.{decimal};
+
+    ghost debug_output = { λ k. Some (codes "HmacKey { name: " ++ k.name ++ codes ", id: " ++ decimal k.id ++ codes ", .. }") };
+
+    fn fmt<W: fmt::Write>(&self, f: &mut fmt::Formatter<W>) -> fmt::Result {
+        let name = self.name.as_str();
+        let id = self.id;
+        write!(f, "HmacKey {{ name: {name}, id: {id}, .. }}")
     }
 }
 

@@ -1,6 +1,10 @@
 //! Notes.
 
-ghost use Rattle.std.specs.Prelude.{◌≡◌};
+ghost use Rattle.std.specs.Prelude.{◌≡◌, ◌↔◌, IsTrue, IfOk};
+ghost use Rattle.std.specs.Str.{bytes_eq};
+ghost use Rattle.std.proofs.Common.{rules};
+ghost use Rattle.std.specs.Cmp.Rules.{comparing};
+ghost use Rattle.std.specs.Ordering.{on};
 ghost use Rattle.signed_note.specs.Notes.{IsNote};
 ghost use Rattle.signed_note.specs.Reading.{ReadsNote};
 
@@ -8,7 +12,7 @@ use crate::fault::NoteFault;
 use crate::line::SignatureLine;
 use crate::name::is_note_text;
 use crate::parts::{count_lines, parts_of, read_lines};
-use std::alloc::Global;
+use std::alloc::{AllocError, Global};
 use std::marker::Model;
 
 /// A note has at most so many bytes.
@@ -21,19 +25,20 @@ const MAX_LINES: usize = 100;
 #[derive(Debug, Drop)]
 pub struct Note {
     whole: String,
-    text: String,
+    // The first so many bytes are the text.
+    text_len: usize,
     lines: Vec<SignatureLine>,
 }
 
 impl Model for Note {
-    ghost use Rattle.std.specs.Prelude.{string_bytes};
+    ghost use Rattle.std.specs.Prelude.{string_bytes, take};
     ghost use Rattle.signed_note.specs.Notes.{NoteParts, IsNote};
 
     ghost Value = { NoteParts };
 
-    ghost view = { λ n. record { bytes = string_bytes n.whole; text = string_bytes n.text; lines = n.lines.items } };
+    ghost view = { λ n. record { bytes = string_bytes n.whole; text = take n.text_len (string_bytes n.whole); lines = n.lines.items } };
 
-    ghost invariant = { λ n. IsNote (string_bytes n.whole) (string_bytes n.text) n.lines.items };
+    ghost invariant = { λ n. IsNote (string_bytes n.whole) (take n.text_len (string_bytes n.whole)) n.lines.items };
 }
 
 impl Note {
@@ -78,7 +83,22 @@ impl Note {
         let lines = read_lines(alloc, signed)?;
         Ok(Note {
             whole: String::from_str(alloc, whole)?,
-            text: String::from_str(alloc, text)?,
+            text_len: text.len(),
+            lines,
+        })
+    }
+
+    /// An equal note.
+    pub fn copy(&self, alloc: Global) -> Result<Note, AllocError>
+        ensures { IfOk result (λ n. n ≡ self.now) }
+    {
+        let mut lines = Vec::new(alloc);
+        for line in &self.lines {
+            lines.push(line.copy(alloc)?)?;
+        }
+        Ok(Note {
+            whole: String::from_str(alloc, &self.whole)?,
+            text_len: self.text_len,
             lines,
         })
     }
@@ -95,7 +115,7 @@ impl Note {
     pub fn text(&self) -> &str
         ensures { result.now ≡ self.now.text }
     {
-        &self.text
+        &self.whole[..self.text_len]
     }
 
     /// The signature lines, in their order.
@@ -104,4 +124,22 @@ impl Note {
     {
         &self.lines
     }
+}
+
+/// Notes are equal where their bytes are: these have one text and one list of lines.
+impl PartialEq for Note {
+    ghost eq = { on (λ n. n.bytes) bytes_eq };
+
+    ghost laws = { Prim.search (comparing, rules) };
+
+    fn eq(&self, other: &Note) -> bool
+        ensures bytes { result ≡ bytes_eq self.now.bytes other.now.bytes }
+        ensures same { IsTrue result ↔ (self.now ≡ other.now) }
+    {
+        self.whole == other.whole
+    }
+}
+
+impl Eq for Note {
+    ghost laws = { Prim.search (comparing, rules) };
 }

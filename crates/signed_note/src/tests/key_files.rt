@@ -60,7 +60,7 @@ fn bad_key_lines(rt: HostRuntime) {
         b"hmac a+b 00000001 00\n",
         b"hmac a\xc2\xa0b 00000001 00\n",
         b"hmac a\xff 00000001 00\n",
-        b"HMAC ex 00000001 00\n",
+        b"Hd148d9517f61980203bc60924d3d818cef77ba66e43117da0e001a13d70fdf45 ex 00000001 00\n",
         b"pin ex 00000001 00\n",
         b"# a comment\nhmac ex 00000001 00\n",
         b"\xc3",
@@ -106,5 +106,26 @@ fn secrets(rt: HostRuntime) -> Result<(), Fail> {
         let line = line_of(rt.alloc(), bytes)?;
         assert_eq!(rt; fault_of(rt.alloc(), line.as_bytes()), fault, "{bytes}");
     }
+    Ok(())
+}
+
+#[test]
+fn many_lines(rt: HostRuntime) -> Result<(), Fail> {
+    let mut file = String::new(rt.alloc());
+    for _ in 0..20u32 {
+        file.push_str(&line_of(rt.alloc(), 64)?)?;
+    }
+    let keys = read_keys(rt.alloc(), file.as_bytes())?;
+    assert_eq!(rt; keys.len(), 20);
+    let mac = hex::decode(
+        rt.alloc(),
+        "d148d9517f61980203bc60924d3d818cef77ba66e43117da0e001a13d70fdf45",
+    )?;
+    assert!(rt; accepts(&keys[19], "ex", 1, b"x\n", &mac));
+    file.push_str("x\n")?;
+    assert_eq!(rt;
+        fault_of(rt.alloc(), file.as_bytes()),
+        Some(KeyFileFault::BadKeyLine(21))
+    );
     Ok(())
 }

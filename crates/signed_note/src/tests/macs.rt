@@ -104,3 +104,11 @@ fn verifiers(rt: HostRuntime) -> Result<(), Fail> {
     assert!(rt; !accepts(&pins, "pin", 8, b"x\n", &mac));
     Ok(())
 }
+
+#[test]
+fn a_key_prints_no_secret(rt: HostRuntime) -> Result<(), Fail> {
+    let key = HmacKey::new(rt.alloc(), "ex", 7, b"Jefe")?;
+    let text = format!(in rt.alloc(); "{key:?}")?;
+    assert_eq!(rt; text.as_str(), "HmacKey { name: ex, id: 7, .. }");
+    Ok(())
+}

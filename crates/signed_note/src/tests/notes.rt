@@ -1,7 +1,10 @@
 //! What is read as a note, and each refusal.
 
+ghost use Rattle.std.specs.Prelude.{◌<◌, IfOk, string_bytes};
+ghost use Rattle.signed_note.specs.Notes.{IsLawfulText};
+
 use super::signed_row;
-use crate::{HmacKey, KeyFileFault, Note, NoteFault};
+use crate::{HmacKey, KeyFault, KeyFileFault, Note, NoteFault, OpenFault, sign};
 use std::alloc::{AllocError, Global};
 use std::test::Fail;
 
@@ -138,11 +141,88 @@ fn signed(rt: HostRuntime) -> Result<(), Fail> {
     Ok(())
 }
 
+/// A text that may be signed: so many letters, and a newline behind them.
+fn letters(alloc: Global, count: usize) -> Result<String, AllocError>
+    requires { count < 900000 }
+    ensures { IfOk result (λ text. IsLawfulText (string_bytes text)) }
+{
+    let mut text = String::new(alloc);
+    for _ in 0..count {
+        text.push('a')?;
+    }
+    text.push('\n')?;
+    Ok(text)
+}
+
+#[test]
+fn the_longest_signed_text(rt: HostRuntime) -> Result<(), Fail> {
+    let key = HmacKey::new(rt.alloc(), "ex", 1, b"Jefe")?;
+    let text = letters(rt.alloc(), 899_999)?;
+    let note = Note::read(rt.alloc(), &sign(rt.alloc(), &text, &key)?)?;
+    assert_eq!(rt; note.text().len(), 900_000);
+    assert_eq!(rt; note.lines().len(), 1);
+    assert_eq!(rt;
+        note.lines()[0].signature(),
+        key.mac(note.text().as_bytes()).as_slice()
+    );
+    Ok(())
+}
+
+#[test]
+fn a_copy_is_equal(rt: HostRuntime) -> Result<(), Fail> {
+    let bytes = "a\n\n\u{2014} x AQIDBAU=\n\u{2014} é AQIDBAY=\n".as_bytes();
+    let note = Note::read(rt.alloc(), bytes)?;
+    let copy = note.copy(rt.alloc())?;
+    assert_eq!(rt; copy.bytes(), bytes);
+    assert_eq!(rt; copy.text(), "a\n");
+    assert_eq!(rt; copy.lines().len(), 2);
+    let last = &copy.lines()[1];
+    assert_eq!(rt; last.name(), "é");
+    assert_eq!(rt; last.id(), 16_909_060);
+    assert_eq!(rt; last.signature(), [6].as_slice());
+    assert!(rt; copy == note);
+    let other = Note::read(rt.alloc(), "a\n\n\u{2014} x AQIDBAU=\n".as_bytes())?;
+    assert!(rt; other != note);
+    Ok(())
+}
+
+/// What each fault prints as, beside the name that it has.
+fn printed_names(alloc: Global) -> Result<Vec<(String, &'static str)>, AllocError> {
+    let mut names = Vec::new(alloc);
+    for (fault, name) in [
+        (NoteFault::NoteTooLong, "NoteTooLong"),
+        (NoteFault::NotText, "NotText"),
+        (NoteFault::NoSignatures, "NoSignatures"),
+        (NoteFault::TooManySignatures, "TooManySignatures"),
+        (NoteFault::BadSignatureLine, "BadSignatureLine"),
+        (NoteFault::OutOfMemory, "OutOfMemory"),
+    ] {
+        names.push((fault.to_string(alloc)?, name))?;
+    }
+    for (fault, name) in [
+        (KeyFault::BadName, "BadName"),
+        (KeyFault::BadSecret, "BadSecret"),
+        (KeyFault::OutOfMemory, "OutOfMemory"),
+    ] {
+        names.push((fault.to_string(alloc)?, name))?;
+    }
+    for (fault, name) in [
+        (KeyFileFault::BadKeyLine(3), "BadKeyLine"),
+        (KeyFileFault::OutOfMemory, "OutOfMemory"),
+    ] {
+        names.push((fault.to_string(alloc)?, name))?;
+    }
+    let fault = OpenFault::NoTrustedSignature;
+    names.push((fault.to_string(alloc)?, "NoTrustedSignature"))?;
+    Ok(names)
+}
+
 #[test]
 fn faults_print_their_names(rt: HostRuntime) -> Result<(), AllocError> {
-    let fault = NoteFault::BadSignatureLine.to_string(rt.alloc())?;
-    assert_eq!(rt; fault.as_str(), "BadSignatureLine");
-    let fault = KeyFileFault::BadKeyLine(3).to_string(rt.alloc())?;
-    assert_eq!(rt; fault.as_str(), "BadKeyLine");
+    let names = printed_names(rt.alloc())?;
+    assert_eq!(rt; names.len(), 12);
+    for (printed, name) in &names {
+        assert_eq!(rt; printed.as_str(), *name);
+    }
     Ok(())
 }

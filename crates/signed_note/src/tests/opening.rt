@@ -64,11 +64,10 @@ fn note_opens(rt: HostRuntime) -> Result<(), Fail> {
             false,
         ),
     ] {
-        assert_eq!(rt;
-            opened(rt.alloc(), &keys, note.as_bytes())?,
-            opens,
-            "{note}"
-        );
+        let read = Note::read(rt.alloc(), note.as_bytes())?;
+        assert_eq!(rt; read.text(), "x\n\n\ny\n");
+        let answer = open_note(&read, &keys);
+        assert_eq!(rt; answer.is_ok(), opens, "{note}");
     }
     Ok(())
 }
