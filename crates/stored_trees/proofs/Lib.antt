@@ -1,0 +1,11 @@
+pub mod BuiltTrees
+pub mod Descents
+pub mod Builds
+pub mod RowSteps
+pub mod RangeSteps
+pub mod Losses
+pub mod Marking
+pub mod MarkedTrees
+pub mod LeafRows
+pub mod Orders
+pub mod PrefixSteps

@@ -1,0 +1,19 @@
+-- What is known of a store beforehand.
+use Rattle.std.specs.Prelude.{ℕ, List, IsTrue}
+use Rattle.std.specs.FinSet.{contains}
+use Rattle.node_store.specs.Strings.{Strings}
+use Rattle.mirror_model.specs.Complete.{IsBuilt}
+use Rattle.mirror_model.specs.Marks.{Points, State, IsSound}
+
+-- the set has that size and root
+abbrev pub HasPoint : Points → ℕ → List ℕ → Type 0
+HasPoint points size root = IsTrue (contains points (record { size = size; root = root }))
+
+-- each size and root of the set is that of a tree that is held
+pub record AreBuilt (digest : List ℕ → List ℕ) (held : Strings) (points : Points) : Type 0 where
+  pub built : (size : ℕ) (root : List ℕ) → HasPoint points size root → IsBuilt digest held size root
+
+-- what a sound mirror remembers is held whole
+abbrev pub SoundIsBuilt : Type 0
+SoundIsBuilt =
+    (digest : List ℕ → List ℕ) (state : State) → IsSound digest state → AreBuilt digest state.view.strings state.remembered

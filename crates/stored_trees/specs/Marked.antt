@@ -1,0 +1,12 @@
+-- What a set of sizes with hashes stands for.
+use Rattle.std.specs.Prelude.{ℕ, List, map}
+use Rattle.std.specs.FinSet.{from_list}
+use Rattle.mirror_model.specs.Forks.{Point}
+use Rattle.mirror_model.specs.Marks.{Points}
+
+abbrev pub point_of : ℕ × List ℕ → Point
+point_of p = record { size = p.0; root = p.1 }
+
+-- the set of these points
+abbrev pub points_of : List (ℕ × List ℕ) → Points
+points_of keys = from_list (map point_of keys)

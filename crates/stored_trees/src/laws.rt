@@ -1,0 +1,15 @@
+//! Laws of what is remembered, and of prefixes.
+//!
+//! A law is the contract of a function with an empty body: the proof is all that there is of it.
+ghost use Rattle.stored_trees.specs.Known.{SoundIsBuilt};
+ghost use Rattle.stored_trees.specs.Prefixes.{PrefixOfPrefix};
+
+/// What a sound mirror remembers is held whole.
+pub fn known_law()
+    ensures { SoundIsBuilt }
+{}
+
+/// What is no longer than a prefix of a list begins the list exactly where it begins that prefix.
+pub fn prefix_law()
+    ensures { PrefixOfPrefix }
+{}
