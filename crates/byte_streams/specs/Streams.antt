@@ -1,0 +1,13 @@
+-- What was taken of a reader, or given to a writer, that tells its bytes.
+use Rattle.std.specs.Prelude.{ℕ, ◌≤◌, List, length, take, Option}
+use Rattle.std.specs.Io.KnownBytes.{Appends, Consumes}
+
+-- of the bytes that the reader had, at most that many were taken
+pub record TakesAtMost (most : ℕ) (old new : Option (List ℕ)) : Type 0 where
+  pub taken : List ℕ
+  pub within : length taken ≤ most
+  pub consumes : Consumes old new taken
+
+-- some of the first bytes were written, and nothing else
+abbrev pub AppendsFront : Option (List ℕ) → Option (List ℕ) → List ℕ → Type 0
+AppendsFront old new bytes = (n : ℕ) × Appends old new (take n bytes)
