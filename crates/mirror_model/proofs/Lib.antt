@@ -29,3 +29,4 @@ pub mod FullBundles
 pub mod Fetching
 pub mod Refusing
 pub mod RefusedHeads
+pub mod Reporting

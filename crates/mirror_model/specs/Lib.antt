@@ -19,6 +19,9 @@ pub mod Listed
 pub mod Answered
 pub mod Refusals
 pub mod RefusalLaws
+pub mod Reports
+pub mod Texts
+pub mod ReportLaws
 pub mod TreeLaws
 pub mod ViewLaws
 pub mod TrueLaws

@@ -9,6 +9,7 @@ pub mod items;
 pub mod lists;
 pub mod play;
 pub mod refusals;
+pub mod reports;
 pub mod tiles;
 pub mod truth;
 pub mod views;

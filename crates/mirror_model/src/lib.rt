@@ -5,6 +5,7 @@ mod events;
 mod fault;
 mod items;
 mod laws;
+mod reports;
 
 pub use events::Event;
 pub use fault::{MergeFault, TakeFault};
@@ -19,8 +20,10 @@ pub use laws::items::bytes_law;
 pub use laws::lists::lists_law;
 pub use laws::play::{again_law, clash_law, keeping_law, order_law, reaches_law, run_law};
 pub use laws::refusals::refusals_law;
+pub use laws::reports::reports_law;
 pub use laws::tiles::{bundle_law, full_row_law};
 pub use laws::truth::{prefix_law, true_items_law, true_rounds_law};
 pub use laws::views::{
     forks_law, growth_law, lawful_law, marks_law, missing_law, one_list_law, served_law, union_law,
 };
+pub use reports::{Fork, Head};
