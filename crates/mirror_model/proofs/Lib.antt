@@ -25,6 +25,8 @@ pub mod Listing
 pub mod Keeping
 pub mod Takings
 pub mod MissingPaths
+pub mod EdgeWalks
+pub mod MissingWithin
 pub mod FullBundles
 pub mod Fetching
 pub mod Refusing

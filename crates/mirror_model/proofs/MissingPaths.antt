@@ -22,7 +22,7 @@ pub record IsSpan (start len at many : ℕ) : Type 0 where
   pub from : start ≤ at
   pub upto : at + many ≤ start + len
 
-fails_inside : (digest : List ℕ → List ℕ) (held : Strings) (t : Tree ℕ) (start : ℕ) (hash : List ℕ) (at many : ℕ) → WalkFails digest held t start hash at many → IsSpan start (size_of t) at many
+pub fails_inside : (digest : List ℕ → List ℕ) (held : Strings) (t : Tree ℕ) (start : ℕ) (hash : List ℕ) (at many : ℕ) → WalkFails digest held t start hash at many → IsSpan start (size_of t) at many
 fails_inside digest held Empty start hash at many f = absurd f
 fails_inside digest held (One x) start hash at many f = record { from = omega (arith, f.0.at_is); upto = omega (arith, f.0.at_is, f.0.many_is) }
 fails_inside digest held (Join l r) start hash at many (inl f) = record { from = omega (arith, f.0.at_is); upto = omega (arith, f.0.at_is, f.0.many_is) }

@@ -33,7 +33,7 @@ module _ {A : Type 0} (b : ℕ) (some : 0 < b) where
   get_or-ranges first (suc count) zero es h = let e : first * b ≡ (first + 0) * b = omega arith in ap (λ n. part n b es) e
   get_or-ranges first (suc count) (suc i) es h = let e : ((first + 1) + i) * b ≡ (first + suc i) * b = omega arith in get_or-ranges (first + 1) count i es (omega arith) ∙ ap (λ n. part n b es) e
 
-from_products : (i k c : ℕ) → i * c < k * c → i < k
+pub from_products : (i k c : ℕ) → i * c < k * c → i < k
 from_products i k c h = elim (cases_lt i k) [ inl a ↦ a | inr a ↦ let le : k * c ≤ i * c = mul-le _ _ _ _ a (omega arith) in absurd (omega arith) ]
 
 module _ (digest : List ℕ → List ℕ) (es : List (List ℕ)) where

@@ -130,7 +130,7 @@ unfolding edge_of edge_levels
 edge_is_of_paths size = paths_below size 8
 
 -- where a full tile ends
-tile_end : (level index : ℕ) → (256 * index + 256) * 256 ^ level ≡ (index + 1) * 256 ^ (level + 1)
+pub tile_end : (level index : ℕ) → (256 * index + 256) * 256 ^ level ≡ (index + 1) * 256 ^ (level + 1)
 tile_end level index =
     let one : level + 1 ≡ suc level = omega arith in
     let next : 256 ^ (level + 1) ≡ 256 * 256 ^ level = ap (λ m. 256 ^ m) one ∙ pow-succ' 256 level in

@@ -5,15 +5,18 @@ use Rattle.std.specs.FinSet as set
 use Rattle.tlog_hash.specs.Tree.{mth, strings}
 use Rattle.tlog_tiles.specs.declared.paths.Path.{Path}
 use Rattle.tlog_tiles.specs.declared.paths.Path.TheVariants.{Entries}
-use Rattle.tlog_tiles.specs.Tiles.{tile_bytes}
+use Rattle.tlog_tiles.specs.Tiles.{tile_bytes, IsWithin}
 use Rattle.node_store.specs.Strings.{Has, NoClash}
 use Rattle.mirror_model.specs.View.{View}
 use Rattle.mirror_model.specs.Edge.{edge_rows, edge_strings}
 use Rattle.mirror_model.specs.Front.{IsFront}
 use Rattle.mirror_model.specs.Rounds.{HoldsAll}
+use Rattle.mirror_model.specs.Heads.{HasHead}
+use Rattle.mirror_model.specs.Complete.{IsLawful}
+use Rattle.mirror_model.specs.Walk.{IsMissing}
 use Rattle.mirror_model.specs.declared.items.Item.{Item}
 use Rattle.mirror_model.specs.Item.{notes_of, strings_of, plus}
-use Rattle.mirror_model.specs.TrueLaws.{AreShort, true_strings}
+use Rattle.mirror_model.specs.TrueLaws.{AreShort, true_strings, IsWidest}
 use Rattle.mirror_model.specs.Listed.{ListsMissing, ListsFront}
 use Rattle.mirror_model.specs.ViewLaws.{IsHash}
 
@@ -68,6 +71,19 @@ MissingIsFrontList =
     (paths : List Path) →
     ListsMissing digest v (length entries) (mth digest entries) paths →
     ListsFront digest v entries paths
+
+-- a path that is missing of a head of a lawful view is within the size, and is the widest of its place
+abbrev pub MissingIsWithin : Type 0
+MissingIsWithin =
+    (digest : List ℕ → List ℕ) →
+    IsHash digest →
+    (v : View) →
+    IsLawful digest v →
+    (size : ℕ) (root : List ℕ) →
+    HasHead v size root →
+    (path : Path) →
+    IsMissing digest v.strings size root path →
+    IsWithin size path × IsWidest size path
 
 -- what a view holds with an item: the strings and the notes of the one and of the other
 pub record IsPlus (digest : List ℕ → List ℕ) (v : View) (item : Item) (y : List ℕ) : Type 0 where

@@ -14,7 +14,7 @@ pub use laws::edges::{edge_root_law, edge_rows_law, edge_strings_law};
 pub use laws::examples::{
     fork_example, front_example, opening_example, served_example, trees_example, way_example,
 };
-pub use laws::fetches::{answered_law, full_files_law, missing_list_law, plus_law};
+pub use laws::fetches::{answered_law, full_files_law, missing_law, missing_list_law, plus_law};
 pub use laws::fronts::{front_law, rounds_law, walk_law};
 pub use laws::items::bytes_law;
 pub use laws::lists::lists_law;
@@ -24,6 +24,6 @@ pub use laws::reports::reports_law;
 pub use laws::tiles::{bundle_law, full_row_law};
 pub use laws::truth::{prefix_law, true_items_law, true_rounds_law};
 pub use laws::views::{
-    forks_law, growth_law, lawful_law, marks_law, missing_law, one_list_law, served_law, union_law,
+    forks_law, growth_law, lawful_law, marks_law, one_list_law, served_law, union_law,
 };
 pub use reports::{Fork, Head};

@@ -1,5 +1,5 @@
 //! Laws of views: what a mirror holds, and what follows from it.
-ghost use Rattle.mirror_model.specs.ViewLaws.{ClashesTurn, CompleteIsSame, CompleteStays, ForksStay, ForksTell, ForksTurn, HeadsHaveEdges, ListHasRoot, MarksStay, MissingIsNone, NothingIsLawful, OneList, PlusIsLawful, RangesHashOnce, RepliesOnce, SameIsOne, ServesOne, ServesTruth, UnionAssociates, UnionCommutes, UnionIsLawful, UnionRepeats, WholeIsMark};
+ghost use Rattle.mirror_model.specs.ViewLaws.{ClashesTurn, CompleteIsSame, CompleteStays, ForksStay, ForksTell, ForksTurn, HeadsHaveEdges, ListHasRoot, MarksStay, NothingIsLawful, OneList, PlusIsLawful, RangesHashOnce, RepliesOnce, SameIsOne, ServesOne, ServesTruth, UnionAssociates, UnionCommutes, UnionIsLawful, UnionRepeats, WholeIsMark};
 
 /// Views that hold the same are one, and they are joined in any order, in any grouping and any number
 /// of times with one result. Their strings clash either way round or neither.
@@ -48,12 +48,6 @@ pub fn lawful_law()
     ensures item { PlusIsLawful }
     ensures views { UnionIsLawful }
     ensures heads { HeadsHaveEdges }
-{}
-
-/// The walk from the root of a head fails nowhere exactly where the head is complete. So wherever it is
-/// not, something is named that is missing.
-pub fn missing_law()
-    ensures { MissingIsNone }
 {}
 
 /// What may be remembered of complete heads: the whole list of each, and whatever could be remembered
