@@ -3,6 +3,7 @@ pub mod Front
 pub mod Rounds
 pub mod Walk
 pub mod Strings
+pub mod Origin
 pub mod View
 pub mod Heads
 pub mod Item

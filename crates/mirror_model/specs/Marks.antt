@@ -6,6 +6,7 @@ use Rattle.std.specs.FinSet.{FinSet, contains}
 use Rattle.tlog_hash.specs.Tree.{tree_of, mth}
 use Rattle.tlog_hash.specs.Nodes.{Node, IsNode}
 use Rattle.tlog_hash.specs.Rows.{part}
+use Rattle.mirror_model.specs.Origin.{IsOrigin}
 use Rattle.mirror_model.specs.View.{View, view_code}
 use Rattle.mirror_model.specs.Complete.{Complete, IsLawful}
 use Rattle.mirror_model.specs.Forks.{Point, point_cmp}
@@ -37,7 +38,8 @@ pub record State : Type 0 where
 abbrev pub state_code : Coded State
 state_code = code_by (View × Points) (coded× view_code (set.code point_code)) (λ s. (s.view, s.remembered)) (λ p. record { view = p.0; remembered = p.1 }) (λ _. refl)
 
--- the view is lawful, and only marks of it are remembered
+-- the view is lawful and of an origin that a log may have, and only marks of it are remembered
 pub record IsSound (digest : List ℕ → List ℕ) (state : State) : Type 0 where
+  pub origin : IsOrigin state.view.origin
   pub lawful : IsLawful digest state.view
   pub marks : (point : Point) → IsTrue (contains state.remembered point) → IsMark digest state.view point

@@ -4,6 +4,7 @@ use Rattle.std.specs.FinSet as set
 use Rattle.std.specs.List.Sorted.{IsStrictlySortedBy}
 use Rattle.std.proofs.lemmas.List.Elements.{All-nil}
 use Rattle.node_store.specs.Strings.{Strings}
+use Rattle.mirror_model.specs.Origin.{IsOrigin}
 use Rattle.mirror_model.specs.Forks.{point_cmp}
 use Rattle.mirror_model.specs.Heads.{IsHead}
 use Rattle.mirror_model.specs.Marks.{Points}
@@ -12,10 +13,11 @@ use Rattle.tlog_mirror.specs.Kept.{note_bytes, IsKeptWell}
 use Rattle.tlog_mirror.specs.declared.kept.KeptNote.{KeptNote}
 
 module _ (digest : List ℕ → List ℕ) (origin : List ℕ) where
-  empty_well : IsKeptWell digest origin [] set.empty set.empty
+  empty_well : IsOrigin origin → IsKeptWell digest origin [] set.empty set.empty
   unfolding IsStrictlySortedBy
-  empty_well = record {
+  empty_well is = record {
     sound = record {
+      origin = is;
       lawful = nothing_is_lawful digest origin;
       marks = λ point h. absurd (let none = set.contains-empty point_cmp point in cc (h, none));
     };
@@ -24,9 +26,9 @@ module _ (digest : List ℕ → List ℕ) (origin : List ℕ) where
   }
 
   pub new_well :
-      (kept : List KeptNote) (strings : Strings) (remembered : Points) → kept ≡ [] → strings ≡ set.empty →
-      remembered ≡ set.empty → IsKeptWell digest origin kept strings remembered
-  new_well kept strings remembered no_notes no_strings no_marks =
+      IsOrigin origin → (kept : List KeptNote) (strings : Strings) (remembered : Points) → kept ≡ [] →
+      strings ≡ set.empty → remembered ≡ set.empty → IsKeptWell digest origin kept strings remembered
+  new_well is kept strings remembered no_notes no_strings no_marks =
       subst (λ k. IsKeptWell digest origin k strings remembered) (sym no_notes)
       (subst (λ s. IsKeptWell digest origin [] s remembered) (sym no_strings)
-      (subst (λ (m : Points). IsKeptWell digest origin [] set.empty m) (sym no_marks) empty_well))
+      (subst (λ (m : Points). IsKeptWell digest origin [] set.empty m) (sym no_marks) (empty_well is)))

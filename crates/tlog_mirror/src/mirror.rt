@@ -1,8 +1,8 @@
 //! A mirror of one log.
 ghost use Rattle.std.specs.Prelude.{◌≡◌, ◌≤◌, IfOk, OnOk, IsTrue, All, ◌↔◌};
 ghost use Rattle.std.specs.FinSet as set;
+ghost use Rattle.mirror_model.specs.Origin.{IsOrigin};
 ghost use Rattle.mirror_model.specs.View.{nothing};
-ghost use Rattle.tlog_mirror.specs.Origin.{IsOrigin};
 
 use crate::fault::NewFault;
 use crate::kept::KeptNote;
