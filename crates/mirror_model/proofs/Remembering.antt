@@ -14,7 +14,7 @@ pub record HasTop (digest : List ℕ → List ℕ) (t : Tree (List ℕ)) : Type 
   pub start_is : node.start ≡ 0
   pub len_is : node.len ≡ size_of t
 
-top_of : (digest : List ℕ → List ℕ) (t : Tree (List ℕ)) → 1 ≤ size_of t → HasTop digest t
+pub top_of : (digest : List ℕ → List ℕ) (t : Tree (List ℕ)) → 1 ≤ size_of t → HasTop digest t
 top_of digest Empty some = absurd (omega arith)
 top_of digest (One e) some = record { node = record { start = 0; len = 1; string = 0 ∷ e }; is = record { start_is = refl; len_is = refl; string_is = refl }; start_is = refl; len_is = refl }
 top_of digest (Join l r) some = record { node = record { start = 0; len = size_of l + size_of r; string = 1 ∷ entries_root digest l ++ entries_root digest r }; is = inl (record { start_is = refl; len_is = refl; string_is = refl }); start_is = refl; len_is = refl }

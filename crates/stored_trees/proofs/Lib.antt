@@ -9,3 +9,5 @@ pub mod MarkedTrees
 pub mod LeafRows
 pub mod Orders
 pub mod PrefixSteps
+pub mod SliceSteps
+pub mod Settles

@@ -15,7 +15,7 @@ use Rattle.stored_trees.specs.Marked.{point_of, points_of}
 pub point_total : IsTotalOrder point_cmp
 point_total = then_total (on_total (λ p. p.size) nat_cmp_total) (on_total (λ p. p.root) nat_list_cmp_total)
 
-point_same : IsAntisymmetric point_cmp
+pub point_same : IsAntisymmetric point_cmp
 point_same a b h =
     let two = both (nat_cmp a.size b.size) (slice_cmp nat_cmp a.root b.root) h in
     let s = nat_cmp-IsAntisymmetric a.size b.size two.0 in

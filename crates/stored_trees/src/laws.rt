@@ -3,6 +3,7 @@
 //! A law is the contract of a function with an empty body: the proof is all that there is of it.
 ghost use Rattle.stored_trees.specs.Known.{SoundIsBuilt};
 ghost use Rattle.stored_trees.specs.Prefixes.{PrefixOfPrefix};
+ghost use Rattle.stored_trees.specs.Slices.{MarksAreSlices, SettledStays};
 
 /// What a sound mirror remembers is held whole.
 pub fn known_law()
@@ -12,4 +13,14 @@ pub fn known_law()
 /// What is no longer than a prefix of a list begins the list exactly where it begins that prefix.
 pub fn prefix_law()
     ensures { PrefixOfPrefix }
+{}
+
+/// What was remembered of trees that are held stays so as more is held, while no two strings clash.
+pub fn settled_law()
+    ensures { SettledStays }
+{}
+
+/// What may be remembered of a view is what the trees of its heads have, where they are held.
+pub fn slices_law()
+    ensures { MarksAreSlices }
 {}

@@ -10,13 +10,15 @@ mod missing;
 mod prefix;
 mod ranges;
 mod rows;
+mod settling;
 
 pub use building::{add_above, add_entries, add_row};
 pub use built::is_built;
 pub use bundle::entries_at;
-pub use laws::{known_law, prefix_law};
+pub use laws::{known_law, prefix_law, settled_law, slices_law};
 pub use marks::Marks;
 pub use missing::missing_of;
 pub use prefix::is_prefix;
 pub use ranges::range_hash;
 pub use rows::row_at;
+pub use settling::settle;

@@ -1,0 +1,65 @@
+-- The slices of a tree that is held, and sets of sizes and hashes that have them all.
+use Rattle.std.specs.Prelude.{◌≡◌, ◌⊎◌, ◌↔◌, ◌≤◌, ℕ, List, IsTrue}
+use Rattle.std.specs.FinSet.{contains}
+use Rattle.tlog_hash.specs.Tree.{tree_of, mth}
+use Rattle.tlog_hash.specs.Nodes.{Node, IsNode}
+use Rattle.tlog_hash.specs.Rows.{part}
+use Rattle.node_store.specs.Strings.{Strings, Has, NoClash}
+use Rattle.mirror_model.specs.View.{View}
+use Rattle.mirror_model.specs.Heads.{HasHead}
+use Rattle.mirror_model.specs.Complete.{IsTreeOf}
+use Rattle.mirror_model.specs.Forks.{Point}
+use Rattle.mirror_model.specs.Marks.{Points, IsMark}
+use Rattle.mirror_model.specs.ViewLaws.{IsHash}
+use Rattle.stored_trees.specs.Known.{HasPoint, AreBuilt}
+
+-- the set has that size and hash
+abbrev pub HasMark : Points → Point → Type 0
+HasMark points point = IsTrue (contains points point)
+
+module _ (digest : List ℕ → List ℕ) (held : Strings) where
+  -- the number of entries and the tree hash of a slice that the recursion of MTH (RFC 6962, section 2.1) meets on
+  -- a list of that size and root of which the tree is held, the whole list among them
+  pub record IsSliceOf (size : ℕ) (root : List ℕ) (point : Point) : Type 0 where
+    pub entries : List (List ℕ)
+    pub tree : IsTreeOf digest held size root entries
+    pub node : Node
+    pub is : IsNode digest (tree_of entries) 0 node
+    pub len_is : point.size ≡ node.len
+    pub hash_is : point.root ≡ mth digest (part node.start node.len entries)
+
+  -- the set has all of these
+  abbrev pub HasSlices : Points → ℕ → List ℕ → Type 0
+  HasSlices points size root = (point : Point) → IsSliceOf size root point → HasMark points point
+
+  -- each size and root of the set is that of a tree that is held, and all its slices are in the set too
+  pub record AreSettled (points : Points) : Type 0 where
+    pub known : AreBuilt digest held points
+    pub closed : (size : ℕ) (root : List ℕ) → HasPoint points size root → HasSlices points size root
+
+  -- what is remembered on the way of the tree of that size and root
+  pub record Gains (size : ℕ) (root : List ℕ) (old new : Points) : Type 0 where
+    pub at_least : (point : Point) → HasMark old point → HasMark new point
+    pub at_most : (point : Point) → HasMark new point → HasMark old point ⊎ IsSliceOf size root point
+    pub settled : AreSettled new
+
+-- more is held, and it does not clash: what was settled stays so
+abbrev pub SettledStays : Type 0
+SettledStays =
+    (digest : List ℕ → List ℕ) → IsHash digest → (held more : Strings) →
+    ((string : List ℕ) → Has held string → Has more string) →
+    NoClash digest more → (points : Points) →
+    AreSettled digest held points → AreSettled digest more points
+
+-- a slice of a head's tree
+pub record IsHeadSlice (digest : List ℕ → List ℕ) (v : View) (point : Point) : Type 0 where
+  pub size : ℕ
+  pub root : List ℕ
+  pub head : HasHead v size root
+  pub slice : IsSliceOf digest v.strings size root point
+
+-- what may be remembered of a view is what the trees of its heads have
+abbrev pub MarksAreSlices : Type 0
+MarksAreSlices =
+    (digest : List ℕ → List ℕ) (v : View) (point : Point) →
+    IsMark digest v point ↔ IsHeadSlice digest v point
