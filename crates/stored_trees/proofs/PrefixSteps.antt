@@ -1,6 +1,6 @@
 -- One step of the two descents that find out whether a tree begins another.
 use Rattle.std.proofs.Common.{◌≡◌, ℕ, ◌+◌, ◌-◌, ◌<◌, ◌≤◌, List, [], ◌∷◌, ◌++◌, length, take, drop, sym, refl, ap, ◌∙◌, subst, Bool, true, false, eqb, not, arith, append_assoc, length-append, take-append-drop}
-use Rattle.std.specs.Prelude.{IsTrue, ◌↔◌}
+use Rattle.std.specs.Prelude.{IsTrue, ◌↔◌, ◌≢◌}
 use Rattle.std.specs.Cmp.Lexicographic.{pointwise}
 use Rattle.std.proofs.lemmas.Slice.Eq.{slice_eq-Decides}
 use Rattle.std.proofs.lemmas.Bool.Decides.{Decides-eqb}
@@ -10,10 +10,12 @@ use Rattle.tlog_shape.specs.Split.{split_of, IsPowerOfTwo}
 use Rattle.tlog_shape.proofs.Splits.{split_of-unique, split_of-power, split_of-half, split_of-positive}
 use Rattle.tlog_hash.specs.Tree.{mth}
 use Rattle.node_store.specs.Strings.{Strings, IsHeldAt, NoClash}
-use Rattle.mirror_model.specs.Complete.{IsTreeOf}
-use Rattle.mirror_model.specs.Forks.{IsPrefix}
-use Rattle.mirror_model.proofs.OneLists.{only}
-use Rattle.stored_trees.specs.Prefixes.{PrefixOfPrefix}
+use Rattle.mirror_model.specs.View.{View}
+use Rattle.mirror_model.specs.Complete.{IsTreeOf, Complete, IsLawful}
+use Rattle.mirror_model.specs.Forks.{IsPrefix, Point, IsFork}
+use Rattle.mirror_model.specs.ViewLaws.{IsHash}
+use Rattle.mirror_model.proofs.OneLists.{only, one_list, forks_tell}
+use Rattle.stored_trees.specs.Prefixes.{PrefixOfPrefix, ForksGoOn}
 use Rattle.stored_trees.proofs.Descents.{left-tree, right-tree}
 
 pub prefix_of_prefix : PrefixOfPrefix
@@ -123,3 +125,45 @@ module _ (digest : List ℕ → List ℕ) (held : Strings) (m n : ℕ) (small la
             let x = f (drop k xs) (drop k ys) (right-tree digest held size clean m k small own_l own_r own_two own_is own_len own xs t) (right-tree digest held size clean n k large l r two k_is len h ys u) in
             let law = cut_prefix k xs ys within in
             (λ g. law.1 (one, x.0 g), λ p. x.1 (law.0 p).1)
+
+-- ---- forks
+
+-- neither of two lists begins the other
+abbrev Apart : List (List ℕ) → List (List ℕ) → Type 0
+Apart xs ys = (IsPrefix xs ys → ⊥) × (IsPrefix ys xs → ⊥)
+
+length_prefix : (xs ys : List (List ℕ)) → IsPrefix xs ys → length xs ≤ length ys
+length_prefix xs ys p = let total = ap length p.is in omega (arith, length-append xs p.rest, total)
+
+-- a list that is no longer is apart where it begins not the other
+apart_short : (xs ys : List (List ℕ)) → length xs ≤ length ys → (IsPrefix xs ys → ⊥) → Apart xs ys
+apart_short xs ys short not = (
+  not,
+  λ p.
+      let long = length_prefix ys xs p in
+      let same : ys ≡ xs = same_list ys xs (omega arith) p in
+      not (record { rest = []; is = append-nil xs ∙ sym same }),
+)
+
+-- heads that are one have one list, which is not apart from itself
+apart_differ : (digest : List ℕ → List ℕ) → IsHash digest → (v : View) → IsLawful digest v → (a b : Point) (xs ys : List (List ℕ)) → Complete digest v a.size a.root xs → Complete digest v b.size b.root ys → Apart xs ys → a ≢ b
+apart_differ digest hash v lawful a b xs ys p q apart is =
+    let one : xs ≡ ys = one_list digest hash v lawful a.size a.root xs ys p (subst (λ (x : Point). Complete digest v x.size x.root ys) (sym is) q) in
+    apart.0 (record { rest = []; is = append-nil xs ∙ one })
+
+tells_fork : (digest : List ℕ → List ℕ) → IsHash digest → (v : View) → IsLawful digest v → (a b : Point) (xs ys : List (List ℕ)) → Complete digest v a.size a.root xs → Complete digest v b.size b.root ys → IsFork digest v a b ↔ Apart xs ys
+tells_fork digest hash v lawful a b xs ys p q = (
+  λ f. (forks_tell digest hash v lawful a b xs ys f.differ p q).0 f,
+  λ apart. (forks_tell digest hash v lawful a b xs ys (apart_differ digest hash v lawful a b xs ys p q apart) p q).1 apart,
+)
+
+pub forks_go_on : ForksGoOn
+forks_go_on digest hash v lawful a b c first second third p q r sizes begins =
+    let fits : length first ≤ length second = omega (arith, p.tree.size_is, q.tree.size_is) in
+    let long = length_prefix second third begins in
+    let law = prefix_of_prefix first second third begins fits in
+    let ab = tells_fork digest hash v lawful a b first second p q in
+    let ac = tells_fork digest hash v lawful a c first third p r in (
+      λ f. ab.1 (apart_short first second fits (λ pre. (ac.0 f).0 (law.1 pre))),
+      λ f. ac.1 (apart_short first third (omega arith) (λ pre. (ab.0 f).0 (law.0 pre))),
+    )

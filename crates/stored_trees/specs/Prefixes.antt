@@ -1,9 +1,24 @@
--- Prefixes of lists of entries.
+-- Prefixes of lists of entries, and forks by them.
 use Rattle.std.specs.Prelude.{◌≤◌, ◌↔◌, List, ℕ, length}
-use Rattle.mirror_model.specs.Forks.{IsPrefix}
+use Rattle.mirror_model.specs.View.{View}
+use Rattle.mirror_model.specs.Complete.{Complete, IsLawful}
+use Rattle.mirror_model.specs.Forks.{IsPrefix, Point, IsFork}
+use Rattle.mirror_model.specs.ViewLaws.{IsHash}
 
 -- what is no longer than a prefix of a list begins the list exactly where it begins that prefix
 abbrev pub PrefixOfPrefix : Type 0
 PrefixOfPrefix =
     (first second third : List (List ℕ)) → IsPrefix second third → length first ≤ length second →
     IsPrefix first third ↔ IsPrefix first second
+
+-- of complete heads by rising size: where the second's list begins the third's, the third is a fork of the first
+-- exactly where the second is
+abbrev pub ForksGoOn : Type 0
+ForksGoOn =
+    (digest : List ℕ → List ℕ) → IsHash digest → (v : View) → IsLawful digest v → (a b c : Point) →
+    (first second third : List (List ℕ)) →
+    Complete digest v a.size a.root first →
+    Complete digest v b.size b.root second →
+    Complete digest v c.size c.root third →
+    a.size ≤ b.size → IsPrefix second third →
+    IsFork digest v a c ↔ IsFork digest v a b

@@ -2,7 +2,7 @@
 //!
 //! A law is the contract of a function with an empty body: the proof is all that there is of it.
 ghost use Rattle.stored_trees.specs.Known.{SoundIsBuilt};
-ghost use Rattle.stored_trees.specs.Prefixes.{PrefixOfPrefix};
+ghost use Rattle.stored_trees.specs.Prefixes.{ForksGoOn, PrefixOfPrefix};
 ghost use Rattle.stored_trees.specs.Slices.{MarksAreSlices, SettledStays};
 
 /// What a sound mirror remembers is held whole.
@@ -13,6 +13,12 @@ pub fn known_law()
 /// What is no longer than a prefix of a list begins the list exactly where it begins that prefix.
 pub fn prefix_law()
     ensures { PrefixOfPrefix }
+{}
+
+/// Of complete heads by rising size: where the entries of one are a prefix of those of the next, the next is a fork
+/// of the same earlier heads. So on a log that only grows one test for each head finds that there is no fork.
+pub fn forks_go_on_law()
+    ensures { ForksGoOn }
 {}
 
 /// What was remembered of trees that are held stays so as more is held, while no two strings clash.
