@@ -1,1 +1,2 @@
 pub mod NewMirrors
+pub mod TakenItems

@@ -4,9 +4,9 @@ ghost use Rattle.std.specs.FinSet as set;
 ghost use Rattle.mirror_model.specs.Origin.{IsOrigin};
 ghost use Rattle.mirror_model.specs.View.{nothing};
 
-use crate::fault::NewFault;
 use crate::kept::KeptNote;
 use crate::marks::Marks;
+use mirror_model::NewFault;
 use node_store::Store;
 use std::alloc::Global;
 use std::marker::Model;

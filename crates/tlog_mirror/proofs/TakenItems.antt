@@ -1,0 +1,236 @@
+-- What adding the strings of an item to a mirror's makes of its state, and which answer that is.
+use Rattle.std.proofs.Common.{drop, get_or, arith, ◌≡◌, ℕ, ◌*◌, ◌≤◌, List, [], ◌∷◌, ◌++◌, length, map, sym, refl, ap, subst, ◌∙◌, ◌⊎◌, inl, inr, Ok, Err}
+use Rattle.std.specs.Prelude.{Result}
+use Rattle.std.specs.FinSet as set
+use Rattle.std.proofs.lemmas.List.{append-nil}
+use Rattle.tlog_hash.specs.Tree.{joins, strings}
+use Rattle.tlog_tiles.specs.Row.{IsRow}
+use Rattle.tlog_tiles.specs.Bundle.{IsBundle, ReadsBundle}
+use Rattle.tlog_tiles.specs.declared.bundle.BundleFault.{BundleFault}
+use Rattle.tlog_tiles.specs.declared.bundle.BundleFault.TheVariants.{BundleShort, BundleLong}
+use Rattle.tlog_tiles.proofs.RowLemmas.{length-row_text}
+use Rattle.tlog_tiles.proofs.BundleLemmas.{answer_one}
+use Rattle.signed_note.specs.Keys.{Key}
+use Rattle.node_store.specs.declared.store.AddFault.{AddFault}
+use Rattle.node_store.specs.declared.store.AddFault.TheVariants.{Collision, OutOfMemory}
+use Rattle.mirror_model.specs.Answered.{answer_of}
+use Rattle.mirror_model.specs.Refusals.{JudgesTile, JudgesBundle}
+use Rattle.mirror_model.specs.declared.fault.TakeFault.{TakeFault}
+use Rattle.node_store.specs.Strings.{Strings, Has, NoClash, ClashesWith, AllTagged}
+use Rattle.mirror_model.specs.Strings.{HasClash}
+use Rattle.mirror_model.specs.View.{View, IsWithin}
+use Rattle.mirror_model.specs.Item.{IsWidth, IsGoodTile, IsGoodBundle, IsGood, strings_of, notes_of, plus, row_of, entries_of}
+use Rattle.mirror_model.specs.declared.items.Item.{Item}
+use Rattle.mirror_model.specs.declared.items.Item.TheVariants.{Tile, Bundle}
+use Rattle.mirror_model.specs.Steps.{Answer, Done, Refused, Clashed, Exhausted, Answers, Takes, IsBetween}
+use Rattle.mirror_model.specs.Marks.{Points, State, IsSound}
+use Rattle.std.specs.List.Sorted.{IsStrictlySortedBy}
+use Rattle.std.proofs.lemmas.List.Elements.{All-nil}
+use Rattle.mirror_model.specs.Forks.{point_cmp}
+use Rattle.mirror_model.specs.Heads.{IsHead}
+use Rattle.tlog_mirror.specs.Kept.{state_of, note_bytes, IsKeptWell}
+use Rattle.tlog_mirror.specs.Adding.{with_strings, added, taken_of}
+use Rattle.mirror_model.specs.ViewLaws.{IsHash}
+use Rattle.tlog_mirror.specs.declared.kept.KeptNote.{KeptNote}
+use Rattle.mirror_model.proofs.StringSets.{decide, has_left, has_right, has_cases, has_empty, same_strings, listed_from_has}
+use Rattle.mirror_model.proofs.Views.{edge_stays, marks_stay, nothing_is_lawful}
+use Rattle.mirror_model.proofs.ItemBytes.{row_is_one, bundle_is_one}
+use Rattle.mirror_model.proofs.ItemStrings.{IsItemString, item_strings}
+
+-- ---- two sets together
+
+-- what clashes within a set clashes within a larger one
+pub clash_within :
+    (digest : List ℕ → List ℕ) (v w : Strings) → ((q : List ℕ) → Has v q → Has w q) → HasClash digest v →
+    HasClash digest w
+clash_within digest v w more c = record {
+  first = c.first;
+  second = c.second;
+  first_held = more c.first c.first_held;
+  second_held = more c.second c.second_held;
+  same_digest = c.same_digest;
+  differ = c.differ;
+}
+
+-- nothing is added
+pub added_none : (v : Strings) → v ≡ set.union v (set.from_list [])
+added_none v = same_strings _ _
+    (λ q h. has_left v (set.from_list []) q h)
+    (λ q h. elim (has_cases v (set.from_list []) q h) [ inl m ↦ m | inr m ↦ absurd (has_empty q m) ])
+
+-- an entry among an item's strings has at most 65,535 bytes
+is_short : (e : List ℕ) → IsItemString (0 ∷ e) → length e ≤ 65535
+is_short e (inl l) = let same : e ≡ l.entry = ap (drop 1) l.is in omega (arith, l.short, ap length same)
+is_short e (inr p) = absurd (let zero_one : 0 ≡ 1 = ap (λ xs. get_or xs 0 0) p.is in omega arith)
+
+module _ (digest : List ℕ → List ℕ) (v w : Strings) where
+  pub union_no_clash : NoClash digest v → NoClash digest w → (ClashesWith digest v w → ⊥) → NoClash digest (set.union v w)
+  union_no_clash p q apart = record {
+    same = λ x y hx hy e.
+        elim (has_cases v w x hx) [
+          | inl a ↦ elim (has_cases v w y hy) [
+            | inl b ↦ p.same x y a b e
+            | inr b ↦ elim (decide x y) [ inl is ↦ is | inr not ↦ absurd (apart (record { first = x; second = y; first_held = a; second_held = b; same_digest = e; differ = not })) ]
+          ]
+          | inr a ↦ elim (has_cases v w y hy) [
+            | inl b ↦ elim (decide y x) [ inl is ↦ sym is | inr not ↦ absurd (apart (record { first = y; second = x; first_held = b; second_held = a; same_digest = sym e; differ = not })) ]
+            | inr b ↦ q.same x y a b e
+          ]
+        ];
+  }
+
+  pub union_clash : ClashesWith digest v w → HasClash digest (set.union v w)
+  union_clash c = record { first = c.first; second = c.second; first_held = has_left v w c.first c.first_held; second_held = has_right v w c.second c.second_held; same_digest = c.same_digest; differ = c.differ }
+
+-- no string clashes with none
+pub empty_no_clash : (digest : List ℕ → List ℕ) (v : Strings) → v ≡ set.empty → NoClash digest v
+empty_no_clash digest v none = subst (NoClash digest) (sym none) (record { same = λ x y hx hy e. absurd (has_empty x hx) })
+
+-- ---- a mirror to whose strings more are added
+
+module _ (digest : List ℕ → List ℕ) (origin : List ℕ) (kept : List KeptNote) (strings more now : Strings) (remembered : Points) (ok : IsKeptWell digest origin kept strings remembered) where
+  abbrev before : View
+  before = (state_of origin kept strings remembered).view
+
+  abbrev after : View
+  after = (state_of origin kept now remembered).view
+
+  grown_within : ((s : List ℕ) → Has strings s → Has now s) → IsWithin before after
+  grown_within grows = record { origin_is = refl; notes_are = λ note h. h; strings_are = grows }
+
+  pub stays_well :
+      ((s : List ℕ) → Has strings s → Has now s) → ((s : List ℕ) → Has now s → Has (set.union strings more) s) →
+      NoClash digest now → AllTagged now → ((entry : List ℕ) → Has more (0 ∷ entry) → length entry ≤ 65535) →
+      IsKeptWell digest origin kept now remembered
+  stays_well grows within clean tagged short = record {
+    sound = record {
+      lawful = record {
+        no_clash = clean;
+        are_strings = tagged;
+        leaves_short = λ e h. elim (has_cases strings more (0 ∷ e) (within (0 ∷ e) h)) [ inl a ↦ ok.sound.lawful.leaves_short e a | inr b ↦ short e b ];
+        edges = λ note h. edge_stays digest before after (grown_within grows) note (ok.sound.lawful.edges note h);
+      };
+      marks = λ point h. marks_stay digest before after (grown_within grows) point (ok.sound.marks point h);
+    };
+    rising = ok.rising;
+    said = ok.said;
+  }
+
+  module _ (old : State) (old_is : state_of origin kept strings remembered ≡ old) where
+    abbrev Adds : Answer → Type 0
+    Adds answer = Answers digest (Unit {0}) (with_strings old.view more) old.view answer after
+
+    at_old : (answer : Answer) → Answers digest (Unit {0}) (with_strings before more) before answer after → Adds answer
+    at_old answer h = subst (λ (o : State). Answers digest (Unit {0}) (with_strings o.view more) o.view answer after) old_is h
+
+    pub adds_done : now ≡ set.union strings more → NoClash digest now → Adds Done
+    adds_done is clean = at_old Done (tt, subst (NoClash digest) is clean, λ i. record { origin = origin; notes = before.notes; strings = is i })
+
+    pub adds_clashed : now ≡ strings → ClashesWith digest strings more → Adds Clashed
+    adds_clashed is c = at_old Clashed (tt, union_clash digest strings more c, λ i. record { origin = origin; notes = before.notes; strings = is i })
+
+    pub adds_exhausted :
+        NoClash digest more → (ClashesWith digest strings more → ⊥) → ((s : List ℕ) → Has strings s → Has now s) →
+        ((s : List ℕ) → Has now s → Has (set.union strings more) s) → Adds Exhausted
+    adds_exhausted clean apart grows within = at_old Exhausted (inr (
+      tt,
+      union_no_clash digest strings more ok.sound.lawful.no_clash clean apart,
+      record {
+        grows = grown_within grows;
+        within = record { origin_is = refl; notes_are = λ note h. h; strings_are = within };
+        notes_last = λ note h. inl h;
+      },
+    ))
+
+-- ---- the take of an item
+
+-- what is answered where all is allowed is answered where this is allowed
+allowed : (digest : List ℕ → List ℕ) (Allowed : Type 0) (full old : View) (answer : Answer) (new : View) → Allowed → Answers digest (Unit {0}) full old answer new → Answers digest Allowed full old answer new
+allowed digest Allowed full old Done new good h = (good, h.1, h.2)
+allowed digest Allowed full old Refused new good h = absurd (h.0 tt)
+allowed digest Allowed full old Clashed new good h = (good, h.1, h.2)
+allowed digest Allowed full old Exhausted new good h = elim h [ inl e ↦ inl e | inr m ↦ inr (good, m.1, m.2) ]
+
+-- an answer is of one kind, in the words of the store and in those of a take
+pub same_kind : (answer : Result (Unit {0}) AddFault) → answer_of (taken_of answer) ≡ added answer
+same_kind (Ok done) = refl
+same_kind (Err Collision) = refl
+same_kind (Err OutOfMemory) = refl
+
+-- what was added to an empty set
+pub gathered : (none strings : Strings) (xs ys : List (List ℕ)) → none ≡ set.empty → strings ≡ set.union none (set.from_list xs) → xs ≡ ys → strings ≡ set.from_list ys
+gathered none strings xs ys empty is same =
+    is ∙ ap (λ v. set.union v (set.from_list xs)) empty
+    ∙ same_strings _ _ (λ q h. elim (has_cases set.empty (set.from_list xs) q h) [ inl a ↦ absurd (has_empty q a) | inr b ↦ b ]) (λ q h. has_right set.empty (set.from_list xs) q h)
+    ∙ ap set.from_list same
+
+module _ (digest : List ℕ → List ℕ) (item : Item) where
+  pub gathered_short : IsHash digest → (origin : List ℕ) → IsGood digest origin [] item → (strings : Strings) → strings ≡ set.from_list (strings_of digest item) → (entry : List ℕ) → Has strings (0 ∷ entry) → length entry ≤ 65535
+  gathered_short hash origin good strings is entry h =
+      is_short entry (item_strings digest hash origin [] item good (0 ∷ entry) (listed_from_has (strings_of digest item) (0 ∷ entry) (subst (λ v. Has v (0 ∷ entry)) is h)))
+
+  module _ (keys : List Key) (old : View) (good : IsGood digest old.origin keys item) where
+    pub takes_added :
+        (strings : Strings) → strings ≡ set.from_list (strings_of digest item) → notes_of item ≡ [] →
+        (answer : Result (Unit {0}) AddFault) (result : Result (Unit {0}) TakeFault) → result ≡ taken_of answer →
+        (new : View) → Answers digest (Unit {0}) (with_strings old strings) old (added answer) new →
+        Takes digest keys old item (answer_of result) new
+    takes_added strings is none answer result taken new h =
+        let notes : old.notes ≡ set.union old.notes (set.from_list (notes_of item)) = added_none old.notes ∙ ap (λ xs. set.union old.notes (set.from_list xs)) (sym none) in
+        let full : with_strings old strings ≡ plus digest old item = λ i. record { origin = old.origin; notes = notes i; strings = set.union old.strings (is i) } in
+        let kind : answer_of result ≡ added answer = ap answer_of taken ∙ same_kind answer in
+        subst (λ a. Takes digest keys old item a new) (sym kind)
+        (allowed digest (IsGood digest old.origin keys item) (plus digest old item) old (added answer) new good (subst (λ v. Answers digest (Unit {0}) v old (added answer) new) full h))
+
+    pub takes_clashed : (none : Strings) (xs : List (List ℕ)) → none ≡ set.empty → xs ≡ strings_of digest item → HasClash digest (set.union none (set.from_list xs)) → Takes digest keys old item Clashed old
+    takes_clashed none xs empty same c =
+        let is = gathered none (set.union none (set.from_list xs)) xs (strings_of digest item) empty refl same in
+        (good, clash_within digest (set.union none (set.from_list xs)) (plus digest old item).strings (λ q h. has_right old.strings (set.from_list (strings_of digest item)) q (subst (λ v. Has v q) is h)) c, refl)
+
+-- ---- tiles and bundles
+
+module _ (width : ℕ) (bytes : List ℕ) (wide : IsWidth width) where
+  pub tile_good : (row : List (List ℕ)) → IsRow width bytes row → IsGoodTile width bytes
+  tile_good row r = record { is_width = wide; length_is = ap length r.text ∙ length-row_text row r.sizes ∙ ap (λ n. 32 * n) r.count }
+
+  pub tile_joins : (digest : List ℕ → List ℕ) (row : List (List ℕ)) → IsRow width bytes row → joins digest row ≡ joins digest (row_of bytes)
+  tile_joins digest row r = ap (joins digest) (row_is_one width bytes row r)
+
+  pub bundle_good : (entries : List (List ℕ)) → IsBundle width bytes entries → IsGoodBundle width bytes
+  bundle_good entries b = record { is_width = wide; entries = entries; is_bundle = b }
+
+-- a good tile is answered by a clash or want of memory alone
+pub tile_judged :
+    (width : ℕ) (bytes : List ℕ) → IsGoodTile width bytes → (answer : Result (Unit {0}) AddFault)
+    (result : Result (Unit {0}) TakeFault) → result ≡ taken_of answer → JudgesTile width bytes result
+tile_judged width bytes good answer result is = subst (JudgesTile width bytes) (sym is) (at answer)
+  where
+    at : (answer : Result (Unit {0}) AddFault) → JudgesTile width bytes (taken_of answer)
+    at (Ok done) = good
+    at (Err Collision) = good
+    at (Err OutOfMemory) = tt
+
+-- and so is a good bundle
+pub bundle_judged :
+    (width : ℕ) (bytes : List ℕ) → IsGoodBundle width bytes → (answer : Result (Unit {0}) AddFault)
+    (result : Result (Unit {0}) TakeFault) → result ≡ taken_of answer → JudgesBundle width bytes result
+bundle_judged width bytes good answer result is = subst (JudgesBundle width bytes) (sym is) (at answer)
+  where
+    at : (answer : Result (Unit {0}) AddFault) → JudgesBundle width bytes (taken_of answer)
+    at (Ok done) = good
+    at (Err Collision) = good
+    at (Err OutOfMemory) = tt
+
+pub bundle_strings_are : (digest : List ℕ → List ℕ) (width : ℕ) (bytes : List ℕ) (entries : List (List ℕ)) → IsBundle width bytes entries → strings digest entries ≡ strings digest (entries_of width bytes)
+bundle_strings_are digest width bytes entries b = ap (strings digest) (bundle_is_one width bytes entries b)
+
+pub bundle_not_short : (width : ℕ) (bytes : List ℕ) → ReadsBundle width bytes (Err BundleShort) → IsGoodBundle width bytes → ⊥
+bundle_not_short width bytes h good =
+    h [] (record { front = bytes; entries = good.entries; parts = sym (append-nil bytes); is_bundle = good.is_bundle })
+
+pub bundle_not_long : (width : ℕ) (bytes : List ℕ) → ReadsBundle width bytes (Err BundleLong) → IsGoodBundle width bytes → ⊥
+bundle_not_long width bytes h good =
+    let one : Result (List (List ℕ)) BundleFault = Ok good.entries in
+    let other : Result (List (List ℕ)) BundleFault = Err BundleLong in
+    let same : one ≡ other = answer_one width bytes one other good.is_bundle h (λ e. cc e) (λ e. cc e) in
+    cc same

@@ -1,0 +1,26 @@
+-- What is added to a view, and how that is answered.
+use Rattle.std.specs.Prelude.{ℕ, List, [], ◌∷◌, Result, Ok, Err}
+use Rattle.std.specs.FinSet as set
+use Rattle.node_store.specs.Strings.{Strings}
+use Rattle.node_store.specs.declared.store.AddFault.{AddFault}
+use Rattle.node_store.specs.declared.store.AddFault.TheVariants as adding
+use Rattle.mirror_model.specs.View.{View}
+use Rattle.mirror_model.specs.Steps.{Answer, Done, Clashed, Exhausted}
+use Rattle.mirror_model.specs.declared.fault.TakeFault.{TakeFault}
+use Rattle.mirror_model.specs.declared.fault.TakeFault.TheVariants as taking
+
+-- the view with these strings too
+abbrev pub with_strings : View → Strings → View
+with_strings v strings = record { origin = v.origin; notes = v.notes; strings = set.union v.strings strings }
+
+-- what an answer of adding strings is to the views
+abbrev pub added : Result (Unit {0}) AddFault → Answer
+added (Ok done) = Done
+added (Err adding.Collision) = Clashed
+added (Err adding.OutOfMemory) = Exhausted
+
+-- the same as the answer of a take
+abbrev pub taken_of : Result (Unit {0}) AddFault → Result (Unit {0}) TakeFault
+taken_of (Ok done) = Ok done
+taken_of (Err adding.Collision) = Err taking.Collision
+taken_of (Err adding.OutOfMemory) = Err taking.OutOfMemory

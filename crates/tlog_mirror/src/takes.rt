@@ -1,0 +1,107 @@
+//! The takes of tiles and bundles.
+ghost use Rattle.std.specs.Prelude.{◌≡◌, ◌≤◌, ℕ, List, ◌∷◌, length};
+ghost use Rattle.mirror_model.specs.Answered.{answer_of};
+ghost use Rattle.mirror_model.specs.Refusals.{JudgesTile, JudgesBundle};
+ghost use Rattle.mirror_model.specs.Steps.{Answers, Takes};
+ghost use Rattle.mirror_model.specs.declared.items.Item.TheVariants.{Tile, Bundle};
+ghost use Rattle.node_store.specs.Strings.{Has, NoClash};
+ghost use Rattle.signed_note.specs.Keys.{Key};
+ghost use Rattle.tlog_mirror.specs.Adding.{added, taken_of, with_strings};
+
+use crate::mirror::Mirror;
+use mirror_model::TakeFault;
+use node_store::{AddFault, Store};
+use std::alloc::Global;
+use stored_trees::{add_entries, add_row};
+use tlog_hash::TreeHash;
+use tlog_tiles::{BundleFault, RowFault, read_bundle, read_row};
+
+impl<H: TreeHash> Mirror<H> {
+    /// Takes a tile: the bytes of a row of `width` hashes (C2SP tlog-tiles, "Merkle Tree").
+    ///
+    /// Its strings are added, whether or not a known head reaches them.
+    ///
+    /// # Errors
+    ///
+    /// The first that applies: `RowLength`, where there are not `32 * width` bytes; `Collision`, where two
+    /// different strings, of those that are held and the tile's own, share a digest. Both leave the mirror
+    /// as it was. `OutOfMemory` where a growth was refused: the mirror then lies between what it was and
+    /// what it would have been, and taking the tile again completes it.
+    pub fn take_tile(&mut self, alloc: Global, width: u32, bytes: &[u8]) -> Result<(), TakeFault>
+        requires some { 1 ≤ width }
+        requires most { width ≤ 256 }
+        ensures takes { (keys : List Key) → Takes H.digest keys self.old.view (Tile width bytes.now) (answer_of result) self.new.view }
+        ensures judged { JudgesTile width bytes.now result }
+        ensures remembered { self.new.remembered ≡ self.old.remembered }
+    {
+        let row = match read_row(alloc, width, bytes) {
+            Ok(row) => row,
+            Err(RowFault::RowLength) => return Err(TakeFault::RowLength),
+            Err(RowFault::OutOfMemory) => return Err(TakeFault::OutOfMemory),
+        };
+        let mut strings = Store::new(alloc);
+        match add_row::<H>(&mut strings, row.as_slice()) {
+            Ok(_) => taken(self.add_strings(&strings)),
+            Err(AddFault::Collision) => Err(TakeFault::Collision),
+            Err(AddFault::OutOfMemory) => Err(TakeFault::OutOfMemory),
+        }
+    }
+
+    /// Takes a bundle of `width` entries (C2SP tlog-tiles, "Log Entries").
+    ///
+    /// Its strings are those of its entries and of the joins above them, whatever the width.
+    ///
+    /// # Errors
+    ///
+    /// The first that applies: `BundleShort`, where no prefix of the bytes is a bundle of that width;
+    /// `BundleLong`, where one is and more bytes follow it; `Collision`, where two different strings, of
+    /// those that are held and the bundle's own, share a digest. They leave the mirror as it was.
+    /// `OutOfMemory` where a growth was refused: the mirror then lies between what it was and what it would
+    /// have been, and taking the bundle again completes it.
+    pub fn take_bundle(&mut self, alloc: Global, width: u32, bytes: &[u8]) -> Result<(), TakeFault>
+        requires some { 1 ≤ width }
+        requires most { width ≤ 256 }
+        ensures takes { (keys : List Key) → Takes H.digest keys self.old.view (Bundle width bytes.now) (answer_of result) self.new.view }
+        ensures judged { JudgesBundle width bytes.now result }
+        ensures remembered { self.new.remembered ≡ self.old.remembered }
+    {
+        let entries = match read_bundle(alloc, width, bytes) {
+            Ok(entries) => entries,
+            Err(BundleFault::BundleShort) => return Err(TakeFault::BundleShort),
+            Err(BundleFault::BundleLong) => return Err(TakeFault::BundleLong),
+            Err(BundleFault::OutOfMemory) => return Err(TakeFault::OutOfMemory),
+        };
+        let mut strings = Store::new(alloc);
+        match add_entries::<H>(&mut strings, entries.as_slice()) {
+            Ok(_) => taken(self.add_strings(&strings)),
+            Err(AddFault::Collision) => Err(TakeFault::Collision),
+            Err(AddFault::OutOfMemory) => Err(TakeFault::OutOfMemory),
+        }
+    }
+
+    // Adds strings, of which none clash and none is a long entry's.
+    pub(crate) fn add_strings(&mut self, strings: &Store<H>) -> Result<(), AddFault>
+        requires no_clash { NoClash H.digest strings.now }
+        requires short { (entry : List ℕ) → Has strings.now (0 ∷ entry) → length entry ≤ 65535 }
+        ensures adds { Answers H.digest (Unit {0}) (with_strings self.old.view strings.now) self.old.view (added result) self.new.view }
+        ensures remembered { self.new.remembered ≡ self.old.remembered }
+    {
+        match self.strings.add_all(strings) {
+            Ok(()) => {}
+            Err(AddFault::Collision) => return Err(AddFault::Collision),
+            Err(AddFault::OutOfMemory) => return Err(AddFault::OutOfMemory),
+        }
+        Ok(())
+    }
+}
+
+// The answer of adding an item's strings, as that of its take.
+pub(crate) fn taken(answer: Result<(), AddFault>) -> Result<(), TakeFault>
+    ensures { result ≡ taken_of answer }
+{
+    match answer {
+        Ok(()) => Ok(()),
+        Err(AddFault::Collision) => Err(TakeFault::Collision),
+        Err(AddFault::OutOfMemory) => Err(TakeFault::OutOfMemory),
+    }
+}
