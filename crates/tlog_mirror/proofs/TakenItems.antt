@@ -1,15 +1,11 @@
 -- What adding the strings of an item to a mirror's makes of its state, and which answer that is.
-use Rattle.std.proofs.Common.{drop, get_or, arith, ◌≡◌, ℕ, ◌*◌, ◌≤◌, List, [], ◌∷◌, ◌++◌, length, map, sym, refl, ap, subst, ◌∙◌, ◌⊎◌, inl, inr, Ok, Err}
+use Rattle.std.proofs.Common.{drop, get_or, arith, ◌≡◌, ℕ, ◌*◌, ◌≤◌, List, [], ◌∷◌, length, sym, refl, ap, subst, ◌∙◌, inl, inr, Ok, Err}
 use Rattle.std.specs.Prelude.{Result}
 use Rattle.std.specs.FinSet as set
-use Rattle.std.proofs.lemmas.List.{append-nil}
 use Rattle.tlog_hash.specs.Tree.{joins, strings}
 use Rattle.tlog_tiles.specs.Row.{IsRow}
-use Rattle.tlog_tiles.specs.Bundle.{IsBundle, ReadsBundle}
-use Rattle.tlog_tiles.specs.declared.bundle.BundleFault.{BundleFault}
-use Rattle.tlog_tiles.specs.declared.bundle.BundleFault.TheVariants.{BundleShort, BundleLong}
+use Rattle.tlog_tiles.specs.Bundle.{IsBundle}
 use Rattle.tlog_tiles.proofs.RowLemmas.{length-row_text}
-use Rattle.tlog_tiles.proofs.BundleLemmas.{answer_one}
 use Rattle.signed_note.specs.Keys.{Key}
 use Rattle.node_store.specs.declared.store.AddFault.{AddFault}
 use Rattle.node_store.specs.declared.store.AddFault.TheVariants.{Collision, OutOfMemory}
@@ -21,19 +17,14 @@ use Rattle.mirror_model.specs.Strings.{HasClash}
 use Rattle.mirror_model.specs.View.{View, IsWithin}
 use Rattle.mirror_model.specs.Item.{IsWidth, IsGoodTile, IsGoodBundle, IsGood, strings_of, notes_of, plus, row_of, entries_of}
 use Rattle.mirror_model.specs.declared.items.Item.{Item}
-use Rattle.mirror_model.specs.declared.items.Item.TheVariants.{Tile, Bundle}
-use Rattle.mirror_model.specs.Steps.{Answer, Done, Refused, Clashed, Exhausted, Answers, Takes, IsBetween}
-use Rattle.mirror_model.specs.Marks.{Points, State, IsSound}
-use Rattle.std.specs.List.Sorted.{IsStrictlySortedBy}
-use Rattle.std.proofs.lemmas.List.Elements.{All-nil}
-use Rattle.mirror_model.specs.Forks.{point_cmp}
-use Rattle.mirror_model.specs.Heads.{IsHead}
-use Rattle.tlog_mirror.specs.Kept.{state_of, note_bytes, IsKeptWell}
+use Rattle.mirror_model.specs.Steps.{Answer, Done, Refused, Clashed, Exhausted, Answers, Takes}
+use Rattle.mirror_model.specs.Marks.{Points, State}
+use Rattle.tlog_mirror.specs.Kept.{state_of, IsKeptWell}
 use Rattle.tlog_mirror.specs.Adding.{with_strings, added, taken_of}
 use Rattle.mirror_model.specs.ViewLaws.{IsHash}
 use Rattle.tlog_mirror.specs.declared.kept.KeptNote.{KeptNote}
 use Rattle.mirror_model.proofs.StringSets.{decide, has_left, has_right, has_cases, has_empty, same_strings, listed_from_has}
-use Rattle.mirror_model.proofs.Views.{edge_stays, marks_stay, nothing_is_lawful}
+use Rattle.mirror_model.proofs.Views.{edge_stays, marks_stay}
 use Rattle.mirror_model.proofs.ItemBytes.{row_is_one, bundle_is_one}
 use Rattle.mirror_model.proofs.ItemStrings.{IsItemString, item_strings}
 
@@ -223,14 +214,3 @@ bundle_judged width bytes good answer result is = subst (JudgesBundle width byte
 
 pub bundle_strings_are : (digest : List ℕ → List ℕ) (width : ℕ) (bytes : List ℕ) (entries : List (List ℕ)) → IsBundle width bytes entries → strings digest entries ≡ strings digest (entries_of width bytes)
 bundle_strings_are digest width bytes entries b = ap (strings digest) (bundle_is_one width bytes entries b)
-
-pub bundle_not_short : (width : ℕ) (bytes : List ℕ) → ReadsBundle width bytes (Err BundleShort) → IsGoodBundle width bytes → ⊥
-bundle_not_short width bytes h good =
-    h [] (record { front = bytes; entries = good.entries; parts = sym (append-nil bytes); is_bundle = good.is_bundle })
-
-pub bundle_not_long : (width : ℕ) (bytes : List ℕ) → ReadsBundle width bytes (Err BundleLong) → IsGoodBundle width bytes → ⊥
-bundle_not_long width bytes h good =
-    let one : Result (List (List ℕ)) BundleFault = Ok good.entries in
-    let other : Result (List (List ℕ)) BundleFault = Err BundleLong in
-    let same : one ≡ other = answer_one width bytes one other good.is_bundle h (λ e. cc e) (λ e. cc e) in
-    cc same

@@ -1,5 +1,5 @@
 -- What is added to a view, and how that is answered.
-use Rattle.std.specs.Prelude.{ℕ, List, [], ◌∷◌, Result, Ok, Err}
+use Rattle.std.specs.Prelude.{Result, Ok, Err}
 use Rattle.std.specs.FinSet as set
 use Rattle.node_store.specs.Strings.{Strings}
 use Rattle.node_store.specs.declared.store.AddFault.{AddFault}

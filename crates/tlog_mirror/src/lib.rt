@@ -5,12 +5,13 @@
 //! strings, and what is remembered of complete heads beside them.
 #![tactic(auto)]
 
+mod fault;
 mod kept;
-mod marks;
 mod mirror;
 mod takes;
 #[cfg(test)]
 mod tests;
 
+pub use fault::NewFault;
 pub use mirror::Mirror;
-pub use mirror_model::{Bytes, Event, Item, MergeFault, NewFault, Rows, TakeFault};
+pub use mirror_model::{Bytes, Event, Item, MergeFault, Rows, TakeFault};

@@ -4,12 +4,12 @@ ghost use Rattle.std.specs.FinSet as set;
 ghost use Rattle.mirror_model.specs.Origin.{IsOrigin};
 ghost use Rattle.mirror_model.specs.View.{nothing};
 
+use crate::fault::NewFault;
 use crate::kept::KeptNote;
-use crate::marks::Marks;
-use mirror_model::NewFault;
 use node_store::Store;
 use std::alloc::Global;
 use std::marker::Model;
+use stored_trees::Marks;
 use tlog_hash::TreeHash;
 
 /// What was gathered of one log.

@@ -1,12 +1,11 @@
-use Rattle.std.proofs.Common.{◌≡◌, ℕ, List, [], refl, map, subst, ap, sym, ◌∙◌, Err}
+use Rattle.std.proofs.Common.{ℕ, List, [], refl, map, subst, ap, ◌∙◌, Err}
 use denote.Bor.{Bor}
 use Rattle.tlog_hash.specs.Tree.{strings}
 use Rattle.tlog_tiles.specs.Bundle.{ReadsBundle}
-use Rattle.mirror_model.specs.Item.{IsWidth, row_of, entries_of}
-use Rattle.mirror_model.specs.declared.items.Item.{Item}
-use Rattle.mirror_model.specs.declared.items.Item.TheVariants.{Tile, Bundle}
-use Rattle.tlog_mirror.specs.Adding.{added, taken_of}
-use Rattle.tlog_mirror.proofs.TakenItems.{bundle_judged, empty_no_clash, gathered, gathered_short, takes_added, takes_clashed, tile_good, tile_joins, bundle_good, bundle_strings_are, bundle_not_short, bundle_not_long}
+use Rattle.mirror_model.specs.Item.{IsWidth}
+use Rattle.mirror_model.specs.declared.items.Item.TheVariants.{Bundle}
+use Rattle.tlog_mirror.proofs.TakenItems.{bundle_judged, empty_no_clash, gathered, gathered_short, takes_added, takes_clashed, bundle_good, bundle_strings_are}
+use Rattle.mirror_model.proofs.Refusing.{bundle_not_short, bundle_not_long}
 use Rattle.tlog_mirror.proofs.mirror.Mirror.take_bundle.Goals as goal
 
 pub returns-in-Err-BundleShort-clause-takes : goal.returns-in-Err-BundleShort-clause-takes

@@ -1,10 +1,8 @@
-use Rattle.std.proofs.Common.{◌≡◌, ℕ, List, [], refl, map, subst, ap, sym, ◌∙◌, Err}
+use Rattle.std.proofs.Common.{[], refl, ap, ◌∙◌, Err}
 use Rattle.tlog_hash.specs.Tree.{joins}
-use Rattle.mirror_model.specs.Item.{IsWidth, row_of, entries_of}
-use Rattle.mirror_model.specs.declared.items.Item.{Item}
-use Rattle.mirror_model.specs.declared.items.Item.TheVariants.{Tile, Bundle}
-use Rattle.tlog_mirror.specs.Adding.{added, taken_of}
-use Rattle.tlog_mirror.proofs.TakenItems.{tile_judged, empty_no_clash, gathered, gathered_short, takes_added, takes_clashed, tile_good, tile_joins, bundle_good, bundle_strings_are, bundle_not_short, bundle_not_long}
+use Rattle.mirror_model.specs.Item.{IsWidth}
+use Rattle.mirror_model.specs.declared.items.Item.TheVariants.{Tile}
+use Rattle.tlog_mirror.proofs.TakenItems.{tile_judged, empty_no_clash, gathered, gathered_short, takes_added, takes_clashed, tile_good, tile_joins}
 use Rattle.tlog_mirror.proofs.mirror.Mirror.take_tile.Goals as goal
 
 pub add_row-requires-clause-no_clash : goal.add_row-requires-clause-no_clash
