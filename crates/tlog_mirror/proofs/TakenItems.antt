@@ -95,6 +95,7 @@ module _ (digest : List ℕ → List ℕ) (origin : List ℕ) (kept : List KeptN
       IsKeptWell digest origin kept now remembered
   stays_well grows within clean tagged short = record {
     sound = record {
+      origin = ok.sound.origin;
       lawful = record {
         no_clash = clean;
         are_strings = tagged;
