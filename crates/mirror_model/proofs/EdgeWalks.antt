@@ -88,7 +88,7 @@ module _ (digest : List ℕ → List ℕ) (hash : (s : List ℕ) → length (dig
   abbrev Descends : ℕ → List (List ℕ) → Type 0
   Descends b bs = (row : List (List ℕ)) → length row ≡ length bs → AreHashes row → JoinsHeld row → (s at many : ℕ) → WalkFails digest held (tree_of (joined_up bs)) s (fold_of digest row) at many → FailsInBlock b bs row s at many
 
-  same_join : (us vs : List (List ℕ)) → IsJoin digest (Join (tree_of us) (tree_of vs)) (1 ∷ fold_of digest us ++ fold_of digest vs)
+  pub same_join : (us vs : List (List ℕ)) → IsJoin digest (Join (tree_of us) (tree_of vs)) (1 ∷ fold_of digest us ++ fold_of digest vs)
   unfolding fold_of
   same_join us vs = inl refl
 

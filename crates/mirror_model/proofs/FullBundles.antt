@@ -20,7 +20,7 @@ strings_cases : (digest : List ℕ → List ℕ) (es : List (List ℕ)) (y : Lis
 unfolding strings
 strings_cases digest es y c = Contains-append_cases (map (λ e. 0 ∷ e) es) (joins digest (map (leaf_hash digest) es)) y c
 
-strings_leaf : (digest : List ℕ → List ℕ) (es : List (List ℕ)) (y : List ℕ) → Contains (map (λ e. 0 ∷ e) es) y → Contains (strings digest es) y
+pub strings_leaf : (digest : List ℕ → List ℕ) (es : List (List ℕ)) (y : List ℕ) → Contains (map (λ e. 0 ∷ e) es) y → Contains (strings digest es) y
 unfolding strings
 strings_leaf digest es y c = Contains-append_left (map (λ e. 0 ∷ e) es) (joins digest (map (leaf_hash digest) es)) y c
 

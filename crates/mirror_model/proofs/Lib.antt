@@ -27,6 +27,8 @@ pub mod Takings
 pub mod MissingPaths
 pub mod EdgeWalks
 pub mod MissingWithin
+pub mod OneEdge
+pub mod ServedBundles
 pub mod FullBundles
 pub mod Fetching
 pub mod Refusing

@@ -148,7 +148,7 @@ serves_one digest hash v lawful note other size n root r first second p q =
     }
 
 -- one list is served at most
-one_served : (digest : List ℕ → List ℕ) → IsHash digest → (v : View) → IsLawful digest v → (first second : List (List ℕ)) → IsServedList digest v first → IsServedList digest v second → first ≡ second
+pub one_served : (digest : List ℕ → List ℕ) → IsHash digest → (v : View) → IsLawful digest v → (first second : List (List ℕ)) → IsServedList digest v first → IsServedList digest v second → first ≡ second
 one_served digest hash v lawful first second p q = (serves_one digest hash v lawful p.note q.note p.size q.size p.root q.root first second p.served q.served).entries_are
 
 pub replies_once : RepliesOnce

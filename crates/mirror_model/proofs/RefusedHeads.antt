@@ -4,9 +4,7 @@ use Rattle.std.specs.Prelude.{Result}
 use Rattle.std.proofs.lemmas.List.{length-map}
 use Rattle.signed_note.specs.Keys.{Key}
 use Rattle.signed_note.specs.Notes.{Line, NoteParts, IsNote, Opens}
-use Rattle.signed_note.specs.Reading.{ReadsNote}
 use Rattle.signed_note.specs.declared.fault.NoteFault.{NoteFault}
-use Rattle.signed_note.specs.declared.fault.NoteFault.TheVariants as noting
 use Rattle.signed_note.proofs.OneReading.{notes_are_read}
 use Rattle.signed_note.proofs.OneReading as note
 use Rattle.tlog_checkpoint.specs.declared.Checkpoint.{Checkpoint}
@@ -20,8 +18,8 @@ use Rattle.mirror_model.specs.Heads.{IsOpenHead}
 use Rattle.mirror_model.specs.Item.{row_of, HasEdgeRows, IsGoodHead}
 use Rattle.mirror_model.specs.Steps.{Refused}
 use Rattle.mirror_model.specs.Answered.{answer_of}
-use Rattle.mirror_model.specs.Refusals.{IsCheckpointNote, IsOpenCheckpoint, IsNoNote, IsNoCheckpoint, HasOtherOrigin, HasNoSigner, ReadsHead, HasEdgeCount, HasEdgeLengths, HasOtherCount, HasOtherLengths, HasOtherRoot, JudgesHead}
-use Rattle.mirror_model.specs.RefusalLaws.{HeadsAreJudged, HeadNotesAreReadOnce, OpenHeadsAreRead, IsOpenAs}
+use Rattle.mirror_model.specs.Refusals.{IsOpenCheckpoint, IsNoNote, ReadsHead, HasEdgeCount, HasEdgeLengths, JudgesHead}
+use Rattle.mirror_model.specs.RefusalLaws.{HeadsAreJudged, HeadNotesAreReadOnce, OpenHeadsAreRead}
 use Rattle.mirror_model.specs.declared.fault.TakeFault.{TakeFault}
 use Rattle.mirror_model.specs.declared.fault.TakeFault.TheVariants as taking
 use Rattle.mirror_model.proofs.Refusing.{Taken, not_done, not_clashed, not_exhausted}

@@ -1,5 +1,5 @@
 -- Tiles and bundles are refused exactly where they are not good, and for one reason.
-use Rattle.std.proofs.Common.{◌≡◌, ◌≢◌, ◌⊎◌, inl, inr, ℕ, ◌*◌, List, [], ◌++◌, length, Ok, Err, refl, sym, ◌∙◌}
+use Rattle.std.proofs.Common.{◌≡◌, ◌≢◌, ◌⊎◌, inl, inr, ℕ, ◌*◌, List, [], length, Ok, Err, refl, sym, ◌∙◌}
 use Rattle.std.specs.Prelude.{Result}
 use Rattle.std.proofs.lemmas.List.{append-nil}
 use Rattle.tlog_tiles.specs.Bundle.{ReadsBundle}
@@ -7,10 +7,10 @@ use Rattle.tlog_tiles.specs.declared.bundle.BundleFault.{BundleFault}
 use Rattle.tlog_tiles.specs.declared.bundle.BundleFault.TheVariants as bundling
 use Rattle.tlog_tiles.proofs.BundleLemmas.{answer_one}
 use Rattle.mirror_model.specs.Item.{IsGoodTile, IsGoodBundle}
-use Rattle.mirror_model.specs.Steps.{Answer, Done, Refused, Clashed, Exhausted}
+use Rattle.mirror_model.specs.Steps.{Refused}
 use Rattle.mirror_model.specs.Answered.{answer_of}
 use Rattle.mirror_model.specs.Refusals.{JudgesTile, JudgesBundle}
-use Rattle.mirror_model.specs.RefusalLaws.{JudgesOnce, TilesAreJudged, BundlesAreJudged}
+use Rattle.mirror_model.specs.RefusalLaws.{TilesAreJudged, BundlesAreJudged}
 use Rattle.mirror_model.specs.declared.fault.TakeFault.{TakeFault}
 use Rattle.mirror_model.specs.declared.fault.TakeFault.TheVariants.{Note, Checkpoint, OtherOrigin, NoTrustedSignature, EdgeCount, EdgeLength, EdgeMismatch, RowLength, BundleShort, BundleLong, Collision, OutOfMemory}
 

@@ -25,9 +25,7 @@ use Rattle.mirror_model.specs.Front.{IsFront}
 use Rattle.mirror_model.specs.Rounds.{HoldsAll, IsAnswered}
 use Rattle.mirror_model.specs.Item.{row_of}
 use Rattle.mirror_model.specs.ViewLaws.{IsHash}
-use Rattle.std.proofs.lemmas.List.{take_all}
-use Rattle.tlog_hash.proofs.Folds.{joined_ranges}
-use Rattle.mirror_model.specs.TrueLaws.{BundlesAreAll, TilesAreTrue, BundlesAreTrue, EdgesAreTrue, EdgeIsOfPaths, FrontIsWithin, true_strings, TrueStringsWithin, FrontIsWidest, TakingIsRound, PrefixesServeSame}
+use Rattle.mirror_model.specs.TrueLaws.{TilesAreTrue, BundlesAreTrue, EdgesAreTrue, EdgeIsOfPaths, FrontIsWithin, true_strings, TrueStringsWithin, FrontIsWidest, TakingIsRound, PrefixesServeSame}
 use Rattle.mirror_model.proofs.StringSets.{holds_from_held}
 use Rattle.mirror_model.proofs.ItemBytes.{row_is_one, bundle_is_one}
 use Rattle.mirror_model.proofs.EdgeRoots.{edge_rows_wide, edge_root_is}
@@ -59,9 +57,6 @@ bundles_are_true digest hash entries short index width within =
       good = record { is_width = record { some = within.some; most = within.upto }; entries = part (256 * index) width entries; is_bundle = b };
       strings_are = ap (strings digest) (sym (bundle_is_one width (bundle_bytes entries index width) (part (256 * index) width entries) b));
     }
-
-pub bundles_are_all : BundlesAreAll
-bundles_are_all entries count enough = joined_ranges 256 0 count entries ∙ take_all (count * 256) entries enough
 
 -- ---- the edge
 

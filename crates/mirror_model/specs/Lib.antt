@@ -27,4 +27,6 @@ pub mod TreeLaws
 pub mod ViewLaws
 pub mod TrueLaws
 pub mod FetchLaws
+pub mod EdgeLaws
+pub mod ServedLaws
 pub mod PlayLaws

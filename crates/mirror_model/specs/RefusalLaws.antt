@@ -3,7 +3,7 @@ use Rattle.std.specs.Prelude.{◌≡◌, ◌≢◌, ◌↔◌, ℕ, List, Result
 use Rattle.signed_note.specs.Keys.{Key}
 use Rattle.tlog_checkpoint.specs.declared.Checkpoint.{Checkpoint}
 use Rattle.mirror_model.specs.Heads.{IsOpenHead}
-use Rattle.mirror_model.specs.Item.{IsWidth, IsGoodTile, IsGoodBundle, IsGoodHead}
+use Rattle.mirror_model.specs.Item.{IsGoodTile, IsGoodBundle, IsGoodHead}
 use Rattle.mirror_model.specs.Steps.{Refused}
 use Rattle.mirror_model.specs.Answered.{answer_of}
 use Rattle.mirror_model.specs.Refusals.{IsOpenCheckpoint, ReadsHead, JudgesHead, JudgesTile, JudgesBundle}

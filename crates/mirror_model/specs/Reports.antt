@@ -1,5 +1,5 @@
 -- What a mirror reports of its heads: each once, in order, and nothing else.
-use Rattle.std.specs.Prelude.{◌≡◌, ◌↔◌, ℕ, List, map, Option, Some, None, All, IsTrue}
+use Rattle.std.specs.Prelude.{◌↔◌, ℕ, List, map, Option, Some, None, All, IsTrue}
 use Rattle.mirror_model.specs.View.{View}
 use Rattle.mirror_model.specs.Complete.{IsComplete}
 use Rattle.mirror_model.specs.Served.{Served}

@@ -3,8 +3,7 @@ use Rattle.std.specs.Prelude.{◌-◌, min, [], ◌∷◌, max, ◌≡◌, ℕ, 
 use Rattle.std.specs.List.{Contains}
 use Rattle.tlog_shape.specs.Edge.{width_of, edge_index_of, IsTop}
 use Rattle.tlog_hash.specs.Tree.{mth, strings, joins}
-use Rattle.tlog_hash.specs.Blocks.{joined_up}
-use Rattle.tlog_hash.specs.Rows.{ranges, part, level_row}
+use Rattle.tlog_hash.specs.Rows.{part, level_row}
 use Rattle.tlog_tiles.specs.declared.paths.Path.{Path}
 use Rattle.tlog_tiles.specs.declared.paths.Path.TheVariants.{Checkpoint, Tile, Entries}
 use Rattle.tlog_tiles.specs.Row.{row_text}
@@ -45,12 +44,6 @@ abbrev pub BundlesAreTrue : Type 0
 BundlesAreTrue =
     (digest : List ℕ → List ℕ) → IsHash digest → (entries : List (List ℕ)) → AreShort entries → (index width : ℕ) →
     IsTileWithin (length entries) 0 index width → IsTrueBundle digest entries index width
-
--- the entries of the bundles, in order, are the entries
-abbrev pub BundlesAreAll : Type 0
-BundlesAreAll =
-    (entries : List (List ℕ)) (count : ℕ) → length entries ≤ count * 256 →
-    joined_up (ranges 256 0 count entries) ≡ entries
 
 -- the bytes of the true edge rows
 abbrev pub edge_bytes : (List ℕ → List ℕ) → List (List ℕ) → List (List ℕ)

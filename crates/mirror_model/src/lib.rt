@@ -10,7 +10,7 @@ mod reports;
 pub use events::Event;
 pub use fault::{MergeFault, TakeFault};
 pub use items::{Bytes, Item, Rows};
-pub use laws::edges::{edge_root_law, edge_rows_law, edge_strings_law};
+pub use laws::edges::{edge_root_law, edge_rows_law, edge_strings_law, lawful_edge_law};
 pub use laws::examples::{
     fork_example, front_example, opening_example, served_example, trees_example, way_example,
 };
@@ -22,7 +22,7 @@ pub use laws::play::{again_law, clash_law, keeping_law, order_law, reaches_law, 
 pub use laws::refusals::refusals_law;
 pub use laws::reports::reports_law;
 pub use laws::tiles::{bundle_law, full_row_law};
-pub use laws::truth::{prefix_law, true_items_law, true_rounds_law};
+pub use laws::truth::{bundles_law, prefix_law, true_items_law, true_rounds_law};
 pub use laws::views::{
     forks_law, growth_law, lawful_law, marks_law, one_list_law, served_law, union_law,
 };

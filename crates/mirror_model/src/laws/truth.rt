@@ -1,12 +1,12 @@
 //! Laws of items of true bytes: what a log serves of its entries (C2SP tlog-tiles).
-ghost use Rattle.mirror_model.specs.TrueLaws.{BundlesAreAll, BundlesAreTrue, EdgeIsOfPaths, EdgesAreTrue, FrontIsWidest, FrontIsWithin, PrefixesServeSame, TakingCompletes, TakingIsRound, TilesAreTrue, TrueStringsWithin};
+ghost use Rattle.mirror_model.specs.TrueLaws.{BundlesAreTrue, EdgeIsOfPaths, EdgesAreTrue, FrontIsWidest, FrontIsWithin, PrefixesServeSame, TakingCompletes, TakingIsRound, TilesAreTrue, TrueStringsWithin};
+ghost use Rattle.mirror_model.specs.ServedLaws.{BundlesAreAll, BundlesAreServed};
 
 /// The true tiles and bundles of a list of entries are good, and give what its tree hash hashes there;
-/// all bundles, in order, have its entries; its true edge rows lead to its tree hash.
+/// its true edge rows lead to its tree hash.
 pub fn true_items_law()
     ensures tiles { TilesAreTrue }
     ensures bundles { BundlesAreTrue }
-    ensures all { BundlesAreAll }
     ensures edges { EdgesAreTrue }
     ensures paths { EdgeIsOfPaths }
 {}
@@ -25,4 +25,11 @@ pub fn true_rounds_law()
 /// What is within the first entries of a list is served alike for these and for the whole list.
 pub fn prefix_law()
     ensures { PrefixesServeSame }
+{}
+
+/// The entries of the bundles that a lawful view serves, read one after another until none is served, each
+/// bundle as wide as it is served, are the entries served, and nothing else; and there are such bundles.
+pub fn bundles_law()
+    ensures all { BundlesAreAll }
+    ensures served { BundlesAreServed }
 {}

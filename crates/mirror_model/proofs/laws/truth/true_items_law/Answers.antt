@@ -1,4 +1,4 @@
-use Rattle.mirror_model.proofs.TrueItems.{tiles_are_true, bundles_are_true, bundles_are_all, edges_are_true, edge_is_of_paths}
+use Rattle.mirror_model.proofs.TrueItems.{tiles_are_true, bundles_are_true, edges_are_true, edge_is_of_paths}
 use Rattle.mirror_model.proofs.laws.truth.true_items_law.Goals as goal
 
 pub returns-clause-tiles : goal.returns-clause-tiles
@@ -12,6 +12,3 @@ returns-clause-edges c = edges_are_true
 
 pub returns-clause-paths : goal.returns-clause-paths
 returns-clause-paths c = edge_is_of_paths
-
-pub returns-clause-all : goal.returns-clause-all
-returns-clause-all c = bundles_are_all
