@@ -1,6 +1,4 @@
 pub mod LineLemmas
-pub mod Decimals
-pub mod Roots
 pub mod Answered
 pub mod Uniqueness
 pub mod OneAnswer

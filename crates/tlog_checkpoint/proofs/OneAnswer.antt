@@ -1,15 +1,17 @@
 -- One text has one answer: no two of the ways to answer it fit together.
-use Rattle.std.proofs.Common.{◌≡◌, ◌≢◌, ℕ, zero, suc, ◌<◌, ◌^◌, List, [], ◌∷◌, length, Result, IfOk, get_or, Ok, Err, refl, sym, ap, subst, arith}
+use Rattle.std.proofs.Common.{◌≡◌, ◌≢◌, ℕ, zero, suc, ◌<◌, ◌≤◌, List, [], ◌∷◌, length, Result, IfOk, get_or, Ok, Err, refl, sym, ap, subst, arith}
 use Rattle.std.specs.List.{AllByRecursion, Contains}
 use Rattle.tlog_checkpoint.specs.declared.Checkpoint.{Checkpoint}
 use Rattle.tlog_checkpoint.specs.declared.fault.CheckpointFault.{CheckpointFault}
 use Rattle.tlog_checkpoint.specs.declared.fault.CheckpointFault.TheVariants.{TooFewLines, EmptyLine, BadSize, SizeTooLarge, BadRoot, OutOfMemory}
-use Rattle.tlog_checkpoint.specs.Fields.{IsDecimal, IsRoot}
+use Rattle.tlog_shape.specs.declared.TheConstants.{MAX_SIZE}
+use Rattle.tlog_text.specs.Number.{IsDecimal}
+use Rattle.tlog_text.specs.Hash.{IsHashText}
+use Rattle.tlog_text.proofs.Decimals.{one_number}
 use Rattle.tlog_checkpoint.specs.Grammar.{IsWritable, HasFields, IsFullLine, IsCheckpoint}
 use Rattle.tlog_checkpoint.specs.Reading.{Reads, HasTooFewLines, HasEmptyLine, HasBadSize, HasLargeSize, HasBadRoot}
 use Rattle.tlog_checkpoint.specs.Laws.{OneAnswer}
 use Rattle.tlog_checkpoint.proofs.LineLemmas.{one_lines}
-use Rattle.tlog_checkpoint.proofs.Decimals.{one_number}
 use Rattle.tlog_checkpoint.proofs.Uniqueness.{reads_writable, lines_from_fields, one_fields, one_reading}
 
 -- among full lines is no empty one
@@ -36,16 +38,16 @@ module _ (text o s r : List ℕ) (e : List (List ℕ)) (fields : HasFields text 
       let same = one_fields text p.origin p.size_line p.root_line p.extensions o s r e p.fields fields in
       p.no_size n (subst (λ (line : List ℕ). IsDecimal line n) (sym same.size) is)
 
-  large_size : HasLargeSize text → (n : ℕ) → IsDecimal s n → n < 2 ^ 63 → ⊥
+  large_size : HasLargeSize text → (n : ℕ) → IsDecimal s n → n ≤ MAX_SIZE → ⊥
   large_size p n is lt =
       let same = one_fields text p.origin p.size_line p.root_line p.extensions o s r e p.fields fields in
       let here : IsDecimal s p.size = subst (λ (line : List ℕ). IsDecimal line p.size) same.size p.has_size in
       omega (arith, one_number s p.size n here is, p.too_large, lt)
 
-  bad_root : HasBadRoot text → (root : List ℕ) → IsRoot r root → ⊥
+  bad_root : HasBadRoot text → (root : List ℕ) → IsHashText r root → ⊥
   bad_root p root is =
       let same = one_fields text p.origin p.size_line p.root_line p.extensions o s r e p.fields fields in
-      p.no_root root (subst (λ (line : List ℕ). IsRoot line root) (sym same.root) is)
+      p.no_root root (subst (λ (line : List ℕ). IsHashText line root) (sym same.root) is)
 
 pub one_answer : OneAnswer
 one_answer text (Err TooFewLines) (Err TooFewLines) no_a no_b p q = refl

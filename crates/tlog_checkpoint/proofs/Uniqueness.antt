@@ -1,14 +1,15 @@
 -- One text, one checkpoint: the grammar's laws.
-use Rattle.std.proofs.Common.{◌≡◌, ℕ, List, [], ◌∷◌, refl, sym, ◌∙◌, subst}
+use Rattle.std.proofs.Common.{◌≡◌, ℕ, ◌<◌, ◌^◌, arith, List, [], ◌∷◌, refl, sym, ◌∙◌, subst}
 use Rattle.std.specs.List.{AllByRecursion}
 use Rattle.tlog_checkpoint.specs.declared.Checkpoint.{Checkpoint}
 use Rattle.tlog_checkpoint.specs.Lines.{HasLines, text_of, IsLine}
-use Rattle.tlog_checkpoint.specs.Fields.{IsDecimal, IsRoot}
+use Rattle.tlog_text.specs.Number.{IsDecimal}
+use Rattle.tlog_text.specs.Hash.{IsHashText}
 use Rattle.tlog_checkpoint.specs.Grammar.{HasFields, IsFullLine}
 use Rattle.tlog_checkpoint.specs.Laws.{OneReading, OneText, ReadsWritable}
 use Rattle.tlog_checkpoint.proofs.LineLemmas.{one_lines}
-use Rattle.tlog_checkpoint.proofs.Decimals.{one_number, one_decimal}
-use Rattle.tlog_checkpoint.proofs.Roots.{one_root}
+use Rattle.tlog_text.proofs.Decimals.{one_number, decimal_is}
+use Rattle.tlog_text.proofs.Hashes.{one_hash}
 
 are_lines : (lines : List (List ℕ)) → AllByRecursion IsFullLine lines → AllByRecursion IsLine lines
 are_lines [] h = tt
@@ -38,15 +39,16 @@ pub one_reading : OneReading
 one_reading text a b p q =
     let same = one_fields text a.origin p.size_line p.root_line a.extensions b.origin q.size_line q.root_line b.extensions p.fields q.fields in
     let line = λ (x : List ℕ). IsDecimal x a.size in
-    let root = λ (x : List ℕ). IsRoot x a.root in
+    let root = λ (x : List ℕ). IsHashText x a.root in
     same_checkpoint a b same.origin
     (one_number q.size_line a.size b.size (subst line same.size p.has_size) q.has_size)
-    (one_root q.root_line a.root b.root (subst root same.root p.has_root) q.has_root)
+    (one_hash q.root_line a.root b.root (subst root same.root p.has_root) q.has_root)
     same.extensions
 
 pub one_text : OneText
 one_text s t origin size root extensions p q =
-    let size_lines : p.size_line ≡ q.size_line = one_decimal p.size_line q.size_line size p.in_range p.has_size q.has_size in
+    let small : size < 2 ^ 64 = omega (arith, p.in_range) in
+    let size_lines : p.size_line ≡ q.size_line = decimal_is p.size_line size small p.has_size ∙ sym (decimal_is q.size_line size small q.has_size) in
     let root_lines : p.root_line ≡ q.root_line = p.has_root.is_base64 ∙ sym q.has_root.is_base64 in
     let lines : text_of (origin ∷ p.size_line ∷ p.root_line ∷ extensions) ≡ text_of (origin ∷ q.size_line ∷ q.root_line ∷ extensions) = rw (size_lines, root_lines) refl in
     p.fields.is_text ∙ lines ∙ sym q.fields.is_text

@@ -1,10 +1,12 @@
 -- The grammar of a checkpoint's text (C2SP tlog-checkpoint, "Note text"), as a relation between a
 -- whole text and what it says.
-use Rattle.std.specs.Prelude.{◌≡◌, ◌≢◌, ℕ, ◌<◌, ◌^◌, List, [], ◌∷◌}
+use Rattle.std.specs.Prelude.{◌≡◌, ◌≢◌, ℕ, ◌≤◌, List, [], ◌∷◌}
 use Rattle.std.specs.List.{AllByRecursion}
+use Rattle.tlog_shape.specs.declared.TheConstants.{MAX_SIZE}
 use Rattle.tlog_checkpoint.specs.declared.Checkpoint.{Checkpoint}
 use Rattle.tlog_checkpoint.specs.Lines.{IsLine, text_of}
-use Rattle.tlog_checkpoint.specs.Fields.{IsDecimal, IsRoot}
+use Rattle.tlog_text.specs.Number.{IsDecimal}
+use Rattle.tlog_text.specs.Hash.{IsHashText}
 
 -- a line that is not empty
 pub record IsFullLine (line : List ℕ) : Type 0 where
@@ -22,11 +24,11 @@ pub record IsCheckpoint (text origin : List ℕ) (size : ℕ) (root : List ℕ) 
   pub root_line : List ℕ
   pub fields : HasFields text origin size_line root_line extensions
   pub has_size : IsDecimal size_line size
-  pub in_range : size < 2 ^ 63
-  pub has_root : IsRoot root_line root
+  pub in_range : size ≤ MAX_SIZE
+  pub has_root : IsHashText root_line root
 
 -- What can be written: an origin and extensions that are lines and not empty, and a size in range.
 pub record IsWritable (checkpoint : Checkpoint) : Type 0 where
   pub origin : IsFullLine checkpoint.origin
-  pub size : checkpoint.size < 2 ^ 63
+  pub size : checkpoint.size ≤ MAX_SIZE
   pub extensions : AllByRecursion IsFullLine checkpoint.extensions

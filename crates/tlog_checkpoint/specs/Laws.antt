@@ -1,9 +1,10 @@
 -- What the grammar of checkpoints says, as laws of its definitions.
-use Rattle.std.specs.Prelude.{◌≡◌, ◌≢◌, ℕ, List, length, Result, Err}
+use Rattle.std.specs.Prelude.{◌≡◌, ◌≢◌, ℕ, List, Result, Err}
 use Rattle.tlog_checkpoint.specs.declared.Checkpoint.{Checkpoint}
 use Rattle.tlog_checkpoint.specs.declared.fault.CheckpointFault.{CheckpointFault}
 use Rattle.tlog_checkpoint.specs.declared.fault.CheckpointFault.TheVariants.{OutOfMemory}
-use Rattle.base64.specs.GeneralPurpose.{IsBytes}
+use Rattle.tlog_text.specs.Answers.{HasOneAnswer}
+use Rattle.tlog_text.specs.Hash.{Is32Bytes}
 use Rattle.tlog_checkpoint.specs.Grammar.{IsCheckpoint, IsWritable}
 use Rattle.tlog_checkpoint.specs.Reading.{Reads}
 
@@ -21,7 +22,7 @@ ReadsWritable = (text : List ℕ) (c : Checkpoint) → IsCheckpoint text c.origi
 
 -- two answers to one text that are no want of memory are the same
 abbrev pub OneAnswer : Type 0
-OneAnswer = (text : List ℕ) (a b : Result Checkpoint CheckpointFault) → a ≢ Err OutOfMemory → b ≢ Err OutOfMemory → Reads text a → Reads text b → a ≡ b
+OneAnswer = HasOneAnswer OutOfMemory Reads
 
 -- each text has an answer that is no want of memory
 abbrev pub EachAnswered : Type 0
@@ -29,4 +30,4 @@ EachAnswered = (text : List ℕ) → (a : Result Checkpoint CheckpointFault) × 
 
 -- what can be written, with a hash of 32 bytes, has a text
 abbrev pub EachWritten : Type 0
-EachWritten = (c : Checkpoint) → IsWritable c → IsBytes c.root → length c.root ≡ 32 → (text : List ℕ) × IsCheckpoint text c.origin c.size c.root c.extensions
+EachWritten = (c : Checkpoint) → IsWritable c → Is32Bytes c.root → (text : List ℕ) × IsCheckpoint text c.origin c.size c.root c.extensions

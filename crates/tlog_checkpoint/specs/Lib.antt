@@ -1,5 +1,4 @@
 pub mod Lines
-pub mod Fields
 pub mod Grammar
 pub mod Parts
 pub mod Reading

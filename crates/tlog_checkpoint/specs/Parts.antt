@@ -1,10 +1,12 @@
 -- What the steps of reading a checkpoint answer.
-use Rattle.std.specs.Prelude.{◌≡◌, ℕ, ◌<◌, ◌≤◌, ◌^◌, List, [], Result, Ok, Err}
+use Rattle.std.specs.Prelude.{◌≡◌, ℕ, ◌<◌, ◌≤◌, List, [], Result, Ok, Err}
+use Rattle.tlog_shape.specs.declared.TheConstants.{MAX_SIZE}
 use Rattle.tlog_checkpoint.specs.declared.Checkpoint.{Checkpoint}
 use Rattle.tlog_checkpoint.specs.declared.fault.CheckpointFault.{CheckpointFault}
 use Rattle.tlog_checkpoint.specs.declared.fault.CheckpointFault.TheVariants.{TooFewLines, EmptyLine, BadSize, SizeTooLarge, BadRoot, OutOfMemory}
 use Rattle.tlog_checkpoint.specs.Lines.{HasLines}
-use Rattle.tlog_checkpoint.specs.Fields.{IsDecimal, IsRoot}
+use Rattle.tlog_text.specs.Number.{IsDecimal}
+use Rattle.tlog_text.specs.Hash.{IsHashText}
 
 -- the lines of a text, be they few or empty
 abbrev pub ReadsLines : List ℕ → Result (List (List ℕ)) CheckpointFault → Type 0
@@ -18,9 +20,9 @@ ReadsLines text (Err OutOfMemory) = Unit {0}
 
 -- the number of a size's line
 abbrev pub ReadsSize : List ℕ → Result ℕ CheckpointFault → Type 0
-ReadsSize line (Ok n) = IsDecimal line n × (n < 2 ^ 63)
+ReadsSize line (Ok n) = IsDecimal line n × (n ≤ MAX_SIZE)
 ReadsSize line (Err BadSize) = (n : ℕ) → IsDecimal line n → ⊥
-ReadsSize line (Err SizeTooLarge) = (n : ℕ) × IsDecimal line n × (2 ^ 63 ≤ n)
+ReadsSize line (Err SizeTooLarge) = (n : ℕ) × IsDecimal line n × (MAX_SIZE < n)
 ReadsSize line (Err TooFewLines) = ⊥
 ReadsSize line (Err EmptyLine) = ⊥
 ReadsSize line (Err BadRoot) = ⊥
@@ -28,17 +30,17 @@ ReadsSize line (Err OutOfMemory) = ⊥
 
 -- the hash of a root's line
 abbrev pub ReadsRoot : List ℕ → Result (List ℕ) CheckpointFault → Type 0
-ReadsRoot line (Ok root) = IsRoot line root
-ReadsRoot line (Err BadRoot) = (root : List ℕ) → IsRoot line root → ⊥
+ReadsRoot line (Ok root) = IsHashText line root
+ReadsRoot line (Err BadRoot) = (root : List ℕ) → IsHashText line root → ⊥
 ReadsRoot line (Err TooFewLines) = ⊥
 ReadsRoot line (Err EmptyLine) = ⊥
 ReadsRoot line (Err BadSize) = ⊥
 ReadsRoot line (Err SizeTooLarge) = ⊥
-ReadsRoot line (Err OutOfMemory) = Unit {0}
+ReadsRoot line (Err OutOfMemory) = ⊥
 
 -- the checkpoint of these lines, none of which is empty
 abbrev pub ReadsFields : List ℕ → List ℕ → List ℕ → List (List ℕ) → Result Checkpoint CheckpointFault → Type 0
-ReadsFields origin size root extensions (Ok c) = (c.origin ≡ origin) × ReadsSize size (Ok c.size) × IsRoot root c.root × (c.extensions ≡ extensions)
+ReadsFields origin size root extensions (Ok c) = (c.origin ≡ origin) × ReadsSize size (Ok c.size) × IsHashText root c.root × (c.extensions ≡ extensions)
 ReadsFields origin size root extensions (Err BadSize) = ReadsSize size (Err BadSize)
 ReadsFields origin size root extensions (Err SizeTooLarge) = ReadsSize size (Err SizeTooLarge)
 ReadsFields origin size root extensions (Err BadRoot) = (n : ℕ) × ReadsSize size (Ok n) × ReadsRoot root (Err BadRoot)

@@ -1,11 +1,13 @@
 -- What reading a text answers: its checkpoint, or the first refusal that applies.
-use Rattle.std.specs.Prelude.{ℕ, ◌<◌, ◌≤◌, ◌^◌, List, [], length, Result, Ok, Err}
+use Rattle.std.specs.Prelude.{ℕ, ◌<◌, ◌≤◌, List, [], length, Result, Ok, Err}
 use Rattle.std.specs.List.{Contains}
+use Rattle.tlog_shape.specs.declared.TheConstants.{MAX_SIZE}
 use Rattle.tlog_checkpoint.specs.declared.Checkpoint.{Checkpoint}
 use Rattle.tlog_checkpoint.specs.declared.fault.CheckpointFault.{CheckpointFault}
 use Rattle.tlog_checkpoint.specs.declared.fault.CheckpointFault.TheVariants.{TooFewLines, EmptyLine, BadSize, SizeTooLarge, BadRoot, OutOfMemory}
 use Rattle.tlog_checkpoint.specs.Lines.{HasLines}
-use Rattle.tlog_checkpoint.specs.Fields.{IsDecimal, IsRoot}
+use Rattle.tlog_text.specs.Number.{IsDecimal}
+use Rattle.tlog_text.specs.Hash.{IsHashText}
 use Rattle.tlog_checkpoint.specs.Grammar.{HasFields, IsCheckpoint}
 
 -- Fewer than three lines; or bytes after the last newline, since such a text has no list of lines.
@@ -28,7 +30,7 @@ pub record HasBadSize (text : List ℕ) : Type 0 where
   pub fields : HasFields text origin size_line root_line extensions
   pub no_size : (n : ℕ) → IsDecimal size_line n → ⊥
 
--- The size is a number of more than 2^63 - 1, however many digits it has.
+-- The size is a number over the greatest, however many digits it has.
 pub record HasLargeSize (text : List ℕ) : Type 0 where
   pub origin : List ℕ
   pub size_line : List ℕ
@@ -37,7 +39,7 @@ pub record HasLargeSize (text : List ℕ) : Type 0 where
   pub fields : HasFields text origin size_line root_line extensions
   pub size : ℕ
   pub has_size : IsDecimal size_line size
-  pub too_large : 2 ^ 63 ≤ size
+  pub too_large : MAX_SIZE < size
 
 -- The size is in range, and the root's line is no root.
 pub record HasBadRoot (text : List ℕ) : Type 0 where
@@ -48,8 +50,8 @@ pub record HasBadRoot (text : List ℕ) : Type 0 where
   pub fields : HasFields text origin size_line root_line extensions
   pub size : ℕ
   pub has_size : IsDecimal size_line size
-  pub in_range : size < 2 ^ 63
-  pub no_root : (root : List ℕ) → IsRoot root_line root → ⊥
+  pub in_range : size ≤ MAX_SIZE
+  pub no_root : (root : List ℕ) → IsHashText root_line root → ⊥
 
 -- What reading a text may answer. Want of memory may come at any text.
 abbrev pub Reads : List ℕ → Result Checkpoint CheckpointFault → Type 0

@@ -29,7 +29,7 @@ use tlog_hash::Hash;
 pub use writing::write;
 
 /// What a checkpoint says of its log.
-#[derive(Debug, Drop)]
+#[derive(Debug, Drop, PartialEq, Eq)]
 pub struct Checkpoint {
     /// The name of the log: one line, without its newline.
     pub origin: Line,

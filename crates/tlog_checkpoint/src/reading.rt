@@ -68,7 +68,7 @@ fn checkpoint_of(
     ensures { ReadsFields origin.now size_line.now root_line.now (map (λ line. line.now) extensions.now) result }
 {
     let size = size_of(size_line)?;
-    let root = root_of(alloc, root_line)?;
+    let root = root_of(root_line)?;
     let origin = Line::new(String::from_str(alloc, origin)?);
     let extensions = copied(alloc, extensions)?;
     Ok(Checkpoint {

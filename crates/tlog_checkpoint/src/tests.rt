@@ -68,10 +68,6 @@ fn checkpoint_refusals(rt: HostRuntime) -> Result<(), Fail> {
         read(rt.alloc(), "").err(),
         Some(CheckpointFault::TooFewLines)
     );
-    assert_eq!(rt;
-        CheckpointFault::TooFewLines.to_string(rt.alloc())?.as_str(),
-        "TooFewLines"
-    );
     Ok(())
 }
 
@@ -145,11 +141,64 @@ fn made_by_hand(rt: HostRuntime) -> Result<(), Fail> {
 }
 
 #[test]
-fn laws() {
-    one_reading_law();
-    one_text_law();
-    writable_law();
-    one_answer_law();
-    each_answered_law();
-    written_law();
+fn read_is_what_was_written(rt: HostRuntime) -> Result<(), Fail> {
+    let alloc = rt.alloc();
+    let text = "ex\n3\nrra8/idLcKFPsGel5VeCZNsPqbUa9eC6FZFY8yngbnc=\none\n";
+    let checkpoint = read(alloc, text)?;
+    for (other, same) in [
+        (text, true),
+        (
+            "ey\n3\nrra8/idLcKFPsGel5VeCZNsPqbUa9eC6FZFY8yngbnc=\none\n",
+            false,
+        ),
+        (
+            "ex\n4\nrra8/idLcKFPsGel5VeCZNsPqbUa9eC6FZFY8yngbnc=\none\n",
+            false,
+        ),
+        (
+            "ex\n3\nbjQLnP+zepicpUTmu3gKLHiQHT+zNzh2hRGjBhevoB0=\none\n",
+            false,
+        ),
+        (
+            "ex\n3\nrra8/idLcKFPsGel5VeCZNsPqbUa9eC6FZFY8yngbnc=\n",
+            false,
+        ),
+    ] {
+        assert_eq!(rt; read(alloc, other)? == checkpoint, same, "at {other}");
+    }
+    Ok(())
+}
+
+// A checkpoint of many long lines is no want of memory.
+#[test]
+fn large_checkpoint(rt: HostRuntime) -> Result<(), Fail> {
+    let alloc = rt.alloc();
+    let mut text = String::new(alloc);
+    for _ in 0..6000 {
+        text.push('o')?;
+    }
+    text.push_str("\n9223372036854775807\nrra8/idLcKFPsGel5VeCZNsPqbUa9eC6FZFY8yngbnc=\n")?;
+    for _ in 0..3000 {
+        text.push_str("an extension line\n")?;
+    }
+    let checkpoint = read(alloc, &text)?;
+    assert_eq!(rt; checkpoint.origin.as_str().len(), 6000);
+    assert_eq!(rt; checkpoint.extensions.as_slice().len(), 3000);
+    assert!(rt; write(alloc, &checkpoint)?.as_str() == text.as_str());
+    Ok(())
+}
+
+#[test]
+fn faults_print_their_names(rt: HostRuntime) -> Result<(), Fail> {
+    for (fault, name) in [
+        (CheckpointFault::TooFewLines, "TooFewLines"),
+        (CheckpointFault::EmptyLine, "EmptyLine"),
+        (CheckpointFault::BadSize, "BadSize"),
+        (CheckpointFault::SizeTooLarge, "SizeTooLarge"),
+        (CheckpointFault::BadRoot, "BadRoot"),
+        (CheckpointFault::OutOfMemory, "OutOfMemory"),
+    ] {
+        assert_eq!(rt; fault.to_string(rt.alloc())?.as_str(), name);
+    }
+    Ok(())
 }

@@ -1,6 +1,10 @@
 //! Texts that contracts see as their bytes, wherever they lie in memory.
 
-ghost use Rattle.std.specs.Prelude.{◌≡◌, map, string_bytes};
+ghost use Rattle.std.specs.Prelude.{◌≡◌, ◌↔◌, IsTrue, map, string_bytes};
+ghost use Rattle.std.specs.Cmp.Rules.{comparing};
+ghost use Rattle.std.specs.Cmp.Lexicographic.{pointwise};
+ghost use Rattle.std.specs.Str.{bytes_eq};
+ghost use Rattle.std.proofs.Common.{rules};
 
 use std::marker::Model;
 
@@ -42,6 +46,23 @@ impl Line {
     }
 }
 
+impl PartialEq for Line {
+    ghost eq = { bytes_eq };
+
+    ghost laws = { Prim.search (comparing, rules) };
+
+    fn eq(&self, other: &Line) -> bool
+        ensures bytes { result ≡ bytes_eq self.now other.now }
+        ensures same { IsTrue result ↔ (self.now ≡ other.now) }
+    {
+        self.text == other.text
+    }
+}
+
+impl Eq for Line {
+    ghost laws = { Prim.search (comparing, rules) };
+}
+
 /// Lines in order, each without its newline. Contracts see the list of their bytes.
 #[derive(Debug, Drop)]
 pub struct Lines {
@@ -78,4 +99,21 @@ impl Lines {
         let Lines { lines } = self;
         lines
     }
+}
+
+impl PartialEq for Lines {
+    ghost eq = { pointwise bytes_eq };
+
+    ghost laws = { Prim.search (comparing, rules) };
+
+    fn eq(&self, other: &Lines) -> bool
+        ensures bytes { result ≡ pointwise bytes_eq self.now other.now }
+        ensures same { IsTrue result ↔ (self.now ≡ other.now) }
+    {
+        self.lines == other.lines
+    }
+}
+
+impl Eq for Lines {
+    ghost laws = { Prim.search (comparing, rules) };
 }

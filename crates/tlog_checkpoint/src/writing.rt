@@ -2,17 +2,39 @@
 
 ghost use Rattle.std.specs.Prelude.{◌≡◌, ◌++◌, IfOk, OnOk, map, string_bytes};
 ghost use Rattle.tlog_checkpoint.specs.Lines.{ended, text_of};
+ghost use Rattle.std.specs.Fmt.{decimal};
+ghost use Rattle.tlog_text.specs.Number.{IsDecimal};
+ghost use Rattle.tlog_text.specs.Hash.{base64_of, IsHashText};
 ghost use Rattle.tlog_checkpoint.specs.Grammar.{IsCheckpoint, IsWritable};
 
 use crate::Checkpoint;
-use crate::fields::{root_line, size_line};
 use std::alloc::{AllocError, Global};
+use tlog_hash::Hash;
+use tlog_text::{push_hash, push_number};
 
 /// Adds the line and its newline.
 fn add_line(text: &mut String, line: &str) -> Result<(), AllocError>
     ensures { OnOk result (string_bytes text.new ≡ string_bytes text.old ++ ended line.now) }
 {
     text.push_str(line)?;
+    text.push('\n')
+}
+
+/// Adds the line of the size.
+fn add_size(text: &mut String, size: u64) -> Result<(), AllocError>
+    ensures ok { OnOk result (string_bytes text.new ≡ string_bytes text.old ++ ended (decimal size)) }
+    ensures spelled { OnOk result (IsDecimal (decimal size) size) }
+{
+    push_number(text, size)?;
+    text.push('\n')
+}
+
+/// Adds the line of the root.
+fn add_root(text: &mut String, root: &Hash) -> Result<(), AllocError>
+    ensures ok { OnOk result (string_bytes text.new ≡ string_bytes text.old ++ ended (base64_of root.now)) }
+    ensures spelled { OnOk result (IsHashText (base64_of root.now) root.now) }
+{
+    push_hash(text, root)?;
     text.push('\n')
 }
 
@@ -34,12 +56,10 @@ pub fn write(alloc: Global, checkpoint: &Checkpoint) -> Result<String, AllocErro
     requires { IsWritable checkpoint.now }
     ensures { IfOk result (λ text. IsCheckpoint (string_bytes text) checkpoint.now.origin checkpoint.now.size checkpoint.now.root checkpoint.now.extensions) }
 {
-    let size = size_line(alloc, checkpoint.size)?;
-    let root = root_line(alloc, &checkpoint.root)?;
     let mut text = String::new(alloc);
     add_line(&mut text, checkpoint.origin.as_str())?;
-    add_line(&mut text, size.as_str())?;
-    add_line(&mut text, root.as_str())?;
+    add_size(&mut text, checkpoint.size)?;
+    add_root(&mut text, &checkpoint.root)?;
     add_lines(&mut text, checkpoint.extensions.as_slice())?;
     Ok(text)
 }

@@ -1,2 +1,4 @@
 pub mod Decimals
 pub mod Hashes
+pub mod Decided
+pub mod Newlines
