@@ -11,7 +11,7 @@ use Rattle.tlog_tiles.specs.declared.paths.Path.TheVariants.{Checkpoint, Tile, E
 use Rattle.tlog_tiles.specs.Row.{row_text}
 use Rattle.node_store.specs.Strings.{Has}
 use Rattle.mirror_model.specs.Item.{notes_of, strings_of}
-use Rattle.mirror_model.specs.ViewLaws.{IsHash}
+use Rattle.mirror_model.specs.Strings.{IsDigest}
 use Rattle.mirror_model.proofs.StringSets.{has_left, has_right, has_cases, listed_from_has, has_from_listed}
 use Rattle.mirror_model.proofs.NodeBlocks.{node_inside}
 use Rattle.mirror_model.proofs.RowLaws.{to_block, bundle, full_tile}
@@ -31,7 +31,7 @@ take_past (x ∷ xs) ys k m e =
     let same : k ≡ suc (length xs + m) = omega arith in
     ap (λ n. take n (x ∷ (xs ++ ys))) same ∙ ap (λ (l : List ℕ). x ∷ l) (take_past xs ys (length xs + m) m refl)
 
-begins : (digest : List ℕ → List ℕ) → IsHash digest → (b first w n : ℕ) (es : List (List ℕ)) → w ≤ n → take (32 * w) (row_text (map (mth digest) (ranges b first n es))) ≡ row_text (map (mth digest) (ranges b first w es))
+begins : (digest : List ℕ → List ℕ) → IsDigest digest → (b first w n : ℕ) (es : List (List ℕ)) → w ≤ n → take (32 * w) (row_text (map (mth digest) (ranges b first n es))) ≡ row_text (map (mth digest) (ranges b first w es))
 begins digest hash b first zero n es le = refl
 begins digest hash b first (suc w) zero es le = absurd (omega arith)
 begins digest hash b first (suc w) (suc n) es le =

@@ -6,7 +6,7 @@ use Rattle.tlog_checkpoint.specs.Grammar.{IsCheckpoint}
 use Rattle.tlog_checkpoint.proofs.Uniqueness.{one_reading}
 use Rattle.mirror_model.specs.Heads.{IsHead}
 use Rattle.mirror_model.specs.Item.{HasEdgeRows}
-use Rattle.mirror_model.specs.ViewLaws.{HeadsHaveEdges}
+use Rattle.mirror_model.specs.LawfulLaws.{HeadsHaveEdges}
 
 -- the same origin, size and root
 pub record IsSameHead (origin origin' : List ℕ) (size size' : ℕ) (root root' : List ℕ) : Type 0 where
@@ -27,7 +27,7 @@ heads_have_edges digest v lawful size root head =
     let e = lawful.edges head.note head.holds.is_held in
     let same = head_once head.note v.origin v.origin e.size size e.root root e.is_head head.holds.is_head in
     record {
-      rows = e.rows;
-      has_edge = subst (λ n. HasEdgeRows digest n root e.rows) same.size_is (subst (λ r. HasEdgeRows digest e.size r e.rows) same.root_is e.has_edge);
-      are_held = e.are_held;
+      rows = e.edge.rows;
+      has_edge = subst (λ n. HasEdgeRows digest n root e.edge.rows) same.size_is (subst (λ r. HasEdgeRows digest e.size r e.edge.rows) same.root_is e.edge.has_edge);
+      are_held = e.edge.are_held;
     }

@@ -9,7 +9,7 @@ use Rattle.tlog_hash.proofs.Folds.{all_ranges, length-ranges, joined_ranges}
 use Rattle.tlog_tiles.specs.Bundle.{entry_text}
 use Rattle.tlog_tiles.proofs.RowLemmas.{row_one, length-row_text}
 use Rattle.mirror_model.specs.Item.{row_of, entries_of}
-use Rattle.mirror_model.specs.ViewLaws.{RowIsRow, RowIsOne, BundleIsOne}
+use Rattle.mirror_model.specs.ItemLaws.{RowOfIsRow, RowIsRowOf, BundleIsEntriesOf}
 
 -- ---- bytes
 
@@ -24,11 +24,11 @@ entries_at (e ∷ es) after short =
     ∙ (λ i. take_at e rest (length e) refl i ∷ entries_of (length es) (drop_at e rest (length e) refl i))
     ∙ ap (λ xs. e ∷ xs) (entries_at es after short.1)
 
-pub bundle_is_one : BundleIsOne
+pub bundle_is_one : BundleIsEntriesOf
 bundle_is_one width bytes es b =
     sym (ap (λ w. entries_of w bytes) (sym b.count) ∙ ap (entries_of (length es)) (b.text ∙ sym (append-nil (flat_map entry_text es))) ∙ entries_at es [] (recursion_from_All (λ e. length e < 2 ^ 16) es b.fits))
 
-pub row_is_row : RowIsRow
+pub row_is_row : RowOfIsRow
 row_is_row width bytes len =
     let count : length bytes / 32 ≡ width = ap (λ n. n / 32) len ∙ omega arith in
     record {
@@ -37,7 +37,7 @@ row_is_row width bytes len =
       text = sym (joined_ranges 32 0 (length bytes / 32) bytes ∙ take_all (length bytes / 32 * 32) bytes (omega (arith, count)));
     }
 
-pub row_is_one : RowIsOne
+pub row_is_one : RowIsRowOf
 row_is_one width bytes row r =
     let len : length bytes ≡ 32 * width = ap length r.text ∙ length-row_text row r.sizes ∙ ap (λ n. 32 * n) r.count in
     let s = row_is_row width bytes len in

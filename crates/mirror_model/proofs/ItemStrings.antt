@@ -17,7 +17,8 @@ use Rattle.mirror_model.specs.declared.items.Item.{Item}
 use Rattle.mirror_model.specs.declared.items.Item.TheVariants.{Head, Tile, Bundle}
 use Rattle.mirror_model.specs.Item.{row_of, entries_of, IsGood, strings_of, notes_of, plus}
 use Rattle.mirror_model.specs.Complete.{HasEdge}
-use Rattle.mirror_model.specs.ViewLaws.{IsHash, PlusIsLawful}
+use Rattle.mirror_model.specs.Strings.{IsDigest}
+use Rattle.mirror_model.specs.LawfulLaws.{PlusIsLawful}
 use Rattle.mirror_model.proofs.StringSets.{has_right, has_cases, listed_from_has, has_from_listed, held_from_all}
 use Rattle.mirror_model.proofs.Views.{within_plus, edge_stays}
 use Rattle.mirror_model.proofs.ItemBytes.{row_is_row, bundle_is_one}
@@ -41,7 +42,7 @@ IsItemString string = IsShortLeaf string ⊎ IsPair string
 abbrev pub AreHashes : List (List ℕ) → Type 0
 AreHashes row = AllByRecursion (λ h. length h ≡ 32) row
 
-module _ (digest : List ℕ → List ℕ) (hash : IsHash digest) where
+module _ (digest : List ℕ → List ℕ) (hash : IsDigest digest) where
   -- the items of a tree are hashes
   abbrev Leaves : Tree (List ℕ) → Type 0
   Leaves Empty = Unit {0}
@@ -139,10 +140,8 @@ module _ (digest : List ℕ → List ℕ) (hash : IsHash digest) where
       record {
         size = good.size;
         root = good.root;
-        rows = rows;
         is_head = subst (λ n. IsHead n v.origin good.size good.root) (sym is) (record { text = h.text; lines = h.lines; extensions = h.extensions; is_note = h.is_note; is_checkpoint = h.is_checkpoint });
-        has_edge = good.has_edge;
-        are_held = held;
+        edge = record { rows = rows; has_edge = good.has_edge; are_held = held };
       }
   note_edge keys v (Tile width bytes) good note c = absurd (All-contains (λ n. ⊥) [] note (All-nil (λ n. ⊥)) c)
   note_edge keys v (Bundle width bytes) good note c = absurd (All-contains (λ n. ⊥) [] note (All-nil (λ n. ⊥)) c)

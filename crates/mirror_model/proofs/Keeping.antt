@@ -6,7 +6,7 @@ use Rattle.std.specs.FinSet as set
 use Rattle.std.proofs.lemmas.List.Elements.{All-contains, All-nil, All-from_recursion}
 use Rattle.node_store.specs.Strings.{Has, NoClash}
 use Rattle.signed_note.specs.Keys.{Key}
-use Rattle.mirror_model.specs.View.{View, union, IsWithin}
+use Rattle.mirror_model.specs.View.{View, union, IsSubview}
 use Rattle.mirror_model.specs.declared.items.Item.{Item}
 use Rattle.mirror_model.specs.declared.items.Item.TheVariants.{Head, Tile, Bundle}
 use Rattle.mirror_model.specs.Item.{IsGood, notes_of, plus}
@@ -15,8 +15,9 @@ use Rattle.mirror_model.specs.Complete.{IsLawful, HasEdge}
 use Rattle.mirror_model.specs.declared.events.Event.{Event}
 use Rattle.mirror_model.specs.declared.events.Event.TheVariants.{Take, Merge}
 use Rattle.mirror_model.specs.Steps.{Answer, Done, Refused, Clashed, Exhausted, IsBetween, Answers, Happens}
-use Rattle.mirror_model.specs.ViewLaws.{IsHash}
-use Rattle.mirror_model.specs.PlayLaws.{NoteIsLast, BetweenIsLawful, AreLawful, RunIsLawful, RunGrows}
+use Rattle.mirror_model.specs.Strings.{IsDigest}
+use Rattle.mirror_model.specs.EventLaws.{NoteIsLast, BetweenIsLawful}
+use Rattle.mirror_model.specs.RunLaws.{AreLawful, RunIsLawful, RunGrows}
 use Rattle.mirror_model.proofs.StringSets.{has_cases, listed_from_has, held_more, no_clash_within}
 use Rattle.mirror_model.proofs.Views.{within_itself, within_trans, edge_stays, same_is_one, union_is_lawful}
 use Rattle.mirror_model.proofs.ItemStrings.{plus_is_lawful}
@@ -68,7 +69,12 @@ between_is_lawful digest old full new p q b = record {
 }
   where
     from_full : (note : List ℕ) → HasEdge digest full note → ((s : List ℕ) → Has full.strings s → Has new.strings s) → HasEdge digest new note
-    from_full note e all = record { size = e.size; root = e.root; rows = e.rows; is_head = subst (λ o. IsHead note o e.size e.root) (sym b.within.origin_is) e.is_head; has_edge = e.has_edge; are_held = held_more full.strings new.strings _ all e.are_held }
+    from_full note e all = record {
+      size = e.size;
+      root = e.root;
+      is_head = subst (λ o. IsHead note o e.size e.root) (sym b.within.origin_is) e.is_head;
+      edge = record { rows = e.edge.rows; has_edge = e.edge.has_edge; are_held = held_more full.strings new.strings _ all e.edge.are_held };
+    }
 
 answer_lawful : (digest : List ℕ → List ℕ) (Allowed : Type 0) (full old : View) → IsLawful digest old → (Allowed → NoClash digest full.strings → IsLawful digest full) → (a : Answer) (new : View) → Answers digest Allowed full old a new → IsLawful digest new
 answer_lawful digest Allowed full old p whole Done new h = subst (IsLawful digest) (sym h.2) (whole h.0 h.1)
@@ -77,7 +83,7 @@ answer_lawful digest Allowed full old p whole Clashed new h = subst (IsLawful di
 answer_lawful digest Allowed full old p whole Exhausted new (inl same) = subst (IsLawful digest) (sym same) p
 answer_lawful digest Allowed full old p whole Exhausted new (inr h) = between_is_lawful digest old full new p (whole h.0 h.1) h.2
 
-event_lawful : (digest : List ℕ → List ℕ) → IsHash digest → (keys : List Key) (old new : List View) (e : Event) (a : Answer) → AreLawful digest old → Happens digest keys old e a new → AreLawful digest new
+event_lawful : (digest : List ℕ → List ℕ) → IsDigest digest → (keys : List Key) (old new : List View) (e : Event) (a : Answer) → AreLawful digest old → Happens digest keys old e a new → AreLawful digest new
 event_lawful digest hash keys old new (Take target item) a all h number v found =
     elim (set_back digest keys old new target h.after h.set h.before h.found number v found) [
       | inl same ↦ all number v same
@@ -103,7 +109,7 @@ run_is_lawful digest hash keys old new (e ∷ es) [] all run = absurd run
 pub run_grows : RunGrows
 run_grows digest keys old new [] [] run number v w found found' =
     let same : v ≡ w = one_of_list old number v w found (ap (λ xs. slice_get xs number) (sym run) ∙ found') in
-    subst (IsWithin v) same (within_itself v)
+    subst (IsSubview v) same (within_itself v)
 run_grows digest keys old new (e ∷ es) (a ∷ answers) run number v w found found' =
     let g = event_grows digest keys old run.0 e a run.1 number v found in
     within_trans v g.after w g.grows (run_grows digest keys run.0 new es answers run.2 number g.after w g.is found')

@@ -15,7 +15,6 @@ pub mod Steps
 pub mod Playing
 pub mod HeadNotes
 pub mod Missing
-pub mod Folding
 pub mod Remembering
 pub mod Examples
 pub mod ViewExamples

@@ -20,7 +20,7 @@ use Rattle.tlog_tiles.specs.declared.paths.Path.{Path}
 use Rattle.mirror_model.specs.Rounds.{HoldsAll}
 use Rattle.mirror_model.specs.Walk.{WalkFails, IsPairHeld, IsMissing, NoClashWith}
 use Rattle.mirror_model.specs.Complete.{IsBuilt, IsComplete}
-use Rattle.mirror_model.specs.ViewLaws.{MissingIsNone}
+use Rattle.mirror_model.specs.CompleteLaws.{MissingIsNone}
 use Rattle.mirror_model.proofs.StringSets.{decide, in_items, has_item, all_from_held, held_from_all, holds_from_held}
 use Rattle.mirror_model.proofs.Fronts.{front_empty, path_of}
 use Rattle.mirror_model.proofs.TreeLaws.{missing_is_front}
@@ -235,6 +235,6 @@ missing_is_none digest hash v lawful size root head = (
     whole zero z none =
         let e = lawful.edges head.note head.holds.is_held in
         let same = head_once head.note v.origin v.origin size e.size root e.root head.holds.is_head e.is_head in
-        let is : digest [] ≡ root = none_root digest e.size e.root e.rows (sym same.size_is ∙ z) e.has_edge ∙ sym same.root_is in
+        let is : digest [] ≡ root = none_root digest e.size e.root e.edge.rows (sym same.size_is ∙ z) e.edge.has_edge ∙ sym same.root_is in
         complete (subst (λ n. IsBuilt digest v.strings n root) (sym z) (built-none digest v.strings root is))
     whole (suc n) s none = complete (walk_builds digest v.strings size root (omega arith) (none_fails digest v.strings size root small none))

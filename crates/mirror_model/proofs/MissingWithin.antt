@@ -16,7 +16,7 @@ use Rattle.mirror_model.specs.Item.{row_of, HasEdgeRows}
 use Rattle.mirror_model.specs.Walk.{WalkFails, IsMissing}
 use Rattle.mirror_model.specs.TreeLaws.{IsOfSize}
 use Rattle.mirror_model.specs.TrueLaws.{IsWidest}
-use Rattle.mirror_model.specs.ViewLaws.{IsHash}
+use Rattle.mirror_model.specs.Strings.{IsDigest}
 use Rattle.mirror_model.specs.FetchLaws.{MissingIsWithin}
 use Rattle.mirror_model.proofs.StringSets.{holds_from_held}
 use Rattle.mirror_model.proofs.HeadNotes.{heads_have_edges}
@@ -25,7 +25,7 @@ use Rattle.mirror_model.proofs.RowLaws.{from_products}
 use Rattle.mirror_model.proofs.TrueItems.{tile_end}
 use Rattle.mirror_model.proofs.EdgeWalks.{rows_fit, edge_below, IsBelowHash}
 
-module _ (digest : List ℕ → List ℕ) (hash : IsHash digest) (held : Strings) (clean : NoClash digest held) (size : ℕ) (small : size < 256 ^ 8) where
+module _ (digest : List ℕ → List ℕ) (hash : IsDigest digest) (held : Strings) (clean : NoClash digest held) (size : ℕ) (small : size < 256 ^ 8) where
   -- a node where the walk from the root fails stands below a hash of the edge's rows
   below_hash : (root : List ℕ) (rows : List (List ℕ)) → HasEdgeRows digest size root rows → HasAll held (edge_strings digest (map row_of rows)) → (at many : ℕ) → WalkFails digest held (shape size) 0 root at many → IsBelowHash digest hash held clean (replicate size 0) at many
   unfolding shape

@@ -16,7 +16,7 @@ use Rattle.node_store.specs.Strings.{Strings, Has, HasAll, NoClash}
 use Rattle.mirror_model.specs.Edge.{edge_widths, edge_rows, edge_root, root_from, edge_strings, strings_from}
 use Rattle.mirror_model.specs.Item.{row_of, HasEdgeRows}
 use Rattle.mirror_model.specs.TrueLaws.{edge_bytes}
-use Rattle.mirror_model.specs.ViewLaws.{IsHash}
+use Rattle.mirror_model.specs.Strings.{IsDigest}
 use Rattle.mirror_model.specs.EdgeLaws.{EdgeIsOne, LawfulEdgeIsTrue}
 use Rattle.mirror_model.proofs.StringSets.{holds_from_held, held_from_holds}
 use Rattle.mirror_model.proofs.ItemBytes.{row_is_row}
@@ -50,7 +50,7 @@ written (width ∷ widths) (row ∷ rows) e =
     let r = row_is_row width row (ap (λ ls. get_or ls 0 0) e) in
     λ i. r.text i ∷ written widths rows (ap (drop 1) e) i
 
-module _ (digest : List ℕ → List ℕ) (hash : IsHash digest) (held : Strings) (clean : NoClash digest held) where
+module _ (digest : List ℕ → List ℕ) (hash : IsDigest digest) (held : Strings) (clean : NoClash digest held) where
   abbrev JoinsHeld : List (List ℕ) → Type 0
   JoinsHeld row = (y : List ℕ) → IsJoin digest (tree_of row) y → Has held y
 

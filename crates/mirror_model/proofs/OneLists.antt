@@ -21,7 +21,10 @@ use Rattle.tlog_tiles.specs.Tiles.{tile_bytes, bundle_bytes}
 use Rattle.mirror_model.specs.View.{View}
 use Rattle.tlog_hash.specs.Rows.{part}
 use Rattle.mirror_model.specs.Heads.{IsHead}
-use Rattle.mirror_model.specs.ViewLaws.{ServesTruth, RangesHashOnce, IsHash, RepliesOnce, OneList, ListHasRoot, CompleteIsSame, ForksTell, ServesOne}
+use Rattle.mirror_model.specs.ReplyLaws.{ServedRootIsTreeHash, RangeHashIsOne, ReplyIsOne, ServedIsOne}
+use Rattle.mirror_model.specs.Strings.{IsDigest}
+use Rattle.mirror_model.specs.CompleteLaws.{CompleteListIsOne, CompleteListHasRoot, CompleteKeepsItsList}
+use Rattle.mirror_model.specs.ForkLaws.{ForkMeansNoPrefix}
 use Rattle.mirror_model.proofs.StringSets.{all_from_held}
 use Rattle.mirror_model.proofs.Views.{complete_stays}
 use Rattle.std.proofs.lemmas.List.{append-nil, nil_from_length}
@@ -80,13 +83,13 @@ module _ (digest : List ℕ → List ℕ) (held : Strings) (size : (s : List ℕ
   only n root xs ys p q =
       induction IsOnly only_none only_one only_join xs ys (q.size_is ∙ sym p.size_is) (q.root_is ∙ sym p.root_is) (all_from_held held _ p.are_held) (all_from_held held _ q.are_held)
 
-pub one_list : OneList
+pub one_list : CompleteListIsOne
 one_list digest hash v lawful size root first second p q = only digest v.strings hash lawful.no_clash size root first second p.tree q.tree
 
-pub list_has_root : ListHasRoot
+pub list_has_root : CompleteListHasRoot
 list_has_root digest v size root entries c = (c.tree.size_is, c.tree.root_is)
 
-pub complete_is_same : CompleteIsSame
+pub complete_is_same : CompleteKeepsItsList
 complete_is_same digest hash v w a clean size root before after p q = only digest w.strings hash clean size root before after (complete_stays digest v w a size root before p).tree q.tree
 
 -- of two lists of one length that begin alike both are the same
@@ -95,7 +98,7 @@ prefix_same xs ys len p =
     let none : length p.rest ≡ 0 = omega (arith, length-append xs p.rest, ap length p.is) in
     sym (append-nil xs) ∙ ap (λ zs. xs ++ zs) (sym (nil_from_length p.rest none)) ∙ p.is
 
-pub forks_tell : ForksTell
+pub forks_tell : ForkMeansNoPrefix
 forks_tell digest hash v lawful a b first second differ p q = (
   λ f. elim f.conflict [
     | inl same ↦
@@ -128,7 +131,7 @@ at_most_both x y a b = slice_cmp-IsAntisymmetric nat_cmp-IsAntisymmetric x y (ti
     tie Less p e a b = absurd (let no_le : false ≡ true = ap is_le (sym e) ∙ a in cc no_le)
     tie Greater p e a b = absurd (let no_le : false ≡ true = b in cc no_le)
 
-pub serves_one : ServesOne
+pub serves_one : ServedIsOne
 serves_one digest hash v lawful note other size n root r first second p q =
     let is_p : IsCompleteNote digest v note size root = record { holds = p.holds; built = record { entries = first; is = p.tree } } in
     let is_q : IsCompleteNote digest v other n r = record { holds = q.holds; built = record { entries = second; is = q.tree } } in
@@ -148,18 +151,18 @@ serves_one digest hash v lawful note other size n root r first second p q =
     }
 
 -- one list is served at most
-pub one_served : (digest : List ℕ → List ℕ) → IsHash digest → (v : View) → IsLawful digest v → (first second : List (List ℕ)) → IsServedList digest v first → IsServedList digest v second → first ≡ second
+pub one_served : (digest : List ℕ → List ℕ) → IsDigest digest → (v : View) → IsLawful digest v → (first second : List (List ℕ)) → IsServedList digest v first → IsServedList digest v second → first ≡ second
 one_served digest hash v lawful first second p q = (serves_one digest hash v lawful p.note q.note p.size q.size p.root q.root first second p.served q.served).entries_are
 
-pub replies_once : RepliesOnce
+pub replies_once : ReplyIsOne
 replies_once digest hash v lawful Checkpoint first second p q = (serves_one digest hash v lawful first second p.size q.size p.root q.root p.entries q.entries p.served q.served).note_is
 replies_once digest hash v lawful (Tile level index width) first second p q = p.bytes_are ∙ ap (λ es. tile_bytes digest es level index width) (one_served digest hash v lawful p.entries q.entries p.served q.served) ∙ sym q.bytes_are
 replies_once digest hash v lawful (Entries index width) first second p q = p.bytes_are ∙ ap (λ es. bundle_bytes es index width) (one_served digest hash v lawful p.entries q.entries p.served q.served) ∙ sym q.bytes_are
 
-pub ranges_hash_once : RangesHashOnce
+pub ranges_hash_once : RangeHashIsOne
 ranges_hash_once digest hash v lawful start len first second p q = p.hash_is ∙ ap (λ es. mth digest (part start len es)) (one_served digest hash v lawful p.entries q.entries p.served q.served) ∙ sym q.hash_is
 
-pub serves_truth : ServesTruth
+pub serves_truth : ServedRootIsTreeHash
 serves_truth digest v note size root entries p = record {
   is_held = p.holds.is_held;
   is_head = subst (λ n. IsHead note v.origin n (mth digest entries)) (sym p.tree.size_is) (subst (IsHead note v.origin size) (sym p.tree.root_is) p.holds.is_head);

@@ -6,7 +6,7 @@ use Rattle.std.specs.FinSet as set
 use Rattle.std.proofs.lemmas.List.Elements.{All-from_recursion, All-contains}
 use Rattle.node_store.specs.Strings.{Strings, Has}
 use Rattle.signed_note.specs.Keys.{Key}
-use Rattle.mirror_model.specs.View.{View, union, IsWithin}
+use Rattle.mirror_model.specs.View.{View, union, IsSubview}
 use Rattle.mirror_model.specs.Strings.{HasClash}
 use Rattle.mirror_model.specs.declared.items.Item.{Item}
 use Rattle.mirror_model.specs.Item.{IsGood, strings_of, notes_of, plus}
@@ -14,8 +14,9 @@ use Rattle.mirror_model.specs.declared.events.Event.{Event}
 use Rattle.mirror_model.specs.declared.events.Event.TheVariants.{Take, Merge}
 use Rattle.mirror_model.specs.Events.{Reaches, OpeningReaches}
 use Rattle.mirror_model.specs.Steps.{Answer, Done, Refused, Clashed, Exhausted, Answers, Happens, TakesAt, MergesAt, Run}
-use Rattle.mirror_model.specs.Reached.{OpensWith, TakesIn, HasReached, HasReachedOnly, events_of, is_done, may_change, is_answered, IsNext, AreRetried}
-use Rattle.mirror_model.specs.PlayLaws.{AreOf, RunIsBounded, IsReached, RunIsReached, IsMet, NoneClashes, SameReachedSameView, MirrorsAgree, ForMirrors, ReachesToo}
+use Rattle.mirror_model.specs.Reached.{OpensWith, TakesIn, HasReached, HasReachedOnly, events_of, is_done, may_change, IsNext, AreRetried}
+use Rattle.mirror_model.specs.RunLaws.{AreOf, RunIsBounded, IsReached, RunIsReached, IsMet, NoneClashes, ForMirrors}
+use Rattle.mirror_model.specs.Headline.{SameReachedSameView, MirrorsAgree, ReachesToo}
 use Rattle.mirror_model.proofs.StringSets.{has_right, has_cases, listed_from_has, has_from_listed}
 use Rattle.mirror_model.proofs.Views.{within_itself, within_union, within_plus, same_is_one}
 use Rattle.mirror_model.proofs.Steps.{get_set_same, get_set_other, one_of_list, same_number, answer_grows, answer_within, answer_changes}
@@ -28,14 +29,14 @@ module _ (digest : List ℕ → List ℕ) (keys : List Key) where
   pub record Grew (new : List View) (number : ℕ) (v : View) : Type 0 where
     pub after : View
     pub is : slice_get new number ≡ Some after
-    pub grows : IsWithin v after
+    pub grows : IsSubview v after
 
-  set_grows : (old new : List View) (target : ℕ) (before after : View) → slice_get old target ≡ Some before → new ≡ slice_set old target after → IsWithin before after → (number : ℕ) (v : View) → slice_get old number ≡ Some v → Grew new number v
+  set_grows : (old new : List View) (target : ℕ) (before after : View) → slice_get old target ≡ Some before → new ≡ slice_set old target after → IsSubview before after → (number : ℕ) (v : View) → slice_get old number ≡ Some v → Grew new number v
   set_grows old new target before after found is grows number v here =
       elim (same_number number target) [
         | inl e ↦
             let same : v ≡ before = one_of_list old number v before here (subst (λ n. slice_get old n ≡ Some before) (sym e) found) in
-            record { after = after; is = ap (λ xs. slice_get xs number) is ∙ subst (λ n. slice_get (slice_set old target after) n ≡ Some after) (sym e) (get_set_same old target before after found); grows = subst (λ w. IsWithin w after) (sym same) grows }
+            record { after = after; is = ap (λ xs. slice_get xs number) is ∙ subst (λ n. slice_get (slice_set old target after) n ≡ Some after) (sym e) (get_set_same old target before after found); grows = subst (λ w. IsSubview w after) (sym same) grows }
         | inr ne ↦ record { after = v; is = ap (λ xs. slice_get xs number) is ∙ get_set_other old target number after ne ∙ here; grows = within_itself v }
       ]
 
@@ -70,7 +71,7 @@ module _ (digest : List ℕ → List ℕ) (keys : List Key) where
 record IsPart (digest : List ℕ → List ℕ) (part : View → Strings) (adds : Item → List (List ℕ)) : Type 0 where
   union_is : (v w : View) → part (union v w) ≡ set.union (part v) (part w)
   plus_is : (v : View) (item : Item) → part (plus digest v item) ≡ set.union (part v) (set.from_list (adds item))
-  within : (v w : View) → IsWithin v w → (q : List ℕ) → Has (part v) q → Has (part w) q
+  within : (v w : View) → IsSubview v w → (q : List ℕ) → Has (part v) q → Has (part w) q
 
 of_strings : (digest : List ℕ → List ℕ) → IsPart digest (λ v. v.strings) (strings_of digest)
 of_strings digest = record { union_is = λ v w. refl; plus_is = λ v item. refl; within = λ v w h. h.strings_are }
@@ -340,6 +341,13 @@ item_kept e es fs on more item mirror h =
       | inr b ↦ subst (λ f. Reaches item mirror (f ∷ fs)) (sym b.is) (item_by fs b.target item mirror (on b.target mirror b.on))
     ]
 
+-- memory was not refused
+abbrev is_answered : Answer → Bool
+is_answered Done = true
+is_answered Refused = true
+is_answered Clashed = true
+is_answered Exhausted = false
+
 -- what reaches a mirror does so over the events that were answered
 open_answered : (es : List Event) (as' : List Answer) → length es ≡ length as' → AreRetried es as' → (opened mirror : ℕ) → OpeningReaches opened mirror es → OpeningReaches opened mirror (events_of is_answered es as')
 open_answered [] as' len h opened mirror on = on
@@ -471,7 +479,7 @@ none_clashes digest origin keys opened final events answers r clean c =
 
 -- ---- two runs
 
-half : (digest : List ℕ → List ℕ) (origin : List ℕ) (keys : List Key) (opened opened' : List View) (events events' : List Event) (mirror mirror' : ℕ) (v w : View) → IsReached digest origin keys opened events mirror v → IsReached digest origin keys opened' events' mirror' w → ReachesToo digest origin keys opened opened' events events' mirror mirror' → IsWithin v w
+half : (digest : List ℕ → List ℕ) (origin : List ℕ) (keys : List Key) (opened opened' : List View) (events events' : List Event) (mirror mirror' : ℕ) (v w : View) → IsReached digest origin keys opened events mirror v → IsReached digest origin keys opened' events' mirror' w → ReachesToo digest origin keys opened opened' events events' mirror mirror' → IsSubview v w
 half digest origin keys opened opened' events events' mirror mirror' v w a b too = record {
   origin_is = a.origin_is ∙ sym b.origin_is;
   notes_are = λ q h. b.has.notes q (elim (a.only.notes q h) [

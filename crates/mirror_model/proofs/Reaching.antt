@@ -5,7 +5,7 @@ use Rattle.mirror_model.specs.declared.items.Item.{Item}
 use Rattle.mirror_model.specs.declared.events.Event.{Event}
 use Rattle.mirror_model.specs.declared.events.Event.TheVariants.{Take, Merge}
 use Rattle.mirror_model.specs.Events.{MergesLead, Reaches, OpeningReaches}
-use Rattle.mirror_model.specs.PlayLaws.{ReachesGoByLast, OpeningReachesGoByLast}
+use Rattle.mirror_model.specs.ReachLaws.{ReachesGoByLast, OpeningReachesGoByLast}
 
 -- ---- positions behind one event more
 

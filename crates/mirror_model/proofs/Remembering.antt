@@ -5,7 +5,7 @@ use Rattle.tlog_hash.specs.Tree.{Tree, Empty, One, Join, tree_of, size_of, mth}
 use Rattle.tlog_hash.specs.Nodes.{Node, IsNode, entries_root}
 use Rattle.tlog_hash.specs.Rows.{part}
 use Rattle.tlog_hash.proofs.NodeStrings.{size_of-tree}
-use Rattle.mirror_model.specs.ViewLaws.{WholeIsMark}
+use Rattle.mirror_model.specs.MarkLaws.{WholeListIsMark}
 
 -- the node at the top of a tree that is not empty
 pub record HasTop (digest : List ℕ → List ℕ) (t : Tree (List ℕ)) : Type 0 where
@@ -19,7 +19,7 @@ top_of digest Empty some = absurd (omega arith)
 top_of digest (One e) some = record { node = record { start = 0; len = 1; string = 0 ∷ e }; is = record { start_is = refl; len_is = refl; string_is = refl }; start_is = refl; len_is = refl }
 top_of digest (Join l r) some = record { node = record { start = 0; len = size_of l + size_of r; string = 1 ∷ entries_root digest l ++ entries_root digest r }; is = inl (record { start_is = refl; len_is = refl; string_is = refl }); start_is = refl; len_is = refl }
 
-pub whole_is_mark : WholeIsMark
+pub whole_is_mark : WholeListIsMark
 whole_is_mark digest v point entries some c =
     let size = size_of-tree entries in
     let top = top_of digest (tree_of entries) (omega (arith, size, c.tree.size_is)) in

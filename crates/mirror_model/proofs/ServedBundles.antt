@@ -15,7 +15,7 @@ use Rattle.mirror_model.specs.View.{View}
 use Rattle.mirror_model.specs.Complete.{IsLawful}
 use Rattle.mirror_model.specs.Served.{IsServedList, IsServedBundle}
 use Rattle.mirror_model.specs.TrueLaws.{AreShort}
-use Rattle.mirror_model.specs.ViewLaws.{IsHash}
+use Rattle.mirror_model.specs.Strings.{IsDigest}
 use Rattle.mirror_model.specs.ServedLaws.{IsWidestBundle, AreBundles, BundlesAreAll, BundlesAreServed}
 use Rattle.mirror_model.proofs.FullBundles.{strings_leaf}
 use Rattle.mirror_model.proofs.ItemBytes.{bundle_is_one}
@@ -27,7 +27,7 @@ tagged [] e (k, lt, is) = absurd (omega (arith, lt))
 tagged (x ∷ es) e (zero, lt, is) = (0, omega arith, ap (λ (y : List ℕ). 0 ∷ y) is)
 tagged (x ∷ es) e (suc k, lt, is) = let r = tagged es e (k, omega (arith, lt), is) in (suc r.0, omega (arith, r.1), r.2)
 
-module _ (digest : List ℕ → List ℕ) (hash : IsHash digest) (v : View) (lawful : IsLawful digest v) (entries : List (List ℕ)) (served : IsServedList digest v entries) where
+module _ (digest : List ℕ → List ℕ) (hash : IsDigest digest) (v : View) (lawful : IsLawful digest v) (entries : List (List ℕ)) (served : IsServedList digest v entries) where
   -- the entries served are short
   short : AreShort entries
   short = All-weaker (Contains entries) (λ e. length e < 2 ^ 16) each entries (All-contains_itself entries)

@@ -2,12 +2,12 @@
 use Rattle.std.proofs.Common.{zero, suc, ◌≡◌, ℕ, List, [], ◌∷◌, Some, None, sym, refl, ap, ◌∙◌, subst, ◌⊎◌, inl, inr, nat_eq, Bool, true, false}
 use Rattle.std.specs.Prelude.{◌≢◌, slice_get, slice_set}
 use Rattle.std.proofs.lemmas.Bool.{eqb-true, eqb-false}
-use Rattle.mirror_model.specs.View.{View, union, IsWithin}
+use Rattle.mirror_model.specs.View.{View, union, IsSubview}
 use Rattle.mirror_model.specs.Strings.{HasClash}
 use Rattle.mirror_model.specs.declared.items.Item.{Item}
 use Rattle.mirror_model.specs.Item.{IsGood, plus}
 use Rattle.mirror_model.specs.Steps.{Answer, Done, Refused, Clashed, Exhausted, Answers, IsBetween}
-use Rattle.mirror_model.specs.PlayLaws.{TakesOnce, MergesOnce, TakesAgain, MergesAgain}
+use Rattle.mirror_model.specs.EventLaws.{TakesOnce, MergesOnce, TakesAgain, MergesAgain}
 use Rattle.mirror_model.proofs.Views.{within_itself, within_trans, within_union, within_plus, same_is_one}
 use Rattle.mirror_model.proofs.StringSets.{has_left, has_right, has_cases, clash_contradicts}
 
@@ -38,17 +38,17 @@ same_number i j = at (nat_eq i j) refl
 
 -- ---- one answer
 
-module _ (digest : List ℕ → List ℕ) (Allowed : Type 0) (full old : View) (larger : IsWithin old full) where
-  pub answer_grows : (a : Answer) (new : View) → Answers digest Allowed full old a new → IsWithin old new
-  answer_grows Done new h = subst (IsWithin old) (sym h.2) larger
-  answer_grows Refused new h = subst (IsWithin old) (sym h.1) (within_itself old)
-  answer_grows Clashed new h = subst (IsWithin old) (sym h.2) (within_itself old)
-  answer_grows Exhausted new (inl e) = subst (IsWithin old) (sym e) (within_itself old)
+module _ (digest : List ℕ → List ℕ) (Allowed : Type 0) (full old : View) (larger : IsSubview old full) where
+  pub answer_grows : (a : Answer) (new : View) → Answers digest Allowed full old a new → IsSubview old new
+  answer_grows Done new h = subst (IsSubview old) (sym h.2) larger
+  answer_grows Refused new h = subst (IsSubview old) (sym h.1) (within_itself old)
+  answer_grows Clashed new h = subst (IsSubview old) (sym h.2) (within_itself old)
+  answer_grows Exhausted new (inl e) = subst (IsSubview old) (sym e) (within_itself old)
   answer_grows Exhausted new (inr h) = h.2.grows
 
   -- a view that an event changed is within the full one, and the event was allowed
-  pub answer_within : (a : Answer) (new : View) → Answers digest Allowed full old a new → (new ≡ old) ⊎ (Allowed × IsWithin new full)
-  answer_within Done new h = inr (h.0, subst (λ v. IsWithin v full) (sym h.2) (within_itself full))
+  pub answer_within : (a : Answer) (new : View) → Answers digest Allowed full old a new → (new ≡ old) ⊎ (Allowed × IsSubview new full)
+  answer_within Done new h = inr (h.0, subst (λ v. IsSubview v full) (sym h.2) (within_itself full))
   answer_within Refused new h = inl h.1
   answer_within Clashed new h = inl h.2
   answer_within Exhausted new (inl e) = inl e
@@ -59,7 +59,7 @@ module _ (digest : List ℕ → List ℕ) (Allowed : Type 0) (full old : View) (
   answer_changes a new h (inl e) = (subst (λ b. Answers digest Allowed full old b new) e h).1
   answer_changes a new h (inr e) = (subst (λ b. Answers digest Allowed full old b new) e h).2
 
-module _ (digest : List ℕ → List ℕ) (Allowed Allowed' : Type 0) (again : Allowed' → Allowed) (back : Allowed → Allowed') (full full' old between : View) (same : IsWithin old between → IsWithin between full → full' ≡ full) where
+module _ (digest : List ℕ → List ℕ) (Allowed Allowed' : Type 0) (again : Allowed' → Allowed) (back : Allowed → Allowed') (full full' old between : View) (same : IsSubview old between → IsSubview between full → full' ≡ full) where
   -- what is done again
   pub answers_again : (a : Answer) (new : View) → (between ≡ old → Answers digest Allowed' full' between a new → Answers digest Allowed full old a new) → Answers digest Allowed full old Exhausted between → Answers digest Allowed' full' between a new → Answers digest Allowed full old a new
   answers_again a new keep (inl e) h = keep e h
@@ -84,7 +84,7 @@ module _ (digest : List ℕ → List ℕ) (Allowed Allowed' : Type 0) (again : A
       )
 
 -- a view between V and V with an item gives the same with the item
-pub plus_again : (digest : List ℕ → List ℕ) (old between : View) (item : Item) → IsWithin old between → IsWithin between (plus digest old item) → plus digest between item ≡ plus digest old item
+pub plus_again : (digest : List ℕ → List ℕ) (old between : View) (item : Item) → IsSubview old between → IsSubview between (plus digest old item) → plus digest between item ≡ plus digest old item
 plus_again digest old between item grows within = same_is_one (plus digest between item) (plus digest old item)
     (record {
       origin_is = within.origin_is;
@@ -97,7 +97,7 @@ plus_again digest old between item grows within = same_is_one (plus digest betwe
       strings_are = λ q h. elim (has_cases old.strings _ q h) [ inl a ↦ has_left between.strings _ q (grows.strings_are q a) | inr b ↦ has_right between.strings _ q b ];
     })
 
-pub union_again : (old between other : View) → IsWithin old between → IsWithin between (union old other) → union between other ≡ union old other
+pub union_again : (old between other : View) → IsSubview old between → IsSubview between (union old other) → union between other ≡ union old other
 union_again old between other grows within = same_is_one (union between other) (union old other)
     (record {
       origin_is = within.origin_is;
@@ -110,7 +110,7 @@ union_again old between other grows within = same_is_one (union between other) (
       strings_are = λ q h. elim (has_cases old.strings other.strings q h) [ inl a ↦ has_left between.strings other.strings q (grows.strings_are q a) | inr b ↦ has_right between.strings other.strings q b ];
     })
 
-same_origin : (digest : List ℕ → List ℕ) (Allowed : Type 0) (full old between : View) → IsWithin old full → Answers digest Allowed full old Exhausted between → old.origin ≡ between.origin
+same_origin : (digest : List ℕ → List ℕ) (Allowed : Type 0) (full old between : View) → IsSubview old full → Answers digest Allowed full old Exhausted between → old.origin ≡ between.origin
 same_origin digest Allowed full old between larger h = (answer_grows digest Allowed full old larger Exhausted between h).origin_is
 
 pub takes_again : TakesAgain

@@ -8,7 +8,7 @@ use Rattle.mirror_model.specs.Strings.{held_in}
 use Rattle.mirror_model.specs.Rounds.{HoldsAll}
 use Rattle.mirror_model.specs.TreeLaws.{AreRounds, held_after}
 use Rattle.mirror_model.specs.TrueLaws.{AreShort, AreTakings, last_view, TakingCompletes}
-use Rattle.mirror_model.specs.ViewLaws.{IsHash}
+use Rattle.mirror_model.specs.Strings.{IsDigest}
 use Rattle.mirror_model.proofs.StringSets.{held_from_holds}
 use Rattle.mirror_model.proofs.ManyRounds.{rounds_complete}
 use Rattle.mirror_model.proofs.TrueItems.{taking_is_round}
@@ -16,7 +16,7 @@ use Rattle.mirror_model.proofs.TrueItems.{taking_is_round}
 abbrev held_by : View → List ℕ → Bool
 held_by v = held_in v.strings
 
-module _ (digest : List ℕ → List ℕ) (hash : IsHash digest) (entries : List (List ℕ)) (short : AreShort entries) where
+module _ (digest : List ℕ → List ℕ) (hash : IsDigest digest) (entries : List (List ℕ)) (short : AreShort entries) where
   are_rounds : (v : View) (more : List View) → AreTakings digest entries v more → AreRounds digest entries (held_by v) (map held_by more)
   are_rounds v [] t = tt
   are_rounds v (w ∷ more) t = (taking_is_round digest hash entries short v w t.0, are_rounds w more t.1)

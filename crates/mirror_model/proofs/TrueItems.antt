@@ -24,7 +24,7 @@ use Rattle.mirror_model.specs.Edge.{edge_levels, edge_row, edge_rows, edge_root,
 use Rattle.mirror_model.specs.Front.{IsFront}
 use Rattle.mirror_model.specs.Rounds.{HoldsAll, IsAnswered}
 use Rattle.mirror_model.specs.Item.{row_of}
-use Rattle.mirror_model.specs.ViewLaws.{IsHash}
+use Rattle.mirror_model.specs.Strings.{IsDigest}
 use Rattle.mirror_model.specs.TrueLaws.{TilesAreTrue, BundlesAreTrue, EdgesAreTrue, EdgeIsOfPaths, FrontIsWithin, true_strings, TrueStringsWithin, FrontIsWidest, TakingIsRound, PrefixesServeSame}
 use Rattle.mirror_model.proofs.StringSets.{holds_from_held}
 use Rattle.mirror_model.proofs.ItemBytes.{row_is_one, bundle_is_one}
@@ -60,7 +60,7 @@ bundles_are_true digest hash entries short index width within =
 
 -- ---- the edge
 
-module _ (digest : List ℕ → List ℕ) (hash : IsHash digest) where
+module _ (digest : List ℕ → List ℕ) (hash : IsDigest digest) where
   tree_hashes : (lists : List (List (List ℕ))) → AllByRecursion (λ h. length h ≡ 32) (map (mth digest) lists)
   tree_hashes [] = tt
   tree_hashes (es ∷ lists) = (length-mth digest hash es, tree_hashes lists)

@@ -125,10 +125,8 @@ one_entry_is_served note origin head = record {
     edges = λ other h. record {
       size = 1;
       root = mth sum_digest one_entry;
-      rows = (1 ∷ replicate 31 0) ∷ [];
       is_head = subst (λ n. IsHead n origin 1 (mth sum_digest one_entry)) (sym (same_listed note other h)) head;
-      has_edge = rows_lead;
-      are_held = no_strings (set.from_list ((0 ∷ 1 ∷ []) ∷ []));
+      edge = record { rows = (1 ∷ replicate 31 0) ∷ []; has_edge = rows_lead; are_held = no_strings (set.from_list ((0 ∷ 1 ∷ []) ∷ [])) };
     };
   };
   served = record {

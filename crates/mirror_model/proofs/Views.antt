@@ -1,12 +1,16 @@
 -- Views: joined, and when they are lawful.
 use Rattle.std.proofs.Common.{◌≡◌, ℕ, List, ◌∷◌, sym, refl, ◌∙◌, subst, inl, inr}
 use Rattle.mirror_model.specs.Strings.{HasClash}
-use Rattle.mirror_model.specs.View.{View, union, IsWithin}
+use Rattle.mirror_model.specs.View.{View, union, IsSubview}
 use Rattle.mirror_model.specs.declared.items.Item.{Item}
 use Rattle.mirror_model.specs.Item.{plus}
 use Rattle.mirror_model.specs.Heads.{IsHead, HasHead}
 use Rattle.mirror_model.specs.Complete.{HasEdge}
-use Rattle.mirror_model.specs.ViewLaws.{NothingIsLawful, ClashesTurn, UnionCommutes, UnionAssociates, UnionRepeats, SameIsOne, UnionIsLawful, CompleteStays, MarksStay, ForksStay, ForksTurn}
+use Rattle.mirror_model.specs.LawfulLaws.{NothingIsLawful, UnionIsLawful}
+use Rattle.mirror_model.specs.UnionLaws.{UnionClashesEitherWay, UnionCommutes, UnionAssociates, UnionIsIdempotent, MutualSubviewsAreEqual}
+use Rattle.mirror_model.specs.CompleteLaws.{CompleteStays}
+use Rattle.mirror_model.specs.MarkLaws.{MarksStay}
+use Rattle.mirror_model.specs.ForkLaws.{ForksStay, ForkIsUnordered}
 use Rattle.mirror_model.proofs.StringSets.{has_empty, has_left, has_right, has_cases, same_strings, union_comm, union_assoc, union_itself, held_more}
 
 pub union_commutes : UnionCommutes
@@ -15,32 +19,32 @@ union_commutes v w same = λ i. record { origin = same i; notes = union_comm v.n
 pub union_associates : UnionAssociates
 union_associates v w x = λ i. record { origin = v.origin; notes = union_assoc v.notes w.notes x.notes i; strings = union_assoc v.strings w.strings x.strings i }
 
-pub clashes_turn : ClashesTurn
+pub clashes_turn : UnionClashesEitherWay
 clashes_turn digest v w c = subst (HasClash digest) (union_comm v.strings w.strings) c
 
-pub union_repeats : UnionRepeats
+pub union_repeats : UnionIsIdempotent
 union_repeats v = λ i. record { origin = v.origin; notes = union_itself v.notes i; strings = union_itself v.strings i }
 
-pub same_is_one : SameIsOne
+pub same_is_one : MutualSubviewsAreEqual
 same_is_one v w a b =
     let notes : v.notes ≡ w.notes = same_strings v.notes w.notes a.notes_are b.notes_are in
     let strings : v.strings ≡ w.strings = same_strings v.strings w.strings a.strings_are b.strings_are in
     λ i. record { origin = a.origin_is i; notes = notes i; strings = strings i }
 
-pub within_itself : (v : View) → IsWithin v v
+pub within_itself : (v : View) → IsSubview v v
 within_itself v = record { origin_is = refl; notes_are = λ q h. h; strings_are = λ q h. h }
 
-pub within_trans : (v w x : View) → IsWithin v w → IsWithin w x → IsWithin v x
+pub within_trans : (v w x : View) → IsSubview v w → IsSubview w x → IsSubview v x
 within_trans v w x a b = record { origin_is = a.origin_is ∙ b.origin_is; notes_are = λ q h. b.notes_are q (a.notes_are q h); strings_are = λ q h. b.strings_are q (a.strings_are q h) }
 
-pub within_union : (v w : View) → IsWithin v (union v w)
+pub within_union : (v w : View) → IsSubview v (union v w)
 within_union v w = record { origin_is = refl; notes_are = λ q h. has_left v.notes w.notes q h; strings_are = λ q h. has_left v.strings w.strings q h }
 
-pub within_plus : (digest : List ℕ → List ℕ) (v : View) (x : Item) → IsWithin v (plus digest v x)
+pub within_plus : (digest : List ℕ → List ℕ) (v : View) (x : Item) → IsSubview v (plus digest v x)
 within_plus digest v x = record { origin_is = refl; notes_are = λ q h. has_left v.notes _ q h; strings_are = λ q h. has_left v.strings _ q h }
 
 -- a larger view holds as much
-pub head_stays : (v w : View) → IsWithin v w → (size : ℕ) (root : List ℕ) → HasHead v size root → HasHead w size root
+pub head_stays : (v w : View) → IsSubview v w → (size : ℕ) (root : List ℕ) → HasHead v size root → HasHead w size root
 head_stays v w a size root h = record { note = h.note; holds = record { is_held = a.notes_are h.note h.holds.is_held; is_head = subst (λ o. IsHead h.note o size root) a.origin_is h.holds.is_head } }
 
 pub complete_stays : CompleteStays
@@ -60,7 +64,7 @@ forks_stay digest v w a p q f = record {
   ];
 }
 
-pub forks_turn : ForksTurn
+pub forks_turn : ForkIsUnordered
 forks_turn digest v a b f = record {
   first_held = f.second_held;
   second_held = f.first_held;
@@ -72,12 +76,17 @@ forks_turn digest v a b f = record {
 }
 
 -- a note's edge stays held
-pub edge_stays : (digest : List ℕ → List ℕ) (v w : View) → IsWithin v w → (note : List ℕ) → HasEdge digest v note → HasEdge digest w note
-edge_stays digest v w a note e = record { size = e.size; root = e.root; rows = e.rows; is_head = subst (λ o. IsHead note o e.size e.root) a.origin_is e.is_head; has_edge = e.has_edge; are_held = held_more v.strings w.strings _ a.strings_are e.are_held }
+pub edge_stays : (digest : List ℕ → List ℕ) (v w : View) → IsSubview v w → (note : List ℕ) → HasEdge digest v note → HasEdge digest w note
+edge_stays digest v w a note e = record {
+  size = e.size;
+  root = e.root;
+  is_head = subst (λ o. IsHead note o e.size e.root) a.origin_is e.is_head;
+  edge = record { rows = e.edge.rows; has_edge = e.edge.has_edge; are_held = held_more v.strings w.strings _ a.strings_are e.edge.are_held };
+}
 
 pub union_is_lawful : UnionIsLawful
 union_is_lawful digest v w p q same clean =
-    let back : IsWithin w (union v w) = record { origin_is = sym same; notes_are = λ n h. has_right v.notes w.notes n h; strings_are = λ s h. has_right v.strings w.strings s h } in
+    let back : IsSubview w (union v w) = record { origin_is = sym same; notes_are = λ n h. has_right v.notes w.notes n h; strings_are = λ s h. has_right v.strings w.strings s h } in
     record {
       no_clash = clean;
       are_strings = λ s h. elim (has_cases v.strings w.strings s h) [ inl a ↦ p.are_strings s a | inr b ↦ q.are_strings s b ];

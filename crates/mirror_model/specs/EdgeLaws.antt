@@ -6,13 +6,13 @@ use Rattle.mirror_model.specs.Edge.{edge_strings}
 use Rattle.mirror_model.specs.Item.{row_of, HasEdgeRows}
 use Rattle.mirror_model.specs.Complete.{Complete, IsLawful}
 use Rattle.mirror_model.specs.TrueLaws.{edge_bytes}
-use Rattle.mirror_model.specs.ViewLaws.{IsHash}
+use Rattle.mirror_model.specs.Strings.{IsDigest}
 
 -- of a size and a root there is one edge at most whose strings are held, while what is held does not clash
 abbrev pub EdgeIsOne : Type 0
 EdgeIsOne =
     (digest : List ℕ → List ℕ) →
-    IsHash digest →
+    IsDigest digest →
     (held : Strings) →
     NoClash digest held →
     (size : ℕ) (root : List ℕ) (rows others : List (List ℕ)) →
@@ -26,7 +26,7 @@ EdgeIsOne =
 abbrev pub LawfulEdgeIsTrue : Type 0
 LawfulEdgeIsTrue =
     (digest : List ℕ → List ℕ) →
-    IsHash digest →
+    IsDigest digest →
     (v : View) →
     IsLawful digest v →
     (size : ℕ) (root : List ℕ) (entries : List (List ℕ)) →

@@ -1,5 +1,5 @@
 -- What happens to mirrors, which are numbered from 0, and what reaches which of them.
-use Rattle.std.specs.Prelude.{◌≡◌, ◌<◌, ◌≤◌, All, ℕ, ◌+◌, List, [], ◌∷◌, ◌++◌, Some, slice_get, if◌then◌else◌, ◌==◌}
+use Rattle.std.specs.Prelude.{◌≡◌, ◌<◌, ◌≤◌, All, ℕ, ◌+◌, List, [], ◌∷◌, Some, slice_get}
 use Rattle.mirror_model.specs.declared.items.Item.{Item}
 use Rattle.mirror_model.specs.declared.items.Item.TheVariants.{Head, Tile, Bundle}
 use Rattle.mirror_model.specs.declared.events.Event.{Event}
@@ -38,22 +38,3 @@ pub record Reaches (item : Item) (mirror : ℕ) (events : List Event) : Type 0 w
 pub record OpeningReaches (opened mirror : ℕ) (events : List Event) : Type 0 where
   pub merges : List ℕ
   pub lead : MergesLead events 0 opened merges mirror
-
--- what can reach a mirror: the opening view of a mirror, or an item that was taken
-pub data Source : Type 0 where
-  OpenedView : (opened : ℕ) → Source
-  TakenItem : (item : Item) → Source
-
--- what has reached each mirror after one event more: a take adds its item, a merge adds what has reached its source
-abbrev pub sources_after : (ℕ → List Source) → Event → ℕ → List Source
-sources_after before (Take target item) mirror = if mirror == target then before mirror ++ TakenItem item ∷ [] else before mirror
-sources_after before (Merge target source) mirror = if mirror == target then before mirror ++ before source else before mirror
-
--- after all events of a list, from what has reached each mirror before
-abbrev pub sources_from : (ℕ → List Source) → List Event → ℕ → List Source
-sources_from before [] = before
-sources_from before (event ∷ events) = sources_from (sources_after before event) events
-
--- before any event each mirror is reached by its own opening view
-abbrev pub sources_of : List Event → ℕ → List Source
-sources_of events = sources_from (λ mirror. OpenedView mirror ∷ []) events

@@ -18,13 +18,13 @@ use Rattle.mirror_model.specs.declared.items.Item.{Item}
 use Rattle.mirror_model.specs.Item.{notes_of, strings_of, plus}
 use Rattle.mirror_model.specs.TrueLaws.{AreShort, true_strings, IsWidest}
 use Rattle.mirror_model.specs.Listed.{ListsMissing, ListsFront}
-use Rattle.mirror_model.specs.ViewLaws.{IsHash}
+use Rattle.mirror_model.specs.Strings.{IsDigest}
 
 -- the first hashes of a full tile are the partial tile of its place
 abbrev pub FullTilesBegin : Type 0
 FullTilesBegin =
     (digest : List ℕ → List ℕ) →
-    IsHash digest →
+    IsDigest digest →
     (entries : List (List ℕ)) (level index width : ℕ) →
     width ≤ 256 →
     take (32 * width) (tile_bytes digest entries level index 256) ≡ tile_bytes digest entries level index width
@@ -34,7 +34,7 @@ FullTilesBegin =
 abbrev pub FullBundlesServe : Type 0
 FullBundlesServe =
     (digest : List ℕ → List ℕ) →
-    IsHash digest →
+    IsDigest digest →
     (entries : List (List ℕ)) →
     AreShort entries →
     (size index width : ℕ) →
@@ -51,7 +51,7 @@ FullBundlesServe =
 abbrev pub AnsweredIsNotAgain : Type 0
 AnsweredIsNotAgain =
     (digest : List ℕ → List ℕ) →
-    IsHash digest →
+    IsDigest digest →
     (held : List ℕ → Bool) (entries : List (List ℕ)) →
     AreShort entries →
     length entries ≤ 256 ^ 8 →
@@ -65,7 +65,7 @@ AnsweredIsNotAgain =
 abbrev pub MissingIsFrontList : Type 0
 MissingIsFrontList =
     (digest : List ℕ → List ℕ) →
-    IsHash digest →
+    IsDigest digest →
     (v : View) (entries : List (List ℕ)) →
     NoClash digest (set.union v.strings (set.from_list (strings digest entries))) →
     (paths : List Path) →
@@ -76,7 +76,7 @@ MissingIsFrontList =
 abbrev pub MissingIsWithin : Type 0
 MissingIsWithin =
     (digest : List ℕ → List ℕ) →
-    IsHash digest →
+    IsDigest digest →
     (v : View) →
     IsLawful digest v →
     (size : ℕ) (root : List ℕ) →

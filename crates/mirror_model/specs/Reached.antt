@@ -66,13 +66,6 @@ may_change Refused = false
 may_change Clashed = false
 may_change Exhausted = true
 
--- memory was not refused
-abbrev pub is_answered : Answer → Bool
-is_answered Done = true
-is_answered Refused = true
-is_answered Clashed = true
-is_answered Exhausted = false
-
 -- the first of these events is this one
 abbrev pub IsNext : Event → List Event → Type 0
 IsNext event [] = ⊥

@@ -5,7 +5,7 @@ use Rattle.mirror_model.specs.Complete.{IsLawful}
 use Rattle.mirror_model.specs.Forks.{Point}
 use Rattle.mirror_model.specs.Reports.{ReportsHeads, ReportsForks, SaysServed}
 use Rattle.mirror_model.specs.Texts.{IsStatusText, IsForksText, IsMissingText}
-use Rattle.mirror_model.specs.ViewLaws.{IsHash}
+use Rattle.mirror_model.specs.Strings.{IsDigest}
 use Rattle.mirror_model.specs.declared.reports.Head.{Head}
 use Rattle.mirror_model.specs.declared.reports.Fork.{Fork}
 
@@ -22,12 +22,12 @@ ForksAreReportedOnce =
 -- in a lawful view, under a digest of 32 bytes
 abbrev pub ServedIsSaidOnce : Type 0
 ServedIsSaidOnce =
-    (digest : List ℕ → List ℕ) → IsHash digest → (v : View) → IsLawful digest v → (first second : Option Point) →
+    (digest : List ℕ → List ℕ) → IsDigest digest → (v : View) → IsLawful digest v → (first second : Option Point) →
     SaysServed digest v first → SaysServed digest v second → first ≡ second
 
 abbrev pub StatusIsOneText : Type 0
 StatusIsOneText =
-    (digest : List ℕ → List ℕ) → IsHash digest → (v : View) → IsLawful digest v → (first second : List ℕ) →
+    (digest : List ℕ → List ℕ) → IsDigest digest → (v : View) → IsLawful digest v → (first second : List ℕ) →
     IsStatusText digest v first → IsStatusText digest v second → first ≡ second
 
 abbrev pub ForksAreOneText : Type 0

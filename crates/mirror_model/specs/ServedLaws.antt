@@ -5,7 +5,7 @@ use Rattle.tlog_tiles.specs.Bundle.{IsBundle}
 use Rattle.mirror_model.specs.View.{View}
 use Rattle.mirror_model.specs.Complete.{IsLawful}
 use Rattle.mirror_model.specs.Served.{IsServedList, IsServedBundle}
-use Rattle.mirror_model.specs.ViewLaws.{IsHash}
+use Rattle.mirror_model.specs.Strings.{IsDigest}
 
 module _ (digest : List ℕ → List ℕ) (v : View) where
   -- a bundle of that index is served, and its bytes are those entries; none of that index is served that has more
@@ -24,7 +24,7 @@ module _ (digest : List ℕ → List ℕ) (v : View) where
 abbrev pub BundlesAreAll : Type 0
 BundlesAreAll =
     (digest : List ℕ → List ℕ) →
-    IsHash digest →
+    IsDigest digest →
     (v : View) →
     IsLawful digest v →
     (entries : List (List ℕ)) →
@@ -37,7 +37,7 @@ BundlesAreAll =
 abbrev pub BundlesAreServed : Type 0
 BundlesAreServed =
     (digest : List ℕ → List ℕ) →
-    IsHash digest →
+    IsDigest digest →
     (v : View) →
     IsLawful digest v →
     (entries : List (List ℕ)) →

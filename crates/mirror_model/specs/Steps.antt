@@ -2,7 +2,7 @@
 use Rattle.std.specs.Prelude.{◌≡◌, ◌⊎◌, ℕ, List, [], ◌∷◌, Some, slice_get, slice_set}
 use Rattle.node_store.specs.Strings.{Has, NoClash}
 use Rattle.signed_note.specs.Keys.{Key}
-use Rattle.mirror_model.specs.View.{View, union, IsWithin}
+use Rattle.mirror_model.specs.View.{View, union, IsSubview}
 use Rattle.mirror_model.specs.Strings.{HasClash}
 use Rattle.mirror_model.specs.declared.items.Item.{Item}
 use Rattle.mirror_model.specs.Item.{IsGood, plus}
@@ -19,8 +19,8 @@ pub data Answer : Type 0 where
 
 -- the view lies between the old one and the full one, and a new note stands only where all strings do
 pub record IsBetween (old full new : View) : Type 0 where
-  pub grows : IsWithin old new
-  pub within : IsWithin new full
+  pub grows : IsSubview old new
+  pub within : IsSubview new full
   pub notes_last :
       (note : List ℕ) → Has new.notes note →
       Has old.notes note ⊎ ((string : List ℕ) → Has full.strings string → Has new.strings string)

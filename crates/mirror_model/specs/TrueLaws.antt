@@ -19,7 +19,7 @@ use Rattle.mirror_model.specs.Rounds.{HoldsAll, IsRound}
 use Rattle.mirror_model.specs.declared.items.Item.TheVariants as item
 use Rattle.mirror_model.specs.Item.{row_of, IsWidth, IsGoodTile, IsGoodBundle, HasEdgeRows, strings_of}
 use Rattle.mirror_model.specs.Complete.{IsTreeOf}
-use Rattle.mirror_model.specs.ViewLaws.{IsHash}
+use Rattle.mirror_model.specs.Strings.{IsDigest}
 
 -- entries that can stand in a bundle
 abbrev pub AreShort : List (List ℕ) → Type 0
@@ -32,7 +32,7 @@ pub record IsTrueTile (digest : List ℕ → List ℕ) (entries : List (List ℕ
 
 abbrev pub TilesAreTrue : Type 0
 TilesAreTrue =
-    (digest : List ℕ → List ℕ) → IsHash digest → (entries : List (List ℕ)) → AreShort entries →
+    (digest : List ℕ → List ℕ) → IsDigest digest → (entries : List (List ℕ)) → AreShort entries →
     (level index width : ℕ) → IsWidth width → IsTrueTile digest entries level index width
 
 -- a bundle of true bytes is good, and gives what the tree hash of its entries hashes
@@ -42,7 +42,7 @@ pub record IsTrueBundle (digest : List ℕ → List ℕ) (entries : List (List �
 
 abbrev pub BundlesAreTrue : Type 0
 BundlesAreTrue =
-    (digest : List ℕ → List ℕ) → IsHash digest → (entries : List (List ℕ)) → AreShort entries → (index width : ℕ) →
+    (digest : List ℕ → List ℕ) → IsDigest digest → (entries : List (List ℕ)) → AreShort entries → (index width : ℕ) →
     IsTileWithin (length entries) 0 index width → IsTrueBundle digest entries index width
 
 -- the bytes of the true edge rows
@@ -56,7 +56,7 @@ pub record IsTrueEdge (digest : List ℕ → List ℕ) (entries : List (List ℕ
 
 abbrev pub EdgesAreTrue : Type 0
 EdgesAreTrue =
-    (digest : List ℕ → List ℕ) → IsHash digest → (entries : List (List ℕ)) → length entries < 256 ^ 8 →
+    (digest : List ℕ → List ℕ) → IsDigest digest → (entries : List (List ℕ)) → length entries < 256 ^ 8 →
     IsTrueEdge digest entries
 
 -- these rows are those of the paths of the edge
@@ -87,7 +87,7 @@ IsWidest n (Entries index width) = width ≡ min 256 (n - 256 * index)
 -- the true bytes of such a path within the entries give strings of their tree alone
 abbrev pub TrueStringsWithin : Type 0
 TrueStringsWithin =
-    (digest : List ℕ → List ℕ) → IsHash digest → (entries : List (List ℕ)) → AreShort entries → (path : Path) →
+    (digest : List ℕ → List ℕ) → IsDigest digest → (entries : List (List ℕ)) → AreShort entries → (path : Path) →
     IsWithin (length entries) path → IsWidest (length entries) path → (y : List ℕ) →
     Contains (true_strings digest entries path) y → Contains (strings digest entries) y
 
@@ -102,7 +102,7 @@ FrontIsWidest =
 pub record TakesFront (digest : List ℕ → List ℕ) (entries : List (List ℕ)) (v w : View) : Type 0 where
   pub small : length entries ≤ 256 ^ 8
   pub edge : HasAll v.strings (edge_strings digest (edge_rows digest entries))
-  pub grows : view.IsWithin v w
+  pub grows : view.IsSubview v w
   pub taken :
       (path : Path) → IsFront digest (held_in v.strings) entries path → IsWithin (length entries) path →
       HasAll w.strings (true_strings digest entries path)
@@ -110,7 +110,7 @@ pub record TakesFront (digest : List ℕ → List ℕ) (entries : List (List ℕ
 -- so it is a round
 abbrev pub TakingIsRound : Type 0
 TakingIsRound =
-    (digest : List ℕ → List ℕ) → IsHash digest → (entries : List (List ℕ)) → AreShort entries → (v w : View) →
+    (digest : List ℕ → List ℕ) → IsDigest digest → (entries : List (List ℕ)) → AreShort entries → (v w : View) →
     TakesFront digest entries v w → IsRound digest (held_in v.strings) (held_in w.strings) entries
 
 -- one view after another, each by taking the front of the one before
@@ -126,7 +126,7 @@ last_view v (w ∷ more) = last_view w more
 -- as many as the greatest level that has a partial tile, and one at least, bring the whole tree
 abbrev pub TakingCompletes : Type 0
 TakingCompletes =
-    (digest : List ℕ → List ℕ) → IsHash digest → (entries : List (List ℕ)) → AreShort entries → (top : ℕ) →
+    (digest : List ℕ → List ℕ) → IsDigest digest → (entries : List (List ℕ)) → AreShort entries → (top : ℕ) →
     length entries < 256 ^ 8 → IsTop (length entries) top → (v : View) (more : List View) →
     AreTakings digest entries v more → max 1 top ≤ length more →
     IsTreeOf digest (last_view v more).strings (length entries) (mth digest entries) entries

@@ -26,7 +26,7 @@ abbrev pub union : View → View → View
 union v w = record { origin = v.origin; notes = set.union v.notes w.notes; strings = set.union v.strings w.strings }
 
 -- all that v holds w holds
-pub record IsWithin (v w : View) : Type 0 where
+pub record IsSubview (v w : View) : Type 0 where
   pub origin_is : v.origin ≡ w.origin
   pub notes_are : (note : List ℕ) → Has v.notes note → Has w.notes note
   pub strings_are : (string : List ℕ) → Has v.strings string → Has w.strings string

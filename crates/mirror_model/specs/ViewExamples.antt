@@ -8,7 +8,7 @@ use Rattle.mirror_model.specs.Heads.{IsHead}
 use Rattle.mirror_model.specs.Complete.{IsLawful}
 use Rattle.mirror_model.specs.Served.{Served}
 use Rattle.mirror_model.specs.declared.events.Event.TheVariants.{Merge}
-use Rattle.mirror_model.specs.PlayLaws.{ReachedAlike}
+use Rattle.mirror_model.specs.Headline.{ReachedAlike}
 
 -- a mirror that opened empty and was merged with another is reached like that other: an opening view that holds
 -- nothing counts for nothing

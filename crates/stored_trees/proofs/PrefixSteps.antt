@@ -13,7 +13,7 @@ use Rattle.node_store.specs.Strings.{Strings, IsHeldAt, NoClash}
 use Rattle.mirror_model.specs.View.{View}
 use Rattle.mirror_model.specs.Complete.{IsTreeOf, Complete, IsLawful}
 use Rattle.mirror_model.specs.Forks.{IsPrefix, Point, IsFork}
-use Rattle.mirror_model.specs.ViewLaws.{IsHash}
+use Rattle.mirror_model.specs.Strings.{IsDigest}
 use Rattle.mirror_model.proofs.OneLists.{only, one_list, forks_tell}
 use Rattle.stored_trees.specs.Prefixes.{PrefixOfPrefix, ForksGoOn}
 use Rattle.stored_trees.proofs.Descents.{left-tree, right-tree}
@@ -146,12 +146,12 @@ apart_short xs ys short not = (
 )
 
 -- heads that are one have one list, which is not apart from itself
-apart_differ : (digest : List ℕ → List ℕ) → IsHash digest → (v : View) → IsLawful digest v → (a b : Point) (xs ys : List (List ℕ)) → Complete digest v a.size a.root xs → Complete digest v b.size b.root ys → Apart xs ys → a ≢ b
+apart_differ : (digest : List ℕ → List ℕ) → IsDigest digest → (v : View) → IsLawful digest v → (a b : Point) (xs ys : List (List ℕ)) → Complete digest v a.size a.root xs → Complete digest v b.size b.root ys → Apart xs ys → a ≢ b
 apart_differ digest hash v lawful a b xs ys p q apart is =
     let one : xs ≡ ys = one_list digest hash v lawful a.size a.root xs ys p (subst (λ (x : Point). Complete digest v x.size x.root ys) (sym is) q) in
     apart.0 (record { rest = []; is = append-nil xs ∙ one })
 
-tells_fork : (digest : List ℕ → List ℕ) → IsHash digest → (v : View) → IsLawful digest v → (a b : Point) (xs ys : List (List ℕ)) → Complete digest v a.size a.root xs → Complete digest v b.size b.root ys → IsFork digest v a b ↔ Apart xs ys
+tells_fork : (digest : List ℕ → List ℕ) → IsDigest digest → (v : View) → IsLawful digest v → (a b : Point) (xs ys : List (List ℕ)) → Complete digest v a.size a.root xs → Complete digest v b.size b.root ys → IsFork digest v a b ↔ Apart xs ys
 tells_fork digest hash v lawful a b xs ys p q = (
   λ f. (forks_tell digest hash v lawful a b xs ys f.differ p q).0 f,
   λ apart. (forks_tell digest hash v lawful a b xs ys (apart_differ digest hash v lawful a b xs ys p q apart) p q).1 apart,

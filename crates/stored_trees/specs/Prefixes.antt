@@ -3,7 +3,7 @@ use Rattle.std.specs.Prelude.{◌≤◌, ◌↔◌, List, ℕ, length}
 use Rattle.mirror_model.specs.View.{View}
 use Rattle.mirror_model.specs.Complete.{Complete, IsLawful}
 use Rattle.mirror_model.specs.Forks.{IsPrefix, Point, IsFork}
-use Rattle.mirror_model.specs.ViewLaws.{IsHash}
+use Rattle.mirror_model.specs.Strings.{IsDigest}
 
 -- what is no longer than a prefix of a list begins the list exactly where it begins that prefix
 abbrev pub PrefixOfPrefix : Type 0
@@ -15,7 +15,7 @@ PrefixOfPrefix =
 -- exactly where the second is
 abbrev pub ForksGoOn : Type 0
 ForksGoOn =
-    (digest : List ℕ → List ℕ) → IsHash digest → (v : View) → IsLawful digest v → (a b c : Point) →
+    (digest : List ℕ → List ℕ) → IsDigest digest → (v : View) → IsLawful digest v → (a b c : Point) →
     (first second third : List (List ℕ)) →
     Complete digest v a.size a.root first →
     Complete digest v b.size b.root second →

@@ -10,7 +10,7 @@ use Rattle.mirror_model.specs.Heads.{HasHead}
 use Rattle.mirror_model.specs.Complete.{IsTreeOf}
 use Rattle.mirror_model.specs.Forks.{Point}
 use Rattle.mirror_model.specs.Marks.{Points, IsMark}
-use Rattle.mirror_model.specs.ViewLaws.{IsHash}
+use Rattle.mirror_model.specs.Strings.{IsDigest}
 use Rattle.stored_trees.specs.Known.{HasPoint, AreBuilt}
 
 -- the set has that size and hash
@@ -46,7 +46,7 @@ module _ (digest : List ℕ → List ℕ) (held : Strings) where
 -- more is held, and it does not clash: what was settled stays so
 abbrev pub SettledStays : Type 0
 SettledStays =
-    (digest : List ℕ → List ℕ) → IsHash digest → (held more : Strings) →
+    (digest : List ℕ → List ℕ) → IsDigest digest → (held more : Strings) →
     ((string : List ℕ) → Has held string → Has more string) →
     NoClash digest more → (points : Points) →
     AreSettled digest held points → AreSettled digest more points

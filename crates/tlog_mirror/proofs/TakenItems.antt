@@ -14,14 +14,14 @@ use Rattle.mirror_model.specs.Refusals.{JudgesTile, JudgesBundle}
 use Rattle.mirror_model.specs.declared.fault.TakeFault.{TakeFault}
 use Rattle.node_store.specs.Strings.{Strings, Has, NoClash, ClashesWith, AllTagged}
 use Rattle.mirror_model.specs.Strings.{HasClash}
-use Rattle.mirror_model.specs.View.{View, IsWithin}
+use Rattle.mirror_model.specs.View.{View, IsSubview}
 use Rattle.mirror_model.specs.Item.{IsWidth, IsGoodTile, IsGoodBundle, IsGood, strings_of, notes_of, plus, row_of, entries_of}
 use Rattle.mirror_model.specs.declared.items.Item.{Item}
 use Rattle.mirror_model.specs.Steps.{Answer, Done, Refused, Clashed, Exhausted, Answers, Takes}
 use Rattle.mirror_model.specs.Marks.{Points, State}
 use Rattle.tlog_mirror.specs.Kept.{state_of, IsKeptWell}
 use Rattle.tlog_mirror.specs.Adding.{with_strings, added, taken_of}
-use Rattle.mirror_model.specs.ViewLaws.{IsHash}
+use Rattle.mirror_model.specs.Strings.{IsDigest}
 use Rattle.tlog_mirror.specs.declared.kept.KeptNote.{KeptNote}
 use Rattle.mirror_model.proofs.StringSets.{decide, has_left, has_right, has_cases, has_empty, same_strings, listed_from_has}
 use Rattle.mirror_model.proofs.Views.{edge_stays, marks_stay}
@@ -86,7 +86,7 @@ module _ (digest : List ℕ → List ℕ) (origin : List ℕ) (kept : List KeptN
   abbrev after : View
   after = (state_of origin kept now remembered).view
 
-  grown_within : ((s : List ℕ) → Has strings s → Has now s) → IsWithin before after
+  grown_within : ((s : List ℕ) → Has strings s → Has now s) → IsSubview before after
   grown_within grows = record { origin_is = refl; notes_are = λ note h. h; strings_are = grows }
 
   pub stays_well :
@@ -157,7 +157,7 @@ gathered none strings xs ys empty is same =
     ∙ ap set.from_list same
 
 module _ (digest : List ℕ → List ℕ) (item : Item) where
-  pub gathered_short : IsHash digest → (origin : List ℕ) → IsGood digest origin [] item → (strings : Strings) → strings ≡ set.from_list (strings_of digest item) → (entry : List ℕ) → Has strings (0 ∷ entry) → length entry ≤ 65535
+  pub gathered_short : IsDigest digest → (origin : List ℕ) → IsGood digest origin [] item → (strings : Strings) → strings ≡ set.from_list (strings_of digest item) → (entry : List ℕ) → Has strings (0 ∷ entry) → length entry ≤ 65535
   gathered_short hash origin good strings is entry h =
       is_short entry (item_strings digest hash origin [] item good (0 ∷ entry) (listed_from_has (strings_of digest item) (0 ∷ entry) (subst (λ v. Has v (0 ∷ entry)) is h)))
 

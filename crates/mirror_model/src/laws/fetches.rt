@@ -1,6 +1,6 @@
 //! Laws of what is fetched of a log, of its files, and of what a view holds with it (C2SP tlog-tiles).
 ghost use Rattle.mirror_model.specs.FetchLaws.{AnsweredIsNotAgain, FullBundlesServe, FullTilesBegin, MissingIsFrontList, MissingIsWithin, PlusHolds};
-ghost use Rattle.mirror_model.specs.ViewLaws.{MissingIsNone};
+ghost use Rattle.mirror_model.specs.CompleteLaws.{MissingIsNone};
 
 /// A log may delete a partial file once the full one is there. The first hashes of a full tile are the
 /// partial tile of its place. What the last, partial bundle of the first entries gives is given by the

@@ -1,12 +1,14 @@
 //! Laws of events and runs: mirrors that the same items have reached hold the same.
-ghost use Rattle.mirror_model.specs.PlayLaws.{BetweenIsLawful, FoldIsReaches, ForMirrors, MergesAgain, MergesOnce, MirrorsAgree, NoneClashes, NoteIsLast, OpeningReachesGoByLast, ReachesGoByLast, RunGrows, RunIsBounded, RunIsLawful, RunIsReached, SameReachedSameView, TakesAgain, TakesOnce};
+ghost use Rattle.mirror_model.specs.EventLaws.{BetweenIsLawful, MergesAgain, MergesOnce, NoteIsLast, TakesAgain, TakesOnce};
+ghost use Rattle.mirror_model.specs.RunLaws.{ForMirrors, NoneClashes, RunGrows, RunIsBounded, RunIsLawful, RunIsReached};
+ghost use Rattle.mirror_model.specs.Headline.{MirrorsAgree, SameReachedSameView};
+ghost use Rattle.mirror_model.specs.ReachLaws.{OpeningReachesGoByLast, ReachesGoByLast};
 
 /// What reaches a mirror, by the last event of a list: a take adds its item, a merge adds what reached
 /// its source, and nothing else changes. A fold over the events gives the same.
 pub fn reaches_law()
     ensures items { ReachesGoByLast }
     ensures openings { OpeningReachesGoByLast }
-    ensures fold { FoldIsReaches }
 {}
 
 /// After a run of events a mirror's view is the union of the opening views and of the good items that

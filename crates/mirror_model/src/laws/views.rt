@@ -1,43 +1,48 @@
 //! Laws of views: what a mirror holds, and what follows from it.
-ghost use Rattle.mirror_model.specs.ViewLaws.{ClashesTurn, CompleteIsSame, CompleteStays, ForksStay, ForksTell, ForksTurn, HeadsHaveEdges, ListHasRoot, MarksStay, NothingIsLawful, OneList, PlusIsLawful, RangesHashOnce, RepliesOnce, SameIsOne, ServesOne, ServesTruth, UnionAssociates, UnionCommutes, UnionIsLawful, UnionRepeats, WholeIsMark};
+ghost use Rattle.mirror_model.specs.UnionLaws.{UnionClashesEitherWay, MutualSubviewsAreEqual, UnionAssociates, UnionCommutes, UnionIsIdempotent};
+ghost use Rattle.mirror_model.specs.CompleteLaws.{CompleteKeepsItsList, CompleteStays, CompleteListHasRoot, CompleteListIsOne};
+ghost use Rattle.mirror_model.specs.ForkLaws.{ForksStay, ForkMeansNoPrefix, ForkIsUnordered};
+ghost use Rattle.mirror_model.specs.LawfulLaws.{HeadsHaveEdges, NothingIsLawful, PlusIsLawful, UnionIsLawful};
+ghost use Rattle.mirror_model.specs.MarkLaws.{MarksStay, WholeListIsMark};
+ghost use Rattle.mirror_model.specs.ReplyLaws.{RangeHashIsOne, ReplyIsOne, ServedIsOne, ServedRootIsTreeHash};
 
 /// Views that hold the same are one, and they are joined in any order, in any grouping and any number
 /// of times with one result. Their strings clash either way round or neither.
 pub fn union_law()
-    ensures same { SameIsOne }
+    ensures same { MutualSubviewsAreEqual }
     ensures commutes { UnionCommutes }
     ensures associates { UnionAssociates }
-    ensures repeats { UnionRepeats }
-    ensures clashes { ClashesTurn }
+    ensures repeats { UnionIsIdempotent }
+    ensures clashes { UnionClashesEitherWay }
 {}
 
 /// A lawful view has one list of entries at most for a size and root, and the root is its tree hash.
 pub fn one_list_law()
-    ensures one { OneList }
-    ensures root { ListHasRoot }
+    ensures one { CompleteListIsOne }
+    ensures root { CompleteListHasRoot }
 {}
 
 /// What is complete stays complete as a view grows, with the same entries while no two strings clash.
 pub fn growth_law()
     ensures stays { CompleteStays }
-    ensures same { CompleteIsSame }
+    ensures same { CompleteKeepsItsList }
 {}
 
 /// The checkpoint served says the length and the tree hash of the entries served. A view serves one
 /// checkpoint and one list of entries at most, and has one reply at most for a path and one hash at most
 /// for a range.
 pub fn served_law()
-    ensures truth { ServesTruth }
-    ensures one { ServesOne }
-    ensures reply { RepliesOnce }
-    ensures range { RangesHashOnce }
+    ensures truth { ServedRootIsTreeHash }
+    ensures one { ServedIsOne }
+    ensures reply { ReplyIsOne }
+    ensures range { RangeHashIsOne }
 {}
 
 /// Two complete checkpoints that differ are a fork exactly where neither list of entries is a prefix
 /// of the other, and a fork stays one as the view grows.
 pub fn forks_law()
-    ensures tell { ForksTell }
-    ensures turn { ForksTurn }
+    ensures tell { ForkMeansNoPrefix }
+    ensures turn { ForkIsUnordered }
     ensures stay { ForksStay }
 {}
 
@@ -53,6 +58,6 @@ pub fn lawful_law()
 /// What may be remembered of complete heads: the whole list of each, and whatever could be remembered
 /// of a smaller view.
 pub fn marks_law()
-    ensures whole { WholeIsMark }
+    ensures whole { WholeListIsMark }
     ensures stay { MarksStay }
 {}

@@ -1,0 +1,100 @@
+-- Laws of runs: what they leave in a view.
+use Rattle.std.specs.Prelude.{◌≡◌, ◌⊎◌, ℕ, List, Some, slice_get}
+use Rattle.std.specs.List.{Contains}
+use Rattle.signed_note.specs.Keys.{Key}
+use Rattle.node_store.specs.Strings.{Has}
+use Rattle.mirror_model.specs.View.{View, IsSubview}
+use Rattle.mirror_model.specs.Strings.{IsDigest}
+use Rattle.mirror_model.specs.Complete.{IsLawful}
+use Rattle.mirror_model.specs.declared.items.Item.{Item}
+use Rattle.mirror_model.specs.Item.{IsGood, strings_of}
+use Rattle.mirror_model.specs.declared.events.Event.{Event}
+use Rattle.mirror_model.specs.declared.events.Event.TheVariants.{Take}
+use Rattle.mirror_model.specs.Steps.{Answer, Clashed, Run}
+use Rattle.mirror_model.specs.Reached.{HasReached, HasReachedOnly, events_of, is_done, may_change, AreRetried}
+
+-- all views are of that origin
+abbrev pub AreOf : List ℕ → List View → Type 0
+AreOf origin views = (mirror : ℕ) (v : View) → slice_get views mirror ≡ Some v → v.origin ≡ origin
+
+module _ (digest : List ℕ → List ℕ) (origin : List ℕ) (keys : List Key) where
+  -- a run of events, from views of that origin to others
+  pub record IsRun (opened : List View) (events : List Event) (answers : List Answer) (final : List View) : Type 0 where
+    pub of_origin : AreOf origin opened
+    pub run : Run digest keys opened events answers final
+
+  -- for all answers a mirror's view has what the events that were done bring to it, and has nothing but what is brought
+  -- to it by those that were done or for which memory was refused
+  pub record IsBounded (opened : List View) (events : List Event) (answers : List Answer) (mirror : ℕ) (v : View) : Type 0 where
+    pub lower : HasReached digest origin keys opened (events_of is_done events answers) mirror v
+    pub upper : HasReachedOnly digest origin keys opened (events_of may_change events answers) mirror v
+
+  abbrev pub RunIsBounded : Type 0
+  RunIsBounded =
+      (opened final : List View) (events : List Event) (answers : List Answer) → IsRun opened events answers final →
+      (mirror : ℕ) (v : View) → slice_get final mirror ≡ Some v → IsBounded opened events answers mirror v
+
+  -- where nothing clashed, and each event for which memory was refused was done again, a mirror's view is the union of
+  -- the opening views and of the good items that reach it
+  pub record IsReached (opened : List View) (events : List Event) (mirror : ℕ) (v : View) : Type 0 where
+    pub origin_is : v.origin ≡ origin
+    pub has : HasReached digest origin keys opened events mirror v
+    pub only : HasReachedOnly digest origin keys opened events mirror v
+
+  abbrev pub RunIsReached : Type 0
+  RunIsReached =
+      (opened final : List View) (events : List Event) (answers : List Answer) → IsRun opened events answers final →
+      (Contains answers Clashed → ⊥) → AreRetried events answers → (mirror : ℕ) (v : View) →
+      slice_get final mirror ≡ Some v → IsReached opened events mirror v
+
+-- a string of an opening view, or of a good item of the list
+pub record IsOpened (opened : List View) (string : List ℕ) : Type 0 where
+  pub number : ℕ
+  pub view : View
+  pub is : slice_get opened number ≡ Some view
+  pub has : Has view.strings string
+
+module _ (digest : List ℕ → List ℕ) (origin : List ℕ) (keys : List Key) where
+  pub record IsTaken (events : List Event) (string : List ℕ) : Type 0 where
+    pub position : ℕ
+    pub target : ℕ
+    pub item : Item
+    pub is : slice_get events position ≡ Some (Take target item)
+    pub good : IsGood digest origin keys item
+    pub has : Contains (strings_of digest item) string
+
+  abbrev pub IsMet : List View → List Event → List ℕ → Type 0
+  IsMet opened events string = IsOpened opened string ⊎ IsTaken events string
+
+  -- no two different strings that are met have one digest
+  abbrev pub NothingClashes : List View → List Event → Type 0
+  NothingClashes opened events = (x y : List ℕ) → IsMet opened events x → IsMet opened events y → digest x ≡ digest y → x ≡ y
+
+  -- then no event is answered by a clash
+  abbrev pub NoneClashes : Type 0
+  NoneClashes =
+      (opened final : List View) (events : List Event) (answers : List Answer) →
+      IsRun digest origin keys opened events answers final → NothingClashes opened events →
+      Contains answers Clashed → ⊥
+
+-- for each digest, origin and keys
+abbrev pub ForMirrors : ((List ℕ → List ℕ) → List ℕ → List Key → Type 0) → Type 0
+ForMirrors Law = (digest : List ℕ → List ℕ) (origin : List ℕ) (keys : List Key) → Law digest origin keys
+
+-- all views are lawful
+abbrev pub AreLawful : (List ℕ → List ℕ) → List View → Type 0
+AreLawful digest views = (mirror : ℕ) (v : View) → slice_get views mirror ≡ Some v → IsLawful digest v
+
+-- a run keeps views lawful
+abbrev pub RunIsLawful : Type 0
+RunIsLawful =
+    (digest : List ℕ → List ℕ) → IsDigest digest →
+    (keys : List Key) (opened final : List View) (events : List Event) (answers : List Answer) →
+    AreLawful digest opened → Run digest keys opened events answers final → AreLawful digest final
+
+-- and each view only grows
+abbrev pub RunGrows : Type 0
+RunGrows =
+    (digest : List ℕ → List ℕ) (keys : List Key) (opened final : List View) (events : List Event) (answers : List Answer) →
+    Run digest keys opened events answers final → (mirror : ℕ) (v w : View) → slice_get opened mirror ≡ Some v →
+    slice_get final mirror ≡ Some w → IsSubview v w

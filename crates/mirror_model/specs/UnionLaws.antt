@@ -1,0 +1,22 @@
+-- Laws of merging: how views are joined.
+use Rattle.std.specs.Prelude.{◌≡◌, ℕ, List}
+use Rattle.mirror_model.specs.View.{View, union, IsSubview}
+use Rattle.mirror_model.specs.Strings.{HasClash}
+
+-- merging views of one origin is commutative, and merging is associative and idempotent
+abbrev pub UnionCommutes : Type 0
+UnionCommutes = (v w : View) → v.origin ≡ w.origin → union v w ≡ union w v
+
+abbrev pub UnionAssociates : Type 0
+UnionAssociates = (v w x : View) → union (union v w) x ≡ union v (union w x)
+
+abbrev pub UnionIsIdempotent : Type 0
+UnionIsIdempotent = (v : View) → union v v ≡ v
+
+-- and clashes in the same cases either way round
+abbrev pub UnionClashesEitherWay : Type 0
+UnionClashesEitherWay = (digest : List ℕ → List ℕ) (v w : View) → HasClash digest (union v w).strings → HasClash digest (union w v).strings
+
+-- views that hold the same are one
+abbrev pub MutualSubviewsAreEqual : Type 0
+MutualSubviewsAreEqual = (v w : View) → IsSubview v w → IsSubview w v → v ≡ w
