@@ -17,6 +17,7 @@ use Rattle.tlog_proof.specs.declared.proof.Proof.{Proof}
 use Rattle.tlog_proof.specs.declared.proof.Proof.TheVariants.{Inclusion, Consistency}
 use Rattle.tlog_proof.specs.Text.{base64_of, line, number_line, hash_line, path_lines, lines_of, title_of, IsWritable, IsProofText}
 use Rattle.tlog_proof.proofs.Spelling.{has_one_spelling}
+use Rattle.tlogmirror.specs.declared.check.TheConstants.{MOST_BYTES}
 use Rattle.tlogmirror.specs.declared.check.CheckFault.{CheckFault}
 use Rattle.tlogmirror.specs.declared.check.CheckFault.TheVariants.{BadProofText, ReadFault, WriteFault, OutOfMemory}
 use Rattle.tlogmirror.specs.Check.{Judges}
@@ -65,17 +66,17 @@ proof_is_utf8 text proof is =
 -- ---- the first 8,193 bytes decide
 
 -- the text of a proof is all of the input, where it is all of its first bytes
-whole_input : (input : List ℕ) (proof : Proof) → IsProofText (take 8193 input) proof → take 8193 input ≡ input
+whole_input : (input : List ℕ) (proof : Proof) → IsProofText (take MOST_BYTES input) proof → take MOST_BYTES input ≡ input
 whole_input input proof is =
-    let short = has_one_spelling.short (take 8193 input) proof is in
-    take_all 8193 input (omega (arith, short, length-take 8193 input))
+    let short = has_one_spelling.short (take MOST_BYTES input) proof is in
+    take_all MOST_BYTES input (omega (arith, short, length-take MOST_BYTES input))
 
-first_bytes : (input : List ℕ) (proof : Proof) → IsProofText input proof → take 8193 input ≡ input
+first_bytes : (input : List ℕ) (proof : Proof) → IsProofText input proof → take MOST_BYTES input ≡ input
 first_bytes input proof is =
     let short = has_one_spelling.short input proof is in
-    take_all 8193 input (omega (arith, short))
+    take_all MOST_BYTES input (omega (arith, short))
 
-judges_input : (digest : List ℕ → List ℕ) (input : List ℕ) (r : Result Bool CheckFault) → Judges digest (take 8193 input) r → Judges digest input r
+judges_input : (digest : List ℕ → List ℕ) (input : List ℕ) (r : Result Bool CheckFault) → Judges digest (take MOST_BYTES input) r → Judges digest input r
 judges_input digest input (Ok true) h = (h.0, subst (λ b. IsProofText b h.0) (whole_input input h.0 h.1) h.1, h.2)
 judges_input digest input (Ok false) h = (h.0, subst (λ b. IsProofText b h.0) (whole_input input h.0 h.1) h.1, h.2)
 judges_input digest input (Err BadProofText) h = λ proof is. h proof (subst (λ b. IsProofText b proof) (sym (first_bytes input proof is)) is)
@@ -83,6 +84,6 @@ judges_input digest input (Err ReadFault) h = tt
 judges_input digest input (Err WriteFault) h = h
 judges_input digest input (Err OutOfMemory) h = tt
 
-pub judges_whole : (digest : List ℕ → List ℕ) (known : Option (List ℕ)) (bytes : List ℕ) (r : Result Bool CheckFault) → IfSome known (λ input. bytes ≡ take 8193 input) → Judges digest bytes r → IfSome known (λ input. Judges digest input r)
+pub judges_whole : (digest : List ℕ → List ℕ) (known : Option (List ℕ)) (bytes : List ℕ) (r : Result Bool CheckFault) → IfSome known (λ input. bytes ≡ take MOST_BYTES input) → Judges digest bytes r → IfSome known (λ input. Judges digest input r)
 judges_whole digest None bytes r e h = tt
 judges_whole digest (Some input) bytes r e h = judges_input digest input r (subst (λ b. Judges digest b r) e h)

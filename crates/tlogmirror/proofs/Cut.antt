@@ -10,6 +10,7 @@ use Rattle.tlog_tiles.specs.Bundle.{entry_text, IsBundle, HasBundle, ReadsBundle
 use Rattle.tlog_tiles.specs.declared.bundle.BundleFault.{BundleFault}
 use Rattle.tlog_tiles.specs.declared.bundle.BundleFault.TheVariants as bundle
 use Rattle.tlog_hash.specs.Tree.{mth}
+use Rattle.tlogmirror.specs.declared.root.TheConstants.{MOST_BYTES}
 use Rattle.tlogmirror.specs.Faults.{root_of_bundle}
 use Rattle.tlogmirror.specs.Root.{MakesRoot, root_text}
 
@@ -23,7 +24,7 @@ entries_length (e ∷ es) h =
     omega (arith, first, others, whole, front)
 
 -- a bundle of 256 entries at most is short
-pub IsBundle-length : (width : ℕ) (bytes : List ℕ) (es : List (List ℕ)) → width ≤ 256 → IsBundle width bytes es → length bytes < 16777473
+pub IsBundle-length : (width : ℕ) (bytes : List ℕ) (es : List (List ℕ)) → width ≤ 256 → IsBundle width bytes es → length bytes < MOST_BYTES
 IsBundle-length width bytes es le b =
     let h = entries_length es b.fits in
     let e = ap length b.text in
@@ -35,37 +36,37 @@ front_of_part input front rest n le e =
     let k : n ≡ length front + (n - length front) = omega arith in
     (take (n - length front) rest, ap (λ i. take i input) k ∙ (ap (λ (x : List ℕ). take (length front + (n - length front)) x) e ∙ take-append-add front rest (n - length front)))
 
-pub short_of_part : (width : ℕ) (input rest : List ℕ) → width ≤ 256 → HasBundle width input rest → (others : List ℕ) × HasBundle width (take 16777473 input) others
+pub short_of_part : (width : ℕ) (input rest : List ℕ) → width ≤ 256 → HasBundle width input rest → (others : List ℕ) × HasBundle width (take MOST_BYTES input) others
 short_of_part width input rest le h =
     let long = IsBundle-length width h.front h.entries le h.is_bundle in
-    let part = front_of_part input h.front rest 16777473 (omega (arith, long)) h.parts in
+    let part = front_of_part input h.front rest MOST_BYTES (omega (arith, long)) h.parts in
     (part.0, record { front = h.front; entries = h.entries; parts = part.1; is_bundle = h.is_bundle })
 
-made_fault_of : (digest : List ℕ → List ℕ) (width : ℕ) (input : List ℕ) (f : BundleFault) → width ≤ 256 → ReadsBundle width (take 16777473 input) (Err f) → MakesRoot digest width input (Err (root_of_bundle f))
+made_fault_of : (digest : List ℕ → List ℕ) (width : ℕ) (input : List ℕ) (f : BundleFault) → width ≤ 256 → ReadsBundle width (take MOST_BYTES input) (Err f) → MakesRoot digest width input (Err (root_of_bundle f))
 made_fault_of digest width input bundle.BundleShort le h = λ rest b. let part = short_of_part width input rest le b in h part.0 part.1
 made_fault_of digest width input bundle.BundleLong le h =
     let b = h.2 in (
       h.0,
-      h.1 ++ drop 16777473 input,
+      h.1 ++ drop MOST_BYTES input,
       record {
         front = b.front;
         entries = b.entries;
-        parts = sym (take-append-drop 16777473 input) ∙ (ap (λ (x : List ℕ). x ++ drop 16777473 input) b.parts ∙ append_assoc b.front (h.0 ∷ h.1) (drop 16777473 input));
+        parts = sym (take-append-drop MOST_BYTES input) ∙ (ap (λ (x : List ℕ). x ++ drop MOST_BYTES input) b.parts ∙ append_assoc b.front (h.0 ∷ h.1) (drop MOST_BYTES input));
         is_bundle = b.is_bundle;
       },
     )
 made_fault_of digest width input bundle.OutOfMemory le h = tt
 
-pub made_fault : (digest : List ℕ → List ℕ) (width : ℕ) (known : Option (List ℕ)) (bytes : List ℕ) (f : BundleFault) → width ≤ 256 → IfSome known (λ xs. bytes ≡ take 16777473 xs) → ReadsBundle width bytes (Err f)
+pub made_fault : (digest : List ℕ → List ℕ) (width : ℕ) (known : Option (List ℕ)) (bytes : List ℕ) (f : BundleFault) → width ≤ 256 → IfSome known (λ xs. bytes ≡ take MOST_BYTES xs) → ReadsBundle width bytes (Err f)
     → IfSome known (λ input. MakesRoot digest width input (Err (root_of_bundle f)))
 made_fault digest width None bytes f le e h = tt
 made_fault digest width (Some input) bytes f le e h = made_fault_of digest width input f le (subst (λ (b : List ℕ). ReadsBundle width b (Err f)) e h)
 
-pub made_text : (digest : List ℕ → List ℕ) (width : ℕ) (known : Option (List ℕ)) (bytes text : List ℕ) (es : List (List ℕ)) → width ≤ 256 → IfSome known (λ xs. bytes ≡ take 16777473 xs) → IsBundle width bytes es → text ≡ root_text width (mth digest es)
+pub made_text : (digest : List ℕ → List ℕ) (width : ℕ) (known : Option (List ℕ)) (bytes text : List ℕ) (es : List (List ℕ)) → width ≤ 256 → IfSome known (λ xs. bytes ≡ take MOST_BYTES xs) → IsBundle width bytes es → text ≡ root_text width (mth digest es)
     → IfSome known (λ input. MakesRoot digest width input (Ok text))
 made_text digest width None bytes text es le e b t = tt
 made_text digest width (Some input) bytes text es le e b t =
     let short = IsBundle-length width bytes es le b in
-    let len = ap length e ∙ length-take 16777473 input in
-    let all : bytes ≡ input = e ∙ take_all 16777473 input (omega (arith, short, len)) in
+    let len = ap length e ∙ length-take MOST_BYTES input in
+    let all : bytes ≡ input = e ∙ take_all MOST_BYTES input (omega (arith, short, len)) in
     record { entries = es; is_bundle = subst (λ (x : List ℕ). IsBundle width x es) all b; text_is = t }

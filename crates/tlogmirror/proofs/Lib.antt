@@ -1,4 +1,5 @@
-pub mod ReadsLemmas
-pub mod Writes
 pub mod Cut
 pub mod CheckText
+pub mod CommandLine
+pub mod CommandLaws
+pub mod Written

@@ -1,15 +1,12 @@
 -- What the command `check` answers and writes.
-use Rattle.std.specs.Prelude.{ℕ, List, take, Option, Result, Ok, Err, Bool, true, false, codes}
+use Rattle.std.specs.Prelude.{ℕ, List, Option, Result, Ok, Err, Bool, true, false, codes}
 use Rattle.std.specs.Io.KnownBytes.{Appends}
+use Rattle.byte_streams.specs.Streams.{AppendsFront}
 use Rattle.tlog_proof.specs.declared.proof.Proof.{Proof}
 use Rattle.tlog_proof.specs.Made.{Holds}
 use Rattle.tlog_proof.specs.Text.{IsProofText}
 use Rattle.tlogmirror.specs.declared.check.CheckFault.{CheckFault}
 use Rattle.tlogmirror.specs.declared.check.CheckFault.TheVariants.{BadProofText, ReadFault, WriteFault, OutOfMemory}
-
--- more bytes than any text of a proof has
-abbrev pub most_text_bytes : ℕ
-most_text_bytes = 8193
 
 -- the line that tells a verdict
 abbrev pub verdict_text : Bool → List ℕ
@@ -27,7 +24,7 @@ module _ (digest : List ℕ → List ℕ) where
   AnswersCheck input old new (Ok verdict) = Verdict input verdict × Appends old new (verdict_text verdict)
   AnswersCheck input old new (Err BadProofText) = (proof : Proof) → IsProofText input proof → ⊥
   AnswersCheck input old new (Err ReadFault) = Unit {0}
-  AnswersCheck input old new (Err WriteFault) = (verdict : Bool) × Verdict input verdict × (n : ℕ) × Appends old new (take n (verdict_text verdict))
+  AnswersCheck input old new (Err WriteFault) = (verdict : Bool) × Verdict input verdict × AppendsFront old new (verdict_text verdict)
   AnswersCheck input old new (Err OutOfMemory) = Unit {0}
 
   -- what each answer of the judge says of the bytes

@@ -1,12 +1,12 @@
 -- Which fault of a command a fault of one of its parts becomes.
+use Rattle.byte_streams.specs.declared.fault.StreamFault.{StreamFault}
+use Rattle.byte_streams.specs.declared.fault.StreamFault.TheVariants as stream
 use Rattle.tlog_tiles.specs.declared.bundle.BundleFault.{BundleFault}
 use Rattle.tlog_tiles.specs.declared.bundle.BundleFault.TheVariants as bundle
 use Rattle.tlog_proof.specs.declared.fault.TextFault.{TextFault}
 use Rattle.tlog_proof.specs.declared.fault.TextFault.TheVariants as text
 use Rattle.tlogmirror.specs.declared.check.CheckFault.{CheckFault}
 use Rattle.tlogmirror.specs.declared.check.CheckFault.TheVariants as check
-use Rattle.tlogmirror.specs.declared.input.ReadFault.{ReadFault}
-use Rattle.tlogmirror.specs.declared.input.ReadFault.TheVariants as read
 use Rattle.tlogmirror.specs.declared.root.RootFault.{RootFault}
 use Rattle.tlogmirror.specs.declared.root.RootFault.TheVariants as root
 
@@ -15,14 +15,16 @@ root_of_bundle bundle.BundleShort = root.BundleShort
 root_of_bundle bundle.BundleLong = root.BundleLong
 root_of_bundle bundle.OutOfMemory = root.OutOfMemory
 
-abbrev pub root_of_read : ReadFault → RootFault
-root_of_read read.Failed = root.ReadFault
-root_of_read read.OutOfMemory = root.OutOfMemory
+abbrev pub root_of_stream : StreamFault → RootFault
+root_of_stream stream.ReadFault = root.ReadFault
+root_of_stream stream.WriteFault = root.WriteFault
+root_of_stream stream.OutOfMemory = root.OutOfMemory
 
 abbrev pub check_of_text : TextFault → CheckFault
 check_of_text text.BadProofText = check.BadProofText
 check_of_text text.OutOfMemory = check.OutOfMemory
 
-abbrev pub check_of_read : ReadFault → CheckFault
-check_of_read read.Failed = check.ReadFault
-check_of_read read.OutOfMemory = check.OutOfMemory
+abbrev pub check_of_stream : StreamFault → CheckFault
+check_of_stream stream.ReadFault = check.ReadFault
+check_of_stream stream.WriteFault = check.WriteFault
+check_of_stream stream.OutOfMemory = check.OutOfMemory

@@ -1,6 +1,7 @@
 pub mod Root
 pub mod Check
-pub mod Streams
 pub mod Faults
+pub mod App
 pub mod Commands
 pub mod Runs
+pub mod Endings

@@ -1,21 +1,17 @@
 -- What the command `root` answers and writes.
-use Rattle.std.specs.Prelude.{◌≡◌, ℕ, List, ◌∷◌, ◌++◌, take, Option, Result, Ok, Err, codes}
+use Rattle.std.specs.Prelude.{◌≡◌, ℕ, List, ◌∷◌, ◌++◌, Option, Result, Ok, Err, codes}
 use Rattle.std.specs.Io.KnownBytes.{Appends}
 use Rattle.std.specs.Fmt.{decimal}
-use Rattle.base64.specs.Engines.{standard}
-use Rattle.base64.specs.GeneralPurpose.{encode_of}
+use Rattle.byte_streams.specs.Streams.{AppendsFront}
+use Rattle.tlog_text.specs.Hash.{base64_of}
 use Rattle.tlog_hash.specs.Tree.{mth}
 use Rattle.tlog_tiles.specs.Bundle.{IsBundle, HasBundle}
 use Rattle.tlogmirror.specs.declared.root.RootFault.{RootFault}
 use Rattle.tlogmirror.specs.declared.root.RootFault.TheVariants.{BundleShort, BundleLong, ReadFault, WriteFault, OutOfMemory}
 
--- more bytes than any bundle of 256 entries has: 256 * (2 + 65535) and one more
-abbrev pub most_bytes : ℕ
-most_bytes = 16777473
-
 -- the two lines that tell a size and a root, the root in standard base64
 abbrev pub root_text : ℕ → List ℕ → List ℕ
-root_text size root = codes "size " ++ (decimal size ++ (codes "\nroot " ++ (encode_of standard root ++ codes "\n")))
+root_text size root = codes "size " ++ (decimal size ++ (codes "\nroot " ++ (base64_of root ++ codes "\n")))
 
 module _ (digest : List ℕ → List ℕ) where
   -- the text is that of the bundle of that width which all of the input is
@@ -30,7 +26,7 @@ module _ (digest : List ℕ → List ℕ) where
   AnswersRoot width input old new (Err BundleShort) = (rest : List ℕ) → HasBundle width input rest → ⊥
   AnswersRoot width input old new (Err BundleLong) = (next : ℕ) × (rest : List ℕ) × HasBundle width input (next ∷ rest)
   AnswersRoot width input old new (Err ReadFault) = Unit {0}
-  AnswersRoot width input old new (Err WriteFault) = (text : List ℕ) × IsTextOf width input text × (n : ℕ) × Appends old new (take n text)
+  AnswersRoot width input old new (Err WriteFault) = (text : List ℕ) × IsTextOf width input text × AppendsFront old new text
   AnswersRoot width input old new (Err OutOfMemory) = Unit {0}
 
   -- what each answer of the maker of the text says of the input

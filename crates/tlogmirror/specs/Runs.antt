@@ -1,16 +1,32 @@
 -- What a run of the program answers and writes.
-use Rattle.std.specs.Prelude.{◌≡◌, ◌⊎◌, ℕ, ◌≤◌, List, Option, Result, Ok, Err, Bool, true, false}
+use Rattle.std.specs.Prelude.{◌≡◌, ◌⊎◌, ℕ, List, Option, Result, Ok, Err, Bool, true, false}
 use Rattle.std.specs.Io.KnownBytes.{Keeps}
+use Rattle.clap.specs.Words.{Text}
+use Rattle.tlogmirror.specs.declared.command.Command.{Command as Order}
+use Rattle.tlogmirror.specs.declared.command.Command.TheVariants as order
 use Rattle.tlogmirror.specs.declared.run.RunFault.{RunFault}
 use Rattle.tlogmirror.specs.declared.run.RunFault.TheVariants.{Command, Root, Check}
 use Rattle.tlogmirror.specs.declared.root.RootFault.{RootFault}
+use Rattle.tlogmirror.specs.declared.root.RootFault.TheVariants as root
+use Rattle.tlogmirror.specs.declared.check.CheckFault.TheVariants as check
 use Rattle.tlogmirror.specs.Root.{AnswersRoot}
 use Rattle.tlogmirror.specs.Check.{AnswersCheck}
+use Rattle.tlogmirror.specs.Commands.{Asks, Reads}
 
 -- the exit status of a verdict: 3 for a no
 abbrev pub verdict_status : Bool → ℕ
 verdict_status true = 0
 verdict_status false = 3
+
+-- the command is done, or it tells a no
+abbrev pub IsStatus : ℕ → Type 0
+IsStatus status = (status ≡ 0) ⊎ (status ≡ 3)
+
+-- a write failed, so that a front of the text may have been written
+abbrev pub IsWriteFault : RunFault → Type 0
+IsWriteFault (Root root.WriteFault) = Unit {0}
+IsWriteFault (Check check.WriteFault) = Unit {0}
+IsWriteFault other = ⊥
 
 -- the answers of `root`
 abbrev pub root_done : Result (Unit {0}) RootFault
@@ -20,22 +36,22 @@ abbrev pub root_failed : RootFault → Result (Unit {0}) RootFault
 root_failed fault = Err fault
 
 module _ (digest : List ℕ → List ℕ) where
-  -- `root` of some width did its work
-  pub record RanRoot (input : List ℕ) (old new : Option (List ℕ)) (status : ℕ) : Type 0 where
-    pub width : ℕ
-    pub lawful : width ≤ 256
-    pub answer : AnswersRoot digest width input old new root_done
-    pub done : status ≡ 0
+  -- what each answer of a command says of the input, and of what was written
+  abbrev pub Does : Order → List ℕ → Option (List ℕ) → Option (List ℕ) → Result ℕ RunFault → Type 0
+  Does (order.Root width) input old new (Ok status) = AnswersRoot digest width input old new root_done × (status ≡ 0)
+  Does (order.Root width) input old new (Err (Root fault)) = AnswersRoot digest width input old new (root_failed fault)
+  Does (order.Root width) input old new (Err other) = ⊥
+  Does order.Check input old new (Ok status) = (verdict : Bool) × AnswersCheck digest input old new (Ok verdict) × (status ≡ verdict_status verdict)
+  Does order.Check input old new (Err (Check fault)) = AnswersCheck digest input old new (Err fault)
+  Does order.Check input old new (Err other) = ⊥
 
-  -- `check` told its verdict
-  pub record RanCheck (input : List ℕ) (old new : Option (List ℕ)) (status : ℕ) : Type 0 where
-    pub verdict : Bool
-    pub answer : AnswersCheck digest input old new (Ok verdict)
-    pub status_is : status ≡ verdict_status verdict
+  -- the words ask for a command, and this is its answer
+  pub record Obeys (words : List Text) (input : List ℕ) (old new : Option (List ℕ)) (answer : Result ℕ RunFault) : Type 0 where
+    pub command : Order
+    pub asked : Asks words command
+    pub done : Does command input old new answer
 
-  -- what each answer of a run says of the input, and of what was written
-  abbrev pub Runs : List ℕ → Option (List ℕ) → Option (List ℕ) → Result ℕ RunFault → Type 0
-  Runs input old new (Ok status) = RanRoot input old new status ⊎ RanCheck input old new status
-  Runs input old new (Err (Command fault)) = Keeps old new
-  Runs input old new (Err (Root fault)) = (width : ℕ) × (width ≤ 256) × AnswersRoot digest width input old new (root_failed fault)
-  Runs input old new (Err (Check fault)) = AnswersCheck digest input old new (Err fault)
+  -- what each answer of a run says of the words, of the input, and of what was written
+  abbrev pub Runs : List Text → List ℕ → Option (List ℕ) → Option (List ℕ) → Result ℕ RunFault → Type 0
+  Runs words input old new (Err (Command fault)) = Reads words (Err fault) × Keeps old new
+  Runs words input old new answer = Obeys words input old new answer

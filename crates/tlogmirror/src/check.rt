@@ -2,20 +2,19 @@
 ghost use Rattle.std.specs.Prelude.{◌≡◌, ◌≢◌, IfErr, IfSome};
 ghost use Rattle.std.specs.Io.KnownBytes.{Keeps};
 ghost use Rattle.sha2.specs.Sha256.{sha256};
-ghost use Rattle.tlogmirror.specs.Check.{AnswersCheck, Judges, most_text_bytes, verdict_text};
-ghost use Rattle.tlogmirror.specs.Faults.{check_of_read, check_of_text};
-ghost use Rattle.tlogmirror.specs.Streams.{TakesAtMost};
+ghost use Rattle.byte_streams.specs.Streams.{TakesAtMost};
+ghost use Rattle.tlogmirror.specs.Check.{AnswersCheck, Judges, verdict_text};
+ghost use Rattle.tlogmirror.specs.Faults.{check_of_stream, check_of_text};
 
-use crate::input::{ReadFault, read_all};
-use crate::output::write_whole;
+use byte_streams::{StreamFault, read_all, write_whole};
 use std::alloc::Global;
 use std::io::{Read, Write};
 use thiserror::Error;
 use tlog_hash::Sha256Tree;
 use tlog_proof::{TextFault, holds, read_text};
 
-// One byte more than the longest text of a proof has.
-const MOST_BYTES: usize = 8193;
+/// How many bytes `check` takes at most: one more than the text of a proof may have.
+pub const MOST_BYTES: usize = 8_193;
 
 /// Why `check` told no verdict.
 #[derive(Debug, Drop, PartialEq, Eq, Clone, Copy, Error)]
@@ -45,13 +44,14 @@ impl From<TextFault> for CheckFault {
     }
 }
 
-impl From<ReadFault> for CheckFault {
-    ghost from_gives = { λ f e. e ≡ check_of_read f };
+impl From<StreamFault> for CheckFault {
+    ghost from_gives = { λ f e. e ≡ check_of_stream f };
 
-    fn from(fault: ReadFault) -> CheckFault {
+    fn from(fault: StreamFault) -> CheckFault {
         match fault {
-            ReadFault::Failed => CheckFault::ReadFault,
-            ReadFault::OutOfMemory => CheckFault::OutOfMemory,
+            StreamFault::ReadFault => CheckFault::ReadFault,
+            StreamFault::WriteFault => CheckFault::WriteFault,
+            StreamFault::OutOfMemory => CheckFault::OutOfMemory,
         }
     }
 }
@@ -72,9 +72,9 @@ fn judged(alloc: Global, bytes: &[u8]) -> Result<bool, CheckFault>
 // Whether the proof that the reader gives holds.
 fn verdict_of<R: Read>(alloc: Global, reader: &mut R) -> Result<bool, CheckFault>
     ensures verdict { IfSome (R.remaining reader.old) (λ input. Judges sha256 input result) }
-    ensures limit { TakesAtMost most_text_bytes (R.remaining reader.old) (R.remaining reader.new) }
+    ensures limit { TakesAtMost MOST_BYTES (R.remaining reader.old) (R.remaining reader.new) }
 {
-    let bytes = read_all(alloc, reader, MOST_BYTES)?;
+    let bytes = read_all(alloc, reader, MOST_BYTES, u64::MAX)?;
     judged(alloc, &bytes)
 }
 
@@ -86,6 +86,8 @@ fn text_of(verdict: bool) -> &'static str
 
 /// Reads the text of an inclusion or consistency proof, to the reader's end, and writes whether the
 /// proof holds: `yes` or `no`, and a newline. It answers the same.
+///
+/// # Errors
 ///
 /// `ReadFault` comes where a read fails, whatever was read before. `BadProofText` comes where all the
 /// bytes that the reader had to give are not the text of a proof, of which at most 8,193 are taken: so
@@ -99,11 +101,9 @@ pub fn run_check<R: Read, W: Write>(
     ensures answer { IfSome (R.remaining reader.old) (λ input.
         AnswersCheck sha256 input (W.contents writer.old) (W.contents writer.new) result) }
     ensures quiet { IfErr result (λ e. e ≢ CheckFault.WriteFault → Keeps (W.contents writer.old) (W.contents writer.new)) }
-    ensures limit { TakesAtMost most_text_bytes (R.remaining reader.old) (R.remaining reader.new) }
+    ensures limit { TakesAtMost MOST_BYTES (R.remaining reader.old) (R.remaining reader.new) }
 {
     let verdict = verdict_of(alloc, reader)?;
-    match write_whole(writer, text_of(verdict).as_bytes()) {
-        Ok(()) => Ok(verdict),
-        Err(_) => Err(CheckFault::WriteFault),
-    }
+    write_whole(writer, text_of(verdict).as_bytes())?;
+    Ok(verdict)
 }

@@ -1,24 +1,23 @@
 //! The command `root`: the tree hash of one bundle, from bytes to text.
-ghost use Rattle.std.specs.Prelude.{◌≡◌, ◌≢◌, ◌≤◌, ◌++◌, IfErr, IfOk, IfSome, codes, string_bytes};
+ghost use Rattle.std.specs.Prelude.{◌≡◌, ◌≢◌, ◌≤◌, IfErr, IfOk, IfSome, string_bytes};
 ghost use Rattle.std.specs.Io.KnownBytes.{Keeps};
-ghost use Rattle.std.specs.Fmt.{decimal};
 ghost use Rattle.tlog_tiles.specs.Seen.{seen};
-ghost use Rattle.tlogmirror.specs.Faults.{root_of_bundle, root_of_read};
-ghost use Rattle.tlogmirror.specs.Root.{AnswersRoot, MakesRoot, most_bytes, root_text};
-ghost use Rattle.tlogmirror.specs.Streams.{TakesAtMost};
+ghost use Rattle.byte_streams.specs.Streams.{TakesAtMost};
+ghost use Rattle.tlogmirror.specs.Faults.{root_of_bundle, root_of_stream};
+ghost use Rattle.tlogmirror.specs.Root.{AnswersRoot, MakesRoot, root_text};
 ghost use Rattle.tlogmirror.specs.declared.root.RootFault.TheVariants as root;
 
-use crate::input::{ReadFault, read_all};
-use crate::output::write_whole;
-use base64::engine::general_purpose::STANDARD;
+use byte_streams::{StreamFault, read_all, write_whole};
 use std::alloc::{AllocError, Global};
 use std::io::{Read, Write};
 use thiserror::Error;
 use tlog_hash::{Hash, TreeHash, tree_hash};
+use tlog_text::push_hash;
 use tlog_tiles::{BundleFault, read_bundle};
 
-// One byte more than the largest bundle has: so many bytes are no bundle of any width.
-const MOST_BYTES: usize = 16_777_473;
+/// How many bytes `root` takes at most: one more than the largest bundle has, which is 256 entries of
+/// 65,535 bytes, each after its length of two bytes. So many are no bundle of any width.
+pub const MOST_BYTES: usize = 16_777_473;
 
 /// Why `root` told no root.
 #[derive(Debug, Drop, PartialEq, Eq, Clone, Copy, Error)]
@@ -52,13 +51,14 @@ impl From<BundleFault> for RootFault {
     }
 }
 
-impl From<ReadFault> for RootFault {
-    ghost from_gives = { λ f e. e ≡ root_of_read f };
+impl From<StreamFault> for RootFault {
+    ghost from_gives = { λ f e. e ≡ root_of_stream f };
 
-    fn from(fault: ReadFault) -> RootFault {
+    fn from(fault: StreamFault) -> RootFault {
         match fault {
-            ReadFault::Failed => RootFault::ReadFault,
-            ReadFault::OutOfMemory => RootFault::OutOfMemory,
+            StreamFault::ReadFault => RootFault::ReadFault,
+            StreamFault::WriteFault => RootFault::WriteFault,
+            StreamFault::OutOfMemory => RootFault::OutOfMemory,
         }
     }
 }
@@ -71,17 +71,13 @@ impl From<AllocError> for RootFault {
     }
 }
 
-fn lines_of(alloc: Global, width: u32, root: &str) -> Result<String, AllocError>
-    ensures { IfOk result (λ t. string_bytes t ≡ codes "size " ++ (decimal width ++ (codes "\nroot " ++ (root.now ++ codes "\n")))) }
-{
-    format!(in alloc; "size {width}\nroot {root}\n")
-}
-
 fn text_of(alloc: Global, width: u32, root: &Hash) -> Result<String, AllocError>
     ensures { IfOk result (λ t. string_bytes t ≡ root_text width root.now) }
 {
-    let root = STANDARD.encode(alloc, root)?;
-    lines_of(alloc, width, &root)
+    let mut text = format!(in alloc; "size {width}\nroot ")?;
+    push_hash(&mut text, root)?;
+    text.push_str("\n")?;
+    Ok(text)
 }
 
 // The text of the bundle that the reader gives.
@@ -92,15 +88,17 @@ fn made<H: TreeHash, R: Read>(
 ) -> Result<String, RootFault>
     requires { width ≤ 256 }
     ensures text { IfSome (R.remaining reader.old) (λ input. MakesRoot H.digest width input (seen string_bytes result)) }
-    ensures limit { TakesAtMost most_bytes (R.remaining reader.old) (R.remaining reader.new) }
+    ensures limit { TakesAtMost MOST_BYTES (R.remaining reader.old) (R.remaining reader.new) }
 {
-    let bytes = read_all(alloc, reader, MOST_BYTES)?;
+    let bytes = read_all(alloc, reader, MOST_BYTES, u64::MAX)?;
     let entries = read_bundle(alloc, width, &bytes)?;
     Ok(text_of(alloc, width, &tree_hash::<H>(&entries))?)
 }
 
 /// Reads a bundle of `width` entries, to the reader's end, and writes its size and the tree hash of
 /// its entries (RFC 6962, section 2.1) in standard base64, as the two lines `size W` and `root ROOT`.
+///
+/// # Errors
 ///
 /// `ReadFault` comes where a read fails, whatever was read before. `BundleShort` and `BundleLong` are
 /// those of `read_bundle` on all the bytes that the reader had to give, of which at most 16,777,473
@@ -116,8 +114,9 @@ pub fn run_root<H: TreeHash, R: Read, W: Write>(
     ensures answer { IfSome (R.remaining reader.old) (λ input.
         AnswersRoot H.digest width input (W.contents writer.old) (W.contents writer.new) result) }
     ensures quiet { IfErr result (λ e. e ≢ RootFault.WriteFault → Keeps (W.contents writer.old) (W.contents writer.new)) }
-    ensures limit { TakesAtMost most_bytes (R.remaining reader.old) (R.remaining reader.new) }
+    ensures limit { TakesAtMost MOST_BYTES (R.remaining reader.old) (R.remaining reader.new) }
 {
     let text = made::<H, R>(alloc, width, reader)?;
-    write_whole(writer, text.as_bytes()).map_err(|_| RootFault::WriteFault)
+    write_whole(writer, text.as_bytes())?;
+    Ok(())
 }

@@ -1,8 +1,9 @@
 //! Whole runs of the program over memory, and over streams that fail.
+mod endings;
 mod streams;
+mod words;
 
 use crate::check::{CheckFault, run_check};
-use crate::command::{Command, CommandFault, read_words};
 use crate::root::{RootFault, run_root};
 use crate::run::run_words;
 use crate::tests::streams::{ByteByByte, FailingReader, FailingWriter};
@@ -20,7 +21,7 @@ const ROOT_2: &str = "+sVCA+fMaWzw38tCySodnbr3CtnmIfS9jZhmLwDjwSU=";
 
 const ROOT_3: &str = "rra8/idLcKFPsGel5VeCZNsPqbUa9eC6FZFY8yngbnc=";
 
-fn words_of(alloc: Global, line: &str) -> Result<Vec<String>, AllocError> {
+pub fn words_of(alloc: Global, line: &str) -> Result<Vec<String>, AllocError> {
     let mut words = Vec::new(alloc);
     for word in line.split_whitespace() {
         words.push(String::from_str(alloc, word)?)?;
@@ -143,11 +144,11 @@ fn failing_writer(rt: HostRuntime) -> Result<(), Fail> {
 }
 
 // The inclusion of the third of the entries (no bytes), `00` and `10`.
-const INCLUSION: &str =
+pub const INCLUSION: &str =
     "inclusion\nsize 3\nindex 2\nroot rra8/idLcKFPsGel5VeCZNsPqbUa9eC6FZFY8yngbnc=\nleaf ApjRIpBtz8EIkstTpzmS/FufST6kybrbJ7eRtBJ6f+c=\npath +sVCA+fMaWzw38tCySodnbr3CtnmIfS9jZhmLwDjwSU=\n";
 
 // The same, said of the second.
-const OTHER_INDEX: &str =
+pub const OTHER_INDEX: &str =
     "inclusion\nsize 3\nindex 1\nroot rra8/idLcKFPsGel5VeCZNsPqbUa9eC6FZFY8yngbnc=\nleaf ApjRIpBtz8EIkstTpzmS/FufST6kybrbJ7eRtBJ6f+c=\npath +sVCA+fMaWzw38tCySodnbr3CtnmIfS9jZhmLwDjwSU=\n";
 
 #[test]
@@ -216,57 +217,6 @@ fn check_over_failing_streams(rt: HostRuntime) -> Result<(), Fail> {
         );
         assert_eq!(rt; writer.taken.len(), room);
         assert!(rt; b"yes\n".starts_with(&writer.taken));
-    }
-    Ok(())
-}
-
-#[test]
-fn words_of_commands(rt: HostRuntime) -> Result<(), Fail> {
-    let alloc = rt.alloc();
-    for (line, width) in [
-        ("root --width 0", 0),
-        ("root --width 256", 256),
-        ("root --width=7", 7),
-    ] {
-        let command = read_words(alloc, &words_of(alloc, line)?);
-        assert!(rt;
-            matches!(command, Ok(Command::Root { width: found }) if found == width),
-            "{line}"
-        );
-    }
-    for line in [
-        "root --width 257",
-        "root --width 08",
-        "root --width +8",
-        "root --width x",
-        "root --width 1.0",
-        "root --width 99999999999999999999",
-    ] {
-        let command = read_words(alloc, &words_of(alloc, line)?);
-        assert!(rt; matches!(command, Err(CommandFault::BadArgument)), "{line}");
-    }
-    for line in [
-        "",
-        "check x",
-        "root",
-        "roots",
-        "root --width",
-        "root --width 1 2",
-        "root --width -1",
-        "help",
-    ] {
-        let command = read_words(alloc, &words_of(alloc, line)?);
-        assert!(rt; matches!(command, Err(CommandFault::Words(_))), "{line}");
-    }
-    assert!(rt;
-        matches!(
-            read_words(alloc, &words_of(alloc, "check")?),
-            Ok(Command::Check)
-        )
-    );
-    for line in ["--help", "root --help", "check --help"] {
-        let command = read_words(alloc, &words_of(alloc, line)?);
-        assert!(rt; matches!(command, Err(CommandFault::Help(_))), "{line}");
     }
     Ok(())
 }
