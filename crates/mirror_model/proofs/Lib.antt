@@ -22,6 +22,7 @@ pub mod TrueItems
 pub mod ManyRounds
 pub mod Listing
 pub mod Keeping
+pub mod Headline
 pub mod Takings
 pub mod MissingPaths
 pub mod EdgeWalks

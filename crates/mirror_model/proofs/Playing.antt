@@ -15,10 +15,9 @@ use Rattle.mirror_model.specs.declared.events.Event.TheVariants.{Take, Merge}
 use Rattle.mirror_model.specs.Events.{Reaches, OpeningReaches}
 use Rattle.mirror_model.specs.Steps.{Answer, Done, Refused, Clashed, Exhausted, Answers, Happens, TakesAt, MergesAt, Run}
 use Rattle.mirror_model.specs.Reached.{OpensWith, TakesIn, HasReached, HasReachedOnly, events_of, is_done, may_change, IsNext, AreRetried}
-use Rattle.mirror_model.specs.RunLaws.{AreOf, RunIsBounded, IsReached, RunIsReached, IsMet, NoneClashes, ForMirrors}
-use Rattle.mirror_model.specs.Headline.{SameReachedSameView, MirrorsAgree, ReachesToo}
+use Rattle.mirror_model.specs.RunLaws.{AreOf, RunIsBounded, RunIsReached, IsMet, NoneClashes, ForMirrors}
 use Rattle.mirror_model.proofs.StringSets.{has_right, has_cases, listed_from_has, has_from_listed}
-use Rattle.mirror_model.proofs.Views.{within_itself, within_union, within_plus, same_is_one}
+use Rattle.mirror_model.proofs.Views.{within_itself, within_union, within_plus}
 use Rattle.mirror_model.proofs.Steps.{get_set_same, get_set_other, one_of_list, same_number, answer_grows, answer_within, answer_changes}
 use Rattle.mirror_model.proofs.Reaching.{open_none, open_itself, open_first, open_later, open_by, item_none, item_first, item_later, item_by}
 
@@ -365,7 +364,7 @@ item_answered (e ∷ es) (Refused ∷ as') len h item mirror on = item_kept e es
 item_answered (e ∷ es) (Clashed ∷ as') len h item mirror on = item_kept e es (events_of is_answered es as') (open_answered es as' (omega (arith, len)) h) (item_answered es as' (omega (arith, len)) h) item mirror on
 item_answered (e ∷ es) (Exhausted ∷ as') len h item mirror on = item_answered es as' (omega (arith, len)) h.1 item mirror (item_next e es h.0 item mirror on)
 
-run_lengths : (digest : List ℕ → List ℕ) (keys : List Key) (old new : List View) (es : List Event) (as' : List Answer) → Run digest keys old es as' new → length es ≡ length as'
+pub run_lengths : (digest : List ℕ → List ℕ) (keys : List Key) (old new : List View) (es : List Event) (as' : List Answer) → Run digest keys old es as' new → length es ≡ length as'
 run_lengths digest keys old new [] [] run = refl
 run_lengths digest keys old new (e ∷ es) (a ∷ as') run = ap suc (run_lengths digest keys run.0 new es as' run.2)
 run_lengths digest keys old new [] (a ∷ as') run = absurd run
@@ -382,7 +381,7 @@ answered_exact (a ∷ more) apart = (one a apart, answered_exact more (λ c. apa
     one Clashed c h = absurd (c (0, omega arith, refl))
     one Exhausted c h = absurd (cc h)
 
-run_origin : (digest : List ℕ → List ℕ) (keys : List Key) (origin : List ℕ) (old new : List View) (es : List Event) (rest : List Answer) → AreOf origin old → Run digest keys old es rest new → AreOf origin new
+pub run_origin : (digest : List ℕ → List ℕ) (keys : List Key) (origin : List ℕ) (old new : List View) (es : List Event) (rest : List Answer) → AreOf origin old → Run digest keys old es rest new → AreOf origin new
 run_origin digest keys origin old new [] [] of run = subst (AreOf origin) (sym run) of
 run_origin digest keys origin old new (e ∷ es) (a ∷ rest) of run = run_origin digest keys origin run.0 new es rest (event_origin digest keys origin old run.0 e a run.1 of) run.2
 run_origin digest keys origin old new [] (a ∷ rest) of run = absurd run
@@ -476,31 +475,3 @@ none_clashes digest origin keys opened final events answers r clean c =
     let M : List ℕ → Type 0 = IsMet digest origin keys opened events in
     let all = run_clean digest origin keys M clean opened final events answers r.of_origin (λ number v is q has. inl (record { number = number; view = v; is = is; has = has })) (λ position target item is good q has. inr (record { position = position; target = target; item = item; is = is; good = good; has = has })) r.run in
     All-contains (λ a. a ≡ Clashed → ⊥) answers Clashed (All-from_recursion (λ a. a ≡ Clashed → ⊥) answers all) c refl
-
--- ---- two runs
-
-half : (digest : List ℕ → List ℕ) (origin : List ℕ) (keys : List Key) (opened opened' : List View) (events events' : List Event) (mirror mirror' : ℕ) (v w : View) → IsReached digest origin keys opened events mirror v → IsReached digest origin keys opened' events' mirror' w → ReachesToo digest origin keys opened opened' events events' mirror mirror' → IsSubview v w
-half digest origin keys opened opened' events events' mirror mirror' v w a b too = record {
-  origin_is = a.origin_is ∙ sym b.origin_is;
-  notes_are = λ q h. b.has.notes q (elim (a.only.notes q h) [
-    | inl o ↦ inl (too.notes q o)
-    | inr t ↦ inr (record { item = t.item; good = t.good; reaches = too.items t.item t.good t.reaches; has = t.has })
-  ]);
-  strings_are = λ q h. b.has.strings q (elim (a.only.strings q h) [
-    | inl o ↦ inl (too.strings q o)
-    | inr t ↦ inr (record { item = t.item; good = t.good; reaches = too.items t.item t.good t.reaches; has = t.has })
-  ]);
-}
-
-pub same_reached : ForMirrors SameReachedSameView
-same_reached digest origin keys opened opened' events events' mirror mirror' v w p q apart apart' alike =
-    let a = run_is_reached digest origin keys opened p.final events p.answers p.is_run apart p.retried mirror v p.is in
-    let b = run_is_reached digest origin keys opened' q.final events' q.answers q.is_run apart' q.retried mirror' w q.is in
-    same_is_one v w (half digest origin keys opened opened' events events' mirror mirror' v w a b alike.there) (half digest origin keys opened' opened events' events mirror' mirror w v b a alike.back)
-
-pub mirrors_agree : ForMirrors MirrorsAgree
-mirrors_agree digest origin keys opened opened' events events' mirror mirror' v w clean clean' p q alike =
-    same_reached digest origin keys opened opened' events events' mirror mirror' v w p q
-    (none_clashes digest origin keys opened p.final events p.answers p.is_run clean)
-    (none_clashes digest origin keys opened' q.final events' q.answers q.is_run clean')
-    alike

@@ -1,23 +1,54 @@
--- The headline: what mirrors agree on.
-use Rattle.std.specs.Prelude.{◌≡◌, ℕ, List, Some, slice_get}
+-- The headline: what mirrors agree on, and what they tell, after any plays.
+use Rattle.std.specs.Prelude.{◌≡◌, ◌≢◌, ◌↔◌, ℕ, List, [], ◌∷◌, ◌++◌, Some, slice_get, map}
 use Rattle.std.specs.List.{Contains}
 use Rattle.signed_note.specs.Keys.{Key}
 use Rattle.mirror_model.specs.View.{View}
+use Rattle.mirror_model.specs.Strings.{IsDigest}
+use Rattle.mirror_model.specs.Complete.{Complete}
+use Rattle.mirror_model.specs.Served.{Served}
+use Rattle.mirror_model.specs.Forks.{Point, IsPrefix, IsFork}
 use Rattle.mirror_model.specs.declared.items.Item.{Item}
 use Rattle.mirror_model.specs.Item.{IsGood}
 use Rattle.mirror_model.specs.declared.events.Event.{Event}
+use Rattle.mirror_model.specs.declared.events.Event.TheVariants.{Take, Merge}
 use Rattle.mirror_model.specs.Events.{Reaches}
-use Rattle.mirror_model.specs.Steps.{Answer, Clashed}
+use Rattle.mirror_model.specs.Steps.{Answer, Clashed, Run}
 use Rattle.mirror_model.specs.Reached.{OpensWith, AreRetried}
-use Rattle.mirror_model.specs.RunLaws.{IsRun, NothingClashes}
+use Rattle.mirror_model.specs.ReplyLaws.{IsTruth}
+use Rattle.mirror_model.specs.RunLaws.{AreOf, AreLawful, IsReached, NothingClashes}
+
+-- ---- plays
+
+-- a play: events, with an answer each
+pub record Play : Type 0 where
+  pub events : List Event
+  pub answers : List Answer
+
+-- the events of several plays, one play after another
+abbrev pub events_in : List Play → List Event
+events_in [] = []
+events_in (play ∷ plays) = play.events ++ events_in plays
+
+-- no event of a play was answered by a clash
+abbrev pub NoneClashed : List Play → Type 0
+NoneClashed plays = (play : Play) → Contains plays play → Contains play.answers Clashed → ⊥
+
+-- plays of any number of mirrors, each from the views that the one before left; in each, an event for which memory
+-- was refused is followed by the same event, before any other
+abbrev pub Plays : (List ℕ → List ℕ) → List Key → List View → List Play → List View → Type 0
+Plays digest keys old [] new = new ≡ old
+Plays digest keys old (play ∷ plays) new =
+    (between : List View) × Run digest keys old play.events play.answers between
+    × AreRetried play.events play.answers × Plays digest keys between plays new
+
+-- ---- what mirrors agree on
 
 module _ (digest : List ℕ → List ℕ) (origin : List ℕ) (keys : List Key) where
-  -- a run leaves a mirror that view; each event for which memory was refused was done again
-  pub record Leaves (opened : List View) (events : List Event) (mirror : ℕ) (v : View) : Type 0 where
-    pub answers : List Answer
+  -- plays of mirrors of one origin leave a mirror that view
+  pub record Leaves (opened : List View) (plays : List Play) (mirror : ℕ) (v : View) : Type 0 where
     pub final : List View
-    pub is_run : IsRun digest origin keys opened events answers final
-    pub retried : AreRetried events answers
+    pub of_origin : AreOf origin opened
+    pub played : Plays digest keys opened plays final
     pub is : slice_get final mirror ≡ Some v
 
   -- the good items that reach the one mirror in the one run, and each string and note of the opening views that
@@ -37,18 +68,127 @@ module _ (digest : List ℕ → List ℕ) (origin : List ℕ) (keys : List Key) 
     pub there : ReachesToo opened opened' events events' mirror mirror'
     pub back : ReachesToo opened' opened events' events mirror' mirror
 
-  -- mirrors that the same items have reached, in any order, with repeats and through any merges, hold equal views,
-  -- where nothing clashed
+  -- where nothing clashed a mirror's view is the union of the opening views and of the good items that reach it
+  abbrev pub PlaysBring : Type 0
+  PlaysBring =
+      (opened : List View) (plays : List Play) (mirror : ℕ) (v : View) →
+      Leaves opened plays mirror v →
+      NoneClashed plays →
+      IsReached digest origin keys opened (events_in plays) mirror v
+
+  -- so mirrors that the same items have reached, in any order, with repeats and through any merges, hold equal views
   abbrev pub SameReachedSameView : Type 0
   SameReachedSameView =
-      (opened opened' : List View) (events events' : List Event) (mirror mirror' : ℕ) (v w : View) (p : Leaves opened events mirror v) (q : Leaves opened' events' mirror' w) →
-      (Contains p.answers Clashed → ⊥) → (Contains q.answers Clashed → ⊥) →
-      ReachedAlike opened opened' events events' mirror mirror' → v ≡ w
+      (opened opened' : List View) (plays plays' : List Play) (mirror mirror' : ℕ) (v w : View) →
+      Leaves opened plays mirror v →
+      Leaves opened' plays' mirror' w →
+      NoneClashed plays →
+      NoneClashed plays' →
+      ReachedAlike opened opened' (events_in plays) (events_in plays') mirror mirror' →
+      v ≡ w
 
-  -- The headline: while no two of the byte strings met share a digest, mirrors that the same items have reached
-  -- hold equal views.
+  -- while no two different strings met share a digest, no event is answered by a clash
+  abbrev pub NoPlayClashes : Type 0
+  NoPlayClashes =
+      (opened : List View) (plays : List Play) (mirror : ℕ) (v : View) →
+      NothingClashes digest origin keys opened (events_in plays) →
+      Leaves opened plays mirror v →
+      NoneClashed plays
+
+  -- The headline: while no two different byte strings met share a digest, mirrors that the same good items, and the
+  -- same strings and notes of opening views, have reached hold equal views, whatever the plays.
   abbrev pub MirrorsAgree : Type 0
   MirrorsAgree =
-      (opened opened' : List View) (events events' : List Event) (mirror mirror' : ℕ) (v w : View) →
-      NothingClashes digest origin keys opened events → NothingClashes digest origin keys opened' events' → Leaves opened events mirror v →
-      Leaves opened' events' mirror' w → ReachedAlike opened opened' events events' mirror mirror' → v ≡ w
+      (opened opened' : List View) (plays plays' : List Play) (mirror mirror' : ℕ) (v w : View) →
+      NothingClashes digest origin keys opened (events_in plays) →
+      NothingClashes digest origin keys opened' (events_in plays') →
+      Leaves opened plays mirror v →
+      Leaves opened' plays' mirror' w →
+      ReachedAlike opened opened' (events_in plays) (events_in plays') mirror mirror' →
+      v ≡ w
+
+-- ---- what they tell
+
+-- the checkpoint served is of the length and the tree hash of exactly the entries served; and two complete heads that
+-- differ are a fork exactly where neither list of entries is a prefix of the other
+pub record IsTruthful (digest : List ℕ → List ℕ) (v : View) : Type 0 where
+  pub served :
+      (note : List ℕ) (size : ℕ) (root : List ℕ) (entries : List (List ℕ)) →
+      Served digest v note size root entries →
+      IsTruth digest v note entries
+  pub forks :
+      (a b : Point) (first second : List (List ℕ)) →
+      a ≢ b →
+      Complete digest v a.size a.root first →
+      Complete digest v b.size b.root second →
+      IsFork digest v a b ↔ ((IsPrefix first second → ⊥) × (IsPrefix second first → ⊥))
+
+-- after any plays from lawful views; strings that share a digest change nothing of it
+abbrev pub PlaysTellTruth : Type 0
+PlaysTellTruth =
+    (digest : List ℕ → List ℕ) →
+    IsDigest digest →
+    (keys : List Key) (opened final : List View) (plays : List Play) →
+    AreLawful digest opened →
+    Plays digest keys opened plays final →
+    (mirror : ℕ) (v : View) →
+    slice_get final mirror ≡ Some v →
+    IsTruthful digest v
+
+-- what was complete is complete with the same entries, and with no others; a fork that was reported is reported
+pub record HasGrown (digest : List ℕ → List ℕ) (before after : View) : Type 0 where
+  pub stays :
+      (size : ℕ) (root : List ℕ) (entries : List (List ℕ)) →
+      Complete digest before size root entries →
+      Complete digest after size root entries
+  pub same :
+      (size : ℕ) (root : List ℕ) (entries others : List (List ℕ)) →
+      Complete digest before size root entries →
+      Complete digest after size root others →
+      entries ≡ others
+  pub forks : (a b : Point) → IsFork digest before a b → IsFork digest after a b
+
+abbrev pub PlaysGrow : Type 0
+PlaysGrow =
+    (digest : List ℕ → List ℕ) →
+    IsDigest digest →
+    (keys : List Key) (opened final : List View) (plays : List Play) →
+    AreLawful digest opened →
+    Plays digest keys opened plays final →
+    (mirror : ℕ) (before after : View) →
+    slice_get opened mirror ≡ Some before →
+    slice_get final mirror ≡ Some after →
+    HasGrown digest before after
+
+-- ---- plays of some mirrors
+
+-- the views of a part stand in the whole at these places, no two at one
+pub record StandsIn (place : ℕ → ℕ) (part whole : List View) : Type 0 where
+  pub apart : (i j : ℕ) → place i ≡ place j → i ≡ j
+  pub found : (i : ℕ) (v : View) → slice_get part i ≡ Some v → slice_get whole (place i) ≡ Some v
+
+-- the event, of the mirrors at these places
+abbrev pub placed : (ℕ → ℕ) → Event → Event
+placed place (Take target item) = Take (place target) item
+placed place (Merge target source) = Merge (place target) (place source)
+
+-- what a run of the part leaves the whole: the part's views, and the others as they were
+pub record LeavesRest (place : ℕ → ℕ) (part whole new : List View) : Type 0 where
+  pub stands : StandsIn place part new
+  pub rest : (number : ℕ) → ((i : ℕ) → number ≡ place i → ⊥) → slice_get new number ≡ slice_get whole number
+
+-- so a play of some mirrors is one of all of them: the plays above may each be of others
+abbrev pub PartIsPlayed : Type 0
+PartIsPlayed =
+    (digest : List ℕ → List ℕ) (keys : List Key) (place : ℕ → ℕ) (part whole after : List View)
+    (events : List Event) (answers : List Answer) →
+    StandsIn place part whole →
+    Run digest keys part events answers after →
+    (new : List View) × Run digest keys whole (map (placed place) events) answers new
+    × LeavesRest place after whole new
+
+abbrev pub PartIsRetried : Type 0
+PartIsRetried =
+    (place : ℕ → ℕ) (events : List Event) (answers : List Answer) →
+    AreRetried events answers →
+    AreRetried (map (placed place) events) answers

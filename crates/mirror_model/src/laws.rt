@@ -5,6 +5,7 @@ pub mod edges;
 pub mod examples;
 pub mod fetches;
 pub mod fronts;
+pub mod headline;
 pub mod items;
 pub mod lists;
 pub mod play;

@@ -16,9 +16,10 @@ pub use laws::examples::{
 };
 pub use laws::fetches::{answered_law, full_files_law, missing_law, missing_list_law, plus_law};
 pub use laws::fronts::{front_law, rounds_law, walk_law};
+pub use laws::headline::{headline_law, part_law};
 pub use laws::items::bytes_law;
 pub use laws::lists::lists_law;
-pub use laws::play::{again_law, clash_law, keeping_law, order_law, reaches_law, run_law};
+pub use laws::play::{again_law, clash_law, keeping_law, reaches_law, run_law};
 pub use laws::refusals::refusals_law;
 pub use laws::reports::reports_law;
 pub use laws::tiles::{bundle_law, full_row_law};

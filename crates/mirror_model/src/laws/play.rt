@@ -1,11 +1,10 @@
-//! Laws of events and runs: mirrors that the same items have reached hold the same.
+//! Laws of events and of runs: what reaches which mirror, and what an event or a run leaves.
 ghost use Rattle.mirror_model.specs.EventLaws.{BetweenIsLawful, MergesAgain, MergesOnce, NoteIsLast, TakesAgain, TakesOnce};
 ghost use Rattle.mirror_model.specs.RunLaws.{ForMirrors, NoneClashes, RunGrows, RunIsBounded, RunIsLawful, RunIsReached};
-ghost use Rattle.mirror_model.specs.Headline.{MirrorsAgree, SameReachedSameView};
 ghost use Rattle.mirror_model.specs.ReachLaws.{OpeningReachesGoByLast, ReachesGoByLast};
 
 /// What reaches a mirror, by the last event of a list: a take adds its item, a merge adds what reached
-/// its source, and nothing else changes. A fold over the events gives the same.
+/// its source, and nothing else changes.
 pub fn reaches_law()
     ensures items { ReachesGoByLast }
     ensures openings { OpeningReachesGoByLast }
@@ -23,15 +22,6 @@ pub fn run_law()
 /// by a clash.
 pub fn clash_law()
     ensures { ForMirrors NoneClashes }
-{}
-
-/// Mirrors that the same good items, and the same strings and notes of opening views, have reached hold
-/// equal views, in whatever order, however often and through whichever merges these came: where no event was answered
-/// by a clash, and so where no two strings share a digest, and each event for which memory was refused
-/// was done again.
-pub fn order_law()
-    ensures same { ForMirrors SameReachedSameView }
-    ensures agree { ForMirrors MirrorsAgree }
 {}
 
 /// Want of memory apart, an event has one answer and leaves one view. An event for which memory was
