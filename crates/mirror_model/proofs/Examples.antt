@@ -1,5 +1,6 @@
 -- Small trees, computed.
-use Rattle.std.proofs.Common.{◌≡◌, ℕ, ◌+◌, ◌-◌, ◌*◌, ◌/◌, ◌^◌, ◌≤◌, min, true, false, List, [], ◌∷◌, ◌++◌, length, get_or, sym, refl, ap, ◌∙◌, subst, inl, inr, arith}
+use Rattle.std.proofs.Common.{◌≡◌, ℕ, ◌+◌, ◌-◌, ◌*◌, ◌/◌, ◌^◌, ◌≤◌, min, List, [], ◌∷◌, ◌++◌, length, get_or, sym, refl, ap, ◌∙◌, subst, inl, inr, arith}
+use Rattle.std.specs.FinSet as set
 use Rattle.tlog_shape.specs.Split.{split_of, power_within}
 use Rattle.tlog_hash.specs.Tree.{Tree, Empty, One, Join, size_of, tree_of, tree_within, fold_of, pairs_of, mth, joins, strings}
 use Rattle.tlog_hash.specs.Sum.{sum_digest}
@@ -11,7 +12,8 @@ use Rattle.mirror_model.specs.Front.{InFront, IsPathOf}
 use Rattle.mirror_model.specs.Edge.{edge_levels}
 use Rattle.mirror_model.specs.declared.events.Event.TheVariants.{Take, Merge}
 use Rattle.mirror_model.specs.Events.{OpeningReaches}
-use Rattle.mirror_model.specs.Examples.{IsThree, HasEdges, HasRoots, IsForked, HasParts, IsWay, some_item, three, held_never, IsFrontOfThree, HasTileOutside}
+use Rattle.mirror_model.specs.Examples.{IsThree, HasEdges, HasRoots, IsForked, HasParts, IsWay, some_item, three, IsFrontOfThree, HasTileOutside}
+use Rattle.mirror_model.proofs.StringSets.{has_empty}
 use Rattle.mirror_model.proofs.Reaching.{open_none, open_itself, open_first, open_by, item_none, item_first, item_by}
 
 pub is_three : IsThree
@@ -85,20 +87,20 @@ is_way = record {
 -- the node in front is the one at the top
 pub record HasFrontTop (digest : List ℕ → List ℕ) (t : Tree (List ℕ)) : Type 0 where
   pub node : Node
-  pub is : InFront digest held_never t 0 node
+  pub is : InFront digest set.empty t 0 node
   pub start_is : node.start ≡ 0
   pub len_is : node.len ≡ size_of t
 
 front_top : (digest : List ℕ → List ℕ) (t : Tree (List ℕ)) → 1 ≤ size_of t → HasFrontTop digest t
 front_top digest Empty some = absurd (omega arith)
-front_top digest (One e) some = record { node = record { start = 0; len = 1; string = 0 ∷ e }; is = record { this = record { start_is = refl; len_is = refl; string_is = refl }; unheld = refl }; start_is = refl; len_is = refl }
-front_top digest (Join l r) some = record { node = record { start = 0; len = size_of l + size_of r; string = 1 ∷ entries_root digest l ++ entries_root digest r }; is = inl (record { this = record { start_is = refl; len_is = refl; string_is = refl }; unheld = refl }); start_is = refl; len_is = refl }
+front_top digest (One e) some = record { node = record { start = 0; len = 1; string = 0 ∷ e }; is = record { this = record { start_is = refl; len_is = refl; string_is = refl }; unheld = has_empty _ }; start_is = refl; len_is = refl }
+front_top digest (Join l r) some = record { node = record { start = 0; len = size_of l + size_of r; string = 1 ∷ entries_root digest l ++ entries_root digest r }; is = inl (record { this = record { start_is = refl; len_is = refl; string_is = refl }; unheld = has_empty _ }); start_is = refl; len_is = refl }
 
-only_top : (digest : List ℕ → List ℕ) (t : Tree (List ℕ)) (start : ℕ) (x : Node) → InFront digest held_never t start x → (x.start ≡ start) × (x.len ≡ size_of t)
+only_top : (digest : List ℕ → List ℕ) (t : Tree (List ℕ)) (start : ℕ) (x : Node) → InFront digest set.empty t start x → (x.start ≡ start) × (x.len ≡ size_of t)
 only_top digest Empty start x f = absurd f
 only_top digest (One e) start x f = (f.this.start_is, f.this.len_is)
 only_top digest (Join l r) start x (inl f) = (f.this.start_is, f.this.len_is)
-only_top digest (Join l r) start x (inr f) = absurd (let wrong : false ≡ true = f.0 in cc wrong)
+only_top digest (Join l r) start x (inr f) = absurd (has_empty _ f.0)
 
 pub is_front_of_three : IsFrontOfThree
 is_front_of_three =
@@ -113,7 +115,7 @@ is_front_of_three =
       alone = λ path f. alone path f.node (only_top sum_digest (tree_of three) 0 f.node f.is) size f.path_is;
     }
   where
-    alone : (path : Path) (x : Node) → (x.start ≡ 0) × (x.len ≡ size_of (tree_of three)) → size_of (tree_of three) ≡ 3 → IsPathOf 3 x path → path ≡ Entries 0 3
+    alone : (path : Path) (x : Node) → (x.start ≡ 0) × (x.len ≡ size_of (tree_of three)) → size_of (tree_of three) ≡ 3 → IsPathOf 3 x.start x.len path → path ≡ Entries 0 3
     alone Checkpoint x at size p = absurd p
     alone (Tile level index width) x at size p = absurd (omega (arith, p.many, at.1, size))
     alone (Entries index width) x at size p =
@@ -128,4 +130,4 @@ has_tile_outside digest entries len =
     let many : top.node.len ≡ 300 = top.len_is ∙ size ∙ len in
     let low : 256 ^ 1 ≡ 256 = refl in
     let high : 256 ^ (1 + 1) ≡ 65536 = refl in
-    record { node = top.node; is = top.is; path_is = record { many = omega (arith, many); above = omega (arith, many, low); upto = omega (arith, many, high); index_is = ap (λ n. n / 65536) (sym top.start_is); width_is = refl } }
+    record { node = top.node; is = top.is; path_is = record { many = omega (arith, many); tile = record { above = omega (arith, many, low); upto = omega (arith, many, high); index_is = ap (λ n. n / 65536) (sym top.start_is) }; width_is = refl } }

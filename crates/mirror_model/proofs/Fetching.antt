@@ -1,5 +1,5 @@
 -- The laws of specs/FetchLaws.antt.
-use Rattle.std.proofs.Common.{min, zero, suc, ◌≡◌, ◌⊎◌, ℕ, ◌+◌, ◌-◌, ◌*◌, ◌/◌, ◌^◌, ◌<◌, ◌≤◌, List, [], ◌∷◌, ◌++◌, length, map, take, drop, length-take, length-drop, true, false, refl, sym, ◌∙◌, ap, subst, inl, inr, arith}
+use Rattle.std.proofs.Common.{min, zero, suc, ◌≡◌, ◌⊎◌, ℕ, ◌+◌, ◌-◌, ◌*◌, ◌/◌, ◌^◌, ◌<◌, ◌≤◌, List, [], ◌∷◌, ◌++◌, length, map, take, drop, length-take, length-drop, refl, sym, ◌∙◌, ap, subst, inl, inr, arith}
 use Rattle.std.specs.Prelude.{Contains}
 use Rattle.std.specs.FinSet as set
 use Rattle.std.proofs.lemmas.Nat.{div-mul-add}
@@ -10,9 +10,11 @@ use Rattle.tlog_hash.proofs.Trees.{length-mth}
 use Rattle.tlog_tiles.specs.declared.paths.Path.TheVariants.{Checkpoint, Tile, Entries}
 use Rattle.tlog_tiles.specs.Row.{row_text}
 use Rattle.node_store.specs.Strings.{Has}
+use Rattle.mirror_model.specs.Edge.{edge_rows, edge_strings}
+use Rattle.mirror_model.specs.Rounds.{true_strings}
 use Rattle.mirror_model.specs.Item.{notes_of, strings_of}
 use Rattle.mirror_model.specs.Strings.{IsDigest}
-use Rattle.mirror_model.proofs.StringSets.{has_left, has_right, has_cases, listed_from_has, has_from_listed}
+use Rattle.mirror_model.proofs.StringSets.{has_left, has_right, has_cases, listed_from_has, has_from_listed, holds_from_held}
 use Rattle.mirror_model.proofs.NodeBlocks.{node_inside}
 use Rattle.mirror_model.proofs.RowLaws.{to_block, bundle, full_tile}
 use Rattle.mirror_model.proofs.EdgeStrings.{full_or_edge}
@@ -20,7 +22,7 @@ use Rattle.mirror_model.proofs.Fronts.{front_node, front_unheld}
 use Rattle.mirror_model.proofs.TreeLaws.{missing_is_front}
 use Rattle.tlog_shape.proofs.Levels.{level_positive}
 use Rattle.mirror_model.specs.Walk.{NoClashWith}
-use Rattle.mirror_model.proofs.TrueItems.{front_tile, front_within, tiles_are_true, bundles_are_true}
+use Rattle.mirror_model.proofs.TrueItems.{front_tile}
 use Rattle.mirror_model.specs.FetchLaws.{FullTilesBegin, AnsweredIsNotAgain, MissingIsFrontList, PlusHolds}
 
 -- ---- the first hashes of a tile
@@ -50,32 +52,30 @@ index_of : (i c start len : ℕ) → 0 < c → i * c ≤ start → start + len �
 index_of i c start len some low high one = ap (λ m. m / c) (omega arith) ∙ div-mul-add i c (start - i * c) (omega arith)
 
 pub answered_is_not_again : AnsweredIsNotAgain
-answered_is_not_again digest hash held es short small edge Checkpoint all f = f.path_is
-answered_is_not_again digest hash held es short small edge (Tile level index width) all f =
+answered_is_not_again digest held es small edge Checkpoint all f = f.path_is
+answered_is_not_again digest held es small edge (Tile level index width) all f =
     let x = f.node in
     let t = f.path_is in
     let n = front_node digest held (tree_of es) 0 x f.is in
     let unheld = front_unheld digest held (tree_of es) 0 x f.is in
-    let ft = front_tile digest held es small edge level index width f in
-    elim (full_or_edge digest es level x (omega (arith, ft.1)) t.above t.upto n) [
-      | inr on_edge ↦ (let wrong : true ≡ false = sym (edge x.string on_edge) ∙ unheld in absurd (cc wrong))
+    let on_edge_held = holds_from_held held (edge_strings digest (edge_rows digest es)) edge in
+    let ft = front_tile digest held es small on_edge_held level index width f in
+    elim (full_or_edge digest es level x (omega (arith, ft.1)) t.tile.above t.tile.upto n) [
+      | inr on_edge ↦ unheld (on_edge_held x.string on_edge)
       | inl u ↦
           let c = 256 ^ (level + 1) in
           let at : x.start / c ≡ u.index = index_of u.index c x.start x.len (level_positive (level + 1)) u.inside.start_in u.inside.upto u.inside.some in
-          let same : index ≡ u.index = t.index_is ∙ at in
-          let has : Contains (joins digest (level_row digest es level (256 * u.index) 256)) x.string = (full_tile digest es level u.index u.full x.string).1 (record { node = x; is = n; inside = u.inside; long = t.above; string_is = refl }) in
+          let same : index ≡ u.index = t.tile.index_is ∙ at in
+          let has : Contains (joins digest (level_row digest es level (256 * u.index) 256)) x.string = (full_tile digest es level u.index u.full x.string).1 (record { node = x; is = n; inside = u.inside; long = t.tile.above; string_is = refl }) in
           let here : Contains (joins digest (level_row digest es level (256 * index) width)) x.string = subst (λ w. Contains (joins digest (level_row digest es level (256 * index) w)) x.string) (sym ft.0) (subst (λ i. Contains (joins digest (level_row digest es level (256 * i) 256)) x.string) (sym same) has) in
-          let true_tile = tiles_are_true digest hash es short level index width (record { some = omega (arith, ft.0); most = omega (arith, ft.0) }) in
-          let wrong : true ≡ false = sym (all x.string (subst (λ ss. Contains ss x.string) (sym true_tile.strings_are) here)) ∙ unheld in
-          absurd (cc wrong)
+          unheld (holds_from_held held (true_strings digest es (Tile level index width)) all x.string here)
     ]
-answered_is_not_again digest hash held es short small edge (Entries index width) all f =
+answered_is_not_again digest held es small edge (Entries index width) all f =
     let x = f.node in
     let b = f.path_is in
     let n = front_node digest held (tree_of es) 0 x f.is in
     let unheld = front_unheld digest held (tree_of es) 0 x f.is in
     let inside = node_inside digest es 0 x n in
-    let within = front_within digest held es small edge (Entries index width) f in
     elim (to_block digest es 8 (omega (arith, inside.upto, inside.some)) x n) [
       | inl long ↦ absurd (omega (arith, long, b.few))
       | inr blk ↦
@@ -88,9 +88,7 @@ answered_is_not_again digest hash held es short small edge (Entries index width)
           let has : Contains (strings digest (part (i * 256) 256 es)) x.string = (bundle digest es i blk.below x.string).1 (record { node = x; is = n; inside = record { start_in = here.start_in; upto = omega (arith, here.upto, part_short); some = here.some }; string_is = refl }) in
           let wide : width ≡ min 256 (length (drop (i * 256) es)) = b.width_is ∙ (let len : length (drop (i * 256) es) ≡ length es - 256 * index = length-drop (i * 256) es ∙ omega (arith, place) in ap (λ m. min 256 m) (sym len)) in
           let same_part : part (256 * index) width es ≡ part (i * 256) 256 es = ap (λ m. take width (drop m es)) place ∙ (ap (λ m. take m (drop (i * 256) es)) wide ∙ take_min 256 (drop (i * 256) es)) in
-          let true_bundle = bundles_are_true digest hash es short index width within in
-          let wrong : true ≡ false = sym (all x.string (subst (λ ss. Contains ss x.string) (sym true_bundle.strings_are) (subst (λ zs. Contains (strings digest zs) x.string) (sym same_part) has))) ∙ unheld in
-          absurd (cc wrong)
+          unheld (holds_from_held held (true_strings digest es (Entries index width)) all x.string (subst (λ zs. Contains (strings digest zs) x.string) (sym same_part) has))
     ]
 
 -- ---- what is missing

@@ -1,5 +1,5 @@
 -- The front and what is held.
-use Rattle.std.proofs.Common.{subst, Bool, true, false, inl, inr, ◌⊎◌, ◌≡◌, ℕ, zero, suc, ◌+◌, ◌-◌, ◌*◌, ◌/◌, ◌^◌, ◌<◌, ◌≤◌, min, List, ◌∷◌, ◌++◌, length, take, drop, sym, refl, ap, ◌∙◌, arith, length-take, length-drop}
+use Rattle.std.proofs.Common.{subst, inl, inr, ◌≡◌, ℕ, zero, suc, ◌+◌, ◌-◌, ◌*◌, ◌/◌, ◌^◌, ◌<◌, ◌≤◌, min, List, ◌∷◌, ◌++◌, length, take, drop, sym, refl, ap, ◌∙◌, arith, length-take, length-drop}
 use Rattle.std.proofs.lemmas.List.{take_min}
 use Rattle.std.proofs.lemmas.Nat.{div-mul-add}
 use Rattle.std.proofs.lemmas.Bool.{cases_lt}
@@ -13,7 +13,9 @@ use Rattle.tlog_hash.specs.Nodes.{Node, IsNode, entries_root}
 use Rattle.tlog_tiles.specs.declared.paths.Path.{Path}
 use Rattle.tlog_tiles.specs.declared.paths.Path.TheVariants.{Tile, Entries}
 use Rattle.mirror_model.specs.Front.{IsPathOf, InFront, IsFront}
-use Rattle.mirror_model.specs.Rounds.{HoldsAll, IsAnswered, AsksUpTo, AsksBundlesAlone}
+use Rattle.node_store.specs.Strings.{Strings, Has}
+use Rattle.mirror_model.specs.Rounds.{true_strings, AsksUpTo, AsksBundlesAlone}
+use Rattle.mirror_model.proofs.StringSets.{HoldsAll, decide_has}
 use Rattle.tlog_shape.proofs.Levels.{level_positive}
 use Rattle.tlog_hash.proofs.NodeStrings.{string_of_node, node_of_string}
 use Rattle.mirror_model.proofs.NodeBlocks.{node_inside}
@@ -25,10 +27,6 @@ pub record IsWithin (x y : Node) : Type 0 where
   pub start_in : y.start ≤ x.start
   pub end_in : x.start + x.len ≤ y.start + y.len
 
-decide_held : (b : Bool) → (b ≡ true) ⊎ (b ≡ false)
-decide_held true = inl refl
-decide_held false = inr refl
-
 pub power_le : (i k : ℕ) → i ≤ k → 256 ^ i ≤ 256 ^ k
 power_le i k h = let e : i + (k - i) ≡ k = omega arith in subst (λ m. 256 ^ i ≤ 256 ^ m) e (climb (k - i))
   where
@@ -36,7 +34,7 @@ power_le i k h = let e : i + (k - i) ≡ k = omega arith in subst (λ m. 256 ^ i
     climb zero = let z : i ≡ i + 0 = omega arith in subst (λ m. 256 ^ i ≤ 256 ^ m) z (omega arith)
     climb (suc d) = let z : suc (i + d) ≡ i + suc d = omega arith in subst (λ m. 256 ^ i ≤ 256 ^ m) z (omega (arith, climb d, pow-succ' 256 (i + d)))
 
-module _ (digest : List ℕ → List ℕ) (held : List ℕ → Bool) where
+module _ (digest : List ℕ → List ℕ) (held : Strings) where
   pub front_node : (t : Tree (List ℕ)) (s : ℕ) (x : Node) → InFront digest held t s x → IsNode digest t s x
   front_node Empty s x h = h
   front_node (One e) s x h = h.this
@@ -44,7 +42,7 @@ module _ (digest : List ℕ → List ℕ) (held : List ℕ → Bool) where
   front_node (Join l r) s x (inr (h, inl a)) = inr (inl (front_node l s x a))
   front_node (Join l r) s x (inr (h, inr a)) = inr (inr (front_node r (s + size_of l) x a))
 
-  pub front_unheld : (t : Tree (List ℕ)) (s : ℕ) (x : Node) → InFront digest held t s x → held x.string ≡ false
+  pub front_unheld : (t : Tree (List ℕ)) (s : ℕ) (x : Node) → InFront digest held t s x → Has held x.string → ⊥
   front_unheld Empty s x h = absurd h
   front_unheld (One e) s x h = h.unheld
   front_unheld (Join l r) s x (inl h) = h.unheld
@@ -65,22 +63,22 @@ module _ (digest : List ℕ → List ℕ) (held : List ℕ → Bool) where
     pub is : InFront digest held t s top
     pub within : IsWithin x top
 
-  below_this : (t : Tree (List ℕ)) (s : ℕ) (string : List ℕ) (x : Node) → IsNode digest t s x → held string ≡ false → (InFront digest held t s (record { start = s; len = size_of t; string = string })) → HasFrontAbove t s x
+  below_this : (t : Tree (List ℕ)) (s : ℕ) (string : List ℕ) (x : Node) → IsNode digest t s x → (Has held string → ⊥) → (InFront digest held t s (record { start = s; len = size_of t; string = string })) → HasFrontAbove t s x
   below_this t s string x n e f = let b = node_bounds t s x n in record { top = record { start = s; len = size_of t; string = string }; is = f; within = record { start_in = b.0; end_in = b.1 } }
 
-  pub front_above : (t : Tree (List ℕ)) (s : ℕ) (x : Node) → IsNode digest t s x → held x.string ≡ false → HasFrontAbove t s x
+  pub front_above : (t : Tree (List ℕ)) (s : ℕ) (x : Node) → IsNode digest t s x → (Has held x.string → ⊥) → HasFrontAbove t s x
   front_above Empty s x n e = absurd n
   front_above (One v) s x n e = record { top = x; is = record { this = n; unheld = e }; within = record { start_in = omega arith; end_in = omega arith } }
   front_above (Join l r) s x (inl n) e = record { top = x; is = inl (record { this = n; unheld = e }); within = record { start_in = omega arith; end_in = omega arith } }
   front_above (Join l r) s x (inr (inl n)) e =
       let string = 1 ∷ entries_root digest l ++ entries_root digest r in
-      elim (decide_held (held string)) [
+      elim (decide_has held string) [
         | inl held_here ↦ let f = front_above l s x n e in record { top = f.top; is = inr (held_here, inl f.is); within = f.within }
         | inr none ↦ below_this (Join l r) s string x (inr (inl n)) none (inl (record { this = record { start_is = refl; len_is = refl; string_is = refl }; unheld = none }))
       ]
   front_above (Join l r) s x (inr (inr n)) e =
       let string = 1 ∷ entries_root digest l ++ entries_root digest r in
-      elim (decide_held (held string)) [
+      elim (decide_has held string) [
         | inl held_here ↦ let f = front_above r (s + size_of l) x n e in record { top = f.top; is = inr (held_here, inr f.is); within = f.within }
         | inr none ↦ below_this (Join l r) s string x (inr (inr n)) none (inl (record { this = record { start_is = refl; len_is = refl; string_is = refl }; unheld = none }))
       ]
@@ -90,8 +88,8 @@ module _ (digest : List ℕ → List ℕ) (held : List ℕ → Bool) where
   none_in_front es = (
     λ none y c.
         let n = node_of_string digest es 0 y c in
-        elim (decide_held (held y)) [ inl held_here ↦ held_here | inr no_y ↦ let f = front_above (tree_of es) 0 n.node n.is (ap held n.string_is ∙ no_y) in absurd (none f.top f.is) ],
-    λ all x f. let e : true ≡ false = sym (all x.string (string_of_node digest es 0 x (front_node (tree_of es) 0 x f))) ∙ front_unheld (tree_of es) 0 x f in absurd (cc e),
+        elim (decide_has held y) [ inl held_here ↦ held_here | inr no_y ↦ let f = front_above (tree_of es) 0 n.node n.is (λ h. no_y (subst (Has held) n.string_is h)) in absurd (none f.top f.is) ],
+    λ all x f. front_unheld (tree_of es) 0 x f (all x.string (string_of_node digest es 0 x (front_node (tree_of es) 0 x f))),
   )
 
   -- the level of a node
@@ -106,15 +104,15 @@ module _ (digest : List ℕ → List ℕ) (held : List ℕ → Bool) where
   level_from (suc levels) level len e low high = elim (cases_lt (256 ^ (level + 1)) len) [ inl more ↦ level_from levels (level + 1) len (omega arith) more high | inr le ↦ record { level = level; low = omega arith; above = low; upto = le } ]
 
   -- each node has a path
-  pub record HasPath (size : ℕ) (x : Node) : Type 0 where
+  pub record HasPath (size start len : ℕ) : Type 0 where
     pub path : Path
-    pub is : IsPathOf size x path
+    pub is : IsPathOf size start len path
 
-  pub path_of : (size : ℕ) (x : Node) → x.len ≤ 256 ^ 8 → HasPath size x
-  path_of size x high =
-      elim (cases_lt 256 x.len) [
-        | inl many ↦ let l = level_from 7 1 x.len refl many high in record { path = Tile l.level (x.start / 256 ^ (l.level + 1)) 256; is = record { many = many; above = l.above; upto = l.upto; index_is = refl; width_is = refl } }
-        | inr few ↦ record { path = Entries (x.start / 256) (min 256 (size - 256 * (x.start / 256))); is = record { few = few; index_is = refl; width_is = refl } }
+  pub path_of : (size start len : ℕ) → len ≤ 256 ^ 8 → HasPath size start len
+  path_of size start len high =
+      elim (cases_lt 256 len) [
+        | inl many ↦ let l = level_from 7 1 len refl many high in record { path = Tile l.level (start / 256 ^ (l.level + 1)) 256; is = record { many = many; tile = record { above = l.above; upto = l.upto; index_is = refl }; width_is = refl } }
+        | inr few ↦ record { path = Entries (start / 256) (min 256 (size - 256 * (start / 256))); is = record { few = few; index_is = refl; width_is = refl } }
       ]
 
   -- Front is empty exactly where Tree(E) is held
@@ -122,23 +120,17 @@ module _ (digest : List ℕ → List ℕ) (held : List ℕ → Bool) where
   front_empty es small = (
     λ none. (none_in_front es).0 (λ x f.
         let n = node_inside digest es 0 x (front_node (tree_of es) 0 x f) in
-        let p = path_of (length es) x (omega (arith, n.upto)) in
+        let p = path_of (length es) x.start x.len (omega (arith, n.upto)) in
         none p.path (record { node = x; is = f; path_is = p.is })),
     λ all p f. (none_in_front es).1 all f.node f.is,
   )
 
-  module _ (after : List ℕ → Bool) (grows : (y : List ℕ) → held y ≡ true → after y ≡ true) (es : List (List ℕ)) (small : length es ≤ 256 ^ 8) (edge : HoldsAll held (edge_strings digest (edge_rows digest es))) (answered : (p : Path) → IsFront digest held es p → IsAnswered digest after es p) where
-    was_unheld : (y : List ℕ) → after y ≡ false → held y ≡ false
-    was_unheld y e = elim (decide_held (held y)) [ inl held_here ↦ (let wrong : true ≡ false = sym (grows y held_here) ∙ e in absurd (cc wrong)) | inr none ↦ none ]
-
-    both_ways : (y : List ℕ) → after y ≡ false → after y ≡ true → ⊥
-    both_ways y e f = let wrong : true ≡ false = sym f ∙ e in absurd (cc wrong)
-
+  module _ (after : Strings) (grows : (y : List ℕ) → Has held y → Has after y) (es : List (List ℕ)) (small : length es ≤ 256 ^ 8) (edge : HoldsAll held (edge_strings digest (edge_rows digest es))) (answered : (p : Path) → IsFront digest held es p → HoldsAll after (true_strings digest es p)) where
     index_of : (i c start len : ℕ) → 0 < c → i * c ≤ start → start + len ≤ i * c + c → 1 ≤ len → start / c ≡ i
     index_of i c start len some low high one = ap (λ m. m / c) (omega arith) ∙ div-mul-add i c (start - i * c) (omega arith)
 
     -- a node of a bundle that was asked for is held
-    in_bundle : (x y : Node) → IsNode digest (tree_of es) 0 x → IsNode digest (tree_of es) 0 y → IsWithin x y → InFront digest held (tree_of es) 0 y → y.len ≤ 256 → after x.string ≡ false → ⊥
+    in_bundle : (x y : Node) → IsNode digest (tree_of es) 0 x → IsNode digest (tree_of es) 0 y → IsWithin x y → InFront digest held (tree_of es) 0 y → y.len ≤ 256 → (Has after x.string → ⊥) → ⊥
     in_bundle x y nx ny w f few e =
         let inside = node_inside digest es 0 y ny in
         let inside_x = node_inside digest es 0 x nx in
@@ -154,7 +146,7 @@ module _ (digest : List ℕ → List ℕ) (held : List ℕ → Bool) where
               let all : HoldsAll after (strings digest (part (i * 256) width es)) = subst (λ n. HoldsAll after (strings digest (part n width es))) swap (answered (Entries i width) (record { node = y; is = f; path_is = record { few = few; index_is = sym at; width_is = refl } })) in
               let same : part (i * 256) width es ≡ part (i * 256) 256 es = ap (λ n. take n (drop (i * 256) es)) (let len : length (drop (i * 256) es) ≡ length es - 256 * i = length-drop (i * 256) es ∙ omega arith in ap (λ n. min 256 n) (sym len)) ∙ take_min 256 (drop (i * 256) es) in
               let has : Contains (strings digest (part (i * 256) 256 es)) x.string = (bundle digest es i blk.below x.string).1 (record { node = x; is = nx; inside = record { start_in = omega (arith, here.start_in, w.start_in); upto = omega (arith, here.upto, short, w.end_in); some = inside_x.some }; string_is = refl }) in
-              both_ways x.string e (all x.string (subst (λ zs. Contains (strings digest zs) x.string) (sym same) has))
+              e (all x.string (subst (λ zs. Contains (strings digest zs) x.string) (sym same) has))
         ]
 
     -- what stays unheld has no more entries than a hash of the tile that was asked for
@@ -164,9 +156,9 @@ module _ (digest : List ℕ → List ℕ) (held : List ℕ → Bool) where
       pub asked : IsFront digest held es (Tile level index 256)
       pub short : x.len ≤ 256 ^ level
 
-    pub below_tile : (x : Node) → IsNode digest (tree_of es) 0 x → after x.string ≡ false → IsBelowTile x
+    pub below_tile : (x : Node) → IsNode digest (tree_of es) 0 x → (Has after x.string → ⊥) → IsBelowTile x
     below_tile x n e =
-        let f = front_above (tree_of es) 0 x n (was_unheld x.string e) in
+        let f = front_above (tree_of es) 0 x n (λ h. e (grows x.string h)) in
         let y = f.top in
         let ny = front_node (tree_of es) 0 y f.is in
         let inside = node_inside digest es 0 y ny in
@@ -176,29 +168,29 @@ module _ (digest : List ℕ → List ℕ) (held : List ℕ → Bool) where
           | inl many ↦
               let l = level_from 7 1 y.len refl many (omega (arith, inside.upto)) in
               elim (full_or_edge digest es l.level y l.low l.above l.upto ny) [
-                | inr on_edge ↦ (let wrong : true ≡ false = sym (edge y.string on_edge) ∙ front_unheld (tree_of es) 0 y f.is in absurd (cc wrong))
+                | inr on_edge ↦ absurd (front_unheld (tree_of es) 0 y f.is (edge y.string on_edge))
                 | inl t ↦
                     let c = 256 ^ (l.level + 1) in
                     let at : y.start / c ≡ t.index = index_of t.index c y.start y.len (level_positive (l.level + 1)) t.inside.start_in t.inside.upto t.inside.some in
-                    let asked : IsFront digest held es (Tile l.level t.index 256) = record { node = y; is = f.is; path_is = record { many = many; above = l.above; upto = l.upto; index_is = sym at; width_is = refl } } in
+                    let asked : IsFront digest held es (Tile l.level t.index 256) = record { node = y; is = f.is; path_is = record { many = many; tile = record { above = l.above; upto = l.upto; index_is = sym at }; width_is = refl } } in
                     elim (cases_lt (256 ^ l.level) x.len) [
                       | inr short ↦ record { level = l.level; index = t.index; asked = asked; short = short }
                       | inl long ↦
                           let has : Contains (joins digest (level_row digest es l.level (256 * t.index) 256)) x.string = (full_tile digest es l.level t.index t.full x.string).1 (record { node = x; is = n; inside = record { start_in = omega (arith, t.inside.start_in, f.within.start_in); upto = omega (arith, t.inside.upto, f.within.end_in); some = inside_x.some }; long = long; string_is = refl }) in
-                          absurd (both_ways x.string e (answered (Tile l.level t.index 256) asked t.full x.string has))
+                          absurd (e (answered (Tile l.level t.index 256) asked x.string has))
                     ]
               ]
         ]
 
     -- after a round the largest unheld node has at most 256^top entries
-    pub after_round : (top : ℕ) → AsksUpTo digest held es top → (x : Node) → IsNode digest (tree_of es) 0 x → after x.string ≡ false → x.len ≤ 256 ^ top
+    pub after_round : (top : ℕ) → AsksUpTo digest es held top → (x : Node) → IsNode digest (tree_of es) 0 x → (Has after x.string → ⊥) → x.len ≤ 256 ^ top
     after_round top asks x n e =
         let t = below_tile x n e in
         let le = power_le t.level top (asks t.level t.index 256 t.asked) in
         omega (arith, t.short, le)
 
     -- after a round of bundles alone nothing is unheld
-    pub after_bundles : AsksBundlesAlone digest held es → HoldsAll after (strings digest es)
+    pub after_bundles : AsksBundlesAlone digest es held → HoldsAll after (strings digest es)
     after_bundles alone y c =
         let n = node_of_string digest es 0 y c in
-        elim (decide_held (after y)) [ inl held_here ↦ held_here | inr none ↦ let t = below_tile n.node n.is (ap after n.string_is ∙ none) in absurd (alone t.level t.index 256 t.asked) ]
+        elim (decide_has after y) [ inl held_here ↦ held_here | inr none ↦ let t = below_tile n.node n.is (λ h. none (subst (Has after) n.string_is h)) in absurd (alone t.level t.index 256 t.asked) ]

@@ -3,7 +3,7 @@ use Rattle.std.proofs.Common.{zero, suc, ◌≡◌, ◌⊎◌, ℕ, ◌+◌, ◌
 use Rattle.std.specs.List.{Contains, filter}
 use Rattle.std.specs.Prelude.{if◌then◌else◌}
 use Rattle.std.proofs.lemmas.List.{drop-take, take-take, take-append-drop, map-append}
-use Rattle.std.proofs.lemmas.List.Elements.{All-take, Contains-append_left, Contains-append_cases}
+use Rattle.std.proofs.lemmas.List.Elements.{Contains-append_left, Contains-append_cases}
 use Rattle.std.proofs.Math.Seq.{drop-cons}
 use Rattle.tlog_hash.specs.Tree.{mth, strings, joins, leaf_hash, fold_of}
 use Rattle.std.proofs.lemmas.Bool.Decides.{nat_tests}
@@ -11,9 +11,7 @@ use Rattle.tlog_hash.specs.Rows.{part, ranges, level_row}
 use Rattle.tlog_hash.proofs.Trees.{mth-one}
 use Rattle.std.specs.Prelude.{not, ◌==◌, ◌-◌}
 use Rattle.tlog_shape.specs.Edge.{width_of, edge_index_of}
-use Rattle.tlog_tiles.specs.Tiles.{IsTileWithin}
 use Rattle.mirror_model.specs.Edge.{edge_levels, edge_row, edge_rows, edge_strings, strings_from}
-use Rattle.mirror_model.proofs.TrueItems.{bundles_are_true}
 use Rattle.mirror_model.specs.FetchLaws.{FullBundlesServe}
 
 strings_cases : (digest : List ℕ → List ℕ) (es : List (List ℕ)) (y : List ℕ) → Contains (strings digest es) y → Contains (map (λ e. 0 ∷ e) es) y ⊎ Contains (joins digest (map (leaf_hash digest) es)) y
@@ -71,18 +69,12 @@ join_on_edge digest es index width total some partial y c =
     subst (λ ls. Contains (edge_strings digest (map (edge_row digest es) ls)) y) (sym levels) (Contains-append_left (joins digest (edge_row digest es 0)) (strings_from digest (fold_of digest (edge_row digest es 0)) (map (edge_row digest es) others)) y first)
 
 pub full_bundles_serve : FullBundlesServe
-full_bundles_serve digest hash entries short size index width le total some partial full y c =
+full_bundles_serve digest entries size index width le total some partial full y c =
     let es = take size entries in
     let long : length es ≡ 256 * index + width = omega (arith, length-take size entries) in
-    let one : (256 * index + width) * 256 ^ 0 ≡ 256 * index + width = omega arith in
-    let all : (256 * index + 256) * 256 ^ 0 ≡ 256 * index + 256 = omega arith in
-    let within : IsTileWithin (length es) 0 index width = record { level_fits = omega arith; some = some; upto = omega arith; within = omega (arith, one, long) } in
-    let within_all : IsTileWithin (length entries) 0 index 256 = record { level_fits = omega arith; some = omega arith; upto = omega arith; within = omega (arith, all, full) } in
-    let b = bundles_are_true digest hash es (All-take (λ entry. length entry < 2 ^ 16) size entries short) index width within in
-    let f = bundles_are_true digest hash entries short index 256 within_all in
     let whole : size ≡ 256 * index + width = omega arith in
     let same : part (256 * index) width es ≡ take width (drop (256 * index) entries) = ap (λ k. take width (drop (256 * index) (take k entries))) whole ∙ (ap (take width) (drop-take (256 * index) width entries) ∙ take-take width width (drop (256 * index) entries) (omega arith)) in
-    elim (strings_cases digest (part (256 * index) width es) y (subst (λ ss. Contains ss y) b.strings_are c)) [
-      | inl leaf ↦ inl (subst (λ ss. Contains ss y) (sym f.strings_are) (strings_leaf digest (part (256 * index) 256 entries) y (leaf_more width 256 (drop (256 * index) entries) y (omega arith) (subst (λ l. Contains (map (λ e. 0 ∷ e) l) y) same leaf))))
+    elim (strings_cases digest (part (256 * index) width es) y c) [
+      | inl leaf ↦ inl (strings_leaf digest (part (256 * index) 256 entries) y (leaf_more width 256 (drop (256 * index) entries) y (omega arith) (subst (λ l. Contains (map (λ e. 0 ∷ e) l) y) same leaf)))
       | inr join ↦ inr (join_on_edge digest es index width long some partial y join)
     ]

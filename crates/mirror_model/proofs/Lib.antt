@@ -23,7 +23,6 @@ pub mod ManyRounds
 pub mod Listing
 pub mod Keeping
 pub mod Headline
-pub mod Takings
 pub mod MissingPaths
 pub mod EdgeWalks
 pub mod MissingWithin

@@ -1,5 +1,5 @@
 -- Round after round until all is held.
-use Rattle.std.proofs.Common.{zero, suc, ◌≡◌, ℕ, ◌+◌, ◌-◌, ◌*◌, ◌/◌, ◌^◌, ◌<◌, ◌≤◌, List, [], ◌∷◌, length, Bool, true, sym, refl, ap, ◌∙◌, subst, inl, inr, arith}
+use Rattle.std.proofs.Common.{zero, suc, ◌≡◌, ℕ, ◌+◌, ◌-◌, ◌*◌, ◌/◌, ◌^◌, ◌<◌, ◌≤◌, List, [], ◌∷◌, length, sym, refl, ap, ◌∙◌, subst, inl, inr, arith}
 use Rattle.std.proofs.lemmas.Nat.{mul-le}
 use Rattle.std.proofs.lemmas.Bool.{cases_lt}
 use Rattle.std.proofs.Math.Nat.{pow-succ', div-mul-le_self, lt-div-mul-add}
@@ -8,8 +8,10 @@ use Rattle.tlog_hash.specs.Tree.{strings}
 use Rattle.tlog_shape.proofs.Levels.{level_positive}
 use Rattle.tlog_tiles.specs.declared.paths.Path.TheVariants.{Tile}
 use Rattle.mirror_model.specs.Front.{IsFront}
-use Rattle.mirror_model.specs.Rounds.{HoldsAll}
-use Rattle.mirror_model.specs.TreeLaws.{FrontIsBelowTop, AreRounds, held_after, RoundsComplete}
+use Rattle.node_store.specs.Strings.{Strings, Has, HasAll}
+use Rattle.mirror_model.specs.Rounds.{AreRounds, last_held}
+use Rattle.mirror_model.specs.TreeLaws.{FrontIsBelowTop, RoundsComplete}
+use Rattle.mirror_model.proofs.StringSets.{holds_from_held, held_more}
 use Rattle.mirror_model.proofs.Fronts.{power_le}
 use Rattle.mirror_model.proofs.TreeLaws.{round_goes_down, bundles_complete}
 use Rattle.mirror_model.proofs.TrueItems.{front_tile}
@@ -49,7 +51,7 @@ below_top n top small t = down (7 - top) (let e : (top + 1) + (7 - top) ≡ 8 = 
 
 pub front_is_below_top : FrontIsBelowTop
 front_is_below_top digest held entries top small t edge level index width f =
-    let full = (front_tile digest held entries (omega (arith, small)) edge level index width f).2 in
+    let full = (front_tile digest held entries (omega (arith, small)) (holds_from_held held _ edge) level index width f).2 in
     let below = below_top (length entries) top small t in
     elim (cases_lt level top) [
       | inl lt ↦ lt
@@ -60,30 +62,32 @@ front_is_below_top digest held entries top small t edge level index width f =
           omega (arith, full, one, more, below))
     ]
 
--- what is held stays held
-held_on : (digest : List ℕ → List ℕ) (entries : List (List ℕ)) (held : List ℕ → Bool) (afters : List (List ℕ → Bool)) → AreRounds digest entries held afters → (y : List ℕ) → held y ≡ true → held_after held afters y ≡ true
-held_on digest entries held [] rounds y h = h
-held_on digest entries held (after ∷ afters) rounds y h = held_on digest entries after afters rounds.1 y (rounds.0.grows y h)
+module _ (digest : List ℕ → List ℕ) (entries : List (List ℕ)) (small : length entries ≤ 256 ^ 8) where
+  -- what is held stays held
+  held_on : (held : Strings) (afters : List Strings) → AreRounds digest entries held afters → (y : List ℕ) → Has held y → Has (last_held held afters) y
+  held_on held [] rounds y h = h
+  held_on held (after ∷ afters) rounds y h = held_on after afters rounds.1 y (rounds.0.grows y h)
 
--- from a front whose tiles are below a level
-rounds_from : (digest : List ℕ → List ℕ) (entries : List (List ℕ)) (k : ℕ) (held : List ℕ → Bool) (afters : List (List ℕ → Bool)) → AreRounds digest entries held afters → ((level index width : ℕ) → IsFront digest held entries (Tile level index width) → level < k) → 1 ≤ length afters → k ≤ length afters → HoldsAll (held_after held afters) (strings digest entries)
-rounds_from digest entries k held [] rounds low some enough y c = absurd (omega arith)
-rounds_from digest entries zero held (after ∷ afters) rounds low some enough y c =
-    held_on digest entries after afters rounds.1 y (bundles_complete digest held after entries rounds.0 (λ level index width f. let lt = low level index width f in omega (arith, lt)) y c)
-rounds_from digest entries (suc zero) held (after ∷ afters) rounds low some enough y c =
-    held_on digest entries after afters rounds.1 y (bundles_complete digest held after entries rounds.0 (λ level index width f. no_tile level index width f (low level index width f)) y c)
-  where
-    no_tile : (level index width : ℕ) → IsFront digest held entries (Tile level index width) → level < 1 → ⊥
-    no_tile zero index width f lt = let p = f.path_is in let one : 256 ^ (0 + 1) ≡ 256 = refl in omega (arith, p.many, p.upto, one)
-    no_tile (suc level) index width f lt = omega arith
-rounds_from digest entries (suc (suc k)) held (after ∷ afters) rounds low some enough y c =
-    rounds_from digest entries (suc k) after afters rounds.1
-    (λ level index width f. round_goes_down digest held after entries rounds.0 (suc k) (λ l i w g. let lt = low l i w g in omega (arith, lt)) level index width f)
-    (omega arith) (omega arith) y c
+  -- a front whose tiles are below level 1 has none
+  no_tile : (held : Strings) (level index width : ℕ) → IsFront digest held entries (Tile level index width) → level < 1 → ⊥
+  no_tile held zero index width f lt = let p = f.path_is in let one : 256 ^ (0 + 1) ≡ 256 = refl in omega (arith, p.many, p.tile.upto, one)
+  no_tile held (suc level) index width f lt = omega arith
+
+  -- from a front whose tiles are below a level
+  rounds_from : (k : ℕ) (held : Strings) (afters : List Strings) → AreRounds digest entries held afters → ((level index width : ℕ) → IsFront digest held entries (Tile level index width) → level < k) → 1 ≤ length afters → k ≤ length afters → HasAll (last_held held afters) (strings digest entries)
+  rounds_from k held [] rounds low some enough = absurd (omega arith)
+  rounds_from zero held (after ∷ afters) rounds low some enough =
+      held_more after (last_held after afters) (strings digest entries) (held_on after afters rounds.1) (bundles_complete digest held after entries small rounds.0 (λ level index width f. let lt = low level index width f in omega (arith, lt)))
+  rounds_from (suc zero) held (after ∷ afters) rounds low some enough =
+      held_more after (last_held after afters) (strings digest entries) (held_on after afters rounds.1) (bundles_complete digest held after entries small rounds.0 (λ level index width f. no_tile held level index width f (low level index width f)))
+  rounds_from (suc (suc k)) held (after ∷ afters) rounds low some enough =
+      rounds_from (suc k) after afters rounds.1
+      (λ level index width f. round_goes_down digest held after entries small rounds.0 (suc k) (λ l i w g. let lt = low l i w g in omega (arith, lt)) level index width f)
+      (omega arith) (omega arith)
 
 pub rounds_complete : RoundsComplete
-rounds_complete digest held entries top [] small t rounds enough y c = absurd (omega arith)
-rounds_complete digest held entries top (after ∷ afters) small t rounds enough y c =
-    rounds_from digest entries top held (after ∷ afters) rounds
+rounds_complete digest held entries top [] small t rounds enough = absurd (omega arith)
+rounds_complete digest held entries top (after ∷ afters) small t rounds enough =
+    rounds_from digest entries (omega (arith, small)) top held (after ∷ afters) rounds
     (λ level index width f. front_is_below_top digest held entries top small t rounds.0.edge level index width f)
-    (omega arith) (omega arith) y c
+    (omega arith) (omega arith)

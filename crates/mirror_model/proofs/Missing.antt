@@ -8,20 +8,17 @@ use Rattle.std.proofs.lemmas.List.Elements.{All-contains, All-nil}
 use Rattle.tlog_shape.specs.Split.{split_of}
 use Rattle.tlog_shape.proofs.Splits.{split_of-below, split_of-positive}
 use Rattle.tlog_hash.specs.Tree.{Tree, Empty, One, Join, tree_of, size_of, mth, strings}
-use Rattle.tlog_hash.specs.Nodes.{Node}
 use Rattle.tlog_hash.specs.Shape.{shape}
 use Rattle.tlog_hash.proofs.Trees.{tree_of-one, tree_of-join, induction, mth-none, mth-one, mth-append, strings-none, strings-one, all-strings}
 use Rattle.tlog_hash.proofs.Shapes.{size_of-shape}
 use Rattle.node_store.specs.Strings.{Strings, Has, HasAll, NoClash}
-use Rattle.mirror_model.specs.Strings.{held_in}
 use Rattle.mirror_model.specs.Edge.{edge_levels, edge_widths}
 use Rattle.mirror_model.specs.Item.{HasEdgeRows}
 use Rattle.tlog_tiles.specs.declared.paths.Path.{Path}
-use Rattle.mirror_model.specs.Rounds.{HoldsAll}
 use Rattle.mirror_model.specs.Walk.{WalkFails, IsPairHeld, IsMissing, NoClashWith}
 use Rattle.mirror_model.specs.Complete.{IsBuilt, IsComplete}
 use Rattle.mirror_model.specs.CompleteLaws.{MissingIsNone}
-use Rattle.mirror_model.proofs.StringSets.{decide, in_items, has_item, all_from_held, held_from_all, holds_from_held}
+use Rattle.mirror_model.proofs.StringSets.{HoldsAll, decide, in_items, has_item, all_from_held, held_from_all, holds_from_held}
 use Rattle.mirror_model.proofs.Fronts.{front_empty, path_of}
 use Rattle.mirror_model.proofs.TreeLaws.{missing_is_front}
 use Rattle.mirror_model.proofs.HeadNotes.{head_once}
@@ -200,18 +197,17 @@ module _ (digest : List ℕ → List ℕ) (held : Strings) where
   pub none_fails : (size : ℕ) (hash : List ℕ) → size ≤ 256 ^ 8 → ((path : Path) → IsMissing digest held size hash path → ⊥) → (at many : ℕ) → Fails (shape size) 0 hash at many → ⊥
   none_fails size hash small none at many f =
       let within = fails_within (shape size) 0 hash at many f in
-      let x : Node = record { start = at; len = many; string = [] } in
-      let p = path_of digest (held_in held) size x (omega (arith, within, size_of-shape size, small)) in
-      none p.path (record { node = x; fails = f; path_is = p.is })
+      let p = path_of digest held size at many (omega (arith, within, size_of-shape size, small)) in
+      none p.path (record { at = at; many = many; fails = f; path_is = p.is })
 
   -- a list that is held whole: nothing is missing
   pub built_none : ((s : List ℕ) → length (digest s) ≡ 32) → NoClash digest held → (size : ℕ) (root : List ℕ) → size ≤ 256 ^ 8 → IsBuilt digest held size root → (path : Path) → IsMissing digest held size root path → ⊥
   built_none len clean size root small b path m =
       let es = b.entries in
-      let all : HoldsAll (held_in held) (strings digest es) = holds_from_held held (strings digest es) b.is.are_held in
+      let all : HoldsAll held (strings digest es) = holds_from_held held (strings digest es) b.is.are_held in
       let apart : NoClashWith digest held es = (λ x y hx hy e. clean.same x y (elim hx [ inl h ↦ h | inr c ↦ all x c ]) (elim hy [ inl h ↦ h | inr c ↦ all y c ]) e) in
       let m' : IsMissing digest held (length es) (mth digest es) path = subst (λ n. IsMissing digest held n (mth digest es) path) (sym b.is.size_is) (subst (λ h. IsMissing digest held size h path) (sym b.is.root_is) m) in
-      (front_empty digest (held_in held) es (omega (arith, b.is.size_is, small))).1 all path ((missing_is_front digest len held es apart path).0 m')
+      (front_empty digest held es (omega (arith, b.is.size_is, small))).1 all path ((missing_is_front digest len held es apart path).0 m')
 
 -- the head of no entries of a lawful view has the root of none
 none_root : (digest : List ℕ → List ℕ) (size : ℕ) (root : List ℕ) (rows : List (List ℕ)) → size ≡ 0 → HasEdgeRows digest size root rows → digest [] ≡ root

@@ -73,26 +73,26 @@ no_fails digest held start root at many f = subst (λ t. WalkFails digest held t
 pub missing_is_of_size : MissingIsOfSize
 missing_is_of_size digest held size root small path m = at path size refl m.path_is
   where
-    inside : IsSpan 0 size m.node.start m.node.len
-    inside = subst (λ n. IsSpan 0 n m.node.start m.node.len) (size_of-shape size) (fails_inside digest held (shape size) 0 root m.node.start m.node.len m.fails)
+    inside : IsSpan 0 size m.at m.many
+    inside = subst (λ n. IsSpan 0 n m.at m.many) (size_of-shape size) (fails_inside digest held (shape size) 0 root m.at m.many m.fails)
 
-    some_of : (n : ℕ) → size ≡ n → 1 ≤ m.node.len
-    some_of zero z = absurd (no_fails digest held 0 root m.node.start m.node.len (subst (λ n. WalkFails digest held (shape n) 0 root m.node.start m.node.len) z m.fails))
-    some_of (suc n) z = fails_some digest held (shape size) 0 root m.node.start m.node.len (solid_shape size (omega (arith, z))) m.fails
+    some_of : (n : ℕ) → size ≡ n → 1 ≤ m.many
+    some_of zero z = absurd (no_fails digest held 0 root m.at m.many (subst (λ n. WalkFails digest held (shape n) 0 root m.at m.many) z m.fails))
+    some_of (suc n) z = fails_some digest held (shape size) 0 root m.at m.many (solid_shape size (omega (arith, z))) m.fails
 
-    at : (path : Path) (n : ℕ) → size ≡ n → IsPathOf size m.node path → IsOfSize size path
+    at : (path : Path) (n : ℕ) → size ≡ n → IsPathOf size m.at m.many path → IsOfSize size path
     at Checkpoint n z p = p
     at (Tile level index width) n z p =
-        let low : index * 256 ^ (level + 1) ≤ m.node.start = subst (λ i. i * 256 ^ (level + 1) ≤ m.node.start) (sym p.index_is) (div-mul-le_self m.node.start (256 ^ (level + 1))) in
-        (some_level level p.many p.upto, top_level level (omega (arith, p.above, inside.upto, small)), p.width_is, omega (arith, low, inside.upto, p.many))
+        let low : index * 256 ^ (level + 1) ≤ m.at = subst (λ i. i * 256 ^ (level + 1) ≤ m.at) (sym p.tile.index_is) (div-mul-le_self m.at (256 ^ (level + 1))) in
+        (some_level level p.many p.tile.upto, top_level level (omega (arith, p.tile.above, inside.upto, small)), p.width_is, omega (arith, low, inside.upto, p.many))
       where
-        some_level : (level : ℕ) → 256 < m.node.len → m.node.len ≤ 256 ^ (level + 1) → 1 ≤ level
+        some_level : (level : ℕ) → 256 < m.many → m.many ≤ 256 ^ (level + 1) → 1 ≤ level
         some_level zero many upto = let one : 256 ^ (0 + 1) ≡ 256 = refl in absurd (omega (arith, many, upto, one))
         some_level (suc l) many upto = omega arith
 
         top_level : (level : ℕ) → 256 ^ level < 256 ^ 8 → level ≤ 7
         top_level level lt = elim (cases_lt level 8) [ inl a ↦ omega (arith, a) | inr a ↦ absurd (let more = power_le 8 level a in omega (arith, more, lt)) ]
     at (Entries index width) n z p =
-        let low : index * 256 ≤ m.node.start = subst (λ i. i * 256 ≤ m.node.start) (sym p.index_is) (div-mul-le_self m.node.start 256) in
+        let low : index * 256 ≤ m.at = subst (λ i. i * 256 ≤ m.at) (sym p.index_is) (div-mul-le_self m.at 256) in
         let some = some_of n z in
         (omega (arith, p.width_is, low, inside.upto, some), p.width_is, omega (arith, low, inside.upto, some))

@@ -65,11 +65,11 @@ missing_is_within digest hash v lawful size root head path m = within path m (mi
     within Checkpoint m of = absurd of
     within (Tile level index width) m of =
         let edge = heads_have_edges digest v lawful size root head in
-        let at = m.node.start in
-        let many = m.node.len in
+        let at = m.at in
+        let many = m.many in
         let h = below_hash digest hash v.strings lawful.no_clash size small root edge.rows edge.has_edge edge.are_held at many m.fails in
-        let full = tile_full digest hash v.strings lawful.no_clash size small level at many m.path_is.above h in
-        let end : (index + 1) * 256 ^ (level + 1) ≤ size = subst (λ i. (i + 1) * 256 ^ (level + 1) ≤ size) (sym m.path_is.index_is) full in (
+        let full = tile_full digest hash v.strings lawful.no_clash size small level at many m.path_is.tile.above h in
+        let end : (index + 1) * 256 ^ (level + 1) ≤ size = subst (λ i. (i + 1) * 256 ^ (level + 1) ≤ size) (sym m.path_is.tile.index_is) full in (
           record {
             level_fits = of.1;
             some = omega (arith, of.2);

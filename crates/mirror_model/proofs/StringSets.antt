@@ -6,13 +6,12 @@ use Rattle.std.specs.Cmp.{tied_itself}
 use Rattle.std.specs.Cmp.Lexicographic.{slice_cmp, nat_list_cmp_total}
 use Rattle.std.specs.List.{Contains, AllByRecursion, list_any}
 use Rattle.std.specs.FinSet as set
-use Rattle.std.specs.FinSet.{contains-union, contains-empty, contains-insert, contains-from_list, contains-items, same_set, slice_cmp-IsAntisymmetric, nat_cmp-IsAntisymmetric}
+use Rattle.std.specs.FinSet.{contains, contains-union, contains-empty, contains-insert, contains-from_list, contains-items, same_set, slice_cmp-IsAntisymmetric, nat_cmp-IsAntisymmetric}
 use Rattle.std.proofs.lemmas.List.Elements.{All-contains, All-from_recursion, recursion_from_All, All-weaker, All-contains_itself}
 use Rattle.std.proofs.lemmas.Map.Lookups.{exact_bytes}
 use Rattle.std.proofs.lemmas.Map.Views.{tells_apart, Contains-from_any}
 use Rattle.node_store.specs.Strings.{Strings, Has, HasAll, NoClash}
-use Rattle.mirror_model.specs.Strings.{held_in, HasClash}
-use Rattle.mirror_model.specs.Rounds.{HoldsAll}
+use Rattle.mirror_model.specs.Strings.{HasClash}
 
 or_left : (a b : Bool) → a ≡ true → (a || b) ≡ true
 or_left true b h = refl
@@ -36,6 +35,18 @@ decide x y = at (eq_by_cmp (slice_cmp nat_cmp) x y) refl
     at : (b : Bool) → eq_by_cmp (slice_cmp nat_cmp) x y ≡ b → (x ≡ y) ⊎ (x ≢ y)
     at true e = inl (tells_apart exact_bytes x y e)
     at false e = inr (λ same. let t : eq_by_cmp (slice_cmp nat_cmp) x y ≡ true = ap (eq_by_cmp (slice_cmp nat_cmp) x) (sym same) ∙ tied x in cc (t, e))
+
+-- a set has a string or not
+pub decide_has : (held : Strings) (string : List ℕ) → Has held string ⊎ (Has held string → ⊥)
+decide_has held string = at (contains held string)
+  where
+    at : (b : Bool) → (b ≡ true) ⊎ (b ≡ true → ⊥)
+    at true = inl refl
+    at false = inr (λ h. let wrong : false ≡ true = h in cc wrong)
+
+-- a set has each string of the list
+abbrev pub HoldsAll : Strings → List (List ℕ) → Type 0
+HoldsAll held wanted = (string : List ℕ) → Contains wanted string → Has held string
 
 -- ---- unions
 
@@ -116,10 +127,10 @@ pub held_from_all : (held : Strings) (wanted : List (List ℕ)) → AllByRecursi
 held_from_all held [] h = tt
 held_from_all held (s ∷ ss) h = (h.0, held_from_all held ss h.1)
 
-pub holds_from_held : (held : Strings) (wanted : List (List ℕ)) → HasAll held wanted → HoldsAll (held_in held) wanted
+pub holds_from_held : (held : Strings) (wanted : List (List ℕ)) → HasAll held wanted → HoldsAll held wanted
 holds_from_held held wanted h string c = All-contains (Has held) wanted string (All-from_recursion (Has held) wanted (all_from_held held wanted h)) c
 
-pub held_from_holds : (held : Strings) (wanted : List (List ℕ)) → HoldsAll (held_in held) wanted → HasAll held wanted
+pub held_from_holds : (held : Strings) (wanted : List (List ℕ)) → HoldsAll held wanted → HasAll held wanted
 held_from_holds held wanted h = held_from_all held wanted (recursion_from_All (Has held) wanted (All-weaker (Contains wanted) (Has held) h wanted (All-contains_itself wanted)))
 
 pub held_more : (v w : Strings) (wanted : List (List ℕ)) → ((q : List ℕ) → Has v q → Has w q) → HasAll v wanted → HasAll w wanted

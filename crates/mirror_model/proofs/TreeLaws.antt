@@ -1,19 +1,17 @@
 -- The laws of specs/TreeLaws.antt, from the lemmas on blocks, edges, fronts and walks.
-use Rattle.std.proofs.Common.{subst, ◌≡◌, inl, inr, ◌+◌, ◌-◌, ◌*◌, ◌/◌, ◌^◌, min, length, take, drop, sym, refl, ap, ◌∙◌, arith, length-drop}
+use Rattle.std.proofs.Common.{subst, ◌≡◌, inl, inr, ◌-◌, ◌*◌, min, length, take, drop, sym, refl, ap, ◌∙◌, arith, length-drop}
 use Rattle.std.proofs.lemmas.List.{take_min}
 use Rattle.std.proofs.lemmas.Bool.{cases_lt}
 use Rattle.std.specs.List.{Contains}
 use Rattle.tlog_hash.specs.Tree.{tree_of, strings}
-use Rattle.tlog_hash.specs.Nodes.{Node}
 use Rattle.tlog_hash.specs.Rows.{part}
-use Rattle.tlog_tiles.specs.declared.paths.Path.{Path}
-use Rattle.tlog_tiles.specs.declared.paths.Path.TheVariants.{Checkpoint, Tile, Entries}
 use Rattle.mirror_model.specs.Front.{IsPathOf}
-use Rattle.mirror_model.specs.TreeLaws.{FullRowJoins, BundleStrings, RoundLeaves, RoundGoesDown, BundlesComplete, MissingIsFront}
+use Rattle.mirror_model.specs.TreeLaws.{FrontIsEmpty, FullRowJoins, BundleStrings, RoundLeaves, RoundGoesDown, BundlesComplete, MissingIsFront}
 use Rattle.mirror_model.proofs.NodeBlocks.{node_inside}
 use Rattle.mirror_model.proofs.RowLaws.{full_tile, bundle}
-use Rattle.mirror_model.proofs.Fronts.{power_le, front_node, front_unheld, after_round, after_bundles}
+use Rattle.mirror_model.proofs.Fronts.{front_empty, power_le, front_node, front_unheld, after_round, after_bundles}
 use Rattle.mirror_model.proofs.Walks.{walk_is_front}
+use Rattle.mirror_model.proofs.StringSets.{holds_from_held, held_from_holds}
 
 pub full_row_joins : FullRowJoins
 full_row_joins d es level index fits y =
@@ -36,29 +34,29 @@ bundle_strings d es index fits y =
     )
 
 pub round_leaves : RoundLeaves
-round_leaves d held after es r = after_round d held after r.grows es r.small r.edge r.answered
+round_leaves d held after es small r = after_round d held after r.grows es small (holds_from_held held _ r.edge) (λ path f. holds_from_held after _ (r.taken path f))
 
 pub round_goes_down : RoundGoesDown
-round_goes_down d held after es r top asks level index width f =
+round_goes_down d held after es small r top asks level index width f =
     let n = f.node in
-    let short = round_leaves d held after es r top asks n (front_node d after (tree_of es) 0 n f.is) (front_unheld d after (tree_of es) 0 n f.is) in
+    let short = round_leaves d held after es small r top asks n (front_node d after (tree_of es) 0 n f.is) (front_unheld d after (tree_of es) 0 n f.is) in
     elim (cases_lt level top) [
       | inl lt ↦ lt
-      | inr le ↦ absurd (let more = power_le top level le in omega (arith, short, f.path_is.above, more))
+      | inr le ↦ absurd (let more = power_le top level le in omega (arith, short, f.path_is.tile.above, more))
     ]
 
 pub bundles_complete : BundlesComplete
-bundles_complete d held after es r = after_bundles d held after r.grows es r.small r.edge r.answered
+bundles_complete d held after es small r alone = held_from_holds after _ (after_bundles d held after r.grows es small (holds_from_held held _ r.edge) (λ path f. holds_from_held after _ (r.taken path f)) alone)
 
 pub missing_is_front : MissingIsFront
 missing_is_front d size held es clean path = (
   λ m.
-      let k = (walk_is_front d size held es clean m.node.start m.node.len).0 m.fails in
-      record { node = k.0; is = k.1; path_is = moved m.node k.0 path (sym k.2) (sym k.3) m.path_is },
-  λ f. record { node = f.node; fails = (walk_is_front d size held es clean f.node.start f.node.len).1 (f.node, f.is, refl, refl); path_is = f.path_is },
+      let k = (walk_is_front d size held es clean m.at m.many).0 m.fails in
+      record { node = k.0; is = k.1; path_is = subst (λ n. IsPathOf (length es) n k.0.len path) (sym k.2) (subst (λ n. IsPathOf (length es) m.at n path) (sym k.3) m.path_is) },
+  λ f. record { at = f.node.start; many = f.node.len; fails = (walk_is_front d size held es clean f.node.start f.node.len).1 (f.node, f.is, refl, refl); path_is = f.path_is },
 )
-  where
-    moved : (x y : Node) (p : Path) → x.start ≡ y.start → x.len ≡ y.len → IsPathOf (length es) x p → IsPathOf (length es) y p
-    moved x y Checkpoint s l h = h
-    moved x y (Tile level index width) s l h = record { many = omega (arith, h.many); above = omega (arith, h.above); upto = omega (arith, h.upto); index_is = h.index_is ∙ ap (λ m. m / 256 ^ (level + 1)) s; width_is = h.width_is }
-    moved x y (Entries index width) s l h = record { few = omega (arith, h.few); index_is = h.index_is ∙ ap (λ m. m / 256) s; width_is = h.width_is }
+
+pub front_is_empty : FrontIsEmpty
+front_is_empty d held es small =
+    let law = front_empty d held es small in
+    (λ none. held_from_holds held _ (law.0 none), λ all. law.1 (holds_from_held held _ all))

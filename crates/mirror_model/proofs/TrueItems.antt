@@ -19,14 +19,12 @@ use Rattle.tlog_tiles.specs.Edge.{edge_of, edge_at, edge_below}
 use Rattle.tlog_tiles.specs.Tiles.{tile_bytes, bundle_bytes, IsWithin}
 use Rattle.tlog_tiles.proofs.RowLemmas.{length-row_text}
 use Rattle.tlog_tiles.proofs.TileLemmas.{served_is_read}
-use Rattle.mirror_model.specs.Strings.{held_in}
 use Rattle.mirror_model.specs.Edge.{edge_levels, edge_row, edge_rows, edge_root, edge_strings}
 use Rattle.mirror_model.specs.Front.{IsFront}
-use Rattle.mirror_model.specs.Rounds.{HoldsAll, IsAnswered}
 use Rattle.mirror_model.specs.Item.{row_of}
 use Rattle.mirror_model.specs.Strings.{IsDigest}
-use Rattle.mirror_model.specs.TrueLaws.{TilesAreTrue, BundlesAreTrue, EdgesAreTrue, EdgeIsOfPaths, FrontIsWithin, true_strings, TrueStringsWithin, FrontIsWidest, TakingIsRound, PrefixesServeSame}
-use Rattle.mirror_model.proofs.StringSets.{holds_from_held}
+use Rattle.mirror_model.specs.TrueLaws.{TilesAreTrue, BundlesAreTrue, EdgesAreTrue, EdgeIsOfPaths, FrontIsWithin, TrueStringsWithin, FrontIsWidest, PrefixesServeSame}
+use Rattle.mirror_model.proofs.StringSets.{HoldsAll, holds_from_held}
 use Rattle.mirror_model.proofs.ItemBytes.{row_is_one, bundle_is_one}
 use Rattle.mirror_model.proofs.EdgeRoots.{edge_rows_wide, edge_root_is}
 use Rattle.mirror_model.proofs.EdgeStrings.{full_or_edge}
@@ -34,7 +32,7 @@ use Rattle.mirror_model.proofs.NodeBlocks.{node_inside}
 use Rattle.tlog_hash.proofs.NodeStrings.{string_of_node}
 use Rattle.mirror_model.proofs.TreeLaws.{full_row_joins, bundle_strings}
 use Rattle.mirror_model.proofs.Fronts.{front_node, front_unheld, power_le}
-use Rattle.node_store.specs.Strings.{HasAll}
+use Rattle.node_store.specs.Strings.{Strings}
 
 -- ---- tiles and bundles
 
@@ -133,7 +131,7 @@ tile_end level index =
 
 -- ---- fronts
 
-module _ (digest : List ℕ → List ℕ) (held : List ℕ → Bool) (entries : List (List ℕ)) (small : length entries ≤ 256 ^ 8) (edge : HoldsAll held (edge_strings digest (edge_rows digest entries))) where
+module _ (digest : List ℕ → List ℕ) (held : Strings) (entries : List (List ℕ)) (small : length entries ≤ 256 ^ 8) (edge : HoldsAll held (edge_strings digest (edge_rows digest entries))) where
   -- a tile of the front is full
   pub front_tile : (level index width : ℕ) → IsFront digest held entries (Tile level index width) → (width ≡ 256) × (level ≤ 7) × ((index + 1) * 256 ^ (level + 1) ≤ length entries)
   front_tile level index width f =
@@ -143,11 +141,11 @@ module _ (digest : List ℕ → List ℕ) (held : List ℕ → Bool) (entries : 
       let inside = node_inside digest entries 0 x n in
       let low : level ≤ 7 = elim (cases_lt level 8) [
         | inl lt ↦ omega (arith, lt)
-        | inr le ↦ absurd (let more = power_le 8 level le in omega (arith, more, t.above, inside.upto, small))
+        | inr le ↦ absurd (let more = power_le 8 level le in omega (arith, more, t.tile.above, inside.upto, small))
       ] in
-      elim (full_or_edge digest entries level x (omega (arith, low)) t.above t.upto n) [
-        | inr on_edge ↦ absurd (let wrong : true ≡ false = sym (edge x.string on_edge) ∙ front_unheld digest held (tree_of entries) 0 x f.is in cc wrong)
-        | inl full ↦ (t.width_is, low, subst (λ i. (i + 1) * 256 ^ (level + 1) ≤ length entries) (sym (t.index_is ∙ index_is full.index (256 ^ (level + 1)) x.start x.len full.inside.start_in full.inside.upto full.inside.some)) full.full)
+      elim (full_or_edge digest entries level x (omega (arith, low)) t.tile.above t.tile.upto n) [
+        | inr on_edge ↦ absurd (front_unheld digest held (tree_of entries) 0 x f.is (edge x.string on_edge))
+        | inl full ↦ (t.width_is, low, subst (λ i. (i + 1) * 256 ^ (level + 1) ≤ length entries) (sym (t.tile.index_is ∙ index_is full.index (256 ^ (level + 1)) x.start x.len full.inside.start_in full.inside.upto full.inside.some)) full.full)
       ]
     where
       index_is : (i c start len : ℕ) → i * c ≤ start → start + len ≤ i * c + c → 1 ≤ len → start / c ≡ i
@@ -172,28 +170,7 @@ module _ (digest : List ℕ → List ℕ) (held : List ℕ → Bool) (entries : 
       record { level_fits = omega arith; some = b.0; upto = b.1; within = omega (arith, one, b.2) }
 
 pub front_is_within : FrontIsWithin
-front_is_within digest held entries small edge path f = front_within digest held entries small edge path f
-
-pub taking_is_round : TakingIsRound
-taking_is_round digest hash entries short v w t =
-    let held = held_in v.strings in
-    let edge : HoldsAll held (edge_strings digest (edge_rows digest entries)) = holds_from_held v.strings _ t.edge in
-    record {
-      small = t.small;
-      edge = edge;
-      grows = t.grows.strings_are;
-      answered = λ path f. answer path f (front_within digest held entries t.small edge path f) (t.taken path f (front_within digest held entries t.small edge path f));
-    }
-  where
-    answer : (path : Path) → IsFront digest (held_in v.strings) entries path → IsWithin (length entries) path → HasAll w.strings (true_strings digest entries path) → IsAnswered digest (held_in w.strings) entries path
-    answer Checkpoint f within h = tt
-    answer (Tile level index width) f within h =
-        let true_tile = tiles_are_true digest hash entries short level index width (record { some = within.some; most = within.upto }) in
-        let all = holds_from_held w.strings _ h in
-        λ fits. subst (λ n. HoldsAll (held_in w.strings) (joins digest (level_row digest entries level (256 * index) n))) f.path_is.width_is (subst (HoldsAll (held_in w.strings)) true_tile.strings_are all)
-    answer (Entries index width) f within h =
-        let true_bundle = bundles_are_true digest hash entries short index width within in
-        subst (HoldsAll (held_in w.strings)) true_bundle.strings_are (holds_from_held w.strings _ h)
+front_is_within digest held entries small edge path f = front_within digest held entries small (holds_from_held held _ edge) path f
 
 -- ---- the first entries
 
@@ -219,18 +196,16 @@ prefixes_serve_same digest entries n within = record {
 -- ---- strings of the tree alone
 
 pub true_strings_within : TrueStringsWithin
-true_strings_within digest hash entries short Checkpoint within widest y c = absurd widest
-true_strings_within digest hash entries short (Tile level index width) within widest y c =
-    let t = tiles_are_true digest hash entries short level index width (record { some = within.some; most = within.upto }) in
-    let row : Contains (joins digest (level_row digest entries level (256 * index) 256)) y = subst (λ n. Contains (joins digest (level_row digest entries level (256 * index) n)) y) widest (subst (λ ss. Contains ss y) t.strings_are c) in
+true_strings_within digest entries Checkpoint within widest y c = absurd widest
+true_strings_within digest entries (Tile level index width) within widest y c =
+    let row : Contains (joins digest (level_row digest entries level (256 * index) 256)) y = subst (λ n. Contains (joins digest (level_row digest entries level (256 * index) n)) y) widest c in
     let fits : (index + 1) * 256 ^ (level + 1) ≤ length entries = subst (λ m. m ≤ length entries) (tile_end level index) (subst (λ w. (256 * index + w) * 256 ^ level ≤ length entries) widest within.within) in
     let n = (full_row_joins digest entries level index fits y).0 row in
     subst (Contains (strings digest entries)) n.string_is (string_of_node digest entries 0 n.node n.is)
-true_strings_within digest hash entries short (Entries index width) within widest y c =
-    let b = bundles_are_true digest hash entries short index width within in
+true_strings_within digest entries (Entries index width) within widest y c =
     let one : (256 * index + width) * 256 ^ 0 ≡ 256 * index + width = omega arith in
     let below : 256 * index < length entries = omega (arith, one, within.within, within.some) in
-    let some : Contains (strings digest (part (256 * index) (min 256 (length entries - 256 * index)) entries)) y = subst (λ w. Contains (strings digest (part (256 * index) w entries)) y) widest (subst (λ ss. Contains ss y) b.strings_are c) in
+    let some : Contains (strings digest (part (256 * index) (min 256 (length entries - 256 * index)) entries)) y = subst (λ w. Contains (strings digest (part (256 * index) w entries)) y) widest c in
     let n = (bundle_strings digest entries index below y).0 some in
     subst (Contains (strings digest entries)) n.string_is (string_of_node digest entries 0 n.node n.is)
 

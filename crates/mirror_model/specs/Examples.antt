@@ -1,5 +1,6 @@
 -- Small trees, worked out under the test digest: the first byte is a sum modulo 256, and 31 zeros follow.
-use Rattle.std.specs.Prelude.{Bool, false, length, ◌≡◌, ℕ, List, [], ◌∷◌, ◌++◌, take, replicate}
+use Rattle.std.specs.FinSet as set
+use Rattle.std.specs.Prelude.{length, ◌≡◌, ℕ, List, [], ◌∷◌, ◌++◌, take, replicate}
 use Rattle.tlog_hash.specs.Tree.{mth, strings}
 use Rattle.tlog_hash.specs.Sum.{sum_digest}
 use Rattle.tlog_tiles.specs.declared.paths.Path.{Path}
@@ -76,18 +77,14 @@ pub record IsWay : Type 0 where
   pub not_back : Reaches some_item 2 (Take 0 some_item ∷ Merge 2 1 ∷ Merge 1 0 ∷ []) → ⊥
   pub not_before : Reaches some_item 1 (Merge 1 0 ∷ Take 0 some_item ∷ []) → ⊥
 
--- nothing is held
-abbrev pub held_never : List ℕ → Bool
-held_never string = false
-
 -- with nothing held the front of three entries is their bundle, and nothing else
 pub record IsFrontOfThree : Type 0 where
-  pub bundle : IsFront sum_digest held_never three (Entries 0 3)
-  pub alone : (path : Path) → IsFront sum_digest held_never three path → path ≡ Entries 0 3
+  pub bundle : IsFront sum_digest set.empty three (Entries 0 3)
+  pub alone : (path : Path) → IsFront sum_digest set.empty three path → path ≡ Entries 0 3
 
 -- with nothing held the front of 300 entries has a tile that their tree does not have in full: so an edge is taken
 -- first
 abbrev pub HasTileOutside : Type 0
 HasTileOutside =
     (digest : List ℕ → List ℕ) (entries : List (List ℕ)) → length entries ≡ 300 →
-    IsFront digest held_never entries (Tile 1 0 256)
+    IsFront digest set.empty entries (Tile 1 0 256)

@@ -1,22 +1,22 @@
 -- Laws that fetching a log from its files stands on (C2SP tlog-tiles).
-use Rattle.std.specs.Prelude.{◌≡◌, ◌⊎◌, ℕ, ◌+◌, ◌*◌, ◌^◌, ◌<◌, ◌≤◌, List, length, take, Bool}
+use Rattle.std.specs.Prelude.{◌≡◌, ◌⊎◌, ℕ, ◌+◌, ◌*◌, ◌^◌, ◌<◌, ◌≤◌, List, length, take}
 use Rattle.std.specs.List.{Contains}
 use Rattle.std.specs.FinSet as set
 use Rattle.tlog_hash.specs.Tree.{mth, strings}
 use Rattle.tlog_tiles.specs.declared.paths.Path.{Path}
 use Rattle.tlog_tiles.specs.declared.paths.Path.TheVariants.{Entries}
 use Rattle.tlog_tiles.specs.Tiles.{tile_bytes, IsWithin}
-use Rattle.node_store.specs.Strings.{Has, NoClash}
+use Rattle.node_store.specs.Strings.{Strings, Has, HasAll, NoClash}
 use Rattle.mirror_model.specs.View.{View}
 use Rattle.mirror_model.specs.Edge.{edge_rows, edge_strings}
 use Rattle.mirror_model.specs.Front.{IsFront}
-use Rattle.mirror_model.specs.Rounds.{HoldsAll}
+use Rattle.mirror_model.specs.Rounds.{true_strings}
 use Rattle.mirror_model.specs.Heads.{HasHead}
 use Rattle.mirror_model.specs.Complete.{IsLawful}
 use Rattle.mirror_model.specs.Walk.{IsMissing}
 use Rattle.mirror_model.specs.declared.items.Item.{Item}
 use Rattle.mirror_model.specs.Item.{notes_of, strings_of, plus}
-use Rattle.mirror_model.specs.TrueLaws.{AreShort, true_strings, IsWidest}
+use Rattle.mirror_model.specs.TrueLaws.{IsWidest}
 use Rattle.mirror_model.specs.Listed.{ListsMissing, ListsFront}
 use Rattle.mirror_model.specs.Strings.{IsDigest}
 
@@ -33,11 +33,7 @@ FullTilesBegin =
 -- edge of the first
 abbrev pub FullBundlesServe : Type 0
 FullBundlesServe =
-    (digest : List ℕ → List ℕ) →
-    IsDigest digest →
-    (entries : List (List ℕ)) →
-    AreShort entries →
-    (size index width : ℕ) →
+    (digest : List ℕ → List ℕ) (entries : List (List ℕ)) (size index width : ℕ) →
     size ≤ length entries →
     256 * index + width ≡ size →
     1 ≤ width →
@@ -50,14 +46,11 @@ FullBundlesServe =
 -- a path whose true bytes' strings are held is in no front
 abbrev pub AnsweredIsNotAgain : Type 0
 AnsweredIsNotAgain =
-    (digest : List ℕ → List ℕ) →
-    IsDigest digest →
-    (held : List ℕ → Bool) (entries : List (List ℕ)) →
-    AreShort entries →
+    (digest : List ℕ → List ℕ) (held : Strings) (entries : List (List ℕ)) →
     length entries ≤ 256 ^ 8 →
-    HoldsAll held (edge_strings digest (edge_rows digest entries)) →
+    HasAll held (edge_strings digest (edge_rows digest entries)) →
     (path : Path) →
-    HoldsAll held (true_strings digest entries path) →
+    HasAll held (true_strings digest entries path) →
     IsFront digest held entries path →
     ⊥
 

@@ -1,11 +1,13 @@
 -- What is fetched next for a tree of which a part is held: the front (C2SP tlog-tiles, "Merkle Tree" and "Log
 -- Entries").
-use Rattle.std.specs.Prelude.{◌≡◌, ◌⊎◌, ℕ, ◌+◌, ◌-◌, ◌*◌, ◌/◌, ◌^◌, ◌≤◌, ◌<◌, Bool, true, false, List, ◌∷◌, ◌++◌, length, min}
+use Rattle.std.specs.Prelude.{◌≡◌, ◌⊎◌, ℕ, ◌+◌, ◌-◌, ◌*◌, ◌/◌, ◌≤◌, ◌<◌, List, ◌∷◌, ◌++◌, length, min}
 use Rattle.std.specs.Ordering.{nat_cmp, ordering_then}
 use Rattle.std.specs.declared.cmp.Ordering.{Ordering}
 use Rattle.std.specs.declared.cmp.Ordering.TheVariants.{Less, Equal, Greater}
 use Rattle.tlog_tiles.specs.declared.paths.Path.{Path}
 use Rattle.tlog_tiles.specs.declared.paths.Path.TheVariants.{Checkpoint, Tile, Entries}
+use Rattle.tlog_shape.specs.Edge.{IsTileOfNode}
+use Rattle.node_store.specs.Strings.{Strings, Has}
 use Rattle.tlog_hash.specs.Tree.{Tree, Empty, One, Join, tree_of, size_of}
 use Rattle.tlog_hash.specs.Nodes.{Node, IsThis, entries_root}
 
@@ -21,42 +23,41 @@ path_cmp Checkpoint (Tile l i w) = Greater
 path_cmp Checkpoint (Entries i w) = Greater
 path_cmp Checkpoint Checkpoint = Equal
 
--- the full tile of a node of more than 256 entries: it has the hashes from which the node's hash follows
-pub record IsTileOf (x : Node) (level index width : ℕ) : Type 0 where
-  pub many : 256 < x.len
-  pub above : 256 ^ level < x.len
-  pub upto : x.len ≤ 256 ^ (level + 1)
-  pub index_is : index ≡ x.start / 256 ^ (level + 1)
+-- the full tile of a node of more than 256 entries: from its hashes the node's hash follows
+pub record IsNodeTile (start len level index width : ℕ) : Type 0 where
+  pub many : 256 < len
+  pub tile : IsTileOfNode start len level index
   pub width_is : width ≡ 256
 
 -- the bundle of a node of at most 256 entries, in a tree of that size
-pub record IsBundleOf (size : ℕ) (x : Node) (index width : ℕ) : Type 0 where
-  pub few : x.len ≤ 256
-  pub index_is : index ≡ x.start / 256
+pub record IsNodeBundle (size start len index width : ℕ) : Type 0 where
+  pub few : len ≤ 256
+  pub index_is : index ≡ start / 256
   pub width_is : width ≡ min 256 (size - 256 * index)
 
--- the path under which the strings of a node are fetched, in a tree of that size
-abbrev pub IsPathOf : ℕ → Node → Path → Type 0
-IsPathOf size x Checkpoint = ⊥
-IsPathOf size x (Tile level index width) = IsTileOf x level index width
-IsPathOf size x (Entries index width) = IsBundleOf size x index width
+-- the path under which the strings of a node are fetched, in a tree of that size: of the node of as many entries as
+-- len, from start on
+abbrev pub IsPathOf : ℕ → ℕ → ℕ → Path → Type 0
+IsPathOf size start len Checkpoint = ⊥
+IsPathOf size start len (Tile level index width) = IsNodeTile start len level index width
+IsPathOf size start len (Entries index width) = IsNodeBundle size start len index width
 
 -- x is the node of these three, and its string is not held
-pub record IsUnheldThis (held : List ℕ → Bool) (start len : ℕ) (string : List ℕ) (x : Node) : Type 0 where
+pub record IsUnheldThis (held : Strings) (start len : ℕ) (string : List ℕ) (x : Node) : Type 0 where
   pub this : IsThis start len string x
-  pub unheld : held x.string ≡ false
+  pub unheld : Has held x.string → ⊥
 
-module _ (digest : List ℕ → List ℕ) (held : List ℕ → Bool) where
+module _ (digest : List ℕ → List ℕ) (held : Strings) where
   -- x is a node of the tree whose string is not held, while those of all nodes above it are
   abbrev pub InFront : Tree (List ℕ) → ℕ → Node → Type 0
   InFront Empty start x = ⊥
   InFront (One e) start x = IsUnheldThis held start 1 (0 ∷ e) x
   InFront (Join l r) start x =
       IsUnheldThis held start (size_of l + size_of r) (1 ∷ entries_root digest l ++ entries_root digest r) x
-      ⊎ ((held (1 ∷ entries_root digest l ++ entries_root digest r) ≡ true) × (InFront l start x ⊎ InFront r (start + size_of l) x))
+      ⊎ (Has held (1 ∷ entries_root digest l ++ entries_root digest r) × (InFront l start x ⊎ InFront r (start + size_of l) x))
 
   -- Front(V, E) has the path: it is that of such a node of the tree of E
   pub record IsFront (entries : List (List ℕ)) (path : Path) : Type 0 where
     pub node : Node
     pub is : InFront (tree_of entries) 0 node
-    pub path_is : IsPathOf (length entries) node path
+    pub path_is : IsPathOf (length entries) node.start node.len path

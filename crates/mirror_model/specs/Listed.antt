@@ -9,7 +9,6 @@ use Rattle.std.specs.List.Sorted.{IsStrictlySortedBy}
 use Rattle.tlog_tiles.specs.declared.paths.Path.{Path}
 use Rattle.node_store.specs.Strings.{Has}
 use Rattle.mirror_model.specs.View.{View}
-use Rattle.mirror_model.specs.Strings.{held_in}
 use Rattle.mirror_model.specs.Heads.{HasHead}
 use Rattle.mirror_model.specs.Forks.{Point, point_cmp, IsFork}
 use Rattle.mirror_model.specs.Front.{path_cmp, IsFront}
@@ -50,7 +49,7 @@ module _ (digest : List ℕ → List ℕ) where
   -- the front of a list of entries, in the same order
   pub record ListsFront (v : View) (entries : List (List ℕ)) (paths : List Path) : Type 0 where
     pub sorted : IsStrictlySortedBy path_cmp paths
-    pub exact : (path : Path) → Contains paths path ↔ IsFront digest (held_in v.strings) entries path
+    pub exact : (path : Path) → Contains paths path ↔ IsFront digest v.strings entries path
 
 -- such a list is the only one
 abbrev pub NotesAreListedOnce : Type 0

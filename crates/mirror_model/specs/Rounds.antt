@@ -1,35 +1,42 @@
--- Rounds of fetching: all paths of the front are asked for, and answered truly.
-use Rattle.std.specs.Prelude.{◌≡◌, ℕ, ◌+◌, ◌*◌, ◌^◌, ◌≤◌, Bool, true, List, length}
-use Rattle.std.specs.List.{Contains}
+-- Rounds of fetching: the true bytes of all paths of the front are taken (C2SP tlog-tiles).
+use Rattle.std.specs.Prelude.{ℕ, ◌*◌, ◌≤◌, List, [], ◌∷◌}
 use Rattle.tlog_hash.specs.Tree.{strings, joins}
 use Rattle.tlog_hash.specs.Rows.{part, level_row}
-use Rattle.mirror_model.specs.Edge.{edge_rows, edge_strings}
 use Rattle.tlog_tiles.specs.declared.paths.Path.{Path}
 use Rattle.tlog_tiles.specs.declared.paths.Path.TheVariants.{Checkpoint, Tile, Entries}
+use Rattle.node_store.specs.Strings.{Strings, Has, HasAll}
+use Rattle.mirror_model.specs.Edge.{edge_rows, edge_strings}
 use Rattle.mirror_model.specs.Front.{IsFront}
 
--- all these strings are held
-abbrev pub HoldsAll : (List ℕ → Bool) → List (List ℕ) → Type 0
-HoldsAll held wanted = (string : List ℕ) → Contains wanted string → held string ≡ true
+-- the last of some sets, or the one before them
+abbrev pub last_held : Strings → List Strings → Strings
+last_held held [] = held
+last_held held (after ∷ afters) = last_held after afters
 
-module _ (digest : List ℕ → List ℕ) where
-  -- the strings of the true answer for the path are held; a tile that the tree does not have in full has no answer
-  abbrev pub IsAnswered : (List ℕ → Bool) → List (List ℕ) → Path → Type 0
-  IsAnswered held entries Checkpoint = Unit {0}
-  IsAnswered held entries (Tile level index width) = (index + 1) * 256 ^ (level + 1) ≤ length entries → HoldsAll held (joins digest (level_row digest entries level (256 * index) 256))
-  IsAnswered held entries (Entries index width) = HoldsAll held (strings digest (part (256 * index) width entries))
+module _ (digest : List ℕ → List ℕ) (entries : List (List ℕ)) where
+  -- the strings that the true bytes of a path give: of a tile, the joins of its row of hashes; of a bundle, what the
+  -- tree hash of its entries hashes
+  abbrev pub true_strings : Path → List (List ℕ)
+  true_strings Checkpoint = []
+  true_strings (Tile level index width) = joins digest (level_row digest entries level (256 * index) width)
+  true_strings (Entries index width) = strings digest (part (256 * index) width entries)
 
-  -- a round: the edge's strings are held before it, what is held stays held, and all paths of the front are answered
-  pub record IsRound (held after : List ℕ → Bool) (entries : List (List ℕ)) : Type 0 where
-    pub small : length entries ≤ 256 ^ 8
-    pub edge : HoldsAll held (edge_strings digest (edge_rows digest entries))
-    pub grows : (string : List ℕ) → held string ≡ true → after string ≡ true
-    pub answered : (path : Path) → IsFront digest held entries path → IsAnswered after entries path
+  -- a round: the edge's strings are held before it, what is held stays held, and the strings of the true bytes of all
+  -- paths of the front are held after it
+  pub record IsRound (held after : Strings) : Type 0 where
+    pub edge : HasAll held (edge_strings digest (edge_rows digest entries))
+    pub grows : (string : List ℕ) → Has held string → Has after string
+    pub taken : (path : Path) → IsFront digest held entries path → HasAll after (true_strings path)
+
+  -- one round after another
+  abbrev pub AreRounds : Strings → List Strings → Type 0
+  AreRounds held [] = Unit {0}
+  AreRounds held (after ∷ afters) = IsRound held after × AreRounds after afters
 
   -- the front has no tile above that level
-  abbrev pub AsksUpTo : (List ℕ → Bool) → List (List ℕ) → ℕ → Type 0
-  AsksUpTo held entries top = (level index width : ℕ) → IsFront digest held entries (Tile level index width) → level ≤ top
+  abbrev pub AsksUpTo : Strings → ℕ → Type 0
+  AsksUpTo held top = (level index width : ℕ) → IsFront digest held entries (Tile level index width) → level ≤ top
 
   -- the front has no tile
-  abbrev pub AsksBundlesAlone : (List ℕ → Bool) → List (List ℕ) → Type 0
-  AsksBundlesAlone held entries = (level index width : ℕ) → IsFront digest held entries (Tile level index width) → ⊥
+  abbrev pub AsksBundlesAlone : Strings → Type 0
+  AsksBundlesAlone held = (level index width : ℕ) → IsFront digest held entries (Tile level index width) → ⊥

@@ -1,15 +1,10 @@
 -- Words on sets of the strings that trees hash.
-use Rattle.std.specs.Prelude.{◌≡◌, ◌≢◌, ℕ, List, length, Bool}
-use Rattle.std.specs.FinSet.{contains}
+use Rattle.std.specs.Prelude.{◌≡◌, ◌≢◌, ℕ, List, length}
 use Rattle.node_store.specs.Strings.{Strings, Has}
 
 -- a digest function: each digest has 32 bytes
 abbrev pub IsDigest : (List ℕ → List ℕ) → Type 0
 IsDigest digest = (string : List ℕ) → length (digest string) ≡ 32
-
--- whether the set has the string
-abbrev pub held_in : Strings → List ℕ → Bool
-held_in strings string = contains strings string
 
 -- two different strings of the set have one digest
 pub record HasClash (digest : List ℕ → List ℕ) (strings : Strings) : Type 0 where

@@ -1,5 +1,5 @@
 -- What edges, tiles, bundles, fronts and walks have to do with the tree of a list of entries.
-use Rattle.std.specs.Prelude.{[], ◌∷◌, max, ◌≡◌, ◌↔◌, ℕ, ◌+◌, ◌-◌, ◌*◌, ◌^◌, ◌≤◌, ◌<◌, Bool, false, List, length, map, min}
+use Rattle.std.specs.Prelude.{max, ◌≡◌, ◌↔◌, ℕ, ◌+◌, ◌-◌, ◌*◌, ◌^◌, ◌≤◌, ◌<◌, List, length, map, min}
 use Rattle.std.specs.List.{Contains}
 use Rattle.tlog_shape.specs.Edge.{IsTop}
 use Rattle.tlog_hash.specs.Tree.{tree_of, mth, strings, joins}
@@ -10,9 +10,9 @@ use Rattle.mirror_model.specs.Edge.{edge_widths, edge_rows, edge_root, edge_stri
 use Rattle.tlog_tiles.specs.declared.paths.Path.{Path}
 use Rattle.tlog_tiles.specs.declared.paths.Path.TheVariants.{Checkpoint, Tile, Entries}
 use Rattle.mirror_model.specs.Front.{InFront, IsFront}
-use Rattle.mirror_model.specs.Rounds.{HoldsAll, IsRound, AsksUpTo, AsksBundlesAlone}
-use Rattle.node_store.specs.Strings.{Strings}
-use Rattle.mirror_model.specs.Strings.{held_in}
+use Rattle.mirror_model.specs.Rounds.{IsRound, AsksUpTo, AsksBundlesAlone, AreRounds, last_held}
+use Rattle.node_store.specs.Strings.{Strings, Has, HasAll}
+use Rattle.mirror_model.specs.Strings.{IsDigest}
 use Rattle.mirror_model.specs.Walk.{WalkFails, NoClashWith, IsMissing}
 
 -- the true edge rows have the widths of the edge
@@ -61,54 +61,44 @@ BundleStrings =
 -- the front is empty exactly where Tree(E) is held
 abbrev pub FrontIsEmpty : Type 0
 FrontIsEmpty =
-    (digest : List ℕ → List ℕ) (held : List ℕ → Bool) (entries : List (List ℕ)) → length entries ≤ 256 ^ 8 →
-    ((path : Path) → IsFront digest held entries path → ⊥) ↔ HoldsAll held (strings digest entries)
+    (digest : List ℕ → List ℕ) (held : Strings) (entries : List (List ℕ)) → length entries ≤ 256 ^ 8 →
+    ((path : Path) → IsFront digest held entries path → ⊥) ↔ HasAll held (strings digest entries)
 
 -- after a round in which no tile above level L was asked for, a node that is not held has at most 256^L entries
 abbrev pub RoundLeaves : Type 0
 RoundLeaves =
-    (digest : List ℕ → List ℕ) (held after : List ℕ → Bool) (entries : List (List ℕ)) →
-    IsRound digest held after entries → (top : ℕ) → AsksUpTo digest held entries top → (x : Node) →
-    IsNode digest (tree_of entries) 0 x → after x.string ≡ false → x.len ≤ 256 ^ top
+    (digest : List ℕ → List ℕ) (held after : Strings) (entries : List (List ℕ)) →
+    length entries ≤ 256 ^ 8 → IsRound digest entries held after → (top : ℕ) → AsksUpTo digest entries held top → (x : Node) →
+    IsNode digest (tree_of entries) 0 x → (Has after x.string → ⊥) → x.len ≤ 256 ^ top
 
 -- so the next round asks for tiles of lower levels alone
 abbrev pub RoundGoesDown : Type 0
 RoundGoesDown =
-    (digest : List ℕ → List ℕ) (held after : List ℕ → Bool) (entries : List (List ℕ)) →
-    IsRound digest held after entries → (top : ℕ) → AsksUpTo digest held entries top → (level index width : ℕ) →
+    (digest : List ℕ → List ℕ) (held after : Strings) (entries : List (List ℕ)) →
+    length entries ≤ 256 ^ 8 → IsRound digest entries held after → (top : ℕ) → AsksUpTo digest entries held top → (level index width : ℕ) →
     IsFront digest after entries (Tile level index width) → level < top
 
 -- after a round of bundles alone nothing of the tree is unheld
 abbrev pub BundlesComplete : Type 0
 BundlesComplete =
-    (digest : List ℕ → List ℕ) (held after : List ℕ → Bool) (entries : List (List ℕ)) →
-    IsRound digest held after entries → AsksBundlesAlone digest held entries →
-    HoldsAll after (strings digest entries)
+    (digest : List ℕ → List ℕ) (held after : Strings) (entries : List (List ℕ)) →
+    length entries ≤ 256 ^ 8 → IsRound digest entries held after → AsksBundlesAlone digest entries held →
+    HasAll after (strings digest entries)
 
 -- with the edge held, the front has no tile of the greatest level that has a partial tile, or above it
 abbrev pub FrontIsBelowTop : Type 0
 FrontIsBelowTop =
-    (digest : List ℕ → List ℕ) (held : List ℕ → Bool) (entries : List (List ℕ)) (top : ℕ) →
+    (digest : List ℕ → List ℕ) (held : Strings) (entries : List (List ℕ)) (top : ℕ) →
     length entries < 256 ^ 8 → IsTop (length entries) top →
-    HoldsAll held (edge_strings digest (edge_rows digest entries)) → (level index width : ℕ) →
+    HasAll held (edge_strings digest (edge_rows digest entries)) → (level index width : ℕ) →
     IsFront digest held entries (Tile level index width) → level < top
-
--- one round after another
-abbrev pub AreRounds : (List ℕ → List ℕ) → List (List ℕ) → (List ℕ → Bool) → List (List ℕ → Bool) → Type 0
-AreRounds digest entries held [] = Unit {0}
-AreRounds digest entries held (after ∷ afters) = IsRound digest held after entries × AreRounds digest entries after afters
-
--- what is held after the last of them
-abbrev pub held_after : (List ℕ → Bool) → List (List ℕ → Bool) → List ℕ → Bool
-held_after held [] = held
-held_after held (after ∷ afters) = held_after after afters
 
 -- as many rounds as the greatest level that has a partial tile, and one at least, leave nothing of the tree unheld
 abbrev pub RoundsComplete : Type 0
 RoundsComplete =
-    (digest : List ℕ → List ℕ) (held : List ℕ → Bool) (entries : List (List ℕ)) (top : ℕ) (afters : List (List ℕ → Bool)) →
+    (digest : List ℕ → List ℕ) (held : Strings) (entries : List (List ℕ)) (top : ℕ) (afters : List Strings) →
     length entries < 256 ^ 8 → IsTop (length entries) top → AreRounds digest entries held afters →
-    max 1 top ≤ length afters → HoldsAll (held_after held afters) (strings digest entries)
+    max 1 top ≤ length afters → HasAll (last_held held afters) (strings digest entries)
 
 -- a full tile of a level from 1 to 7, or a bundle as wide as the size has it; its range begins within the size
 abbrev pub IsOfSize : ℕ → Path → Type 0
@@ -123,19 +113,19 @@ MissingIsOfSize =
     IsMissing digest held size root path → IsOfSize size path
 
 -- a node of the front of E
-abbrev pub HasFrontAt : (List ℕ → List ℕ) → (List ℕ → Bool) → List (List ℕ) → ℕ → ℕ → Type 0
+abbrev pub HasFrontAt : (List ℕ → List ℕ) → Strings → List (List ℕ) → ℕ → ℕ → Type 0
 HasFrontAt digest held entries at many = (x : Node) × InFront digest held (tree_of entries) 0 x × (x.start ≡ at) × (x.len ≡ many)
 
 -- where a list of entries fits, the walk from its root fails exactly at the front
 abbrev pub WalkIsFront : Type 0
 WalkIsFront =
-    (digest : List ℕ → List ℕ) → ((s : List ℕ) → length (digest s) ≡ 32) →
+    (digest : List ℕ → List ℕ) → IsDigest digest →
     (held : Strings) (entries : List (List ℕ)) → NoClashWith digest held entries → (at many : ℕ) →
-    WalkFails digest held (shape (length entries)) 0 (mth digest entries) at many ↔ HasFrontAt digest (held_in held) entries at many
+    WalkFails digest held (shape (length entries)) 0 (mth digest entries) at many ↔ HasFrontAt digest held entries at many
 
 -- so what it names is Front(V, E)
 abbrev pub MissingIsFront : Type 0
 MissingIsFront =
-    (digest : List ℕ → List ℕ) → ((s : List ℕ) → length (digest s) ≡ 32) →
+    (digest : List ℕ → List ℕ) → IsDigest digest →
     (held : Strings) (entries : List (List ℕ)) → NoClashWith digest held entries → (path : Path) →
-    IsMissing digest held (length entries) (mth digest entries) path ↔ IsFront digest (held_in held) entries path
+    IsMissing digest held (length entries) (mth digest entries) path ↔ IsFront digest held entries path

@@ -1,34 +1,29 @@
 -- Items of true bytes: what a log of a list of entries serves, taken by a mirror (C2SP tlog-tiles).
-use Rattle.std.specs.Prelude.{◌-◌, min, [], ◌∷◌, max, ◌≡◌, ℕ, ◌*◌, ◌^◌, ◌≤◌, ◌<◌, All, List, length, map, take, Bool}
+use Rattle.std.specs.Prelude.{◌-◌, min, ◌≡◌, ℕ, ◌*◌, ◌^◌, ◌≤◌, ◌<◌, All, List, length, map, take}
 use Rattle.std.specs.List.{Contains}
-use Rattle.tlog_shape.specs.Edge.{width_of, edge_index_of, IsTop}
-use Rattle.tlog_hash.specs.Tree.{mth, strings, joins}
-use Rattle.tlog_hash.specs.Rows.{part, level_row}
+use Rattle.tlog_shape.specs.Edge.{width_of, edge_index_of}
+use Rattle.tlog_hash.specs.Tree.{mth, strings}
 use Rattle.tlog_tiles.specs.declared.paths.Path.{Path}
 use Rattle.tlog_tiles.specs.declared.paths.Path.TheVariants.{Checkpoint, Tile, Entries}
 use Rattle.tlog_tiles.specs.Row.{row_text}
 use Rattle.tlog_tiles.specs.Edge.{edge_of}
 use Rattle.tlog_tiles.specs.Tiles.{tile_bytes, bundle_bytes, IsTileWithin, IsWithin}
-use Rattle.node_store.specs.Strings.{HasAll}
-use Rattle.mirror_model.specs.View as view
-use Rattle.mirror_model.specs.View.{View}
-use Rattle.mirror_model.specs.Strings.{held_in}
+use Rattle.node_store.specs.Strings.{Strings, HasAll}
 use Rattle.mirror_model.specs.Edge.{edge_levels, edge_rows, edge_strings}
 use Rattle.mirror_model.specs.Front.{IsFront}
-use Rattle.mirror_model.specs.Rounds.{HoldsAll, IsRound}
+use Rattle.mirror_model.specs.Rounds.{true_strings}
 use Rattle.mirror_model.specs.declared.items.Item.TheVariants as item
 use Rattle.mirror_model.specs.Item.{row_of, IsWidth, IsGoodTile, IsGoodBundle, HasEdgeRows, strings_of}
-use Rattle.mirror_model.specs.Complete.{IsTreeOf}
 use Rattle.mirror_model.specs.Strings.{IsDigest}
 
 -- entries that can stand in a bundle
 abbrev pub AreShort : List (List ℕ) → Type 0
 AreShort entries = All (λ entry. length entry < 2 ^ 16) entries
 
--- a tile of true bytes is good, and gives the joins of its row
+-- a tile of true bytes is good, and gives the strings of its row
 pub record IsTrueTile (digest : List ℕ → List ℕ) (entries : List (List ℕ)) (level index width : ℕ) : Type 0 where
   pub good : IsGoodTile width (tile_bytes digest entries level index width)
-  pub strings_are : strings_of digest (item.Tile width (tile_bytes digest entries level index width)) ≡ joins digest (level_row digest entries level (256 * index) width)
+  pub strings_are : strings_of digest (item.Tile width (tile_bytes digest entries level index width)) ≡ true_strings digest entries (Tile level index width)
 
 abbrev pub TilesAreTrue : Type 0
 TilesAreTrue =
@@ -38,7 +33,7 @@ TilesAreTrue =
 -- a bundle of true bytes is good, and gives what the tree hash of its entries hashes
 pub record IsTrueBundle (digest : List ℕ → List ℕ) (entries : List (List ℕ)) (index width : ℕ) : Type 0 where
   pub good : IsGoodBundle width (bundle_bytes entries index width)
-  pub strings_are : strings_of digest (item.Bundle width (bundle_bytes entries index width)) ≡ strings digest (part (256 * index) width entries)
+  pub strings_are : strings_of digest (item.Bundle width (bundle_bytes entries index width)) ≡ true_strings digest entries (Entries index width)
 
 abbrev pub BundlesAreTrue : Type 0
 BundlesAreTrue =
@@ -68,15 +63,9 @@ EdgeIsOfPaths =
 -- while the edge's strings are held, each path of the front is within the entries
 abbrev pub FrontIsWithin : Type 0
 FrontIsWithin =
-    (digest : List ℕ → List ℕ) (held : List ℕ → Bool) (entries : List (List ℕ)) → length entries ≤ 256 ^ 8 →
-    HoldsAll held (edge_strings digest (edge_rows digest entries)) → (path : Path) →
+    (digest : List ℕ → List ℕ) (held : Strings) (entries : List (List ℕ)) → length entries ≤ 256 ^ 8 →
+    HasAll held (edge_strings digest (edge_rows digest entries)) → (path : Path) →
     IsFront digest held entries path → IsWithin (length entries) path
-
--- the strings that the true bytes of a path give
-abbrev pub true_strings : (List ℕ → List ℕ) → List (List ℕ) → Path → List (List ℕ)
-true_strings digest entries Checkpoint = []
-true_strings digest entries (Tile level index width) = strings_of digest (item.Tile width (tile_bytes digest entries level index width))
-true_strings digest entries (Entries index width) = strings_of digest (item.Bundle width (bundle_bytes entries index width))
 
 -- a full tile, or a bundle as wide as the entries have it
 abbrev pub IsWidest : ℕ → Path → Type 0
@@ -87,49 +76,15 @@ IsWidest n (Entries index width) = width ≡ min 256 (n - 256 * index)
 -- the true bytes of such a path within the entries give strings of their tree alone
 abbrev pub TrueStringsWithin : Type 0
 TrueStringsWithin =
-    (digest : List ℕ → List ℕ) → IsDigest digest → (entries : List (List ℕ)) → AreShort entries → (path : Path) →
+    (digest : List ℕ → List ℕ) (entries : List (List ℕ)) (path : Path) →
     IsWithin (length entries) path → IsWidest (length entries) path → (y : List ℕ) →
     Contains (true_strings digest entries path) y → Contains (strings digest entries) y
 
 -- and the paths of a front are such paths
 abbrev pub FrontIsWidest : Type 0
 FrontIsWidest =
-    (digest : List ℕ → List ℕ) (held : List ℕ → Bool) (entries : List (List ℕ)) (path : Path) →
+    (digest : List ℕ → List ℕ) (held : Strings) (entries : List (List ℕ)) (path : Path) →
     IsFront digest held entries path → IsWidest (length entries) path
-
--- from one view to a larger one: the true bytes of each path of the front are taken, where the path is within the
--- entries
-pub record TakesFront (digest : List ℕ → List ℕ) (entries : List (List ℕ)) (v w : View) : Type 0 where
-  pub small : length entries ≤ 256 ^ 8
-  pub edge : HasAll v.strings (edge_strings digest (edge_rows digest entries))
-  pub grows : view.IsSubview v w
-  pub taken :
-      (path : Path) → IsFront digest (held_in v.strings) entries path → IsWithin (length entries) path →
-      HasAll w.strings (true_strings digest entries path)
-
--- so it is a round
-abbrev pub TakingIsRound : Type 0
-TakingIsRound =
-    (digest : List ℕ → List ℕ) → IsDigest digest → (entries : List (List ℕ)) → AreShort entries → (v w : View) →
-    TakesFront digest entries v w → IsRound digest (held_in v.strings) (held_in w.strings) entries
-
--- one view after another, each by taking the front of the one before
-abbrev pub AreTakings : (List ℕ → List ℕ) → List (List ℕ) → View → List View → Type 0
-AreTakings digest entries v [] = Unit {0}
-AreTakings digest entries v (w ∷ more) = TakesFront digest entries v w × AreTakings digest entries w more
-
--- the last of them
-abbrev pub last_view : View → List View → View
-last_view v [] = v
-last_view v (w ∷ more) = last_view w more
-
--- as many as the greatest level that has a partial tile, and one at least, bring the whole tree
-abbrev pub TakingCompletes : Type 0
-TakingCompletes =
-    (digest : List ℕ → List ℕ) → IsDigest digest → (entries : List (List ℕ)) → AreShort entries → (top : ℕ) →
-    length entries < 256 ^ 8 → IsTop (length entries) top → (v : View) (more : List View) →
-    AreTakings digest entries v more → max 1 top ≤ length more →
-    IsTreeOf digest (last_view v more).strings (length entries) (mth digest entries) entries
 
 -- a path within the first n entries has the same bytes in both lists
 pub record IsSameIn (digest : List ℕ → List ℕ) (entries : List (List ℕ)) (n : ℕ) : Type 0 where

@@ -2,7 +2,6 @@
 use Rattle.std.specs.Prelude.{◌≡◌, ◌⊎◌, ℕ, ◌+◌, List, ◌∷◌, ◌++◌, length}
 use Rattle.std.specs.List.{Contains}
 use Rattle.tlog_hash.specs.Tree.{Tree, Empty, One, Join, strings, size_of}
-use Rattle.tlog_hash.specs.Nodes.{Node}
 use Rattle.tlog_hash.specs.Shape.{shape}
 use Rattle.tlog_tiles.specs.declared.paths.Path.{Path}
 use Rattle.node_store.specs.Strings.{Strings, Has, IsHeldAt}
@@ -33,9 +32,10 @@ module _ (digest : List ℕ → List ℕ) (held : Strings) where
 
   -- the paths of a head of that size and root: those of the nodes where the walk from its root fails
   pub record IsMissing (size : ℕ) (hash : List ℕ) (path : Path) : Type 0 where
-    pub node : Node
-    pub fails : WalkFails (shape size) 0 hash node.start node.len
-    pub path_is : IsPathOf size node path
+    pub at : ℕ
+    pub many : ℕ
+    pub fails : WalkFails (shape size) 0 hash at many
+    pub path_is : IsPathOf size at many path
 
   -- what is held and the tree of the entries together do not clash
   abbrev pub NoClashWith : List (List ℕ) → Type 0

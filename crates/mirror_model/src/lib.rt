@@ -23,7 +23,7 @@ pub use laws::play::{again_law, clash_law, keeping_law, reaches_law, run_law};
 pub use laws::refusals::refusals_law;
 pub use laws::reports::reports_law;
 pub use laws::tiles::{bundle_law, full_row_law};
-pub use laws::truth::{bundles_law, prefix_law, true_items_law, true_rounds_law};
+pub use laws::truth::{bundles_law, prefix_law, true_fronts_law, true_items_law};
 pub use laws::views::{
     forks_law, growth_law, lawful_law, marks_law, one_list_law, served_law, union_law,
 };

@@ -5,7 +5,6 @@ use Rattle.std.proofs.lemmas.Bool.{cases_lt}
 use Rattle.tlog_shape.specs.Split.{split_of}
 use Rattle.tlog_shape.proofs.Splits.{split_of-below}
 use Rattle.tlog_hash.specs.Tree.{Tree, Join, mth, size_of}
-use Rattle.tlog_hash.specs.Nodes.{Node}
 use Rattle.tlog_hash.specs.Shape.{shape}
 use Rattle.tlog_hash.proofs.Shapes.{shape-one, shape-join, size_of-shape}
 use Rattle.tlog_hash.proofs.Trees.{induction, tree_of-none, length-mth}
@@ -20,14 +19,9 @@ use Rattle.mirror_model.proofs.Fronts.{power_le}
 use Rattle.stored_trees.specs.Lost.{IsLost}
 use Rattle.stored_trees.proofs.Descents.{tree-one, tree-join, left-tree, right-tree}
 
-pub moved : (total : ℕ) (x y : Node) (p : Path) → x.start ≡ y.start → x.len ≡ y.len → IsPathOf total x p → IsPathOf total y p
-moved total x y Checkpoint s l h = h
-moved total x y (Tile level index width) s l h = record { many = omega (arith, h.many); above = omega (arith, h.above); upto = omega (arith, h.upto); index_is = h.index_is ∙ ap (λ m. m / 256 ^ (level + 1)) s; width_is = h.width_is }
-moved total x y (Entries index width) s l h = record { few = omega (arith, h.few); index_is = h.index_is ∙ ap (λ m. m / 256) s; width_is = h.width_is }
-
--- the node of so many entries from there on
-abbrev pub spot : ℕ → ℕ → Node
-spot start size = record { start = start; len = size; string = [] }
+-- the path of a node is that of the same numbers
+moved : (total at many start len : ℕ) (path : Path) → at ≡ start → many ≡ len → IsPathOf total at many path → IsPathOf total start len path
+moved total at many start len path s l p = subst (λ n. IsPathOf total n len path) s (subst (λ n. IsPathOf total at n path) l p)
 
 module _ (digest : List ℕ → List ℕ) (held : Strings) where
   abbrev Fails : Tree ℕ → ℕ → List ℕ → ℕ → ℕ → Type 0
@@ -74,17 +68,17 @@ module _ (digest : List ℕ → List ℕ) (held : Strings) where
 
     pub built_not_lost : (total start size : ℕ) (root : List ℕ) (path : Path) → IsBuilt digest held size root → IsLost digest held total start size root path → ⊥
     built_not_lost total start size root path b m =
-        sound_all b.entries start root (record { size_is = refl; root_is = b.is.root_is; are_held = b.is.are_held }) m.node.start m.node.len (subst (λ n. Fails (shape n) start root m.node.start m.node.len) (sym b.is.size_is) m.fails)
+        sound_all b.entries start root (record { size_is = refl; root_is = b.is.root_is; are_held = b.is.are_held }) m.at m.many (subst (λ n. Fails (shape n) start root m.at m.many) (sym b.is.size_is) m.fails)
 
   module _ (total start : ℕ) (root : List ℕ) (path : Path) where
     -- ---- one entry
     pub leaf_held : (e : List ℕ) → IsHeldAt digest held root (0 ∷ e) → IsLost digest held total start 1 root path → ⊥
-    leaf_held e h m = (subst (λ t. Fails t start root m.node.start m.node.len) shape-one m.fails).1 e h
+    leaf_held e h m = (subst (λ t. Fails t start root m.at m.many) shape-one m.fails).1 e h
 
-    pub leaf_lost : ((e : List ℕ) → IsHeldAt digest held root (0 ∷ e) → ⊥) → IsLost digest held total start 1 root path ↔ IsPathOf total (spot start 1) path
+    pub leaf_lost : ((e : List ℕ) → IsHeldAt digest held root (0 ∷ e) → ⊥) → IsLost digest held total start 1 root path ↔ IsPathOf total start 1 path
     leaf_lost none = (
-      λ m. let s = (subst (λ t. Fails t start root m.node.start m.node.len) shape-one m.fails).0 in moved total m.node (spot start 1) path s.at_is s.many_is m.path_is,
-      λ p. record { node = spot start 1; fails = subst (λ t. Fails t start root start 1) (sym shape-one) (record { at_is = refl; many_is = refl }, none); path_is = p },
+      λ m. let s = (subst (λ t. Fails t start root m.at m.many) shape-one m.fails).0 in moved total m.at m.many start 1 path s.at_is s.many_is m.path_is,
+      λ p. record { at = start; many = 1; fails = subst (λ t. Fails t start root start 1) (sym shape-one) (record { at_is = refl; many_is = refl }, none); path_is = p },
     )
 
     -- ---- two or more
@@ -95,15 +89,15 @@ module _ (digest : List ℕ → List ℕ) (held : Strings) where
       closed : (at many : ℕ) → Fails (Join (shape (split_of n)) (shape (n - split_of n))) start root at many → Fails (shape n) start root at many
       closed at many f = subst (λ t. Fails t start root at many) (sym (shape-join n two)) f
 
-      pub pair_lost : ((l r : List ℕ) → IsHeldAt digest held root (1 ∷ l ++ r) → ⊥) → IsLost digest held total start n root path ↔ IsPathOf total (spot start n) path
-      pair_lost none = (to, λ p. record { node = spot start n; fails = closed start n (inl (record { at_is = refl; many_is = sym (both_sizes n two) }, λ x y q. none x y q.is)); path_is = p })
+      pub pair_lost : ((l r : List ℕ) → IsHeldAt digest held root (1 ∷ l ++ r) → ⊥) → IsLost digest held total start n root path ↔ IsPathOf total start n path
+      pair_lost none = (to, λ p. record { at = start; many = n; fails = closed start n (inl (record { at_is = refl; many_is = sym (both_sizes n two) }, λ x y q. none x y q.is)); path_is = p })
         where
-          at : (x : Node) → Fails (Join (shape (split_of n)) (shape (n - split_of n))) start root x.start x.len → IsPathOf total x path → IsPathOf total (spot start n) path
-          at x (inl g) p = moved total x (spot start n) path g.0.at_is (g.0.many_is ∙ both_sizes n two) p
-          at x (inr g) p = absurd (none g.0 g.1 g.2.is)
+          from_parts : (at many : ℕ) → Fails (Join (shape (split_of n)) (shape (n - split_of n))) start root at many → IsPathOf total at many path → IsPathOf total start n path
+          from_parts at many (inl g) p = moved total at many start n path g.0.at_is (g.0.many_is ∙ both_sizes n two) p
+          from_parts at many (inr g) p = absurd (none g.0 g.1 g.2.is)
 
-          to : IsLost digest held total start n root path → IsPathOf total (spot start n) path
-          to m = at m.node (opened m.node.start m.node.len m.fails) m.path_is
+          to : IsLost digest held total start n root path → IsPathOf total start n path
+          to m = from_parts m.at m.many (opened m.at m.many m.fails) m.path_is
 
       pub pair_held : NoClash digest held → (k : ℕ) (l r : List ℕ) → k ≡ split_of n → length l ≡ 32 → length r ≡ 32 → IsHeldAt digest held root (1 ∷ l ++ r) → IsLost digest held total start n root path ↔ (IsLost digest held total start k l path ⊎ IsLost digest held total (start + k) (n - k) r path)
       pair_held clean k l r k_is len_l len_r h = subst (λ m. IsLost digest held total start n root path ↔ (IsLost digest held total start m l path ⊎ IsLost digest held total (start + m) (n - m) r path)) (sym k_is) (to, from)
@@ -111,24 +105,24 @@ module _ (digest : List ℕ → List ℕ) (held : Strings) where
           here : IsPairHeld digest held root l r
           here = record { left_len = len_l; right_len = len_r; is = h }
 
-          at : (x : Node) → Fails (Join (shape (split_of n)) (shape (n - split_of n))) start root x.start x.len → IsPathOf total x path → IsLost digest held total start (split_of n) l path ⊎ IsLost digest held total (start + split_of n) (n - split_of n) r path
-          at x (inl g) p = absurd (g.1 l r here)
-          at x (inr g) p =
+          from_parts : (at many : ℕ) → Fails (Join (shape (split_of n)) (shape (n - split_of n))) start root at many → IsPathOf total at many path → IsLost digest held total start (split_of n) l path ⊎ IsLost digest held total (start + split_of n) (n - split_of n) r path
+          from_parts at many (inl g) p = absurd (g.1 l r here)
+          from_parts at many (inr g) p =
               let same : 1 ∷ g.0 ++ g.1 ≡ 1 ∷ l ++ r = clean.same (1 ∷ g.0 ++ g.1) (1 ∷ l ++ r) g.2.is.is_held h.is_held (g.2.is.digest_is ∙ sym h.digest_is) in
               let lens : length g.0 ≡ length l = g.2.left_len ∙ sym len_l in
               let l_is : g.0 ≡ l = left_is g.0 g.1 l r lens same in
               let r_is : g.1 ≡ r = right_is g.0 g.1 l r lens same in
               elim g.3 [
-                | inl a ↦ inl (record { node = x; fails = subst (λ v. Fails (shape (split_of n)) start v x.start x.len) l_is a; path_is = p })
-                | inr a ↦ inr (record { node = x; fails = subst (λ v. Fails (shape (n - split_of n)) (start + split_of n) v x.start x.len) r_is (subst (λ m. Fails (shape (n - split_of n)) (start + m) g.1 x.start x.len) (size_of-shape (split_of n)) a); path_is = p })
+                | inl a ↦ inl (record { at = at; many = many; fails = subst (λ v. Fails (shape (split_of n)) start v at many) l_is a; path_is = p })
+                | inr a ↦ inr (record { at = at; many = many; fails = subst (λ v. Fails (shape (n - split_of n)) (start + split_of n) v at many) r_is (subst (λ m. Fails (shape (n - split_of n)) (start + m) g.1 at many) (size_of-shape (split_of n)) a); path_is = p })
               ]
 
           to : IsLost digest held total start n root path → IsLost digest held total start (split_of n) l path ⊎ IsLost digest held total (start + split_of n) (n - split_of n) r path
-          to m = at m.node (opened m.node.start m.node.len m.fails) m.path_is
+          to m = from_parts m.at m.many (opened m.at m.many m.fails) m.path_is
 
           from : IsLost digest held total start (split_of n) l path ⊎ IsLost digest held total (start + split_of n) (n - split_of n) r path → IsLost digest held total start n root path
-          from (inl a) = record { node = a.node; fails = closed a.node.start a.node.len (inr (l, r, here, inl a.fails)); path_is = a.path_is }
-          from (inr a) = record { node = a.node; fails = closed a.node.start a.node.len (inr (l, r, here, inr (subst (λ m. Fails (shape (n - split_of n)) (start + m) r a.node.start a.node.len) (sym (size_of-shape (split_of n))) a.fails))); path_is = a.path_is }
+          from (inl a) = record { at = a.at; many = a.many; fails = closed a.at a.many (inr (l, r, here, inl a.fails)); path_is = a.path_is }
+          from (inr a) = record { at = a.at; many = a.many; fails = closed a.at a.many (inr (l, r, here, inr (subst (λ m. Fails (shape (n - split_of n)) (start + m) r a.at a.many) (sym (size_of-shape (split_of n))) a.fails))); path_is = a.path_is }
 
 -- ---- a node has one path
 
@@ -141,26 +135,26 @@ level_once a b n al au bl bu = elim (cases_lt a b) [
   ]
 ]
 
-pub one_path : (total : ℕ) (x : Node) (p q : Path) → IsPathOf total x p → IsPathOf total x q → p ≡ q
-one_path total x Checkpoint q h k = absurd h
-one_path total x (Tile level index width) Checkpoint h k = absurd k
-one_path total x (Entries index width) Checkpoint h k = absurd k
-one_path total x (Tile level index width) (Entries i w) h k = absurd (omega (arith, h.many, k.few))
-one_path total x (Entries index width) (Tile l i w) h k = absurd (omega (arith, k.many, h.few))
-one_path total x (Entries index width) (Entries i w) h k = let a = h.index_is ∙ sym k.index_is in let b : width ≡ w = h.width_is ∙ ap (λ m. min 256 (total - 256 * m)) a ∙ sym k.width_is in λ j. Entries (a j) (b j)
-one_path total x (Tile level index width) (Tile l i w) h k =
-    let e = level_once level l x.len h.above h.upto k.above k.upto in
-    let a : index ≡ i = h.index_is ∙ ap (λ m. x.start / 256 ^ (m + 1)) e ∙ sym k.index_is in
+pub one_path : (total start len : ℕ) (p q : Path) → IsPathOf total start len p → IsPathOf total start len q → p ≡ q
+one_path total start len Checkpoint q h k = absurd h
+one_path total start len (Tile level index width) Checkpoint h k = absurd k
+one_path total start len (Entries index width) Checkpoint h k = absurd k
+one_path total start len (Tile level index width) (Entries i w) h k = absurd (omega (arith, h.many, k.few))
+one_path total start len (Entries index width) (Tile l i w) h k = absurd (omega (arith, k.many, h.few))
+one_path total start len (Entries index width) (Entries i w) h k = let a = h.index_is ∙ sym k.index_is in let b : width ≡ w = h.width_is ∙ ap (λ m. min 256 (total - 256 * m)) a ∙ sym k.width_is in λ j. Entries (a j) (b j)
+one_path total start len (Tile level index width) (Tile l i w) h k =
+    let e = level_once level l len h.tile.above h.tile.upto k.tile.above k.tile.upto in
+    let a : index ≡ i = h.tile.index_is ∙ ap (λ m. start / 256 ^ (m + 1)) e ∙ sym k.tile.index_is in
     let b : width ≡ w = h.width_is ∙ sym k.width_is in
     λ j. Tile (e j) (a j) (b j)
 
 -- ---- what a step adds to the list
 
 -- a step that adds the path of the node
-pub adds_one : (total : ℕ) (x : Node) (result path : Path) (Lost Old New : Type 0) → IsPathOf total x result → Lost ↔ IsPathOf total x path → New ↔ (Old ⊎ (path ≡ result)) → New ↔ (Old ⊎ Lost)
-adds_one total x result path Lost Old New is lost new = (
-  λ h. elim (new.0 h) [ inl a ↦ inl a | inr e ↦ inr (lost.1 (subst (IsPathOf total x) (sym e) is)) ],
-  λ h. elim h [ inl a ↦ new.1 (inl a) | inr m ↦ new.1 (inr (one_path total x path result (lost.0 m) is)) ],
+pub adds_one : (total start len : ℕ) (result path : Path) (Lost Old New : Type 0) → IsPathOf total start len result → Lost ↔ IsPathOf total start len path → New ↔ (Old ⊎ (path ≡ result)) → New ↔ (Old ⊎ Lost)
+adds_one total start len result path Lost Old New is lost new = (
+  λ h. elim (new.0 h) [ inl a ↦ inl a | inr e ↦ inr (lost.1 (subst (IsPathOf total start len) (sym e) is)) ],
+  λ h. elim h [ inl a ↦ new.1 (inl a) | inr m ↦ new.1 (inr (one_path total start len path result (lost.0 m) is)) ],
 )
 
 -- a step that adds nothing
@@ -178,7 +172,7 @@ adds_both Left Right Lost Old Mid New lost mid new = (
 
 pub nothing_missing : (digest : List ℕ → List ℕ) (held : Strings) (root : List ℕ) (path : Path) → IsMissing digest held 0 root path → ⊥
 unfolding shape
-nothing_missing digest held root path m = subst (λ t. WalkFails digest held t 0 root m.node.start m.node.len) tree_of-none m.fails
+nothing_missing digest held root path m = subst (λ t. WalkFails digest held t 0 root m.at m.many) tree_of-none m.fails
 
 pub lost_is_missing : (digest : List ℕ → List ℕ) (held : Strings) (size : ℕ) (root : List ℕ) (path : Path) → IsLost digest held size 0 size root path ↔ IsMissing digest held size root path
-lost_is_missing digest held size root path = (λ m. record { node = m.node; fails = m.fails; path_is = m.path_is }, λ m. record { node = m.node; fails = m.fails; path_is = m.path_is })
+lost_is_missing digest held size root path = (λ m. record { at = m.at; many = m.many; fails = m.fails; path_is = m.path_is }, λ m. record { at = m.at; many = m.many; fails = m.fails; path_is = m.path_is })

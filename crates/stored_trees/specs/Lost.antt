@@ -1,7 +1,6 @@
 -- The paths of the nodes of a subtree where the walk from its root fails.
 use Rattle.std.specs.Prelude.{ℕ, List}
 use Rattle.node_store.specs.Strings.{Strings}
-use Rattle.tlog_hash.specs.Nodes.{Node}
 use Rattle.tlog_hash.specs.Shape.{shape}
 use Rattle.tlog_tiles.specs.declared.paths.Path.{Path}
 use Rattle.mirror_model.specs.Front.{IsPathOf}
@@ -10,6 +9,7 @@ use Rattle.mirror_model.specs.Walk.{WalkFails}
 -- in a tree of that many entries in all, the path is that of a node where the walk from the hash of `size` entries,
 -- the first of which has the number start, fails
 pub record IsLost (digest : List ℕ → List ℕ) (held : Strings) (total start size : ℕ) (hash : List ℕ) (path : Path) : Type 0 where
-  pub node : Node
-  pub fails : WalkFails digest held (shape size) start hash node.start node.len
-  pub path_is : IsPathOf total node path
+  pub at : ℕ
+  pub many : ℕ
+  pub fails : WalkFails digest held (shape size) start hash at many
+  pub path_is : IsPathOf total at many path

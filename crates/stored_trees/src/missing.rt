@@ -149,7 +149,7 @@ fn push_path(paths: &mut Vec<Path>, path: Path) -> Result<(), AllocError>
 fn path_of(total: u64, start: u64, size: u64) -> Path
     requires some { 1 ≤ size }
     requires within { start + size ≤ total }
-    ensures { IsPathOf total (record { start = start; len = size; string = [] }) result }
+    ensures { IsPathOf total start size result }
 {
     if size <= 256 {
         let index = start / 256;

@@ -1,5 +1,5 @@
 //! Laws of items of true bytes: what a log serves of its entries (C2SP tlog-tiles).
-ghost use Rattle.mirror_model.specs.TrueLaws.{BundlesAreTrue, EdgeIsOfPaths, EdgesAreTrue, FrontIsWidest, FrontIsWithin, PrefixesServeSame, TakingCompletes, TakingIsRound, TilesAreTrue, TrueStringsWithin};
+ghost use Rattle.mirror_model.specs.TrueLaws.{BundlesAreTrue, EdgeIsOfPaths, EdgesAreTrue, FrontIsWidest, FrontIsWithin, PrefixesServeSame, TilesAreTrue, TrueStringsWithin};
 ghost use Rattle.mirror_model.specs.ServedLaws.{BundlesAreAll, BundlesAreServed};
 
 /// The true tiles and bundles of a list of entries are good, and give what its tree hash hashes there;
@@ -12,14 +12,11 @@ pub fn true_items_law()
 {}
 
 /// While the strings of the edge are held, each path of the front is within the entries, and its true
-/// bytes give strings of their tree alone. A mirror that takes the true bytes of all of them makes a
-/// round; as many rounds as the greatest level of the edge, and one at least, bring the whole tree.
-pub fn true_rounds_law()
+/// bytes give strings of their tree alone.
+pub fn true_fronts_law()
     ensures within { FrontIsWithin }
     ensures widest { FrontIsWidest }
     ensures tree { TrueStringsWithin }
-    ensures round { TakingIsRound }
-    ensures complete { TakingCompletes }
 {}
 
 /// What is within the first entries of a list is served alike for these and for the whole list.
