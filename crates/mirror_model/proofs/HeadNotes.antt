@@ -1,20 +1,14 @@
 -- A note is one head at most.
-use Rattle.std.proofs.Common.{◌≡◌, ℕ, List, sym, ap, subst}
+use Rattle.std.proofs.Common.{◌≡◌, sym, ap, subst}
 use Rattle.signed_note.proofs.OneReading.{notes_are_read}
 use Rattle.tlog_checkpoint.specs.declared.Checkpoint.{Checkpoint}
 use Rattle.tlog_checkpoint.specs.Grammar.{IsCheckpoint}
 use Rattle.tlog_checkpoint.proofs.Uniqueness.{one_reading}
-use Rattle.mirror_model.specs.Heads.{IsHead}
+use Rattle.mirror_model.specs.HeadLaws.{HeadIsOne}
 use Rattle.mirror_model.specs.Item.{HasEdgeRows}
 use Rattle.mirror_model.specs.LawfulLaws.{HeadsHaveEdges}
 
--- the same origin, size and root
-pub record IsSameHead (origin origin' : List ℕ) (size size' : ℕ) (root root' : List ℕ) : Type 0 where
-  pub origin_is : origin ≡ origin'
-  pub size_is : size ≡ size'
-  pub root_is : root ≡ root'
-
-pub head_once : (note origin origin' : List ℕ) (size size' : ℕ) (root root' : List ℕ) → IsHead note origin size root → IsHead note origin' size' root' → IsSameHead origin origin' size size' root root'
+pub head_once : HeadIsOne
 head_once note origin origin' size size' root root' p q =
     let texts = (notes_are_read note p.text q.text p.lines q.lines p.is_note q.is_note).0 in
     let a : Checkpoint = record { origin = origin; size = size; root = root; extensions = p.extensions } in

@@ -5,18 +5,15 @@ use Rattle.std.specs.List.{Contains}
 use Rattle.std.specs.FinSet as set
 use Rattle.std.proofs.lemmas.List.Elements.{All-contains, All-nil, All-from_recursion}
 use Rattle.node_store.specs.Strings.{Has, NoClash}
-use Rattle.signed_note.specs.Keys.{Key}
 use Rattle.mirror_model.specs.View.{View, union, IsSubview}
 use Rattle.mirror_model.specs.declared.items.Item.{Item}
 use Rattle.mirror_model.specs.declared.items.Item.TheVariants.{Head, Tile, Bundle}
 use Rattle.mirror_model.specs.Item.{IsGood, notes_of, plus}
 use Rattle.mirror_model.specs.Heads.{IsHead}
 use Rattle.mirror_model.specs.Complete.{IsLawful, HasEdge}
-use Rattle.mirror_model.specs.declared.events.Event.{Event}
 use Rattle.mirror_model.specs.declared.events.Event.TheVariants.{Take, Merge}
-use Rattle.mirror_model.specs.Steps.{Answer, Done, Refused, Clashed, Exhausted, IsBetween, Answers, Happens}
-use Rattle.mirror_model.specs.Strings.{IsDigest}
-use Rattle.mirror_model.specs.EventLaws.{NoteIsLast, BetweenIsLawful}
+use Rattle.mirror_model.specs.Steps.{Answer, Done, Refused, Clashed, Exhausted, IsBetween, Answers}
+use Rattle.mirror_model.specs.EventLaws.{EventKeepsLawful, NoteIsLast, BetweenIsLawful}
 use Rattle.mirror_model.specs.RunLaws.{AreLawful, RunIsLawful, RunGrows}
 use Rattle.mirror_model.proofs.StringSets.{has_cases, listed_from_has, held_more, no_clash_within}
 use Rattle.mirror_model.proofs.Views.{within_itself, within_trans, edge_stays, same_is_one, union_is_lawful}
@@ -76,22 +73,22 @@ between_is_lawful digest old full new p q b = record {
       edge = record { rows = e.edge.rows; has_edge = e.edge.has_edge; are_held = held_more full.strings new.strings _ all e.edge.are_held };
     }
 
-answer_lawful : (digest : List ℕ → List ℕ) (Allowed : Type 0) (full old : View) → IsLawful digest old → (Allowed → NoClash digest full.strings → IsLawful digest full) → (a : Answer) (new : View) → Answers digest Allowed full old a new → IsLawful digest new
+pub answer_lawful : (digest : List ℕ → List ℕ) (Allowed : Type 0) (full old : View) → IsLawful digest old → (Allowed → NoClash digest full.strings → IsLawful digest full) → (a : Answer) (new : View) → Answers digest old Allowed full a new → IsLawful digest new
 answer_lawful digest Allowed full old p whole Done new h = subst (IsLawful digest) (sym h.2) (whole h.0 h.1)
 answer_lawful digest Allowed full old p whole Refused new h = subst (IsLawful digest) (sym h.1) p
 answer_lawful digest Allowed full old p whole Clashed new h = subst (IsLawful digest) (sym h.2) p
 answer_lawful digest Allowed full old p whole Exhausted new (inl same) = subst (IsLawful digest) (sym same) p
 answer_lawful digest Allowed full old p whole Exhausted new (inr h) = between_is_lawful digest old full new p (whole h.0 h.1) h.2
 
-event_lawful : (digest : List ℕ → List ℕ) → IsDigest digest → (keys : List Key) (old new : List View) (e : Event) (a : Answer) → AreLawful digest old → Happens digest keys old e a new → AreLawful digest new
-event_lawful digest hash keys old new (Take target item) a all h number v found =
+pub event_keeps_lawful : EventKeepsLawful
+event_keeps_lawful digest hash keys old new (Take target item) a all h number v found =
     elim (set_back digest keys old new target h.after h.set h.before h.found number v found) [
       | inl same ↦ all number v same
       | inr b ↦
           let p = all target h.before h.found in
           subst (IsLawful digest) (sym b.1) (answer_lawful digest (IsGood digest h.before.origin keys item) (plus digest h.before item) h.before p (λ good clean. plus_is_lawful digest hash keys h.before item p good clean) a h.after h.takes)
     ]
-event_lawful digest hash keys old new (Merge target source) a all h number v found =
+event_keeps_lawful digest hash keys old new (Merge target source) a all h number v found =
     elim (set_back digest keys old new target h.after h.set h.before h.found number v found) [
       | inl same ↦ all number v same
       | inr b ↦
@@ -102,7 +99,7 @@ event_lawful digest hash keys old new (Merge target source) a all h number v fou
 
 pub run_is_lawful : RunIsLawful
 run_is_lawful digest hash keys old new [] [] all run = subst (AreLawful digest) (sym run) all
-run_is_lawful digest hash keys old new (e ∷ es) (a ∷ answers) all run = run_is_lawful digest hash keys run.0 new es answers (event_lawful digest hash keys old run.0 e a all run.1) run.2
+run_is_lawful digest hash keys old new (e ∷ es) (a ∷ answers) all run = run_is_lawful digest hash keys run.0 new es answers (event_keeps_lawful digest hash keys old run.0 e a all run.1) run.2
 run_is_lawful digest hash keys old new [] (a ∷ answers) all run = absurd run
 run_is_lawful digest hash keys old new (e ∷ es) [] all run = absurd run
 

@@ -23,6 +23,7 @@ pub mod ManyRounds
 pub mod Listing
 pub mod Keeping
 pub mod Headline
+pub mod Happening
 pub mod MissingPaths
 pub mod EdgeWalks
 pub mod MissingWithin

@@ -175,20 +175,20 @@ module _ (digest : List ℕ → List ℕ) (origin : List ℕ) (keys : List Key) 
   -- a merge that was kept has added what its source held
   merge_adds : (old mid : List View) (target source : ℕ) (a : Answer) → AreOf origin old → IsExact a → (h : MergesAt digest keys old target source a mid) → (v : View) → slice_get old source ≡ Some v → (q : List ℕ) → Has (part v) q → Has (part h.after) q
   merge_adds old mid target source a of (inl done) h v found q has =
-      let m : Answers digest (h.before.origin ≡ h.other.origin) (union h.before h.other) h.before Done h.after = subst (λ b. Answers digest (h.before.origin ≡ h.other.origin) (union h.before h.other) h.before b h.after) done h.merges in
+      let m : Answers digest h.before (h.before.origin ≡ h.other.origin) (union h.before h.other) Done h.after = subst (λ b. Answers digest h.before (h.before.origin ≡ h.other.origin) (union h.before h.other) b h.after) done h.merges in
       let same : v ≡ h.other = one_of_list old source v h.other found h.found_other in
       subst (λ w. Has (part w) q) (sym m.2) (subst (λ s. Has s q) (sym (is_part.union_is h.before h.other)) (has_right (part h.before) (part h.other) q (subst (λ w. Has (part w) q) same has)))
   merge_adds old mid target source a of (inr refused) h v found q has =
-      let m : Answers digest (h.before.origin ≡ h.other.origin) (union h.before h.other) h.before Refused h.after = subst (λ b. Answers digest (h.before.origin ≡ h.other.origin) (union h.before h.other) h.before b h.after) refused h.merges in
+      let m : Answers digest h.before (h.before.origin ≡ h.other.origin) (union h.before h.other) Refused h.after = subst (λ b. Answers digest h.before (h.before.origin ≡ h.other.origin) (union h.before h.other) b h.after) refused h.merges in
       absurd (m.0 (of target h.before h.found ∙ sym (of source h.other h.found_other)))
 
   -- a take of a good item that was kept has added it
   take_adds : (old mid : List View) (target : ℕ) (item : Item) (a : Answer) → AreOf origin old → IsExact a → (h : TakesAt digest keys old target item a mid) → IsGood digest origin keys item → (q : List ℕ) → Contains (adds item) q → Has (part h.after) q
   take_adds old mid target item a of (inl done) h good q has =
-      let m : Answers digest (IsGood digest h.before.origin keys item) (plus digest h.before item) h.before Done h.after = subst (λ b. Answers digest (IsGood digest h.before.origin keys item) (plus digest h.before item) h.before b h.after) done h.takes in
+      let m : Answers digest h.before (IsGood digest h.before.origin keys item) (plus digest h.before item) Done h.after = subst (λ b. Answers digest h.before (IsGood digest h.before.origin keys item) (plus digest h.before item) b h.after) done h.takes in
       subst (λ w. Has (part w) q) (sym m.2) (subst (λ s. Has s q) (sym (is_part.plus_is h.before item)) (has_right (part h.before) (set.from_list (adds item)) q (has_from_listed (adds item) q has)))
   take_adds old mid target item a of (inr refused) h good q has =
-      let m : Answers digest (IsGood digest h.before.origin keys item) (plus digest h.before item) h.before Refused h.after = subst (λ b. Answers digest (IsGood digest h.before.origin keys item) (plus digest h.before item) h.before b h.after) refused h.takes in
+      let m : Answers digest h.before (IsGood digest h.before.origin keys item) (plus digest h.before item) Refused h.after = subst (λ b. Answers digest h.before (IsGood digest h.before.origin keys item) (plus digest h.before item) b h.after) refused h.takes in
       absurd (m.0 (subst (λ o. IsGood digest o keys item) (sym (of target h.before h.found)) good))
 
   after_is : (old mid : List View) (target : ℕ) (before after : View) → slice_get old target ≡ Some before → mid ≡ slice_set old target after → slice_get mid target ≡ Some after
@@ -433,10 +433,10 @@ module _ (digest : List ℕ → List ℕ) (origin : List ℕ) (keys : List Key) 
 
   event_clean : (old mid : List View) (e : Event) (es : List Event) (a : Answer) → AreOf origin old → AllMet old → AllTaken (e ∷ es) → Happens digest keys old e a mid → a ≡ Clashed → ⊥
   event_clean old mid (Take target item) es a of met taken h is =
-      let c : Answers digest (IsGood digest h.before.origin keys item) (plus digest h.before item) h.before Clashed h.after = subst (λ b. Answers digest (IsGood digest h.before.origin keys item) (plus digest h.before item) h.before b h.after) is h.takes in
+      let c : Answers digest h.before (IsGood digest h.before.origin keys item) (plus digest h.before item) Clashed h.after = subst (λ b. Answers digest h.before (IsGood digest h.before.origin keys item) (plus digest h.before item) b h.after) is h.takes in
       no_clash_of (plus digest h.before item).strings (plus_met old target h.before h.found of met es target item taken c.0) c.1
   event_clean old mid (Merge target source) es a of met taken h is =
-      let c : Answers digest (h.before.origin ≡ h.other.origin) (union h.before h.other) h.before Clashed h.after = subst (λ b. Answers digest (h.before.origin ≡ h.other.origin) (union h.before h.other) h.before b h.after) is h.merges in
+      let c : Answers digest h.before (h.before.origin ≡ h.other.origin) (union h.before h.other) Clashed h.after = subst (λ b. Answers digest h.before (h.before.origin ≡ h.other.origin) (union h.before h.other) b h.after) is h.merges in
       no_clash_of (union h.before h.other).strings (union_met old target source h.before h.other h.found h.found_other met) c.1
 
   event_met : (old mid : List View) (e : Event) (es : List Event) (a : Answer) → AreOf origin old → AllMet old → AllTaken (e ∷ es) → Happens digest keys old e a mid → AllMet mid

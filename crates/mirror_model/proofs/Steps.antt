@@ -39,7 +39,7 @@ same_number i j = at (nat_eq i j) refl
 -- ---- one answer
 
 module _ (digest : List ℕ → List ℕ) (Allowed : Type 0) (full old : View) (larger : IsSubview old full) where
-  pub answer_grows : (a : Answer) (new : View) → Answers digest Allowed full old a new → IsSubview old new
+  pub answer_grows : (a : Answer) (new : View) → Answers digest old Allowed full a new → IsSubview old new
   answer_grows Done new h = subst (IsSubview old) (sym h.2) larger
   answer_grows Refused new h = subst (IsSubview old) (sym h.1) (within_itself old)
   answer_grows Clashed new h = subst (IsSubview old) (sym h.2) (within_itself old)
@@ -47,7 +47,7 @@ module _ (digest : List ℕ → List ℕ) (Allowed : Type 0) (full old : View) (
   answer_grows Exhausted new (inr h) = h.2.grows
 
   -- a view that an event changed is within the full one, and the event was allowed
-  pub answer_within : (a : Answer) (new : View) → Answers digest Allowed full old a new → (new ≡ old) ⊎ (Allowed × IsSubview new full)
+  pub answer_within : (a : Answer) (new : View) → Answers digest old Allowed full a new → (new ≡ old) ⊎ (Allowed × IsSubview new full)
   answer_within Done new h = inr (h.0, subst (λ v. IsSubview v full) (sym h.2) (within_itself full))
   answer_within Refused new h = inl h.1
   answer_within Clashed new h = inl h.2
@@ -55,13 +55,13 @@ module _ (digest : List ℕ → List ℕ) (Allowed : Type 0) (full old : View) (
   answer_within Exhausted new (inr h) = inr (h.0, h.2.within)
 
   -- only an event that was done, or for which memory was refused, changes a view
-  pub answer_changes : (a : Answer) (new : View) → Answers digest Allowed full old a new → (a ≡ Refused) ⊎ (a ≡ Clashed) → new ≡ old
-  answer_changes a new h (inl e) = (subst (λ b. Answers digest Allowed full old b new) e h).1
-  answer_changes a new h (inr e) = (subst (λ b. Answers digest Allowed full old b new) e h).2
+  pub answer_changes : (a : Answer) (new : View) → Answers digest old Allowed full a new → (a ≡ Refused) ⊎ (a ≡ Clashed) → new ≡ old
+  answer_changes a new h (inl e) = (subst (λ b. Answers digest old Allowed full b new) e h).1
+  answer_changes a new h (inr e) = (subst (λ b. Answers digest old Allowed full b new) e h).2
 
 module _ (digest : List ℕ → List ℕ) (Allowed Allowed' : Type 0) (again : Allowed' → Allowed) (back : Allowed → Allowed') (full full' old between : View) (same : IsSubview old between → IsSubview between full → full' ≡ full) where
   -- what is done again
-  pub answers_again : (a : Answer) (new : View) → (between ≡ old → Answers digest Allowed' full' between a new → Answers digest Allowed full old a new) → Answers digest Allowed full old Exhausted between → Answers digest Allowed' full' between a new → Answers digest Allowed full old a new
+  pub answers_again : (a : Answer) (new : View) → (between ≡ old → Answers digest between Allowed' full' a new → Answers digest old Allowed full a new) → Answers digest old Allowed full Exhausted between → Answers digest between Allowed' full' a new → Answers digest old Allowed full a new
   answers_again a new keep (inl e) h = keep e h
   answers_again Done new keep (inr m) h = let e = same m.2.grows m.2.within in (m.0, m.1, h.2 ∙ e)
   answers_again Refused new keep (inr m) h = absurd (h.0 (back m.0))
@@ -110,24 +110,24 @@ union_again old between other grows within = same_is_one (union between other) (
       strings_are = λ q h. elim (has_cases old.strings other.strings q h) [ inl a ↦ has_left between.strings other.strings q (grows.strings_are q a) | inr b ↦ has_right between.strings other.strings q b ];
     })
 
-same_origin : (digest : List ℕ → List ℕ) (Allowed : Type 0) (full old between : View) → IsSubview old full → Answers digest Allowed full old Exhausted between → old.origin ≡ between.origin
+same_origin : (digest : List ℕ → List ℕ) (Allowed : Type 0) (full old between : View) → IsSubview old full → Answers digest old Allowed full Exhausted between → old.origin ≡ between.origin
 same_origin digest Allowed full old between larger h = (answer_grows digest Allowed full old larger Exhausted between h).origin_is
 
 pub takes_again : TakesAgain
 takes_again digest keys old between new item answer first second =
     let o = same_origin digest (IsGood digest old.origin keys item) (plus digest old item) old between (within_plus digest old item) first in
     answers_again digest (IsGood digest old.origin keys item) (IsGood digest between.origin keys item) (λ g. subst (λ p. IsGood digest p keys item) (sym o) g) (λ g. subst (λ p. IsGood digest p keys item) o g) (plus digest old item) (plus digest between item) old between (plus_again digest old between item) answer new
-    (λ e h. subst (λ v. Answers digest (IsGood digest v.origin keys item) (plus digest v item) v answer new) e h) first second
+    (λ e h. subst (λ v. Answers digest v (IsGood digest v.origin keys item) (plus digest v item) answer new) e h) first second
 
 pub merges_again : MergesAgain
 merges_again digest old other between new answer first second =
     let o = same_origin digest (old.origin ≡ other.origin) (union old other) old between (within_union old other) first in
     answers_again digest (old.origin ≡ other.origin) (between.origin ≡ other.origin) (λ g. o ∙ g) (λ g. sym o ∙ g) (union old other) (union between other) old between (union_again old between other) answer new
-    (λ e h. subst (λ v. Answers digest (v.origin ≡ other.origin) (union v other) v answer new) e h) first second
+    (λ e h. subst (λ v. Answers digest v (v.origin ≡ other.origin) (union v other) answer new) e h) first second
 
 -- ---- one answer
 
-answers_once : (digest : List ℕ → List ℕ) (Allowed : Type 0) (full old new other : View) (a b : Answer) → Answers digest Allowed full old a new → Answers digest Allowed full old b other → a ≢ Exhausted → b ≢ Exhausted → (a ≡ b) × (new ≡ other)
+answers_once : (digest : List ℕ → List ℕ) (Allowed : Type 0) (full old new other : View) (a b : Answer) → Answers digest old Allowed full a new → Answers digest old Allowed full b other → a ≢ Exhausted → b ≢ Exhausted → (a ≡ b) × (new ≡ other)
 answers_once digest Allowed full old new other Done Done p q m n = (refl, p.2 ∙ sym q.2)
 answers_once digest Allowed full old new other Done Refused p q m n = absurd (q.0 p.0)
 answers_once digest Allowed full old new other Done Clashed p q m n = absurd (clash_contradicts digest full.strings p.1 q.1)

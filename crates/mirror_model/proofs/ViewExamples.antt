@@ -23,7 +23,8 @@ use Rattle.mirror_model.specs.Reached.{OpensWith}
 use Rattle.mirror_model.specs.ViewExamples.{EmptyCountsForNothing, OneEntryIsServed, one_entry}
 use Rattle.mirror_model.proofs.Reaching.{open_none, open_itself, open_first, open_by, item_none, item_first}
 use Rattle.mirror_model.proofs.StringSets.{has_empty, listed_from_has, has_from_listed}
-use Rattle.mirror_model.proofs.HeadNotes.{head_once, IsSameHead}
+use Rattle.mirror_model.specs.HeadLaws.{IsSameHead}
+use Rattle.mirror_model.proofs.HeadNotes.{head_once}
 
 -- ---- a mirror that opened empty
 

@@ -1,12 +1,16 @@
 -- Laws of one event: what it answers, and what it leaves.
-use Rattle.std.specs.Prelude.{◌≡◌, ◌≢◌, ◌⊎◌, ℕ, List}
+use Rattle.std.specs.Prelude.{◌≡◌, ◌≢◌, ◌⊎◌, ℕ, List, Some, slice_get}
 use Rattle.signed_note.specs.Keys.{Key}
 use Rattle.node_store.specs.Strings.{Has}
-use Rattle.mirror_model.specs.View.{View}
+use Rattle.mirror_model.specs.View.{View, union, IsSubview}
+use Rattle.mirror_model.specs.Strings.{IsDigest, HasClash}
 use Rattle.mirror_model.specs.Complete.{IsLawful}
 use Rattle.mirror_model.specs.declared.items.Item.{Item}
-use Rattle.mirror_model.specs.Item.{plus}
-use Rattle.mirror_model.specs.Steps.{Answer, Exhausted, IsBetween, Takes, Merges}
+use Rattle.mirror_model.specs.Item.{IsGood, plus}
+use Rattle.mirror_model.specs.declared.events.Event.{Event}
+use Rattle.mirror_model.specs.declared.events.Event.TheVariants.{Merge}
+use Rattle.mirror_model.specs.Steps.{Answer, Exhausted, IsBetween, Takes, Merges, Happens}
+use Rattle.mirror_model.specs.RunLaws.{AreLawful}
 
 -- want of memory apart, an event has one answer and leaves one view
 abbrev pub TakesOnce : Type 0
@@ -43,5 +47,102 @@ NoteIsLast =
 -- a view between two lawful ones, with new notes last, is lawful
 abbrev pub BetweenIsLawful : Type 0
 BetweenIsLawful =
-    (digest : List ℕ → List ℕ) (old full new : View) → IsLawful digest old → IsLawful digest full →
-    IsBetween old full new → IsLawful digest new
+    (digest : List ℕ → List ℕ) (old whole new : View) → IsLawful digest old → IsLawful digest whole →
+    IsBetween old whole new → IsLawful digest new
+
+-- ---- what each leaves
+
+-- old is within new
+abbrev pub TakesGrow : Type 0
+TakesGrow =
+    (digest : List ℕ → List ℕ) (keys : List Key) (old new : View) (item : Item) (answer : Answer) →
+    Takes digest keys old item answer new →
+    IsSubview old new
+
+abbrev pub MergesGrow : Type 0
+MergesGrow =
+    (digest : List ℕ → List ℕ) (old other new : View) (answer : Answer) →
+    Merges digest old other answer new →
+    IsSubview old new
+
+-- lawful stays lawful
+abbrev pub TakesKeepLawful : Type 0
+TakesKeepLawful =
+    (digest : List ℕ → List ℕ) →
+    IsDigest digest →
+    (keys : List Key) (old new : View) (item : Item) (answer : Answer) →
+    IsLawful digest old →
+    Takes digest keys old item answer new →
+    IsLawful digest new
+
+abbrev pub MergesKeepLawful : Type 0
+MergesKeepLawful =
+    (digest : List ℕ → List ℕ) (old other new : View) (answer : Answer) →
+    IsLawful digest old →
+    IsLawful digest other →
+    Merges digest old other answer new →
+    IsLawful digest new
+
+-- what refused memory leaves lies between the old view and the whole one; it is the old one where the event is not
+-- allowed, or the whole one clashes; and a new note stands only where all strings do
+pub record IsLeft (digest : List ℕ → List ℕ) (old : View) (Allowed : Type 0) (whole new : View) : Type 0 where
+  pub between : IsBetween old whole new
+  pub not_allowed : (Allowed → ⊥) → new ≡ old
+  pub clashing : HasClash digest whole.strings → new ≡ old
+
+abbrev pub TakesLeave : Type 0
+TakesLeave =
+    (digest : List ℕ → List ℕ) (keys : List Key) (old new : View) (item : Item) →
+    Takes digest keys old item Exhausted new →
+    IsLeft digest old (IsGood digest old.origin keys item) (plus digest old item) new
+
+abbrev pub MergesLeave : Type 0
+MergesLeave =
+    (digest : List ℕ → List ℕ) (old other new : View) →
+    Merges digest old other Exhausted new →
+    IsLeft digest old (old.origin ≡ other.origin) (union old other) new
+
+-- ---- the same on a list of mirrors
+
+abbrev pub EventGrows : Type 0
+EventGrows =
+    (digest : List ℕ → List ℕ) (keys : List Key) (old new : List View) (event : Event) (answer : Answer) →
+    Happens digest keys old event answer new →
+    (mirror : ℕ) (before after : View) →
+    slice_get old mirror ≡ Some before →
+    slice_get new mirror ≡ Some after →
+    IsSubview before after
+
+abbrev pub EventKeepsLawful : Type 0
+EventKeepsLawful =
+    (digest : List ℕ → List ℕ) →
+    IsDigest digest →
+    (keys : List Key) (old new : List View) (event : Event) (answer : Answer) →
+    AreLawful digest old →
+    Happens digest keys old event answer new →
+    AreLawful digest new
+
+abbrev pub EventIsOne : Type 0
+EventIsOne =
+    (digest : List ℕ → List ℕ) (keys : List Key) (old new other : List View) (event : Event) (a b : Answer) →
+    Happens digest keys old event a new →
+    Happens digest keys old event b other →
+    a ≢ Exhausted →
+    b ≢ Exhausted →
+    (a ≡ b) × (new ≡ other)
+
+-- an event that ran out of memory and is done again comes to the same as one event; so does a merge of a mirror with
+-- itself
+abbrev pub EventAgain : Type 0
+EventAgain =
+    (digest : List ℕ → List ℕ) (keys : List Key) (old between new : List View) (event : Event) (answer : Answer) →
+    Happens digest keys old event Exhausted between →
+    Happens digest keys between event answer new →
+    Happens digest keys old event answer new
+
+-- such a merge changes nothing
+abbrev pub MergeWithItself : Type 0
+MergeWithItself =
+    (digest : List ℕ → List ℕ) (keys : List Key) (old new : List View) (mirror : ℕ) (answer : Answer) →
+    Happens digest keys old (Merge mirror mirror) answer new →
+    new ≡ old

@@ -25,6 +25,7 @@ pub mod Texts
 pub mod ReportLaws
 pub mod TreeLaws
 pub mod ItemLaws
+pub mod HeadLaws
 pub mod UnionLaws
 pub mod LawfulLaws
 pub mod CompleteLaws

@@ -17,30 +17,32 @@ pub data Answer : Type 0 where
   Clashed : Answer
   Exhausted : Answer
 
--- the view lies between the old one and the full one, and a new note stands only where all strings do
-pub record IsBetween (old full new : View) : Type 0 where
+-- the view lies between the old one and the whole one, and a new note stands only where all strings do
+pub record IsBetween (old whole new : View) : Type 0 where
   pub grows : IsSubview old new
-  pub within : IsSubview new full
+  pub within : IsSubview new whole
   pub notes_last :
       (note : List ℕ) → Has new.notes note →
-      Has old.notes note ⊎ ((string : List ℕ) → Has full.strings string → Has new.strings string)
+      Has old.notes note ⊎ ((string : List ℕ) → Has whole.strings string → Has new.strings string)
 
 module _ (digest : List ℕ → List ℕ) where
-  -- an event that would make the view full, where it is allowed: it is refused exactly where it is not, and
-  -- clashes exactly where the full view does
-  abbrev pub Answers : Type 0 → View → View → Answer → View → Type 0
-  Answers Allowed full old Done new = Allowed × NoClash digest full.strings × (new ≡ full)
-  Answers Allowed full old Refused new = (Allowed → ⊥) × (new ≡ old)
-  Answers Allowed full old Clashed new = Allowed × HasClash digest full.strings × (new ≡ old)
-  Answers Allowed full old Exhausted new = (new ≡ old) ⊎ (Allowed × NoClash digest full.strings × IsBetween old full new)
+  -- an event that would make the old view the whole one, where it is allowed: it is refused exactly where it is not
+  -- allowed, and clashes exactly where the whole view does; want of memory leaves the old view, or, where the event is
+  -- allowed and the whole view does not clash, one between the two
+  abbrev pub Answers : View → Type 0 → View → Answer → View → Type 0
+  Answers old Allowed whole Done new = Allowed × NoClash digest whole.strings × (new ≡ whole)
+  Answers old Allowed whole Refused new = (Allowed → ⊥) × (new ≡ old)
+  Answers old Allowed whole Clashed new = Allowed × HasClash digest whole.strings × (new ≡ old)
+  Answers old Allowed whole Exhausted new =
+      (new ≡ old) ⊎ (Allowed × NoClash digest whole.strings × IsBetween old whole new)
 
   -- a take of an item, under these keys
   abbrev pub Takes : List Key → View → Item → Answer → View → Type 0
-  Takes keys old item answer new = Answers (IsGood digest old.origin keys item) (plus digest old item) old answer new
+  Takes keys old item answer new = Answers old (IsGood digest old.origin keys item) (plus digest old item) answer new
 
   -- a merge of a view, which stays as it is
   abbrev pub Merges : View → View → Answer → View → Type 0
-  Merges old other answer new = Answers (old.origin ≡ other.origin) (union old other) old answer new
+  Merges old other answer new = Answers old (old.origin ≡ other.origin) (union old other) answer new
 
 module _ (digest : List ℕ → List ℕ) (keys : List Key) where
   -- one mirror of a list takes an item

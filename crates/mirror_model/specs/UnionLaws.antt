@@ -1,5 +1,6 @@
 -- Laws of merging: how views are joined.
-use Rattle.std.specs.Prelude.{◌≡◌, ℕ, List}
+use Rattle.std.specs.Prelude.{◌≡◌, ◌↔◌, ℕ, List}
+use Rattle.node_store.specs.Strings.{NoClash, ClashesWith}
 use Rattle.mirror_model.specs.View.{View, union, IsSubview}
 use Rattle.mirror_model.specs.Strings.{HasClash}
 
@@ -20,3 +21,18 @@ UnionClashesEitherWay = (digest : List ℕ → List ℕ) (v w : View) → HasCla
 -- views that hold the same are one
 abbrev pub MutualSubviewsAreEqual : Type 0
 MutualSubviewsAreEqual = (v w : View) → IsSubview v w → IsSubview w v → v ≡ w
+
+-- of two sets without clash the union clashes exactly where the one clashes with the other
+abbrev pub UnionClashes : Type 0
+UnionClashes =
+    (digest : List ℕ → List ℕ) (v w : View) →
+    NoClash digest v.strings →
+    NoClash digest w.strings →
+    HasClash digest (union v w).strings ↔ ClashesWith digest v.strings w.strings
+
+abbrev pub UnionIsClean : Type 0
+UnionIsClean =
+    (digest : List ℕ → List ℕ) (v w : View) →
+    NoClash digest v.strings →
+    NoClash digest w.strings →
+    NoClash digest (union v w).strings ↔ (ClashesWith digest v.strings w.strings → ⊥)

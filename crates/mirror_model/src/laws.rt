@@ -2,6 +2,7 @@
 //!
 //! A law is the contract of a function with an empty body: the proof is all that there is of it.
 pub mod edges;
+pub mod events;
 pub mod examples;
 pub mod fetches;
 pub mod fronts;

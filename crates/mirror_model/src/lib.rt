@@ -11,6 +11,7 @@ pub use events::Event;
 pub use fault::{MergeFault, TakeFault};
 pub use items::{Bytes, Item, Rows};
 pub use laws::edges::{edge_root_law, edge_rows_law, edge_strings_law, lawful_edge_law};
+pub use laws::events::{again_law, event_law, once_law, refused_memory_law};
 pub use laws::examples::{
     fork_example, front_example, opening_example, served_example, trees_example, way_example,
 };
@@ -19,12 +20,12 @@ pub use laws::fronts::{front_law, rounds_law, walk_law};
 pub use laws::headline::{headline_law, part_law};
 pub use laws::items::bytes_law;
 pub use laws::lists::lists_law;
-pub use laws::play::{again_law, clash_law, keeping_law, reaches_law, run_law};
+pub use laws::play::{clash_law, keeping_law, reaches_law, run_law};
 pub use laws::refusals::refusals_law;
 pub use laws::reports::reports_law;
 pub use laws::tiles::{bundle_law, full_row_law};
 pub use laws::truth::{bundles_law, prefix_law, true_fronts_law, true_items_law};
 pub use laws::views::{
-    forks_law, growth_law, lawful_law, marks_law, one_list_law, served_law, union_law,
+    forks_law, growth_law, head_law, lawful_law, marks_law, one_list_law, served_law, union_law,
 };
 pub use reports::{Fork, Head};

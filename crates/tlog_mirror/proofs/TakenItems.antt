@@ -110,10 +110,10 @@ module _ (digest : List ℕ → List ℕ) (origin : List ℕ) (kept : List KeptN
 
   module _ (old : State) (old_is : state_of origin kept strings remembered ≡ old) where
     abbrev Adds : Answer → Type 0
-    Adds answer = Answers digest (Unit {0}) (with_strings old.view more) old.view answer after
+    Adds answer = Answers digest old.view (Unit {0}) (with_strings old.view more) answer after
 
-    at_old : (answer : Answer) → Answers digest (Unit {0}) (with_strings before more) before answer after → Adds answer
-    at_old answer h = subst (λ (o : State). Answers digest (Unit {0}) (with_strings o.view more) o.view answer after) old_is h
+    at_old : (answer : Answer) → Answers digest before (Unit {0}) (with_strings before more) answer after → Adds answer
+    at_old answer h = subst (λ (o : State). Answers digest o.view (Unit {0}) (with_strings o.view more) answer after) old_is h
 
     pub adds_done : now ≡ set.union strings more → NoClash digest now → Adds Done
     adds_done is clean = at_old Done (tt, subst (NoClash digest) is clean, λ i. record { origin = origin; notes = before.notes; strings = is i })
@@ -137,7 +137,7 @@ module _ (digest : List ℕ → List ℕ) (origin : List ℕ) (kept : List KeptN
 -- ---- the take of an item
 
 -- what is answered where all is allowed is answered where this is allowed
-allowed : (digest : List ℕ → List ℕ) (Allowed : Type 0) (full old : View) (answer : Answer) (new : View) → Allowed → Answers digest (Unit {0}) full old answer new → Answers digest Allowed full old answer new
+allowed : (digest : List ℕ → List ℕ) (Allowed : Type 0) (full old : View) (answer : Answer) (new : View) → Allowed → Answers digest old (Unit {0}) full answer new → Answers digest old Allowed full answer new
 allowed digest Allowed full old Done new good h = (good, h.1, h.2)
 allowed digest Allowed full old Refused new good h = absurd (h.0 tt)
 allowed digest Allowed full old Clashed new good h = (good, h.1, h.2)
@@ -165,14 +165,14 @@ module _ (digest : List ℕ → List ℕ) (item : Item) where
     pub takes_added :
         (strings : Strings) → strings ≡ set.from_list (strings_of digest item) → notes_of item ≡ [] →
         (answer : Result (Unit {0}) AddFault) (result : Result (Unit {0}) TakeFault) → result ≡ taken_of answer →
-        (new : View) → Answers digest (Unit {0}) (with_strings old strings) old (added answer) new →
+        (new : View) → Answers digest old (Unit {0}) (with_strings old strings) (added answer) new →
         Takes digest keys old item (answer_of result) new
     takes_added strings is none answer result taken new h =
         let notes : old.notes ≡ set.union old.notes (set.from_list (notes_of item)) = added_none old.notes ∙ ap (λ xs. set.union old.notes (set.from_list xs)) (sym none) in
         let full : with_strings old strings ≡ plus digest old item = λ i. record { origin = old.origin; notes = notes i; strings = set.union old.strings (is i) } in
         let kind : answer_of result ≡ added answer = ap answer_of taken ∙ same_kind answer in
         subst (λ a. Takes digest keys old item a new) (sym kind)
-        (allowed digest (IsGood digest old.origin keys item) (plus digest old item) old (added answer) new good (subst (λ v. Answers digest (Unit {0}) v old (added answer) new) full h))
+        (allowed digest (IsGood digest old.origin keys item) (plus digest old item) old (added answer) new good (subst (λ v. Answers digest old (Unit {0}) v (added answer) new) full h))
 
     pub takes_clashed : (none : Strings) (xs : List (List ℕ)) → none ≡ set.empty → xs ≡ strings_of digest item → HasClash digest (set.union none (set.from_list xs)) → Takes digest keys old item Clashed old
     takes_clashed none xs empty same c =

@@ -83,7 +83,7 @@ impl<H: TreeHash> Mirror<H> {
     pub(crate) fn add_strings(&mut self, strings: &Store<H>) -> Result<(), AddFault>
         requires no_clash { NoClash H.digest strings.now }
         requires short { (entry : List ℕ) → Has strings.now (0 ∷ entry) → length entry ≤ 65535 }
-        ensures adds { Answers H.digest (Unit {0}) (with_strings self.old.view strings.now) self.old.view (added result) self.new.view }
+        ensures adds { Answers H.digest self.old.view (Unit {0}) (with_strings self.old.view strings.now) (added result) self.new.view }
         ensures remembered { self.new.remembered ≡ self.old.remembered }
     {
         match self.strings.add_all(strings) {

@@ -1,5 +1,4 @@
-//! Laws of events and of runs: what reaches which mirror, and what an event or a run leaves.
-ghost use Rattle.mirror_model.specs.EventLaws.{BetweenIsLawful, MergesAgain, MergesOnce, NoteIsLast, TakesAgain, TakesOnce};
+//! Laws of runs: what reaches which mirror, and what a run leaves.
 ghost use Rattle.mirror_model.specs.RunLaws.{ForMirrors, NoneClashes, RunGrows, RunIsBounded, RunIsLawful, RunIsReached};
 ghost use Rattle.mirror_model.specs.ReachLaws.{OpeningReachesGoByLast, ReachesGoByLast};
 
@@ -24,20 +23,8 @@ pub fn clash_law()
     ensures { ForMirrors NoneClashes }
 {}
 
-/// Want of memory apart, an event has one answer and leaves one view. An event for which memory was
-/// refused, done again, comes to the same as the event done once.
-pub fn again_law()
-    ensures takes_once { TakesOnce }
-    ensures merges_once { MergesOnce }
-    ensures takes { TakesAgain }
-    ensures merges { MergesAgain }
-{}
-
-/// A run keeps lawful views lawful, and each view only grows. A view that want of memory left half way
-/// is lawful too, since a new note stands only where all strings do.
+/// A run keeps lawful views lawful, and each view only grows.
 pub fn keeping_law()
     ensures lawful { RunIsLawful }
     ensures grows { RunGrows }
-    ensures between { BetweenIsLawful }
-    ensures note { NoteIsLast }
 {}

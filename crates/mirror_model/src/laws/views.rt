@@ -1,5 +1,6 @@
 //! Laws of views: what a mirror holds, and what follows from it.
-ghost use Rattle.mirror_model.specs.UnionLaws.{UnionClashesEitherWay, MutualSubviewsAreEqual, UnionAssociates, UnionCommutes, UnionIsIdempotent};
+ghost use Rattle.mirror_model.specs.HeadLaws.{HeadIsOne};
+ghost use Rattle.mirror_model.specs.UnionLaws.{MutualSubviewsAreEqual, UnionAssociates, UnionClashes, UnionClashesEitherWay, UnionCommutes, UnionIsClean, UnionIsIdempotent};
 ghost use Rattle.mirror_model.specs.CompleteLaws.{CompleteKeepsItsList, CompleteStays, CompleteListHasRoot, CompleteListIsOne};
 ghost use Rattle.mirror_model.specs.ForkLaws.{ForksStay, ForkMeansNoPrefix, ForkIsUnordered};
 ghost use Rattle.mirror_model.specs.LawfulLaws.{HeadsHaveEdges, NothingIsLawful, PlusIsLawful, UnionIsLawful};
@@ -7,13 +8,16 @@ ghost use Rattle.mirror_model.specs.MarkLaws.{MarksStay, WholeListIsMark};
 ghost use Rattle.mirror_model.specs.ReplyLaws.{RangeHashIsOne, ReplyIsOne, ServedIsOne, ServedRootIsTreeHash};
 
 /// Views that hold the same are one, and they are joined in any order, in any grouping and any number
-/// of times with one result. Their strings clash either way round or neither.
+/// of times with one result. Their strings clash either way round or neither: where a string of the one
+/// and another of the other share a digest, if neither view clashes by itself.
 pub fn union_law()
     ensures same { MutualSubviewsAreEqual }
     ensures commutes { UnionCommutes }
     ensures associates { UnionAssociates }
     ensures repeats { UnionIsIdempotent }
-    ensures clashes { UnionClashesEitherWay }
+    ensures either_way { UnionClashesEitherWay }
+    ensures clashes { UnionClashes }
+    ensures clean { UnionIsClean }
 {}
 
 /// A lawful view has one list of entries at most for a size and root, and the root is its tree hash.
@@ -60,4 +64,9 @@ pub fn lawful_law()
 pub fn marks_law()
     ensures whole { WholeListIsMark }
     ensures stay { MarksStay }
+{}
+
+/// A note is a head of one origin, size and root.
+pub fn head_law()
+    ensures { HeadIsOne }
 {}

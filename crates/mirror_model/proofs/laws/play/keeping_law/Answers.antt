@@ -1,4 +1,4 @@
-use Rattle.mirror_model.proofs.Keeping.{run_is_lawful, run_grows, between_is_lawful, note_is_last}
+use Rattle.mirror_model.proofs.Keeping.{run_is_lawful, run_grows}
 use Rattle.mirror_model.proofs.laws.play.keeping_law.Goals as goal
 
 pub returns-clause-lawful : goal.returns-clause-lawful
@@ -6,9 +6,3 @@ returns-clause-lawful c = run_is_lawful
 
 pub returns-clause-grows : goal.returns-clause-grows
 returns-clause-grows c = run_grows
-
-pub returns-clause-between : goal.returns-clause-between
-returns-clause-between c = between_is_lawful
-
-pub returns-clause-note : goal.returns-clause-note
-returns-clause-note c = note_is_last

@@ -1,0 +1,17 @@
+-- Laws of heads: a note is one at most.
+use Rattle.std.specs.Prelude.{◌≡◌, ℕ, List}
+use Rattle.mirror_model.specs.Heads.{IsHead}
+
+-- the same origin, size and root
+pub record IsSameHead (origin origin' : List ℕ) (size size' : ℕ) (root root' : List ℕ) : Type 0 where
+  pub origin_is : origin ≡ origin'
+  pub size_is : size ≡ size'
+  pub root_is : root ≡ root'
+
+-- a note is a head of one origin, size and root
+abbrev pub HeadIsOne : Type 0
+HeadIsOne =
+    (note origin origin' : List ℕ) (size size' : ℕ) (root root' : List ℕ) →
+    IsHead note origin size root →
+    IsHead note origin' size' root' →
+    IsSameHead origin origin' size size' root root'
