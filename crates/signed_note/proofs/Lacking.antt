@@ -1,6 +1,7 @@
 -- Lists that lack a byte: a list is cut at the first such byte in one way.
 use Rattle.std.proofs.Common.{◌≡◌, ◌≢◌, ℕ, zero, suc, ◌<◌, Bool, true, false, not, nat_eq, ◌&&◌, List, [], ◌∷◌, ◌++◌, length, get_or, replicate, refl, arith}
 use Rattle.std.specs.List.{list_all}
+use Rattle.std.proofs.lemmas.Bool.{and_parts}
 use Rattle.std.proofs.lemmas.Bool.Decides.{Decides-eqb}
 
 -- no element is c
@@ -27,14 +28,10 @@ reads_other c [] p z i = z
 reads_other c (x ∷ xs) p z zero = p.0
 reads_other c (x ∷ xs) p z (suc i) = reads_other c xs p.1 z i
 
-both : (a b : Bool) → (a && b) ≡ true → (a ≡ true) × (b ≡ true)
-both true b h = (refl, h)
-both false b h = absurd cc
-
 pub Lacks-from_test : (c : ℕ) (xs : List ℕ) → list_all (λ b. not (nat_eq b c)) xs ≡ true → Lacks c xs
 Lacks-from_test c [] h = tt
 Lacks-from_test c (x ∷ xs) h =
-    let parts = both (not (nat_eq x c)) (list_all (λ b. not (nat_eq b c)) xs) h in
+    let parts = and_parts (not (nat_eq x c)) (list_all (λ b. not (nat_eq b c)) xs) h in
     (λ e. let same = (Decides-eqb x c).1 e in absurd (cc (same, parts.0)), Lacks-from_test c xs parts.1)
 
 pub Lacks-replicate : (c b n : ℕ) → b ≢ c → Lacks c (replicate n b)

@@ -3,14 +3,11 @@ use Rattle.std.proofs.Common.{◌≡◌, ℕ, ◌<◌, Bool, true, false, not, �
 use Rattle.std.specs.List.{list_all}
 use Rattle.std.specs.Char.{is_whitespace}
 use Rattle.std.specs.Str.{NoCharPasses, NonePass, chars}
+use Rattle.std.proofs.lemmas.Bool.{and_parts}
 use Rattle.std.proofs.lemmas.List.Sums.{list_all-from_AllPass}
 use Rattle.std.proofs.lemmas.Str.{NoCharPasses-byte, encodes-chars}
 use Rattle.signed_note.specs.Names.{is_name_char, IsKeyName, newline, space}
 use Rattle.signed_note.proofs.Lacking.{Lacks, Lacks-from_reads}
-
-both : (a b : Bool) → (a && b) ≡ true → (a ≡ true) × (b ≡ true)
-both true b h = (refl, h)
-both false b h = absurd cc
 
 not_true : (b : Bool) → not b ≡ true → b ≡ false
 not_true true h = absurd cc
@@ -23,7 +20,7 @@ is_barred c = is_whitespace c || nat_eq c 43
 none_barred : (cs : List ℕ) → list_all is_name_char cs ≡ true → NonePass is_barred cs
 none_barred [] h = tt
 none_barred (c ∷ cs) h =
-    let parts = both (is_name_char c) (list_all is_name_char cs) h in
+    let parts = and_parts (is_name_char c) (list_all is_name_char cs) h in
     (not_true (is_barred c) parts.0, none_barred cs parts.1)
 
 lacks_barred : (name : List ℕ) → IsKeyName name → (c : ℕ) → c < 128 → is_barred c ≡ true → Lacks c name

@@ -11,6 +11,7 @@ use Rattle.signed_note.specs.Names.{newline, IsNoteText}
 use Rattle.signed_note.specs.Notes.{Line, NoteParts, base64_of, signed_bytes, line_body, line_text, IsLine, IsSplit, IsNote}
 use Rattle.signed_note.specs.Reading.{line_count, ReadsNote}
 use Rattle.signed_note.specs.Laws.{NotesAreRead, OneAnswer}
+use Rattle.signed_note.specs.declared.limits.TheConstants.{MAX_LINES, MAX_NOTE_LEN}
 use Rattle.signed_note.specs.declared.fault.NoteFault.{NoteFault}
 use Rattle.signed_note.specs.declared.fault.NoteFault.TheVariants.{NoteTooLong, NotText, NoSignatures, TooManySignatures, BadSignatureLine, OutOfMemory}
 use Rattle.signed_note.proofs.Lacking.{cut_once}
@@ -67,7 +68,7 @@ rank (Ok parts) = 5
 rank (Err fault) = rank_of fault
 
 -- what an answer further on says of the bytes
-length_passed : (bytes : List ℕ) (a : Result NoteParts NoteFault) → ReadsNote bytes a → 0 < rank a → length bytes ≤ 1000000
+length_passed : (bytes : List ℕ) (a : Result NoteParts NoteFault) → ReadsNote bytes a → 0 < rank a → length bytes ≤ MAX_NOTE_LEN
 length_passed bytes (Ok parts) h lt = h.1.short
 length_passed bytes (Err NoteTooLong) h lt = absurd (omega arith)
 length_passed bytes (Err NotText) h lt = h.0
@@ -98,9 +99,9 @@ part_passed bytes (Err TooManySignatures) h lt = (h.0, h.1, h.2.split, h.2.some)
 part_passed bytes (Err BadSignatureLine) h lt = (h.0, h.1, h.2.split, h.2.some)
 part_passed bytes (Err OutOfMemory) h lt = absurd (omega arith)
 
-count_passed : (bytes : List ℕ) (a : Result NoteParts NoteFault) → ReadsNote bytes a → 3 < rank a → (text : List ℕ) × (signed : List ℕ) × IsSplit bytes text signed × (line_count signed ≤ 100)
+count_passed : (bytes : List ℕ) (a : Result NoteParts NoteFault) → ReadsNote bytes a → 3 < rank a → (text : List ℕ) × (signed : List ℕ) × IsSplit bytes text signed × (line_count signed ≤ MAX_LINES)
 count_passed bytes (Ok parts) h lt =
-    let few : length parts.lines ≤ 100 = h.1.few in
+    let few : length parts.lines ≤ MAX_LINES = h.1.few in
     (parts.text, flat_map line_text parts.lines, h.1.split, omega (arith, line_count-lines parts.lines h.1.well_formed))
 count_passed bytes (Err NoteTooLong) h lt = absurd (omega arith)
 count_passed bytes (Err NotText) h lt = absurd (omega arith)
@@ -139,8 +140,8 @@ no_further bytes (Err NoSignatures) b p q ne lt = let part = part_passed bytes b
 no_further bytes (Err TooManySignatures) b p q ne lt =
     let part = count_passed bytes b q lt in
     let same = split_once bytes p.0 p.1 part.0 part.1 p.2.split part.2 in
-    let many : 100 < line_count p.1 = p.3 in
-    let few : line_count part.1 ≤ 100 = part.3 in
+    let many : MAX_LINES < line_count p.1 = p.3 in
+    let few : line_count part.1 ≤ MAX_LINES = part.3 in
     omega (arith, ap line_count same.1)
 no_further bytes (Err BadSignatureLine) b p q ne lt =
     let note = lines_passed bytes b q lt in

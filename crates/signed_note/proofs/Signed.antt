@@ -14,6 +14,7 @@ use Rattle.signed_note.specs.Hmac.{hmac}
 use Rattle.signed_note.specs.Keys.{Key, Secret, secret_key}
 use Rattle.signed_note.specs.Names.{newline, space, is_note_char, IsNoteText, IsOwnName}
 use Rattle.signed_note.specs.Notes.{Line, mark, base64_of, signed_bytes, line_body, line_text, IsLine, IsNote, IsLawfulText, Opens, is_accepted_by, signed_line}
+use Rattle.signed_note.specs.declared.limits.TheConstants.{MAX_NAME_LEN, MAX_TEXT_LEN}
 use Rattle.signed_note.proofs.Digests.{hmac_fits, length-hmac}
 use Rattle.signed_note.proofs.Lacking.{Lacks}
 use Rattle.signed_note.proofs.LineTexts.{body_lacks_newline, signed_bytes_fit}
@@ -97,7 +98,7 @@ signed_line_fits text k own small = record {
 length-signed_line : (text : List ℕ) (k : Secret) → IsOwnName k.name → length (line_text (signed_line text k)) ≤ 309
 length-signed_line text k own =
     let line : Line = signed_line text k in
-    let name : length k.name ≤ 255 = own.short in
+    let name : length k.name ≤ MAX_NAME_LEN = own.short in
     let payload : length (signed_bytes line) ≡ 36 = omega (arith, length-hmac k.secret text) in
     let encoded : length (base64_of (signed_bytes line)) ≡ 48 = length-base64_of (signed_bytes line) ∙ ap (λ (n : ℕ). unpadded_len n + padding_len n) payload in
     let words : length (k.name ++ space ∷ base64_of (signed_bytes line)) ≡ length k.name + length (space ∷ base64_of (signed_bytes line)) = length-append k.name (space ∷ base64_of (signed_bytes line)) in
@@ -116,7 +117,7 @@ signed_is_note text k lawful own small =
     let fits : IsLine line = signed_line_fits text k own small in
     let all : All IsLine (line ∷ []) = All-cons IsLine line [] fits (All-nil IsLine) in
     let one : flat_map line_text (line ∷ []) ≡ line_text line = append-nil (line_text line) in
-    let room : length text ≤ 900000 = lawful.short in
+    let room : length text ≤ MAX_TEXT_LEN = lawful.short in
     let signed : IsNoteText (newline ∷ line_text line) = text_append (newline ∷ []) (line_text line) newline_text (line_is_text line fits own) in
     record {
       short = omega (arith, length-append text (newline ∷ line_text line), length-signed_line text k own);

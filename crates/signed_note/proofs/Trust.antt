@@ -2,6 +2,7 @@
 use Rattle.std.proofs.Common.{◌≡◌, ℕ, Bool, true, false, nat_eq, ◌||◌, ◌&&◌, List, [], ◌∷◌, map, refl, sym, ◌∙◌, ap, Any}
 use Rattle.std.specs.List.{list_any}
 use Rattle.std.specs.Str.{bytes_eq}
+use Rattle.std.proofs.lemmas.Bool.{and_parts}
 use Rattle.std.proofs.lemmas.List.Folds.{Any-from_list_any, list_any-from_Any}
 use Rattle.std.proofs.lemmas.Slice.Eq.{bytes_eq-Decides}
 use Rattle.std.proofs.lemmas.Bool.Decides.{Decides-eqb}
@@ -12,14 +13,10 @@ pub list_any-map : {X Y : Type 0} (f : X → Y) (p : Y → Bool) (xs : List X) �
 list_any-map f p [] = refl
 list_any-map f p (x ∷ xs) = ap (λ b. p (f x) || b) (list_any-map f p xs)
 
-both : (a b : Bool) → (a && b) ≡ true → (a ≡ true) × (b ≡ true)
-both true b h = (refl, h)
-both false b h = absurd cc
-
 pub accepted : (text : List ℕ) (line : Line) (key : Key) → is_accepted_by text line key ≡ true → IsAcceptedBy text line key
 accepted text line key h =
-    let one = both (bytes_eq key.name line.name) (nat_eq key.id line.id && key.accepts text line.signature) h in
-    let two = both (nat_eq key.id line.id) (key.accepts text line.signature) one.1 in
+    let one = and_parts (bytes_eq key.name line.name) (nat_eq key.id line.id && key.accepts text line.signature) h in
+    let two = and_parts (nat_eq key.id line.id) (key.accepts text line.signature) one.1 in
     record { name = (bytes_eq-Decides key.name line.name).0 one.0; id = (Decides-eqb key.id line.id).0 two.0; signature = two.1 }
 
 pub accepts : (text : List ℕ) (line : Line) (key : Key) → IsAcceptedBy text line key → is_accepted_by text line key ≡ true

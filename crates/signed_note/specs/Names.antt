@@ -3,6 +3,7 @@ use Rattle.std.specs.Prelude.{◌≡◌, ℕ, ◌<◌, ◌≤◌, Bool, not, ◌
 use Rattle.std.specs.List.{AllPass}
 use Rattle.std.specs.Char.{is_whitespace}
 use Rattle.std.specs.Str.{IsUtf8, chars}
+use Rattle.signed_note.specs.declared.limits.TheConstants.{MAX_NAME_LEN, MAX_SECRET_LEN}
 
 -- U+000A and U+0020
 abbrev pub newline : ℕ
@@ -39,9 +40,9 @@ pub record IsKeyName (name : List ℕ) : Type 0 where
 pub record IsOwnName (name : List ℕ) : Type 0 where
   pub key_name : IsKeyName name
   pub printed : AllPass (nat_le space) (chars name)
-  pub short : length name ≤ 255
+  pub short : length name ≤ MAX_NAME_LEN
 
 -- a shared secret has 1 to 64 bytes
 pub record IsSecret (secret : List ℕ) : Type 0 where
   pub some : 1 ≤ length secret
-  pub short : length secret ≤ 64
+  pub short : length secret ≤ MAX_SECRET_LEN

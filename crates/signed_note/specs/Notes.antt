@@ -8,6 +8,7 @@ use Rattle.byteorder.specs.Endian.{big_bytes}
 use Rattle.signed_note.specs.Names.{newline, space, IsNoteText, EndsInNewline, IsKeyName}
 use Rattle.signed_note.specs.Hmac.{hmac}
 use Rattle.signed_note.specs.Keys.{Key, Secret}
+use Rattle.signed_note.specs.declared.limits.TheConstants.{MAX_LINES, MAX_NOTE_LEN, MAX_TEXT_LEN}
 
 -- a signature line, read
 pub record Line : Type 0 where
@@ -62,12 +63,12 @@ pub record IsBlank (bytes : List ℕ) (at : ℕ) : Type 0 where
 
 -- the bytes are a note of that text and those signature lines
 pub record IsNote (bytes text : List ℕ) (lines : List Line) : Type 0 where
-  pub short : length bytes ≤ 1000000
+  pub short : length bytes ≤ MAX_NOTE_LEN
   pub readable : IsNoteText bytes
   pub split : IsSplit bytes text (flat_map line_text lines)
   pub well_formed : All IsLine lines
   pub some : 1 ≤ length lines
-  pub few : length lines ≤ 100
+  pub few : length lines ≤ MAX_LINES
 
 -- the key accepts the line's signature over the text
 pub record IsAcceptedBy (text : List ℕ) (line : Line) (key : Key) : Type 0 where
@@ -87,7 +88,7 @@ is_accepted_by text line key = bytes_eq key.name line.name && (key.id == line.id
 pub record IsLawfulText (text : List ℕ) : Type 0 where
   pub readable : IsNoteText text
   pub ended : EndsInNewline text
-  pub short : length text ≤ 900000
+  pub short : length text ≤ MAX_TEXT_LEN
 
 -- the line that a shared key signs a text with: its name, its id and its mac of the text
 abbrev pub signed_line : List ℕ → Secret → Line

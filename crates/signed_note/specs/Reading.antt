@@ -6,6 +6,7 @@ use Rattle.base64.specs.GeneralPurpose.{IsBytes}
 use Rattle.signed_note.specs.Names.{newline, IsNoteText, IsOwnName, IsSecret}
 use Rattle.signed_note.specs.Keys.{Secret, Pins}
 use Rattle.signed_note.specs.Notes.{Line, NoteParts, line_text, line_body, base64_of, IsLine, IsSplit, IsNote}
+use Rattle.signed_note.specs.declared.limits.TheConstants.{MAX_LINES, MAX_NOTE_LEN}
 use Rattle.signed_note.specs.declared.fault.NoteFault.{NoteFault}
 use Rattle.signed_note.specs.declared.fault.NoteFault.TheVariants as note
 use Rattle.signed_note.specs.declared.fault.KeyFault.{KeyFault}
@@ -56,7 +57,7 @@ ReadsLines signed (Err note.TooManySignatures) = ⊥
 
 -- short enough, UTF-8, and without characters below U+0020 other than newline
 pub record IsReadable (bytes : List ℕ) : Type 0 where
-  pub short : length bytes ≤ 1000000
+  pub short : length bytes ≤ MAX_NOTE_LEN
   pub readable : IsNoteText bytes
 
 -- a readable note with a signature part that is not empty
@@ -67,11 +68,11 @@ pub record HasPart (bytes text signed : List ℕ) : Type 0 where
 
 abbrev pub ReadsNote : List ℕ → Result NoteParts NoteFault → Type 0
 ReadsNote bytes (Ok parts) = (parts.bytes ≡ bytes) × IsNote bytes parts.text parts.lines
-ReadsNote bytes (Err note.NoteTooLong) = 1000000 < length bytes
-ReadsNote bytes (Err note.NotText) = (length bytes ≤ 1000000) × (IsNoteText bytes → ⊥)
+ReadsNote bytes (Err note.NoteTooLong) = MAX_NOTE_LEN < length bytes
+ReadsNote bytes (Err note.NotText) = (length bytes ≤ MAX_NOTE_LEN) × (IsNoteText bytes → ⊥)
 ReadsNote bytes (Err note.NoSignatures) = IsReadable bytes × ((text signed : List ℕ) → IsSplit bytes text signed → signed ≡ [])
-ReadsNote bytes (Err note.TooManySignatures) = (text : List ℕ) × (signed : List ℕ) × HasPart bytes text signed × (100 < line_count signed)
-ReadsNote bytes (Err note.BadSignatureLine) = (text : List ℕ) × (signed : List ℕ) × HasPart bytes text signed × (line_count signed ≤ 100) × ((lines : List Line) → AreLines signed lines → ⊥)
+ReadsNote bytes (Err note.TooManySignatures) = (text : List ℕ) × (signed : List ℕ) × HasPart bytes text signed × (MAX_LINES < line_count signed)
+ReadsNote bytes (Err note.BadSignatureLine) = (text : List ℕ) × (signed : List ℕ) × HasPart bytes text signed × (line_count signed ≤ MAX_LINES) × ((lines : List Line) → AreLines signed lines → ⊥)
 ReadsNote bytes (Err note.OutOfMemory) = Unit {0}
 
 -- what each answer of a constructor of a shared key says of what it is given

@@ -75,7 +75,7 @@ fn words_of(line: &str) -> Option<(&str, &str)>
 }
 
 /// The bytes whose base64 the text is.
-fn payload_of(alloc: Global, text: &str) -> Result<Vec<u8>, NoteFault>
+fn decoded_of(alloc: Global, text: &str) -> Result<Vec<u8>, NoteFault>
     ensures { ReadsBase64 text.now (seen (λ v. v.items) result) }
 {
     match STANDARD.decode(alloc, text.as_bytes()) {
@@ -100,7 +100,7 @@ pub fn read_line(alloc: Global, line: &str) -> Result<SignatureLine, NoteFault>
     if !is_key_name(name) {
         return Err(NoteFault::BadSignatureLine);
     }
-    let payload = payload_of(alloc, encoded)?;
+    let payload = decoded_of(alloc, encoded)?;
     if payload.len() < 5 {
         return Err(NoteFault::BadSignatureLine);
     }

@@ -9,6 +9,7 @@ ghost use Rattle.signed_note.specs.Reading.{MakesSecret};
 
 use crate::fault::KeyFault;
 use crate::hmac::hmac_of;
+use crate::limits::MAX_SECRET_LEN;
 use crate::name::is_own_name;
 use crate::verifier::Verifier;
 use std::alloc::Global;
@@ -49,7 +50,7 @@ impl HmacKey {
         if !is_own_name(name) {
             return Err(KeyFault::BadName);
         }
-        if secret.is_empty() || secret.len() > 64 {
+        if secret.is_empty() || secret.len() > MAX_SECRET_LEN {
             return Err(KeyFault::BadSecret);
         }
         Ok(HmacKey {

@@ -5,6 +5,8 @@ ghost use Rattle.std.specs.List.{list_all};
 ghost use Rattle.std.specs.Str.{chars};
 ghost use Rattle.signed_note.specs.Names.{is_note_char, is_name_char, space, IsKeyName, IsOwnName};
 
+use crate::limits::MAX_NAME_LEN;
+
 /// Whether no character is below U+0020 but newlines.
 pub fn is_note_text(text: &str) -> bool
     ensures { result ≡ list_all is_note_char (chars text.now) }
@@ -37,5 +39,5 @@ pub fn is_key_name(name: &str) -> bool
 pub fn is_own_name(name: &str) -> bool
     ensures { IsTrue result ↔ IsOwnName name.now }
 {
-    is_key_name(name) && is_printed(name) && name.len() <= 255
+    is_key_name(name) && is_printed(name) && name.len() <= MAX_NAME_LEN
 }

@@ -9,17 +9,12 @@ ghost use Rattle.signed_note.specs.Notes.{IsNote};
 ghost use Rattle.signed_note.specs.Reading.{ReadsNote};
 
 use crate::fault::NoteFault;
+use crate::limits::{MAX_LINES, MAX_NOTE_LEN};
 use crate::line::SignatureLine;
 use crate::name::is_note_text;
 use crate::parts::{count_lines, parts_of, read_lines};
 use std::alloc::{AllocError, Global};
 use std::marker::Model;
-
-/// A note has at most so many bytes.
-const MAX_NOTE_LEN: usize = 1_000_000;
-
-/// A note has at most so many signature lines.
-const MAX_LINES: usize = 100;
 
 /// A signed note: a text, and the lines of its signature part (C2SP signed-note, "Format").
 #[derive(Debug, Drop)]

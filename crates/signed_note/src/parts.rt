@@ -5,6 +5,7 @@ ghost use Rattle.signed_note.specs.Notes.{IsSplit, IsBlank};
 ghost use Rattle.signed_note.specs.Reading.{line_count, ReadsLines, seen};
 
 use crate::fault::NoteFault;
+use crate::limits::MAX_NOTE_LEN;
 use crate::line::{SignatureLine, read_line};
 use std::alloc::Global;
 
@@ -36,7 +37,7 @@ pub fn parts_of(whole: &str) -> Option<(&str, &str)>
 
 /// How many lines a signature part has, a last line without its newline counted.
 pub fn count_lines(signed: &[u8]) -> usize
-    requires { length signed.now ≤ 1000000 }
+    requires { length signed.now ≤ MAX_NOTE_LEN }
     ensures { result ≡ line_count signed.now }
 {
     let ended = signed.iter().filter(|b| **b == b'\n').count();

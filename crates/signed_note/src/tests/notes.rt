@@ -4,7 +4,7 @@ ghost use Rattle.std.specs.Prelude.{◌<◌, IfOk, string_bytes};
 ghost use Rattle.signed_note.specs.Notes.{IsLawfulText};
 
 use super::signed_row;
-use crate::{HmacKey, KeyFault, KeyFileFault, Note, NoteFault, OpenFault, sign};
+use crate::{HmacKey, KeyFault, KeyFileFault, MAX_TEXT_LEN, Note, NoteFault, OpenFault, sign};
 use std::alloc::{AllocError, Global};
 use std::test::Fail;
 
@@ -143,7 +143,7 @@ fn signed(rt: HostRuntime) -> Result<(), Fail> {
 
 /// A text that may be signed: so many letters, and a newline behind them.
 fn letters(alloc: Global, count: usize) -> Result<String, AllocError>
-    requires { count < 900000 }
+    requires { count < MAX_TEXT_LEN }
     ensures { IfOk result (λ text. IsLawfulText (string_bytes text)) }
 {
     let mut text = String::new(alloc);
@@ -157,7 +157,7 @@ fn letters(alloc: Global, count: usize) -> Result<String, AllocError>
 #[test]
 fn the_longest_signed_text(rt: HostRuntime) -> Result<(), Fail> {
     let key = HmacKey::new(rt.alloc(), "ex", 1, b"Jefe")?;
-    let text = letters(rt.alloc(), 899_999)?;
+    let text = letters(rt.alloc(), MAX_TEXT_LEN - 1)?;
     let note = Note::read(rt.alloc(), &sign(rt.alloc(), &text, &key)?)?;
     assert_eq!(rt; note.text().len(), 900_000);
     assert_eq!(rt; note.lines().len(), 1);

@@ -1,6 +1,6 @@
 use Rattle.std.proofs.Common.{refl, sym, ◌∙◌}
 use Rattle.signed_note.specs.Notes.{base64_of}
-use Rattle.signed_note.proofs.line.payload_of.Goals as goal
+use Rattle.signed_note.proofs.line.decoded_of.Goals as goal
 
 pub returns-in-Ok : goal.returns-in-Ok
 unfolding base64_of
