@@ -31,14 +31,14 @@ no_note : (bytes text : List ℕ) (lines : List Line) (fault : NoteFault) → Is
 no_note bytes text lines fault refused is =
     let one : Result NoteParts NoteFault = Ok (record { bytes = bytes; text = text; lines = lines }) in
     let other : Result NoteParts NoteFault = Err fault in
-    let same : one ≡ other = note.one_answer bytes one other (refl, is) refused.refused (λ e. cc e) (λ e. refused.has_memory (cc e)) in
+    let same : one ≡ other = note.one_answer bytes one other (λ e. cc e) (λ e. refused.has_memory (cc e)) (refl, is) refused.refused in
     cc same
 
 same_note_fault : (bytes : List ℕ) (f g : NoteFault) → IsNoNote bytes f → IsNoNote bytes g → f ≡ g
 same_note_fault bytes f g p q =
     let one : Result NoteParts NoteFault = Err f in
     let other : Result NoteParts NoteFault = Err g in
-    let same : one ≡ other = note.one_answer bytes one other p.refused q.refused (λ e. p.has_memory (cc e)) (λ e. q.has_memory (cc e)) in
+    let same : one ≡ other = note.one_answer bytes one other (λ e. p.has_memory (cc e)) (λ e. q.has_memory (cc e)) p.refused q.refused in
     cc same
 
 -- and likewise of texts

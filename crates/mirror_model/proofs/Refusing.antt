@@ -78,7 +78,7 @@ pub bundle_not_long : (width : ℕ) (bytes : List ℕ) → ReadsBundle width byt
 bundle_not_long width bytes h good =
     let one : Result (List (List ℕ)) BundleFault = Ok good.entries in
     let other : Result (List (List ℕ)) BundleFault = Err bundling.BundleLong in
-    let same : one ≡ other = answer_one width bytes one other good.is_bundle h (λ e. cc e) (λ e. cc e) in
+    let same : one ≡ other = answer_one width bytes one other (λ e. cc e) (λ e. cc e) good.is_bundle h in
     cc same
 
 module _ (width : ℕ) (bytes : List ℕ) where
@@ -123,7 +123,7 @@ module _ (width : ℕ) (bytes : List ℕ) where
   not_both p q =
       let one : Result (List (List ℕ)) BundleFault = Err bundling.BundleShort in
       let other : Result (List (List ℕ)) BundleFault = Err bundling.BundleLong in
-      let same : one ≡ other = answer_one width bytes one other p q (λ e. cc e) (λ e. cc e) in
+      let same : one ≡ other = answer_one width bytes one other (λ e. cc e) (λ e. cc e) p q in
       cc same
 
 pub bundles_are_judged : BundlesAreJudged

@@ -4,7 +4,8 @@ use Rattle.std.specs.Prelude.{Err, Option, Some, None, MatchOption}
 use Rattle.base64.specs.GeneralPurpose.{IsBytes}
 use Rattle.byteorder.specs.Endian.{big_bytes}
 use Rattle.signed_note.specs.Names.{newline, space, IsKeyName}
-use Rattle.signed_note.specs.Notes.{Line, mark, base64_of, signed_bytes, line_body, IsLine}
+use Rattle.tlog_text.specs.Hash.{base64_of}
+use Rattle.signed_note.specs.Notes.{Line, mark, signed_bytes, line_body, IsLine}
 use Rattle.signed_note.specs.Reading.{ReadsBase64, ReadsLine}
 use Rattle.signed_note.specs.declared.fault.NoteFault.{NoteFault}
 use Rattle.signed_note.specs.declared.fault.NoteFault.TheVariants.{NoteTooLong, NotText, NoSignatures, TooManySignatures, BadSignatureLine, OutOfMemory}

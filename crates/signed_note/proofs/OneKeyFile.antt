@@ -90,11 +90,11 @@ one_number front rest other more (k ∷ good) (j ∷ fine) h g is bad worse =
     ap (λ (n : ℕ). suc n) (one_number h.1 rest g.1 more good fine h.4 g.4 cut.1 bad worse)
 
 pub one_key_answer : OneKeyAnswer
-one_key_answer bytes (Ok keys) (Ok others) h g na nb = ap Ok (one_file bytes keys others h g)
-one_key_answer bytes (Ok keys) (Err (BadKeyLine n)) h g na nb = absurd (no_bad_line bytes g.front g.rest keys g.good h g.keys g.whole g.some g.bad)
-one_key_answer bytes (Err (BadKeyLine n)) (Ok keys) h g na nb = absurd (no_bad_line bytes h.front h.rest keys h.good g h.keys h.whole h.some h.bad)
-one_key_answer bytes (Err (BadKeyLine n)) (Err (BadKeyLine m)) h g na nb =
+one_key_answer bytes (Ok keys) (Ok others) na nb h g = ap Ok (one_file bytes keys others h g)
+one_key_answer bytes (Ok keys) (Err (BadKeyLine n)) na nb h g = absurd (no_bad_line bytes g.front g.rest keys g.good h g.keys g.whole g.some g.bad)
+one_key_answer bytes (Err (BadKeyLine n)) (Ok keys) na nb h g = absurd (no_bad_line bytes h.front h.rest keys h.good g h.keys h.whole h.some h.bad)
+one_key_answer bytes (Err (BadKeyLine n)) (Err (BadKeyLine m)) na nb h g =
     let same : length h.good ≡ length g.good = one_number h.front h.rest g.front g.rest h.good g.good h.keys g.keys (sym h.whole ∙ g.whole) h.bad g.bad in
     ap (λ (k : ℕ). Err (BadKeyLine k)) (h.place ∙ (ap (λ (k : ℕ). k + 1) same ∙ sym g.place))
-one_key_answer bytes (Err OutOfMemory) b h g na nb = absurd (na refl)
-one_key_answer bytes a (Err OutOfMemory) h g na nb = absurd (nb refl)
+one_key_answer bytes (Err OutOfMemory) b na nb h g = absurd (na refl)
+one_key_answer bytes a (Err OutOfMemory) na nb h g = absurd (nb refl)

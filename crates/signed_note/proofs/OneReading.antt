@@ -8,7 +8,8 @@ use Rattle.std.proofs.lemmas.Slice.Eq.{bytes_eq-Decides}
 use Rattle.std.proofs.lemmas.List.Elements.{All-head, All-tail}
 use Rattle.byteorder.specs.Endian.{big_bytes, big_number}
 use Rattle.signed_note.specs.Names.{newline, IsNoteText}
-use Rattle.signed_note.specs.Notes.{Line, NoteParts, base64_of, signed_bytes, line_body, line_text, IsLine, IsSplit, IsNote}
+use Rattle.tlog_text.specs.Hash.{base64_of}
+use Rattle.signed_note.specs.Notes.{Line, NoteParts, signed_bytes, line_body, line_text, IsLine, IsSplit, IsNote}
 use Rattle.signed_note.specs.Reading.{line_count, ReadsNote}
 use Rattle.signed_note.specs.Laws.{NotesAreRead, OneAnswer}
 use Rattle.signed_note.specs.declared.limits.TheConstants.{MAX_LINES, MAX_NOTE_LEN}
@@ -192,7 +193,7 @@ same_place bytes (Err f) (Err g) p q na nb e =
     ap Err (sym (at_its_rank f (λ h. na (ap Err h))) ∙ (ap fault_at e ∙ at_its_rank g (λ h. nb (ap Err h))))
 
 pub one_answer : OneAnswer
-one_answer bytes a b p q na nb =
+one_answer bytes a b na nb p q =
     elim (cases_lt (rank a) (rank b)) [
       | inl lt ↦ absurd (no_further bytes a b p q na lt)
       | inr ge ↦ elim (cases_lt (rank b) (rank a)) [

@@ -13,7 +13,7 @@ use Rattle.base64.proofs.EngineFacts.{decode_of-encode_of, IsAscii-encode_of}
 use Rattle.base64.proofs.RoundTrip.{length-encode_symbols}
 use Rattle.byteorder.specs.Endian.{big_bytes, big_number}
 use Rattle.signed_note.specs.Names.{newline, is_note_char}
-use Rattle.signed_note.specs.Notes.{base64_of}
+use Rattle.tlog_text.specs.Hash.{base64_of}
 use Rattle.signed_note.proofs.Lacking.{Lacks, Lacks-append, Lacks-from_test, Lacks-replicate, reads_other}
 
 -- the 64 symbols

@@ -13,7 +13,8 @@ use Rattle.base64.specs.Rfc4648.{unpadded_len, padding_len}
 use Rattle.signed_note.specs.Hmac.{hmac}
 use Rattle.signed_note.specs.Keys.{Key, Secret, secret_key}
 use Rattle.signed_note.specs.Names.{newline, space, is_note_char, IsNoteText, IsOwnName}
-use Rattle.signed_note.specs.Notes.{Line, mark, base64_of, signed_bytes, line_body, line_text, IsLine, IsNote, IsLawfulText, Opens, is_accepted_by, signed_line}
+use Rattle.tlog_text.specs.Hash.{base64_of}
+use Rattle.signed_note.specs.Notes.{Line, mark, signed_bytes, line_body, line_text, IsLine, IsNote, IsLawfulText, Opens, is_accepted_by, signed_line}
 use Rattle.signed_note.specs.declared.limits.TheConstants.{MAX_NAME_LEN, MAX_TEXT_LEN}
 use Rattle.signed_note.proofs.Digests.{hmac_fits, length-hmac}
 use Rattle.signed_note.proofs.Lacking.{Lacks}

@@ -2,9 +2,9 @@
 use Rattle.std.specs.Prelude.{◌≡◌, ◌≢◌, ℕ, ◌+◌, ◌<◌, ◌≤◌, ◌^◌, Bool, IsTrue, List, [], ◌∷◌, ◌++◌, length, slice_index, All, Any, ◌==◌, ◌&&◌}
 use Rattle.std.specs.List.{flat_map}
 use Rattle.std.specs.Str.{bytes_eq}
-use Rattle.base64.specs.Engines.{standard}
-use Rattle.base64.specs.GeneralPurpose.{encode_of, IsBytes}
+use Rattle.base64.specs.GeneralPurpose.{IsBytes}
 use Rattle.byteorder.specs.Endian.{big_bytes}
+use Rattle.tlog_text.specs.Hash.{base64_of}
 use Rattle.signed_note.specs.Names.{newline, space, IsNoteText, EndsInNewline, IsKeyName}
 use Rattle.signed_note.specs.Hmac.{hmac}
 use Rattle.signed_note.specs.Keys.{Key, Secret}
@@ -25,10 +25,6 @@ pub record NoteParts : Type 0 where
 -- the em dash (U+2014) that begins a signature line
 abbrev pub mark : List ℕ
 mark = 226 ∷ 128 ∷ 148 ∷ []
-
--- standard base64 with padding (RFC 4648, section 4)
-unfoldable pub base64_of : List ℕ → List ℕ
-base64_of bytes = encode_of standard bytes
 
 -- what is signed with: the key id of four bytes, the highest first, and the signature
 abbrev pub signed_bytes : Line → List ℕ

@@ -3,9 +3,10 @@
 use Rattle.std.specs.Prelude.{◌≡◌, ◌≢◌, ℕ, ◌+◌, ◌-◌, ◌<◌, ◌≤◌, ◌==◌, if◌then◌else◌, List, [], length, slice_index, All, Result, Ok, Err, count_by}
 use Rattle.std.specs.List.{flat_map}
 use Rattle.base64.specs.GeneralPurpose.{IsBytes}
+use Rattle.tlog_text.specs.Hash.{base64_of}
 use Rattle.signed_note.specs.Names.{newline, IsNoteText, IsOwnName, IsSecret}
 use Rattle.signed_note.specs.Keys.{Secret, Pins}
-use Rattle.signed_note.specs.Notes.{Line, NoteParts, line_text, line_body, base64_of, IsLine, IsSplit, IsNote}
+use Rattle.signed_note.specs.Notes.{Line, NoteParts, line_text, line_body, IsLine, IsSplit, IsNote}
 use Rattle.signed_note.specs.declared.limits.TheConstants.{MAX_LINES, MAX_NOTE_LEN}
 use Rattle.signed_note.specs.declared.fault.NoteFault.{NoteFault}
 use Rattle.signed_note.specs.declared.fault.NoteFault.TheVariants as note
@@ -20,11 +21,6 @@ line_count signed = count_by (λ b. b == newline) signed + (if length signed == 
 pub record AreLines (signed : List ℕ) (lines : List Line) : Type 0 where
   pub whole : signed ≡ flat_map line_text lines
   pub well_formed : All IsLine lines
-
--- an answer, its value seen by view
-abbrev pub seen : {X Y E : Type 0} → (X → Y) → Result X E → Result Y E
-seen view (Ok x) = Ok (view x)
-seen view (Err e) = Err e
 
 -- the text is the base64 of the bytes
 abbrev pub ReadsBase64 : List ℕ → Result (List ℕ) NoteFault → Type 0

@@ -1,9 +1,9 @@
 //! The words of a line of a key file.
 
+ghost use Rattle.tlog_text.specs.Answers.{seen};
 ghost use Rattle.std.specs.Prelude.{◌≡◌, ◌≢◌, ℕ, ◌<◌, ◌^◌, ◌∷◌, ◌++◌, List, length, slice_index, IfSome, IfNone};
 ghost use Rattle.byteorder.specs.Endian.{big_bytes};
 ghost use Rattle.signed_note.specs.Names.{newline, space, IsOwnName};
-ghost use Rattle.signed_note.specs.Reading.{seen};
 ghost use Rattle.signed_note.specs.KeyFiles.{IsHexOf, AreWords, ReadsAs};
 
 use crate::fault::KeyFileFault;

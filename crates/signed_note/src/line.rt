@@ -1,9 +1,10 @@
 //! Signature lines.
 
 ghost use Rattle.std.specs.Prelude.{◌≡◌, ◌≢◌, ℕ, ◌<◌, List, ◌∷◌, ◌++◌, length, IfSome, IfNone, IfOk, OnErr, slice_index};
+ghost use Rattle.tlog_text.specs.Answers.{seen};
 ghost use Rattle.signed_note.specs.Names.{space};
-ghost use Rattle.signed_note.specs.Notes.{mark, base64_of};
-ghost use Rattle.signed_note.specs.Reading.{ReadsBase64, ReadsLine, seen};
+ghost use Rattle.signed_note.specs.Notes.{mark};
+ghost use Rattle.signed_note.specs.Reading.{ReadsBase64, ReadsLine};
 
 use crate::fault::NoteFault;
 use crate::name::is_key_name;

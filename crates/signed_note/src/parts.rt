@@ -1,8 +1,9 @@
 //! The parts of a note: its text, and the lines of its signature part.
 
 ghost use Rattle.std.specs.Prelude.{◌≡◌, ℕ, ◌+◌, ◌<◌, ◌≤◌, List, length, IfSome, IfNone, MatchOption};
+ghost use Rattle.tlog_text.specs.Answers.{seen};
 ghost use Rattle.signed_note.specs.Notes.{IsSplit, IsBlank};
-ghost use Rattle.signed_note.specs.Reading.{line_count, ReadsLines, seen};
+ghost use Rattle.signed_note.specs.Reading.{line_count, ReadsLines};
 
 use crate::fault::NoteFault;
 use crate::limits::MAX_NOTE_LEN;

@@ -1,10 +1,11 @@
 //! Making notes.
 
 ghost use Rattle.std.specs.Prelude.{◌≡◌, [], ◌∷◌, ◌++◌, IfOk, OnOk, string_bytes};
+ghost use Rattle.tlog_text.specs.Hash.{base64_of};
 ghost use Rattle.byteorder.specs.Endian.{big_bytes};
 ghost use Rattle.signed_note.specs.Keys.{secret_key};
 ghost use Rattle.signed_note.specs.Names.{newline, space};
-ghost use Rattle.signed_note.specs.Notes.{mark, base64_of, IsLawfulText, IsNote, Opens, line_text, signed_line};
+ghost use Rattle.signed_note.specs.Notes.{mark, IsLawfulText, IsNote, Opens, line_text, signed_line};
 
 use crate::mac_key::HmacKey;
 use crate::verifier::Verifier;
@@ -23,7 +24,7 @@ fn payload_of(id: u32, signature: &[u8; 32]) -> [u8; 36]
 }
 
 /// The base64 of the bytes.
-#[tactic(auto, unfolding(crate::specs::Notes::base64_of))]
+#[tactic(auto, unfolding(tlog_text::specs::Hash::base64_of))]
 fn encoded_of(alloc: Global, bytes: &[u8]) -> Result<String, AllocError>
     ensures { IfOk result (λ t. string_bytes t ≡ base64_of bytes.now) }
 {

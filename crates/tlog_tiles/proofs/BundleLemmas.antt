@@ -1,5 +1,5 @@
 -- Entries one after the other, as a loop reads them.
-use Rattle.std.proofs.Common.{◌≡◌, ◌≢◌, ℕ, suc, false, nat_eq, ◌^◌, ◌<◌, List, [], ◌∷◌, ◌++◌, length, take, drop, All, Result, Ok, Err, refl, sym, ap, ◌∙◌, append_assoc, arith}
+use Rattle.std.proofs.Common.{◌≡◌, ◌≢◌, ℕ, suc, false, nat_eq, ◌+◌, ◌*◌, ◌^◌, ◌<◌, ◌≤◌, List, [], ◌∷◌, ◌++◌, length, take, drop, All, Result, Ok, Err, refl, sym, ap, ◌∙◌, append_assoc, length-append, arith}
 use Rattle.std.specs.List.{flat_map}
 use Rattle.std.specs.Int.{w16, to_be_bytes, from_be_bytes}
 use Rattle.std.proofs.lemmas.List.{take_at, drop_at, append-nil}
@@ -8,6 +8,7 @@ use Rattle.std.proofs.lemmas.List.Concat.{flat_map-append}
 use Rattle.std.proofs.lemmas.Nat.{from_be_bytes-to_be_bytes_2}
 use Rattle.tlog_tiles.specs.declared.bundle.BundleFault.{BundleFault}
 use Rattle.tlog_tiles.specs.declared.bundle.BundleFault.TheVariants.{BundleShort, BundleLong, OutOfMemory}
+use Rattle.tlog_tiles.specs.Laws.{BundlesAreShort}
 use Rattle.tlog_tiles.specs.Bundle.{entry_text, IsBundle, HasBundle, ReadsBundle}
 
 -- the entry at the front is known from the bytes
@@ -75,17 +76,29 @@ ok_long width bytes es next rest p q =
     absurd cc
 
 -- an answer other than want of memory is the only one
-pub answer_one : (width : ℕ) (bytes : List ℕ) (a b : Result (List (List ℕ)) BundleFault) → ReadsBundle width bytes a → ReadsBundle width bytes b → a ≢ Err OutOfMemory → b ≢ Err OutOfMemory → a ≡ b
-answer_one width bytes (Ok es) (Ok fs) p q m n =
+pub answer_one : (width : ℕ) (bytes : List ℕ) (a b : Result (List (List ℕ)) BundleFault) → a ≢ Err OutOfMemory → b ≢ Err OutOfMemory → ReadsBundle width bytes a → ReadsBundle width bytes b → a ≡ b
+answer_one width bytes (Ok es) (Ok fs) m n p q =
     let same : flat_map entry_text es ++ [] ≡ flat_map entry_text fs ++ [] = ap (λ (x : List ℕ). x ++ []) (sym p.text ∙ q.text) in
     ap (λ (x : List (List ℕ)). Ok x) (bundle_one es fs [] [] (p.count ∙ sym q.count) p.fits q.fits same).0
-answer_one width bytes (Ok es) (Err BundleShort) p q m n = absurd (q [] (whole_bundle width bytes es p))
-answer_one width bytes (Ok es) (Err BundleLong) p q m n = absurd (ok_long width bytes es q.0 q.1 p q.2)
-answer_one width bytes (Err BundleShort) (Ok es) p q m n = absurd (p [] (whole_bundle width bytes es q))
-answer_one width bytes (Err BundleShort) (Err BundleShort) p q m n = refl
-answer_one width bytes (Err BundleShort) (Err BundleLong) p q m n = absurd (p (q.0 ∷ q.1) q.2)
-answer_one width bytes (Err BundleLong) (Ok es) p q m n = absurd (ok_long width bytes es p.0 p.1 q p.2)
-answer_one width bytes (Err BundleLong) (Err BundleShort) p q m n = absurd (q (p.0 ∷ p.1) p.2)
-answer_one width bytes (Err BundleLong) (Err BundleLong) p q m n = refl
-answer_one width bytes (Err OutOfMemory) b p q m n = absurd (m refl)
-answer_one width bytes a (Err OutOfMemory) p q m n = absurd (n refl)
+answer_one width bytes (Ok es) (Err BundleShort) m n p q = absurd (q [] (whole_bundle width bytes es p))
+answer_one width bytes (Ok es) (Err BundleLong) m n p q = absurd (ok_long width bytes es q.0 q.1 p q.2)
+answer_one width bytes (Err BundleShort) (Ok es) m n p q = absurd (p [] (whole_bundle width bytes es q))
+answer_one width bytes (Err BundleShort) (Err BundleShort) m n p q = refl
+answer_one width bytes (Err BundleShort) (Err BundleLong) m n p q = absurd (p (q.0 ∷ q.1) q.2)
+answer_one width bytes (Err BundleLong) (Ok es) m n p q = absurd (ok_long width bytes es p.0 p.1 q p.2)
+answer_one width bytes (Err BundleLong) (Err BundleShort) m n p q = absurd (q (p.0 ∷ p.1) p.2)
+answer_one width bytes (Err BundleLong) (Err BundleLong) m n p q = refl
+answer_one width bytes (Err OutOfMemory) b m n p q = absurd (m refl)
+answer_one width bytes a (Err OutOfMemory) m n p q = absurd (n refl)
+
+entries_length : (es : List (List ℕ)) → All (λ e. length e < 2 ^ 16) es → length (flat_map entry_text es) ≤ length es * 65537
+entries_length [] h = omega arith
+entries_length (e ∷ es) h =
+    let first = All-head (λ x. length x < 2 ^ 16) e es h in
+    let others = entries_length es (All-tail (λ x. length x < 2 ^ 16) e es h) in
+    let whole : length (flat_map entry_text (e ∷ es)) ≡ length (entry_text e) + length (flat_map entry_text es) = length-append (entry_text e) (flat_map entry_text es) in
+    let front : length (entry_text e) ≡ 2 + length e = length-append (to_be_bytes w16 (length e)) e in
+    omega (arith, first, others, whole, front)
+
+pub bundles_are_short : BundlesAreShort
+bundles_are_short width bytes entries le b = omega (arith, entries_length entries b.fits, ap length b.text, b.count, le)

@@ -24,14 +24,6 @@ unfolding groups_text
 groups_text-more zero some = absurd (omega arith)
 groups_text-more (suc n) some = ap (λ (x : List ℕ). x ++ group_text (suc n)) (groups_within-bound n (suc n / 1000) (suc n / 1000) (omega arith) (omega arith))
 
--- what is written for the groups of a number, and then for its last
-pub groups_written : (number : ℕ) (old front x middle whole : List ℕ) → 0 < number → front ≡ old ++ groups_text (number / 1000) → x ≡ front ++ 120 ∷ [] → middle ≡ x ++ three_digits number → whole ≡ middle ++ 47 ∷ [] → whole ≡ old ++ groups_text number
-groups_written number old front x middle whole some p q r s =
-    let group : ((front ++ 120 ∷ []) ++ three_digits number) ++ 47 ∷ [] ≡ front ++ group_text number = append_assoc (front ++ 120 ∷ []) (three_digits number) (47 ∷ []) ∙ append_assoc front (120 ∷ []) (three_digits number ++ 47 ∷ []) in
-    s ∙ (ap (λ (t : List ℕ). t ++ 47 ∷ []) (r ∙ ap (λ (t : List ℕ). t ++ three_digits number) q)
-    ∙ (group ∙ (ap (λ (t : List ℕ). t ++ group_text number) p
-    ∙ (append_assoc old (groups_text (number / 1000)) (group_text number) ∙ ap (λ (t : List ℕ). old ++ t) (sym (groups_text-more number some))))))
-
 -- the last three digits are those of the last group
 three_digits-add : (b g : ℕ) → three_digits (b * 1000 + g) ≡ three_digits g
 three_digits-add b g =

@@ -10,7 +10,8 @@ use Rattle.tlog_tiles.specs.declared.paths.Path.{Path}
 use Rattle.tlog_tiles.specs.declared.paths.Path.TheVariants.{Checkpoint, Tile, Entries}
 use Rattle.tlog_tiles.specs.declared.paths.PathFault.{PathFault}
 use Rattle.tlog_tiles.specs.declared.paths.PathFault.TheVariants.{Unknown, BadLevel, BadIndex, BadWidth}
-use Rattle.tlog_tiles.specs.Path.{greatest_index, index_text, width_text, path_text, HasNoSlash, HasWidthPart, IsBelowTile, IsIndex, IsKind, IsLawful, IsPath, IsServed, IsWidthOf, HasBadLevel, HasBadIndex, HasBadWidth, ReadsPath}
+use Rattle.tlog_tiles.specs.declared.paths.TheConstants.{MAX_INDEX}
+use Rattle.tlog_tiles.specs.Path.{index_text, width_text, path_text, HasNoSlash, HasWidthPart, IsBelowTile, IsIndex, IsKind, IsLawful, IsPath, IsFileText, IsWidthOf, HasBadLevel, HasBadIndex, HasBadWidth, ReadsPath}
 use Rattle.tlog_tiles.proofs.TextLemmas.{first_cut, last_cut, width_cut}
 use Rattle.tlog_tiles.proofs.IndexLemmas.{index_one}
 use Rattle.tlog_tiles.proofs.GroupLemmas.{index_spelled, index_written, index-dot}
@@ -60,7 +61,7 @@ width_most : (text : Option (List ℕ)) (w : ℕ) → IsWidthOf text w → w ≤
 width_most None w e = omega arith
 width_most (Some text) w h = omega (arith, h.partial)
 
-served_spelled : (second text : List ℕ) (index width : ℕ) → IsServed second text index width → text ≡ codes "tile/" ++ (second ++ 47 ∷ (index_text index ++ width_text width))
+served_spelled : (second text : List ℕ) (index width : ℕ) → IsFileText second text index width → text ≡ codes "tile/" ++ (second ++ 47 ∷ (index_text index ++ width_text width))
 served_spelled second text index width h =
     h.below.text_is ∙ (append_assoc (codes "tile/") second (47 ∷ h.tail) ∙ ap (λ (x : List ℕ). codes "tile/" ++ (second ++ 47 ∷ x)) (tail_spelled h.tail h.index_text h.width_text index width h.parts h.index_is h.width_is))
 
@@ -88,7 +89,7 @@ no_dot text front last none e =
 no_slash-decimal : (w : ℕ) → w < 2 ^ 64 → HasNoSlash (decimal w)
 no_slash-decimal w p = All-from_get_or (λ (c : ℕ). c ≢ 47) (decimal w) 0 (λ i q e. let at = digit_at (decimal w) i (decimal_is_IsNumeral w p).0.1 q in let least = at.0 in omega arith)
 
-served : (second text : List ℕ) (index width : ℕ) → HasNoSlash second → index ≤ greatest_index → 1 ≤ width → width ≤ 256 → text ≡ codes "tile/" ++ (second ++ 47 ∷ (index_text index ++ width_text width)) → IsServed second text index width
+served : (second text : List ℕ) (index width : ℕ) → HasNoSlash second → index ≤ MAX_INDEX → 1 ≤ width → width ≤ 256 → text ≡ codes "tile/" ++ (second ++ 47 ∷ (index_text index ++ width_text width)) → IsFileText second text index width
 served second text index width plain fits some upto e = elim (eqb_tells width 256) [
   | inl full ↦ record {
     tail = index_text index ++ width_text width;
@@ -140,7 +141,7 @@ paths_spelled text path = (spelled text path, written text path)
 
 -- ---- a text has one answer
 
-served_one : (text s u : List ℕ) (i j w v : ℕ) → IsServed s text i w → IsServed u text j v → (s ≡ u) × (i ≡ j) × (w ≡ v)
+served_one : (text s u : List ℕ) (i j w v : ℕ) → IsFileText s text i w → IsFileText u text j v → (s ≡ u) × (i ≡ j) × (w ≡ v)
 served_one text s u i j w v p q =
     let below = below_one text s p.tail u q.tail p.below q.below in
     let parts = width_part_one p.tail p.index_text q.index_text p.width_text q.width_text p.parts (subst (λ (x : List ℕ). HasWidthPart x q.index_text q.width_text) (sym below.1) q.parts) in
@@ -177,7 +178,7 @@ pub record IsFile (text : List ℕ) : Type 0 where
   pub index : ℕ
   pub width : ℕ
   pub kind : IsKind second
-  pub is_served : IsServed second text index width
+  pub is_served : IsFileText second text index width
 
 pub path_kind : (text : List ℕ) (path : Path) → IsPath text path → (text ≡ codes "checkpoint") ⊎ IsFile text
 path_kind text Checkpoint h = inl h

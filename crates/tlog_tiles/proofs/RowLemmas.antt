@@ -33,13 +33,13 @@ row_one (g ∷ a) (h ∷ b) p q n e =
     ap (λ (x : List ℕ). x ∷ a) first ∙ ap (λ (xs : List (List ℕ)). h ∷ xs) others
 
 -- an answer other than want of memory is the only one
-pub row_answer_one : (width : ℕ) (bytes : List ℕ) (a b : Result (List (List ℕ)) RowFault) → ReadsRow width bytes a → ReadsRow width bytes b → a ≢ Err OutOfMemory → b ≢ Err OutOfMemory → a ≡ b
-row_answer_one width bytes (Ok r) (Ok s) p q m n = ap (λ (x : List (List ℕ)). Ok x) (row_one r s p.sizes q.sizes (p.count ∙ sym q.count) (sym p.text ∙ q.text))
-row_answer_one width bytes (Ok r) (Err RowLength) p q m n = absurd (q (ap length p.text ∙ (length-row_text r p.sizes ∙ ap (λ n. 32 * n) p.count)))
-row_answer_one width bytes (Err RowLength) (Ok r) p q m n = absurd (p (ap length q.text ∙ (length-row_text r q.sizes ∙ ap (λ n. 32 * n) q.count)))
-row_answer_one width bytes (Err RowLength) (Err RowLength) p q m n = refl
-row_answer_one width bytes (Err OutOfMemory) b p q m n = absurd (m refl)
-row_answer_one width bytes a (Err OutOfMemory) p q m n = absurd (n refl)
+pub row_answer_one : (width : ℕ) (bytes : List ℕ) (a b : Result (List (List ℕ)) RowFault) → a ≢ Err OutOfMemory → b ≢ Err OutOfMemory → ReadsRow width bytes a → ReadsRow width bytes b → a ≡ b
+row_answer_one width bytes (Ok r) (Ok s) m n p q = ap (λ (x : List (List ℕ)). Ok x) (row_one r s p.sizes q.sizes (p.count ∙ sym q.count) (sym p.text ∙ q.text))
+row_answer_one width bytes (Ok r) (Err RowLength) m n p q = absurd (q (ap length p.text ∙ (length-row_text r p.sizes ∙ ap (λ n. 32 * n) p.count)))
+row_answer_one width bytes (Err RowLength) (Ok r) m n p q = absurd (p (ap length q.text ∙ (length-row_text r q.sizes ∙ ap (λ n. 32 * n) q.count)))
+row_answer_one width bytes (Err RowLength) (Err RowLength) m n p q = refl
+row_answer_one width bytes (Err OutOfMemory) b m n p q = absurd (m refl)
+row_answer_one width bytes a (Err OutOfMemory) m n p q = absurd (n refl)
 
 -- one hash more of the bytes
 pub row_push : (bytes : List ℕ) (i : ℕ) (row : List (List ℕ)) (hash : List ℕ) → take (32 * i) bytes ≡ row_text row → hash ≡ take (32 * i + 32 - 32 * i) (drop (32 * i) bytes) → take (32 * (i + 1)) bytes ≡ row_text (row ++ hash ∷ [])

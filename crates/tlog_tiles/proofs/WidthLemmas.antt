@@ -1,73 +1,37 @@
 -- Widths in decimal digits.
-use Rattle.std.proofs.Common.{◌≡◌, ◌≢◌, ℕ, zero, suc, ◌+◌, ◌-◌, ◌*◌, ◌^◌, ◌<◌, ◌≤◌, ◌⊎◌, List, length, take, get_or, refl, sym, ap, subst, ◌∙◌, inl, inr, arith}
+use Rattle.std.proofs.Common.{◌≡◌, ℕ, ◌^◌, ◌<◌, ◌≤◌, List, sym, subst, arith}
+use Rattle.std.specs.Prelude.{Err}
+use Rattle.std.specs.Str.{IsUtf8}
+use Rattle.std.proofs.lemmas.Fmt.{IsAscii-decimal_wide}
+use Rattle.std.proofs.lemmas.Str.{IsUtf8-from_ascii}
 use Rattle.std.specs.Fmt.{decimal}
-use Rattle.std.specs.Char.{digit_value}
-use Rattle.std.specs.Str.Parse.{AllDigits, digits_value}
-use Rattle.std.proofs.lemmas.Fmt.{decimal_is_IsNumeral, decimal-digits_value, first_decimal}
-use Rattle.std.proofs.lemmas.Int.Digits.{digits_value_more}
-use Rattle.std.proofs.lemmas.Str.{digit_value_digit}
-use Rattle.std.proofs.lemmas.Str.Parse.{digit_at, digit_from_value, numerals_by_value, tells_digits, digits_value-take-le}
+use Rattle.tlog_text.specs.Number.{IsDecimal, ReadsNumber}
+use Rattle.tlog_text.specs.declared.number.NumberFault.{NumberFault}
+use Rattle.tlog_text.specs.declared.number.NumberFault.TheVariants.{NotANumber, TooLarge}
+use Rattle.tlog_text.proofs.Decimals.{decimal_is, decimal_written, one_number}
 use Rattle.tlog_tiles.specs.Path.{IsPartialWidth}
 
--- what is known of the digits of a width
-pub record IsWidthText (text : List ℕ) (width : ℕ) : Type 0 where
-  pub some : 0 < length text
-  pub digits : AllDigits 10 text
-  pub value : digits_value 10 text ≡ width
-  pub first : 48 < get_or text 0 0
-  pub partial : width ≤ 255
-
-pub IsWidthText-partial : (text : List ℕ) (width : ℕ) → IsPartialWidth text width → IsWidthText text width
-IsWidthText-partial text width h =
+width_decimal : (text : List ℕ) (width : ℕ) → IsPartialWidth text width → IsDecimal text width
+width_decimal text width h =
     let fits : width < 2 ^ 64 = omega (arith, h.partial) in
-    let some : 0 < width = h.some in
-    let numeral = decimal_is_IsNumeral width fits in
-    subst (λ (t : List ℕ). IsWidthText t width) (sym h.text_is) (record { some = numeral.0.0; digits = numeral.0.1; value = numeral.1; first = first_decimal width some fits; partial = h.partial })
+    subst (λ (t : List ℕ). IsDecimal t width) (sym h.text_is) (decimal_written width fits)
 
--- a byte that is no digit stands in no width
-pub no_digit : (text : List ℕ) (i : ℕ) → i < length text → ((get_or text i 0 < 48) ⊎ (57 < get_or text i 0)) → (width : ℕ) → IsPartialWidth text width → ⊥
-no_digit text i within (inl low) width h = let at = digit_at text i (IsWidthText-partial text width h).digits within in let from = at.0 in omega arith
-no_digit text i within (inr high) width h = let at = digit_at text i (IsWidthText-partial text width h).digits within in let to = at.1 in omega arith
+-- what is not UTF-8 is no width
+pub no_text : (text : List ℕ) → (IsUtf8 text → ⊥) → (width : ℕ) → IsPartialWidth text width → ⊥
+no_text text bad width h =
+    let fits : width < 10 ^ 64 = omega (arith, h.partial) in
+    bad (subst IsUtf8 (sym h.text_is) (IsUtf8-from_ascii (decimal width) (IsAscii-decimal_wide width fits)))
 
--- digits that make more than 255 begin no width
-pub too_wide : (text : List ℕ) (i : ℕ) → 255 < digits_value 10 (take i text) → (width : ℕ) → IsPartialWidth text width → ⊥
-too_wide text i over width h =
-    let known = IsWidthText-partial text width h in
-    let least = digits_value-take-le 10 text i (omega arith) in
-    let value = known.value in
-    let partial = known.partial in
-    omega arith
+-- the number of a text is the width that it gives
+pub number_width : (text : List ℕ) (n width : ℕ) → IsDecimal text n → IsPartialWidth text width → n ≡ width
+number_width text n width is h = one_number text n width is (width_decimal text width h)
 
--- a 0 begins no width, and a width has a digit
-pub no_zero : (text : List ℕ) → get_or text 0 0 ≤ 48 → (width : ℕ) → IsPartialWidth text width → ⊥
-no_zero text low width h = let first = (IsWidthText-partial text width h).first in omega arith
+-- what is refused as a number of at most 255 is no width
+pub no_number : (text : List ℕ) (fault : NumberFault) → ReadsNumber 255 text (Err fault) → (width : ℕ) → IsPartialWidth text width → ⊥
+no_number text NotANumber h width w = h width (width_decimal text width w)
+no_number text TooLarge h width w =
+    let over : 255 < h.0 = h.2 in
+    omega (arith, number_width text h.0 width h.1 w, w.partial)
 
-pub IsPartialWidth-digits : (text : List ℕ) (width : ℕ) → 0 < length text → AllDigits 10 text → width ≡ digits_value 10 text → get_or text 0 0 ≢ 48 → 1 ≤ width → width ≤ 255 → IsPartialWidth text width
-IsPartialWidth-digits text width some digits value first least most =
-    let fits : digits_value 10 text < 2 ^ 64 = omega arith in
-    record { some = least; partial = most; text_is = sym (ap (λ n. decimal n) value ∙ decimal-digits_value (numerals_by_value (AllDigits 10) tells_digits) text digits some (λ e. absurd (first e)) fits) }
-
--- the width with one digit more
-pub width_more : (text : List ℕ) (i width : ℕ) → i < length text → digit_value (get_or text i 0) < 10 → width ≡ digits_value 10 (take i text) → width * 10 + (get_or text i 0 - 48) ≡ digits_value 10 (take (i + 1) text)
-width_more text i width within digit value =
-    let one : digit_value (get_or text i 0) + 48 ≡ get_or text i 0 = digit_value_digit (get_or text i 0) (digit_from_value (get_or text i 0) digit) in
-    let next : digits_value 10 (take (i + 1) text) ≡ digits_value 10 (take i text) * 10 + digit_value (get_or text i 0) = digits_value_more 10 text i within in
-    omega arith
-
--- a width of 0 has no digit yet
-pub no_digit_yet : (i width : ℕ) → width ≡ 0 → (0 < i → 0 < width) → i ≡ 0
-no_digit_yet zero width z f = refl
-no_digit_yet (suc i) width z f = let some : 0 < width = f (omega arith) in absurd (omega arith)
-
-pub some_digit : (i width : ℕ) → 0 < width → (i ≡ 0 → width ≡ 0) → 0 < i
-some_digit zero width p f = let none : width ≡ 0 = f refl in absurd (omega arith)
-some_digit (suc i) width p f = omega arith
-
--- the first digit is none but the last where the width so far is 0
-pub zero_first : (text : List ℕ) (i width : ℕ) → (0 < i → 0 < width) → width * 10 + (get_or text i 0 - 48) ≡ 0 → get_or text 0 0 ≤ 48
-zero_first text zero width f z = omega arith
-zero_first text (suc i) width f z = let some : 0 < width = f (omega arith) in absurd (omega arith)
-
-pub first_more : (text : List ℕ) (i width : ℕ) → (i ≡ 0 → width ≡ 0) → (0 < i → get_or text 0 0 ≢ 48) → (width * 10 + (get_or text i 0 - 48) ≡ 0 → ⊥) → get_or text 0 0 ≢ 48
-first_more text zero width f g apart e = let none : width ≡ 0 = f refl in apart (omega arith)
-first_more text (suc i) width f g apart e = g (omega arith) e
+pub partial_width_is : (text : List ℕ) (n : ℕ) → IsDecimal text n → n ≤ 255 → 1 ≤ n → IsPartialWidth text n
+partial_width_is text n is most some = record { some = some; partial = most; text_is = decimal_is text n (omega arith) is }

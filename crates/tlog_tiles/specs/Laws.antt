@@ -1,5 +1,6 @@
 -- What holds of the formats and of tiles, as laws of the definitions.
-use Rattle.std.specs.Prelude.{◌≡◌, ◌≢◌, ◌↔◌, ℕ, ◌+◌, ◌*◌, ◌^◌, ◌<◌, ◌≤◌, All, AllPairs, Contains, List, length, Result, Err}
+use Rattle.std.specs.Prelude.{◌≡◌, ◌↔◌, ℕ, ◌+◌, ◌*◌, ◌^◌, ◌<◌, ◌≤◌, All, AllPairs, Contains, List, length}
+use Rattle.tlog_text.specs.Answers.{AlwaysHasOneAnswer, HasOneAnswer}
 use Rattle.tlog_hash.specs.Rows.{part, level_row}
 use Rattle.tlog_hash.specs.Tree.{fold_of, mth}
 use Rattle.tlog_tiles.specs.Bundle.{IsBundle, ReadsBundle}
@@ -7,24 +8,28 @@ use Rattle.tlog_tiles.specs.Edge.{edge_of, level_of}
 use Rattle.tlog_tiles.specs.Path.{path_text, IsLawful, IsPath, ReadsPath}
 use Rattle.tlog_tiles.specs.Row.{IsRow, ReadsRow}
 use Rattle.tlog_tiles.specs.Tiles.{bundle_bytes, tile_bytes, IsEdgeTile, IsTileWithin}
-use Rattle.tlog_tiles.specs.declared.bundle.BundleFault.{BundleFault}
+use Rattle.tlog_tiles.specs.declared.bundle.TheConstants.{MAX_BUNDLE_LEN}
 use Rattle.tlog_tiles.specs.declared.bundle.BundleFault.TheVariants as bundle
 use Rattle.tlog_tiles.specs.declared.paths.Path.{Path}
-use Rattle.tlog_tiles.specs.declared.paths.PathFault.{PathFault}
-use Rattle.tlog_tiles.specs.declared.row.RowFault.{RowFault}
 use Rattle.tlog_tiles.specs.declared.row.RowFault.TheVariants as row
 
 -- bytes have one answer as a bundle of a width, want of memory apart
 abbrev pub OneBundleAnswer : Type 0
-OneBundleAnswer = (width : ℕ) (bytes : List ℕ) (a b : Result (List (List ℕ)) BundleFault) → ReadsBundle width bytes a → ReadsBundle width bytes b → a ≢ Err bundle.OutOfMemory → b ≢ Err bundle.OutOfMemory → a ≡ b
+OneBundleAnswer = (width : ℕ) → HasOneAnswer bundle.OutOfMemory (ReadsBundle width)
+
+-- a bundle has at most so many bytes
+abbrev pub BundlesAreShort : Type 0
+BundlesAreShort =
+    (width : ℕ) (bytes : List ℕ) (entries : List (List ℕ)) →
+    width ≤ 256 → IsBundle width bytes entries → length bytes ≤ MAX_BUNDLE_LEN
 
 -- bytes have one answer as a row of a width, want of memory apart
 abbrev pub OneRowAnswer : Type 0
-OneRowAnswer = (width : ℕ) (bytes : List ℕ) (a b : Result (List (List ℕ)) RowFault) → ReadsRow width bytes a → ReadsRow width bytes b → a ≢ Err row.OutOfMemory → b ≢ Err row.OutOfMemory → a ≡ b
+OneRowAnswer = (width : ℕ) → HasOneAnswer row.OutOfMemory (ReadsRow width)
 
 -- a text has one answer as a path
 abbrev pub OnePathAnswer : Type 0
-OnePathAnswer = (text : List ℕ) (a b : Result Path PathFault) → ReadsPath text a → ReadsPath text b → a ≡ b
+OnePathAnswer = AlwaysHasOneAnswer ReadsPath
 
 -- a text is a path exactly where that is lawful and is printed so
 abbrev pub PathsAreSpelled : Type 0
@@ -40,7 +45,12 @@ EdgeRises = (n : ℕ) → AllPairs (λ lower higher. level_of lower < level_of h
 
 -- the hashes of a level, from the one with the number first on, fold to the tree hash of their entries
 abbrev pub FullLevelsFold : Type 0
-FullLevelsFold = (digest : List ℕ → List ℕ) (entries : List (List ℕ)) (level first width : ℕ) → 1 ≤ width → (first + width) * 256 ^ level ≤ length entries → fold_of digest (level_row digest entries level first width) ≡ mth digest (part (first * 256 ^ level) (width * 256 ^ level) entries)
+FullLevelsFold =
+    (digest : List ℕ → List ℕ) (entries : List (List ℕ)) (level first width : ℕ) →
+    1 ≤ width →
+    (first + width) * 256 ^ level ≤ length entries →
+    fold_of digest (level_row digest entries level first width) ≡
+    mth digest (part (first * 256 ^ level) (width * 256 ^ level) entries)
 
 -- the bytes of a tile are a row of its width, and those of a bundle a bundle of its width
 pub record IsRead (digest : List ℕ → List ℕ) (entries : List (List ℕ)) : Type 0 where

@@ -1,4 +1,3 @@
-pub mod Seen
 pub mod Bundle
 pub mod Row
 pub mod Path

@@ -1,18 +1,15 @@
 -- Paths of a log's files (C2SP tlog-tiles, "Parameters", "Merkle Tree" and "Log Entries"): how each is
 -- spelled, and what each answer of a reader of paths says.
-use Rattle.std.specs.Prelude.{◌≡◌, ◌≢◌, ◌==◌, ℕ, zero, suc, ◌+◌, ◌-◌, ◌*◌, ◌/◌, ◌%◌, ◌^◌, ◌<◌, ◌≤◌, ◌⊎◌, List, [], ◌∷◌, ◌++◌, Option, Some, None, Result, Ok, Err, All, if◌then◌else◌, codes}
+use Rattle.std.specs.Prelude.{◌≡◌, ◌≢◌, ◌==◌, ℕ, zero, suc, ◌+◌, ◌*◌, ◌/◌, ◌%◌, ◌<◌, ◌≤◌, ◌⊎◌, List, [], ◌∷◌, ◌++◌, Option, Some, None, Result, Ok, Err, All, if◌then◌else◌, codes}
 use Rattle.std.specs.List.{flat_map}
 use Rattle.std.specs.Fmt.{decimal}
+use Rattle.tlog_tiles.specs.declared.paths.TheConstants.{MAX_INDEX}
 use Rattle.tlog_tiles.specs.declared.paths.Path.{Path}
 use Rattle.tlog_tiles.specs.declared.paths.Path.TheVariants.{Checkpoint, Tile, Entries}
 use Rattle.tlog_tiles.specs.declared.paths.PathFault.{PathFault}
 use Rattle.tlog_tiles.specs.declared.paths.PathFault.TheVariants.{Unknown, BadLevel, BadIndex, BadWidth}
 
 -- ---- the parts of a text
-
--- the greatest index of a lawful path
-abbrev pub greatest_index : ℕ
-greatest_index = 2 ^ 55 - 1
 
 -- the text is one segment: no slash stands in it
 abbrev pub HasNoSlash : List ℕ → Type 0
@@ -74,21 +71,21 @@ HasWidthPart tail index (Some width) = (tail ≡ index ++ codes ".p/" ++ width) 
 -- ---- the grammar
 
 -- the text is `tile/`, the second segment, a slash, a lawful index, and a width if it is not 256
-pub record IsServed (second text : List ℕ) (index width : ℕ) : Type 0 where
+pub record IsFileText (second text : List ℕ) (index width : ℕ) : Type 0 where
   pub tail : List ℕ
   pub index_text : List ℕ
   pub width_text : Option (List ℕ)
   pub below : IsBelowTile text second tail
   pub parts : HasWidthPart tail index_text width_text
   pub index_is : IsIndex index_text index
-  pub index_fits : index ≤ greatest_index
+  pub index_fits : index ≤ MAX_INDEX
   pub width_is : IsWidthOf width_text width
 
 -- the text spells the path, which is lawful
 abbrev pub IsPath : List ℕ → Path → Type 0
 IsPath text Checkpoint = text ≡ codes "checkpoint"
-IsPath text (Tile level index width) = (level ≤ 7) × IsServed ((48 + level) ∷ []) text index width
-IsPath text (Entries index width) = IsServed (codes "entries") text index width
+IsPath text (Tile level index width) = (level ≤ 7) × IsFileText ((48 + level) ∷ []) text index width
+IsPath text (Entries index width) = IsFileText (codes "entries") text index width
 
 -- ---- the refusals
 
@@ -108,7 +105,7 @@ pub record HasBadIndex (text : List ℕ) : Type 0 where
   pub below : IsBelowTile text second tail
   pub kind : IsKind second
   pub parts : HasWidthPart tail index_text width_text
-  pub bad : (index : ℕ) → index ≤ greatest_index → IsIndex index_text index → ⊥
+  pub bad : (index : ℕ) → index ≤ MAX_INDEX → IsIndex index_text index → ⊥
 
 -- the second segment and the index are as they should be, and the width is none
 pub record HasBadWidth (text : List ℕ) : Type 0 where
@@ -121,7 +118,7 @@ pub record HasBadWidth (text : List ℕ) : Type 0 where
   pub kind : IsKind second
   pub parts : HasWidthPart tail index_text width_text
   pub index_is : IsIndex index_text index
-  pub index_fits : index ≤ greatest_index
+  pub index_fits : index ≤ MAX_INDEX
   pub bad : (width : ℕ) → IsWidthOf width_text width → ⊥
 
 -- what each answer of a reader of paths says of the text
@@ -160,5 +157,5 @@ path_text (Entries index width) = codes "tile/entries/" ++ (index_text index ++ 
 -- the path is one that is read
 abbrev pub IsLawful : Path → Type 0
 IsLawful Checkpoint = Unit {0}
-IsLawful (Tile level index width) = (level ≤ 7) × (index ≤ greatest_index) × (1 ≤ width) × (width ≤ 256)
-IsLawful (Entries index width) = (index ≤ greatest_index) × (1 ≤ width) × (width ≤ 256)
+IsLawful (Tile level index width) = (level ≤ 7) × (index ≤ MAX_INDEX) × (1 ≤ width) × (width ≤ 256)
+IsLawful (Entries index width) = (index ≤ MAX_INDEX) × (1 ≤ width) × (width ≤ 256)

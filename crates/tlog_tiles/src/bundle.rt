@@ -1,7 +1,7 @@
 //! Bundles of entries (C2SP tlog-tiles, "Log Entries").
 ghost use Rattle.std.specs.Prelude.{◌≡◌, ◌<◌, ◌≤◌, ◌^◌, ◌++◌, All, List, ℕ, length, IfNone, IfOk, IfSome, map};
 ghost use Rattle.tlog_tiles.specs.Bundle.{entry_text, IsBundle, ReadsBundle};
-ghost use Rattle.tlog_tiles.specs.Seen.{seen};
+ghost use Rattle.tlog_text.specs.Answers.{seen};
 ghost use Rattle.tlog_tiles.specs.declared.bundle.BundleFault.TheVariants.{OutOfMemory};
 
 use std::alloc::{AllocError, AllocFailed, Global};
@@ -36,6 +36,9 @@ impl<T: Drop> From<AllocFailed<T>> for BundleFault {
         BundleFault::OutOfMemory
     }
 }
+
+/// A bundle has at most so many bytes: 256 entries of 65,535 bytes, each after its length.
+pub const MAX_BUNDLE_LEN: usize = 16_777_472;
 
 // The entry at the front, and the bytes behind it.
 fn entry_at(bytes: &[u8]) -> Option<(&[u8], &[u8])>

@@ -2,12 +2,17 @@
 //! contracts cite.
 //!
 //! A law is the contract of a function with an empty body: the proof is all that there is of it.
-ghost use Rattle.tlog_tiles.specs.Laws.{EdgeIsPartialTiles, EdgeRises, FullLevelsFold, OneBundleAnswer, OnePathAnswer, OneRowAnswer, PathsAreSpelled, ServedIsRead};
+ghost use Rattle.tlog_tiles.specs.Laws.{BundlesAreShort, EdgeIsPartialTiles, EdgeRises, FullLevelsFold, OneBundleAnswer, OnePathAnswer, OneRowAnswer, PathsAreSpelled, ServedIsRead};
 
 /// Bytes have one answer as a bundle of a width, want of memory apart: the entries are known from
 /// them, and the three outcomes exclude one another.
 pub fn one_bundle_law()
     ensures { OneBundleAnswer }
+{}
+
+/// A bundle of 256 entries or fewer has at most `MAX_BUNDLE_LEN` bytes.
+pub fn bundle_length_law()
+    ensures { BundlesAreShort }
 {}
 
 /// Bytes have one answer as a row of a width, want of memory apart.

@@ -7,13 +7,27 @@ ghost use Rattle.tlog_tiles.specs.Path.{ReadsPath};
 
 pub use printing::print;
 use reading::{Kind, below_tile, index_of, kind_of, width_of, width_part};
+use std::str::FromStr;
 use thiserror::Error;
+
+/// The greatest index of a lawful path: 2^55 - 1, that of the last tile of a tree of 2^63 entries.
+pub const MAX_INDEX: u64 = 36028797018963967;
 
 /// The path of one of a log's files.
 ///
 /// A lawful path has a level of at most 7, an index of at most 2^55 - 1 and a width of 1 to 256, which
-/// is 256 for a full tile or bundle. Only lawful paths are read; any path can be printed.
-#[derive(Debug, PartialEq, Eq, Clone, Copy)]
+/// is 256 for a full tile or bundle. Only lawful paths are read (`Path::parse`, or `FromStr`); any path
+/// can be printed (`Path::text`, or `Display`).
+///
+/// Paths are ordered as they are declared: the checkpoint, then tiles by level, index and width, then
+/// bundles by index and width, each rising. This serves to keep paths in sets; it is not the order in
+/// which a mirror lists what it misses.
+///
+/// # Examples
+///
+/// `Path::parse("tile/0/x001/x234/067.p/5")` is
+/// `Path::Tile { level: 0, index: 1234067, width: 5 }`, and that is printed so.
+#[derive(Debug, PartialEq, Eq, PartialOrd, Ord, Hash, Clone, Copy)]
 pub enum Path {
     /// `checkpoint`: the log's newest checkpoint.
     Checkpoint,
@@ -75,5 +89,15 @@ impl Path {
             }),
             Kind::Bundles => Ok(Path::Entries { index, width }),
         }
+    }
+}
+
+impl FromStr for Path {
+    type Err = PathFault;
+
+    ghost from_str_gives = { ReadsPath };
+
+    fn from_str(text: &str) -> Result<Path, PathFault> {
+        Path::parse(text)
     }
 }

@@ -1,7 +1,7 @@
 //! Rows of hashes, which are the bytes of tiles (C2SP tlog-tiles, "Merkle Tree").
 ghost use Rattle.std.specs.Prelude.{◌≡◌, IfOk, length};
 ghost use Rattle.tlog_tiles.specs.Row.{IsRow, ReadsRow};
-ghost use Rattle.tlog_tiles.specs.Seen.{seen};
+ghost use Rattle.tlog_text.specs.Answers.{seen};
 ghost use Rattle.tlog_tiles.specs.declared.row.RowFault.TheVariants.{OutOfMemory};
 
 use std::alloc::{AllocError, AllocFailed, Global};

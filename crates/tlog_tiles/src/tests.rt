@@ -1,6 +1,7 @@
 //! The formats against values of the public standards, and against the worked values of the project.
 use super::*;
 use std::alloc::{AllocError, Global};
+use std::collections::HashSet;
 use std::test::Fail;
 use tlog_hash::{Hash, Sha256Tree, TreeHash};
 
@@ -111,7 +112,10 @@ fn path_kinds(rt: HostRuntime) -> Result<(), Fail> {
     ];
     for (path, text) in paths {
         assert_eq!(rt; print(alloc, &path)?.as_str(), text);
+        assert_eq!(rt; path.text(alloc)?.as_str(), text);
+        assert_eq!(rt; format!(in alloc; "{path}")?.as_str(), text);
         assert_eq!(rt; Path::parse(text), Ok(path));
+        assert_eq!(rt; text.parse::<Path>(), Ok(path));
     }
     let unlawful = Path::Tile {
         level: 12,
@@ -178,14 +182,112 @@ fn edge_gaps(rt: HostRuntime) -> Result<(), Fail> {
     Ok(())
 }
 
+// Whether the bytes are 256 entries of the greatest length, and are written again.
+fn read_and_written(alloc: Global, bytes: &[u8]) -> Result<bool, Fail> {
+    let entries = read_bundle(alloc, 256, bytes)?;
+    let written = write_bundle(alloc, &entries)?;
+    Ok(entries.len() == 256 && entries[255].len() == 65_535 && written.as_slice() == bytes)
+}
+
+#[test]
+fn the_longest_bundle(rt: HostRuntime) -> Result<(), Fail> {
+    let mut bytes = vec![in rt.alloc(); 0xff; MAX_BUNDLE_LEN]?;
+    assert!(rt; read_and_written(rt.alloc(), &bytes)?);
+    bytes.push(0)?;
+    let fault = read_bundle(rt.alloc(), 256, &bytes).err();
+    assert_eq!(rt; fault, Some(BundleFault::BundleLong));
+    Ok(())
+}
+
+#[test]
+fn a_full_row(rt: HostRuntime) -> Result<(), Fail> {
+    let mut bytes = vec![in rt.alloc(); 0; 8_192]?;
+    bytes[8_191] = 9;
+    let row = read_row(rt.alloc(), 256, &bytes)?;
+    assert_eq!(rt; row.len(), 256);
+    assert_eq!(rt; row[254], [0; 32]);
+    assert_eq!(rt; row[255][31], 9);
+    let written = write_row(rt.alloc(), &row)?;
+    assert_eq!(rt; written.as_slice(), bytes.as_slice());
+    Ok(())
+}
+
+#[test]
+fn edge_of_the_greatest_tree(rt: HostRuntime) -> Result<(), Fail> {
+    let edge = edge_text(rt.alloc(), tlog_shape::MAX_SIZE)?;
+    assert_eq!(rt;
+        edge.as_str(),
+        "tile/0/x036/x028/x797/x018/x963/967.p/255\n\
+        tile/1/x140/x737/x488/x355/327.p/255\n\
+        tile/2/x549/x755/x813/887.p/255\n\
+        tile/3/x002/x147/x483/647.p/255\n\
+        tile/4/x008/x388/607.p/255\n\
+        tile/5/x032/767.p/255\n\
+        tile/6/127.p/255\n\
+        tile/7/000.p/127\n"
+    );
+    Ok(())
+}
+
+// Each path before the next.
+const RISING: [Path; 6] = [
+    Path::Checkpoint,
+    Path::Tile {
+        level: 0,
+        index: 2,
+        width: 1,
+    },
+    Path::Tile {
+        level: 1,
+        index: 0,
+        width: 256,
+    },
+    Path::Tile {
+        level: 1,
+        index: 1,
+        width: 5,
+    },
+    Path::Entries { index: 0, width: 3 },
+    Path::Entries { index: 0, width: 4 },
+];
+
+#[test]
+fn paths_are_ordered(rt: HostRuntime) -> Result<(), Fail> {
+    let mut paths = HashSet::new(rt.alloc());
+    for (i, path) in RISING.iter().enumerate() {
+        assert!(rt; paths.insert(*path)?);
+        assert!(rt; paths.contains(path));
+        for other in &RISING[i + 1..] {
+            assert!(rt; path < other);
+            assert!(rt; !paths.contains(other));
+        }
+    }
+    Ok(())
+}
+
 #[test]
 fn fault_names(rt: HostRuntime) -> Result<(), Fail> {
     let alloc = rt.alloc();
-    assert_eq!(rt;
-        BundleFault::BundleLong.to_string(alloc)?.as_str(),
-        "BundleLong"
-    );
-    assert_eq!(rt; RowFault::RowLength.to_string(alloc)?.as_str(), "RowLength");
-    assert_eq!(rt; PathFault::BadIndex.to_string(alloc)?.as_str(), "BadIndex");
+    for (fault, name) in [
+        (PathFault::Unknown, "Unknown"),
+        (PathFault::BadLevel, "BadLevel"),
+        (PathFault::BadIndex, "BadIndex"),
+        (PathFault::BadWidth, "BadWidth"),
+    ] {
+        assert_eq!(rt; fault.to_string(alloc)?.as_str(), name);
+    }
+    for (fault, name) in [
+        (BundleFault::BundleShort, "BundleShort"),
+        (BundleFault::BundleLong, "BundleLong"),
+        (BundleFault::OutOfMemory, "OutOfMemory"),
+    ] {
+        assert_eq!(rt; fault.to_string(alloc)?.as_str(), name);
+    }
+    for (fault, name) in [
+        (RowFault::RowLength, "RowLength"),
+        (RowFault::OutOfMemory, "OutOfMemory"),
+    ] {
+        assert_eq!(rt; fault.to_string(alloc)?.as_str(), name);
+    }
     Ok(())
 }

@@ -1,7 +1,7 @@
 //! The command `root`: the tree hash of one bundle, from bytes to text.
 ghost use Rattle.std.specs.Prelude.{◌≡◌, ◌≢◌, ◌≤◌, IfErr, IfOk, IfSome, string_bytes};
 ghost use Rattle.std.specs.Io.KnownBytes.{Keeps};
-ghost use Rattle.tlog_tiles.specs.Seen.{seen};
+ghost use Rattle.tlog_text.specs.Answers.{seen};
 ghost use Rattle.byte_streams.specs.Streams.{TakesAtMost};
 ghost use Rattle.tlogmirror.specs.Faults.{root_of_bundle, root_of_stream};
 ghost use Rattle.tlogmirror.specs.Root.{AnswersRoot, MakesRoot, root_text};

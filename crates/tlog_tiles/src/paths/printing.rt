@@ -1,74 +1,107 @@
 //! The text of a path.
-ghost use Rattle.std.specs.Prelude.{◌≡◌, ◌<◌, ◌+◌, ◌++◌, ◌∷◌, [], IfOk, OnOk, string_bytes};
-ghost use Rattle.tlog_tiles.specs.Path.{group_text, groups_text, index_text, path_text, three_digits, width_text};
+ghost use Rattle.std.specs.Prelude.{◌≡◌, ◌<◌, ◌+◌, ◌++◌, ◌∷◌, [], IfOk, string_bytes};
+ghost use Rattle.std.specs.Fmt.{WritesOnOk};
+ghost use Rattle.tlog_tiles.specs.Path.{groups_text, index_text, path_text, three_digits, width_text};
 
 use crate::paths::Path;
 use std::alloc::{AllocError, Global};
+use std::fmt;
 
-/// The text of a path. Of a lawful path it is the one spelling that `Path::parse` reads; of any other
-/// path it is made by the same rule, and is not read back.
+impl Path {
+    /// The text of the path. Of a lawful path it is the one spelling that `Path::parse` reads; of any
+    /// other path it is made by the same rule, and is not read back.
+    ///
+    /// # Errors
+    ///
+    /// Memory was refused.
+    pub fn text(&self, alloc: Global) -> Result<String, AllocError>
+        ensures { IfOk result (λ text. string_bytes text ≡ path_text self.now) }
+    {
+        self.to_string(alloc)
+    }
+}
+
+/// The text of a path, as `Path::text` gives it.
+///
+/// # Errors
+///
+/// Memory was refused.
 pub fn print(alloc: Global, path: &Path) -> Result<String, AllocError>
     ensures { IfOk result (λ text. string_bytes text ≡ path_text path.now) }
 {
-    match path {
-        Path::Checkpoint => String::from_str(alloc, "checkpoint"),
-        Path::Tile {
-            level,
-            index,
-            width,
-        } => {
-            let level = *level;
-            let mut text = format!(in alloc; "tile/{level}/")?;
-            push_place(&mut text, *index, *width)?;
-            Ok(text)
-        }
-        Path::Entries { index, width } => {
-            let mut text = String::from_str(alloc, "tile/entries/")?;
-            push_place(&mut text, *index, *width)?;
-            Ok(text)
+    path.text(alloc)
+}
+
+impl fmt::Display for Path {
+    ghost use Rattle.std.specs.Prelude.{Some};
+
+    ghost output = { λ path. Some (path_text path) };
+
+    fn fmt<W: fmt::Write>(&self, f: &mut fmt::Formatter<W>) -> fmt::Result {
+        match self {
+            Path::Checkpoint => f.write_str("checkpoint"),
+            Path::Tile {
+                level,
+                index,
+                width,
+            } => {
+                let level = *level;
+                write!(f, "tile/{level}/")?;
+                write_place(f, *index, *width)
+            }
+            Path::Entries { index, width } => {
+                f.write_str("tile/entries/")?;
+                write_place(f, *index, *width)
+            }
         }
     }
 }
 
-// Adds the index and the width.
-fn push_place(text: &mut String, index: u64, width: u32) -> Result<(), AllocError>
-    ensures { OnOk result (string_bytes text.new ≡ string_bytes text.old ++ (index_text index ++ width_text width)) }
+// Writes the index and the width.
+fn write_place<W: fmt::Write>(f: &mut fmt::Formatter<W>, index: u64, width: u32) -> fmt::Result
+    ensures { WritesOnOk W.write_str_gives f.old result (index_text index ++ width_text width) f.new }
 {
-    push_groups(text, index / 1000)?;
-    push_three(text, index)?;
-    if width != 256 {
-        write!(text, ".p/{width}")?;
-    }
-    Ok(())
+    write_groups(f, index / 1000)?;
+    write_three(f, index)?;
+    write_width(f, width)
 }
 
-// Adds the groups of a number, each of which others follow; 0 has none.
-fn push_groups(text: &mut String, number: u64) -> Result<(), AllocError>
-    ensures { OnOk result (string_bytes text.new ≡ string_bytes text.old ++ groups_text number) }
+// Writes the width of a partial tile or bundle; a full one has none.
+fn write_width<W: fmt::Write>(f: &mut fmt::Formatter<W>, width: u32) -> fmt::Result
+    ensures { WritesOnOk W.write_str_gives f.old result (width_text width) f.new }
+{
+    if width == 256 {
+        return Ok(());
+    }
+    write!(f, ".p/{width}")
+}
+
+// Writes the groups of a number, each of which others follow; 0 has none.
+fn write_groups<W: fmt::Write>(f: &mut fmt::Formatter<W>, number: u64) -> fmt::Result
+    ensures { WritesOnOk W.write_str_gives f.old result (groups_text number) f.new }
 {
     if number == 0 {
         return Ok(());
     }
-    push_groups(text, number / 1000)?;
-    text.push('x')?;
-    push_three(text, number)?;
-    text.push('/')?;
-    Ok(())
+    write_groups(f, number / 1000)?;
+    f.write_str("x")?;
+    write_three(f, number)?;
+    f.write_str("/")
 }
 
-// Adds the last three decimal digits of a number.
-fn push_three(text: &mut String, number: u64) -> Result<(), AllocError>
-    ensures { OnOk result (string_bytes text.new ≡ string_bytes text.old ++ three_digits number) }
+// Writes the last three decimal digits of a number.
+fn write_three<W: fmt::Write>(f: &mut fmt::Formatter<W>, number: u64) -> fmt::Result
+    ensures { WritesOnOk W.write_str_gives f.old result (three_digits number) f.new }
 {
-    push_digit(text, number / 100 % 10)?;
-    push_digit(text, number / 10 % 10)?;
-    push_digit(text, number % 10)
+    write_digit(f, number / 100 % 10)?;
+    write_digit(f, number / 10 % 10)?;
+    write_digit(f, number % 10)
 }
 
-// Adds a decimal digit.
-fn push_digit(text: &mut String, digit: u64) -> Result<(), AllocError>
+// Writes a decimal digit.
+fn write_digit<W: fmt::Write>(f: &mut fmt::Formatter<W>, digit: u64) -> fmt::Result
     requires { digit < 10 }
-    ensures { OnOk result (string_bytes text.new ≡ string_bytes text.old ++ (48 + digit) ∷ []) }
+    ensures { WritesOnOk W.write_str_gives f.old result ((48 + digit) ∷ []) f.new }
 {
-    text.push(char::from(b'0' + digit as u8))
+    write!(f, "{digit}")
 }

@@ -1,11 +1,11 @@
 //! The parts of a path's text, from left to right.
 ghost use Rattle.std.specs.Prelude.{◌≡◌, ◌≢◌, ◌<◌, ◌≤◌, ◌+◌, ◌*◌, ◌++◌, ◌∷◌, [], List, ℕ, IfNone, IfSome, MatchOption};
 ghost use Rattle.std.specs.Option.{SomeIff, option_copied};
-ghost use Rattle.tlog_tiles.specs.Path.{greatest_index, group_text, three_digits, HasNoSlash, HasWidthPart, IsBelowTile, IsIndex, IsKind, IsPartialWidth, IsWidthOf};
+ghost use Rattle.tlog_tiles.specs.Path.{group_text, three_digits, HasNoSlash, HasWidthPart, IsBelowTile, IsIndex, IsKind, IsPartialWidth, IsWidthOf};
 ghost use Rattle.tlog_tiles.specs.Kind.{IsOfKind};
 
-// The greatest index of a lawful path: 2^55 - 1, that of the last tile of a tree of 2^63 entries.
-const MAX_INDEX: u64 = 36028797018963967;
+use crate::paths::MAX_INDEX;
+use tlog_text::read_number;
 
 // What the second segment of a path names.
 #[derive(Debug, PartialEq, Eq, Clone, Copy)]
@@ -128,7 +128,7 @@ fn group_at(bytes: &[u8]) -> Option<(u64, &[u8])>
 // A number with one group of digits more, where a lawful path has it.
 fn with_group(number: u64, group: u64) -> Option<u64>
     requires { group < 1000 }
-    ensures { SomeIff result (number * 1000 + group ≤ greatest_index) (number * 1000 + group) }
+    ensures { SomeIff result (number * 1000 + group ≤ MAX_INDEX) (number * 1000 + group) }
 {
     if number > MAX_INDEX / 1000 {
         return None;
@@ -139,8 +139,8 @@ fn with_group(number: u64, group: u64) -> Option<u64>
 
 // The index that a text in groups of three digits gives.
 pub fn index_of(text: &[u8]) -> Option<u64>
-    ensures found { IfSome result (λ index. IsIndex text.now index × (index ≤ greatest_index)) }
-    ensures none { IfNone result ((index : ℕ) → index ≤ greatest_index → IsIndex text.now index → ⊥) }
+    ensures found { IfSome result (λ index. IsIndex text.now index × (index ≤ MAX_INDEX)) }
+    ensures none { IfNone result ((index : ℕ) → index ≤ MAX_INDEX → IsIndex text.now index → ⊥) }
 {
     let mut index = 0;
     let mut rest = text;
@@ -174,15 +174,11 @@ fn partial_width(digits: &[u8]) -> Option<u32>
     ensures found { IfSome result (λ width. IsPartialWidth digits.now width) }
     ensures none { IfNone result ((width : ℕ) → IsPartialWidth digits.now width → ⊥) }
 {
-    let mut width = 0;
-    for digit in digits {
-        if !digit.is_ascii_digit() {
-            return None;
-        }
-        width = width * 10 + u32::from(*digit - b'0');
-        if width > 255 || width == 0 {
-            return None;
-        }
-    }
-    if width == 0 { None } else { Some(width) }
+    let Ok(text) = str::from_utf8(digits) else {
+        return None;
+    };
+    let Ok(width) = read_number(text, 255) else {
+        return None;
+    };
+    if width == 0 { None } else { Some(width as u32) }
 }

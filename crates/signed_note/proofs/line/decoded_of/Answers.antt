@@ -1,5 +1,5 @@
 use Rattle.std.proofs.Common.{refl, sym, ◌∙◌}
-use Rattle.signed_note.specs.Notes.{base64_of}
+use Rattle.tlog_text.specs.Hash.{base64_of}
 use Rattle.signed_note.proofs.line.decoded_of.Goals as goal
 
 pub returns-in-Ok : goal.returns-in-Ok

@@ -2,7 +2,8 @@ use Rattle.std.proofs.Common.{◌≡◌, ◌++◌, ◌∷◌, List, ℕ, ap, ◌
 use Rattle.byteorder.specs.Endian.{big_bytes}
 use Rattle.signed_note.specs.Hmac.{hmac}
 use Rattle.signed_note.specs.Names.{newline}
-use Rattle.signed_note.specs.Notes.{base64_of, signed_bytes, signed_line, line_text}
+use Rattle.tlog_text.specs.Hash.{base64_of}
+use Rattle.signed_note.specs.Notes.{signed_bytes, signed_line, line_text}
 use Rattle.signed_note.proofs.Signed.{signed_is_note, signed_opens, written}
 use Rattle.signed_note.proofs.signing.sign.Goals as goal
 

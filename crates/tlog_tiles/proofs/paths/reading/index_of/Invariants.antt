@@ -1,12 +1,13 @@
 use Rattle.std.proofs.Common.{◌≤◌, ℕ, length}
-use Rattle.tlog_tiles.specs.Path.{greatest_index, IsIndex}
+use Rattle.tlog_tiles.specs.declared.paths.TheConstants.{MAX_INDEX}
+use Rattle.tlog_tiles.specs.Path.{IsIndex}
 use Rattle.tlog_tiles.proofs.IndexLemmas.{IsIndexAfter}
 use Rattle.tlog_tiles.proofs.paths.reading.index_of.Given as goal
 
 -- the text is an index exactly where the rest of it is one behind the groups so far
 abbrev pub invariant-loop-group : goal.invariant-loop-group
 invariant-loop-group l = record {
-  fits : l.index ≤ greatest_index;
+  fits : l.index ≤ MAX_INDEX;
   found : (n : ℕ) → IsIndexAfter l.index l.rest n → IsIndex l.text n;
   others : (n : ℕ) → IsIndex l.text n → IsIndexAfter l.index l.rest n;
 }
