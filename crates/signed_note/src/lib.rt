@@ -4,6 +4,16 @@
 //! one, `open_note` tells whether some line is a signature of a known key, and `sign` makes one. What
 //! checks a signature is a `Verifier`: `HmacKey` and `PinnedTexts` are the kinds of this crate, `read_keys`
 //! reads them from a key file, and a caller may bring kinds of its own.
+//!
+//! A note is opened so:
+//!
+//! ```text
+//! let note = Note::read(alloc, &bytes)?;
+//! let mut keys: Vec<Box<dyn Verifier>> = Vec::new(alloc);
+//! keys.push(Box::new(alloc, HmacKey::new(alloc, "ex", 1, b"Jefe")?)?)?;
+//! open_note(&note, &keys)?;
+//! let text = note.text();
+//! ```
 #![tactic(auto)]
 
 mod fault;

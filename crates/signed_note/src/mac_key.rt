@@ -17,6 +17,11 @@ use std::fmt;
 use std::marker::Model;
 
 /// A key of a shared secret of 1 to 64 bytes: its signatures are HMAC-SHA-256 of the text (RFC 2104).
+///
+/// # Examples
+///
+/// `HmacKey::new(alloc, "ex", 1, b"Jefe")?` prints as `HmacKey { name: ex, id: 1, .. }`, and accepts its
+/// `mac` of a text as the signature over it.
 #[derive(Drop)]
 pub struct HmacKey {
     name: String,

@@ -17,6 +17,11 @@ use std::alloc::{AllocError, Global};
 use std::marker::Model;
 
 /// A signed note: a text, and the lines of its signature part (C2SP signed-note, "Format").
+///
+/// # Examples
+///
+/// Of the note `a`, an empty line and the line of an em dash, `x` and `AQIDBAU=` the text is `a\n`, and
+/// its one line has the name `x`, the id 16909060 and the signature of one byte 5.
 #[derive(Debug, Drop)]
 pub struct Note {
     whole: String,
@@ -84,6 +89,10 @@ impl Note {
     }
 
     /// An equal note.
+    ///
+    /// # Errors
+    ///
+    /// Memory was refused.
     pub fn copy(&self, alloc: Global) -> Result<Note, AllocError>
         ensures { IfOk result (λ n. n ≡ self.now) }
     {

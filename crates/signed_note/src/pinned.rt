@@ -15,6 +15,11 @@ use std::marker::Model;
 
 /// The SHA-256 digests of texts that the operator verified elsewhere. The signature of a pinned text is
 /// not looked at, so that a note of a key that this crate cannot check, as of Ed25519, opens all the same.
+///
+/// # Examples
+///
+/// `PinnedTexts::new(alloc, "ex", 1, digests)?`, where `digests` has the SHA-256 of a text, accepts that
+/// text under any signature.
 #[derive(Debug, Drop)]
 pub struct PinnedTexts {
     name: String,

@@ -43,6 +43,10 @@ fn note_of(alloc: Global, text: &str, name: &str, encoded: &str) -> Result<Strin
 ///
 /// The text is at most 900,000 bytes, ends in a newline and has no character below U+0020 other than
 /// newline.
+///
+/// # Errors
+///
+/// Memory was refused.
 pub fn sign(alloc: Global, text: &str, key: &HmacKey) -> Result<Vec<u8>, AllocError>
     requires { IsLawfulText text.now }
     ensures bytes { IfOk result (λ v. v.items ≡ text.now ++ newline ∷ line_text (signed_line text.now key.now)) }

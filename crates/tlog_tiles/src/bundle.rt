@@ -57,10 +57,13 @@ fn entry_at(bytes: &[u8]) -> Option<(&[u8], &[u8])>
 }
 
 /// The entries of a bundle of `width` entries: each stands after its length, two bytes big-endian, and
-/// together they are all of the bytes. The entries are lent from the bytes.
+/// together they are all of the bytes (C2SP tlog-tiles, "Log Entries"). The entries are lent from the
+/// bytes.
 ///
-/// `BundleShort` comes exactly where no prefix of the bytes is such a bundle, `BundleLong` exactly
-/// where one is that is not all of them; either may be hidden by `OutOfMemory`.
+/// # Errors
+///
+/// `BundleShort` exactly where no prefix of the bytes is such a bundle, `BundleLong` exactly where one
+/// is that is not all of them; either may be hidden by `OutOfMemory`.
 pub fn read_bundle(alloc: Global, width: u32, bytes: &[u8]) -> Result<Vec<&[u8]>, BundleFault>
     requires { width ≤ 256 }
     ensures { ReadsBundle width bytes.now (seen (λ v. map (λ e. e.now) v.items) result) }
@@ -83,6 +86,10 @@ pub fn read_bundle(alloc: Global, width: u32, bytes: &[u8]) -> Result<Vec<&[u8]>
 /// The bytes of the bundle of the entries: each after its length, two bytes big-endian.
 ///
 /// A bundle has at most 256 entries of at most 65,535 bytes each.
+///
+/// # Errors
+///
+/// Memory was refused.
 pub fn write_bundle(alloc: Global, entries: &[&[u8]]) -> Result<Vec<u8>, AllocError>
     requires count { length entries.now ≤ 256 }
     requires fits { All (λ e. length e.now < 2 ^ 16) entries.now }

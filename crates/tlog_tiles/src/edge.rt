@@ -9,6 +9,10 @@ use tlog_shape::{edge_index, edge_width};
 /// The paths of the partial tiles of a tree of `size` entries, lowest level first. They end the tree's
 /// levels on the right: from their rows the tree's root is computed. A level of whole tiles alone has
 /// none, and so has a tree of no entries.
+///
+/// # Errors
+///
+/// Memory was refused.
 pub fn edge_paths(alloc: Global, size: u64) -> Result<Vec<Path>, AllocError>
     ensures { IfOk result (λ paths. paths.items ≡ edge_of size) }
 {

@@ -4,6 +4,15 @@
 //! writes the bytes of a tile, here called a row of hashes (`read_row`, `write_row`), those of a
 //! bundle (`read_bundle`, `write_bundle`) and the paths under which they are served (`Path`, `print`),
 //! and names the partial tiles at the right edge of a tree (`edge_paths`).
+//!
+//! A bundle that a log serves at a path is read so:
+//!
+//! ```text
+//! let path: Path = "tile/entries/x001/234.p/2".parse()?;
+//! if let Path::Entries { width, .. } = path {
+//!     let entries = read_bundle(alloc, width, &bytes)?;
+//! }
+//! ```
 #![tactic(auto)]
 
 mod bundle;

@@ -60,7 +60,12 @@ pub enum PathFault {
 impl Path {
     /// The path that the text spells. A path has one spelling, and each lawful path has one.
     ///
-    /// It takes no memory. Each fault comes exactly as `PathFault` says, the first that applies.
+    /// It takes no memory.
+    ///
+    /// # Errors
+    ///
+    /// The first that applies of `Unknown`, `BadLevel`, `BadIndex` and `BadWidth`, each exactly as
+    /// `PathFault` says.
     pub fn parse(text: &str) -> Result<Path, PathFault>
         ensures { ReadsPath text.now result }
     {

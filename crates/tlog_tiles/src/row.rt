@@ -37,8 +37,11 @@ impl<T: Drop> From<AllocFailed<T>> for RowFault {
 
 /// The hashes of a row of `width` hashes of 32 bytes each, which together are all of the bytes.
 ///
-/// Any width is read; a row of width 0 has no bytes. `RowLength` comes exactly where there are not
-/// `32 * width` bytes, though `OutOfMemory` may hide it.
+/// Any width is read; a row of width 0 has no bytes (C2SP tlog-tiles, "Merkle Tree").
+///
+/// # Errors
+///
+/// `RowLength` exactly where there are not `32 * width` bytes, though `OutOfMemory` may hide it.
 pub fn read_row(alloc: Global, width: u32, bytes: &[u8]) -> Result<Vec<Hash>, RowFault>
     ensures { ReadsRow width bytes.now (seen (λ v. v.items) result) }
 {
@@ -55,6 +58,10 @@ pub fn read_row(alloc: Global, width: u32, bytes: &[u8]) -> Result<Vec<Hash>, Ro
 }
 
 /// The bytes of a row of hashes, one after the other.
+///
+/// # Errors
+///
+/// Memory was refused.
 pub fn write_row(alloc: Global, row: &[Hash]) -> Result<Vec<u8>, AllocError>
     ensures { IfOk result (λ v. IsRow (length row.now) v.items row.now) }
 {
