@@ -1,0 +1,4 @@
+pub mod Items
+pub mod StateText
+pub mod Reading
+pub mod Stands
