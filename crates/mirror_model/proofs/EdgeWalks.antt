@@ -42,11 +42,11 @@ Fit n (suc levels) level rows =
     ⊎ ((row : List (List ℕ)) × (rest : List (List (List ℕ))) × (rows ≡ row ∷ rest) × (0 < width_of n level) × (length row ≡ width_of n level) × AreHashes row × Fit n levels (level + 1) rest)
 
 -- the levels of these that have a partial tile
-abbrev widths_from : ℕ → ℕ → ℕ → List ℕ
+abbrev pub widths_from : ℕ → ℕ → ℕ → List ℕ
 widths_from n levels level = filter (λ l. not (nat_eq (width_of n l) 0)) (levels_from levels level)
 
 -- the rows have 32 bytes for each hash of these levels
-abbrev HaveWidths : ℕ → List ℕ → List (List ℕ) → Type 0
+abbrev pub HaveWidths : ℕ → List ℕ → List (List ℕ) → Type 0
 HaveWidths n levels rows = map length rows ≡ map (λ width. 32 * width) (map (width_of n) levels)
 
 fit_level : (n levels level : ℕ) (x : Bool) → nat_eq (width_of n level) 0 ≡ x → ((rows : List (List ℕ)) → HaveWidths n (widths_from n levels (level + 1)) rows → Fit n levels (level + 1) (map row_of rows)) → (rows : List (List ℕ)) → HaveWidths n (cond (not x) (level ∷ widths_from n levels (level + 1)) (widths_from n levels (level + 1))) rows → Fit n (suc levels) level (map row_of rows)

@@ -11,3 +11,4 @@ pub mod Orders
 pub mod PrefixSteps
 pub mod SliceSteps
 pub mod Settles
+pub mod EdgeSteps

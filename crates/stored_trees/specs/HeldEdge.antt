@@ -1,0 +1,41 @@
+-- The edge of a head (C2SP tlog-tiles, "Merkle Tree"): rows of hashes that lead to its root, all of whose joins are held.
+use Rattle.std.specs.Prelude.{◌≡◌, ℕ, ◌+◌, ◌-◌, List, [], ◌∷◌, ◌++◌, length, map}
+use Rattle.std.specs.List.{AllByRecursion}
+use Rattle.tlog_hash.specs.Tree.{fold_of, joins}
+use Rattle.node_store.specs.Strings.{Strings, HasAll}
+use Rattle.mirror_model.specs.Edge.{root_from, strings_from, edge_root, edge_strings}
+use Rattle.mirror_model.specs.Item.{row_of, HasEdgeRows}
+use Rattle.mirror_model.proofs.EdgeWalks.{Fit}
+
+module _ (digest : List ℕ → List ℕ) (held : Strings) where
+  -- some rows, lowest level first, are as wide as the edge of that size and lead to that root, and all that is hashed
+  -- on the way is held
+  pub record HoldsEdge (size : ℕ) (root : List ℕ) : Type 0 where
+    pub rows : List (List ℕ)
+    pub has_edge : HasEdgeRows digest size root rows
+    pub are_held : HasAll held (edge_strings digest (map row_of rows))
+
+  -- ---- what the private readers' contracts cite
+
+  -- so many hashes, this one last, fold to that hash, and the joins are held
+  pub record HasRow (count : ℕ) (hash last : List ℕ) : Type 0 where
+    pub front : List (List ℕ)
+    pub count_is : length front + 1 ≡ count
+    pub hashes : AllByRecursion (λ (h : List ℕ). length h ≡ 32) (front ++ last ∷ [])
+    pub fold_is : fold_of digest (front ++ last ∷ []) ≡ hash
+    pub are_held : HasAll held (joins digest (front ++ last ∷ []))
+
+  -- rows of the edge of that size, from a level up, lead from the value to the root, and what is hashed is held
+  pub record LeadsUp (size level : ℕ) (root value : List ℕ) : Type 0 where
+    pub rows : List (List (List ℕ))
+    pub fit : Fit size (8 - level) level rows
+    pub value_len : length value ≡ 32
+    pub root_is : root_from digest value rows ≡ root
+    pub are_held : HasAll held (strings_from digest value rows)
+
+  -- rows of the edge of that size, from a level up, lead to the root by themselves
+  pub record HoldsEdgeFrom (size level : ℕ) (root : List ℕ) : Type 0 where
+    pub rows : List (List (List ℕ))
+    pub fit : Fit size (8 - level) level rows
+    pub root_is : edge_root digest rows ≡ root
+    pub are_held : HasAll held (edge_strings digest rows)
