@@ -7,6 +7,8 @@ use Rattle.tlog_shape.specs.Split.{split_of}
 use Rattle.tlog_shape.proofs.Splits.{split_of-below, split_of-half, split_of-power, power_at_most}
 use Rattle.tlog_hash.specs.Tree.{tree_of, mth}
 use Rattle.tlog_hash.proofs.Trees.{tree_of-none, tree_of-one, induction}
+use Rattle.tlog_shape.specs.declared.TheConstants.{MAX_SIZE}
+use Rattle.tlog_proof.specs.declared.TheConstants.{MAX_PATH}
 use Rattle.tlog_proof.specs.Inclusion.{path_in, path_of}
 use Rattle.tlog_proof.specs.Consistency.{proof_in, subproof_of, proof_of}
 use Rattle.tlog_proof.specs.Laws.{PathsAreShort}
@@ -138,13 +140,13 @@ made_proof digest es first second path e = elim (cases_lt (length es) second) [
       ]
 ]
 
-pub path_writable : (digest : List ℕ → List ℕ) (es : List (List ℕ)) (size index : ℕ) (path : List (List ℕ)) → length es < 2 ^ 63 → inclusion_in digest es size index ≡ Ok path → (size < 2 ^ 63) × (index < 2 ^ 63) × (length path ≤ 64)
+pub path_writable : (digest : List ℕ → List ℕ) (es : List (List ℕ)) (size index : ℕ) (path : List (List ℕ)) → length es ≤ MAX_SIZE → inclusion_in digest es size index ≡ Ok path → (size ≤ MAX_SIZE) × (index ≤ MAX_SIZE) × (length path ≤ MAX_PATH)
 path_writable digest es size index path small e =
     let made = made_path digest es size index path e in
     let fit = (paths_are_short digest 63 (take size es) (omega (arith, length-take size es))).0 index in
     (omega (arith, made.within), omega (arith, made.within, made.inside), omega (arith, fit, ap length made.path_is))
 
-pub proof_writable : (digest : List ℕ → List ℕ) (es : List (List ℕ)) (first second : ℕ) (path : List (List ℕ)) → length es < 2 ^ 63 → consistency_in digest es first second ≡ Ok path → (first < 2 ^ 63) × (second < 2 ^ 63) × (length path ≤ 64)
+pub proof_writable : (digest : List ℕ → List ℕ) (es : List (List ℕ)) (first second : ℕ) (path : List (List ℕ)) → length es ≤ MAX_SIZE → consistency_in digest es first second ≡ Ok path → (first ≤ MAX_SIZE) × (second ≤ MAX_SIZE) × (length path ≤ MAX_PATH)
 proof_writable digest es first second path small e =
     let made = made_proof digest es first second path e in
     let fit = (paths_are_short digest 63 (take second es) (omega (arith, length-take second es))).1 first made.some (omega (arith, length-take second es, made.forward, made.within)) in

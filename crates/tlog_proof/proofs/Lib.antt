@@ -11,3 +11,4 @@ pub mod Parts
 pub mod Lines
 pub mod Spelling
 pub mod Lengths
+pub mod Rows

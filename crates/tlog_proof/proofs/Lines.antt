@@ -1,22 +1,21 @@
 -- Lines of a proof's text: a line is read in one way.
-use Rattle.std.proofs.Common.{◌≡◌, ◌≢◌, ℕ, zero, suc, ◌+◌, ◌*◌, ◌/◌, ◌%◌, ◌^◌, ◌<◌, ◌≤◌, Bool, true, false, not, nat_eq, ◌&&◌, List, [], ◌∷◌, ◌++◌, length, drop, get_or, replicate, append_assoc, refl, sym, subst, ap, ◌∙◌, arith, length-append}
-use Rattle.std.specs.Prelude.{Err, Option, Some, None, MatchOption, slice_index, codes}
+use Rattle.std.proofs.Common.{◌≡◌, ◌≢◌, ℕ, zero, suc, ◌+◌, ◌<◌, ◌≤◌, Bool, true, false, not, nat_eq, ◌&&◌, List, [], ◌∷◌, ◌++◌, length, drop, get_or, append_assoc, refl, sym, subst, ap, ◌∙◌, arith, length-append}
+use Rattle.std.specs.Prelude.{Err, Option, Some, None, MatchOption, codes}
 use Rattle.std.specs.Fmt.{decimal}
 use Rattle.std.specs.List.{list_all, AllByRecursion}
 use Rattle.std.specs.Str.Parse.{AllDigits, digits_value}
 use Rattle.std.proofs.lemmas.Bool.Decides.{Decides-eqb}
 use Rattle.std.proofs.lemmas.Fmt.{digits_decimal, decimal_injective, length-decimal-le}
 use Rattle.std.proofs.lemmas.Str.Parse.{IsNumeralModel, numerals_by_value, tells_digits, not_in_digits}
-use Rattle.std.proofs.lemmas.List.{append_cancel_left, append-nil, length-replicate, get_or-append-add, drop-drop}
+use Rattle.std.proofs.lemmas.List.{append_cancel_left, append-nil, get_or-append-add, drop-drop}
 use Rattle.std.proofs.lemmas.Str.{IsUtf8-drop, IsCharBoundary-after_ascii}
 use Rattle.std.proofs.Math.Seq.{drop-append_seam}
 use Rattle.std.specs.Str.{IsUtf8}
-use Rattle.base64.specs.Rfc4648.{encode_symbols, encode_group, padding_len, unpadded_len}
-use Rattle.base64.specs.Engines.{standard}
-use Rattle.base64.specs.GeneralPurpose.{engine_symbols, encode_of, decode_of, IsBytes}
-use Rattle.base64.proofs.EngineFacts.{decode_of-encode_of}
-use Rattle.base64.proofs.RoundTrip.{length-encode_symbols}
-use Rattle.tlog_proof.specs.Text.{IsHash, LacksNewline, base64_of, line, number_line, hash_line, path_lines}
+use Rattle.tlog_shape.specs.declared.TheConstants.{MAX_SIZE}
+use Rattle.tlog_text.proofs.Hashes.{base64_of-same}
+use Rattle.tlog_text.proofs.Newlines.{base64_lacks_newline as base64_lacks}
+use Rattle.tlog_text.specs.Hash.{base64_of, Is32Bytes}
+use Rattle.tlog_proof.specs.Text.{LacksNewline, line, number_line, hash_line, path_lines}
 use Rattle.tlog_proof.specs.Reading.{FindsThat}
 use Rattle.tlog_proof.specs.declared.fault.TextFault.{TextFault}
 use Rattle.tlog_proof.specs.declared.fault.TextFault.TheVariants.{BadProofText, OutOfMemory}
@@ -67,10 +66,6 @@ Lacks-from_test (x ∷ xs) h =
     let parts = both (not (nat_eq x 10)) (list_all (λ b. not (nat_eq b 10)) xs) h in
     (λ e. let same = (Decides-eqb x 10).1 e in absurd (cc (same, parts.0)), Lacks-from_test xs parts.1)
 
-Lacks-replicate : (b n : ℕ) → b ≢ 10 → Lacks (replicate n b)
-Lacks-replicate b zero h = tt
-Lacks-replicate b (suc n) h = (h, Lacks-replicate b n h)
-
 -- two cuts at a newline, of parts that lack it, are one
 cut_once : (a b d e : List ℕ) → a ++ (10 ∷ b) ≡ d ++ (10 ∷ e) → Lacks a → Lacks d → (a ≡ d) × (b ≡ e)
 cut_once [] b [] e h p q = (refl, cc)
@@ -108,59 +103,23 @@ after_line text name value rest u is = after_newline text (name ++ value) rest u
 abbrev own : IsNumeralModel (AllDigits 10) (digits_value 10)
 own = numerals_by_value (AllDigits 10) tells_digits
 
-pub decimal_lacks_newline : (n : ℕ) → n < 2 ^ 63 → LacksNewline (decimal n)
+pub decimal_lacks_newline : (n : ℕ) → n ≤ MAX_SIZE → LacksNewline (decimal n)
 decimal_lacks_newline n small i lt = not_in_digits own (decimal n) 10 (digits_decimal own n (omega arith)) (λ r. omega (arith, r.0)) i lt
 
-pub number_line_once : (name : List ℕ) (n : ℕ) (rest : List ℕ) (m : ℕ) (more : List ℕ) → n < 2 ^ 63 → m < 2 ^ 63 → number_line name n rest ≡ number_line name m more → (n ≡ m) × (rest ≡ more)
+pub number_line_once : (name : List ℕ) (n : ℕ) (rest : List ℕ) (m : ℕ) (more : List ℕ) → n ≤ MAX_SIZE → m ≤ MAX_SIZE → number_line name n rest ≡ number_line name m more → (n ≡ m) × (rest ≡ more)
 number_line_once name n rest m more p q e =
     let same = line_once name (decimal n) rest (decimal m) more (decimal_lacks_newline n p) (decimal_lacks_newline m q) e in
     (decimal_injective n m (omega arith) (omega arith) same.0, same.1)
 
-pub length-decimal : (n : ℕ) → n < 2 ^ 63 → length (decimal n) ≤ 19
+pub length-decimal : (n : ℕ) → n ≤ MAX_SIZE → length (decimal n) ≤ 19
 length-decimal n small = length-decimal-le 19 n (omega arith) (omega arith) (omega arith)
 
 -- ---- hashes
 
-abbrev symbols : List ℕ
-symbols = engine_symbols standard
-
-symbols_lack : (t m : List ℕ) → ((i : ℕ) → slice_index t i ≢ 10) → Lacks (encode_symbols t m)
-unfolding encode_symbols
-symbols_lack t [] h = tt
-symbols_lack t (x ∷ []) h = (h (x / 4), (h (x % 4 * 16), tt))
-symbols_lack t (x ∷ y ∷ []) h = (h (x / 4), (h (x % 4 * 16 + y / 16), (h (y % 16 * 4), tt)))
-symbols_lack t (x ∷ y ∷ z ∷ rest) h =
-    Lacks-append (encode_group t x y z) (encode_symbols t rest)
-    (h (x / 4), (h (x % 4 * 16 + y / 16), (h (y % 16 * 4 + z / 64), (h (z % 64), tt))))
-    (symbols_lack t rest h)
-
 pub base64_lacks_newline : (bytes : List ℕ) → LacksNewline (base64_of bytes)
-unfolding base64_of
-base64_lacks_newline bytes =
-    Lacks-reads (base64_of bytes)
-    (Lacks-append (encode_symbols symbols bytes) (replicate (padding_len (length bytes)) 61)
-    (symbols_lack symbols bytes (reads_other symbols (Lacks-from_test symbols refl)))
-    (Lacks-replicate 61 (padding_len (length bytes)) (λ e. cc)))
+base64_lacks_newline bytes = Lacks-reads (base64_of bytes) (Lacks-from_test (base64_of bytes) (base64_lacks bytes))
 
-pub length-base64_of : (bytes : List ℕ) → length (base64_of bytes) ≡ unpadded_len (length bytes) + padding_len (length bytes)
-unfolding base64_of
-length-base64_of bytes = length-append (encode_symbols symbols bytes) (replicate (padding_len (length bytes)) 61) ∙ rw (length-encode_symbols symbols bytes, length-replicate {A = ℕ} (padding_len (length bytes)) 61) refl
-
--- the base64 of a hash has 44 symbols
-pub length-hash : (hash : List ℕ) → IsHash hash → length (base64_of hash) ≡ 44
-length-hash hash h = length-base64_of hash ∙ ap (λ n. unpadded_len n + padding_len n) h.is_hash
-
--- bytes have one base64, and base64 is of one list of bytes
-pub base64_of-same : (a b : List ℕ) → IsBytes a → IsBytes b → base64_of a ≡ base64_of b → a ≡ b
-unfolding base64_of
-base64_of-same a b pa pb e =
-    let one = decode_of-encode_of standard a refl pa in
-    let two = decode_of-encode_of standard b refl pb in
-    let same : decode_of standard (encode_of standard a) ≡ decode_of standard (encode_of standard b) = ap (decode_of standard) e in
-    let oks = sym one ∙ (same ∙ two) in
-    cc oks
-
-pub hash_line_once : (name hash rest other more : List ℕ) → IsHash hash → IsHash other → hash_line name hash rest ≡ hash_line name other more → (hash ≡ other) × (rest ≡ more)
+pub hash_line_once : (name hash rest other more : List ℕ) → Is32Bytes hash → Is32Bytes other → hash_line name hash rest ≡ hash_line name other more → (hash ≡ other) × (rest ≡ more)
 hash_line_once name hash rest other more p q e =
     let same = line_once name (base64_of hash) rest (base64_of other) more (base64_lacks_newline hash) (base64_lacks_newline other) e in
     (base64_of-same hash other p.are_bytes q.are_bytes same.0, same.1)
@@ -172,7 +131,7 @@ pub path_lines-push : (path : List (List ℕ)) (hash rest : List ℕ) → path_l
 path_lines-push [] hash rest = refl
 path_lines-push (p ∷ path) hash rest = ap (hash_line (codes "path ") p) (path_lines-push path hash rest)
 
-pub hashes-push : (path : List (List ℕ)) (hash : List ℕ) → AllByRecursion IsHash path → IsHash hash → AllByRecursion IsHash (path ++ hash ∷ [])
+pub hashes-push : (path : List (List ℕ)) (hash : List ℕ) → AllByRecursion Is32Bytes path → Is32Bytes hash → AllByRecursion Is32Bytes (path ++ hash ∷ [])
 hashes-push [] hash all h = (h, tt)
 hashes-push (p ∷ path) hash all h = (all.0, hashes-push path hash all.1 h)
 
@@ -185,9 +144,9 @@ pub record IsRest (done path : List (List ℕ)) (rest : List ℕ) : Type 0 where
   pub more : List (List ℕ)
   pub whole : path ≡ done ++ more
   pub rest_is : rest ≡ path_lines more []
-  pub hashes : AllByRecursion IsHash more
+  pub hashes : AllByRecursion Is32Bytes more
 
-pub rest_of_path : (done path : List (List ℕ)) (rest : List ℕ) → AllByRecursion IsHash done → AllByRecursion IsHash path → path_lines done rest ≡ path_lines path [] → IsRest done path rest
+pub rest_of_path : (done path : List (List ℕ)) (rest : List ℕ) → AllByRecursion Is32Bytes done → AllByRecursion Is32Bytes path → path_lines done rest ≡ path_lines path [] → IsRest done path rest
 rest_of_path [] path rest p q e = record { more = path; whole = refl; rest_is = e; hashes = q }
 rest_of_path (d ∷ done) [] rest p q e = absurd (line_is_some (codes "path ") (base64_of d) (path_lines done rest) e)
 rest_of_path (d ∷ done) (h ∷ path) rest p q e =
@@ -207,14 +166,14 @@ all_read done path rest r empty = at r.more r.whole r.rest_is
 pub record HasNext (done path : List (List ℕ)) (rest : List ℕ) : Type 0 where
   pub hash : List ℕ
   pub after : List ℕ
-  pub is_hash : IsHash hash
+  pub is_hash : Is32Bytes hash
   pub line_is : rest ≡ hash_line (codes "path ") hash after
   pub longer : length done < length path
 
 pub next_hash : (done path : List (List ℕ)) (rest : List ℕ) → IsRest done path rest → 0 < length rest → HasNext done path rest
 next_hash done path rest r some = at r.more r.whole r.rest_is r.hashes
   where
-    at : (more : List (List ℕ)) → path ≡ done ++ more → rest ≡ path_lines more [] → AllByRecursion IsHash more → HasNext done path rest
+    at : (more : List (List ℕ)) → path ≡ done ++ more → rest ≡ path_lines more [] → AllByRecursion Is32Bytes more → HasNext done path rest
     at [] whole is all = absurd (omega (arith, ap length is))
     at (h ∷ more) whole is all = record { hash = h; after = path_lines more []; is_hash = all.0; line_is = is; longer = omega (arith, ap length whole, length-append done (h ∷ more)) }
 

@@ -6,11 +6,13 @@ use Rattle.std.specs.List.{AllByRecursion}
 use Rattle.std.proofs.lemmas.List.{append_cancel_left}
 use Rattle.tlog_proof.specs.declared.proof.Proof.{Proof}
 use Rattle.tlog_proof.specs.declared.proof.Proof.TheVariants.{Inclusion, Consistency}
-use Rattle.tlog_proof.specs.Text.{IsHash, line, number_line, hash_line, path_lines, base64_of, lines_of, title_of, IsWritable, HasHashes, HasOneSpelling}
-use Rattle.tlog_proof.proofs.Lines.{number_line_once, hash_line_once, rest_of_path, all_read, length-decimal, length-hash}
+use Rattle.tlog_text.specs.Hash.{base64_of, Is32Bytes}
+use Rattle.tlog_proof.specs.Text.{line, number_line, hash_line, path_lines, lines_of, title_of, IsWritable, HasHashes, HasOneSpelling, IsProofText}
+use Rattle.tlog_text.proofs.Hashes.{length-hash}
+use Rattle.tlog_proof.proofs.Lines.{number_line_once, hash_line_once, rest_of_path, all_read, length-decimal}
 
 -- paths of the same lines are one
-paths_same : (p q : List (List ℕ)) → AllByRecursion IsHash p → AllByRecursion IsHash q → path_lines p [] ≡ path_lines q [] → p ≡ q
+paths_same : (p q : List (List ℕ)) → AllByRecursion Is32Bytes p → AllByRecursion Is32Bytes q → path_lines p [] ≡ path_lines q [] → p ≡ q
 paths_same p q all other e = all_read p q [] (rest_of_path p q [] all other e) refl
 
 same_lines : (title a b : List ℕ) → title ++ 10 ∷ a ≡ title ++ 10 ∷ b → a ≡ b
@@ -49,12 +51,12 @@ one_proof (Consistency first first_root second second_root path) (Consistency fi
 length-line : (name value rest : List ℕ) → length (line name value rest) ≡ length name + length value + 1 + length rest
 length-line name value rest = omega (arith, length-append name (value ++ 10 ∷ rest), length-append value (10 ∷ rest))
 
-length-path_lines : (path : List (List ℕ)) → AllByRecursion IsHash path → length (path_lines path []) ≡ 50 * length path
+length-path_lines : (path : List (List ℕ)) → AllByRecursion Is32Bytes path → length (path_lines path []) ≡ 50 * length path
 length-path_lines [] all = refl
 length-path_lines (hash ∷ path) all =
     omega (arith, length-line (codes "path ") (base64_of hash) (path_lines path []), length-hash hash all.0, length-path_lines path all.1)
 
-short_lines : (proof : Proof) → IsWritable proof → HasHashes proof → length (lines_of proof) ≤ 3400
+short_lines : (proof : Proof) → IsWritable proof → HasHashes proof → length (title_of proof) + length (lines_of proof) ≤ 3364
 short_lines (Inclusion size index root leaf path) p h =
     let e = path_lines path [] in
     let d = hash_line (codes "leaf ") leaf e in
@@ -68,13 +70,13 @@ short_lines (Consistency first first_root second second_root path) p h =
     let b = hash_line (codes "root ") first_root c in
     omega (arith, length-path_lines path h.2, p.2, length-line (codes "root ") (base64_of second_root) e, length-hash second_root h.1, length-line (codes "second ") (decimal second) d, length-decimal second p.1, length-line (codes "root ") (base64_of first_root) c, length-hash first_root h.0, length-line (codes "first ") (decimal first) b, length-decimal first p.0)
 
-short_title : (proof : Proof) → length (title_of proof) ≤ 11
-short_title (Inclusion size index root leaf path) = omega arith
-short_title (Consistency first first_root second second_root path) = omega arith
+longest : (text : List ℕ) (proof : Proof) → IsProofText text proof → length text ≤ 3365
+longest text proof p = omega (arith, ap length p.is_text, length-append (title_of proof) (10 ∷ lines_of proof), short_lines proof p.writable p.hashes)
 
 pub has_one_spelling : HasOneSpelling
 has_one_spelling = record {
   one_proof = λ text a b p q. one_proof a b p.writable q.writable p.hashes q.hashes (sym p.is_text ∙ q.is_text);
   one_text = λ s t proof p q. p.is_text ∙ sym q.is_text;
-  short = λ text proof p. omega (arith, ap length p.is_text, length-append (title_of proof) (10 ∷ lines_of proof), short_title proof, short_lines proof p.writable p.hashes);
+  short = λ text proof p. omega (arith, longest text proof p);
+  longest = longest;
 }

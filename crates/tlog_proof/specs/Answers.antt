@@ -5,8 +5,3 @@ use Rattle.std.specs.Prelude.{◌≡◌, ◌≢◌, Result, Ok, Err}
 abbrev pub Answers : {X Y E : Type 0} → E → (X → Y) → Result X E → Result Y E → Type 0
 Answers memory view (Ok x) right = right ≡ Ok (view x)
 Answers memory view (Err e) right = e ≢ memory → right ≡ Err e
-
--- the value seen by a function, and a fault as it is
-abbrev pub seen : {X Y E : Type 0} → (X → Y) → Result X E → Result Y E
-seen view (Ok x) = Ok (view x)
-seen view (Err e) = Err e

@@ -1,7 +1,8 @@
 -- What is asked for, and what is answered.
-use Rattle.std.specs.Prelude.{ℕ, ◌∷◌, List, [], length, take, slice_index_or, nat_lt, nat_le, nat_eq, if◌then◌else◌, Result, Ok, Err}
+use Rattle.std.specs.Prelude.{ℕ, ◌+◌, ◌*◌, ◌^◌, ◌∷◌, List, [], length, take, slice_index_or, nat_lt, nat_le, nat_eq, if◌then◌else◌, Result, Ok, Err}
 use Rattle.tlog_hash.specs.Tree.{mth}
-use Rattle.tlog_proof.specs.Answers.{seen}
+use Rattle.tlog_hash.specs.Rows.{level_row}
+use Rattle.tlog_text.specs.Answers.{seen}
 use Rattle.tlog_proof.specs.Inclusion.{path_of, IsInclusion}
 use Rattle.tlog_proof.specs.Consistency.{proof_of, IsConsistency}
 use Rattle.tlog_proof.specs.declared.make.ProofFault.{ProofFault}
@@ -24,11 +25,17 @@ module _ (digest : List ℕ → List ℕ) where
       if nat_lt (length entries) second then Err NoSuchSize
       else (if nat_eq first 0 then Err FirstIsZero else (if nat_lt second first then Err Backwards else Ok (proof_of digest first (take second entries))))
 
+  -- the hashes of a tile, where the list has their entries
+  abbrev pub row_in : List (List ℕ) → ℕ → ℕ → ℕ → Result (List (List ℕ)) ProofFault
+  row_in entries level index width =
+      if nat_lt (length entries) ((256 * index + width) * 256 ^ level) then Err NoSuchSize
+      else Ok (level_row digest entries level (256 * index) width)
+
   -- the proof that was asked for: the path with the numbers asked for, the roots, and the leaf hash
-  abbrev pub proof_in : List (List ℕ) → Ask → Result Proof ProofFault
-  proof_in entries (AskInclusion size index) =
+  abbrev pub asked_proof : List (List ℕ) → Ask → Result Proof ProofFault
+  asked_proof entries (AskInclusion size index) =
       seen (λ path. Inclusion size index (mth digest (take size entries)) (digest (0 ∷ slice_index_or entries index [])) path) (inclusion_in entries size index)
-  proof_in entries (AskConsistency first second) =
+  asked_proof entries (AskConsistency first second) =
       seen (λ path. Consistency first (mth digest (take first entries)) second (mth digest (take second entries)) path) (consistency_in entries first second)
 
   -- the proof is accepted

@@ -1,24 +1,16 @@
 -- The text of a proof (own): a title, then lines of a name, a space and a value. Each line ends in a
 -- newline. Numbers are decimal without leading zeros, and hashes standard base64 with padding (RFC
 -- 4648, section 4).
-use Rattle.std.specs.Prelude.{◌≡◌, ◌≢◌, ℕ, ◌≤◌, ◌<◌, ◌^◌, List, [], ◌∷◌, ◌++◌, length, slice_index, codes, Result, Ok, Err}
+use Rattle.std.specs.Prelude.{◌≡◌, ◌≢◌, ℕ, ◌≤◌, ◌<◌, List, [], ◌∷◌, ◌++◌, length, slice_index, codes, Result, Ok, Err}
 use Rattle.std.specs.Fmt.{decimal}
 use Rattle.std.specs.List.{AllByRecursion}
-use Rattle.base64.specs.Engines.{standard}
-use Rattle.base64.specs.GeneralPurpose.{IsBytes, encode_of}
+use Rattle.tlog_text.specs.Hash.{base64_of, Is32Bytes}
+use Rattle.tlog_shape.specs.declared.TheConstants.{MAX_SIZE}
+use Rattle.tlog_proof.specs.declared.TheConstants.{MAX_PATH, MAX_TEXT}
 use Rattle.tlog_proof.specs.declared.proof.Proof.{Proof}
 use Rattle.tlog_proof.specs.declared.proof.Proof.TheVariants.{Inclusion, Consistency}
 use Rattle.tlog_proof.specs.declared.fault.TextFault.{TextFault}
 use Rattle.tlog_proof.specs.declared.fault.TextFault.TheVariants.{BadProofText, OutOfMemory}
-
--- a hash: 32 bytes
-pub record IsHash (hash : List ℕ) : Type 0 where
-  pub are_bytes : IsBytes hash
-  pub is_hash : length hash ≡ 32
-
--- standard base64, with padding
-unfoldable pub base64_of : List ℕ → List ℕ
-base64_of bytes = encode_of standard bytes
 
 -- no newline among the bytes
 abbrev pub LacksNewline : List ℕ → Type 0
@@ -50,15 +42,15 @@ abbrev pub title_of : Proof → List ℕ
 title_of (Inclusion size index root leaf path) = codes "inclusion"
 title_of (Consistency first first_root second second_root path) = codes "consistency"
 
--- what can be written: numbers of at most 2^63 - 1, and at most 64 hashes of a path
+-- what can be written: numbers that are sizes of trees or below one, and no more hashes of a path than there may be
 abbrev pub IsWritable : Proof → Type 0
-IsWritable (Inclusion size index root leaf path) = (size < 2 ^ 63) × (index < 2 ^ 63) × (length path ≤ 64)
-IsWritable (Consistency first first_root second second_root path) = (first < 2 ^ 63) × (second < 2 ^ 63) × (length path ≤ 64)
+IsWritable (Inclusion size index root leaf path) = (size ≤ MAX_SIZE) × (index ≤ MAX_SIZE) × (length path ≤ MAX_PATH)
+IsWritable (Consistency first first_root second second_root path) = (first ≤ MAX_SIZE) × (second ≤ MAX_SIZE) × (length path ≤ MAX_PATH)
 
 -- its hashes are hashes
 abbrev pub HasHashes : Proof → Type 0
-HasHashes (Inclusion size index root leaf path) = IsHash root × IsHash leaf × AllByRecursion IsHash path
-HasHashes (Consistency first first_root second second_root path) = IsHash first_root × IsHash second_root × AllByRecursion IsHash path
+HasHashes (Inclusion size index root leaf path) = Is32Bytes root × Is32Bytes leaf × AllByRecursion Is32Bytes path
+HasHashes (Consistency first first_root second second_root path) = Is32Bytes first_root × Is32Bytes second_root × AllByRecursion Is32Bytes path
 
 -- the text is that proof
 pub record IsProofText (text : List ℕ) (proof : Proof) : Type 0 where
@@ -72,8 +64,9 @@ ReadsProof text (Ok proof) = IsProofText text proof
 ReadsProof text (Err BadProofText) = (proof : Proof) → IsProofText text proof → ⊥
 ReadsProof text (Err OutOfMemory) = Unit {0}
 
--- a text is one proof at most, a proof has one text, and no text is longer than 8192 bytes
+-- a text is one proof at most, a proof has one text, and no text is longer than these
 pub record HasOneSpelling : Type 0 where
   pub one_proof : (text : List ℕ) (a b : Proof) → IsProofText text a → IsProofText text b → a ≡ b
   pub one_text : (s t : List ℕ) (proof : Proof) → IsProofText s proof → IsProofText t proof → s ≡ t
-  pub short : (text : List ℕ) (proof : Proof) → IsProofText text proof → length text ≤ 8192
+  pub short : (text : List ℕ) (proof : Proof) → IsProofText text proof → length text ≤ MAX_TEXT
+  pub longest : (text : List ℕ) (proof : Proof) → IsProofText text proof → length text ≤ 3365

@@ -15,6 +15,7 @@ mod check;
 mod fault;
 mod laws;
 mod make;
+mod memory;
 mod path;
 mod proof;
 mod ranges;
@@ -23,13 +24,20 @@ mod read;
 mod tests;
 mod write;
 
+/// The most hashes that a path of a proof's text has.
+pub const MAX_PATH: usize = 64;
+
+/// No text of a proof has more bytes, so a reader may stop there. The longest has 3,365.
+pub const MAX_TEXT: usize = 8192;
+
 pub use check::{check_consistency, check_inclusion};
 pub use fault::TextFault;
 pub use laws::{
     accepted_consistency_law, accepted_inclusion_law, cons_law, incl_law, made_consistency_law,
     made_inclusion_law, path_law, path_length_law, proof_law, text_law,
 };
-pub use make::{ProofFault, consistency, inclusion};
+pub use make::{ProofFault, consistency, inclusion, row_of};
+pub use memory::Listed;
 pub use path::HashPath;
 pub use proof::{Ask, Proof, holds, prove};
 pub use ranges::Ranges;

@@ -1,7 +1,8 @@
 //! Whole proofs: what is asked for, and the answer with all that a check needs.
-ghost use Rattle.std.specs.Prelude.{◌≡◌, ◌↔◌, ◌<◌, ◌^◌, ℕ, List, length, IsTrue, IfOk};
+ghost use Rattle.std.specs.Prelude.{◌≡◌, ◌↔◌, ◌≤◌, ℕ, List, length, IsTrue, IfOk};
 ghost use Rattle.tlog_proof.specs.Answers.{Answers};
-ghost use Rattle.tlog_proof.specs.Made.{proof_in, Holds};
+ghost use Rattle.tlog_shape.specs.declared.TheConstants.{MAX_SIZE};
+ghost use Rattle.tlog_proof.specs.Made.{asked_proof, Holds};
 ghost use Rattle.tlog_proof.specs.Text.{IsWritable};
 
 use crate::check::{check_consistency, check_inclusion};
@@ -23,7 +24,7 @@ pub enum Ask {
 /// A proof with all that a check of it needs.
 ///
 /// Who relies on a yes compares the roots with those of a checkpoint.
-#[derive(Debug, Drop)]
+#[derive(Debug, Drop, PartialEq, Eq)]
 pub enum Proof {
     /// The entry with that leaf hash has that index in the tree of that size and root.
     Inclusion {
@@ -48,8 +49,8 @@ pub enum Proof {
 /// Errors: those of `inclusion` or `consistency`, in their order. Of a list of at most
 /// 9223372036854775807 entries the proof can be written as text.
 pub fn prove<R: Ranges>(alloc: Global, ranges: &R, ask: Ask) -> Result<Proof, ProofFault>
-    ensures answer { (entries : List (List ℕ)) → R.lists ranges.now entries → Answers ProofFault.OutOfMemory (λ proof. proof) result (proof_in R.digest entries ask) }
-    ensures writable { IfOk result (λ proof. (entries : List (List ℕ)) → R.lists ranges.now entries → length entries < 2 ^ 63 → IsWritable proof) }
+    ensures answer { (entries : List (List ℕ)) → R.lists ranges.now entries → Answers ProofFault.OutOfMemory (λ proof. proof) result (asked_proof R.digest entries ask) }
+    ensures writable { IfOk result (λ proof. (entries : List (List ℕ)) → R.lists ranges.now entries → length entries ≤ MAX_SIZE → IsWritable proof) }
 {
     match ask {
         Ask::Inclusion { size, index } => {

@@ -1,20 +1,18 @@
 //! Proofs from text.
-ghost use Rattle.std.specs.Prelude.{◌≡◌, ◌<◌, ◌≤◌, ◌^◌, ℕ, List, [], length, IfSome, MatchOption, IfOk};
+ghost use Rattle.std.specs.Prelude.{◌≡◌, ◌≤◌, ℕ, List, [], length, IfSome, MatchOption, IfOk};
 ghost use Rattle.std.specs.List.{AllByRecursion};
-ghost use Rattle.tlog_proof.specs.Text.{IsHash, LacksNewline, line, base64_of, number_line, hash_line, path_lines, ReadsProof};
+ghost use Rattle.tlog_text.specs.Hash.{Is32Bytes};
+ghost use Rattle.tlog_proof.specs.Text.{LacksNewline, line, number_line, hash_line, path_lines, ReadsProof};
 ghost use Rattle.tlog_proof.specs.Reading.{FindsThat, AreLines, IsInclusionProof, IsConsistencyProof};
 
+use crate::MAX_PATH;
 use crate::fault::TextFault;
 use crate::path::HashPath;
 use crate::proof::Proof;
-use base64::DecodeAllocError;
-use base64::engine::general_purpose::STANDARD;
 use std::alloc::Global;
 use tlog_hash::Hash;
-use tlog_shape::read_number;
-
-// The most hashes that a path of a text has.
-const MAX_PATH: usize = 64;
+use tlog_shape::MAX_SIZE;
+use tlog_text::{read_hash, read_number};
 
 /// Reads the text of a proof: exactly what `write_text` writes of one.
 ///
@@ -43,8 +41,8 @@ fn read_inclusion(alloc: Global, text: &str) -> Result<Proof, TextFault>
     let Some((index, rest)) = number_field(rest, "index ") else {
         return Err(TextFault::BadProofText);
     };
-    let (root, rest) = hash_field(alloc, rest, "root ")?;
-    let (leaf, rest) = hash_field(alloc, rest, "leaf ")?;
+    let (root, rest) = hash_field(rest, "root ")?;
+    let (leaf, rest) = hash_field(rest, "leaf ")?;
     let path = path_fields(alloc, rest)?;
     Ok(Proof::Inclusion {
         size,
@@ -63,11 +61,11 @@ fn read_consistency(alloc: Global, text: &str) -> Result<Proof, TextFault>
     let Some((first, rest)) = number_field(text, "first ") else {
         return Err(TextFault::BadProofText);
     };
-    let (first_root, rest) = hash_field(alloc, rest, "root ")?;
+    let (first_root, rest) = hash_field(rest, "root ")?;
     let Some((second, rest)) = number_field(rest, "second ") else {
         return Err(TextFault::BadProofText);
     };
-    let (second_root, rest) = hash_field(alloc, rest, "root ")?;
+    let (second_root, rest) = hash_field(rest, "root ")?;
     let path = path_fields(alloc, rest)?;
     Ok(Proof::Consistency {
         first,
@@ -88,32 +86,34 @@ fn field<'a>(text: &'a str, name: &str) -> Option<(&'a str, &'a str)>
 
 // The number of the first line, and what follows the line.
 fn number_field<'a>(text: &'a str, name: &str) -> Option<(u64, &'a str)>
-    ensures sound { IfSome result (λ r. (r.0 < 2 ^ 63) × (text.now ≡ number_line name.now r.0 r.1.now)) }
-    ensures complete { (n : ℕ) (rest : List ℕ) → n < 2 ^ 63 → text.now ≡ number_line name.now n rest → MatchOption result ⊥ (λ r. (r.0 ≡ n) × (r.1.now ≡ rest)) }
+    ensures sound { IfSome result (λ r. (r.0 ≤ MAX_SIZE) × (text.now ≡ number_line name.now r.0 r.1.now)) }
+    ensures complete { (n : ℕ) (rest : List ℕ) → n ≤ MAX_SIZE → text.now ≡ number_line name.now n rest → MatchOption result ⊥ (λ r. (r.0 ≡ n) × (r.1.now ≡ rest)) }
 {
     let (digits, rest) = field(text, name)?;
-    let n = read_number(digits)?;
-    Some((n, rest))
+    match read_number(digits, MAX_SIZE) {
+        Ok(n) => Some((n, rest)),
+        Err(_) => None,
+    }
 }
 
 // The hash of the first line, and what follows the line.
-fn hash_field<'a>(alloc: Global, text: &'a str, name: &str) -> Result<(Hash, &'a str), TextFault>
-    ensures sound { IfOk result (λ r. IsHash r.0 × (text.now ≡ hash_line name.now r.0 r.1.now)) }
-    ensures complete { (hash rest : List ℕ) → IsHash hash → text.now ≡ hash_line name.now hash rest → FindsThat result (λ r. (r.0 ≡ hash) × (r.1.now ≡ rest)) }
+fn hash_field<'a>(text: &'a str, name: &str) -> Result<(Hash, &'a str), TextFault>
+    ensures sound { IfOk result (λ r. Is32Bytes r.0 × (text.now ≡ hash_line name.now r.0 r.1.now)) }
+    ensures complete { (hash rest : List ℕ) → Is32Bytes hash → text.now ≡ hash_line name.now hash rest → FindsThat result (λ r. (r.0 ≡ hash) × (r.1.now ≡ rest)) }
 {
     let Some((encoded, rest)) = field(text, name) else {
         return Err(TextFault::BadProofText);
     };
-    match hash_of(alloc, encoded) {
-        Ok(hash) => Ok((hash, rest)),
-        Err(fault) => Err(fault),
+    match read_hash(encoded) {
+        Some(hash) => Ok((hash, rest)),
+        None => Err(TextFault::BadProofText),
     }
 }
 
 // The hashes of all lines.
 fn path_fields(alloc: Global, text: &str) -> Result<HashPath, TextFault>
-    ensures sound { IfOk result (λ path. (text.now ≡ path_lines path []) × (length path ≤ 64) × AllByRecursion IsHash path) }
-    ensures complete { (path : List (List ℕ)) → AllByRecursion IsHash path → length path ≤ 64 → text.now ≡ path_lines path [] → FindsThat result (λ found. found ≡ path) }
+    ensures sound { IfOk result (λ path. (text.now ≡ path_lines path []) × (length path ≤ MAX_PATH) × AllByRecursion Is32Bytes path) }
+    ensures complete { (path : List (List ℕ)) → AllByRecursion Is32Bytes path → length path ≤ MAX_PATH → text.now ≡ path_lines path [] → FindsThat result (λ found. found ≡ path) }
 {
     let mut path = Vec::new(alloc);
     let mut rest = text;
@@ -121,28 +121,9 @@ fn path_fields(alloc: Global, text: &str) -> Result<HashPath, TextFault>
         if path.len() == MAX_PATH {
             return Err(TextFault::BadProofText);
         }
-        let (hash, after) = hash_field(alloc, rest, "path ")?;
+        let (hash, after) = hash_field(rest, "path ")?;
         path.push(hash)?;
         rest = after;
     }
     Ok(HashPath::new(path))
-}
-
-// The hash that is encoded so.
-fn hash_of(alloc: Global, encoded: &str) -> Result<Hash, TextFault>
-    ensures sound { IfOk result (λ hash. IsHash hash × (encoded.now ≡ base64_of hash)) }
-    ensures complete { (hash : List ℕ) → IsHash hash → encoded.now ≡ base64_of hash → FindsThat result (λ found. found ≡ hash) }
-{
-    match STANDARD.decode(alloc, encoded.as_bytes()) {
-        Ok(bytes) => {
-            if bytes.len() != 32 {
-                return Err(TextFault::BadProofText);
-            }
-            let mut hash = [0u8; 32];
-            hash.copy_from_slice(&bytes);
-            Ok(hash)
-        }
-        Err(DecodeAllocError::OutOfMemory) => Err(TextFault::OutOfMemory),
-        Err(DecodeAllocError::DecodeError(_)) => Err(TextFault::BadProofText),
-    }
 }

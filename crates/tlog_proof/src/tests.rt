@@ -1,13 +1,11 @@
 //! Proofs over the list of no bytes, `00` and `10`, whose hashes were computed elsewhere, and the two
 //! loops against the standard's recursion.
-ghost use Rattle.std.specs.Prelude.{◌≡◌, map};
-
 use super::*;
-use base64::engine::general_purpose::STANDARD;
 use std::alloc::Global;
 use std::test::Fail;
 use tlog_hash::{Hash, Sha256Tree, TreeHash, tree_hash};
-use tlog_shape::split;
+use tlog_shape::{MAX_SIZE, split};
+use tlog_text::read_hash;
 
 // The roots of the first, the first two and all three entries, and the third leaf hash.
 const R1: &str = "bjQLnP+zepicpUTmu3gKLHiQHT+zNzh2hRGjBhevoB0=";
@@ -26,52 +24,15 @@ const THIRD: &str =
 const TWO_OF_THREE: &str =
     "consistency\nfirst 2\nroot +sVCA+fMaWzw38tCySodnbr3CtnmIfS9jZhmLwDjwSU=\nsecond 3\nroot rra8/idLcKFPsGel5VeCZNsPqbUa9eC6FZFY8yngbnc=\npath ApjRIpBtz8EIkstTpzmS/FufST6kybrbJ7eRtBJ6f+c=\n";
 
-// The entries of a list in memory, hashed anew for each range.
-#[derive(Drop)]
-struct Entries<'a> {
-    entries: &'a [&'a [u8]],
-}
-
-impl Ranges for Entries<'_> {
-    ghost lists = { λ ranges entries. entries ≡ map (λ e. e.now) ranges.entries.now };
-
-    ghost digest = { ⟦<Sha256Tree as TreeHash>⟧.digest };
-
-    fn size(&self) -> u64 {
-        self.entries.len() as u64
-    }
-
-    fn hash(&self, start: u64, len: u64) -> Option<Hash> {
-        let size = self.entries.len() as u64;
-        if start > size || len > size - start {
-            return None;
-        }
-        let from = start as usize;
-        let to = (start + len) as usize;
-        Some(tree_hash::<Sha256Tree>(&self.entries[from..to]))
-    }
-}
-
 // The 32 bytes that a text of base64 encodes.
-fn hash(alloc: Global, text: &str) -> Result<Hash, Fail> {
-    let bytes = STANDARD.decode(alloc, text.as_bytes())?;
-    let mut hash = [0; 32];
-    if bytes.len() == 32 {
-        hash.copy_from_slice(&bytes);
-    }
-    Ok(hash)
+fn hash(text: &str) -> Result<Hash, Fail> {
+    Ok(read_hash(text).ok_or("no hash")?)
 }
 
 #[test]
 fn inclusion_2_of_3(rt: HostRuntime) -> Result<(), Fail> {
-    let (r2, r3, l3) = (
-        hash(rt.alloc(), R2)?,
-        hash(rt.alloc(), R3)?,
-        hash(rt.alloc(), L3)?,
-    );
-    let e3 = Entries {
-        entries: &[b"", b"\x00", b"\x10"],
-    };
+    let (r2, r3, l3) = (hash(R2)?, hash(R3)?, hash(L3)?);
+    let e3 = Listed::<Sha256Tree>::new(&[b"", b"\x00", b"\x10"]);
     let path = inclusion(rt.alloc(), &e3, 3, 2)?;
     assert_eq!(rt; path.as_slice(), [r2].as_slice());
     assert!(rt; check_inclusion::<Sha256Tree>(&l3, 2, 3, &path, &r3));
@@ -91,10 +52,8 @@ fn inclusion_2_of_3(rt: HostRuntime) -> Result<(), Fail> {
 
 #[test]
 fn inclusion_0_of_1(rt: HostRuntime) -> Result<(), Fail> {
-    let r1 = hash(rt.alloc(), R1)?;
-    let e3 = Entries {
-        entries: &[b"", b"\x00", b"\x10"],
-    };
+    let r1 = hash(R1)?;
+    let e3 = Listed::<Sha256Tree>::new(&[b"", b"\x00", b"\x10"]);
     let path = inclusion(rt.alloc(), &e3, 1, 0)?;
     assert_eq!(rt; path.len(), 0);
     assert!(rt; check_inclusion::<Sha256Tree>(&r1, 0, 1, &path, &r1));
@@ -103,14 +62,8 @@ fn inclusion_0_of_1(rt: HostRuntime) -> Result<(), Fail> {
 
 #[test]
 fn consistency_2_to_3(rt: HostRuntime) -> Result<(), Fail> {
-    let (r2, r3, l3) = (
-        hash(rt.alloc(), R2)?,
-        hash(rt.alloc(), R3)?,
-        hash(rt.alloc(), L3)?,
-    );
-    let e3 = Entries {
-        entries: &[b"", b"\x00", b"\x10"],
-    };
+    let (r2, r3, l3) = (hash(R2)?, hash(R3)?, hash(L3)?);
+    let e3 = Listed::<Sha256Tree>::new(&[b"", b"\x00", b"\x10"]);
     let path = consistency(rt.alloc(), &e3, 2, 3)?;
     assert_eq!(rt; path.as_slice(), [l3].as_slice());
     assert!(rt; check_consistency::<Sha256Tree>(2, &r2, 3, &r3, &path));
@@ -138,19 +91,17 @@ fn consistency_2_to_3(rt: HostRuntime) -> Result<(), Fail> {
 
 #[test]
 fn consistency_3_to_5(rt: HostRuntime) -> Result<(), Fail> {
-    let letters = Entries {
-        entries: &[b"a", b"b", b"c", b"d", b"e"],
-    };
-    let front = tree_hash::<Sha256Tree>(&[b"a", b"b"]);
-    let (c, d, e) = (
-        Sha256Tree::leaf(b"c"),
-        Sha256Tree::leaf(b"d"),
-        Sha256Tree::leaf(b"e"),
-    );
+    let letters = Listed::<Sha256Tree>::new(&[b"a", b"b", b"c", b"d", b"e"]);
+    let wanted = [
+        hash("WX/LMSgtNGVMIA00GPylcFxkjr8ybsc9jd7xGEH4dtg=")?,
+        hash("0HDcW42prqfcD1rUwp2JllIABZyaDOyjq9XaJJLctx0=")?,
+        hash("sTeYX/SE+2ANuTEHx3sDZcgNePW0Kd7Q/Zc2HQd5mes=")?,
+        hash("KCSnzNosqnIMhcn7oei1tzXuz9sDh45Pjf5sNiUDC8Q=")?,
+    ];
     let path = consistency(rt.alloc(), &letters, 3, 5)?;
-    assert_eq!(rt; path.as_slice(), [c, d, front, e].as_slice());
-    let first = tree_hash::<Sha256Tree>(&[b"a", b"b", b"c"]);
-    let second = tree_hash::<Sha256Tree>(&[b"a", b"b", b"c", b"d", b"e"]);
+    assert_eq!(rt; path.as_slice(), wanted.as_slice());
+    let first = hash("NmQuc8JUCrEh46a/lUWwokmCzYMOsT080Z3jzmwCHsE=")?;
+    let second = hash("/hSlQm+9cMD6c/UjQq/tDaC9I8SDhmLM9riKMHDq2Xs=")?;
     assert!(rt; check_consistency::<Sha256Tree>(3, &first, 5, &second, &path));
     Ok(())
 }
@@ -207,6 +158,97 @@ fn refused_texts(rt: HostRuntime) -> Result<(), Fail> {
 }
 
 #[test]
+fn proofs_differ(rt: HostRuntime) -> Result<(), Fail> {
+    let proof = read_text(rt.alloc(), THIRD)?;
+    for (from, to) in [
+        ("size 3", "size 4"),
+        ("path +", "path A"),
+        ("leaf A", "leaf B"),
+    ] {
+        let text = THIRD.replace(rt.alloc(), from, to)?;
+        assert!(rt; proof != read_text(rt.alloc(), &text)?, "{to}");
+    }
+    assert!(rt; proof != read_text(rt.alloc(), TWO_OF_THREE)?);
+    Ok(())
+}
+
+// Rows of the tree of three entries: its leaf hashes, and no hash of 256 entries.
+#[test]
+fn rows(rt: HostRuntime) -> Result<(), Fail> {
+    let e3 = Listed::<Sha256Tree>::new(&[b"", b"\x00", b"\x10"]);
+    let row = row_of(rt.alloc(), &e3, 0, 0, 3)?;
+    assert_eq!(rt; row.len(), 3);
+    assert_eq!(rt; row[0], hash(R1)?);
+    assert_eq!(rt; row[2], hash(L3)?);
+    for (level, index, width) in [(0, 0, 4), (0, 1, 1), (1, 0, 1), (7, u64::MAX, 256)] {
+        assert_eq!(rt;
+            row_of(rt.alloc(), &e3, level, index, width).err(),
+            Some(ProofFault::NoSuchSize)
+        );
+    }
+    Ok(())
+}
+
+// A list of the greatest size, of which each range has one hash.
+#[derive(Drop)]
+struct Same;
+
+impl Ranges for Same {
+    ghost lists = { λ _ _. ⊥ };
+
+    ghost digest = { λ bytes. bytes };
+
+    fn size(&self) -> u64 {
+        MAX_SIZE
+    }
+
+    fn hash(&self, _start: u64, _len: u64) -> Option<Hash> {
+        Some([7; 32])
+    }
+}
+
+// Proofs in trees of over 2^62 entries, and a row of 256 hashes, are no want of memory.
+#[test]
+fn large_lists(rt: HostRuntime) -> Result<(), Fail> {
+    let alloc = rt.alloc();
+    assert_eq!(rt; inclusion(alloc, &Same, MAX_SIZE, 0)?.len(), 63);
+    assert_eq!(rt; inclusion(alloc, &Same, MAX_SIZE, MAX_SIZE - 1)?.len(), 62);
+    assert_eq!(rt;
+        consistency(alloc, &Same, (1 << 62) + 1, MAX_SIZE)?.len(),
+        64
+    );
+    assert_eq!(rt; row_of(alloc, &Same, 7, 0, 127)?.len(), 127);
+    assert_eq!(rt; row_of(alloc, &Same, 0, 36028797018963966, 256)?.len(), 256);
+    let ask = Ask::Consistency {
+        first: (1 << 62) + 1,
+        second: MAX_SIZE,
+    };
+    let text = write_text(alloc, &prove(alloc, &Same, ask)?)?;
+    assert_eq!(rt; text.len(), 3365);
+    Ok(())
+}
+
+#[test]
+fn faults_print_their_names(rt: HostRuntime) -> Result<(), Fail> {
+    for (fault, name) in [
+        (ProofFault::NoSuchSize, "NoSuchSize"),
+        (ProofFault::NoSuchIndex, "NoSuchIndex"),
+        (ProofFault::FirstIsZero, "FirstIsZero"),
+        (ProofFault::Backwards, "Backwards"),
+        (ProofFault::OutOfMemory, "OutOfMemory"),
+    ] {
+        assert_eq!(rt; fault.to_string(rt.alloc())?.as_str(), name);
+    }
+    for (fault, name) in [
+        (TextFault::BadProofText, "BadProofText"),
+        (TextFault::OutOfMemory, "OutOfMemory"),
+    ] {
+        assert_eq!(rt; fault.to_string(rt.alloc())?.as_str(), name);
+    }
+    Ok(())
+}
+
+#[test]
 fn longest_texts(rt: HostRuntime) -> Result<(), Fail> {
     let mut text = String::from_str(rt.alloc(), "consistency\nfirst 1\nroot ")?;
     for piece in [R1, "\nsecond 9223372036854775807\nroot ", R3, "\n"] {
@@ -231,9 +273,7 @@ fn longest_texts(rt: HostRuntime) -> Result<(), Fail> {
 
 #[test]
 fn proofs_asked_for(rt: HostRuntime) -> Result<(), Fail> {
-    let e3 = Entries {
-        entries: &[b"", b"\x00", b"\x10"],
-    };
+    let e3 = Listed::<Sha256Tree>::new(&[b"", b"\x00", b"\x10"]);
     for (ask, text) in [
         (Ask::Inclusion { size: 3, index: 2 }, THIRD),
         (
@@ -246,11 +286,8 @@ fn proofs_asked_for(rt: HostRuntime) -> Result<(), Fail> {
     ] {
         let proof = prove(rt.alloc(), &e3, ask)?;
         assert!(rt; holds::<Sha256Tree>(&proof));
-        let wanted = read_text(rt.alloc(), text)?;
-        assert_eq!(rt;
-            format!(in rt.alloc(); "{proof:?}")?,
-            format!(in rt.alloc(); "{wanted:?}")?
-        );
+        assert_eq!(rt; write_text(rt.alloc(), &proof)?.as_str(), text);
+        assert!(rt; proof == read_text(rt.alloc(), text)?);
     }
     for (ask, fault) in [
         (Ask::Inclusion { size: 4, index: 9 }, ProofFault::NoSuchSize),

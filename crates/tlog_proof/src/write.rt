@@ -1,12 +1,13 @@
 //! Proofs as text.
-ghost use Rattle.std.specs.Prelude.{◌≡◌, ◌++◌, ◌<◌, ◌^◌, [], OnOk, IfOk, string_bytes};
+ghost use Rattle.std.specs.Prelude.{◌≡◌, ◌++◌, [], OnOk, IfOk, string_bytes};
 ghost use Rattle.std.specs.List.{AllByRecursion};
-ghost use Rattle.tlog_proof.specs.Text.{IsHash, number_line, hash_line, path_lines, IsWritable, IsProofText};
+ghost use Rattle.tlog_text.specs.Hash.{Is32Bytes};
+ghost use Rattle.tlog_proof.specs.Text.{number_line, hash_line, path_lines, IsWritable, IsProofText};
 
 use crate::proof::Proof;
-use base64::engine::general_purpose::STANDARD;
 use std::alloc::{AllocError, Global};
 use tlog_hash::Hash;
+use tlog_text::{push_hash, push_number};
 
 /// The text of a proof.
 ///
@@ -15,7 +16,7 @@ use tlog_hash::Hash;
 /// `path HASH` for each hash of the path. Each line ends in a newline; numbers are decimal without
 /// leading zeros, and hashes standard base64 with padding.
 ///
-/// Numbers of at most 9223372036854775807 and at most 64 hashes of the path are the condition.
+/// Numbers of at most 9223372036854775807 and at most `MAX_PATH` hashes of the path are the condition.
 pub fn write_text(alloc: Global, proof: &Proof) -> Result<String, AllocError>
     requires { IsWritable proof.now }
     ensures { IfOk result (λ text. IsProofText (string_bytes text) proof.now) }
@@ -34,7 +35,7 @@ pub fn write_text(alloc: Global, proof: &Proof) -> Result<String, AllocError>
             add_number(&mut text, "index ", *index)?;
             add_hash(&mut text, "root ", root)?;
             add_hash(&mut text, "leaf ", leaf)?;
-            add_path(&mut text, path.as_slice())?;
+            add_hashes(&mut text, path.as_slice())?;
         }
         Proof::Consistency {
             first,
@@ -48,7 +49,7 @@ pub fn write_text(alloc: Global, proof: &Proof) -> Result<String, AllocError>
             add_hash(&mut text, "root ", first_root)?;
             add_number(&mut text, "second ", *second)?;
             add_hash(&mut text, "root ", second_root)?;
-            add_path(&mut text, path.as_slice())?;
+            add_hashes(&mut text, path.as_slice())?;
         }
     }
     Ok(text)
@@ -58,24 +59,26 @@ pub fn write_text(alloc: Global, proof: &Proof) -> Result<String, AllocError>
 fn add_number(text: &mut String, name: &str, n: u64) -> Result<(), AllocError>
     ensures { OnOk result (string_bytes text.new ≡ string_bytes text.old ++ number_line name.now n []) }
 {
-    write!(text, "{name}{n}\n")
+    text.push_str(name)?;
+    push_number(text, n)?;
+    text.push('\n')
 }
 
 // Adds the line of a hash.
 fn add_hash(text: &mut String, name: &str, hash: &Hash) -> Result<(), AllocError>
     ensures ok { OnOk result (string_bytes text.new ≡ string_bytes text.old ++ hash_line name.now hash.now []) }
-    ensures is_hash { IsHash hash.now }
+    ensures is_hash { Is32Bytes hash.now }
 {
     text.push_str(name)?;
-    STANDARD.encode_string(hash, text)?;
+    push_hash(text, hash)?;
     text.push('\n')?;
     Ok(())
 }
 
 // Adds the lines of a path.
-fn add_path(text: &mut String, path: &[Hash]) -> Result<(), AllocError>
+fn add_hashes(text: &mut String, path: &[Hash]) -> Result<(), AllocError>
     ensures ok { OnOk result (string_bytes text.new ≡ string_bytes text.old ++ path_lines path.now []) }
-    ensures hashes { OnOk result (AllByRecursion IsHash path.now) }
+    ensures hashes { OnOk result (AllByRecursion Is32Bytes path.now) }
 {
     for hash in path {
         add_hash(text, "path ", hash)?;

@@ -73,26 +73,3 @@ fn no_entries(rt: HostRuntime) {
     assert_eq!(rt; top_level(0), 0);
     assert_eq!(rt; crate::width_in(0, 0, 0), None);
 }
-
-#[test]
-fn numbers(rt: HostRuntime) {
-    for (text, n) in [
-        ("0", Some(0)),
-        ("7", Some(7)),
-        ("100", Some(100)),
-        ("9223372036854775807", Some(MAX_SIZE)),
-        ("9223372036854775808", None),
-        ("18446744073709551616", None),
-        ("99999999999999999999999999", None),
-        ("", None),
-        ("00", None),
-        ("007", None),
-        ("+7", None),
-        ("-7", None),
-        (" 7", None),
-        ("7 ", None),
-        ("7a", None),
-    ] {
-        assert_eq!(rt; read_number(text), n, "at {text}");
-    }
-}

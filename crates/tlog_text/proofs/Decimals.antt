@@ -11,7 +11,9 @@ use Rattle.std.proofs.lemmas.List.{length-map, get_or-map}
 use Rattle.std.proofs.lemmas.Int.Digits.{first_digits_of}
 use Rattle.std.proofs.lemmas.Fmt.{decimal-digits_value, decimal_is_IsNumeral, decimal-digits_of, length-decimal-le}
 use Rattle.tlog_text.specs.Laws.{NumbersAreSpelled}
-use Rattle.tlog_text.specs.Number.{IsDecimal}
+use Rattle.tlog_text.specs.declared.number.NumberFault.{NumberFault}
+use Rattle.tlog_text.specs.declared.number.NumberFault.TheVariants.{NotANumber, TooLarge}
+use Rattle.tlog_text.specs.Number.{IsDecimal, ReadsNumber}
 
 own : IsNumeralModel (λ ds. list_all is_ascii_digit ds ≡ true) (digits_value 10)
 own = numerals_by_value _ (search rules)
@@ -91,3 +93,8 @@ numbers_are_spelled = record {
   one_number = one_number;
   one_text = λ text n lt. (decimal_is text n lt, λ e. subst (λ t. IsDecimal t n) (sym e) (decimal_written n lt));
 }
+
+-- a text that is refused is no number that is taken
+pub refused_number : (greatest : ℕ) (text : List ℕ) (e : NumberFault) → ReadsNumber greatest text (Err e) → (n : ℕ) → IsDecimal text n → n ≤ greatest → ⊥
+refused_number greatest text NotANumber refused n is small = refused n is
+refused_number greatest text TooLarge refused n is small = omega (arith, one_number text refused.0 n refused.1 is, refused.2)

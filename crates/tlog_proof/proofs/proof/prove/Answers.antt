@@ -1,7 +1,7 @@
 use Rattle.std.proofs.Common.{◌∷◌, [], take, get_or, Ok, sym, ap, ◌∙◌, length, arith}
 use Rattle.tlog_hash.specs.Tree.{mth}
-use Rattle.tlog_proof.specs.Answers.{seen}
-use Rattle.tlog_proof.specs.Made.{proof_in}
+use Rattle.tlog_text.specs.Answers.{seen}
+use Rattle.tlog_proof.specs.Made.{asked_proof}
 use Rattle.tlog_proof.specs.declared.proof.Proof.TheVariants.{Inclusion}
 use Rattle.tlog_proof.proofs.Lengths.{path_writable, proof_writable}
 use Rattle.tlog_proof.proofs.Parts.{mth-part_one}
@@ -15,7 +15,7 @@ returns-in_ok-leaf-in-Inclusion-clause-answer g c = λ es listed.
     let index = c.in-Inclusion.index in
     let root = (c.in_ok-root-in-Inclusion.ensures.ok es listed).1 in
     let leaf = c.in_ok-leaf-in-Inclusion.ensures.ok es listed in
-    ap (proof_in d es) c.in-Inclusion.is
+    ap (asked_proof d es) c.in-Inclusion.is
     ∙ ap (seen (λ path. Inclusion size index (mth d (take size es)) (d (0 ∷ get_or es index [])) path)) (c.in_ok-path-in-Inclusion.ensures es listed)
     ∙ (λ j. Ok (Inclusion size index (sym root j) (sym (leaf.1 ∙ mth-part_one d es index (omega (arith, leaf.0))) j) (sym c.new.ensures j)))
 

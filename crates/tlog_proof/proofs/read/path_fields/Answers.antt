@@ -4,7 +4,8 @@ use Rattle.std.specs.List.{AllByRecursion}
 use Rattle.std.proofs.lemmas.List.{nil_from_length}
 use Rattle.std.proofs.lemmas.Bool.{eqb-true}
 use Rattle.std.proofs.lemmas.Result.{err_from_is_err_and}
-use Rattle.tlog_proof.specs.Text.{IsHash, path_lines, base64_of}
+use Rattle.tlog_text.specs.Hash.{base64_of, Is32Bytes}
+use Rattle.tlog_proof.specs.Text.{path_lines}
 use Rattle.tlog_proof.proofs.Lines.{after_line, rest_of_path, all_read, next_hash, path_lines-push, hashes-push, fault_same}
 use Rattle.tlog_proof.proofs.read.path_fields.Goals as goal
 
@@ -33,7 +34,7 @@ loop-rest-preserved c =
       text = after_line c.loop-rest.rest.now (codes "path ") (base64_of c.in_ok-hash.hash) c.in_ok-hash.after.now c.loop-rest.invariant.text line.1;
       read = c.loop-rest.invariant.read ∙ ap (path_lines c.loop-rest.path.items) line.1 ∙ sym (ap (λ p. path_lines p c.in_ok-hash.after.now) c.in_ok-push.ensures.items ∙ path_lines-push c.loop-rest.path.items c.in_ok-hash.hash c.in_ok-hash.after.now);
       few = omega (arith, c.in_ok-push.ensures.len);
-      hashes = subst (AllByRecursion IsHash) (sym c.in_ok-push.ensures.items) (hashes-push c.loop-rest.path.items c.in_ok-hash.hash c.loop-rest.invariant.hashes line.0);
+      hashes = subst (AllByRecursion Is32Bytes) (sym c.in_ok-push.ensures.items) (hashes-push c.loop-rest.path.items c.in_ok-hash.hash c.loop-rest.invariant.hashes line.0);
     }
 
 pub returns-clause-complete : goal.returns-clause-complete

@@ -2,9 +2,10 @@ use Rattle.std.proofs.Common.{◌≡◌, ◌+◌, ◌∷◌, [], ◌++◌, take,
 use Rattle.std.specs.Prelude.{codes}
 use Rattle.std.specs.List.{AllByRecursion}
 use Rattle.std.proofs.lemmas.List.{take_more}
-use Rattle.tlog_proof.specs.Text.{IsHash, path_lines, hash_line}
+use Rattle.tlog_text.specs.Hash.{Is32Bytes}
+use Rattle.tlog_proof.specs.Text.{path_lines, hash_line}
 use Rattle.tlog_proof.proofs.Lines.{path_lines-push, path_lines-append, hashes-push}
-use Rattle.tlog_proof.proofs.write.add_path.Goals as goal
+use Rattle.tlog_proof.proofs.write.add_hashes.Goals as goal
 
 pub loop-hash-preserved : goal.loop-hash-preserved
 loop-hash-preserved c =
@@ -20,5 +21,5 @@ loop-hash-preserved c =
           ∙ ap (λ bs. bs ++ hash_line (codes "path ") hash []) c.loop-hash.invariant.written
           ∙ append_assoc old (path_lines so_far []) (hash_line (codes "path ") hash [])
           ∙ ap (λ bs. old ++ bs) (path_lines-append so_far (hash_line (codes "path ") hash []) ∙ sym (path_lines-push so_far hash []) ∙ ap (λ p. path_lines p []) (sym more));
-      hashes = subst (AllByRecursion IsHash) (sym more) (hashes-push so_far hash c.loop-hash.invariant.hashes c.in_ok-add_hash.ensures.is_hash);
+      hashes = subst (AllByRecursion Is32Bytes) (sym more) (hashes-push so_far hash c.loop-hash.invariant.hashes c.in_ok-add_hash.ensures.is_hash);
     }
