@@ -64,6 +64,18 @@ fn fold_and_pairs_of_leaf_hashes(rt: HostRuntime) -> Result<(), Fail> {
     Ok(())
 }
 
+// A row of over 256 hashes is no want of memory.
+#[test]
+fn pairs_of_a_long_row(rt: HostRuntime) -> Result<(), Fail> {
+    let row = [[7u8; 32]; 257];
+    let joined = pairs::<Sha256Tree>(rt.alloc(), &row)?;
+    assert_eq!(rt; joined.len(), 256);
+    assert_eq!(rt; joined[0], ([7; 32], [7; 32]));
+    assert_eq!(rt; joined[255].0, fold::<Sha256Tree>(&row[..256]));
+    assert_eq!(rt; joined[255].1, [7; 32]);
+    Ok(())
+}
+
 #[test]
 fn sums_collide(rt: HostRuntime) {
     let mut three = [0; 32];
