@@ -15,7 +15,8 @@ use Rattle.base64.specs.Engines.{standard}
 use Rattle.base64.proofs.EngineFacts.{IsAscii-encode_of}
 use Rattle.tlog_proof.specs.declared.proof.Proof.{Proof}
 use Rattle.tlog_proof.specs.declared.proof.Proof.TheVariants.{Inclusion, Consistency}
-use Rattle.tlog_proof.specs.Text.{base64_of, line, number_line, hash_line, path_lines, lines_of, title_of, IsWritable, IsProofText}
+use Rattle.tlog_text.specs.Hash.{base64_of}
+use Rattle.tlog_proof.specs.Text.{line, number_line, hash_line, path_lines, lines_of, title_of, IsWritable, IsProofText}
 use Rattle.tlog_proof.proofs.Spelling.{has_one_spelling}
 use Rattle.tlogmirror.specs.declared.check.TheConstants.{MOST_BYTES}
 use Rattle.tlogmirror.specs.declared.check.CheckFault.{CheckFault}
@@ -44,14 +45,14 @@ path_ascii (hash ∷ path) = hash_ascii (codes "path ") hash (path_lines path []
 
 lines_ascii : (proof : Proof) → IsWritable proof → IsAscii (lines_of proof)
 lines_ascii (Inclusion size index root leaf path) w =
-    number_ascii (codes "size ") size _ w.0 (literal_ascii (codes "size ") refl)
-    (number_ascii (codes "index ") index _ w.1 (literal_ascii (codes "index ") refl)
+    number_ascii (codes "size ") size _ (omega (arith, w.0)) (literal_ascii (codes "size ") refl)
+    (number_ascii (codes "index ") index _ (omega (arith, w.1)) (literal_ascii (codes "index ") refl)
     (hash_ascii (codes "root ") root _ (literal_ascii (codes "root ") refl)
     (hash_ascii (codes "leaf ") leaf _ (literal_ascii (codes "leaf ") refl) (path_ascii path))))
 lines_ascii (Consistency first first_root second second_root path) w =
-    number_ascii (codes "first ") first _ w.0 (literal_ascii (codes "first ") refl)
+    number_ascii (codes "first ") first _ (omega (arith, w.0)) (literal_ascii (codes "first ") refl)
     (hash_ascii (codes "root ") first_root _ (literal_ascii (codes "root ") refl)
-    (number_ascii (codes "second ") second _ w.1 (literal_ascii (codes "second ") refl)
+    (number_ascii (codes "second ") second _ (omega (arith, w.1)) (literal_ascii (codes "second ") refl)
     (hash_ascii (codes "root ") second_root _ (literal_ascii (codes "root ") refl) (path_ascii path))))
 
 title_ascii : (proof : Proof) → IsAscii (title_of proof)
