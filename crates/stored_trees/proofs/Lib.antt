@@ -12,3 +12,4 @@ pub mod PrefixSteps
 pub mod SliceSteps
 pub mod Settles
 pub mod EdgeSteps
+pub mod EmptySets

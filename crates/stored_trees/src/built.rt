@@ -8,9 +8,10 @@ use node_store::Store;
 use tlog_hash::{Hash, TreeHash};
 use tlog_shape::split;
 
-/// Whether the store holds all strings of the tree of one list of that size and root.
+/// Whether the store holds all strings of the tree of a list of that size and root (RFC 6962, section 2.1), the strings
+/// of its entries among them.
 ///
-/// It does not walk into what is known to be held. It takes no memory.
+/// It does not walk into what is remembered, each of which is to be held. It takes no memory.
 pub fn is_built<H: TreeHash>(store: &Store<H>, marks: &Marks, size: u64, root: &Hash) -> bool
     requires { AreBuilt H.digest store.now marks.now }
     ensures { IsTrue result ↔ IsBuilt H.digest store.now size root.now }

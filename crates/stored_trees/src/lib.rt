@@ -1,4 +1,17 @@
-//! Trees in a store: built, and walked.
+//! Trees that a store holds: built in it, and walked through it.
+//!
+//! A tree (RFC 6962, section 2.1) is given by its size and its root hash. `add_entries`, `add_row` and `add_above`
+//! add the strings of a tree from the leaves up. From the root down, `is_built` tells whether all of a tree is held,
+//! `missing_of` names the files of a log that have what is not (C2SP tlog-tiles), `row_at` and `entries_at` give the
+//! hashes of a tile and the entries of a bundle, `range_hash` the hash of a range, and `is_prefix` tells whether one
+//! tree begins another. `settle` remembers a tree that is held, so that no later walk goes into it.
+//!
+//! ```text
+//! let mut store: Store<Sha256Tree> = Store::new(alloc);
+//! let root = add_entries(&mut store, &[b"a", b"b", b"c"])?;
+//! is_built(&store, &Marks::new(alloc), 3, &root)  // true
+//! entries_at(alloc, &store, 3, &root, 0, 3)?      // Some of the three entries
+//! ```
 #![tactic(auto)]
 
 mod building;

@@ -8,7 +8,13 @@ use std::collections::HashSet;
 use std::marker::Model;
 use tlog_hash::Hash;
 
-/// A set of sizes with hashes.
+/// A set of sizes with hashes: what is remembered of trees.
+///
+/// ```text
+/// let mut marks = Marks::new(alloc);
+/// marks.add(3, &root)?;
+/// marks.contains(3, &root)  // true
+/// ```
 #[derive(Drop)]
 pub struct Marks {
     points: HashSet<(u64, Hash)>,
@@ -36,7 +42,11 @@ impl Marks {
         }
     }
 
-    /// Adds a size and hash. After want of memory the set is as it was.
+    /// Adds a size and hash.
+    ///
+    /// # Errors
+    ///
+    /// `AllocError` comes only where a growth was refused. The set is as it was.
     pub fn add(&mut self, size: u64, root: &Hash) -> Result<(), AllocError>
         ensures ok { OnOk result (self.new ≡ set.insert self.old (record { size = size; root = root.now })) }
         ensures err { OnErr result (self.new ≡ self.old) }

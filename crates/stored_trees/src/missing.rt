@@ -18,10 +18,16 @@ use tlog_hash::{Hash, TreeHash};
 use tlog_shape::{edge_index, split};
 use tlog_tiles::Path;
 
-/// The paths of the nodes where the walk from the root of that size fails: tiles by falling level and rising index,
-/// then bundles by rising index, each once.
+/// The paths (C2SP tlog-tiles) of the nodes where the walk from the root of that size fails: full tiles by falling level
+/// and rising index, then bundles by rising index, each once. There is none exactly where the tree is held.
 ///
-/// It does not walk into what is known to be held.
+/// From a node of two or more entries the walk goes on to both parts where the pair of its hash is held, and else
+/// fails there; at one entry it fails where no entry of the hash is held. It does not go into what is remembered, each
+/// of which is to be held.
+///
+/// # Errors
+///
+/// `AllocError` comes only where a growth was refused.
 pub fn missing_of<H: TreeHash>(
     alloc: Global,
     store: &Store<H>,

@@ -9,9 +9,10 @@ use tlog_hash::{Hash, TreeHash};
 use tlog_shape::split;
 
 /// Whether the entries of the first tree are a prefix of those of the second, each given by its size and root. Both
-/// are to be held.
+/// are to be held; of others nothing is said of the answer.
 ///
-/// It compares hashes of nodes that are held, and hashes nothing. It takes no memory.
+/// It compares hashes of nodes that are held, and hashes nothing: under a digest that collides a list can have the
+/// hash of another list's beginning. It takes no memory.
 pub fn is_prefix<H: TreeHash>(store: &Store<H>, small: (u64, &Hash), large: (u64, &Hash)) -> bool
     requires clean { NoClash H.digest store.now }
     ensures { (first second : List (List ℕ)) → IsTreeOf H.digest store.now small.entry.0 small.entry.1.now first → IsTreeOf H.digest store.now large.entry.0 large.entry.1.now second → IsTrue result ↔ IsPrefix first second }

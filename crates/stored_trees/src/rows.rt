@@ -11,9 +11,16 @@ use std::alloc::{AllocError, Global};
 use tlog_hash::{Hash, TreeHash};
 use tlog_shape::split;
 
-/// The hashes of a tile of the tree of that size and root, where the tile is within it.
+/// The hashes of a tile (C2SP tlog-tiles, "Merkle Tree") of the tree of that size and root: as many as `width`, each of
+/// `256^level` entries, from the one with the number `256 * index` of its level on. `None` where the tile is not within
+/// the tree; so it is for a level above 7 and for a width outside 1 to 256. Where the tree is not held nothing else is
+/// said of the answer.
 ///
 /// From the root it goes down to the nodes that cover the tile, and along them once.
+///
+/// # Errors
+///
+/// `AllocError` comes only where a growth was refused.
 pub fn row_at<H: TreeHash>(
     alloc: Global,
     store: &Store<H>,
