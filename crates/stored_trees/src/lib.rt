@@ -25,6 +25,8 @@ mod prefix;
 mod ranges;
 mod rows;
 mod settling;
+#[cfg(test)]
+mod tests;
 
 pub use building::{add_above, add_entries, add_row};
 pub use built::is_built;
