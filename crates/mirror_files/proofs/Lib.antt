@@ -1,3 +1,4 @@
 pub mod ItemLemmas
 pub mod ListLemmas
 pub mod BodyLemmas
+pub mod OneText

@@ -2,3 +2,4 @@ pub mod Items
 pub mod StateText
 pub mod Reading
 pub mod Stands
+pub mod Laws
