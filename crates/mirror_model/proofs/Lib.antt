@@ -24,6 +24,7 @@ pub mod Listing
 pub mod Keeping
 pub mod Headline
 pub mod Happening
+pub mod Serving
 pub mod MissingPaths
 pub mod EdgeWalks
 pub mod MissingWithin

@@ -102,7 +102,7 @@ module _ (digest : List ℕ → List ℕ) (hash : List ℕ) where
   first_of : List ℕ → ℕ
   first_of s = get_or s 0 2
 
-  is_leaf : (s : List ℕ) → IsLeafOf s ⊎ (IsLeafOf s → ⊥)
+  pub is_leaf : (s : List ℕ) → IsLeafOf s ⊎ (IsLeafOf s → ⊥)
   unfolding first_of
   is_leaf [] = inr (λ l. let e : 2 ≡ 0 = ap first_of l.is in omega arith)
   is_leaf (suc n ∷ s) = inr (λ l. let e : suc n ≡ 0 = ap first_of l.is in omega arith)
@@ -118,7 +118,7 @@ module _ (digest : List ℕ → List ℕ) (hash : List ℕ) where
       at true e = inl (eqb-true i j e)
       at false e = inr (eqb-false i j e)
 
-  is_pair : (s : List ℕ) → IsPairOf s ⊎ (IsPairOf s → ⊥)
+  pub is_pair : (s : List ℕ) → IsPairOf s ⊎ (IsPairOf s → ⊥)
   unfolding first_of
   is_pair [] = inr (λ p. let e : 2 ≡ 1 = ap first_of p.is in omega arith)
   is_pair (zero ∷ s) = inr (λ p. let e : 0 ≡ 1 = ap first_of p.is in omega arith)
@@ -210,7 +210,7 @@ module _ (digest : List ℕ → List ℕ) (held : Strings) where
       (front_empty digest held es (omega (arith, b.is.size_is, small))).1 all path ((missing_is_front digest len held es apart path).0 m')
 
 -- the head of no entries of a lawful view has the root of none
-none_root : (digest : List ℕ → List ℕ) (size : ℕ) (root : List ℕ) (rows : List (List ℕ)) → size ≡ 0 → HasEdgeRows digest size root rows → digest [] ≡ root
+pub none_root : (digest : List ℕ → List ℕ) (size : ℕ) (root : List ℕ) (rows : List (List ℕ)) → size ≡ 0 → HasEdgeRows digest size root rows → digest [] ≡ root
 unfolding edge_levels
 none_root digest size root [] z h = h.root_is
 none_root digest size root (row ∷ rows) z h = absurd (let none : length (map length (row ∷ rows)) ≡ 0 = ap length h.widths ∙ ap (λ n. length (map (λ w. 32 * w) (edge_widths n))) z in omega arith)

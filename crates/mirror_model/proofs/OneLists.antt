@@ -123,7 +123,7 @@ forks_tell digest hash v lawful a b first second differ p q = (
     along e f pre = record { rest = pre.rest; is = ap (λ z. z ++ pre.rest) e ∙ pre.is ∙ sym f }
 
 -- of two strings each at most the other both are one
-at_most_both : (x y : List ℕ) → IsAtMost x y → IsAtMost y x → x ≡ y
+pub at_most_both : (x y : List ℕ) → IsAtMost x y → IsAtMost y x → x ≡ y
 at_most_both x y a b = slice_cmp-IsAntisymmetric nat_cmp-IsAntisymmetric x y (tie (slice_cmp nat_cmp y x) (slice_cmp nat_cmp x y) (nat_list_cmp_total.antisymm x y) a b)
   where
     tie : (o p : Ordering) → p ≡ ordering_reverse o → is_le p ≡ true → is_le o ≡ true → p ≡ Equal

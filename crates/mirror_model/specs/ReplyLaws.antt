@@ -1,13 +1,13 @@
 -- Laws of what is served: it is one, and its root is its tree hash.
-use Rattle.std.specs.Prelude.{◌≡◌, ℕ, List, length}
+use Rattle.std.specs.Prelude.{◌≡◌, ◌↔◌, ℕ, List, length}
 use Rattle.tlog_hash.specs.Tree.{mth}
 use Rattle.tlog_tiles.specs.declared.paths.Path.{Path}
 use Rattle.node_store.specs.Strings.{Has}
 use Rattle.mirror_model.specs.View.{View}
 use Rattle.mirror_model.specs.Strings.{IsDigest}
 use Rattle.mirror_model.specs.Heads.{IsHead}
-use Rattle.mirror_model.specs.Complete.{IsLawful}
-use Rattle.mirror_model.specs.Served.{Served, Replies, IsRangeHash}
+use Rattle.mirror_model.specs.Complete.{IsComplete, IsLawful}
+use Rattle.mirror_model.specs.Served.{Served, IsServedList, Replies, IsRangeHash}
 
 -- a view serves one thing at most
 pub record IsSameServed (digest : List ℕ → List ℕ) (note other : List ℕ) (size n : ℕ) (root r : List ℕ) (first second : List (List ℕ)) : Type 0 where
@@ -46,3 +46,23 @@ RangeHashIsOne =
     (digest : List ℕ → List ℕ) → IsDigest digest → (v : View) → IsLawful digest v →
     (start len : ℕ) (first second : List ℕ) → IsRangeHash digest v start len first →
     IsRangeHash digest v start len second → first ≡ second
+
+-- something is served
+pub record ServesSome (digest : List ℕ → List ℕ) (v : View) : Type 0 where
+  pub entries : List (List ℕ)
+  pub is : IsServedList digest v entries
+
+-- some head is complete
+pub record CompletesSome (digest : List ℕ → List ℕ) (v : View) : Type 0 where
+  pub size : ℕ
+  pub root : List ℕ
+  pub is : IsComplete digest v size root
+
+-- something is served exactly where something is complete
+abbrev pub ServedWhereComplete : Type 0
+ServedWhereComplete =
+    (digest : List ℕ → List ℕ) →
+    IsDigest digest →
+    (v : View) →
+    IsLawful digest v →
+    ServesSome digest v ↔ CompletesSome digest v

@@ -5,10 +5,10 @@ ghost use Rattle.mirror_model.specs.CompleteLaws.{CompleteKeepsItsList, Complete
 ghost use Rattle.mirror_model.specs.ForkLaws.{ForksStay, ForkMeansNoPrefix, ForkIsUnordered};
 ghost use Rattle.mirror_model.specs.LawfulLaws.{HeadsHaveEdges, NothingIsLawful, PlusIsLawful, UnionIsLawful};
 ghost use Rattle.mirror_model.specs.MarkLaws.{MarksStay, WholeListIsMark};
-ghost use Rattle.mirror_model.specs.ReplyLaws.{RangeHashIsOne, ReplyIsOne, ServedIsOne, ServedRootIsTreeHash};
+ghost use Rattle.mirror_model.specs.ReplyLaws.{RangeHashIsOne, ReplyIsOne, ServedIsOne, ServedRootIsTreeHash, ServedWhereComplete};
 
-/// Views that hold the same are one, and they are joined in any order, in any grouping and any number
-/// of times with one result. Their strings clash either way round or neither: where a string of the one
+/// Views that hold the same are one, and views of one origin are joined in any order, in any grouping
+/// and any number of times with one result. Their strings clash either way round or neither: where a string of the one
 /// and another of the other share a digest, if neither view clashes by itself.
 pub fn union_law()
     ensures same { MutualSubviewsAreEqual }
@@ -32,18 +32,20 @@ pub fn growth_law()
     ensures same { CompleteKeepsItsList }
 {}
 
-/// The checkpoint served says the length and the tree hash of the entries served. A view serves one
-/// checkpoint and one list of entries at most, and has one reply at most for a path and one hash at most
-/// for a range.
+/// The checkpoint served says the length and the tree hash of the entries served. A lawful view serves
+/// one checkpoint and one list of entries at most, has one reply at most for a path and one hash at most
+/// for a range, and serves something exactly where something is complete.
 pub fn served_law()
     ensures truth { ServedRootIsTreeHash }
     ensures one { ServedIsOne }
     ensures reply { ReplyIsOne }
     ensures range { RangeHashIsOne }
+    ensures some { ServedWhereComplete }
 {}
 
-/// Two complete checkpoints that differ are a fork exactly where neither list of entries is a prefix
-/// of the other, and a fork stays one as the view grows.
+/// Two complete checkpoints of a lawful view that differ are a fork exactly where neither list of
+/// entries is a prefix of the other. Either way round it is the same fork, and one it stays as the view
+/// grows.
 pub fn forks_law()
     ensures tell { ForkMeansNoPrefix }
     ensures turn { ForkIsUnordered }

@@ -1,3 +1,4 @@
+use Rattle.mirror_model.proofs.Serving.{served_where_complete}
 use Rattle.mirror_model.proofs.OneLists.{serves_truth, serves_one, replies_once, ranges_hash_once}
 use Rattle.mirror_model.proofs.laws.views.served_law.Goals as goal
 
@@ -12,3 +13,6 @@ returns-clause-range c = ranges_hash_once
 
 pub returns-clause-truth : goal.returns-clause-truth
 returns-clause-truth c = serves_truth
+
+pub returns-clause-some : goal.returns-clause-some
+returns-clause-some c = served_where_complete
