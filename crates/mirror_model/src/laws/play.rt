@@ -9,16 +9,18 @@ pub fn reaches_law()
     ensures openings { OpeningReachesGoByLast }
 {}
 
-/// After a run of events a mirror's view is the union of the opening views and of the good items that
-/// reach it, where no strings clashed, and each event for which memory was refused was done again. In
-/// any other run the view lies between what was done and what may have been.
+/// After a run of events over mirrors of one origin a mirror's view is the union of the opening views
+/// and of the good items that reach it, where no event was answered by a clash, and each event for which
+/// memory was refused is followed by the same event. Whatever was answered, the view has all that the
+/// events that were done bring to it, and nothing but what these and the events for which memory was
+/// refused bring.
 pub fn run_law()
     ensures reached { ForMirrors RunIsReached }
     ensures bounded { ForMirrors RunIsBounded }
 {}
 
-/// Where no two strings of the opening views and of the good items share a digest, no event is answered
-/// by a clash.
+/// Where no two different strings of the opening views and of the good items share a digest, no event of
+/// a run over mirrors of one origin is answered by a clash.
 pub fn clash_law()
     ensures { ForMirrors NoneClashes }
 {}
