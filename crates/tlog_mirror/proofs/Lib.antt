@@ -1,2 +1,3 @@
 pub mod NewMirrors
 pub mod TakenItems
+pub mod EdgeRows

@@ -5,6 +5,7 @@
 //! strings, and what is remembered of complete heads beside them.
 #![tactic(auto)]
 
+mod edge;
 mod fault;
 mod kept;
 mod mirror;
