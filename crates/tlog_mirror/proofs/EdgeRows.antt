@@ -111,7 +111,7 @@ pub other_width :
     HaveWidths widths (bytes_of rows) → ⊥
 other_width widths rows i d lt same differs have =
     let left : get_or (map length (bytes_of rows)) i 0 ≡ length (get_or rows i d).now =
-        get_or-map length (bytes_of rows) i d.now 0 (omega (arith, length_bytes rows)) ∙ ap length (get_or-map (λ (row : Bor (List ℕ)). row.now) rows i d d.now lt) in
+    get_or-map length (bytes_of rows) i d.now 0 (omega (arith, length_bytes rows)) ∙ ap length (get_or-map (λ (row : Bor (List ℕ)). row.now) rows i d d.now lt) in
     let right : get_or (map (λ width. 32 * width) widths) i 0 ≡ 32 * get_or widths i 0 = get_or-map (λ width. 32 * width) widths i 0 0 (omega (arith, same, lt)) in
     differs (sym left ∙ ap (λ xs. get_or xs i 0) have ∙ right)
   where
@@ -131,14 +131,13 @@ rows_more es ws i d rows more row in_es in_ws is read hashes lengths =
     let w = get_or ws i 0 in
     let bs : List (List ℕ) = bytes_of (take i es) in
     let bs_more : bytes_of (take (i + 1) es) ≡ bs ++ e.now ∷ [] =
-        mapped_more (λ (x : Bor (List ℕ)). x.now) (take i es) (take (i + 1) es) e bs e.now (take_more es i d in_es) refl refl in
+    mapped_more (λ (x : Bor (List ℕ)). x.now) (take i es) (take (i + 1) es) e bs e.now (take_more es i d in_es) refl refl in
     let ws_more : take (i + 1) ws ≡ take i ws ++ w ∷ [] = take_more ws i 0 in_ws in
-    let len : length e.now ≡ 32 * w = ap length read.text ∙ length-row_text row.items read.sizes ∙ ap (λ n. 32 * n) read.count in
-    (
+    let len : length e.now ≡ 32 * w = ap length read.text ∙ length-row_text row.items read.sizes ∙ ap (λ n. 32 * n) read.count in (
       mapped_more (λ (x : Vec (List ℕ) Global). x.items) rows more row (map row_of bs) (row_of e.now) is hashes (row_is_one w e.now row.items read)
-      ∙ sym (mapped_more row_of bs (bytes_of (take (i + 1) es)) e.now (map row_of bs) (row_of e.now) bs_more refl refl),
+          ∙ sym (mapped_more row_of bs (bytes_of (take (i + 1) es)) e.now (map row_of bs) (row_of e.now) bs_more refl refl),
       mapped_more length bs (bytes_of (take (i + 1) es)) e.now (map (λ width. 32 * width) (take i ws)) (32 * w) bs_more lengths len
-      ∙ sym (mapped_more (λ width. 32 * width) (take i ws) (take (i + 1) ws) w (map (λ width. 32 * width) (take i ws)) (32 * w) ws_more refl refl),
+          ∙ sym (mapped_more (λ width. 32 * width) (take i ws) (take (i + 1) ws) w (map (λ width. 32 * width) (take i ws)) (32 * w) ws_more refl refl),
     )
 
 -- ---- strings

@@ -137,7 +137,7 @@ module _ (digest : List ℕ → List ℕ) (origin : List ℕ) (kept : List KeptN
 -- ---- the take of an item
 
 -- what is answered where all is allowed is answered where this is allowed
-allowed : (digest : List ℕ → List ℕ) (Allowed : Type 0) (full old : View) (answer : Answer) (new : View) → Allowed → Answers digest old (Unit {0}) full answer new → Answers digest old Allowed full answer new
+pub allowed : (digest : List ℕ → List ℕ) (Allowed : Type 0) (full old : View) (answer : Answer) (new : View) → Allowed → Answers digest old (Unit {0}) full answer new → Answers digest old Allowed full answer new
 allowed digest Allowed full old Done new good h = (good, h.1, h.2)
 allowed digest Allowed full old Refused new good h = absurd (h.0 tt)
 allowed digest Allowed full old Clashed new good h = (good, h.1, h.2)
@@ -157,9 +157,9 @@ gathered none strings xs ys empty is same =
     ∙ ap set.from_list same
 
 module _ (digest : List ℕ → List ℕ) (item : Item) where
-  pub gathered_short : IsDigest digest → (origin : List ℕ) → IsGood digest origin [] item → (strings : Strings) → strings ≡ set.from_list (strings_of digest item) → (entry : List ℕ) → Has strings (0 ∷ entry) → length entry ≤ 65535
-  gathered_short hash origin good strings is entry h =
-      is_short entry (item_strings digest hash origin [] item good (0 ∷ entry) (listed_from_has (strings_of digest item) (0 ∷ entry) (subst (λ v. Has v (0 ∷ entry)) is h)))
+  pub gathered_short : IsDigest digest → (origin : List ℕ) (keys : List Key) → IsGood digest origin keys item → (strings : Strings) → strings ≡ set.from_list (strings_of digest item) → (entry : List ℕ) → Has strings (0 ∷ entry) → length entry ≤ 65535
+  gathered_short hash origin keys good strings is entry h =
+      is_short entry (item_strings digest hash origin keys item good (0 ∷ entry) (listed_from_has (strings_of digest item) (0 ∷ entry) (subst (λ v. Has v (0 ∷ entry)) is h)))
 
   module _ (keys : List Key) (old : View) (good : IsGood digest old.origin keys item) where
     pub takes_added :

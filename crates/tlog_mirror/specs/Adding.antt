@@ -1,5 +1,5 @@
 -- What is added to a view, and how that is answered.
-use Rattle.std.specs.Prelude.{Result, Ok, Err}
+use Rattle.std.specs.Prelude.{ℕ, List, [], ◌∷◌, Result, Ok, Err}
 use Rattle.std.specs.FinSet as set
 use Rattle.node_store.specs.Strings.{Strings}
 use Rattle.node_store.specs.declared.store.AddFault.{AddFault}
@@ -12,6 +12,10 @@ use Rattle.mirror_model.specs.declared.fault.TakeFault.TheVariants as taking
 -- the view with these strings too
 abbrev pub with_strings : View → Strings → View
 with_strings v strings = record { origin = v.origin; notes = v.notes; strings = set.union v.strings strings }
+
+-- the view with that note too
+abbrev pub with_note : View → List ℕ → View
+with_note v note = record { origin = v.origin; notes = set.union v.notes (set.from_list (note ∷ [])); strings = v.strings }
 
 -- what an answer of adding strings is to the views
 abbrev pub added : Result (Unit {0}) AddFault → Answer

@@ -5,7 +5,7 @@ ghost use Rattle.mirror_model.specs.Edge.{edge_root, edge_strings, edge_widths, 
 ghost use Rattle.mirror_model.specs.Item.{row_of};
 ghost use Rattle.mirror_model.specs.Strings.{HasClash};
 ghost use Rattle.node_store.specs.Strings.{NoClash};
-ghost use Rattle.tlog_tiles.specs.Seen.{seen};
+ghost use Rattle.tlog_text.specs.Answers.{seen};
 ghost use Rattle.tlog_mirror.specs.Edges.{JudgesEdge, ReadsEdge, ReadsRows};
 
 use mirror_model::TakeFault;

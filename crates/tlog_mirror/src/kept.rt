@@ -1,5 +1,13 @@
 //! The notes that a mirror keeps.
+ghost use Rattle.std.specs.Prelude.{◌≡◌, IfOk, length};
+ghost use Rattle.std.specs.Cmp.Lexicographic.{slice_cmp};
+ghost use Rattle.std.specs.List.Sorted.{IsBinarySearchResult, IsSearchInRange};
+ghost use Rattle.std.specs.Ordering.{nat_cmp};
+ghost use Rattle.tlog_mirror.specs.Kept.{note_bytes};
+
 use signed_note::Note;
+use std::alloc::{AllocError, Global};
+use std::cmp::Ordering;
 use tlog_hash::Hash;
 
 // A note, with the size and the root that its text says.
@@ -8,4 +16,33 @@ pub(crate) struct KeptNote {
     pub(crate) note: Note,
     pub(crate) size: u64,
     pub(crate) root: Hash,
+}
+
+impl KeptNote {
+    // An equal one.
+    pub(crate) fn copy(&self, alloc: Global) -> Result<KeptNote, AllocError>
+        ensures { IfOk result (λ kept. kept ≡ self.now) }
+    {
+        let note = self.note.copy(alloc)?;
+        Ok(KeptNote {
+            note,
+            size: self.size,
+            root: self.root,
+        })
+    }
+}
+
+// Where the note of those bytes is among kept notes that rise, or where it would go.
+pub(crate) fn place_of(kept: &[KeptNote], bytes: &[u8]) -> Result<usize, usize>
+    ensures bound { IsSearchInRange result (length kept.now) }
+    ensures place { IsBinarySearchResult (λ k. slice_cmp nat_cmp (note_bytes k) bytes.now) kept.now result }
+{
+    kept.binary_search_by(|k| compared(k, bytes))
+}
+
+// How the bytes of a kept note compare to others.
+fn compared(kept: &KeptNote, bytes: &[u8]) -> Ordering
+    ensures { result ≡ slice_cmp nat_cmp (note_bytes kept.now) bytes.now }
+{
+    kept.note.bytes().cmp(&bytes)
 }

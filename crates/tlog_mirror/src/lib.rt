@@ -7,8 +7,10 @@
 
 mod edge;
 mod fault;
+mod head_note;
 mod kept;
 mod mirror;
+mod take_head;
 mod takes;
 #[cfg(test)]
 mod tests;

@@ -72,6 +72,13 @@ impl<H: TreeHash> Mirror<H> {
         &self.origin
     }
 
+    /// How many sizes with roots are remembered of complete heads. It takes no memory.
+    pub fn remembered(&self) -> usize
+        ensures { result ≡ set.len self.now.remembered }
+    {
+        self.remembered.len()
+    }
+
     /// The strings that are held. It takes no memory.
     pub fn strings(&self) -> &Store<H>
         ensures { result.now ≡ self.now.view.strings }

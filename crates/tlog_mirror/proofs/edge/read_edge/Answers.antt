@@ -1,5 +1,5 @@
 use Rattle.std.proofs.Common.{◌≡◌, ◌<◌, ◌*◌, ℕ, List, Vec, Global, Result, Ok, Err, IfOk, All, length, map, ap, sym, subst, ◌∙◌}
-use Rattle.tlog_tiles.specs.Seen.{seen}
+use Rattle.tlog_text.specs.Answers.{seen}
 use Rattle.mirror_model.specs.Edge.{edge_widths}
 use Rattle.mirror_model.specs.declared.fault.TakeFault.{TakeFault}
 use Rattle.tlog_mirror.specs.Edges.{ReadsRows}

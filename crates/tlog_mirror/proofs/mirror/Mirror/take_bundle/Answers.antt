@@ -24,7 +24,7 @@ add_strings-requires-clause-short g c =
     let d = g.H.TreeHash.digest in
     let w : IsWidth c.args.width = record { some = c.requires.some; most = c.requires.most } in
     let item = Bundle c.args.width c.args.bytes.now in
-    gathered_short d item g.met.H.TreeHash.digest_length [] (bundle_good c.args.width c.args.bytes.now w (map (λ e. e.now) c.in-Ok.entries.items) c.in-Ok.ensures) c.add_entries.new.store
+    gathered_short d item g.met.H.TreeHash.digest_length [] [] (bundle_good c.args.width c.args.bytes.now w (map (λ e. e.now) c.in-Ok.entries.items) c.in-Ok.ensures) c.add_entries.new.store
     (gathered c.new-strings.result c.add_entries.new.store _ _ c.new-strings.ensures c.in-Ok-add_entries.ensures.ok (ap (λ (es : List (Bor (List ℕ))). strings d (map (λ e. e.now) es)) c.as_slice.ensures.value ∙ bundle_strings_are d c.args.width c.args.bytes.now (map (λ e. e.now) c.in-Ok.entries.items) c.in-Ok.ensures))
 
 pub returns-in-Ok-add_entries-clause-takes : goal.returns-in-Ok-add_entries-clause-takes

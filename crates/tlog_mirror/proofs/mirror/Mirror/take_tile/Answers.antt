@@ -13,7 +13,7 @@ add_strings-requires-clause-short g c =
     let d = g.H.TreeHash.digest in
     let w : IsWidth c.args.width = record { some = c.requires.some; most = c.requires.most } in
     let item = Tile c.args.width c.args.bytes.now in
-    gathered_short d item g.met.H.TreeHash.digest_length [] (tile_good c.args.width c.args.bytes.now w c.in-Ok.row.items c.in-Ok.ensures) c.add_row.new.store
+    gathered_short d item g.met.H.TreeHash.digest_length [] [] (tile_good c.args.width c.args.bytes.now w c.in-Ok.row.items c.in-Ok.ensures) c.add_row.new.store
     (gathered c.new-strings.result c.add_row.new.store _ _ c.new-strings.ensures c.in-Ok-add_row.ensures.ok (ap (joins d) c.as_slice.ensures.value ∙ tile_joins c.args.width c.args.bytes.now w d c.in-Ok.row.items c.in-Ok.ensures))
 
 pub returns-in-Ok-add_row-clause-takes : goal.returns-in-Ok-add_row-clause-takes

@@ -1,0 +1,121 @@
+//! The takes of heads.
+ghost use Rattle.std.specs.Prelude.{◌≡◌, ◌≤◌, ℕ, List, ◌∷◌, length, map, OnOk, OnErr};
+ghost use Rattle.mirror_model.specs.Answered.{answer_of};
+ghost use Rattle.mirror_model.specs.Complete.{HasEdge};
+ghost use Rattle.mirror_model.specs.Heads.{IsHead};
+ghost use Rattle.mirror_model.specs.Refusals.{JudgesHead, ReadsHead};
+ghost use Rattle.mirror_model.specs.Steps.{Answers, Takes};
+ghost use Rattle.mirror_model.specs.declared.items.Item.TheVariants.{Head};
+ghost use Rattle.node_store.specs.Strings.{Has, NoClash};
+ghost use Rattle.tlog_mirror.specs.Adding.{added, with_note, with_strings};
+
+use crate::edge::take_edge;
+use crate::head_note::read_head;
+use crate::kept::{KeptNote, place_of};
+use crate::mirror::Mirror;
+use crate::takes::taken;
+use mirror_model::TakeFault;
+use node_store::{AddFault, Store};
+use signed_note::Verifier;
+use std::alloc::{AllocError, Global};
+use tlog_checkpoint::Checkpoint;
+use tlog_hash::TreeHash;
+
+impl<H: TreeHash> Mirror<H> {
+    /// The checkpoint of a head's note, where the note is good: it is a checkpoint of the mirror's origin, and
+    /// it opens under the keys (C2SP signed-note and tlog-checkpoint). Its edge is not asked for, and nothing
+    /// is taken.
+    ///
+    /// # Errors
+    ///
+    /// The first that applies: `Note`, where the bytes are no note; `Checkpoint`, where its text is no
+    /// checkpoint; `OtherOrigin`; `NoTrustedSignature`, where no key accepts a line of it. `OutOfMemory` where
+    /// memory was refused, before any of them or after.
+    pub fn check_head(
+        &self,
+        alloc: Global,
+        keys: &[Box<dyn Verifier>],
+        note: &[u8],
+    ) -> Result<Checkpoint, TakeFault>
+        ensures { ReadsHead note.now self.now.view.origin (map (λ k. key k) keys.now) result }
+    {
+        match read_head(alloc, self.origin(), keys, note) {
+            Ok((_, checkpoint)) => Ok(checkpoint),
+            Err(fault) => Err(fault),
+        }
+    }
+
+    /// Takes a head: a checkpoint note, and the edge rows of its size, lowest level first (C2SP tlog-tiles,
+    /// "Merkle Tree"). Extension lines and lines of unknown keys keep no note from being taken.
+    ///
+    /// Its strings are those that the edge rows hash on the way to the root. The note is entered last.
+    ///
+    /// # Errors
+    ///
+    /// The first that applies: those of `check_head`; `EdgeCount`, where there are not as many rows as the
+    /// size has partial tiles; `EdgeLength`, where a row has not 32 bytes for each hash of its tile;
+    /// `EdgeMismatch`, where the rows do not lead to the root; `Collision`, where two different strings, of
+    /// those that are held and the rows' own, share a digest. They leave the mirror as it was. `OutOfMemory`
+    /// where a growth was refused: the mirror then lies between what it was and what it would have been, it
+    /// has the note only where it has all the strings, and taking the head again completes it.
+    pub fn take_head(
+        &mut self,
+        alloc: Global,
+        keys: &[Box<dyn Verifier>],
+        note: &[u8],
+        edge: &[&[u8]],
+    ) -> Result<(), TakeFault>
+        ensures takes { Takes H.digest (map (λ k. key k) keys.now) self.old.view (Head note.now (map (λ row. row.now) edge.now)) (answer_of result) self.new.view }
+        ensures judged { JudgesHead H.digest self.old.view.origin (map (λ k. key k) keys.now) note.now (map (λ row. row.now) edge.now) result }
+        ensures remembered { self.new.remembered ≡ self.old.remembered }
+    {
+        let (note, checkpoint) = match read_head(alloc, self.origin(), keys, note) {
+            Ok(head) => head,
+            Err(fault) => return Err(fault),
+        };
+        let size = checkpoint.size;
+        let root = checkpoint.root;
+        let mut strings = Store::new(alloc);
+        match take_edge::<H>(alloc, &mut strings, size, &root, edge) {
+            Ok(()) => {}
+            Err(fault) => return Err(fault),
+        }
+        taken(self.keep_head(KeptNote { note, size, root }, &strings))
+    }
+
+    // Adds the strings of a head, and then its note.
+    fn keep_head(&mut self, kept: KeptNote, strings: &Store<H>) -> Result<(), AddFault>
+        requires no_clash { NoClash H.digest strings.now }
+        requires short { (entry : List ℕ) → Has strings.now (0 ∷ entry) → length entry ≤ 65535 }
+        requires said { IsHead kept.note.bytes self.old.view.origin kept.size kept.root }
+        requires edge { HasEdge H.digest (with_strings self.old.view strings.now) kept.note.bytes }
+        ensures adds { Answers H.digest self.old.view (Unit {0}) (with_note (with_strings self.old.view strings.now) kept.note.bytes) (added result) self.new.view }
+        ensures remembered { self.new.remembered ≡ self.old.remembered }
+    {
+        match self.add_strings(strings) {
+            Ok(()) => {}
+            Err(fault) => return Err(fault),
+        }
+        match self.keep_note(kept) {
+            Ok(()) => Ok(()),
+            Err(AllocError) => Err(AddFault::OutOfMemory),
+        }
+    }
+
+    // Enters a note in its place, if it is not kept yet.
+    pub(crate) fn keep_note(&mut self, kept: KeptNote) -> Result<(), AllocError>
+        requires said { IsHead kept.note.bytes self.old.view.origin kept.size kept.root }
+        requires edge { HasEdge H.digest self.old.view kept.note.bytes }
+        ensures ok { OnOk result (self.new.view ≡ with_note self.old.view kept.note.bytes) }
+        ensures err { OnErr result (self.new.view ≡ self.old.view) }
+        ensures remembered { self.new.remembered ≡ self.old.remembered }
+    {
+        match place_of(self.kept.as_slice(), kept.note.bytes()) {
+            Ok(_) => Ok(()),
+            Err(at) => {
+                self.kept.insert(at, kept)?;
+                Ok(())
+            }
+        }
+    }
+}
