@@ -159,10 +159,12 @@ pub edge_held :
 edge_held digest old note size root rows strings said edge is = record {
   size = size;
   root = root;
-  rows = rows;
   is_head = said;
-  has_edge = edge;
-  are_held = listed_held old.strings (edge_strings digest (map row_of rows)) strings is;
+  edge = record {
+    rows = rows;
+    has_edge = edge;
+    are_held = listed_held old.strings (edge_strings digest (map row_of rows)) strings is;
+  };
 }
 
 module _ (digest : List ℕ → List ℕ) (old : View) (strings : Strings) (note : List ℕ) where
