@@ -3,3 +3,6 @@ pub mod TakenItems
 pub mod EdgeRows
 pub mod KeptNotes
 pub mod TakenHeads
+pub mod BestNotes
+pub mod ServedNotes
+pub mod ServedParts

@@ -1,3 +1,5 @@
 pub mod Kept
 pub mod Adding
 pub mod Edges
+pub mod Tops
+pub mod Best

@@ -8,13 +8,20 @@
 mod edge;
 mod fault;
 mod head_note;
+mod best;
+mod heads;
 mod kept;
+mod laws;
 mod mirror;
 mod take_head;
+mod served;
 mod takes;
 #[cfg(test)]
 mod tests;
+mod top_ranges;
 
 pub use fault::NewFault;
+pub use laws::served_list_law;
 pub use mirror::Mirror;
-pub use mirror_model::{Bytes, Event, Item, MergeFault, Rows, TakeFault};
+pub use mirror_model::{Bytes, Event, Fork, Head, Item, MergeFault, Rows, TakeFault};
+pub use top_ranges::TopRanges;

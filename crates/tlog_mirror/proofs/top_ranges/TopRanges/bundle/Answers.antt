@@ -1,0 +1,9 @@
+use Rattle.stored_trees.proofs.LeafRows.{at_some}
+use Rattle.tlog_mirror.proofs.ServedParts.{lent_short}
+use Rattle.tlog_mirror.proofs.top_ranges.TopRanges.bundle.Goals as goal
+
+pub write_bundle-requires-clause-fits : goal.write_bundle-requires-clause-fits
+write_bundle-requires-clause-fits g c =
+    rw c.as_slice.ensures.value
+    (lent_short g.H.TreeHash.digest _ c.self.invariant c.in-Some.entries.items c.args.index c.args.width
+    (at_some c.in_ok-entries.field-0 c.in-Some.entries _ c.in-Some.is c.in_ok-entries.ensures.some))

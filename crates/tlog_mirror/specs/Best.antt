@@ -1,0 +1,56 @@
+-- Which of the kept notes is served: of those whose head is complete the one of the greatest size, then of the least
+-- root, then the least by bytes.
+use Rattle.std.specs.Prelude.{◌≡◌, ℕ, ◌<◌, List, length, slice_index_or, Option, Some, None, false}
+use Rattle.std.specs.Ordering.{nat_cmp, ordering_then, is_gt}
+use Rattle.std.specs.declared.cmp.Ordering.{Ordering}
+use Rattle.std.specs.declared.cmp.Ordering.TheVariants.{Less}
+use Rattle.std.specs.Cmp.Lexicographic.{slice_cmp}
+use Rattle.std.specs.List.{Contains}
+use Rattle.node_store.specs.Strings.{Strings}
+use Rattle.mirror_model.specs.Complete.{IsBuilt}
+use Rattle.mirror_model.specs.Forks.{Point}
+use Rattle.tlog_mirror.specs.declared.kept.KeptNote.{KeptNote}
+
+-- a size with a root, as a pair
+abbrev pub pair_point : ℕ × List ℕ → Point
+pair_point p = record { size = p.0; root = p.1 }
+
+abbrev pub kept_point : KeptNote → Point
+kept_point kept = record { size = kept.size; root = kept.root }
+
+-- the greater size first, then the lesser root
+abbrev pub served_cmp : Point → Point → Ordering
+served_cmp a b = ordering_then (nat_cmp b.size a.size) (slice_cmp nat_cmp a.root b.root)
+
+-- it is served before what was found, if anything was
+abbrev pub IsAhead : Point → Option (ℕ × List ℕ) → Type 0
+IsAhead point None = Unit {0}
+IsAhead point (Some found) = served_cmp point (pair_point found) ≡ Less
+
+-- a kept note has that size and root
+pub record HasKept (kept : List KeptNote) (point : Point) : Type 0 where
+  pub one : KeptNote
+  pub is_kept : Contains kept one
+  pub is : kept_point one ≡ point
+
+module _ (digest : List ℕ → List ℕ) (held : Strings) where
+  abbrev pub IsBuiltAt : Point → Type 0
+  IsBuiltAt point = IsBuilt digest held point.size point.root
+
+  -- of the kept notes whose tree is held one has that size and root, and none is served before it
+  pub record IsBest (kept : List KeptNote) (point : Point) : Type 0 where
+    pub has : HasKept kept point
+    pub built : IsBuiltAt point
+    pub first : (other : KeptNote) → Contains kept other → IsBuiltAt (kept_point other) → is_gt (served_cmp point (kept_point other)) ≡ false
+
+  abbrev pub IsBestOf : List KeptNote → Option (ℕ × List ℕ) → Type 0
+  IsBestOf kept None = (other : KeptNote) → Contains kept other → IsBuiltAt (kept_point other) → ⊥
+  IsBestOf kept (Some found) = IsBest kept (pair_point found)
+
+-- it is a kept note of that size and root, and none before it is
+pub record IsFirstWith (kept : List KeptNote) (point : Point) (one : KeptNote) : Type 0 where
+  pub at : ℕ
+  pub within : at < length kept
+  pub is_there : slice_index_or kept at one ≡ one
+  pub is : kept_point one ≡ point
+  pub none : (k : ℕ) (other : KeptNote) → k < at → slice_index_or kept k other ≡ other → kept_point other ≡ point → ⊥

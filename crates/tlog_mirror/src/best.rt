@@ -1,0 +1,54 @@
+//! Which of the kept notes is served.
+ghost use Rattle.std.specs.Prelude.{◌≡◌, ◌↔◌, ℕ, List, IsTrue, IfSome, IfNone};
+ghost use Rattle.stored_trees.specs.Known.{AreBuilt};
+ghost use Rattle.tlog_mirror.specs.Best.{HasKept, IsAhead, IsBestOf, IsFirstWith};
+
+use crate::kept::KeptNote;
+use node_store::Store;
+use std::cmp::Ordering;
+use stored_trees::{Marks, is_built};
+use tlog_hash::{Hash, TreeHash};
+
+// Of the heads that are held whole, the size and root that are served.
+//
+// The notes rise by their bytes, so from the back the larger sizes mostly come first, and few heads are walked.
+pub(crate) fn best_of<H: TreeHash>(
+    store: &Store<H>,
+    marks: &Marks,
+    kept: &[KeptNote],
+) -> Option<(u64, Hash)>
+    requires { AreBuilt H.digest store.now marks.now }
+    ensures { IsBestOf H.digest store.now kept.now result }
+{
+    let mut best = None;
+    for at in (0..kept.len()).rev() {
+        let one = &kept[at];
+        if is_ahead(one.size, &one.root, &best) && is_built(store, marks, one.size, &one.root) {
+            best = Some((one.size, one.root));
+        }
+    }
+    best
+}
+
+// Whether a size and root are served before what was found.
+fn is_ahead(size: u64, root: &Hash, best: &Option<(u64, Hash)>) -> bool
+    ensures { IsTrue result ↔ IsAhead (record { size = size; root = root.now }) best.now }
+{
+    match best {
+        None => true,
+        Some(found) => found.0.cmp(&size).then(root.cmp(&found.1)) == Ordering::Less,
+    }
+}
+
+// The first kept note of that size and root.
+pub(crate) fn first_with<'a>(kept: &'a [KeptNote], size: u64, root: &Hash) -> Option<&'a KeptNote>
+    ensures some { IfSome result (λ one. IsFirstWith kept.now (record { size = size; root = root.now }) one.now) }
+    ensures none { IfNone result (HasKept kept.now (record { size = size; root = root.now }) → ⊥) }
+{
+    for one in kept {
+        if one.size == size && one.root == *root {
+            return Some(one);
+        }
+    }
+    None
+}

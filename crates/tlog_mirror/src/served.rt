@@ -1,0 +1,113 @@
+//! What a mirror serves.
+ghost use Rattle.std.specs.Prelude.{◌≡◌, ◌↔◌, ℕ, List, IfOk, IfSome, IfNone, IsTrue};
+ghost use Rattle.mirror_model.specs.Served.{IsRangeHash, IsServedBundle, IsServedNote, IsServedTile};
+ghost use Rattle.tlog_mirror.specs.Tops.{IsServedAs, IsTop, ServesNothing};
+
+use crate::best::{best_of, first_with};
+use crate::kept::KeptNote;
+use crate::mirror::Mirror;
+use crate::top_ranges::TopRanges;
+use signed_note::Note;
+use std::alloc::{AllocError, Global};
+use tlog_hash::{Hash, TreeHash};
+use tlog_proof::Ranges;
+
+impl<H: TreeHash> Mirror<H> {
+    /// What is served, found once: of the complete checkpoints the one of the greatest size, then of the least
+    /// root, then of the least note by bytes, with its entries. `None` exactly where none is complete. It takes no
+    /// memory.
+    pub fn top_ranges(&self) -> Option<TopRanges<'_, H>>
+        ensures some { IfSome result (λ top. IsTop H.digest self.now.view top) }
+        ensures none { IfNone result (ServesNothing H.digest self.now.view) }
+    {
+        let Some(kept) = self.served() else {
+            return None;
+        };
+        let root = kept.root;
+        Some(TopRanges {
+            note: &kept.note,
+            size: kept.size,
+            root,
+            strings: &self.strings,
+        })
+    }
+
+    /// The checkpoint's note that is served, as `top_ranges` finds it. It takes no memory.
+    pub fn top(&self) -> Option<&Note>
+        ensures some { IfSome result (λ note. IsServedNote H.digest self.now.view note.now.bytes) }
+        ensures none { IfNone result (ServesNothing H.digest self.now.view) }
+    {
+        let Some(kept) = self.served() else {
+            return None;
+        };
+        Some(&kept.note)
+    }
+
+    // The kept note that is served.
+    fn served(&self) -> Option<&KeptNote>
+        ensures some { IfSome result (λ kept. IsServedAs H.digest self.now.view kept.now.note.bytes kept.now.size kept.now.root) }
+        ensures none { IfNone result (ServesNothing H.digest self.now.view) }
+    {
+        let Some(best) = best_of(&self.strings, &self.remembered, self.kept.as_slice()) else {
+            return None;
+        };
+        let root = best.1;
+        first_with(self.kept.as_slice(), best.0, &root)
+    }
+
+    /// The tree hash of `len` of the served entries from `start` on (RFC 6962, section 2.1), that of no bytes for
+    /// `len` 0. `None` exactly where the range is not within the served entries, or nothing is served. It takes no
+    /// memory.
+    pub fn range_hash(&self, start: u64, len: u64) -> Option<Hash>
+        ensures some { IfSome result (λ hash. IsRangeHash H.digest self.now.view start len hash) }
+        ensures none { IfNone result ((hash : List ℕ) → IsRangeHash H.digest self.now.view start len hash → ⊥) }
+    {
+        let Some(top) = self.top_ranges() else {
+            return None;
+        };
+        top.hash(start, len)
+    }
+
+    /// The bytes of a tile of the served entries (C2SP tlog-tiles, "Merkle Tree"). `None` exactly where the tile is
+    /// not within them, as for a level over 7 or a width outside 1 to 256, or nothing is served.
+    ///
+    /// # Errors
+    ///
+    /// Memory was refused.
+    pub fn tile(
+        &self,
+        alloc: Global,
+        level: u32,
+        index: u64,
+        width: u32,
+    ) -> Result<Option<Vec<u8>>, AllocError>
+        ensures some { IfOk result (λ o. IfSome o (λ bytes. IsServedTile H.digest self.now.view level index width bytes.items)) }
+        ensures none { IfOk result (λ o. IfNone o ((bytes : List ℕ) → IsServedTile H.digest self.now.view level index width bytes → ⊥)) }
+    {
+        let Some(top) = self.top_ranges() else {
+            return Ok(None);
+        };
+        top.tile(alloc, level, index, width)
+    }
+
+    /// The bytes of a bundle of the served entries (C2SP tlog-tiles, "Log Entries"). `None` exactly where the bundle
+    /// is not within them, as for a width outside 1 to 256, or nothing is served.
+    ///
+    /// # Errors
+    ///
+    /// Memory was refused.
+    pub fn bundle(
+        &self,
+        alloc: Global,
+        index: u64,
+        width: u32,
+    ) -> Result<Option<Vec<u8>>, AllocError>
+        ensures some { IfOk result (λ o. IfSome o (λ bytes. IsServedBundle H.digest self.now.view index width bytes.items)) }
+        ensures none { IfOk result (λ o. IfNone o ((bytes : List ℕ) → IsServedBundle H.digest self.now.view index width bytes → ⊥)) }
+    {
+        let Some(top) = self.top_ranges() else {
+            return Ok(None);
+        };
+        top.bundle(alloc, index, width)
+    }
+}

@@ -1,0 +1,134 @@
+//! What is served, found once.
+ghost use Rattle.std.specs.Prelude.{◌≡◌, ◌↔◌, ℕ, List, IfOk, IfSome, IfNone};
+ghost use Rattle.tlog_hash.specs.Tree.{mth};
+ghost use Rattle.tlog_hash.specs.Rows.{part};
+ghost use Rattle.tlog_tiles.specs.Tiles.{IsTileWithin, tile_bytes, bundle_bytes};
+ghost use Rattle.tlog_mirror.specs.Tops.{IsListOf};
+
+use node_store::Store;
+use signed_note::Note;
+use std::alloc::{AllocError, Global};
+use std::marker::Model;
+use stored_trees::{entries_at, range_hash, row_at};
+use tlog_hash::{Hash, TreeHash};
+use tlog_proof::Ranges;
+use tlog_tiles::{write_bundle, write_row};
+
+/// What a mirror serves: a checkpoint with the tree hashes, tiles and bundles of its entries.
+///
+/// It stands for one list of entries, that of the served checkpoint. A proof that the first entry is among the
+/// entries that are served:
+///
+/// ```
+/// let Some(top) = mirror.top_ranges() else { return Ok(()) };
+/// let size = top.size();
+/// let proof = prove(alloc, &top, Ask::Inclusion { size, index: 0 })?;
+/// ```
+#[derive(Drop)]
+pub struct TopRanges<'a, H: TreeHash> {
+    pub(crate) note: &'a Note,
+    pub(crate) size: u64,
+    pub(crate) root: Hash,
+    pub(crate) strings: &'a Store<H>,
+}
+
+impl<'a, H: TreeHash> Model for TopRanges<'a, H> {
+    ghost use Rattle.tlog_mirror.specs.Tops.{Top, top_code, IsWhole};
+
+    ghost Value = { Top };
+
+    ghost coded = { top_code };
+
+    ghost view = { λ a. record { note = a.note.now.bytes; size = a.size; root = a.root; strings = a.strings.now } };
+
+    ghost invariant = { λ a. IsWhole H.digest (record { note = a.note.now.bytes; size = a.size; root = a.root; strings = a.strings.now }) };
+}
+
+impl<'a, H: TreeHash> TopRanges<'a, H> {
+    /// The served checkpoint's note. It takes no memory.
+    pub fn note(&self) -> &Note
+        ensures { result.now.bytes ≡ self.now.note }
+    {
+        self.note
+    }
+
+    /// The root of the served checkpoint. It takes no memory.
+    pub fn root(&self) -> &Hash
+        ensures { result.now ≡ self.now.root }
+    {
+        &self.root
+    }
+
+    /// The bytes of a tile of the served entries (C2SP tlog-tiles, "Merkle Tree"): `width` hashes of that
+    /// level from number `256 * index` on. `None` exactly where the tile is not within the entries, as for a
+    /// level over 7 or a width outside 1 to 256.
+    ///
+    /// # Errors
+    ///
+    /// Memory was refused.
+    pub fn tile(
+        &self,
+        alloc: Global,
+        level: u32,
+        index: u64,
+        width: u32,
+    ) -> Result<Option<Vec<u8>>, AllocError>
+        ensures some { IfOk result (λ o. IfSome o (λ bytes. (entries : List (List ℕ)) → IsListOf H.digest self.now entries → bytes.items ≡ tile_bytes H.digest entries level index width)) }
+        ensures within { IfOk result (λ o. IfSome o (λ bytes. IsTileWithin self.now.size level index width)) }
+        ensures none { IfOk result (λ o. IfNone o (IsTileWithin self.now.size level index width → ⊥)) }
+    {
+        let Some(row) = row_at(
+            alloc,
+            self.strings,
+            self.size,
+            &self.root,
+            level,
+            index,
+            width,
+        )?
+        else {
+            return Ok(None);
+        };
+        Ok(Some(write_row(alloc, row.as_slice())?))
+    }
+
+    /// The bytes of a bundle of the served entries (C2SP tlog-tiles, "Log Entries"): `width` entries from
+    /// number `256 * index` on. `None` exactly where the bundle is not within the entries, as for a width
+    /// outside 1 to 256.
+    ///
+    /// # Errors
+    ///
+    /// Memory was refused.
+    pub fn bundle(
+        &self,
+        alloc: Global,
+        index: u64,
+        width: u32,
+    ) -> Result<Option<Vec<u8>>, AllocError>
+        ensures some { IfOk result (λ o. IfSome o (λ bytes. (entries : List (List ℕ)) → IsListOf H.digest self.now entries → bytes.items ≡ bundle_bytes entries index width)) }
+        ensures within { IfOk result (λ o. IfSome o (λ bytes. IsTileWithin self.now.size 0 index width)) }
+        ensures none { IfOk result (λ o. IfNone o (IsTileWithin self.now.size 0 index width → ⊥)) }
+    {
+        let Some(entries) = entries_at(alloc, self.strings, self.size, &self.root, index, width)?
+        else {
+            return Ok(None);
+        };
+        Ok(Some(write_bundle(alloc, entries.as_slice())?))
+    }
+}
+
+impl<'a, H: TreeHash> Ranges for TopRanges<'a, H> {
+    ghost lists = { λ top entries. IsListOf H.digest top entries };
+
+    ghost digest = { H.digest };
+
+    /// How many entries are served. It takes no memory.
+    fn size(&self) -> u64 {
+        self.size
+    }
+
+    /// The tree hash of `len` of the served entries from `start` on, found in one descent. It takes no memory.
+    fn hash(&self, start: u64, len: u64) -> Option<Hash> {
+        range_hash(self.strings, self.size, &self.root, start, len)
+    }
+}
