@@ -6,3 +6,4 @@ pub mod TakenHeads
 pub mod BestNotes
 pub mod ServedNotes
 pub mod ServedParts
+pub mod HeadLists

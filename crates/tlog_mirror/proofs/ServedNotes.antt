@@ -40,13 +40,13 @@ sorted_at cmp (x ∷ xs) s (suc i) zero d lt fits = absurd (omega (arith, lt))
 sorted_at cmp (x ∷ xs) s (suc i) (suc j) d lt fits = sorted_at cmp xs s.1 i j d (omega (arith, lt)) (omega (arith, fits))
 
 -- what a mapped list has at a place
-record Unmapped {X Y : Type 0} (f : X → Y) (xs : List X) (k : ℕ) (y : Y) : Type 0 where
-  one : X
-  within : k < length xs
-  is_there : get_or xs k one ≡ one
-  is : f one ≡ y
+pub record Unmapped {X Y : Type 0} (f : X → Y) (xs : List X) (k : ℕ) (y : Y) : Type 0 where
+  pub one : X
+  pub within : k < length xs
+  pub is_there : get_or xs k one ≡ one
+  pub is : f one ≡ y
 
-unmapped : {X Y : Type 0} (f : X → Y) (xs : List X) (k : ℕ) (y : Y) → k < length (map f xs) → get_or (map f xs) k y ≡ y → Unmapped f xs k y
+pub unmapped : {X Y : Type 0} (f : X → Y) (xs : List X) (k : ℕ) (y : Y) → k < length (map f xs) → get_or (map f xs) k y ≡ y → Unmapped f xs k y
 unmapped f [] k y lt is = absurd (omega (arith, lt))
 unmapped f (x ∷ xs) zero y lt is = record { one = x; within = omega arith; is_there = refl; is = is }
 unmapped f (x ∷ xs) (suc k) y lt is =
@@ -174,6 +174,14 @@ module _ (digest : List ℕ → List ℕ) (origin : List ℕ) (kept : List KeptN
         holds = subst (λ (p : Point). HoldsHead v (note_bytes one) p.size p.root) f.is h;
       }
 
+  pub head_from_kept : (size : ℕ) (root : List ℕ) → HasKept kept (record { size = size; root = root }) → HasHead v size root
+  head_from_kept size root k =
+      let h = holds_at k.is_kept.0 k.one k.is_kept.1 k.is_kept.2 in
+      record {
+        note = note_bytes k.one;
+        holds = subst (λ (p : Point). HoldsHead v (note_bytes k.one) p.size p.root) k.is h;
+      }
+
   pub kept_head : (size : ℕ) (root : List ℕ) → HasHead v size root → HasKept kept (record { size = size; root = root })
   kept_head size root h =
       let k = kept_of h.note size root h.holds in
@@ -197,7 +205,7 @@ module _ (digest : List ℕ → List ℕ) (origin : List ℕ) (kept : List KeptN
     abbrev at : Point
     at = record { size = size; root = root }
 
-    with_head : (b : Bool) → HasHead (state_of origin kept strings remembered).view size root → IsTrue b ↔ IsBuilt digest strings size root → IsTrue b ↔ IsComplete digest old.view size root
+    pub with_head : (b : Bool) → HasHead (state_of origin kept strings remembered).view size root → IsTrue b ↔ IsBuilt digest strings size root → IsTrue b ↔ IsComplete digest old.view size root
     with_head b head tells =
         subst (λ (o : State). IsTrue b ↔ IsComplete digest o.view size root) old_is (
           λ t. let is = tells.0 t in record { entries = is.entries; complete = record { head = head; tree = is.is } },

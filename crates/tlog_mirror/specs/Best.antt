@@ -1,6 +1,6 @@
 -- Which of the kept notes is served: of those whose head is complete the one of the greatest size, then of the least
 -- root, then the least by bytes.
-use Rattle.std.specs.Prelude.{◌≡◌, ℕ, ◌<◌, List, length, slice_index_or, Option, Some, None, false}
+use Rattle.std.specs.Prelude.{◌≡◌, ℕ, ◌<◌, List, length, slice_index_or, Option, Some, None, false, IsTrue, ◌↔◌}
 use Rattle.std.specs.Ordering.{nat_cmp, ordering_then, is_gt}
 use Rattle.std.specs.declared.cmp.Ordering.{Ordering}
 use Rattle.std.specs.declared.cmp.Ordering.TheVariants.{Less}
@@ -8,7 +8,8 @@ use Rattle.std.specs.Cmp.Lexicographic.{slice_cmp}
 use Rattle.std.specs.List.{Contains}
 use Rattle.node_store.specs.Strings.{Strings}
 use Rattle.mirror_model.specs.Complete.{IsBuilt}
-use Rattle.mirror_model.specs.Forks.{Point}
+use Rattle.mirror_model.specs.Forks.{Point, point_cmp}
+use Rattle.mirror_model.specs.declared.reports.Head.{Head}
 use Rattle.tlog_mirror.specs.declared.kept.KeptNote.{KeptNote}
 
 -- a size with a root, as a pair
@@ -17,6 +18,10 @@ pair_point p = record { size = p.0; root = p.1 }
 
 abbrev pub kept_point : KeptNote → Point
 kept_point kept = record { size = kept.size; root = kept.root }
+
+-- by size, and then by root
+abbrev pub by_point : ℕ × List ℕ → ℕ × List ℕ → Ordering
+by_point a b = point_cmp (pair_point a) (pair_point b)
 
 -- the greater size first, then the lesser root
 abbrev pub served_cmp : Point → Point → Ordering
@@ -36,6 +41,10 @@ pub record HasKept (kept : List KeptNote) (point : Point) : Type 0 where
 module _ (digest : List ℕ → List ℕ) (held : Strings) where
   abbrev pub IsBuiltAt : Point → Type 0
   IsBuiltAt point = IsBuilt digest held point.size point.root
+
+  -- the flag tells whether the tree is held
+  abbrev pub IsBuiltFlag : Head → Type 0
+  IsBuiltFlag head = IsTrue head.complete ↔ IsBuilt digest held head.size head.root
 
   -- of the kept notes whose tree is held one has that size and root, and none is served before it
   pub record IsBest (kept : List KeptNote) (point : Point) : Type 0 where

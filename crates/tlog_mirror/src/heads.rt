@@ -1,12 +1,19 @@
 //! The heads that a mirror holds, and which of them are complete.
-ghost use Rattle.std.specs.Prelude.{◌≡◌, ◌↔◌, IsTrue, IfOk};
+ghost use Rattle.std.specs.Prelude.{◌≡◌, ◌↔◌, ℕ, List, map, All, IsTrue, IfOk};
+ghost use Rattle.std.specs.List.{Contains};
+ghost use Rattle.std.specs.List.Sorted.{IsStrictlySortedBy};
 ghost use Rattle.mirror_model.specs.Complete.{IsComplete};
-ghost use Rattle.tlog_mirror.specs.Best.{HasKept};
+ghost use Rattle.mirror_model.specs.Reports.{ReportsHeads, head_point};
+ghost use Rattle.stored_trees.specs.Known.{AreBuilt};
+ghost use Rattle.tlog_mirror.specs.Best.{HasKept, by_point, pair_point, IsBuiltFlag};
 
 use crate::best::first_with;
+use crate::kept::KeptNote;
 use crate::mirror::Mirror;
+use mirror_model::Head;
+use node_store::Store;
 use std::alloc::{AllocError, Global};
-use stored_trees::is_built;
+use stored_trees::{Marks, is_built};
 use tlog_hash::{Hash, TreeHash};
 
 impl<H: TreeHash> Mirror<H> {
@@ -18,4 +25,82 @@ impl<H: TreeHash> Mirror<H> {
         first_with(self.kept.as_slice(), size, root).is_some()
             && is_built(&self.strings, &self.remembered, size, root)
     }
+
+    /// Each size and root of the held notes once, by size and then by the root's bytes, with whether it is
+    /// complete.
+    ///
+    /// # Errors
+    ///
+    /// Memory was refused.
+    pub fn heads(&self, alloc: Global) -> Result<Vec<Head>, AllocError>
+        ensures { IfOk result (λ heads. ReportsHeads H.digest self.now.view heads.items) }
+    {
+        let points = points_of(alloc, self.kept.as_slice())?;
+        flagged(alloc, &self.strings, &self.remembered, points.as_slice())
+    }
+}
+
+// These sizes and roots, each with whether its tree is held.
+fn flagged<H: TreeHash>(
+    alloc: Global,
+    store: &Store<H>,
+    marks: &Marks,
+    points: &[(u64, Hash)],
+) -> Result<Vec<Head>, AllocError>
+    requires { AreBuilt H.digest store.now marks.now }
+    ensures points { IfOk result (λ heads. map head_point heads.items ≡ map pair_point points.now) }
+    ensures flags { IfOk result (λ heads. All (IsBuiltFlag H.digest store.now) heads.items) }
+{
+    let mut heads = Vec::with_capacity(alloc, points.len())?;
+    for point in points {
+        heads.push(head_of(store, marks, point.0, &point.1))?;
+    }
+    Ok(heads)
+}
+
+// A size and root with whether its tree is held.
+fn head_of<H: TreeHash>(store: &Store<H>, marks: &Marks, size: u64, root: &Hash) -> Head
+    requires { AreBuilt H.digest store.now marks.now }
+    ensures point { head_point result ≡ record { size = size; root = root.now } }
+    ensures flag { IsBuiltFlag H.digest store.now result }
+{
+    let complete = is_built(store, marks, size, root);
+    let root = *root;
+    Head {
+        size,
+        root,
+        complete,
+    }
+}
+
+// The sizes and roots of kept notes in order, each once.
+fn points_of(alloc: Global, kept: &[KeptNote]) -> Result<Vec<(u64, Hash)>, AllocError>
+    ensures sorted { IfOk result (λ points. IsStrictlySortedBy by_point points.items) }
+    ensures exact { IfOk result (λ points. (p : ℕ × List ℕ) → Contains points.items p ↔ HasKept kept.now (pair_point p)) }
+{
+    let mut points = all_points(alloc, kept)?;
+    put_in_order(&mut points);
+    Ok(points)
+}
+
+// The sizes and roots of kept notes.
+fn all_points(alloc: Global, kept: &[KeptNote]) -> Result<Vec<(u64, Hash)>, AllocError>
+    ensures { IfOk result (λ points. points.items ≡ map (λ one. (one.size, one.root)) kept.now) }
+{
+    let mut points = Vec::with_capacity(alloc, kept.len())?;
+    for one in kept {
+        let size = one.size;
+        let root = one.root;
+        points.push((size, root))?;
+    }
+    Ok(points)
+}
+
+// Sorts sizes and roots, and leaves each once.
+fn put_in_order(points: &mut Vec<(u64, Hash)>)
+    ensures sorted { IsStrictlySortedBy by_point points.new.items }
+    ensures same { (p : ℕ × List ℕ) → Contains points.new.items p ↔ Contains points.old.items p }
+{
+    points.sort_unstable();
+    points.dedup();
 }

@@ -1,0 +1,114 @@
+-- The list of the heads that are held, in order.
+use Rattle.std.proofs.Common.{◌≡◌, ℕ, zero, suc, ◌<◌, List, [], ◌∷◌, ◌++◌, length, map, get_or, Bool, true, false, sym, refl, ap, subst, ◌∙◌, arith, nat_eq}
+use Rattle.std.specs.Prelude.{IsTrue, All, ◌↔◌, ◌&&◌, Result, Ok, Err, IfOk}
+use Rattle.std.specs.Ordering.{nat_cmp, eq_by_cmp, is_eq, on}
+use Rattle.std.specs.declared.cmp.Ordering.{Ordering}
+use Rattle.std.specs.declared.cmp.Ordering.TheVariants.{Less, Equal, Greater}
+use Rattle.std.specs.Cmp.{IsTotalOrder, IsEquivalence, on_total, unsigned_ties, both_tied, eq_by_cmp_equiv}
+use Rattle.std.specs.Cmp.Lexicographic.{slice_cmp, pointwise, lists_ties}
+use Rattle.std.specs.List.{Contains, AllByRecursion}
+use Rattle.std.specs.List.Sorted.{IsStrictlySortedBy}
+use Rattle.std.proofs.lemmas.List.{get_or-map, length-map}
+use Rattle.std.proofs.lemmas.List.Elements.{All-contains, All-from_recursion, All-contains_itself, All-from_get_or, All-get_or, Contains-get_or}
+use Rattle.node_store.specs.Strings.{Strings}
+use Rattle.mirror_model.specs.View.{View}
+use Rattle.mirror_model.specs.Heads.{HasHead}
+use Rattle.mirror_model.specs.Complete.{IsBuilt, IsComplete}
+use Rattle.mirror_model.specs.Forks.{Point, point_cmp}
+use Rattle.mirror_model.specs.Marks.{Points, State}
+use Rattle.mirror_model.specs.Reports.{ReportsHeads, head_point, IsFlagged}
+use Rattle.mirror_model.specs.declared.reports.Head.{Head}
+use Rattle.stored_trees.proofs.Marking.{point_total, point_same, same_key}
+use Rattle.tlog_mirror.specs.Kept.{state_of, IsKeptWell}
+use Rattle.tlog_mirror.specs.Best.{HasKept, by_point, pair_point, kept_point, IsBuiltFlag}
+use Rattle.tlog_mirror.specs.declared.kept.KeptNote.{KeptNote}
+use Rattle.tlog_mirror.proofs.ServedNotes.{Unmapped, unmapped, head_from_kept, kept_head, with_head}
+
+-- ---- the order of sizes and roots, and the test that is equality
+
+pub pairs_total : IsTotalOrder by_point
+pairs_total = on_total pair_point point_total
+
+pub pairs_tie : (a b : ℕ × List ℕ) → same_key a b ≡ eq_by_cmp by_point a b
+pairs_tie a b = both_tied (nat_eq a.0 b.0) (pointwise nat_eq a.1 b.1) (nat_cmp a.0 b.0) (slice_cmp nat_cmp a.1 b.1) (unsigned_ties a.0 b.0) (lists_ties nat_cmp unsigned_ties a.1 b.1)
+
+pub pairs_equivalence : IsEquivalence same_key
+pairs_equivalence = subst IsEquivalence (λ i a b. sym (pairs_tie a b) i) (eq_by_cmp_equiv pairs_total)
+
+equal_is : (o : Ordering) → is_eq o ≡ true → o ≡ Equal
+equal_is Less h = absurd (cc h)
+equal_is Equal h = refl
+equal_is Greater h = absurd (cc h)
+
+pub pairs_exact : (a b : ℕ × List ℕ) → same_key a b ≡ true → a ≡ b
+pairs_exact a b h =
+    let same = point_same (pair_point a) (pair_point b) (equal_is (by_point a b) (sym (pairs_tie a b) ∙ h)) in
+    let s : a.0 ≡ b.0 = ap (λ (p : Point). p.size) same in
+    let r : a.1 ≡ b.1 = ap (λ (p : Point). p.root) same in
+    λ i. (s i, r i)
+
+-- ---- mapped lists
+
+module _ {X Y : Type 0} (f : X → Y) where
+  pub mapped : (xs : List X) (x : X) → Contains xs x → Contains (map f xs) (f x)
+  mapped xs x (k, lt, is) = (k, subst (λ n. k < n) (sym (length-map xs f)) lt, get_or-map f xs k x (f x) lt ∙ ap f is)
+
+  pub source_of : (xs : List X) (y : Y) → Contains (map f xs) y → (x : X) × Contains xs x × (f x ≡ y)
+  source_of xs y (k, lt, is) = let u = unmapped f xs k y lt is in (u.one, (k, u.within, u.is_there), u.is)
+
+all_mapped : (a : ℕ × List ℕ) (xs : List (ℕ × List ℕ)) → AllByRecursion (λ b. by_point a b ≡ Less) xs → AllByRecursion (λ p. point_cmp (pair_point a) p ≡ Less) (map pair_point xs)
+all_mapped a [] h = tt
+all_mapped a (x ∷ xs) h = (h.0, all_mapped a xs h.1)
+
+sorted_mapped : (xs : List (ℕ × List ℕ)) → IsStrictlySortedBy by_point xs → IsStrictlySortedBy point_cmp (map pair_point xs)
+unfolding IsStrictlySortedBy
+sorted_mapped [] h = tt
+sorted_mapped (x ∷ xs) h = (all_mapped x xs h.0, sorted_mapped xs h.1)
+
+-- the sizes and roots of the notes that are kept
+pub kept_points : (kept : List KeptNote) (p : ℕ × List ℕ) → Contains (map (λ (one : KeptNote). (one.size, one.root)) kept) p ↔ HasKept kept (pair_point p)
+kept_points kept p = (
+  λ c. let s = source_of (λ (one : KeptNote). (one.size, one.root)) kept p c in record { one = s.0; is_kept = s.1; is = ap pair_point s.2 },
+  λ h.
+      let pair : ℕ × List ℕ = (h.one.size, h.one.root) in
+      let s : h.one.size ≡ p.0 = ap (λ (q : Point). q.size) h.is in
+      let r : h.one.root ≡ p.1 = ap (λ (q : Point). q.root) h.is in
+      let same : pair ≡ p = λ i. (s i, r i) in
+      subst (Contains (map (λ (one : KeptNote). (one.size, one.root)) kept)) same (mapped (λ (one : KeptNote). (one.size, one.root)) kept h.one h.is_kept),
+)
+
+-- ---- the heads
+
+module _ (digest : List ℕ → List ℕ) (origin : List ℕ) (kept : List KeptNote) (strings : Strings) (remembered : Points) (ok : IsKeptWell digest origin kept strings remembered) (old : State) (old_is : state_of origin kept strings remembered ≡ old) (points : List (ℕ × List ℕ)) (sorted : IsStrictlySortedBy by_point points) (exact : (p : ℕ × List ℕ) → Contains points p ↔ HasKept kept (pair_point p)) where
+  abbrev own : View
+  own = (state_of origin kept strings remembered).view
+
+  head_listed : (point : Point) → Contains (map pair_point points) point → HasHead own point.size point.root
+  head_listed point c =
+      let s = source_of pair_point points point c in
+      let h = (exact s.0).0 s.1 in
+      head_from_kept digest origin kept strings remembered ok point.size point.root (subst (HasKept kept) s.2 h)
+
+  listed_head : (point : Point) → HasHead own point.size point.root → Contains (map pair_point points) point
+  listed_head point h =
+      let k = kept_head digest origin kept strings remembered ok point.size point.root h in
+      mapped pair_point points (point.size, point.root) ((exact (point.size, point.root)).1 k)
+
+  reports : (heads : List Head) → map head_point heads ≡ map pair_point points → All (IsBuiltFlag digest strings) heads → ReportsHeads digest old.view heads
+  reports heads same flags = record {
+    lists = record {
+      sorted = subst (IsStrictlySortedBy point_cmp) (sym same) (sorted_mapped points sorted);
+      exact = λ point. (
+        λ c. subst (λ (o : State). HasHead o.view point.size point.root) old_is (head_listed point (subst (λ xs. Contains xs point) same c)),
+        λ h. subst (λ xs. Contains xs point) (sym same) (listed_head point (subst (λ (o : State). HasHead o.view point.size point.root) (sym old_is) h)),
+      );
+    };
+    flags = λ k d lt.
+        let head = get_or heads k d in
+        let c = mapped head_point heads head (Contains-get_or heads k d lt) in
+        with_head digest origin kept strings remembered ok old old_is head.size head.root head.complete (head_listed (head_point head) (subst (λ xs. Contains xs (head_point head)) same c)) (All-get_or (IsBuiltFlag digest strings) heads k d lt flags);
+  }
+
+  pub reported : {A E : Type 0} (items : A → List Head) (r : Result A E) → IfOk r (λ heads. map head_point (items heads) ≡ map pair_point points) → IfOk r (λ heads. All (IsBuiltFlag digest strings) (items heads)) → IfOk r (λ heads. ReportsHeads digest old.view (items heads))
+  reported items (Err e) p q = p
+  reported items (Ok heads) p q = reports (items heads) p q
