@@ -1,6 +1,6 @@
 -- What a mirror serves, from the notes that it keeps.
 use Rattle.std.proofs.Common.{◌≡◌, ◌≢◌, ℕ, zero, suc, ◌+◌, ◌<◌, ◌≤◌, List, [], ◌∷◌, length, map, get_or, slice_index_or, Option, Some, None, Bool, true, false, Bor, sym, refl, ap, subst, ◌∙◌, ◌⊎◌, inl, inr, arith}
-use Rattle.std.specs.Prelude.{IsTrue, IfSome, IfNone, is_some, ◌↔◌}
+use Rattle.std.specs.Prelude.{IsTrue, IfSome, IfNone, is_some, not, ◌↔◌}
 use Rattle.std.specs.Ordering.{nat_cmp, ordering_then, is_gt, is_le}
 use Rattle.std.specs.declared.cmp.Ordering.{Ordering}
 use Rattle.std.specs.declared.cmp.Ordering.TheVariants.{Less, Equal, Greater}
@@ -18,6 +18,10 @@ use Rattle.mirror_model.specs.Heads.{IsHead, HoldsHead, HasHead}
 use Rattle.mirror_model.specs.Complete.{IsTreeOf, IsBuilt, IsComplete}
 use Rattle.mirror_model.specs.Served.{Served, IsCompleteNote, IsAtMost}
 use Rattle.mirror_model.specs.Forks.{Point}
+use Rattle.mirror_model.specs.Front.{path_cmp}
+use Rattle.mirror_model.specs.Walk.{IsMissing}
+use Rattle.mirror_model.specs.Listed.{ListsMissing}
+use Rattle.tlog_tiles.specs.declared.paths.Path.{Path}
 use Rattle.mirror_model.specs.Marks.{Points, State}
 use Rattle.mirror_model.proofs.StringSets.{listed_from_has, has_from_listed}
 use Rattle.mirror_model.proofs.HeadNotes.{head_once}
@@ -223,3 +227,20 @@ module _ (digest : List ℕ → List ℕ) (origin : List ℕ) (kept : List KeptN
           λ t. absurd (let wrong : false ≡ true = sym not_found ∙ t in cc wrong),
           λ c. absurd (none (kept_head digest origin kept strings remembered ok size root c.complete.head)),
         )
+
+    pub no_head_held : (r : Option (Bor KeptNote)) (b : Bool) → is_some r ≡ not b → b ≡ true → IfNone r (HasKept kept at → ⊥) → HasHead old.view size root → ⊥
+    no_head_held (Some one) b is none_found none h = absurd (let wrong : true ≡ false = is ∙ ap not none_found in cc wrong)
+    no_head_held None b is none_found none h =
+        none (kept_head digest origin kept strings remembered ok size root (subst (λ (o : State). HasHead o.view size root) (sym old_is) h))
+
+    pub head_held : (r : Option (Bor KeptNote)) (b : Bool) → is_some r ≡ not b → b ≡ false → IfSome r (λ one. IsFirstWith kept at one.now) → HasHead old.view size root
+    head_held None b is found f = absurd (let wrong : false ≡ true = is ∙ ap not found in cc wrong)
+    head_held (Some one) b is found f =
+        subst (λ (o : State). HasHead o.view size root) old_is (head_of digest origin kept strings remembered ok size root one.now f)
+
+    pub lists_missing :
+        (paths : List Path) → IsStrictlySortedBy path_cmp paths →
+        ((path : Path) → Contains paths path ↔ IsMissing digest strings size root path) →
+        ListsMissing digest old.view size root paths
+    lists_missing paths sorted exact =
+        subst (λ (o : State). ListsMissing digest o.view size root paths) old_is (record { sorted = sorted; exact = exact })

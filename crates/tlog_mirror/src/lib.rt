@@ -14,10 +14,12 @@ mod kept;
 mod laws;
 mod mirror;
 mod take_head;
+mod missing;
 mod served;
 mod takes;
 #[cfg(test)]
 mod tests;
+mod texts;
 mod top_ranges;
 
 pub use fault::NewFault;

@@ -1,6 +1,9 @@
 //! What a mirror serves.
 ghost use Rattle.std.specs.Prelude.{◌≡◌, ◌↔◌, ℕ, List, IfOk, IfSome, IfNone, IsTrue};
 ghost use Rattle.mirror_model.specs.Served.{IsRangeHash, IsServedBundle, IsServedNote, IsServedTile};
+ghost use Rattle.mirror_model.specs.Reports.{SaysServed};
+ghost use Rattle.std.specs.Option.{option_map};
+ghost use Rattle.tlog_mirror.specs.Best.{pair_point};
 ghost use Rattle.tlog_mirror.specs.Tops.{IsServedAs, IsTop, ServesNothing};
 
 use crate::best::{best_of, first_with};
@@ -41,6 +44,17 @@ impl<H: TreeHash> Mirror<H> {
             return None;
         };
         Some(&kept.note)
+    }
+
+    // The size and root that are served.
+    pub(crate) fn served_point(&self) -> Option<(u64, Hash)>
+        ensures { SaysServed H.digest self.now.view (option_map pair_point result) }
+    {
+        let Some(kept) = self.served() else {
+            return None;
+        };
+        let root = kept.root;
+        Some((kept.size, root))
     }
 
     // The kept note that is served.

@@ -28,3 +28,4 @@ impl Verifier for Five {
         signature == [5].as_slice()
     }
 }
+mod served;

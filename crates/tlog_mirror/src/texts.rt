@@ -1,0 +1,123 @@
+//! The texts in which a mirror tells of itself.
+ghost use Rattle.std.specs.Prelude.{◌≡◌, ◌++◌, IfOk, IfSome, IfNone, OnOk, string_bytes};
+ghost use Rattle.std.specs.Option.{option_map};
+ghost use Rattle.std.specs.List.{flat_map};
+ghost use Rattle.mirror_model.specs.Heads.{HasHead};
+ghost use Rattle.mirror_model.specs.Texts.{IsMissingText, IsStatusText, head_line, missing_text, path_line, point_text, served_line};
+ghost use Rattle.tlog_mirror.specs.Best.{pair_point};
+
+use crate::mirror::Mirror;
+use mirror_model::Head;
+use std::alloc::{AllocError, Global};
+use tlog_hash::{Hash, TreeHash};
+use tlog_text::{push_hash, push_number};
+use tlog_tiles::{Path, print};
+
+impl<H: TreeHash> Mirror<H> {
+    /// The origin, each head and whether it is complete, and what is served, a line each: `origin O`,
+    /// `head SIZE ROOT complete` or `head SIZE ROOT partial`, and `served SIZE ROOT` or `served none`.
+    ///
+    /// # Errors
+    ///
+    /// Memory was refused.
+    pub fn status_text(&self, alloc: Global) -> Result<String, AllocError>
+        ensures { IfOk result (λ text. IsStatusText H.digest self.now.view (string_bytes text)) }
+    {
+        let heads = self.heads(alloc)?;
+        let served = self.served_point();
+        let mut text = String::from_str(alloc, "origin ")?;
+        text.push_str(self.origin())?;
+        text.push_str("\n")?;
+        push_heads(&mut text, heads.as_slice())?;
+        push_served(&mut text, &served)?;
+        Ok(text)
+    }
+
+    /// The paths of what is missing of a head, a line each. `None` exactly where no held note has that size and
+    /// root.
+    ///
+    /// # Errors
+    ///
+    /// Memory was refused.
+    pub fn missing_text(
+        &self,
+        alloc: Global,
+        size: u64,
+        root: &Hash,
+    ) -> Result<Option<String>, AllocError>
+        ensures some { IfOk result (λ o. IfSome o (λ text. IsMissingText H.digest self.now.view size root.now (string_bytes text))) }
+        ensures none { IfOk result (λ o. IfNone o (HasHead self.now.view size root.now → ⊥)) }
+    {
+        let Some(paths) = self.missing(alloc, size, root)? else {
+            return Ok(None);
+        };
+        let mut text = String::new(alloc);
+        push_paths(alloc, &mut text, paths.as_slice())?;
+        Ok(Some(text))
+    }
+}
+
+// Adds a size and a root, with a space between.
+fn push_point(text: &mut String, size: u64, root: &Hash) -> Result<(), AllocError>
+    ensures { OnOk result (string_bytes text.new ≡ string_bytes text.old ++ point_text size root.now) }
+{
+    push_number(text, size)?;
+    text.push_str(" ")?;
+    push_hash(text, root)
+}
+
+// Adds the line of a head.
+fn push_head(text: &mut String, head: &Head) -> Result<(), AllocError>
+    ensures { OnOk result (string_bytes text.new ≡ string_bytes text.old ++ head_line head.now) }
+{
+    text.push_str("head ")?;
+    push_point(text, head.size, &head.root)?;
+    text.push_str(if head.complete {
+        " complete\n"
+    } else {
+        " partial\n"
+    })
+}
+
+// Adds a line for each head.
+fn push_heads(text: &mut String, heads: &[Head]) -> Result<(), AllocError>
+    ensures { OnOk result (string_bytes text.new ≡ string_bytes text.old ++ flat_map head_line heads.now) }
+{
+    for head in heads {
+        push_head(text, head)?;
+    }
+    Ok(())
+}
+
+// Adds the line of what is served.
+fn push_served(text: &mut String, served: &Option<(u64, Hash)>) -> Result<(), AllocError>
+    ensures { OnOk result (string_bytes text.new ≡ string_bytes text.old ++ served_line (option_map pair_point served.now)) }
+{
+    match served {
+        Some(point) => {
+            text.push_str("served ")?;
+            push_point(text, point.0, &point.1)?;
+            text.push_str("\n")
+        }
+        None => text.push_str("served none\n"),
+    }
+}
+
+// Adds a line for each path.
+fn push_paths(alloc: Global, text: &mut String, paths: &[Path]) -> Result<(), AllocError>
+    ensures { OnOk result (string_bytes text.new ≡ string_bytes text.old ++ missing_text paths.now) }
+{
+    for path in paths {
+        push_path(alloc, text, path)?;
+    }
+    Ok(())
+}
+
+// Adds the line of a path.
+fn push_path(alloc: Global, text: &mut String, path: &Path) -> Result<(), AllocError>
+    ensures { OnOk result (string_bytes text.new ≡ string_bytes text.old ++ path_line path.now) }
+{
+    let line = print(alloc, path)?;
+    text.push_str(line.as_str())?;
+    text.push_str("\n")
+}
