@@ -8,7 +8,7 @@ use Rattle.mirror_model.specs.Complete.{IsTreeOf, IsBuilt, IsLawful}
 use Rattle.mirror_model.specs.Served.{Served, IsServedList}
 use Rattle.mirror_model.specs.Strings.{IsDigest}
 use Rattle.tlog_proof.specs.Answers.{Answers}
-use Rattle.tlog_proof.specs.Made.{proof_in}
+use Rattle.tlog_proof.specs.Made.{asked_proof}
 use Rattle.tlog_proof.specs.declared.make.ProofFault.{ProofFault}
 use Rattle.tlog_proof.specs.declared.make.ProofFault.TheVariants.{OutOfMemory}
 use Rattle.tlog_proof.specs.declared.proof.Ask.{Ask}
@@ -61,12 +61,12 @@ TopHasServed =
 pub record IsServedProof (digest : List ℕ → List ℕ) (v : View) (ask : Ask) (result : Result Proof ProofFault) : Type 0 where
   pub entries : List (List ℕ)
   pub served : IsServedList digest v entries
-  pub answers : Answers OutOfMemory (λ proof. proof) result (proof_in digest entries ask)
+  pub answers : Answers OutOfMemory (λ proof. proof) result (asked_proof digest entries ask)
 
 -- a proof that is made over it, as that of each list that it stands for, is one of the entries that are served
 abbrev pub ProofsAreServed : Type 0
 ProofsAreServed =
     (digest : List ℕ → List ℕ) (v : View) (top : Top) → IsTop digest v top →
     (ask : Ask) (result : Result Proof ProofFault) →
-    ((entries : List (List ℕ)) → IsListOf digest top entries → Answers OutOfMemory (λ proof. proof) result (proof_in digest entries ask)) →
+    ((entries : List (List ℕ)) → IsListOf digest top entries → Answers OutOfMemory (λ proof. proof) result (asked_proof digest entries ask)) →
     IsServedProof digest v ask result
