@@ -5,17 +5,17 @@
 //! strings, and what is remembered of complete heads beside them.
 #![tactic(auto)]
 
+mod best;
 mod edge;
 mod fault;
 mod head_note;
-mod best;
 mod heads;
 mod kept;
 mod laws;
 mod mirror;
-mod take_head;
 mod missing;
 mod served;
+mod take_head;
 mod takes;
 #[cfg(test)]
 mod tests;

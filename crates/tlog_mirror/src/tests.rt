@@ -28,4 +28,5 @@ impl Verifier for Five {
         signature == [5].as_slice()
     }
 }
+
 mod served;
