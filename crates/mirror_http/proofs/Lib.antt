@@ -1,0 +1,4 @@
+pub mod Lengths
+pub mod OneReply
+pub mod Replies
+pub mod Requests

@@ -1,0 +1,5 @@
+pub mod Site
+pub mod Request
+pub mod Reply
+pub mod Framing
+pub mod Laws

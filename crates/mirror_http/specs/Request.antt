@@ -1,0 +1,34 @@
+-- The request for a log's file (RFC 9112, sections 2.1 and 3; RFC 9110, sections 7.2 and 12.5.3).
+use Rattle.std.specs.Prelude.{ℕ, List, [], ◌∷◌, ◌++◌, codes}
+use Rattle.tlog_tiles.specs.Path.{path_text}
+use Rattle.tlog_tiles.specs.declared.paths.Path.{Path}
+use Rattle.mirror_http.specs.Site.{Place, slash}
+
+-- CR LF, which ends a line
+abbrev pub line_end : List ℕ
+line_end = 13 ∷ 10 ∷ []
+
+-- the target: the prefix, a slash and the path
+abbrev pub target : Place → Path → List ℕ
+target site path = site.prefix ++ slash ∷ path_text path
+
+-- the lines of the request, without what ends them
+abbrev pub request_line : Place → Path → List ℕ
+request_line site path = codes "GET " ++ (target site path ++ codes " HTTP/1.0")
+
+abbrev pub host_line : Place → List ℕ
+host_line site = codes "Host: " ++ site.host
+
+-- a line and what ends it
+abbrev pub ended : List ℕ → List ℕ
+ended line = line ++ line_end
+
+-- the fields that follow, and the empty line: the file as it is, on a connection of its own
+abbrev pub fields_after_host : List ℕ
+fields_after_host =
+    ended (codes "Accept-Encoding: identity") ++ (ended (codes "Connection: close") ++ line_end)
+
+-- the request: its line, its fields, and an empty line
+abbrev pub request_text : Place → Path → List ℕ
+request_text site path =
+    ended (request_line site path) ++ (ended (host_line site) ++ fields_after_host)
