@@ -3,6 +3,7 @@
 mod heads;
 mod items;
 mod new;
+mod served;
 
 ghost use Rattle.std.specs.Prelude.{codes, ◌∷◌, []};
 ghost use Rattle.std.specs.Str.{bytes_eq};
@@ -28,5 +29,3 @@ impl Verifier for Five {
         signature == [5].as_slice()
     }
 }
-
-mod served;

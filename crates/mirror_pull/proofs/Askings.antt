@@ -1,0 +1,86 @@
+-- Paths that a pull asks for, one call after another.
+use Rattle.std.proofs.Common.{◌≡◌, ◌≢◌, ℕ, ◌+◌, ◌<◌, List, [], ◌∷◌, ◌++◌, length, get_or, Option, Some, None, Result, Ok, Err, AllPairs, Contains, Bool, true, false, refl, sym, ◌∙◌, ap, subst, inl, inr, append_assoc, arith}
+use Rattle.std.proofs.lemmas.List.{append-nil, get_or_default}
+use Rattle.std.proofs.lemmas.List.Quantifiers.{all_pairs_push}
+use Rattle.tlog_tiles.specs.declared.paths.Path.{Path}
+use Rattle.mirror_pull.specs.Told.{AddsTold, KeepsTold, Rose, one_more}
+use Rattle.mirror_pull.specs.Asking.{IsOnce, Adds, AddsTo, AddsSome, Asks, Counts}
+use Rattle.std.proofs.Common.{Vec, Global}
+use Rattle.mirror_pull.specs.Source.{TellsGet}
+use Rattle.mirror_pull.specs.Faults.{of_source}
+use Rattle.mirror_pull.specs.declared.source.SourceFault.{SourceFault}
+use Rattle.mirror_pull.specs.declared.source.SourceFault.TheVariants as source
+use Rattle.mirror_pull.specs.declared.fault.PullFault.{PullFault}
+use Rattle.mirror_pull.specs.declared.fault.PullFault.TheVariants.{NoCheckpoint, NoEdge, Head, Source, Collision, OutOfMemory}
+
+pub adds_told_none : {X : Type 0} (a : Option (List X)) → AddsTold a a []
+adds_told_none None = tt
+adds_told_none (Some xs) = sym (append-nil xs)
+
+pub adds_told_kept : {X : Type 0} (a b : Option (List X)) → KeepsTold a b → AddsTold a b []
+adds_told_kept None b k = tt
+adds_told_kept (Some xs) None k = absurd k
+adds_told_kept (Some xs) (Some ys) k = k ∙ sym (append-nil xs)
+
+pub adds_told_then : {X : Type 0} (a b c : Option (List X)) (xs ys : List X) → AddsTold a b xs → AddsTold b c ys → AddsTold a c (xs ++ ys)
+adds_told_then None b c xs ys p q = tt
+adds_told_then (Some us) None c xs ys p q = absurd p
+adds_told_then (Some us) (Some vs) None xs ys p q = absurd q
+adds_told_then {X} (Some us) (Some vs) (Some ws) xs ys p q = q ∙ (ap (λ (l : List X). l ++ ys) p ∙ append_assoc us xs ys)
+
+-- a path that is not among those asked for comes once
+pub once_more : (before : List Path) (path : Path) → (Contains before path → ⊥) → IsOnce before → IsOnce (before ++ path ∷ [])
+once_more before path fresh once =
+    all_pairs_push (λ (a b : Path). a ≢ b) before path once (λ k d lt e. fresh (k, lt, get_or_default before k path d lt ∙ e))
+
+pub adds_none : (before : List Path) (a : Option (List Path)) → Adds before a a []
+adds_none before a = record { told = adds_told_none a; once = λ o. subst IsOnce (sym (append-nil before)) o }
+
+pub adds_to_none : (before : List Path) (a : Option (List Path)) → AddsTo before before a a
+adds_to_none before a = record { more = []; list = sym (append-nil before); adds = adds_none before a }
+
+pub adds_some_none : (before : List Path) (a : Option (List Path)) → AddsSome before a a
+adds_some_none before a = record { more = []; adds = adds_none before a }
+
+pub adds_one : (before : List Path) (path : Path) (a b : Option (List Path)) → (Contains before path → ⊥) → AddsTold a b (path ∷ []) → Adds before a b (path ∷ [])
+adds_one before path a b fresh told = record { told = told; once = once_more before path fresh }
+
+pub adds_then : (before middle : List Path) (a b c : Option (List Path)) (xs ys : List Path) → middle ≡ before ++ xs → Adds before a b xs → Adds middle b c ys → Adds before a c (xs ++ ys)
+adds_then before middle a b c xs ys e p q =
+    record {
+      told = adds_told_then a b c xs ys p.told q.told;
+      once = λ o. subst IsOnce (append_assoc before xs ys) (subst (λ m. IsOnce (m ++ ys)) e (q.once (subst IsOnce (sym e) (p.once o))));
+    }
+
+pub adds_to_then : (before middle after : List Path) (a b c : Option (List Path)) → AddsTo before middle a b → AddsTo middle after b c → AddsTo before after a c
+adds_to_then before middle after a b c p q =
+    record {
+      more = p.more ++ q.more;
+      list = q.list ∙ (ap (λ (m : List Path). m ++ q.more) p.list ∙ append_assoc before p.more q.more);
+      adds = adds_then before middle a b c p.more q.more p.list p.adds q.adds;
+    }
+
+pub adds_some_then : (before middle : List Path) (a b c : Option (List Path)) → AddsTo before middle a b → AddsSome middle b c → AddsSome before a c
+adds_some_then before middle a b c p q =
+    record { more = p.more ++ q.more; adds = adds_then before middle a b c p.more q.more p.list p.adds q.adds }
+
+pub some_of : (before after : List Path) (a b : Option (List Path)) → AddsTo before after a b → AddsSome before a b
+some_of before after a b p = record { more = p.more; adds = p.adds }
+
+-- of two parts of a pull, one after the other, the second's answer is the answer of both
+pub asks_then : {T : Type 0} (before middle after : List Path) (a b c : Option (List Path)) (r : Result T PullFault) → AddsTo before middle a b → Asks middle after b c r → Asks before after a c r
+asks_then before middle after a b c (Ok x) p q = adds_to_then before middle after a b c p q
+asks_then before middle after a b c (Err e) p q = adds_some_then before middle a b c p q
+
+-- a get that is answered by a fault
+pub some_get : (before : List Path) (path : Path) (a b : Option (List Path)) (f : SourceFault) → (Contains before path → ⊥) → TellsGet {T = Option (Vec ℕ Global)} a b path (Err f) → Asks {T = Option (Vec ℕ Global)} before before a b (Err (of_source f))
+some_get before path a b source.Failed fresh told = record { more = path ∷ []; adds = adds_one before path a b fresh told }
+some_get before path a b source.OutOfMemory fresh told = record { more = []; adds = record { told = adds_told_kept a b told; once = (adds_none before a).once } }
+
+-- what a part asked, after which another asks nothing, whatever its answer
+pub asks_late : {T : Type 0} (before after : List Path) (a b : Option (List Path)) (r : Result T PullFault) → AddsTo before after a b → Asks before after a b r
+asks_late before after a b (Ok x) p = p
+asks_late before after a b (Err e) p = some_of before after a b p
+
+pub from_none : (before : List Path) (a b : Option (List Path)) → before ≡ [] → AddsSome before a b → AddsSome [] a b
+from_none before a b e p = subst (λ (l : List Path). AddsSome l a b) e p

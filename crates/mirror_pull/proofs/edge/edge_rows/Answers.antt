@@ -1,0 +1,50 @@
+use Rattle.std.proofs.Common.{◌∙◌, refl}
+use Rattle.std.proofs.lemmas.Result.{err_from_is_err_and}
+use Rattle.mirror_pull.proofs.Askings.{adds_some_then, adds_to_then, adds_to_none, some_of}
+use Rattle.mirror_pull.proofs.Gains.{stays_then, stays_itself, counts_err}
+use Rattle.mirror_pull.proofs.edge.edge_rows.Goals as goal
+
+pub returns-in_err-row-clause-told : goal.returns-in_err-row-clause-told
+returns-in_err-row-clause-told g c =
+    let asked = g.S.Source.asked in
+    let p = err_from_is_err_and c.from_residual-in_err-row.result c.from_residual-in_err-row.ensures.1 in
+    rw p.1 (adds_some_then c.args.asked.now.items c.loop-path.asked.items (asked c.args.source.now) (asked c.loop-path.source) (asked c.edge_row.new.source) c.loop-path.invariant.told c.in_err-row.ensures.told)
+
+pub returns-in_err-row-clause-counted : goal.returns-in_err-row-clause-counted
+returns-in_err-row-clause-counted g c =
+    let failed = g.S.Source.failed in
+    let p = err_from_is_err_and c.from_residual-in_err-row.result c.from_residual-in_err-row.ensures.1 in
+    rw (p.1, p.2) (counts_err (failed c.args.source.now) (failed c.loop-path.source) (failed c.edge_row.new.source) c.in_err-row.field-0.0 c.loop-path.invariant.counted c.in_err-row.ensures.counted)
+
+pub returns-in_err-row-clause-later : goal.returns-in_err-row-clause-later
+returns-in_err-row-clause-later g c =
+    let may = g.S.Source.may_answer in
+    stays_then (may c.args.source.now) (may c.loop-path.source) (may c.edge_row.new.source) c.loop-path.invariant.later c.in_err-row.ensures.later
+
+pub returns-in_err-row-clause-early : goal.returns-in_err-row-clause-early
+returns-in_err-row-clause-early g c =
+    let p = err_from_is_err_and c.from_residual-in_err-row.result c.from_residual-in_err-row.ensures.1 in rw (p.1, p.2) c.in_err-row.ensures.early
+
+pub loop-path-preserved : goal.loop-path-preserved
+loop-path-preserved g c =
+    let asked = g.S.Source.asked in
+    let may = g.S.Source.may_answer in
+    record {
+      told = adds_to_then c.args.asked.now.items c.loop-path.asked.items c.edge_row.new.asked.items (asked c.args.source.now) (asked c.loop-path.source) (asked c.edge_row.new.source) c.loop-path.invariant.told c.in_ok-row.ensures.told;
+      counted = c.in_ok-row.ensures.counted ∙ c.loop-path.invariant.counted;
+      later = stays_then (may c.args.source.now) (may c.loop-path.source) (may c.edge_row.new.source) c.loop-path.invariant.later c.in_ok-row.ensures.later;
+    }
+
+pub loop-path-init : goal.loop-path-init
+loop-path-init g c =
+    record {
+      told = adds_to_none c.args.asked.now.items (g.S.Source.asked c.args.source.now);
+      counted = refl;
+      later = stays_itself (g.S.Source.may_answer c.args.source.now);
+    }
+
+pub returns-in_err-push-clause-told : goal.returns-in_err-push-clause-told
+returns-in_err-push-clause-told g c =
+    let asked = g.S.Source.asked in
+    let p = err_from_is_err_and c.from_residual-in_err-push.result c.from_residual-in_err-push.ensures.1 in
+    rw p.1 (some_of c.args.asked.now.items c.edge_row.new.asked.items (asked c.args.source.now) (asked c.edge_row.new.source) (adds_to_then c.args.asked.now.items c.loop-path.asked.items c.edge_row.new.asked.items (asked c.args.source.now) (asked c.loop-path.source) (asked c.edge_row.new.source) c.loop-path.invariant.told c.in_ok-row.ensures.told))

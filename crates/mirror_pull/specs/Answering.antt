@@ -1,0 +1,51 @@
+-- Which fault of a pull a fault of a take is, and what a refused head says.
+use Rattle.std.specs.Prelude.{Bool, true, false, ℕ, List, Result, Ok, Err}
+use Rattle.signed_note.specs.Keys.{Key}
+use Rattle.mirror_model.specs.Heads.{IsOpenHead}
+use Rattle.mirror_model.specs.declared.fault.TakeFault.{TakeFault}
+use Rattle.mirror_model.specs.declared.fault.TakeFault.TheVariants as take
+use Rattle.mirror_pull.specs.declared.fault.PullFault.{PullFault}
+use Rattle.mirror_pull.specs.declared.fault.PullFault.TheVariants as pull
+
+-- a fault of the head of a pull
+abbrev pub of_take : TakeFault → PullFault
+of_take (take.Note f) = pull.Head (take.Note f)
+of_take (take.Checkpoint f) = pull.Head (take.Checkpoint f)
+of_take take.OtherOrigin = pull.Head take.OtherOrigin
+of_take take.NoTrustedSignature = pull.Head take.NoTrustedSignature
+of_take take.EdgeCount = pull.Head take.EdgeCount
+of_take take.EdgeLength = pull.Head take.EdgeLength
+of_take take.EdgeMismatch = pull.Head take.EdgeMismatch
+of_take take.RowLength = pull.Head take.RowLength
+of_take take.BundleShort = pull.Head take.BundleShort
+of_take take.BundleLong = pull.Head take.BundleLong
+of_take take.Collision = pull.Collision
+of_take take.OutOfMemory = pull.OutOfMemory
+
+abbrev pub NoHead : List ℕ → List ℕ → List Key → TakeFault → Type 0
+NoHead note origin keys take.OutOfMemory = Unit {0}
+NoHead note origin keys f = (size : ℕ) (root : List ℕ) → IsOpenHead note origin keys size root → ⊥
+
+-- a head is refused only where its note is no checkpoint of that origin that opens under the keys; it does not clash
+abbrev pub RefusesHead : {T : Type 0} → List ℕ → List ℕ → List Key → Result T TakeFault → Type 0
+RefusesHead note origin keys (Ok x) = Unit {0}
+RefusesHead note origin keys (Err f) = NoHead note origin keys f
+
+-- whether a tile or a bundle was refused for what it is, in a pull
+abbrev pub refused_of_fault : TakeFault → Result Bool PullFault
+refused_of_fault (take.Note f) = Ok true
+refused_of_fault (take.Checkpoint f) = Ok true
+refused_of_fault take.OtherOrigin = Ok true
+refused_of_fault take.NoTrustedSignature = Ok true
+refused_of_fault take.EdgeCount = Ok true
+refused_of_fault take.EdgeLength = Ok true
+refused_of_fault take.EdgeMismatch = Ok true
+refused_of_fault take.RowLength = Ok true
+refused_of_fault take.BundleShort = Ok true
+refused_of_fault take.BundleLong = Ok true
+refused_of_fault take.Collision = Err pull.Collision
+refused_of_fault take.OutOfMemory = Err pull.OutOfMemory
+
+abbrev pub refused_of : {T : Type 0} → Result T TakeFault → Result Bool PullFault
+refused_of (Ok x) = Ok false
+refused_of (Err f) = refused_of_fault f

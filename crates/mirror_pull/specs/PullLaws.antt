@@ -1,0 +1,42 @@
+-- Laws of honest rounds.
+use Rattle.std.specs.Prelude.{ℕ, ◌^◌, ◌<◌, ◌≤◌, max, List, length, take}
+use Rattle.tlog_shape.specs.Edge.{IsTop}
+use Rattle.tlog_tiles.specs.declared.paths.Path.{Path}
+use Rattle.node_store.specs.Strings.{HasAll}
+use Rattle.mirror_model.specs.View.{View}
+use Rattle.mirror_model.specs.Strings.{IsDigest}
+use Rattle.mirror_model.specs.Edge.{edge_rows, edge_strings}
+use Rattle.mirror_model.specs.Rounds.{IsRound}
+use Rattle.mirror_model.specs.TrueLaws.{AreShort}
+use Rattle.mirror_model.specs.Listed.{ListsFront}
+use Rattle.mirror_pull.specs.Honest.{Gets, AreFrontRounds, with_true}
+
+-- an honest round is one that takes the front
+abbrev pub FrontRoundTakes : Type 0
+FrontRoundTakes =
+    (digest : List ℕ → List ℕ) →
+    IsDigest digest →
+    (entries : List (List ℕ)) →
+    AreShort entries →
+    (size : ℕ) (v : View) (list gets founds : List Path) →
+    size ≤ length entries →
+    size < 256 ^ 8 →
+    HasAll v.strings (edge_strings digest (edge_rows digest (take size entries))) →
+    ListsFront digest v (take size entries) list →
+    Gets (length entries) list gets founds →
+    IsRound digest (take size entries) v.strings (with_true digest entries v founds).strings
+
+-- so many honest rounds, and no more, have fronts that are not empty
+abbrev pub FrontRoundsEnd : Type 0
+FrontRoundsEnd =
+    (digest : List ℕ → List ℕ) →
+    IsDigest digest →
+    (entries : List (List ℕ)) →
+    AreShort entries →
+    (size top : ℕ) (v w : View) (lists : List (List Path)) (gets : List Path) →
+    size ≤ length entries →
+    size < 256 ^ 8 →
+    IsTop size top →
+    HasAll v.strings (edge_strings digest (edge_rows digest (take size entries))) →
+    AreFrontRounds digest entries size v w lists gets →
+    length lists ≤ max 1 top

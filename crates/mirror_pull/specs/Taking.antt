@@ -1,0 +1,111 @@
+-- What a pull takes of what its source answers.
+use Rattle.std.specs.Prelude.{◌≡◌, ◌⊎◌, ℕ, ◌*◌, ◌≤◌, List, [], ◌∷◌, map, Option, Some, None, Result, Ok, Err, Bool, true, false, IsTrue}
+use Rattle.std.specs.FinSet as set
+use Rattle.signed_note.specs.Keys.{Key}
+use Rattle.tlog_tiles.specs.declared.paths.Path.{Path}
+use Rattle.tlog_tiles.specs.declared.paths.Path.TheVariants.{Checkpoint, Tile, Entries}
+use Rattle.node_store.specs.Strings.{Has, NoClash}
+use Rattle.mirror_model.specs.View.{View, IsSubview}
+use Rattle.mirror_model.specs.Strings.{HasClash}
+use Rattle.mirror_model.specs.Heads.{IsOpenHead, HasHead}
+use Rattle.mirror_model.specs.declared.items.Item.{Item}
+use Rattle.mirror_model.specs.declared.items.Item.TheVariants as item
+use Rattle.mirror_model.specs.Item.{IsGood, IsWidth, plus}
+use Rattle.mirror_model.specs.Complete.{IsComplete}
+use Rattle.mirror_model.specs.TreeLaws.{IsOfSize}
+use Rattle.mirror_model.specs.declared.fault.TakeFault.{TakeFault}
+use Rattle.mirror_model.specs.declared.fault.TakeFault.TheVariants as take
+use Rattle.mirror_pull.specs.declared.fault.PullFault.{PullFault}
+use Rattle.mirror_pull.specs.declared.fault.PullFault.TheVariants.{NoCheckpoint, NoEdge, Head, Source, Collision, OutOfMemory}
+use Rattle.mirror_pull.specs.declared.pulling.Pulled.{Pulled}
+
+-- the view has gained strings alone
+pub record GainsStrings (old new : View) : Type 0 where
+  pub grows : IsSubview old new
+  pub same_notes : (note : List ℕ) → Has new.notes note → Has old.notes note
+
+-- the view has gained strings, and one note at most, which is a checkpoint of the origin that opens under the keys
+pub record Grows (keys : List Key) (old new : View) : Type 0 where
+  pub grows : IsSubview old new
+  pub one_note :
+      (note other : List ℕ) → Has new.notes note → Has new.notes other → (Has old.notes note → ⊥) →
+      (Has old.notes other → ⊥) → note ≡ other
+  pub good :
+      (note : List ℕ) → Has new.notes note → (Has old.notes note → ⊥) →
+      (size : ℕ) × (root : List ℕ) × IsOpenHead note old.origin keys size root
+
+-- the item that bytes at a path are
+abbrev pub item_at : Path → List ℕ → Item
+item_at Checkpoint bytes = item.Tile 0 []
+item_at (Tile level index width) bytes = item.Tile width bytes
+item_at (Entries index width) bytes = item.Bundle width bytes
+
+-- a tile or a bundle of a lawful width
+abbrev pub IsTakeable : Path → Type 0
+IsTakeable Checkpoint = ⊥
+IsTakeable (Tile level index width) = IsWidth width
+IsTakeable (Entries index width) = IsWidth width
+
+-- what a pull's answer to an item says of the views: true where the item was refused for what it is
+abbrev pub TakesItem : (List ℕ → List ℕ) → View → Item → Result Bool PullFault → View → Type 0
+TakesItem digest old item (Ok true) new = (IsGood digest old.origin [] item → ⊥) × (new ≡ old)
+TakesItem digest old item (Ok false) new = IsGood digest old.origin [] item × NoClash digest (plus digest old item).strings × (new ≡ plus digest old item)
+TakesItem digest old item (Err Collision) new = HasClash digest (plus digest old item).strings × (new ≡ old)
+TakesItem digest old item (Err OutOfMemory) new = GainsStrings old new
+TakesItem digest old item (Err NoCheckpoint) new = ⊥
+TakesItem digest old item (Err NoEdge) new = ⊥
+TakesItem digest old item (Err (Head f)) new = ⊥
+TakesItem digest old item (Err Source) new = ⊥
+
+-- after the head a pull ends early for its source, for a clash or for want of memory alone
+abbrev pub IsLate : {T : Type 0} → Result T PullFault → Type 0
+IsLate (Ok x) = Unit {0}
+IsLate (Err NoCheckpoint) = ⊥
+IsLate (Err NoEdge) = ⊥
+IsLate (Err (Head f)) = ⊥
+IsLate (Err Source) = Unit {0}
+IsLate (Err Collision) = Unit {0}
+IsLate (Err OutOfMemory) = Unit {0}
+
+-- before the head, for want of memory, the source or the edge
+abbrev pub IsEarly : {T : Type 0} → Result T PullFault → Type 0
+IsEarly (Ok x) = Unit {0}
+IsEarly (Err NoCheckpoint) = ⊥
+IsEarly (Err NoEdge) = Unit {0}
+IsEarly (Err (Head f)) = ⊥
+IsEarly (Err Source) = Unit {0}
+IsEarly (Err Collision) = ⊥
+IsEarly (Err OutOfMemory) = Unit {0}
+
+-- a fault of a head
+abbrev pub IsOfHead : TakeFault → Type 0
+IsOfHead take.Collision = ⊥
+IsOfHead take.OutOfMemory = ⊥
+IsOfHead f = Unit {0}
+
+-- taking the head, in a pull
+abbrev pub TakesHead : {T : Type 0} → (List ℕ → List ℕ) → List Key → View → Item → Result T PullFault → View → Type 0
+TakesHead digest keys old item (Ok x) new = IsGood digest old.origin keys item × NoClash digest (plus digest old item).strings × (new ≡ plus digest old item)
+TakesHead digest keys old item (Err NoCheckpoint) new = ⊥
+TakesHead digest keys old item (Err NoEdge) new = ⊥
+TakesHead digest keys old item (Err (Head f)) new = IsOfHead f × (IsGood digest old.origin keys item → ⊥) × (new ≡ old)
+TakesHead digest keys old item (Err Source) new = ⊥
+TakesHead digest keys old item (Err Collision) new = HasClash digest (plus digest old item).strings × (new ≡ old)
+TakesHead digest keys old item (Err OutOfMemory) new = Grows keys old new
+
+-- a note of that size and root is held, and the answer tells whether that head is complete
+pub record IsPulled (digest : List ℕ → List ℕ) (v : View) (p : Pulled) : Type 0 where
+  pub head : HasHead v p.size p.root
+  pub complete : IsTrue p.complete → IsComplete digest v p.size p.root
+  pub not_complete : IsComplete digest v p.size p.root → IsTrue p.complete
+  pub at_most : p.rounds ≤ 8
+
+-- what each answer of any pull says of the view
+abbrev pub PullsTo : (List ℕ → List ℕ) → List Key → View → View → Result Pulled PullFault → Type 0
+PullsTo digest keys old new (Ok p) = Grows keys old new × IsPulled digest new p
+PullsTo digest keys old new (Err NoCheckpoint) = new ≡ old
+PullsTo digest keys old new (Err NoEdge) = new ≡ old
+PullsTo digest keys old new (Err (Head f)) = IsOfHead f × (new ≡ old)
+PullsTo digest keys old new (Err Source) = Grows keys old new
+PullsTo digest keys old new (Err Collision) = Grows keys old new
+PullsTo digest keys old new (Err OutOfMemory) = Grows keys old new

@@ -1,0 +1,64 @@
+//! Asking a source for paths, none twice.
+ghost use Rattle.std.specs.Prelude.{◌≡◌, ◌↔◌, IsTrue, ◌≢◌, ℕ, IfOk, Contains, None, option_map, ◌++◌, ◌∷◌, []};
+ghost use Rattle.mirror_pull.specs.Asking.{Asks, Counts, full_of, width_of};
+ghost use Rattle.mirror_pull.specs.Taking.{IsEarly, IsLate};
+ghost use Rattle.mirror_pull.specs.Source.{StaysWithin};
+
+use crate::fault::PullFault;
+use crate::source::Source;
+use tlog_tiles::Path;
+
+/// The path of the full tile or bundle of the place.
+pub(crate) fn full_path(path: Path) -> Path
+    ensures { result ≡ full_of path }
+{
+    match path {
+        Path::Checkpoint => Path::Checkpoint,
+        Path::Tile { level, index, .. } => Path::Tile {
+            level,
+            index,
+            width: 256,
+        },
+        Path::Entries { index, .. } => Path::Entries { index, width: 256 },
+    }
+}
+
+/// How many hashes or entries the path names.
+pub(crate) fn path_width(path: Path) -> u32
+    ensures { result ≡ width_of path }
+{
+    match path {
+        Path::Checkpoint => 0,
+        Path::Tile { width, .. } => width,
+        Path::Entries { width, .. } => width,
+    }
+}
+
+/// Whether the path is among those asked for.
+pub(crate) fn is_asked(asked: &[Path], path: &Path) -> bool
+    ensures { IsTrue result ↔ Contains asked.now path.now }
+{
+    asked.contains(path)
+}
+
+/// Asks for a path. One that was asked for already counts as not found.
+pub(crate) fn ask<S: Source>(
+    source: &mut S,
+    asked: &mut Vec<Path>,
+    path: Path,
+) -> Result<Option<Vec<u8>>, PullFault>
+    ensures told { Asks asked.old.items asked.new.items (S.asked source.old) (S.asked source.new) result }
+    ensures counted { Counts (S.failed source.old) (S.failed source.new) result }
+    ensures early { IsEarly result }
+    ensures late { IsLate result }
+    ensures later { StaysWithin (S.may_answer source.old) (S.may_answer source.new) }
+    ensures again { IfOk result (λ bytes. Contains asked.old.items path → bytes ≡ None) }
+    ensures answer { IfOk result (λ bytes. (Contains asked.old.items path → ⊥) → S.may_answer source.old path (option_map (λ v. v.items) bytes)) }
+    ensures grown { IfOk result (λ _. (Contains asked.old.items path → ⊥) → asked.new.items ≡ asked.old.items ++ path ∷ []) }
+{
+    if is_asked(asked, &path) {
+        return Ok(None);
+    }
+    asked.push(path)?;
+    Ok(source.get(&path)?)
+}

@@ -1,0 +1,58 @@
+//! The edge rows of a pull.
+ghost use Rattle.std.specs.Prelude.{◌≡◌, map, IfOk};
+ghost use Rattle.mirror_pull.specs.Asking.{Asks, Counts};
+ghost use Rattle.mirror_pull.specs.Taking.{IsEarly};
+ghost use Rattle.mirror_pull.specs.Source.{StaysWithin};
+
+use crate::ask::{ask, full_path, path_width};
+use crate::fault::PullFault;
+use crate::source::Source;
+use std::alloc::Global;
+use tlog_tiles::{Path, edge_paths};
+
+const FULL_TILE: usize = 8192;
+
+/// The bytes of a partial tile: as they are found, or else the first hashes of the full tile.
+fn edge_row<S: Source>(
+    source: &mut S,
+    asked: &mut Vec<Path>,
+    path: Path,
+) -> Result<Vec<u8>, PullFault>
+    ensures told { Asks asked.old.items asked.new.items (S.asked source.old) (S.asked source.new) result }
+    ensures counted { Counts (S.failed source.old) (S.failed source.new) result }
+    ensures later { StaysWithin (S.may_answer source.old) (S.may_answer source.new) }
+    ensures early { IsEarly result }
+{
+    if let Some(bytes) = ask(source, asked, path)? {
+        return Ok(bytes);
+    }
+    let Some(mut bytes) = ask(source, asked, full_path(path))? else {
+        return Err(PullFault::NoEdge);
+    };
+    if bytes.len() != FULL_TILE {
+        return Err(PullFault::NoEdge);
+    }
+    bytes.truncate(32 * path_width(path) as usize);
+    Ok(bytes)
+}
+
+/// The edge rows of a tree of that size, lowest level first.
+pub(crate) fn edge_rows<S: Source>(
+    alloc: Global,
+    source: &mut S,
+    asked: &mut Vec<Path>,
+    size: u64,
+) -> Result<Vec<Vec<u8>>, PullFault>
+    ensures told { Asks asked.old.items asked.new.items (S.asked source.old) (S.asked source.new) result }
+    ensures counted { Counts (S.failed source.old) (S.failed source.new) result }
+    ensures later { StaysWithin (S.may_answer source.old) (S.may_answer source.new) }
+    ensures early { IsEarly result }
+{
+    let paths = edge_paths(alloc, size)?;
+    let mut rows = Vec::new(alloc);
+    for path in &paths {
+        let row = edge_row(source, asked, *path)?;
+        rows.push(row)?;
+    }
+    Ok(rows)
+}
