@@ -17,13 +17,14 @@ fn head_refusals(rt: HostRuntime) -> Result<(), Fail> {
     keys.push(Box::new(alloc, Five)?)?;
     let root = Sha256Tree::leaf(b"");
     let zeros = [0u8; 32];
+    let short = [0u8; 31];
     let note = HEAD_OF_1.as_bytes();
     let mut mirror = Mirror::<Sha256Tree>::new(alloc, "ex")?;
     let answer = mirror.take_head(alloc, &keys, note, &[root.as_slice(), root.as_slice()]);
     assert_eq!(rt; answer, Err(TakeFault::EdgeCount));
     let answer = mirror.take_head(alloc, &keys, note, &[]);
     assert_eq!(rt; answer, Err(TakeFault::EdgeCount));
-    let answer = mirror.take_head(alloc, &keys, note, &[&root[..31]]);
+    let answer = mirror.take_head(alloc, &keys, note, &[short.as_slice()]);
     assert_eq!(rt; answer, Err(TakeFault::EdgeLength));
     let answer = mirror.take_head(alloc, &keys, note, &[zeros.as_slice()]);
     assert_eq!(rt; answer, Err(TakeFault::EdgeMismatch));
