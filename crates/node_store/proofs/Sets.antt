@@ -9,20 +9,20 @@ use Rattle.std.proofs.lemmas.Map.Lookups.{exact_bytes}
 use Rattle.std.proofs.lemmas.Map.Views.{tells_apart}
 use Rattle.node_store.specs.Strings.{Strings, Has}
 
-either : (a b : Bool) → (a || b) ≡ true → (a ≡ true) ⊎ (b ≡ true)
-either true b h = inl refl
-either false b h = inr h
+pub or_either : (a b : Bool) → (a || b) ≡ true → (a ≡ true) ⊎ (b ≡ true)
+or_either true b h = inl refl
+or_either false b h = inr h
 
-left_true : (a b : Bool) → a ≡ true → (a || b) ≡ true
-left_true true b h = refl
-left_true false b h = absurd (cc h)
+pub or_left : (a b : Bool) → a ≡ true → (a || b) ≡ true
+or_left true b h = refl
+or_left false b h = absurd (cc h)
 
-right_true : (a b : Bool) → b ≡ true → (a || b) ≡ true
-right_true true b h = refl
-right_true false b h = h
+pub or_right : (a b : Bool) → b ≡ true → (a || b) ≡ true
+or_right true b h = refl
+or_right false b h = h
 
 -- a string is tied to itself alone
-tied : (s : List ℕ) → eq_by_cmp (slice_cmp nat_cmp) s s ≡ true
+pub tied : (s : List ℕ) → eq_by_cmp (slice_cmp nat_cmp) s s ≡ true
 tied s = ap is_eq (tied_itself nat_list_cmp_total s)
 
 -- two strings are the same or not
@@ -39,7 +39,7 @@ Has-empty q h = let e = contains-empty (slice_cmp nat_cmp) q in cc (e, h)
 -- what a set has after an insertion
 pub Has-insert : (v : Strings) (k q : List ℕ) → Has (insert v k) q → (q ≡ k) ⊎ Has v q
 Has-insert v k q h =
-    elim (either (eq_by_cmp (slice_cmp nat_cmp) q k) (contains v q) (sym (contains-insert nat_list_cmp_total v k q) ∙ h)) [
+    elim (or_either (eq_by_cmp (slice_cmp nat_cmp) q k) (contains v q) (sym (contains-insert nat_list_cmp_total v k q) ∙ h)) [
       | inl t ↦ inl (tells_apart exact_bytes q k t)
       | inr m ↦ inr m
     ]
@@ -48,17 +48,17 @@ pub Has-insert_same : (v : Strings) (k : List ℕ) → Has (insert v k) k
 Has-insert_same v k = contains-insert nat_list_cmp_total v k k ∙ ap (λ b. b || contains v k) (tied k)
 
 pub Has-insert_other : (v : Strings) (k q : List ℕ) → Has v q → Has (insert v k) q
-Has-insert_other v k q h = contains-insert nat_list_cmp_total v k q ∙ right_true _ _ h
+Has-insert_other v k q h = contains-insert nat_list_cmp_total v k q ∙ or_right _ _ h
 
 -- what a union has
 pub Has-union_left : (v w : Strings) (q : List ℕ) → Has v q → Has (union v w) q
-Has-union_left v w q h = contains-union nat_list_cmp_total v w q ∙ left_true _ _ h
+Has-union_left v w q h = contains-union nat_list_cmp_total v w q ∙ or_left _ _ h
 
 pub Has-union_right : (v w : Strings) (q : List ℕ) → Has w q → Has (union v w) q
-Has-union_right v w q h = contains-union nat_list_cmp_total v w q ∙ right_true _ _ h
+Has-union_right v w q h = contains-union nat_list_cmp_total v w q ∙ or_right _ _ h
 
 pub Has-union_cases : (v w : Strings) (q : List ℕ) → Has (union v w) q → Has v q ⊎ Has w q
-Has-union_cases v w q h = either _ _ (sym (contains-union nat_list_cmp_total v w q) ∙ h)
+Has-union_cases v w q h = or_either _ _ (sym (contains-union nat_list_cmp_total v w q) ∙ h)
 
 -- two sets with the same strings are one
 pub same_strings : (s t : Strings) → ((q : List ℕ) → Has s q → Has t q) → ((q : List ℕ) → Has t q → Has s q) → s ≡ t

@@ -23,21 +23,21 @@ impl<'a> Model for Iter<'a> {
 
     ghost Value = { List (List ℕ) };
 
-    ghost use Rattle.node_store.specs.Held.{strings_of, AllWithin};
+    ghost use Rattle.node_store.specs.Held.{held_strings, AllWithin};
 
-    ghost view = { λ a. strings_of a.pool.now a.left };
+    ghost view = { λ a. held_strings a.pool.now a.left };
 
     ghost invariant = { λ a. AllWithin a.pool.now a.left };
 }
 
 impl<'a> Iter<'a> {
     ghost use Rattle.std.specs.Prelude.{◌≡◌};
-    ghost use Rattle.node_store.specs.Held.{strings_of, AllWithin};
+    ghost use Rattle.node_store.specs.Held.{held_strings, AllWithin};
 
     // The strings of what is left, all of them within the pool.
     pub(crate) fn new(left: Values<'a, Hash, Held>, pool: &'a [u8]) -> Self
         requires { AllWithin pool.now left }
-        ensures { result ≡ strings_of pool.now left.entry }
+        ensures { result ≡ held_strings pool.now left.entry }
     {
         Iter { left, pool }
     }

@@ -7,7 +7,7 @@ use Rattle.std.proofs.lemmas.List.Elements.{All-head, All-tail}
 use Rattle.std.proofs.lemmas.List.Sums.{sum_by-append}
 use Rattle.std.proofs.lemmas.Bool.Decides.{Decides-eqb}
 use Rattle.signed_note.specs.Names.{newline}
-use Rattle.signed_note.specs.Notes.{Line, line_body, line_text, IsLine}
+use Rattle.signed_note.specs.Notes.{Line, line_body, line_text, IsSignatureLine}
 use Rattle.signed_note.specs.Reading.{line_count}
 use Rattle.signed_note.proofs.Lacking.{Lacks}
 use Rattle.signed_note.proofs.LineTexts.{body_lacks_newline}
@@ -29,14 +29,14 @@ newlines-lacking (x ∷ xs) p =
     let head : newlines (x ∷ []) ≡ 0 = zero-add (one_at x) ∙ none_at x (nat_eq x newline) refl p.0 in
     sum_by-append one_at (x ∷ []) xs ∙ omega (arith, head, newlines-lacking xs p.1)
 
-newlines-line : (line : Line) → IsLine line → newlines (line_text line) ≡ 1
+newlines-line : (line : Line) → IsSignatureLine line → newlines (line_text line) ≡ 1
 newlines-line line h = sum_by-append one_at (line_body line) (newline ∷ []) ∙ omega (arith, newlines-lacking (line_body line) (body_lacks_newline line h))
 
-newlines-lines : (lines : List Line) → All IsLine lines → newlines (flat_map line_text lines) ≡ length lines
+newlines-lines : (lines : List Line) → All IsSignatureLine lines → newlines (flat_map line_text lines) ≡ length lines
 newlines-lines [] h = refl
 newlines-lines (line ∷ lines) h =
     sum_by-append one_at (line_text line) (flat_map line_text lines)
-    ∙ omega (arith, newlines-line line (All-head IsLine line lines h), newlines-lines lines (All-tail IsLine line lines h))
+    ∙ omega (arith, newlines-line line (All-head IsSignatureLine line lines h), newlines-lines lines (All-tail IsSignatureLine line lines h))
 
 -- lines end in a newline
 lines_end : (line : Line) (lines : List Line) → (front : List ℕ) × (flat_map line_text (line ∷ lines) ≡ front ++ newline ∷ [])
@@ -60,7 +60,7 @@ ended_count front =
     let closed : nat_eq (slice_index xs (length xs - 1)) newline ≡ true = (Decides-eqb (slice_index xs (length xs - 1)) newline).1 last in
     ap (λ (n : ℕ). newlines xs + n) (none_open (nat_eq (length xs) 0) (nat_eq (slice_index xs (length xs - 1)) newline) closed) ∙ add-zero (newlines xs)
 
-pub line_count-lines : (lines : List Line) → All IsLine lines → line_count (flat_map line_text lines) ≡ length lines
+pub line_count-lines : (lines : List Line) → All IsSignatureLine lines → line_count (flat_map line_text lines) ≡ length lines
 line_count-lines [] h = refl
 line_count-lines (line ∷ lines) h =
     let end = lines_end line lines in

@@ -9,15 +9,16 @@ use Rattle.std.proofs.lemmas.List.Elements.{All-head, All-tail}
 use Rattle.byteorder.specs.Endian.{big_bytes, big_number}
 use Rattle.signed_note.specs.Names.{newline, IsNoteText}
 use Rattle.tlog_text.specs.Hash.{base64_of}
-use Rattle.signed_note.specs.Notes.{Line, NoteParts, signed_bytes, line_body, line_text, IsLine, IsSplit, IsNote}
+use Rattle.signed_note.specs.Notes.{Line, NoteParts, signed_bytes, line_body, line_text, IsSignatureLine, IsNoteSplit, IsNote}
 use Rattle.signed_note.specs.Reading.{line_count, ReadsNote}
-use Rattle.signed_note.specs.Laws.{NotesAreRead, OneAnswer}
+use Rattle.signed_note.specs.Laws.{NotesAreRead, OneNoteAnswer}
 use Rattle.signed_note.specs.declared.limits.TheConstants.{MAX_LINES, MAX_NOTE_LEN}
 use Rattle.signed_note.specs.declared.fault.NoteFault.{NoteFault}
 use Rattle.signed_note.specs.declared.fault.NoteFault.TheVariants.{NoteTooLong, NotText, NoSignatures, TooManySignatures, BadSignatureLine, OutOfMemory}
 use Rattle.signed_note.proofs.Lacking.{cut_once}
 use Rattle.signed_note.proofs.NameBytes.{name_lacks_space}
-use Rattle.signed_note.proofs.Payloads.{base64_of-same, bytes_id}
+use Rattle.tlog_text.proofs.Hashes.{base64_of-same}
+use Rattle.signed_note.proofs.Payloads.{bytes_id}
 use Rattle.signed_note.proofs.LineTexts.{body_lacks_newline, line_words, signed_bytes_fit}
 use Rattle.signed_note.proofs.LineCounts.{line_count-lines}
 use Rattle.signed_note.proofs.Splits.{split_once}
@@ -29,25 +30,25 @@ Line-same x y n i s =
     let third : record x { name = y.name; id = y.id } ≡ y = ap (λ (v : List ℕ). record y { signature = v }) s in
     first ∙ (second ∙ third)
 
-same_body : (x y : Line) → IsLine x → IsLine y → line_body x ≡ line_body y → x ≡ y
+same_body : (x y : Line) → IsSignatureLine x → IsSignatureLine y → line_body x ≡ line_body y → x ≡ y
 same_body x y p q e =
     let words = line_words (line_body x) x.name (base64_of (signed_bytes x)) refl (name_lacks_space x.name p.name) y q e in
     let same : signed_bytes x ≡ signed_bytes y = base64_of-same (signed_bytes x) (signed_bytes y) (signed_bytes_fit x p) (signed_bytes_fit y q) words.1 in
     let ids : big_bytes 4 x.id ≡ big_bytes 4 y.id = ap (take 4) same in
     Line-same x y words.0 (sym (bytes_id x.id p.id) ∙ (ap (big_number 4) ids ∙ bytes_id y.id q.id)) (ap (drop 4) same)
 
-same_lines : (lines others : List Line) → flat_map line_text lines ≡ flat_map line_text others → All IsLine lines → All IsLine others → lines ≡ others
+same_lines : (lines others : List Line) → flat_map line_text lines ≡ flat_map line_text others → All IsSignatureLine lines → All IsSignatureLine others → lines ≡ others
 same_lines [] [] e p q = refl
 same_lines [] (y ∷ ys) e p q = absurd (omega (arith, ap length e))
 same_lines (x ∷ xs) [] e p q = absurd (omega (arith, ap length e))
 same_lines (x ∷ xs) (y ∷ ys) e p q =
-    let good = All-head IsLine x xs p in
-    let fine = All-head IsLine y ys q in
+    let good = All-head IsSignatureLine x xs p in
+    let fine = All-head IsSignatureLine y ys q in
     let cut = cut_once newline (line_body x) (flat_map line_text xs) (line_body y) (flat_map line_text ys)
     (sym (append_assoc (line_body x) (newline ∷ []) (flat_map line_text xs)) ∙ (e ∙ append_assoc (line_body y) (newline ∷ []) (flat_map line_text ys)))
     (body_lacks_newline x good) (body_lacks_newline y fine) in
     let head : x ≡ y = same_body x y good fine cut.0 in
-    let tail : xs ≡ ys = same_lines xs ys cut.1 (All-tail IsLine x xs p) (All-tail IsLine y ys q) in
+    let tail : xs ≡ ys = same_lines xs ys cut.1 (All-tail IsSignatureLine x xs p) (All-tail IsSignatureLine y ys q) in
     ap (λ (l : Line). l ∷ xs) head ∙ ap (λ (ls : List Line). y ∷ ls) tail
 
 pub notes_are_read : NotesAreRead
@@ -91,7 +92,7 @@ some_lines : (lines : List Line) → 1 ≤ length lines → flat_map line_text l
 some_lines [] some e = omega arith
 some_lines (line ∷ lines) some e = omega (arith, ap length e)
 
-part_passed : (bytes : List ℕ) (a : Result NoteParts NoteFault) → ReadsNote bytes a → 2 < rank a → (text : List ℕ) × (signed : List ℕ) × IsSplit bytes text signed × (signed ≢ [])
+part_passed : (bytes : List ℕ) (a : Result NoteParts NoteFault) → ReadsNote bytes a → 2 < rank a → (text : List ℕ) × (signed : List ℕ) × IsNoteSplit bytes text signed × (signed ≢ [])
 part_passed bytes (Ok parts) h lt = (parts.text, flat_map line_text parts.lines, h.1.split, some_lines parts.lines h.1.some)
 part_passed bytes (Err NoteTooLong) h lt = absurd (omega arith)
 part_passed bytes (Err NotText) h lt = absurd (omega arith)
@@ -100,7 +101,7 @@ part_passed bytes (Err TooManySignatures) h lt = (h.0, h.1, h.2.split, h.2.some)
 part_passed bytes (Err BadSignatureLine) h lt = (h.0, h.1, h.2.split, h.2.some)
 part_passed bytes (Err OutOfMemory) h lt = absurd (omega arith)
 
-count_passed : (bytes : List ℕ) (a : Result NoteParts NoteFault) → ReadsNote bytes a → 3 < rank a → (text : List ℕ) × (signed : List ℕ) × IsSplit bytes text signed × (line_count signed ≤ MAX_LINES)
+count_passed : (bytes : List ℕ) (a : Result NoteParts NoteFault) → ReadsNote bytes a → 3 < rank a → (text : List ℕ) × (signed : List ℕ) × IsNoteSplit bytes text signed × (line_count signed ≤ MAX_LINES)
 count_passed bytes (Ok parts) h lt =
     let few : length parts.lines ≤ MAX_LINES = h.1.few in
     (parts.text, flat_map line_text parts.lines, h.1.split, omega (arith, line_count-lines parts.lines h.1.well_formed))
@@ -192,7 +193,7 @@ same_place bytes (Err f) (Ok y) p q na nb e = absurd (omega (arith, rank_of_faul
 same_place bytes (Err f) (Err g) p q na nb e =
     ap Err (sym (at_its_rank f (λ h. na (ap Err h))) ∙ (ap fault_at e ∙ at_its_rank g (λ h. nb (ap Err h))))
 
-pub one_answer : OneAnswer
+pub one_answer : OneNoteAnswer
 one_answer bytes a b na nb p q =
     elim (cases_lt (rank a) (rank b)) [
       | inl lt ↦ absurd (no_further bytes a b p q na lt)

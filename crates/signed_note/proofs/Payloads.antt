@@ -37,10 +37,6 @@ base64_lacks_newline bytes =
     (symbols_lack newline symbols bytes (reads_other newline symbols (Lacks-from_test newline symbols refl) (λ e. cc)))
     (Lacks-replicate newline 61 (padding_len (length bytes)) (λ e. cc))
 
-pub length-base64_of : (bytes : List ℕ) → length (base64_of bytes) ≡ unpadded_len (length bytes) + padding_len (length bytes)
-unfolding base64_of
-length-base64_of bytes = length-append (encode_symbols symbols bytes) (replicate (padding_len (length bytes)) 61) ∙ rw (length-encode_symbols symbols bytes, length-replicate {A = ℕ} (padding_len (length bytes)) 61) refl
-
 -- each element passes
 abbrev pub Passing : (ℕ → Bool) → List ℕ → Type 0
 Passing p [] = Unit {0}
@@ -86,16 +82,6 @@ base64_passes bytes small =
 pub base64_is_ascii : (bytes : List ℕ) → IsAscii (base64_of bytes)
 unfolding base64_of
 base64_is_ascii bytes = IsAscii-encode_of standard bytes
-
--- bytes have one base64, and base64 is of one list of bytes
-pub base64_of-same : (a b : List ℕ) → IsBytes a → IsBytes b → base64_of a ≡ base64_of b → a ≡ b
-unfolding base64_of
-base64_of-same a b pa pb e =
-    let one = decode_of-encode_of standard a refl pa in
-    let two = decode_of-encode_of standard b refl pb in
-    let same : decode_of standard (encode_of standard a) ≡ decode_of standard (encode_of standard b) = ap (decode_of standard) e in
-    let oks = sym one ∙ (same ∙ two) in
-    cc oks
 
 -- an id, from its four bytes and back
 pub number_is : (bytes : List ℕ) → big_number 4 bytes ≡ from_be_bytes w32 bytes

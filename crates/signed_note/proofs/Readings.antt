@@ -6,8 +6,8 @@ use Rattle.std.specs.Str.{IsUtf8, chars}
 use Rattle.std.proofs.lemmas.Bool.Decides.{Decides-eqb}
 use Rattle.std.proofs.lemmas.List.Sums.{AllPass-from_list_all, list_all-from_AllPass}
 use Rattle.signed_note.specs.Names.{is_note_char, IsNoteText}
-use Rattle.signed_note.specs.Notes.{Line, IsSplit, IsNote}
-use Rattle.signed_note.specs.Reading.{line_count, AreLines, HasPart, ReadsLines, ReadsNote}
+use Rattle.signed_note.specs.Notes.{Line, IsNoteSplit, IsNote}
+use Rattle.signed_note.specs.Reading.{line_count, AreSignatureLines, HasPart, ReadsSignatureLines, ReadsNote}
 use Rattle.signed_note.specs.declared.limits.TheConstants.{MAX_LINES}
 use Rattle.signed_note.specs.declared.fault.NoteFault.{NoteFault}
 use Rattle.signed_note.specs.declared.fault.NoteFault.TheVariants.{NoteTooLong, NotText, NoSignatures, TooManySignatures, BadSignatureLine, OutOfMemory}
@@ -28,19 +28,19 @@ some_bytes [] h e = cc
 some_bytes (x ∷ xs) h e = cc
 
 -- a readable note whose part is lines is a note
-pub note_from_lines : (bytes text signed : List ℕ) (lines : List Line) → HasPart bytes text signed → line_count signed ≤ MAX_LINES → AreLines signed lines → IsNote bytes text lines
+pub note_from_lines : (bytes text signed : List ℕ) (lines : List Line) → HasPart bytes text signed → line_count signed ≤ MAX_LINES → AreSignatureLines signed lines → IsNote bytes text lines
 note_from_lines bytes text signed [] part few are = absurd (part.some are.whole)
 note_from_lines bytes text signed (line ∷ lines) part few are = record {
   short = part.readable.short;
   readable = part.readable.readable;
-  split = subst (IsSplit bytes text) are.whole part.split;
+  split = subst (IsNoteSplit bytes text) are.whole part.split;
   well_formed = are.well_formed;
   some = omega arith;
   few = omega (arith, ap line_count are.whole, line_count-lines (line ∷ lines) are.well_formed);
 }
 
 -- what refuses its lines refuses the note
-pub note_refused : (bytes text signed : List ℕ) (fault : NoteFault) → HasPart bytes text signed → line_count signed ≤ MAX_LINES → ReadsLines signed (Err fault) → ReadsNote bytes (Err fault)
+pub note_refused : (bytes text signed : List ℕ) (fault : NoteFault) → HasPart bytes text signed → line_count signed ≤ MAX_LINES → ReadsSignatureLines signed (Err fault) → ReadsNote bytes (Err fault)
 note_refused bytes text signed NoteTooLong part few h = absurd h
 note_refused bytes text signed NotText part few h = absurd h
 note_refused bytes text signed NoSignatures part few h = absurd h

@@ -14,12 +14,13 @@ use Rattle.signed_note.specs.Hmac.{hmac}
 use Rattle.signed_note.specs.Keys.{Key, Secret, secret_key}
 use Rattle.signed_note.specs.Names.{newline, space, is_note_char, IsNoteText, IsOwnName}
 use Rattle.tlog_text.specs.Hash.{base64_of}
-use Rattle.signed_note.specs.Notes.{Line, mark, signed_bytes, line_body, line_text, IsLine, IsNote, IsLawfulText, Opens, is_accepted_by, signed_line}
+use Rattle.signed_note.specs.Notes.{Line, mark, signed_bytes, line_body, line_text, IsSignatureLine, IsNote, IsLawfulText, Opens, is_accepted_by, signed_line}
 use Rattle.signed_note.specs.declared.limits.TheConstants.{MAX_NAME_LEN, MAX_TEXT_LEN}
 use Rattle.signed_note.proofs.Digests.{hmac_fits, length-hmac}
 use Rattle.signed_note.proofs.Lacking.{Lacks}
 use Rattle.signed_note.proofs.LineTexts.{body_lacks_newline, signed_bytes_fit}
-use Rattle.signed_note.proofs.Payloads.{Passing, base64_passes, base64_is_ascii, length-base64_of}
+use Rattle.tlog_text.proofs.Hashes.{length-base64_of}
+use Rattle.signed_note.proofs.Payloads.{Passing, base64_passes, base64_is_ascii}
 use Rattle.signed_note.proofs.Trust.{accepts, opens_is}
 
 -- from a later cut at c on
@@ -29,14 +30,14 @@ cut_later c (x ∷ a) b [] e p h = let same : x ≡ c = cc in absurd (p.0 same)
 cut_later c (x ∷ a) b (y ∷ d) e p h = let tails : a ++ (c ∷ b) ≡ d ++ (c ∷ e) = cc in cut_later c a b d e p.1 tails
 
 -- no blank line follows the one before well-formed lines
-pub no_blank_line : (lines : List Line) → All IsLine lines → (before after : List ℕ) → newline ∷ flat_map line_text lines ≢ before ++ newline ∷ (newline ∷ after)
+pub no_blank_line : (lines : List Line) → All IsSignatureLine lines → (before after : List ℕ) → newline ∷ flat_map line_text lines ≢ before ++ newline ∷ (newline ∷ after)
 no_blank_line [] h before after e = omega (arith, ap length e, length-append before (newline ∷ (newline ∷ after)))
 no_blank_line (line ∷ lines) h [] after e = cc
 no_blank_line (line ∷ lines) h (x ∷ before) after e =
     let tails : flat_map line_text (line ∷ lines) ≡ before ++ newline ∷ (newline ∷ after) = cc in
     let later = cut_later newline (line_body line) (flat_map line_text lines) before (newline ∷ after)
-    (body_lacks_newline line (All-head IsLine line lines h)) (sym (append_assoc (line_body line) (newline ∷ []) (flat_map line_text lines)) ∙ tails) in
-    no_blank_line lines (All-tail IsLine line lines h) later.0 after later.1
+    (body_lacks_newline line (All-head IsSignatureLine line lines h)) (sym (append_assoc (line_body line) (newline ∷ []) (flat_map line_text lines)) ∙ tails) in
+    no_blank_line lines (All-tail IsSignatureLine line lines h) later.0 after later.1
 
 AllPass-from_passing : (p : ℕ → Bool) (xs : List ℕ) → Passing p xs → AllPass p xs
 AllPass-from_passing p [] h = All-nil (λ x. p x ≡ true)
@@ -78,7 +79,7 @@ unfolding chars encode
 newline_text = record { utf8 = (newline ∷ [], (refl, refl)); characters = AllPass-from_list_all is_note_char (newline ∷ []) refl }
 
 -- a line of such a name may stand in a note
-pub line_is_text : (line : Line) → IsLine line → IsOwnName line.name → IsNoteText (line_text line)
+pub line_is_text : (line : Line) → IsSignatureLine line → IsOwnName line.name → IsNoteText (line_text line)
 line_is_text line h own =
     let encoded = ascii_text (base64_of (signed_bytes line)) (base64_is_ascii (signed_bytes line)) (base64_passes (signed_bytes line) (signed_bytes_fit line h)) in
     let rest = text_append (space ∷ []) (base64_of (signed_bytes line)) space_text encoded in
@@ -87,7 +88,7 @@ line_is_text line h own =
     let body = text_append mark (space ∷ (line.name ++ space ∷ base64_of (signed_bytes line))) mark_text spaced in
     text_append (line_body line) (newline ∷ []) body newline_text
 
-signed_line_fits : (text : List ℕ) (k : Secret) → IsOwnName k.name → k.id < 2 ^ 32 → IsLine (signed_line text k)
+signed_line_fits : (text : List ℕ) (k : Secret) → IsOwnName k.name → k.id < 2 ^ 32 → IsSignatureLine (signed_line text k)
 signed_line_fits text k own small = record {
   name = own.key_name;
   id = small;
@@ -115,8 +116,8 @@ pub signed_is_note : (text : List ℕ) (k : Secret) → IsLawfulText text → Is
     → IsNote (text ++ newline ∷ line_text (signed_line text k)) text (signed_line text k ∷ [])
 signed_is_note text k lawful own small =
     let line : Line = signed_line text k in
-    let fits : IsLine line = signed_line_fits text k own small in
-    let all : All IsLine (line ∷ []) = All-cons IsLine line [] fits (All-nil IsLine) in
+    let fits : IsSignatureLine line = signed_line_fits text k own small in
+    let all : All IsSignatureLine (line ∷ []) = All-cons IsSignatureLine line [] fits (All-nil IsSignatureLine) in
     let one : flat_map line_text (line ∷ []) ≡ line_text line = append-nil (line_text line) in
     let room : length text ≤ MAX_TEXT_LEN = lawful.short in
     let signed : IsNoteText (newline ∷ line_text line) = text_append (newline ∷ []) (line_text line) newline_text (line_is_text line fits own) in

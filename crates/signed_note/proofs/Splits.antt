@@ -3,7 +3,7 @@ use Rattle.std.proofs.Common.{◌≡◌, ◌⊎◌, inl, inr, ℕ, suc, ◌+◌,
 use Rattle.std.proofs.lemmas.List.{append-nil, take_more, take-append-drop, get_or-append-add, length-take-le}
 use Rattle.std.proofs.Math.Seq.{take-append_seam}
 use Rattle.signed_note.specs.Names.{newline, EndsInNewline}
-use Rattle.signed_note.specs.Notes.{IsSplit, IsBlank}
+use Rattle.signed_note.specs.Notes.{IsNoteSplit, IsBlank}
 
 -- a blank line within a list
 blank_in : (front after : List ℕ) → IsBlank (front ++ newline ∷ (newline ∷ after)) (length front)
@@ -19,14 +19,14 @@ blank_in front after =
     }
 
 -- the place of the blank line of a split
-pub blank_of_split : (bytes text signed : List ℕ) → IsSplit bytes text signed → (at : ℕ) × IsBlank bytes at
+pub blank_of_split : (bytes text signed : List ℕ) → IsNoteSplit bytes text signed → (at : ℕ) × IsBlank bytes at
 blank_of_split bytes text signed s =
     let front = s.ended.0 in
     let whole : bytes ≡ front ++ newline ∷ (newline ∷ signed) = s.whole ∙ (ap (λ (x : List ℕ). x ++ newline ∷ signed) s.ended.1 ∙ append_assoc front (newline ∷ []) (newline ∷ signed)) in
     (length front, subst (λ b. IsBlank b (length front)) (sym whole) (blank_in front signed))
 
 -- at the last blank line the bytes are split
-pub split_at_blank : (bytes : List ℕ) (at : ℕ) → IsBlank bytes at → ((j : ℕ) → at < j → IsBlank bytes j → ⊥) → IsSplit bytes (take (at + 1) bytes) (drop (at + 2) bytes)
+pub split_at_blank : (bytes : List ℕ) (at : ℕ) → IsBlank bytes at → ((j : ℕ) → at < j → IsBlank bytes j → ⊥) → IsNoteSplit bytes (take (at + 1) bytes) (drop (at + 2) bytes)
 split_at_blank bytes at blank last =
     let within : at + 1 < length bytes = blank.within in
     let here : at < length bytes = omega arith in
@@ -63,13 +63,13 @@ ends_still (a ∷ t) w [] z v is e = let nothing : t ++ w ≡ [] = cc in absurd 
 ends_still (a ∷ t) w (b ∷ front) z v is e = let tails : t ++ w ≡ front ++ newline ∷ [] = cc in ends_still t w front z v is tails
 
 -- a later end of the text has no place
-no_later : (bytes text signed other more w : List ℕ) → IsSplit bytes text signed → IsSplit bytes other more → other ≡ text ++ w → newline ∷ signed ≡ w ++ newline ∷ more → w ≡ []
+no_later : (bytes text signed other more w : List ℕ) → IsNoteSplit bytes text signed → IsNoteSplit bytes other more → other ≡ text ++ w → newline ∷ signed ≡ w ++ newline ∷ more → w ≡ []
 no_later bytes text signed other more [] s r longer e = refl
 no_later bytes text signed other more (z ∷ v) s r longer e =
     let ends = ends_still text (z ∷ v) r.ended.0 z v refl (sym longer ∙ r.ended.1) in
     absurd (s.last ends.0 more (e ∙ (ap (λ (x : List ℕ). x ++ newline ∷ more) ends.1 ∙ append_assoc ends.0 (newline ∷ []) (newline ∷ more))))
 
-pub split_once : (bytes text signed other more : List ℕ) → IsSplit bytes text signed → IsSplit bytes other more → (text ≡ other) × (signed ≡ more)
+pub split_once : (bytes text signed other more : List ℕ) → IsNoteSplit bytes text signed → IsNoteSplit bytes other more → (text ≡ other) × (signed ≡ more)
 split_once bytes text signed other more s r =
     elim (overlap text (newline ∷ signed) other (newline ∷ more) (sym s.whole ∙ r.whole)) [
       | inl h ↦
@@ -83,5 +83,5 @@ split_once bytes text signed other more s r =
     ]
 
 -- the text is the front of the bytes
-pub text_front : (bytes text signed : List ℕ) → IsSplit bytes text signed → take (length text) bytes ≡ text
+pub text_front : (bytes text signed : List ℕ) → IsNoteSplit bytes text signed → take (length text) bytes ≡ text
 text_front bytes text signed s = ap (take (length text)) s.whole ∙ take-append_seam text (newline ∷ signed)

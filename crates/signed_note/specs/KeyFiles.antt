@@ -1,5 +1,6 @@
 -- Key files: a line for each key, `hmac NAME ID SECRET` or `pin NAME ID DIGEST`.
-use Rattle.std.specs.Prelude.{◌≡◌, ◌≢◌, ℕ, ◌+◌, ◌<◌, ◌^◌, codes, List, [], ◌∷◌, ◌++◌, length, Result, Ok, Err}
+use Rattle.std.specs.Prelude.{◌≡◌, ◌≢◌, ℕ, ◌+◌, ◌<◌, ◌^◌, codes, List, [], ◌∷◌, ◌++◌, length}
+use Rattle.std.specs.Prelude.{Result, Ok, Err}
 use Rattle.hex.specs.Hex.{decode_of}
 use Rattle.byteorder.specs.Endian.{big_bytes}
 use Rattle.signed_note.specs.Names.{newline, space, IsOwnName, IsSecret}
@@ -34,21 +35,28 @@ IsSecretText text (Pin p) = ⊥
 -- NAME ID DIGEST of pinned texts: one digest of 32 bytes
 abbrev pub IsPinText : List ℕ → KeyLine → Type 0
 IsPinText text (Hmac k) = ⊥
-IsPinText text (Pin p) = (digest : List ℕ) × HasWords text p.name p.id digest × (length digest ≡ 32) × (p.digests ≡ digest ∷ [])
+IsPinText text (Pin p) =
+    (digest : List ℕ) × HasWords text p.name p.id digest × (length digest ≡ 32)
+    × (p.digests ≡ digest ∷ [])
 
 -- the line, without its newline, gives the key
 abbrev pub IsKeyLine : List ℕ → KeyLine → Type 0
-IsKeyLine line (Hmac k) = (text : List ℕ) × (line ≡ codes "hmac" ++ space ∷ text) × IsSecretText text (Hmac k)
-IsKeyLine line (Pin p) = (text : List ℕ) × (line ≡ codes "pin" ++ space ∷ text) × IsPinText text (Pin p)
+IsKeyLine line (Hmac k) =
+    (text : List ℕ) × (line ≡ codes "hmac" ++ space ∷ text) × IsSecretText text (Hmac k)
+IsKeyLine line (Pin p) =
+    (text : List ℕ) × (line ≡ codes "pin" ++ space ∷ text) × IsPinText text (Pin p)
 
 -- the bytes are the lines of those keys, each ended by a newline; an empty file has no keys
 abbrev pub IsKeyFile : List ℕ → List KeyLine → Type 0
 IsKeyFile bytes [] = bytes ≡ []
-IsKeyFile bytes (key ∷ keys) = (line : List ℕ) × (rest : List ℕ) × (bytes ≡ line ++ newline ∷ rest) × IsKeyLine line key × IsKeyFile rest keys
+IsKeyFile bytes (key ∷ keys) =
+    (line : List ℕ) × (rest : List ℕ) × (bytes ≡ line ++ newline ∷ rest) × IsKeyLine line key
+    × IsKeyFile rest keys
 
 -- the bytes do not begin with the ended line of a key
 abbrev pub BeginsWithNoKey : List ℕ → Type 0
-BeginsWithNoKey bytes = (line rest : List ℕ) (key : KeyLine) → bytes ≡ line ++ newline ∷ rest → IsKeyLine line key → ⊥
+BeginsWithNoKey bytes =
+    (line rest : List ℕ) (key : KeyLine) → bytes ≡ line ++ newline ∷ rest → IsKeyLine line key → ⊥
 
 -- lines of keys stand first, and the line after them, which has that number from 1, is none
 pub record IsBadLine (bytes : List ℕ) (number : ℕ) : Type 0 where

@@ -19,7 +19,12 @@ pub record Secret : Type 0 where
 
 -- it accepts exactly its mac of the text
 abbrev pub secret_key : Secret → Key
-secret_key k = record { name = k.name; id = k.id; accepts = λ text signature. bytes_eq (hmac k.secret text) signature }
+secret_key k =
+    record {
+      name = k.name;
+      id = k.id;
+      accepts = λ text signature. bytes_eq (hmac k.secret text) signature;
+    }
 
 -- the SHA-256 digests of texts that were verified elsewhere
 pub record Pins : Type 0 where
@@ -29,4 +34,9 @@ pub record Pins : Type 0 where
 
 -- they accept exactly the texts whose digest is listed, whatever the signature is
 abbrev pub pinned_key : Pins → Key
-pinned_key k = record { name = k.name; id = k.id; accepts = λ text signature. list_any (λ d. bytes_eq d (sha256 text)) k.digests }
+pinned_key k =
+    record {
+      name = k.name;
+      id = k.id;
+      accepts = λ text signature. list_any (λ d. bytes_eq d (sha256 text)) k.digests;
+    }

@@ -14,8 +14,8 @@ NotesAreRead =
     IsNote bytes text lines → IsNote bytes other others → (text ≡ other) × (lines ≡ others)
 
 -- bytes have one answer, but for want of memory
-abbrev pub OneAnswer : Type 0
-OneAnswer = HasOneAnswer note.OutOfMemory ReadsNote
+abbrev pub OneNoteAnswer : Type 0
+OneNoteAnswer = HasOneAnswer note.OutOfMemory ReadsNote
 
 -- bytes have one answer as a key file, but for want of memory
 abbrev pub OneKeyAnswer : Type 0

@@ -1,5 +1,7 @@
--- Which characters a note may have, and which names a key (C2SP signed-note, "Format" and "Signatures").
-use Rattle.std.specs.Prelude.{◌≡◌, ℕ, ◌<◌, ◌≤◌, Bool, not, ◌||◌, ◌==◌, nat_le, List, [], ◌∷◌, ◌++◌, length}
+-- Which characters a note may have, and which names a key (C2SP signed-note, "Format" and
+-- "Signatures").
+use Rattle.std.specs.Prelude.{◌≡◌, ℕ, ◌<◌, ◌≤◌, Bool, not, ◌||◌, ◌==◌, nat_le, List, [], ◌∷◌, ◌++◌}
+use Rattle.std.specs.Prelude.{length}
 use Rattle.std.specs.List.{AllPass}
 use Rattle.std.specs.Char.{is_whitespace}
 use Rattle.std.specs.Str.{IsUtf8, chars}
@@ -35,8 +37,8 @@ pub record IsKeyName (name : List ℕ) : Type 0 where
   pub some : 0 < length name
   pub characters : AllPass is_name_char (chars name)
 
--- the name of a key of this crate has no character below U+0020 either, and at most 255 bytes, so that it
--- may stand in a note
+-- the name of a key of this crate has no character below U+0020 either, and at most 255 bytes, so
+-- that it may stand in a note
 pub record IsOwnName (name : List ℕ) : Type 0 where
   pub key_name : IsKeyName name
   pub printed : AllPass (nat_le space) (chars name)

@@ -1,5 +1,6 @@
 -- Signed notes (C2SP signed-note, "Format", "Signatures" and "Verifying").
-use Rattle.std.specs.Prelude.{◌≡◌, ◌≢◌, ℕ, ◌+◌, ◌<◌, ◌≤◌, ◌^◌, Bool, IsTrue, List, [], ◌∷◌, ◌++◌, length, slice_index, All, Any, ◌==◌, ◌&&◌}
+use Rattle.std.specs.Prelude.{◌≡◌, ◌≢◌, ℕ, ◌+◌, ◌<◌, ◌≤◌, ◌^◌, Bool, IsTrue, List, [], ◌∷◌, ◌++◌}
+use Rattle.std.specs.Prelude.{length, slice_index, All, Any, ◌==◌, ◌&&◌}
 use Rattle.std.specs.List.{flat_map}
 use Rattle.std.specs.Str.{bytes_eq}
 use Rattle.base64.specs.GeneralPurpose.{IsBytes}
@@ -39,14 +40,15 @@ abbrev pub line_text : Line → List ℕ
 line_text line = line_body line ++ newline ∷ []
 
 -- a line has a key's name, an id of 32 bits and a signature that is not empty
-pub record IsLine (line : Line) : Type 0 where
+pub record IsSignatureLine (line : Line) : Type 0 where
   pub name : IsKeyName line.name
   pub id : line.id < 2 ^ 32
   pub some : 0 < length line.signature
   pub bytes : IsBytes line.signature
 
--- the last blank line of a note separates its text, the last newline with it, from its signature part
-pub record IsSplit (bytes text signed : List ℕ) : Type 0 where
+-- the last blank line of a note separates its text, the last newline with it, from its signature
+-- part
+pub record IsNoteSplit (bytes text signed : List ℕ) : Type 0 where
   pub whole : bytes ≡ text ++ newline ∷ signed
   pub ended : EndsInNewline text
   pub last : (before after : List ℕ) → newline ∷ signed ≢ before ++ newline ∷ (newline ∷ after)
@@ -61,8 +63,8 @@ pub record IsBlank (bytes : List ℕ) (at : ℕ) : Type 0 where
 pub record IsNote (bytes text : List ℕ) (lines : List Line) : Type 0 where
   pub short : length bytes ≤ MAX_NOTE_LEN
   pub readable : IsNoteText bytes
-  pub split : IsSplit bytes text (flat_map line_text lines)
-  pub well_formed : All IsLine lines
+  pub split : IsNoteSplit bytes text (flat_map line_text lines)
+  pub well_formed : All IsSignatureLine lines
   pub some : 1 ≤ length lines
   pub few : length lines ≤ MAX_LINES
 
@@ -72,13 +74,15 @@ pub record IsAcceptedBy (text : List ℕ) (line : Line) (key : Key) : Type 0 whe
   pub id : key.id ≡ line.id
   pub signature : IsTrue (key.accepts text line.signature)
 
--- some line is accepted by some key; lines of other keys, and lines that their key does not accept, count for nothing
+-- some line is accepted by some key; lines of other keys, and lines that their key does not accept,
+-- count for nothing
 unfoldable pub Opens : List ℕ → List Line → List Key → Type 0
 Opens text lines keys = Any (λ line. Any (λ key. IsAcceptedBy text line key) keys) lines
 
 -- the same of one line and one key, as a test
 abbrev pub is_accepted_by : List ℕ → Line → Key → Bool
-is_accepted_by text line key = bytes_eq key.name line.name && (key.id == line.id && key.accepts text line.signature)
+is_accepted_by text line key =
+    bytes_eq key.name line.name && (key.id == line.id && key.accepts text line.signature)
 
 -- a text that may be signed: it may stand in a note, ends in a newline, and leaves room for a line
 pub record IsLawfulText (text : List ℕ) : Type 0 where

@@ -1,12 +1,14 @@
--- What each answer of a reader of notes says of the bytes: the first refusal that applies, in the order of the
--- faults. An answer other than want of memory is determined by the bytes.
-use Rattle.std.specs.Prelude.{◌≡◌, ◌≢◌, ℕ, ◌+◌, ◌-◌, ◌<◌, ◌≤◌, ◌==◌, if◌then◌else◌, List, [], length, slice_index, All, Result, Ok, Err, count_by}
+-- What each answer of a reader of notes says of the bytes: the first refusal that applies, in the
+-- order of the faults. An answer other than want of memory is determined by the bytes.
+use Rattle.std.specs.Prelude.{◌≡◌, ◌≢◌, ℕ, ◌+◌, ◌-◌, ◌<◌, ◌≤◌, ◌==◌, if◌then◌else◌, List, []}
+use Rattle.std.specs.Prelude.{length, slice_index, All, Result, Ok, Err, count_by}
 use Rattle.std.specs.List.{flat_map}
 use Rattle.base64.specs.GeneralPurpose.{IsBytes}
 use Rattle.tlog_text.specs.Hash.{base64_of}
 use Rattle.signed_note.specs.Names.{newline, IsNoteText, IsOwnName, IsSecret}
 use Rattle.signed_note.specs.Keys.{Secret, Pins}
-use Rattle.signed_note.specs.Notes.{Line, NoteParts, line_text, line_body, IsLine, IsSplit, IsNote}
+use Rattle.signed_note.specs.Notes.{Line, NoteParts, line_text, line_body, IsSignatureLine}
+use Rattle.signed_note.specs.Notes.{IsNoteSplit, IsNote}
 use Rattle.signed_note.specs.declared.limits.TheConstants.{MAX_LINES, MAX_NOTE_LEN}
 use Rattle.signed_note.specs.declared.fault.NoteFault.{NoteFault}
 use Rattle.signed_note.specs.declared.fault.NoteFault.TheVariants as note
@@ -15,17 +17,21 @@ use Rattle.signed_note.specs.declared.fault.KeyFault.TheVariants as key
 
 -- how many lines a signature part has, a last line without its newline counted
 abbrev pub line_count : List ℕ → ℕ
-line_count signed = count_by (λ b. b == newline) signed + (if length signed == 0 then 0 else if slice_index signed (length signed - 1) == newline then 0 else 1)
+line_count signed =
+    count_by (λ b. b == newline) signed
+    + (if length signed == 0 then 0
+    else if slice_index signed (length signed - 1) == newline then 0 else 1)
 
 -- the part is signature lines, each well formed and ended
-pub record AreLines (signed : List ℕ) (lines : List Line) : Type 0 where
+pub record AreSignatureLines (signed : List ℕ) (lines : List Line) : Type 0 where
   pub whole : signed ≡ flat_map line_text lines
-  pub well_formed : All IsLine lines
+  pub well_formed : All IsSignatureLine lines
 
 -- the text is the base64 of the bytes
 abbrev pub ReadsBase64 : List ℕ → Result (List ℕ) NoteFault → Type 0
 ReadsBase64 text (Ok bytes) = IsBytes bytes × (text ≡ base64_of bytes)
-ReadsBase64 text (Err note.BadSignatureLine) = (bytes : List ℕ) → IsBytes bytes → text ≢ base64_of bytes
+ReadsBase64 text (Err note.BadSignatureLine) =
+    (bytes : List ℕ) → IsBytes bytes → text ≢ base64_of bytes
 ReadsBase64 text (Err note.OutOfMemory) = Unit {0}
 ReadsBase64 text (Err note.NoteTooLong) = ⊥
 ReadsBase64 text (Err note.NotText) = ⊥
@@ -34,22 +40,24 @@ ReadsBase64 text (Err note.TooManySignatures) = ⊥
 
 -- the text, without its newline, is that signature line
 abbrev pub ReadsLine : List ℕ → Result Line NoteFault → Type 0
-ReadsLine text (Ok line) = IsLine line × (text ≡ line_body line)
-ReadsLine text (Err note.BadSignatureLine) = (line : Line) → IsLine line → text ≢ line_body line
+ReadsLine text (Ok line) = IsSignatureLine line × (text ≡ line_body line)
+ReadsLine text (Err note.BadSignatureLine) =
+    (line : Line) → IsSignatureLine line → text ≢ line_body line
 ReadsLine text (Err note.OutOfMemory) = Unit {0}
 ReadsLine text (Err note.NoteTooLong) = ⊥
 ReadsLine text (Err note.NotText) = ⊥
 ReadsLine text (Err note.NoSignatures) = ⊥
 ReadsLine text (Err note.TooManySignatures) = ⊥
 
-abbrev pub ReadsLines : List ℕ → Result (List Line) NoteFault → Type 0
-ReadsLines signed (Ok lines) = AreLines signed lines
-ReadsLines signed (Err note.BadSignatureLine) = (lines : List Line) → AreLines signed lines → ⊥
-ReadsLines signed (Err note.OutOfMemory) = Unit {0}
-ReadsLines signed (Err note.NoteTooLong) = ⊥
-ReadsLines signed (Err note.NotText) = ⊥
-ReadsLines signed (Err note.NoSignatures) = ⊥
-ReadsLines signed (Err note.TooManySignatures) = ⊥
+abbrev pub ReadsSignatureLines : List ℕ → Result (List Line) NoteFault → Type 0
+ReadsSignatureLines signed (Ok lines) = AreSignatureLines signed lines
+ReadsSignatureLines signed (Err note.BadSignatureLine) =
+    (lines : List Line) → AreSignatureLines signed lines → ⊥
+ReadsSignatureLines signed (Err note.OutOfMemory) = Unit {0}
+ReadsSignatureLines signed (Err note.NoteTooLong) = ⊥
+ReadsSignatureLines signed (Err note.NotText) = ⊥
+ReadsSignatureLines signed (Err note.NoSignatures) = ⊥
+ReadsSignatureLines signed (Err note.TooManySignatures) = ⊥
 
 -- short enough, UTF-8, and without characters below U+0020 other than newline
 pub record IsReadable (bytes : List ℕ) : Type 0 where
@@ -59,28 +67,35 @@ pub record IsReadable (bytes : List ℕ) : Type 0 where
 -- a readable note with a signature part that is not empty
 pub record HasPart (bytes text signed : List ℕ) : Type 0 where
   pub readable : IsReadable bytes
-  pub split : IsSplit bytes text signed
+  pub split : IsNoteSplit bytes text signed
   pub some : signed ≢ []
 
 abbrev pub ReadsNote : List ℕ → Result NoteParts NoteFault → Type 0
 ReadsNote bytes (Ok parts) = (parts.bytes ≡ bytes) × IsNote bytes parts.text parts.lines
 ReadsNote bytes (Err note.NoteTooLong) = MAX_NOTE_LEN < length bytes
 ReadsNote bytes (Err note.NotText) = (length bytes ≤ MAX_NOTE_LEN) × (IsNoteText bytes → ⊥)
-ReadsNote bytes (Err note.NoSignatures) = IsReadable bytes × ((text signed : List ℕ) → IsSplit bytes text signed → signed ≡ [])
-ReadsNote bytes (Err note.TooManySignatures) = (text : List ℕ) × (signed : List ℕ) × HasPart bytes text signed × (MAX_LINES < line_count signed)
-ReadsNote bytes (Err note.BadSignatureLine) = (text : List ℕ) × (signed : List ℕ) × HasPart bytes text signed × (line_count signed ≤ MAX_LINES) × ((lines : List Line) → AreLines signed lines → ⊥)
+ReadsNote bytes (Err note.NoSignatures) =
+    IsReadable bytes × ((text signed : List ℕ) → IsNoteSplit bytes text signed → signed ≡ [])
+ReadsNote bytes (Err note.TooManySignatures) =
+    (text : List ℕ) × (signed : List ℕ) × HasPart bytes text signed
+    × (MAX_LINES < line_count signed)
+ReadsNote bytes (Err note.BadSignatureLine) =
+    (text : List ℕ) × (signed : List ℕ) × HasPart bytes text signed
+    × (line_count signed ≤ MAX_LINES) × ((lines : List Line) → AreSignatureLines signed lines → ⊥)
 ReadsNote bytes (Err note.OutOfMemory) = Unit {0}
 
 -- what each answer of a constructor of a shared key says of what it is given
 abbrev pub MakesSecret : List ℕ → ℕ → List ℕ → Result Secret KeyFault → Type 0
-MakesSecret name id secret (Ok k) = IsOwnName name × IsSecret secret × (k ≡ record { name = name; id = id; secret = secret })
+MakesSecret name id secret (Ok k) =
+    IsOwnName name × IsSecret secret × (k ≡ record { name = name; id = id; secret = secret })
 MakesSecret name id secret (Err key.BadName) = IsOwnName name → ⊥
 MakesSecret name id secret (Err key.BadSecret) = IsOwnName name × (IsSecret secret → ⊥)
 MakesSecret name id secret (Err key.OutOfMemory) = Unit {0}
 
 -- and of one of pinned texts
 abbrev pub MakesPins : List ℕ → ℕ → List (List ℕ) → Result Pins KeyFault → Type 0
-MakesPins name id digests (Ok k) = IsOwnName name × (k ≡ record { name = name; id = id; digests = digests })
+MakesPins name id digests (Ok k) =
+    IsOwnName name × (k ≡ record { name = name; id = id; digests = digests })
 MakesPins name id digests (Err key.BadName) = IsOwnName name → ⊥
 MakesPins name id digests (Err key.BadSecret) = ⊥
 MakesPins name id digests (Err key.OutOfMemory) = Unit {0}

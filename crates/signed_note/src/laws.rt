@@ -1,7 +1,7 @@
 //! What the grammars say, as laws of the definitions that the contracts cite.
 //!
 //! A law is the contract of a function with an empty body: the proof is all that there is of it.
-ghost use Rattle.signed_note.specs.Laws.{NotesAreRead, OneAnswer, OneKeyAnswer};
+ghost use Rattle.signed_note.specs.Laws.{NotesAreRead, OneNoteAnswer, OneKeyAnswer};
 
 /// Bytes are a note of one text and one list of signature lines at most.
 pub fn notes_law()
@@ -11,7 +11,7 @@ pub fn notes_law()
 /// Bytes have one answer of `Note::read`, but for want of memory. So it is `Ok` exactly where the bytes
 /// are a note, and each refusal comes exactly where it is the first that applies.
 pub fn one_answer_law()
-    ensures { OneAnswer }
+    ensures { OneNoteAnswer }
 {}
 
 /// Bytes have one answer of `read_keys`, but for want of memory: they are a key file of one list of keys

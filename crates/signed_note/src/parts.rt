@@ -2,8 +2,8 @@
 
 ghost use Rattle.std.specs.Prelude.{◌≡◌, ℕ, ◌+◌, ◌<◌, ◌≤◌, List, length, IfSome, IfNone, MatchOption};
 ghost use Rattle.tlog_text.specs.Answers.{seen};
-ghost use Rattle.signed_note.specs.Notes.{IsSplit, IsBlank};
-ghost use Rattle.signed_note.specs.Reading.{line_count, ReadsLines};
+ghost use Rattle.signed_note.specs.Notes.{IsNoteSplit, IsBlank};
+ghost use Rattle.signed_note.specs.Reading.{line_count, ReadsSignatureLines};
 
 use crate::fault::NoteFault;
 use crate::limits::MAX_NOTE_LEN;
@@ -29,8 +29,8 @@ fn blank_line(bytes: &[u8]) -> Option<usize>
 /// The text of a note, its last newline with it, and its signature part: what stands round the last
 /// blank line.
 pub fn parts_of(whole: &str) -> Option<(&str, &str)>
-    ensures found { IfSome result (λ x. IsSplit whole.now x.0.now x.1.now) }
-    ensures none { IfNone result ((text signed : List ℕ) → IsSplit whole.now text signed → ⊥) }
+    ensures found { IfSome result (λ x. IsNoteSplit whole.now x.0.now x.1.now) }
+    ensures none { IfNone result ((text signed : List ℕ) → IsNoteSplit whole.now text signed → ⊥) }
 {
     let at = blank_line(whole.as_bytes())?;
     Some((&whole[..at + 1], &whole[at + 2..]))
@@ -55,7 +55,7 @@ pub fn count_lines(signed: &[u8]) -> usize
 ///
 /// `BadSignatureLine` where the part is not signature lines, each ended by a newline; `OutOfMemory`.
 pub fn read_lines(alloc: Global, signed: &str) -> Result<Vec<SignatureLine>, NoteFault>
-    ensures { ReadsLines signed.now (seen (λ v. v.items) result) }
+    ensures { ReadsSignatureLines signed.now (seen (λ v. v.items) result) }
 {
     let mut lines = Vec::new(alloc);
     let mut rest = signed;

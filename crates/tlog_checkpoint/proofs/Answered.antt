@@ -9,7 +9,7 @@ use Rattle.tlog_checkpoint.specs.declared.fault.CheckpointFault.TheVariants.{Too
 use Rattle.tlog_checkpoint.specs.Lines.{HasLines, text_of, IsLine}
 use Rattle.tlog_checkpoint.specs.Grammar.{HasFields, IsFullLine}
 use Rattle.tlog_checkpoint.specs.Parts.{ReadsFields}
-use Rattle.tlog_checkpoint.specs.Reading.{Reads, HasTooFewLines, HasEmptyLine}
+use Rattle.tlog_checkpoint.specs.Reading.{ReadsCheckpoint, HasTooFewLines, HasEmptyLine}
 use Rattle.tlog_checkpoint.proofs.LineLemmas.{one_lines}
 
 -- a list of no length is empty
@@ -56,7 +56,7 @@ first_three d (x ∷ y ∷ []) h = absurd (omega arith)
 first_three {R = R} d (x ∷ y ∷ z ∷ xs) h = ap (λ (rest : List R). x ∷ y ∷ z ∷ rest) (sym (take_all (length (x ∷ y ∷ z ∷ xs) - 3) xs (omega arith)))
 
 -- what the fields' lines answer is what the text answers
-from_fields : (text o s r : List ℕ) (e : List (List ℕ)) (a : Result Checkpoint CheckpointFault) → HasFields text o s r e → ReadsFields o s r e a → Reads text a
+from_fields : (text o s r : List ℕ) (e : List (List ℕ)) (a : Result Checkpoint CheckpointFault) → HasFields text o s r e → ReadsFields o s r e a → ReadsCheckpoint text a
 from_fields text o s r e (Ok c) h is = record { size_line = s; root_line = r; fields = rw (is.0, is.3) h; has_size = is.1.0; in_range = is.1.1; has_root = is.2 }
 from_fields text o s r e (Err TooFewLines) h is = absurd is
 from_fields text o s r e (Err EmptyLine) h is = absurd is
@@ -76,7 +76,7 @@ module _ {R : Type 0} (now : R → List ℕ) (text : List ℕ) (refs : List R) (
 
   -- a text with none
   pub no_empty_line : (d : R) (a : Result Checkpoint CheckpointFault) → has_empty now refs ≡ false
-      → ReadsFields (now (get_or refs 0 d)) (now (get_or refs 1 d)) (now (get_or refs 2 d)) (map now (take (length refs - 3) (drop 3 refs))) a → Reads text a
+      → ReadsFields (now (get_or refs 0 d)) (now (get_or refs 1 d)) (now (get_or refs 2 d)) (map now (take (length refs - 3) (drop 3 refs))) a → ReadsCheckpoint text a
   no_empty_line d a none is =
       let split : map now refs ≡ now (get_or refs 0 d) ∷ now (get_or refs 1 d) ∷ now (get_or refs 2 d) ∷ map now (take (length refs - 3) (drop 3 refs)) = ap (map now) (first_three d refs enough) in
       from_fields text _ _ _ _ a (record { is_text = lines.is_text ∙ ap text_of split; are_full = subst (AllByRecursion IsFullLine) split (all_full now refs none lines.are_lines) }) is

@@ -8,7 +8,7 @@ use Rattle.tlog_checkpoint.specs.declared.fault.CheckpointFault.{CheckpointFault
 use Rattle.tlog_checkpoint.specs.declared.fault.CheckpointFault.TheVariants.{TooFewLines, EmptyLine, BadSize, SizeTooLarge, BadRoot, OutOfMemory}
 use Rattle.tlog_checkpoint.specs.Lines.{HasLines}
 use Rattle.tlog_checkpoint.specs.Parts.{ReadsFields}
-use Rattle.tlog_checkpoint.specs.Reading.{Reads}
+use Rattle.tlog_checkpoint.specs.Reading.{ReadsCheckpoint}
 use Rattle.tlog_checkpoint.specs.Laws.{EachAnswered}
 use Rattle.tlog_checkpoint.proofs.LineLemmas.{lines_of_body, no_lines}
 use Rattle.tlog_text.proofs.Decided.{number_decided, hash_decided}
@@ -69,7 +69,7 @@ map_same [] = refl
 map_same (x ∷ xs) = ap (λ (rest : List (List ℕ)). x ∷ rest) (map_same xs)
 
 Answered : List ℕ → Type 0
-Answered text = (a : Result Checkpoint CheckpointFault) × (a ≢ Err OutOfMemory) × Reads text a
+Answered text = (a : Result Checkpoint CheckpointFault) × (a ≢ Err OutOfMemory) × ReadsCheckpoint text a
 
 lines_answered : (text : List ℕ) (lines : List (List ℕ)) → HasLines text lines → Answered text
 unfolding Answered FieldsAnswered

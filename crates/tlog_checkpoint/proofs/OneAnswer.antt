@@ -8,9 +8,9 @@ use Rattle.tlog_shape.specs.declared.TheConstants.{MAX_SIZE}
 use Rattle.tlog_text.specs.Number.{IsDecimal}
 use Rattle.tlog_text.specs.Hash.{IsHashText}
 use Rattle.tlog_text.proofs.Decimals.{one_number}
-use Rattle.tlog_checkpoint.specs.Grammar.{IsWritable, HasFields, IsFullLine, IsCheckpoint}
-use Rattle.tlog_checkpoint.specs.Reading.{Reads, HasTooFewLines, HasEmptyLine, HasBadSize, HasLargeSize, HasBadRoot}
-use Rattle.tlog_checkpoint.specs.Laws.{OneAnswer}
+use Rattle.tlog_checkpoint.specs.Grammar.{IsWritableCheckpoint, HasFields, IsFullLine, IsCheckpoint}
+use Rattle.tlog_checkpoint.specs.Reading.{ReadsCheckpoint, HasTooFewLines, HasEmptyLine, HasBadSize, HasLargeSize, HasBadRoot}
+use Rattle.tlog_checkpoint.specs.Laws.{OneCheckpointAnswer}
 use Rattle.tlog_checkpoint.proofs.LineLemmas.{one_lines}
 use Rattle.tlog_checkpoint.proofs.Uniqueness.{reads_writable, lines_from_fields, one_fields, one_reading}
 
@@ -49,7 +49,7 @@ module _ (text o s r : List ℕ) (e : List (List ℕ)) (fields : HasFields text 
       let same = one_fields text p.origin p.size_line p.root_line p.extensions o s r e p.fields fields in
       p.no_root root (subst (λ (line : List ℕ). IsHashText line root) (sym same.root) is)
 
-pub one_answer : OneAnswer
+pub one_answer : OneCheckpointAnswer
 one_answer text (Err TooFewLines) (Err TooFewLines) no_a no_b p q = refl
 one_answer text (Err TooFewLines) (Err EmptyLine) no_a no_b p q = absurd (few_empty text p q)
 one_answer text (Err TooFewLines) (Err BadSize) no_a no_b p q = absurd (few_fields text q.origin q.size_line q.root_line q.extensions q.fields p)
@@ -95,16 +95,16 @@ one_answer text (Ok a) (Err OutOfMemory) no_a no_b p q = absurd (no_b refl)
 one_answer text (Err OutOfMemory) b no_a no_b p q = absurd (no_a refl)
 
 -- a text that is refused is no checkpoint
-pub refused : (text : List ℕ) (c : Checkpoint) (e : CheckpointFault) → e ≢ OutOfMemory → Reads text (Err e) → IsCheckpoint text c.origin c.size c.root c.extensions → ⊥
+pub refused : (text : List ℕ) (c : Checkpoint) (e : CheckpointFault) → e ≢ OutOfMemory → ReadsCheckpoint text (Err e) → IsCheckpoint text c.origin c.size c.root c.extensions → ⊥
 refused text c e other p q =
     let same : Err e ≡ Ok c = one_answer text (Err e) (Ok c) (λ is. other (cc is)) (λ is. cc is) p q in
     cc same
 
 -- a checkpoint's text is read as that checkpoint
-pub only : (text : List ℕ) (a : Result Checkpoint CheckpointFault) → Reads text a → (c : Checkpoint) → IsCheckpoint text c.origin c.size c.root c.extensions → a ≢ Err OutOfMemory → a ≡ Ok c
+pub only : (text : List ℕ) (a : Result Checkpoint CheckpointFault) → ReadsCheckpoint text a → (c : Checkpoint) → IsCheckpoint text c.origin c.size c.root c.extensions → a ≢ Err OutOfMemory → a ≡ Ok c
 only text a p c q other = one_answer text a (Ok c) other (λ is. cc is) p q
 
 -- what is read can be written
-pub ok_writable : (text : List ℕ) (a : Result Checkpoint CheckpointFault) → Reads text a → IfOk a IsWritable
+pub ok_writable : (text : List ℕ) (a : Result Checkpoint CheckpointFault) → ReadsCheckpoint text a → IfOk a IsWritableCheckpoint
 ok_writable text (Ok c) p = reads_writable text c p
 ok_writable text (Err e) p = tt

@@ -9,7 +9,7 @@ use Rattle.tlog_text.proofs.Decimals.{decimal_written}
 use Rattle.tlog_text.proofs.Newlines.{digits_lack_newline, base64_lacks_newline}
 use Rattle.tlog_text.proofs.Hashes.{length-hash}
 use Rattle.std.specs.Fmt.{decimal}
-use Rattle.tlog_checkpoint.specs.Grammar.{IsFullLine, IsCheckpoint, IsWritable}
+use Rattle.tlog_checkpoint.specs.Grammar.{IsFullLine, IsCheckpoint, IsWritableCheckpoint}
 
 some_full : (line : List ℕ) → 0 < length line → line ≢ []
 some_full line h none = omega (arith, ap length none)
@@ -29,7 +29,7 @@ joined_lines one two three text o s r e a b c d =
     d ∙ (rw (c, b, a) (append_assoc (ended o ++ ended s) (ended r) (text_of e) ∙ append_assoc (ended o) (ended s) (ended r ++ text_of e)))
 
 -- the text of a checkpoint's lines
-pub written : (text size root : List ℕ) (c : Checkpoint) → IsWritable c → IsDecimal size c.size → IsHashText root c.root
+pub written : (text size root : List ℕ) (c : Checkpoint) → IsWritableCheckpoint c → IsDecimal size c.size → IsHashText root c.root
     → text ≡ text_of (c.origin ∷ size ∷ root ∷ c.extensions) → IsCheckpoint text c.origin c.size c.root c.extensions
 written text size root c can has_size has_root is = record {
   size_line = size;

@@ -19,7 +19,8 @@ pub record HasFields (text origin size root : List ℕ) (extensions : List (List
   pub are_full : AllByRecursion IsFullLine (origin ∷ size ∷ root ∷ extensions)
 
 -- The text is the checkpoint of this origin, size, root and these extension lines.
-pub record IsCheckpoint (text origin : List ℕ) (size : ℕ) (root : List ℕ) (extensions : List (List ℕ)) : Type 0 where
+pub record IsCheckpoint (text origin : List ℕ) (size : ℕ) (root : List ℕ)
+    (extensions : List (List ℕ)) : Type 0 where
   pub size_line : List ℕ
   pub root_line : List ℕ
   pub fields : HasFields text origin size_line root_line extensions
@@ -28,7 +29,7 @@ pub record IsCheckpoint (text origin : List ℕ) (size : ℕ) (root : List ℕ) 
   pub has_root : IsHashText root_line root
 
 -- What can be written: an origin and extensions that are lines and not empty, and a size in range.
-pub record IsWritable (checkpoint : Checkpoint) : Type 0 where
+pub record IsWritableCheckpoint (checkpoint : Checkpoint) : Type 0 where
   pub origin : IsFullLine checkpoint.origin
   pub size : checkpoint.size ≤ MAX_SIZE
   pub extensions : AllByRecursion IsFullLine checkpoint.extensions

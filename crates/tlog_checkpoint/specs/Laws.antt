@@ -5,29 +5,39 @@ use Rattle.tlog_checkpoint.specs.declared.fault.CheckpointFault.{CheckpointFault
 use Rattle.tlog_checkpoint.specs.declared.fault.CheckpointFault.TheVariants.{OutOfMemory}
 use Rattle.tlog_text.specs.Answers.{HasOneAnswer}
 use Rattle.tlog_text.specs.Hash.{Is32Bytes}
-use Rattle.tlog_checkpoint.specs.Grammar.{IsCheckpoint, IsWritable}
-use Rattle.tlog_checkpoint.specs.Reading.{Reads}
+use Rattle.tlog_checkpoint.specs.Grammar.{IsCheckpoint, IsWritableCheckpoint}
+use Rattle.tlog_checkpoint.specs.Reading.{ReadsCheckpoint}
 
 -- a text is one checkpoint at most
 abbrev pub OneReading : Type 0
-OneReading = (text : List ℕ) (a b : Checkpoint) → IsCheckpoint text a.origin a.size a.root a.extensions → IsCheckpoint text b.origin b.size b.root b.extensions → a ≡ b
+OneReading =
+    (text : List ℕ) (a b : Checkpoint) → IsCheckpoint text a.origin a.size a.root a.extensions →
+    IsCheckpoint text b.origin b.size b.root b.extensions → a ≡ b
 
 -- a checkpoint has one text at most
 abbrev pub OneText : Type 0
-OneText = (s t origin : List ℕ) (size : ℕ) (root : List ℕ) (extensions : List (List ℕ)) → IsCheckpoint s origin size root extensions → IsCheckpoint t origin size root extensions → s ≡ t
+OneText =
+    (s t origin : List ℕ) (size : ℕ) (root : List ℕ) (extensions : List (List ℕ)) →
+    IsCheckpoint s origin size root extensions → IsCheckpoint t origin size root extensions → s ≡ t
 
 -- what a text is can be written
 abbrev pub ReadsWritable : Type 0
-ReadsWritable = (text : List ℕ) (c : Checkpoint) → IsCheckpoint text c.origin c.size c.root c.extensions → IsWritable c
+ReadsWritable =
+    (text : List ℕ) (c : Checkpoint) → IsCheckpoint text c.origin c.size c.root c.extensions →
+    IsWritableCheckpoint c
 
 -- two answers to one text that are no want of memory are the same
-abbrev pub OneAnswer : Type 0
-OneAnswer = HasOneAnswer OutOfMemory Reads
+abbrev pub OneCheckpointAnswer : Type 0
+OneCheckpointAnswer = HasOneAnswer OutOfMemory ReadsCheckpoint
 
 -- each text has an answer that is no want of memory
 abbrev pub EachAnswered : Type 0
-EachAnswered = (text : List ℕ) → (a : Result Checkpoint CheckpointFault) × (a ≢ Err OutOfMemory) × Reads text a
+EachAnswered =
+    (text : List ℕ) →
+    (a : Result Checkpoint CheckpointFault) × (a ≢ Err OutOfMemory) × ReadsCheckpoint text a
 
 -- what can be written, with a hash of 32 bytes, has a text
 abbrev pub EachWritten : Type 0
-EachWritten = (c : Checkpoint) → IsWritable c → Is32Bytes c.root → (text : List ℕ) × IsCheckpoint text c.origin c.size c.root c.extensions
+EachWritten =
+    (c : Checkpoint) → IsWritableCheckpoint c → Is32Bytes c.root →
+    (text : List ℕ) × IsCheckpoint text c.origin c.size c.root c.extensions

@@ -3,20 +3,23 @@ use Rattle.std.specs.Prelude.{◌≡◌, ℕ, ◌<◌, ◌≤◌, List, [], Resu
 use Rattle.tlog_shape.specs.declared.TheConstants.{MAX_SIZE}
 use Rattle.tlog_checkpoint.specs.declared.Checkpoint.{Checkpoint}
 use Rattle.tlog_checkpoint.specs.declared.fault.CheckpointFault.{CheckpointFault}
-use Rattle.tlog_checkpoint.specs.declared.fault.CheckpointFault.TheVariants.{TooFewLines, EmptyLine, BadSize, SizeTooLarge, BadRoot, OutOfMemory}
+use Rattle.tlog_checkpoint.specs.declared.fault.CheckpointFault.TheVariants.{TooFewLines, EmptyLine}
+use Rattle.tlog_checkpoint.specs.declared.fault.CheckpointFault.TheVariants.{BadSize, SizeTooLarge}
+use Rattle.tlog_checkpoint.specs.declared.fault.CheckpointFault.TheVariants.{BadRoot, OutOfMemory}
 use Rattle.tlog_checkpoint.specs.Lines.{HasLines}
 use Rattle.tlog_text.specs.Number.{IsDecimal}
 use Rattle.tlog_text.specs.Hash.{IsHashText}
 
 -- the lines of a text, be they few or empty
-abbrev pub ReadsLines : List ℕ → Result (List (List ℕ)) CheckpointFault → Type 0
-ReadsLines text (Ok lines) = HasLines text lines
-ReadsLines text (Err TooFewLines) = (lines : List (List ℕ)) → HasLines text lines → lines ≡ []
-ReadsLines text (Err EmptyLine) = ⊥
-ReadsLines text (Err BadSize) = ⊥
-ReadsLines text (Err SizeTooLarge) = ⊥
-ReadsLines text (Err BadRoot) = ⊥
-ReadsLines text (Err OutOfMemory) = Unit {0}
+abbrev pub ReadsCheckpointLines : List ℕ → Result (List (List ℕ)) CheckpointFault → Type 0
+ReadsCheckpointLines text (Ok lines) = HasLines text lines
+ReadsCheckpointLines text (Err TooFewLines) =
+    (lines : List (List ℕ)) → HasLines text lines → lines ≡ []
+ReadsCheckpointLines text (Err EmptyLine) = ⊥
+ReadsCheckpointLines text (Err BadSize) = ⊥
+ReadsCheckpointLines text (Err SizeTooLarge) = ⊥
+ReadsCheckpointLines text (Err BadRoot) = ⊥
+ReadsCheckpointLines text (Err OutOfMemory) = Unit {0}
 
 -- the number of a size's line
 abbrev pub ReadsSize : List ℕ → Result ℕ CheckpointFault → Type 0
@@ -39,11 +42,15 @@ ReadsRoot line (Err SizeTooLarge) = ⊥
 ReadsRoot line (Err OutOfMemory) = ⊥
 
 -- the checkpoint of these lines, none of which is empty
-abbrev pub ReadsFields : List ℕ → List ℕ → List ℕ → List (List ℕ) → Result Checkpoint CheckpointFault → Type 0
-ReadsFields origin size root extensions (Ok c) = (c.origin ≡ origin) × ReadsSize size (Ok c.size) × IsHashText root c.root × (c.extensions ≡ extensions)
+abbrev pub ReadsFields :
+    List ℕ → List ℕ → List ℕ → List (List ℕ) → Result Checkpoint CheckpointFault → Type 0
+ReadsFields origin size root extensions (Ok c) =
+    (c.origin ≡ origin) × ReadsSize size (Ok c.size) × IsHashText root c.root
+    × (c.extensions ≡ extensions)
 ReadsFields origin size root extensions (Err BadSize) = ReadsSize size (Err BadSize)
 ReadsFields origin size root extensions (Err SizeTooLarge) = ReadsSize size (Err SizeTooLarge)
-ReadsFields origin size root extensions (Err BadRoot) = (n : ℕ) × ReadsSize size (Ok n) × ReadsRoot root (Err BadRoot)
+ReadsFields origin size root extensions (Err BadRoot) =
+    (n : ℕ) × ReadsSize size (Ok n) × ReadsRoot root (Err BadRoot)
 ReadsFields origin size root extensions (Err TooFewLines) = ⊥
 ReadsFields origin size root extensions (Err EmptyLine) = ⊥
 ReadsFields origin size root extensions (Err OutOfMemory) = Unit {0}

@@ -4,7 +4,9 @@ use Rattle.std.specs.List.{Contains}
 use Rattle.tlog_shape.specs.declared.TheConstants.{MAX_SIZE}
 use Rattle.tlog_checkpoint.specs.declared.Checkpoint.{Checkpoint}
 use Rattle.tlog_checkpoint.specs.declared.fault.CheckpointFault.{CheckpointFault}
-use Rattle.tlog_checkpoint.specs.declared.fault.CheckpointFault.TheVariants.{TooFewLines, EmptyLine, BadSize, SizeTooLarge, BadRoot, OutOfMemory}
+use Rattle.tlog_checkpoint.specs.declared.fault.CheckpointFault.TheVariants.{TooFewLines, EmptyLine}
+use Rattle.tlog_checkpoint.specs.declared.fault.CheckpointFault.TheVariants.{BadSize, SizeTooLarge}
+use Rattle.tlog_checkpoint.specs.declared.fault.CheckpointFault.TheVariants.{BadRoot, OutOfMemory}
 use Rattle.tlog_checkpoint.specs.Lines.{HasLines}
 use Rattle.tlog_text.specs.Number.{IsDecimal}
 use Rattle.tlog_text.specs.Hash.{IsHashText}
@@ -54,11 +56,11 @@ pub record HasBadRoot (text : List ℕ) : Type 0 where
   pub no_root : (root : List ℕ) → IsHashText root_line root → ⊥
 
 -- What reading a text may answer. Want of memory may come at any text.
-abbrev pub Reads : List ℕ → Result Checkpoint CheckpointFault → Type 0
-Reads text (Ok c) = IsCheckpoint text c.origin c.size c.root c.extensions
-Reads text (Err TooFewLines) = HasTooFewLines text
-Reads text (Err EmptyLine) = HasEmptyLine text
-Reads text (Err BadSize) = HasBadSize text
-Reads text (Err SizeTooLarge) = HasLargeSize text
-Reads text (Err BadRoot) = HasBadRoot text
-Reads text (Err OutOfMemory) = Unit {0}
+abbrev pub ReadsCheckpoint : List ℕ → Result Checkpoint CheckpointFault → Type 0
+ReadsCheckpoint text (Ok c) = IsCheckpoint text c.origin c.size c.root c.extensions
+ReadsCheckpoint text (Err TooFewLines) = HasTooFewLines text
+ReadsCheckpoint text (Err EmptyLine) = HasEmptyLine text
+ReadsCheckpoint text (Err BadSize) = HasBadSize text
+ReadsCheckpoint text (Err SizeTooLarge) = HasLargeSize text
+ReadsCheckpoint text (Err BadRoot) = HasBadRoot text
+ReadsCheckpoint text (Err OutOfMemory) = Unit {0}

@@ -1,7 +1,7 @@
 //! What the grammar of checkpoints says, as laws of the definitions that the contracts cite.
 //!
 //! A law is the contract of a function with an empty body: the proof is all that there is of it.
-ghost use Rattle.tlog_checkpoint.specs.Laws.{OneReading, OneText, ReadsWritable, OneAnswer, EachAnswered, EachWritten};
+ghost use Rattle.tlog_checkpoint.specs.Laws.{OneReading, OneText, ReadsWritable, OneCheckpointAnswer, EachAnswered, EachWritten};
 
 /// A text is one checkpoint at most, so a text that `write` wrote is read as what was written.
 pub fn one_reading_law()
@@ -21,7 +21,7 @@ pub fn writable_law()
 /// Two answers to one text are the same, unless memory was wanting: a checkpoint's text is never
 /// refused, and each other text has one refusal, the first that applies.
 pub fn one_answer_law()
-    ensures { OneAnswer }
+    ensures { OneCheckpointAnswer }
 {}
 
 /// Each text has an answer that is no want of memory: it is a checkpoint, or one of the refusals

@@ -10,6 +10,13 @@
 //!
 //! No line is empty. `read` takes exactly such texts, and `write` writes the one text of a
 //! checkpoint.
+//!
+//! ```text
+//! let text = "ex\n3\nrra8/idLcKFPsGel5VeCZNsPqbUa9eC6FZFY8yngbnc=\n";
+//! let checkpoint = read(alloc, text)?;
+//! checkpoint.size                  // 3
+//! write(alloc, &checkpoint)?       // the same text
+//! ```
 #![tactic(auto)]
 
 mod fault;

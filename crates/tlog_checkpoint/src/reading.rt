@@ -4,10 +4,10 @@ ghost use Rattle.std.specs.Prelude.{◌≡◌, ◌==◌, ◌≢◌, ℕ, List, O
 ghost use Rattle.std.specs.List.{list_any, slice_split};
 ghost use Rattle.std.specs.Result.{result_map_both};
 ghost use Rattle.tlog_checkpoint.specs.Lines.{is_newline};
-ghost use Rattle.tlog_checkpoint.specs.Grammar.{IsCheckpoint, IsWritable};
-ghost use Rattle.tlog_checkpoint.specs.Parts.{ReadsLines, ReadsFields};
+ghost use Rattle.tlog_checkpoint.specs.Grammar.{IsCheckpoint, IsWritableCheckpoint};
+ghost use Rattle.tlog_checkpoint.specs.Parts.{ReadsCheckpointLines, ReadsFields};
 ghost use Rattle.tlog_checkpoint.specs.declared.Checkpoint.{Checkpoint};
-ghost use Rattle.tlog_checkpoint.specs.Reading.{Reads};
+ghost use Rattle.tlog_checkpoint.specs.Reading.{ReadsCheckpoint};
 
 use crate::Checkpoint;
 use crate::fault::CheckpointFault;
@@ -31,7 +31,7 @@ fn parts_of(alloc: Global, text: &str) -> Result<Vec<&str>, AllocError>
 
 /// The lines of the text, each of which ends in a newline.
 fn lines_of(alloc: Global, text: &str) -> Result<Vec<&str>, CheckpointFault>
-    ensures { ReadsLines text.now (result_map_both (λ v. map (λ line. line.now) v.items) (λ e. e) result) }
+    ensures { ReadsCheckpointLines text.now (result_map_both (λ v. map (λ line. line.now) v.items) (λ e. e) result) }
 {
     let Some(body) = without_last_newline(text) else {
         return Err(CheckpointFault::TooFewLines);
@@ -81,7 +81,7 @@ fn checkpoint_of(
 
 /// What `read` answers, of which its other clauses follow.
 fn checkpoint_in(alloc: Global, text: &str) -> Result<Checkpoint, CheckpointFault>
-    ensures { Reads text.now result }
+    ensures { ReadsCheckpoint text.now result }
 {
     let lines = lines_of(alloc, text)?;
     let [origin, size, root, extensions @ ..] = lines.as_slice() else {
@@ -107,11 +107,11 @@ fn checkpoint_in(alloc: Global, text: &str) -> Result<Checkpoint, CheckpointFaul
 /// `OutOfMemory` may come at any text. A carriage return is a byte of its line like others.
 pub fn read(alloc: Global, text: &str) -> Result<Checkpoint, CheckpointFault>
     // What is read is a checkpoint of that text, and each refusal is the first that applies.
-    ensures answer { Reads text.now result }
+    ensures answer { ReadsCheckpoint text.now result }
     // The text of a checkpoint is read as that checkpoint, unless memory is wanting.
     ensures only { (c : Checkpoint) → IsCheckpoint text.now c.origin c.size c.root c.extensions → result ≢ Err CheckpointFault.OutOfMemory → result ≡ Ok c }
     // What was read can be written.
-    ensures writable { IfOk result IsWritable }
+    ensures writable { IfOk result IsWritableCheckpoint }
 {
     checkpoint_in(alloc, text)
 }

@@ -5,7 +5,7 @@ ghost use Rattle.tlog_checkpoint.specs.Lines.{ended, text_of};
 ghost use Rattle.std.specs.Fmt.{decimal};
 ghost use Rattle.tlog_text.specs.Number.{IsDecimal};
 ghost use Rattle.tlog_text.specs.Hash.{base64_of, IsHashText};
-ghost use Rattle.tlog_checkpoint.specs.Grammar.{IsCheckpoint, IsWritable};
+ghost use Rattle.tlog_checkpoint.specs.Grammar.{IsCheckpoint, IsWritableCheckpoint};
 
 use crate::Checkpoint;
 use std::alloc::{AllocError, Global};
@@ -53,7 +53,7 @@ fn add_lines(text: &mut String, lines: &[String]) -> Result<(), AllocError>
 /// The origin and the extension lines must not be empty and hold no newline, and the size must be
 /// at most 9223372036854775807.
 pub fn write(alloc: Global, checkpoint: &Checkpoint) -> Result<String, AllocError>
-    requires { IsWritable checkpoint.now }
+    requires { IsWritableCheckpoint checkpoint.now }
     ensures { IfOk result (λ text. IsCheckpoint (string_bytes text) checkpoint.now.origin checkpoint.now.size checkpoint.now.root checkpoint.now.extensions) }
 {
     let mut text = String::new(alloc);

@@ -64,6 +64,14 @@ module _ {A : Type 0} (b : ℕ) where
   length-ranges first zero es = refl
   length-ranges first (suc count) es = omega (arith, length-ranges (first + 1) count es)
 
+  -- one range more, at the end
+  pub ranges_more : (first count : ℕ) (es : List A) → ranges b first (count + 1) es ≡ ranges b first count es ++ part ((first + count) * b) b es ∷ []
+  ranges_more first zero es = let e : first * b ≡ (first + 0) * b = omega arith in ap (λ n. part n b es ∷ []) e
+  ranges_more first (suc count) es =
+      let n : suc count + 1 ≡ suc (count + 1) = omega arith in
+      let e : (first + 1 + count) * b ≡ (first + suc count) * b = ap (λ m. m * b) (omega arith) in
+      ap (λ m. ranges b first m es) n ∙ ap (λ xs. part (first * b) b es ∷ xs) (ranges_more (first + 1) count es ∙ ap (λ m. ranges b (first + 1) count es ++ part m b es ∷ []) e)
+
   pub joined_ranges : (first count : ℕ) (es : List A) → joined_up (ranges b first count es) ≡ part (first * b) (count * b) es
   joined_ranges first zero es = let z : 0 ≡ 0 * b = omega arith in ap (λ n. take n (drop (first * b) es)) z
   joined_ranges first (suc count) es =

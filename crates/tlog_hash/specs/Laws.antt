@@ -10,34 +10,58 @@ use Rattle.tlog_hash.specs.Nodes.{Node, IsNode}
 pub record IsTreeHash (digest : List ℕ → List ℕ) (hash : List (List ℕ) → List ℕ) : Type 0 where
   pub none : hash [] ≡ digest []
   pub one : (entry : List ℕ) → hash (entry ∷ []) ≡ digest (0 ∷ entry)
-  pub join : (entries : List (List ℕ)) → 2 ≤ length entries → let k = split_of (length entries) in hash entries ≡ digest (1 ∷ hash (take k entries) ++ hash (drop k entries))
+  pub join : (entries : List (List ℕ)) → 2 ≤ length entries → let k =
+      split_of (length entries) in hash entries
+      ≡ digest (1 ∷ hash (take k entries) ++ hash (drop k entries))
 
 -- the same for a row of hashes, of which there is at least one
 pub record IsFold (digest : List ℕ → List ℕ) (hash : List (List ℕ) → List ℕ) : Type 0 where
   pub one : (h : List ℕ) → hash (h ∷ []) ≡ h
-  pub join : (row : List (List ℕ)) → 2 ≤ length row → let k = split_of (length row) in hash row ≡ digest (1 ∷ hash (take k row) ++ hash (drop k row))
+  pub join : (row : List (List ℕ)) → 2 ≤ length row → let k =
+      split_of (length row) in hash row ≡ digest (1 ∷ hash (take k row) ++ hash (drop k row))
 
 -- MTH meets the equations, and nothing else does
 abbrev pub MthIsTreeHash : Type 0
-MthIsTreeHash = (digest : List ℕ → List ℕ) → IsTreeHash digest (mth digest) × ((hash : List (List ℕ) → List ℕ) → IsTreeHash digest hash → (entries : List (List ℕ)) → hash entries ≡ mth digest entries)
+MthIsTreeHash =
+    (digest : List ℕ → List ℕ) →
+    IsTreeHash digest (mth digest)
+    × ((hash : List (List ℕ) → List ℕ) → IsTreeHash digest hash → (entries : List (List ℕ)) →
+    hash entries ≡ mth digest entries)
 
 -- Fold meets its equations, and at rows that are not empty nothing else does
 abbrev pub FoldIsFold : Type 0
-FoldIsFold = (digest : List ℕ → List ℕ) → IsFold digest (fold_of digest) × ((hash : List (List ℕ) → List ℕ) → IsFold digest hash → (row : List (List ℕ)) → 1 ≤ length row → hash row ≡ fold_of digest row)
+FoldIsFold =
+    (digest : List ℕ → List ℕ) →
+    IsFold digest (fold_of digest)
+    × ((hash : List (List ℕ) → List ℕ) → IsFold digest hash → (row : List (List ℕ)) →
+    1 ≤ length row → hash row ≡ fold_of digest row)
 
--- Tree(E): none for no entry, 0x00 || d for one, else those of both parts and the string that joins them
+-- Tree(E): none for no entry, 0x00 || d for one, else those of both parts and the string that joins
+-- them
 pub record IsTreeStrings (digest : List ℕ → List ℕ) : Type 0 where
   pub none : strings digest [] ≡ []
   pub one : (entry : List ℕ) → strings digest (entry ∷ []) ≡ (0 ∷ entry) ∷ []
-  pub join : (entries : List (List ℕ)) → 2 ≤ length entries → (y : List ℕ) → let left = take (split_of (length entries)) entries in let right = drop (split_of (length entries)) entries in Contains (strings digest entries) y ↔ (Contains (strings digest left) y ⊎ (Contains (strings digest right) y ⊎ (y ≡ 1 ∷ mth digest left ++ mth digest right)))
+  pub join :
+      (entries : List (List ℕ)) → 2 ≤ length entries → (y : List ℕ) →
+      let left = take (split_of (length entries)) entries in
+      let right = drop (split_of (length entries)) entries in
+      Contains (strings digest entries) y
+      ↔ (Contains (strings digest left) y
+      ⊎ (Contains (strings digest right) y ⊎ (y ≡ 1 ∷ mth digest left ++ mth digest right)))
 
 abbrev pub TreeStrings : Type 0
 TreeStrings = (digest : List ℕ → List ℕ) → IsTreeStrings digest
 
--- the tree of a list is that of its blocks of a power of two of items, with each block's tree in its place
+-- the tree of a list is that of its blocks of a power of two of items, with each block's tree in
+-- its place
 abbrev pub TreeOfBlocks : Type 0
-TreeOfBlocks = (exponent : ℕ) (blocks : List (List (List ℕ))) → IsCut (2 ^ exponent) blocks → tree_of (joined_up blocks) ≡ graft tree_of (tree_of blocks)
+TreeOfBlocks =
+    (exponent : ℕ) (blocks : List (List (List ℕ))) → IsCut (2 ^ exponent) blocks →
+    tree_of (joined_up blocks) ≡ graft tree_of (tree_of blocks)
 
 -- the strings of a tree are those of its nodes
 abbrev pub NodesAreStrings : Type 0
-NodesAreStrings = (digest : List ℕ → List ℕ) (entries : List (List ℕ)) (y : List ℕ) → Contains (strings digest entries) y ↔ ((x : Node) × IsNode digest (tree_of entries) 0 x × (x.string ≡ y))
+NodesAreStrings =
+    (digest : List ℕ → List ℕ) (entries : List (List ℕ)) (y : List ℕ) →
+    Contains (strings digest entries) y
+    ↔ ((x : Node) × IsNode digest (tree_of entries) 0 x × (x.string ≡ y))

@@ -17,9 +17,11 @@ tree_within n [] = Empty
 tree_within n (x ∷ []) = One x
 tree_within zero (x ∷ y ∷ rest) = Empty
 tree_within (suc n) (x ∷ y ∷ rest) =
-    Join (tree_within n (take (split_of (length (x ∷ y ∷ rest))) (x ∷ y ∷ rest))) (tree_within n (drop (split_of (length (x ∷ y ∷ rest))) (x ∷ y ∷ rest)))
+    Join (tree_within n (take (split_of (length (x ∷ y ∷ rest))) (x ∷ y ∷ rest)))
+    (tree_within n (drop (split_of (length (x ∷ y ∷ rest))) (x ∷ y ∷ rest)))
 
--- the tree of a list: split at the largest power of two smaller than its length, down to single items
+-- the tree of a list: split at the largest power of two smaller than its length, down to single
+-- items
 unfoldable pub tree_of : {A : Type 0} → List A → Tree A
 tree_of xs = tree_within (length xs) xs
 

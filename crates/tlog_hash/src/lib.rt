@@ -4,6 +4,12 @@
 //! `Sha256Tree`, and a digest that collides at once in tests, by `SumTree`. `tree_hash` is the hash
 //! of a list of entries, and `fold` that of a row of hashes; `pairs` gives the pairs of hashes that
 //! are joined on the way.
+//!
+//! ```text
+//! let root = tree_hash::<Sha256Tree>(&[b"", b"\x00", b"\x10"]);
+//! let row = [Sha256Tree::leaf(b""), Sha256Tree::leaf(b"\x00"), Sha256Tree::leaf(b"\x10")];
+//! fold::<Sha256Tree>(&row) == root
+//! ```
 #![tactic(auto)]
 
 mod laws;

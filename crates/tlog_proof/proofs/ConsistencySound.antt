@@ -14,7 +14,7 @@ use Rattle.tlog_hash.proofs.Trees.{all-append, induction, mth-one, mth-append, l
 use Rattle.tlog_hash.proofs.PairStrings.{left_is, right_is}
 use Rattle.tlog_hash.specs.Shape.{shape}
 use Rattle.tlog_proof.specs.Consistency.{at_end, both_right, both_left, cons_in, cons, IsHashedBoth}
-use Rattle.tlog_proof.specs.Laws.{IsMetBoth, HasNoClash, AcceptedConsistencyShows}
+use Rattle.tlog_proof.specs.Laws.{IsMetByConsistency, HasNoClash, AcceptedConsistencyShows}
 use Rattle.tlog_hash.proofs.Shapes.{shape-one, shape-join, size_of-shape}
 use Rattle.tlog_proof.proofs.Inclusions.{mapped}
 use Rattle.tlog_proof.proofs.Consistencies.{cons-one, equal, not_equal, whole, cons-left, cons-right, cons-short, cons-whole}
@@ -215,10 +215,10 @@ module _ (digest : List ℕ → List ℕ) (size : (s : List ℕ) → length (dig
             | inl lt ↦ step es two m flag g ds l r len some lg gd ge lt q all (λ y h. hashed y (subst (λ t. IsHashedBoth digest t m flag g q y) (sym (shape-join n two)) h)) (sym (ap (λ t. cons_in digest t m flag g q) (shape-join n two)) ∙ e)
           ]
 
-shows : (digest : List ℕ → List ℕ) → ((s : List ℕ) → length (digest s) ≡ 32) → (ds es path : List (List ℕ)) → 0 < length ds → length ds ≤ length es → AllByRecursion (λ p. length p ≡ 32) (reverse path) → HasNoClash digest (IsMetBoth digest ds es path) → cons digest (length ds) (length es) true (mth digest ds) path ≡ Some (mth digest ds, mth digest es) → ds ≡ take (length ds) es
+shows : (digest : List ℕ → List ℕ) → ((s : List ℕ) → length (digest s) ≡ 32) → (ds es path : List (List ℕ)) → 0 < length ds → length ds ≤ length es → AllByRecursion (λ p. length p ≡ 32) (reverse path) → HasNoClash digest (IsMetByConsistency digest ds es path) → cons digest (length ds) (length es) true (mth digest ds) path ≡ Some (mth digest ds, mth digest es) → ds ≡ take (length ds) es
 unfolding cons
 shows digest size ds es path some le all clean e =
-    let P : List ℕ → Type 0 = IsMetBoth digest ds es path in
+    let P : List ℕ → Type 0 = IsMetByConsistency digest ds es path in
     sound digest size P clean es ds (length ds) true (mth digest ds) (reverse path) refl some le (length-mth digest size ds) all (λ y h. inl h)
     (weaken P (strings digest ds) (λ y c. inr (inl c)))
     (weaken P (strings digest es) (λ y c. inr (inr c)))

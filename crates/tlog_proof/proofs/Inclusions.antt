@@ -11,7 +11,7 @@ use Rattle.tlog_hash.proofs.PairStrings.{left_is, right_is}
 use Rattle.tlog_hash.specs.Blocks.{map_tree}
 use Rattle.tlog_hash.specs.Nodes.{Node, IsNode, entries_root}
 use Rattle.tlog_proof.specs.Inclusion.{path_in, path_of, incl_in, incl, IsHashed}
-use Rattle.tlog_proof.specs.Laws.{MadeInclusionHolds, IsMet, AcceptedInclusionShows}
+use Rattle.tlog_proof.specs.Laws.{MadeInclusionHolds, IsMetByInclusion, AcceptedInclusionShows}
 use Rattle.tlog_hash.proofs.Shapes.{blank, shape_of, size_of-map}
 use Rattle.tlog_hash.proofs.Folds.{mth-tree}
 use Rattle.tlog_hash.proofs.NodeStrings.{size_of-tree, string_of_node}
@@ -173,7 +173,7 @@ made_inclusion_holds digest es i inside = (inside, incl_made digest es i inside)
 pub accepted_inclusion_shows : AcceptedInclusionShows
 unfolding incl
 accepted_inclusion_shows digest size es i e path clean is =
-    let P : List ℕ → Type 0 = IsMet digest es i e path in
+    let P : List ℕ → Type 0 = IsMetByInclusion digest es i e path in
     sym (at_is digest es i is.0)
     ∙ sound digest size P clean e (inl refl) (tree_of es) i (digest (0 ∷ e)) (reverse path) refl (omega (arith, is.0, size_of-tree es))
     (λ y k. inr (inl (subst (λ t. IsHashed digest t i (digest (0 ∷ e)) (reverse path) y) (shape_of es) k)))

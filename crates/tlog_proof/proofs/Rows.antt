@@ -5,17 +5,10 @@ use Rattle.std.proofs.lemmas.Bool.{le-ltb}
 use Rattle.std.proofs.lemmas.List.{map-append}
 use Rattle.tlog_hash.specs.Tree.{mth}
 use Rattle.tlog_hash.specs.Rows.{part, ranges}
-use Rattle.tlog_proof.specs.Answers.{Answers}
+use Rattle.tlog_hash.proofs.Folds.{ranges_more}
+use Rattle.tlog_proof.specs.Answers.{AnswersAs}
 use Rattle.tlog_proof.specs.declared.make.ProofFault.{ProofFault}
 use Rattle.tlog_proof.specs.declared.make.ProofFault.TheVariants.{NoSuchSize, OutOfMemory}
-
--- one range more, at the end
-ranges_more : {A : Type 0} (b first count : ℕ) (es : List A) → ranges b first (count + 1) es ≡ ranges b first count es ++ part ((first + count) * b) b es ∷ []
-ranges_more b first zero es = let e : first * b ≡ (first + 0) * b = omega arith in ap (λ n. part n b es ∷ []) e
-ranges_more b first (suc count) es =
-    let n : suc count + 1 ≡ suc (count + 1) = omega arith in
-    let e : (first + 1 + count) * b ≡ (first + suc count) * b = ap (λ m. m * b) (omega arith) in
-    ap (λ m. ranges b first m es) n ∙ ap (λ xs. part (first * b) b es ∷ xs) (ranges_more b (first + 1) count es ∙ ap (λ m. ranges b (first + 1) count es ++ part m b es ∷ []) e)
 
 pub row_more : (digest : List ℕ → List ℕ) (b first count : ℕ) (es : List (List ℕ)) (hash : List ℕ) → hash ≡ mth digest (part ((first + count) * b) b es) →
     map (mth digest) (ranges b first count es) ++ hash ∷ [] ≡ map (mth digest) (ranges b first (count + 1) es)
@@ -27,6 +20,6 @@ row_more digest b first count es hash is =
 pub row_answer : (lists : List (List ℕ) → Type 0) (row : List (List ℕ) → List (List ℕ)) (upto : ℕ) (r : Result (Vec (List ℕ) Global) ProofFault) →
     IfOk r (λ v. (es : List (List ℕ)) → lists es → v.items ≡ row es) →
     IfErr r (λ e. (es : List (List ℕ)) → lists es → upto ≤ length es → e ≡ OutOfMemory) →
-    (es : List (List ℕ)) → lists es → upto ≤ length es → Answers OutOfMemory (λ v. v.items) r (if nat_lt (length es) upto then Err NoSuchSize else Ok (row es))
+    (es : List (List ℕ)) → lists es → upto ≤ length es → AnswersAs OutOfMemory (λ v. v.items) r (if nat_lt (length es) upto then Err NoSuchSize else Ok (row es))
 row_answer lists row upto (Ok v) ok err es listed within = rw (le-ltb (length es) upto within) (ap Ok (sym (ok es listed)))
 row_answer lists row upto (Err e) ok err es listed within = λ other. absurd (other (err es listed within))

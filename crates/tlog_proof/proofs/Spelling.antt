@@ -7,7 +7,7 @@ use Rattle.std.proofs.lemmas.List.{append_cancel_left}
 use Rattle.tlog_proof.specs.declared.proof.Proof.{Proof}
 use Rattle.tlog_proof.specs.declared.proof.Proof.TheVariants.{Inclusion, Consistency}
 use Rattle.tlog_text.specs.Hash.{base64_of, Is32Bytes}
-use Rattle.tlog_proof.specs.Text.{line, number_line, hash_line, path_lines, lines_of, title_of, IsWritable, HasHashes, HasOneSpelling, IsProofText}
+use Rattle.tlog_proof.specs.Text.{line, number_line, hash_line, path_lines, lines_of, title_of, IsWritableProof, HasHashes, HasOneSpelling, IsProofText}
 use Rattle.tlog_text.proofs.Hashes.{length-hash}
 use Rattle.tlog_proof.proofs.Lines.{number_line_once, hash_line_once, rest_of_path, all_read, length-decimal}
 
@@ -24,7 +24,7 @@ titles_differ a b e = differ 105 (ap (λ xs. get_or xs 0 0) e) (lit< tt)
     differ : (n : ℕ) → n ≡ 99 → 100 < n → ⊥
     differ n same more = omega arith
 
-one_proof : (a b : Proof) → IsWritable a → IsWritable b → HasHashes a → HasHashes b → title_of a ++ 10 ∷ lines_of a ≡ title_of b ++ 10 ∷ lines_of b → a ≡ b
+one_proof : (a b : Proof) → IsWritableProof a → IsWritableProof b → HasHashes a → HasHashes b → title_of a ++ 10 ∷ lines_of a ≡ title_of b ++ 10 ∷ lines_of b → a ≡ b
 one_proof (Inclusion size index root leaf path) (Inclusion size' index' root' leaf' path') p q h k e =
     let lines = same_lines (codes "inclusion") (lines_of (Inclusion size index root leaf path)) (lines_of (Inclusion size' index' root' leaf' path')) e in
     let one = number_line_once (codes "size ") size _ size' _ p.0 q.0 lines in
@@ -56,7 +56,7 @@ length-path_lines [] all = refl
 length-path_lines (hash ∷ path) all =
     omega (arith, length-line (codes "path ") (base64_of hash) (path_lines path []), length-hash hash all.0, length-path_lines path all.1)
 
-short_lines : (proof : Proof) → IsWritable proof → HasHashes proof → length (title_of proof) + length (lines_of proof) ≤ 3364
+short_lines : (proof : Proof) → IsWritableProof proof → HasHashes proof → length (title_of proof) + length (lines_of proof) ≤ 3364
 short_lines (Inclusion size index root leaf path) p h =
     let e = path_lines path [] in
     let d = hash_line (codes "leaf ") leaf e in

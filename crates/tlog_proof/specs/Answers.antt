@@ -2,6 +2,6 @@
 use Rattle.std.specs.Prelude.{◌≡◌, ◌≢◌, Result, Ok, Err}
 
 -- the answer, its value seen by view, is the right one, unless it is want of memory
-abbrev pub Answers : {X Y E : Type 0} → E → (X → Y) → Result X E → Result Y E → Type 0
-Answers memory view (Ok x) right = right ≡ Ok (view x)
-Answers memory view (Err e) right = e ≢ memory → right ≡ Err e
+abbrev pub AnswersAs : {X Y E : Type 0} → E → (X → Y) → Result X E → Result Y E → Type 0
+AnswersAs memory view (Ok x) right = right ≡ Ok (view x)
+AnswersAs memory view (Err e) right = e ≢ memory → right ≡ Err e

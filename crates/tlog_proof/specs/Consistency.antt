@@ -1,11 +1,14 @@
--- Consistency proofs: how a path is made (RFC 6962, section 2.1.2), and how it is read (RFC 9162, section 2.1.4).
-use Rattle.std.specs.Prelude.{◌≡◌, ◌⊎◌, ℕ, ◌+◌, ◌-◌, ◌<◌, ◌≤◌, Bool, true, false, List, [], ◌∷◌, ◌++◌, reverse, Option, Some, None, nat_eq, nat_le, if◌then◌else◌}
+-- Consistency proofs: how a path is made (RFC 6962, section 2.1.2), and how it is read (RFC 9162,
+-- section 2.1.4).
+use Rattle.std.specs.Prelude.{◌≡◌, ◌⊎◌, ℕ, ◌+◌, ◌-◌, ◌<◌, ◌≤◌, Bool, true, false, List, [], ◌∷◌}
+use Rattle.std.specs.Prelude.{◌++◌, reverse, Option, Some, None, nat_eq, nat_le, if◌then◌else◌}
 use Rattle.std.specs.Option.{option_map}
 use Rattle.tlog_hash.specs.Tree.{Tree, Empty, One, Join, tree_of, size_of}
 use Rattle.tlog_hash.specs.Nodes.{entries_root}
 use Rattle.tlog_hash.specs.Shape.{shape}
 
--- what is read where the first tree is all of this part: the first root itself, which the checker has, or else one hash
+-- what is read where the first tree is all of this part: the first root itself, which the checker
+-- has, or else one hash
 abbrev pub at_end : Bool → List ℕ → List (List ℕ) → Option (List ℕ × List ℕ)
 at_end true first [] = Some (first, first)
 at_end true first (hash ∷ path) = None
@@ -21,7 +24,11 @@ module _ (digest : List ℕ → List ℕ) where
   proof_in first flag (Join l r) =
       if nat_eq first (size_of l + size_of r)
       then (if flag then [] else digest (1 ∷ entries_root digest l ++ entries_root digest r) ∷ [])
-      else (if nat_le first (size_of l) then proof_in first flag l ++ entries_root digest r ∷ [] else proof_in (first - size_of l) false r ++ entries_root digest l ∷ [])
+      else
+      (if nat_le first (size_of l) then
+      proof_in first flag l ++ entries_root digest r ∷ []
+      else
+      proof_in (first - size_of l) false r ++ entries_root digest l ∷ [])
 
   -- SUBPROOF(m, D[n], flag) of RFC 6962
   unfoldable pub subproof_of : ℕ → List (List ℕ) → Bool → List (List ℕ)
@@ -42,21 +49,30 @@ module _ (digest : List ℕ → List ℕ) where
   abbrev pub cons_in : Tree ℕ → ℕ → Bool → List ℕ → List (List ℕ) → Option (List ℕ × List ℕ)
   cons_in Empty first flag root path = None
   cons_in (One x) first flag root path = if nat_eq first 1 then at_end flag root path else None
-  cons_in (Join l r) first flag root [] = if nat_eq first (size_of l + size_of r) then at_end flag root [] else None
+  cons_in (Join l r) first flag root [] =
+      if nat_eq first (size_of l + size_of r) then at_end flag root [] else None
   cons_in (Join l r) first flag root (hash ∷ path) =
       if nat_eq first (size_of l + size_of r)
       then at_end flag root (hash ∷ path)
-      else (if nat_le first (size_of l) then option_map (both_right hash) (cons_in l first flag root path) else option_map (both_left hash) (cons_in r (first - size_of l) false root path))
+      else
+      (if nat_le first (size_of l) then
+      option_map (both_right hash) (cons_in l first flag root path)
+      else
+      option_map (both_left hash) (cons_in r (first - size_of l) false root path))
 
-  -- Cons(m, n, flag, g, path): the roots of m and of n entries that a path leads to, g being the root of m entries that the checker has; None where the path fits no trees of m and n entries
+  -- Cons(m, n, flag, g, path): the roots of m and of n entries that a path leads to, g being the
+  -- root of m entries that the checker has; None where the path fits no trees of m and n entries
   unfoldable pub cons : ℕ → ℕ → Bool → List ℕ → List (List ℕ) → Option (List ℕ × List ℕ)
   cons first second flag root path = cons_in (shape second) first flag root (reverse path)
 
-  -- the consistency proof is right: the tree of the first size and root is the front of that of the second. Trees of equal sizes have the empty path and equal roots, and from a tree of no entries there is no proof
+  -- the consistency proof is right: the tree of the first size and root is the front of that of the
+  -- second. Trees of equal sizes have the empty path and equal roots, and from a tree of no entries
+  -- there is no proof
   abbrev pub IsConsistency : ℕ → List ℕ → ℕ → List ℕ → List (List ℕ) → Type 0
   IsConsistency first first_root second second_root path =
       (0 < first)
-      × (((first < second) × (cons first second true first_root path ≡ Some (first_root, second_root)))
+      × (((first < second)
+      × (cons first second true first_root path ≡ Some (first_root, second_root)))
       ⊎ ((first ≡ second) × (path ≡ []) × (first_root ≡ second_root)))
 
   -- a string that is hashed where Cons is computed, the hash nearest to the root first
@@ -65,5 +81,13 @@ module _ (digest : List ℕ → List ℕ) where
   IsHashedBoth (One x) first flag root path string = ⊥
   IsHashedBoth (Join l r) first flag root [] string = ⊥
   IsHashedBoth (Join l r) first flag root (hash ∷ path) string =
-      ((first ≤ size_of l) × ((option_map (λ v. 1 ∷ v.1 ++ hash) (cons_in l first flag root path) ≡ Some string) ⊎ IsHashedBoth l first flag root path string))
-      ⊎ ((size_of l < first) × (first < size_of l + size_of r) × ((option_map (λ v. 1 ∷ hash ++ v.0) (cons_in r (first - size_of l) false root path) ≡ Some string) ⊎ ((option_map (λ v. 1 ∷ hash ++ v.1) (cons_in r (first - size_of l) false root path) ≡ Some string) ⊎ IsHashedBoth r (first - size_of l) false root path string)))
+      ((first ≤ size_of l)
+      × ((option_map (λ v. 1 ∷ v.1 ++ hash) (cons_in l first flag root path) ≡ Some string)
+      ⊎ IsHashedBoth l first flag root path string))
+      ⊎ ((size_of l < first)
+      × (first < size_of l + size_of r)
+      × ((option_map (λ v. 1 ∷ hash ++ v.0) (cons_in r (first - size_of l) false root path)
+      ≡ Some string)
+      ⊎ ((option_map (λ v. 1 ∷ hash ++ v.1) (cons_in r (first - size_of l) false root path)
+      ≡ Some string)
+      ⊎ IsHashedBoth r (first - size_of l) false root path string)))

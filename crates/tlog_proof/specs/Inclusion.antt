@@ -1,5 +1,7 @@
--- Inclusion proofs: how a path is made (RFC 6962, section 2.1.1), and how it is read (RFC 9162, section 2.1.3).
-use Rattle.std.specs.Prelude.{◌≡◌, ◌⊎◌, ℕ, ◌-◌, ◌<◌, ◌≤◌, List, [], ◌∷◌, ◌++◌, reverse, Option, Some, nat_lt, if◌then◌else◌}
+-- Inclusion proofs: how a path is made (RFC 6962, section 2.1.1), and how it is read (RFC 9162,
+-- section 2.1.3).
+use Rattle.std.specs.Prelude.{◌≡◌, ◌⊎◌, ℕ, ◌-◌, ◌<◌, ◌≤◌, List, [], ◌∷◌, ◌++◌, reverse, Option}
+use Rattle.std.specs.Prelude.{Some, nat_lt, if◌then◌else◌}
 use Rattle.std.specs.Option.{option_map}
 use Rattle.tlog_hash.specs.Tree.{Tree, Empty, One, Join, tree_of, size_of}
 use Rattle.tlog_hash.specs.Nodes.{entries_root}
@@ -12,7 +14,8 @@ module _ (digest : List ℕ → List ℕ) where
   path_in index Empty = []
   path_in index (One entry) = []
   path_in index (Join l r) =
-      if nat_lt index (size_of l) then path_in index l ++ entries_root digest r ∷ [] else path_in (index - size_of l) r ++ entries_root digest l ∷ []
+      if nat_lt index (size_of l) then path_in index l
+      ++ entries_root digest r ∷ [] else path_in (index - size_of l) r ++ entries_root digest l ∷ []
 
   -- Path(m, E): PATH(m, D[n]) of RFC 6962
   unfoldable pub path_of : ℕ → List (List ℕ) → List (List ℕ)
@@ -29,11 +32,13 @@ module _ (digest : List ℕ → List ℕ) where
   abbrev pub incl_in : Tree ℕ → ℕ → List ℕ → List (List ℕ) → Option (List ℕ)
   incl_in tree index leaf path = climb hash_right hash_left tree index leaf path
 
-  -- Incl(i, n, h, path): the root of n entries that a path leads to from the leaf hash h of entry i, None where the path fits no tree of n entries
+  -- Incl(i, n, h, path): the root of n entries that a path leads to from the leaf hash h of entry
+  -- i, None where the path fits no tree of n entries
   unfoldable pub incl : ℕ → ℕ → List ℕ → List (List ℕ) → Option (List ℕ)
   incl index size leaf path = incl_in (shape size) index leaf (reverse path)
 
-  -- the inclusion proof is right: entry number index of a tree of that size and root has that leaf hash
+  -- the inclusion proof is right: entry number index of a tree of that size and root has that leaf
+  -- hash
   abbrev pub IsInclusion : List ℕ → ℕ → ℕ → List (List ℕ) → List ℕ → Type 0
   IsInclusion leaf index size path root = (index < size) × (incl index size leaf path ≡ Some root)
 
@@ -43,5 +48,10 @@ module _ (digest : List ℕ → List ℕ) where
   IsHashed (One x) index leaf path string = ⊥
   IsHashed (Join l r) index leaf [] string = ⊥
   IsHashed (Join l r) index leaf (hash ∷ path) string =
-      ((index < size_of l) × ((option_map (λ v. 1 ∷ v ++ hash) (incl_in l index leaf path) ≡ Some string) ⊎ IsHashed l index leaf path string))
-      ⊎ ((size_of l ≤ index) × ((option_map (λ v. 1 ∷ hash ++ v) (incl_in r (index - size_of l) leaf path) ≡ Some string) ⊎ IsHashed r (index - size_of l) leaf path string))
+      ((index < size_of l)
+      × ((option_map (λ v. 1 ∷ v ++ hash) (incl_in l index leaf path) ≡ Some string)
+      ⊎ IsHashed l index leaf path string))
+      ⊎ ((size_of l ≤ index)
+      × ((option_map (λ v. 1 ∷ hash ++ v) (incl_in r (index - size_of l) leaf path)
+      ≡ Some string)
+      ⊎ IsHashed r (index - size_of l) leaf path string))

@@ -1,78 +1,153 @@
--- What the standards say of proofs, as laws of the definitions in Inclusion.antt and Consistency.antt.
-use Rattle.std.specs.Prelude.{◌≡◌, ◌⊎◌, ℕ, ◌+◌, ◌-◌, ◌^◌, ◌<◌, ◌≤◌, Bool, true, false, List, [], ◌∷◌, ◌++◌, length, reverse, take, drop, Option, Some, None, slice_index_or}
+-- What the standards say of proofs, as laws of the definitions in Inclusion.antt and
+-- Consistency.antt.
+use Rattle.std.specs.Prelude.{◌≡◌, ◌⊎◌, ℕ, ◌+◌, ◌-◌, ◌^◌, ◌<◌, ◌≤◌, Bool, true, false, List, []}
+use Rattle.std.specs.Prelude.{◌∷◌, ◌++◌, length, reverse, take, drop, Option, Some, None}
+use Rattle.std.specs.Prelude.{slice_index_or}
 use Rattle.std.specs.List.{Contains}
 use Rattle.std.specs.Option.{option_map}
 use Rattle.tlog_shape.specs.Split.{split_of}
 use Rattle.tlog_hash.specs.Tree.{mth, strings}
 use Rattle.tlog_hash.specs.Shape.{shape}
 use Rattle.tlog_proof.specs.Inclusion.{path_of, incl, IsInclusion, IsHashed}
-use Rattle.tlog_proof.specs.Consistency.{at_end, both_right, both_left, subproof_of, proof_of, cons, IsConsistency, IsHashedBoth}
+use Rattle.tlog_proof.specs.Consistency.{at_end, both_right, both_left, subproof_of, proof_of, cons}
+use Rattle.tlog_proof.specs.Consistency.{IsConsistency, IsHashedBoth}
 
 -- ---- how proofs are made
 
 -- the equations of PATH (RFC 6962, section 2.1.1)
-pub record IsPathMaker (digest : List ℕ → List ℕ) (path : ℕ → List (List ℕ) → List (List ℕ)) : Type 0 where
+pub record IsPathMaker (digest : List ℕ → List ℕ) (path : ℕ → List (List ℕ) → List (List ℕ))
+    : Type 0 where
   pub one : (entry : List ℕ) → path 0 (entry ∷ []) ≡ []
-  pub left : (m : ℕ) (entries : List (List ℕ)) → 2 ≤ length entries → m < split_of (length entries) → let k = split_of (length entries) in path m entries ≡ path m (take k entries) ++ mth digest (drop k entries) ∷ []
-  pub right : (m : ℕ) (entries : List (List ℕ)) → split_of (length entries) ≤ m → m < length entries → 2 ≤ length entries → let k = split_of (length entries) in path m entries ≡ path (m - k) (drop k entries) ++ mth digest (take k entries) ∷ []
+  pub left :
+      (m : ℕ) (entries : List (List ℕ)) → 2 ≤ length entries → m < split_of (length entries) →
+      let k = split_of (length entries) in
+      path m entries ≡ path m (take k entries) ++ mth digest (drop k entries) ∷ []
+  pub right :
+      (m : ℕ) (entries : List (List ℕ)) → split_of (length entries) ≤ m → m < length entries →
+      2 ≤ length entries → let k = split_of (length entries) in
+      path m entries ≡ path (m - k) (drop k entries) ++ mth digest (take k entries) ∷ []
 
 -- Path meets them, and for an entry that is there nothing else does
 abbrev pub PathEquations : Type 0
-PathEquations = (digest : List ℕ → List ℕ) → IsPathMaker digest (path_of digest) × ((path : ℕ → List (List ℕ) → List (List ℕ)) → IsPathMaker digest path → (m : ℕ) (entries : List (List ℕ)) → m < length entries → path m entries ≡ path_of digest m entries)
+PathEquations =
+    (digest : List ℕ → List ℕ) →
+    IsPathMaker digest (path_of digest)
+    × ((path : ℕ → List (List ℕ) → List (List ℕ)) → IsPathMaker digest path →
+    (m : ℕ) (entries : List (List ℕ)) → m < length entries →
+    path m entries ≡ path_of digest m entries)
 
 -- the equations of SUBPROOF (RFC 6962, section 2.1.2)
-pub record IsSubproofMaker (digest : List ℕ → List ℕ) (subproof : ℕ → List (List ℕ) → Bool → List (List ℕ)) : Type 0 where
-  pub held : (entries : List (List ℕ)) → 1 ≤ length entries → subproof (length entries) entries true ≡ []
-  pub whole : (entries : List (List ℕ)) → 1 ≤ length entries → subproof (length entries) entries false ≡ mth digest entries ∷ []
-  pub left : (m : ℕ) (entries : List (List ℕ)) (flag : Bool) → 0 < m → m < length entries → m ≤ split_of (length entries) → let k = split_of (length entries) in subproof m entries flag ≡ subproof m (take k entries) flag ++ mth digest (drop k entries) ∷ []
-  pub right : (m : ℕ) (entries : List (List ℕ)) (flag : Bool) → m < length entries → split_of (length entries) < m → let k = split_of (length entries) in subproof m entries flag ≡ subproof (m - k) (drop k entries) false ++ mth digest (take k entries) ∷ []
+pub record IsSubproofMaker (digest : List ℕ → List ℕ)
+    (subproof : ℕ → List (List ℕ) → Bool → List (List ℕ)) : Type 0 where
+  pub held :
+      (entries : List (List ℕ)) → 1 ≤ length entries → subproof (length entries) entries true ≡ []
+  pub whole :
+      (entries : List (List ℕ)) → 1 ≤ length entries →
+      subproof (length entries) entries false ≡ mth digest entries ∷ []
+  pub left :
+      (m : ℕ) (entries : List (List ℕ)) (flag : Bool) → 0 < m → m < length entries →
+      m ≤ split_of (length entries) → let k = split_of (length entries) in
+      subproof m entries flag ≡ subproof m (take k entries) flag ++ mth digest (drop k entries) ∷ []
+  pub right :
+      (m : ℕ) (entries : List (List ℕ)) (flag : Bool) → m < length entries →
+      split_of (length entries) < m → let k = split_of (length entries) in
+      subproof m entries flag
+      ≡ subproof (m - k) (drop k entries) false ++ mth digest (take k entries) ∷ []
 
 -- PROOF(m, D[n]) is SUBPROOF(m, D[n], true), which meets them; and for 0 < m <= n nothing else does
 abbrev pub ProofEquations : Type 0
-ProofEquations = (digest : List ℕ → List ℕ) → ((m : ℕ) (entries : List (List ℕ)) → proof_of digest m entries ≡ subproof_of digest m entries true) × IsSubproofMaker digest (subproof_of digest) × ((subproof : ℕ → List (List ℕ) → Bool → List (List ℕ)) → IsSubproofMaker digest subproof → (m : ℕ) (entries : List (List ℕ)) (flag : Bool) → 0 < m → m ≤ length entries → subproof m entries flag ≡ subproof_of digest m entries flag)
+ProofEquations =
+    (digest : List ℕ → List ℕ) →
+    ((m : ℕ) (entries : List (List ℕ)) →
+    proof_of digest m entries ≡ subproof_of digest m entries true)
+    × IsSubproofMaker digest (subproof_of digest)
+    × ((subproof : ℕ → List (List ℕ) → Bool → List (List ℕ)) → IsSubproofMaker digest subproof →
+    (m : ℕ) (entries : List (List ℕ)) (flag : Bool) → 0 < m → m ≤ length entries →
+    subproof m entries flag ≡ subproof_of digest m entries flag)
 
 -- of at most 2^j entries a path has at most j hashes, and a consistency proof one more
 abbrev pub PathsAreShort : Type 0
-PathsAreShort = (digest : List ℕ → List ℕ) (j : ℕ) (entries : List (List ℕ)) → length entries ≤ 2 ^ j → ((i : ℕ) → length (path_of digest i entries) ≤ j) × ((m : ℕ) → 0 < m → m ≤ length entries → length (proof_of digest m entries) ≤ j + 1)
+PathsAreShort =
+    (digest : List ℕ → List ℕ) (j : ℕ) (entries : List (List ℕ)) → length entries ≤ 2 ^ j →
+    ((i : ℕ) → length (path_of digest i entries) ≤ j)
+    × ((m : ℕ) → 0 < m → m ≤ length entries → length (proof_of digest m entries) ≤ j + 1)
 
 -- ---- how proofs are read
 
--- the equations of Incl, which read PATH backwards: the last hash of a path is the one nearest to the root (RFC 9162, section 2.1.3)
-pub record IsPathReader (digest : List ℕ → List ℕ) (read : ℕ → ℕ → List ℕ → List (List ℕ) → Option (List ℕ)) : Type 0 where
+-- the equations of Incl, which read PATH backwards: the last hash of a path is the one nearest to
+-- the root (RFC 9162, section 2.1.3)
+pub record IsPathReader (digest : List ℕ → List ℕ)
+    (read : ℕ → ℕ → List ℕ → List (List ℕ) → Option (List ℕ)) : Type 0 where
   pub none : (i : ℕ) (leaf : List ℕ) (path : List (List ℕ)) → read i 0 leaf path ≡ None
   pub one : (i : ℕ) (leaf : List ℕ) → read i 1 leaf [] ≡ Some leaf
-  pub one_long : (i : ℕ) (leaf hash : List ℕ) (path : List (List ℕ)) → read i 1 leaf (path ++ hash ∷ []) ≡ None
+  pub one_long :
+      (i : ℕ) (leaf hash : List ℕ) (path : List (List ℕ)) → read i 1 leaf (path ++ hash ∷ []) ≡ None
   pub short : (i n : ℕ) (leaf : List ℕ) → 2 ≤ n → read i n leaf [] ≡ None
-  pub left : (i n : ℕ) (leaf hash : List ℕ) (path : List (List ℕ)) → 2 ≤ n → i < split_of n → read i n leaf (path ++ hash ∷ []) ≡ option_map (λ v. digest (1 ∷ v ++ hash)) (read i (split_of n) leaf path)
-  pub right : (i n : ℕ) (leaf hash : List ℕ) (path : List (List ℕ)) → 2 ≤ n → split_of n ≤ i → read i n leaf (path ++ hash ∷ []) ≡ option_map (λ v. digest (1 ∷ hash ++ v)) (read (i - split_of n) (n - split_of n) leaf path)
+  pub left :
+      (i n : ℕ) (leaf hash : List ℕ) (path : List (List ℕ)) → 2 ≤ n → i < split_of n →
+      read i n leaf (path ++ hash ∷ [])
+      ≡ option_map (λ v. digest (1 ∷ v ++ hash)) (read i (split_of n) leaf path)
+  pub right :
+      (i n : ℕ) (leaf hash : List ℕ) (path : List (List ℕ)) → 2 ≤ n → split_of n ≤ i →
+      read i n leaf (path ++ hash ∷ [])
+      ≡ option_map (λ v. digest (1 ∷ hash ++ v)) (read (i - split_of n) (n - split_of n) leaf path)
 
 -- Incl meets them, and nothing else does
 abbrev pub InclEquations : Type 0
-InclEquations = (digest : List ℕ → List ℕ) → IsPathReader digest (incl digest) × ((read : ℕ → ℕ → List ℕ → List (List ℕ) → Option (List ℕ)) → IsPathReader digest read → (i n : ℕ) (leaf : List ℕ) (path : List (List ℕ)) → read i n leaf path ≡ incl digest i n leaf path)
+InclEquations =
+    (digest : List ℕ → List ℕ) →
+    IsPathReader digest (incl digest)
+    × ((read : ℕ → ℕ → List ℕ → List (List ℕ) → Option (List ℕ)) → IsPathReader digest read →
+    (i n : ℕ) (leaf : List ℕ) (path : List (List ℕ)) →
+    read i n leaf path ≡ incl digest i n leaf path)
 
 -- the equations of Cons, which read SUBPROOF backwards (RFC 9162, section 2.1.4)
-pub record IsSubproofReader (digest : List ℕ → List ℕ) (read : ℕ → ℕ → Bool → List ℕ → List (List ℕ) → Option (List ℕ × List ℕ)) : Type 0 where
-  pub none : (n : ℕ) (flag : Bool) (root : List ℕ) (path : List (List ℕ)) → read 0 n flag root path ≡ None
-  pub beyond : (m n : ℕ) (flag : Bool) (root : List ℕ) (path : List (List ℕ)) → n < m → read m n flag root path ≡ None
-  pub whole : (n : ℕ) (flag : Bool) (root : List ℕ) (path : List (List ℕ)) → 1 ≤ n → read n n flag root path ≡ at_end flag root path
+pub record IsSubproofReader (digest : List ℕ → List ℕ)
+    (read : ℕ → ℕ → Bool → List ℕ → List (List ℕ) → Option (List ℕ × List ℕ)) : Type 0 where
+  pub none :
+      (n : ℕ) (flag : Bool) (root : List ℕ) (path : List (List ℕ)) → read 0 n flag root path ≡ None
+  pub beyond :
+      (m n : ℕ) (flag : Bool) (root : List ℕ) (path : List (List ℕ)) → n < m →
+      read m n flag root path ≡ None
+  pub whole :
+      (n : ℕ) (flag : Bool) (root : List ℕ) (path : List (List ℕ)) → 1 ≤ n →
+      read n n flag root path ≡ at_end flag root path
   pub short : (m n : ℕ) (flag : Bool) (root : List ℕ) → 0 < m → m < n → read m n flag root [] ≡ None
-  pub left : (m n : ℕ) (flag : Bool) (root hash : List ℕ) (path : List (List ℕ)) → 0 < m → m < n → m ≤ split_of n → read m n flag root (path ++ hash ∷ []) ≡ option_map (both_right digest hash) (read m (split_of n) flag root path)
-  pub right : (m n : ℕ) (flag : Bool) (root hash : List ℕ) (path : List (List ℕ)) → m < n → split_of n < m → read m n flag root (path ++ hash ∷ []) ≡ option_map (both_left digest hash) (read (m - split_of n) (n - split_of n) false root path)
+  pub left :
+      (m n : ℕ) (flag : Bool) (root hash : List ℕ) (path : List (List ℕ)) → 0 < m → m < n →
+      m ≤ split_of n → read m n flag root (path ++ hash ∷ [])
+      ≡ option_map (both_right digest hash) (read m (split_of n) flag root path)
+  pub right :
+      (m n : ℕ) (flag : Bool) (root hash : List ℕ) (path : List (List ℕ)) → m < n → split_of n < m →
+      read m n flag root (path ++ hash ∷ [])
+      ≡ option_map (both_left digest hash) (read (m - split_of n) (n - split_of n) false root path)
 
 -- Cons meets them, and nothing else does
 abbrev pub ConsEquations : Type 0
-ConsEquations = (digest : List ℕ → List ℕ) → IsSubproofReader digest (cons digest) × ((read : ℕ → ℕ → Bool → List ℕ → List (List ℕ) → Option (List ℕ × List ℕ)) → IsSubproofReader digest read → (m n : ℕ) (flag : Bool) (root : List ℕ) (path : List (List ℕ)) → read m n flag root path ≡ cons digest m n flag root path)
+ConsEquations =
+    (digest : List ℕ → List ℕ) →
+    IsSubproofReader digest (cons digest)
+    × ((read : ℕ → ℕ → Bool → List ℕ → List (List ℕ) → Option (List ℕ × List ℕ)) →
+    IsSubproofReader digest read →
+    (m n : ℕ) (flag : Bool) (root : List ℕ) (path : List (List ℕ)) →
+    read m n flag root path ≡ cons digest m n flag root path)
 
 -- ---- what is made is accepted
 
 abbrev pub MadeInclusionHolds : Type 0
-MadeInclusionHolds = (digest : List ℕ → List ℕ) (entries : List (List ℕ)) (i : ℕ) → i < length entries → IsInclusion digest (digest (0 ∷ slice_index_or entries i [])) i (length entries) (path_of digest i entries) (mth digest entries)
+MadeInclusionHolds =
+    (digest : List ℕ → List ℕ) (entries : List (List ℕ)) (i : ℕ) → i < length entries →
+    IsInclusion digest (digest (0 ∷ slice_index_or entries i [])) i (length entries)
+    (path_of digest i entries) (mth digest entries)
 
 -- Cons of Proof(m, E) are the two roots, so what is made is accepted, for equal sizes too
 abbrev pub MadeConsistencyHolds : Type 0
-MadeConsistencyHolds = (digest : List ℕ → List ℕ) (entries : List (List ℕ)) (m : ℕ) → 0 < m → m ≤ length entries →
-    (cons digest m (length entries) true (mth digest (take m entries)) (proof_of digest m entries) ≡ Some (mth digest (take m entries), mth digest entries))
-    × IsConsistency digest m (mth digest (take m entries)) (length entries) (mth digest entries) (proof_of digest m entries)
+MadeConsistencyHolds =
+    (digest : List ℕ → List ℕ) (entries : List (List ℕ)) (m : ℕ) → 0 < m → m ≤ length entries →
+    (cons digest m (length entries) true (mth digest (take m entries)) (proof_of digest m entries)
+    ≡ Some (mth digest (take m entries), mth digest entries))
+    × IsConsistency digest m (mth digest (take m entries)) (length entries) (mth digest entries)
+    (proof_of digest m entries)
 
 -- ---- what is accepted is so
 
@@ -80,18 +155,36 @@ MadeConsistencyHolds = (digest : List ℕ → List ℕ) (entries : List (List �
 abbrev pub HasNoClash : (List ℕ → List ℕ) → (List ℕ → Type 0) → Type 0
 HasNoClash digest P = (x y : List ℕ) → P x → P y → digest x ≡ digest y → x ≡ y
 
--- the string is one that the check hashes, that of the entry, or one that the tree hash of the entries hashes
-abbrev pub IsMet : (List ℕ → List ℕ) → List (List ℕ) → ℕ → List ℕ → List (List ℕ) → List ℕ → Type 0
-IsMet digest entries i entry path string = (string ≡ 0 ∷ entry) ⊎ (IsHashed digest (shape (length entries)) i (digest (0 ∷ entry)) (reverse path) string ⊎ Contains (strings digest entries) string)
+-- the string is one that the check hashes, that of the entry, or one that the tree hash of the
+-- entries hashes
+abbrev pub IsMetByInclusion :
+    (List ℕ → List ℕ) → List (List ℕ) → ℕ → List ℕ → List (List ℕ) → List ℕ → Type 0
+IsMetByInclusion digest entries i entry path string =
+    (string ≡ 0 ∷ entry)
+    ⊎ (IsHashed digest (shape (length entries)) i (digest (0 ∷ entry)) (reverse path) string
+    ⊎ Contains (strings digest entries) string)
 
 -- a path that is accepted for entry i of a list shows that entry
 abbrev pub AcceptedInclusionShows : Type 0
-AcceptedInclusionShows = (digest : List ℕ → List ℕ) → ((s : List ℕ) → length (digest s) ≡ 32) → (entries : List (List ℕ)) (i : ℕ) (entry : List ℕ) (path : List (List ℕ)) → HasNoClash digest (IsMet digest entries i entry path) → IsInclusion digest (digest (0 ∷ entry)) i (length entries) path (mth digest entries) → slice_index_or entries i [] ≡ entry
+AcceptedInclusionShows =
+    (digest : List ℕ → List ℕ) → ((s : List ℕ) → length (digest s) ≡ 32) →
+    (entries : List (List ℕ)) (i : ℕ) (entry : List ℕ) (path : List (List ℕ)) →
+    HasNoClash digest (IsMetByInclusion digest entries i entry path) →
+    IsInclusion digest (digest (0 ∷ entry)) i (length entries) path (mth digest entries) →
+    slice_index_or entries i [] ≡ entry
 
 -- the string is one that the check hashes, or one that the tree hash of either list hashes
-abbrev pub IsMetBoth : (List ℕ → List ℕ) → (ds es path : List (List ℕ)) → List ℕ → Type 0
-IsMetBoth digest ds es path string = IsHashedBoth digest (shape (length es)) (length ds) true (mth digest ds) (reverse path) string ⊎ (Contains (strings digest ds) string ⊎ Contains (strings digest es) string)
+abbrev pub IsMetByConsistency : (List ℕ → List ℕ) → (ds es path : List (List ℕ)) → List ℕ → Type 0
+IsMetByConsistency digest ds es path string =
+    IsHashedBoth digest (shape (length es)) (length ds) true (mth digest ds) (reverse path) string
+    ⊎ (Contains (strings digest ds) string ⊎ Contains (strings digest es) string)
 
--- a path of hashes that is accepted for the sizes and roots of two lists shows that the first is a prefix of the second
+-- a path of hashes that is accepted for the sizes and roots of two lists shows that the first is a
+-- prefix of the second
 abbrev pub AcceptedConsistencyShows : Type 0
-AcceptedConsistencyShows = (digest : List ℕ → List ℕ) → ((s : List ℕ) → length (digest s) ≡ 32) → (ds es path : List (List ℕ)) → ((hash : List ℕ) → Contains path hash → length hash ≡ 32) → HasNoClash digest (IsMetBoth digest ds es path) → IsConsistency digest (length ds) (mth digest ds) (length es) (mth digest es) path → ds ≡ take (length ds) es
+AcceptedConsistencyShows =
+    (digest : List ℕ → List ℕ) → ((s : List ℕ) → length (digest s) ≡ 32) →
+    (ds es path : List (List ℕ)) → ((hash : List ℕ) → Contains path hash → length hash ≡ 32) →
+    HasNoClash digest (IsMetByConsistency digest ds es path) →
+    IsConsistency digest (length ds) (mth digest ds) (length es) (mth digest es) path →
+    ds ≡ take (length ds) es

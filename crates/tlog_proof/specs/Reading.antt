@@ -4,7 +4,7 @@ use Rattle.tlog_proof.specs.declared.proof.Proof.{Proof}
 use Rattle.tlog_proof.specs.declared.proof.Proof.TheVariants.{Inclusion, Consistency}
 use Rattle.tlog_proof.specs.declared.fault.TextFault.{TextFault}
 use Rattle.tlog_proof.specs.declared.fault.TextFault.TheVariants.{BadProofText, OutOfMemory}
-use Rattle.tlog_proof.specs.Text.{lines_of, IsWritable, HasHashes}
+use Rattle.tlog_proof.specs.Text.{lines_of, IsWritableProof, HasHashes}
 
 -- it is found and is so, unless memory was wanting
 abbrev pub FindsThat : {X : Type 0} → Result X TextFault → (X → Type 0) → Type 0
@@ -13,9 +13,9 @@ FindsThat (Err BadProofText) P = ⊥
 FindsThat (Err OutOfMemory) P = Unit {0}
 
 -- the lines after the title are that proof
-pub record AreLines (lines : List ℕ) (proof : Proof) : Type 0 where
+pub record AreProofLines (lines : List ℕ) (proof : Proof) : Type 0 where
   pub are_lines : lines ≡ lines_of proof
-  pub writable : IsWritable proof
+  pub writable : IsWritableProof proof
   pub hashes : HasHashes proof
 
 abbrev pub IsInclusionProof : Proof → Type 0

@@ -1,4 +1,5 @@
--- Steps of the two loops, each of which leaves what is still to be read of a path (RFC 9162, sections 2.1.3.2 and 2.1.4.2).
+-- Steps of the two loops, each of which leaves what is still to be read of a path (RFC 9162,
+-- sections 2.1.3.2 and 2.1.4.2).
 use Rattle.std.specs.Prelude.{◌≡◌, ℕ, ◌+◌, ◌*◌, ◌^◌, ◌<◌, ◌≤◌, List}
 use Rattle.tlog_hash.specs.Shape.{shape}
 use Rattle.tlog_proof.specs.Climb.{climb}
@@ -7,13 +8,19 @@ use Rattle.tlog_proof.specs.Consistency.{both_right, both_left}
 
 -- leaf i of s + 1 and leaf j of t + 1 have the same way up, with the same hashes beside it
 abbrev pub KeepsIncl : (i s j t : ℕ) → Type 0
-KeepsIncl i s j t = (digest : List ℕ → List ℕ) (leaf : List ℕ) (path : List (List ℕ)) → incl_in digest (shape (s + 1)) i leaf path ≡ incl_in digest (shape (t + 1)) j leaf path
+KeepsIncl i s j t =
+    (digest : List ℕ → List ℕ) (leaf : List ℕ) (path : List (List ℕ)) →
+    incl_in digest (shape (s + 1)) i leaf path ≡ incl_in digest (shape (t + 1)) j leaf path
 
 -- the same of two hashes at once
 abbrev pub KeepsBoth : (i s j t : ℕ) → Type 0
-KeepsBoth i s j t = (digest : List ℕ → List ℕ) (roots : List ℕ × List ℕ) (path : List (List ℕ)) → climb (both_right digest) (both_left digest) (shape (s + 1)) i roots path ≡ climb (both_right digest) (both_left digest) (shape (t + 1)) j roots path
+KeepsBoth i s j t =
+    (digest : List ℕ → List ℕ) (roots : List ℕ × List ℕ) (path : List (List ℕ)) →
+    climb (both_right digest) (both_left digest) (shape (s + 1)) i roots path
+    ≡ climb (both_right digest) (both_left digest) (shape (t + 1)) j roots path
 
--- n entries are s + 1 blocks of some power of two, the last of which may be shorter, and m entries are c + 1 such blocks
+-- n entries are s + 1 blocks of some power of two, the last of which may be shorter, and m entries
+-- are c + 1 such blocks
 pub record HasBlocks (n m c s : ℕ) : Type 0 where
   pub exponent : ℕ
   pub upto : n ≤ (s + 1) * 2 ^ exponent

@@ -1,7 +1,8 @@
--- The text of a proof (own): a title, then lines of a name, a space and a value. Each line ends in a
--- newline. Numbers are decimal without leading zeros, and hashes standard base64 with padding (RFC
--- 4648, section 4).
-use Rattle.std.specs.Prelude.{◌≡◌, ◌≢◌, ℕ, ◌≤◌, ◌<◌, List, [], ◌∷◌, ◌++◌, length, slice_index, codes, Result, Ok, Err}
+-- The text of a proof (own): a title, then lines of a name, a space and a value. Each line ends in
+-- a newline. Numbers are decimal without leading zeros, and hashes standard base64 with padding
+-- (RFC 4648, section 4).
+use Rattle.std.specs.Prelude.{◌≡◌, ◌≢◌, ℕ, ◌≤◌, ◌<◌, List, [], ◌∷◌, ◌++◌, length, slice_index}
+use Rattle.std.specs.Prelude.{codes, Result, Ok, Err}
 use Rattle.std.specs.Fmt.{decimal}
 use Rattle.std.specs.List.{AllByRecursion}
 use Rattle.tlog_text.specs.Hash.{base64_of, Is32Bytes}
@@ -34,28 +35,38 @@ path_lines (hash ∷ path) rest = hash_line (codes "path ") hash (path_lines pat
 -- the lines after the title
 abbrev pub lines_of : Proof → List ℕ
 lines_of (Inclusion size index root leaf path) =
-    number_line (codes "size ") size (number_line (codes "index ") index (hash_line (codes "root ") root (hash_line (codes "leaf ") leaf (path_lines path []))))
+    number_line (codes "size ") size
+    (number_line (codes "index ") index
+    (hash_line (codes "root ") root (hash_line (codes "leaf ") leaf (path_lines path []))))
 lines_of (Consistency first first_root second second_root path) =
-    number_line (codes "first ") first (hash_line (codes "root ") first_root (number_line (codes "second ") second (hash_line (codes "root ") second_root (path_lines path []))))
+    number_line (codes "first ") first
+    (hash_line (codes "root ") first_root
+    (number_line (codes "second ") second
+    (hash_line (codes "root ") second_root (path_lines path []))))
 
 abbrev pub title_of : Proof → List ℕ
 title_of (Inclusion size index root leaf path) = codes "inclusion"
 title_of (Consistency first first_root second second_root path) = codes "consistency"
 
--- what can be written: numbers that are sizes of trees or below one, and no more hashes of a path than there may be
-abbrev pub IsWritable : Proof → Type 0
-IsWritable (Inclusion size index root leaf path) = (size ≤ MAX_SIZE) × (index ≤ MAX_SIZE) × (length path ≤ MAX_PATH)
-IsWritable (Consistency first first_root second second_root path) = (first ≤ MAX_SIZE) × (second ≤ MAX_SIZE) × (length path ≤ MAX_PATH)
+-- what can be written: numbers that are sizes of trees or below one, and no more hashes of a path
+-- than there may be
+abbrev pub IsWritableProof : Proof → Type 0
+IsWritableProof (Inclusion size index root leaf path) =
+    (size ≤ MAX_SIZE) × (index ≤ MAX_SIZE) × (length path ≤ MAX_PATH)
+IsWritableProof (Consistency first first_root second second_root path) =
+    (first ≤ MAX_SIZE) × (second ≤ MAX_SIZE) × (length path ≤ MAX_PATH)
 
 -- its hashes are hashes
 abbrev pub HasHashes : Proof → Type 0
-HasHashes (Inclusion size index root leaf path) = Is32Bytes root × Is32Bytes leaf × AllByRecursion Is32Bytes path
-HasHashes (Consistency first first_root second second_root path) = Is32Bytes first_root × Is32Bytes second_root × AllByRecursion Is32Bytes path
+HasHashes (Inclusion size index root leaf path) =
+    Is32Bytes root × Is32Bytes leaf × AllByRecursion Is32Bytes path
+HasHashes (Consistency first first_root second second_root path) =
+    Is32Bytes first_root × Is32Bytes second_root × AllByRecursion Is32Bytes path
 
 -- the text is that proof
 pub record IsProofText (text : List ℕ) (proof : Proof) : Type 0 where
   pub is_text : text ≡ title_of proof ++ 10 ∷ lines_of proof
-  pub writable : IsWritable proof
+  pub writable : IsWritableProof proof
   pub hashes : HasHashes proof
 
 -- what each answer to a text says of it

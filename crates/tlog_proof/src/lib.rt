@@ -9,6 +9,14 @@
 //! `Ranges` gives, and `prove` the whole proof. `check_inclusion` and `check_consistency` check what
 //! someone else made, and `holds` checks a whole proof.
 //! `write_text` and `read_text` write a proof as text and read it back.
+//!
+//! ```text
+//! let list = Listed::<Sha256Tree>::new(&[b"", b"\x00", b"\x10"]);
+//! let proof = prove(alloc, &list, Ask::Inclusion { size: 3, index: 2 })?;
+//! let text = write_text(alloc, &proof)?;
+//! read_text(alloc, &text)? == proof
+//! holds::<Sha256Tree>(&proof)      // true
+//! ```
 #![tactic(auto)]
 
 mod check;

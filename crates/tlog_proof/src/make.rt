@@ -2,7 +2,7 @@
 ghost use Rattle.std.specs.Prelude.{◌≡◌, ◌+◌, ◌*◌, ◌<◌, ◌≤◌, ◌^◌, ◌++◌, ℕ, List, length, IfOk, IfErr, OnOk};
 ghost use Rattle.tlog_hash.specs.Tree.{mth};
 ghost use Rattle.tlog_hash.specs.Rows.{part, level_row};
-ghost use Rattle.tlog_proof.specs.Answers.{Answers};
+ghost use Rattle.tlog_proof.specs.Answers.{AnswersAs};
 ghost use Rattle.tlog_proof.specs.Inclusion.{path_of};
 ghost use Rattle.tlog_proof.specs.Consistency.{subproof_of};
 ghost use Rattle.tlog_proof.specs.Made.{inclusion_in, consistency_in, row_in};
@@ -53,7 +53,7 @@ pub fn inclusion<R: Ranges>(
     size: u64,
     index: u64,
 ) -> Result<Vec<Hash>, ProofFault>
-    ensures { (entries : List (List ℕ)) → R.lists ranges.now entries → Answers ProofFault.OutOfMemory (λ v. v.items) result (inclusion_in R.digest entries size index) }
+    ensures { (entries : List (List ℕ)) → R.lists ranges.now entries → AnswersAs ProofFault.OutOfMemory (λ v. v.items) result (inclusion_in R.digest entries size index) }
 {
     if size > ranges.size() {
         return Err(ProofFault::NoSuchSize);
@@ -77,7 +77,7 @@ pub fn consistency<R: Ranges>(
     first: u64,
     second: u64,
 ) -> Result<Vec<Hash>, ProofFault>
-    ensures { (entries : List (List ℕ)) → R.lists ranges.now entries → Answers ProofFault.OutOfMemory (λ v. v.items) result (consistency_in R.digest entries first second) }
+    ensures { (entries : List (List ℕ)) → R.lists ranges.now entries → AnswersAs ProofFault.OutOfMemory (λ v. v.items) result (consistency_in R.digest entries first second) }
 {
     if second > ranges.size() {
         return Err(ProofFault::NoSuchSize);
@@ -107,7 +107,7 @@ pub fn row_of<R: Ranges>(
     width: u32,
 ) -> Result<Vec<Hash>, ProofFault>
     requires { level ≤ 7 }
-    ensures { (entries : List (List ℕ)) → R.lists ranges.now entries → Answers ProofFault.OutOfMemory (λ v. v.items) result (row_in R.digest entries level index width) }
+    ensures { (entries : List (List ℕ)) → R.lists ranges.now entries → AnswersAs ProofFault.OutOfMemory (λ v. v.items) result (row_in R.digest entries level index width) }
 {
     let size = ranges.size();
     // How many hashes the level has.

@@ -1,9 +1,9 @@
 //! Whole proofs: what is asked for, and the answer with all that a check needs.
 ghost use Rattle.std.specs.Prelude.{◌≡◌, ◌↔◌, ◌≤◌, ℕ, List, length, IsTrue, IfOk};
-ghost use Rattle.tlog_proof.specs.Answers.{Answers};
+ghost use Rattle.tlog_proof.specs.Answers.{AnswersAs};
 ghost use Rattle.tlog_shape.specs.declared.TheConstants.{MAX_SIZE};
 ghost use Rattle.tlog_proof.specs.Made.{asked_proof, Holds};
-ghost use Rattle.tlog_proof.specs.Text.{IsWritable};
+ghost use Rattle.tlog_proof.specs.Text.{IsWritableProof};
 
 use crate::check::{check_consistency, check_inclusion};
 use crate::make::{ProofFault, consistency, hash_of, inclusion};
@@ -49,8 +49,8 @@ pub enum Proof {
 /// Errors: those of `inclusion` or `consistency`, in their order. Of a list of at most
 /// 9223372036854775807 entries the proof can be written as text.
 pub fn prove<R: Ranges>(alloc: Global, ranges: &R, ask: Ask) -> Result<Proof, ProofFault>
-    ensures answer { (entries : List (List ℕ)) → R.lists ranges.now entries → Answers ProofFault.OutOfMemory (λ proof. proof) result (asked_proof R.digest entries ask) }
-    ensures writable { IfOk result (λ proof. (entries : List (List ℕ)) → R.lists ranges.now entries → length entries ≤ MAX_SIZE → IsWritable proof) }
+    ensures answer { (entries : List (List ℕ)) → R.lists ranges.now entries → AnswersAs ProofFault.OutOfMemory (λ proof. proof) result (asked_proof R.digest entries ask) }
+    ensures writable { IfOk result (λ proof. (entries : List (List ℕ)) → R.lists ranges.now entries → length entries ≤ MAX_SIZE → IsWritableProof proof) }
 {
     match ask {
         Ask::Inclusion { size, index } => {

@@ -3,7 +3,7 @@ ghost use Rattle.std.specs.Prelude.{◌≡◌, ◌≤◌, ℕ, List, [], length,
 ghost use Rattle.std.specs.List.{AllByRecursion};
 ghost use Rattle.tlog_text.specs.Hash.{Is32Bytes};
 ghost use Rattle.tlog_proof.specs.Text.{LacksNewline, line, number_line, hash_line, path_lines, ReadsProof};
-ghost use Rattle.tlog_proof.specs.Reading.{FindsThat, AreLines, IsInclusionProof, IsConsistencyProof};
+ghost use Rattle.tlog_proof.specs.Reading.{FindsThat, AreProofLines, IsInclusionProof, IsConsistencyProof};
 
 use crate::MAX_PATH;
 use crate::fault::TextFault;
@@ -32,8 +32,8 @@ pub fn read_text(alloc: Global, text: &str) -> Result<Proof, TextFault>
 
 // Reads the lines after the title of an inclusion proof.
 fn read_inclusion(alloc: Global, text: &str) -> Result<Proof, TextFault>
-    ensures sound { IfOk result (λ proof. IsInclusionProof proof × AreLines text.now proof) }
-    ensures complete { (proof : Proof) → IsInclusionProof proof → AreLines text.now proof → FindsThat result (λ found. found ≡ proof) }
+    ensures sound { IfOk result (λ proof. IsInclusionProof proof × AreProofLines text.now proof) }
+    ensures complete { (proof : Proof) → IsInclusionProof proof → AreProofLines text.now proof → FindsThat result (λ found. found ≡ proof) }
 {
     let Some((size, rest)) = number_field(text, "size ") else {
         return Err(TextFault::BadProofText);
@@ -55,8 +55,8 @@ fn read_inclusion(alloc: Global, text: &str) -> Result<Proof, TextFault>
 
 // Reads the lines after the title of a consistency proof.
 fn read_consistency(alloc: Global, text: &str) -> Result<Proof, TextFault>
-    ensures sound { IfOk result (λ proof. IsConsistencyProof proof × AreLines text.now proof) }
-    ensures complete { (proof : Proof) → IsConsistencyProof proof → AreLines text.now proof → FindsThat result (λ found. found ≡ proof) }
+    ensures sound { IfOk result (λ proof. IsConsistencyProof proof × AreProofLines text.now proof) }
+    ensures complete { (proof : Proof) → IsConsistencyProof proof → AreProofLines text.now proof → FindsThat result (λ found. found ≡ proof) }
 {
     let Some((first, rest)) = number_field(text, "first ") else {
         return Err(TextFault::BadProofText);

@@ -2,7 +2,7 @@
 ghost use Rattle.std.specs.Prelude.{◌≡◌, ◌++◌, [], OnOk, IfOk, string_bytes};
 ghost use Rattle.std.specs.List.{AllByRecursion};
 ghost use Rattle.tlog_text.specs.Hash.{Is32Bytes};
-ghost use Rattle.tlog_proof.specs.Text.{number_line, hash_line, path_lines, IsWritable, IsProofText};
+ghost use Rattle.tlog_proof.specs.Text.{number_line, hash_line, path_lines, IsWritableProof, IsProofText};
 
 use crate::proof::Proof;
 use std::alloc::{AllocError, Global};
@@ -18,7 +18,7 @@ use tlog_text::{push_hash, push_number};
 ///
 /// Numbers of at most 9223372036854775807 and at most `MAX_PATH` hashes of the path are the condition.
 pub fn write_text(alloc: Global, proof: &Proof) -> Result<String, AllocError>
-    requires { IsWritable proof.now }
+    requires { IsWritableProof proof.now }
     ensures { IfOk result (λ text. IsProofText (string_bytes text) proof.now) }
 {
     let mut text = String::new(alloc);

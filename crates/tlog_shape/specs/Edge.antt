@@ -7,7 +7,8 @@ use Rattle.std.specs.Prelude.{◌≡◌, ◌⊎◌, ℕ, ◌+◌, ◌*◌, ◌/�
 abbrev pub width_of : ℕ → ℕ → ℕ
 width_of n level = n / 256 ^ level % 256
 
--- EdgeIndex(n, L): the index of the partial tile, which is how many full tiles of level L come before it
+-- EdgeIndex(n, L): the index of the partial tile, which is how many full tiles of level L come
+-- before it
 abbrev pub edge_index_of : ℕ → ℕ → ℕ
 edge_index_of n level = n / 256 ^ (level + 1)
 
@@ -33,8 +34,9 @@ pub record IsPartialTile (n level index width : ℕ) : Type 0 where
 abbrev pub IsTile : ℕ → ℕ → ℕ → ℕ → Type 0
 IsTile n level index width = IsFullTile n level index width ⊎ IsPartialTile n level index width
 
--- the tile whose row gives the pair below the node of size entries from start: its hashes are each of fewer
--- entries than the node, its row of 256 spans as many or more, and it is the one of its level where the node begins
+-- the tile whose row gives the pair below the node of size entries from start: its hashes are each
+-- of fewer entries than the node, its row of 256 spans as many or more, and it is the one of its
+-- level where the node begins
 pub record IsTileOfNode (start size level index : ℕ) : Type 0 where
   pub above : 256 ^ level < size
   pub upto : size ≤ 256 ^ (level + 1)

@@ -5,7 +5,8 @@ use Rattle.tlog_text.specs.Answers.{AlwaysHasOneAnswer}
 use Rattle.tlog_text.specs.Number.{IsDecimal, ReadsNumber}
 use Rattle.tlog_text.specs.Hash.{IsHashText}
 
--- a text is one number at most, and a number of 64 bits has one text, which is what std writes of it
+-- a text is one number at most, and a number of 64 bits has one text, which is what std writes of
+-- it
 pub record NumbersAreSpelled : Type 0 where
   pub one_number : (text : List ℕ) (m n : ℕ) → IsDecimal text m → IsDecimal text n → m ≡ n
   pub one_text : (text : List ℕ) (n : ℕ) → n < 2 ^ 64 → IsDecimal text n ↔ (text ≡ decimal n)

@@ -11,7 +11,7 @@ use Rattle.tlog_tiles.specs.declared.paths.Path.TheVariants.{Checkpoint, Tile, E
 use Rattle.tlog_tiles.specs.declared.paths.PathFault.{PathFault}
 use Rattle.tlog_tiles.specs.declared.paths.PathFault.TheVariants.{Unknown, BadLevel, BadIndex, BadWidth}
 use Rattle.tlog_tiles.specs.declared.paths.TheConstants.{MAX_INDEX}
-use Rattle.tlog_tiles.specs.Path.{index_text, width_text, path_text, HasNoSlash, HasWidthPart, IsBelowTile, IsIndex, IsKind, IsLawful, IsPath, IsFileText, IsWidthOf, HasBadLevel, HasBadIndex, HasBadWidth, ReadsPath}
+use Rattle.tlog_tiles.specs.Path.{index_text, width_text, path_text, HasNoSlash, HasWidthPart, IsBelowTile, IsIndex, IsKind, IsLawfulPath, IsPath, IsFileText, IsWidthOf, HasBadLevel, HasBadIndex, HasBadWidth, ReadsPath}
 use Rattle.tlog_tiles.proofs.TextLemmas.{first_cut, last_cut, width_cut}
 use Rattle.tlog_tiles.proofs.IndexLemmas.{index_one}
 use Rattle.tlog_tiles.proofs.GroupLemmas.{index_spelled, index_written, index-dot}
@@ -68,7 +68,7 @@ served_spelled second text index width h =
 level_digit : (level : ℕ) → level ≤ 7 → decimal level ≡ (48 + level) ∷ []
 level_digit level p = decimal_digit level (omega arith)
 
-pub spelled : (text : List ℕ) (path : Path) → IsPath text path → IsLawful path × (text ≡ path_text path)
+pub spelled : (text : List ℕ) (path : Path) → IsPath text path → IsLawfulPath path × (text ≡ path_text path)
 spelled text Checkpoint h = (tt, h)
 spelled text (Tile level index width) h =
     let s = h.1 in (
@@ -127,7 +127,7 @@ no_slash-entries =
     (All-cons P 101 (codes "s") (λ e. omega arith)
     (All-cons P 115 [] (λ e. omega arith) (All-nil P)))))))
 
-pub written : (text : List ℕ) (path : Path) → IsLawful path × (text ≡ path_text path) → IsPath text path
+pub written : (text : List ℕ) (path : Path) → IsLawfulPath path × (text ≡ path_text path) → IsPath text path
 written text Checkpoint h = h.1
 written text (Tile level index width) h =
     let l = h.0 in
@@ -136,7 +136,7 @@ written text (Entries index width) h =
     let l = h.0 in
     served (codes "entries") text index width no_slash-entries l.0 l.1 l.2 h.1
 
-pub paths_spelled : (text : List ℕ) (path : Path) → IsPath text path ↔ (IsLawful path × (text ≡ path_text path))
+pub paths_spelled : (text : List ℕ) (path : Path) → IsPath text path ↔ (IsLawfulPath path × (text ≡ path_text path))
 paths_spelled text path = (spelled text path, written text path)
 
 -- ---- a text has one answer

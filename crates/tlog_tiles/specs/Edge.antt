@@ -6,14 +6,16 @@ use Rattle.tlog_tiles.specs.declared.paths.Path.TheVariants.{Checkpoint, Tile, E
 
 -- the partial tile of a level of a tree of n entries, where it has one
 abbrev pub edge_at : ℕ → ℕ → List Path
-edge_at n level = if width_of n level == 0 then [] else Tile level (edge_index_of n level) (width_of n level) ∷ []
+edge_at n level =
+    if width_of n level == 0 then [] else Tile level (edge_index_of n level) (width_of n level) ∷ []
 
 -- those of the levels below a number of levels, lowest level first
 abbrev pub edge_below : ℕ → ℕ → List Path
 edge_below n zero = []
 edge_below n (suc level) = edge_below n level ++ edge_at n level
 
--- Edge(n): the partial tiles of a tree of n entries, lowest level first; no tree has a level above 7
+-- Edge(n): the partial tiles of a tree of n entries, lowest level first; no tree has a level above
+-- 7
 unfoldable pub edge_of : ℕ → List Path
 edge_of n = edge_below n 8
 

@@ -1,11 +1,12 @@
 -- What holds of the formats and of tiles, as laws of the definitions.
-use Rattle.std.specs.Prelude.{◌≡◌, ◌↔◌, ℕ, ◌+◌, ◌*◌, ◌^◌, ◌<◌, ◌≤◌, All, AllPairs, Contains, List, length}
+use Rattle.std.specs.Prelude.{◌≡◌, ◌↔◌, ℕ, ◌+◌, ◌*◌, ◌^◌, ◌<◌, ◌≤◌, All, AllPairs, Contains, List}
+use Rattle.std.specs.Prelude.{length}
 use Rattle.tlog_text.specs.Answers.{AlwaysHasOneAnswer, HasOneAnswer}
 use Rattle.tlog_hash.specs.Rows.{part, level_row}
 use Rattle.tlog_hash.specs.Tree.{fold_of, mth}
 use Rattle.tlog_tiles.specs.Bundle.{IsBundle, ReadsBundle}
 use Rattle.tlog_tiles.specs.Edge.{edge_of, level_of}
-use Rattle.tlog_tiles.specs.Path.{path_text, IsLawful, IsPath, ReadsPath}
+use Rattle.tlog_tiles.specs.Path.{path_text, IsLawfulPath, IsPath, ReadsPath}
 use Rattle.tlog_tiles.specs.Row.{IsRow, ReadsRow}
 use Rattle.tlog_tiles.specs.Tiles.{bundle_bytes, tile_bytes, IsEdgeTile, IsTileWithin}
 use Rattle.tlog_tiles.specs.declared.bundle.TheConstants.{MAX_BUNDLE_LEN}
@@ -33,7 +34,8 @@ OnePathAnswer = AlwaysHasOneAnswer ReadsPath
 
 -- a text is a path exactly where that is lawful and is printed so
 abbrev pub PathsAreSpelled : Type 0
-PathsAreSpelled = (text : List ℕ) (path : Path) → IsPath text path ↔ (IsLawful path × (text ≡ path_text path))
+PathsAreSpelled =
+    (text : List ℕ) (path : Path) → IsPath text path ↔ (IsLawfulPath path × (text ≡ path_text path))
 
 -- the edge of a tree names exactly the partial tiles within it of which none wider is
 abbrev pub EdgeIsPartialTiles : Type 0
@@ -43,7 +45,8 @@ EdgeIsPartialTiles = (n : ℕ) (path : Path) → Contains (edge_of n) path ↔ I
 abbrev pub EdgeRises : Type 0
 EdgeRises = (n : ℕ) → AllPairs (λ lower higher. level_of lower < level_of higher) (edge_of n)
 
--- the hashes of a level, from the one with the number first on, fold to the tree hash of their entries
+-- the hashes of a level, from the one with the number first on, fold to the tree hash of their
+-- entries
 abbrev pub FullLevelsFold : Type 0
 FullLevelsFold =
     (digest : List ℕ → List ℕ) (entries : List (List ℕ)) (level first width : ℕ) →
@@ -54,8 +57,15 @@ FullLevelsFold =
 
 -- the bytes of a tile are a row of its width, and those of a bundle a bundle of its width
 pub record IsRead (digest : List ℕ → List ℕ) (entries : List (List ℕ)) : Type 0 where
-  pub tile : (level index width : ℕ) → IsRow width (tile_bytes digest entries level index width) (level_row digest entries level (256 * index) width)
-  pub bundle : (index width : ℕ) → IsTileWithin (length entries) 0 index width → IsBundle width (bundle_bytes entries index width) (part (256 * index) width entries)
+  pub tile :
+      (level index width : ℕ) →
+      IsRow width (tile_bytes digest entries level index width)
+      (level_row digest entries level (256 * index) width)
+  pub bundle :
+      (index width : ℕ) → IsTileWithin (length entries) 0 index width →
+      IsBundle width (bundle_bytes entries index width) (part (256 * index) width entries)
 
 abbrev pub ServedIsRead : Type 0
-ServedIsRead = (digest : List ℕ → List ℕ) → ((s : List ℕ) → length (digest s) ≡ 32) → (entries : List (List ℕ)) → All (λ entry. length entry < 2 ^ 16) entries → IsRead digest entries
+ServedIsRead =
+    (digest : List ℕ → List ℕ) → ((s : List ℕ) → length (digest s) ≡ 32) →
+    (entries : List (List ℕ)) → All (λ entry. length entry < 2 ^ 16) entries → IsRead digest entries

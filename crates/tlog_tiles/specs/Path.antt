@@ -1,13 +1,16 @@
--- Paths of a log's files (C2SP tlog-tiles, "Parameters", "Merkle Tree" and "Log Entries"): how each is
--- spelled, and what each answer of a reader of paths says.
-use Rattle.std.specs.Prelude.{◌≡◌, ◌≢◌, ◌==◌, ℕ, zero, suc, ◌+◌, ◌*◌, ◌/◌, ◌%◌, ◌<◌, ◌≤◌, ◌⊎◌, List, [], ◌∷◌, ◌++◌, Option, Some, None, Result, Ok, Err, All, if◌then◌else◌, codes}
+-- Paths of a log's files (C2SP tlog-tiles, "Parameters", "Merkle Tree" and "Log Entries"): how each
+-- is spelled, and what each answer of a reader of paths says.
+use Rattle.std.specs.Prelude.{◌≡◌, ◌≢◌, ◌==◌, ℕ, zero, suc, ◌+◌, ◌*◌, ◌/◌, ◌%◌, ◌<◌, ◌≤◌, ◌⊎◌, List}
+use Rattle.std.specs.Prelude.{[], ◌∷◌, ◌++◌, Option, Some, None, Result, Ok, Err, All}
+use Rattle.std.specs.Prelude.{if◌then◌else◌, codes}
 use Rattle.std.specs.List.{flat_map}
 use Rattle.std.specs.Fmt.{decimal}
 use Rattle.tlog_tiles.specs.declared.paths.TheConstants.{MAX_INDEX}
 use Rattle.tlog_tiles.specs.declared.paths.Path.{Path}
 use Rattle.tlog_tiles.specs.declared.paths.Path.TheVariants.{Checkpoint, Tile, Entries}
 use Rattle.tlog_tiles.specs.declared.paths.PathFault.{PathFault}
-use Rattle.tlog_tiles.specs.declared.paths.PathFault.TheVariants.{Unknown, BadLevel, BadIndex, BadWidth}
+use Rattle.tlog_tiles.specs.declared.paths.PathFault.TheVariants.{Unknown, BadLevel, BadIndex}
+use Rattle.tlog_tiles.specs.declared.paths.PathFault.TheVariants.{BadWidth}
 
 -- ---- the parts of a text
 
@@ -54,18 +57,23 @@ abbrev pub IsWidthOf : Option (List ℕ) → ℕ → Type 0
 IsWidthOf None width = width ≡ 256
 IsWidthOf (Some text) width = IsPartialWidth text width
 
--- the text has three segments or more, of which the first is `tile`: the second, and what follows it
+-- the text has three segments or more, of which the first is `tile`: the second, and what follows
+-- it
 pub record IsBelowTile (text second tail : List ℕ) : Type 0 where
   pub text_is : text ≡ codes "tile/" ++ second ++ 47 ∷ tail
   pub second_is : HasNoSlash second
 
 -- the second segment is one digit from 0 to 7, or `entries`
 abbrev pub IsKind : List ℕ → Type 0
-IsKind second = ((level : ℕ) × (level ≤ 7) × (second ≡ (48 + level) ∷ [])) ⊎ (second ≡ codes "entries")
+IsKind second =
+    ((level : ℕ) × (level ≤ 7) × (second ≡ (48 + level) ∷ [])) ⊎ (second ≡ codes "entries")
 
--- what follows the second segment is the index, and the width where the last segment but one ends in .p
+-- what follows the second segment is the index, and the width where the last segment but one ends
+-- in .p
 abbrev pub HasWidthPart : List ℕ → List ℕ → Option (List ℕ) → Type 0
-HasWidthPart tail index None = (tail ≡ index) × ((front last : List ℕ) → HasNoSlash last → tail ≡ front ++ codes ".p/" ++ last → ⊥)
+HasWidthPart tail index None =
+    (tail ≡ index)
+    × ((front last : List ℕ) → HasNoSlash last → tail ≡ front ++ codes ".p/" ++ last → ⊥)
 HasWidthPart tail index (Some width) = (tail ≡ index ++ codes ".p/" ++ width) × HasNoSlash width
 
 -- ---- the grammar
@@ -124,14 +132,16 @@ pub record HasBadWidth (text : List ℕ) : Type 0 where
 -- what each answer of a reader of paths says of the text
 abbrev pub ReadsPath : List ℕ → Result Path PathFault → Type 0
 ReadsPath text (Ok path) = IsPath text path
-ReadsPath text (Err Unknown) = (text ≢ codes "checkpoint") × ((second tail : List ℕ) → IsBelowTile text second tail → ⊥)
+ReadsPath text (Err Unknown) =
+    (text ≢ codes "checkpoint") × ((second tail : List ℕ) → IsBelowTile text second tail → ⊥)
 ReadsPath text (Err BadLevel) = HasBadLevel text
 ReadsPath text (Err BadIndex) = HasBadIndex text
 ReadsPath text (Err BadWidth) = HasBadWidth text
 
 -- ---- printing
 
--- the groups of an index before its last, for the number that they make, which the first number bounds
+-- the groups of an index before its last, for the number that they make, which the first number
+-- bounds
 abbrev pub groups_within : ℕ → ℕ → List ℕ
 groups_within zero number = []
 groups_within (suc bound) zero = []
@@ -151,11 +161,13 @@ width_text width = if width == 256 then [] else codes ".p/" ++ decimal width
 -- the text of any path, lawful or not
 abbrev pub path_text : Path → List ℕ
 path_text Checkpoint = codes "checkpoint"
-path_text (Tile level index width) = codes "tile/" ++ (decimal level ++ (codes "/" ++ (index_text index ++ width_text width)))
+path_text (Tile level index width) =
+    codes "tile/" ++ (decimal level ++ (codes "/" ++ (index_text index ++ width_text width)))
 path_text (Entries index width) = codes "tile/entries/" ++ (index_text index ++ width_text width)
 
 -- the path is one that is read
-abbrev pub IsLawful : Path → Type 0
-IsLawful Checkpoint = Unit {0}
-IsLawful (Tile level index width) = (level ≤ 7) × (index ≤ MAX_INDEX) × (1 ≤ width) × (width ≤ 256)
-IsLawful (Entries index width) = (index ≤ MAX_INDEX) × (1 ≤ width) × (width ≤ 256)
+abbrev pub IsLawfulPath : Path → Type 0
+IsLawfulPath Checkpoint = Unit {0}
+IsLawfulPath (Tile level index width) =
+    (level ≤ 7) × (index ≤ MAX_INDEX) × (1 ≤ width) × (width ≤ 256)
+IsLawfulPath (Entries index width) = (index ≤ MAX_INDEX) × (1 ≤ width) × (width ≤ 256)

@@ -8,7 +8,8 @@ use Rattle.tlog_tiles.specs.Row.{row_text}
 
 -- TileBytes(E, L, N, W): the hashes of level L from the number 256 N on, as many as W, joined
 abbrev pub tile_bytes : (List ℕ → List ℕ) → List (List ℕ) → ℕ → ℕ → ℕ → List ℕ
-tile_bytes digest entries level index width = row_text (level_row digest entries level (256 * index) width)
+tile_bytes digest entries level index width =
+    row_text (level_row digest entries level (256 * index) width)
 
 -- BundleBytes(E, N, W): the entries E[256 N .. 256 N + W], each after its two-byte length
 abbrev pub bundle_bytes : List (List ℕ) → ℕ → ℕ → List ℕ

@@ -5,7 +5,7 @@ use Rattle.std.proofs.lemmas.Result.{err_from_is_err_and}
 use Rattle.std.proofs.lemmas.Str.Pattern.{split_parts}
 use Rattle.std.proofs.lemmas.List.Elements.{All-push}
 use Rattle.signed_note.specs.Names.{newline}
-use Rattle.signed_note.specs.Notes.{IsLine}
+use Rattle.signed_note.specs.Notes.{IsSignatureLine}
 use Rattle.signed_note.proofs.Lacking.{Lacks-from_reads}
 use Rattle.signed_note.proofs.LineLists.{next_line, no_line, one_more, line_refused}
 use Rattle.signed_note.proofs.parts.read_lines.Goals as goal
@@ -28,7 +28,7 @@ loop-rest-preserved c =
     record {
       text = search rules;
       so_far = rw c.in_ok-push.ensures.items (one_more c.args.signed.now c.in-Some.line.now c.in-Some.after.now c.loop-rest.lines.items c.in_ok-read_line.field-0 (rw parts.0 at c.loop-rest.invariant.so_far) c.in_ok-read_line.ensures.1);
-      well_formed = rw c.in_ok-push.ensures.items (All-push IsLine c.loop-rest.lines.items c.in_ok-read_line.field-0 c.loop-rest.invariant.well_formed c.in_ok-read_line.ensures.0);
+      well_formed = rw c.in_ok-push.ensures.items (All-push IsSignatureLine c.loop-rest.lines.items c.in_ok-read_line.field-0 c.loop-rest.invariant.well_formed c.in_ok-read_line.ensures.0);
       goes_on = λ all are.
           let more = c.loop-rest.invariant.goes_on all are in
           let next = next_line c.loop-rest.rest.now c.in-Some.line.now c.in-Some.after.now more.0 parts.0 (Lacks-from_reads newline c.in-Some.line.now parts.1) more.1 in

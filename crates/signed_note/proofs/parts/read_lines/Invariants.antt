@@ -3,8 +3,8 @@ use denote.Text.{Utf8}
 use denote.Shadow.{shadow}
 use Rattle.std.specs.Prelude.{All}
 use Rattle.std.specs.List.{flat_map}
-use Rattle.signed_note.specs.Notes.{Line, line_text, IsLine}
-use Rattle.signed_note.specs.Reading.{AreLines}
+use Rattle.signed_note.specs.Notes.{Line, line_text, IsSignatureLine}
+use Rattle.signed_note.specs.Reading.{AreSignatureLines}
 use Rattle.signed_note.proofs.parts.read_lines.Given as goal
 
 -- the lines so far and the rest are the part, and whatever lines the part is, the rest is some of them
@@ -12,8 +12,8 @@ abbrev pub invariant-loop-rest : goal.invariant-loop-rest
 invariant-loop-rest l = record {
   text : shadow (Utf8 l.rest);
   so_far : l.signed ≡ flat_map line_text l.lines.items ++ l.rest;
-  well_formed : All IsLine l.lines.items;
-  goes_on : (all : List Line) → AreLines l.signed all → (more : List Line) × AreLines l.rest more;
+  well_formed : All IsSignatureLine l.lines.items;
+  goes_on : (all : List Line) → AreSignatureLines l.signed all → (more : List Line) × AreSignatureLines l.rest more;
 }
 
 abbrev pub decreases-loop-rest : goal.decreases-loop-rest

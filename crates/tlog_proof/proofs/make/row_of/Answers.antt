@@ -2,7 +2,7 @@ use Rattle.std.proofs.Common.{◌≡◌, ℕ, List, ◌≤◌, ◌+◌, ◌*◌,
 use Rattle.std.proofs.Math.Nat.{div-mul-le_self}
 use Rattle.std.proofs.lemmas.Nat.{mul-le}
 use Rattle.tlog_hash.specs.Rows.{level_row}
-use Rattle.tlog_proof.specs.Answers.{Answers}
+use Rattle.tlog_proof.specs.Answers.{AnswersAs}
 use Rattle.tlog_proof.specs.Made.{row_in}
 use Rattle.tlog_proof.specs.declared.make.ProofFault.TheVariants.{OutOfMemory}
 use Rattle.tlog_proof.proofs.Rows.{row_answer}
@@ -20,5 +20,5 @@ returns g c = λ entries listed.
     let whole : upto * b ≤ size / b * b = mul-le upto b (size / b) b few (omega arith) in
     let within : upto * b ≤ length entries = omega (arith, whole, div-mul-le_self size b, c.size-size.ensures entries listed) in
     let row = λ (es : List (List ℕ)). level_row g.R.Ranges.digest es level (256 * c.args.index) width in
-    let right = λ (w : ℕ). Answers OutOfMemory (λ (v : Vec (List ℕ) Global). v.items) c.add_row.result (row_in g.R.Ranges.digest entries level c.args.index w) in
+    let right = λ (w : ℕ). AnswersAs OutOfMemory (λ (v : Vec (List ℕ) Global). v.items) c.add_row.result (row_in g.R.Ranges.digest entries level c.args.index w) in
     subst right c.from-2.ensures (row_answer (g.R.Ranges.lists c.args.ranges.now) row (upto * b) c.add_row.result c.add_row.ensures.ok c.add_row.ensures.err entries listed within)

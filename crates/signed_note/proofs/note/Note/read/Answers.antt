@@ -4,7 +4,7 @@ use Rattle.std.specs.Str.{chars}
 use Rattle.std.proofs.lemmas.Bool.{false≢true}
 use Rattle.std.proofs.lemmas.Result.{err_from_is_err_and}
 use Rattle.signed_note.specs.Names.{is_note_char, IsNoteText}
-use Rattle.signed_note.specs.Notes.{IsSplit}
+use Rattle.signed_note.specs.Notes.{IsNoteSplit}
 use Rattle.signed_note.specs.Reading.{HasPart, line_count}
 use Rattle.signed_note.specs.declared.limits.TheConstants.{MAX_LINES}
 use Rattle.signed_note.proofs.Splits.{split_once, text_front}
@@ -25,7 +25,7 @@ pub returns-then-is_empty : goal.returns-then-is_empty
 returns-then-is_empty c =
     let same = c.in-Ok.ensures.cases.0 in
     let readable : IsNoteText c.args.bytes.now = note_text c.args.bytes.now c.in-Ok.ensures.cases.1 (ap (λ (x : List ℕ). list_all is_note_char (chars x)) (sym same) ∙ (sym c.is_note_text.ensures ∙ c.if-not-is_note_text.false)) in
-    let split : IsSplit c.args.bytes.now c.in-Some.text.now c.in-Some.signed.now = rw same at c.in-Some.ensures.found in
+    let split : IsNoteSplit c.args.bytes.now c.in-Some.text.now c.in-Some.signed.now = rw same at c.in-Some.ensures.found in
     let empty : c.in-Some.signed.now ≡ [] = no_bytes c.in-Some.signed.now (sym c.is_empty.ensures ∙ c.if-is_empty.true) in
     (record { short = omega arith; readable = readable }, λ text signed other. (split_once c.args.bytes.now text signed c.in-Some.text.now c.in-Some.signed.now other split).1 ∙ empty)
 
