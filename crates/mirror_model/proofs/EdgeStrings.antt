@@ -10,19 +10,12 @@ use Rattle.tlog_hash.specs.Tree.{tree_of, fold_of, mth, joins, strings}
 use Rattle.tlog_hash.specs.Rows.{part, ranges, level_row}
 use Rattle.mirror_model.specs.Edge.{edge_rows, strings_from, edge_strings}
 use Rattle.tlog_hash.specs.Nodes.{Node, IsNode}
-use Rattle.tlog_hash.proofs.Folds.{joined_ranges}
+use Rattle.tlog_hash.proofs.Folds.{joined_ranges, ranges_more}
 use Rattle.tlog_shape.proofs.Levels.{level_positive, level_power}
 use Rattle.mirror_model.proofs.EdgeRoots.{edge_rows_from, edge_rows-levels, IsLevel, level_is, fold_row, fold_row_rest}
 use Rattle.tlog_hash.proofs.NodeStrings.{string_of_node}
 use Rattle.mirror_model.proofs.NodeBlocks.{IsInside, node_inside}
 use Rattle.mirror_model.proofs.RowLaws.{cut_ranges, row_law, HasTileNode, IsWholeRow, IsAtBlock, to_block}
-
-ranges_more : {A : Type 0} (b first count : ℕ) (es : List A) → ranges b first (count + 1) es ≡ ranges b first count es ++ part ((first + count) * b) b es ∷ []
-ranges_more b first zero es = let e : first * b ≡ (first + 0) * b = omega arith in ap (λ n. part n b es ∷ []) e
-ranges_more b first (suc count) es =
-    let e : ((first + 1) + count) * b ≡ (first + suc count) * b = omega arith in
-    let n : suc count + 1 ≡ suc (count + 1) = omega arith in
-    ap (λ m. ranges b first m es) n ∙ ap (λ xs. part (first * b) b es ∷ xs) (ranges_more b (first + 1) count es ∙ ap (λ m. ranges b (first + 1) count es ++ part m b es ∷ []) e)
 
 module _ (digest : List ℕ → List ℕ) (es : List (List ℕ)) where
   -- the row with the value behind it is the row of one hash more

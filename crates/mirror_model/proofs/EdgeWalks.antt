@@ -25,6 +25,7 @@ use Rattle.mirror_model.specs.Item.{row_of}
 use Rattle.mirror_model.specs.Walk.{WalkFails}
 use Rattle.mirror_model.proofs.EdgeRoots.{IsLevel, level_is, levels_from}
 use Rattle.mirror_model.proofs.ItemBytes.{row_is_row}
+use Rattle.mirror_model.proofs.ItemStrings.{fold_length}
 use Rattle.mirror_model.proofs.MissingPaths.{fails_inside}
 use Rattle.mirror_model.proofs.RowLaws.{get_or-ranges}
 
@@ -70,11 +71,6 @@ rows_fit n rows widths = fit_levels n 8 0 rows widths
 -- ---- the walk over a row
 
 module _ (digest : List ℕ → List ℕ) (hash : (s : List ℕ) → length (digest s) ≡ 32) (held : Strings) (clean : NoClash digest held) where
-  pub fold_length : (row : List (List ℕ)) → 0 < length row → AreHashes row → length (fold_of digest row) ≡ 32
-  fold_length [] some all = absurd (omega arith)
-  fold_length (h ∷ []) some all = ap length (fold_of-one digest h) ∙ all.0
-  fold_length (h ∷ i ∷ row) some all = ap length (fold_of-join digest (h ∷ i ∷ row) (omega arith)) ∙ hash _
-
   -- all pairs that the row's fold joins are held
   abbrev JoinsHeld : List (List ℕ) → Type 0
   JoinsHeld row = (y : List ℕ) → IsJoin digest (tree_of row) y → Has held y
@@ -110,8 +106,8 @@ module _ (digest : List ℕ → List ℕ) (hash : (s : List ℕ) → length (dig
         let fold : fold_of digest (us ++ vs) ≡ digest (1 ∷ fold_of digest us ++ fold_of digest vs) = fold_of-append digest us vs two place in
         let all_a = all-left (λ (h : List ℕ). length h ≡ 32) us vs all in
         let all_c = all-right (λ (h : List ℕ). length h ≡ 32) us vs all in
-        let len_a = fold_length us (omega (arith, la, split.some_left)) all_a in
-        let len_c = fold_length vs (omega (arith, lc, split.some_right)) all_c in
+        let len_a = fold_length digest hash us all_a in
+        let len_c = fold_length digest hash vs all_c in
         let here : Has held (1 ∷ fold_of digest us ++ fold_of digest vs) = joined _ (subst (λ t. IsJoin digest t (1 ∷ fold_of digest us ++ fold_of digest vs)) (sym tree) (same_join us vs)) in
         let f' : WalkFails digest held (Join (tree_of (joined_up xs)) (tree_of (joined_up ys))) s (digest (1 ∷ fold_of digest us ++ fold_of digest vs)) at many = subst (λ v. WalkFails digest held (Join (tree_of (joined_up xs)) (tree_of (joined_up ys))) s v at many) fold (subst (λ t. WalkFails digest held t s (fold_of digest (us ++ vs)) at many) split.tree_is f) in
         elim f' [
@@ -254,7 +250,7 @@ module _ (digest : List ℕ → List ℕ) (hash : (s : List ℕ) → length (dig
         let rest = here.1 in
         let all' = subst (λ rs. AllHeld (strings_from digest value rs)) here.2 all in
         let next = fold_of digest (row ++ value ∷ []) in
-        let next_len : length next ≡ 32 = fold_length (row ++ value ∷ []) (omega (arith, length-append row (value ∷ []))) (all-append (λ (h : List ℕ). length h ≡ 32) row (value ∷ []) here.5 (len, tt)) in
+        let next_len : length next ≡ 32 = fold_length digest hash (row ++ value ∷ []) (all-append (λ (h : List ℕ). length h ≡ 32) row (value ∷ []) here.5 (len, tt)) in
         let step = row_below level (length zs / 256 ^ level) (length zs / 256 ^ (level + 1)) (width_of (length zs) level) (256 ^ (level + 1)) row value n more here.4 here.5 len (λ y j. all' y (Contains-append_left (joins digest (row ++ value ∷ [])) (strings_from digest next rest) y (to_joins digest (row ++ value ∷ []) y j))) below in
         subst (λ rs. Below 0 (root_from digest value rs)) (sym here.2)
         (rest_below levels (level + 1) next rest (subst (λ m. length zs < 256 ^ m) e small) (omega (arith, n.start, n.done, more)) next_len here.6 (λ y c. all' y (Contains-append_right (joins digest (row ++ value ∷ [])) (strings_from digest next rest) y c)) step)
@@ -278,7 +274,7 @@ module _ (digest : List ℕ → List ℕ) (hash : (s : List ℕ) → length (dig
         let one : 1 * 256 ^ level ≤ width_of (length zs) level * 256 ^ level = mul-le _ _ _ _ (omega (arith, here.3)) (omega arith) in
         let step = first_row_below level (length zs / 256 ^ level) (length zs / 256 ^ (level + 1)) (width_of (length zs) level) (256 ^ (level + 1)) row n end here.3 here.4 here.5 (λ y j. all' y (Contains-append_left (joins digest row) (strings_from digest next rest) y (to_joins digest row y j))) in
         subst (λ rs. Below 0 (edge_root digest rs)) (sym here.2)
-        (rest_below levels (level + 1) next rest (subst (λ m. length zs < 256 ^ m) e small) (omega (arith, n.start, n.done, n.some, one, end)) (fold_length row (omega (arith, here.3, here.4)) here.5) here.6 (λ y c. all' y (Contains-append_right (joins digest row) (strings_from digest next rest) y c)) step)
+        (rest_below levels (level + 1) next rest (subst (λ m. length zs < 256 ^ m) e small) (omega (arith, n.start, n.done, n.some, one, end)) (fold_length digest hash row here.5) here.6 (λ y c. all' y (Contains-append_right (joins digest row) (strings_from digest next rest) y c)) step)
 
     pub edge_below : (rows : List (List (List ℕ))) → length zs < 256 ^ 8 → Fit (length zs) 8 0 rows → AllHeld (edge_strings digest rows) → Below 0 (edge_root digest rows)
     edge_below rows small fit all = first_below 8 0 rows small (one (length zs)) fit all

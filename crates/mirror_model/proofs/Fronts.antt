@@ -23,7 +23,7 @@ use Rattle.mirror_model.proofs.RowLaws.{full_tile, bundle, to_block}
 use Rattle.mirror_model.proofs.EdgeStrings.{full_or_edge}
 
 -- one range of positions is within another
-pub record IsWithin (x y : Node) : Type 0 where
+pub record IsNodeWithin (x y : Node) : Type 0 where
   pub start_in : y.start ≤ x.start
   pub end_in : x.start + x.len ≤ y.start + y.len
 
@@ -61,7 +61,7 @@ module _ (digest : List ℕ → List ℕ) (held : Strings) where
   pub record HasFrontAbove (t : Tree (List ℕ)) (s : ℕ) (x : Node) : Type 0 where
     pub top : Node
     pub is : InFront digest held t s top
-    pub within : IsWithin x top
+    pub within : IsNodeWithin x top
 
   below_this : (t : Tree (List ℕ)) (s : ℕ) (string : List ℕ) (x : Node) → IsNode digest t s x → (Has held string → ⊥) → (InFront digest held t s (record { start = s; len = size_of t; string = string })) → HasFrontAbove t s x
   below_this t s string x n e f = let b = node_bounds t s x n in record { top = record { start = s; len = size_of t; string = string }; is = f; within = record { start_in = b.0; end_in = b.1 } }
@@ -130,7 +130,7 @@ module _ (digest : List ℕ → List ℕ) (held : Strings) where
     index_of i c start len some low high one = ap (λ m. m / c) (omega arith) ∙ div-mul-add i c (start - i * c) (omega arith)
 
     -- a node of a bundle that was asked for is held
-    in_bundle : (x y : Node) → IsNode digest (tree_of es) 0 x → IsNode digest (tree_of es) 0 y → IsWithin x y → InFront digest held (tree_of es) 0 y → y.len ≤ 256 → (Has after x.string → ⊥) → ⊥
+    in_bundle : (x y : Node) → IsNode digest (tree_of es) 0 x → IsNode digest (tree_of es) 0 y → IsNodeWithin x y → InFront digest held (tree_of es) 0 y → y.len ≤ 256 → (Has after x.string → ⊥) → ⊥
     in_bundle x y nx ny w f few e =
         let inside = node_inside digest es 0 y ny in
         let inside_x = node_inside digest es 0 x nx in

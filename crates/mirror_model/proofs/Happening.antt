@@ -11,7 +11,8 @@ use Rattle.mirror_model.specs.declared.events.Event.TheVariants.{Take, Merge}
 use Rattle.mirror_model.specs.Steps.{Answer, Done, Refused, Clashed, Exhausted, Answers, IsBetween, Takes, Merges, MergesAt}
 use Rattle.mirror_model.specs.UnionLaws.{UnionClashes, UnionIsClean}
 use Rattle.mirror_model.specs.EventLaws.{TakesGrow, MergesGrow, TakesKeepLawful, MergesKeepLawful, IsLeft, TakesLeave, MergesLeave, EventGrows, EventIsOne, EventAgain, MergeWithItself}
-use Rattle.mirror_model.proofs.StringSets.{decide, has_left, has_right, has_cases, union_itself, clash_contradicts}
+use Rattle.node_store.proofs.Sets.{decide}
+use Rattle.mirror_model.proofs.StringSets.{has_left, has_right, has_cases, union_itself, clash_contradicts}
 use Rattle.mirror_model.proofs.Views.{within_itself, within_union, within_plus, same_is_one, union_is_lawful}
 use Rattle.mirror_model.proofs.ItemStrings.{plus_is_lawful}
 use Rattle.mirror_model.proofs.Steps.{get_set_same, get_set_other, one_of_list, same_number, answer_grows, takes_again, merges_again, takes_once, merges_once}

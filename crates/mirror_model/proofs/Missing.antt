@@ -18,7 +18,8 @@ use Rattle.tlog_tiles.specs.declared.paths.Path.{Path}
 use Rattle.mirror_model.specs.Walk.{WalkFails, IsPairHeld, IsMissing, NoClashWith}
 use Rattle.mirror_model.specs.Complete.{IsBuilt, IsComplete}
 use Rattle.mirror_model.specs.CompleteLaws.{MissingIsNone}
-use Rattle.mirror_model.proofs.StringSets.{HoldsAll, decide, in_items, has_item, all_from_held, held_from_all, holds_from_held}
+use Rattle.node_store.proofs.Sets.{decide}
+use Rattle.mirror_model.proofs.StringSets.{HoldsAll, in_items, has_item, all_from_held, held_from_all, holds_from_held}
 use Rattle.mirror_model.proofs.Fronts.{front_empty, path_of}
 use Rattle.mirror_model.proofs.TreeLaws.{missing_is_front}
 use Rattle.mirror_model.proofs.HeadNotes.{head_once}

@@ -21,6 +21,7 @@ use Rattle.mirror_model.specs.EdgeLaws.{EdgeIsOne, LawfulEdgeIsTrue}
 use Rattle.mirror_model.proofs.StringSets.{holds_from_held, held_from_holds}
 use Rattle.mirror_model.proofs.ItemBytes.{row_is_row}
 use Rattle.mirror_model.proofs.EdgeStrings.{edge_strings_within}
+use Rattle.mirror_model.proofs.ItemStrings.{fold_length}
 use Rattle.mirror_model.proofs.EdgeWalks.{AreHashes, same_join}
 use Rattle.mirror_model.proofs.TrueItems.{edges_are_true}
 
@@ -54,15 +55,6 @@ module _ (digest : List ℕ → List ℕ) (hash : IsDigest digest) (held : Strin
   abbrev JoinsHeld : List (List ℕ) → Type 0
   JoinsHeld row = (y : List ℕ) → IsJoin digest (tree_of row) y → Has held y
 
-  fold_none : length (fold_of digest []) ≡ 32
-  unfolding fold_of
-  fold_none = ap (λ t. length (root digest t)) tree_of-none ∙ hash []
-
-  fold_length : (row : List (List ℕ)) → AreHashes row → length (fold_of digest row) ≡ 32
-  fold_length [] all = fold_none
-  fold_length (h ∷ []) all = ap length (fold_of-one digest h) ∙ all.0
-  fold_length (h ∷ i ∷ row) all = ap length (fold_of-join digest (h ∷ i ∷ row) (omega arith)) ∙ hash _
-
   -- ---- rows of one fold are one
 
   abbrev IsOnlyRow : List (List ℕ) → Type 0
@@ -82,7 +74,7 @@ module _ (digest : List ℕ → List ℕ) (hash : IsDigest digest) (held : Strin
       let p' : (y : List ℕ) → IsJoin digest (Join (tree_of xs) (tree_of ys)) y → Has held y = (λ y j. p y (subst (λ t. IsJoin digest t y) (sym tree) j)) in
       let q' : (y : List ℕ) → IsJoin digest (Join (tree_of us) (tree_of vs)) y → Has held y = (λ y j. q y (subst (λ t. IsJoin digest t y) (sym tree') j)) in
       let same : 1 ∷ fold_of digest xs ++ fold_of digest ys ≡ 1 ∷ fold_of digest us ++ fold_of digest vs = clean.same _ _ (p' _ (same_join digest hash held clean xs ys)) (q' _ (same_join digest hash held clean us vs)) (sym (fold_of-append digest xs ys two place) ∙ e ∙ fold_of-append digest us vs two' place') in
-      let lens : length (fold_of digest xs) ≡ length (fold_of digest us) = fold_length xs ax ∙ sym (fold_length us au) in
+      let lens : length (fold_of digest xs) ≡ length (fold_of digest us) = fold_length digest hash xs ax ∙ sym (fold_length digest hash us au) in
       let l = left us lu ax au (λ y j. p' y (inr (inl j))) (λ y j. q' y (inr (inl j))) (left_is (fold_of digest xs) (fold_of digest ys) (fold_of digest us) (fold_of digest vs) lens same) in
       let r = right vs lv ay av (λ y j. p' y (inr (inr j))) (λ y j. q' y (inr (inr j))) (right_is (fold_of digest xs) (fold_of digest ys) (fold_of digest us) (fold_of digest vs) lens same) in
       λ i. l i ++ r i
@@ -123,7 +115,7 @@ module _ (digest : List ℕ → List ℕ) (hash : IsDigest digest) (held : Strin
       let row' = o ++ other ∷ [] in
       let a : AreHashes row = all-append (λ (h : List ℕ). length h ≡ 32) r (value ∷ []) alike.1 (lv, tt) in
       let b : AreHashes row' = all-append (λ (h : List ℕ). length h ≡ 32) o (other ∷ []) alike.2 (lo, tt) in
-      let above = same_from rs os (fold_of digest row) (fold_of digest row') alike.3 (fold_length row a) (fold_length row' b) (λ y c. p y (Contains-append_right (joins digest row) (strings_from digest (fold_of digest row) rs) y c)) (λ y c. q y (Contains-append_right (joins digest row') (strings_from digest (fold_of digest row') os) y c)) e in
+      let above = same_from rs os (fold_of digest row) (fold_of digest row') alike.3 (fold_length digest hash row a) (fold_length digest hash row' b) (λ y c. p y (Contains-append_right (joins digest row) (strings_from digest (fold_of digest row) rs) y c)) (λ y c. q y (Contains-append_right (joins digest row') (strings_from digest (fold_of digest row') os) y c)) e in
       let len : length row' ≡ length row = omega (arith, length-append r (value ∷ []), length-append o (other ∷ []), alike.0) in
       let same : row ≡ row' = only_row row row' len a b (λ y j. p y (Contains-append_left (joins digest row) (strings_from digest (fold_of digest row) rs) y (to_joins digest row y j))) (λ y j. q y (Contains-append_left (joins digest row') (strings_from digest (fold_of digest row') os) y (to_joins digest row' y j))) above.0 in
       let first : r ≡ o = sym (take-append_seam r (value ∷ [])) ∙ (λ i. take (alike.0 i) (same i)) ∙ take-append_seam o (other ∷ []) in
@@ -135,7 +127,7 @@ module _ (digest : List ℕ → List ℕ) (hash : IsDigest digest) (held : Strin
   same_rows [] (o ∷ os) alike p q e = absurd alike
   same_rows (r ∷ rs) [] alike p q e = absurd alike
   same_rows (r ∷ rs) (o ∷ os) alike p q e =
-      let above = same_from rs os (fold_of digest r) (fold_of digest o) alike.3 (fold_length r alike.1) (fold_length o alike.2) (λ y c. p y (Contains-append_right (joins digest r) (strings_from digest (fold_of digest r) rs) y c)) (λ y c. q y (Contains-append_right (joins digest o) (strings_from digest (fold_of digest o) os) y c)) e in
+      let above = same_from rs os (fold_of digest r) (fold_of digest o) alike.3 (fold_length digest hash r alike.1) (fold_length digest hash o alike.2) (λ y c. p y (Contains-append_right (joins digest r) (strings_from digest (fold_of digest r) rs) y c)) (λ y c. q y (Contains-append_right (joins digest o) (strings_from digest (fold_of digest o) os) y c)) e in
       let same : r ≡ o = only_row r o (sym alike.0) alike.1 alike.2 (λ y j. p y (Contains-append_left (joins digest r) (strings_from digest (fold_of digest r) rs) y (to_joins digest r y j))) (λ y j. q y (Contains-append_left (joins digest o) (strings_from digest (fold_of digest o) os) y (to_joins digest o y j))) above.0 in
       λ i. same i ∷ above.1 i
 

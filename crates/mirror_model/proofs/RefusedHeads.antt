@@ -11,7 +11,7 @@ use Rattle.tlog_checkpoint.specs.declared.Checkpoint.{Checkpoint}
 use Rattle.tlog_checkpoint.specs.declared.fault.CheckpointFault.{CheckpointFault}
 use Rattle.tlog_checkpoint.specs.declared.fault.CheckpointFault.TheVariants as reading
 use Rattle.tlog_checkpoint.specs.Grammar.{IsCheckpoint}
-use Rattle.tlog_checkpoint.specs.Reading.{Reads}
+use Rattle.tlog_checkpoint.specs.Reading.{ReadsCheckpoint}
 use Rattle.tlog_checkpoint.proofs.OneAnswer as checkpoint
 use Rattle.mirror_model.specs.Edge.{edge_widths, edge_root}
 use Rattle.mirror_model.specs.Heads.{IsOpenHead}
@@ -42,21 +42,21 @@ same_note_fault bytes f g p q =
     cc same
 
 -- and likewise of texts
-no_checkpoint : (text : List ℕ) (c : Checkpoint) (fault : CheckpointFault) → Reads text (Err fault) → fault ≢ reading.OutOfMemory → Reads text (Ok c) → ⊥
+no_checkpoint : (text : List ℕ) (c : Checkpoint) (fault : CheckpointFault) → ReadsCheckpoint text (Err fault) → fault ≢ reading.OutOfMemory → ReadsCheckpoint text (Ok c) → ⊥
 no_checkpoint text c fault refused memory is =
     let one : Result Checkpoint CheckpointFault = Ok c in
     let other : Result Checkpoint CheckpointFault = Err fault in
     let same : one ≡ other = checkpoint.one_answer text one other (λ e. cc e) (λ e. memory (cc e)) is refused in
     cc same
 
-same_text_fault : (text : List ℕ) (f g : CheckpointFault) → Reads text (Err f) → Reads text (Err g) → f ≢ reading.OutOfMemory → g ≢ reading.OutOfMemory → f ≡ g
+same_text_fault : (text : List ℕ) (f g : CheckpointFault) → ReadsCheckpoint text (Err f) → ReadsCheckpoint text (Err g) → f ≢ reading.OutOfMemory → g ≢ reading.OutOfMemory → f ≡ g
 same_text_fault text f g p q no_f no_g =
     let one : Result Checkpoint CheckpointFault = Err f in
     let other : Result Checkpoint CheckpointFault = Err g in
     let same : one ≡ other = checkpoint.one_answer text one other (λ e. no_f (cc e)) (λ e. no_g (cc e)) p q in
     cc same
 
-same_checkpoint : (text : List ℕ) (c d : Checkpoint) → Reads text (Ok c) → Reads text (Ok d) → c ≡ d
+same_checkpoint : (text : List ℕ) (c d : Checkpoint) → ReadsCheckpoint text (Ok c) → ReadsCheckpoint text (Ok d) → c ≡ d
 same_checkpoint text c d p q =
     let one : Result Checkpoint CheckpointFault = Ok c in
     let other : Result Checkpoint CheckpointFault = Ok d in
@@ -81,7 +81,7 @@ module _ (bytes origin : List ℕ) (keys : List Key) where
   record AtText (a : Read) (text : List ℕ) : Type 0 where
     fault : CheckpointFault
     is : a ≡ Err (taking.Checkpoint fault)
-    refused : Reads text (Err fault)
+    refused : ReadsCheckpoint text (Err fault)
     has_memory : fault ≢ reading.OutOfMemory
 
   -- the bytes are a note

@@ -23,7 +23,8 @@ use Rattle.mirror_model.specs.Complete.{IsBuilt, IsLawful}
 use Rattle.mirror_model.specs.Served.{IsAtMost, IsCompleteNote}
 use Rattle.mirror_model.specs.Walk.{WalkFails, IsPairHeld}
 use Rattle.mirror_model.specs.ReplyLaws.{ServesSome, CompletesSome, ServedWhereComplete}
-use Rattle.mirror_model.proofs.StringSets.{decide, in_items, has_item}
+use Rattle.node_store.proofs.Sets.{decide}
+use Rattle.mirror_model.proofs.StringSets.{in_items, has_item}
 use Rattle.mirror_model.proofs.HeadNotes.{head_once}
 use Rattle.mirror_model.proofs.Steps.{same_number}
 use Rattle.mirror_model.proofs.OneLists.{at_most_both}

@@ -10,31 +10,9 @@ use Rattle.std.specs.FinSet.{contains, contains-union, contains-empty, contains-
 use Rattle.std.proofs.lemmas.List.Elements.{All-contains, All-from_recursion, recursion_from_All, All-weaker, All-contains_itself}
 use Rattle.std.proofs.lemmas.Map.Lookups.{exact_bytes}
 use Rattle.std.proofs.lemmas.Map.Views.{tells_apart, Contains-from_any}
+use Rattle.node_store.proofs.Sets.{or_left, or_right, or_either, tied, decide}
 use Rattle.node_store.specs.Strings.{Strings, Has, HasAll, NoClash}
 use Rattle.mirror_model.specs.Strings.{HasClash}
-
-or_left : (a b : Bool) → a ≡ true → (a || b) ≡ true
-or_left true b h = refl
-or_left false b h = absurd (cc h)
-
-or_right : (a b : Bool) → b ≡ true → (a || b) ≡ true
-or_right true b h = refl
-or_right false b h = h
-
-or_either : (a b : Bool) → (a || b) ≡ true → (a ≡ true) ⊎ (b ≡ true)
-or_either true b h = inl refl
-or_either false b h = inr h
-
-tied : (s : List ℕ) → eq_by_cmp (slice_cmp nat_cmp) s s ≡ true
-tied s = ap is_eq (tied_itself nat_list_cmp_total s)
-
--- two strings are one or not
-pub decide : (x y : List ℕ) → (x ≡ y) ⊎ (x ≢ y)
-decide x y = at (eq_by_cmp (slice_cmp nat_cmp) x y) refl
-  where
-    at : (b : Bool) → eq_by_cmp (slice_cmp nat_cmp) x y ≡ b → (x ≡ y) ⊎ (x ≢ y)
-    at true e = inl (tells_apart exact_bytes x y e)
-    at false e = inr (λ same. let t : eq_by_cmp (slice_cmp nat_cmp) x y ≡ true = ap (eq_by_cmp (slice_cmp nat_cmp) x) (sym same) ∙ tied x in cc (t, e))
 
 -- a set has a string or not
 pub decide_has : (held : Strings) (string : List ℕ) → Has held string ⊎ (Has held string → ⊥)

@@ -9,7 +9,8 @@ use Rattle.mirror_model.specs.Item.{row_of, HasEdgeRows}
 
 module _ (digest : List ℕ → List ℕ) where
   -- the entries have that size and tree hash, and all that the tree hash hashes is held
-  pub record IsTreeOf (held : Strings) (size : ℕ) (root : List ℕ) (entries : List (List ℕ)) : Type 0 where
+  pub record IsTreeOf (held : Strings) (size : ℕ) (root : List ℕ) (entries : List (List ℕ))
+      : Type 0 where
     pub size_is : length entries ≡ size
     pub root_is : mth digest entries ≡ root
     pub are_held : HasAll held (strings digest entries)
@@ -19,8 +20,8 @@ module _ (digest : List ℕ → List ℕ) where
     pub entries : List (List ℕ)
     pub is : IsTreeOf held size root entries
 
-  -- Complete(V, n, r, E): a note of V has that size and root, and E is a list of that size and root whose tree V
-  -- holds
+  -- Complete(V, n, r, E): a note of V has that size and root, and E is a list of that size and root
+  -- whose tree V holds
   pub record Complete (v : View) (size : ℕ) (root : List ℕ) (entries : List (List ℕ)) : Type 0 where
     pub head : HasHead v size root
     pub tree : IsTreeOf v.strings size root entries
@@ -43,8 +44,8 @@ module _ (digest : List ℕ → List ℕ) where
     pub is_head : IsHead note v.origin size root
     pub edge : HasEdgeOf v size root
 
-  -- a lawful view: no two of its strings share a digest, its entries have at most 65,535 bytes, and the edge of
-  -- each note is held
+  -- a lawful view: no two of its strings share a digest, its entries have at most 65,535 bytes, and
+  -- the edge of each note is held
   pub record IsLawful (v : View) : Type 0 where
     pub no_clash : NoClash digest v.strings
     pub are_strings : AllTagged v.strings

@@ -25,19 +25,23 @@ CompleteListHasRoot =
 -- what is complete stays complete, with the same entries, as the view grows
 abbrev pub CompleteStays : Type 0
 CompleteStays =
-    (digest : List ℕ → List ℕ) (v w : View) → IsSubview v w → (size : ℕ) (root : List ℕ) (entries : List (List ℕ)) →
+    (digest : List ℕ → List ℕ) (v w : View) → IsSubview v w →
+    (size : ℕ) (root : List ℕ) (entries : List (List ℕ)) →
     Complete digest v size root entries → Complete digest w size root entries
 
 -- and with no others, while nothing clashes
 abbrev pub CompleteKeepsItsList : Type 0
 CompleteKeepsItsList =
-    (digest : List ℕ → List ℕ) → IsDigest digest → (v w : View) → IsSubview v w → NoClash digest w.strings →
+    (digest : List ℕ → List ℕ) → IsDigest digest → (v w : View) → IsSubview v w →
+    NoClash digest w.strings →
     (size : ℕ) (root : List ℕ) (before after : List (List ℕ)) → Complete digest v size root before →
     Complete digest w size root after → before ≡ after
 
--- the walk from the root of a head of a lawful view fails nowhere exactly where the head is complete
+-- the walk from the root of a head of a lawful view fails nowhere exactly where the head is
+-- complete
 abbrev pub MissingIsNone : Type 0
 MissingIsNone =
-    (digest : List ℕ → List ℕ) → IsDigest digest → (v : View) → IsLawful digest v → (size : ℕ) (root : List ℕ) →
+    (digest : List ℕ → List ℕ) → IsDigest digest → (v : View) → IsLawful digest v →
+    (size : ℕ) (root : List ℕ) →
     HasHead v size root →
     ((path : Path) → IsMissing digest v.strings size root path → ⊥) ↔ IsComplete digest v size root

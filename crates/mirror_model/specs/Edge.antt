@@ -1,8 +1,9 @@
 -- The edge of a tree: the partial tiles at its right end (C2SP tlog-tiles, "Merkle Tree").
 --
--- In a tree of n entries the rightmost tile of level L has floor(n / 256^L) mod 256 hashes, and where
--- that is 0 there is none. The edge lists the others, lowest level first. From its rows the tree hash
--- follows: the value so far is put behind the row of each level, and the result is folded.
+-- In a tree of n entries the rightmost tile of level L has floor(n / 256^L) mod 256 hashes, and
+-- where that is 0 there is none. The edge lists the others, lowest level first. From its rows the
+-- tree hash follows: the value so far is put behind the row of each level, and the result is
+-- folded.
 use Rattle.std.specs.Prelude.{ℕ, ◌*◌, List, [], ◌∷◌, ◌++◌, length, map, not, ◌==◌}
 use Rattle.std.specs.List.{filter}
 use Rattle.tlog_shape.specs.Edge.{width_of, edge_index_of}
@@ -24,7 +25,9 @@ edge_widths size = map (width_of size) (edge_levels size)
 module _ (digest : List ℕ → List ℕ) where
   -- the hashes of the partial tile of a level
   abbrev pub edge_row : List (List ℕ) → ℕ → List (List ℕ)
-  edge_row entries level = level_row digest entries level (256 * edge_index_of (length entries) level) (width_of (length entries) level)
+  edge_row entries level =
+      level_row digest entries level (256 * edge_index_of (length entries) level)
+      (width_of (length entries) level)
 
   -- the true rows of the edge of a list of entries, lowest level first
   abbrev pub edge_rows : List (List ℕ) → List (List (List ℕ))
@@ -43,7 +46,8 @@ module _ (digest : List ℕ → List ℕ) where
   -- the strings that are hashed on the way
   abbrev pub strings_from : List ℕ → List (List (List ℕ)) → List (List ℕ)
   strings_from value [] = []
-  strings_from value (row ∷ rows) = joins digest (row ++ value ∷ []) ++ strings_from (fold_of digest (row ++ value ∷ [])) rows
+  strings_from value (row ∷ rows) =
+      joins digest (row ++ value ∷ []) ++ strings_from (fold_of digest (row ++ value ∷ [])) rows
 
   -- EdgeStrings(rows): the joins of all rows that EdgeRoot folds
   abbrev pub edge_strings : List (List (List ℕ)) → List (List ℕ)

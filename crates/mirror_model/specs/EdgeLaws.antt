@@ -8,7 +8,8 @@ use Rattle.mirror_model.specs.Complete.{Complete, IsLawful}
 use Rattle.mirror_model.specs.TrueLaws.{edge_bytes}
 use Rattle.mirror_model.specs.Strings.{IsDigest}
 
--- of a size and a root there is one edge at most whose strings are held, while what is held does not clash
+-- of a size and a root there is one edge at most whose strings are held, while what is held does
+-- not clash
 abbrev pub EdgeIsOne : Type 0
 EdgeIsOne =
     (digest : List ℕ → List ℕ) →

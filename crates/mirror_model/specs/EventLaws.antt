@@ -15,19 +15,23 @@ use Rattle.mirror_model.specs.RunLaws.{AreLawful}
 -- want of memory apart, an event has one answer and leaves one view
 abbrev pub TakesOnce : Type 0
 TakesOnce =
-    (digest : List ℕ → List ℕ) (keys : List Key) (old new other : View) (item : Item) (a b : Answer) →
-    Takes digest keys old item a new → Takes digest keys old item b other → a ≢ Exhausted → b ≢ Exhausted →
+    (digest : List ℕ → List ℕ) (keys : List Key) (old new other : View) (item : Item)
+    (a b : Answer) →
+    Takes digest keys old item a new → Takes digest keys old item b other → a ≢ Exhausted →
+    b ≢ Exhausted →
     (a ≡ b) × (new ≡ other)
 
 abbrev pub MergesOnce : Type 0
 MergesOnce =
-    (digest : List ℕ → List ℕ) (old source new other : View) (a b : Answer) → Merges digest old source a new →
+    (digest : List ℕ → List ℕ) (old source new other : View) (a b : Answer) →
+    Merges digest old source a new →
     Merges digest old source b other → a ≢ Exhausted → b ≢ Exhausted → (a ≡ b) × (new ≡ other)
 
 -- an event that ran out of memory and is done again comes to the same as one event
 abbrev pub TakesAgain : Type 0
 TakesAgain =
-    (digest : List ℕ → List ℕ) (keys : List Key) (old between new : View) (item : Item) (answer : Answer) →
+    (digest : List ℕ → List ℕ) (keys : List Key) (old between new : View) (item : Item)
+    (answer : Answer) →
     Takes digest keys old item Exhausted between → Takes digest keys between item answer new →
     Takes digest keys old item answer new
 
@@ -47,7 +51,8 @@ NoteIsLast =
 -- a view between two lawful ones, with new notes last, is lawful
 abbrev pub BetweenIsLawful : Type 0
 BetweenIsLawful =
-    (digest : List ℕ → List ℕ) (old whole new : View) → IsLawful digest old → IsLawful digest whole →
+    (digest : List ℕ → List ℕ) (old whole new : View) → IsLawful digest old →
+    IsLawful digest whole →
     IsBetween old whole new → IsLawful digest new
 
 -- ---- what each leaves
@@ -83,9 +88,11 @@ MergesKeepLawful =
     Merges digest old other answer new →
     IsLawful digest new
 
--- what refused memory leaves lies between the old view and the whole one; it is the old one where the event is not
--- allowed, or the whole one clashes; and a new note stands only where all strings do
-pub record IsLeft (digest : List ℕ → List ℕ) (old : View) (Allowed : Type 0) (whole new : View) : Type 0 where
+-- what refused memory leaves lies between the old view and the whole one; it is the old one where
+-- the event is not allowed, or the whole one clashes; and a new note stands only where all strings
+-- do
+pub record IsLeft (digest : List ℕ → List ℕ) (old : View) (Allowed : Type 0) (whole new : View)
+    : Type 0 where
   pub between : IsBetween old whole new
   pub not_allowed : (Allowed → ⊥) → new ≡ old
   pub clashing : HasClash digest whole.strings → new ≡ old
@@ -106,7 +113,8 @@ MergesLeave =
 
 abbrev pub EventGrows : Type 0
 EventGrows =
-    (digest : List ℕ → List ℕ) (keys : List Key) (old new : List View) (event : Event) (answer : Answer) →
+    (digest : List ℕ → List ℕ) (keys : List Key) (old new : List View) (event : Event)
+    (answer : Answer) →
     Happens digest keys old event answer new →
     (mirror : ℕ) (before after : View) →
     slice_get old mirror ≡ Some before →
@@ -124,18 +132,20 @@ EventKeepsLawful =
 
 abbrev pub EventIsOne : Type 0
 EventIsOne =
-    (digest : List ℕ → List ℕ) (keys : List Key) (old new other : List View) (event : Event) (a b : Answer) →
+    (digest : List ℕ → List ℕ) (keys : List Key) (old new other : List View) (event : Event)
+    (a b : Answer) →
     Happens digest keys old event a new →
     Happens digest keys old event b other →
     a ≢ Exhausted →
     b ≢ Exhausted →
     (a ≡ b) × (new ≡ other)
 
--- an event that ran out of memory and is done again comes to the same as one event; so does a merge of a mirror with
--- itself
+-- an event that ran out of memory and is done again comes to the same as one event; so does a merge
+-- of a mirror with itself
 abbrev pub EventAgain : Type 0
 EventAgain =
-    (digest : List ℕ → List ℕ) (keys : List Key) (old between new : List View) (event : Event) (answer : Answer) →
+    (digest : List ℕ → List ℕ) (keys : List Key) (old between new : List View) (event : Event)
+    (answer : Answer) →
     Happens digest keys old event Exhausted between →
     Happens digest keys between event answer new →
     Happens digest keys old event answer new
@@ -143,6 +153,7 @@ EventAgain =
 -- such a merge changes nothing
 abbrev pub MergeWithItself : Type 0
 MergeWithItself =
-    (digest : List ℕ → List ℕ) (keys : List Key) (old new : List View) (mirror : ℕ) (answer : Answer) →
+    (digest : List ℕ → List ℕ) (keys : List Key) (old new : List View) (mirror : ℕ)
+    (answer : Answer) →
     Happens digest keys old (Merge mirror mirror) answer new →
     new ≡ old

@@ -6,7 +6,8 @@ use Rattle.mirror_model.specs.declared.events.Event.{Event}
 use Rattle.mirror_model.specs.declared.events.Event.TheVariants.{Take, Merge}
 use Rattle.mirror_model.specs.Item.{IsWidth}
 
--- the event is of mirrors of a world of that many, and the width of its item is one of tiles and bundles
+-- the event is of mirrors of a world of that many, and the width of its item is one of tiles and
+-- bundles
 abbrev pub IsFitting : ℕ → Event → Type 0
 IsFitting count (Take target (Head note edge)) = target < count
 IsFitting count (Take target (Tile width bytes)) = (target < count) × IsWidth width
@@ -17,16 +18,17 @@ IsFitting count (Merge target source) = (target < count) × (source < count)
 abbrev pub Fits : List Event → ℕ → Type 0
 Fits events count = All (IsFitting count) events
 
--- At these positions of the list, which rise from the one given on, stand merges that lead from a mirror to
--- another: each is out of the mirror before, and the last is into the other. By no merges a mirror is led to
--- alone.
+-- At these positions of the list, which rise from the one given on, stand merges that lead from a
+-- mirror to another: each is out of the mirror before, and the last is into the other. By no merges
+-- a mirror is led to alone.
 abbrev pub MergesLead : List Event → ℕ → ℕ → List ℕ → ℕ → Type 0
 MergesLead events first source [] end = source ≡ end
 MergesLead events first source (position ∷ positions) end =
-    (target : ℕ) × (first ≤ position) × (slice_get events position ≡ Some (Merge target source)) × MergesLead events (position + 1) target positions end
+    (target : ℕ) × (first ≤ position) × (slice_get events position ≡ Some (Merge target source))
+    × MergesLead events (position + 1) target positions end
 
--- Reaches(x, i, events): at rising positions of the list stand a take of the item, and then merges that lead from
--- its mirror to this one
+-- Reaches(x, i, events): at rising positions of the list stand a take of the item, and then merges
+-- that lead from its mirror to this one
 pub record Reaches (item : Item) (mirror : ℕ) (events : List Event) : Type 0 where
   pub position : ℕ
   pub target : ℕ

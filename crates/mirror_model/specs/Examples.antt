@@ -1,4 +1,5 @@
--- Small trees, worked out under the test digest: the first byte is a sum modulo 256, and 31 zeros follow.
+-- Small trees, worked out under the test digest: the first byte is a sum modulo 256, and 31 zeros
+-- follow.
 use Rattle.std.specs.FinSet as set
 use Rattle.std.specs.Prelude.{length, ◌≡◌, ℕ, List, [], ◌∷◌, ◌++◌, take, replicate}
 use Rattle.tlog_hash.specs.Tree.{mth, strings}
@@ -27,9 +28,14 @@ pub record IsThree : Type 0 where
   pub root : mth sum_digest three ≡ sum_hash 18
   pub prefix_root : mth sum_digest (take 2 three) ≡ sum_hash 1
   pub rows : edge_rows sum_digest three ≡ (sum_hash 0 ∷ sum_hash 0 ∷ sum_hash 16 ∷ []) ∷ []
-  pub edge_root_is : edge_root sum_digest ((sum_hash 0 ∷ sum_hash 0 ∷ sum_hash 16 ∷ []) ∷ []) ≡ sum_hash 18
-  pub edge_strings_are : edge_strings sum_digest ((sum_hash 0 ∷ sum_hash 0 ∷ sum_hash 16 ∷ []) ∷ []) ≡ (1 ∷ sum_hash 0 ++ sum_hash 0) ∷ (1 ∷ sum_hash 1 ++ sum_hash 16) ∷ []
-  pub strings_are : strings sum_digest three ≡ (0 ∷ []) ∷ (0 ∷ 0 ∷ []) ∷ (0 ∷ 16 ∷ []) ∷ (1 ∷ sum_hash 0 ++ sum_hash 0) ∷ (1 ∷ sum_hash 1 ++ sum_hash 16) ∷ []
+  pub edge_root_is :
+      edge_root sum_digest ((sum_hash 0 ∷ sum_hash 0 ∷ sum_hash 16 ∷ []) ∷ []) ≡ sum_hash 18
+  pub edge_strings_are :
+      edge_strings sum_digest ((sum_hash 0 ∷ sum_hash 0 ∷ sum_hash 16 ∷ []) ∷ [])
+      ≡ (1 ∷ sum_hash 0 ++ sum_hash 0) ∷ (1 ∷ sum_hash 1 ++ sum_hash 16) ∷ []
+  pub strings_are :
+      strings sum_digest three ≡ (0 ∷ []) ∷ (0 ∷ 0 ∷ []) ∷ (0 ∷ 16 ∷ [])
+      ∷ (1 ∷ sum_hash 0 ++ sum_hash 0) ∷ (1 ∷ sum_hash 1 ++ sum_hash 16) ∷ []
 
 -- the edges of some sizes
 pub record HasEdges : Type 0 where
@@ -40,15 +46,19 @@ pub record HasEdges : Type 0 where
   pub three_levels : edge_widths 65793 ≡ 1 ∷ 1 ∷ 1 ∷ []
   pub gap : edge_levels 65537 ≡ 0 ∷ 2 ∷ []
 
--- no rows give the hash of no bytes, and a row with the value of the row below behind it is folded with it
+-- no rows give the hash of no bytes, and a row with the value of the row below behind it is folded
+-- with it
 pub record HasRoots : Type 0 where
   pub none : edge_root sum_digest [] ≡ sum_hash 0
   pub one : edge_root sum_digest ((sum_hash 5 ∷ []) ∷ []) ≡ sum_hash 5
   pub two : edge_root sum_digest ((sum_hash 5 ∷ []) ∷ (sum_hash 7 ∷ []) ∷ []) ≡ sum_hash 13
   pub bare : edge_strings sum_digest ((sum_hash 5 ∷ []) ∷ []) ≡ []
-  pub joined : edge_strings sum_digest ((sum_hash 5 ∷ []) ∷ (sum_hash 7 ∷ []) ∷ []) ≡ (1 ∷ sum_hash 7 ++ sum_hash 5) ∷ []
+  pub joined :
+      edge_strings sum_digest ((sum_hash 5 ∷ []) ∷ (sum_hash 7 ∷ []) ∷ [])
+      ≡ (1 ∷ sum_hash 7 ++ sum_hash 5) ∷ []
 
--- two lists that the test digest does not tell apart at three entries, and of which neither is a prefix of the other
+-- two lists that the test digest does not tell apart at three entries, and of which neither is a
+-- prefix of the other
 abbrev pub small_list : List (List ℕ)
 small_list = (1 ∷ []) ∷ (2 ∷ []) ∷ (57 ∷ []) ∷ []
 
@@ -67,8 +77,8 @@ pub record HasParts : Type 0 where
   pub row : row_of [] ≡ []
   pub bundle : entries_of 2 (0 ∷ 0 ∷ 0 ∷ 1 ∷ 0 ∷ []) ≡ take 2 three
 
--- an item that is taken at a mirror reaches another over two merges that follow in this order, and over the same
--- two in the other order it does not
+-- an item that is taken at a mirror reaches another over two merges that follow in this order, and
+-- over the same two in the other order it does not
 abbrev pub some_item : Item
 some_item = item.Tile 1 []
 
@@ -82,8 +92,8 @@ pub record IsFrontOfThree : Type 0 where
   pub bundle : IsFront sum_digest set.empty three (Entries 0 3)
   pub alone : (path : Path) → IsFront sum_digest set.empty three path → path ≡ Entries 0 3
 
--- with nothing held the front of 300 entries has a tile that their tree does not have in full: so an edge is taken
--- first
+-- with nothing held the front of 300 entries has a tile that their tree does not have in full: so
+-- an edge is taken first
 abbrev pub HasTileOutside : Type 0
 HasTileOutside =
     (digest : List ℕ → List ℕ) (entries : List (List ℕ)) → length entries ≡ 300 →

@@ -27,10 +27,11 @@ FullTilesBegin =
     IsDigest digest →
     (entries : List (List ℕ)) (level index width : ℕ) →
     width ≤ 256 →
-    take (32 * width) (tile_bytes digest entries level index 256) ≡ tile_bytes digest entries level index width
+    take (32 * width) (tile_bytes digest entries level index 256)
+    ≡ tile_bytes digest entries level index width
 
--- what the last, partial bundle of the first entries gives is given by the full bundle of all entries, or by the
--- edge of the first
+-- what the last, partial bundle of the first entries gives is given by the full bundle of all
+-- entries, or by the edge of the first
 abbrev pub FullBundlesServe : Type 0
 FullBundlesServe =
     (digest : List ℕ → List ℕ) (entries : List (List ℕ)) (size index width : ℕ) →
@@ -41,7 +42,8 @@ FullBundlesServe =
     256 * index + 256 ≤ length entries →
     (y : List ℕ) →
     Contains (true_strings digest (take size entries) (Entries index width)) y →
-    Contains (true_strings digest entries (Entries index 256)) y ⊎ Contains (edge_strings digest (edge_rows digest (take size entries))) y
+    Contains (true_strings digest entries (Entries index 256)) y
+    ⊎ Contains (edge_strings digest (edge_rows digest (take size entries))) y
 
 -- a path whose true bytes' strings are held is in no front
 abbrev pub AnsweredIsNotAgain : Type 0
@@ -65,7 +67,8 @@ MissingIsFrontList =
     ListsMissing digest v (length entries) (mth digest entries) paths →
     ListsFront digest v entries paths
 
--- a path that is missing of a head of a lawful view is within the size, and is the widest of its place
+-- a path that is missing of a head of a lawful view is within the size, and is the widest of its
+-- place
 abbrev pub MissingIsWithin : Type 0
 MissingIsWithin =
     (digest : List ℕ → List ℕ) →
@@ -80,10 +83,13 @@ MissingIsWithin =
 
 -- what a view holds with an item: the strings and the notes of the one and of the other
 pub record IsPlus (digest : List ℕ → List ℕ) (v : View) (item : Item) (y : List ℕ) : Type 0 where
-  pub string : Has (plus digest v item).strings y → Has v.strings y ⊎ Contains (strings_of digest item) y
-  pub string_held : Has v.strings y ⊎ Contains (strings_of digest item) y → Has (plus digest v item).strings y
+  pub string :
+      Has (plus digest v item).strings y → Has v.strings y ⊎ Contains (strings_of digest item) y
+  pub string_held :
+      Has v.strings y ⊎ Contains (strings_of digest item) y → Has (plus digest v item).strings y
   pub note : Has (plus digest v item).notes y → Has v.notes y ⊎ Contains (notes_of item) y
   pub note_held : Has v.notes y ⊎ Contains (notes_of item) y → Has (plus digest v item).notes y
 
 abbrev pub PlusHolds : Type 0
-PlusHolds = (digest : List ℕ → List ℕ) (v : View) (item : Item) (y : List ℕ) → IsPlus digest v item y
+PlusHolds =
+    (digest : List ℕ → List ℕ) (v : View) (item : Item) (y : List ℕ) → IsPlus digest v item y

@@ -7,13 +7,17 @@ use Rattle.mirror_model.specs.Forks.{Point, IsPrefix, IsFork}
 
 -- a fork stays
 abbrev pub ForksStay : Type 0
-ForksStay = (digest : List ℕ → List ℕ) (v w : View) → IsSubview v w → (a b : Point) → IsFork digest v a b → IsFork digest w a b
+ForksStay =
+    (digest : List ℕ → List ℕ) (v w : View) → IsSubview v w → (a b : Point) → IsFork digest v a b →
+    IsFork digest w a b
 
 -- either way round it is the same fork
 abbrev pub ForkIsUnordered : Type 0
-ForkIsUnordered = (digest : List ℕ → List ℕ) (v : View) (a b : Point) → IsFork digest v a b → IsFork digest v b a
+ForkIsUnordered =
+    (digest : List ℕ → List ℕ) (v : View) (a b : Point) → IsFork digest v a b → IsFork digest v b a
 
--- of two complete heads that differ a fork is made exactly where neither list is a prefix of the other
+-- of two complete heads that differ a fork is made exactly where neither list is a prefix of the
+-- other
 abbrev pub ForkMeansNoPrefix : Type 0
 ForkMeansNoPrefix =
     (digest : List ℕ → List ℕ) → IsDigest digest → (v : View) → IsLawful digest v →

@@ -1,6 +1,7 @@
--- What is fetched next for a tree of which a part is held: the front (C2SP tlog-tiles, "Merkle Tree" and "Log
--- Entries").
-use Rattle.std.specs.Prelude.{◌≡◌, ◌⊎◌, ℕ, ◌+◌, ◌-◌, ◌*◌, ◌/◌, ◌≤◌, ◌<◌, List, ◌∷◌, ◌++◌, length, min}
+-- What is fetched next for a tree of which a part is held: the front (C2SP tlog-tiles, "Merkle
+-- Tree" and "Log Entries").
+use Rattle.std.specs.Prelude.{◌≡◌, ◌⊎◌, ℕ, ◌+◌, ◌-◌, ◌*◌, ◌/◌, ◌≤◌, ◌<◌, List, ◌∷◌, ◌++◌, length}
+use Rattle.std.specs.Prelude.{min}
 use Rattle.std.specs.Ordering.{nat_cmp, ordering_then}
 use Rattle.std.specs.declared.cmp.Ordering.{Ordering}
 use Rattle.std.specs.declared.cmp.Ordering.TheVariants.{Less, Equal, Greater}
@@ -13,7 +14,8 @@ use Rattle.tlog_hash.specs.Nodes.{Node, IsThis, entries_root}
 
 -- tiles by falling level and rising index, then bundles by rising index
 abbrev pub path_cmp : Path → Path → Ordering
-path_cmp (Tile level index width) (Tile l i w) = ordering_then (nat_cmp l level) (ordering_then (nat_cmp index i) (nat_cmp width w))
+path_cmp (Tile level index width) (Tile l i w) =
+    ordering_then (nat_cmp l level) (ordering_then (nat_cmp index i) (nat_cmp width w))
 path_cmp (Tile level index width) (Entries i w) = Less
 path_cmp (Tile level index width) Checkpoint = Less
 path_cmp (Entries index width) (Tile l i w) = Greater
@@ -35,8 +37,8 @@ pub record IsNodeBundle (size start len index width : ℕ) : Type 0 where
   pub index_is : index ≡ start / 256
   pub width_is : width ≡ min 256 (size - 256 * index)
 
--- the path under which the strings of a node are fetched, in a tree of that size: of the node of as many entries as
--- len, from start on
+-- the path under which the strings of a node are fetched, in a tree of that size: of the node of as
+-- many entries as len, from start on
 abbrev pub IsPathOf : ℕ → ℕ → ℕ → Path → Type 0
 IsPathOf size start len Checkpoint = ⊥
 IsPathOf size start len (Tile level index width) = IsNodeTile start len level index width
@@ -53,8 +55,10 @@ module _ (digest : List ℕ → List ℕ) (held : Strings) where
   InFront Empty start x = ⊥
   InFront (One e) start x = IsUnheldThis held start 1 (0 ∷ e) x
   InFront (Join l r) start x =
-      IsUnheldThis held start (size_of l + size_of r) (1 ∷ entries_root digest l ++ entries_root digest r) x
-      ⊎ (Has held (1 ∷ entries_root digest l ++ entries_root digest r) × (InFront l start x ⊎ InFront r (start + size_of l) x))
+      IsUnheldThis held start (size_of l + size_of r)
+      (1 ∷ entries_root digest l ++ entries_root digest r) x
+      ⊎ (Has held (1 ∷ entries_root digest l ++ entries_root digest r)
+      × (InFront l start x ⊎ InFront r (start + size_of l) x))
 
   -- Front(V, E) has the path: it is that of such a node of the tree of E
   pub record IsFront (entries : List (List ℕ)) (path : Path) : Type 0 where

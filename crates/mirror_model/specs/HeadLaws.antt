@@ -3,7 +3,8 @@ use Rattle.std.specs.Prelude.{◌≡◌, ℕ, List}
 use Rattle.mirror_model.specs.Heads.{IsHead}
 
 -- the same origin, size and root
-pub record IsSameHead (origin origin' : List ℕ) (size size' : ℕ) (root root' : List ℕ) : Type 0 where
+pub record IsSameHead (origin origin' : List ℕ) (size size' : ℕ) (root root' : List ℕ)
+    : Type 0 where
   pub origin_is : origin ≡ origin'
   pub size_is : size ≡ size'
   pub root_is : root ≡ root'

@@ -33,8 +33,8 @@ events_in (play ∷ plays) = play.events ++ events_in plays
 abbrev pub NoneClashed : List Play → Type 0
 NoneClashed plays = (play : Play) → Contains plays play → Contains play.answers Clashed → ⊥
 
--- plays of any number of mirrors, each from the views that the one before left; in each, an event for which memory
--- was refused is followed by the same event, before any other
+-- plays of any number of mirrors, each from the views that the one before left; in each, an event
+-- for which memory was refused is followed by the same event, before any other
 abbrev pub Plays : (List ℕ → List ℕ) → List Key → List View → List Play → List View → Type 0
 Plays digest keys old [] new = new ≡ old
 Plays digest keys old (play ∷ plays) new =
@@ -51,11 +51,13 @@ module _ (digest : List ℕ → List ℕ) (origin : List ℕ) (keys : List Key) 
     pub played : Plays digest keys opened plays final
     pub is : slice_get final mirror ≡ Some v
 
-  -- the good items that reach the one mirror in the one run, and each string and note of the opening views that
-  -- reach it, reach the other mirror in the other run
-  pub record ReachesToo (opened opened' : List View) (events events' : List Event) (mirror mirror' : ℕ) : Type 0 where
+  -- the good items that reach the one mirror in the one run, and each string and note of the
+  -- opening views that reach it, reach the other mirror in the other run
+  pub record ReachesToo (opened opened' : List View) (events events' : List Event)
+      (mirror mirror' : ℕ) : Type 0 where
     pub items :
-        (item : Item) → IsGood digest origin keys item → Reaches item mirror events → Reaches item mirror' events'
+        (item : Item) → IsGood digest origin keys item → Reaches item mirror events →
+        Reaches item mirror' events'
     pub strings :
         (string : List ℕ) → OpensWith opened (λ v. v.strings) events mirror string →
         OpensWith opened' (λ v. v.strings) events' mirror' string
@@ -64,11 +66,13 @@ module _ (digest : List ℕ → List ℕ) (origin : List ℕ) (keys : List Key) 
         OpensWith opened' (λ v. v.notes) events' mirror' note
 
   -- the same good items, and the same strings and notes of opening views, reach both
-  pub record ReachedAlike (opened opened' : List View) (events events' : List Event) (mirror mirror' : ℕ) : Type 0 where
+  pub record ReachedAlike (opened opened' : List View) (events events' : List Event)
+      (mirror mirror' : ℕ) : Type 0 where
     pub there : ReachesToo opened opened' events events' mirror mirror'
     pub back : ReachesToo opened' opened events' events mirror' mirror
 
-  -- where nothing clashed a mirror's view is the union of the opening views and of the good items that reach it
+  -- where nothing clashed a mirror's view is the union of the opening views and of the good items
+  -- that reach it
   abbrev pub PlaysBring : Type 0
   PlaysBring =
       (opened : List View) (plays : List Play) (mirror : ℕ) (v : View) →
@@ -76,7 +80,8 @@ module _ (digest : List ℕ → List ℕ) (origin : List ℕ) (keys : List Key) 
       NoneClashed plays →
       IsReached digest origin keys opened (events_in plays) mirror v
 
-  -- so mirrors that the same items have reached, in any order, with repeats and through any merges, hold equal views
+  -- so mirrors that the same items have reached, in any order, with repeats and through any merges,
+  -- hold equal views
   abbrev pub SameReachedSameView : Type 0
   SameReachedSameView =
       (opened opened' : List View) (plays plays' : List Play) (mirror mirror' : ℕ) (v w : View) →
@@ -95,8 +100,9 @@ module _ (digest : List ℕ → List ℕ) (origin : List ℕ) (keys : List Key) 
       Leaves opened plays mirror v →
       NoneClashed plays
 
-  -- The headline: while no two different byte strings met share a digest, mirrors that the same good items, and the
-  -- same strings and notes of opening views, have reached hold equal views, whatever the plays.
+  -- The headline: while no two different byte strings met share a digest, mirrors that the same
+  -- good items, and the same strings and notes of opening views, have reached hold equal views,
+  -- whatever the plays.
   abbrev pub MirrorsAgree : Type 0
   MirrorsAgree =
       (opened opened' : List View) (plays plays' : List Play) (mirror mirror' : ℕ) (v w : View) →
@@ -109,8 +115,9 @@ module _ (digest : List ℕ → List ℕ) (origin : List ℕ) (keys : List Key) 
 
 -- ---- what they tell
 
--- the checkpoint served is of the length and the tree hash of exactly the entries served; and two complete heads that
--- differ are a fork exactly where neither list of entries is a prefix of the other
+-- the checkpoint served is of the length and the tree hash of exactly the entries served; and two
+-- complete heads that differ are a fork exactly where neither list of entries is a prefix of the
+-- other
 pub record IsTruthful (digest : List ℕ → List ℕ) (v : View) : Type 0 where
   pub served :
       (note : List ℕ) (size : ℕ) (root : List ℕ) (entries : List (List ℕ)) →
@@ -135,7 +142,8 @@ PlaysTellTruth =
     slice_get final mirror ≡ Some v →
     IsTruthful digest v
 
--- what was complete is complete with the same entries, and with no others; a fork that was reported is reported
+-- what was complete is complete with the same entries, and with no others; a fork that was reported
+-- is reported
 pub record HasGrown (digest : List ℕ → List ℕ) (before after : View) : Type 0 where
   pub stays :
       (size : ℕ) (root : List ℕ) (entries : List (List ℕ)) →
@@ -175,7 +183,9 @@ placed place (Merge target source) = Merge (place target) (place source)
 -- what a run of the part leaves the whole: the part's views, and the others as they were
 pub record LeavesRest (place : ℕ → ℕ) (part whole new : List View) : Type 0 where
   pub stands : StandsIn place part new
-  pub rest : (number : ℕ) → ((i : ℕ) → number ≡ place i → ⊥) → slice_get new number ≡ slice_get whole number
+  pub rest :
+      (number : ℕ) → ((i : ℕ) → number ≡ place i → ⊥) →
+      slice_get new number ≡ slice_get whole number
 
 -- so a play of some mirrors is one of all of them: the plays above may each be of others
 abbrev pub PartIsPlayed : Type 0

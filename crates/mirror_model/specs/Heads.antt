@@ -15,7 +15,8 @@ pub record IsHead (note origin : List ℕ) (size : ℕ) (root : List ℕ) : Type
   pub is_checkpoint : IsCheckpoint text origin size root extensions
 
 -- so it is, and the note opens under the keys
-pub record IsOpenHead (note origin : List ℕ) (keys : List Key) (size : ℕ) (root : List ℕ) : Type 0 where
+pub record IsOpenHead (note origin : List ℕ) (keys : List Key) (size : ℕ) (root : List ℕ)
+    : Type 0 where
   pub text : List ℕ
   pub lines : List Line
   pub extensions : List (List ℕ)

@@ -1,6 +1,7 @@
--- Items: when they are good, and what they add to a view (C2SP tlog-tiles, "Merkle Tree", "Log Entries" and
--- "Checkpoints"). The bytes of an item stand in it as they came.
-use Rattle.std.specs.Prelude.{◌≡◌, ℕ, zero, suc, ◌*◌, ◌/◌, ◌≤◌, List, [], ◌∷◌, length, take, drop, map}
+-- Items: when they are good, and what they add to a view (C2SP tlog-tiles, "Merkle Tree", "Log
+-- Entries" and "Checkpoints"). The bytes of an item stand in it as they came.
+use Rattle.std.specs.Prelude.{◌≡◌, ℕ, zero, suc, ◌*◌, ◌/◌, ◌≤◌, List, [], ◌∷◌, length, take, drop}
+use Rattle.std.specs.Prelude.{map}
 use Rattle.std.specs.Int.{w16, from_be_bytes}
 use Rattle.std.specs.FinSet as set
 use Rattle.tlog_hash.specs.Tree.{joins, strings}
@@ -17,13 +18,15 @@ use Rattle.mirror_model.specs.Heads.{IsOpenHead}
 abbrev pub row_of : List ℕ → List (List ℕ)
 row_of bytes = ranges 32 0 (length bytes / 32) bytes
 
--- the entries of bytes that are a bundle of that width: each after its length, two bytes of it, big-endian
+-- the entries of bytes that are a bundle of that width: each after its length, two bytes of it,
+-- big-endian
 abbrev pub entries_of : ℕ → List ℕ → List (List ℕ)
 entries_of zero bytes = []
 entries_of (suc width) [] = []
 entries_of (suc width) (high ∷ []) = []
 entries_of (suc width) (high ∷ low ∷ rest) =
-    let len = from_be_bytes w16 (high ∷ low ∷ []) in take len rest ∷ entries_of width (drop len rest)
+    let len =
+    from_be_bytes w16 (high ∷ low ∷ []) in take len rest ∷ entries_of width (drop len rest)
 
 -- the widths of tiles and bundles
 pub record IsWidth (width : ℕ) : Type 0 where
@@ -54,7 +57,8 @@ module _ (digest : List ℕ → List ℕ) where
     pub root_is : edge_root digest (map row_of rows) ≡ root
 
   -- a head is good: it opens, and the edge rows lead to its root
-  pub record IsGoodHead (origin : List ℕ) (keys : List Key) (note : List ℕ) (rows : List (List ℕ)) : Type 0 where
+  pub record IsGoodHead (origin : List ℕ) (keys : List Key) (note : List ℕ)
+      (rows : List (List ℕ)) : Type 0 where
     pub size : ℕ
     pub root : List ℕ
     pub is_head : IsOpenHead note origin keys size root
@@ -74,4 +78,9 @@ module _ (digest : List ℕ → List ℕ) where
 
   -- V + item
   abbrev pub plus : View → Item → View
-  plus v item = record { origin = v.origin; notes = set.union v.notes (set.from_list (notes_of item)); strings = set.union v.strings (set.from_list (strings_of item)) }
+  plus v item =
+      record {
+        origin = v.origin;
+        notes = set.union v.notes (set.from_list (notes_of item));
+        strings = set.union v.strings (set.from_list (strings_of item));
+      }

@@ -6,10 +6,12 @@ use Rattle.mirror_model.specs.Item.{row_of, entries_of}
 
 -- the hashes of bytes that are a row are the row
 abbrev pub RowOfIsRow : Type 0
-RowOfIsRow = (width : ℕ) (bytes : List ℕ) → length bytes ≡ 32 * width → IsRow width bytes (row_of bytes)
+RowOfIsRow =
+    (width : ℕ) (bytes : List ℕ) → length bytes ≡ 32 * width → IsRow width bytes (row_of bytes)
 
 abbrev pub RowIsRowOf : Type 0
-RowIsRowOf = (width : ℕ) (bytes : List ℕ) (row : List (List ℕ)) → IsRow width bytes row → row ≡ row_of bytes
+RowIsRowOf =
+    (width : ℕ) (bytes : List ℕ) (row : List (List ℕ)) → IsRow width bytes row → row ≡ row_of bytes
 
 -- the entries of bytes that are a bundle are the bundle's
 abbrev pub BundleIsEntriesOf : Type 0

@@ -14,20 +14,24 @@ use Rattle.mirror_model.specs.Complete.{HasEdgeOf, IsLawful}
 abbrev pub NothingIsLawful : Type 0
 NothingIsLawful = (digest : List ℕ → List ℕ) (origin : List ℕ) → IsLawful digest (nothing origin)
 
--- a good item, or a lawful view of the same origin, leaves a lawful view lawful where nothing clashes
+-- a good item, or a lawful view of the same origin, leaves a lawful view lawful where nothing
+-- clashes
 abbrev pub PlusIsLawful : Type 0
 PlusIsLawful =
-    (digest : List ℕ → List ℕ) → IsDigest digest → (keys : List Key) (v : View) (item : Item) → IsLawful digest v →
+    (digest : List ℕ → List ℕ) → IsDigest digest → (keys : List Key) (v : View) (item : Item) →
+    IsLawful digest v →
     IsGood digest v.origin keys item → NoClash digest (plus digest v item).strings →
     IsLawful digest (plus digest v item)
 
 abbrev pub UnionIsLawful : Type 0
 UnionIsLawful =
-    (digest : List ℕ → List ℕ) (v w : View) → IsLawful digest v → IsLawful digest w → v.origin ≡ w.origin →
+    (digest : List ℕ → List ℕ) (v w : View) → IsLawful digest v → IsLawful digest w →
+    v.origin ≡ w.origin →
     NoClash digest (set.union v.strings w.strings) → IsLawful digest (union v w)
 
 -- the edge of each head of a lawful view is held
 abbrev pub HeadsHaveEdges : Type 0
 HeadsHaveEdges =
-    (digest : List ℕ → List ℕ) (v : View) → IsLawful digest v → (size : ℕ) (root : List ℕ) → HasHead v size root →
+    (digest : List ℕ → List ℕ) (v : View) → IsLawful digest v → (size : ℕ) (root : List ℕ) →
+    HasHead v size root →
     HasEdgeOf digest v size root

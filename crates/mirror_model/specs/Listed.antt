@@ -39,9 +39,11 @@ module _ (digest : List ℕ → List ℕ) where
     pub sorted : IsStrictlySortedBy pair_cmp pairs
     pub exact :
         (pair : PointPair) →
-        Contains pairs pair ↔ (IsFork digest v pair.small pair.large × (point_cmp pair.small pair.large ≡ Less))
+        Contains pairs pair
+        ↔ (IsFork digest v pair.small pair.large × (point_cmp pair.small pair.large ≡ Less))
 
-  -- what is missing of a head, tiles by falling level and rising index, then bundles by rising index
+  -- what is missing of a head, tiles by falling level and rising index, then bundles by rising
+  -- index
   pub record ListsMissing (v : View) (size : ℕ) (root : List ℕ) (paths : List Path) : Type 0 where
     pub sorted : IsStrictlySortedBy path_cmp paths
     pub exact : (path : Path) → Contains paths path ↔ IsMissing digest v.strings size root path
@@ -53,14 +55,19 @@ module _ (digest : List ℕ → List ℕ) where
 
 -- such a list is the only one
 abbrev pub NotesAreListedOnce : Type 0
-NotesAreListedOnce = (v : View) (first second : List (List ℕ)) → ListsNotes v first → ListsNotes v second → first ≡ second
+NotesAreListedOnce =
+    (v : View) (first second : List (List ℕ)) → ListsNotes v first → ListsNotes v second →
+    first ≡ second
 
 abbrev pub HeadsAreListedOnce : Type 0
-HeadsAreListedOnce = (v : View) (first second : List Point) → ListsHeads v first → ListsHeads v second → first ≡ second
+HeadsAreListedOnce =
+    (v : View) (first second : List Point) → ListsHeads v first → ListsHeads v second →
+    first ≡ second
 
 abbrev pub ForksAreListedOnce : Type 0
 ForksAreListedOnce =
-    (digest : List ℕ → List ℕ) (v : View) (first second : List PointPair) → ListsForks digest v first →
+    (digest : List ℕ → List ℕ) (v : View) (first second : List PointPair) →
+    ListsForks digest v first →
     ListsForks digest v second → first ≡ second
 
 abbrev pub MissingIsListedOnce : Type 0

@@ -11,8 +11,8 @@ use Rattle.mirror_model.specs.View.{View, view_code}
 use Rattle.mirror_model.specs.Complete.{Complete, IsLawful}
 use Rattle.mirror_model.specs.Forks.{Point, point_cmp}
 
--- Marks(V): the number of entries and the tree hash of each slice that the recursion of MTH (RFC 6962, section
--- 2.1) meets on the list of a complete head, the whole list among them
+-- Marks(V): the number of entries and the tree hash of each slice that the recursion of MTH (RFC
+-- 6962, section 2.1) meets on the list of a complete head, the whole list among them
 pub record IsMark (digest : List ℕ → List ℕ) (v : View) (point : Point) : Type 0 where
   pub size : ℕ
   pub root : List ℕ
@@ -28,7 +28,9 @@ abbrev pub Points : Type 0
 Points = FinSet point_cmp
 
 abbrev pub point_code : Coded Point
-point_code = code_by (ℕ × List ℕ) (coded× coded_ℕ (coded_list coded_ℕ)) (λ p. (p.size, p.root)) (λ p. record { size = p.0; root = p.1 }) (λ _. refl)
+point_code =
+    code_by (ℕ × List ℕ) (coded× coded_ℕ (coded_list coded_ℕ)) (λ p. (p.size, p.root))
+    (λ p. record { size = p.0; root = p.1 }) (λ _. refl)
 
 -- a mirror: its view, and what it remembers, which changes no answer
 pub record State : Type 0 where
@@ -36,10 +38,13 @@ pub record State : Type 0 where
   pub remembered : Points
 
 abbrev pub state_code : Coded State
-state_code = code_by (View × Points) (coded× view_code (set.code point_code)) (λ s. (s.view, s.remembered)) (λ p. record { view = p.0; remembered = p.1 }) (λ _. refl)
+state_code =
+    code_by (View × Points) (coded× view_code (set.code point_code)) (λ s. (s.view, s.remembered))
+    (λ p. record { view = p.0; remembered = p.1 }) (λ _. refl)
 
 -- the view is lawful and of an origin that a log may have, and only marks of it are remembered
 pub record IsSound (digest : List ℕ → List ℕ) (state : State) : Type 0 where
   pub origin : IsOrigin state.view.origin
   pub lawful : IsLawful digest state.view
-  pub marks : (point : Point) → IsTrue (contains state.remembered point) → IsMark digest state.view point
+  pub marks :
+      (point : Point) → IsTrue (contains state.remembered point) → IsMark digest state.view point

@@ -5,16 +5,18 @@ use Rattle.mirror_model.specs.declared.events.Event.{Event}
 use Rattle.mirror_model.specs.declared.events.Event.TheVariants.{Take, Merge}
 use Rattle.mirror_model.specs.Events.{Reaches, OpeningReaches}
 
--- By the last event of a list: a take at a mirror adds its item to what reaches it, a merge into a mirror adds
--- what reached its source, and nothing else changes.
+-- By the last event of a list: a take at a mirror adds its item to what reaches it, a merge into a
+-- mirror adds what reached its source, and nothing else changes.
 pub record ReachesByLast (events : List Event) : Type 0 where
   pub none : (item : Item) (mirror : ℕ) → Reaches item mirror [] → ⊥
   pub take :
       (target : ℕ) (taken item : Item) (mirror : ℕ) →
-      Reaches item mirror (events ++ Take target taken ∷ []) ↔ (Reaches item mirror events ⊎ ((mirror ≡ target) × (item ≡ taken)))
+      Reaches item mirror (events ++ Take target taken ∷ [])
+      ↔ (Reaches item mirror events ⊎ ((mirror ≡ target) × (item ≡ taken)))
   pub merge :
       (target source : ℕ) (item : Item) (mirror : ℕ) →
-      Reaches item mirror (events ++ Merge target source ∷ []) ↔ (Reaches item mirror events ⊎ ((mirror ≡ target) × Reaches item source events))
+      Reaches item mirror (events ++ Merge target source ∷ [])
+      ↔ (Reaches item mirror events ⊎ ((mirror ≡ target) × Reaches item source events))
 
 abbrev pub ReachesGoByLast : Type 0
 ReachesGoByLast = (events : List Event) → ReachesByLast events
@@ -24,10 +26,13 @@ pub record OpeningReachesByLast (events : List Event) : Type 0 where
   pub none : (opened mirror : ℕ) → OpeningReaches opened mirror [] ↔ (opened ≡ mirror)
   pub take :
       (target : ℕ) (taken : Item) (opened mirror : ℕ) →
-      OpeningReaches opened mirror (events ++ Take target taken ∷ []) ↔ OpeningReaches opened mirror events
+      OpeningReaches opened mirror (events ++ Take target taken ∷ [])
+      ↔ OpeningReaches opened mirror events
   pub merge :
       (target source : ℕ) (opened mirror : ℕ) →
-      OpeningReaches opened mirror (events ++ Merge target source ∷ []) ↔ (OpeningReaches opened mirror events ⊎ ((mirror ≡ target) × OpeningReaches opened source events))
+      OpeningReaches opened mirror (events ++ Merge target source ∷ [])
+      ↔ (OpeningReaches opened mirror events
+      ⊎ ((mirror ≡ target) × OpeningReaches opened source events))
 
 abbrev pub OpeningReachesGoByLast : Type 0
 OpeningReachesGoByLast = (events : List Event) → OpeningReachesByLast events

@@ -11,7 +11,8 @@ use Rattle.mirror_model.specs.Events.{Reaches, OpeningReaches}
 use Rattle.mirror_model.specs.Steps.{Answer, Done, Refused, Clashed, Exhausted}
 
 -- the string is one of an opening view that reaches the mirror
-pub record OpensWith (opened : List View) (part : View → Strings) (events : List Event) (mirror : ℕ) (string : List ℕ) : Type 0 where
+pub record OpensWith (opened : List View) (part : View → Strings) (events : List Event)
+    (mirror : ℕ) (string : List ℕ) : Type 0 where
   pub number : ℕ
   pub view : View
   pub is : slice_get opened number ≡ Some view
@@ -20,7 +21,8 @@ pub record OpensWith (opened : List View) (part : View → Strings) (events : Li
 
 module _ (digest : List ℕ → List ℕ) (origin : List ℕ) (keys : List Key) where
   -- the string is one of a good item that reaches the mirror
-  pub record TakesIn (part : Item → List (List ℕ)) (events : List Event) (mirror : ℕ) (string : List ℕ) : Type 0 where
+  pub record TakesIn (part : Item → List (List ℕ)) (events : List Event) (mirror : ℕ)
+      (string : List ℕ) : Type 0 where
     pub item : Item
     pub good : IsGood digest origin keys item
     pub reaches : Reaches item mirror events
@@ -35,7 +37,8 @@ module _ (digest : List ℕ → List ℕ) (origin : List ℕ) (keys : List Key) 
 
   abbrev pub NoteReaches : List Event → ℕ → List ℕ → Type 0
   NoteReaches events mirror note =
-      OpensWith opened (λ v. v.notes) events mirror note ⊎ TakesIn digest origin keys notes_of events mirror note
+      OpensWith opened (λ v. v.notes) events mirror note
+      ⊎ TakesIn digest origin keys notes_of events mirror note
 
   -- the view has all that the events bring to the mirror
   pub record HasReached (events : List Event) (mirror : ℕ) (v : View) : Type 0 where
@@ -51,7 +54,8 @@ module _ (digest : List ℕ → List ℕ) (origin : List ℕ) (keys : List Key) 
 abbrev pub events_of : (Answer → Bool) → List Event → List Answer → List Event
 events_of wanted [] answers = []
 events_of wanted (event ∷ events) [] = []
-events_of wanted (event ∷ events) (answer ∷ answers) = cond (wanted answer) (event ∷ events_of wanted events answers) (events_of wanted events answers)
+events_of wanted (event ∷ events) (answer ∷ answers) =
+    cond (wanted answer) (event ∷ events_of wanted events answers) (events_of wanted events answers)
 
 abbrev pub is_done : Answer → Bool
 is_done Done = true

@@ -6,38 +6,47 @@ use Rattle.mirror_model.specs.Heads.{IsOpenHead}
 use Rattle.mirror_model.specs.Item.{IsGoodTile, IsGoodBundle, IsGoodHead}
 use Rattle.mirror_model.specs.Steps.{Refused}
 use Rattle.mirror_model.specs.Answered.{answer_of}
-use Rattle.mirror_model.specs.Refusals.{IsOpenCheckpoint, ReadsHead, JudgesHead, JudgesTile, JudgesBundle}
+use Rattle.mirror_model.specs.Refusals.{IsOpenCheckpoint, ReadsHead, JudgesHead, JudgesTile}
+use Rattle.mirror_model.specs.Refusals.{JudgesBundle}
 use Rattle.mirror_model.specs.declared.fault.TakeFault.{TakeFault}
 use Rattle.mirror_model.specs.declared.fault.TakeFault.TheVariants.{OutOfMemory}
 
--- where an item is refused it is not good; where it is answered otherwise, want of memory apart, it is; and two
--- refusals are one
+-- where an item is refused it is not good; where it is answered otherwise, want of memory apart, it
+-- is; and two refusals are one
 pub record JudgesOnce (Judges : Result (Unit {0}) TakeFault → Type 0) (Good : Type 0) : Type 0 where
   pub refused : (a : Result (Unit {0}) TakeFault) → Judges a → answer_of a ≡ Refused → Good → ⊥
-  pub taken : (a : Result (Unit {0}) TakeFault) → Judges a → answer_of a ≢ Refused → a ≢ Err OutOfMemory → Good
+  pub taken :
+      (a : Result (Unit {0}) TakeFault) → Judges a → answer_of a ≢ Refused → a ≢ Err OutOfMemory →
+      Good
   pub once :
-      (a b : Result (Unit {0}) TakeFault) → Judges a → Judges b → answer_of a ≡ Refused → answer_of b ≡ Refused →
+      (a b : Result (Unit {0}) TakeFault) → Judges a → Judges b → answer_of a ≡ Refused →
+      answer_of b ≡ Refused →
       a ≡ b
 
 abbrev pub TilesAreJudged : Type 0
-TilesAreJudged = (width : ℕ) (bytes : List ℕ) → JudgesOnce (JudgesTile width bytes) (IsGoodTile width bytes)
+TilesAreJudged =
+    (width : ℕ) (bytes : List ℕ) → JudgesOnce (JudgesTile width bytes) (IsGoodTile width bytes)
 
 abbrev pub BundlesAreJudged : Type 0
-BundlesAreJudged = (width : ℕ) (bytes : List ℕ) → JudgesOnce (JudgesBundle width bytes) (IsGoodBundle width bytes)
+BundlesAreJudged =
+    (width : ℕ) (bytes : List ℕ) → JudgesOnce (JudgesBundle width bytes) (IsGoodBundle width bytes)
 
 abbrev pub HeadsAreJudged : Type 0
 HeadsAreJudged =
-    (digest : List ℕ → List ℕ) (origin : List ℕ) (keys : List Key) (note : List ℕ) (rows : List (List ℕ)) →
+    (digest : List ℕ → List ℕ) (origin : List ℕ) (keys : List Key) (note : List ℕ)
+    (rows : List (List ℕ)) →
     JudgesOnce (JudgesHead digest origin keys note rows) (IsGoodHead digest origin keys note rows)
 
 -- a note has one answer as a head's, but for want of memory
 abbrev pub HeadNotesAreReadOnce : Type 0
 HeadNotesAreReadOnce =
-    (note origin : List ℕ) (keys : List Key) (a b : Result Checkpoint TakeFault) → ReadsHead note origin keys a →
+    (note origin : List ℕ) (keys : List Key) (a b : Result Checkpoint TakeFault) →
+    ReadsHead note origin keys a →
     ReadsHead note origin keys b → a ≢ Err OutOfMemory → b ≢ Err OutOfMemory → a ≡ b
 
 -- the checkpoint that is read is one of the head's size and root
-pub record IsOpenAs (note origin : List ℕ) (keys : List Key) (size : ℕ) (root : List ℕ) : Type 0 where
+pub record IsOpenAs (note origin : List ℕ) (keys : List Key) (size : ℕ) (root : List ℕ)
+    : Type 0 where
   pub checkpoint : Checkpoint
   pub is_open : IsOpenCheckpoint note origin keys checkpoint
   pub size_is : checkpoint.size ≡ size

@@ -1,6 +1,6 @@
--- What each answer of a call that takes an item says of the item: the first refusal that applies, in the order of
--- the faults. It names no state: a clash is found with what is held, and says that the item is good. An answer
--- other than want of memory is determined by the item.
+-- What each answer of a call that takes an item says of the item: the first refusal that applies,
+-- in the order of the faults. It names no state: a clash is found with what is held, and says that
+-- the item is good. An answer other than want of memory is determined by the item.
 use Rattle.std.specs.Prelude.{◌≡◌, ◌≢◌, ℕ, ◌*◌, List, length, map, Result, Ok, Err}
 use Rattle.signed_note.specs.Keys.{Key}
 use Rattle.signed_note.specs.Notes.{Line, IsNote, Opens}
@@ -9,7 +9,7 @@ use Rattle.signed_note.specs.declared.fault.NoteFault.{NoteFault}
 use Rattle.signed_note.specs.declared.fault.NoteFault.TheVariants as noting
 use Rattle.tlog_checkpoint.specs.declared.Checkpoint.{Checkpoint}
 use Rattle.tlog_checkpoint.specs.Grammar.{IsCheckpoint}
-use Rattle.tlog_checkpoint.specs.Reading.{Reads}
+use Rattle.tlog_checkpoint.specs.Reading.{ReadsCheckpoint}
 use Rattle.tlog_checkpoint.specs.declared.fault.CheckpointFault.{CheckpointFault}
 use Rattle.tlog_checkpoint.specs.declared.fault.CheckpointFault.TheVariants as reading
 use Rattle.tlog_tiles.specs.Bundle.{ReadsBundle}
@@ -20,12 +20,15 @@ use Rattle.mirror_model.specs.declared.fault.TakeFault.{TakeFault}
 use Rattle.mirror_model.specs.declared.fault.TakeFault.TheVariants as taking
 
 -- the bytes are a note whose text is that checkpoint, its extension lines with it
-pub record IsCheckpointNote (bytes : List ℕ) (checkpoint : Checkpoint) (text : List ℕ) (lines : List Line) : Type 0 where
+pub record IsCheckpointNote (bytes : List ℕ) (checkpoint : Checkpoint) (text : List ℕ)
+    (lines : List Line) : Type 0 where
   pub is_note : IsNote bytes text lines
-  pub is_checkpoint : IsCheckpoint text checkpoint.origin checkpoint.size checkpoint.root checkpoint.extensions
+  pub is_checkpoint :
+      IsCheckpoint text checkpoint.origin checkpoint.size checkpoint.root checkpoint.extensions
 
 -- the checkpoint is of that origin, and the note opens under the keys
-pub record IsOpenCheckpoint (bytes origin : List ℕ) (keys : List Key) (checkpoint : Checkpoint) : Type 0 where
+pub record IsOpenCheckpoint (bytes origin : List ℕ) (keys : List Key) (checkpoint : Checkpoint)
+    : Type 0 where
   pub text : List ℕ
   pub lines : List Line
   pub is : IsCheckpointNote bytes checkpoint text lines
@@ -42,7 +45,7 @@ pub record IsNoCheckpoint (bytes : List ℕ) (fault : CheckpointFault) : Type 0 
   pub text : List ℕ
   pub lines : List Line
   pub is_note : IsNote bytes text lines
-  pub refused : Reads text (Err fault)
+  pub refused : ReadsCheckpoint text (Err fault)
   pub has_memory : fault ≢ reading.OutOfMemory
 
 -- it is a checkpoint, of another origin
@@ -87,13 +90,15 @@ abbrev pub HasEdgeLengths : ℕ → List (List ℕ) → Type 0
 HasEdgeLengths size rows = map length rows ≡ map (λ width. 32 * width) (edge_widths size)
 
 -- the note part is good, and there are more rows or fewer than its size has partial tiles
-pub record HasOtherCount (bytes origin : List ℕ) (keys : List Key) (rows : List (List ℕ)) : Type 0 where
+pub record HasOtherCount (bytes origin : List ℕ) (keys : List Key) (rows : List (List ℕ))
+    : Type 0 where
   pub checkpoint : Checkpoint
   pub is_open : IsOpenCheckpoint bytes origin keys checkpoint
   pub differs : HasEdgeCount checkpoint.size rows → ⊥
 
 -- there are as many, and a row is longer or shorter than its tile
-pub record HasOtherLengths (bytes origin : List ℕ) (keys : List Key) (rows : List (List ℕ)) : Type 0 where
+pub record HasOtherLengths (bytes origin : List ℕ) (keys : List Key) (rows : List (List ℕ))
+    : Type 0 where
   pub checkpoint : Checkpoint
   pub is_open : IsOpenCheckpoint bytes origin keys checkpoint
   pub count_is : HasEdgeCount checkpoint.size rows
@@ -101,14 +106,16 @@ pub record HasOtherLengths (bytes origin : List ℕ) (keys : List Key) (rows : L
 
 module _ (digest : List ℕ → List ℕ) where
   -- each has its tile's length, and they do not lead to the root
-  pub record HasOtherRoot (bytes origin : List ℕ) (keys : List Key) (rows : List (List ℕ)) : Type 0 where
+  pub record HasOtherRoot (bytes origin : List ℕ) (keys : List Key) (rows : List (List ℕ))
+      : Type 0 where
     pub checkpoint : Checkpoint
     pub is_open : IsOpenCheckpoint bytes origin keys checkpoint
     pub lengths_are : HasEdgeLengths checkpoint.size rows
     pub differs : edge_root digest (map row_of rows) ≢ checkpoint.root
 
   -- taking a head: its note, and the edge rows of its size, lowest level first
-  abbrev pub JudgesHead : List ℕ → List Key → List ℕ → List (List ℕ) → Result (Unit {0}) TakeFault → Type 0
+  abbrev pub JudgesHead :
+      List ℕ → List Key → List ℕ → List (List ℕ) → Result (Unit {0}) TakeFault → Type 0
   JudgesHead origin keys bytes rows (Ok done) = IsGoodHead digest origin keys bytes rows
   JudgesHead origin keys bytes rows (Err (taking.Note fault)) = IsNoNote bytes fault
   JudgesHead origin keys bytes rows (Err (taking.Checkpoint fault)) = IsNoCheckpoint bytes fault
@@ -120,7 +127,8 @@ module _ (digest : List ℕ → List ℕ) where
   JudgesHead origin keys bytes rows (Err taking.RowLength) = ⊥
   JudgesHead origin keys bytes rows (Err taking.BundleShort) = ⊥
   JudgesHead origin keys bytes rows (Err taking.BundleLong) = ⊥
-  JudgesHead origin keys bytes rows (Err taking.Collision) = IsGoodHead digest origin keys bytes rows
+  JudgesHead origin keys bytes rows (Err taking.Collision) =
+      IsGoodHead digest origin keys bytes rows
   JudgesHead origin keys bytes rows (Err taking.OutOfMemory) = Unit {0}
 
 -- taking a tile of that width
@@ -150,7 +158,8 @@ JudgesBundle width bytes (Err taking.EdgeCount) = ⊥
 JudgesBundle width bytes (Err taking.EdgeLength) = ⊥
 JudgesBundle width bytes (Err taking.EdgeMismatch) = ⊥
 JudgesBundle width bytes (Err taking.RowLength) = ⊥
-JudgesBundle width bytes (Err taking.BundleShort) = ReadsBundle width bytes (Err bundling.BundleShort)
+JudgesBundle width bytes (Err taking.BundleShort) =
+    ReadsBundle width bytes (Err bundling.BundleShort)
 JudgesBundle width bytes (Err taking.BundleLong) = ReadsBundle width bytes (Err bundling.BundleLong)
 JudgesBundle width bytes (Err taking.Collision) = IsGoodBundle width bytes
 JudgesBundle width bytes (Err taking.OutOfMemory) = Unit {0}

@@ -10,7 +10,8 @@ use Rattle.mirror_model.specs.Complete.{IsComplete, IsLawful}
 use Rattle.mirror_model.specs.Served.{Served, IsServedList, Replies, IsRangeHash}
 
 -- a view serves one thing at most
-pub record IsSameServed (digest : List ℕ → List ℕ) (note other : List ℕ) (size n : ℕ) (root r : List ℕ) (first second : List (List ℕ)) : Type 0 where
+pub record IsSameServed (digest : List ℕ → List ℕ) (note other : List ℕ) (size n : ℕ)
+    (root r : List ℕ) (first second : List (List ℕ)) : Type 0 where
   pub note_is : note ≡ other
   pub size_is : size ≡ n
   pub root_is : root ≡ r
@@ -24,20 +25,23 @@ ServedIsOne =
     IsSameServed digest note other size n root r first second
 
 -- the note served says the length and the tree hash of the entries served
-pub record IsTruth (digest : List ℕ → List ℕ) (v : View) (note : List ℕ) (entries : List (List ℕ)) : Type 0 where
+pub record IsTruth (digest : List ℕ → List ℕ) (v : View) (note : List ℕ)
+    (entries : List (List ℕ)) : Type 0 where
   pub is_held : Has v.notes note
   pub is_head : IsHead note v.origin (length entries) (mth digest entries)
 
 abbrev pub ServedRootIsTreeHash : Type 0
 ServedRootIsTreeHash =
-    (digest : List ℕ → List ℕ) (v : View) (note : List ℕ) (size : ℕ) (root : List ℕ) (entries : List (List ℕ)) →
+    (digest : List ℕ → List ℕ) (v : View) (note : List ℕ) (size : ℕ) (root : List ℕ)
+    (entries : List (List ℕ)) →
     Served digest v note size root entries → IsTruth digest v note entries
 
 -- a path has one reply at most
 abbrev pub ReplyIsOne : Type 0
 ReplyIsOne =
     (digest : List ℕ → List ℕ) → IsDigest digest → (v : View) → IsLawful digest v →
-    (path : Path) (first second : List ℕ) → Replies digest v path first → Replies digest v path second →
+    (path : Path) (first second : List ℕ) → Replies digest v path first →
+    Replies digest v path second →
     first ≡ second
 
 -- a range has one hash at most

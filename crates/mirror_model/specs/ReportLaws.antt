@@ -22,12 +22,14 @@ ForksAreReportedOnce =
 -- in a lawful view, under a digest of 32 bytes
 abbrev pub ServedIsSaidOnce : Type 0
 ServedIsSaidOnce =
-    (digest : List ℕ → List ℕ) → IsDigest digest → (v : View) → IsLawful digest v → (first second : Option Point) →
+    (digest : List ℕ → List ℕ) → IsDigest digest → (v : View) → IsLawful digest v →
+    (first second : Option Point) →
     SaysServed digest v first → SaysServed digest v second → first ≡ second
 
 abbrev pub StatusIsOneText : Type 0
 StatusIsOneText =
-    (digest : List ℕ → List ℕ) → IsDigest digest → (v : View) → IsLawful digest v → (first second : List ℕ) →
+    (digest : List ℕ → List ℕ) → IsDigest digest → (v : View) → IsLawful digest v →
+    (first second : List ℕ) →
     IsStatusText digest v first → IsStatusText digest v second → first ≡ second
 
 abbrev pub ForksAreOneText : Type 0
@@ -38,4 +40,5 @@ ForksAreOneText =
 abbrev pub MissingIsOneText : Type 0
 MissingIsOneText =
     (digest : List ℕ → List ℕ) (v : View) (size : ℕ) (root first second : List ℕ) →
-    IsMissingText digest v size root first → IsMissingText digest v size root second → first ≡ second
+    IsMissingText digest v size root first → IsMissingText digest v size root second →
+    first ≡ second

@@ -15,7 +15,14 @@ head_point head = record { size = head.size; root = head.root }
 -- the two heads of a fork
 abbrev pub fork_pair : Fork → PointPair
 fork_pair fork =
-    record { small = record { size = fork.small.0; root = fork.small.1 }; large = record { size = fork.large.0; root = fork.large.1 } }
+    record {
+      small = record { size = fork.small.0; root = fork.small.1 };
+      large =
+          record {
+            size = fork.large.0;
+            root = fork.large.1;
+          };
+    }
 
 module _ (digest : List ℕ → List ℕ) where
   -- the flag of a head is true exactly where the head is complete
@@ -33,5 +40,9 @@ module _ (digest : List ℕ → List ℕ) where
 
   -- the size and root that are served, or none where nothing is
   abbrev pub SaysServed : View → Option Point → Type 0
-  SaysServed v (Some point) = (note : List ℕ) × (entries : List (List ℕ)) × Served digest v note point.size point.root entries
-  SaysServed v None = (note : List ℕ) (size : ℕ) (root : List ℕ) (entries : List (List ℕ)) → Served digest v note size root entries → ⊥
+  SaysServed v (Some point) =
+      (note : List ℕ) × (entries : List (List ℕ))
+      × Served digest v note point.size point.root entries
+  SaysServed v None =
+      (note : List ℕ) (size : ℕ) (root : List ℕ) (entries : List (List ℕ)) →
+      Served digest v note size root entries → ⊥

@@ -14,15 +14,16 @@ last_held held [] = held
 last_held held (after ∷ afters) = last_held after afters
 
 module _ (digest : List ℕ → List ℕ) (entries : List (List ℕ)) where
-  -- the strings that the true bytes of a path give: of a tile, the joins of its row of hashes; of a bundle, what the
-  -- tree hash of its entries hashes
+  -- the strings that the true bytes of a path give: of a tile, the joins of its row of hashes; of a
+  -- bundle, what the tree hash of its entries hashes
   abbrev pub true_strings : Path → List (List ℕ)
   true_strings Checkpoint = []
-  true_strings (Tile level index width) = joins digest (level_row digest entries level (256 * index) width)
+  true_strings (Tile level index width) =
+      joins digest (level_row digest entries level (256 * index) width)
   true_strings (Entries index width) = strings digest (part (256 * index) width entries)
 
-  -- a round: the edge's strings are held before it, what is held stays held, and the strings of the true bytes of all
-  -- paths of the front are held after it
+  -- a round: the edge's strings are held before it, what is held stays held, and the strings of the
+  -- true bytes of all paths of the front are held after it
   pub record IsRound (held after : Strings) : Type 0 where
     pub edge : HasAll held (edge_strings digest (edge_rows digest entries))
     pub grows : (string : List ℕ) → Has held string → Has after string
@@ -35,8 +36,10 @@ module _ (digest : List ℕ → List ℕ) (entries : List (List ℕ)) where
 
   -- the front has no tile above that level
   abbrev pub AsksUpTo : Strings → ℕ → Type 0
-  AsksUpTo held top = (level index width : ℕ) → IsFront digest held entries (Tile level index width) → level ≤ top
+  AsksUpTo held top =
+      (level index width : ℕ) → IsFront digest held entries (Tile level index width) → level ≤ top
 
   -- the front has no tile
   abbrev pub AsksBundlesAlone : Strings → Type 0
-  AsksBundlesAlone held = (level index width : ℕ) → IsFront digest held entries (Tile level index width) → ⊥
+  AsksBundlesAlone held =
+      (level index width : ℕ) → IsFront digest held entries (Tile level index width) → ⊥

@@ -11,7 +11,8 @@ use Rattle.mirror_model.specs.Item.{IsGood, strings_of}
 use Rattle.mirror_model.specs.declared.events.Event.{Event}
 use Rattle.mirror_model.specs.declared.events.Event.TheVariants.{Take}
 use Rattle.mirror_model.specs.Steps.{Answer, Clashed, Run}
-use Rattle.mirror_model.specs.Reached.{HasReached, HasReachedOnly, events_of, is_done, may_change, AreRetried}
+use Rattle.mirror_model.specs.Reached.{HasReached, HasReachedOnly, events_of, is_done, may_change}
+use Rattle.mirror_model.specs.Reached.{AreRetried}
 
 -- all views are of that origin
 abbrev pub AreOf : List ℕ → List View → Type 0
@@ -19,31 +20,38 @@ AreOf origin views = (mirror : ℕ) (v : View) → slice_get views mirror ≡ So
 
 module _ (digest : List ℕ → List ℕ) (origin : List ℕ) (keys : List Key) where
   -- a run of events, from views of that origin to others
-  pub record IsRun (opened : List View) (events : List Event) (answers : List Answer) (final : List View) : Type 0 where
+  pub record IsRun (opened : List View) (events : List Event) (answers : List Answer)
+      (final : List View) : Type 0 where
     pub of_origin : AreOf origin opened
     pub run : Run digest keys opened events answers final
 
-  -- for all answers a mirror's view has what the events that were done bring to it, and has nothing but what is brought
-  -- to it by those that were done or for which memory was refused
-  pub record IsBounded (opened : List View) (events : List Event) (answers : List Answer) (mirror : ℕ) (v : View) : Type 0 where
+  -- for all answers a mirror's view has what the events that were done bring to it, and has nothing
+  -- but what is brought to it by those that were done or for which memory was refused
+  pub record IsBounded (opened : List View) (events : List Event) (answers : List Answer)
+      (mirror : ℕ) (v : View) : Type 0 where
     pub lower : HasReached digest origin keys opened (events_of is_done events answers) mirror v
-    pub upper : HasReachedOnly digest origin keys opened (events_of may_change events answers) mirror v
+    pub upper :
+        HasReachedOnly digest origin keys opened (events_of may_change events answers) mirror v
 
   abbrev pub RunIsBounded : Type 0
   RunIsBounded =
-      (opened final : List View) (events : List Event) (answers : List Answer) → IsRun opened events answers final →
-      (mirror : ℕ) (v : View) → slice_get final mirror ≡ Some v → IsBounded opened events answers mirror v
+      (opened final : List View) (events : List Event) (answers : List Answer) →
+      IsRun opened events answers final →
+      (mirror : ℕ) (v : View) → slice_get final mirror ≡ Some v →
+      IsBounded opened events answers mirror v
 
-  -- where nothing clashed, and each event for which memory was refused was done again, a mirror's view is the union of
-  -- the opening views and of the good items that reach it
-  pub record IsReached (opened : List View) (events : List Event) (mirror : ℕ) (v : View) : Type 0 where
+  -- where nothing clashed, and each event for which memory was refused was done again, a mirror's
+  -- view is the union of the opening views and of the good items that reach it
+  pub record IsReached (opened : List View) (events : List Event) (mirror : ℕ) (v : View)
+      : Type 0 where
     pub origin_is : v.origin ≡ origin
     pub has : HasReached digest origin keys opened events mirror v
     pub only : HasReachedOnly digest origin keys opened events mirror v
 
   abbrev pub RunIsReached : Type 0
   RunIsReached =
-      (opened final : List View) (events : List Event) (answers : List Answer) → IsRun opened events answers final →
+      (opened final : List View) (events : List Event) (answers : List Answer) →
+      IsRun opened events answers final →
       (Contains answers Clashed → ⊥) → AreRetried events answers → (mirror : ℕ) (v : View) →
       slice_get final mirror ≡ Some v → IsReached opened events mirror v
 
@@ -68,7 +76,8 @@ module _ (digest : List ℕ → List ℕ) (origin : List ℕ) (keys : List Key) 
 
   -- no two different strings that are met have one digest
   abbrev pub NothingClashes : List View → List Event → Type 0
-  NothingClashes opened events = (x y : List ℕ) → IsMet opened events x → IsMet opened events y → digest x ≡ digest y → x ≡ y
+  NothingClashes opened events =
+      (x y : List ℕ) → IsMet opened events x → IsMet opened events y → digest x ≡ digest y → x ≡ y
 
   -- then no event is answered by a clash
   abbrev pub NoneClashes : Type 0
@@ -79,11 +88,13 @@ module _ (digest : List ℕ → List ℕ) (origin : List ℕ) (keys : List Key) 
 
 -- for each digest, origin and keys
 abbrev pub ForMirrors : ((List ℕ → List ℕ) → List ℕ → List Key → Type 0) → Type 0
-ForMirrors Law = (digest : List ℕ → List ℕ) (origin : List ℕ) (keys : List Key) → Law digest origin keys
+ForMirrors Law =
+    (digest : List ℕ → List ℕ) (origin : List ℕ) (keys : List Key) → Law digest origin keys
 
 -- all views are lawful
 abbrev pub AreLawful : (List ℕ → List ℕ) → List View → Type 0
-AreLawful digest views = (mirror : ℕ) (v : View) → slice_get views mirror ≡ Some v → IsLawful digest v
+AreLawful digest views =
+    (mirror : ℕ) (v : View) → slice_get views mirror ≡ Some v → IsLawful digest v
 
 -- a run keeps views lawful
 abbrev pub RunIsLawful : Type 0
@@ -95,6 +106,8 @@ RunIsLawful =
 -- and each view only grows
 abbrev pub RunGrows : Type 0
 RunGrows =
-    (digest : List ℕ → List ℕ) (keys : List Key) (opened final : List View) (events : List Event) (answers : List Answer) →
-    Run digest keys opened events answers final → (mirror : ℕ) (v w : View) → slice_get opened mirror ≡ Some v →
+    (digest : List ℕ → List ℕ) (keys : List Key) (opened final : List View) (events : List Event)
+    (answers : List Answer) →
+    Run digest keys opened events answers final → (mirror : ℕ) (v w : View) →
+    slice_get opened mirror ≡ Some v →
     slice_get final mirror ≡ Some w → IsSubview v w

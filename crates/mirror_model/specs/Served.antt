@@ -21,12 +21,14 @@ module _ (digest : List ℕ → List ℕ) where
     pub holds : HoldsHead v note size root
     pub built : IsBuilt digest v.strings size root
 
-  -- Served(V): of the notes whose head is complete, one of the greatest size, then of the least root, then the
-  -- least note by bytes; with its entries
-  pub record Served (v : View) (note : List ℕ) (size : ℕ) (root : List ℕ) (entries : List (List ℕ)) : Type 0 where
+  -- Served(V): of the notes whose head is complete, one of the greatest size, then of the least
+  -- root, then the least note by bytes; with its entries
+  pub record Served (v : View) (note : List ℕ) (size : ℕ) (root : List ℕ)
+      (entries : List (List ℕ)) : Type 0 where
     pub holds : HoldsHead v note size root
     pub tree : IsTreeOf digest v.strings size root entries
-    pub greatest_size : (other : List ℕ) (n : ℕ) (r : List ℕ) → IsCompleteNote v other n r → n ≤ size
+    pub greatest_size :
+        (other : List ℕ) (n : ℕ) (r : List ℕ) → IsCompleteNote v other n r → n ≤ size
     pub least_root : (other : List ℕ) (r : List ℕ) → IsCompleteNote v other size r → IsAtMost root r
     pub least_note : (other : List ℕ) → IsCompleteNote v other size root → IsAtMost note other
 
@@ -64,8 +66,8 @@ module _ (digest : List ℕ → List ℕ) where
     pub within : IsTileWithin (length entries) 0 index width
     pub bytes_are : bytes ≡ bundle_bytes entries index width
 
-  -- Reply(V, path): the served note, or the bytes of the path where it is within the entries served; where no
-  -- bytes are so, there is no reply
+  -- Reply(V, path): the served note, or the bytes of the path where it is within the entries
+  -- served; where no bytes are so, there is no reply
   abbrev pub Replies : View → Path → List ℕ → Type 0
   Replies v Checkpoint bytes = IsServedNote v bytes
   Replies v (Tile level index width) bytes = IsServedTile v level index width bytes

@@ -8,14 +8,18 @@ use Rattle.mirror_model.specs.Served.{IsServedList, IsServedBundle}
 use Rattle.mirror_model.specs.Strings.{IsDigest}
 
 module _ (digest : List ℕ → List ℕ) (v : View) where
-  -- a bundle of that index is served, and its bytes are those entries; none of that index is served that has more
+  -- a bundle of that index is served, and its bytes are those entries; none of that index is served
+  -- that has more
   pub record IsWidestBundle (index : ℕ) (entries : List (List ℕ)) : Type 0 where
     pub bytes : List ℕ
     pub served : IsServedBundle digest v index (length entries) bytes
     pub is_bundle : IsBundle (length entries) bytes entries
-    pub widest : (width : ℕ) (other : List ℕ) → IsServedBundle digest v index width other → width ≤ length entries
+    pub widest :
+        (width : ℕ) (other : List ℕ) → IsServedBundle digest v index width other →
+        width ≤ length entries
 
-  -- the bundles from that index on have these entries, each list those of one; behind the last no bundle is served
+  -- the bundles from that index on have these entries, each list those of one; behind the last no
+  -- bundle is served
   abbrev pub AreBundles : ℕ → List (List (List ℕ)) → Type 0
   AreBundles index [] = (width : ℕ) (bytes : List ℕ) → IsServedBundle digest v index width bytes → ⊥
   AreBundles index (entries ∷ more) = IsWidestBundle index entries × AreBundles (index + 1) more

@@ -9,15 +9,16 @@ use Rattle.mirror_model.specs.Item.{IsGood, plus}
 use Rattle.mirror_model.specs.declared.events.Event.{Event}
 use Rattle.mirror_model.specs.declared.events.Event.TheVariants.{Take, Merge}
 
--- how an event is answered: it is done; it is refused for what the item or the other mirror is; two different
--- strings would share a digest; memory was refused
+-- how an event is answered: it is done; it is refused for what the item or the other mirror is; two
+-- different strings would share a digest; memory was refused
 pub data Answer : Type 0 where
   Done : Answer
   Refused : Answer
   Clashed : Answer
   Exhausted : Answer
 
--- the view lies between the old one and the whole one, and a new note stands only where all strings do
+-- the view lies between the old one and the whole one, and a new note stands only where all strings
+-- do
 pub record IsBetween (old whole new : View) : Type 0 where
   pub grows : IsSubview old new
   pub within : IsSubview new whole
@@ -26,9 +27,10 @@ pub record IsBetween (old whole new : View) : Type 0 where
       Has old.notes note ⊎ ((string : List ℕ) → Has whole.strings string → Has new.strings string)
 
 module _ (digest : List ℕ → List ℕ) where
-  -- an event that would make the old view the whole one, where it is allowed: it is refused exactly where it is not
-  -- allowed, and clashes exactly where the whole view does; want of memory leaves the old view, or, where the event is
-  -- allowed and the whole view does not clash, one between the two
+  -- an event that would make the old view the whole one, where it is allowed: it is refused exactly
+  -- where it is not allowed, and clashes exactly where the whole view does; want of memory leaves
+  -- the old view, or, where the event is allowed and the whole view does not clash, one between the
+  -- two
   abbrev pub Answers : View → Type 0 → View → Answer → View → Type 0
   Answers old Allowed whole Done new = Allowed × NoClash digest whole.strings × (new ≡ whole)
   Answers old Allowed whole Refused new = (Allowed → ⊥) × (new ≡ old)
@@ -38,7 +40,8 @@ module _ (digest : List ℕ → List ℕ) where
 
   -- a take of an item, under these keys
   abbrev pub Takes : List Key → View → Item → Answer → View → Type 0
-  Takes keys old item answer new = Answers old (IsGood digest old.origin keys item) (plus digest old item) answer new
+  Takes keys old item answer new =
+      Answers old (IsGood digest old.origin keys item) (plus digest old item) answer new
 
   -- a merge of a view, which stays as it is
   abbrev pub Merges : View → View → Answer → View → Type 0
@@ -46,7 +49,8 @@ module _ (digest : List ℕ → List ℕ) where
 
 module _ (digest : List ℕ → List ℕ) (keys : List Key) where
   -- one mirror of a list takes an item
-  pub record TakesAt (old : List View) (target : ℕ) (item : Item) (answer : Answer) (new : List View) : Type 0 where
+  pub record TakesAt (old : List View) (target : ℕ) (item : Item) (answer : Answer)
+      (new : List View) : Type 0 where
     pub before : View
     pub after : View
     pub found : slice_get old target ≡ Some before
@@ -54,7 +58,8 @@ module _ (digest : List ℕ → List ℕ) (keys : List Key) where
     pub set : new ≡ slice_set old target after
 
   -- one mirror of a list is merged with another
-  pub record MergesAt (old : List View) (target source : ℕ) (answer : Answer) (new : List View) : Type 0 where
+  pub record MergesAt (old : List View) (target source : ℕ) (answer : Answer) (new : List View)
+      : Type 0 where
     pub before : View
     pub other : View
     pub after : View
@@ -70,6 +75,7 @@ module _ (digest : List ℕ → List ℕ) (keys : List Key) where
   -- events, one after another, with an answer each
   abbrev pub Run : List View → List Event → List Answer → List View → Type 0
   Run old [] [] new = new ≡ old
-  Run old (event ∷ events) (answer ∷ answers) new = (between : List View) × Happens old event answer between × Run between events answers new
+  Run old (event ∷ events) (answer ∷ answers) new =
+      (between : List View) × Happens old event answer between × Run between events answers new
   Run old [] (answer ∷ answers) new = ⊥
   Run old (event ∷ events) [] new = ⊥

@@ -1,6 +1,8 @@
--- The texts in which a mirror tells of itself (own): lines that each end in a newline, with numbers in decimal
--- without leading zeros, and roots in standard base64 with padding (RFC 4648, section 4).
-use Rattle.std.specs.Prelude.{◌≡◌, ℕ, List, [], ◌∷◌, ◌++◌, Bool, true, false, Option, Some, None, codes}
+-- The texts in which a mirror tells of itself (own): lines that each end in a newline, with numbers
+-- in decimal without leading zeros, and roots in standard base64 with padding (RFC 4648, section
+-- 4).
+use Rattle.std.specs.Prelude.{◌≡◌, ℕ, List, [], ◌∷◌, ◌++◌, Bool, true, false, Option, Some, None}
+use Rattle.std.specs.Prelude.{codes}
 use Rattle.std.specs.Fmt.{decimal}
 use Rattle.std.specs.List.{flat_map}
 use Rattle.tlog_text.specs.Hash.{base64_of}
@@ -24,7 +26,8 @@ flag_text false = codes "partial"
 
 -- `head SIZE ROOT complete` or `head SIZE ROOT partial`
 abbrev pub head_line : Head → List ℕ
-head_line head = codes "head " ++ point_text head.size head.root ++ 32 ∷ flag_text head.complete ++ 10 ∷ []
+head_line head =
+    codes "head " ++ point_text head.size head.root ++ 32 ∷ flag_text head.complete ++ 10 ∷ []
 
 -- `served SIZE ROOT` or `served none`
 abbrev pub served_line : Option Point → List ℕ
@@ -33,11 +36,14 @@ served_line None = codes "served none" ++ 10 ∷ []
 
 -- `origin O`, a line for each head, and what is served
 abbrev pub status_text : List ℕ → List Head → Option Point → List ℕ
-status_text origin heads served = codes "origin " ++ origin ++ 10 ∷ (flat_map head_line heads ++ served_line served)
+status_text origin heads served =
+    codes "origin " ++ origin ++ 10 ∷ (flat_map head_line heads ++ served_line served)
 
 -- `fork SIZE ROOT SIZE ROOT`
 abbrev pub fork_line : Fork → List ℕ
-fork_line fork = codes "fork " ++ point_text fork.small.0 fork.small.1 ++ 32 ∷ point_text fork.large.0 fork.large.1 ++ 10 ∷ []
+fork_line fork =
+    codes "fork " ++ point_text fork.small.0 fork.small.1
+    ++ 32 ∷ point_text fork.large.0 fork.large.1 ++ 10 ∷ []
 
 abbrev pub forks_text : List Fork → List ℕ
 forks_text forks = flat_map fork_line forks

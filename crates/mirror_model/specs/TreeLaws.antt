@@ -1,5 +1,6 @@
 -- What edges, tiles, bundles, fronts and walks have to do with the tree of a list of entries.
-use Rattle.std.specs.Prelude.{max, ◌≡◌, ◌↔◌, ℕ, ◌+◌, ◌-◌, ◌*◌, ◌^◌, ◌≤◌, ◌<◌, List, length, map, min}
+use Rattle.std.specs.Prelude.{max, ◌≡◌, ◌↔◌, ℕ, ◌+◌, ◌-◌, ◌*◌, ◌^◌, ◌≤◌, ◌<◌, List, length, map}
+use Rattle.std.specs.Prelude.{min}
 use Rattle.std.specs.List.{Contains}
 use Rattle.tlog_shape.specs.Edge.{IsTop}
 use Rattle.tlog_hash.specs.Tree.{tree_of, mth, strings, joins}
@@ -31,11 +32,13 @@ EdgeRootIsRoot =
 abbrev pub EdgeStringsWithin : Type 0
 EdgeStringsWithin =
     (digest : List ℕ → List ℕ) (entries : List (List ℕ)) (y : List ℕ) →
-    Contains (edge_strings digest (edge_rows digest entries)) y → Contains (strings digest entries) y
+    Contains (edge_strings digest (edge_rows digest entries)) y →
+    Contains (strings digest entries) y
 
--- y is the string of a node of E's tree that has more than `above` entries, all of them among the `len` from
--- `start` on
-pub record HasNodeWithin (digest : List ℕ → List ℕ) (entries : List (List ℕ)) (start len above : ℕ) (y : List ℕ) : Type 0 where
+-- y is the string of a node of E's tree that has more than `above` entries, all of them among the
+-- `len` from `start` on
+pub record HasNodeWithin (digest : List ℕ → List ℕ) (entries : List (List ℕ))
+    (start len above : ℕ) (y : List ℕ) : Type 0 where
   pub node : Node
   pub is : IsNode digest (tree_of entries) 0 node
   pub start_in : start ≤ node.start
@@ -43,49 +46,59 @@ pub record HasNodeWithin (digest : List ℕ → List ℕ) (entries : List (List 
   pub long : above < node.len
   pub string_is : node.string ≡ y
 
--- the Joins of a true full row of level L are the strings of Tree(E) for the nodes of its range of more than 256^L
--- entries
+-- the Joins of a true full row of level L are the strings of Tree(E) for the nodes of its range of
+-- more than 256^L entries
 abbrev pub FullRowJoins : Type 0
 FullRowJoins =
     (digest : List ℕ → List ℕ) (entries : List (List ℕ)) (level index : ℕ) →
     (index + 1) * 256 ^ (level + 1) ≤ length entries → (y : List ℕ) →
-    Contains (joins digest (level_row digest entries level (256 * index) 256)) y ↔ HasNodeWithin digest entries (index * 256 ^ (level + 1)) (256 ^ (level + 1)) (256 ^ level) y
+    Contains (joins digest (level_row digest entries level (256 * index) 256)) y
+    ↔ HasNodeWithin digest entries (index * 256 ^ (level + 1)) (256 ^ (level + 1)) (256 ^ level) y
 
--- the strings of a bundle of E, at the width that E's size gives it, are those of Tree(E) for the nodes of its range
+-- the strings of a bundle of E, at the width that E's size gives it, are those of Tree(E) for the
+-- nodes of its range
 abbrev pub BundleStrings : Type 0
 BundleStrings =
-    (digest : List ℕ → List ℕ) (entries : List (List ℕ)) (index : ℕ) → 256 * index < length entries →
+    (digest : List ℕ → List ℕ) (entries : List (List ℕ)) (index : ℕ) →
+    256 * index < length entries →
     let width = min 256 (length entries - 256 * index) in (y : List ℕ) →
-    Contains (strings digest (part (256 * index) width entries)) y ↔ HasNodeWithin digest entries (256 * index) width 0 y
+    Contains (strings digest (part (256 * index) width entries)) y
+    ↔ HasNodeWithin digest entries (256 * index) width 0 y
 
 -- the front is empty exactly where Tree(E) is held
 abbrev pub FrontIsEmpty : Type 0
 FrontIsEmpty =
-    (digest : List ℕ → List ℕ) (held : Strings) (entries : List (List ℕ)) → length entries ≤ 256 ^ 8 →
+    (digest : List ℕ → List ℕ) (held : Strings) (entries : List (List ℕ)) →
+    length entries ≤ 256 ^ 8 →
     ((path : Path) → IsFront digest held entries path → ⊥) ↔ HasAll held (strings digest entries)
 
--- after a round in which no tile above level L was asked for, a node that is not held has at most 256^L entries
+-- after a round in which no tile above level L was asked for, a node that is not held has at most
+-- 256^L entries
 abbrev pub RoundLeaves : Type 0
 RoundLeaves =
     (digest : List ℕ → List ℕ) (held after : Strings) (entries : List (List ℕ)) →
-    length entries ≤ 256 ^ 8 → IsRound digest entries held after → (top : ℕ) → AsksUpTo digest entries held top → (x : Node) →
+    length entries ≤ 256 ^ 8 → IsRound digest entries held after → (top : ℕ) →
+    AsksUpTo digest entries held top → (x : Node) →
     IsNode digest (tree_of entries) 0 x → (Has after x.string → ⊥) → x.len ≤ 256 ^ top
 
 -- so the next round asks for tiles of lower levels alone
 abbrev pub RoundGoesDown : Type 0
 RoundGoesDown =
     (digest : List ℕ → List ℕ) (held after : Strings) (entries : List (List ℕ)) →
-    length entries ≤ 256 ^ 8 → IsRound digest entries held after → (top : ℕ) → AsksUpTo digest entries held top → (level index width : ℕ) →
+    length entries ≤ 256 ^ 8 → IsRound digest entries held after → (top : ℕ) →
+    AsksUpTo digest entries held top → (level index width : ℕ) →
     IsFront digest after entries (Tile level index width) → level < top
 
 -- after a round of bundles alone nothing of the tree is unheld
 abbrev pub BundlesComplete : Type 0
 BundlesComplete =
     (digest : List ℕ → List ℕ) (held after : Strings) (entries : List (List ℕ)) →
-    length entries ≤ 256 ^ 8 → IsRound digest entries held after → AsksBundlesAlone digest entries held →
+    length entries ≤ 256 ^ 8 → IsRound digest entries held after →
+    AsksBundlesAlone digest entries held →
     HasAll after (strings digest entries)
 
--- with the edge held, the front has no tile of the greatest level that has a partial tile, or above it
+-- with the edge held, the front has no tile of the greatest level that has a partial tile, or above
+-- it
 abbrev pub FrontIsBelowTop : Type 0
 FrontIsBelowTop =
     (digest : List ℕ → List ℕ) (held : Strings) (entries : List (List ℕ)) (top : ℕ) →
@@ -93,39 +106,48 @@ FrontIsBelowTop =
     HasAll held (edge_strings digest (edge_rows digest entries)) → (level index width : ℕ) →
     IsFront digest held entries (Tile level index width) → level < top
 
--- as many rounds as the greatest level that has a partial tile, and one at least, leave nothing of the tree unheld
+-- as many rounds as the greatest level that has a partial tile, and one at least, leave nothing of
+-- the tree unheld
 abbrev pub RoundsComplete : Type 0
 RoundsComplete =
-    (digest : List ℕ → List ℕ) (held : Strings) (entries : List (List ℕ)) (top : ℕ) (afters : List Strings) →
+    (digest : List ℕ → List ℕ) (held : Strings) (entries : List (List ℕ)) (top : ℕ)
+    (afters : List Strings) →
     length entries < 256 ^ 8 → IsTop (length entries) top → AreRounds digest entries held afters →
     max 1 top ≤ length afters → HasAll (last_held held afters) (strings digest entries)
 
--- a full tile of a level from 1 to 7, or a bundle as wide as the size has it; its range begins within the size
+-- a full tile of a level from 1 to 7, or a bundle as wide as the size has it; its range begins
+-- within the size
 abbrev pub IsOfSize : ℕ → Path → Type 0
 IsOfSize size Checkpoint = ⊥
-IsOfSize size (Tile level index width) = (1 ≤ level) × (level ≤ 7) × (width ≡ 256) × (index * 256 ^ (level + 1) < size)
-IsOfSize size (Entries index width) = (1 ≤ width) × (width ≡ min 256 (size - 256 * index)) × (256 * index < size)
+IsOfSize size (Tile level index width) =
+    (1 ≤ level) × (level ≤ 7) × (width ≡ 256) × (index * 256 ^ (level + 1) < size)
+IsOfSize size (Entries index width) =
+    (1 ≤ width) × (width ≡ min 256 (size - 256 * index)) × (256 * index < size)
 
 -- what is missing of a head are such paths, whether or not a list of entries fits
 abbrev pub MissingIsOfSize : Type 0
 MissingIsOfSize =
-    (digest : List ℕ → List ℕ) (held : Strings) (size : ℕ) (root : List ℕ) → size ≤ 256 ^ 8 → (path : Path) →
+    (digest : List ℕ → List ℕ) (held : Strings) (size : ℕ) (root : List ℕ) → size ≤ 256 ^ 8 →
+    (path : Path) →
     IsMissing digest held size root path → IsOfSize size path
 
 -- a node of the front of E
 abbrev pub HasFrontAt : (List ℕ → List ℕ) → Strings → List (List ℕ) → ℕ → ℕ → Type 0
-HasFrontAt digest held entries at many = (x : Node) × InFront digest held (tree_of entries) 0 x × (x.start ≡ at) × (x.len ≡ many)
+HasFrontAt digest held entries at many =
+    (x : Node) × InFront digest held (tree_of entries) 0 x × (x.start ≡ at) × (x.len ≡ many)
 
 -- where a list of entries fits, the walk from its root fails exactly at the front
 abbrev pub WalkIsFront : Type 0
 WalkIsFront =
     (digest : List ℕ → List ℕ) → IsDigest digest →
     (held : Strings) (entries : List (List ℕ)) → NoClashWith digest held entries → (at many : ℕ) →
-    WalkFails digest held (shape (length entries)) 0 (mth digest entries) at many ↔ HasFrontAt digest held entries at many
+    WalkFails digest held (shape (length entries)) 0 (mth digest entries) at many
+    ↔ HasFrontAt digest held entries at many
 
 -- so what it names is Front(V, E)
 abbrev pub MissingIsFront : Type 0
 MissingIsFront =
     (digest : List ℕ → List ℕ) → IsDigest digest →
     (held : Strings) (entries : List (List ℕ)) → NoClashWith digest held entries → (path : Path) →
-    IsMissing digest held (length entries) (mth digest entries) path ↔ IsFront digest held entries path
+    IsMissing digest held (length entries) (mth digest entries) path
+    ↔ IsFront digest held entries path

@@ -13,7 +13,8 @@ use Rattle.mirror_model.specs.Edge.{edge_levels, edge_rows, edge_strings}
 use Rattle.mirror_model.specs.Front.{IsFront}
 use Rattle.mirror_model.specs.Rounds.{true_strings}
 use Rattle.mirror_model.specs.declared.items.Item.TheVariants as item
-use Rattle.mirror_model.specs.Item.{row_of, IsWidth, IsGoodTile, IsGoodBundle, HasEdgeRows, strings_of}
+use Rattle.mirror_model.specs.Item.{row_of, IsWidth, IsGoodTile, IsGoodBundle, HasEdgeRows}
+use Rattle.mirror_model.specs.Item.{strings_of}
 use Rattle.mirror_model.specs.Strings.{IsDigest}
 
 -- entries that can stand in a bundle
@@ -21,9 +22,12 @@ abbrev pub AreShort : List (List ℕ) → Type 0
 AreShort entries = All (λ entry. length entry < 2 ^ 16) entries
 
 -- a tile of true bytes is good, and gives the strings of its row
-pub record IsTrueTile (digest : List ℕ → List ℕ) (entries : List (List ℕ)) (level index width : ℕ) : Type 0 where
+pub record IsTrueTile (digest : List ℕ → List ℕ) (entries : List (List ℕ))
+    (level index width : ℕ) : Type 0 where
   pub good : IsGoodTile width (tile_bytes digest entries level index width)
-  pub strings_are : strings_of digest (item.Tile width (tile_bytes digest entries level index width)) ≡ true_strings digest entries (Tile level index width)
+  pub strings_are :
+      strings_of digest (item.Tile width (tile_bytes digest entries level index width))
+      ≡ true_strings digest entries (Tile level index width)
 
 abbrev pub TilesAreTrue : Type 0
 TilesAreTrue =
@@ -31,13 +35,17 @@ TilesAreTrue =
     (level index width : ℕ) → IsWidth width → IsTrueTile digest entries level index width
 
 -- a bundle of true bytes is good, and gives what the tree hash of its entries hashes
-pub record IsTrueBundle (digest : List ℕ → List ℕ) (entries : List (List ℕ)) (index width : ℕ) : Type 0 where
+pub record IsTrueBundle (digest : List ℕ → List ℕ) (entries : List (List ℕ)) (index width : ℕ)
+    : Type 0 where
   pub good : IsGoodBundle width (bundle_bytes entries index width)
-  pub strings_are : strings_of digest (item.Bundle width (bundle_bytes entries index width)) ≡ true_strings digest entries (Entries index width)
+  pub strings_are :
+      strings_of digest (item.Bundle width (bundle_bytes entries index width))
+      ≡ true_strings digest entries (Entries index width)
 
 abbrev pub BundlesAreTrue : Type 0
 BundlesAreTrue =
-    (digest : List ℕ → List ℕ) → IsDigest digest → (entries : List (List ℕ)) → AreShort entries → (index width : ℕ) →
+    (digest : List ℕ → List ℕ) → IsDigest digest → (entries : List (List ℕ)) → AreShort entries →
+    (index width : ℕ) →
     IsTileWithin (length entries) 0 index width → IsTrueBundle digest entries index width
 
 -- the bytes of the true edge rows
@@ -46,24 +54,30 @@ edge_bytes digest entries = map row_text (edge_rows digest entries)
 
 -- true edge rows lead to the tree hash of the entries, and give the edge's strings
 pub record IsTrueEdge (digest : List ℕ → List ℕ) (entries : List (List ℕ)) : Type 0 where
-  pub has_edge : HasEdgeRows digest (length entries) (mth digest entries) (edge_bytes digest entries)
-  pub strings_are : edge_strings digest (map row_of (edge_bytes digest entries)) ≡ edge_strings digest (edge_rows digest entries)
+  pub has_edge :
+      HasEdgeRows digest (length entries) (mth digest entries) (edge_bytes digest entries)
+  pub strings_are :
+      edge_strings digest (map row_of (edge_bytes digest entries))
+      ≡ edge_strings digest (edge_rows digest entries)
 
 abbrev pub EdgesAreTrue : Type 0
 EdgesAreTrue =
-    (digest : List ℕ → List ℕ) → IsDigest digest → (entries : List (List ℕ)) → length entries < 256 ^ 8 →
+    (digest : List ℕ → List ℕ) → IsDigest digest → (entries : List (List ℕ)) →
+    length entries < 256 ^ 8 →
     IsTrueEdge digest entries
 
 -- these rows are those of the paths of the edge
 abbrev pub EdgeIsOfPaths : Type 0
 EdgeIsOfPaths =
     (size : ℕ) →
-    edge_of size ≡ map (λ level. Tile level (edge_index_of size level) (width_of size level)) (edge_levels size)
+    edge_of size
+    ≡ map (λ level. Tile level (edge_index_of size level) (width_of size level)) (edge_levels size)
 
 -- while the edge's strings are held, each path of the front is within the entries
 abbrev pub FrontIsWithin : Type 0
 FrontIsWithin =
-    (digest : List ℕ → List ℕ) (held : Strings) (entries : List (List ℕ)) → length entries ≤ 256 ^ 8 →
+    (digest : List ℕ → List ℕ) (held : Strings) (entries : List (List ℕ)) →
+    length entries ≤ 256 ^ 8 →
     HasAll held (edge_strings digest (edge_rows digest entries)) → (path : Path) →
     IsFront digest held entries path → IsWithin (length entries) path
 
@@ -90,10 +104,13 @@ FrontIsWidest =
 pub record IsSameIn (digest : List ℕ → List ℕ) (entries : List (List ℕ)) (n : ℕ) : Type 0 where
   pub tile :
       (level index width : ℕ) → IsTileWithin n level index width →
-      tile_bytes digest (take n entries) level index width ≡ tile_bytes digest entries level index width
+      tile_bytes digest (take n entries) level index width
+      ≡ tile_bytes digest entries level index width
   pub bundle :
       (index width : ℕ) → IsTileWithin n 0 index width →
       bundle_bytes (take n entries) index width ≡ bundle_bytes entries index width
 
 abbrev pub PrefixesServeSame : Type 0
-PrefixesServeSame = (digest : List ℕ → List ℕ) (entries : List (List ℕ)) (n : ℕ) → n ≤ length entries → IsSameIn digest entries n
+PrefixesServeSame =
+    (digest : List ℕ → List ℕ) (entries : List (List ℕ)) (n : ℕ) → n ≤ length entries →
+    IsSameIn digest entries n

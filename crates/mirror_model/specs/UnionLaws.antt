@@ -16,7 +16,9 @@ UnionIsIdempotent = (v : View) → union v v ≡ v
 
 -- and clashes in the same cases either way round
 abbrev pub UnionClashesEitherWay : Type 0
-UnionClashesEitherWay = (digest : List ℕ → List ℕ) (v w : View) → HasClash digest (union v w).strings → HasClash digest (union w v).strings
+UnionClashesEitherWay =
+    (digest : List ℕ → List ℕ) (v w : View) → HasClash digest (union v w).strings →
+    HasClash digest (union w v).strings
 
 -- views that hold the same are one
 abbrev pub MutualSubviewsAreEqual : Type 0

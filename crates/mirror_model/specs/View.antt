@@ -4,7 +4,8 @@ use Rattle.std.specs.Coded.{Coded, code_by, coded×, coded_ℕ, coded_list}
 use Rattle.std.specs.FinSet as set
 use Rattle.node_store.specs.Strings.{Strings, Has}
 
--- a mirror's view: the log's origin, a set of notes, and a set of strings that trees hash (RFC 6962, section 2.1)
+-- a mirror's view: the log's origin, a set of notes, and a set of strings that trees hash (RFC
+-- 6962, section 2.1)
 pub record View : Type 0 where
   pub origin : List ℕ
   pub notes : Strings
@@ -15,7 +16,10 @@ strings_code = set.code (coded_list coded_ℕ)
 
 abbrev pub view_code : Coded View
 view_code =
-    code_by (List ℕ × (Strings × Strings)) (coded× (coded_list coded_ℕ) (coded× strings_code strings_code)) (λ v. (v.origin, (v.notes, v.strings))) (λ p. record { origin = p.0; notes = p.1.0; strings = p.1.1 }) (λ _. refl)
+    code_by (List ℕ × (Strings × Strings))
+    (coded× (coded_list coded_ℕ) (coded× strings_code strings_code))
+    (λ v. (v.origin, (v.notes, v.strings)))
+    (λ p. record { origin = p.0; notes = p.1.0; strings = p.1.1 }) (λ _. refl)
 
 -- nothing is held
 abbrev pub nothing : List ℕ → View
@@ -23,7 +27,12 @@ nothing origin = record { origin = origin; notes = set.empty; strings = set.empt
 
 -- V + W: what either holds, for views of one origin
 abbrev pub union : View → View → View
-union v w = record { origin = v.origin; notes = set.union v.notes w.notes; strings = set.union v.strings w.strings }
+union v w =
+    record {
+      origin = v.origin;
+      notes = set.union v.notes w.notes;
+      strings = set.union v.strings w.strings;
+    }
 
 -- all that v holds w holds
 pub record IsSubview (v w : View) : Type 0 where

@@ -10,8 +10,8 @@ use Rattle.mirror_model.specs.Served.{Served}
 use Rattle.mirror_model.specs.declared.events.Event.TheVariants.{Merge}
 use Rattle.mirror_model.specs.Headline.{ReachedAlike}
 
--- a mirror that opened empty and was merged with another is reached like that other: an opening view that holds
--- nothing counts for nothing
+-- a mirror that opened empty and was merged with another is reached like that other: an opening
+-- view that holds nothing counts for nothing
 abbrev pub EmptyCountsForNothing : Type 0
 EmptyCountsForNothing =
     (digest : List ℕ → List ℕ) (origin : List ℕ) (keys : List Key) (v : View) →
@@ -31,4 +31,5 @@ pub record ServesOneEntry (note origin : List ℕ) : Type 0 where
 -- so it is of each note of that size and root
 abbrev pub OneEntryIsServed : Type 0
 OneEntryIsServed =
-    (note origin : List ℕ) → IsHead note origin 1 (mth sum_digest one_entry) → ServesOneEntry note origin
+    (note origin : List ℕ) → IsHead note origin 1 (mth sum_digest one_entry) →
+    ServesOneEntry note origin

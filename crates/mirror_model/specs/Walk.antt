@@ -19,18 +19,22 @@ module _ (digest : List ℕ → List ℕ) (held : Strings) where
     pub right_len : length right ≡ 32
     pub is : IsHeldAt digest held hash (1 ∷ left ++ right)
 
-  -- the walk from that hash, down a tree of that shape whose first entry has the number start, fails at the node
-  -- of as many entries from there: at two or more entries where no pair of the hash is held, and at one where no
-  -- 0x00 || entry of the hash is; else it goes on to both parts
+  -- the walk from that hash, down a tree of that shape whose first entry has the number start,
+  -- fails at the node of as many entries from there: at two or more entries where no pair of the
+  -- hash is held, and at one where no 0x00 || entry of the hash is; else it goes on to both parts
   abbrev pub WalkFails : Tree ℕ → ℕ → List ℕ → ℕ → ℕ → Type 0
   WalkFails Empty start hash at many = ⊥
   WalkFails (One x) start hash at many =
       IsSpot start 1 at many × ((entry : List ℕ) → IsHeldAt digest held hash (0 ∷ entry) → ⊥)
   WalkFails (Join l r) start hash at many =
       (IsSpot start (size_of l + size_of r) at many × ((x y : List ℕ) → IsPairHeld hash x y → ⊥))
-      ⊎ ((x : List ℕ) × (y : List ℕ) × IsPairHeld hash x y × (WalkFails l start x at many ⊎ WalkFails r (start + size_of l) y at many))
+      ⊎ ((x : List ℕ)
+      × (y : List ℕ)
+      × IsPairHeld hash x y
+      × (WalkFails l start x at many ⊎ WalkFails r (start + size_of l) y at many))
 
-  -- the paths of a head of that size and root: those of the nodes where the walk from its root fails
+  -- the paths of a head of that size and root: those of the nodes where the walk from its root
+  -- fails
   pub record IsMissing (size : ℕ) (hash : List ℕ) (path : Path) : Type 0 where
     pub at : ℕ
     pub many : ℕ
@@ -40,4 +44,5 @@ module _ (digest : List ℕ → List ℕ) (held : Strings) where
   -- what is held and the tree of the entries together do not clash
   abbrev pub NoClashWith : List (List ℕ) → Type 0
   NoClashWith entries =
-      (x y : List ℕ) → Has held x ⊎ Contains (strings digest entries) x → Has held y ⊎ Contains (strings digest entries) y → digest x ≡ digest y → x ≡ y
+      (x y : List ℕ) → Has held x ⊎ Contains (strings digest entries) x →
+      Has held y ⊎ Contains (strings digest entries) y → digest x ≡ digest y → x ≡ y

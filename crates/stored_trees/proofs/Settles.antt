@@ -8,6 +8,7 @@ use Rattle.std.specs.Cmp.{tied_itself}
 use Rattle.std.specs.FinSet as set
 use Rattle.std.specs.FinSet.{contains-insert}
 use Rattle.tlog_shape.specs.Split.{split_of}
+use Rattle.node_store.proofs.Sets.{or_left, or_right, or_either}
 use Rattle.node_store.specs.Strings.{Strings, Has, IsHeldAt, NoClash}
 use Rattle.mirror_model.specs.Complete.{IsBuilt}
 use Rattle.mirror_model.specs.Forks.{Point, point_cmp}
@@ -19,32 +20,20 @@ use Rattle.stored_trees.proofs.SliceSteps.{point_at, no_slice, one_slice, whole_
 
 -- ---- a set with one point more
 
-has_or : (a b : Bool) → (a || b) ≡ true → (a ≡ true) ⊎ (b ≡ true)
-has_or true b h = inl refl
-has_or false b h = inr h
-
-or_first : (a b : Bool) → a ≡ true → (a || b) ≡ true
-or_first true b h = refl
-or_first false b h = absurd (cc h)
-
-or_second : (a b : Bool) → b ≡ true → (a || b) ≡ true
-or_second true b h = refl
-or_second false b h = h
-
 tie : (o : Ordering) → is_eq o ≡ true → o ≡ Equal
 tie Less h = absurd (cc h)
 tie Equal h = refl
 tie Greater h = absurd (cc h)
 
 pub mark_added : (v : Points) (p : Point) → HasMark (set.insert v p) p
-mark_added v p = contains-insert point_total v p p ∙ or_first _ _ (ap is_eq (tied_itself point_total p))
+mark_added v p = contains-insert point_total v p p ∙ or_left _ _ (ap is_eq (tied_itself point_total p))
 
 pub mark_kept : (v : Points) (p q : Point) → HasMark v q → HasMark (set.insert v p) q
-mark_kept v p q h = contains-insert point_total v p q ∙ or_second _ _ h
+mark_kept v p q h = contains-insert point_total v p q ∙ or_right _ _ h
 
 pub mark_cases : (v : Points) (p q : Point) → HasMark (set.insert v p) q → (q ≡ p) ⊎ HasMark v q
 mark_cases v p q h =
-    elim (has_or _ _ (sym (contains-insert point_total v p q) ∙ h)) [
+    elim (or_either _ _ (sym (contains-insert point_total v p q) ∙ h)) [
       | inl t ↦ inl (point_same q p (tie (point_cmp q p) t))
       | inr m ↦ inr m
     ]

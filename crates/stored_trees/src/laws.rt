@@ -11,7 +11,7 @@ pub fn known_law()
 {}
 
 /// What is no longer than a prefix of a list begins the list exactly where it begins that prefix.
-pub fn prefix_law()
+pub fn prefix_of_prefix_law()
     ensures { PrefixOfPrefix }
 {}
 
