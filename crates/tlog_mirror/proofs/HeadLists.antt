@@ -56,14 +56,27 @@ module _ {X Y : Type 0} (f : X → Y) where
   pub source_of : (xs : List X) (y : Y) → Contains (map f xs) y → (x : X) × Contains xs x × (f x ≡ y)
   source_of xs y (k, lt, is) = let u = unmapped f xs k y lt is in (u.one, (k, u.within, u.is_there), u.is)
 
-all_mapped : (a : ℕ × List ℕ) (xs : List (ℕ × List ℕ)) → AllByRecursion (λ b. by_point a b ≡ Less) xs → AllByRecursion (λ p. point_cmp (pair_point a) p ≡ Less) (map pair_point xs)
-all_mapped a [] h = tt
-all_mapped a (x ∷ xs) h = (h.0, all_mapped a xs h.1)
+module _ {X Y : Type 0} (f : X → Y) (cmp : Y → Y → Ordering) where
+  abbrev pub through : X → X → Ordering
+  through a b = cmp (f a) (f b)
 
-sorted_mapped : (xs : List (ℕ × List ℕ)) → IsStrictlySortedBy by_point xs → IsStrictlySortedBy point_cmp (map pair_point xs)
-unfolding IsStrictlySortedBy
-sorted_mapped [] h = tt
-sorted_mapped (x ∷ xs) h = (all_mapped x xs h.0, sorted_mapped xs h.1)
+  all_out : (x : X) (xs : List X) → AllByRecursion (λ y. through x y ≡ Less) xs → AllByRecursion (λ y. cmp (f x) y ≡ Less) (map f xs)
+  all_out x [] h = tt
+  all_out x (y ∷ xs) h = (h.0, all_out x xs h.1)
+
+  all_in : (x : X) (xs : List X) → AllByRecursion (λ y. cmp (f x) y ≡ Less) (map f xs) → AllByRecursion (λ y. through x y ≡ Less) xs
+  all_in x [] h = tt
+  all_in x (y ∷ xs) h = (h.0, all_in x xs h.1)
+
+  pub sorted_out : (xs : List X) → IsStrictlySortedBy through xs → IsStrictlySortedBy cmp (map f xs)
+  unfolding IsStrictlySortedBy
+  sorted_out [] s = tt
+  sorted_out (x ∷ xs) s = (all_out x xs s.0, sorted_out xs s.1)
+
+  pub sorted_in : (xs : List X) → IsStrictlySortedBy cmp (map f xs) → IsStrictlySortedBy through xs
+  unfolding IsStrictlySortedBy
+  sorted_in [] s = tt
+  sorted_in (x ∷ xs) s = (all_in x xs s.0, sorted_in xs s.1)
 
 -- the sizes and roots of the notes that are kept
 pub kept_points : (kept : List KeptNote) (p : ℕ × List ℕ) → Contains (map (λ (one : KeptNote). (one.size, one.root)) kept) p ↔ HasKept kept (pair_point p)
@@ -97,7 +110,7 @@ module _ (digest : List ℕ → List ℕ) (origin : List ℕ) (kept : List KeptN
   reports : (heads : List Head) → map head_point heads ≡ map pair_point points → All (IsBuiltFlag digest strings) heads → ReportsHeads digest old.view heads
   reports heads same flags = record {
     lists = record {
-      sorted = subst (IsStrictlySortedBy point_cmp) (sym same) (sorted_mapped points sorted);
+      sorted = subst (IsStrictlySortedBy point_cmp) (sym same) (sorted_out pair_point point_cmp points sorted);
       exact = λ point. (
         λ c. subst (λ (o : State). HasHead o.view point.size point.root) old_is (head_listed point (subst (λ xs. Contains xs point) same c)),
         λ h. subst (λ xs. Contains xs point) (sym same) (listed_head point (subst (λ (o : State). HasHead o.view point.size point.root) (sym old_is) h)),

@@ -166,6 +166,7 @@ module _ (digest : List ℕ → List ℕ) (origin : List ℕ) (kept : List KeptN
       };
       marks = λ point h. marks_stay digest before after more_notes point (ok.sound.marks point h);
     };
+    settled = ok.settled;
     rising = inserted_rises kept ok.rising k at within gap;
     said = All-permutation (λ (x : KeptNote). IsHead (note_bytes x) origin x.size x.root) (k ∷ kept) (insert kept at k) (IsPermutation-insert kept at k)
         (All-cons (λ (x : KeptNote). IsHead (note_bytes x) origin x.size x.root) k kept said ok.said);

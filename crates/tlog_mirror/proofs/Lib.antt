@@ -2,8 +2,17 @@ pub mod NewMirrors
 pub mod TakenItems
 pub mod EdgeRows
 pub mod KeptNotes
+pub mod ListedNotes
+pub mod MergedMirrors
+pub mod PlayedEvents
+pub mod JudgedEvents
 pub mod TakenHeads
 pub mod BestNotes
 pub mod ServedNotes
 pub mod ServedParts
 pub mod HeadLists
+pub mod SettledHeads
+pub mod BranchSteps
+pub mod Departures
+pub mod FoundForks
+pub mod RestoredMirrors

@@ -9,6 +9,7 @@ use Rattle.mirror_model.specs.Forks.{point_cmp}
 use Rattle.mirror_model.specs.Heads.{IsHead}
 use Rattle.mirror_model.specs.Marks.{Points}
 use Rattle.mirror_model.proofs.Views.{nothing_is_lawful}
+use Rattle.stored_trees.proofs.EmptySets.{empty_settled}
 use Rattle.tlog_mirror.specs.Kept.{note_bytes, IsKeptWell}
 use Rattle.tlog_mirror.specs.declared.kept.KeptNote.{KeptNote}
 
@@ -21,6 +22,7 @@ module _ (digest : List ℕ → List ℕ) (origin : List ℕ) where
       lawful = nothing_is_lawful digest origin;
       marks = λ point h. absurd (let none = set.contains-empty point_cmp point in cc (h, none));
     };
+    settled = empty_settled digest set.empty set.empty (λ i. set.empty);
     rising = tt;
     said = All-nil (λ (k : KeptNote). IsHead (note_bytes k) origin k.size k.root);
   }

@@ -57,7 +57,7 @@ unmapped f (x ∷ xs) (suc k) y lt is =
     let r = unmapped f xs k y (omega (arith, lt)) is in
     record { one = r.one; within = omega (arith, r.within); is_there = r.is_there; is = r.is }
 
-size_at_most : (n m : ℕ) (o : Ordering) → is_gt (ordering_then (nat_cmp n m) o) ≡ false → n ≤ m
+pub size_at_most : (n m : ℕ) (o : Ordering) → is_gt (ordering_then (nat_cmp n m) o) ≡ false → n ≤ m
 size_at_most n m o h =
     by_ranked (n < m) (n ≡ m) (m < n) (nat_cmp n m) (ranked n m (nat_cmp n m) refl)
     (λ e lt. omega (arith, lt))

@@ -14,7 +14,7 @@ use Rattle.mirror_model.specs.Strings.{IsDigest}
 use Rattle.mirror_model.proofs.StringSets.{all_from_held}
 use Rattle.mirror_model.proofs.FullBundles.{strings_leaf}
 use Rattle.mirror_model.proofs.OneLists.{serves_one, only}
-use Rattle.tlog_mirror.specs.Tops.{Top, IsWhole, IsListOf, IsServedAs, IsTop, ServesNothing, TopHasServed, ProofsAreServed}
+use Rattle.tlog_mirror.specs.Tops.{Top, IsWhole, IsListOf, IsServedAs, IsServedTop, ServesNothing, TopHasServed, ProofsAreServed}
 
 module _ (digest : List ℕ → List ℕ) (v : View) where
   -- two lists that are served have one length
@@ -26,7 +26,7 @@ module _ (digest : List ℕ → List ℕ) (v : View) where
       let ge : size ≤ n = q.greatest_size note size root is_p in
       p.tree.size_is ∙ omega (arith, le, ge) ∙ sym q.tree.size_is
 
-  module _ (top : Top) (is : IsTop digest v top) where
+  module _ (top : Top) (is : IsServedTop digest v top) where
     abbrev entries : List (List ℕ)
     entries = is.served.entries
 

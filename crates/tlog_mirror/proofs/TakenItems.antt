@@ -23,10 +23,12 @@ use Rattle.tlog_mirror.specs.Kept.{state_of, IsKeptWell}
 use Rattle.tlog_mirror.specs.Adding.{with_strings, added, taken_of}
 use Rattle.mirror_model.specs.Strings.{IsDigest}
 use Rattle.tlog_mirror.specs.declared.kept.KeptNote.{KeptNote}
-use Rattle.mirror_model.proofs.StringSets.{decide, has_left, has_right, has_cases, has_empty, same_strings, listed_from_has}
+use Rattle.node_store.proofs.Sets.{decide}
+use Rattle.mirror_model.proofs.StringSets.{has_left, has_right, has_cases, has_empty, same_strings, listed_from_has}
 use Rattle.mirror_model.proofs.Views.{edge_stays, marks_stay}
 use Rattle.mirror_model.proofs.ItemBytes.{row_is_one, bundle_is_one}
 use Rattle.mirror_model.proofs.ItemStrings.{IsItemString, item_strings}
+use Rattle.stored_trees.proofs.Settles.{settled_stays}
 
 -- ---- two sets together
 
@@ -90,10 +92,10 @@ module _ (digest : List ℕ → List ℕ) (origin : List ℕ) (kept : List KeptN
   grown_within grows = record { origin_is = refl; notes_are = λ note h. h; strings_are = grows }
 
   pub stays_well :
-      ((s : List ℕ) → Has strings s → Has now s) → ((s : List ℕ) → Has now s → Has (set.union strings more) s) →
+      IsDigest digest → ((s : List ℕ) → Has strings s → Has now s) → ((s : List ℕ) → Has now s → Has (set.union strings more) s) →
       NoClash digest now → AllTagged now → ((entry : List ℕ) → Has more (0 ∷ entry) → length entry ≤ 65535) →
       IsKeptWell digest origin kept now remembered
-  stays_well grows within clean tagged short = record {
+  stays_well hash grows within clean tagged short = record {
     sound = record {
       origin = ok.sound.origin;
       lawful = record {
@@ -104,6 +106,7 @@ module _ (digest : List ℕ → List ℕ) (origin : List ℕ) (kept : List KeptN
       };
       marks = λ point h. marks_stay digest before after (grown_within grows) point (ok.sound.marks point h);
     };
+    settled = settled_stays digest hash strings now grows clean remembered ok.settled;
     rising = ok.rising;
     said = ok.said;
   }

@@ -17,6 +17,10 @@ with_strings v strings = record { origin = v.origin; notes = v.notes; strings = 
 abbrev pub with_note : View → List ℕ → View
 with_note v note = record { origin = v.origin; notes = set.union v.notes (set.from_list (note ∷ [])); strings = v.strings }
 
+-- the view with these notes too
+abbrev pub with_notes : View → List (List ℕ) → View
+with_notes v notes = record { origin = v.origin; notes = set.union v.notes (set.from_list notes); strings = v.strings }
+
 -- what an answer of adding strings is to the views
 abbrev pub added : Result (Unit {0}) AddFault → Answer
 added (Ok done) = Done

@@ -7,6 +7,7 @@ use Rattle.std.specs.FinSet as set
 use Rattle.node_store.specs.Strings.{Strings}
 use Rattle.mirror_model.specs.Heads.{IsHead}
 use Rattle.mirror_model.specs.Marks.{Points, State, IsSound}
+use Rattle.stored_trees.specs.Slices.{AreSettled}
 use Rattle.tlog_mirror.specs.declared.kept.KeptNote.{KeptNote}
 
 -- the bytes of a kept note
@@ -21,10 +22,12 @@ state_of origin kept strings remembered =
       remembered = remembered;
     }
 
--- it is sound; its kept notes rise by their bytes, and each stands beside the size and the root that it says
+-- it is sound; of each tree that is remembered all slices are; its kept notes rise by their bytes, and each stands
+-- beside the size and the root that it says
 pub record IsKeptWell
     (digest : List ℕ → List ℕ) (origin : List ℕ) (kept : List KeptNote) (strings : Strings)
     (remembered : Points) : Type 0 where
   pub sound : IsSound digest (state_of origin kept strings remembered)
+  pub settled : AreSettled digest strings remembered
   pub rising : IsStrictlySortedBy (slice_cmp nat_cmp) (map note_bytes kept)
   pub said : All (λ k. IsHead (note_bytes k) origin k.size k.root) kept

@@ -3,3 +3,8 @@ pub mod Adding
 pub mod Edges
 pub mod Tops
 pub mod Best
+pub mod NoteLists
+pub mod Branches
+pub mod Settled
+pub mod Restored
+pub mod Plays

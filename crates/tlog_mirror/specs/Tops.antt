@@ -7,7 +7,7 @@ use Rattle.mirror_model.specs.View.{View, strings_code}
 use Rattle.mirror_model.specs.Complete.{IsTreeOf, IsBuilt, IsLawful}
 use Rattle.mirror_model.specs.Served.{Served, IsServedList}
 use Rattle.mirror_model.specs.Strings.{IsDigest}
-use Rattle.tlog_proof.specs.Answers.{Answers}
+use Rattle.tlog_proof.specs.Answers.{AnswersAs}
 use Rattle.tlog_proof.specs.Made.{asked_proof}
 use Rattle.tlog_proof.specs.declared.make.ProofFault.{ProofFault}
 use Rattle.tlog_proof.specs.declared.make.ProofFault.TheVariants.{OutOfMemory}
@@ -43,7 +43,7 @@ module _ (digest : List ℕ → List ℕ) where
     pub served : Served digest v note size root entries
 
   -- it is what the view serves
-  pub record IsTop (v : View) (top : Top) : Type 0 where
+  pub record IsServedTop (v : View) (top : Top) : Type 0 where
     pub strings_are : top.strings ≡ v.strings
     pub served : IsServedAs v top.note top.size top.root
 
@@ -54,19 +54,19 @@ module _ (digest : List ℕ → List ℕ) where
 -- of a lawful view it stands for the entries that are served
 abbrev pub TopHasServed : Type 0
 TopHasServed =
-    (digest : List ℕ → List ℕ) → IsDigest digest → (v : View) → IsLawful digest v → (top : Top) → IsTop digest v top →
+    (digest : List ℕ → List ℕ) → IsDigest digest → (v : View) → IsLawful digest v → (top : Top) → IsServedTop digest v top →
     (entries : List (List ℕ)) → IsListOf digest top entries ↔ IsServedList digest v entries
 
 -- what was asked for was made of the entries that are served, want of memory apart
 pub record IsServedProof (digest : List ℕ → List ℕ) (v : View) (ask : Ask) (result : Result Proof ProofFault) : Type 0 where
   pub entries : List (List ℕ)
   pub served : IsServedList digest v entries
-  pub answers : Answers OutOfMemory (λ proof. proof) result (asked_proof digest entries ask)
+  pub answers : AnswersAs OutOfMemory (λ proof. proof) result (asked_proof digest entries ask)
 
 -- a proof that is made over it, as that of each list that it stands for, is one of the entries that are served
 abbrev pub ProofsAreServed : Type 0
 ProofsAreServed =
-    (digest : List ℕ → List ℕ) (v : View) (top : Top) → IsTop digest v top →
+    (digest : List ℕ → List ℕ) (v : View) (top : Top) → IsServedTop digest v top →
     (ask : Ask) (result : Result Proof ProofFault) →
-    ((entries : List (List ℕ)) → IsListOf digest top entries → Answers OutOfMemory (λ proof. proof) result (asked_proof digest entries ask)) →
+    ((entries : List (List ℕ)) → IsListOf digest top entries → AnswersAs OutOfMemory (λ proof. proof) result (asked_proof digest entries ask)) →
     IsServedProof digest v ask result

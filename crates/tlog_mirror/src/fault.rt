@@ -1,4 +1,4 @@
-//! Why a mirror is not made.
+//! Why a mirror is not made, or made again.
 use thiserror::Error;
 
 /// Why a mirror was not made. It prints its variant's name.
@@ -7,6 +7,20 @@ pub enum NewFault {
     /// The origin is empty, has more than 65,535 bytes, or has a character below U+0020.
     #[error("BadOrigin")]
     BadOrigin,
+    /// Memory was refused.
+    #[error("OutOfMemory")]
+    OutOfMemory,
+}
+
+/// Why a head is not kept over the strings that are held. It prints its variant's name.
+#[derive(Debug, Drop, PartialEq, Eq, Clone, Copy, Error)]
+pub enum HeldFault {
+    /// The bytes are no note, its text is no checkpoint of the mirror's origin, or no key accepts a line of it.
+    #[error("BadHead")]
+    BadHead,
+    /// The strings of its edge are not held.
+    #[error("NoEdge")]
+    NoEdge,
     /// Memory was refused.
     #[error("OutOfMemory")]
     OutOfMemory,

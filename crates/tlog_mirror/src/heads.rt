@@ -41,7 +41,7 @@ impl<H: TreeHash> Mirror<H> {
 }
 
 // These sizes and roots, each with whether its tree is held.
-fn flagged<H: TreeHash>(
+pub(crate) fn flagged<H: TreeHash>(
     alloc: Global,
     store: &Store<H>,
     marks: &Marks,
@@ -74,7 +74,7 @@ fn head_of<H: TreeHash>(store: &Store<H>, marks: &Marks, size: u64, root: &Hash)
 }
 
 // The sizes and roots of kept notes in order, each once.
-fn points_of(alloc: Global, kept: &[KeptNote]) -> Result<Vec<(u64, Hash)>, AllocError>
+pub(crate) fn points_of(alloc: Global, kept: &[KeptNote]) -> Result<Vec<(u64, Hash)>, AllocError>
     ensures sorted { IfOk result (λ points. IsStrictlySortedBy by_point points.items) }
     ensures exact { IfOk result (λ points. (p : ℕ × List ℕ) → Contains points.items p ↔ HasKept kept.now (pair_point p)) }
 {

@@ -8,13 +8,18 @@
 mod best;
 mod edge;
 mod fault;
+mod forks;
 mod head_note;
 mod heads;
 mod kept;
 mod laws;
+mod merge;
 mod mirror;
 mod missing;
+mod plays;
+mod restored;
 mod served;
+mod settle;
 mod take_head;
 mod takes;
 #[cfg(test)]
@@ -22,8 +27,9 @@ mod tests;
 mod texts;
 mod top_ranges;
 
-pub use fault::NewFault;
+pub use fault::{HeldFault, NewFault};
 pub use laws::served_list_law;
 pub use mirror::Mirror;
 pub use mirror_model::{Bytes, Event, Fork, Head, Item, MergeFault, Rows, TakeFault};
+pub use plays::{fits, play, play_again};
 pub use top_ranges::TopRanges;

@@ -1,8 +1,9 @@
 //! A mirror of one log.
-ghost use Rattle.std.specs.Prelude.{◌≡◌, ◌≤◌, IfOk, OnOk, IsTrue, All, ◌↔◌};
+ghost use Rattle.std.specs.Prelude.{◌≡◌, ◌≤◌, IfOk, OnOk, IsTrue, All, ◌↔◌, option_copied};
 ghost use Rattle.std.specs.FinSet as set;
 ghost use Rattle.mirror_model.specs.Origin.{IsOrigin};
 ghost use Rattle.mirror_model.specs.View.{nothing};
+ghost use Rattle.tlog_mirror.specs.NoteLists.{IsNoteAt};
 
 use crate::fault::NewFault;
 use crate::kept::KeptNote;
@@ -79,6 +80,23 @@ impl<H: TreeHash> Mirror<H> {
         self.remembered.len()
     }
 
+    /// The bytes of the notes that are held, one by one: they rise, from number 0 on. `None` past the last. It
+    /// takes no memory.
+    ///
+    /// ```
+    /// while let Some(note) = mirror.note_at(i) {
+    ///     i += 1;
+    /// }
+    /// ```
+    pub fn note_at(&self, i: usize) -> Option<&[u8]>
+        ensures { IsNoteAt self.now.view i (option_copied result) }
+    {
+        match self.kept.get(i) {
+            Some(kept) => Some(kept.note.bytes()),
+            None => None,
+        }
+    }
+
     /// The strings that are held. It takes no memory.
     pub fn strings(&self) -> &Store<H>
         ensures { result.now ≡ self.now.view.strings }
@@ -88,7 +106,7 @@ impl<H: TreeHash> Mirror<H> {
 }
 
 // Whether a mirror may be of that origin.
-fn is_origin(origin: &str) -> bool
+pub(crate) fn is_origin(origin: &str) -> bool
     ensures { IsTrue result ↔ IsOrigin origin.now }
 {
     !origin.is_empty() && origin.len() <= 65_535 && is_printed(origin.as_bytes())

@@ -4,7 +4,7 @@ ghost use Rattle.mirror_model.specs.Served.{IsRangeHash, IsServedBundle, IsServe
 ghost use Rattle.mirror_model.specs.Reports.{SaysServed};
 ghost use Rattle.std.specs.Option.{option_map};
 ghost use Rattle.tlog_mirror.specs.Best.{pair_point};
-ghost use Rattle.tlog_mirror.specs.Tops.{IsServedAs, IsTop, ServesNothing};
+ghost use Rattle.tlog_mirror.specs.Tops.{IsServedAs, IsServedTop, ServesNothing};
 
 use crate::best::{best_of, first_with};
 use crate::kept::KeptNote;
@@ -20,7 +20,7 @@ impl<H: TreeHash> Mirror<H> {
     /// root, then of the least note by bytes, with its entries. `None` exactly where none is complete. It takes no
     /// memory.
     pub fn top_ranges(&self) -> Option<TopRanges<'_, H>>
-        ensures some { IfSome result (λ top. IsTop H.digest self.now.view top) }
+        ensures some { IfSome result (λ top. IsServedTop H.digest self.now.view top) }
         ensures none { IfNone result (ServesNothing H.digest self.now.view) }
     {
         let Some(kept) = self.served() else {

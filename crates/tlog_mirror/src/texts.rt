@@ -3,11 +3,11 @@ ghost use Rattle.std.specs.Prelude.{◌≡◌, ◌++◌, IfOk, IfSome, IfNone, O
 ghost use Rattle.std.specs.Option.{option_map};
 ghost use Rattle.std.specs.List.{flat_map};
 ghost use Rattle.mirror_model.specs.Heads.{HasHead};
-ghost use Rattle.mirror_model.specs.Texts.{IsMissingText, IsStatusText, head_line, missing_text, path_line, point_text, served_line};
+ghost use Rattle.mirror_model.specs.Texts.{IsForksText, IsMissingText, IsStatusText, fork_line, forks_text, head_line, missing_text, path_line, point_text, served_line};
 ghost use Rattle.tlog_mirror.specs.Best.{pair_point};
 
 use crate::mirror::Mirror;
-use mirror_model::Head;
+use mirror_model::{Fork, Head};
 use std::alloc::{AllocError, Global};
 use tlog_hash::{Hash, TreeHash};
 use tlog_text::{push_hash, push_number};
@@ -30,6 +30,21 @@ impl<H: TreeHash> Mirror<H> {
         text.push_str("\n")?;
         push_heads(&mut text, heads.as_slice())?;
         push_served(&mut text, &served)?;
+        Ok(text)
+    }
+
+    /// The forks, a line each, the smaller head first: `fork SIZE ROOT SIZE ROOT`. Where there is none there are no
+    /// bytes.
+    ///
+    /// # Errors
+    ///
+    /// Memory was refused.
+    pub fn forks_text(&self, alloc: Global) -> Result<String, AllocError>
+        ensures { IfOk result (λ text. IsForksText H.digest self.now.view (string_bytes text)) }
+    {
+        let forks = self.forks(alloc)?;
+        let mut text = String::new(alloc);
+        push_forks(&mut text, forks.as_slice())?;
         Ok(text)
     }
 
@@ -101,6 +116,27 @@ fn push_served(text: &mut String, served: &Option<(u64, Hash)>) -> Result<(), Al
         }
         None => text.push_str("served none\n"),
     }
+}
+
+// Adds the line of a fork.
+fn push_fork(text: &mut String, fork: &Fork) -> Result<(), AllocError>
+    ensures { OnOk result (string_bytes text.new ≡ string_bytes text.old ++ fork_line fork.now) }
+{
+    text.push_str("fork ")?;
+    push_point(text, fork.small.0, &fork.small.1)?;
+    text.push_str(" ")?;
+    push_point(text, fork.large.0, &fork.large.1)?;
+    text.push_str("\n")
+}
+
+// Adds a line for each fork.
+fn push_forks(text: &mut String, forks: &[Fork]) -> Result<(), AllocError>
+    ensures { OnOk result (string_bytes text.new ≡ string_bytes text.old ++ forks_text forks.now) }
+{
+    for fork in forks {
+        push_fork(text, fork)?;
+    }
+    Ok(())
 }
 
 // Adds a line for each path.

@@ -1,0 +1,82 @@
+-- Plays: events on mirrors, one after another.
+use Rattle.std.specs.Prelude.{◌≡◌, ℕ, zero, suc, ◌+◌, ◌<◌, List, [], ◌∷◌, map, Some, Result, Ok, Err, slice_get}
+use Rattle.std.specs.FinSet as set
+use Rattle.signed_note.specs.Keys.{Key}
+use Rattle.mirror_model.specs.View.{View}
+use Rattle.mirror_model.specs.Marks.{Points, State}
+use Rattle.mirror_model.specs.declared.events.Event.{Event}
+use Rattle.mirror_model.specs.declared.events.Event.TheVariants.{Take, Merge}
+use Rattle.mirror_model.specs.declared.fault.MergeFault.{MergeFault}
+use Rattle.mirror_model.specs.declared.fault.TakeFault.{TakeFault}
+use Rattle.mirror_model.specs.declared.items.Item.{Item}
+use Rattle.mirror_model.specs.declared.items.Item.TheVariants.{Head, Tile, Bundle}
+use Rattle.mirror_model.specs.Answered.{take_fault_of}
+use Rattle.mirror_model.specs.Item.{IsWidth}
+use Rattle.mirror_model.specs.Refusals.{JudgesHead, JudgesTile, JudgesBundle}
+use Rattle.mirror_model.specs.Steps.{Answer, Exhausted, Happens}
+
+-- the views of mirrors
+abbrev pub views_of : List State → List View
+views_of world = map (λ state. state.view) world
+
+-- what mirrors remember
+abbrev pub all_remembered : List State → List Points
+all_remembered world = map (λ state. state.remembered) world
+
+-- the origins of mirrors
+abbrev pub origins_of : List State → List (List ℕ)
+origins_of world = map (λ state. state.view.origin) world
+
+-- a merge's answer among those of takes
+abbrev pub IsMergeAnswer : Result (Unit {0}) TakeFault → Type 0
+IsMergeAnswer (Ok done) = Unit {0}
+IsMergeAnswer (Err fault) = (merging : MergeFault) × (fault ≡ take_fault_of merging)
+
+module _ (digest : List ℕ → List ℕ) (keys : List Key) where
+  -- a take is answered by the first refusal that applies, as its call answers it
+  abbrev pub JudgesItem : List ℕ → Item → Result (Unit {0}) TakeFault → Type 0
+  JudgesItem origin (Head note edge) answer = JudgesHead digest origin keys note edge answer
+  JudgesItem origin (Tile width bytes) answer = JudgesTile width bytes answer
+  JudgesItem origin (Bundle width bytes) answer = JudgesBundle width bytes answer
+
+  abbrev pub JudgesEvent : List (List ℕ) → Event → Result (Unit {0}) TakeFault → Type 0
+  JudgesEvent origins (Take target item) answer =
+      (origin : List ℕ) → slice_get origins target ≡ Some origin → JudgesItem origin item answer
+  JudgesEvent origins (Merge target source) answer = IsMergeAnswer answer
+
+  -- so are events, one after another, on mirrors of these origins
+  abbrev pub JudgesEvents :
+      List (List ℕ) → List Event → List (Result (Unit {0}) TakeFault) → Type 0
+  JudgesEvents origins [] [] = Unit {0}
+  JudgesEvents origins (event ∷ events) (answer ∷ answers) =
+      JudgesEvent origins event answer × JudgesEvents origins events answers
+  JudgesEvents origins [] (answer ∷ answers) = ⊥
+  JudgesEvents origins (event ∷ events) [] = ⊥
+
+  -- the event happens that many times, and each time memory is refused
+  abbrev pub RunsOut : ℕ → List View → Event → List View → Type 0
+  RunsOut zero old event new = new ≡ old
+  RunsOut (suc times) old event new = (between : List View) × RunsOut times old event between × Happens digest keys between event Exhausted new
+
+  -- an event happens until it is not for want of memory that it fails, that many times at most; its last answer is this
+  pub record HappensWithin (tries : ℕ) (old : List View) (event : Event) (answer : Answer) (new : List View) : Type 0 where
+    pub before : ℕ
+    pub few : before < tries
+    pub between : List View
+    pub ran_out : RunsOut before old event between
+    pub last : Happens digest keys between event answer new
+    pub all_tried : answer ≡ Exhausted → before + 1 ≡ tries
+
+  -- so happen events, one after another, with an answer each
+  abbrev pub RunsWithin : ℕ → List View → List Event → List Answer → List View → Type 0
+  RunsWithin tries old [] [] new = new ≡ old
+  RunsWithin tries old (event ∷ events) (answer ∷ answers) new =
+      (between : List View) × HappensWithin tries old event answer between × RunsWithin tries between events answers new
+  RunsWithin tries old [] (answer ∷ answers) new = ⊥
+  RunsWithin tries old (event ∷ events) [] new = ⊥
+
+-- a tile or a bundle has a width of tiles and bundles
+abbrev pub HasWidth : Item → Type 0
+HasWidth (Head note edge) = Unit {0}
+HasWidth (Tile width bytes) = IsWidth width
+HasWidth (Bundle width bytes) = IsWidth width

@@ -1,0 +1,64 @@
+-- A mirror that is made again of what was kept of one: of its strings, and then of its notes.
+use Rattle.std.specs.Prelude.{◌≡◌, ℕ, List, Result, Ok, Err}
+use Rattle.std.specs.FinSet as set
+use Rattle.signed_note.specs.Keys.{Key}
+use Rattle.node_store.specs.Strings.{Strings}
+use Rattle.mirror_model.specs.Complete.{HasEdge}
+use Rattle.mirror_model.specs.Heads.{IsHead, IsOpenHead}
+use Rattle.mirror_model.specs.View.{View}
+use Rattle.mirror_model.specs.declared.fault.TakeFault.{TakeFault}
+use Rattle.mirror_model.specs.declared.fault.TakeFault.TheVariants as taking
+use Rattle.tlog_mirror.specs.Adding.{with_note}
+use Rattle.tlog_mirror.specs.declared.fault.HeldFault.{HeldFault}
+use Rattle.tlog_mirror.specs.declared.fault.HeldFault.TheVariants.{BadHead, NoEdge, OutOfMemory}
+use Rattle.tlog_mirror.specs.declared.kept.KeptNote.{KeptNote}
+
+-- these strings, and no note
+abbrev pub strings_alone : List ℕ → Strings → View
+strings_alone origin strings = record { origin = origin; notes = set.empty; strings = strings }
+
+-- a note that opens under the keys, whose text is a checkpoint of that origin
+pub record IsOpenNote (origin : List ℕ) (keys : List Key) (note : List ℕ) : Type 0 where
+  pub size : ℕ
+  pub root : List ℕ
+  pub is_head : IsOpenHead note origin keys size root
+
+module _ (digest : List ℕ → List ℕ) where
+  -- a note is kept exactly where it opens and the strings of its edge are held already
+  abbrev pub KeepsHeld : View → List Key → List ℕ → Result (Unit {0}) HeldFault → View → Type 0
+  KeepsHeld old keys note (Ok done) new =
+      IsOpenNote old.origin keys note × HasEdge digest old note × (new ≡ with_note old note)
+  KeepsHeld old keys note (Err BadHead) new = (IsOpenNote old.origin keys note → ⊥) × (new ≡ old)
+  KeepsHeld old keys note (Err NoEdge) new =
+      IsOpenNote old.origin keys note × (HasEdge digest old note → ⊥) × (new ≡ old)
+  KeepsHeld old keys note (Err OutOfMemory) new = new ≡ old
+
+  -- ---- what the private readers' contracts cite
+
+  -- a note that may be kept
+  pub record IsHeldHead (v : View) (keys : List Key) (note : List ℕ) (kept : KeptNote) : Type 0 where
+    pub opened : IsOpenNote v.origin keys note
+    pub bytes_are : kept.note.bytes ≡ note
+    pub said : IsHead kept.note.bytes v.origin kept.size kept.root
+    pub edge : HasEdge digest v kept.note.bytes
+
+  abbrev pub FindsHeld : View → List Key → List ℕ → Result KeptNote HeldFault → Type 0
+  FindsHeld v keys note (Ok kept) = IsHeldHead v keys note kept
+  FindsHeld v keys note (Err BadHead) = IsOpenNote v.origin keys note → ⊥
+  FindsHeld v keys note (Err NoEdge) = IsOpenNote v.origin keys note × (HasEdge digest v note → ⊥)
+  FindsHeld v keys note (Err OutOfMemory) = Unit {0}
+
+-- what a fault of reading a head is here
+abbrev pub held_fault_of : TakeFault → HeldFault
+held_fault_of (taking.Note fault) = BadHead
+held_fault_of (taking.Checkpoint fault) = BadHead
+held_fault_of taking.OtherOrigin = BadHead
+held_fault_of taking.NoTrustedSignature = BadHead
+held_fault_of taking.EdgeCount = BadHead
+held_fault_of taking.EdgeLength = BadHead
+held_fault_of taking.EdgeMismatch = BadHead
+held_fault_of taking.RowLength = BadHead
+held_fault_of taking.BundleShort = BadHead
+held_fault_of taking.BundleLong = BadHead
+held_fault_of taking.Collision = BadHead
+held_fault_of taking.OutOfMemory = OutOfMemory

@@ -1,0 +1,58 @@
+//! Mirrors that are merged.
+ghost use Rattle.std.specs.Prelude.{◌≡◌, ℕ, All, OnOk, OnErr, map, take};
+ghost use Rattle.mirror_model.specs.Answered.{merge_answer_of};
+ghost use Rattle.mirror_model.specs.Complete.{HasEdge};
+ghost use Rattle.mirror_model.specs.Heads.{IsHead};
+ghost use Rattle.mirror_model.specs.Steps.{Merges};
+ghost use Rattle.tlog_mirror.specs.Adding.{with_notes};
+ghost use Rattle.tlog_mirror.specs.Kept.{note_bytes};
+
+use crate::kept::KeptNote;
+use crate::mirror::Mirror;
+use mirror_model::MergeFault;
+use node_store::AddFault;
+use std::alloc::{AllocError, Global};
+use tlog_hash::TreeHash;
+
+impl<H: TreeHash> Mirror<H> {
+    /// Adds all that another mirror of the log holds: its strings, and then its notes. The other stays as it is.
+    ///
+    /// # Errors
+    ///
+    /// The first that applies: `OtherOrigin`, where the other is of another origin; `Collision`, where two
+    /// different strings, of those that the two hold, share a digest. They leave the mirror as it was.
+    /// `OutOfMemory` where a growth was refused: the mirror then lies between what it was and what it would
+    /// have been, it has a new note only where it has all strings of the other, and merging again completes it.
+    pub fn merge(&mut self, alloc: Global, other: &Mirror<H>) -> Result<(), MergeFault>
+        ensures merges { Merges H.digest self.old.view other.now.view (merge_answer_of result) self.new.view }
+        ensures remembered { self.new.remembered ≡ self.old.remembered }
+    {
+        if self.origin() != other.origin() {
+            return Err(MergeFault::OtherOrigin);
+        }
+        match self.add_strings(&other.strings) {
+            Ok(()) => {}
+            Err(AddFault::Collision) => return Err(MergeFault::Collision),
+            Err(AddFault::OutOfMemory) => return Err(MergeFault::OutOfMemory),
+        }
+        match self.keep_notes(alloc, other.kept.as_slice()) {
+            Ok(()) => Ok(()),
+            Err(AllocError) => Err(MergeFault::OutOfMemory),
+        }
+    }
+
+    // Enters notes, each in its place, one after the other.
+    fn keep_notes(&mut self, alloc: Global, notes: &[KeptNote]) -> Result<(), AllocError>
+        requires said { All (λ k. IsHead (note_bytes k) self.old.view.origin k.size k.root) notes.now }
+        requires edges { All (λ k. HasEdge H.digest self.old.view (note_bytes k)) notes.now }
+        ensures ok { OnOk result (self.new.view ≡ with_notes self.old.view (map note_bytes notes.now)) }
+        ensures err { OnErr result ((count : ℕ) × (self.new.view ≡ with_notes self.old.view (map note_bytes (take count notes.now)))) }
+        ensures remembered { self.new.remembered ≡ self.old.remembered }
+    {
+        for kept in notes {
+            let copy = kept.copy(alloc)?;
+            self.keep_note(copy)?;
+        }
+        Ok(())
+    }
+}

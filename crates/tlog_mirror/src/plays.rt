@@ -1,0 +1,279 @@
+//! Events on mirrors, one after another.
+ghost use Rattle.std.specs.Prelude.{◌≡◌, ◌≤◌, ◌<◌, ◌↔◌, List, IsTrue, IfOk, OnErr, MatchResult, length, map};
+ghost use Rattle.mirror_model.specs.Answered.{answer_of, merge_answer_of, take_fault_of};
+ghost use Rattle.mirror_model.specs.Events.{Fits, IsFitting};
+ghost use Rattle.mirror_model.specs.Item.{IsWidth};
+ghost use Rattle.mirror_model.specs.Steps.{Happens, Merges, MergesAt, Run, Takes, TakesAt};
+ghost use Rattle.mirror_model.specs.declared.events.Event.TheVariants.{Take};
+ghost use Rattle.mirror_model.specs.declared.items.Item.TheVariants.{Head};
+ghost use Rattle.signed_note.specs.Keys.{Key};
+ghost use Rattle.tlog_mirror.specs.Plays.{HappensWithin, HasWidth, IsMergeAnswer, JudgesEvent, JudgesEvents, JudgesItem, RunsWithin, all_remembered, origins_of, views_of};
+
+use crate::mirror::Mirror;
+use mirror_model::{Event, Item, MergeFault, Rows, TakeFault};
+use signed_note::Verifier;
+use std::alloc::{AllocError, Global};
+use tlog_hash::TreeHash;
+
+/// Whether the events are of mirrors below that count, and of items whose widths are from 1 to 256. It takes no
+/// memory.
+pub fn fits(events: &[Event], count: usize) -> bool
+    ensures { IsTrue result ↔ Fits events.now count }
+{
+    events.iter().all(|event| is_fitting(event, count))
+}
+
+// Whether one event is so.
+fn is_fitting(event: &Event, count: usize) -> bool
+    ensures { IsTrue result ↔ IsFitting count event.now }
+{
+    match event {
+        Event::Take { target, item } => *target < count && has_width(item),
+        Event::Merge { target, source } => *target < count && *source < count,
+    }
+}
+
+// Whether a tile or a bundle has a width from 1 to 256.
+fn has_width(item: &Item) -> bool
+    ensures { IsTrue result ↔ HasWidth item.now }
+{
+    match item {
+        Item::Head { note: _, edge: _ } => true,
+        Item::Tile { width, bytes: _ } => is_width(*width),
+        Item::Bundle { width, bytes: _ } => is_width(*width),
+    }
+}
+
+// Whether it is a width of tiles and bundles.
+fn is_width(width: u32) -> bool
+    ensures { IsTrue result ↔ IsWidth width }
+{
+    1 <= width && width <= 256
+}
+
+/// Lets events happen to mirrors, one after another, and gives one answer for each: that of the take, or of the
+/// merge, whose faults keep their names. A merge of a mirror with itself changes nothing. The keys are those that heads
+/// are opened with.
+///
+/// ```
+/// let events = [
+///     Event::Take { target: 1, item: Item::Bundle { width: 1, bytes: Bytes::new(bundle) } },
+///     Event::Merge { target: 0, source: 1 },
+/// ];
+/// if fits(&events, world.len()) {
+///     let answers = play(alloc, &mut world, &keys, &events)?;
+/// }
+/// ```
+///
+/// # Errors
+///
+/// Memory for the list of answers was refused: it is made first, and no mirror has changed. Want of memory at an event is
+/// that event's answer, `TakeFault::OutOfMemory`.
+pub fn play<H: TreeHash>(
+    alloc: Global,
+    world: &mut [Mirror<H>],
+    keys: &[Box<dyn Verifier>],
+    events: &[Event],
+) -> Result<Vec<Result<(), TakeFault>>, AllocError>
+    requires fits { Fits events.now (length world.old) }
+    ensures run { IfOk result (λ answers. Run H.digest (map (λ k. key k) keys.now) (views_of world.old) events.now (map answer_of answers.items) (views_of world.new)) }
+    ensures judged { IfOk result (λ answers. JudgesEvents H.digest (map (λ k. key k) keys.now) (origins_of world.old) events.now answers.items) }
+    ensures err { OnErr result (world.new ≡ world.old) }
+    ensures remembered { all_remembered world.new ≡ all_remembered world.old }
+{
+    let mut answers = Vec::with_capacity(alloc, events.len())?;
+    for event in events {
+        let answer = happen(alloc, world, keys, event);
+        let Ok(()) = answers.push(answer) else {
+            unreachable!()
+        };
+    }
+    Ok(answers)
+}
+
+/// As `play`, but an event that runs out of memory happens again before any other, that many times in all at most; its
+/// last answer counts. Such an event comes to the same as one that happens once.
+///
+/// # Errors
+///
+/// Memory for the list of answers was refused: it is made first, and no mirror has changed.
+pub fn play_again<H: TreeHash>(
+    alloc: Global,
+    world: &mut [Mirror<H>],
+    keys: &[Box<dyn Verifier>],
+    events: &[Event],
+    tries: u32,
+) -> Result<Vec<Result<(), TakeFault>>, AllocError>
+    requires fits { Fits events.now (length world.old) }
+    requires some { 1 ≤ tries }
+    ensures run { IfOk result (λ answers. Run H.digest (map (λ k. key k) keys.now) (views_of world.old) events.now (map answer_of answers.items) (views_of world.new)) }
+    ensures tried { IfOk result (λ answers. RunsWithin H.digest (map (λ k. key k) keys.now) tries (views_of world.old) events.now (map answer_of answers.items) (views_of world.new)) }
+    ensures judged { IfOk result (λ answers. JudgesEvents H.digest (map (λ k. key k) keys.now) (origins_of world.old) events.now answers.items) }
+    ensures err { OnErr result (world.new ≡ world.old) }
+    ensures remembered { all_remembered world.new ≡ all_remembered world.old }
+{
+    let mut answers = Vec::with_capacity(alloc, events.len())?;
+    for event in events {
+        let answer = happen_again(alloc, world, keys, event, tries);
+        let Ok(()) = answers.push(answer) else {
+            unreachable!()
+        };
+    }
+    Ok(answers)
+}
+
+// An event happens until it is not for want of memory that it fails, that many times at most.
+fn happen_again<H: TreeHash>(
+    alloc: Global,
+    world: &mut [Mirror<H>],
+    keys: &[Box<dyn Verifier>],
+    event: &Event,
+    tries: u32,
+) -> Result<(), TakeFault>
+    requires fits { IsFitting (length world.old) event.now }
+    requires some { 1 ≤ tries }
+    ensures happens { HappensWithin H.digest (map (λ k. key k) keys.now) tries (views_of world.old) event.now (answer_of result) (views_of world.new) }
+    ensures judged { JudgesEvent H.digest (map (λ k. key k) keys.now) (origins_of world.old) event.now result }
+    ensures origins { origins_of world.new ≡ origins_of world.old }
+    ensures remembered { all_remembered world.new ≡ all_remembered world.old }
+{
+    for before in 0..tries - 1 {
+        match happen(alloc, world, keys, event) {
+            Err(TakeFault::OutOfMemory) => {}
+            answer => return answer,
+        }
+    }
+    happen(alloc, world, keys, event)
+}
+
+// One event.
+fn happen<H: TreeHash>(
+    alloc: Global,
+    world: &mut [Mirror<H>],
+    keys: &[Box<dyn Verifier>],
+    event: &Event,
+) -> Result<(), TakeFault>
+    requires { IsFitting (length world.old) event.now }
+    ensures happens { Happens H.digest (map (λ k. key k) keys.now) (views_of world.old) event.now (answer_of result) (views_of world.new) }
+    ensures judged { JudgesEvent H.digest (map (λ k. key k) keys.now) (origins_of world.old) event.now result }
+    ensures origins { origins_of world.new ≡ origins_of world.old }
+    ensures remembered { all_remembered world.new ≡ all_remembered world.old }
+{
+    match event {
+        Event::Take { target, item } => take_at(alloc, world, keys, *target, item),
+        Event::Merge { target, source } => merge_at(alloc, world, *target, *source),
+    }
+}
+
+// One mirror takes an item.
+fn take_at<H: TreeHash>(
+    alloc: Global,
+    world: &mut [Mirror<H>],
+    keys: &[Box<dyn Verifier>],
+    target: usize,
+    item: &Item,
+) -> Result<(), TakeFault>
+    requires target { target < length world.old }
+    requires width { HasWidth item.now }
+    ensures takes { TakesAt H.digest (map (λ k. key k) keys.now) (views_of world.old) target item.now (answer_of result) (views_of world.new) }
+    ensures judged { JudgesEvent H.digest (map (λ k. key k) keys.now) (origins_of world.old) (Take target item.now) result }
+    ensures origins { origins_of world.new ≡ origins_of world.old }
+    ensures remembered { all_remembered world.new ≡ all_remembered world.old }
+{
+    world[target].take(alloc, keys, item)
+}
+
+// One mirror is merged with another, or with itself.
+fn merge_at<H: TreeHash>(
+    alloc: Global,
+    world: &mut [Mirror<H>],
+    target: usize,
+    source: usize,
+) -> Result<(), TakeFault>
+    requires target { target < length world.old }
+    requires source { source < length world.old }
+    ensures merges { (keys : List Key) → MergesAt H.digest keys (views_of world.old) target source (answer_of result) (views_of world.new) }
+    ensures judged { IsMergeAnswer result }
+    ensures origins { origins_of world.new ≡ origins_of world.old }
+    ensures remembered { all_remembered world.new ≡ all_remembered world.old }
+{
+    if target == source {
+        return world[target].merge_itself();
+    }
+    if target < source {
+        let (front, back) = world.split_at_mut(source);
+        return told(front[target].merge(alloc, &back[0]));
+    }
+    let (front, back) = world.split_at_mut(target);
+    told(back[0].merge(alloc, &front[source]))
+}
+
+// The answer of a merge among those of takes: its faults keep their names.
+fn told(answer: Result<(), MergeFault>) -> Result<(), TakeFault>
+    ensures same { answer_of result ≡ merge_answer_of answer }
+    ensures names { MatchResult answer (λ done. result ≡ Ok done) (λ fault. result ≡ Err (take_fault_of fault)) }
+{
+    match answer {
+        Ok(()) => Ok(()),
+        Err(fault) => Err(TakeFault::from(fault)),
+    }
+}
+
+impl<H: TreeHash> Mirror<H> {
+    // The answer of a merge with itself, which changes nothing: a mirror's strings do not clash.
+    fn merge_itself(&self) -> Result<(), TakeFault>
+        ensures merges { Merges H.digest self.now.view self.now.view (answer_of result) self.now.view }
+        ensures judged { IsMergeAnswer result }
+    {
+        let _held = self.strings.len();
+        Ok(())
+    }
+
+    // Takes an item.
+    fn take(
+        &mut self,
+        alloc: Global,
+        keys: &[Box<dyn Verifier>],
+        item: &Item,
+    ) -> Result<(), TakeFault>
+        requires { HasWidth item.now }
+        ensures takes { Takes H.digest (map (λ k. key k) keys.now) self.old.view item.now (answer_of result) self.new.view }
+        ensures judged { JudgesItem H.digest (map (λ k. key k) keys.now) self.old.view.origin item.now result }
+        ensures remembered { self.new.remembered ≡ self.old.remembered }
+    {
+        match item {
+            Item::Head { note, edge } => self.take_rows(alloc, keys, note.as_slice(), edge),
+            Item::Tile { width, bytes } => self.take_tile(alloc, *width, bytes.as_slice()),
+            Item::Bundle { width, bytes } => self.take_bundle(alloc, *width, bytes.as_slice()),
+        }
+    }
+
+    // Takes a head with these rows.
+    fn take_rows(
+        &mut self,
+        alloc: Global,
+        keys: &[Box<dyn Verifier>],
+        note: &[u8],
+        edge: &Rows,
+    ) -> Result<(), TakeFault>
+        ensures takes { Takes H.digest (map (λ k. key k) keys.now) self.old.view (Head note.now edge.now) (answer_of result) self.new.view }
+        ensures judged { JudgesItem H.digest (map (λ k. key k) keys.now) self.old.view.origin (Head note.now edge.now) result }
+        ensures remembered { self.new.remembered ≡ self.old.remembered }
+    {
+        match slices_of(alloc, edge.as_slice()) {
+            Ok(rows) => self.take_head(alloc, keys, note, rows.as_slice()),
+            Err(AllocError) => Err(TakeFault::OutOfMemory),
+        }
+    }
+}
+
+// The rows, each as a slice.
+fn slices_of<'a>(alloc: Global, rows: &'a [Vec<u8>]) -> Result<Vec<&'a [u8]>, AllocError>
+    ensures { IfOk result (λ slices. map (λ slice. slice.now) slices.items ≡ map (λ row. row.items) rows.entry.now) }
+{
+    let mut slices: Vec<&'a [u8]> = Vec::new(alloc);
+    for row in rows {
+        slices.push(row.as_slice())?;
+    }
+    Ok(slices)
+}

@@ -1,0 +1,53 @@
+//! What a mirror remembers of complete heads.
+ghost use Rattle.std.specs.Prelude.{◌≡◌, ◌↔◌, All, OnOk};
+ghost use Rattle.node_store.specs.Strings.{NoClash};
+ghost use Rattle.mirror_model.specs.Forks.{Point};
+ghost use Rattle.mirror_model.specs.Marks.{IsMark};
+ghost use Rattle.stored_trees.specs.Slices.{AreSettled, HasMark};
+ghost use Rattle.tlog_mirror.specs.Settled.{GainsAny, HasSlicesOf};
+
+use crate::heads::points_of;
+use crate::mirror::Mirror;
+use node_store::Store;
+use std::alloc::{AllocError, Global};
+use stored_trees::Marks;
+use tlog_hash::{Hash, TreeHash};
+
+impl<H: TreeHash> Mirror<H> {
+    /// Remembers the complete heads, so that no later walk goes into them: the size and the hash of each slice that
+    /// the recursion of the tree hash (RFC 6962, section 2.1) meets on their entries, the whole lists among them.
+    ///
+    /// It changes no answer, and what was remembered stays. Heads go by rising size, so that each costs a walk
+    /// through what is new to it.
+    ///
+    /// # Errors
+    ///
+    /// Memory was refused. What was remembered before is remembered still, and of the complete heads some slices
+    /// may be.
+    pub fn settle(&mut self, alloc: Global) -> Result<(), AllocError>
+        ensures view { self.new.view ≡ self.old.view }
+        ensures done { OnOk result ((point : Point) → HasMark self.new.remembered point ↔ IsMark H.digest self.new.view point) }
+        ensures within { (point : Point) → HasMark self.new.remembered point → IsMark H.digest self.new.view point }
+        ensures kept { (point : Point) → HasMark self.old.remembered point → HasMark self.new.remembered point }
+    {
+        let heads = points_of(alloc, self.kept.as_slice())?;
+        settle_all(&self.strings, &mut self.remembered, heads.as_slice())
+    }
+}
+
+// Remembers those of these trees that are held.
+fn settle_all<H: TreeHash>(
+    store: &Store<H>,
+    marks: &mut Marks,
+    heads: &[(u64, Hash)],
+) -> Result<(), AllocError>
+    requires clean { NoClash H.digest store.now }
+    requires settled { AreSettled H.digest store.now marks.old }
+    ensures done { OnOk result (All (HasSlicesOf H.digest store.now marks.new) heads.now) }
+    ensures gains { GainsAny H.digest store.now heads.now marks.old marks.new }
+{
+    for head in heads {
+        stored_trees::settle(store, marks, head.0, &head.1)?;
+    }
+    Ok(())
+}
