@@ -1,0 +1,3 @@
+pub mod FullRows
+pub mod Texts
+pub mod Answering

@@ -1,0 +1,16 @@
+//! Where the parts of a transparency log come from (C2SP tlog-tiles).
+//!
+//! A `Source` gives the files of a log by their paths. Contracts say of it which answers may come, which
+//! paths it was asked for and how often it failed, and from that what an honest source is.
+#![tactic(auto)]
+
+mod head;
+mod levels;
+mod list;
+mod part;
+mod source;
+#[cfg(test)]
+mod tests;
+
+pub use list::ListSource;
+pub use source::{Source, SourceFault};
