@@ -1,17 +1,16 @@
 -- Paths that a pull asks for, one call after another.
-use Rattle.std.proofs.Common.{◌≡◌, ◌≢◌, ℕ, ◌+◌, ◌<◌, List, [], ◌∷◌, ◌++◌, length, get_or, Option, Some, None, Result, Ok, Err, AllPairs, Contains, Bool, true, false, refl, sym, ◌∙◌, ap, subst, inl, inr, append_assoc, arith}
+use Rattle.std.proofs.Common.{◌≡◌, ◌≢◌, ℕ, List, [], ◌∷◌, ◌++◌, Option, Some, None, Result, Ok, Err, Contains, sym, ◌∙◌, ap, subst, append_assoc}
 use Rattle.std.proofs.lemmas.List.{append-nil, get_or_default}
 use Rattle.std.proofs.lemmas.List.Quantifiers.{all_pairs_push}
 use Rattle.tlog_tiles.specs.declared.paths.Path.{Path}
-use Rattle.mirror_pull.specs.Told.{AddsTold, KeepsTold, Rose, one_more}
-use Rattle.mirror_pull.specs.Asking.{IsOnce, Adds, AddsTo, AddsSome, Asks, Counts}
+use Rattle.log_sources.specs.Told.{AddsTold, KeepsTold}
+use Rattle.mirror_pull.specs.Asking.{IsOnce, Adds, AddsTo, AddsSome, AsksPaths}
 use Rattle.std.proofs.Common.{Vec, Global}
-use Rattle.mirror_pull.specs.Source.{TellsGet}
+use Rattle.log_sources.specs.Source.{TellsGet}
 use Rattle.mirror_pull.specs.Faults.{of_source}
-use Rattle.mirror_pull.specs.declared.source.SourceFault.{SourceFault}
-use Rattle.mirror_pull.specs.declared.source.SourceFault.TheVariants as source
+use Rattle.log_sources.specs.declared.source.SourceFault.{SourceFault}
+use Rattle.log_sources.specs.declared.source.SourceFault.TheVariants as source
 use Rattle.mirror_pull.specs.declared.fault.PullFault.{PullFault}
-use Rattle.mirror_pull.specs.declared.fault.PullFault.TheVariants.{NoCheckpoint, NoEdge, Head, Source, Collision, OutOfMemory}
 
 pub adds_told_none : {X : Type 0} (a : Option (List X)) → AddsTold a a []
 adds_told_none None = tt
@@ -68,17 +67,17 @@ pub some_of : (before after : List Path) (a b : Option (List Path)) → AddsTo b
 some_of before after a b p = record { more = p.more; adds = p.adds }
 
 -- of two parts of a pull, one after the other, the second's answer is the answer of both
-pub asks_then : {T : Type 0} (before middle after : List Path) (a b c : Option (List Path)) (r : Result T PullFault) → AddsTo before middle a b → Asks middle after b c r → Asks before after a c r
+pub asks_then : {T : Type 0} (before middle after : List Path) (a b c : Option (List Path)) (r : Result T PullFault) → AddsTo before middle a b → AsksPaths middle after b c r → AsksPaths before after a c r
 asks_then before middle after a b c (Ok x) p q = adds_to_then before middle after a b c p q
 asks_then before middle after a b c (Err e) p q = adds_some_then before middle a b c p q
 
 -- a get that is answered by a fault
-pub some_get : (before : List Path) (path : Path) (a b : Option (List Path)) (f : SourceFault) → (Contains before path → ⊥) → TellsGet {T = Option (Vec ℕ Global)} a b path (Err f) → Asks {T = Option (Vec ℕ Global)} before before a b (Err (of_source f))
+pub some_get : (before : List Path) (path : Path) (a b : Option (List Path)) (f : SourceFault) → (Contains before path → ⊥) → TellsGet {T = Option (Vec ℕ Global)} a b path (Err f) → AsksPaths {T = Option (Vec ℕ Global)} before before a b (Err (of_source f))
 some_get before path a b source.Failed fresh told = record { more = path ∷ []; adds = adds_one before path a b fresh told }
 some_get before path a b source.OutOfMemory fresh told = record { more = []; adds = record { told = adds_told_kept a b told; once = (adds_none before a).once } }
 
 -- what a part asked, after which another asks nothing, whatever its answer
-pub asks_late : {T : Type 0} (before after : List Path) (a b : Option (List Path)) (r : Result T PullFault) → AddsTo before after a b → Asks before after a b r
+pub asks_late : {T : Type 0} (before after : List Path) (a b : Option (List Path)) (r : Result T PullFault) → AddsTo before after a b → AsksPaths before after a b r
 asks_late before after a b (Ok x) p = p
 asks_late before after a b (Err e) p = some_of before after a b p
 

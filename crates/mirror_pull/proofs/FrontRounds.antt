@@ -14,7 +14,6 @@ use Rattle.mirror_model.specs.View.{View}
 use Rattle.mirror_model.specs.Edge.{edge_rows, edge_strings}
 use Rattle.mirror_model.specs.Front.{IsFront}
 use Rattle.mirror_model.specs.Rounds.{true_strings, IsRound, AreRounds, last_held}
-use Rattle.mirror_model.specs.declared.items.Item.{Item}
 use Rattle.mirror_model.specs.declared.items.Item.TheVariants as item
 use Rattle.mirror_model.specs.Item.{strings_of, plus}
 use Rattle.mirror_model.specs.TrueLaws.{AreShort}
@@ -24,8 +23,9 @@ use Rattle.mirror_model.proofs.Views.{within_itself, within_trans, within_plus}
 use Rattle.mirror_model.proofs.TrueItems.{front_bundle, front_within, prefixes_serve_same, tiles_are_true, bundles_are_true}
 use Rattle.mirror_model.proofs.ManyRounds.{rounds_complete}
 use Rattle.mirror_model.proofs.Fronts.{front_empty}
-use Rattle.mirror_pull.specs.Asking.{full_of}
-use Rattle.mirror_pull.specs.Honest.{IsGone, Gets, GetsNone, GetsFound, GetsFull, AreFrontRounds, true_item, with_true}
+use Rattle.log_sources.specs.Files.{full_of}
+use Rattle.log_sources.specs.Honest.{IsGone, Gets, GetsNone, GetsFound, GetsFull}
+use Rattle.mirror_pull.specs.Honest.{AreFrontRounds, true_item, with_true}
 use Rattle.mirror_pull.specs.PullLaws.{FrontRoundTakes, FrontRoundsEnd}
 use Rattle.mirror_model.proofs.FullBundles.{full_bundles_serve}
 use Rattle.mirror_model.proofs.Fetching.{plus_holds}

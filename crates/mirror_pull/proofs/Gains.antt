@@ -1,19 +1,18 @@
 -- Views that gain strings.
 use Rattle.std.proofs.Common.{◌≡◌, ◌⊎◌, ℕ, zero, suc, ◌+◌, ◌^◌, ◌<◌, ◌≤◌, ◌++◌, length, get_or, map, take, arith, List, [], ◌∷◌, Result, Ok, Err, Bool, true, false, refl, sym, ap, ◌∙◌, Option, subst, inl, inr, Contains}
 use Rattle.std.specs.FinSet as set
-use Rattle.node_store.specs.Strings.{Has, NoClash}
+use Rattle.node_store.specs.Strings.{Has}
 use Rattle.signed_note.specs.Keys.{Key}
 use Rattle.tlog_tiles.specs.declared.paths.Path.{Path}
 use Rattle.tlog_tiles.specs.declared.paths.Path.TheVariants.{Checkpoint, Tile, Entries}
 use Rattle.mirror_model.specs.View.{View, IsSubview}
-use Rattle.mirror_model.specs.declared.items.Item.{Item}
 use Rattle.mirror_model.specs.declared.items.Item.TheVariants as item
-use Rattle.mirror_model.specs.Item.{notes_of, plus, IsGood, IsGoodHead}
+use Rattle.mirror_model.specs.Item.{notes_of, plus, IsGoodHead}
 use Rattle.mirror_model.specs.Heads.{IsOpenHead, IsHead, HasHead}
 use Rattle.mirror_model.specs.Listed.{ListsMissing}
 use Rattle.mirror_model.specs.TreeLaws.{IsOfSize, MissingIsOfSize}
 use Rattle.std.proofs.lemmas.List.{get_or_default, take_more, take-map, map-append, take_all, length-map}
-use Rattle.mirror_model.specs.Steps.{Takes, Done, Refused, Clashed, Exhausted, IsBetween}
+use Rattle.mirror_model.specs.Steps.{Takes, Exhausted}
 use Rattle.mirror_model.proofs.Views.{within_itself, within_trans, within_plus}
 use Rattle.mirror_model.proofs.StringSets.{has_right, has_cases, has_empty, listed_from_has, has_from_listed}
 use Rattle.mirror_pull.specs.Taking.{GainsStrings, Grows, PullsTo, TakesItem, TakesHead, IsTakeable, item_at, IsEarly, IsLate}
@@ -21,11 +20,11 @@ use Rattle.mirror_pull.specs.Answering.{of_take, refused_of, refused_of_fault}
 use Rattle.mirror_model.specs.Answered.{answer_of}
 use Rattle.mirror_model.specs.declared.fault.TakeFault.{TakeFault}
 use Rattle.mirror_model.specs.declared.fault.TakeFault.TheVariants as take
-use Rattle.mirror_pull.specs.Source.{StaysWithin}
+use Rattle.log_sources.specs.Source.{StaysWithin}
 use Rattle.mirror_pull.specs.Asking.{Counts}
 use Rattle.mirror_pull.specs.Faults.{of_source}
-use Rattle.mirror_pull.specs.declared.source.SourceFault.{SourceFault}
-use Rattle.mirror_pull.specs.declared.source.SourceFault.TheVariants as source
+use Rattle.log_sources.specs.declared.source.SourceFault.{SourceFault}
+use Rattle.log_sources.specs.declared.source.SourceFault.TheVariants as source
 use Rattle.mirror_pull.specs.declared.fault.PullFault.{PullFault}
 use Rattle.mirror_pull.specs.declared.fault.PullFault.TheVariants.{NoCheckpoint, NoEdge, Head, Source, Collision, OutOfMemory}
 

@@ -1,3 +1,11 @@
 pub mod Askings
 pub mod Gains
 pub mod FrontRounds
+pub mod HeadsRead
+pub mod Freshness
+pub mod TrueRows
+pub mod TrueTakes
+pub mod Orders
+pub mod TrueWork
+pub mod TruePulls
+pub mod Growth

@@ -1,7 +1,5 @@
--- Which fault of a pull a fault of a take is, and what a refused head says.
-use Rattle.std.specs.Prelude.{Bool, true, false, ℕ, List, Result, Ok, Err}
-use Rattle.signed_note.specs.Keys.{Key}
-use Rattle.mirror_model.specs.Heads.{IsOpenHead}
+-- Which fault of a pull a fault of a take is.
+use Rattle.std.specs.Prelude.{Bool, true, false, Result, Ok, Err}
 use Rattle.mirror_model.specs.declared.fault.TakeFault.{TakeFault}
 use Rattle.mirror_model.specs.declared.fault.TakeFault.TheVariants as take
 use Rattle.mirror_pull.specs.declared.fault.PullFault.{PullFault}
@@ -21,15 +19,6 @@ of_take take.BundleShort = pull.Head take.BundleShort
 of_take take.BundleLong = pull.Head take.BundleLong
 of_take take.Collision = pull.Collision
 of_take take.OutOfMemory = pull.OutOfMemory
-
-abbrev pub NoHead : List ℕ → List ℕ → List Key → TakeFault → Type 0
-NoHead note origin keys take.OutOfMemory = Unit {0}
-NoHead note origin keys f = (size : ℕ) (root : List ℕ) → IsOpenHead note origin keys size root → ⊥
-
--- a head is refused only where its note is no checkpoint of that origin that opens under the keys; it does not clash
-abbrev pub RefusesHead : {T : Type 0} → List ℕ → List ℕ → List Key → Result T TakeFault → Type 0
-RefusesHead note origin keys (Ok x) = Unit {0}
-RefusesHead note origin keys (Err f) = NoHead note origin keys f
 
 -- whether a tile or a bundle was refused for what it is, in a pull
 abbrev pub refused_of_fault : TakeFault → Result Bool PullFault

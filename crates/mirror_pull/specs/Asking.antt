@@ -1,17 +1,22 @@
 -- What a pull asks of its source.
-use Rattle.std.specs.Prelude.{◌≡◌, ◌≢◌, ℕ, ◌<◌, List, ◌++◌, Option, Result, Ok, Err, AllPairs}
+use Rattle.std.specs.Prelude.{◌≡◌, ◌≢◌, ◌↔◌, ℕ, List, [], ◌∷◌, ◌++◌, Option, Result, Ok, Err}
+use Rattle.std.specs.Prelude.{AllPairs, Contains}
 use Rattle.tlog_tiles.specs.declared.paths.Path.{Path}
-use Rattle.tlog_tiles.specs.declared.paths.Path.TheVariants.{Checkpoint, Tile, Entries}
-use Rattle.mirror_pull.specs.Told.{AddsTold, Rose}
+use Rattle.tlog_tiles.specs.declared.paths.Path.TheVariants.{Checkpoint}
+use Rattle.tlog_tiles.specs.Edge.{edge_of}
+use Rattle.log_sources.specs.Files.{full_of}
+use Rattle.log_sources.specs.Told.{AddsTold, Rose}
 use Rattle.mirror_pull.specs.declared.fault.PullFault.{PullFault}
-use Rattle.mirror_pull.specs.declared.fault.PullFault.TheVariants.{NoCheckpoint, NoEdge, Head, Source, Collision, OutOfMemory}
+use Rattle.mirror_pull.specs.declared.fault.PullFault.TheVariants.{NoCheckpoint, NoEdge, Head}
+use Rattle.mirror_pull.specs.declared.fault.PullFault.TheVariants.{Source, Collision, OutOfMemory}
 
 -- no path stands twice in the list
 abbrev pub IsOnce : List Path → Type 0
 IsOnce paths = AllPairs (λ a b. a ≢ b) paths
 
 -- the source was asked for these, of which none stands twice nor among those before
-pub record Adds (before : List Path) (old new : Option (List Path)) (more : List Path) : Type 0 where
+pub record Adds (before : List Path) (old new : Option (List Path)) (more : List Path)
+    : Type 0 where
   pub told : AddsTold old new more
   pub once : IsOnce before → IsOnce (before ++ more)
 
@@ -25,9 +30,10 @@ pub record AddsSome (before : List Path) (old new : Option (List Path)) : Type 0
   pub more : List Path
   pub adds : Adds before old new more
 
-abbrev pub Asks : {T : Type 0} → List Path → List Path → Option (List Path) → Option (List Path) → Result T PullFault → Type 0
-Asks before after old new (Ok x) = AddsTo before after old new
-Asks before after old new (Err e) = AddsSome before old new
+abbrev pub AsksPaths : {T : Type 0} → List Path → List Path → Option (List Path) →
+    Option (List Path) → Result T PullFault → Type 0
+AsksPaths before after old new (Ok x) = AddsTo before after old new
+AsksPaths before after old new (Err e) = AddsSome before old new
 
 -- the source is blamed only where its count of failures rose
 abbrev pub Counts : {T : Type 0} → ℕ → ℕ → Result T PullFault → Type 0
@@ -39,14 +45,34 @@ Counts old new (Err Source) = Rose old new
 Counts old new (Err Collision) = new ≡ old
 Counts old new (Err OutOfMemory) = new ≡ old
 
--- the full tile or bundle of a place
-abbrev pub full_of : Path → Path
-full_of Checkpoint = Checkpoint
-full_of (Tile level index width) = Tile level index 256
-full_of (Entries index width) = Entries index 256
+-- nothing at the place of the path is among those asked for
+abbrev pub IsFresh : List Path → Path → Type 0
+IsFresh asked path = (before : Path) → Contains asked before → full_of before ≢ full_of path
 
--- how many hashes or entries a path names
-abbrev pub width_of : Path → ℕ
-width_of Checkpoint = 0
-width_of (Tile level index width) = width
-width_of (Entries index width) = width
+-- so it is of each of these, and their places differ
+pub record AreFresh (asked paths : List Path) : Type 0 where
+  pub fresh : (path : Path) → Contains paths path → IsFresh asked path
+  pub apart : AllPairs (λ a b. full_of a ≢ full_of b) paths
+
+-- each path of a list was asked for, in order, and behind some of them their full paths
+pub data AsksEach : List Path → List Path → Type 0 where
+  AsksNone : AsksEach [] []
+  AsksOne : (path : Path) {paths gets : List Path} → AsksEach paths gets →
+      AsksEach (path ∷ paths) (path ∷ gets)
+  AsksTwo : (path : Path) {paths gets : List Path} → AsksEach paths gets →
+      AsksEach (path ∷ paths) (path ∷ full_of path ∷ gets)
+
+-- that is what the list of the paths asked for grew by
+pub record AddsEach (paths before after : List Path) : Type 0 where
+  pub gets : List Path
+  pub each : AsksEach paths gets
+  pub list : after ≡ before ++ gets
+
+-- what a pull asked for: the checkpoint, the paths of the edge of that size, and those of its
+-- rounds, of which there are none exactly where nothing was asked for after the edge
+pub record AsksInParts (old new : Option (List Path)) (size rounds : ℕ) : Type 0 where
+  pub edge_gets : List Path
+  pub round_gets : List Path
+  pub edge : AsksEach (edge_of size) edge_gets
+  pub told : AddsTold old new (Checkpoint ∷ edge_gets ++ round_gets)
+  pub none : (rounds ≡ 0) ↔ (round_gets ≡ [])

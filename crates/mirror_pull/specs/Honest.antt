@@ -1,76 +1,47 @@
--- Honest sources, and what a pull from one comes to (C2SP tlog-tiles).
-use Rattle.std.specs.Prelude.{◌≡◌, ◌⊎◌, ℕ, ◌+◌, ◌*◌, ◌^◌, ◌<◌, ◌≤◌, max, List, [], ◌∷◌, ◌++◌, length, take, Option, Some, None, IsTrue, Result, Ok, Err, MatchResult, Contains}
+-- What a pull from an honest source comes to (C2SP tlog-tiles).
+use Rattle.std.specs.Prelude.{◌≡◌, ◌⊎◌, ℕ, ◌≤◌, max, List, [], ◌∷◌, ◌++◌, length, take, Option}
+use Rattle.std.specs.Prelude.{IsTrue, Result, MatchResult, Contains}
 use Rattle.std.specs.FinSet as set
 use Rattle.signed_note.specs.Keys.{Key}
 use Rattle.tlog_shape.specs.Edge.{IsTop}
 use Rattle.tlog_hash.specs.Tree.{mth, strings}
 use Rattle.tlog_tiles.specs.declared.paths.Path.{Path}
-use Rattle.tlog_tiles.specs.declared.paths.Path.TheVariants.{Checkpoint, Tile, Entries}
+use Rattle.tlog_tiles.specs.declared.paths.Path.TheVariants.{Checkpoint}
 use Rattle.tlog_tiles.specs.Edge.{edge_of}
-use Rattle.tlog_tiles.specs.Tiles.{tile_bytes, bundle_bytes, IsWithin}
 use Rattle.node_store.specs.Strings.{Has, NoClash}
 use Rattle.mirror_model.specs.View.{View}
-use Rattle.mirror_model.specs.Heads.{IsOpenHead}
 use Rattle.mirror_model.specs.declared.items.Item.{Item}
 use Rattle.mirror_model.specs.declared.items.Item.TheVariants as item
 use Rattle.mirror_model.specs.Item.{plus}
-use Rattle.mirror_model.specs.TrueLaws.{AreShort, edge_bytes}
+use Rattle.mirror_model.specs.TrueLaws.{edge_bytes}
 use Rattle.mirror_model.specs.Listed.{ListsFront}
-use Rattle.mirror_pull.specs.Told.{AddsTold}
-use Rattle.mirror_pull.specs.Asking.{full_of, width_of}
+use Rattle.log_sources.specs.Told.{AddsTold}
+use Rattle.log_sources.specs.Honest.{Gets, true_bytes, IsHonest}
 use Rattle.mirror_pull.specs.Taking.{item_at}
 use Rattle.mirror_pull.specs.declared.pulling.Pulled.{Pulled}
 use Rattle.mirror_pull.specs.declared.fault.PullFault.{PullFault}
 use Rattle.mirror_pull.specs.declared.fault.PullFault.TheVariants.{Source, OutOfMemory}
 
--- a partial path whose full path is within n entries: a log may have deleted its file
-pub record IsGone (n : ℕ) (path : Path) : Type 0 where
-  pub partial : width_of path < 256
-  pub full : IsWithin n (full_of path)
-
--- the gets of the paths of a list, in order, when some were not found; and the paths under which bytes were found
-pub data Gets (n : ℕ) : List Path → List Path → List Path → Type 0 where
-  GetsNone : Gets n [] [] []
-  GetsFound : (path : Path) {paths gets founds : List Path} → Gets n paths gets founds → Gets n (path ∷ paths) (path ∷ gets) (path ∷ founds)
-  GetsFull : (path : Path) {paths gets founds : List Path} → IsGone n path → Gets n paths gets founds → Gets n (path ∷ paths) (path ∷ full_of path ∷ gets) (full_of path ∷ founds)
-
 module _ (digest : List ℕ → List ℕ) (entries : List (List ℕ)) where
-  -- TileBytes and BundleBytes: what a log of the entries serves at a path
-  abbrev pub true_bytes : Path → List ℕ
-  true_bytes Checkpoint = []
-  true_bytes (Tile level index width) = tile_bytes digest entries level index width
-  true_bytes (Entries index width) = bundle_bytes entries index width
-
-  -- the answer to a path within the entries is its true bytes, or nothing where a log may have deleted the file
-  abbrev pub IsTrueAnswer : Path → Option (List ℕ) → Type 0
-  IsTrueAnswer path (Some bytes) = bytes ≡ true_bytes path
-  IsTrueAnswer path None = IsGone (length entries) path
-
   -- the item that the true bytes at a path are
   abbrev pub true_item : Path → Item
-  true_item path = item_at path (true_bytes path)
+  true_item path = item_at path (true_bytes digest entries path)
 
   -- the view after the true bytes at these paths were taken, one after another
   abbrev pub with_true : View → List Path → View
   with_true v [] = v
   with_true v (path ∷ paths) = with_true (plus digest v (true_item path)) paths
 
-  -- Honest(source, E, origin, keys), for a source of which these answers may come: its note is a head of the first
-  -- entries, as many as size, and each path within the entries has true answers alone
-  pub record IsHonest (origin : List ℕ) (keys : List Key) (note : List ℕ) (size : ℕ) (may : Path → Option (List ℕ) → Type 0) : Type 0 where
-    pub short : AreShort entries
-    pub within : size ≤ length entries
-    pub is_head : IsOpenHead note origin keys size (mth digest (take size entries))
-    pub checkpoint : (answer : Option (List ℕ)) → may Checkpoint answer → answer ≡ Some note
-    pub parts : (path : Path) → IsWithin (length entries) path → (answer : Option (List ℕ)) → may path answer → IsTrueAnswer path answer
-
   -- what a view holds and the trees of the entries and of the first of them do not clash together
   abbrev pub NoClashAmong : View → ℕ → Type 0
   NoClashAmong v size =
-      NoClash digest (set.union v.strings (set.union (set.from_list (strings digest entries)) (set.from_list (strings digest (take size entries)))))
+      NoClash digest
+      (set.union v.strings
+      (set.union (set.from_list (strings digest entries))
+      (set.from_list (strings digest (take size entries)))))
 
-  -- one round: its list is the front, in order, and is not empty; each of its paths was asked for, and the true
-  -- bytes that were found were taken
+  -- one round: its list is the front, in order, and is not empty; each of its paths was asked for,
+  -- and the true bytes that were found were taken
   pub record IsFrontRound (size : ℕ) (v w : View) (list gets : List Path) : Type 0 where
     pub founds : List Path
     pub some : 1 ≤ length list
@@ -82,14 +53,18 @@ module _ (digest : List ℕ → List ℕ) (entries : List (List ℕ)) where
   abbrev pub AreFrontRounds : ℕ → View → View → List (List Path) → List Path → Type 0
   AreFrontRounds size v w [] gets = (w ≡ v) × (gets ≡ [])
   AreFrontRounds size v w (list ∷ lists) gets =
-      (between : View) × (first : List Path) × (rest : List Path) × IsFrontRound size v between list first × AreFrontRounds size between w lists rest × (gets ≡ first ++ rest)
+      (between : View) × (first : List Path) × (rest : List Path) ×
+      IsFrontRound size v between list first × AreFrontRounds size between w lists rest ×
+      (gets ≡ first ++ rest)
 
   -- the view with the head of the first entries
   abbrev pub with_head : View → List ℕ → ℕ → View
   with_head v note size = plus digest v (item.Head note (edge_bytes digest (take size entries)))
 
-  -- what the gets of an honest pull were: the checkpoint, the paths of the edge, then those of each round
-  pub record HonestGets (note : List ℕ) (size : ℕ) (v w : View) (old new : Option (List Path)) (rounds : ℕ) : Type 0 where
+  -- what the gets of an honest pull were: the checkpoint, the paths of the edge, then those of each
+  -- round
+  pub record HonestGets (note : List ℕ) (size : ℕ) (v w : View) (old new : Option (List Path))
+      (rounds : ℕ) : Type 0 where
     pub edge_gets : List Path
     pub edge_founds : List Path
     pub edge : Gets (length entries) (edge_of size) edge_gets edge_founds
@@ -100,7 +75,8 @@ module _ (digest : List ℕ → List ℕ) (entries : List (List ℕ)) where
     pub told : AddsTold old new (Checkpoint ∷ edge_gets ++ gets)
 
   -- what an honest pull came to
-  pub record HonestOutcome (note : List ℕ) (size : ℕ) (v w : View) (old new : Option (List Path)) (p : Pulled) : Type 0 where
+  pub record HonestOutcome (note : List ℕ) (size : ℕ) (v w : View) (old new : Option (List Path))
+      (p : Pulled) : Type 0 where
     pub size_is : p.size ≡ size
     pub root_is : p.root ≡ mth digest (take size entries)
     pub none_refused : p.refused ≡ 0
@@ -112,12 +88,17 @@ module _ (digest : List ℕ → List ℕ) (entries : List (List ℕ)) where
     pub notes : (other : List ℕ) → Has w.notes other → Has v.notes other ⊎ (other ≡ note)
     pub strings :
         (y : List ℕ) → Has w.strings y →
-        Has v.strings y ⊎ (Contains (strings digest entries) y ⊎ Contains (strings digest (take size entries)) y)
+        Has v.strings y ⊎
+        (Contains (strings digest entries) y ⊎ Contains (strings digest (take size entries)) y)
 
--- a pull that is neither refused memory nor left by its source goes well, from whichever entries the source is honest
--- for while nothing clashes
-abbrev pub PullsHonestly : (List ℕ → List ℕ) → List Key → View → View → (Path → Option (List ℕ) → Type 0) → Option (List Path) → Option (List Path) → Result Pulled PullFault → Type 0
+-- a pull that is neither refused memory nor left by its source goes well, from whichever entries
+-- the source is honest for while nothing clashes
+abbrev pub PullsHonestly : (List ℕ → List ℕ) → List Key → View → View →
+    (Path → Option (List ℕ) → Type 0) → Option (List Path) → Option (List Path) →
+    Result Pulled PullFault → Type 0
 PullsHonestly digest keys v w may old new result =
-    (entries : List (List ℕ)) (note : List ℕ) (size : ℕ) → IsHonest digest entries v.origin keys note size may →
+    (entries : List (List ℕ)) (note : List ℕ) (size : ℕ) →
+    IsHonest digest entries v.origin keys note size may →
     NoClashAmong digest entries v size →
-    MatchResult result (λ p. HonestOutcome digest entries note size v w old new p) (λ e. (e ≡ OutOfMemory) ⊎ (e ≡ Source))
+    MatchResult result (λ p. HonestOutcome digest entries note size v w old new p)
+    (λ e. (e ≡ OutOfMemory) ⊎ (e ≡ Source))

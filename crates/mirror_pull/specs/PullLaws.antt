@@ -9,7 +9,8 @@ use Rattle.mirror_model.specs.Edge.{edge_rows, edge_strings}
 use Rattle.mirror_model.specs.Rounds.{IsRound}
 use Rattle.mirror_model.specs.TrueLaws.{AreShort}
 use Rattle.mirror_model.specs.Listed.{ListsFront}
-use Rattle.mirror_pull.specs.Honest.{Gets, AreFrontRounds, with_true}
+use Rattle.log_sources.specs.Honest.{Gets}
+use Rattle.mirror_pull.specs.Honest.{AreFrontRounds, with_true}
 
 -- an honest round is one that takes the front
 abbrev pub FrontRoundTakes : Type 0

@@ -1,6 +1,5 @@
 -- What a pull takes of what its source answers.
-use Rattle.std.specs.Prelude.{◌≡◌, ◌⊎◌, ℕ, ◌*◌, ◌≤◌, List, [], ◌∷◌, map, Option, Some, None, Result, Ok, Err, Bool, true, false, IsTrue}
-use Rattle.std.specs.FinSet as set
+use Rattle.std.specs.Prelude.{◌≡◌, ℕ, ◌≤◌, List, [], Result, Ok, Err, Bool, true, false, IsTrue}
 use Rattle.signed_note.specs.Keys.{Key}
 use Rattle.tlog_tiles.specs.declared.paths.Path.{Path}
 use Rattle.tlog_tiles.specs.declared.paths.Path.TheVariants.{Checkpoint, Tile, Entries}
@@ -12,11 +11,11 @@ use Rattle.mirror_model.specs.declared.items.Item.{Item}
 use Rattle.mirror_model.specs.declared.items.Item.TheVariants as item
 use Rattle.mirror_model.specs.Item.{IsGood, IsWidth, plus}
 use Rattle.mirror_model.specs.Complete.{IsComplete}
-use Rattle.mirror_model.specs.TreeLaws.{IsOfSize}
 use Rattle.mirror_model.specs.declared.fault.TakeFault.{TakeFault}
 use Rattle.mirror_model.specs.declared.fault.TakeFault.TheVariants as take
 use Rattle.mirror_pull.specs.declared.fault.PullFault.{PullFault}
-use Rattle.mirror_pull.specs.declared.fault.PullFault.TheVariants.{NoCheckpoint, NoEdge, Head, Source, Collision, OutOfMemory}
+use Rattle.mirror_pull.specs.declared.fault.PullFault.TheVariants.{NoCheckpoint, NoEdge, Head}
+use Rattle.mirror_pull.specs.declared.fault.PullFault.TheVariants.{Source, Collision, OutOfMemory}
 use Rattle.mirror_pull.specs.declared.pulling.Pulled.{Pulled}
 
 -- the view has gained strings alone
@@ -24,7 +23,8 @@ pub record GainsStrings (old new : View) : Type 0 where
   pub grows : IsSubview old new
   pub same_notes : (note : List ℕ) → Has new.notes note → Has old.notes note
 
--- the view has gained strings, and one note at most, which is a checkpoint of the origin that opens under the keys
+-- the view has gained strings, and one note at most, which is a checkpoint of the origin that opens
+-- under the keys
 pub record Grows (keys : List Key) (old new : View) : Type 0 where
   pub grows : IsSubview old new
   pub one_note :
@@ -49,8 +49,10 @@ IsTakeable (Entries index width) = IsWidth width
 -- what a pull's answer to an item says of the views: true where the item was refused for what it is
 abbrev pub TakesItem : (List ℕ → List ℕ) → View → Item → Result Bool PullFault → View → Type 0
 TakesItem digest old item (Ok true) new = (IsGood digest old.origin [] item → ⊥) × (new ≡ old)
-TakesItem digest old item (Ok false) new = IsGood digest old.origin [] item × NoClash digest (plus digest old item).strings × (new ≡ plus digest old item)
-TakesItem digest old item (Err Collision) new = HasClash digest (plus digest old item).strings × (new ≡ old)
+TakesItem digest old item (Ok false) new = IsGood digest old.origin [] item ×
+    NoClash digest (plus digest old item).strings × (new ≡ plus digest old item)
+TakesItem digest old item (Err Collision) new = HasClash digest (plus digest old item).strings ×
+    (new ≡ old)
 TakesItem digest old item (Err OutOfMemory) new = GainsStrings old new
 TakesItem digest old item (Err NoCheckpoint) new = ⊥
 TakesItem digest old item (Err NoEdge) new = ⊥
@@ -84,13 +86,17 @@ IsOfHead take.OutOfMemory = ⊥
 IsOfHead f = Unit {0}
 
 -- taking the head, in a pull
-abbrev pub TakesHead : {T : Type 0} → (List ℕ → List ℕ) → List Key → View → Item → Result T PullFault → View → Type 0
-TakesHead digest keys old item (Ok x) new = IsGood digest old.origin keys item × NoClash digest (plus digest old item).strings × (new ≡ plus digest old item)
+abbrev pub TakesHead : {T : Type 0} → (List ℕ → List ℕ) → List Key → View → Item →
+    Result T PullFault → View → Type 0
+TakesHead digest keys old item (Ok x) new = IsGood digest old.origin keys item ×
+    NoClash digest (plus digest old item).strings × (new ≡ plus digest old item)
 TakesHead digest keys old item (Err NoCheckpoint) new = ⊥
 TakesHead digest keys old item (Err NoEdge) new = ⊥
-TakesHead digest keys old item (Err (Head f)) new = IsOfHead f × (IsGood digest old.origin keys item → ⊥) × (new ≡ old)
+TakesHead digest keys old item (Err (Head f)) new = IsOfHead f ×
+    (IsGood digest old.origin keys item → ⊥) × (new ≡ old)
 TakesHead digest keys old item (Err Source) new = ⊥
-TakesHead digest keys old item (Err Collision) new = HasClash digest (plus digest old item).strings × (new ≡ old)
+TakesHead digest keys old item (Err Collision) new =
+    HasClash digest (plus digest old item).strings × (new ≡ old)
 TakesHead digest keys old item (Err OutOfMemory) new = Grows keys old new
 
 -- a note of that size and root is held, and the answer tells whether that head is complete

@@ -1,11 +1,12 @@
 //! Asking a source for paths, none twice.
 ghost use Rattle.std.specs.Prelude.{◌≡◌, ◌↔◌, IsTrue, ◌≢◌, ℕ, IfOk, Contains, None, option_map, ◌++◌, ◌∷◌, []};
-ghost use Rattle.mirror_pull.specs.Asking.{Asks, Counts, full_of, width_of};
+ghost use Rattle.mirror_pull.specs.Asking.{AsksPaths, Counts};
+ghost use Rattle.log_sources.specs.Files.{full_of, width_named};
 ghost use Rattle.mirror_pull.specs.Taking.{IsEarly, IsLate};
-ghost use Rattle.mirror_pull.specs.Source.{StaysWithin};
+ghost use Rattle.log_sources.specs.Source.{StaysWithin};
 
 use crate::fault::PullFault;
-use crate::source::Source;
+use log_sources::Source;
 use tlog_tiles::Path;
 
 /// The path of the full tile or bundle of the place.
@@ -25,7 +26,7 @@ pub(crate) fn full_path(path: Path) -> Path
 
 /// How many hashes or entries the path names.
 pub(crate) fn path_width(path: Path) -> u32
-    ensures { result ≡ width_of path }
+    ensures { result ≡ width_named path }
 {
     match path {
         Path::Checkpoint => 0,
@@ -47,7 +48,7 @@ pub(crate) fn ask<S: Source>(
     asked: &mut Vec<Path>,
     path: Path,
 ) -> Result<Option<Vec<u8>>, PullFault>
-    ensures told { Asks asked.old.items asked.new.items (S.asked source.old) (S.asked source.new) result }
+    ensures told { AsksPaths asked.old.items asked.new.items (S.asked source.old) (S.asked source.new) result }
     ensures counted { Counts (S.failed source.old) (S.failed source.new) result }
     ensures early { IsEarly result }
     ensures late { IsLate result }

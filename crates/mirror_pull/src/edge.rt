@@ -1,12 +1,15 @@
 //! The edge rows of a pull.
-ghost use Rattle.std.specs.Prelude.{◌≡◌, map, IfOk};
-ghost use Rattle.mirror_pull.specs.Asking.{Asks, Counts};
+ghost use Rattle.std.specs.Prelude.{◌≡◌, ◌≢◌, ◌≤◌, ℕ, List, [], ◌∷◌, length, map, IfOk, MatchResult};
+ghost use Rattle.tlog_tiles.specs.Edge.{edge_of};
+ghost use Rattle.log_sources.specs.Files.{full_of};
+ghost use Rattle.mirror_pull.specs.Asking.{AddsEach, AreFresh, AsksPaths, Counts, IsFresh};
+ghost use Rattle.mirror_pull.specs.Parts.{AreTrueRows, IsOutside, IsTilePath, IsTrueRow, IsTrueSource};
 ghost use Rattle.mirror_pull.specs.Taking.{IsEarly};
-ghost use Rattle.mirror_pull.specs.Source.{StaysWithin};
+ghost use Rattle.log_sources.specs.Source.{StaysWithin};
 
 use crate::ask::{ask, full_path, path_width};
 use crate::fault::PullFault;
-use crate::source::Source;
+use log_sources::Source;
 use std::alloc::Global;
 use tlog_tiles::{Path, edge_paths};
 
@@ -18,10 +21,12 @@ fn edge_row<S: Source>(
     asked: &mut Vec<Path>,
     path: Path,
 ) -> Result<Vec<u8>, PullFault>
-    ensures told { Asks asked.old.items asked.new.items (S.asked source.old) (S.asked source.new) result }
+    ensures told { AsksPaths asked.old.items asked.new.items (S.asked source.old) (S.asked source.new) result }
     ensures counted { Counts (S.failed source.old) (S.failed source.new) result }
     ensures later { StaysWithin (S.may_answer source.old) (S.may_answer source.new) }
     ensures early { IsEarly result }
+    ensures each { IfOk result (λ _. IsFresh asked.old.items path → path ≢ full_of path → AddsEach (path ∷ []) asked.old.items asked.new.items) }
+    ensures honest { (digest : List ℕ → List ℕ) (entries : List (List ℕ)) → IsTrueSource digest entries (S.may_answer source.old) → IsTilePath (length entries) path → IsFresh asked.old.items path → MatchResult result (λ bytes. IsTrueRow digest entries path asked.old.items asked.new.items bytes.items) IsOutside }
 {
     if let Some(bytes) = ask(source, asked, path)? {
         return Ok(bytes);
@@ -43,10 +48,12 @@ pub(crate) fn edge_rows<S: Source>(
     asked: &mut Vec<Path>,
     size: u64,
 ) -> Result<Vec<Vec<u8>>, PullFault>
-    ensures told { Asks asked.old.items asked.new.items (S.asked source.old) (S.asked source.new) result }
+    ensures told { AsksPaths asked.old.items asked.new.items (S.asked source.old) (S.asked source.new) result }
     ensures counted { Counts (S.failed source.old) (S.failed source.new) result }
     ensures later { StaysWithin (S.may_answer source.old) (S.may_answer source.new) }
     ensures early { IsEarly result }
+    ensures each { IfOk result (λ _. AreFresh asked.old.items (edge_of size) → AddsEach (edge_of size) asked.old.items asked.new.items) }
+    ensures honest { (digest : List ℕ → List ℕ) (entries : List (List ℕ)) → IsTrueSource digest entries (S.may_answer source.old) → size ≤ length entries → AreFresh asked.old.items (edge_of size) → MatchResult result (λ rows. AreTrueRows digest entries (edge_of size) asked.old.items asked.new.items (map (λ row. row.items) rows.items)) IsOutside }
 {
     let paths = edge_paths(alloc, size)?;
     let mut rows = Vec::new(alloc);

@@ -4,7 +4,7 @@ ghost use Rattle.mirror_pull.specs.Answering.{of_take};
 ghost use Rattle.mirror_pull.specs.Faults.{of_source};
 ghost use Rattle.mirror_pull.specs.declared.fault.PullFault.TheVariants.{OutOfMemory};
 
-use crate::source::SourceFault;
+use log_sources::SourceFault;
 use mirror_model::TakeFault;
 use std::alloc::{AllocError, AllocFailed};
 use thiserror::Error;

@@ -1,4 +1,5 @@
-//! Laws of honest rounds.
+//! Laws of honest rounds, and of what a pull keeps.
+ghost use Rattle.mirror_pull.specs.GrowthLaws.{PullsKeepHeads};
 ghost use Rattle.mirror_pull.specs.PullLaws.{FrontRoundTakes, FrontRoundsEnd};
 
 /// An honest round is one that takes the front.
@@ -10,4 +11,10 @@ pub fn front_round_law()
 /// one.
 pub fn front_rounds_law()
     ensures { FrontRoundsEnd }
+{}
+
+/// After any pull, whatever it answers, what was complete stays complete with the same entries, and with
+/// no others while nothing clashes; a fork stays one.
+pub fn pull_growth_law()
+    ensures { PullsKeepHeads }
 {}

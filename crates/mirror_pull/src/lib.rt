@@ -5,13 +5,12 @@ mod ask;
 mod edge;
 mod fault;
 mod laws;
-mod mirror;
 mod pulling;
 mod rounds;
-mod source;
+#[cfg(test)]
+mod tests;
 
 pub use fault::PullFault;
-pub use laws::{front_round_law, front_rounds_law};
-pub use mirror::Core;
+pub use laws::{front_round_law, front_rounds_law, pull_growth_law};
+pub use log_sources::{Source, SourceFault};
 pub use pulling::{Pulled, pull};
-pub use source::{Source, SourceFault};

@@ -1,19 +1,20 @@
 //! Pulling a log from one source.
-ghost use Rattle.std.specs.Prelude.{◌≡◌, [], map};
+ghost use Rattle.std.specs.Prelude.{◌≡◌, [], map, IfOk};
 ghost use Rattle.mirror_model.specs.declared.items.Item.TheVariants.{Head};
-ghost use Rattle.mirror_pull.specs.Asking.{Asks, AddsSome, Counts};
+ghost use Rattle.mirror_pull.specs.Asking.{AddsSome, AsksInParts, AsksPaths, Counts};
+ghost use Rattle.mirror_pull.specs.Honest.{PullsHonestly};
 ghost use Rattle.mirror_pull.specs.Taking.{PullsTo, TakesHead};
-ghost use Rattle.mirror_pull.specs.Source.{StaysWithin};
+ghost use Rattle.log_sources.specs.Source.{StaysWithin};
 
 use crate::ask::ask;
 use crate::edge::edge_rows;
 use crate::fault::PullFault;
-use crate::mirror::Core;
 use crate::rounds::work;
-use crate::source::Source;
+use log_sources::Source;
 use signed_note::Verifier;
 use std::alloc::Global;
-use tlog_hash::Hash;
+use tlog_hash::{Hash, TreeHash};
+use tlog_mirror::Mirror;
 use tlog_tiles::Path;
 
 /// What a pull came to.
@@ -32,40 +33,61 @@ pub struct Pulled {
 }
 
 /// Takes a head with those rows.
-fn take_rows<C: Core>(
+fn take_rows<H: TreeHash>(
     alloc: Global,
-    mirror: &mut C,
+    mirror: &mut Mirror<H>,
     keys: &[Box<dyn Verifier>],
     note: &[u8],
     rows: &[Vec<u8>],
 ) -> Result<(), PullFault>
-    ensures { TakesHead C.digest (map (λ k. key k) keys.now) (C.seen mirror.old) (Head note.now (map (λ row. row.items) rows.now)) result (C.seen mirror.new) }
+    ensures { TakesHead H.digest (map (λ k. key k) keys.now) mirror.old.view (Head note.now (map (λ row. row.items) rows.now)) result mirror.new.view }
 {
     let mut edge: Vec<&[u8]> = Vec::new(alloc);
     for row in rows {
         edge.push(row.as_slice())?;
     }
-    mirror.take_head(keys, note, &edge)?;
+    mirror.take_head(alloc, keys, note, &edge)?;
     Ok(())
 }
 
-/// Gathers what a source has of its newest head.
-pub fn pull<C: Core, S: Source>(
+/// Gathers what a source has of its newest head: the checkpoint, the rows of its edge, and then, in at most 8 rounds,
+/// what is missing of it (C2SP tlog-tiles, "Checkpoints", "Merkle Tree", "Log Entries" and "Partial Tiles").
+///
+/// A round asks for each missing path that this pull has not asked for, and takes what comes. No path is asked for
+/// twice. Where a partial path is not found the full one is asked for at once; of a full tile the first hashes are
+/// taken. A reply that is no row or bundle of its width is passed over, and counts in `refused`.
+///
+/// ```
+/// let pulled = pull(alloc, &mut mirror, &keys, &mut source)?;
+/// if !pulled.complete {
+///     // another source, or a later pull, may have the rest
+/// }
+/// ```
+///
+/// # Errors
+///
+/// The mirror is as it was after these: `NoCheckpoint`, where the checkpoint is not found; `NoEdge`, where a row of the
+/// edge is not found, nor its full tile; `Head`, with the first refusal of `take_head` that applies. After the others
+/// the items taken so far stand: `Source`, where the source failed; `Collision`, where two different strings share a
+/// digest; `OutOfMemory`, where memory was refused.
+pub fn pull<H: TreeHash, S: Source>(
     alloc: Global,
-    mirror: &mut C,
+    mirror: &mut Mirror<H>,
     keys: &[Box<dyn Verifier>],
     source: &mut S,
 ) -> Result<Pulled, PullFault>
-    ensures outcome { PullsTo C.digest (map (λ k. key k) keys.now) (C.seen mirror.old) (C.seen mirror.new) result }
+    ensures outcome { PullsTo H.digest (map (λ k. key k) keys.now) mirror.old.view mirror.new.view result }
     ensures once { AddsSome [] (S.asked source.old) (S.asked source.new) }
     ensures counted { Counts (S.failed source.old) (S.failed source.new) result }
     ensures later { StaysWithin (S.may_answer source.old) (S.may_answer source.new) }
+    ensures asks { IfOk result (λ p. AsksInParts (S.asked source.old) (S.asked source.new) p.size p.rounds) }
+    ensures honest { PullsHonestly H.digest (map (λ k. key k) keys.now) mirror.old.view mirror.new.view (S.may_answer source.old) (S.asked source.old) (S.asked source.new) result }
 {
     let mut asked = Vec::new(alloc);
     let Some(note) = ask(source, &mut asked, Path::Checkpoint)? else {
         return Err(PullFault::NoCheckpoint);
     };
-    let checkpoint = mirror.check_head(keys, &note)?;
+    let checkpoint = mirror.check_head(alloc, keys, &note)?;
     let rows = edge_rows(alloc, source, &mut asked, checkpoint.size)?;
     take_rows(alloc, mirror, keys, &note, &rows)?;
     let size = checkpoint.size;

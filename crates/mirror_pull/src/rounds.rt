@@ -1,19 +1,21 @@
 //! The rounds of a pull.
-ghost use Rattle.std.specs.Prelude.{◌≡◌, ◌≤◌, ◌^◌, ℕ, map, IfOk, All, Contains};
+ghost use Rattle.std.specs.Prelude.{◌≡◌, ◌↔◌, ◌<◌, ◌≤◌, ◌^◌, ℕ, List, [], ◌∷◌, length, get_or, map, false, IfOk, MatchResult, All, Contains};
+ghost use Rattle.tlog_tiles.specs.declared.paths.Path.TheVariants.{Checkpoint};
 ghost use Rattle.mirror_model.specs.Heads.{HasHead};
 ghost use Rattle.mirror_model.specs.TreeLaws.{IsOfSize};
-ghost use Rattle.mirror_pull.specs.Asking.{Asks, Counts};
+ghost use Rattle.mirror_pull.specs.Asking.{AsksPaths, Counts};
 ghost use Rattle.mirror_pull.specs.Taking.{IsLate, GainsStrings, IsTakeable, TakesItem, item_at};
+ghost use Rattle.mirror_pull.specs.Parts.{HasWorked, IsOutside, IsWanted, MayTake, MayWork, TakesTrue};
 ghost use Rattle.mirror_pull.specs.Answering.{refused_of, refused_of_fault};
-ghost use Rattle.mirror_pull.specs.Source.{StaysWithin};
+ghost use Rattle.log_sources.specs.Source.{StaysWithin};
 
 use crate::ask::{ask, full_path, is_asked};
 use crate::fault::PullFault;
-use crate::mirror::Core;
-use crate::source::Source;
+use log_sources::Source;
 use mirror_model::{TakeFault, walk_law};
 use std::alloc::{AllocError, Global};
-use tlog_hash::Hash;
+use tlog_hash::{Hash, TreeHash};
+use tlog_mirror::Mirror;
 use tlog_tiles::Path;
 
 /// What a fault of a tile or a bundle means to a pull.
@@ -38,60 +40,71 @@ fn refusal(taken: Result<(), TakeFault>) -> Result<bool, PullFault>
 }
 
 /// Takes what was found at a path; true where it was refused for what it is.
-fn take_found<C: Core>(mirror: &mut C, path: Path, bytes: &[u8]) -> Result<bool, PullFault>
+fn take_found<H: TreeHash>(
+    alloc: Global,
+    mirror: &mut Mirror<H>,
+    path: Path,
+    bytes: &[u8],
+) -> Result<bool, PullFault>
     requires { IsTakeable path }
-    ensures { TakesItem C.digest (C.seen mirror.old) (item_at path bytes.now) result (C.seen mirror.new) }
+    ensures { TakesItem H.digest mirror.old.view (item_at path bytes.now) result mirror.new.view }
 {
     match path {
         Path::Checkpoint => unreachable!(),
-        Path::Tile { width, .. } => refusal(mirror.take_tile(width, bytes)),
-        Path::Entries { width, .. } => refusal(mirror.take_bundle(width, bytes)),
+        Path::Tile { width, .. } => refusal(mirror.take_tile(alloc, width, bytes)),
+        Path::Entries { width, .. } => refusal(mirror.take_bundle(alloc, width, bytes)),
     }
 }
 
 /// Asks for a path and takes what is found; true where it was refused for what it is. For a partial
 /// path that is not found the full one is asked for at once.
-fn take_path<C: Core, S: Source>(
-    mirror: &mut C,
+fn take_path<H: TreeHash, S: Source>(
+    alloc: Global,
+    mirror: &mut Mirror<H>,
     source: &mut S,
     asked: &mut Vec<Path>,
     path: Path,
 ) -> Result<bool, PullFault>
     requires { IsTakeable path }
-    ensures told { Asks asked.old.items asked.new.items (S.asked source.old) (S.asked source.new) result }
+    ensures told { AsksPaths asked.old.items asked.new.items (S.asked source.old) (S.asked source.new) result }
     ensures counted { Counts (S.failed source.old) (S.failed source.new) result }
     ensures later { StaysWithin (S.may_answer source.old) (S.may_answer source.new) }
     ensures late { IsLate result }
-    ensures gains { GainsStrings (C.seen mirror.old) (C.seen mirror.new) }
+    ensures gains { GainsStrings mirror.old.view mirror.new.view }
+    ensures asks { IfOk result (λ _. (Contains asked.old.items path → ⊥) → length asked.old.items < length asked.new.items) }
+    ensures honest { (entries : List (List ℕ)) (size : ℕ) → MayTake H.digest entries size (S.may_answer source.old) mirror.old.view asked.old.items (path ∷ []) → MatchResult result (λ refused. (refused ≡ false) × TakesTrue H.digest entries (path ∷ []) asked.old.items asked.new.items mirror.old.view mirror.new.view) IsOutside }
 {
     if let Some(bytes) = ask(source, asked, path)? {
-        return take_found(mirror, path, &bytes);
+        return take_found(alloc, mirror, path, &bytes);
     }
     let full = full_path(path);
     match ask(source, asked, full)? {
-        Some(bytes) => take_found(mirror, full, &bytes),
+        Some(bytes) => take_found(alloc, mirror, full, &bytes),
         None => Ok(false),
     }
 }
 
 /// One round: each path of the list is asked for, and what is found is taken. How many replies were
 /// refused for what they are.
-fn work_round<C: Core, S: Source>(
-    mirror: &mut C,
+fn work_round<H: TreeHash, S: Source>(
+    alloc: Global,
+    mirror: &mut Mirror<H>,
     source: &mut S,
     asked: &mut Vec<Path>,
     paths: &[Path],
 ) -> Result<u64, PullFault>
     requires { All IsTakeable paths.now }
-    ensures told { Asks asked.old.items asked.new.items (S.asked source.old) (S.asked source.new) result }
+    ensures told { AsksPaths asked.old.items asked.new.items (S.asked source.old) (S.asked source.new) result }
     ensures counted { Counts (S.failed source.old) (S.failed source.new) result }
     ensures later { StaysWithin (S.may_answer source.old) (S.may_answer source.new) }
     ensures late { IsLate result }
-    ensures gains { GainsStrings (C.seen mirror.old) (C.seen mirror.new) }
+    ensures gains { GainsStrings mirror.old.view mirror.new.view }
+    ensures asks { IfOk result (λ _. 1 ≤ length paths.now → (Contains asked.old.items (get_or paths.now 0 Checkpoint) → ⊥) → length asked.old.items < length asked.new.items) }
+    ensures honest { (entries : List (List ℕ)) (size : ℕ) → MayTake H.digest entries size (S.may_answer source.old) mirror.old.view asked.old.items paths.now → MatchResult result (λ refused. (refused ≡ 0) × TakesTrue H.digest entries paths.now asked.old.items asked.new.items mirror.old.view mirror.new.view) IsOutside }
 {
     let mut refused = 0u64;
     for path in paths {
-        if take_path(mirror, source, asked, *path)? {
+        if take_path(alloc, mirror, source, asked, *path)? {
             refused = refused.saturating_add(1);
         }
     }
@@ -99,19 +112,21 @@ fn work_round<C: Core, S: Source>(
 }
 
 /// The paths that are missing of a head and were not asked for yet.
-fn wanted<C: Core>(
+fn wanted<H: TreeHash>(
     alloc: Global,
-    mirror: &C,
+    mirror: &Mirror<H>,
     asked: &[Path],
     size: u64,
     root: &Hash,
 ) -> Result<Vec<Path>, AllocError>
     requires { size ≤ 256 ^ 8 }
     ensures takeable { IfOk result (λ paths. All IsTakeable paths.items) }
+    ensures new { IfOk result (λ paths. All (λ path. Contains asked.now path → ⊥) paths.items) }
+    ensures whole { IfOk result (λ paths. HasHead mirror.now.view size root.now → IsWanted H.digest mirror.now.view size root.now asked.now paths.items) }
 {
     walk_law();
     let mut paths = Vec::new(alloc);
-    let Some(missing) = mirror.missing(size, root)? else {
+    let Some(missing) = mirror.missing(alloc, size, root)? else {
         return Ok(paths);
     };
     for path in &missing {
@@ -123,21 +138,23 @@ fn wanted<C: Core>(
 }
 
 /// At most 8 rounds. How many asked for something, and how many replies were refused.
-pub(crate) fn work<C: Core, S: Source>(
+pub(crate) fn work<H: TreeHash, S: Source>(
     alloc: Global,
-    mirror: &mut C,
+    mirror: &mut Mirror<H>,
     source: &mut S,
     asked: &mut Vec<Path>,
     size: u64,
     root: &Hash,
 ) -> Result<(u32, u64), PullFault>
     requires { size ≤ 256 ^ 8 }
-    ensures told { Asks asked.old.items asked.new.items (S.asked source.old) (S.asked source.new) result }
+    ensures told { AsksPaths asked.old.items asked.new.items (S.asked source.old) (S.asked source.new) result }
     ensures counted { Counts (S.failed source.old) (S.failed source.new) result }
     ensures later { StaysWithin (S.may_answer source.old) (S.may_answer source.new) }
     ensures late { IsLate result }
-    ensures gains { GainsStrings (C.seen mirror.old) (C.seen mirror.new) }
+    ensures gains { GainsStrings mirror.old.view mirror.new.view }
     ensures rounds { IfOk result (λ r. r.0 ≤ 8) }
+    ensures none { IfOk result (λ r. r.0 ≡ 0 ↔ asked.new.items ≡ asked.old.items) }
+    ensures honest { (entries : List (List ℕ)) → MayWork H.digest entries size root.now (S.may_answer source.old) mirror.old.view asked.old.items → MatchResult result (λ r. (r.1 ≡ 0) × HasWorked H.digest entries size r.0 mirror.old.view mirror.new.view asked.old.items asked.new.items) IsOutside }
 {
     let mut refused = 0u64;
     for rounds in 0..8u32 {
@@ -145,7 +162,7 @@ pub(crate) fn work<C: Core, S: Source>(
         if paths.is_empty() {
             return Ok((rounds, refused));
         }
-        let more = work_round(mirror, source, asked, &paths)?;
+        let more = work_round(alloc, mirror, source, asked, &paths)?;
         refused = refused.saturating_add(more);
     }
     Ok((8, refused))

@@ -1,4 +1,4 @@
-use Rattle.std.proofs.Common.{◌≡◌, ◌∙◌, Contains, ◌∷◌, []}
+use Rattle.std.proofs.Common.{Contains, ◌∷◌, []}
 use Rattle.std.proofs.lemmas.Result.{err_from_is_err_and}
 use Rattle.mirror_pull.proofs.Askings.{adds_some_none, adds_one, some_get}
 use Rattle.mirror_pull.proofs.Gains.{early_of_source, late_of_source}

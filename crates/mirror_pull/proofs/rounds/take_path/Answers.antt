@@ -1,7 +1,9 @@
+use Rattle.std.proofs.Common.{Some, None}
 use Rattle.std.proofs.lemmas.Result.{err_from_is_err_and}
-use Rattle.mirror_pull.specs.Asking.{full_of}
-use Rattle.mirror_pull.proofs.Askings.{adds_some_then, adds_to_then, some_of, asks_late}
+use Rattle.mirror_pull.proofs.Askings.{adds_some_then, adds_to_then, asks_late}
 use Rattle.mirror_pull.proofs.Gains.{gains_item}
+use Rattle.mirror_pull.proofs.Freshness.{fresh_unasked}
+use Rattle.mirror_pull.proofs.TrueTakes.{path_fresh, path_found, path_full_fresh, path_full, path_neither}
 use Rattle.mirror_pull.proofs.rounds.take_path.Goals as goal
 
 pub returns-in_err-bytes-clause-late : goal.returns-in_err-bytes-clause-late
@@ -32,7 +34,45 @@ returns-in-None-clause-told g c =
     adds_to_then c.args.asked.now.items c.ask.new.asked.items c.ask-2.new.asked.items (asked c.args.source.now) (asked c.ask.new.source) (asked c.ask-2.new.source) c.in_ok-bytes.ensures.told c.in_ok-bytes-2.ensures.told
 
 pub returns-in-Some-clause-gains : goal.returns-in-Some-clause-gains
-returns-in-Some-clause-gains g c = gains_item g.C.Core.digest _ _ c.args.path c.deref.result.now _ c.take_found.ensures
+returns-in-Some-clause-gains g c = gains_item g.H.TreeHash.digest _ _ c.args.path c.deref.result.now _ c.take_found.ensures
 
 pub returns-in-Some-2-clause-gains : goal.returns-in-Some-2-clause-gains
-returns-in-Some-2-clause-gains g c = gains_item g.C.Core.digest _ _ c.full_path-full.result c.deref-in-Some-2.result.now _ c.take_found-in-Some-2.ensures
+returns-in-Some-2-clause-gains g c = gains_item g.H.TreeHash.digest _ _ c.full_path-full.result c.deref-in-Some-2.result.now _ c.take_found-in-Some-2.ensures
+
+pub returns-in-Some-clause-honest : goal.returns-in-Some-clause-honest
+returns-in-Some-clause-honest g c =
+    λ entries size m.
+    let may = g.S.Source.may_answer c.args.source.now in
+    let unasked = fresh_unasked c.args.asked.now.items c.args.path (path_fresh g.H.TreeHash.digest entries size may c.args.mirror.now.view c.args.path c.args.asked.now.items m) in
+    let answer : may c.args.path (Some c.in-Some.bytes.items) = rw c.in-Some.is at (c.in_ok-bytes.ensures.answer unasked) in
+    path_found g.H.TreeHash.digest entries size may c.args.mirror.now.view c.args.path c.args.asked.now.items m c.take_found.new.mirror.view c.ask.new.asked.items c.in-Some.bytes.items c.deref.result.now c.take_found.result answer c.deref.ensures.value (c.in_ok-bytes.ensures.grown unasked) c.take_found.ensures
+
+pub returns-in-Some-2-clause-honest : goal.returns-in-Some-2-clause-honest
+returns-in-Some-2-clause-honest g c =
+    λ entries size m.
+    let may = g.S.Source.may_answer c.args.source.now in
+    let later = g.S.Source.may_answer c.ask.new.source in
+    let v = c.args.mirror.now.view in
+    let digest = g.H.TreeHash.digest in
+    let before = c.args.asked.now.items in
+    let unasked = fresh_unasked before c.args.path (path_fresh digest entries size may v c.args.path before m) in
+    let grown = c.in_ok-bytes.ensures.grown unasked in
+    let none : may c.args.path None = rw c.in_default.is at (c.in_ok-bytes.ensures.answer unasked) in
+    let full = path_full_fresh digest entries size may v c.args.path before m c.full_path-full.result c.ask.new.asked.items none c.full_path-full.ensures grown in
+    let answer : later c.full_path-full.result (Some c.in-Some-2.bytes.items) = rw c.in-Some-2.is at (c.in_ok-bytes-2.ensures.answer full) in
+    path_full digest entries size may v c.args.path before m later c.take_found-in-Some-2.new.mirror.view c.full_path-full.result c.ask.new.asked.items c.ask-2.new.asked.items c.in-Some-2.bytes.items c.deref-in-Some-2.result.now c.take_found-in-Some-2.result c.in_ok-bytes.ensures.later none answer c.full_path-full.ensures c.deref-in-Some-2.ensures.value grown (c.in_ok-bytes-2.ensures.grown full) c.take_found-in-Some-2.ensures
+
+pub returns-in-None-clause-honest : goal.returns-in-None-clause-honest
+returns-in-None-clause-honest g c =
+    λ entries size m.
+    let may = g.S.Source.may_answer c.args.source.now in
+    let later = g.S.Source.may_answer c.ask.new.source in
+    let v = c.args.mirror.now.view in
+    let digest = g.H.TreeHash.digest in
+    let before = c.args.asked.now.items in
+    let unasked = fresh_unasked before c.args.path (path_fresh digest entries size may v c.args.path before m) in
+    let grown = c.in_ok-bytes.ensures.grown unasked in
+    let none : may c.args.path None = rw c.in_default.is at (c.in_ok-bytes.ensures.answer unasked) in
+    let full = path_full_fresh digest entries size may v c.args.path before m c.full_path-full.result c.ask.new.asked.items none c.full_path-full.ensures grown in
+    let answer : later c.full_path-full.result None = rw c.in-None.is at (c.in_ok-bytes-2.ensures.answer full) in
+    absurd (path_neither digest entries size may v c.args.path before m later c.full_path-full.result c.in_ok-bytes.ensures.later none answer c.full_path-full.ensures)

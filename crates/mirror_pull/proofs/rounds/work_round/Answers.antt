@@ -1,7 +1,10 @@
-use Rattle.std.proofs.Common.{◌∙◌, refl}
+use Rattle.std.proofs.Common.{arith, ◌∙◌, refl}
 use Rattle.std.proofs.lemmas.Result.{err_from_is_err_and}
 use Rattle.mirror_pull.proofs.Askings.{adds_some_then, adds_to_then, adds_to_none}
 use Rattle.mirror_pull.proofs.Gains.{stays_then, stays_itself, counts_err, gains_then, gains_itself}
+use Rattle.mirror_pull.proofs.TrueTakes.{round_next, round_step, round_none, round_whole}
+use Rattle.mirror_pull.proofs.Freshness.{asks_step}
+use Rattle.mirror_pull.proofs.rounds.work_round.Goals.{then-branch, else-branch}
 use Rattle.mirror_pull.proofs.rounds.work_round.Goals as goal
 
 pub returns-in_err-take_path-clause-told : goal.returns-in_err-take_path-clause-told
@@ -33,7 +36,18 @@ loop-path-preserved g c =
       told = adds_to_then c.args.asked.now.items c.loop-path.asked.items c.take_path.new.asked.items (asked c.args.source.now) (asked c.loop-path.source) (asked c.take_path.new.source) c.loop-path.invariant.told c.in_ok-take_path.ensures.told;
       counted = c.in_ok-take_path.ensures.counted ∙ c.loop-path.invariant.counted;
       later = stays_then (may c.args.source.now) (may c.loop-path.source) (may c.take_path.new.source) c.loop-path.invariant.later c.in_ok-take_path.ensures.later;
-      gains = gains_then (g.C.Core.seen c.args.mirror.now) (g.C.Core.seen c.loop-path.mirror) (g.C.Core.seen c.take_path.new.mirror) c.loop-path.invariant.gains c.in_ok-take_path.ensures.gains;
+      start = λ e. absurd (omega (arith, e));
+      asks = λ some new. asks_step c.args.asked.now.items c.loop-path.asked.items c.take_path.new.asked.items c.args.paths.now (asked c.loop-path.source) (asked c.take_path.new.source) c.loop-path.path-index c.loop-path.invariant.start c.loop-path.invariant.asks c.in_ok-take_path.ensures.told c.in_ok-take_path.ensures.asks new;
+      honest = λ entries size m.
+          let digest = g.H.TreeHash.digest in
+          let before = c.loop-path.invariant.honest entries size m in
+          let next = round_next digest entries size (may c.args.source.now) (may c.loop-path.source) c.args.mirror.now.view c.loop-path.mirror.view c.args.asked.now.items c.loop-path.asked.items c.args.paths.now c.loop-path.path-index c.loop-path.invariant.later c.loop-path-test.true m before.1 in
+          let took = c.in_ok-take_path.ensures.honest entries size next in
+          let not_refused = took.0 in (
+            elim c.if-branch.branch [ then-branch w ↦ (let refused = w.if-branch.true in absurd cc) | else-branch w ↦ w.refused-is ∙ before.0 ],
+            round_step digest entries size c.args.mirror.now.view c.loop-path.mirror.view c.take_path.new.mirror.view c.args.asked.now.items c.loop-path.asked.items c.take_path.new.asked.items c.args.paths.now c.loop-path.path-index c.loop-path-test.true before.1 took.1,
+          );
+      gains = gains_then c.args.mirror.now.view c.loop-path.mirror.view c.take_path.new.mirror.view c.loop-path.invariant.gains c.in_ok-take_path.ensures.gains;
     }
 
 pub loop-path-init : goal.loop-path-init
@@ -42,8 +56,21 @@ loop-path-init g c =
       told = adds_to_none c.args.asked.now.items (g.S.Source.asked c.args.source.now);
       counted = refl;
       later = stays_itself (g.S.Source.may_answer c.args.source.now);
-      gains = gains_itself (g.C.Core.seen c.args.mirror.now);
+      start = λ e. refl;
+      asks = λ some new. absurd (omega (arith, some));
+      honest = λ entries size m. (refl, round_none g.H.TreeHash.digest entries size c.args.mirror.now.view c.args.asked.now.items);
+      gains = gains_itself c.args.mirror.now.view;
     }
 
 pub returns-in_err-take_path-clause-gains : goal.returns-in_err-take_path-clause-gains
-returns-in_err-take_path-clause-gains g c = gains_then (g.C.Core.seen c.args.mirror.now) (g.C.Core.seen c.loop-path.mirror) (g.C.Core.seen c.take_path.new.mirror) c.loop-path.invariant.gains c.in_err-take_path.ensures.gains
+returns-in_err-take_path-clause-gains g c = gains_then c.args.mirror.now.view c.loop-path.mirror.view c.take_path.new.mirror.view c.loop-path.invariant.gains c.in_err-take_path.ensures.gains
+
+pub returns-in_err-take_path-clause-honest : goal.returns-in_err-take_path-clause-honest
+returns-in_err-take_path-clause-honest g c =
+    let may = g.S.Source.may_answer in
+    let p = err_from_is_err_and c.from_residual.result c.from_residual.ensures.1 in
+    rw (p.1, p.2) (λ entries size m. c.in_err-take_path.ensures.honest entries size (round_next g.H.TreeHash.digest entries size (may c.args.source.now) (may c.loop-path.source) c.args.mirror.now.view c.loop-path.mirror.view c.args.asked.now.items c.loop-path.asked.items c.args.paths.now c.loop-path.path-index c.loop-path.invariant.later c.loop-path-test.true m (c.loop-path.invariant.honest entries size m).1))
+
+pub returns-clause-honest : goal.returns-clause-honest
+returns-clause-honest g c =
+    λ entries size m. let h = c.loop-path.invariant.honest entries size m in (h.0, round_whole g.H.TreeHash.digest entries size c.args.mirror.now.view c.loop-path.mirror.view c.args.asked.now.items c.loop-path.asked.items c.args.paths.now c.loop-path.path-index c.loop-path-test.false h.1)

@@ -1,6 +1,8 @@
-use Rattle.std.proofs.Common.{◌≡◌}
+use Rattle.std.proofs.Common.{◌≡◌, ◌<◌, ◌≤◌, ℕ, List, length, get_or, take, Contains}
+use Rattle.tlog_tiles.specs.declared.paths.Path.TheVariants.{Checkpoint}
+use Rattle.mirror_pull.specs.Parts.{MayTake, TakesTrue}
 use Rattle.mirror_pull.specs.Asking.{AddsTo}
-use Rattle.mirror_pull.specs.Source.{StaysWithin}
+use Rattle.log_sources.specs.Source.{StaysWithin}
 use Rattle.mirror_pull.specs.Taking.{GainsStrings}
 use Rattle.mirror_pull.proofs.rounds.work_round.Given as goal
 
@@ -9,5 +11,10 @@ invariant-loop-path g l = record {
   told : AddsTo l.fn.asked.items l.asked.items (g.S.Source.asked l.fn.source) (g.S.Source.asked l.source);
   counted : g.S.Source.failed l.source ≡ g.S.Source.failed l.fn.source;
   later : StaysWithin (g.S.Source.may_answer l.fn.source) (g.S.Source.may_answer l.source);
-  gains : GainsStrings (g.C.Core.seen l.fn.mirror) (g.C.Core.seen l.mirror);
+  start : l.path-index ≡ 0 → l.asked.items ≡ l.fn.asked.items;
+  asks : 1 ≤ l.path-index → (Contains l.fn.asked.items (get_or l.paths 0 Checkpoint) → ⊥) → length l.fn.asked.items < length l.asked.items;
+  honest :
+      (entries : List (List ℕ)) (size : ℕ) → MayTake g.H.TreeHash.digest entries size (g.S.Source.may_answer l.fn.source) l.fn.mirror.view l.fn.asked.items l.paths →
+      (l.refused ≡ 0) × TakesTrue g.H.TreeHash.digest entries (take l.path-index l.paths) l.fn.asked.items l.asked.items l.fn.mirror.view l.mirror.view;
+  gains : GainsStrings l.fn.mirror.view l.mirror.view;
 }

@@ -1,0 +1,118 @@
+-- What the parts of a pull from an honest source come to.
+use Rattle.std.specs.Prelude.{◌≡◌, ◌≢◌, ◌⊎◌, ℕ, ◌≤◌, ◌<◌, ◌^◌, List, [], ◌∷◌, ◌++◌, length, map}
+use Rattle.std.specs.Prelude.{take, Option, Contains}
+use Rattle.tlog_hash.specs.Tree.{mth, strings}
+use Rattle.tlog_tiles.specs.declared.paths.Path.{Path}
+use Rattle.tlog_tiles.specs.declared.paths.Path.TheVariants.{Checkpoint, Tile, Entries}
+use Rattle.tlog_tiles.specs.Edge.{edge_of}
+use Rattle.tlog_tiles.specs.Tiles.{IsWithin}
+use Rattle.node_store.specs.Strings.{Has, HasAll}
+use Rattle.mirror_model.specs.View.{View}
+use Rattle.mirror_model.specs.Strings.{IsDigest}
+use Rattle.mirror_model.specs.Heads.{HasHead}
+use Rattle.mirror_model.specs.Edge.{edge_rows, edge_strings}
+use Rattle.mirror_model.specs.Rounds.{true_strings}
+use Rattle.mirror_model.specs.TrueLaws.{AreShort, IsWidest}
+use Rattle.mirror_model.specs.Listed.{ListsMissing}
+use Rattle.log_sources.specs.Files.{full_of}
+use Rattle.log_sources.specs.Honest.{Gets, true_bytes, IsTrueAnswer}
+use Rattle.mirror_pull.specs.Asking.{IsFresh, AreFresh}
+use Rattle.mirror_pull.specs.Honest.{NoClashAmong, AreFrontRounds, with_true}
+use Rattle.mirror_pull.specs.declared.fault.PullFault.{PullFault}
+use Rattle.mirror_pull.specs.declared.fault.PullFault.TheVariants.{Source, OutOfMemory}
+
+-- memory was refused, or the source failed
+abbrev pub IsOutside : PullFault → Type 0
+IsOutside fault = (fault ≡ OutOfMemory) ⊎ (fault ≡ Source)
+
+-- the path is that of a tile within n entries
+abbrev pub IsTilePath : ℕ → Path → Type 0
+IsTilePath n Checkpoint = ⊥
+IsTilePath n (Tile level index width) = IsWithin n (Tile level index width)
+IsTilePath n (Entries index width) = ⊥
+
+-- what the list of the paths asked for grew by, for these paths
+pub record GetsAll (n : ℕ) (paths before after : List Path) : Type 0 where
+  pub gets : List Path
+  pub founds : List Path
+  pub are : Gets n paths gets founds
+  pub list : after ≡ before ++ gets
+
+-- what is wanted of what is missing of a head: all of it, where nothing of it was asked for
+pub record IsWanted (digest : List ℕ → List ℕ) (v : View) (size : ℕ) (root : List ℕ)
+    (asked paths : List Path) : Type 0 where
+  pub missing : List Path
+  pub lists : ListsMissing digest v size root missing
+  pub whole : ((path : Path) → Contains missing path → Contains asked path → ⊥) → paths ≡ missing
+
+module _ (digest : List ℕ → List ℕ) (entries : List (List ℕ)) where
+  -- a source that answers each path within the entries truly
+  pub record IsTrueSource (may : Path → Option (List ℕ) → Type 0) : Type 0 where
+    pub hash : IsDigest digest
+    pub short : AreShort entries
+    pub parts :
+        (path : Path) → IsWithin (length entries) path → (answer : Option (List ℕ)) →
+        may path answer →
+        IsTrueAnswer digest entries path answer
+
+  -- a tile that was got for the edge: its true bytes
+  pub record IsTrueRow (path : Path) (before after : List Path) (bytes : List ℕ) : Type 0 where
+    pub bytes_are : bytes ≡ true_bytes digest entries path
+    pub gets : GetsAll (length entries) (path ∷ []) before after
+
+  -- so it is of several
+  pub record AreTrueRows (paths before after : List Path) (rows : List (List ℕ)) : Type 0 where
+    pub rows_are : rows ≡ map (true_bytes digest entries) paths
+    pub gets : GetsAll (length entries) paths before after
+
+  -- paths were asked for, and the true bytes that were found were taken
+  pub record TakesTrue (paths before after : List Path) (v w : View) : Type 0 where
+    pub gets : List Path
+    pub founds : List Path
+    pub are : Gets (length entries) paths gets founds
+    pub list : after ≡ before ++ gets
+    pub taken : w ≡ with_true digest entries v founds
+
+  -- a round may go well: each path is within the first entries and the widest of its place, and
+  -- none was asked for
+  pub record MayTake (size : ℕ) (may : Path → Option (List ℕ) → Type 0) (v : View)
+      (asked paths : List Path) : Type 0 where
+    pub source : IsTrueSource may
+    pub within : size ≤ length entries
+    pub clean : NoClashAmong digest entries v size
+    pub paths_are : (path : Path) → Contains paths path → IsWithin size path × IsWidest size path
+    pub fresh : AreFresh asked paths
+
+  -- where a path is at the place of one that is within the first entries and the widest there, the
+  -- strings of the true bytes of that one are held
+  abbrev pub IsSettled : ℕ → View → Path → Type 0
+  IsSettled size v before =
+      (path : Path) → full_of before ≡ full_of path → IsWithin size path → IsWidest size path →
+      HasAll v.strings (true_strings digest (take size entries) path)
+
+  -- the rounds may go well: the head and the strings of its edge are held, and all paths asked for
+  -- are settled
+  pub record MayWork (size : ℕ) (root : List ℕ) (may : Path → Option (List ℕ) → Type 0) (v : View)
+      (asked : List Path) : Type 0 where
+    pub source : IsTrueSource may
+    pub within : size ≤ length entries
+    pub small : size < 256 ^ 8
+    pub clean : NoClashAmong digest entries v size
+    pub root_is : root ≡ mth digest (take size entries)
+    pub head : HasHead v size root
+    pub edge : HasAll v.strings (edge_strings digest (edge_rows digest (take size entries)))
+    pub settled : (before : Path) → Contains asked before → IsSettled size v before
+
+  -- the rounds that were worked: whatever the tree of the first entries hashes is held, and strings
+  -- of the two trees alone were gained
+  pub record HasWorked (size rounds : ℕ) (v w : View) (before after : List Path) : Type 0 where
+    pub lists : List (List Path)
+    pub gets : List Path
+    pub count : length lists ≡ rounds
+    pub worked : AreFrontRounds digest entries size v w lists gets
+    pub list : after ≡ before ++ gets
+    pub whole : HasAll w.strings (strings digest (take size entries))
+    pub strings :
+        (y : List ℕ) → Has w.strings y →
+        Has v.strings y ⊎
+        (Contains (strings digest entries) y ⊎ Contains (strings digest (take size entries)) y)
