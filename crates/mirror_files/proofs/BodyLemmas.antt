@@ -1,17 +1,16 @@
 -- The body of a state text at the front of bytes is known from the bytes.
-use Rattle.std.proofs.Common.{◌≡◌, ◌≢◌, ◌⊎◌, inl, inr, ℕ, ◌+◌, ◌≤◌, ◌<◌, ◌-◌, List, [], ◌∷◌, ◌++◌, length, take, drop, get_or, refl, sym, ap, subst, ◌∙◌, append_assoc, arith, codes, Result, Ok, Err, length-append, length-take, length-drop, min, true≢false}
-use Rattle.std.specs.Str.{bytes_eq}
+use Rattle.std.proofs.Common.{◌≡◌, ◌≢◌, inl, inr, ℕ, ◌+◌, ◌≤◌, ◌<◌, ◌-◌, List, [], ◌∷◌, ◌++◌, length, take, drop, refl, sym, ap, subst, ◌∙◌, append_assoc, arith, codes, Err, length-append, length-take, length-drop, true≢false}
 use Rattle.std.proofs.lemmas.Slice.Eq.{bytes_eq-Decides}
-use Rattle.std.proofs.lemmas.List.{take_at, drop_at, append-nil, take-append-drop}
+use Rattle.std.proofs.lemmas.List.{take_at, append-nil, take-append-drop}
 use Rattle.sha2.specs.Sha256.{sha256}
 use Rattle.mirror_files.specs.declared.items.Form.TheVariants.{Short, Long, Hashes}
 use Rattle.mirror_files.specs.declared.parts.PartsFault.{PartsFault}
 use Rattle.mirror_files.specs.declared.parts.PartsFault.TheVariants.{StateMagic, StateShort, StateLong, StateDigest, OutOfMemory}
-use Rattle.mirror_files.specs.Items.{item_text, list_text, IsItem, AreItems}
-use Rattle.mirror_files.specs.StateText.{Parts, Parted, Tagged, AreParts, magic_of, lists_text, body_text, IsText}
+use Rattle.mirror_files.specs.Items.{item_text, list_text}
+use Rattle.mirror_files.specs.StateText.{Parts, Parted, Tagged, magic_of, lists_text, body_text, IsText}
 use Rattle.mirror_files.specs.Reading.{HasMagic, HasBody, HasText, ReadsParts}
 use Rattle.mirror_files.specs.Stands.{HasList, HasLists, FindsLists, EndsAs}
-use Rattle.mirror_files.proofs.ListLemmas.{list_one, origin_rest, parted_notes, tagged_notes, next_stands, last_stands}
+use Rattle.mirror_files.proofs.ListLemmas.{list_one, origin_rest, parted_notes, tagged_notes}
 
 -- the versions begin in two ways
 pub versions_differ : (x : List ℕ) → x ≡ codes "TLMIRR02" → x ≡ codes "TLMIRR01" → ⊥

@@ -1,11 +1,10 @@
 -- Items at the front of bytes are known from the bytes.
-use Rattle.std.proofs.Common.{◌≡◌, ℕ, suc, ◌^◌, ◌<◌, List, [], ◌∷◌, ◌++◌, length, take, drop, All, refl, sym, ap, ◌∙◌, append_assoc, arith}
-use Rattle.std.specs.List.{flat_map}
-use Rattle.std.specs.Int.{w16, w32, w64, to_be_bytes, from_be_bytes}
+use Rattle.std.proofs.Common.{◌≡◌, ℕ, suc, List, [], ◌∷◌, ◌++◌, length, take, drop, All, refl, sym, ap, ◌∙◌, append_assoc, arith}
+use Rattle.std.specs.Int.{w16, w32, to_be_bytes, from_be_bytes}
 use Rattle.std.proofs.lemmas.List.{take_at, drop_at, append-nil}
 use Rattle.std.proofs.lemmas.List.Elements.{All-head, All-tail}
 use Rattle.std.proofs.lemmas.List.Concat.{flat_map-append}
-use Rattle.std.proofs.lemmas.Nat.{from_be_bytes-to_be_bytes_2, from_be_bytes-to_be_bytes_4, from_be_bytes-to_be_bytes_8}
+use Rattle.std.proofs.lemmas.Nat.{from_be_bytes-to_be_bytes_2, from_be_bytes-to_be_bytes_4}
 use Rattle.mirror_files.specs.declared.items.Form.{Form}
 use Rattle.mirror_files.specs.declared.items.Form.TheVariants.{Short, Long, Hashes}
 use Rattle.mirror_files.specs.Items.{item_text, items_text, IsItem}

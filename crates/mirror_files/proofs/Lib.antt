@@ -2,3 +2,7 @@ pub mod ItemLemmas
 pub mod ListLemmas
 pub mod BodyLemmas
 pub mod OneText
+mod Listed
+mod OneLoad
+mod Loaded
+mod ListedItems

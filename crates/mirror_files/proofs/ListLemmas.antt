@@ -5,7 +5,7 @@ use Rattle.std.proofs.lemmas.Nat.{from_be_bytes-to_be_bytes_8}
 use Rattle.mirror_files.specs.declared.items.Form.{Form}
 use Rattle.mirror_files.specs.declared.items.Form.TheVariants.{Short, Long, Hashes}
 use Rattle.mirror_files.specs.Items.{item_text, items_text, list_text, IsItem, AreItems}
-use Rattle.mirror_files.specs.StateText.{Parts, Parted, Tagged, AreParts, AreParted, AreTagged, lists_text}
+use Rattle.mirror_files.specs.StateText.{Parted, Tagged}
 use Rattle.mirror_files.specs.Stands.{HasList, HasLists}
 use Rattle.mirror_files.proofs.ItemLemmas.{item_one, items_one}
 

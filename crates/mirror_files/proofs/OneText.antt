@@ -1,12 +1,11 @@
 -- Bytes are read as a state text in one way.
-use Rattle.std.proofs.Common.{◌≡◌, ◌≢◌, ◌⊎◌, ℕ, ◌+◌, List, [], ◌∷◌, ◌++◌, length, refl, sym, ap, ◌∙◌, append_assoc, arith, Result, Ok, Err, length-append}
+use Rattle.std.proofs.Common.{◌≡◌, ℕ, ◌+◌, List, [], ◌∷◌, ◌++◌, length, refl, sym, ap, ◌∙◌, append_assoc, arith, Ok, Err, length-append}
 use Rattle.std.proofs.lemmas.List.{append-nil}
 use Rattle.sha2.specs.Sha256.{sha256}
 use Rattle.sha2.proofs.Facts256.{length-sha256}
-use Rattle.mirror_files.specs.declared.parts.PartsFault.{PartsFault}
 use Rattle.mirror_files.specs.declared.parts.PartsFault.TheVariants.{StateMagic, StateShort, StateLong, StateDigest, OutOfMemory}
 use Rattle.mirror_files.specs.StateText.{Parts, body_text, IsText}
-use Rattle.mirror_files.specs.Reading.{HasMagic, HasBody, HasText, IsSpoiled, ReadsParts}
+use Rattle.mirror_files.specs.Reading.{HasBody, HasText, IsSpoiled}
 use Rattle.mirror_files.specs.Laws.{TextsHaveOneAnswer, TextsAreOne, NoTextIsCut}
 use Rattle.mirror_files.proofs.BodyLemmas.{body_one, has_magic}
 

@@ -1,5 +1,5 @@
 -- What each answer of a reader of state texts says of the bytes, as far as the bytes alone decide.
-use Rattle.std.specs.Prelude.{◌≡◌, ◌≢◌, ◌<◌, ℕ, ◌⊎◌, List, [], ◌∷◌, ◌++◌, length, take, codes, Result, Ok, Err}
+use Rattle.std.specs.Prelude.{◌≡◌, ◌≢◌, ℕ, ◌⊎◌, List, [], ◌∷◌, ◌++◌, length, take, codes, Result, Ok, Err}
 use Rattle.sha2.specs.Sha256.{sha256}
 use Rattle.mirror_files.specs.StateText.{Parts, body_text, AreParts, IsText}
 use Rattle.mirror_files.specs.declared.parts.PartsFault.{PartsFault}

@@ -1,9 +1,11 @@
 //! What a state text lists, lent from its bytes.
-ghost use Rattle.std.specs.Prelude.{◌≡◌, codes, ℕ, List, IfNone, IfOk, IfSome};
+ghost use Rattle.std.specs.Prelude.{◌≡◌, ◌↔◌, codes, ℕ, List, map, IfNone, IfOk, IfSome, IsTrue};
 ghost use Rattle.mirror_files.specs.StateText.{Parted, Tagged, magic_of};
+ghost use Rattle.mirror_files.specs.Loading.{AllRise, AllTaggedWell, listed_notes, listed_origin};
 ghost use Rattle.mirror_files.specs.Stands.{parts_of, HasLists};
 
 use crate::items::{Form, item_at, list_at};
+use crate::order::{all_state_strings, rises};
 use std::alloc::{AllocError, Global};
 
 /// The lists of a state text.
@@ -13,6 +15,50 @@ pub(crate) enum Lists<'a> {
     Parted(&'a [u8], Vec<&'a [u8]>, Vec<&'a [u8]>, Vec<&'a [u8]>),
     /// Version 1: strings with their tags.
     Tagged(&'a [u8], Vec<&'a [u8]>, Vec<&'a [u8]>),
+}
+
+impl<'a> Lists<'a> {
+    // The origin.
+    pub(crate) fn origin(&self) -> &[u8]
+        ensures { result.now ≡ listed_origin (parts_of self.now) }
+    {
+        match self {
+            Lists::Parted(origin, _, _, _) => origin,
+            Lists::Tagged(origin, _, _) => origin,
+        }
+    }
+
+    // The notes.
+    pub(crate) fn notes(&self) -> &[&[u8]]
+        ensures { map (λ n. n.now) result.now ≡ listed_notes (parts_of self.now) }
+    {
+        match self {
+            Lists::Parted(_, notes, _, _) => notes.as_slice(),
+            Lists::Tagged(_, notes, _) => notes.as_slice(),
+        }
+    }
+
+    // Whether each list rises strictly.
+    pub(crate) fn all_rise(&self) -> bool
+        ensures { IsTrue result ↔ AllRise (parts_of self.now) }
+    {
+        match self {
+            Lists::Parted(_, notes, pairs, entries) => {
+                rises(notes) && rises(pairs) && rises(entries)
+            }
+            Lists::Tagged(_, notes, strings) => rises(notes) && rises(strings),
+        }
+    }
+
+    // Whether the strings of version 1 are such as trees hash.
+    pub(crate) fn all_tagged_well(&self) -> bool
+        ensures { IsTrue result ↔ AllTaggedWell (parts_of self.now) }
+    {
+        match self {
+            Lists::Parted(_, _, _, _) => true,
+            Lists::Tagged(_, _, strings) => all_state_strings(strings),
+        }
+    }
 }
 
 // The lists of version 2 at the front, and the bytes behind them.

@@ -1,4 +1,6 @@
 //! State texts, read to what they list.
+mod loads;
+
 use crate::lists::Lists;
 use crate::parts::{PartsFault, read_parts};
 use sha2::{Digest, Sha256};

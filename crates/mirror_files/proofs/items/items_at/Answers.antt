@@ -1,5 +1,5 @@
-use Rattle.std.proofs.Common.{◌≡◌, ℕ, List, suc, ◌-◌, ◌+◌, [], ◌∷◌, ◌++◌, length, map, subst, arith, ap, sym, ◌∙◌}
-use Rattle.std.proofs.lemmas.List.{map_push, length_push, length-map}
+use Rattle.std.proofs.Common.{◌≡◌, suc, ◌-◌, ◌+◌, [], ◌∷◌, ◌++◌, length, map, subst, arith, ap, ◌∙◌}
+use Rattle.std.proofs.lemmas.List.{map_push, length_push}
 use Rattle.std.proofs.lemmas.List.Elements.{All-push, All-same}
 use Rattle.mirror_files.specs.Items.{IsItem}
 use Rattle.mirror_files.specs.Stands.{HasItems}

@@ -1,0 +1,131 @@
+-- What the steps of a loader answer. The contracts of private functions cite these words; what a loader answers needs none
+-- of them.
+use Rattle.std.specs.Prelude.{◌≡◌, ℕ, ◌≤◌, List, ◌∷◌, length, All, Result, Ok, Err}
+use Rattle.std.specs.FinSet as set
+use Rattle.signed_note.specs.Keys.{Key}
+use Rattle.node_store.specs.Strings.{Strings, NoClash}
+use Rattle.mirror_model.specs.Complete.{HasEdge}
+use Rattle.mirror_model.specs.Strings.{HasClash}
+use Rattle.mirror_model.specs.View.{View}
+use Rattle.mirror_model.specs.declared.fault.TakeFault.{TakeFault}
+use Rattle.mirror_model.specs.declared.fault.TakeFault.TheVariants as taking
+use Rattle.node_store.specs.declared.store.AddFault.{AddFault}
+use Rattle.node_store.specs.declared.store.AddFault.TheVariants as adding
+use Rattle.tlog_mirror.specs.Adding.{with_notes}
+use Rattle.tlog_mirror.specs.Restored.{IsOpenNote}
+use Rattle.mirror_files.specs.StateText.{Parts, Parted, Tagged}
+use Rattle.mirror_files.specs.Reading.{ReadsParts}
+use Rattle.mirror_files.specs.declared.parts.PartsFault.{PartsFault}
+use Rattle.mirror_files.specs.declared.parts.PartsFault.TheVariants as reading
+use Rattle.mirror_files.specs.declared.loading.Kind.{Kind}
+use Rattle.mirror_files.specs.declared.loading.Kind.TheVariants.{Entries, Pairs, Strings as Tags}
+use Rattle.mirror_files.specs.Loading.{IsStateString, HasStrings, IsOfOtherOrigin, IsDisordered, HasBadString, HasClosed, HasUnheld}
+use Rattle.mirror_files.specs.declared.fault.LoadFault.{LoadFault}
+use Rattle.mirror_files.specs.declared.fault.LoadFault.TheVariants.{StateMagic, StateShort, StateLong, StateDigest, OtherOrigin, StateOrder, StateString, StateHead, Collision, StateEdge, ReadFault, OutOfMemory}
+
+-- why the lists are not read, as a loader says it
+abbrev pub load_fault_of : PartsFault → LoadFault
+load_fault_of reading.StateMagic = StateMagic
+load_fault_of reading.StateShort = StateShort
+load_fault_of reading.StateLong = StateLong
+load_fault_of reading.StateDigest = StateDigest
+load_fault_of reading.OutOfMemory = OutOfMemory
+
+-- the lists, as far as they are judged without a digest and without keys
+abbrev pub ChecksLists : List ℕ → List ℕ → Result Parts LoadFault → Type 0
+ChecksLists origin bytes (Ok parts) = HasStrings origin bytes parts
+ChecksLists origin bytes (Err StateMagic) = ReadsParts bytes (Err reading.StateMagic)
+ChecksLists origin bytes (Err StateShort) = ReadsParts bytes (Err reading.StateShort)
+ChecksLists origin bytes (Err StateLong) = ReadsParts bytes (Err reading.StateLong)
+ChecksLists origin bytes (Err StateDigest) = ReadsParts bytes (Err reading.StateDigest)
+ChecksLists origin bytes (Err OtherOrigin) = IsOfOtherOrigin origin bytes
+ChecksLists origin bytes (Err StateOrder) = IsDisordered origin bytes
+ChecksLists origin bytes (Err StateString) = HasBadString origin bytes
+ChecksLists origin bytes (Err StateHead) = ⊥
+ChecksLists origin bytes (Err Collision) = ⊥
+ChecksLists origin bytes (Err StateEdge) = ⊥
+ChecksLists origin bytes (Err ReadFault) = ⊥
+ChecksLists origin bytes (Err OutOfMemory) = Unit {0}
+
+-- how strings are listed: as entries, as pairs of hashes, or with their tags
+abbrev pub tagged_as : Kind → List ℕ → List ℕ
+tagged_as Entries item = 0 ∷ item
+tagged_as Pairs item = 1 ∷ item
+tagged_as Tags item = item
+
+abbrev pub IsListable : Kind → List ℕ → Type 0
+IsListable Entries item = length item ≤ 65535
+IsListable Pairs item = length item ≡ 64
+IsListable Tags item = IsStateString item
+
+abbrev pub AreListable : Parts → Type 0
+AreListable (Parted origin notes pairs entries) = All (IsListable Entries) entries × All (IsListable Pairs) pairs
+AreListable (Tagged origin notes strings) = All (IsListable Tags) strings
+
+-- strings are added to a set, if none clashes
+abbrev pub AddsListed : (List ℕ → List ℕ) → Strings → List (List ℕ) → Result (Unit {0}) AddFault → Strings → Type 0
+AddsListed digest old strings (Ok done) new = (new ≡ set.union old (set.from_list strings)) × NoClash digest new
+AddsListed digest old strings (Err adding.Collision) new = HasClash digest (set.union old (set.from_list strings))
+AddsListed digest old strings (Err adding.OutOfMemory) new = Unit {0}
+
+-- and make one by themselves
+abbrev pub MakesStore : (List ℕ → List ℕ) → List (List ℕ) → Result Strings AddFault → Type 0
+MakesStore digest strings (Ok made) = (made ≡ set.from_list strings) × NoClash digest made
+MakesStore digest strings (Err adding.Collision) = HasClash digest (set.from_list strings)
+MakesStore digest strings (Err adding.OutOfMemory) = Unit {0}
+
+-- ---- notes
+
+-- what a fault of reading a head is here
+abbrev pub note_fault_of : TakeFault → LoadFault
+note_fault_of (taking.Note fault) = StateHead
+note_fault_of (taking.Checkpoint fault) = StateHead
+note_fault_of taking.OtherOrigin = StateHead
+note_fault_of taking.NoTrustedSignature = StateHead
+note_fault_of taking.EdgeCount = StateHead
+note_fault_of taking.EdgeLength = StateHead
+note_fault_of taking.EdgeMismatch = StateHead
+note_fault_of taking.RowLength = StateHead
+note_fault_of taking.BundleShort = StateHead
+note_fault_of taking.BundleLong = StateHead
+note_fault_of taking.Collision = StateHead
+note_fault_of taking.OutOfMemory = OutOfMemory
+
+-- an answer that is Ok, StateHead or want of memory
+abbrev pub Judges : (Good Bad : Type 0) → Result (Unit {0}) LoadFault → Type 0
+Judges Good Bad (Ok done) = Good
+Judges Good Bad (Err StateMagic) = ⊥
+Judges Good Bad (Err StateShort) = ⊥
+Judges Good Bad (Err StateLong) = ⊥
+Judges Good Bad (Err StateDigest) = ⊥
+Judges Good Bad (Err OtherOrigin) = ⊥
+Judges Good Bad (Err StateOrder) = ⊥
+Judges Good Bad (Err StateString) = ⊥
+Judges Good Bad (Err StateHead) = Bad
+Judges Good Bad (Err Collision) = ⊥
+Judges Good Bad (Err StateEdge) = ⊥
+Judges Good Bad (Err ReadFault) = ⊥
+Judges Good Bad (Err OutOfMemory) = Unit {0}
+
+-- of one note, and of all
+abbrev pub ChecksNote : List ℕ → List Key → List ℕ → Result (Unit {0}) LoadFault → Type 0
+ChecksNote origin keys note answer = Judges (IsOpenNote origin keys note) (IsOpenNote origin keys note → ⊥) answer
+
+abbrev pub ChecksNotes : List ℕ → List Key → List (List ℕ) → Result (Unit {0}) LoadFault → Type 0
+ChecksNotes origin keys notes answer = Judges (All (IsOpenNote origin keys) notes) (HasClosed origin keys notes) answer
+
+-- an answer that is Ok, StateEdge or want of memory
+abbrev pub KeepsNotes : (List ℕ → List ℕ) → View → List (List ℕ) → Result (Unit {0}) LoadFault → View → Type 0
+KeepsNotes digest old notes (Ok done) new = (new ≡ with_notes old notes) × All (HasEdge digest old) notes
+KeepsNotes digest old notes (Err StateMagic) new = ⊥
+KeepsNotes digest old notes (Err StateShort) new = ⊥
+KeepsNotes digest old notes (Err StateLong) new = ⊥
+KeepsNotes digest old notes (Err StateDigest) new = ⊥
+KeepsNotes digest old notes (Err OtherOrigin) new = ⊥
+KeepsNotes digest old notes (Err StateOrder) new = ⊥
+KeepsNotes digest old notes (Err StateString) new = ⊥
+KeepsNotes digest old notes (Err StateHead) new = ⊥
+KeepsNotes digest old notes (Err Collision) new = ⊥
+KeepsNotes digest old notes (Err StateEdge) new = HasUnheld digest old notes
+KeepsNotes digest old notes (Err ReadFault) new = ⊥
+KeepsNotes digest old notes (Err OutOfMemory) new = Unit {0}
