@@ -1,0 +1,7 @@
+pub mod FilePaths
+pub mod Fronts
+pub mod Orders
+pub mod Held
+pub mod Moments
+pub mod Exported
+pub mod AllFiles

@@ -1,0 +1,5 @@
+pub mod Shelf
+pub mod Files
+pub mod Exports
+pub mod Faults
+pub mod FileLaws

@@ -1,0 +1,50 @@
+-- What a shelf tells of what was put onto it.
+use Rattle.std.specs.Prelude.{◌≡◌, ◌↔◌, ℕ, List, [], ◌∷◌, ◌++◌, map, Option, Some, None, Result, Ok, Err, Bool, IsTrue, Contains}
+use Rattle.tlog_tiles.specs.declared.paths.Path.{Path}
+use Rattle.log_sources.specs.Told.{KeepsTold, AddsTold, one_more}
+use Rattle.mirror_folders.specs.declared.shelf.ShelfError.{ShelfError}
+use Rattle.mirror_folders.specs.declared.shelf.ShelfError.TheVariants.{Failed, OutOfMemory}
+
+-- a path, and the bytes that were put there
+abbrev pub Put : Type 0
+Put = Path × List ℕ
+
+-- something was put at the path
+abbrev pub HasPut : List Put → Path → Type 0
+HasPut puts path = Contains (map (λ put. put.0) puts) path
+
+-- the bytes were put at the path, and no others after them: they are what stands there
+pub record Stands (puts : List Put) (path : Path) (bytes : List ℕ) : Type 0 where
+  pub before : List Put
+  pub after : List Put
+  pub puts_are : puts ≡ before ++ (path, bytes) ∷ after
+  pub kept : (other : List ℕ) → Contains after (path, other) → other ≡ bytes
+
+-- a put that answers Ok is told last, and one that answers an error left all as it was
+abbrev pub TellsPut : {T : Type 0} → Option (List Put) → Option (List Put) → Put → Result T ShelfError → Type 0
+TellsPut old new put (Ok x) = AddsTold old new (put ∷ [])
+TellsPut old new put (Err e) = KeepsTold old new
+
+-- whether something was put at the path
+abbrev pub TellsHas : Option (List Put) → Path → Bool → Type 0
+TellsHas None path answer = Unit {0}
+TellsHas (Some puts) path answer = IsTrue answer ↔ HasPut puts path
+
+-- nothing was put at the path, as far as the shelf tells
+abbrev pub TellsNone : Option (List Put) → Path → Type 0
+TellsNone None path = Unit {0}
+TellsNone (Some puts) path = HasPut puts path → ⊥
+
+-- something was put at the path, as far as the shelf tells
+abbrev pub TellsSome : Option (List Put) → Path → Type 0
+TellsSome None path = Unit {0}
+TellsSome (Some puts) path = HasPut puts path
+
+-- each failure counts once, and want of memory is none
+abbrev pub CountsError : ℕ → ℕ → ShelfError → Type 0
+CountsError old new Failed = new ≡ one_more old
+CountsError old new OutOfMemory = new ≡ old
+
+abbrev pub CountsFailures : {T : Type 0} → ℕ → ℕ → Result T ShelfError → Type 0
+CountsFailures old new (Ok x) = new ≡ old
+CountsFailures old new (Err e) = CountsError old new e

@@ -1,0 +1,34 @@
+//! Why an export ends early.
+ghost use Rattle.std.specs.Prelude.{◌≡◌};
+ghost use Rattle.mirror_folders.specs.Faults.{of_shelf};
+
+use crate::shelf::ShelfError;
+use thiserror::Error;
+
+/// Why an export ends early. It prints its variant's name.
+#[derive(Debug, Drop, PartialEq, Eq, Clone, Copy, Error)]
+pub enum ExportFault {
+    /// Nothing is served.
+    #[error("NothingComplete")]
+    NothingComplete,
+    /// A checkpoint is on the shelf.
+    #[error("ShelfInUse")]
+    ShelfInUse,
+    /// The shelf failed.
+    #[error("ShelfFault")]
+    ShelfFault,
+    /// A request for memory was refused.
+    #[error("OutOfMemory")]
+    OutOfMemory,
+}
+
+impl From<ShelfError> for ExportFault {
+    ghost from_gives = { λ e f. f ≡ of_shelf e };
+
+    fn from(e: ShelfError) -> ExportFault {
+        match e {
+            ShelfError::Failed => ExportFault::ShelfFault,
+            ShelfError::OutOfMemory => ExportFault::OutOfMemory,
+        }
+    }
+}

@@ -1,0 +1,32 @@
+//! A log as a folder (C2SP tlog-tiles): a mirror exported onto a shelf, and a folder as a shelf and as a source.
+//!
+//! ```text
+//! let mut shelf = DirShelf::new(&rt, alloc, "log");
+//! export(alloc, &mirror, &mut shelf)?; // log/tile/.., log/tile/entries/.., and last log/checkpoint
+//!
+//! let mut source = DirSource::new(&rt, alloc, "log");
+//! source.get(&Path::Checkpoint)? // the bytes of log/checkpoint
+//! ```
+#![tactic(auto)]
+
+mod dir_shelf;
+mod dir_source;
+mod exporting;
+mod fault;
+mod files;
+mod laws;
+mod memory;
+mod place;
+mod replace;
+mod shelf;
+#[cfg(test)]
+mod tests;
+
+pub use dir_shelf::DirShelf;
+pub use dir_source::{DirSource, MOST_BYTES};
+pub use exporting::export;
+pub use fault::ExportFault;
+pub use laws::files_law;
+pub use memory::MemShelf;
+pub use replace::replace_file;
+pub use shelf::{Shelf, ShelfError};

@@ -1,0 +1,94 @@
+//! A shelf in memory.
+ghost use Rattle.std.specs.Prelude.{◌≡◌, ◌↔◌, [], map, IsTrue};
+ghost use Rattle.mirror_folders.specs.Shelf.{HasPut};
+
+use crate::shelf::{Shelf, ShelfError};
+use std::alloc::Global;
+use std::marker::Model;
+use tlog_tiles::Path;
+
+/// A shelf in memory: it tells what it holds, and never fails. Contracts see the list of what was put, the oldest
+/// first.
+///
+/// ```text
+/// let mut shelf = MemShelf::new(alloc);
+/// export(alloc, &mirror, &mut shelf)?;
+/// shelf.puts() // the tiles, the bundles, and last the checkpoint
+/// ```
+#[derive(Drop)]
+pub struct MemShelf {
+    puts: Vec<(Path, Vec<u8>)>,
+    alloc: Global,
+}
+
+impl Model for MemShelf {
+    ghost use Rattle.std.specs.Prelude.{List, map};
+    ghost use Rattle.mirror_folders.specs.Shelf.{Put};
+
+    ghost Value = { List Put };
+
+    ghost view = { λ a. map (λ put. (put.0, put.1.items)) a.puts.items };
+}
+
+impl MemShelf {
+    /// A shelf that holds nothing. It takes no memory.
+    pub fn new(alloc: Global) -> Self
+        ensures { result ≡ [] }
+    {
+        MemShelf {
+            puts: Vec::new(alloc),
+            alloc,
+        }
+    }
+
+    /// What was put, the oldest first. It takes no memory.
+    pub fn puts(&self) -> &[(Path, Vec<u8>)]
+        ensures { map (λ put. (put.0, put.1.items)) result.now ≡ self.now }
+    {
+        self.puts.as_slice()
+    }
+}
+
+fn is_same(first: &Path, second: &Path) -> bool
+    ensures { IsTrue result ↔ (first.now ≡ second.now) }
+{
+    first == second
+}
+
+// Whether something was put at the path.
+fn is_put(puts: &[(Path, Vec<u8>)], path: &Path) -> bool
+    ensures { IsTrue result ↔ HasPut (map (λ put. (put.0, put.1.items)) puts.now) path.now }
+{
+    for put in puts {
+        if is_same(&put.0, path) {
+            return true;
+        }
+    }
+    false
+}
+
+impl Shelf for MemShelf {
+    ghost use Rattle.std.specs.Prelude.{Some};
+
+    ghost puts = { λ s. Some s };
+
+    ghost failed = { λ _. 0 };
+
+    fn has(&mut self, path: &Path) -> Result<bool, ShelfError> {
+        Ok(is_put(&self.puts, path))
+    }
+
+    fn put(&mut self, path: &Path, bytes: &[u8]) -> Result<(), ShelfError> {
+        let Ok(bytes) = Vec::from_slice(self.alloc, bytes) else {
+            return Err(ShelfError::OutOfMemory);
+        };
+        match self.puts.push((*path, bytes)) {
+            Ok(()) => Ok(()),
+            Err(_) => Err(ShelfError::OutOfMemory),
+        }
+    }
+
+    fn failures(&self) -> u64 {
+        0
+    }
+}

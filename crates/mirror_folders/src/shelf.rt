@@ -1,0 +1,62 @@
+//! Where the files of a log are put.
+ghost use Rattle.std.specs.Prelude.{◌≡◌};
+ghost use Rattle.mirror_folders.specs.declared.shelf.ShelfError.TheVariants.{OutOfMemory};
+
+use std::alloc::AllocError;
+use thiserror::Error;
+use tlog_tiles::Path;
+
+/// Why a shelf did not do what it was asked to. It prints its variant's name.
+#[derive(Debug, Drop, PartialEq, Eq, Clone, Copy, Error)]
+pub enum ShelfError {
+    /// The shelf failed.
+    #[error("Failed")]
+    Failed,
+    /// A request for memory was refused.
+    #[error("OutOfMemory")]
+    OutOfMemory,
+}
+
+impl From<AllocError> for ShelfError {
+    ghost from_gives = { λ _ e. e ≡ OutOfMemory };
+
+    fn from(_e: AllocError) -> ShelfError {
+        ShelfError::OutOfMemory
+    }
+}
+
+/// Keeps the files of a log by their paths.
+pub trait Shelf {
+    ghost use Rattle.std.specs.Prelude.{◌≡◌, ℕ, List, Option, None, IfOk};
+    ghost use Rattle.log_sources.specs.Told.{KeepsTold};
+    ghost use Rattle.mirror_folders.specs.Shelf.{Put, TellsPut, TellsHas, CountsFailures};
+
+    /// What was put, the oldest first, where the shelf tells it. What was put last at a path stands there.
+    ghost puts: { Self → Option (List Put) } = { λ _. None };
+
+    /// How many calls failed.
+    ghost failed: { Self → ℕ };
+
+    /// Whether there is a file at the path.
+    ///
+    /// # Errors
+    ///
+    /// `Failed` where the shelf failed, which is counted, and `OutOfMemory` where memory was refused. What was put stays.
+    fn has(&mut self, path: &Path) -> Result<bool, ShelfError>
+        ensures answer { IfOk result (λ b. TellsHas (puts self.old) path.now b) }
+        ensures same { KeepsTold (puts self.old) (puts self.new) }
+        ensures counted { CountsFailures (failed self.old) (failed self.new) result };
+
+    /// Puts a file at the path, whole.
+    ///
+    /// # Errors
+    ///
+    /// Those of `has`; the path is then as it was.
+    fn put(&mut self, path: &Path, bytes: &[u8]) -> Result<(), ShelfError>
+        ensures told { TellsPut (puts self.old) (puts self.new) (path.now, bytes.now) result }
+        ensures counted { CountsFailures (failed self.old) (failed self.new) result };
+
+    /// How many calls failed; the count stays at its last value, 2^64 - 1.
+    fn failures(&self) -> u64
+        ensures { result ≡ failed self.now };
+}
