@@ -1,5 +1,5 @@
 -- The lengths that fields give, field by field.
-use Rattle.std.proofs.Common.{◌≡◌, ◌≢◌, ◌↔◌, IsTrue, ℕ, suc, ◌+◌, ◌<◌, ◌^◌, Bool, true, false, List, [], ◌∷◌, ◌++◌, length, get_or, All, Any, Result, Ok, Err, MatchBool, refl, sym, subst, ap, ◌∙◌, arith, rules, length-append}
+use Rattle.std.proofs.Common.{◌≡◌, ◌≢◌, ◌↔◌, IsTrue, ℕ, Bool, true, false, List, [], ◌∷◌, ◌++◌, length, All, Any, Ok, Err, MatchBool, refl, sym, subst, ◌∙◌, arith, rules, length-append}
 use Rattle.std.specs.List.{list_all}
 use Rattle.std.specs.Char.{is_ascii_digit}
 use Rattle.std.specs.Str.Parse.{digits_value, ParsesUnsigned}
@@ -10,7 +10,7 @@ use Rattle.std.proofs.lemmas.Str.Parse.{IsNumeralModel, numerals_by_value, parse
 use Rattle.std.proofs.lemmas.List.{get_or_append_left, get_or_push}
 use Rattle.std.proofs.lemmas.List.Elements.{All-push, All-weaker}
 use Rattle.std.proofs.lemmas.List.Quantifiers.{Any-push}
-use Rattle.mirror_http.specs.Reply.{Field, GivesLength, GivesNoLength, HasUnclearLength, IsCoding, IsLength, IsLengthField, IsUncoded, LengthsAre}
+use Rattle.mirror_http.specs.Reply.{Field, IsCoding, IsLength, IsLengthField, IsUncoded}
 use Rattle.mirror_http.specs.Framing.{LengthIs}
 use Rattle.mirror_http.specs.declared.framing.Length.{Length}
 use Rattle.mirror_http.specs.declared.framing.Length.TheVariants.{NotGiven, Given, Unclear}

@@ -1,16 +1,16 @@
 -- Bytes have one answer as a reply.
-use Rattle.std.proofs.Common.{◌≡◌, ◌≢◌, ◌⊎◌, inl, inr, ℕ, ◌++◌, List, length, take, drop, All, Any, Option, Some, None, Result, Ok, Err, refl, sym, ap, subst, ◌∙◌, arith}
+use Rattle.std.proofs.Common.{◌≡◌, ◌⊎◌, inl, inr, ℕ, ◌++◌, List, length, take, drop, Any, Option, Some, None, Result, Ok, Err, refl, sym, ap, subst, ◌∙◌, arith}
 use Rattle.std.proofs.lemmas.List.Elements.{All-weaker}
 use Rattle.httparse.specs.Grammar.{ResponseHead, status_code}
 use Rattle.httparse.proofs.GrammarLemmas.{response_unique}
-use Rattle.mirror_http.specs.Reply.{Field, fields_of, GivesLength, GivesNoLength, HasReply, HasUnclearLength, IsCoding, IsLength, IsLengthField, IsMissing, IsUncoded, ReadsReply, Says}
+use Rattle.mirror_http.specs.Reply.{Field, fields_of, GivesLength, GivesNoLength, HasReply, HasUnclearLength, IsCoding, IsLength, IsLengthField, IsNotFound, IsUncoded, SaysOfBody}
 use Rattle.mirror_http.specs.Laws.{OneReplyAnswer}
 use Rattle.mirror_http.specs.declared.limits.TheConstants.{MAX_HEAD_LEN}
 use Rattle.mirror_http.specs.declared.fault.ReplyFault.{ReplyFault}
 use Rattle.mirror_http.specs.declared.fault.ReplyFault.TheVariants.{BadReply, OtherStatus, CodedReply, BodyShort, BodyLong}
 use Rattle.mirror_http.proofs.Lengths.{one_length}
 
-missing_plain : (status : ℕ) → IsMissing status → status ≡ 200 → ⊥
+missing_plain : (status : ℕ) → IsNotFound status → status ≡ 200 → ⊥
 missing_plain status (inl e) p = omega (arith, e, p)
 missing_plain status (inr e) p = omega (arith, e, p)
 
@@ -34,7 +34,7 @@ body_given : (fields : List Field) (m n : ℕ) → GivesNoLength fields ⊎ Give
 body_given fields m n (inl none) given apart = none_given fields n none given
 body_given fields m n (inr here) given apart = apart (one_given fields m n here given)
 
-one_says : (status : ℕ) (fields : List Field) (rest : List ℕ) (a b : Result (Option (List ℕ)) ReplyFault) → Says status fields rest a → Says status fields rest b → a ≡ b
+one_says : (status : ℕ) (fields : List Field) (rest : List ℕ) (a b : Result (Option (List ℕ)) ReplyFault) → SaysOfBody status fields rest a → SaysOfBody status fields rest b → a ≡ b
 one_says status fields rest (Ok None) (Ok None) p q = refl
 one_says status fields rest (Ok None) (Ok (Some y)) p q = absurd (missing_plain status p q.0.success)
 one_says status fields rest (Ok None) (Err (OtherStatus y)) p q = absurd (q.1 p)
@@ -94,8 +94,8 @@ same_head bytes h g rest more p q =
 pub one_reply : OneReplyAnswer
 one_reply bytes a b (inl p) (inl q) =
     let same = same_head bytes p.0 q.0 p.1 q.1 p.2 q.2 in
-    let head = subst (λ (h : ResponseHead). Says (status_code h) (fields_of h) q.1 b) (sym same.0) q.3 in
-    one_says (status_code p.0) (fields_of p.0) p.1 a b p.3 (subst (λ (r : List ℕ). Says (status_code p.0) (fields_of p.0) r b) (sym same.1) head)
+    let head = subst (λ (h : ResponseHead). SaysOfBody (status_code h) (fields_of h) q.1 b) (sym same.0) q.3 in
+    one_says (status_code p.0) (fields_of p.0) p.1 a b p.3 (subst (λ (r : List ℕ). SaysOfBody (status_code p.0) (fields_of p.0) r b) (sym same.1) head)
 one_reply bytes a b (inl p) (inr q) = absurd (q.0 p.0 p.1 p.2)
 one_reply bytes a b (inr p) (inl q) = absurd (p.0 q.0 q.1 q.2)
 one_reply bytes a b (inr p) (inr q) = p.1 ∙ sym q.1

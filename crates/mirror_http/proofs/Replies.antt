@@ -6,7 +6,7 @@ use Rattle.httparse.specs.Grammar as grammar
 use Rattle.httparse.specs.Grammar.{ResponseHead, ReadsResponse, status_code}
 use Rattle.httparse.specs.Spans.{AreFieldsAt, header_bytes, name_and_value, span_bytes}
 use Rattle.httparse.specs.declared.spans.HeaderSpan.{HeaderSpan}
-use Rattle.mirror_http.specs.Reply.{Field, fields_of, HasReply, ReadsReply, Says}
+use Rattle.mirror_http.specs.Reply.{Field, fields_of, ReadsReply, SaysOfBody}
 use Rattle.mirror_http.specs.Framing.{FramingIs}
 use Rattle.mirror_http.specs.declared.limits.TheConstants.{MAX_FIELDS, MAX_HEAD_LEN}
 use Rattle.mirror_http.specs.declared.framing.Framing.{Framing}
@@ -27,7 +27,7 @@ few_fields buf headers count fields at len =
     omega (arith, a, length-take count headers, len)
 
 pub is_reply : (bytes front : List ℕ) (h : ResponseHead) (status len : ℕ) (framing : Framing) (result : Result (Option (List ℕ)) ReplyFault) → front ≡ take MAX_HEAD_LEN bytes → ReadsResponse front h (drop len front) → length h.fields ≤ MAX_FIELDS
-    → status ≡ status_code h → FramingIs (fields_of h) framing → len ≤ length front → ((fields : List Field) → FramingIs fields framing → Says status fields (drop len bytes) result) → ReadsReply bytes result
+    → status ≡ status_code h → FramingIs (fields_of h) framing → len ≤ length front → ((fields : List Field) → FramingIs fields framing → SaysOfBody status fields (drop len bytes) result) → ReadsReply bytes result
 is_reply bytes front h status len framing result f reads few s is le says =
     let whole : bytes ≡ front ++ drop MAX_HEAD_LEN bytes = sym (take-append-drop MAX_HEAD_LEN bytes) ∙ ap (λ (x : List ℕ). x ++ drop MAX_HEAD_LEN bytes) (sym f) in
     let rest : drop len bytes ≡ drop len front ++ drop MAX_HEAD_LEN bytes = ap (λ (x : List ℕ). drop len x) whole ∙ drop-append-le len front (drop MAX_HEAD_LEN bytes) le in
@@ -35,7 +35,7 @@ is_reply bytes front h status len framing result f reads few s is le says =
       h,
       drop len bytes,
       record { after = drop len front; reads = subst (λ (x : List ℕ). ReadsResponse x h (drop len front)) f reads; few = few; rest_is = rest },
-      subst (λ (n : ℕ). Says n (fields_of h) (drop len bytes) result) s (says (fields_of h) is),
+      subst (λ (n : ℕ). SaysOfBody n (fields_of h) (drop len bytes) result) s (says (fields_of h) is),
     )
 
 pub no_reply : (bytes front : List ℕ) → front ≡ take MAX_HEAD_LEN bytes → ((h : ResponseHead) (rest : List ℕ) → ReadsResponse front h rest → length h.fields ≤ MAX_FIELDS → ⊥) → ReadsReply bytes (Err BadReply)

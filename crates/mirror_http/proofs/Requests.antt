@@ -3,7 +3,7 @@ use Rattle.std.proofs.Common.{◌≡◌, ℕ, List, ◌∷◌, ◌++◌, codes, 
 use Rattle.tlog_tiles.specs.Path.{path_text}
 use Rattle.tlog_tiles.specs.declared.paths.Path.{Path}
 use Rattle.mirror_http.specs.Site.{Place, slash}
-use Rattle.mirror_http.specs.Request.{ended, fields_after_host, line_end, request_text}
+use Rattle.mirror_http.specs.Request.{fields_after_host, line_end, request_text}
 
 to_the_right : (a b v e r : List ℕ) → (((a ++ slash ∷ b) ++ v) ++ e) ++ r ≡ a ++ slash ∷ (b ++ (v ++ (e ++ r)))
 to_the_right a b v e r = append_assoc ((a ++ slash ∷ b) ++ v) e r ∙ (append_assoc (a ++ slash ∷ b) v (e ++ r) ∙ append_assoc a (slash ∷ b) (v ++ (e ++ r)))

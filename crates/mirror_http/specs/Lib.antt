@@ -3,3 +3,4 @@ pub mod Request
 pub mod Reply
 pub mod Framing
 pub mod Laws
+pub mod Source

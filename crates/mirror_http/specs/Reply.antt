@@ -1,5 +1,5 @@
 -- What a reply says to who asked for a file (RFC 9112, sections 2 to 6; RFC 9110, sections 5.1, 8.4, 8.6, 15).
-use Rattle.std.specs.Prelude.{◌≡◌, ◌≢◌, ◌⊎◌, ℕ, ◌<◌, ◌≤◌, ◌^◌, List, ◌++◌, length, map, take, drop, codes, All, Any, Option, Some, None, Result, Ok, Err, MatchBool, Bool}
+use Rattle.std.specs.Prelude.{◌≡◌, ◌≢◌, ◌⊎◌, ℕ, ◌<◌, ◌≤◌, ◌^◌, List, ◌++◌, length, map, take, drop, codes, All, Any, Option, Some, None, Result, Ok, Err}
 use Rattle.std.specs.Char.{to_ascii_lowercase}
 use Rattle.std.specs.Str.Parse.{IsNumeral, digits_value}
 use Rattle.httparse.specs.Grammar.{ResponseHead, ReadsResponse, status_code}
@@ -76,21 +76,21 @@ pub record IsPlain (status : ℕ) (fields : List Field) : Type 0 where
   pub uncoded : IsUncoded fields
 
 -- not found, or gone
-abbrev pub IsMissing : ℕ → Type 0
-IsMissing status = (status ≡ 404) ⊎ (status ≡ 410)
+abbrev pub IsNotFound : ℕ → Type 0
+IsNotFound status = (status ≡ 404) ⊎ (status ≡ 410)
 
 -- what each answer says of a head's status and fields and of the bytes that follow the head
-abbrev pub Says : ℕ → List Field → List ℕ → Result (Option (List ℕ)) ReplyFault → Type 0
-Says status fields rest (Ok None) = IsMissing status
-Says status fields rest (Ok (Some body)) = IsPlain status fields × (body ≡ rest) × (GivesNoLength fields ⊎ GivesLength fields (length rest))
-Says status fields rest (Err (OtherStatus code)) = (code ≡ status) × (IsMissing status → ⊥) × (status ≢ 200)
-Says status fields rest (Err CodedReply) = (status ≡ 200) × Any IsCoding fields
-Says status fields rest (Err BadReply) = IsPlain status fields × HasUnclearLength fields
-Says status fields rest (Err BodyShort) = IsPlain status fields × (n : ℕ) × GivesLength fields n × (length rest < n)
-Says status fields rest (Err BodyLong) = IsPlain status fields × (n : ℕ) × GivesLength fields n × (n < length rest)
+abbrev pub SaysOfBody : ℕ → List Field → List ℕ → Result (Option (List ℕ)) ReplyFault → Type 0
+SaysOfBody status fields rest (Ok None) = IsNotFound status
+SaysOfBody status fields rest (Ok (Some body)) = IsPlain status fields × (body ≡ rest) × (GivesNoLength fields ⊎ GivesLength fields (length rest))
+SaysOfBody status fields rest (Err (OtherStatus code)) = (code ≡ status) × (IsNotFound status → ⊥) × (status ≢ 200)
+SaysOfBody status fields rest (Err CodedReply) = (status ≡ 200) × Any IsCoding fields
+SaysOfBody status fields rest (Err BadReply) = IsPlain status fields × HasUnclearLength fields
+SaysOfBody status fields rest (Err BodyShort) = IsPlain status fields × (n : ℕ) × GivesLength fields n × (length rest < n)
+SaysOfBody status fields rest (Err BodyLong) = IsPlain status fields × (n : ℕ) × GivesLength fields n × (n < length rest)
 
 -- what each answer of a reader of replies says of the bytes: a reply without a head is a bad one
 abbrev pub ReadsReply : List ℕ → Result (Option (List ℕ)) ReplyFault → Type 0
 ReadsReply bytes answer =
-    ((h : ResponseHead) × (rest : List ℕ) × HasReply bytes h rest × Says (status_code h) (fields_of h) rest answer)
+    ((h : ResponseHead) × (rest : List ℕ) × HasReply bytes h rest × SaysOfBody (status_code h) (fields_of h) rest answer)
     ⊎ (((h : ResponseHead) (rest : List ℕ) → HasReply bytes h rest → ⊥) × (answer ≡ Err BadReply))

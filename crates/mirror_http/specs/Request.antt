@@ -20,15 +20,15 @@ abbrev pub host_line : Place → List ℕ
 host_line site = codes "Host: " ++ site.host
 
 -- a line and what ends it
-abbrev pub ended : List ℕ → List ℕ
-ended line = line ++ line_end
+abbrev pub field_line : List ℕ → List ℕ
+field_line line = line ++ line_end
 
 -- the fields that follow, and the empty line: the file as it is, on a connection of its own
 abbrev pub fields_after_host : List ℕ
 fields_after_host =
-    ended (codes "Accept-Encoding: identity") ++ (ended (codes "Connection: close") ++ line_end)
+    field_line (codes "Accept-Encoding: identity") ++ (field_line (codes "Connection: close") ++ line_end)
 
 -- the request: its line, its fields, and an empty line
 abbrev pub request_text : Place → Path → List ℕ
 request_text site path =
-    ended (request_line site path) ++ (ended (host_line site) ++ fields_after_host)
+    field_line (request_line site path) ++ (field_line (host_line site) ++ fields_after_host)

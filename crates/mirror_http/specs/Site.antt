@@ -36,12 +36,12 @@ pub record IsSomePrefix (prefix : List ℕ) : Type 0 where
   pub visible : AllPass is_visible prefix
 
 -- a prefix, to which a slash and a path are added
-abbrev pub IsPrefix : List ℕ → Type 0
-IsPrefix prefix = (prefix ≡ []) ⊎ IsSomePrefix prefix
+abbrev pub IsSitePrefix : List ℕ → Type 0
+IsSitePrefix prefix = (prefix ≡ []) ⊎ IsSomePrefix prefix
 
 -- what each answer of a constructor of a site says of what it is given
 abbrev pub MakesSite : List ℕ → List ℕ → Result Place SiteFault → Type 0
-MakesSite host prefix (Ok s) = IsHost host × IsPrefix prefix × (s ≡ record { host = host; prefix = prefix })
+MakesSite host prefix (Ok s) = IsHost host × IsSitePrefix prefix × (s ≡ record { host = host; prefix = prefix })
 MakesSite host prefix (Err BadHost) = IsHost host → ⊥
-MakesSite host prefix (Err BadPrefix) = IsHost host × (IsPrefix prefix → ⊥)
+MakesSite host prefix (Err BadPrefix) = IsHost host × (IsSitePrefix prefix → ⊥)
 MakesSite host prefix (Err OutOfMemory) = Unit {0}

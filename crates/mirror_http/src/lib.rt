@@ -19,13 +19,19 @@ mod limits;
 mod reply;
 mod request;
 mod site;
+mod source;
+mod tcp;
 
 pub use fault::{ReplyFault, SiteFault};
 pub use laws::one_reply_law;
-pub use limits::{MAX_FIELDS, MAX_HEAD_LEN, MAX_HOST_LEN, MAX_PREFIX_LEN};
+pub use limits::{MAX_FIELDS, MAX_HEAD_LEN, MAX_HOST_LEN, MAX_PREFIX_LEN, MAX_REPLY_LEN};
 pub use reply::read_reply;
 pub use request::get_request;
 pub use site::Site;
+pub use source::{Dial, HttpSource, receive_reply, send_request};
+pub use tcp::TcpDial;
 
+#[cfg(test)]
+mod source_tests;
 #[cfg(test)]
 mod tests;

@@ -11,3 +11,9 @@ pub const MAX_HEAD_LEN: usize = 8_192;
 
 /// A head has at most so many fields.
 pub const MAX_FIELDS: usize = 64;
+
+/// A reply has at most so many bytes: a head, and a file of a log.
+pub const MAX_REPLY_LEN: usize = 16_785_664;
+
+/// A reader is taken so many bytes of at most, one more than a reply has.
+pub const MOST_TAKEN: usize = 16_785_665;

@@ -3,7 +3,7 @@ ghost use Rattle.std.specs.Prelude.{◌≡◌, ◌≤◌, ℕ, List, length, dro
 ghost use Rattle.httparse.specs.Grammar.{ResponseHead, ReadsResponse, status_code};
 ghost use Rattle.httparse.specs.Spans.{IsHeaderWithin, header_bytes};
 ghost use Rattle.tlog_text.specs.Answers.{seen};
-ghost use Rattle.mirror_http.specs.Reply.{Field, fields_of, IsPlain, ReadsReply, Says};
+ghost use Rattle.mirror_http.specs.Reply.{Field, fields_of, IsPlain, ReadsReply, SaysOfBody};
 ghost use Rattle.mirror_http.specs.Framing.{FramingIs, LengthIs};
 
 use crate::fault::ReplyFault;
@@ -42,7 +42,7 @@ fn head_of(front: &[u8]) -> Option<(u16, Framing, usize)>
 
 // The body, where the length that is given, if any, is the number of the bytes.
 fn whole_body(length: Length, rest: &[u8]) -> Result<Option<&[u8]>, ReplyFault>
-    ensures { (status : ℕ) (fields : List Field) → IsPlain status fields → LengthIs fields length → Says status fields rest.now (seen option_copied result) }
+    ensures { (status : ℕ) (fields : List Field) → IsPlain status fields → LengthIs fields length → SaysOfBody status fields rest.now (seen option_copied result) }
 {
     match length {
         Length::NotGiven => Ok(Some(rest)),
@@ -62,7 +62,7 @@ fn whole_body(length: Length, rest: &[u8]) -> Result<Option<&[u8]>, ReplyFault>
 
 // What a head of that status and those fields, and the bytes that follow it, are read as.
 fn judged(status: u16, framing: Framing, rest: &[u8]) -> Result<Option<&[u8]>, ReplyFault>
-    ensures { (fields : List Field) → FramingIs fields framing → Says status fields rest.now (seen option_copied result) }
+    ensures { (fields : List Field) → FramingIs fields framing → SaysOfBody status fields rest.now (seen option_copied result) }
 {
     if status == 404 || status == 410 {
         return Ok(None);

@@ -1,7 +1,7 @@
 //! Where a log's files stand.
 ghost use Rattle.std.specs.Prelude.{◌≡◌, ◌↔◌, IsTrue};
 ghost use Rattle.std.specs.List.{AllPass};
-ghost use Rattle.mirror_http.specs.Site.{is_visible, IsHost, IsPrefix, MakesSite, StandsBetweenSlashes};
+ghost use Rattle.mirror_http.specs.Site.{is_visible, IsHost, IsSitePrefix, MakesSite, StandsBetweenSlashes};
 
 use crate::fault::SiteFault;
 use crate::limits::{MAX_HOST_LEN, MAX_PREFIX_LEN};
@@ -23,13 +23,13 @@ pub struct Site {
 
 impl Model for Site {
     ghost use Rattle.std.specs.Prelude.{string_bytes};
-    ghost use Rattle.mirror_http.specs.Site.{Place, IsHost, IsPrefix};
+    ghost use Rattle.mirror_http.specs.Site.{Place, IsHost, IsSitePrefix};
 
     ghost Value = { Place };
 
     ghost view = { λ s. record { host = string_bytes s.host; prefix = string_bytes s.prefix } };
 
-    ghost invariant = { λ s. IsHost (string_bytes s.host) × IsPrefix (string_bytes s.prefix) };
+    ghost invariant = { λ s. IsHost (string_bytes s.host) × IsSitePrefix (string_bytes s.prefix) };
 }
 
 // Whether each byte is visible ASCII.
@@ -60,7 +60,7 @@ fn stands_between_slashes(prefix: &str) -> bool
 
 // Whether a prefix may be so.
 fn is_prefix(prefix: &str) -> bool
-    ensures { IsTrue result ↔ IsPrefix prefix.now }
+    ensures { IsTrue result ↔ IsSitePrefix prefix.now }
 {
     if prefix.is_empty() {
         return true;

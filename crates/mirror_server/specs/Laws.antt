@@ -1,0 +1,30 @@
+-- What the definitions say, as laws.
+use Rattle.std.specs.Prelude.{◌≡◌, ℕ, List}
+use Rattle.mirror_model.specs.Complete.{IsLawful}
+use Rattle.mirror_model.specs.Strings.{IsDigest}
+use Rattle.mirror_model.specs.View.{View}
+use Rattle.mirror_server.specs.Resource.{Names}
+use Rattle.mirror_server.specs.Response.{Response}
+use Rattle.mirror_server.specs.declared.resource.Resource.{Resource}
+
+-- a target names one resource at most
+abbrev pub TargetsNameOne : Type 0
+TargetsNameOne = (target : List ℕ) (a b : Resource) → Names target a → Names target b → a ≡ b
+
+-- a lawful view has one reply at most to the bytes that a client gives
+abbrev pub ResponseIsOne : Type 0
+ResponseIsOne =
+    (digest : List ℕ → List ℕ) → IsDigest digest → (v : View) → IsLawful digest v → (bytes first second : List ℕ) →
+    Response digest v bytes first → Response digest v bytes second → first ≡ second
+
+-- and any view has one at least: that there is none is absurd
+abbrev pub ResponseIsThere : Type 0
+ResponseIsThere =
+    (digest : List ℕ → List ℕ) (v : View) (bytes : List ℕ) → ((reply : List ℕ) → Response digest v bytes reply → ⊥) → ⊥
+
+-- views that are equal have equal replies to equal bytes
+abbrev pub EqualViewsReplyAlike : Type 0
+EqualViewsReplyAlike =
+    (digest : List ℕ → List ℕ) → IsDigest digest → (v w : View) → IsLawful digest v → v ≡ w →
+    (bytes others first second : List ℕ) → bytes ≡ others → Response digest v bytes first →
+    Response digest w others second → first ≡ second

@@ -1,0 +1,5 @@
+pub mod Resource
+pub mod Response
+pub mod Laws
+pub mod Looks
+pub mod Answered

@@ -1,0 +1,69 @@
+-- What is seen in the bytes that were read so far.
+use Rattle.std.specs.Prelude.{◌≡◌, ◌≤◌, ℕ, List, [], ◌∷◌, ◌++◌, ◌<◌, length, Option}
+use Rattle.std.specs.Io.KnownBytes.{Consumes, Keeps, IsAtEnd}
+use Rattle.httparse.specs.Grammar.{RequestHead, ReadsRequest, HasNoRequest}
+use Rattle.httparse.specs.declared.spans.Span.{Span}
+use Rattle.httparse.specs.Spans.{RequestOverflows, IsWithin, span_bytes}
+use Rattle.mirror_server.specs.Response.{HasRequest, LacksRequest}
+use Rattle.mirror_server.specs.declared.limits.TheConstants.{MAX_FIELDS, MAX_HEAD_LEN}
+use Rattle.mirror_server.specs.declared.head.Look.{Look}
+use Rattle.mirror_server.specs.declared.head.Look.TheVariants.{Whole, Open, Bad}
+use Rattle.mirror_server.specs.declared.head.Seen.{Seen}
+use Rattle.mirror_server.specs.declared.head.Seen.TheVariants.{Nothing, NoHead, Head}
+use Rattle.mirror_server.specs.declared.head.Turn.{Turn}
+use Rattle.mirror_server.specs.declared.head.Turn.TheVariants.{More, Interrupted, End}
+
+-- the two places in the bytes are those of the method and the target of a head at their front
+pub record IsWhole (bytes : List ℕ) (method target : Span) : Type 0 where
+  pub head : RequestHead
+  pub rest : List ℕ
+  pub reads : ReadsRequest bytes head rest
+  pub few : length head.fields ≤ MAX_FIELDS
+  pub method_within : IsWithin (length bytes) method
+  pub target_within : IsWithin (length bytes) target
+  pub method_is : span_bytes bytes method ≡ head.method
+  pub target_is : span_bytes bytes target ≡ head.target
+
+-- what a look at the bytes says
+abbrev pub LooksLike : List ℕ → Look → Type 0
+LooksLike bytes (Whole method target) = IsWhole bytes method target
+LooksLike bytes Open = HasNoRequest bytes
+LooksLike bytes Bad = RequestOverflows MAX_FIELDS bytes
+
+-- what was seen of all the bytes that a client gives, buf being those that were read
+abbrev pub SeesIn : List ℕ → List ℕ → Seen → Type 0
+SeesIn all buf Nothing = all ≡ []
+SeesIn all buf NoHead = (first : ℕ) × (others : List ℕ) × (all ≡ first ∷ others) × LacksRequest all
+SeesIn all buf (Head method target) =
+    (h : RequestHead) × HasRequest all h × (span_bytes buf method ≡ h.method) × (span_bytes buf target ≡ h.target)
+
+-- what is named lies in the first len bytes
+abbrev pub LiesWithin : ℕ → Seen → Type 0
+LiesWithin len Nothing = Unit {0}
+LiesWithin len NoHead = Unit {0}
+LiesWithin len (Head method target) = IsWithin len method × IsWithin len target
+
+-- some bytes more were read
+pub record ReadsMore (known cur : Option (List ℕ)) (old new : List ℕ) : Type 0 where
+  pub bytes : List ℕ
+  pub some : 0 < length bytes
+  pub adds : new ≡ old ++ bytes
+  pub consumes : Consumes known cur bytes
+  pub within : length new ≤ MAX_HEAD_LEN
+
+-- none were read, and none are left
+pub record ReadsEnd (known cur : Option (List ℕ)) (old new : List ℕ) : Type 0 where
+  pub same : new ≡ old
+  pub consumes : Consumes known cur []
+  pub at_end : IsAtEnd cur
+
+-- none were read
+pub record ReadsNone (known cur : Option (List ℕ)) (old new : List ℕ) : Type 0 where
+  pub same : new ≡ old
+  pub keeps : Keeps known cur
+
+-- what one read did
+abbrev pub ReadsOn : Option (List ℕ) → Option (List ℕ) → List ℕ → List ℕ → Turn → Type 0
+ReadsOn known cur old new More = ReadsMore known cur old new
+ReadsOn known cur old new Interrupted = ReadsNone known cur old new
+ReadsOn known cur old new End = ReadsEnd known cur old new

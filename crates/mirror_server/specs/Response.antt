@@ -1,0 +1,101 @@
+-- What a mirror answers to the bytes that a client gives: the reply to their first request, as a relation between a view, all
+-- these bytes, and the reply (RFC 9112, sections 2 to 6; RFC 9110, sections 9.3.1, 10.2.1 and 15; C2SP tlog-tiles).
+use Rattle.std.specs.Prelude.{◌≡◌, ◌≢◌, ℕ, ◌≤◌, List, [], ◌∷◌, ◌++◌, length, take, codes, Ok}
+use Rattle.std.specs.Fmt.{decimal}
+use Rattle.httparse.specs.Grammar.{RequestHead, ReadsRequest}
+use Rattle.tlog_tiles.specs.declared.paths.Path.TheVariants as path
+use Rattle.tlog_proof.specs.Made.{asked_proof}
+use Rattle.tlog_proof.specs.Text.{IsProofText}
+use Rattle.tlog_proof.specs.declared.proof.Ask.{Ask}
+use Rattle.tlog_proof.specs.declared.proof.Proof as proof
+use Rattle.mirror_model.specs.View.{View}
+use Rattle.mirror_model.specs.Served.{IsServedList, Replies}
+use Rattle.mirror_model.specs.Texts.{IsStatusText, IsForksText, IsMissingText}
+use Rattle.mirror_server.specs.Resource.{Names}
+use Rattle.mirror_server.specs.declared.limits.TheConstants.{MAX_FIELDS, MAX_HEAD_LEN}
+use Rattle.mirror_server.specs.declared.resource.Resource.{Resource}
+use Rattle.mirror_server.specs.declared.resource.Resource.TheVariants.{File, Status, Forks, Missing, Proof}
+
+-- ---- the request
+
+-- the bytes begin with that head, which has at most 64 fields and lies within their first 8,192
+pub record HasRequest (bytes : List ℕ) (h : RequestHead) : Type 0 where
+  pub rest : List ℕ
+  pub reads : ReadsRequest (take MAX_HEAD_LEN bytes) h rest
+  pub few : length h.fields ≤ MAX_FIELDS
+
+-- there is no such head
+abbrev pub LacksRequest : List ℕ → Type 0
+LacksRequest bytes = (h : RequestHead) → HasRequest bytes h → ⊥
+
+-- ---- replies
+
+abbrev pub bad_request : List ℕ
+bad_request = codes "HTTP/1.1 400 Bad Request\r\nContent-Length: 0\r\nConnection: close\r\n\r\n"
+
+abbrev pub not_found : List ℕ
+not_found = codes "HTTP/1.1 404 Not Found\r\nContent-Length: 0\r\nConnection: close\r\n\r\n"
+
+abbrev pub not_allowed : List ℕ
+not_allowed = codes "HTTP/1.1 405 Method Not Allowed\r\nAllow: GET\r\nContent-Length: 0\r\nConnection: close\r\n\r\n"
+
+abbrev pub plain_text : List ℕ
+plain_text = codes "text/plain; charset=utf-8"
+
+abbrev pub octets : List ℕ
+octets = codes "application/octet-stream"
+
+-- the kind of a body: a checkpoint and what a mirror tells of itself are text, tiles and bundles are bytes
+abbrev pub media_type : Resource → List ℕ
+media_type (File path.Checkpoint) = plain_text
+media_type (File (path.Tile level index width)) = octets
+media_type (File (path.Entries index width)) = octets
+media_type Status = plain_text
+media_type Forks = plain_text
+media_type (Missing size root) = plain_text
+media_type (Proof ask) = plain_text
+
+-- the head of a reply with a body of that kind and length
+abbrev pub found_head : List ℕ → ℕ → List ℕ
+found_head kind len =
+    codes "HTTP/1.1 200 OK\r\nContent-Type: " ++ (kind ++ (codes "\r\nContent-Length: " ++ (decimal len ++ codes "\r\nConnection: close\r\n\r\n")))
+
+abbrev pub found : List ℕ → List ℕ → List ℕ
+found kind body = found_head kind (length body) ++ body
+
+module _ (digest : List ℕ → List ℕ) (v : View) where
+  -- the text of a proof of the entries that are served
+  pub record IsServedProofText (ask : Ask) (text : List ℕ) : Type 0 where
+    pub entries : List (List ℕ)
+    pub served : IsServedList digest v entries
+    pub proof : proof.Proof
+    pub made : asked_proof digest entries ask ≡ Ok proof
+    pub text_is : IsProofText text proof
+
+  -- the bytes of a resource; where there are none, the view does not serve it
+  abbrev pub IsBody : Resource → List ℕ → Type 0
+  IsBody (File path) body = Replies digest v path body
+  IsBody Status body = IsStatusText digest v body
+  IsBody Forks body = IsForksText digest v body
+  IsBody (Missing size root) body = IsMissingText digest v size root body
+  IsBody (Proof ask) body = IsServedProofText ask body
+
+  -- the target names a resource that is served, and the reply has its bytes
+  pub record IsFound (target reply : List ℕ) : Type 0 where
+    pub resource : Resource
+    pub names : Names target resource
+    pub body : List ℕ
+    pub is_body : IsBody resource body
+    pub reply_is : reply ≡ found (media_type resource) body
+
+-- the reply to a request
+pub data IsReplyTo (digest : List ℕ → List ℕ) (v : View) (h : RequestHead) : List ℕ → Type 0 where
+  other_method : h.method ≢ codes "GET" → IsReplyTo digest v h not_allowed
+  not_there : h.method ≡ codes "GET" → ((reply : List ℕ) → IsFound digest v h.target reply → ⊥) → IsReplyTo digest v h not_found
+  is_there : {reply : List ℕ} → h.method ≡ codes "GET" → IsFound digest v h.target reply → IsReplyTo digest v h reply
+
+-- Response(V, bytes): nothing where a client gives no byte, else the reply to the first request that it gives
+pub data Response (digest : List ℕ → List ℕ) (v : View) : List ℕ → List ℕ → Type 0 where
+  silent : Response digest v [] []
+  refused : {first : ℕ} {bytes : List ℕ} → LacksRequest (first ∷ bytes) → Response digest v (first ∷ bytes) bad_request
+  replied : {bytes reply : List ℕ} {h : RequestHead} → HasRequest bytes h → IsReplyTo digest v h reply → Response digest v bytes reply

@@ -1,0 +1,28 @@
+//! Why a client was not answered.
+ghost use Rattle.std.specs.Prelude.{◌≡◌};
+ghost use Rattle.mirror_server.specs.declared.fault.HttpFault.TheVariants.{OutOfMemory};
+
+use std::alloc::AllocError;
+use thiserror::Error;
+
+/// Why a client was not answered.
+#[derive(Debug, Drop, PartialEq, Eq, Clone, Copy, Error)]
+pub enum HttpFault {
+    /// A read failed. Nothing was written.
+    #[error("ReadFault")]
+    ReadFault,
+    /// A write failed, or took no byte. A front of the reply was written.
+    #[error("WriteFault")]
+    WriteFault,
+    /// A request for memory was refused. Nothing was written.
+    #[error("OutOfMemory")]
+    OutOfMemory,
+}
+
+impl From<AllocError> for HttpFault {
+    ghost from_gives = { λ _ e. e ≡ OutOfMemory };
+
+    fn from(_e: AllocError) -> HttpFault {
+        HttpFault::OutOfMemory
+    }
+}

@@ -1,0 +1,27 @@
+//! A mirror served over HTTP (RFC 9112): one request is read, and one reply is written.
+//!
+//! ```text
+//! for stream in listener.incoming() {
+//!     let stream = stream?;
+//!     if let Err(fault) = answer(alloc, &mirror, &mut &stream, &mut &stream) {
+//!         eprintln!(rt; "{fault}")?;
+//!     }
+//! }
+//! ```
+#![tactic(auto)]
+
+mod body;
+mod fault;
+mod head;
+mod laws;
+mod limits;
+mod resource;
+mod serve;
+#[cfg(test)]
+mod tests;
+
+pub use fault::HttpFault;
+pub use laws::{one_resource_law, one_response_law};
+pub use limits::{MAX_FIELDS, MAX_HEAD_LEN};
+pub use resource::Resource;
+pub use serve::answer;

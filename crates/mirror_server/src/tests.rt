@@ -1,0 +1,97 @@
+//! A mirror of three entries, asked over HTTP.
+mod replies;
+mod requests;
+mod streams;
+
+ghost use Rattle.std.specs.Prelude.{codes, ◌∷◌, []};
+ghost use Rattle.std.specs.Str.{bytes_eq};
+
+use crate::{HttpFault, answer};
+use signed_note::Verifier;
+use std::alloc::Global;
+use std::process::Abort;
+use std::test::Fail;
+use tlog_hash::{Sha256Tree, TreeHash};
+use tlog_mirror::Mirror;
+
+// The head of the log of three entries: no bytes, 00 and 10 in hexadecimal.
+const NOTE: &str =
+    "ex\n3\nrra8/idLcKFPsGel5VeCZNsPqbUa9eC6FZFY8yngbnc=\n\n\u{2014} good AQIDBAU=\n";
+
+const BAD_REQUEST: &str =
+    "HTTP/1.1 400 Bad Request\r\nContent-Length: 0\r\nConnection: close\r\n\r\n";
+
+const NOT_FOUND: &str = "HTTP/1.1 404 Not Found\r\nContent-Length: 0\r\nConnection: close\r\n\r\n";
+
+const NOT_ALLOWED: &str =
+    "HTTP/1.1 405 Method Not Allowed\r\nAllow: GET\r\nContent-Length: 0\r\nConnection: close\r\n\r\n";
+
+// The request for a bundle of two entries, and its reply.
+const BUNDLE_REQUEST: &[u8] = b"GET /tile/entries/000.p/2 HTTP/1.1\r\n\r\n";
+
+const BUNDLE_REPLY: &[u8] =
+    b"HTTP/1.1 200 OK\r\nContent-Type: application/octet-stream\r\nContent-Length: 5\r\nConnection: close\r\n\r\n\x00\x00\x00\x01\x00";
+
+// A key that accepts the signature 05 over every text.
+#[derive(Drop)]
+struct Five;
+
+impl Verifier for Five {
+    ghost key = { λ k. record { name = codes "good"; id = 16909060; accepts = λ text signature. bytes_eq signature (5 ∷ []) } };
+
+    fn name(&self) -> &str {
+        "good"
+    }
+
+    fn id(&self) -> u32 {
+        16_909_060
+    }
+
+    fn accepts(&self, _text: &[u8], signature: &[u8]) -> bool {
+        signature == [5].as_slice()
+    }
+}
+
+// A mirror that is complete at the three entries.
+fn mirror_of_3(alloc: Global) -> Result<Mirror<Sha256Tree>, Fail> {
+    let mut keys: Vec<Box<dyn Verifier>> = Vec::new(alloc);
+    keys.push(Box::new(alloc, Five)?)?;
+    let mut row = Vec::new(alloc);
+    for leaf in [
+        Sha256Tree::leaf(b""),
+        Sha256Tree::leaf(b"\x00"),
+        Sha256Tree::leaf(b"\x10"),
+    ] {
+        row.extend_from_slice(leaf.as_slice())?;
+    }
+    let mut mirror = Mirror::<Sha256Tree>::new(alloc, "ex")?;
+    mirror.take_head(alloc, &keys, NOTE.as_bytes(), &[row.as_slice()])?;
+    mirror.take_bundle(alloc, 3, b"\x00\x00\x00\x01\x00\x00\x01\x10")?;
+    Ok(mirror)
+}
+
+// The whole reply to these bytes.
+fn reply_of(
+    alloc: Global,
+    mirror: &Mirror<Sha256Tree>,
+    mut request: &[u8],
+) -> Result<Vec<u8>, HttpFault> {
+    let mut reply = Vec::new(alloc);
+    answer(alloc, mirror, &mut request, &mut reply)?;
+    Ok(reply)
+}
+
+// Each request has that reply.
+fn assert_replies(
+    rt: &impl Abort,
+    alloc: Global,
+    mirror: &Mirror<Sha256Tree>,
+    requests: &[&str],
+    want: &str,
+) -> Result<(), Fail> {
+    for request in requests {
+        let reply = reply_of(alloc, mirror, request.as_bytes())?;
+        assert_eq!(rt; reply.as_slice(), want.as_bytes(), "{request}");
+    }
+    Ok(())
+}
