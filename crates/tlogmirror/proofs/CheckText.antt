@@ -16,7 +16,7 @@ use Rattle.base64.proofs.EngineFacts.{IsAscii-encode_of}
 use Rattle.tlog_proof.specs.declared.proof.Proof.{Proof}
 use Rattle.tlog_proof.specs.declared.proof.Proof.TheVariants.{Inclusion, Consistency}
 use Rattle.tlog_text.specs.Hash.{base64_of}
-use Rattle.tlog_proof.specs.Text.{line, number_line, hash_line, path_lines, lines_of, title_of, IsWritable, IsProofText}
+use Rattle.tlog_proof.specs.Text.{line, number_line, hash_line, path_lines, lines_of, title_of, IsWritableProof, IsProofText}
 use Rattle.tlog_proof.proofs.Spelling.{has_one_spelling}
 use Rattle.tlogmirror.specs.declared.check.TheConstants.{MOST_BYTES}
 use Rattle.tlogmirror.specs.declared.check.CheckFault.{CheckFault}
@@ -43,7 +43,7 @@ path_ascii : (path : List (List ℕ)) → IsAscii (path_lines path [])
 path_ascii [] = IsAscii-nil
 path_ascii (hash ∷ path) = hash_ascii (codes "path ") hash (path_lines path []) (literal_ascii (codes "path ") refl) (path_ascii path)
 
-lines_ascii : (proof : Proof) → IsWritable proof → IsAscii (lines_of proof)
+lines_ascii : (proof : Proof) → IsWritableProof proof → IsAscii (lines_of proof)
 lines_ascii (Inclusion size index root leaf path) w =
     number_ascii (codes "size ") size _ (omega (arith, w.0)) (literal_ascii (codes "size ") refl)
     (number_ascii (codes "index ") index _ (omega (arith, w.1)) (literal_ascii (codes "index ") refl)

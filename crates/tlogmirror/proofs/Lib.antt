@@ -1,5 +1,4 @@
 pub mod Cut
 pub mod CheckText
-pub mod CommandLine
-pub mod CommandLaws
 pub mod Written
+pub mod EntryLists

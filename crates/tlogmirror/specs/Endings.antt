@@ -2,7 +2,7 @@
 use Rattle.std.specs.Prelude.{◌≡◌, ◌⊎◌, ℕ, List, [], ◌++◌, Option, Result, Ok, Err, codes, string_bytes}
 use Rattle.std.specs.Io.KnownBytes.{Appends, Keeps}
 use Rattle.byte_streams.specs.Streams.{AppendsFront}
-use Rattle.tlogmirror.specs.declared.command.CommandFault.TheVariants.{Help, Words, BadArgument}
+use Rattle.command_line.specs.declared.fault.CommandFault.TheVariants.{Help, Words, BadArgument}
 use Rattle.tlogmirror.specs.declared.run.RunFault.{RunFault}
 use Rattle.tlogmirror.specs.declared.run.RunFault.TheVariants.{Command}
 use Rattle.tlogmirror.specs.declared.ending.Said.{Said}
@@ -31,21 +31,21 @@ pub record Ends (status : ℕ) (stream : Stream) (text : List ℕ) (told : Endin
   pub text_is : said_bytes told.text ≡ text
 
 -- what the program tells of each answer of a run
-abbrev pub Tells : Result ℕ RunFault → Ending → Type 0
-Tells (Ok status) told = Ends status Output [] told
-Tells (Err (Command (Help text))) told = Ends 0 Output (string_bytes text) told
-Tells (Err (Command (Words text))) told = Ends 2 Errors (string_bytes text) told
-Tells (Err (Command BadArgument)) told = Ends 2 Errors (fault_line (codes "BadArgument")) told
-Tells (Err fault) told = (name : List ℕ) × Ends 1 Errors (fault_line name) told
+abbrev pub TellsRun : Result ℕ RunFault → Ending → Type 0
+TellsRun (Ok status) told = Ends status Output [] told
+TellsRun (Err (Command (Help text))) told = Ends 0 Output (string_bytes text) told
+TellsRun (Err (Command (Words text))) told = Ends 2 Errors (string_bytes text) told
+TellsRun (Err (Command BadArgument)) told = Ends 2 Errors (fault_line (codes "BadArgument")) told
+TellsRun (Err fault) told = (name : List ℕ) × Ends 1 Errors (fault_line name) told
 
 -- the text was written whole, and the status stays
-pub record Says (told : Ending) (status : ℕ) (output output' errors errors' : Option (List ℕ)) : Type 0 where
+pub record SaysWhole (told : Ending) (status : ℕ) (output output' errors errors' : Option (List ℕ)) : Type 0 where
   pub whole : Appends output output' (said_bytes told.text)
   pub quiet : Keeps errors errors'
   pub status_is : status ≡ told.status
 
 -- the text could not be written whole, which is told on the stream of errors as far as that goes
-pub record Fails (told : Ending) (status : ℕ) (output output' errors errors' : Option (List ℕ)) : Type 0 where
+pub record SaysFront (told : Ending) (status : ℕ) (output output' errors errors' : Option (List ℕ)) : Type 0 where
   pub front : AppendsFront output output' (said_bytes told.text)
   pub fault : AppendsFront errors errors' (fault_line (codes "WriteFault"))
   pub status_is : status ≡ 1
@@ -53,7 +53,7 @@ pub record Fails (told : Ending) (status : ℕ) (output output' errors errors' :
 -- what is written to both streams, and the exit status
 abbrev pub CarriesOut : Ending → ℕ → Option (List ℕ) → Option (List ℕ) → Option (List ℕ) → Option (List ℕ) → Type 0
 CarriesOut told status output output' errors errors' = (
-    (told.stream ≡ Output) × (Says told status output output' errors errors' ⊎ Fails told status output output' errors errors')
+    (told.stream ≡ Output) × (SaysWhole told status output output' errors errors' ⊎ SaysFront told status output output' errors errors')
     ) ⊎ (
     (told.stream ≡ Errors) × Keeps output output' × AppendsFront errors errors' (said_bytes told.text) × (status ≡ told.status)
     )

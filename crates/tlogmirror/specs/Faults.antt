@@ -7,6 +7,8 @@ use Rattle.tlog_proof.specs.declared.fault.TextFault.{TextFault}
 use Rattle.tlog_proof.specs.declared.fault.TextFault.TheVariants as text
 use Rattle.tlogmirror.specs.declared.check.CheckFault.{CheckFault}
 use Rattle.tlogmirror.specs.declared.check.CheckFault.TheVariants as check
+use Rattle.tlogmirror.specs.declared.entries.EntriesFault.{EntriesFault}
+use Rattle.tlogmirror.specs.declared.entries.EntriesFault.TheVariants as entries
 use Rattle.tlogmirror.specs.declared.root.RootFault.{RootFault}
 use Rattle.tlogmirror.specs.declared.root.RootFault.TheVariants as root
 
@@ -28,3 +30,8 @@ abbrev pub check_of_stream : StreamFault → CheckFault
 check_of_stream stream.ReadFault = check.ReadFault
 check_of_stream stream.WriteFault = check.WriteFault
 check_of_stream stream.OutOfMemory = check.OutOfMemory
+
+abbrev pub entries_of_stream : StreamFault → EntriesFault
+entries_of_stream stream.ReadFault = entries.ReadFault
+entries_of_stream stream.WriteFault = entries.ReadFault
+entries_of_stream stream.OutOfMemory = entries.OutOfMemory

@@ -1,11 +1,11 @@
 //! How the program ends: its exit status, and what it says on which stream.
 ghost use Rattle.std.specs.Prelude.{◌≡◌, IfOk, string_bytes};
 ghost use Rattle.byte_streams.specs.Streams.{AppendsFront};
-ghost use Rattle.tlogmirror.specs.Endings.{CarriesOut, IsFaultLine, Tells, said_bytes};
+ghost use Rattle.tlogmirror.specs.Endings.{CarriesOut, IsFaultLine, TellsRun, said_bytes};
 
-use crate::command::CommandFault;
 use crate::run::RunFault;
 use byte_streams::write_whole;
+use command_line::CommandFault;
 use std::alloc::{AllocError, Global};
 use std::io::Write;
 
@@ -74,7 +74,7 @@ fn line_of(alloc: Global, fault: &RunFault) -> Said
 /// error. Each other fault is told on standard error as one line: `tlogmirror: ` and the fault's name,
 /// or `OutOfMemory` where there is no memory for that line.
 pub fn told(alloc: Global, answer: Result<u8, RunFault>) -> Ending
-    ensures { Tells answer result }
+    ensures { TellsRun answer result }
 {
     let (status, stream, text) = match answer {
         Ok(status) => (status, Stream::Output, Said::Fixed("")),

@@ -6,17 +6,16 @@
 #![tactic(auto)]
 
 mod check;
-mod command;
 mod ending;
-mod laws;
+mod entries;
 mod root;
 mod run;
 #[cfg(test)]
 mod tests;
 
-use crate::command::CommandFault;
 use crate::ending::{carry_out, told};
 use crate::run::{RunFault, run_words};
+use command_line::CommandFault;
 use std::io::ErrorKind;
 use std::process::ExitCode;
 use std::{env, io};

@@ -5,8 +5,8 @@ ghost use Rattle.sha2.specs.Sha256.{sha256};
 ghost use Rattle.tlogmirror.specs.Runs.{IsStatus, IsWriteFault, Runs};
 
 use crate::check::{CheckFault, run_check};
-use crate::command::{Command, CommandFault, read_words};
 use crate::root::{RootFault, run_root};
+use command_line::{Command, CommandFault, read_words};
 use std::alloc::Global;
 use std::io::{Read, Write};
 use thiserror::Error;
@@ -24,6 +24,9 @@ pub enum RunFault {
     /// `check` told no verdict.
     #[error(transparent)]
     Check(CheckFault),
+    /// The words ask for a command that this program does not do yet.
+    #[error("NotYet")]
+    NotYet,
 }
 
 /// Does the command that the words ask for, and answers the exit status: 0 where it is done, 3 where
@@ -31,7 +34,8 @@ pub enum RunFault {
 ///
 /// # Errors
 ///
-/// `Command` comes where the words ask for no command. The others are those of the command's own call.
+/// `Command` comes where the words ask for no command, and `NotYet` where they ask for another than `root` and
+/// `check`. The others are those of the command's own call.
 /// Nothing was written, except where a write failed.
 pub fn run_words<R: Read, W: Write>(
     alloc: Global,
@@ -45,8 +49,8 @@ pub fn run_words<R: Read, W: Write>(
     ensures quiet { IfErr result (λ fault. (IsWriteFault fault → ⊥) → Keeps (W.contents output.old) (W.contents output.new)) }
 {
     match read_words(alloc, words) {
-        Ok(Command::Root { width }) => {
-            match run_root::<Sha256Tree, R, W>(alloc, width, input, output) {
+        Ok(Command::Root(root)) => {
+            match run_root::<Sha256Tree, R, W>(alloc, root.width, input, output) {
                 Ok(()) => Ok(0),
                 Err(fault) => Err(RunFault::Root(fault)),
             }
@@ -56,6 +60,7 @@ pub fn run_words<R: Read, W: Write>(
             Ok(false) => Ok(3),
             Err(fault) => Err(RunFault::Check(fault)),
         },
+        Ok(_) => Err(RunFault::NotYet),
         Err(fault) => Err(RunFault::Command(fault)),
     }
 }

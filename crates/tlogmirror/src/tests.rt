@@ -1,7 +1,7 @@
 //! Whole runs of the program over memory, and over streams that fail.
 mod endings;
+mod reading;
 mod streams;
-mod words;
 
 use crate::check::{CheckFault, run_check};
 use crate::root::{RootFault, run_root};

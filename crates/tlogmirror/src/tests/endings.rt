@@ -1,11 +1,11 @@
 //! How the program ends: its status, and what it says on which stream.
 use crate::check::CheckFault;
-use crate::command::CommandFault;
 use crate::ending::{carry_out, told};
 use crate::root::RootFault;
 use crate::run::{RunFault, run_words};
 use crate::tests::streams::FailingWriter;
 use crate::tests::words_of;
+use command_line::CommandFault;
 use std::alloc::Global;
 use std::process::Abort;
 use std::test::Fail;
@@ -45,6 +45,13 @@ fn whole_runs(rt: HostRuntime) -> Result<(), Fail> {
         ("check", "inclusion\n", 1, "", "tlogmirror: BadProofText\n"),
         ("check", crate::tests::INCLUSION, 0, "yes\n", ""),
         ("check", crate::tests::OTHER_INDEX, 3, "no\n", ""),
+        (
+            "status --origin o --keys k --state s",
+            "",
+            1,
+            "",
+            "tlogmirror: NotYet\n",
+        ),
         ("--version", "", 0, "tlogmirror 0.1.0\n", ""),
     ] {
         assert_run(

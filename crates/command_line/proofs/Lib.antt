@@ -1,0 +1,6 @@
+pub mod Parsers
+pub mod Refusing
+pub mod Lines
+pub mod Named
+pub mod Places
+pub mod CommandLaws

@@ -1,0 +1,4 @@
+pub mod App
+pub mod Commands
+pub mod Readings
+pub mod Laws

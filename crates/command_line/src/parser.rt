@@ -1,0 +1,392 @@
+//! The parser of the command line, command by command.
+ghost use Rattle.std.specs.Prelude.{◌≡◌, IfOk, codes, false};
+ghost use Rattle.clap.specs.Words.{rule_of};
+ghost use Rattle.command_line.specs.App.{build_app, check_app, choice_rule, folder_app, held_app, list_rule, log_app, made_app};
+ghost use Rattle.command_line.specs.App.{making_app, merge_app, mirror_app, missing_app, option_rule, place_rule, program_app, prove_app, pull_app};
+ghost use Rattle.command_line.specs.App.{root_app, serve_app, take_app};
+ghost use Rattle.command_line.specs.Commands.{IsParserOf};
+
+use crate::help;
+use clap::{Arg, ArgAction};
+use std::alloc::{AllocError, Global};
+
+// `[--NAME VALUE]`, which may be left out.
+fn choice<'a>(alloc: Global, name: &'a str, value: &'a str, help: &'a str) -> Arg<'a>
+    ensures rule { rule_of result ≡ choice_rule name.entry.now }
+    ensures local { result.global ≡ false }
+{
+    Arg::new(alloc, name)
+        .long(name)
+        .value_name(value)
+        .action(ArgAction::Set)
+        .help(help)
+}
+
+// `--NAME VALUE`, which has to be there.
+fn option<'a>(alloc: Global, name: &'a str, value: &'a str, help: &'a str) -> Arg<'a>
+    ensures rule { rule_of result ≡ option_rule name.entry.now }
+    ensures local { result.global ≡ false }
+{
+    Arg::new(alloc, name)
+        .long(name)
+        .value_name(value)
+        .required(true)
+        .action(ArgAction::Set)
+        .help(help)
+}
+
+// `VALUE`, a word alone, which has to be there.
+fn place<'a>(alloc: Global, name: &'a str, value: &'a str, help: &'a str) -> Arg<'a>
+    ensures rule { rule_of result ≡ place_rule name.entry.now }
+    ensures local { result.global ≡ false }
+{
+    Arg::new(alloc, name)
+        .value_name(value)
+        .required(true)
+        .action(ArgAction::Set)
+        .help(help)
+}
+
+// `VALUE...`, any number of words alone.
+fn list<'a>(alloc: Global, name: &'a str, value: &'a str, help: &'a str) -> Arg<'a>
+    ensures rule { rule_of result ≡ list_rule name.entry.now }
+    ensures local { result.global ≡ false }
+{
+    Arg::new(alloc, name)
+        .value_name(value)
+        .action(ArgAction::Append)
+        .help(help)
+}
+
+// A command over a log: its origin and its keys.
+fn log_parser<'a>(
+    alloc: Global,
+    name: &'a str,
+    about: &'a str,
+    after: &'a str,
+) -> Result<clap::Command<'a>, AllocError>
+    ensures { IfOk result (IsParserOf (log_app name.entry.now)) }
+{
+    let origin = option(
+        alloc,
+        "origin",
+        "O",
+        "The origin line of the log's checkpoints",
+    );
+    let keys = option(
+        alloc,
+        "keys",
+        "K",
+        "The file of the keys that its checkpoints are opened with",
+    );
+    clap::Command::new(alloc, name)
+        .about(about)
+        .after_help(after)
+        .arg(origin)?
+        .arg(keys)
+}
+
+// A command over a mirror that is kept in a file.
+fn held_parser<'a>(
+    alloc: Global,
+    name: &'a str,
+    about: &'a str,
+    after: &'a str,
+) -> Result<clap::Command<'a>, AllocError>
+    ensures { IfOk result (IsParserOf (held_app name.entry.now)) }
+{
+    let state = option(alloc, "state", "S", "The file of the mirror's state");
+    log_parser(alloc, name, about, after)?.arg(state)
+}
+
+// A command that writes a mirror to a file.
+fn made_parser<'a>(
+    alloc: Global,
+    name: &'a str,
+    about: &'a str,
+    after: &'a str,
+) -> Result<clap::Command<'a>, AllocError>
+    ensures { IfOk result (IsParserOf (made_app name.entry.now)) }
+{
+    let out = option(
+        alloc,
+        "out",
+        "T",
+        "The file that the mirror's state is written to, whole or not at all",
+    );
+    log_parser(alloc, name, about, after)?.arg(out)
+}
+
+// A command that writes files of a mirror to a folder.
+fn folder_parser<'a>(
+    alloc: Global,
+    name: &'a str,
+    about: &'a str,
+    after: &'a str,
+) -> Result<clap::Command<'a>, AllocError>
+    ensures { IfOk result (IsParserOf (folder_app name.entry.now)) }
+{
+    let folder = option(alloc, "dir", "D", "The folder that is written");
+    held_parser(alloc, name, about, after)?.arg(folder)
+}
+
+fn root_parser<'a>(alloc: Global) -> Result<clap::Command<'a>, AllocError>
+    ensures { IfOk result (IsParserOf root_app) }
+{
+    let width = option(
+        alloc,
+        "width",
+        "W",
+        "How many entries the bundle has, 0 to 256",
+    );
+    clap::Command::new(alloc, "root")
+        .about("Reads an entry bundle from standard input, and prints its size and its tree hash")
+        .after_help(help::ROOT)
+        .arg(width)
+}
+
+fn check_parser<'a>(alloc: Global) -> clap::Command<'a>
+    ensures { IsParserOf check_app result }
+{
+    clap::Command::new(alloc, "check")
+        .about(
+            "Reads the text of a proof from standard input, and prints whether it holds: yes or no",
+        )
+        .after_help(help::CHECK)
+}
+
+fn build_parser<'a>(alloc: Global) -> Result<clap::Command<'a>, AllocError>
+    ensures { IfOk result (IsParserOf build_app) }
+{
+    let folder = option(alloc, "dir", "D", "The folder that the log is written to");
+    log_parser(
+        alloc,
+        "build",
+        "Makes a log of the entries on standard input, and writes its files to a folder",
+        help::BUILD,
+    )?
+    .arg(folder)
+}
+
+fn take_parser<'a>(alloc: Global) -> Result<clap::Command<'a>, AllocError>
+    ensures { IfOk result (IsParserOf take_app) }
+{
+    let state = choice(
+        alloc,
+        "state",
+        "S",
+        "The file of the state to begin with; nothing where it is left out",
+    );
+    let width = choice(
+        alloc,
+        "width",
+        "W",
+        "How many hashes or entries the file has, 1 to 256; 256 where it is left out",
+    );
+    let kind = place(
+        alloc,
+        "kind",
+        "KIND",
+        "What the files hold: head, tile or bundle",
+    );
+    let files = list(
+        alloc,
+        "file",
+        "FILE",
+        "The files: one; for a head the note, then the edge rows",
+    );
+    made_parser(
+        alloc,
+        "take",
+        "Takes what files hold into a mirror, and writes the mirror's state",
+        help::TAKE,
+    )?
+    .arg(state)?
+    .arg(width)?
+    .arg(kind)?
+    .arg(files)
+}
+
+fn merge_parser<'a>(alloc: Global) -> Result<clap::Command<'a>, AllocError>
+    ensures { IfOk result (IsParserOf merge_app) }
+{
+    let first = place(alloc, "a", "A", "The file of the first state");
+    let second = place(
+        alloc,
+        "b",
+        "B",
+        "The file of the state that is taken into it",
+    );
+    made_parser(
+        alloc,
+        "merge",
+        "Makes one mirror of two, and writes its state",
+        help::MERGE,
+    )?
+    .arg(first)?
+    .arg(second)
+}
+
+fn pull_parser<'a>(alloc: Global) -> Result<clap::Command<'a>, AllocError>
+    ensures { IfOk result (IsParserOf pull_app) }
+{
+    let state = choice(
+        alloc,
+        "state",
+        "S",
+        "The file of the state to begin with; nothing where it is left out",
+    );
+    let kind = place(alloc, "kind", "KIND", "Where from: dir or http");
+    let from = place(
+        alloc,
+        "place",
+        "PLACE",
+        "The folder, or host:port with an optional /prefix",
+    );
+    made_parser(
+        alloc,
+        "pull",
+        "Fetches what a log's newest checkpoint lacks, and writes the mirror's state",
+        help::PULL,
+    )?
+    .arg(state)?
+    .arg(kind)?
+    .arg(from)
+}
+
+fn missing_parser<'a>(alloc: Global) -> Result<clap::Command<'a>, AllocError>
+    ensures { IfOk result (IsParserOf missing_app) }
+{
+    let size = option(alloc, "size", "N", "The checkpoint's size");
+    let root = option(alloc, "root", "ROOT", "The checkpoint's root, in base64");
+    held_parser(
+        alloc,
+        "missing",
+        "Prints the paths that a checkpoint's tree lacks",
+        help::MISSING,
+    )?
+    .arg(size)?
+    .arg(root)
+}
+
+fn prove_parser<'a>(alloc: Global) -> Result<clap::Command<'a>, AllocError>
+    ensures { IfOk result (IsParserOf prove_app) }
+{
+    let kind = place(
+        alloc,
+        "kind",
+        "KIND",
+        "What is proved: inclusion or consistency",
+    );
+    let first = place(alloc, "a", "A", "The tree's size, or the smaller size");
+    let second = place(alloc, "b", "B", "The entry's index, or the greater size");
+    held_parser(
+        alloc,
+        "prove",
+        "Prints a proof that an entry is in a tree, or that a tree is the front of another",
+        help::PROVE,
+    )?
+    .arg(kind)?
+    .arg(first)?
+    .arg(second)
+}
+
+fn serve_parser<'a>(alloc: Global) -> Result<clap::Command<'a>, AllocError>
+    ensures { IfOk result (IsParserOf serve_app) }
+{
+    let port = option(alloc, "port", "P", "The port on 127.0.0.1, 1 to 65535");
+    let requests = option(alloc, "requests", "N", "How many connections are answered");
+    held_parser(
+        alloc,
+        "serve",
+        "Answers over HTTP what the mirror serves",
+        help::SERVE,
+    )?
+    .arg(port)?
+    .arg(requests)
+}
+
+// The program, with no command yet.
+fn program_parser<'a>(alloc: Global) -> Result<clap::Command<'a>, AllocError>
+    ensures { IfOk result (IsParserOf program_app) }
+{
+    let program = clap::Command::new(alloc, "tlogmirror")
+        .about("A mirror for one append-only transparency log")
+        .version("0.1.0")
+        .bin_name("tlogmirror")?
+        .no_binary_name(true)
+        .subcommand_required(true)
+        .disable_help_subcommand(true);
+    Ok(program)
+}
+
+// The commands that read standard input, and those that make a state.
+fn making_parser<'a>(alloc: Global) -> Result<clap::Command<'a>, AllocError>
+    ensures { IfOk result (IsParserOf making_app) }
+{
+    program_parser(alloc)?
+        .subcommand(root_parser(alloc)?)?
+        .subcommand(check_parser(alloc))?
+        .subcommand(build_parser(alloc)?)?
+        .subcommand(take_parser(alloc)?)?
+        .subcommand(merge_parser(alloc)?)?
+        .subcommand(pull_parser(alloc)?)
+}
+
+fn status_parser<'a>(alloc: Global) -> Result<clap::Command<'a>, AllocError>
+    ensures { IfOk result (IsParserOf (held_app (codes "status"))) }
+{
+    held_parser(
+        alloc,
+        "status",
+        "Prints the checkpoints of a mirror, which of them are complete, and which is served",
+        help::STATUS,
+    )
+}
+
+fn forks_parser<'a>(alloc: Global) -> Result<clap::Command<'a>, AllocError>
+    ensures { IfOk result (IsParserOf (held_app (codes "forks"))) }
+{
+    held_parser(
+        alloc,
+        "forks",
+        "Prints which complete checkpoints contradict each other",
+        help::FORKS,
+    )
+}
+
+fn export_parser<'a>(alloc: Global) -> Result<clap::Command<'a>, AllocError>
+    ensures { IfOk result (IsParserOf (folder_app (codes "export"))) }
+{
+    folder_parser(
+        alloc,
+        "export",
+        "Writes the files of the served checkpoint to a folder, as a log publishes them",
+        help::EXPORT,
+    )
+}
+
+fn notes_parser<'a>(alloc: Global) -> Result<clap::Command<'a>, AllocError>
+    ensures { IfOk result (IsParserOf (folder_app (codes "notes"))) }
+{
+    folder_parser(
+        alloc,
+        "notes",
+        "Writes each signed note of a mirror to a file of its own",
+        help::NOTES,
+    )
+}
+
+/// The parser of the program's command line.
+pub(crate) fn parser<'a>(alloc: Global) -> Result<clap::Command<'a>, AllocError>
+    ensures { IfOk result (IsParserOf mirror_app) }
+{
+    making_parser(alloc)?
+        .subcommand(status_parser(alloc)?)?
+        .subcommand(missing_parser(alloc)?)?
+        .subcommand(forks_parser(alloc)?)?
+        .subcommand(prove_parser(alloc)?)?
+        .subcommand(export_parser(alloc)?)?
+        .subcommand(notes_parser(alloc)?)?
+        .subcommand(serve_parser(alloc)?)
+}
