@@ -15,8 +15,10 @@ mod fault;
 mod reading;
 #[cfg(test)]
 mod tests;
+mod timed;
 mod writing;
 
 pub use fault::StreamFault;
 pub use reading::{CHUNK, read_all};
+pub use timed::{BoundsWaits, TimedStream};
 pub use writing::write_whole;

@@ -1,5 +1,6 @@
 //! Streams that give and take a byte a call, that are interrupted, and that fail.
 mod streams;
+mod timed;
 
 use crate::tests::streams::Turn::{Failed, Interrupted, Pass};
 use crate::tests::streams::{EndlessReader, ScriptedReader, ScriptedWriter, Turn};

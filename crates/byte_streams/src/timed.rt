@@ -1,0 +1,125 @@
+//! A stream with a deadline.
+ghost use Rattle.std.specs.Prelude.{◌≡◌, ◌+◌, ◌<◌, ◌≤◌, IfNone, IfOk, IfSome};
+ghost use Rattle.std.specs.Duration.{as_nanos};
+ghost use Rattle.std.specs.Time.{instant_nanos};
+
+use std::io;
+use std::io::{ErrorKind, Read, Write};
+use std::marker::Model;
+use std::net::TcpStream;
+use std::time::{Clock, Duration, Instant};
+
+/// A stream of whose calls it can be said how long they wait.
+pub trait BoundsWaits {
+    /// From now on a read that waits for longer fails. The time is not zero.
+    fn bound_reads(&self, wait: Duration) -> io::Result<()>;
+
+    /// From now on a write that waits for longer fails. The time is not zero.
+    fn bound_writes(&self, wait: Duration) -> io::Result<()>;
+}
+
+impl BoundsWaits for TcpStream {
+    fn bound_reads(&self, wait: Duration) -> io::Result<()> {
+        self.set_read_timeout(Some(wait))
+    }
+
+    fn bound_writes(&self, wait: Duration) -> io::Result<()> {
+        self.set_write_timeout(Some(wait))
+    }
+}
+
+// One handle of a connection may be read while another is written.
+impl BoundsWaits for &TcpStream {
+    fn bound_reads(&self, wait: Duration) -> io::Result<()> {
+        self.set_read_timeout(Some(wait))
+    }
+
+    fn bound_writes(&self, wait: Duration) -> io::Result<()> {
+        self.set_write_timeout(Some(wait))
+    }
+}
+
+/// A stream that is read and written up to a deadline, however often: no call waits beyond it, and each
+/// later call fails. So the other end cannot hold its reader for longer by a byte now and then.
+///
+/// ```text
+/// let stream = TcpStream::connect(&rt, "log.example:80")?;
+/// let mut stream = TimedStream::new(stream, rt, Duration::from_secs(60))?;
+/// write_whole(&mut stream, &request)?;
+/// let reply = read_all(alloc, &mut stream, most, u64::MAX)?; // ReadFault once 60 seconds have passed
+/// ```
+///
+/// Its bytes are those of the stream, as they are. A call that is left no time fails with
+/// `ErrorKind::TimedOut`, and one that waits for too long as its stream does (`ErrorKind::WouldBlock`
+/// of a `TcpStream`).
+#[derive(Drop)]
+pub struct TimedStream<S: Drop, C: Clock + Drop> {
+    stream: S,
+    clock: C,
+    end: Instant,
+}
+
+impl<S: Drop, C: Clock + Drop> Model for TimedStream<S, C> {
+    ghost Value = { S };
+
+    ghost view = { λ t. t.stream };
+}
+
+// What is left at that time before the end.
+fn left_at(now: Instant, end: Instant) -> Option<Duration>
+    ensures more { IfSome result (λ left. 0 < as_nanos left) }
+    ensures until { IfSome result (λ left. instant_nanos now + as_nanos left ≡ instant_nanos end) }
+    ensures none { IfNone result (instant_nanos end ≤ instant_nanos now) }
+{
+    let left = end.saturating_duration_since(now);
+    if left.is_zero() { None } else { Some(left) }
+}
+
+impl<S: Drop, C: Clock + Drop> TimedStream<S, C> {
+    /// That stream, with a deadline so long after now.
+    ///
+    /// # Errors
+    ///
+    /// The clock cannot be read, or ends before the deadline.
+    pub fn new(stream: S, clock: C, time: Duration) -> io::Result<TimedStream<S, C>>
+        ensures { IfOk result (λ t. t ≡ stream) }
+    {
+        match Instant::now(&clock)?.checked_add(time) {
+            Some(end) => Ok(TimedStream { stream, clock, end }),
+            None => Err(io::Error::from(ErrorKind::InvalidInput)),
+        }
+    }
+
+    // The time that is left, which is not zero.
+    fn left(&self) -> io::Result<Duration>
+        ensures { IfOk result (λ left. 0 < as_nanos left) }
+    {
+        match left_at(Instant::now(&self.clock)?, self.end) {
+            Some(left) => Ok(left),
+            None => Err(io::Error::from(ErrorKind::TimedOut)),
+        }
+    }
+}
+
+impl<S: Read + BoundsWaits + Drop, C: Clock + Drop> Read for TimedStream<S, C> {
+    ghost remaining = { λ s. S.remaining s };
+
+    fn read(&mut self, buf: &mut [u8]) -> io::Result<usize> {
+        self.stream.bound_reads(self.left()?)?;
+        self.stream.read(buf)
+    }
+}
+
+impl<S: Write + BoundsWaits + Drop, C: Clock + Drop> Write for TimedStream<S, C> {
+    ghost contents = { λ s. S.contents s };
+
+    fn write(&mut self, buf: &[u8]) -> io::Result<usize> {
+        self.stream.bound_writes(self.left()?)?;
+        self.stream.write(buf)
+    }
+
+    fn flush(&mut self) -> io::Result<()> {
+        self.stream.bound_writes(self.left()?)?;
+        self.stream.flush()
+    }
+}
