@@ -1,29 +1,47 @@
-//! What it costs to hold the strings of a tree: the time that adding them to a store takes, beside
-//! the time of hashing them alone, and the memory that the store takes for each.
+//! What the work of a mirror costs, each beside the hashing alone of the same strings in the same run: holding strings
+//! in a store, taking bundles, and telling heads and forks.
 //!
-//! Its one argument is how many pairs of hashes, and then how many entries of 100 bytes, are added.
-//! It prints what was added and is held; what it measured goes to standard error, since that
-//! differs from run to run.
+//! Its arguments are a subject and a count, as `bench takes 100000`. The subject is `store`, `takes`, `heads` or `all`. The
+//! count is of entries of 100 bytes; of pairs and entries for `store`; and of heads, each of one entry more, for `heads`,
+//! which goes to a tenth of them first. With no arguments it is `all` of 1000.
+//!
+//! It prints what was done; what it measured goes to standard error, since that differs from run to run.
 #![tactic(auto)]
 
-mod measure;
+mod clock;
+mod growing;
+mod heads;
+mod list;
 mod sample;
+mod store;
+mod takes;
 
-use measure::measure;
-use sample::Kind;
-use std::{env, io};
+use std::env;
 
-// How many strings of each kind are added, where no argument says it.
+// The count, where no argument says it.
 const DEFAULT_COUNT: u32 = 1000;
 
-fn main(rt: HostRuntime) -> io::Result<()> {
-    let mut count = DEFAULT_COUNT;
-    for argument in env::args(&rt)?.skip(1) {
-        let Ok(number) = argument.as_str().parse::<u32>() else {
-            return eprintln!(rt; "the argument is no number of strings: {argument}");
-        };
-        count = number;
+fn main(rt: HostRuntime) -> anyhow::Result<()> {
+    let mut words = env::args(&rt)?.skip(1);
+    let subject = words.next();
+    let count = match words.next() {
+        Some(word) => word.as_str().parse::<u32>()?,
+        None => DEFAULT_COUNT,
+    };
+    let subject = match &subject {
+        Some(word) => word.as_str(),
+        None => "all",
+    };
+    let all = subject == "all";
+    if all || subject == "store" {
+        store::measure_store(&rt, count)?;
     }
-    measure(&rt, Kind::Pair, count)?;
-    measure(&rt, Kind::Entry, count)
+    if all || subject == "takes" {
+        takes::measure_takes(&rt, count)?;
+    }
+    if all || subject == "heads" {
+        heads::measure_heads(&rt, count / 10)?;
+        heads::measure_heads(&rt, count)?;
+    }
+    Ok(())
 }

@@ -1,0 +1,49 @@
+//! Time, memory, and how they are told.
+use std::rt::Files;
+use std::time::CpuClock;
+use std::{fs, io};
+
+// How many bytes a page of memory has.
+const PAGE: u64 = 4096;
+
+/// The processor time of this process, in nanoseconds. Other programs count little in it.
+pub fn now(rt: &impl CpuClock) -> io::Result<u128> {
+    Ok(rt.process_cpu_time()?.as_nanos())
+}
+
+/// The processor time since then.
+pub fn since(rt: &impl CpuClock, start: u128) -> io::Result<u128> {
+    Ok(now(rt)?.saturating_sub(start))
+}
+
+/// The quotient, 0 where it has none.
+pub fn ratio(above: u128, below: u128) -> u128 {
+    if below == 0 { 0 } else { above / below }
+}
+
+/// Tells on standard error how much that is, and how many times the unit.
+pub fn tell(rt: &impl Eprint, name: &str, amount: u128, unit: u128) -> io::Result<()> {
+    let hundredths = ratio(amount.saturating_mul(100), unit);
+    eprintln!(rt;
+        "{name}: {amount}, {}.{:02} times",
+        hundredths / 100,
+        hundredths % 100
+    )
+}
+
+/// The memory of this process that is resident: the second number of Linux's statm, in pages. It is 0
+/// where there is none.
+///
+/// What a growth took on the way and gave back is not in it, nor is room that was reserved and not touched.
+pub fn resident_bytes<R: AllocGlobal + Files>(rt: &R) -> u64 {
+    let Ok(text) = fs::read_to_string(rt, "/proc/self/statm") else {
+        return 0;
+    };
+    let mut words = text.as_str().split_whitespace();
+    let _size = words.next();
+    let pages = match words.next() {
+        Some(word) => word.parse::<u64>().unwrap_or(0),
+        None => 0,
+    };
+    pages.saturating_mul(PAGE)
+}

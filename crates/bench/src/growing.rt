@@ -1,0 +1,135 @@
+//! A log that grows by one entry at a time, and the heads that it signs.
+ghost use Rattle.std.specs.Prelude.{codes};
+ghost use Rattle.std.specs.Prelude.{true};
+
+use signed_note::Verifier;
+use std::alloc::{AllocError, Global};
+use tlog_hash::{Hash, Sha256Tree, TreeHash, fold};
+use tlog_mirror::Mirror;
+use tlog_text::{push_hash, push_number};
+
+// How many levels of tiles a log has at most: 2^32 entries have four.
+const LEVELS: usize = 4;
+
+/// A key that accepts every signature.
+#[derive(Drop)]
+pub struct AnyKey;
+
+impl Verifier for AnyKey {
+    ghost key = { λ k. record { name = codes "b"; id = 1; accepts = λ text signature. true } };
+
+    fn name(&self) -> &str {
+        "b"
+    }
+
+    fn id(&self) -> u32 {
+        1
+    }
+
+    fn accepts(&self, _text: &[u8], _signature: &[u8]) -> bool {
+        true
+    }
+}
+
+/// The hashes of the partial tiles of a log (C2SP tlog-tiles), lowest level first.
+#[derive(Drop)]
+pub struct Log {
+    size: u64,
+    rows: Vec<Vec<Hash>>,
+}
+
+impl Log {
+    /// The log of no entries.
+    pub fn new(alloc: Global) -> Result<Log, AllocError> {
+        let mut rows = Vec::new(alloc);
+        for _ in 0..LEVELS {
+            rows.push(Vec::new(alloc))?;
+        }
+        Ok(Log { size: 0, rows })
+    }
+
+    /// Adds an entry.
+    pub fn add(&mut self, entry: &[u8]) -> Result<(), AllocError> {
+        self.size = self.size.wrapping_add(1);
+        let mut value = Sha256Tree::leaf(entry);
+        for row in self.rows.iter_mut() {
+            row.push(value)?;
+            if row.len() < 256 {
+                return Ok(());
+            }
+            value = fold::<Sha256Tree>(row.as_slice());
+            row.clear();
+        }
+        Ok(())
+    }
+
+    /// A mirror takes its head.
+    pub fn sign_to(
+        &self,
+        alloc: Global,
+        keys: &[Box<dyn Verifier>],
+        mirror: &mut Mirror<Sha256Tree>,
+    ) -> anyhow::Result<()> {
+        let note = self.note(alloc)?;
+        let edge = self.edge(alloc)?;
+        let mut lent = Vec::new(alloc);
+        for row in &edge {
+            lent.push(row.as_slice())?;
+        }
+        mirror.take_head(alloc, keys, note.as_bytes(), lent.as_slice())?;
+        Ok(())
+    }
+
+    // The tree hash of its entries.
+    fn root(&self, alloc: Global) -> Result<Hash, AllocError> {
+        let mut found = None;
+        for row in &self.rows {
+            found = joined(alloc, row.as_slice(), found)?;
+        }
+        Ok(found.unwrap_or(Sha256Tree::empty()))
+    }
+
+    // Its checkpoint's note.
+    fn note(&self, alloc: Global) -> Result<String, AllocError> {
+        let root = self.root(alloc)?;
+        let mut text = String::from_str(alloc, "bench\n")?;
+        push_number(&mut text, self.size)?;
+        text.push_str("\n")?;
+        push_hash(&mut text, &root)?;
+        text.push_str("\n\n\u{2014} b AAAAAQU=\n")?;
+        Ok(text)
+    }
+
+    // The rows of its edge that are not empty, in bytes.
+    fn edge(&self, alloc: Global) -> Result<Vec<Vec<u8>>, AllocError> {
+        let mut edge = Vec::new(alloc);
+        for row in &self.rows {
+            if !row.is_empty() {
+                edge.push(bytes_of(alloc, row.as_slice())?)?;
+            }
+        }
+        Ok(edge)
+    }
+}
+
+// The hash over a row and the hash behind it, if there is one.
+fn joined(alloc: Global, row: &[Hash], behind: Option<Hash>) -> Result<Option<Hash>, AllocError> {
+    let mut hashes = Vec::new(alloc);
+    hashes.extend_from_slice(row)?;
+    if let Some(hash) = behind {
+        hashes.push(hash)?;
+    }
+    if hashes.is_empty() {
+        return Ok(None);
+    }
+    Ok(Some(fold::<Sha256Tree>(hashes.as_slice())))
+}
+
+// The bytes of a row.
+fn bytes_of(alloc: Global, row: &[Hash]) -> Result<Vec<u8>, AllocError> {
+    let mut bytes = Vec::new(alloc);
+    for hash in row {
+        bytes.extend_from_slice(hash.as_slice())?;
+    }
+    Ok(bytes)
+}

@@ -1,0 +1,67 @@
+//! A log of numbered entries.
+ghost use Rattle.std.specs.Prelude.{map, IfOk};
+ghost use Rattle.mirror_model.specs.TrueLaws.{AreShort};
+
+use crate::clock::{now, since};
+use log_sources::ListSource;
+use signed_note::{HmacKey, KeyFault};
+use std::alloc::{AllocError, Global};
+use std::time::CpuClock;
+use tlog_hash::{Hash, Sha256Tree, tree_hash};
+use tlog_mirror::Mirror;
+
+/// The origin of the log.
+pub const ORIGIN: &str = "bench";
+
+/// The key that the log signs with.
+pub fn key(alloc: Global) -> Result<HmacKey, KeyFault> {
+    HmacKey::new(alloc, ORIGIN, 1, &[0])
+}
+
+// The entry of that number: 100 bytes, the number in four of them and then twos.
+fn entry_of(number: u32) -> [u8; 100] {
+    let mut entry = [2u8; 100];
+    let bytes = number.to_be_bytes();
+    for i in 0..4usize {
+        entry[i] = bytes[i];
+    }
+    entry
+}
+
+/// The first entries, as many as that.
+pub fn entries_of(alloc: Global, count: u32) -> Result<Vec<Vec<u8>>, AllocError>
+    ensures { IfOk result (λ entries. AreShort (map (λ e. e.items) entries.items)) }
+{
+    let mut entries = Vec::new(alloc);
+    for number in 0..count {
+        entries.push(Vec::from_slice(alloc, entry_of(number).as_slice())?)?;
+    }
+    Ok(entries)
+}
+
+/// The tree hash of the entries, and the time that it took.
+pub fn hash_tree<R: AllocGlobal + CpuClock>(
+    rt: &R,
+    entries: &[Vec<u8>],
+) -> anyhow::Result<(u128, Hash)> {
+    let mut lent: Vec<&[u8]> = Vec::new(rt.alloc());
+    for entry in entries {
+        lent.push(entry.as_slice())?;
+    }
+    let start = now(rt)?;
+    let root = tree_hash::<Sha256Tree>(lent.as_slice());
+    Ok((since(rt, start)?, root))
+}
+
+/// A mirror that holds nothing, and a source over the entries.
+pub fn begin(
+    alloc: Global,
+    entries: Vec<Vec<u8>>,
+) -> anyhow::Result<(Mirror<Sha256Tree>, ListSource<Sha256Tree>)>
+    requires { AreShort (map (λ e. e.items) entries.items) }
+{
+    // That the mirror is made shows that the origin is lawful.
+    let mirror = Mirror::new(alloc, ORIGIN)?;
+    let source = ListSource::new(alloc, ORIGIN, entries, key(alloc)?)?;
+    Ok((mirror, source))
+}
