@@ -1,5 +1,6 @@
 -- What a command that asks something of a mirror prints, and with which exit status it ends.
-use Rattle.std.specs.Prelude.{◌≡◌, ◌≢◌, ◌⊎◌, ℕ, List, [], Option, Some, None, Result, Ok, Err, string_bytes}
+use Rattle.std.specs.Prelude.{◌≡◌, ◌≢◌, ◌⊎◌, ℕ, List, [], Option, Some, None, Result, Ok, Err}
+use Rattle.std.specs.Prelude.{string_bytes}
 use Rattle.tlog_proof.specs.Made.{asked_proof}
 use Rattle.tlog_proof.specs.Text.{IsProofText}
 use Rattle.tlog_proof.specs.declared.make.ProofFault.{ProofFault}
@@ -13,7 +14,10 @@ use Rattle.mirror_model.specs.Served.{IsServedList}
 use Rattle.mirror_model.specs.Texts.{IsStatusText, IsForksText, IsMissingText}
 use Rattle.mirror_model.specs.View.{View}
 use Rattle.mirror_reports.specs.declared.fault.ReportFault.{ReportFault}
-use Rattle.mirror_reports.specs.declared.fault.ReportFault.TheVariants.{NothingComplete, NoSuchHead, NoSuchSize, NoSuchIndex, FirstIsZero, Backwards, OutOfMemory}
+use Rattle.mirror_reports.specs.declared.fault.ReportFault.TheVariants.{NothingComplete, NoSuchHead}
+use Rattle.mirror_reports.specs.declared.fault.ReportFault.TheVariants.{NoSuchSize, NoSuchIndex}
+use Rattle.mirror_reports.specs.declared.fault.ReportFault.TheVariants.{FirstIsZero, Backwards}
+use Rattle.mirror_reports.specs.declared.fault.ReportFault.TheVariants.{OutOfMemory}
 use Rattle.mirror_reports.specs.declared.reports.Report.{Report}
 
 -- the text that is printed
@@ -36,7 +40,8 @@ module _ (digest : List ℕ → List ℕ) (v : View) where
   -- 0 where something is served, 3 where nothing is
   abbrev pub TellsServed : ℕ → Type 0
   TellsServed status =
-      ((point : Point) × SaysServed digest v (Some point) × (status ≡ 0)) ⊎ (SaysServed digest v None × (status ≡ 3))
+      ((point : Point) × SaysServed digest v (Some point) × (status ≡ 0))
+      ⊎ (SaysServed digest v None × (status ≡ 3))
 
   -- `status`
   pub record TellsStatus (report : Report) : Type 0 where
