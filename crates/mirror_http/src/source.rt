@@ -1,6 +1,6 @@
 //! A source that asks for each file over a connection of its own.
-ghost use Rattle.std.specs.Prelude.{◌≡◌, IfOk, IfSome, OnErr, OnOk, option_map};
-ghost use Rattle.std.specs.Io.KnownBytes.{Appends};
+ghost use Rattle.std.specs.Prelude.{◌≡◌, ◌≢◌, IfErr, IfOk, IfSome, OnErr, OnOk, option_map};
+ghost use Rattle.std.specs.Io.KnownBytes.{Appends, Keeps};
 ghost use Rattle.byte_streams.specs.Streams.{AppendsFront, TakesAtMost};
 ghost use Rattle.tlog_text.specs.Answers.{seen};
 ghost use Rattle.mirror_http.specs.Request.{request_text};
@@ -42,6 +42,7 @@ pub fn send_request<W: Write>(
 ) -> Result<(), SourceFault>
     ensures ok { OnOk result (Appends (W.contents writer.old) (W.contents writer.new) (request_text site.now path.now)) }
     ensures err { OnErr result (AppendsFront (W.contents writer.old) (W.contents writer.new) (request_text site.now path.now)) }
+    ensures quiet { IfErr result (λ e. e ≢ SourceFault.Failed → Keeps (W.contents writer.old) (W.contents writer.new)) }
 {
     let Ok(request) = get_request(alloc, site, path) else {
         return Err(SourceFault::OutOfMemory);

@@ -69,6 +69,22 @@ fn a_file_of_a_source(rt: HostRuntime) -> Result<(), Fail> {
     Ok(())
 }
 
+// Where a request for memory is refused, as by `rt try --test --fail-alloc N`, that is no failure of the
+// source, and the next get is right.
+#[test]
+fn get_again_after_want_of_memory(rt: HostRuntime) -> Result<(), Fail> {
+    let mut source = source(rt.alloc(), true)?;
+    let mut answer = source.get(&Path::Checkpoint);
+    if matches!(answer, Err(SourceFault::OutOfMemory)) {
+        assert_eq!(rt; source.failures(), 0);
+        answer = source.get(&Path::Checkpoint);
+    }
+    let body = answer?.ok_or("not found")?;
+    assert_eq!(rt; body.as_slice(), b"abc".as_slice());
+    assert_eq!(rt; source.failures(), 0);
+    Ok(())
+}
+
 #[test]
 fn a_dial_that_fails_is_counted(rt: HostRuntime) -> Result<(), Fail> {
     let mut source = source(rt.alloc(), false)?;
