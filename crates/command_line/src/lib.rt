@@ -19,8 +19,6 @@ mod parser;
 mod parts;
 mod place;
 mod readers;
-#[cfg(test)]
-mod tests;
 mod words;
 
 pub use command::{

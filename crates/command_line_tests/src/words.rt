@@ -3,7 +3,7 @@
 mod asking;
 mod making;
 
-use crate::{CommandFault, key_file, read_words};
+use command_line::{CommandFault, key_file, read_words};
 use std::alloc::{AllocError, Global};
 use std::process::Abort;
 use std::test::Fail;

@@ -1,6 +1,6 @@
 //! The commands that read standard input, and those that make a state.
-use crate::tests::{Found, all_found, words_of};
-use crate::{Command, Kind, Place, Take, read_words};
+use crate::words::{Found, all_found, words_of};
+use command_line::{Command, Kind, Place, Take, read_words};
 use std::alloc::Global;
 use std::test::Fail;
 

@@ -1,6 +1,6 @@
 //! The commands that ask something of a state.
-use crate::tests::{Found, all_found, words_of};
-use crate::{Command, read_words};
+use crate::words::{Found, all_found, words_of};
+use command_line::{Command, read_words};
 use std::test::Fail;
 use tlog_proof::Ask;
 
