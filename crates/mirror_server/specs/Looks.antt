@@ -14,7 +14,7 @@ use Rattle.mirror_server.specs.declared.head.Turn.{Turn}
 use Rattle.mirror_server.specs.declared.head.Turn.TheVariants.{More, Interrupted, End}
 
 -- the two places in the bytes are those of the method and the target of a head at their front
-pub record IsWhole (bytes : List ℕ) (method target : Span) : Type 0 where
+pub record HasHeadAt (bytes : List ℕ) (method target : Span) : Type 0 where
   pub head : RequestHead
   pub rest : List ℕ
   pub reads : ReadsRequest bytes head rest
@@ -26,7 +26,7 @@ pub record IsWhole (bytes : List ℕ) (method target : Span) : Type 0 where
 
 -- what a look at the bytes says
 abbrev pub LooksLike : List ℕ → Look → Type 0
-LooksLike bytes (Whole method target) = IsWhole bytes method target
+LooksLike bytes (Whole method target) = HasHeadAt bytes method target
 LooksLike bytes Open = HasNoRequest bytes
 LooksLike bytes Bad = RequestOverflows MAX_FIELDS bytes
 

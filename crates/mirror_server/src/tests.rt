@@ -1,4 +1,5 @@
 //! A mirror of three entries, asked over HTTP.
+mod memory;
 mod replies;
 mod requests;
 mod streams;

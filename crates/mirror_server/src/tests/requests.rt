@@ -41,6 +41,7 @@ fn methods_and_versions(rt: HostRuntime) -> Result<(), Fail> {
     assert_replies(&rt, alloc, &mirror, &methods, NOT_ALLOWED)?;
     let heads = [
         "GET /checkpoint\r\n\r\n",
+        "GET /checkpoint HTTP/0.9\r\n\r\n",
         "GET /checkpoint HTTP/2.0\r\n\r\n",
         "GET /checkpoint HTTP/1.1\r\nA: \0\r\n\r\n",
         "GET /checkpoint HTTP/1.1\r\nA\r\n\r\n",
