@@ -13,5 +13,5 @@ ex_is_origin = record {
   printed = let P : ℕ → Type 0 = λ byte. 32 ≤ byte in All-cons P 101 (120 ∷ []) (lit≤ tt) (All-cons P 120 [] (lit≤ tt) (All-nil P));
 }
 
-pub new-requires-clause-origin : goal.new-requires-clause-origin
-new-requires-clause-origin c = ex_is_origin
+pub new-requires-2-clause-origin : goal.new-requires-2-clause-origin
+new-requires-2-clause-origin g c = ex_is_origin
