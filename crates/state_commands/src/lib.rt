@@ -12,6 +12,8 @@ mod fault;
 mod origin;
 mod printing;
 mod question;
+#[cfg(test)]
+mod tests;
 
 pub use exports::export_state;
 pub use fault::{AskFault, ExportStateFault};

@@ -1,0 +1,44 @@
+//! Streams that fail.
+use std::io;
+use std::io::{ErrorKind, Read, Write};
+
+/// Gives these bytes, one a read, and fails from then on.
+#[derive(Drop)]
+pub struct FailingReader<'a>(pub &'a [u8]);
+
+impl Read for FailingReader<'_> {
+    fn read(&mut self, buf: &mut [u8]) -> io::Result<usize> {
+        match (self.0.split_first(), buf.first_mut()) {
+            (Some((first, rest)), Some(cell)) => {
+                *cell = *first;
+                self.0 = rest;
+                Ok(1)
+            }
+            _ => Err(io::Error::from(ErrorKind::Other)),
+        }
+    }
+}
+
+/// Takes as many bytes as it has room for, one a write, and fails from then on.
+#[derive(Drop)]
+pub struct FailingWriter {
+    pub room: usize,
+    pub taken: Vec<u8>,
+}
+
+impl Write for FailingWriter {
+    fn write(&mut self, buf: &[u8]) -> io::Result<usize> {
+        let Some(first) = buf.first() else {
+            return Ok(0);
+        };
+        if self.taken.len() >= self.room {
+            return Err(io::Error::from(ErrorKind::Other));
+        }
+        self.taken.push(*first)?;
+        Ok(1)
+    }
+
+    fn flush(&mut self) -> io::Result<()> {
+        Ok(())
+    }
+}
