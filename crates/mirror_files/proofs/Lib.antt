@@ -6,3 +6,6 @@ mod Listed
 mod OneLoad
 mod Loaded
 mod ListedItems
+mod Gathered
+pub mod Putting
+mod Saved

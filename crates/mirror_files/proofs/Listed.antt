@@ -16,7 +16,7 @@ use Rattle.mirror_files.specs.Loading.{listed_notes, listed_view, IsStateString,
 
 -- ---- elements
 
-nothing_in : {X : Type 0} (y : X) → Contains {X = X} [] y → ⊥
+pub nothing_in : {X : Type 0} (y : X) → Contains {X = X} [] y → ⊥
 nothing_in {X} y c = All-contains {X = X} (λ z. ⊥) [] y (All-nil {X = X} (λ z. ⊥)) c
 
 pub mapped : {X Y : Type 0} (f : X → Y) (xs : List X) (x : X) → Contains xs x → Contains (map f xs) (f x)
@@ -107,7 +107,7 @@ old_view v bytes t =
 
 -- ---- what is loaded is in order
 
-state_string : (q : List ℕ) (v : View) → ((entry : List ℕ) → Has v.strings (0 ∷ entry) → length entry ≤ 65535) → IsTagged q → Has v.strings q → IsStateString q
+pub state_string : (q : List ℕ) (v : View) → ((entry : List ℕ) → Has v.strings (0 ∷ entry) → length entry ≤ 65535) → IsTagged q → Has v.strings q → IsStateString q
 state_string q v short (string.OfEntry entry) h = inl (refl, short entry h)
 state_string q v short (string.OfPair left right l r) h = inr (refl, let n = length-append left right in omega (arith, n, l, r))
 

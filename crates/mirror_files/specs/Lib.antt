@@ -6,3 +6,6 @@ pub mod Laws
 pub mod Loading
 pub mod LoadLaws
 pub mod LoadSteps
+pub mod Saving
+pub mod Putting
+pub mod Listing

@@ -92,27 +92,27 @@ note_fault_of taking.Collision = StateHead
 note_fault_of taking.OutOfMemory = OutOfMemory
 
 -- an answer that is Ok, StateHead or want of memory
-abbrev pub Judges : (Good Bad : Type 0) → Result (Unit {0}) LoadFault → Type 0
-Judges Good Bad (Ok done) = Good
-Judges Good Bad (Err StateMagic) = ⊥
-Judges Good Bad (Err StateShort) = ⊥
-Judges Good Bad (Err StateLong) = ⊥
-Judges Good Bad (Err StateDigest) = ⊥
-Judges Good Bad (Err OtherOrigin) = ⊥
-Judges Good Bad (Err StateOrder) = ⊥
-Judges Good Bad (Err StateString) = ⊥
-Judges Good Bad (Err StateHead) = Bad
-Judges Good Bad (Err Collision) = ⊥
-Judges Good Bad (Err StateEdge) = ⊥
-Judges Good Bad (Err ReadFault) = ⊥
-Judges Good Bad (Err OutOfMemory) = Unit {0}
+abbrev pub PassesOrFails : (Good Bad : Type 0) → Result (Unit {0}) LoadFault → Type 0
+PassesOrFails Good Bad (Ok done) = Good
+PassesOrFails Good Bad (Err StateMagic) = ⊥
+PassesOrFails Good Bad (Err StateShort) = ⊥
+PassesOrFails Good Bad (Err StateLong) = ⊥
+PassesOrFails Good Bad (Err StateDigest) = ⊥
+PassesOrFails Good Bad (Err OtherOrigin) = ⊥
+PassesOrFails Good Bad (Err StateOrder) = ⊥
+PassesOrFails Good Bad (Err StateString) = ⊥
+PassesOrFails Good Bad (Err StateHead) = Bad
+PassesOrFails Good Bad (Err Collision) = ⊥
+PassesOrFails Good Bad (Err StateEdge) = ⊥
+PassesOrFails Good Bad (Err ReadFault) = ⊥
+PassesOrFails Good Bad (Err OutOfMemory) = Unit {0}
 
 -- of one note, and of all
 abbrev pub ChecksNote : List ℕ → List Key → List ℕ → Result (Unit {0}) LoadFault → Type 0
-ChecksNote origin keys note answer = Judges (IsOpenNote origin keys note) (IsOpenNote origin keys note → ⊥) answer
+ChecksNote origin keys note answer = PassesOrFails (IsOpenNote origin keys note) (IsOpenNote origin keys note → ⊥) answer
 
 abbrev pub ChecksNotes : List ℕ → List Key → List (List ℕ) → Result (Unit {0}) LoadFault → Type 0
-ChecksNotes origin keys notes answer = Judges (All (IsOpenNote origin keys) notes) (HasClosed origin keys notes) answer
+ChecksNotes origin keys notes answer = PassesOrFails (All (IsOpenNote origin keys) notes) (HasClosed origin keys notes) answer
 
 -- an answer that is Ok, StateEdge or want of memory
 abbrev pub KeepsNotes : (List ℕ → List ℕ) → View → List (List ℕ) → Result (Unit {0}) LoadFault → View → Type 0

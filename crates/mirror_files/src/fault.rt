@@ -1,4 +1,4 @@
-//! Why a state is not loaded.
+//! Why a state is not loaded, or not saved.
 use thiserror::Error;
 
 /// Why a mirror is not loaded. Of the refusals of the bytes the first that applies is answered, in the order in which
@@ -39,6 +39,17 @@ pub enum LoadFault {
     #[error("ReadFault")]
     ReadFault,
     /// Memory was refused.
+    #[error("OutOfMemory")]
+    OutOfMemory,
+}
+
+/// Why a mirror is not saved. It prints its variant's name.
+#[derive(Debug, Drop, PartialEq, Eq, Clone, Copy, Error)]
+pub enum SaveFault {
+    /// A write failed, or took no byte. A front of the text was written.
+    #[error("WriteFault")]
+    WriteFault,
+    /// Memory was refused. Nothing was written.
     #[error("OutOfMemory")]
     OutOfMemory,
 }

@@ -1,20 +1,25 @@
-//! Files: the text of a mirror's state, and a log as a folder.
+//! Files: a mirror loaded from the text of its state, and saved as it.
 #![tactic(auto)]
 
 mod fault;
 mod items;
 mod laws;
+mod listing;
 mod lists;
 mod loading;
 mod order;
+mod page;
 mod parts;
+mod put;
+mod saving;
 #[cfg(test)]
 mod tests;
 
-pub use fault::LoadFault;
+pub use fault::{LoadFault, SaveFault};
 pub use laws::{
     cut_law, load_law, loaded_text_law, old_state_law, one_answer_law, one_text_law, saved_law,
     state_text_law,
 };
 pub use loading::load;
 pub use parts::PartsFault;
+pub use saving::save;

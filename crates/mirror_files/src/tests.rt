@@ -1,5 +1,6 @@
 //! State texts, read to what they list.
 mod loads;
+mod saves;
 
 use crate::lists::Lists;
 use crate::parts::{PartsFault, read_parts};

@@ -2,6 +2,7 @@
 ghost use Rattle.std.specs.Prelude.{◌≡◌, ◌≤◌, IfOk, OnOk, IsTrue, All, ◌↔◌, option_copied};
 ghost use Rattle.std.specs.FinSet as set;
 ghost use Rattle.mirror_model.specs.Origin.{IsOrigin};
+ghost use Rattle.mirror_model.specs.Marks.{IsSound};
 ghost use Rattle.mirror_model.specs.View.{nothing};
 ghost use Rattle.tlog_mirror.specs.NoteLists.{IsNoteAt};
 
@@ -97,9 +98,10 @@ impl<H: TreeHash> Mirror<H> {
         }
     }
 
-    /// The strings that are held. It takes no memory.
+    /// The strings that are held. It takes no memory. What is held is sound, whatever was done with the mirror.
     pub fn strings(&self) -> &Store<H>
-        ensures { result.now ≡ self.now.view.strings }
+        ensures strings { result.now ≡ self.now.view.strings }
+        ensures sound { IsSound H.digest self.now }
     {
         &self.strings
     }

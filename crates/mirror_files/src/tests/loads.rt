@@ -13,7 +13,7 @@ use tlog_hash::{Hash, Sha256Tree, TreeHash};
 use tlog_mirror::Mirror;
 
 // The head of the log of the entries of no bytes, `00` and `10`.
-const HEAD_OF_3: &str =
+pub(super) const HEAD_OF_3: &str =
     "ex\n3\nrra8/idLcKFPsGel5VeCZNsPqbUa9eC6FZFY8yngbnc=\n\n\u{2014} good AQIDBAU=\n";
 
 // A key that accepts the signature 05 over every text.
@@ -37,7 +37,7 @@ impl Verifier for Five {
 }
 
 // The two pairs of that log's tree, of which the edge has both, rising or falling.
-fn pairs_of_3(rising: bool) -> [[u8; 64]; 2] {
+pub(super) fn pairs_of_3(rising: bool) -> [[u8; 64]; 2] {
     let below = pair_of(&Sha256Tree::leaf(b""), &Sha256Tree::leaf(b"\x00"));
     let left = Sha256Tree::node(&Sha256Tree::leaf(b""), &Sha256Tree::leaf(b"\x00"));
     let above = pair_of(&left, &Sha256Tree::leaf(b"\x10"));
@@ -62,7 +62,11 @@ fn push_count(text: &mut Vec<u8>, count: u64) -> Result<(), AllocError> {
 }
 
 // The state of that log's mirror: its head, these pairs, and its entries, as they stand in `entries`.
-fn state_of_3(alloc: Global, pairs: &[[u8; 64]], entries: &[u8]) -> Result<Vec<u8>, AllocError> {
+pub(super) fn state_of_3(
+    alloc: Global,
+    pairs: &[[u8; 64]],
+    entries: &[u8],
+) -> Result<Vec<u8>, AllocError> {
     let mut text = Vec::from_slice(alloc, b"TLMIRR02\x00\x02ex")?;
     push_count(&mut text, 1)?;
     text.extend_from_slice(&[0, 0, 0])?;
@@ -78,10 +82,14 @@ fn state_of_3(alloc: Global, pairs: &[[u8; 64]], entries: &[u8]) -> Result<Vec<u
 }
 
 // The entries of that log, as they stand in a state.
-const ENTRIES_OF_3: [u8; 8] = [0, 0, 0, 1, 0, 0, 1, 0x10];
+pub(super) const ENTRIES_OF_3: [u8; 8] = [0, 0, 0, 1, 0, 0, 1, 0x10];
 
 // What the text is loaded to, of origin `ex`, under the key or none.
-fn loaded(alloc: Global, with_key: bool, mut text: &[u8]) -> Result<Mirror<Sha256Tree>, LoadFault> {
+pub(super) fn loaded(
+    alloc: Global,
+    with_key: bool,
+    mut text: &[u8],
+) -> Result<Mirror<Sha256Tree>, LoadFault> {
     let mut keys: Vec<Box<dyn Verifier>> = Vec::new(alloc);
     if with_key {
         let Ok(key) = Box::new(alloc, Five) else {
