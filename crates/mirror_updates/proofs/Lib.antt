@@ -1,3 +1,4 @@
+pub mod Openings
 pub mod Logs
 pub mod Told
 pub mod Shelved

@@ -1,6 +1,17 @@
 use Rattle.std.proofs.lemmas.Result.{err_from_is_err_and}
+use Rattle.mirror_updates.proofs.Openings.{origin_of_two_told, first_told}
 use Rattle.mirror_updates.proofs.Told.{known_both, second_told, merge_told, both_merged}
 use Rattle.mirror_updates.proofs.merging.merge_states.Goals as goal
+
+pub returns-in_err-check_origin : goal.returns-in_err-check_origin
+returns-in_err-check_origin g c =
+    let p = err_from_is_err_and c.from_residual.result c.from_residual.ensures.1 in
+    rw (p.1, p.2) (origin_of_two_told g.H.TreeHash.digest c.args.origin.now _ (g.R.Read.remaining c.args.first.now) (g.S.Read.remaining c.args.second.now) c.in_err-check_origin.field-0.0 c.in_err-check_origin.ensures)
+
+pub returns-in_err-mirror : goal.returns-in_err-mirror
+returns-in_err-mirror g c =
+    let p = err_from_is_err_and c.from_residual-in_err-mirror.result c.from_residual-in_err-mirror.ensures.1 in
+    rw (p.1, p.2) (first_told g.H.TreeHash.digest c.args.origin.now _ (g.R.Read.remaining c.args.first.now) (g.S.Read.remaining c.args.second.now) c.in_err-mirror.field-0.0 c.in_ok-check_origin.ensures c.in_err-mirror.ensures.loads)
 
 pub returns-in_err-other : goal.returns-in_err-other
 returns-in_err-other g c =
