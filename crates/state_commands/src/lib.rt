@@ -9,6 +9,7 @@
 
 mod exports;
 mod fault;
+mod notes;
 mod origin;
 mod printing;
 mod question;
@@ -17,6 +18,7 @@ mod tests;
 
 pub use exports::export_state;
 pub use fault::{AskFault, ExportStateFault};
+pub use notes::{NoteFile, note_files};
 pub use origin::check_origin;
 pub use printing::print_report;
 pub use question::Question;

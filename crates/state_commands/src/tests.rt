@@ -3,31 +3,27 @@ mod states;
 mod streams;
 
 use crate::tests::states::{
-    FORKED, Five, HEAD_OF_3, complete_state, forked_pairs, pairs_of_3, state_of,
+    EXTENDED_HEAD, FORKED, Five, HEAD_OF_0, HEAD_OF_3, complete_state, forked_pairs, pairs_of_3,
+    state_of,
 };
 use crate::tests::streams::{FailingReader, FailingWriter};
-use crate::{AskFault, ExportStateFault, Question, check_origin, export_state, print_report};
-use mirror_files::LoadFault;
+use crate::{
+    AskFault, ExportStateFault, Question, check_origin, export_state, note_files, print_report,
+};
+use mirror_files::{LoadFault, load};
 use mirror_folders::{ExportFault, MemShelf};
 use mirror_reports::ReportFault;
 use signed_note::Verifier;
-use std::alloc::{AllocError, Global};
+use std::alloc::Global;
 use std::io::{Read, Write};
 use std::process::Abort;
 use std::test::Fail;
 use tlog_hash::{Hash, Sha256Tree};
-use tlog_mirror::NewFault;
+use tlog_mirror::{Mirror, NewFault};
 use tlog_proof::Ask;
 use tlog_text::read_hash;
 
 const ROOT_OF_3: &str = "rra8/idLcKFPsGel5VeCZNsPqbUa9eC6FZFY8yngbnc=";
-
-// The key that opens the notes.
-fn keys_of(alloc: Global) -> Result<Vec<Box<dyn Verifier>>, AllocError> {
-    let mut keys: Vec<Box<dyn Verifier>> = Vec::new(alloc);
-    keys.push(Box::new(alloc, Five)?)?;
-    Ok(keys)
-}
 
 fn root_of(text: &str) -> Result<Hash, Fail> {
     Ok(read_hash(text).ok_or("no hash")?)
@@ -41,7 +37,8 @@ fn answer_of<R: Read, W: Write>(
     output: &mut W,
 ) -> Result<Result<u8, AskFault>, Fail> {
     check_origin(alloc, "ex")?;
-    let keys = keys_of(alloc)?;
+    let mut keys: Vec<Box<dyn Verifier>> = Vec::new(alloc);
+    keys.push(Box::new(alloc, Five)?)?;
     Ok(print_report::<Sha256Tree, R, W>(alloc, "ex", &keys, question, state, output))
 }
 
@@ -236,7 +233,8 @@ fn exported(
     shelf: &mut MemShelf,
 ) -> Result<Result<(), ExportStateFault>, Fail> {
     check_origin(alloc, "ex")?;
-    let keys = keys_of(alloc)?;
+    let mut keys: Vec<Box<dyn Verifier>> = Vec::new(alloc);
+    keys.push(Box::new(alloc, Five)?)?;
     Ok(export_state::<Sha256Tree, _, _>(alloc, "ex", &keys, &mut state, shelf))
 }
 
@@ -264,6 +262,43 @@ fn export_e3(rt: HostRuntime) -> Result<(), Fail> {
         Err(ExportStateFault::Export(ExportFault::ShelfInUse))
     );
     assert_eq!(rt; shelf.puts().len(), 3);
+    Ok(())
+}
+
+// The mirror of a state of origin `ex`.
+fn mirror_of(alloc: Global, mut state: &[u8]) -> Result<Mirror<Sha256Tree>, Fail> {
+    check_origin(alloc, "ex")?;
+    let mut keys: Vec<Box<dyn Verifier>> = Vec::new(alloc);
+    keys.push(Box::new(alloc, Five)?)?;
+    Ok(load(alloc, "ex", &keys, &mut state)?)
+}
+
+#[test]
+fn notes_of_one_size_and_root(rt: HostRuntime) -> Result<(), Fail> {
+    let alloc = rt.alloc();
+    let heads = [HEAD_OF_0, HEAD_OF_3, EXTENDED_HEAD];
+    let state = state_of(alloc, heads.as_slice(), pairs_of_3().as_slice(), &[])?;
+    let mirror = mirror_of(alloc, &state)?;
+    let files = note_files(alloc, &mirror)?;
+    let names = [
+        "0-e3b0c44298fc1c149afbf4c8996fb92427ae41e4649b934ca495991b7852b855-0.note",
+        "3-aeb6bcfe274b70a14fb067a5e5578264db0fa9b51af5e0ba159158f329e06e77-0.note",
+        "3-aeb6bcfe274b70a14fb067a5e5578264db0fa9b51af5e0ba159158f329e06e77-1.note",
+    ];
+    assert_eq!(rt; files.len(), 3);
+    for (file, (name, note)) in files.iter().zip(names.iter().zip(heads.iter())) {
+        assert_eq!(rt; file.name.as_str(), *name);
+        assert!(rt; file.bytes == note.as_bytes());
+    }
+    Ok(())
+}
+
+#[test]
+fn notes_of_nothing(rt: HostRuntime) -> Result<(), Fail> {
+    let alloc = rt.alloc();
+    let state = state_of(alloc, &[], &[], &[])?;
+    let mirror = mirror_of(alloc, &state)?;
+    assert_eq!(rt; note_files(alloc, &mirror)?.len(), 0);
     Ok(())
 }
 

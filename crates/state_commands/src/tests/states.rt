@@ -32,6 +32,14 @@ impl Verifier for Five {
 pub const HEAD_OF_3: &str =
     "ex\n3\nrra8/idLcKFPsGel5VeCZNsPqbUa9eC6FZFY8yngbnc=\n\n\u{2014} good AQIDBAU=\n";
 
+/// The same head, with an extension line.
+pub const EXTENDED_HEAD: &str =
+    "ex\n3\nrra8/idLcKFPsGel5VeCZNsPqbUa9eC6FZFY8yngbnc=\nx\n\n\u{2014} good AQIDBAU=\n";
+
+/// The head of the log of no entries.
+pub const HEAD_OF_0: &str =
+    "ex\n0\n47DEQpj8HBSa+/TImW+5JCeuQeRkm5NMpJWZG3hSuFU=\n\n\u{2014} good AQIDBAU=\n";
+
 /// The heads of the logs of `a`, `b`, `d` and of `a`, `b`, `c`, of which no log has both.
 pub const FORKED: [&str; 2] = [
     "ex\n3\nC4kxtRHEvzrnzlYfnBJ0b0YF9C7sdRiNFrjauiUwSIQ=\n\n\u{2014} good AQIDBAU=\n",
