@@ -8,7 +8,7 @@ use std::alloc::{AllocError, Global};
 use std::process::Abort;
 use std::test::Fail;
 
-pub fn words_of(alloc: Global, line: &str) -> Result<Vec<String>, AllocError> {
+fn words_of(alloc: Global, line: &str) -> Result<Vec<String>, AllocError> {
     let mut words = Vec::new(alloc);
     for word in line.split_whitespace() {
         words.push(String::from_str(alloc, word)?)?;
@@ -18,7 +18,7 @@ pub fn words_of(alloc: Global, line: &str) -> Result<Vec<String>, AllocError> {
 
 // What the words of the line are found to be.
 #[derive(Debug, PartialEq, Eq, Clone, Copy)]
-pub enum Found {
+enum Found {
     Command,
     Bad,
     Words,
@@ -26,7 +26,7 @@ pub enum Found {
     Nothing,
 }
 
-pub fn outcome_of(alloc: Global, line: &str) -> Result<Found, Fail> {
+fn outcome_of(alloc: Global, line: &str) -> Result<Found, Fail> {
     let words = words_of(alloc, line)?;
     Ok(match read_words(alloc, &words) {
         Ok(_) => Found::Command,
@@ -38,7 +38,7 @@ pub fn outcome_of(alloc: Global, line: &str) -> Result<Found, Fail> {
 }
 
 // Each of the lines is found to be that.
-pub fn all_found(rt: &impl Abort, alloc: Global, lines: &[&str], what: Found) -> Result<(), Fail> {
+fn all_found(rt: &impl Abort, alloc: Global, lines: &[&str], what: Found) -> Result<(), Fail> {
     for line in lines {
         assert_eq!(rt; outcome_of(alloc, line)?, what, "{line}");
     }
