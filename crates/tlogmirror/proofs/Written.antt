@@ -10,3 +10,7 @@ pub front_written : {X E : Type 0} → (r : Result X E) (old new : Option (List 
 front_written (Ok x) old new bytes ok err =
     (length bytes, subst (Appends old new) (sym (take_all (length bytes) bytes (omega arith))) ok)
 front_written (Err e) old new bytes ok err = err
+
+pub front_of_whole : (old new : Option (List ℕ)) (bytes : List ℕ) → Appends old new bytes → AppendsFront old new bytes
+front_of_whole old new bytes h =
+    (length bytes, subst (Appends old new) (sym (take_all (length bytes) bytes (omega arith))) h)

@@ -6,7 +6,8 @@ use Rattle.tlog_proof.specs.declared.proof.Proof.{Proof}
 use Rattle.tlog_proof.specs.Made.{Holds}
 use Rattle.tlog_proof.specs.Text.{IsProofText}
 use Rattle.tlogmirror.specs.declared.check.CheckFault.{CheckFault}
-use Rattle.tlogmirror.specs.declared.check.CheckFault.TheVariants.{BadProofText, ReadFault, WriteFault, OutOfMemory}
+use Rattle.tlogmirror.specs.declared.check.CheckFault.TheVariants.{BadProofText, ReadFault}
+use Rattle.tlogmirror.specs.declared.check.CheckFault.TheVariants.{WriteFault, OutOfMemory}
 
 -- the line that tells a verdict
 abbrev pub verdict_text : Bool → List ℕ
@@ -20,11 +21,14 @@ module _ (digest : List ℕ → List ℕ) where
   Verdict input false = (proof : Proof) × IsProofText input proof × (Holds digest proof → ⊥)
 
   -- what each answer of the command says of the input, and of what was written
-  abbrev pub AnswersCheck : List ℕ → Option (List ℕ) → Option (List ℕ) → Result Bool CheckFault → Type 0
-  AnswersCheck input old new (Ok verdict) = Verdict input verdict × Appends old new (verdict_text verdict)
+  abbrev pub AnswersCheck : List ℕ → Option (List ℕ) → Option (List ℕ) → Result Bool CheckFault →
+      Type 0
+  AnswersCheck input old new (Ok verdict) =
+      Verdict input verdict × Appends old new (verdict_text verdict)
   AnswersCheck input old new (Err BadProofText) = (proof : Proof) → IsProofText input proof → ⊥
   AnswersCheck input old new (Err ReadFault) = Unit {0}
-  AnswersCheck input old new (Err WriteFault) = (verdict : Bool) × Verdict input verdict × AppendsFront old new (verdict_text verdict)
+  AnswersCheck input old new (Err WriteFault) =
+      (verdict : Bool) × Verdict input verdict × AppendsFront old new (verdict_text verdict)
   AnswersCheck input old new (Err OutOfMemory) = Unit {0}
 
   -- what each answer of the judge says of the bytes

@@ -1,10 +1,11 @@
 -- How the program ends: its exit status, and what it says on which stream.
-use Rattle.std.specs.Prelude.{◌≡◌, ◌⊎◌, ℕ, List, [], ◌++◌, Option, Result, Ok, Err, codes, string_bytes}
+use Rattle.std.specs.Prelude.{◌≡◌, ◌⊎◌, ℕ, List, [], ◌++◌, Option, Result, Ok, Err, codes}
+use Rattle.std.specs.Prelude.{string_bytes}
 use Rattle.std.specs.Io.KnownBytes.{Appends, Keeps}
 use Rattle.byte_streams.specs.Streams.{AppendsFront}
 use Rattle.command_line.specs.declared.fault.CommandFault.TheVariants.{Help, Words, BadArgument}
-use Rattle.tlogmirror.specs.declared.run.RunFault.{RunFault}
-use Rattle.tlogmirror.specs.declared.run.RunFault.TheVariants.{Command}
+use Rattle.tlogmirror.specs.declared.fault.RunFault.{RunFault}
+use Rattle.tlogmirror.specs.declared.fault.RunFault.TheVariants.{Command}
 use Rattle.tlogmirror.specs.declared.ending.Said.{Said}
 use Rattle.tlogmirror.specs.declared.ending.Said.TheVariants.{Made, Fixed}
 use Rattle.tlogmirror.specs.declared.ending.Stream.{Stream}
@@ -39,21 +40,27 @@ TellsRun (Err (Command BadArgument)) told = Ends 2 Errors (fault_line (codes "Ba
 TellsRun (Err fault) told = (name : List ℕ) × Ends 1 Errors (fault_line name) told
 
 -- the text was written whole, and the status stays
-pub record SaysWhole (told : Ending) (status : ℕ) (output output' errors errors' : Option (List ℕ)) : Type 0 where
+pub record SaysWhole (told : Ending) (status : ℕ) (output output' errors errors' : Option (List ℕ))
+    : Type 0 where
   pub whole : Appends output output' (said_bytes told.text)
   pub quiet : Keeps errors errors'
   pub status_is : status ≡ told.status
 
 -- the text could not be written whole, which is told on the stream of errors as far as that goes
-pub record SaysFront (told : Ending) (status : ℕ) (output output' errors errors' : Option (List ℕ)) : Type 0 where
+pub record SaysFront (told : Ending) (status : ℕ) (output output' errors errors' : Option (List ℕ))
+    : Type 0 where
   pub front : AppendsFront output output' (said_bytes told.text)
   pub fault : AppendsFront errors errors' (fault_line (codes "WriteFault"))
   pub status_is : status ≡ 1
 
 -- what is written to both streams, and the exit status
-abbrev pub CarriesOut : Ending → ℕ → Option (List ℕ) → Option (List ℕ) → Option (List ℕ) → Option (List ℕ) → Type 0
+abbrev pub CarriesOut : Ending → ℕ → Option (List ℕ) → Option (List ℕ) → Option (List ℕ) →
+    Option (List ℕ) → Type 0
 CarriesOut told status output output' errors errors' = (
-    (told.stream ≡ Output) × (SaysWhole told status output output' errors errors' ⊎ SaysFront told status output output' errors errors')
+    (told.stream ≡ Output)
+    × (SaysWhole told status output output' errors errors'
+    ⊎ SaysFront told status output output' errors errors')
     ) ⊎ (
-    (told.stream ≡ Errors) × Keeps output output' × AppendsFront errors errors' (said_bytes told.text) × (status ≡ told.status)
+    (told.stream ≡ Errors) × Keeps output output'
+    × AppendsFront errors errors' (said_bytes told.text) × (status ≡ told.status)
     )

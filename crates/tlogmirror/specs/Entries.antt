@@ -1,8 +1,10 @@
--- Entries that stand one after the other, each after its length of two bytes, and what a reader of them answers.
+-- Entries that stand one after the other, each after its length of two bytes, and what a reader of
+-- them answers.
 use Rattle.std.specs.Prelude.{◌≡◌, ℕ, ◌<◌, ◌^◌, List, length, Result, Ok, Err, All}
 use Rattle.tlog_tiles.specs.Bundle.{bundle_text}
 use Rattle.tlogmirror.specs.declared.entries.EntriesFault.{EntriesFault}
-use Rattle.tlogmirror.specs.declared.entries.EntriesFault.TheVariants.{BundleShort, ReadFault, OutOfMemory}
+use Rattle.tlogmirror.specs.declared.entries.EntriesFault.TheVariants.{BundleShort, ReadFault}
+use Rattle.tlogmirror.specs.declared.entries.EntriesFault.TheVariants.{OutOfMemory}
 
 -- the bytes are these entries, however many, each after its length in two bytes, big-endian
 pub record AreEntries (bytes : List ℕ) (entries : List (List ℕ)) : Type 0 where

@@ -3,7 +3,7 @@ ghost use Rattle.std.specs.Prelude.{◌≡◌, IfOk, string_bytes};
 ghost use Rattle.byte_streams.specs.Streams.{AppendsFront};
 ghost use Rattle.tlogmirror.specs.Endings.{CarriesOut, IsFaultLine, TellsRun, said_bytes};
 
-use crate::run::RunFault;
+use crate::fault::RunFault;
 use byte_streams::write_whole;
 use command_line::CommandFault;
 use std::alloc::{AllocError, Global};

@@ -3,6 +3,7 @@ ghost use Rattle.std.specs.Prelude.{◌≡◌, ◌<◌, ◌^◌, ◌++◌, List,
 ghost use Rattle.byte_streams.specs.Streams.{TakesAtMost};
 ghost use Rattle.tlog_text.specs.Answers.{seen};
 ghost use Rattle.tlog_tiles.specs.Bundle.{entry_text};
+ghost use Rattle.mirror_model.specs.TrueLaws.{AreShort};
 ghost use Rattle.tlogmirror.specs.Entries.{ReadsEntries};
 ghost use Rattle.tlogmirror.specs.Faults.{entries_of_stream};
 ghost use Rattle.tlogmirror.specs.declared.entries.EntriesFault.TheVariants.{OutOfMemory};
@@ -77,7 +78,8 @@ fn entry_at(bytes: &[u8]) -> Option<(&[u8], &[u8])>
 
 // The entries that the bytes are.
 fn entries_of(alloc: Global, bytes: &[u8]) -> Result<Vec<Vec<u8>>, EntriesFault>
-    ensures { ReadsEntries bytes.now (seen (λ v. map (λ e. e.items) v.items) result) }
+    ensures reads { ReadsEntries bytes.now (seen (λ v. map (λ e. e.items) v.items) result) }
+    ensures short { IfOk result (λ v. AreShort (map (λ e. e.items) v.items)) }
 {
     let mut entries = Vec::new(alloc);
     let mut rest = bytes;
@@ -102,6 +104,7 @@ fn entries_of(alloc: Global, bytes: &[u8]) -> Result<Vec<Vec<u8>>, EntriesFault>
 pub fn read_entries<R: Read>(alloc: Global, reader: &mut R) -> Result<Vec<Vec<u8>>, EntriesFault>
     ensures answer { IfSome (R.remaining reader.old) (λ input. ReadsEntries input (seen (λ v. map (λ e. e.items) v.items) result)) }
     ensures limit { TakesAtMost MOST_BYTES (R.remaining reader.old) (R.remaining reader.new) }
+    ensures short { IfOk result (λ v. AreShort (map (λ e. e.items) v.items)) }
 {
     let bytes = read_all(alloc, reader, MOST_BYTES, MOST_READS)?;
     entries_of(alloc, &bytes)

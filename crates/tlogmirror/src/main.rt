@@ -1,20 +1,33 @@
 //! A mirror for one append-only transparency log in the C2SP tlog-tiles layout: the program.
 //!
-//! `main` reads the words of the command line, does the command over the standard streams (`run_words`),
-//! and ends as `told` says: a fault by its name on standard error, and by the exit status: 0 done,
+//! `main` reads the words of the command line, does the command over the standard streams (`run`), and ends as `told` says: a fault by its name on standard error, and by the exit status: 0 done,
 //! 1 a fault, 2 a command line that asks for nothing that can be done, 3 a no.
 #![tactic(auto)]
 
+mod ask;
+mod build;
 mod check;
 mod ending;
 mod entries;
+mod export;
+mod fault;
+mod files;
+mod keys;
+mod merge;
+mod notes;
+mod pull;
 mod root;
 mod run;
+mod serve;
+mod state;
+mod take;
 #[cfg(test)]
 mod tests;
+mod work;
 
 use crate::ending::{carry_out, told};
-use crate::run::{RunFault, run_words};
+use crate::fault::RunFault;
+use crate::run::run;
 use command_line::CommandFault;
 use std::io::ErrorKind;
 use std::process::ExitCode;
@@ -22,7 +35,14 @@ use std::{env, io};
 
 fn main(rt: HostRuntime) -> ExitCode {
     let answer = match words_of(&rt) {
-        Ok(words) => run_words(rt.alloc(), &words, &mut rt.reader(), &mut io::writer(&rt)),
+        Ok(words) => run(
+            &rt,
+            rt.alloc(),
+            &words,
+            &mut rt.reader(),
+            &mut io::writer(&rt),
+            &mut rt.stderr(),
+        ),
         Err(fault) => Err(RunFault::Command(fault)),
     };
     let ending = told(rt.alloc(), answer);

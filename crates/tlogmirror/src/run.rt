@@ -1,66 +1,93 @@
-//! One command, over any streams.
-ghost use Rattle.std.specs.Prelude.{IfErr, IfOk, IfSome, map, string_bytes};
+//! One run: the key file, the words, and the command that they ask for.
+ghost use Rattle.std.specs.Prelude.{IfErr, IfOk, map, string_bytes};
 ghost use Rattle.std.specs.Io.KnownBytes.{Keeps};
 ghost use Rattle.sha2.specs.Sha256.{sha256};
-ghost use Rattle.tlogmirror.specs.Runs.{IsStatus, IsWriteFault, Runs};
+ghost use Rattle.tlogmirror.specs.Runs.{IsWriteFault, Runs, RunsKeyed};
+ghost use Rattle.tlogmirror.specs.Works.{IsStatus};
 
-use crate::check::{CheckFault, run_check};
-use crate::root::{RootFault, run_root};
-use command_line::{Command, CommandFault, read_words};
+use crate::fault::RunFault;
+use crate::keys::key_bytes;
+use crate::work::run_command;
+use command_line::read_words;
+use signed_note::{KeyFileFault, KeyLine, Verifier, read_keys};
 use std::alloc::Global;
+use std::fs::Files;
 use std::io::{Read, Write};
-use thiserror::Error;
-use tlog_hash::Sha256Tree;
+use std::net::{Net, TcpListener, TcpStream};
+use std::rt::Clock;
 
-/// Why a command was not done. It prints what the fault in it prints.
-#[derive(Debug, Drop, Error)]
-pub enum RunFault {
-    /// The words ask for no command.
-    #[error(transparent)]
-    Command(CommandFault),
-    /// `root` told no root.
-    #[error(transparent)]
-    Root(RootFault),
-    /// `check` told no verdict.
-    #[error(transparent)]
-    Check(CheckFault),
-    /// The words ask for a command that this program does not do yet.
-    #[error("NotYet")]
-    NotYet,
-}
-
-/// Does the command that the words ask for, and answers the exit status: 0 where it is done, 3 where
-/// `check` says no.
+/// Does the command that the words ask for, with the keys of the key file that they name, and answers the exit status:
+/// 0 where it is done, 3 where its answer is the other one.
 ///
 /// # Errors
 ///
-/// `Command` comes where the words ask for no command, and `NotYet` where they ask for another than `root` and
-/// `check`. The others are those of the command's own call.
-/// Nothing was written, except where a write failed.
-pub fn run_words<R: Read, W: Write>(
+/// In this order: what `clap` finds, the key file, `BadArgument`, and those of the command. Nothing was written to the
+/// output, except where a write failed.
+pub fn run<R, I: Read, O: Write, E: Write>(
+    rt: &R,
     alloc: Global,
     words: &[String],
-    input: &mut R,
-    output: &mut W,
+    input: &mut I,
+    output: &mut O,
+    errors: &mut E,
 ) -> Result<u8, RunFault>
-    ensures answer { IfSome (R.remaining input.old) (λ bytes.
-        Runs sha256 (map string_bytes words.now) bytes (W.contents output.old) (W.contents output.new) result) }
+where
+    R: Files + Clock + Net<Stream = TcpStream, Listener = TcpListener>,
+    ensures answer { RunsKeyed sha256 (map string_bytes words.now) (I.remaining input.old) (O.contents output.old) (O.contents output.new) result }
     ensures status { IfOk result IsStatus }
-    ensures quiet { IfErr result (λ fault. (IsWriteFault fault → ⊥) → Keeps (W.contents output.old) (W.contents output.new)) }
+    ensures quiet { IfErr result (λ fault. (IsWriteFault fault → ⊥) → Keeps (O.contents output.old) (O.contents output.new)) }
+{
+    let bytes = match key_bytes(rt, alloc, words) {
+        Ok(bytes) => bytes,
+        Err(fault) => return Err(fault),
+    };
+    let lines = match read_keys(alloc, &bytes) {
+        Ok(lines) => lines,
+        Err(fault) => return Err(RunFault::KeyLines(fault)),
+    };
+    let mut keys: Vec<Box<dyn Verifier>> = Vec::new(alloc);
+    for line in lines {
+        let pushed = match line {
+            KeyLine::Hmac(key) => match Box::new(alloc, key) {
+                Ok(key) => keys.push(key).is_ok(),
+                Err(_) => false,
+            },
+            KeyLine::Pin(pins) => match Box::new(alloc, pins) {
+                Ok(pins) => keys.push(pins).is_ok(),
+                Err(_) => false,
+            },
+        };
+        if !pushed {
+            return Err(RunFault::KeyLines(KeyFileFault::OutOfMemory));
+        }
+    }
+    run_words(rt, alloc, words, &bytes, &keys, input, output, errors)
+}
+
+/// The same with keys in hand: the bytes of the key file, and its keys. Both are empty where the command has none.
+///
+/// # Errors
+///
+/// `Command` where the words ask for no command; the others are those of the command's own call.
+#[allow(clippy::too_many_arguments)]
+pub fn run_words<R, I: Read, O: Write, E: Write>(
+    rt: &R,
+    alloc: Global,
+    words: &[String],
+    key_bytes: &[u8],
+    keys: &[Box<dyn Verifier>],
+    input: &mut I,
+    output: &mut O,
+    errors: &mut E,
+) -> Result<u8, RunFault>
+where
+    R: Files + Clock + Net<Stream = TcpStream, Listener = TcpListener>,
+    ensures answer { Runs sha256 (map (λ k. key k) keys.now) (map string_bytes words.now) (I.remaining input.old) (O.contents output.old) (O.contents output.new) result }
+    ensures status { IfOk result IsStatus }
+    ensures quiet { IfErr result (λ fault. (IsWriteFault fault → ⊥) → Keeps (O.contents output.old) (O.contents output.new)) }
 {
     match read_words(alloc, words) {
-        Ok(Command::Root(root)) => {
-            match run_root::<Sha256Tree, R, W>(alloc, root.width, input, output) {
-                Ok(()) => Ok(0),
-                Err(fault) => Err(RunFault::Root(fault)),
-            }
-        }
-        Ok(Command::Check) => match run_check(alloc, input, output) {
-            Ok(true) => Ok(0),
-            Ok(false) => Ok(3),
-            Err(fault) => Err(RunFault::Check(fault)),
-        },
-        Ok(_) => Err(RunFault::NotYet),
+        Ok(command) => run_command(rt, alloc, &command, key_bytes, keys, input, output, errors),
         Err(fault) => Err(RunFault::Command(fault)),
     }
 }

@@ -1,11 +1,13 @@
-//! Whole runs of the program over memory, and over streams that fail.
+//! Whole runs of the program, over memory and folders, and over streams that fail.
+mod commands;
 mod endings;
 mod reading;
+mod serving;
 mod streams;
 
 use crate::check::{CheckFault, run_check};
 use crate::root::{RootFault, run_root};
-use crate::run::run_words;
+use crate::run::run;
 use crate::tests::streams::{ByteByByte, FailingReader, FailingWriter};
 use std::alloc::{AllocError, Global};
 use std::process::Abort;
@@ -30,11 +32,13 @@ pub fn words_of(alloc: Global, line: &str) -> Result<Vec<String>, AllocError> {
 }
 
 // The status of the command line, and what it writes, on this input.
-fn answer_of(alloc: Global, line: &str, input: &[u8]) -> Result<(u8, Vec<u8>), Fail> {
+fn answer_of(rt: &HostRuntime, line: &str, input: &[u8]) -> Result<(u8, Vec<u8>), Fail> {
+    let alloc = rt.alloc();
     let words = words_of(alloc, line)?;
     let mut input = input;
     let mut output = Vec::new(alloc);
-    let status = run_words(alloc, &words, &mut input, &mut output)?;
+    let mut errors = Vec::new(alloc);
+    let status = run(rt, alloc, &words, &mut input, &mut output, &mut errors)?;
     Ok((status, output))
 }
 
@@ -47,18 +51,14 @@ fn assert_tells(rt: &impl Abort, answer: &(u8, Vec<u8>), text: &str) {
 #[test]
 fn root_empty(rt: HostRuntime) -> Result<(), Fail> {
     let text = format!(in rt.alloc(); "size 0\nroot {ROOT_0}\n")?;
-    assert_tells(&rt, &answer_of(rt.alloc(), "root --width 0", &[])?, &text);
+    assert_tells(&rt, &answer_of(&rt, "root --width 0", &[])?, &text);
     Ok(())
 }
 
 #[test]
 fn root_one_entry(rt: HostRuntime) -> Result<(), Fail> {
     let text = format!(in rt.alloc(); "size 1\nroot {ROOT_1}\n")?;
-    assert_tells(
-        &rt,
-        &answer_of(rt.alloc(), "root --width 1", &[0, 0])?,
-        &text,
-    );
+    assert_tells(&rt, &answer_of(&rt, "root --width 1", &[0, 0])?, &text);
     Ok(())
 }
 
@@ -67,16 +67,12 @@ fn root_e3(rt: HostRuntime) -> Result<(), Fail> {
     let two = format!(in rt.alloc(); "size 2\nroot {ROOT_2}\n")?;
     assert_tells(
         &rt,
-        &answer_of(rt.alloc(), "root --width 2", &[0, 0, 0, 1, 0])?,
+        &answer_of(&rt, "root --width 2", &[0, 0, 0, 1, 0])?,
         &two,
     );
     let three = format!(in rt.alloc(); "size 3\nroot {ROOT_3}\n")?;
     let input = &[0, 0, 0, 1, 0, 0, 1, 0x10];
-    assert_tells(
-        &rt,
-        &answer_of(rt.alloc(), "root --width 3", input)?,
-        &three,
-    );
+    assert_tells(&rt, &answer_of(&rt, "root --width 3", input)?, &three);
     Ok(())
 }
 
@@ -154,10 +150,10 @@ pub const OTHER_INDEX: &str =
 #[test]
 fn check_text(rt: HostRuntime) -> Result<(), Fail> {
     let alloc = rt.alloc();
-    let yes = answer_of(alloc, "check", INCLUSION.as_bytes())?;
+    let yes = answer_of(&rt, "check", INCLUSION.as_bytes())?;
     assert_eq!(rt; yes.0, 0);
     assert_eq!(rt; yes.1.as_slice(), b"yes\n".as_slice());
-    let no = answer_of(alloc, "check", OTHER_INDEX.as_bytes())?;
+    let no = answer_of(&rt, "check", OTHER_INDEX.as_bytes())?;
     assert_eq!(rt; no.0, 3);
     assert_eq!(rt; no.1.as_slice(), b"no\n".as_slice());
     Ok(())

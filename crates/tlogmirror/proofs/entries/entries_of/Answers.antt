@@ -5,8 +5,8 @@ use Rattle.tlog_tiles.proofs.BundleLemmas.{joined_push}
 use Rattle.tlogmirror.proofs.EntryLists.{bundle_of, first_left, others_left}
 use Rattle.tlogmirror.proofs.entries.entries_of.Goals as goal
 
-pub returns-in_default : goal.returns-in_default
-returns-in_default c = λ entries are.
+pub returns-in_default-clause-reads : goal.returns-in_default-clause-reads
+returns-in_default-clause-reads c = λ entries are.
     let left = c.loop-rest.invariant.others (length entries) (bundle_of c.args.bytes.now entries are) in
     let first = first_left left.0 c.loop-rest.rest.now (sym c.is_empty.ensures ∙ c.loop-rest-test.true) left.1 in
     c.in_default.ensures.none first.0 first.1 first.2 first.3
