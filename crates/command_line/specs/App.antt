@@ -26,7 +26,8 @@ list_rule name = record (new_rule name) { action = Some Append; value_names = 1 
 
 -- `NAME --origin O --keys K`
 abbrev pub log_app : Text → App
-log_app name = with_rule (with_rule (new_app name) (option_rule (codes "origin"))) (option_rule (codes "keys"))
+log_app name =
+    with_rule (with_rule (new_app name) (option_rule (codes "origin"))) (option_rule (codes "keys"))
 
 -- `NAME --origin O --keys K --state S`
 abbrev pub held_app : Text → App
@@ -56,7 +57,9 @@ take_app = with_rule (with_rule (with_rule (with_rule (made_app (codes "take"))
 
 -- `merge --origin O --keys K --out T A B`
 abbrev pub merge_app : App
-merge_app = with_rule (with_rule (made_app (codes "merge")) (place_rule (codes "a"))) (place_rule (codes "b"))
+merge_app =
+    with_rule (with_rule (made_app (codes "merge")) (place_rule (codes "a")))
+    (place_rule (codes "b"))
 
 -- `pull --origin O --keys K --out T [--state S] KIND PLACE`
 abbrev pub pull_app : App
@@ -65,7 +68,9 @@ pull_app = with_rule (with_rule (with_rule (made_app (codes "pull"))
 
 -- `missing --origin O --keys K --state S --size N --root ROOT`
 abbrev pub missing_app : App
-missing_app = with_rule (with_rule (held_app (codes "missing")) (option_rule (codes "size"))) (option_rule (codes "root"))
+missing_app =
+    with_rule (with_rule (held_app (codes "missing")) (option_rule (codes "size")))
+    (option_rule (codes "root"))
 
 -- `prove --origin O --keys K --state S KIND A B`
 abbrev pub prove_app : App
@@ -78,7 +83,9 @@ folder_app name = with_rule (held_app name) (option_rule (codes "dir"))
 
 -- `serve --origin O --keys K --state S --port P --requests N`
 abbrev pub serve_app : App
-serve_app = with_rule (with_rule (held_app (codes "serve")) (option_rule (codes "port"))) (option_rule (codes "requests"))
+serve_app =
+    with_rule (with_rule (held_app (codes "serve")) (option_rule (codes "port")))
+    (option_rule (codes "requests"))
 
 -- ---- the program
 
@@ -96,11 +103,16 @@ program_app = record {
 
 -- the commands that read standard input, and those that make a state
 abbrev pub making_app : App
-making_app = with_subcommand (with_subcommand (with_subcommand (with_subcommand (with_subcommand (with_subcommand program_app
+making_app =
+    with_subcommand
+    (with_subcommand (with_subcommand (with_subcommand (with_subcommand (with_subcommand program_app
     root_app.top) check_app.top) build_app.top) take_app.top) merge_app.top) pull_app.top
 
--- and those that ask something of a state
+-- the whole command line: those commands, and those that ask something of a state
 abbrev pub mirror_app : App
-mirror_app = with_subcommand (with_subcommand (with_subcommand (with_subcommand (with_subcommand (with_subcommand (with_subcommand making_app
+mirror_app =
+    with_subcommand
+    (with_subcommand
+    (with_subcommand (with_subcommand (with_subcommand (with_subcommand (with_subcommand making_app
     (held_app (codes "status")).top) missing_app.top) (held_app (codes "forks")).top) prove_app.top)
     (folder_app (codes "export")).top) (folder_app (codes "notes")).top) serve_app.top

@@ -1,6 +1,8 @@
 -- Which command the words of a command line ask for.
-use Rattle.std.specs.Prelude.{◌≡◌, ◌≢◌, ◌⊎◌, ℕ, ◌≤◌, List, [], ◌∷◌, ◌++◌, Option, Some, None, false, length, map, option_map, unwrap_or, codes, slice_index, ◌<◌}
-use Rattle.clap.specs.Words.{App, Kinds, Row, Text, all_of, app_of, fault_of, first_of, subcommand_of}
+use Rattle.std.specs.Prelude.{◌≡◌, ◌≢◌, ◌⊎◌, ℕ, ◌≤◌, List, [], ◌∷◌, ◌++◌, Option, Some, None, false}
+use Rattle.std.specs.Prelude.{length, map, option_map, unwrap_or, codes, slice_index, ◌<◌}
+use Rattle.clap.specs.Words.{App, Kinds, Row, Text, all_of, app_of, fault_of, first_of}
+use Rattle.clap.specs.Words.{subcommand_of}
 use Rattle.clap.specs.declared.builder.command.Command.{Command as Parser}
 use Rattle.clap.specs.declared.builder.command.Command.TheViews.{out-Command}
 use Rattle.tlog_text.specs.Number.{IsDecimal}
@@ -69,23 +71,28 @@ IsSize n word = IsNumberIn 0 MAX_SIZE n word
 
 -- ---- what commands share
 
+-- the options name the log and its keys
 pub record IsLog (options : List Row) (log : Log) : Type 0 where
   pub origin : Given options (codes "origin") log.origin.now
   pub keys : Given options (codes "keys") log.keys.now
 
+-- the options name a mirror that is kept in a file
 pub record IsHeld (options : List Row) (held : Held) : Type 0 where
   pub log : IsLog options held.log
   pub state : Given options (codes "state") held.state.now
 
+-- the options name the file that a mirror is written to
 pub record IsMade (options : List Row) (made : Made) : Type 0 where
   pub log : IsLog options made.log
   pub out : Given options (codes "out") made.out.now
 
 -- ---- the commands
 
+-- what the options of `root` say
 abbrev pub IsRoot : List Row → RootWords → Type 0
 IsRoot options root = HasValue options (codes "width") (IsNumberIn 0 256 root.width)
 
+-- what the options of `build` say
 pub record IsBuild (options : List Row) (build : Build) : Type 0 where
   pub log : IsLog options build.log
   pub folder : Given options (codes "dir") build.folder.now
@@ -107,6 +114,7 @@ abbrev pub IsTakeWidth : Option Text → ℕ → Type 0
 IsTakeWidth None width = width ≡ 256
 IsTakeWidth (Some word) width = IsNumberIn 1 256 width word
 
+-- what the options of `take` say
 pub record IsTake (options : List Row) (take : Take) : Type 0 where
   pub made : IsMade options take.made
   pub state : first_of (codes "state") options ≡ option_map (λ s. s.now) take.state
@@ -115,6 +123,7 @@ pub record IsTake (options : List Row) (take : Take) : Type 0 where
   pub files : unwrap_or (all_of (codes "file") options) [] ≡ map (λ f. f.now) take.files.items
   pub count : IsCount take.kind (length take.files.items)
 
+-- what the options of `merge` say
 pub record IsMerge (options : List Row) (merge : Merge) : Type 0 where
   pub made : IsMade options merge.made
   pub first : Given options (codes "a") merge.first.now
@@ -146,13 +155,17 @@ pub record IsServer (word host prefix dialled : Text) (port : ℕ) : Type 0 wher
 -- the two words that name a place
 abbrev pub IsPlace : Text → Text → Place → Type 0
 IsPlace kind word (Folder path) = (kind ≡ codes "dir") × (path.now ≡ word)
-IsPlace kind word (Server host prefix dialled port) = (kind ≡ codes "http") × IsServer word host.now prefix.now dialled.now port
+IsPlace kind word (Server host prefix dialled port) =
+    (kind ≡ codes "http") × IsServer word host.now prefix.now dialled.now port
 
+-- what the options of `pull` say
 pub record IsPull (options : List Row) (pull : Pull) : Type 0 where
   pub made : IsMade options pull.made
   pub state : first_of (codes "state") options ≡ option_map (λ s. s.now) pull.state
-  pub place : HasValue options (codes "kind") (λ kind. HasValue options (codes "place") (λ word. IsPlace kind word pull.place))
+  pub place : HasValue options (codes "kind")
+      (λ kind. HasValue options (codes "place") (λ word. IsPlace kind word pull.place))
 
+-- what the options of `missing` say
 pub record IsMissingAsk (options : List Row) (missing : Missing) : Type 0 where
   pub held : IsHeld options missing.held
   pub size : HasValue options (codes "size") (IsSize missing.size)
@@ -161,16 +174,22 @@ pub record IsMissingAsk (options : List Row) (missing : Missing) : Type 0 where
 -- the three words that ask for a proof
 abbrev pub IsAsk : Text → Text → Text → Ask → Type 0
 IsAsk kind a b (Inclusion size index) = (kind ≡ codes "inclusion") × IsSize size a × IsSize index b
-IsAsk kind a b (Consistency first second) = (kind ≡ codes "consistency") × IsSize first a × IsSize second b
+IsAsk kind a b (Consistency first second) =
+    (kind ≡ codes "consistency") × IsSize first a × IsSize second b
 
+-- what the options of `prove` say
 pub record IsProve (options : List Row) (prove : Prove) : Type 0 where
   pub held : IsHeld options prove.held
-  pub ask : HasValue options (codes "kind") (λ kind. HasValue options (codes "a") (λ a. HasValue options (codes "b") (λ b. IsAsk kind a b prove.ask)))
+  pub ask : HasValue options (codes "kind")
+      (λ kind. HasValue options (codes "a")
+      (λ a. HasValue options (codes "b") (λ b. IsAsk kind a b prove.ask)))
 
+-- what the options of `export` and of `notes` say
 pub record IsExport (options : List Row) (export : Export) : Type 0 where
   pub held : IsHeld options export.held
   pub folder : Given options (codes "dir") export.folder.now
 
+-- what the options of `serve` say
 pub record IsServe (options : List Row) (serve : Serve) : Type 0 where
   pub held : IsHeld options serve.held
   pub port : HasValue options (codes "port") (IsNumberIn 1 65535 serve.port)
@@ -212,4 +231,5 @@ Says options (order.Serve c) = IsServe options c
 
 -- the words ask for the command
 abbrev pub Asks : List Text → Command → Type 0
-Asks words command = (options : List Row) × Calls words (name_of command) options × Says options command
+Asks words command =
+    (options : List Row) × Calls words (name_of command) options × Says options command

@@ -7,8 +7,10 @@ use Rattle.command_line.specs.Commands.{Asks, Calls, Says, faults, name_of}
 -- the names of the commands
 abbrev pub command_names : List Text
 command_names =
-    codes "root" ∷ codes "check" ∷ codes "build" ∷ codes "take" ∷ codes "merge" ∷ codes "pull" ∷ codes "status"
-    ∷ codes "missing" ∷ codes "forks" ∷ codes "prove" ∷ codes "export" ∷ codes "notes" ∷ codes "serve" ∷ []
+    codes "root" ∷ codes "check" ∷ codes "build" ∷ codes "take" ∷ codes "merge" ∷ codes "pull"
+    ∷ codes "status"
+    ∷ codes "missing" ∷ codes "forks" ∷ codes "prove" ∷ codes "export" ∷ codes "notes"
+    ∷ codes "serve" ∷ []
 
 -- the text is one of these
 abbrev pub IsOneOf : List Text → Text → Type 0

@@ -5,9 +5,11 @@ use Rattle.clap.specs.declared.error.kind.ErrorKind.{ErrorKind}
 use Rattle.clap.specs.declared.error.kind.ErrorKind.TheVariants as kind
 use Rattle.command_line.specs.declared.command.Command.{Command}
 use Rattle.command_line.specs.declared.fault.CommandFault.{CommandFault}
-use Rattle.command_line.specs.declared.fault.CommandFault.TheVariants.{Help, Words, BadArgument, OutOfMemory}
+use Rattle.command_line.specs.declared.fault.CommandFault.TheVariants.{Help, Words, BadArgument}
+use Rattle.command_line.specs.declared.fault.CommandFault.TheVariants.{OutOfMemory}
 use Rattle.command_line.specs.Commands.{Asks, Calls, Given, Says, faults, name_of}
 
+-- the words ask for no command
 abbrev pub AsksNone : List Text → Type 0
 AsksNone words = (command : Command) → Asks words command → ⊥
 

@@ -16,11 +16,11 @@ use Rattle.tlog_tiles.specs.Bundle.{bundle_text}
 use Rattle.mirror_model.specs.Heads.{IsOpenHead}
 use Rattle.mirror_model.specs.TrueLaws.{AreShort}
 use Rattle.log_sources.specs.Honest.{IsTrueAnswer}
-use Rattle.log_sources.specs.ListSource.{HasPart, IsPartAnswer, IsListAnswer, IsHonestAnywhere, OpensAnywhere, full_row}
+use Rattle.log_sources.specs.ListSource.{HoldsFile, IsPartAnswer, IsListAnswer, IsHonestAnywhere, OpensAnywhere, full_row}
 use Rattle.log_sources.proofs.FullRows.{length-full_row, part_level}
 
 -- a tile is within n entries where its level has all its hashes
-pub tile_within : (n level index width : ℕ) → level ≤ 7 → HasPart (n / 256 ^ level) index width → IsTileWithin n level index width
+pub tile_within : (n level index width : ℕ) → level ≤ 7 → HoldsFile (n / 256 ^ level) index width → IsTileWithin n level index width
 tile_within n level index width low h = record {
   level_fits = low;
   some = h.some;
@@ -30,7 +30,7 @@ tile_within n level index width low h = record {
       omega (arith, fits, div-mul-le_self n (256 ^ level));
 }
 
-pub tile_part : (n level index width : ℕ) → IsTileWithin n level index width → HasPart (n / 256 ^ level) index width
+pub tile_part : (n level index width : ℕ) → IsTileWithin n level index width → HoldsFile (n / 256 ^ level) index width
 tile_part n level index width h = record {
   some = h.some;
   upto = h.upto;
@@ -39,7 +39,7 @@ tile_part n level index width h = record {
 
 module _ (digest : List ℕ → List ℕ) (entries : List (List ℕ)) where
   -- the true bytes of a tile are a part of its level's hashes
-  pub tile_is : (level index width : ℕ) → HasPart (length entries / 256 ^ level) index width → row_text (part (256 * index) width (full_row digest entries level)) ≡ tile_bytes digest entries level index width
+  pub tile_is : (level index width : ℕ) → HoldsFile (length entries / 256 ^ level) index width → row_text (part (256 * index) width (full_row digest entries level)) ≡ tile_bytes digest entries level index width
   tile_is level index width h = ap row_text (part_level digest entries level (256 * index) width (length entries / 256 ^ level) h.within)
 
   true_answer : (path : Path) → IsWithin (length entries) path → (answer : Option (List ℕ)) → IsPartAnswer digest entries path answer → IsTrueAnswer digest entries path answer
@@ -63,17 +63,17 @@ module _ (digest : List ℕ → List ℕ) (entries : List (List ℕ)) where
 
   -- what is cut from a level is the tile
   pub tile_found : {X : Type 0} (f : X → List ℕ) (found : Option X) (row : List (List ℕ)) (level index width : ℕ) → level ≤ 7 → row ≡ full_row digest entries level →
-      MatchOption found (HasPart (length row) index width → ⊥) (λ b. HasPart (length row) index width × (f b ≡ row_text (part (256 * index) width row))) →
+      MatchOption found (HoldsFile (length row) index width → ⊥) (λ b. HoldsFile (length row) index width × (f b ≡ row_text (part (256 * index) width row))) →
       IsPartAnswer digest entries (Tile level index width) (option_map f found)
   tile_found f (Some b) row level index width low is h =
-      let has : HasPart (length entries / 256 ^ level) index width = subst (λ n. HasPart n index width) (ap length is ∙ length-full_row digest entries level) h.0 in
+      let has : HoldsFile (length entries / 256 ^ level) index width = subst (λ n. HoldsFile n index width) (ap length is ∙ length-full_row digest entries level) h.0 in
       (tile_within (length entries) level index width low has, h.1 ∙ ap (λ xs. row_text (part (256 * index) width xs)) is ∙ tile_is level index width has)
   tile_found f None row level index width low is h =
-      λ within. h (subst (λ n. HasPart n index width) (sym (ap length is ∙ length-full_row digest entries level)) (tile_part (length entries) level index width within))
+      λ within. h (subst (λ n. HoldsFile n index width) (sym (ap length is ∙ length-full_row digest entries level)) (tile_part (length entries) level index width within))
 
   -- and what is cut from the list is the bundle
   pub bundle_found : {X : Type 0} (f : X → List ℕ) (found : Option X) (count index width : ℕ) → count ≡ length entries →
-      MatchOption found (HasPart count index width → ⊥) (λ b. HasPart count index width × (f b ≡ bundle_text (part (256 * index) width entries))) →
+      MatchOption found (HoldsFile count index width → ⊥) (λ b. HoldsFile count index width × (f b ≡ bundle_text (part (256 * index) width entries))) →
       IsPartAnswer digest entries (Entries index width) (option_map f found)
   bundle_found f (Some b) count index width is h =
       (record { level_fits = omega arith; some = h.0.some; upto = h.0.upto; within = omega (arith, h.0.within, is) }, h.1)

@@ -1,3 +1,4 @@
 pub mod FullRows
 pub mod Texts
 pub mod Answering
+pub mod Origins

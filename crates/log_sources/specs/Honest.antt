@@ -1,4 +1,5 @@
--- Honest sources: what a log of some entries gives (C2SP tlog-tiles, "Merkle Tree", "Log Entries" and "Partial Tiles").
+-- Honest sources: what a log of some entries gives (C2SP tlog-tiles, "Merkle Tree", "Log Entries"
+-- and "Partial Tiles").
 use Rattle.std.specs.Prelude.{◌≡◌, ℕ, ◌<◌, ◌≤◌, List, [], ◌∷◌, length, take, Option, Some, None}
 use Rattle.signed_note.specs.Keys.{Key}
 use Rattle.tlog_hash.specs.Tree.{mth}
@@ -14,11 +15,15 @@ pub record IsGone (n : ℕ) (path : Path) : Type 0 where
   pub partial : width_named path < 256
   pub full : IsWithin n (full_of path)
 
--- the gets of the paths of a list, in order, when some were not found; and the paths under which bytes were found
+-- the gets of the paths of a list, in order, when some were not found; and the paths under which
+-- bytes were found
 pub data Gets (n : ℕ) : List Path → List Path → List Path → Type 0 where
   GetsNone : Gets n [] [] []
-  GetsFound : (path : Path) {paths gets founds : List Path} → Gets n paths gets founds → Gets n (path ∷ paths) (path ∷ gets) (path ∷ founds)
-  GetsFull : (path : Path) {paths gets founds : List Path} → IsGone n path → Gets n paths gets founds → Gets n (path ∷ paths) (path ∷ full_of path ∷ gets) (full_of path ∷ founds)
+  GetsFound : (path : Path) {paths gets founds : List Path} → Gets n paths gets founds →
+      Gets n (path ∷ paths) (path ∷ gets) (path ∷ founds)
+  GetsFull : (path : Path) {paths gets founds : List Path} → IsGone n path →
+      Gets n paths gets founds →
+      Gets n (path ∷ paths) (path ∷ full_of path ∷ gets) (full_of path ∷ founds)
 
 module _ (digest : List ℕ → List ℕ) (entries : List (List ℕ)) where
   -- TileBytes and BundleBytes: what a log of the entries serves at a path
@@ -27,16 +32,20 @@ module _ (digest : List ℕ → List ℕ) (entries : List (List ℕ)) where
   true_bytes (Tile level index width) = tile_bytes digest entries level index width
   true_bytes (Entries index width) = bundle_bytes entries index width
 
-  -- the answer to a path within the entries is its true bytes, or nothing where a log may have deleted the file
+  -- the answer to a path within the entries is its true bytes, or nothing where a log may have
+  -- deleted the file
   abbrev pub IsTrueAnswer : Path → Option (List ℕ) → Type 0
   IsTrueAnswer path (Some bytes) = bytes ≡ true_bytes path
   IsTrueAnswer path None = IsGone (length entries) path
 
-  -- Honest(source, E, origin, keys), for a source of which these answers may come: its note is a head of the first
-  -- entries, as many as size, and each path within the entries has true answers alone
-  pub record IsHonest (origin : List ℕ) (keys : List Key) (note : List ℕ) (size : ℕ) (may : Path → Option (List ℕ) → Type 0) : Type 0 where
+  -- Honest(source, E, origin, keys), for a source of which these answers may come: its note is a
+  -- head of the first entries, as many as size, and each path within the entries has true answers
+  -- alone
+  pub record IsHonest (origin : List ℕ) (keys : List Key) (note : List ℕ) (size : ℕ)
+      (may : Path → Option (List ℕ) → Type 0) : Type 0 where
     pub short : AreShort entries
     pub within : size ≤ length entries
     pub is_head : IsOpenHead note origin keys size (mth digest (take size entries))
     pub checkpoint : (answer : Option (List ℕ)) → may Checkpoint answer → answer ≡ Some note
-    pub parts : (path : Path) → IsWithin (length entries) path → (answer : Option (List ℕ)) → may path answer → IsTrueAnswer path answer
+    pub parts : (path : Path) → IsWithin (length entries) path → (answer : Option (List ℕ)) →
+        may path answer → IsTrueAnswer path answer

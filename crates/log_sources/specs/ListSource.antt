@@ -1,5 +1,6 @@
 -- A source over a list of entries: what it is seen as, and how it answers.
-use Rattle.std.specs.Prelude.{◌≡◌, ℕ, ◌+◌, ◌*◌, ◌/◌, ◌^◌, ◌<◌, ◌≤◌, List, [], length, get_or, Contains}
+use Rattle.std.specs.Prelude.{◌≡◌, ℕ, ◌+◌, ◌*◌, ◌/◌, ◌^◌, ◌<◌, ◌≤◌, List, [], length, get_or}
+use Rattle.std.specs.Prelude.{Contains}
 use Rattle.std.specs.Prelude.{Option, Some, None}
 use Rattle.signed_note.specs.Keys.{Key}
 use Rattle.tlog_hash.specs.Rows.{level_row}
@@ -15,8 +16,9 @@ pub record Log : Type 0 where
   pub note : List ℕ
   pub asked : List Path
 
--- a row of so many hashes, or a list of so many entries, has all that a file of that number and width has
-pub record HasPart (len index width : ℕ) : Type 0 where
+-- a row of so many hashes, or a list of so many entries, has all that a file of that number and
+-- width has
+pub record HoldsFile (len index width : ℕ) : Type 0 where
   pub some : 1 ≤ width
   pub upto : width ≤ 256
   pub within : 256 * index + width ≤ len
@@ -29,10 +31,11 @@ OpensAnywhere note origin key size root =
 module _ (digest : List ℕ → List ℕ) (entries : List (List ℕ)) where
   -- a path is answered by its true bytes where it is within the list, and by None elsewhere
   abbrev pub IsPartAnswer : Path → Option (List ℕ) → Type 0
-  IsPartAnswer path (Some bytes) = IsWithin (length entries) path × (bytes ≡ true_bytes digest entries path)
+  IsPartAnswer path (Some bytes) =
+      IsWithin (length entries) path × (bytes ≡ true_bytes digest entries path)
   IsPartAnswer path None = IsWithin (length entries) path → ⊥
 
-  -- and the checkpoint by the note
+  -- the checkpoint is answered by the note, and a tile or a bundle by its true bytes or by None
   abbrev pub IsListAnswer : List ℕ → Path → Option (List ℕ) → Type 0
   IsListAnswer note Checkpoint answer = answer ≡ Some note
   IsListAnswer note (Tile level index width) answer = IsPartAnswer (Tile level index width) answer
@@ -48,7 +51,7 @@ module _ (digest : List ℕ → List ℕ) (entries : List (List ℕ)) where
   abbrev pub full_row : ℕ → List (List ℕ)
   full_row level = level_row digest entries level 0 (length entries / 256 ^ level)
 
-  -- these are those of the first levels
+  -- the rows are the full rows of the first levels, as many as count, lowest first
   pub record AreFullRows (count : ℕ) (rows : List (List (List ℕ))) : Type 0 where
     pub count_is : length rows ≡ count
     pub each : (level : ℕ) → level < count → get_or rows level [] ≡ full_row level

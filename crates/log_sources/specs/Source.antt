@@ -6,7 +6,8 @@ use Rattle.log_sources.specs.declared.source.SourceFault.{SourceFault}
 use Rattle.log_sources.specs.declared.source.SourceFault.TheVariants.{Failed, OutOfMemory}
 
 -- a get adds its path, except one that wanted memory
-abbrev pub TellsGet : {T : Type 0} → Option (List Path) → Option (List Path) → Path → Result T SourceFault → Type 0
+abbrev pub TellsGet : {T : Type 0} → Option (List Path) → Option (List Path) → Path →
+    Result T SourceFault → Type 0
 TellsGet old new path (Ok x) = AddsTold old new (path ∷ [])
 TellsGet old new path (Err Failed) = AddsTold old new (path ∷ [])
 TellsGet old new path (Err OutOfMemory) = KeepsTold old new
@@ -17,5 +18,6 @@ CountsGet old new (Ok x) = new ≡ old
 CountsGet old new (Err Failed) = new ≡ one_more old
 CountsGet old new (Err OutOfMemory) = new ≡ old
 
+-- an answer that may come now might have come before
 pub record StaysWithin (old new : Path → Option (List ℕ) → Type 0) : Type 0 where
   pub stays : (path : Path) (answer : Option (List ℕ)) → new path answer → old path answer

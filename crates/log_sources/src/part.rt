@@ -4,7 +4,7 @@ ghost use Rattle.tlog_hash.specs.Rows.{part};
 ghost use Rattle.tlog_tiles.specs.Row.{row_text};
 ghost use Rattle.tlog_tiles.specs.Bundle.{bundle_text};
 ghost use Rattle.std.specs.Prelude.{MatchOption};
-ghost use Rattle.log_sources.specs.ListSource.{HasPart};
+ghost use Rattle.log_sources.specs.ListSource.{HoldsFile};
 
 use std::alloc::{AllocError, Global};
 use tlog_hash::Hash;
@@ -12,8 +12,8 @@ use tlog_tiles::{write_bundle, write_row};
 
 /// What the file of that number and width has of the list, where all of it is there.
 fn part_of<T>(list: &[T], index: u64, width: u32) -> Option<&[T]>
-    ensures found { IfSome result (λ found. HasPart (length list.now) index width × (found.now ≡ part (256 * index) width list.now)) }
-    ensures none { IfNone result (HasPart (length list.now) index width → ⊥) }
+    ensures found { IfSome result (λ found. HoldsFile (length list.now) index width × (found.now ≡ part (256 * index) width list.now)) }
+    ensures none { IfNone result (HoldsFile (length list.now) index width → ⊥) }
 {
     if width == 0 || width > 256 || index > (list.len() / 256) as u64 {
         return None;
@@ -32,7 +32,7 @@ pub(crate) fn tile_of(
     index: u64,
     width: u32,
 ) -> Result<Option<Vec<u8>>, AllocError>
-    ensures { IfOk result (λ found. MatchOption found (HasPart (length row.now) index width → ⊥) (λ bytes. HasPart (length row.now) index width × (bytes.items ≡ row_text (part (256 * index) width row.now)))) }
+    ensures { IfOk result (λ found. MatchOption found (HoldsFile (length row.now) index width → ⊥) (λ bytes. HoldsFile (length row.now) index width × (bytes.items ≡ row_text (part (256 * index) width row.now)))) }
 {
     match part_of(row, index, width) {
         Some(hashes) => Ok(Some(write_row(alloc, hashes)?)),
@@ -61,7 +61,7 @@ pub(crate) fn bundle_of(
     width: u32,
 ) -> Result<Option<Vec<u8>>, AllocError>
     requires { All (λ e. length e.items < 2 ^ 16) entries.now }
-    ensures { IfOk result (λ found. MatchOption found (HasPart (length entries.now) index width → ⊥) (λ bytes. HasPart (length entries.now) index width × (bytes.items ≡ bundle_text (part (256 * index) width (map (λ e. e.items) entries.now))))) }
+    ensures { IfOk result (λ found. MatchOption found (HoldsFile (length entries.now) index width → ⊥) (λ bytes. HoldsFile (length entries.now) index width × (bytes.items ≡ bundle_text (part (256 * index) width (map (λ e. e.items) entries.now))))) }
 {
     match part_of(entries, index, width) {
         Some(part) => Ok(Some(bundle_text_of(alloc, part)?)),

@@ -11,7 +11,7 @@ item_text Short item = to_be_bytes w16 (length item) ++ item
 item_text Long item = to_be_bytes w32 (length item) ++ item
 item_text Hashes item = item
 
--- its length can be written so; what stands alone has 64 bytes, two hashes
+-- an item can be written so: its length fits, and one that stands alone has 64 bytes, two hashes
 abbrev pub IsItem : Form → List ℕ → Type 0
 IsItem Short item = length item < 2 ^ 16
 IsItem Long item = length item < 2 ^ 32

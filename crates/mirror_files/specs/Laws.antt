@@ -11,7 +11,9 @@ TextsHaveOneAnswer = HasOneAnswer OutOfMemory ReadsParts
 
 -- a state text lists one thing
 abbrev pub TextsAreOne : Type 0
-TextsAreOne = (bytes : List ℕ) (first second : Parts) → IsText bytes first → IsText bytes second → first ≡ second
+TextsAreOne =
+    (bytes : List ℕ) (first second : Parts) → IsText bytes first → IsText bytes second →
+    first ≡ second
 
 -- no state text is a strict prefix of another
 abbrev pub NoTextIsCut : Type 0

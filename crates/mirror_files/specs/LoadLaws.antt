@@ -18,10 +18,13 @@ pub record IsOfBytes (answer : Result View LoadFault) : Type 0 where
 -- bytes have one such answer
 abbrev pub LoadsHaveOneAnswer : Type 0
 LoadsHaveOneAnswer =
-    (digest : List ℕ → List ℕ) (origin : List ℕ) (keys : List Key) (bytes : List ℕ) (a b : Result View LoadFault) →
-    IsOfBytes a → IsOfBytes b → Loads digest origin keys bytes a → Loads digest origin keys bytes b → a ≡ b
+    (digest : List ℕ → List ℕ) (origin : List ℕ) (keys : List Key) (bytes : List ℕ)
+    (a b : Result View LoadFault) →
+    IsOfBytes a → IsOfBytes b → Loads digest origin keys bytes a →
+    Loads digest origin keys bytes b → a ≡ b
 
--- where the bytes are a text of a lawful view of that origin whose notes open under the keys, it is Ok with that view
+-- where the bytes are a text of a lawful view of that origin whose notes open under the keys, it is
+-- Ok with that view
 abbrev pub TextsAreLoaded : Type 0
 TextsAreLoaded =
     (digest : List ℕ → List ℕ) (origin : List ℕ) (keys : List Key) (bytes : List ℕ) (v : View) →
@@ -42,6 +45,8 @@ TextIsOne = (v : View) (a b : List ℕ) → StateText v a → StateText v b → 
 -- what is loaded of version 1 is saved as version 2 of the same view
 abbrev pub OldIsSavedAsNew : Type 0
 OldIsSavedAsNew =
-    (digest : List ℕ → List ℕ) (origin : List ℕ) (keys : List Key) (v loaded : View) (old new saved : List ℕ) →
-    HasState digest origin keys old v → OldStateText v old → Loads digest origin keys old (Ok loaded) →
+    (digest : List ℕ → List ℕ) (origin : List ℕ) (keys : List Key) (v loaded : View)
+    (old new saved : List ℕ) →
+    HasState digest origin keys old v → OldStateText v old →
+    Loads digest origin keys old (Ok loaded) →
     StateText loaded saved → StateText v new → saved ≡ new

@@ -1,5 +1,5 @@
--- What the steps of a loader answer. The contracts of private functions cite these words; what a loader answers needs none
--- of them.
+-- What the steps of a loader answer. The contracts of private functions cite these words; what a
+-- loader answers needs none of them.
 use Rattle.std.specs.Prelude.{◌≡◌, ℕ, ◌≤◌, List, ◌∷◌, length, All, Result, Ok, Err}
 use Rattle.std.specs.FinSet as set
 use Rattle.signed_note.specs.Keys.{Key}
@@ -19,9 +19,15 @@ use Rattle.mirror_files.specs.declared.parts.PartsFault.{PartsFault}
 use Rattle.mirror_files.specs.declared.parts.PartsFault.TheVariants as reading
 use Rattle.mirror_files.specs.declared.loading.Kind.{Kind}
 use Rattle.mirror_files.specs.declared.loading.Kind.TheVariants.{Entries, Pairs, Strings as Tags}
-use Rattle.mirror_files.specs.Loading.{IsStateString, HasStrings, IsOfOtherOrigin, IsDisordered, HasBadString, HasClosed, HasUnheld}
+use Rattle.mirror_files.specs.Loading.{IsStateString, HasStrings, IsOfOtherOrigin, IsDisordered}
+use Rattle.mirror_files.specs.Loading.{HasBadString, HasClosed, HasUnheld}
 use Rattle.mirror_files.specs.declared.fault.LoadFault.{LoadFault}
-use Rattle.mirror_files.specs.declared.fault.LoadFault.TheVariants.{StateMagic, StateShort, StateLong, StateDigest, OtherOrigin, StateOrder, StateString, StateHead, Collision, StateEdge, ReadFault, OutOfMemory}
+use Rattle.mirror_files.specs.declared.fault.LoadFault.TheVariants.{StateMagic, StateShort}
+use Rattle.mirror_files.specs.declared.fault.LoadFault.TheVariants.{StateLong, StateDigest}
+use Rattle.mirror_files.specs.declared.fault.LoadFault.TheVariants.{OtherOrigin, StateOrder}
+use Rattle.mirror_files.specs.declared.fault.LoadFault.TheVariants.{StateString, StateHead}
+use Rattle.mirror_files.specs.declared.fault.LoadFault.TheVariants.{Collision, StateEdge, ReadFault}
+use Rattle.mirror_files.specs.declared.fault.LoadFault.TheVariants.{OutOfMemory}
 
 -- why the lists are not read, as a loader says it
 abbrev pub load_fault_of : PartsFault → LoadFault
@@ -53,22 +59,28 @@ tagged_as Entries item = 0 ∷ item
 tagged_as Pairs item = 1 ∷ item
 tagged_as Tags item = item
 
+-- an item that can be listed so
 abbrev pub IsListable : Kind → List ℕ → Type 0
 IsListable Entries item = length item ≤ 65535
 IsListable Pairs item = length item ≡ 64
 IsListable Tags item = IsStateString item
 
+-- all strings of a state text can be listed so
 abbrev pub AreListable : Parts → Type 0
-AreListable (Parted origin notes pairs entries) = All (IsListable Entries) entries × All (IsListable Pairs) pairs
+AreListable (Parted origin notes pairs entries) =
+    All (IsListable Entries) entries × All (IsListable Pairs) pairs
 AreListable (Tagged origin notes strings) = All (IsListable Tags) strings
 
 -- strings are added to a set, if none clashes
-abbrev pub AddsListed : (List ℕ → List ℕ) → Strings → List (List ℕ) → Result (Unit {0}) AddFault → Strings → Type 0
-AddsListed digest old strings (Ok done) new = (new ≡ set.union old (set.from_list strings)) × NoClash digest new
-AddsListed digest old strings (Err adding.Collision) new = HasClash digest (set.union old (set.from_list strings))
+abbrev pub AddsListed : (List ℕ → List ℕ) → Strings → List (List ℕ) → Result (Unit {0}) AddFault →
+    Strings → Type 0
+AddsListed digest old strings (Ok done) new =
+    (new ≡ set.union old (set.from_list strings)) × NoClash digest new
+AddsListed digest old strings (Err adding.Collision) new =
+    HasClash digest (set.union old (set.from_list strings))
 AddsListed digest old strings (Err adding.OutOfMemory) new = Unit {0}
 
--- and make one by themselves
+-- strings make a set by themselves, if none clashes
 abbrev pub MakesStore : (List ℕ → List ℕ) → List (List ℕ) → Result Strings AddFault → Type 0
 MakesStore digest strings (Ok made) = (made ≡ set.from_list strings) × NoClash digest made
 MakesStore digest strings (Err adding.Collision) = HasClash digest (set.from_list strings)
@@ -107,16 +119,21 @@ PassesOrFails Good Bad (Err StateEdge) = ⊥
 PassesOrFails Good Bad (Err ReadFault) = ⊥
 PassesOrFails Good Bad (Err OutOfMemory) = Unit {0}
 
--- of one note, and of all
+-- a note opens under the keys, or is StateHead
 abbrev pub ChecksNote : List ℕ → List Key → List ℕ → Result (Unit {0}) LoadFault → Type 0
-ChecksNote origin keys note answer = PassesOrFails (IsOpenNote origin keys note) (IsOpenNote origin keys note → ⊥) answer
+ChecksNote origin keys note answer =
+    PassesOrFails (IsOpenNote origin keys note) (IsOpenNote origin keys note → ⊥) answer
 
+-- all notes open under the keys, or StateHead is told
 abbrev pub ChecksNotes : List ℕ → List Key → List (List ℕ) → Result (Unit {0}) LoadFault → Type 0
-ChecksNotes origin keys notes answer = PassesOrFails (All (IsOpenNote origin keys) notes) (HasClosed origin keys notes) answer
+ChecksNotes origin keys notes answer =
+    PassesOrFails (All (IsOpenNote origin keys) notes) (HasClosed origin keys notes) answer
 
--- an answer that is Ok, StateEdge or want of memory
-abbrev pub KeepsNotes : (List ℕ → List ℕ) → View → List (List ℕ) → Result (Unit {0}) LoadFault → View → Type 0
-KeepsNotes digest old notes (Ok done) new = (new ≡ with_notes old notes) × All (HasEdge digest old) notes
+-- all notes are kept, each with its edge held; StateEdge where the edge of one is not
+abbrev pub KeepsNotes : (List ℕ → List ℕ) → View → List (List ℕ) → Result (Unit {0}) LoadFault →
+    View → Type 0
+KeepsNotes digest old notes (Ok done) new =
+    (new ≡ with_notes old notes) × All (HasEdge digest old) notes
 KeepsNotes digest old notes (Err StateMagic) new = ⊥
 KeepsNotes digest old notes (Err StateShort) new = ⊥
 KeepsNotes digest old notes (Err StateLong) new = ⊥

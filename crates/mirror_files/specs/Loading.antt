@@ -1,5 +1,7 @@
--- What each answer of a loader says of all the bytes: the first refusal that applies, in the order of the faults.
-use Rattle.std.specs.Prelude.{◌≡◌, ◌≢◌, ℕ, ◌≤◌, ◌⊎◌, List, [], ◌∷◌, ◌++◌, length, map, All, Result, Ok, Err}
+-- What each answer of a loader says of all the bytes: the first refusal that applies, in the order
+-- of the faults.
+use Rattle.std.specs.Prelude.{◌≡◌, ◌≢◌, ℕ, ◌≤◌, ◌⊎◌, List, [], ◌∷◌, ◌++◌, length, map, All, Result}
+use Rattle.std.specs.Prelude.{Ok, Err}
 use Rattle.std.specs.FinSet as set
 use Rattle.std.specs.List.{Contains}
 use Rattle.std.specs.List.Sorted.{IsStrictlySortedBy}
@@ -15,25 +17,32 @@ use Rattle.mirror_files.specs.StateText.{Parts, Parted, Tagged, IsText, StateTex
 use Rattle.mirror_files.specs.Reading.{ReadsParts}
 use Rattle.mirror_files.specs.declared.parts.PartsFault.TheVariants as reading
 use Rattle.mirror_files.specs.declared.fault.LoadFault.{LoadFault}
-use Rattle.mirror_files.specs.declared.fault.LoadFault.TheVariants.{StateMagic, StateShort, StateLong, StateDigest, OtherOrigin, StateOrder, StateString, StateHead, Collision, StateEdge, ReadFault, OutOfMemory}
+use Rattle.mirror_files.specs.declared.fault.LoadFault.TheVariants.{StateMagic, StateShort}
+use Rattle.mirror_files.specs.declared.fault.LoadFault.TheVariants.{StateLong, StateDigest}
+use Rattle.mirror_files.specs.declared.fault.LoadFault.TheVariants.{OtherOrigin, StateOrder}
+use Rattle.mirror_files.specs.declared.fault.LoadFault.TheVariants.{StateString, StateHead}
+use Rattle.mirror_files.specs.declared.fault.LoadFault.TheVariants.{Collision, StateEdge, ReadFault}
+use Rattle.mirror_files.specs.declared.fault.LoadFault.TheVariants.{OutOfMemory}
 
 -- ---- what is listed
 
+-- the origin that a state text names
 abbrev pub listed_origin : Parts → List ℕ
 listed_origin (Parted origin notes pairs entries) = origin
 listed_origin (Tagged origin notes strings) = origin
 
+-- the notes that a state text lists
 abbrev pub listed_notes : Parts → List (List ℕ)
 listed_notes (Parted origin notes pairs entries) = notes
 listed_notes (Tagged origin notes strings) = notes
 
--- the strings with their tags
+-- the strings that a state text lists, with their tags
 abbrev pub listed_strings : Parts → List (List ℕ)
 listed_strings (Parted origin notes pairs entries) =
     map (λ (entry : List ℕ). 0 ∷ entry) entries ++ map (λ (pair : List ℕ). 1 ∷ pair) pairs
 listed_strings (Tagged origin notes strings) = strings
 
--- what holds just that
+-- the view that holds just what a state text lists
 abbrev pub listed_view : Parts → View
 listed_view parts =
     record {
@@ -42,10 +51,11 @@ listed_view parts =
       strings = set.from_list (listed_strings parts);
     }
 
--- strictly rising by bytes, a prefix first
+-- the items rise strictly by their bytes, a prefix first
 abbrev pub Rises : List (List ℕ) → Type 0
 Rises items = IsStrictlySortedBy (slice_cmp nat_cmp) items
 
+-- each list of a state text rises
 abbrev pub AllRise : Parts → Type 0
 AllRise (Parted origin notes pairs entries) = Rises notes × Rises pairs × Rises entries
 AllRise (Tagged origin notes strings) = Rises notes × Rises strings
@@ -55,7 +65,7 @@ abbrev pub IsStateString : List ℕ → Type 0
 IsStateString [] = ⊥
 IsStateString (tag ∷ rest) = ((tag ≡ 0) × (length rest ≤ 65535)) ⊎ ((tag ≡ 1) × (length rest ≡ 64))
 
--- in version 2 the tags are not written
+-- each string of version 1 is one of a tree; in version 2 the tags are not written
 abbrev pub AllTaggedWell : Parts → Type 0
 AllTaggedWell (Parted origin notes pairs entries) = Unit {0}
 AllTaggedWell (Tagged origin notes strings) = All IsStateString strings
@@ -63,31 +73,34 @@ AllTaggedWell (Tagged origin notes strings) = All IsStateString strings
 -- ---- how far bytes are in order, and why they are refused
 
 module _ (origin : List ℕ) (bytes : List ℕ) where
-  -- they are a text of that origin
+  -- the bytes are a state text of that origin
   pub record HasOrigin (parts : Parts) : Type 0 where
     pub is_text : IsText bytes parts
     pub origin_is : listed_origin parts ≡ origin
 
-  -- whose lists rise
+  -- the bytes are such a text, and its lists rise
   pub record HasOrder (parts : Parts) : Type 0 where
     pub has_origin : HasOrigin parts
     pub all_rise : AllRise parts
 
-  -- whose strings can be a tree's
+  -- the bytes are such a text, and its strings can be a tree's
   pub record HasStrings (parts : Parts) : Type 0 where
     pub has_order : HasOrder parts
     pub tagged : AllTaggedWell parts
 
+  -- the bytes are a state text of another origin
   pub record IsOfOtherOrigin : Type 0 where
     pub parts : Parts
     pub is_text : IsText bytes parts
     pub differs : listed_origin parts ≢ origin
 
+  -- the bytes are a state text of that origin, of which a list does not rise
   pub record IsDisordered : Type 0 where
     pub parts : Parts
     pub has_origin : HasOrigin parts
     pub falls : AllRise parts → ⊥
 
+  -- the bytes are such a text in order, of which a string can be no tree's
   pub record HasBadString : Type 0 where
     pub parts : Parts
     pub has_order : HasOrder parts
@@ -100,11 +113,12 @@ pub record HasClosed (origin : List ℕ) (keys : List Key) (notes : List (List �
   pub closed : IsOpenNote origin keys note → ⊥
 
 module _ (origin : List ℕ) (keys : List Key) (bytes : List ℕ) where
-  -- all notes open
+  -- the bytes are a text with such strings, and all its notes open
   pub record HasOpenNotes (parts : Parts) : Type 0 where
     pub has_strings : HasStrings origin bytes parts
     pub opened : All (IsOpenNote origin keys) (listed_notes parts)
 
+  -- the bytes are a text with such strings, and a note of it does not open
   pub record HasBadNote : Type 0 where
     pub parts : Parts
     pub has_strings : HasStrings origin bytes parts
@@ -117,16 +131,18 @@ pub record HasUnheld (digest : List ℕ → List ℕ) (v : View) (notes : List (
   pub lacks : HasEdge digest v note → ⊥
 
 module _ (digest : List ℕ → List ℕ) (origin : List ℕ) (keys : List Key) (bytes : List ℕ) where
-  -- no two strings share a digest
+  -- the bytes are a text whose notes open, and no two of its strings share a digest
   pub record HasNoCollision (parts : Parts) : Type 0 where
     pub has_open_notes : HasOpenNotes origin keys bytes parts
     pub no_clash : NoClash digest (listed_view parts).strings
 
+  -- the bytes are a text whose notes open, and two of its strings share a digest
   pub record HasClashing : Type 0 where
     pub parts : Parts
     pub has_open_notes : HasOpenNotes origin keys bytes parts
     pub clash : HasClash digest (listed_view parts).strings
 
+  -- the bytes are a text without a clash, and the edge of a note of it is not held
   pub record LacksEdge : Type 0 where
     pub parts : Parts
     pub has_no_collision : HasNoCollision parts
@@ -134,7 +150,8 @@ module _ (digest : List ℕ → List ℕ) (origin : List ℕ) (keys : List Key) 
 
   -- ---- what is loaded
 
-  -- the bytes are a state text, of either version, of a lawful view of that origin, whose notes open under the keys
+  -- the bytes are a state text, of either version, of a lawful view of that origin, whose notes
+  -- open under the keys
   pub record HasState (v : View) : Type 0 where
     pub text : StateText v bytes ⊎ OldStateText v bytes
     pub lawful : IsLawful digest v
@@ -143,7 +160,8 @@ module _ (digest : List ℕ → List ℕ) (origin : List ℕ) (keys : List Key) 
 
   -- ---- the answers
 
-  -- reading faults and want of memory say nothing of the bytes
+  -- what each answer of a loader says of the bytes; a read that failed and want of memory say
+  -- nothing
   abbrev pub Loads : Result View LoadFault → Type 0
   Loads (Ok v) = HasState v
   Loads (Err StateMagic) = ReadsParts bytes (Err reading.StateMagic)

@@ -1,5 +1,5 @@
--- How a text is put together on its way to a writer. The contracts of private functions cite these words; what a saver answers
--- needs none of them.
+-- How a text is put together on its way to a writer. The contracts of private functions cite these
+-- words; what a saver answers needs none of them.
 use Rattle.std.specs.Prelude.{◌≡◌, ℕ, List, ◌++◌, length, Option, Result, Ok, Err, OnOk, OnErr}
 use Rattle.std.specs.Io.KnownBytes.{Appends}
 use Rattle.std.specs.Borrow.{Bor}
@@ -30,26 +30,32 @@ pub record IsUnderWay (start now : Option (List ℕ)) (held text : List ℕ) : T
 
 -- a text that is under way goes on with the piece; where a write fails a front of it was written
 abbrev pub Writes :
-    Option (List ℕ) → Option (List ℕ) → List ℕ → List ℕ → List ℕ → Result (Unit {0}) StreamFault → Type 0
+    Option (List ℕ) → Option (List ℕ) → List ℕ → List ℕ → List ℕ → Result (Unit {0}) StreamFault →
+    Type 0
 Writes old new held held' piece (Ok done) =
     (start : Option (List ℕ)) (text : List ℕ) → IsUnderWay start old held text →
     IsUnderWay start new held' (text ++ piece)
 Writes old new held held' piece (Err fault) =
-    (start : Option (List ℕ)) (text : List ℕ) → IsUnderWay start old held text → AppendsFront start new (text ++ piece)
+    (start : Option (List ℕ)) (text : List ℕ) → IsUnderWay start old held text →
+    AppendsFront start new (text ++ piece)
 
 -- so it does, and the digest goes on with it
-pub record Puts (old new : Option (List ℕ)) (page page' : Page) (piece : List ℕ) (answer : Result (Unit {0}) StreamFault)
+pub record Puts (old new : Option (List ℕ)) (page page' : Page) (piece : List ℕ)
+    (answer : Result (Unit {0}) StreamFault)
     : Type 0 where
   pub writes : Writes old new page.held.items page'.held.items piece answer
-  pub hashes : OnOk answer ((text : List ℕ) → Holds256 page.digest text → Holds256 page'.digest (text ++ piece))
+  pub hashes : OnOk answer
+      ((text : List ℕ) → Holds256 page.digest text → Holds256 page'.digest (text ++ piece))
 
 -- a whole text was written, or a front of it
-abbrev pub WritesText : Option (List ℕ) → Option (List ℕ) → List ℕ → Result (Unit {0}) StreamFault → Type 0
+abbrev pub WritesText : Option (List ℕ) → Option (List ℕ) → List ℕ → Result (Unit {0}) StreamFault →
+    Type 0
 WritesText old new text (Ok done) = Appends old new text
 WritesText old new text (Err fault) = AppendsFront old new text
 
 -- the text that is under way ends with its digest
-abbrev pub EndsText : Option (List ℕ) → Option (List ℕ) → Page → Result (Unit {0}) StreamFault → Type 0
+abbrev pub EndsText : Option (List ℕ) → Option (List ℕ) → Page → Result (Unit {0}) StreamFault →
+    Type 0
 EndsText old new page answer =
     (start : Option (List ℕ)) (text : List ℕ) → IsUnderWay start old page.held.items text →
     Holds256 page.digest text → WritesText start new (text ++ sha256 text) answer

@@ -1,9 +1,12 @@
 -- What each answer of a reader of state texts says of the bytes, as far as the bytes alone decide.
-use Rattle.std.specs.Prelude.{◌≡◌, ◌≢◌, ℕ, ◌⊎◌, List, [], ◌∷◌, ◌++◌, length, take, codes, Result, Ok, Err}
+use Rattle.std.specs.Prelude.{◌≡◌, ◌≢◌, ℕ, ◌⊎◌, List, [], ◌∷◌, ◌++◌, length, take, codes, Result}
+use Rattle.std.specs.Prelude.{Ok, Err}
 use Rattle.sha2.specs.Sha256.{sha256}
 use Rattle.mirror_files.specs.StateText.{Parts, body_text, AreParts, IsText}
 use Rattle.mirror_files.specs.declared.parts.PartsFault.{PartsFault}
-use Rattle.mirror_files.specs.declared.parts.PartsFault.TheVariants.{StateMagic, StateShort, StateLong, StateDigest, OutOfMemory}
+use Rattle.mirror_files.specs.declared.parts.PartsFault.TheVariants.{StateMagic, StateShort}
+use Rattle.mirror_files.specs.declared.parts.PartsFault.TheVariants.{StateLong, StateDigest}
+use Rattle.mirror_files.specs.declared.parts.PartsFault.TheVariants.{OutOfMemory}
 
 -- a prefix of the bytes is a body; the rest follows it
 pub record HasBody (bytes : List ℕ) (parts : Parts) (rest : List ℕ) : Type 0 where
@@ -26,12 +29,14 @@ pub record IsSpoiled (bytes : List ℕ) : Type 0 where
   pub has : HasText bytes parts digest []
   pub differs : digest ≢ sha256 (body_text parts)
 
+-- what each answer of a reader of state texts says of the bytes
 abbrev pub ReadsParts : List ℕ → Result Parts PartsFault → Type 0
 ReadsParts bytes (Ok parts) = IsText bytes parts
 ReadsParts bytes (Err StateMagic) = HasMagic bytes → ⊥
 ReadsParts bytes (Err StateShort) =
     HasMagic bytes × ((parts : Parts) (digest rest : List ℕ) → HasText bytes parts digest rest → ⊥)
 ReadsParts bytes (Err StateLong) =
-    (parts : Parts) × (digest : List ℕ) × (next : ℕ) × (rest : List ℕ) × HasText bytes parts digest (next ∷ rest)
+    (parts : Parts) × (digest : List ℕ) × (next : ℕ) × (rest : List ℕ)
+    × HasText bytes parts digest (next ∷ rest)
 ReadsParts bytes (Err StateDigest) = IsSpoiled bytes
 ReadsParts bytes (Err OutOfMemory) = Unit {0}

@@ -1,5 +1,5 @@
--- What stands at the front of bytes. The contracts of the private readers cite these words; the grammar of a state text
--- needs none of them.
+-- What stands at the front of bytes. The contracts of the private readers cite these words; the
+-- grammar of a state text needs none of them.
 use Rattle.std.specs.Prelude.{◌≡◌, ◌≢◌, ◌<◌, ℕ, List, ◌++◌, length, map, All, Result, Ok, Err}
 use Rattle.sha2.specs.Sha256.{sha256}
 use Rattle.mirror_files.specs.declared.items.Form.{Form}
@@ -7,18 +7,22 @@ use Rattle.mirror_files.specs.StateText.{Parts, Parted, Tagged, AreParts, lists_
 use Rattle.mirror_files.specs.declared.lists.Lists.{Lists}
 use Rattle.mirror_files.specs.declared.lists.Lists.TheVariants as lists
 use Rattle.mirror_files.specs.declared.parts.PartsFault.{PartsFault}
-use Rattle.mirror_files.specs.declared.parts.PartsFault.TheVariants.{StateMagic, StateShort, StateLong, StateDigest, OutOfMemory}
+use Rattle.mirror_files.specs.declared.parts.PartsFault.TheVariants.{StateMagic, StateShort}
+use Rattle.mirror_files.specs.declared.parts.PartsFault.TheVariants.{StateLong, StateDigest}
+use Rattle.mirror_files.specs.declared.parts.PartsFault.TheVariants.{OutOfMemory}
 use Rattle.mirror_files.specs.Reading.{HasMagic, HasBody}
 use Rattle.mirror_files.specs.Items.{items_text, list_text, IsItem, AreItems}
 
 -- so many items stand at the front, and the rest follows them
-pub record HasItems (form : Form) (count : ℕ) (bytes : List ℕ) (items : List (List ℕ)) (rest : List ℕ) : Type 0 where
+pub record HasItems (form : Form) (count : ℕ) (bytes : List ℕ) (items : List (List ℕ))
+    (rest : List ℕ) : Type 0 where
   pub count_is : length items ≡ count
   pub fits : All (IsItem form) items
   pub text : bytes ≡ items_text form items ++ rest
 
 -- a list of items stands at the front, and the rest follows it
-pub record HasList (form : Form) (bytes : List ℕ) (items : List (List ℕ)) (rest : List ℕ) : Type 0 where
+pub record HasList (form : Form) (bytes : List ℕ) (items : List (List ℕ)) (rest : List ℕ)
+    : Type 0 where
   pub are_items : AreItems form items
   pub text : bytes ≡ list_text form items ++ rest
 
@@ -30,7 +34,8 @@ pub record HasLists (bytes : List ℕ) (parts : Parts) (rest : List ℕ) : Type 
 -- the parts that are lent
 abbrev pub parts_of : Lists → Parts
 parts_of (lists.Parted origin notes pairs entries) =
-    Parted origin.now (map (λ x. x.now) notes.items) (map (λ x. x.now) pairs.items) (map (λ x. x.now) entries.items)
+    Parted origin.now (map (λ x. x.now) notes.items) (map (λ x. x.now) pairs.items)
+    (map (λ x. x.now) entries.items)
 parts_of (lists.Tagged origin notes strings) =
     Tagged origin.now (map (λ x. x.now) notes.items) (map (λ x. x.now) strings.items)
 
@@ -38,7 +43,8 @@ parts_of (lists.Tagged origin notes strings) =
 abbrev pub FindsLists : List ℕ → Result (Parts × List ℕ) PartsFault → Type 0
 FindsLists bytes (Ok found) = HasBody bytes found.0 found.1
 FindsLists bytes (Err StateMagic) = HasMagic bytes → ⊥
-FindsLists bytes (Err StateShort) = HasMagic bytes × ((parts : Parts) (rest : List ℕ) → HasBody bytes parts rest → ⊥)
+FindsLists bytes (Err StateShort) =
+    HasMagic bytes × ((parts : Parts) (rest : List ℕ) → HasBody bytes parts rest → ⊥)
 FindsLists bytes (Err StateLong) = ⊥
 FindsLists bytes (Err StateDigest) = ⊥
 FindsLists bytes (Err OutOfMemory) = Unit {0}

@@ -1,4 +1,5 @@
--- The text of a mirror's state. Version 2 is written and read, version 1 is read alone. Both are this project's own.
+-- The text of a mirror's state. Version 2 is written and read, version 1 is read alone. Both are
+-- this project's own.
 use Rattle.std.specs.Prelude.{◌≡◌, ◌↔◌, ℕ, List, ◌∷◌, ◌++◌, codes}
 use Rattle.std.specs.List.{Contains}
 use Rattle.std.specs.List.Sorted.{IsStrictlySortedBy}
@@ -11,38 +12,43 @@ use Rattle.mirror_model.specs.Listed.{ListsNotes}
 use Rattle.mirror_files.specs.declared.items.Form.TheVariants.{Short, Long, Hashes}
 use Rattle.mirror_files.specs.Items.{item_text, list_text, IsItem, AreItems}
 
--- what a state text lists: in version 2 pairs of hashes and entries apart, in version 1 strings with their tags
+-- what a state text lists: in version 2 pairs of hashes and entries apart, in version 1 strings
+-- with their tags
 pub data Parts : Type 0 where
   Parted : (origin : List ℕ) (notes pairs entries : List (List ℕ)) → Parts
   Tagged : (origin : List ℕ) (notes strings : List (List ℕ)) → Parts
 
--- the first eight bytes
+-- the first eight bytes of a state text: its version
 abbrev pub magic_of : Parts → List ℕ
 magic_of (Parted origin notes pairs entries) = codes "TLMIRR02"
 magic_of (Tagged origin notes strings) = codes "TLMIRR01"
 
--- what is listed
+-- the bytes of what a state text lists
 abbrev pub lists_text : Parts → List ℕ
 lists_text (Parted origin notes pairs entries) =
-    item_text Short origin ++ (list_text Long notes ++ (list_text Hashes pairs ++ list_text Short entries))
-lists_text (Tagged origin notes strings) = item_text Short origin ++ (list_text Long notes ++ list_text Long strings)
+    item_text Short origin
+    ++ (list_text Long notes ++ (list_text Hashes pairs ++ list_text Short entries))
+lists_text (Tagged origin notes strings) =
+    item_text Short origin ++ (list_text Long notes ++ list_text Long strings)
 
 -- the text up to its digest
 abbrev pub body_text : Parts → List ℕ
 body_text parts = magic_of parts ++ lists_text parts
 
--- each part can be written
+-- each part of version 2 can be written
 pub record AreParted (origin : List ℕ) (notes pairs entries : List (List ℕ)) : Type 0 where
   pub origin_fits : IsItem Short origin
   pub notes_fit : AreItems Long notes
   pub pairs_fit : AreItems Hashes pairs
   pub entries_fit : AreItems Short entries
 
+-- each part of version 1 can be written
 pub record AreTagged (origin : List ℕ) (notes strings : List (List ℕ)) : Type 0 where
   pub origin_fits : IsItem Short origin
   pub notes_fit : AreItems Long notes
   pub strings_fit : AreItems Long strings
 
+-- each part of a state text can be written
 abbrev pub AreParts : Parts → Type 0
 AreParts (Parted origin notes pairs entries) = AreParted origin notes pairs entries
 AreParts (Tagged origin notes strings) = AreTagged origin notes strings

@@ -1,5 +1,6 @@
 -- What an export puts onto a shelf, whatever its answer.
-use Rattle.std.specs.Prelude.{◌≡◌, ℕ, ◌<◌, List, ◌++◌, length, take, Option, Some, None, Result, Ok, Err, Contains}
+use Rattle.std.specs.Prelude.{◌≡◌, ℕ, ◌<◌, List, ◌++◌, length, take, Option, Some, None, Result, Ok}
+use Rattle.std.specs.Prelude.{Err, Contains}
 use Rattle.tlog_tiles.specs.declared.paths.Path.{Path}
 use Rattle.tlog_tiles.specs.declared.paths.Path.TheVariants.{Checkpoint}
 use Rattle.mirror_model.specs.View.{View}
@@ -8,7 +9,8 @@ use Rattle.log_sources.specs.Told.{KeepsTold, AddsTold, Rose}
 use Rattle.mirror_folders.specs.Shelf.{Put, HasPut, Stands, TellsNone, TellsSome}
 use Rattle.mirror_folders.specs.Files.{paths_of, served_bytes, IsServedFiles}
 use Rattle.mirror_folders.specs.declared.fault.ExportFault.{ExportFault}
-use Rattle.mirror_folders.specs.declared.fault.ExportFault.TheVariants.{NothingComplete, ShelfInUse, ShelfFault, OutOfMemory}
+use Rattle.mirror_folders.specs.declared.fault.ExportFault.TheVariants.{NothingComplete, ShelfInUse}
+use Rattle.mirror_folders.specs.declared.fault.ExportFault.TheVariants.{ShelfFault, OutOfMemory}
 
 -- a front of the files was put, that is not all of them
 pub record AddsFront (old new : Option (List Put)) (files : List Put) : Type 0 where
@@ -16,8 +18,9 @@ pub record AddsFront (old new : Option (List Put)) (files : List Put) : Type 0 w
   pub short : count < length files
   pub told : AddsTold old new (take count files)
 
--- at Ok all the files were put, and else a front of them
-abbrev pub AddsFiles : {T E : Type 0} → Option (List Put) → Option (List Put) → List Put → Result T E → Type 0
+-- what a call that puts files added, by its answer: at Ok all of them, and else a front of them
+abbrev pub AddsFiles : {T E : Type 0} → Option (List Put) → Option (List Put) → List Put →
+    Result T E → Type 0
 AddsFiles old new files (Ok x) = AddsTold old new files
 AddsFiles old new files (Err e) = AddsFront old new files
 
@@ -36,7 +39,8 @@ module _ (digest : List ℕ → List ℕ) where
     pub free : TellsNone old Checkpoint
     pub told : AddsTold old new files
 
-  -- a front of them was put, that is not all: none where the shelf had a checkpoint
+  -- a front of the files of what is served was put, not all of them, and none where the shelf had a
+  -- checkpoint
   pub record PutsFront (v : View) (old new : Option (List Put)) : Type 0 where
     pub files : List Put
     pub are_served : IsServedFiles digest v files
@@ -44,7 +48,8 @@ module _ (digest : List ℕ → List ℕ) where
     pub free : 0 < front.count → TellsNone old Checkpoint
 
   -- what an export puts, by its answer
-  abbrev pub Exports : {T : Type 0} → View → Option (List Put) → Option (List Put) → Result T ExportFault → Type 0
+  abbrev pub Exports : {T : Type 0} → View → Option (List Put) → Option (List Put) →
+      Result T ExportFault → Type 0
   Exports v old new (Ok x) = PutsAll v old new
   Exports v old new (Err NothingComplete) = KeepsTold old new
   Exports v old new (Err ShelfInUse) = KeepsTold old new × TellsSome old Checkpoint
@@ -58,15 +63,17 @@ module _ (digest : List ℕ → List ℕ) where
     pub root : List ℕ
     pub entries : List (List ℕ)
     pub served : Served digest v note size root entries
-    pub stands : (path : Path) → Contains (paths_of size) path → Stands puts path (served_bytes digest note entries path)
+    pub stands : (path : Path) → Contains (paths_of size) path →
+        Stands puts path (served_bytes digest note entries path)
 
-  -- after each put a shelf that had no checkpoint has one only if every tile and bundle of it stands there with true
-  -- bytes
+  -- after each put a shelf that had no checkpoint has one only if every tile and bundle of it
+  -- stands there with true bytes
   abbrev pub CheckpointIsLast : View → Option (List Put) → Option (List Put) → Type 0
   CheckpointIsLast v None new = Unit {0}
   CheckpointIsLast v (Some old) None = ⊥
   CheckpointIsLast v (Some old) (Some new) =
-      (HasPut old Checkpoint → ⊥) → (now : List Put) → IsMoment old new now → HasPut now Checkpoint → StandsWhole v now
+      (HasPut old Checkpoint → ⊥) → (now : List Put) → IsMoment old new now →
+      HasPut now Checkpoint → StandsWhole v now
 
 -- the shelf is blamed only where its count of failures rose, or stands at its last value
 abbrev pub CountsExport : {T : Type 0} → ℕ → ℕ → Result T ExportFault → Type 0

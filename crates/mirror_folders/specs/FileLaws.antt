@@ -16,6 +16,7 @@ IsFileOf n Checkpoint = Unit {0}
 IsFileOf n (Tile level index width) = IsWidestIn n level index width
 IsFileOf n (Entries index width) = IsWidestIn n 0 index width
 
--- the list has the checkpoint, and of each place that has a tile or a bundle the widest, and nothing else
+-- the list has the checkpoint, and of each place that has a tile or a bundle the widest, and
+-- nothing else
 abbrev pub FilesAreAll : Type 0
 FilesAreAll = (n : ℕ) (path : Path) → Contains (paths_of n) path ↔ IsFileOf n path

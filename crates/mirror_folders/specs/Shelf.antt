@@ -1,5 +1,6 @@
 -- What a shelf tells of what was put onto it.
-use Rattle.std.specs.Prelude.{◌≡◌, ◌↔◌, ℕ, List, [], ◌∷◌, ◌++◌, map, Option, Some, None, Result, Ok, Err, Bool, IsTrue, Contains}
+use Rattle.std.specs.Prelude.{◌≡◌, ◌↔◌, ℕ, List, [], ◌∷◌, ◌++◌, map, Option, Some, None, Result, Ok}
+use Rattle.std.specs.Prelude.{Err, Bool, IsTrue, Contains}
 use Rattle.tlog_tiles.specs.declared.paths.Path.{Path}
 use Rattle.log_sources.specs.Told.{KeepsTold, AddsTold, one_more}
 use Rattle.mirror_folders.specs.declared.shelf.ShelfError.{ShelfError}
@@ -21,7 +22,8 @@ pub record Stands (puts : List Put) (path : Path) (bytes : List ℕ) : Type 0 wh
   pub kept : (other : List ℕ) → Contains after (path, other) → other ≡ bytes
 
 -- a put that answers Ok is told last, and one that answers an error left all as it was
-abbrev pub TellsPut : {T : Type 0} → Option (List Put) → Option (List Put) → Put → Result T ShelfError → Type 0
+abbrev pub TellsPut : {T : Type 0} → Option (List Put) → Option (List Put) → Put →
+    Result T ShelfError → Type 0
 TellsPut old new put (Ok x) = AddsTold old new (put ∷ [])
 TellsPut old new put (Err e) = KeepsTold old new
 
@@ -45,6 +47,7 @@ abbrev pub CountsError : ℕ → ℕ → ShelfError → Type 0
 CountsError old new Failed = new ≡ one_more old
 CountsError old new OutOfMemory = new ≡ old
 
+-- a call that answers an error counts it as a failure, one that answers Ok counts none
 abbrev pub CountsFailures : {T : Type 0} → ℕ → ℕ → Result T ShelfError → Type 0
 CountsFailures old new (Ok x) = new ≡ old
 CountsFailures old new (Err e) = CountsError old new e

@@ -1,6 +1,7 @@
 -- What a walk over the fields of a head has found of the body.
 use Rattle.std.specs.Prelude.{List, MatchBool, Any}
-use Rattle.mirror_http.specs.Reply.{Field, GivesLength, GivesNoLength, HasUnclearLength, IsCoding, IsUncoded}
+use Rattle.mirror_http.specs.Reply.{Field, GivesLength, GivesNoLength, HasUnclearLength, IsCoding}
+use Rattle.mirror_http.specs.Reply.{IsUncoded}
 use Rattle.mirror_http.specs.declared.framing.Length.{Length}
 use Rattle.mirror_http.specs.declared.framing.Length.TheVariants.{NotGiven, Given, Unclear}
 use Rattle.mirror_http.specs.declared.framing.Framing.{Framing}

@@ -1,12 +1,15 @@
--- What a reply says to who asked for a file (RFC 9112, sections 2 to 6; RFC 9110, sections 5.1, 8.4, 8.6, 15).
-use Rattle.std.specs.Prelude.{◌≡◌, ◌≢◌, ◌⊎◌, ℕ, ◌<◌, ◌≤◌, ◌^◌, List, ◌++◌, length, map, take, drop, codes, All, Any, Option, Some, None, Result, Ok, Err}
+-- What a reply says to who asked for a file (RFC 9112, sections 2 to 6; RFC 9110, sections 5.1,
+-- 8.4, 8.6, 15).
+use Rattle.std.specs.Prelude.{◌≡◌, ◌≢◌, ◌⊎◌, ℕ, ◌<◌, ◌≤◌, ◌^◌, List, ◌++◌, length, map, take, drop}
+use Rattle.std.specs.Prelude.{codes, All, Any, Option, Some, None, Result, Ok, Err}
 use Rattle.std.specs.Char.{to_ascii_lowercase}
 use Rattle.std.specs.Str.Parse.{IsNumeral, digits_value}
 use Rattle.httparse.specs.Grammar.{ResponseHead, ReadsResponse, status_code}
 use Rattle.httparse.specs.Spans.{name_and_value}
 use Rattle.mirror_http.specs.declared.limits.TheConstants.{MAX_FIELDS, MAX_HEAD_LEN}
 use Rattle.mirror_http.specs.declared.fault.ReplyFault.{ReplyFault}
-use Rattle.mirror_http.specs.declared.fault.ReplyFault.TheVariants.{BadReply, OtherStatus, CodedReply, BodyShort, BodyLong}
+use Rattle.mirror_http.specs.declared.fault.ReplyFault.TheVariants.{BadReply, OtherStatus}
+use Rattle.mirror_http.specs.declared.fault.ReplyFault.TheVariants.{CodedReply, BodyShort, BodyLong}
 
 -- ---- fields
 
@@ -24,7 +27,8 @@ IsAnyCase text word = map to_ascii_lowercase text ≡ map to_ascii_lowercase wor
 
 -- the name of a field that names a coding of the body
 abbrev pub NamesCoding : List ℕ → Type 0
-NamesCoding name = IsAnyCase name (codes "transfer-encoding") ⊎ IsAnyCase name (codes "content-encoding")
+NamesCoding name =
+    IsAnyCase name (codes "transfer-encoding") ⊎ IsAnyCase name (codes "content-encoding")
 
 -- a field that says that the body is in a coding
 pub record IsCoding (field : Field) : Type 0 where
@@ -82,15 +86,21 @@ IsNotFound status = (status ≡ 404) ⊎ (status ≡ 410)
 -- what each answer says of a head's status and fields and of the bytes that follow the head
 abbrev pub SaysOfBody : ℕ → List Field → List ℕ → Result (Option (List ℕ)) ReplyFault → Type 0
 SaysOfBody status fields rest (Ok None) = IsNotFound status
-SaysOfBody status fields rest (Ok (Some body)) = IsPlain status fields × (body ≡ rest) × (GivesNoLength fields ⊎ GivesLength fields (length rest))
-SaysOfBody status fields rest (Err (OtherStatus code)) = (code ≡ status) × (IsNotFound status → ⊥) × (status ≢ 200)
+SaysOfBody status fields rest (Ok (Some body)) =
+    IsPlain status fields × (body ≡ rest)
+    × (GivesNoLength fields ⊎ GivesLength fields (length rest))
+SaysOfBody status fields rest (Err (OtherStatus code)) =
+    (code ≡ status) × (IsNotFound status → ⊥) × (status ≢ 200)
 SaysOfBody status fields rest (Err CodedReply) = (status ≡ 200) × Any IsCoding fields
 SaysOfBody status fields rest (Err BadReply) = IsPlain status fields × HasUnclearLength fields
-SaysOfBody status fields rest (Err BodyShort) = IsPlain status fields × (n : ℕ) × GivesLength fields n × (length rest < n)
-SaysOfBody status fields rest (Err BodyLong) = IsPlain status fields × (n : ℕ) × GivesLength fields n × (n < length rest)
+SaysOfBody status fields rest (Err BodyShort) =
+    IsPlain status fields × (n : ℕ) × GivesLength fields n × (length rest < n)
+SaysOfBody status fields rest (Err BodyLong) =
+    IsPlain status fields × (n : ℕ) × GivesLength fields n × (n < length rest)
 
 -- what each answer of a reader of replies says of the bytes: a reply without a head is a bad one
 abbrev pub ReadsReply : List ℕ → Result (Option (List ℕ)) ReplyFault → Type 0
 ReadsReply bytes answer =
-    ((h : ResponseHead) × (rest : List ℕ) × HasReply bytes h rest × SaysOfBody (status_code h) (fields_of h) rest answer)
+    ((h : ResponseHead) × (rest : List ℕ) × HasReply bytes h rest
+    × SaysOfBody (status_code h) (fields_of h) rest answer)
     ⊎ (((h : ResponseHead) (rest : List ℕ) → HasReply bytes h rest → ⊥) × (answer ≡ Err BadReply))

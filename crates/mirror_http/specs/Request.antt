@@ -26,7 +26,8 @@ field_line line = line ++ line_end
 -- the fields that follow, and the empty line: the file as it is, on a connection of its own
 abbrev pub fields_after_host : List ℕ
 fields_after_host =
-    field_line (codes "Accept-Encoding: identity") ++ (field_line (codes "Connection: close") ++ line_end)
+    field_line (codes "Accept-Encoding: identity")
+    ++ (field_line (codes "Connection: close") ++ line_end)
 
 -- the request: its line, its fields, and an empty line
 abbrev pub request_text : Place → Path → List ℕ

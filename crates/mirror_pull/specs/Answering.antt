@@ -35,6 +35,7 @@ refused_of_fault take.BundleLong = Ok true
 refused_of_fault take.Collision = Err pull.Collision
 refused_of_fault take.OutOfMemory = Err pull.OutOfMemory
 
+-- whether an answer to a tile or a bundle says that it was refused for what it is
 abbrev pub refused_of : {T : Type 0} → Result T TakeFault → Result Bool PullFault
 refused_of (Ok x) = Ok false
 refused_of (Err f) = refused_of_fault f

@@ -26,10 +26,12 @@ pub record AddsTo (before after : List Path) (old new : Option (List Path)) : Ty
   pub list : after ≡ before ++ more
   pub adds : Adds before old new more
 
+-- a part of a pull asked for some paths, none of them twice
 pub record AddsSome (before : List Path) (old new : Option (List Path)) : Type 0 where
   pub more : List Path
   pub adds : Adds before old new more
 
+-- what a part of a pull asked for, by its answer
 abbrev pub AsksPaths : {T : Type 0} → List Path → List Path → Option (List Path) →
     Option (List Path) → Result T PullFault → Type 0
 AsksPaths before after old new (Ok x) = AddsTo before after old new
@@ -49,7 +51,7 @@ Counts old new (Err OutOfMemory) = new ≡ old
 abbrev pub IsFresh : List Path → Path → Type 0
 IsFresh asked path = (before : Path) → Contains asked before → full_of before ≢ full_of path
 
--- so it is of each of these, and their places differ
+-- nothing at the places of these paths was asked for, and their places differ
 pub record AreFresh (asked paths : List Path) : Type 0 where
   pub fresh : (path : Path) → Contains paths path → IsFresh asked path
   pub apart : AllPairs (λ a b. full_of a ≢ full_of b) paths
@@ -62,7 +64,7 @@ pub data AsksEach : List Path → List Path → Type 0 where
   AsksTwo : (path : Path) {paths gets : List Path} → AsksEach paths gets →
       AsksEach (path ∷ paths) (path ∷ full_of path ∷ gets)
 
--- that is what the list of the paths asked for grew by
+-- the list of the paths asked for grew by these paths, and by full paths behind some of them
 pub record AddsEach (paths before after : List Path) : Type 0 where
   pub gets : List Path
   pub each : AsksEach paths gets

@@ -22,7 +22,7 @@ pub record KeepsHeads (digest : List ℕ → List ℕ) (old new : View) : Type 0
       Complete digest old size root before → Complete digest new size root after → before ≡ after
   pub forks : (a b : Point) → IsFork digest old a b → IsFork digest new a b
 
--- so it is after any pull, whatever it answers
+-- after any pull, whatever it answers, complete heads and forks stay
 abbrev pub PullsKeepHeads : Type 0
 PullsKeepHeads =
     (digest : List ℕ → List ℕ) (keys : List Key) (old new : View)

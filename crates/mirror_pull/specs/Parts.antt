@@ -60,7 +60,7 @@ module _ (digest : List ℕ → List ℕ) (entries : List (List ℕ)) where
     pub bytes_are : bytes ≡ true_bytes digest entries path
     pub gets : GetsAll (length entries) (path ∷ []) before after
 
-  -- so it is of several
+  -- the tiles that were got for several paths of the edge: their true bytes
   pub record AreTrueRows (paths before after : List Path) (rows : List (List ℕ)) : Type 0 where
     pub rows_are : rows ≡ map (true_bytes digest entries) paths
     pub gets : GetsAll (length entries) paths before after

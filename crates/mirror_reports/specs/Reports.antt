@@ -24,7 +24,7 @@ use Rattle.mirror_reports.specs.declared.reports.Report.{Report}
 abbrev pub printed : Report → List ℕ
 printed report = string_bytes report.text
 
--- 0 where there is nothing to tell, 3 where there is
+-- the exit status of a text that tells something or nothing: 0 for no bytes, 3 for some
 abbrev pub TellsNothing : List ℕ → ℕ → Type 0
 TellsNothing text status = ((text ≡ []) × (status ≡ 0)) ⊎ ((text ≢ []) × (status ≡ 3))
 
@@ -37,34 +37,35 @@ of_proof proving.Backwards = Backwards
 of_proof proving.OutOfMemory = OutOfMemory
 
 module _ (digest : List ℕ → List ℕ) (v : View) where
-  -- 0 where something is served, 3 where nothing is
+  -- the exit status of `status`: 0 where something is served, 3 where nothing is
   abbrev pub TellsServed : ℕ → Type 0
   TellsServed status =
       ((point : Point) × SaysServed digest v (Some point) × (status ≡ 0))
       ⊎ (SaysServed digest v None × (status ≡ 3))
 
-  -- `status`
+  -- the report of `status`
   pub record TellsStatus (report : Report) : Type 0 where
     pub text : IsStatusText digest v (printed report)
     pub status : TellsServed report.status
 
-  -- `forks`
+  -- the report of `forks`
   pub record TellsForks (report : Report) : Type 0 where
     pub text : IsForksText digest v (printed report)
     pub status : TellsNothing (printed report) report.status
 
-  -- `missing`, of a head
+  -- the report of `missing`, of a head
   pub record TellsMissing (size : ℕ) (root : List ℕ) (report : Report) : Type 0 where
     pub text : IsMissingText digest v size root (printed report)
     pub status : TellsNothing (printed report) report.status
 
+  -- what each answer to `missing` says
   abbrev pub ReportsMissing : ℕ → List ℕ → Result Report ReportFault → Type 0
   ReportsMissing size root (Ok report) = TellsMissing size root report
   ReportsMissing size root (Err NoSuchHead) = HasHead v size root → ⊥
   ReportsMissing size root (Err OutOfMemory) = Unit {0}
   ReportsMissing size root (Err other) = ⊥
 
-  -- `prove`: the text of the proof of the entries that are served
+  -- the report of `prove`: the text of the proof of the entries that are served
   pub record TellsProof (ask : Ask) (report : Report) : Type 0 where
     pub entries : List (List ℕ)
     pub served : IsServedList digest v entries
@@ -81,6 +82,7 @@ module _ (digest : List ℕ → List ℕ) (v : View) where
     pub refused : asked_proof digest entries ask ≡ Err refusal
     pub fault_is : fault ≡ of_proof refusal
 
+  -- what each answer to `prove` says
   abbrev pub ReportsProof : Ask → Result Report ReportFault → Type 0
   ReportsProof ask (Ok report) = TellsProof ask report
   ReportsProof ask (Err NothingComplete) = SaysServed digest v None

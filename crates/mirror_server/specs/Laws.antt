@@ -14,13 +14,15 @@ TargetsNameOne = (target : List ℕ) (a b : Resource) → Names target a → Nam
 -- a lawful view has one reply at most to the bytes that a client gives
 abbrev pub ResponseIsOne : Type 0
 ResponseIsOne =
-    (digest : List ℕ → List ℕ) → IsDigest digest → (v : View) → IsLawful digest v → (bytes first second : List ℕ) →
+    (digest : List ℕ → List ℕ) → IsDigest digest → (v : View) → IsLawful digest v →
+    (bytes first second : List ℕ) →
     Response digest v bytes first → Response digest v bytes second → first ≡ second
 
--- and any view has one at least: that there is none is absurd
+-- any view has one reply at least to the bytes that a client gives: that there is none is absurd
 abbrev pub ResponseIsThere : Type 0
 ResponseIsThere =
-    (digest : List ℕ → List ℕ) (v : View) (bytes : List ℕ) → ((reply : List ℕ) → Response digest v bytes reply → ⊥) → ⊥
+    (digest : List ℕ → List ℕ) (v : View) (bytes : List ℕ) →
+    ((reply : List ℕ) → Response digest v bytes reply → ⊥) → ⊥
 
 -- views that are equal have equal replies to equal bytes
 abbrev pub EqualViewsReplyAlike : Type 0

@@ -35,7 +35,8 @@ abbrev pub SeesIn : List ℕ → List ℕ → Seen → Type 0
 SeesIn all buf Nothing = all ≡ []
 SeesIn all buf NoHead = (first : ℕ) × (others : List ℕ) × (all ≡ first ∷ others) × LacksRequest all
 SeesIn all buf (Head method target) =
-    (h : RequestHead) × HasRequest all h × (span_bytes buf method ≡ h.method) × (span_bytes buf target ≡ h.target)
+    (h : RequestHead) × HasRequest all h × (span_bytes buf method ≡ h.method)
+    × (span_bytes buf target ≡ h.target)
 
 -- what is named lies in the first len bytes
 abbrev pub LiesWithin : ℕ → Seen → Type 0
@@ -43,7 +44,7 @@ LiesWithin len Nothing = Unit {0}
 LiesWithin len NoHead = Unit {0}
 LiesWithin len (Head method target) = IsWithin len method × IsWithin len target
 
--- some bytes more were read
+-- one read brought some bytes more
 pub record ReadsMore (known cur : Option (List ℕ)) (old new : List ℕ) : Type 0 where
   pub bytes : List ℕ
   pub some : 0 < length bytes
@@ -51,13 +52,13 @@ pub record ReadsMore (known cur : Option (List ℕ)) (old new : List ℕ) : Type
   pub consumes : Consumes known cur bytes
   pub within : length new ≤ MAX_HEAD_LEN
 
--- none were read, and none are left
+-- one read brought no bytes, and none are left
 pub record ReadsEnd (known cur : Option (List ℕ)) (old new : List ℕ) : Type 0 where
   pub same : new ≡ old
   pub consumes : Consumes known cur []
   pub at_end : IsAtEnd cur
 
--- none were read
+-- one read brought no bytes, and what is left is as it was
 pub record ReadsNone (known cur : Option (List ℕ)) (old new : List ℕ) : Type 0 where
   pub same : new ≡ old
   pub keeps : Keeps known cur

@@ -1,5 +1,6 @@
--- What may be asked for, and how the target of a request names it (RFC 9110, section 3.1; RFC 9112, section 3.2.1; C2SP
--- tlog-tiles, "Parameters"). Targets are compared byte for byte: nothing is decoded. What stands below `/mirror/` is own.
+-- What may be asked for, and how the target of a request names it (RFC 9110, section 3.1; RFC 9112,
+-- section 3.2.1; C2SP tlog-tiles, "Parameters"). Targets are compared byte for byte: nothing is
+-- decoded. What stands below `/mirror/` is own.
 use Rattle.std.specs.Prelude.{◌≡◌, ℕ, ◌≤◌, List, ◌++◌, codes}
 use Rattle.hex.specs.Hex.{encode_lower}
 use Rattle.tlog_shape.specs.declared.TheConstants.{MAX_SIZE}
@@ -9,7 +10,8 @@ use Rattle.tlog_tiles.specs.Path.{IsPath}
 use Rattle.tlog_tiles.specs.declared.paths.Path.{Path}
 use Rattle.tlog_proof.specs.declared.proof.Ask.TheVariants as ask
 use Rattle.mirror_server.specs.declared.resource.Resource.{Resource}
-use Rattle.mirror_server.specs.declared.resource.Resource.TheVariants.{File, Status, Forks, Missing, Proof}
+use Rattle.mirror_server.specs.declared.resource.Resource.TheVariants.{File, Status, Forks, Missing}
+use Rattle.mirror_server.specs.declared.resource.Resource.TheVariants.{Proof}
 
 -- the text is a number: decimal, without leading zeros, and at most 9223372036854775807
 pub record IsNumber (text : List ℕ) (n : ℕ) : Type 0 where
@@ -25,7 +27,7 @@ pub record IsHexHash (text hash : List ℕ) : Type 0 where
 abbrev pub HasTwo : List ℕ → List ℕ → List ℕ → List ℕ → Type 0
 HasTwo front target first second = target ≡ front ++ (first ++ (codes "/" ++ second))
 
--- a front, and two numbers
+-- the target is a front, a number, a slash and another number
 pub record NamesNumbers (front target : List ℕ) (m n : ℕ) : Type 0 where
   pub first : List ℕ
   pub second : List ℕ
@@ -33,7 +35,7 @@ pub record NamesNumbers (front target : List ℕ) (m n : ℕ) : Type 0 where
   pub first_is : IsNumber first m
   pub second_is : IsNumber second n
 
--- a front, a size and a root
+-- the target is a front, a size, a slash and a root
 pub record NamesHead (front target : List ℕ) (size : ℕ) (root : List ℕ) : Type 0 where
   pub first : List ℕ
   pub second : List ℕ
@@ -41,7 +43,7 @@ pub record NamesHead (front target : List ℕ) (size : ℕ) (root : List ℕ) : 
   pub size_is : IsNumber first size
   pub root_is : IsHexHash second root
 
--- a slash, and the path of a file
+-- the target is a slash and the path of a file
 pub record NamesFile (target : List ℕ) (path : Path) : Type 0 where
   pub name : List ℕ
   pub target_is : target ≡ codes "/" ++ name
@@ -53,5 +55,7 @@ Names target (File path) = NamesFile target path
 Names target Status = target ≡ codes "/mirror/status"
 Names target Forks = target ≡ codes "/mirror/forks"
 Names target (Missing size root) = NamesHead (codes "/mirror/missing/") target size root
-Names target (Proof (ask.Inclusion size index)) = NamesNumbers (codes "/mirror/inclusion/") target size index
-Names target (Proof (ask.Consistency first second)) = NamesNumbers (codes "/mirror/consistency/") target first second
+Names target (Proof (ask.Inclusion size index)) =
+    NamesNumbers (codes "/mirror/inclusion/") target size index
+Names target (Proof (ask.Consistency first second)) =
+    NamesNumbers (codes "/mirror/consistency/") target first second

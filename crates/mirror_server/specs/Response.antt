@@ -1,5 +1,6 @@
--- What a mirror answers to the bytes that a client gives: the reply to their first request, as a relation between a view, all
--- these bytes, and the reply (RFC 9112, sections 2 to 6; RFC 9110, sections 9.3.1, 10.2.1 and 15; C2SP tlog-tiles).
+-- What a mirror answers to the bytes that a client gives: the reply to their first request, as a
+-- relation between a view, all these bytes, and the reply (RFC 9112, sections 2 to 6; RFC 9110,
+-- sections 9.3.1, 10.2.1 and 15; C2SP tlog-tiles).
 use Rattle.std.specs.Prelude.{◌≡◌, ◌≢◌, ℕ, ◌≤◌, List, [], ◌∷◌, ◌++◌, length, take, codes, Ok}
 use Rattle.std.specs.Fmt.{decimal}
 use Rattle.httparse.specs.Grammar.{RequestHead, ReadsRequest}
@@ -14,7 +15,8 @@ use Rattle.mirror_model.specs.Texts.{IsStatusText, IsForksText, IsMissingText}
 use Rattle.mirror_server.specs.Resource.{Names}
 use Rattle.mirror_server.specs.declared.limits.TheConstants.{MAX_FIELDS, MAX_HEAD_LEN}
 use Rattle.mirror_server.specs.declared.resource.Resource.{Resource}
-use Rattle.mirror_server.specs.declared.resource.Resource.TheVariants.{File, Status, Forks, Missing, Proof}
+use Rattle.mirror_server.specs.declared.resource.Resource.TheVariants.{File, Status, Forks, Missing}
+use Rattle.mirror_server.specs.declared.resource.Resource.TheVariants.{Proof}
 
 -- ---- the request
 
@@ -24,28 +26,35 @@ pub record HasRequest (bytes : List ℕ) (h : RequestHead) : Type 0 where
   pub reads : ReadsRequest (take MAX_HEAD_LEN bytes) h rest
   pub few : length h.fields ≤ MAX_FIELDS
 
--- there is no such head
+-- the bytes do not begin with such a head
 abbrev pub LacksRequest : List ℕ → Type 0
 LacksRequest bytes = (h : RequestHead) → HasRequest bytes h → ⊥
 
 -- ---- replies
 
+-- the reply to bytes that do not begin with a head
 abbrev pub bad_request : List ℕ
 bad_request = codes "HTTP/1.1 400 Bad Request\r\nContent-Length: 0\r\nConnection: close\r\n\r\n"
 
+-- the reply to a target that names nothing that is served
 abbrev pub not_found : List ℕ
 not_found = codes "HTTP/1.1 404 Not Found\r\nContent-Length: 0\r\nConnection: close\r\n\r\n"
 
+-- the reply to a method other than GET
 abbrev pub not_allowed : List ℕ
-not_allowed = codes "HTTP/1.1 405 Method Not Allowed\r\nAllow: GET\r\nContent-Length: 0\r\nConnection: close\r\n\r\n"
+not_allowed =
+    codes "HTTP/1.1 405 Method Not Allowed\r\nAllow: GET\r\nContent-Length: 0\r\nConnection: close\r\n\r\n"
 
+-- the type of a text
 abbrev pub plain_text : List ℕ
 plain_text = codes "text/plain; charset=utf-8"
 
+-- the type of bytes
 abbrev pub octets : List ℕ
 octets = codes "application/octet-stream"
 
--- the kind of a body: a checkpoint and what a mirror tells of itself are text, tiles and bundles are bytes
+-- the kind of a body: a checkpoint and what a mirror tells of itself are text, tiles and bundles
+-- are bytes
 abbrev pub media_type : Resource → List ℕ
 media_type (File path.Checkpoint) = plain_text
 media_type (File (path.Tile level index width)) = octets
@@ -58,8 +67,11 @@ media_type (Proof ask) = plain_text
 -- the head of a reply with a body of that kind and length
 abbrev pub found_head : List ℕ → ℕ → List ℕ
 found_head kind len =
-    codes "HTTP/1.1 200 OK\r\nContent-Type: " ++ (kind ++ (codes "\r\nContent-Length: " ++ (decimal len ++ codes "\r\nConnection: close\r\n\r\n")))
+    codes "HTTP/1.1 200 OK\r\nContent-Type: "
+    ++ (kind
+    ++ (codes "\r\nContent-Length: " ++ (decimal len ++ codes "\r\nConnection: close\r\n\r\n")))
 
+-- a reply with a body of that kind
 abbrev pub found : List ℕ → List ℕ → List ℕ
 found kind body = found_head kind (length body) ++ body
 
@@ -91,11 +103,16 @@ module _ (digest : List ℕ → List ℕ) (v : View) where
 -- the reply to a request
 pub data IsReplyTo (digest : List ℕ → List ℕ) (v : View) (h : RequestHead) : List ℕ → Type 0 where
   other_method : h.method ≢ codes "GET" → IsReplyTo digest v h not_allowed
-  not_there : h.method ≡ codes "GET" → ((reply : List ℕ) → IsFound digest v h.target reply → ⊥) → IsReplyTo digest v h not_found
-  is_there : {reply : List ℕ} → h.method ≡ codes "GET" → IsFound digest v h.target reply → IsReplyTo digest v h reply
+  not_there : h.method ≡ codes "GET" → ((reply : List ℕ) → IsFound digest v h.target reply → ⊥) →
+      IsReplyTo digest v h not_found
+  is_there : {reply : List ℕ} → h.method ≡ codes "GET" → IsFound digest v h.target reply →
+      IsReplyTo digest v h reply
 
--- Response(V, bytes): nothing where a client gives no byte, else the reply to the first request that it gives
+-- Response(V, bytes): nothing where a client gives no byte, else the reply to the first request
+-- that it gives
 pub data Response (digest : List ℕ → List ℕ) (v : View) : List ℕ → List ℕ → Type 0 where
   silent : Response digest v [] []
-  refused : {first : ℕ} {bytes : List ℕ} → LacksRequest (first ∷ bytes) → Response digest v (first ∷ bytes) bad_request
-  replied : {bytes reply : List ℕ} {h : RequestHead} → HasRequest bytes h → IsReplyTo digest v h reply → Response digest v bytes reply
+  refused : {first : ℕ} {bytes : List ℕ} → LacksRequest (first ∷ bytes) →
+      Response digest v (first ∷ bytes) bad_request
+  replied : {bytes reply : List ℕ} {h : RequestHead} → HasRequest bytes h →
+      IsReplyTo digest v h reply → Response digest v bytes reply

@@ -15,7 +15,8 @@ use Rattle.mirror_folders.specs.Files.{paths_of, files_at}
 use Rattle.mirror_folders.specs.Exports.{AddsFront}
 use Rattle.mirror_folders.specs.declared.fault.ExportFault.TheVariants as export
 use Rattle.mirror_updates.specs.declared.fault.UpdateFault.{UpdateFault}
-use Rattle.mirror_updates.specs.declared.fault.UpdateFault.TheVariants.{BadOrigin, Export, OutOfMemory}
+use Rattle.mirror_updates.specs.declared.fault.UpdateFault.TheVariants.{BadOrigin, Export}
+use Rattle.mirror_updates.specs.declared.fault.UpdateFault.TheVariants.{OutOfMemory}
 
 -- no shelf was asked for anything
 abbrev pub IsUnexported : {T : Type 0} → Result T UpdateFault → Type 0
@@ -56,7 +57,8 @@ module _ (digest : List ℕ → List ℕ) where
     FillsMirror (Err fault) = ⊥
 
     -- what building the log puts onto a shelf: at Ok all its files, onto one that had no checkpoint
-    abbrev pub BuildsLog : {T : Type 0} → Option (List Put) → Option (List Put) → Result T UpdateFault → Type 0
+    abbrev pub BuildsLog : {T : Type 0} → Option (List Put) → Option (List Put) →
+        Result T UpdateFault → Type 0
     BuildsLog old new (Ok x) =
         (files : List Put) × AreLogFiles files × TellsNone old Checkpoint × AddsTold old new files
     BuildsLog old new (Err BadOrigin) = (IsOrigin origin → ⊥) × KeepsTold old new

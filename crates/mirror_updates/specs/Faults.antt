@@ -10,7 +10,8 @@ use Rattle.mirror_pull.specs.declared.fault.PullFault.TheVariants as pull
 use Rattle.mirror_folders.specs.declared.fault.ExportFault.{ExportFault}
 use Rattle.mirror_folders.specs.declared.fault.ExportFault.TheVariants as export
 use Rattle.mirror_updates.specs.declared.fault.UpdateFault.{UpdateFault}
-use Rattle.mirror_updates.specs.declared.fault.UpdateFault.TheVariants.{BadOrigin, Load, Merge, Pull, Export, OutOfMemory}
+use Rattle.mirror_updates.specs.declared.fault.UpdateFault.TheVariants.{BadOrigin, Load, Merge}
+use Rattle.mirror_updates.specs.declared.fault.UpdateFault.TheVariants.{Pull, Export, OutOfMemory}
 
 abbrev pub of_new : NewFault → UpdateFault
 of_new new.BadOrigin = BadOrigin

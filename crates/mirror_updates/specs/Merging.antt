@@ -7,9 +7,11 @@ use Rattle.mirror_model.specs.Steps.{Done, Clashed, Merges}
 use Rattle.mirror_model.specs.declared.fault.MergeFault.TheVariants as merge
 use Rattle.mirror_updates.specs.Opening.{LoadsState}
 use Rattle.mirror_updates.specs.declared.fault.UpdateFault.{UpdateFault}
-use Rattle.mirror_updates.specs.declared.fault.UpdateFault.TheVariants.{BadOrigin, Load, Merge, OutOfMemory}
+use Rattle.mirror_updates.specs.declared.fault.UpdateFault.TheVariants.{BadOrigin, Load, Merge}
+use Rattle.mirror_updates.specs.declared.fault.UpdateFault.TheVariants.{OutOfMemory}
 
-module _ (digest : List ℕ → List ℕ) (origin : List ℕ) (keys : List Key) (first second : List ℕ) where
+module _ (digest : List ℕ → List ℕ) (origin : List ℕ) (keys : List Key)
+(first second : List ℕ) where
   -- both states are loaded
   pub record LoadsBoth (v w : View) : Type 0 where
     pub first_is : LoadsState digest origin keys first (Ok v)

@@ -6,7 +6,8 @@ use Rattle.mirror_model.specs.View.{View, nothing}
 use Rattle.mirror_files.specs.Loading.{Loads}
 use Rattle.mirror_files.specs.declared.fault.LoadFault.TheVariants as load
 use Rattle.mirror_updates.specs.declared.fault.UpdateFault.{UpdateFault}
-use Rattle.mirror_updates.specs.declared.fault.UpdateFault.TheVariants.{BadOrigin, Load, OutOfMemory}
+use Rattle.mirror_updates.specs.declared.fault.UpdateFault.TheVariants.{BadOrigin, Load}
+use Rattle.mirror_updates.specs.declared.fault.UpdateFault.TheVariants.{OutOfMemory}
 
 -- whether a mirror may be of an origin
 abbrev pub ChecksOrigin : {T : Type 0} → List ℕ → Result T UpdateFault → Type 0

@@ -1,5 +1,6 @@
 -- What a pull into a mirror comes to, and what is told of it.
-use Rattle.std.specs.Prelude.{◌≡◌, ◌≢◌, ℕ, List, ◌++◌, codes, Option, Result, Ok, Err, Bool, true, false}
+use Rattle.std.specs.Prelude.{◌≡◌, ◌≢◌, ℕ, List, ◌++◌, codes, Option, Result, Ok, Err, Bool, true}
+use Rattle.std.specs.Prelude.{false}
 use Rattle.std.specs.Fmt.{decimal}
 use Rattle.tlog_text.specs.Hash.{base64_of}
 use Rattle.tlog_tiles.specs.declared.paths.Path.{Path}
@@ -12,7 +13,8 @@ use Rattle.mirror_pull.specs.declared.fault.PullFault.{PullFault}
 use Rattle.mirror_pull.specs.declared.fault.PullFault.TheVariants as pull
 use Rattle.mirror_updates.specs.Opening.{KnowsState, OpensMirror}
 use Rattle.mirror_updates.specs.declared.fault.UpdateFault.{UpdateFault}
-use Rattle.mirror_updates.specs.declared.fault.UpdateFault.TheVariants.{BadOrigin, Load, Pull, OutOfMemory}
+use Rattle.mirror_updates.specs.declared.fault.UpdateFault.TheVariants.{BadOrigin, Load, Pull}
+use Rattle.mirror_updates.specs.declared.fault.UpdateFault.TheVariants.{OutOfMemory}
 
 module _ (digest : List ℕ → List ℕ) (origin : List ℕ) (keys : List Key)
     (state : Option (Option (List ℕ))) (may : Path → Option (List ℕ) → Type 0)

@@ -1,4 +1,5 @@
--- The edge of a head (C2SP tlog-tiles, "Merkle Tree"): rows of hashes that lead to its root, all of whose joins are held.
+-- The edge of a head (C2SP tlog-tiles, "Merkle Tree"): rows of hashes that lead to its root, all of
+-- whose joins are held.
 use Rattle.std.specs.Prelude.{◌≡◌, ℕ, ◌+◌, ◌-◌, List, [], ◌∷◌, ◌++◌, length, map}
 use Rattle.std.specs.List.{AllByRecursion}
 use Rattle.tlog_hash.specs.Tree.{fold_of, joins}
@@ -8,8 +9,8 @@ use Rattle.mirror_model.specs.Item.{row_of, HasEdgeRows}
 use Rattle.mirror_model.proofs.EdgeWalks.{Fit}
 
 module _ (digest : List ℕ → List ℕ) (held : Strings) where
-  -- some rows, lowest level first, are as wide as the edge of that size and lead to that root, and all that is hashed
-  -- on the way is held
+  -- some rows, lowest level first, are as wide as the edge of that size and lead to that root, and
+  -- all that is hashed on the way is held
   pub record HoldsEdge (size : ℕ) (root : List ℕ) : Type 0 where
     pub rows : List (List ℕ)
     pub has_edge : HasEdgeRows digest size root rows
@@ -25,7 +26,8 @@ module _ (digest : List ℕ → List ℕ) (held : Strings) where
     pub fold_is : fold_of digest (front ++ last ∷ []) ≡ hash
     pub are_held : HasAll held (joins digest (front ++ last ∷ []))
 
-  -- rows of the edge of that size, from a level up, lead from the value to the root, and what is hashed is held
+  -- rows of the edge of that size, from a level up, lead from the value to the root, and what is
+  -- hashed is held
   pub record LeadsUp (size level : ℕ) (root value : List ℕ) : Type 0 where
     pub rows : List (List (List ℕ))
     pub fit : Fit size (8 - level) level rows

@@ -16,4 +16,5 @@ pub record AreBuilt (digest : List ℕ → List ℕ) (held : Strings) (points : 
 -- what a sound mirror remembers is held whole
 abbrev pub SoundIsBuilt : Type 0
 SoundIsBuilt =
-    (digest : List ℕ → List ℕ) (state : State) → IsSound digest state → AreBuilt digest state.view.strings state.remembered
+    (digest : List ℕ → List ℕ) (state : State) → IsSound digest state →
+    AreBuilt digest state.view.strings state.remembered

@@ -6,9 +6,10 @@ use Rattle.tlog_tiles.specs.declared.paths.Path.{Path}
 use Rattle.mirror_model.specs.Front.{IsPathOf}
 use Rattle.mirror_model.specs.Walk.{WalkFails}
 
--- in a tree of that many entries in all, the path is that of a node where the walk from the hash of `size` entries,
--- the first of which has the number start, fails
-pub record IsLost (digest : List ℕ → List ℕ) (held : Strings) (total start size : ℕ) (hash : List ℕ) (path : Path) : Type 0 where
+-- in a tree of that many entries in all, the path is that of a node where the walk from the hash of
+-- `size` entries, the first of which has the number start, fails
+pub record IsLost (digest : List ℕ → List ℕ) (held : Strings) (total start size : ℕ) (hash : List ℕ)
+    (path : Path) : Type 0 where
   pub at : ℕ
   pub many : ℕ
   pub fails : WalkFails digest held (shape size) start hash at many

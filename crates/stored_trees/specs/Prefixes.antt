@@ -11,11 +11,12 @@ PrefixOfPrefix =
     (first second third : List (List ℕ)) → IsPrefix second third → length first ≤ length second →
     IsPrefix first third ↔ IsPrefix first second
 
--- of complete heads by rising size: where the second's list begins the third's, the third is a fork of the first
--- exactly where the second is
+-- of complete heads by rising size: where the second's list begins the third's, the third is a fork
+-- of the first exactly where the second is
 abbrev pub ForksGoOn : Type 0
 ForksGoOn =
-    (digest : List ℕ → List ℕ) → IsDigest digest → (v : View) → IsLawful digest v → (a b c : Point) →
+    (digest : List ℕ → List ℕ) → IsDigest digest → (v : View) → IsLawful digest v →
+    (a b c : Point) →
     (first second third : List (List ℕ)) →
     Complete digest v a.size a.root first →
     Complete digest v b.size b.root second →

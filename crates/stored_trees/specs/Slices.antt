@@ -18,8 +18,8 @@ abbrev pub HasMark : Points → Point → Type 0
 HasMark points point = IsTrue (contains points point)
 
 module _ (digest : List ℕ → List ℕ) (held : Strings) where
-  -- the number of entries and the tree hash of a slice that the recursion of MTH (RFC 6962, section 2.1) meets on
-  -- a list of that size and root of which the tree is held, the whole list among them
+  -- the number of entries and the tree hash of a slice that the recursion of MTH (RFC 6962, section
+  -- 2.1) meets on a list of that size and root of which the tree is held, the whole list among them
   pub record IsSliceOf (size : ℕ) (root : List ℕ) (point : Point) : Type 0 where
     pub entries : List (List ℕ)
     pub tree : IsTreeOf digest held size root entries
@@ -32,7 +32,8 @@ module _ (digest : List ℕ → List ℕ) (held : Strings) where
   abbrev pub HasSlices : Points → ℕ → List ℕ → Type 0
   HasSlices points size root = (point : Point) → IsSliceOf size root point → HasMark points point
 
-  -- each size and root of the set is that of a tree that is held, and all its slices are in the set too
+  -- each size and root of the set is that of a tree that is held, and all its slices are in the set
+  -- too
   pub record AreSettled (points : Points) : Type 0 where
     pub known : AreBuilt digest held points
     pub closed : (size : ℕ) (root : List ℕ) → HasPoint points size root → HasSlices points size root
@@ -40,7 +41,8 @@ module _ (digest : List ℕ → List ℕ) (held : Strings) where
   -- what is remembered on the way of the tree of that size and root
   pub record Gains (size : ℕ) (root : List ℕ) (old new : Points) : Type 0 where
     pub at_least : (point : Point) → HasMark old point → HasMark new point
-    pub at_most : (point : Point) → HasMark new point → HasMark old point ⊎ IsSliceOf size root point
+    pub at_most : (point : Point) → HasMark new point →
+        HasMark old point ⊎ IsSliceOf size root point
     pub settled : AreSettled new
 
 -- more is held, and it does not clash: what was settled stays so

@@ -11,15 +11,26 @@ use Rattle.mirror_model.specs.declared.fault.TakeFault.TheVariants as taking
 
 -- the view with these strings too
 abbrev pub with_strings : View → Strings → View
-with_strings v strings = record { origin = v.origin; notes = v.notes; strings = set.union v.strings strings }
+with_strings v strings =
+    record { origin = v.origin; notes = v.notes; strings = set.union v.strings strings }
 
 -- the view with that note too
 abbrev pub with_note : View → List ℕ → View
-with_note v note = record { origin = v.origin; notes = set.union v.notes (set.from_list (note ∷ [])); strings = v.strings }
+with_note v note =
+    record {
+      origin = v.origin;
+      notes = set.union v.notes (set.from_list (note ∷ []));
+      strings = v.strings;
+    }
 
 -- the view with these notes too
 abbrev pub with_notes : View → List (List ℕ) → View
-with_notes v notes = record { origin = v.origin; notes = set.union v.notes (set.from_list notes); strings = v.strings }
+with_notes v notes =
+    record {
+      origin = v.origin;
+      notes = set.union v.notes (set.from_list notes);
+      strings = v.strings;
+    }
 
 -- what an answer of adding strings is to the views
 abbrev pub added : Result (Unit {0}) AddFault → Answer

@@ -1,6 +1,7 @@
--- Which of the kept notes is served: of those whose head is complete the one of the greatest size, then of the least
--- root, then the least by bytes.
-use Rattle.std.specs.Prelude.{◌≡◌, ℕ, ◌<◌, List, length, slice_index_or, Option, Some, None, false, IsTrue, ◌↔◌}
+-- Which of the kept notes is served: of those whose head is complete the one of the greatest size,
+-- then of the least root, then the least by bytes.
+use Rattle.std.specs.Prelude.{◌≡◌, ℕ, ◌<◌, List, length, slice_index_or, Option, Some, None, false}
+use Rattle.std.specs.Prelude.{IsTrue, ◌↔◌}
 use Rattle.std.specs.Ordering.{nat_cmp, ordering_then, is_gt}
 use Rattle.std.specs.declared.cmp.Ordering.{Ordering}
 use Rattle.std.specs.declared.cmp.Ordering.TheVariants.{Less}
@@ -50,7 +51,8 @@ module _ (digest : List ℕ → List ℕ) (held : Strings) where
   pub record IsBest (kept : List KeptNote) (point : Point) : Type 0 where
     pub has : HasKept kept point
     pub built : IsBuiltAt point
-    pub first : (other : KeptNote) → Contains kept other → IsBuiltAt (kept_point other) → is_gt (served_cmp point (kept_point other)) ≡ false
+    pub first : (other : KeptNote) → Contains kept other → IsBuiltAt (kept_point other) →
+        is_gt (served_cmp point (kept_point other)) ≡ false
 
   abbrev pub IsBestOf : List KeptNote → Option (ℕ × List ℕ) → Type 0
   IsBestOf kept None = (other : KeptNote) → Contains kept other → IsBuiltAt (kept_point other) → ⊥
@@ -62,4 +64,5 @@ pub record IsFirstWith (kept : List KeptNote) (point : Point) (one : KeptNote) :
   pub within : at < length kept
   pub is_there : slice_index_or kept at one ≡ one
   pub is : kept_point one ≡ point
-  pub none : (k : ℕ) (other : KeptNote) → k < at → slice_index_or kept k other ≡ other → kept_point other ≡ point → ⊥
+  pub none : (k : ℕ) (other : KeptNote) → k < at → slice_index_or kept k other ≡ other →
+      kept_point other ≡ point → ⊥

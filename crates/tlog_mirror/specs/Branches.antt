@@ -1,4 +1,5 @@
--- How forks are found: complete heads by rising size and root, and what is kept of each of those before it.
+-- How forks are found: complete heads by rising size and root, and what is kept of each of those
+-- before it.
 use Rattle.std.specs.Prelude.{◌≡◌, ◌↔◌, ℕ, ◌<◌, List, length, map, take, slice_index_or}
 use Rattle.std.specs.declared.cmp.Ordering.TheVariants.{Less}
 use Rattle.std.specs.List.{Contains}
@@ -30,7 +31,8 @@ IsTwin heads fork = IsPairOf heads fork × (fork.small.0 ≡ fork.large.0)
 
 -- the head and one of those before it that has its size
 abbrev pub IsTwinOf : List (ℕ × List ℕ) → ℕ × List ℕ → Fork → Type 0
-IsTwinOf before head fork = (Contains before fork.small × (fork.large ≡ head)) × (fork.small.0 ≡ head.0)
+IsTwinOf before head fork =
+    (Contains before fork.small × (fork.large ≡ head)) × (fork.small.0 ≡ head.0)
 
 module _ (digest : List ℕ → List ℕ) (held : Strings) where
   -- both trees are held, and the entries of the first do not begin those of the second
@@ -45,11 +47,13 @@ module _ (digest : List ℕ → List ℕ) (held : Strings) where
   abbrev pub IsDeparture : List (ℕ × List ℕ) → Fork → Type 0
   IsDeparture heads fork = IsPairOf heads fork × Departs fork.small fork.large
 
-  -- the head's tree is held, it comes after these, and of them just those are listed from which it departs
+  -- the head's tree is held, it comes after these, and of them just those are listed from which it
+  -- departs
   pub record IsBranch (before : List (ℕ × List ℕ)) (branch : Branch) : Type 0 where
     pub built : IsBuilt digest held branch.head.0 branch.head.1
     pub later : (p : ℕ × List ℕ) → Contains before p → by_point p branch.head ≡ Less
-    pub exact : (p : ℕ × List ℕ) → Contains branch.apart.items p ↔ (Contains before p × Departs p branch.head)
+    pub exact : (p : ℕ × List ℕ) →
+        Contains branch.apart.items p ↔ (Contains before p × Departs p branch.head)
 
   -- each is one after those before it
   abbrev pub AreBranches : List Branch → Type 0

@@ -34,7 +34,8 @@ ReadsEdge size rows (Err (taking.Checkpoint fault)) = ⊥
 ReadsEdge size rows (Err taking.OtherOrigin) = ⊥
 ReadsEdge size rows (Err taking.NoTrustedSignature) = ⊥
 ReadsEdge size rows (Err taking.EdgeCount) = HasEdgeCount size rows → ⊥
-ReadsEdge size rows (Err taking.EdgeLength) = HasEdgeCount size rows × (HasEdgeLengths size rows → ⊥)
+ReadsEdge size rows (Err taking.EdgeLength) =
+    HasEdgeCount size rows × (HasEdgeLengths size rows → ⊥)
 ReadsEdge size rows (Err taking.EdgeMismatch) = ⊥
 ReadsEdge size rows (Err taking.RowLength) = ⊥
 ReadsEdge size rows (Err taking.BundleShort) = ⊥
@@ -43,14 +44,16 @@ ReadsEdge size rows (Err taking.Collision) = ⊥
 ReadsEdge size rows (Err taking.OutOfMemory) = Unit {0}
 
 -- they are taken where they lead to the root besides; a clash is told of such rows alone
-abbrev pub JudgesEdge : (List ℕ → List ℕ) → ℕ → List ℕ → List (List ℕ) → Result (Unit {0}) TakeFault → Type 0
+abbrev pub JudgesEdge : (List ℕ → List ℕ) → ℕ → List ℕ → List (List ℕ) →
+    Result (Unit {0}) TakeFault → Type 0
 JudgesEdge digest size root rows (Ok done) = HasEdgeRows digest size root rows
 JudgesEdge digest size root rows (Err (taking.Note fault)) = ⊥
 JudgesEdge digest size root rows (Err (taking.Checkpoint fault)) = ⊥
 JudgesEdge digest size root rows (Err taking.OtherOrigin) = ⊥
 JudgesEdge digest size root rows (Err taking.NoTrustedSignature) = ⊥
 JudgesEdge digest size root rows (Err taking.EdgeCount) = HasEdgeCount size rows → ⊥
-JudgesEdge digest size root rows (Err taking.EdgeLength) = HasEdgeCount size rows × (HasEdgeLengths size rows → ⊥)
+JudgesEdge digest size root rows (Err taking.EdgeLength) =
+    HasEdgeCount size rows × (HasEdgeLengths size rows → ⊥)
 JudgesEdge digest size root rows (Err taking.EdgeMismatch) =
     HasEdgeLengths size rows × (edge_root digest (map row_of rows) ≢ root)
 JudgesEdge digest size root rows (Err taking.RowLength) = ⊥

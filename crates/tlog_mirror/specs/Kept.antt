@@ -18,12 +18,17 @@ note_bytes kept = kept.note.bytes
 abbrev pub state_of : List ℕ → List KeptNote → Strings → Points → State
 state_of origin kept strings remembered =
     record {
-      view = record { origin = origin; notes = set.from_list (map note_bytes kept); strings = strings };
+      view =
+          record {
+            origin = origin;
+            notes = set.from_list (map note_bytes kept);
+            strings = strings;
+          };
       remembered = remembered;
     }
 
--- it is sound; of each tree that is remembered all slices are; its kept notes rise by their bytes, and each stands
--- beside the size and the root that it says
+-- it is sound; of each tree that is remembered all slices are; its kept notes rise by their bytes,
+-- and each stands beside the size and the root that it says
 pub record IsKeptWell
     (digest : List ℕ → List ℕ) (origin : List ℕ) (kept : List KeptNote) (strings : Strings)
     (remembered : Points) : Type 0 where

@@ -1,5 +1,6 @@
 -- Plays: events on mirrors, one after another.
-use Rattle.std.specs.Prelude.{◌≡◌, ℕ, zero, suc, ◌+◌, ◌<◌, List, [], ◌∷◌, map, Some, Result, Ok, Err, slice_get}
+use Rattle.std.specs.Prelude.{◌≡◌, ℕ, zero, suc, ◌+◌, ◌<◌, List, [], ◌∷◌, map, Some, Result, Ok}
+use Rattle.std.specs.Prelude.{Err, slice_get}
 use Rattle.std.specs.FinSet as set
 use Rattle.signed_note.specs.Keys.{Key}
 use Rattle.mirror_model.specs.View.{View}
@@ -56,10 +57,14 @@ module _ (digest : List ℕ → List ℕ) (keys : List Key) where
   -- the event happens that many times, and each time memory is refused
   abbrev pub RunsOut : ℕ → List View → Event → List View → Type 0
   RunsOut zero old event new = new ≡ old
-  RunsOut (suc times) old event new = (between : List View) × RunsOut times old event between × Happens digest keys between event Exhausted new
+  RunsOut (suc times) old event new =
+      (between : List View) × RunsOut times old event between
+      × Happens digest keys between event Exhausted new
 
-  -- an event happens until it is not for want of memory that it fails, that many times at most; its last answer is this
-  pub record HappensWithin (tries : ℕ) (old : List View) (event : Event) (answer : Answer) (new : List View) : Type 0 where
+  -- an event happens until it is not for want of memory that it fails, that many times at most; its
+  -- last answer is this
+  pub record HappensWithin (tries : ℕ) (old : List View) (event : Event) (answer : Answer)
+      (new : List View) : Type 0 where
     pub before : ℕ
     pub few : before < tries
     pub between : List View
@@ -71,7 +76,8 @@ module _ (digest : List ℕ → List ℕ) (keys : List Key) where
   abbrev pub RunsWithin : ℕ → List View → List Event → List Answer → List View → Type 0
   RunsWithin tries old [] [] new = new ≡ old
   RunsWithin tries old (event ∷ events) (answer ∷ answers) new =
-      (between : List View) × HappensWithin tries old event answer between × RunsWithin tries between events answers new
+      (between : List View) × HappensWithin tries old event answer between
+      × RunsWithin tries between events answers new
   RunsWithin tries old [] (answer ∷ answers) new = ⊥
   RunsWithin tries old (event ∷ events) [] new = ⊥
 

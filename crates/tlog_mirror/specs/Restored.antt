@@ -36,7 +36,8 @@ module _ (digest : List ℕ → List ℕ) where
   -- ---- what the private readers' contracts cite
 
   -- a note that may be kept
-  pub record IsHeldHead (v : View) (keys : List Key) (note : List ℕ) (kept : KeptNote) : Type 0 where
+  pub record IsHeldHead (v : View) (keys : List Key) (note : List ℕ) (kept : KeptNote)
+      : Type 0 where
     pub opened : IsOpenNote v.origin keys note
     pub bytes_are : kept.note.bytes ≡ note
     pub said : IsHead kept.note.bytes v.origin kept.size kept.root

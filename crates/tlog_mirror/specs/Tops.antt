@@ -1,5 +1,5 @@
--- What a mirror serves, found once: the note, its size and root, and the strings of the mirror (C2SP tlog-tiles,
--- "Checkpoints").
+-- What a mirror serves, found once: the note, its size and root, and the strings of the mirror
+-- (C2SP tlog-tiles, "Checkpoints").
 use Rattle.std.specs.Prelude.{◌≡◌, ◌↔◌, ℕ, ◌≤◌, List, ◌∷◌, length, refl, Result}
 use Rattle.std.specs.Coded.{Coded, code_by, coded×, coded_ℕ, coded_list}
 use Rattle.node_store.specs.Strings.{Strings, Has, NoClash}
@@ -14,7 +14,8 @@ use Rattle.tlog_proof.specs.declared.make.ProofFault.TheVariants.{OutOfMemory}
 use Rattle.tlog_proof.specs.declared.proof.Ask.{Ask}
 use Rattle.tlog_proof.specs.declared.proof.Proof.{Proof}
 
--- a note with its size and root, and strings among which the tree of that size and root is looked for
+-- a note with its size and root, and strings among which the tree of that size and root is looked
+-- for
 pub record Top : Type 0 where
   pub note : List ℕ
   pub size : ℕ
@@ -23,8 +24,10 @@ pub record Top : Type 0 where
 
 abbrev pub top_code : Coded Top
 top_code =
-    code_by (List ℕ × (ℕ × (List ℕ × Strings))) (coded× (coded_list coded_ℕ) (coded× coded_ℕ (coded× (coded_list coded_ℕ) strings_code)))
-    (λ t. (t.note, (t.size, (t.root, t.strings)))) (λ p. record { note = p.0; size = p.1.0; root = p.1.1.0; strings = p.1.1.1 }) (λ _. refl)
+    code_by (List ℕ × (ℕ × (List ℕ × Strings)))
+    (coded× (coded_list coded_ℕ) (coded× coded_ℕ (coded× (coded_list coded_ℕ) strings_code)))
+    (λ t. (t.note, (t.size, (t.root, t.strings))))
+    (λ p. record { note = p.0; size = p.1.0; root = p.1.1.0; strings = p.1.1.1 }) (λ _. refl)
 
 module _ (digest : List ℕ → List ℕ) where
   -- its tree is held, no two strings share a digest, and entries have at most 65,535 bytes
@@ -49,24 +52,30 @@ module _ (digest : List ℕ → List ℕ) where
 
   -- nothing is served
   abbrev pub ServesNothing : View → Type 0
-  ServesNothing v = (note : List ℕ) (size : ℕ) (root : List ℕ) (entries : List (List ℕ)) → Served digest v note size root entries → ⊥
+  ServesNothing v =
+      (note : List ℕ) (size : ℕ) (root : List ℕ) (entries : List (List ℕ)) →
+      Served digest v note size root entries → ⊥
 
 -- of a lawful view it stands for the entries that are served
 abbrev pub TopHasServed : Type 0
 TopHasServed =
-    (digest : List ℕ → List ℕ) → IsDigest digest → (v : View) → IsLawful digest v → (top : Top) → IsServedTop digest v top →
+    (digest : List ℕ → List ℕ) → IsDigest digest → (v : View) → IsLawful digest v → (top : Top) →
+    IsServedTop digest v top →
     (entries : List (List ℕ)) → IsListOf digest top entries ↔ IsServedList digest v entries
 
 -- what was asked for was made of the entries that are served, want of memory apart
-pub record IsServedProof (digest : List ℕ → List ℕ) (v : View) (ask : Ask) (result : Result Proof ProofFault) : Type 0 where
+pub record IsServedProof (digest : List ℕ → List ℕ) (v : View) (ask : Ask)
+    (result : Result Proof ProofFault) : Type 0 where
   pub entries : List (List ℕ)
   pub served : IsServedList digest v entries
   pub answers : AnswersAs OutOfMemory (λ proof. proof) result (asked_proof digest entries ask)
 
--- a proof that is made over it, as that of each list that it stands for, is one of the entries that are served
+-- a proof that is made over it, as that of each list that it stands for, is one of the entries that
+-- are served
 abbrev pub ProofsAreServed : Type 0
 ProofsAreServed =
     (digest : List ℕ → List ℕ) (v : View) (top : Top) → IsServedTop digest v top →
     (ask : Ask) (result : Result Proof ProofFault) →
-    ((entries : List (List ℕ)) → IsListOf digest top entries → AnswersAs OutOfMemory (λ proof. proof) result (asked_proof digest entries ask)) →
+    ((entries : List (List ℕ)) → IsListOf digest top entries →
+    AnswersAs OutOfMemory (λ proof. proof) result (asked_proof digest entries ask)) →
     IsServedProof digest v ask result

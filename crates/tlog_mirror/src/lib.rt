@@ -22,8 +22,6 @@ mod served;
 mod settle;
 mod take_head;
 mod takes;
-#[cfg(test)]
-mod tests;
 mod texts;
 mod top_ranges;
 

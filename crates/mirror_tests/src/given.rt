@@ -1,27 +1,18 @@
-//! Tests of the mirror.
-
-mod forks;
-mod heads;
-mod huge;
-mod items;
-mod new;
-mod restored;
-mod served;
-mod settle;
+//! What the tests give to mirrors, whatever their digest: the key, heads over their rows, and bundles.
 
 ghost use Rattle.std.specs.Prelude.{codes, ◌∷◌, []};
 ghost use Rattle.std.specs.Str.{bytes_eq};
 
-use crate::Mirror;
 use signed_note::Verifier;
 use std::alloc::{AllocError, Global};
 use std::process::Abort;
 use std::test::Fail;
 use tlog_hash::{Hash, Sha256Tree, TreeHash};
+use tlog_mirror::Mirror;
 
 // A key that accepts the signature 05 over every text.
 #[derive(Drop)]
-struct Five;
+pub(crate) struct Five;
 
 impl Verifier for Five {
     ghost key = { λ k. record { name = codes "good"; id = 16909060; accepts = λ text signature. bytes_eq signature (5 ∷ []) } };
@@ -40,7 +31,7 @@ impl Verifier for Five {
 }
 
 // Takes the head of that size and root, over these rows of its edge.
-fn take_head<H: TreeHash>(
+pub(crate) fn take_head<H: TreeHash>(
     alloc: Global,
     mirror: &mut Mirror<H>,
     head: &str,
@@ -54,7 +45,10 @@ fn take_head<H: TreeHash>(
 }
 
 // The bytes of a row of the leaf hashes of entries of one byte each.
-fn letter_row<H: TreeHash>(alloc: Global, letters: &[u8]) -> Result<Vec<u8>, AllocError> {
+pub(crate) fn letter_row<H: TreeHash>(
+    alloc: Global,
+    letters: &[u8],
+) -> Result<Vec<u8>, AllocError> {
     let mut row = Vec::new(alloc);
     for letter in letters {
         row.extend_from_slice(H::leaf(&[*letter]).as_slice())?;
@@ -63,7 +57,7 @@ fn letter_row<H: TreeHash>(alloc: Global, letters: &[u8]) -> Result<Vec<u8>, All
 }
 
 // Takes the head of that size and root of a log of entries of one byte each.
-fn take_log<H: TreeHash>(
+pub(crate) fn take_log<H: TreeHash>(
     alloc: Global,
     mirror: &mut Mirror<H>,
     head: &str,
@@ -74,7 +68,7 @@ fn take_log<H: TreeHash>(
 }
 
 // A bundle of entries of one byte each.
-fn letter_bundle(alloc: Global, letters: &[u8]) -> Result<Vec<u8>, AllocError> {
+pub(crate) fn letter_bundle(alloc: Global, letters: &[u8]) -> Result<Vec<u8>, AllocError> {
     let mut bytes = Vec::new(alloc);
     for letter in letters {
         bytes.extend_from_slice(&[0, 1, *letter])?;
@@ -83,7 +77,7 @@ fn letter_bundle(alloc: Global, letters: &[u8]) -> Result<Vec<u8>, AllocError> {
 }
 
 // Takes a bundle of entries of one byte each.
-fn take_letters<H: TreeHash>(
+pub(crate) fn take_letters<H: TreeHash>(
     rt: &impl Abort,
     alloc: Global,
     mirror: &mut Mirror<H>,
@@ -97,12 +91,12 @@ fn take_letters<H: TreeHash>(
 }
 
 // So many bytes, all zero: a bundle of half as many entries of no bytes.
-fn zeros(alloc: Global, count: usize) -> Result<Vec<u8>, AllocError> {
+pub(crate) fn zeros(alloc: Global, count: usize) -> Result<Vec<u8>, AllocError> {
     vec![in alloc; 0u8; count]
 }
 
 // The tree hash of 2 to that power of entries of no bytes.
-fn doubled(times: u32) -> Hash {
+pub(crate) fn doubled(times: u32) -> Hash {
     let mut hash = Sha256Tree::leaf(b"");
     for _ in 0..times {
         hash = Sha256Tree::node(&hash, &hash);
@@ -111,7 +105,7 @@ fn doubled(times: u32) -> Hash {
 }
 
 // The bytes of a row of equal hashes.
-fn equal_row(alloc: Global, hash: &Hash, count: u32) -> Result<Vec<u8>, AllocError> {
+pub(crate) fn equal_row(alloc: Global, hash: &Hash, count: u32) -> Result<Vec<u8>, AllocError> {
     let mut row = Vec::new(alloc);
     for _ in 0..count {
         row.extend_from_slice(hash.as_slice())?;
@@ -120,7 +114,11 @@ fn equal_row(alloc: Global, hash: &Hash, count: u32) -> Result<Vec<u8>, AllocErr
 }
 
 // Takes a bundle of 256 entries of no bytes, and the tile above 256 such bundles.
-fn take_equal(alloc: Global, mirror: &mut Mirror<Sha256Tree>, bytes: usize) -> Result<(), Fail> {
+pub(crate) fn take_equal(
+    alloc: Global,
+    mirror: &mut Mirror<Sha256Tree>,
+    bytes: usize,
+) -> Result<(), Fail> {
     let row = equal_row(alloc, &doubled(8), 256)?;
     mirror.take_tile(alloc, 256, &row)?;
     let bundle = zeros(alloc, bytes)?;

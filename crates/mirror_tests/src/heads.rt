@@ -1,10 +1,10 @@
 //! Which heads are taken.
-use super::Five;
-use crate::{Mirror, TakeFault};
+use crate::given::Five;
 use signed_note::{NoteFault, Verifier};
 use std::test::Fail;
 use tlog_checkpoint::CheckpointFault;
 use tlog_hash::{Sha256Tree, TreeHash};
+use tlog_mirror::{Mirror, TakeFault};
 
 // The head of the log of one entry of no bytes.
 const HEAD_OF_1: &str =
@@ -36,6 +36,9 @@ fn head_refusals(rt: HostRuntime) -> Result<(), Fail> {
         assert_eq!(rt; answer, Ok(()));
     }
     assert_eq!(rt; (mirror.strings().len(), mirror.remembered()), (0, 0));
+    assert!(rt; !mirror.is_complete(1, &root));
+    assert_eq!(rt; mirror.take_bundle(alloc, 1, &[0, 0]), Ok(()));
+    assert!(rt; mirror.is_complete(1, &root));
     Ok(())
 }
 
@@ -102,6 +105,7 @@ fn a_head_of_no_entries(rt: HostRuntime) -> Result<(), Fail> {
         let taken = mirror.take_head(alloc, &keys, note.as_bytes(), &[]);
         assert_eq!(rt; taken, answer, "{root}");
     }
+    assert!(rt; mirror.is_complete(0, &Sha256Tree::empty()));
     Ok(())
 }
 

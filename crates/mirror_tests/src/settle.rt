@@ -1,10 +1,10 @@
 //! How much is remembered of complete heads. Roots were computed by a program of another language.
-use super::{doubled, take_equal, take_head};
-use crate::Mirror;
+use crate::given::{doubled, take_equal, take_head};
 use std::alloc::{AllocError, Global};
 use std::process::Abort;
 use std::test::Fail;
 use tlog_hash::{Sha256Tree, TreeHash};
+use tlog_mirror::Mirror;
 
 // Settles a mirror, which then remembers so many. Where memory is refused, as by `rt try --test --fail-alloc N`, no
 // less is remembered, and the same call settles it once there is some.

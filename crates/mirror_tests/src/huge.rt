@@ -1,10 +1,10 @@
 //! A long log of equal entries, of which few strings are held. Its root was computed by a program of another language.
-use super::{doubled, equal_row, take_equal, take_head};
-use crate::Mirror;
+use crate::given::{doubled, equal_row, take_equal, take_head};
 use std::alloc::Global;
 use std::process::Abort;
 use std::test::Fail;
 use tlog_hash::{Hash, Sha256Tree};
+use tlog_mirror::Mirror;
 use tlog_tiles::Path;
 
 // What is missing are so many full bundles, from 0 on.

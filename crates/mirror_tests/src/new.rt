@@ -1,6 +1,6 @@
 //! Which mirrors are made.
-use crate::{Mirror, NewFault};
 use tlog_hash::Sha256Tree;
+use tlog_mirror::{Mirror, NewFault};
 
 #[test]
 fn a_new_mirror_holds_nothing(rt: HostRuntime) {

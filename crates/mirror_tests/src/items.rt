@@ -1,7 +1,7 @@
 //! Which tiles and bundles are taken.
-use crate::{Mirror, TakeFault};
 use std::test::Fail;
 use tlog_hash::{Sha256Tree, SumTree, TreeHash};
+use tlog_mirror::{Mirror, TakeFault};
 
 #[test]
 fn bundle_exact(rt: HostRuntime) -> Result<(), Fail> {

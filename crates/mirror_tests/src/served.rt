@@ -1,7 +1,7 @@
 //! What a mirror lists and serves.
-use crate::Mirror;
 use std::alloc::AllocError;
 use tlog_hash::{Sha256Tree, TreeHash};
+use tlog_mirror::Mirror;
 
 #[test]
 fn a_new_mirror_serves_nothing(rt: HostRuntime) -> Result<(), AllocError> {

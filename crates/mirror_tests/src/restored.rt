@@ -1,11 +1,11 @@
 //! Mirrors that are made again of strings and notes.
-use super::Five;
-use crate::{HeldFault, Mirror, NewFault};
+use crate::given::Five;
 use node_store::Store;
 use signed_note::Verifier;
 use std::alloc::Global;
 use std::test::Fail;
 use tlog_hash::Sha256Tree;
+use tlog_mirror::{HeldFault, Mirror, NewFault};
 
 // The head of the log of one entry of no bytes, the edge of which has no strings.
 const HEAD_OF_1: &str =

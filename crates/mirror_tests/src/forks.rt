@@ -1,11 +1,11 @@
 //! Which forks are found, in logs of entries of one byte each. Their roots were computed by a program of another
 //! language.
-use super::{take_letters, take_log};
-use crate::{Fork, Mirror};
+use crate::given::{take_letters, take_log};
 use std::alloc::{AllocError, Global};
 use std::process::Abort;
 use std::test::Fail;
 use tlog_hash::{Sha256Tree, SumTree, TreeHash};
+use tlog_mirror::{Fork, Mirror};
 use tlog_proof::Ranges;
 
 const AB: &str = "2\nsTeYX/SE+2ANuTEHx3sDZcgNePW0Kd7Q/Zc2HQd5mes=";
