@@ -11,7 +11,7 @@ use Rattle.mirror_updates.specs.declared.fault.UpdateFault.TheVariants.{BadOrigi
 use Rattle.mirror_updates.specs.declared.fault.UpdateFault.TheVariants.{OutOfMemory}
 
 module _ (digest : List ℕ → List ℕ) (origin : List ℕ) (keys : List Key)
-(first second : List ℕ) where
+    (first second : List ℕ) where
   -- both states are loaded
   pub record LoadsBoth (v w : View) : Type 0 where
     pub first_is : LoadsState digest origin keys first (Ok v)
