@@ -1,5 +1,8 @@
 //! State texts, read to what they list.
+mod changes;
 mod loads;
+mod logs;
+mod memory;
 mod saves;
 
 use crate::lists::Lists;

@@ -1,90 +1,19 @@
 //! States, loaded.
-ghost use Rattle.std.specs.Prelude.{codes, ◌∷◌, []};
-ghost use Rattle.std.specs.Str.{bytes_eq};
-
+use super::logs::{
+    ENTRIES, HEAD, PAIRS, body_of, complete_state, old_body_of, old_bundle_state, state_of,
+};
 use super::text_of;
 use crate::{LoadFault, load};
-use signed_note::Verifier;
-use std::alloc::{AllocError, Global};
+use signed_note::{HmacKey, Verifier};
+use std::alloc::Global;
 use std::io;
 use std::io::{ErrorKind, Read};
+use std::process::Abort;
 use std::test::Fail;
-use tlog_hash::{Hash, Sha256Tree, TreeHash};
+use tlog_hash::Sha256Tree;
 use tlog_mirror::Mirror;
 
-// The head of the log of the entries of no bytes, `00` and `10`.
-pub(super) const HEAD_OF_3: &str =
-    "ex\n3\nrra8/idLcKFPsGel5VeCZNsPqbUa9eC6FZFY8yngbnc=\n\n\u{2014} good AQIDBAU=\n";
-
-// A key that accepts the signature 05 over every text.
-#[derive(Drop)]
-struct Five;
-
-impl Verifier for Five {
-    ghost key = { λ k. record { name = codes "good"; id = 16909060; accepts = λ text signature. bytes_eq signature (5 ∷ []) } };
-
-    fn name(&self) -> &str {
-        "good"
-    }
-
-    fn id(&self) -> u32 {
-        16_909_060
-    }
-
-    fn accepts(&self, _text: &[u8], signature: &[u8]) -> bool {
-        signature == [5].as_slice()
-    }
-}
-
-// The two pairs of that log's tree, of which the edge has both, rising or falling.
-pub(super) fn pairs_of_3(rising: bool) -> [[u8; 64]; 2] {
-    let below = pair_of(&Sha256Tree::leaf(b""), &Sha256Tree::leaf(b"\x00"));
-    let left = Sha256Tree::node(&Sha256Tree::leaf(b""), &Sha256Tree::leaf(b"\x00"));
-    let above = pair_of(&left, &Sha256Tree::leaf(b"\x10"));
-    if (below.as_slice() < above.as_slice()) == rising {
-        [below, above]
-    } else {
-        [above, below]
-    }
-}
-
-// The 64 bytes of two hashes.
-fn pair_of(left: &Hash, right: &Hash) -> [u8; 64] {
-    let mut pair = [0u8; 64];
-    pair[..32].copy_from_slice(left.as_slice());
-    pair[32..].copy_from_slice(right.as_slice());
-    pair
-}
-
-// Such a count.
-fn push_count(text: &mut Vec<u8>, count: u64) -> Result<(), AllocError> {
-    text.extend_from_slice(&count.to_be_bytes())
-}
-
-// The state of that log's mirror: its head, these pairs, and its entries, as they stand in `entries`.
-pub(super) fn state_of_3(
-    alloc: Global,
-    pairs: &[[u8; 64]],
-    entries: &[u8],
-) -> Result<Vec<u8>, AllocError> {
-    let mut text = Vec::from_slice(alloc, b"TLMIRR02\x00\x02ex")?;
-    push_count(&mut text, 1)?;
-    text.extend_from_slice(&[0, 0, 0])?;
-    text.push(HEAD_OF_3.len() as u8)?;
-    text.extend_from_slice(HEAD_OF_3.as_bytes())?;
-    push_count(&mut text, pairs.len() as u64)?;
-    for pair in pairs {
-        text.extend_from_slice(pair.as_slice())?;
-    }
-    push_count(&mut text, 3)?;
-    text.extend_from_slice(entries)?;
-    text_of(alloc, text.as_slice())
-}
-
-// The entries of that log, as they stand in a state.
-pub(super) const ENTRIES_OF_3: [u8; 8] = [0, 0, 0, 1, 0, 0, 1, 0x10];
-
-// What the text is loaded to, of origin `ex`, under the key or none.
+// What the text is loaded to, of origin `ex`, under the key `ex`, id 1, secret 00, or under none.
 pub(super) fn loaded(
     alloc: Global,
     with_key: bool,
@@ -92,7 +21,10 @@ pub(super) fn loaded(
 ) -> Result<Mirror<Sha256Tree>, LoadFault> {
     let mut keys: Vec<Box<dyn Verifier>> = Vec::new(alloc);
     if with_key {
-        let Ok(key) = Box::new(alloc, Five) else {
+        let Ok(key) = HmacKey::new(alloc, "ex", 1, &[0]) else {
+            return Err(LoadFault::OutOfMemory);
+        };
+        let Ok(key) = Box::new(alloc, key) else {
             return Err(LoadFault::OutOfMemory);
         };
         let Ok(()) = keys.push(key) else {
@@ -102,46 +34,111 @@ pub(super) fn loaded(
     load(alloc, "ex", &keys, &mut text)
 }
 
-// The fault that it is refused with.
-fn fault_of(alloc: Global, with_key: bool, text: &[u8]) -> Option<LoadFault> {
-    match loaded(alloc, with_key, text) {
-        Ok(_) => None,
-        Err(fault) => Some(fault),
-    }
+// What the text is loaded to, of origin `ey`.
+fn loaded_elsewhere(alloc: Global, mut text: &[u8]) -> Result<Mirror<Sha256Tree>, LoadFault> {
+    let keys: Vec<Box<dyn Verifier>> = Vec::new(alloc);
+    load(alloc, "ey", &keys, &mut text)
+}
+
+// The text is refused so.
+fn assert_refused(rt: &impl Abort, alloc: Global, text: &[u8], fault: LoadFault) {
+    assert_eq!(rt; loaded(alloc, true, text).err(), Some(fault));
 }
 
 #[test]
 fn a_complete_state_is_loaded(rt: HostRuntime) -> Result<(), Fail> {
     let alloc = rt.alloc();
-    let text = state_of_3(alloc, pairs_of_3(true).as_slice(), &ENTRIES_OF_3)?;
+    let text = complete_state(alloc)?;
+    assert_eq!(rt; text.len(), 319);
     let mirror = loaded(alloc, true, &text)?;
     assert_eq!(rt; mirror.origin(), "ex");
     assert_eq!(rt; mirror.strings().len(), 5);
     let note = mirror.top().ok_or("nothing served")?;
-    assert!(rt; note.bytes() == HEAD_OF_3.as_bytes());
+    assert!(rt; note.bytes() == HEAD.as_bytes());
     Ok(())
 }
 
 #[test]
 fn state_refusals(rt: HostRuntime) -> Result<(), Fail> {
     let alloc = rt.alloc();
-    let text = state_of_3(alloc, pairs_of_3(true).as_slice(), &ENTRIES_OF_3)?;
-    assert_eq!(rt; fault_of(alloc, false, &text), Some(LoadFault::StateHead));
+    let text = complete_state(alloc)?;
     let Some((_, cut)) = text.as_slice().split_last() else {
         return Err(Fail::from("no text"));
     };
-    assert_eq!(rt; fault_of(alloc, true, cut), Some(LoadFault::StateShort));
-    let text = state_of_3(alloc, pairs_of_3(false).as_slice(), &ENTRIES_OF_3)?;
-    assert_eq!(rt; fault_of(alloc, true, &text), Some(LoadFault::StateOrder));
-    let text = state_of_3(
-        alloc,
-        pairs_of_3(true).as_slice(),
-        &[0, 1, 0, 0, 0, 0, 1, 0x10],
-    )?;
-    assert_eq!(rt; fault_of(alloc, true, &text), Some(LoadFault::StateOrder));
-    for pair in pairs_of_3(true) {
-        let text = state_of_3(alloc, [pair].as_slice(), &ENTRIES_OF_3)?;
-        assert_eq!(rt; fault_of(alloc, true, &text), Some(LoadFault::StateEdge));
+    assert_refused(&rt, alloc, cut, LoadFault::StateShort);
+    let elsewhere = loaded_elsewhere(alloc, &text).err();
+    assert_eq!(rt; elsewhere, Some(LoadFault::OtherOrigin));
+    let keyless = loaded(alloc, false, &text).err();
+    assert_eq!(rt; keyless, Some(LoadFault::StateHead));
+    let exchanged = state_of(alloc, &[PAIRS[1], PAIRS[0]], &ENTRIES)?;
+    assert_refused(&rt, alloc, &exchanged, LoadFault::StateOrder);
+    for order in [[1, 0, 2], [0, 2, 1], [2, 1, 0]] {
+        let entries = [[0, order[0]], [0, order[1]], [0, order[2]]];
+        let exchanged = state_of(alloc, &PAIRS, &entries)?;
+        assert_refused(&rt, alloc, &exchanged, LoadFault::StateOrder);
+    }
+    for pair in PAIRS {
+        let lacking = state_of(alloc, &[pair], &ENTRIES)?;
+        assert_refused(&rt, alloc, &lacking, LoadFault::StateEdge);
+    }
+    Ok(())
+}
+
+#[test]
+fn state_cuts(rt: HostRuntime) -> Result<(), Fail> {
+    let alloc = rt.alloc();
+    let text = complete_state(alloc)?;
+    for len in 0..text.len() {
+        let fault = if len < 8 {
+            LoadFault::StateMagic
+        } else {
+            LoadFault::StateShort
+        };
+        assert_refused(&rt, alloc, &text[..len], fault);
+    }
+    Ok(())
+}
+
+#[test]
+fn state_unknown_magic(rt: HostRuntime) -> Result<(), Fail> {
+    let alloc = rt.alloc();
+    let mut body = body_of(alloc, &PAIRS, &ENTRIES)?;
+    match body.get_mut(7) {
+        Some(version) => *version = b'3',
+        None => return Err(Fail::from("no version")),
+    }
+    let text = text_of(alloc, body.as_slice())?;
+    assert_refused(&rt, alloc, &text, LoadFault::StateMagic);
+    Ok(())
+}
+
+// The body with 2^64 - 1 in place of the count there, which is a small one.
+fn with_full_count(alloc: Global, body: &[u8], at: usize) -> Result<Vec<u8>, Fail> {
+    let (Some(front), Some(behind)) = (body.get(..at), body.get(at..)) else {
+        return Err(Fail::from("no such place"));
+    };
+    let [0, 0, 0, 0, 0, 0, 0, 0..=5, rest @ ..] = behind else {
+        return Err(Fail::from("no count"));
+    };
+    let mut body = Vec::from_slice(alloc, front)?;
+    body.extend_from_slice(&[0xff; 8])?;
+    body.extend_from_slice(rest)?;
+    Ok(body)
+}
+
+// The counts of its lists stand at these places.
+#[test]
+fn counts_of_all_ones(rt: HostRuntime) -> Result<(), Fail> {
+    let alloc = rt.alloc();
+    let body = body_of(alloc, &PAIRS, &ENTRIES)?;
+    for at in [12, 131, 267] {
+        let text = text_of(alloc, &with_full_count(alloc, &body, at)?)?;
+        assert_refused(&rt, alloc, &text, LoadFault::StateShort);
+    }
+    let body = old_body_of(alloc, 1)?;
+    for at in [12, 20] {
+        let text = text_of(alloc, &with_full_count(alloc, &body, at)?)?;
+        assert_refused(&rt, alloc, &text, LoadFault::StateShort);
     }
     Ok(())
 }
@@ -152,10 +149,7 @@ fn state_of_another_origin(rt: HostRuntime) -> Result<(), Fail> {
         rt.alloc(),
         b"TLMIRR01\x00\x02ey\x00\x00\x00\x00\x00\x00\x00\x00\x00\x00\x00\x00\x00\x00\x00\x00",
     )?;
-    assert_eq!(rt;
-        fault_of(rt.alloc(), true, &text),
-        Some(LoadFault::OtherOrigin)
-    );
+    assert_refused(&rt, rt.alloc(), &text, LoadFault::OtherOrigin);
     Ok(())
 }
 
@@ -166,14 +160,18 @@ fn strings_of_version_1(rt: HostRuntime) -> Result<(), Fail> {
         b"TLMIRR01\x00\x02ex\x00\x00\x00\x00\x00\x00\x00\x00\x00\x00\x00\x00\x00\x00\x00\x01\x00\x00\x00\x02\x00a",
     )?;
     assert_eq!(rt; loaded(rt.alloc(), true, &text)?.strings().len(), 1);
-    let text = text_of(
-        rt.alloc(),
-        b"TLMIRR01\x00\x02ex\x00\x00\x00\x00\x00\x00\x00\x00\x00\x00\x00\x00\x00\x00\x00\x01\x00\x00\x00\x02\x02a",
-    )?;
-    assert_eq!(rt;
-        fault_of(rt.alloc(), true, &text),
-        Some(LoadFault::StateString)
-    );
+    Ok(())
+}
+
+#[test]
+fn state_v1_bad_tag(rt: HostRuntime) -> Result<(), Fail> {
+    let alloc = rt.alloc();
+    let text = old_bundle_state(alloc)?;
+    assert_eq!(rt; text.len(), 215);
+    assert_eq!(rt; loaded(alloc, true, &text)?.strings().len(), 5);
+    let text = text_of(alloc, old_body_of(alloc, 2)?.as_slice())?;
+    assert_eq!(rt; text.len(), 215);
+    assert_refused(&rt, alloc, &text, LoadFault::StateString);
     Ok(())
 }
 

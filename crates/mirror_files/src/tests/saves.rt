@@ -1,6 +1,7 @@
 //! Mirrors, saved.
-use super::loads::{ENTRIES_OF_3, loaded, pairs_of_3, state_of_3};
-use super::{EMPTY, text_of};
+use super::EMPTY;
+use super::loads::loaded;
+use super::logs::{BUNDLE, bundle_state, complete_state, old_bundle_state};
 use crate::{SaveFault, save};
 use std::alloc::{AllocError, Global};
 use std::io;
@@ -11,9 +12,27 @@ use tlog_hash::Sha256Tree;
 use tlog_mirror::Mirror;
 
 // The text that is written of a mirror.
-fn saved(alloc: Global, mirror: &Mirror<Sha256Tree>) -> Result<Vec<u8>, SaveFault> {
+pub(super) fn saved(alloc: Global, mirror: &Mirror<Sha256Tree>) -> Result<Vec<u8>, SaveFault> {
     let mut text = Vec::new(alloc);
     save(alloc, mirror, &mut text)?;
+    Ok(text)
+}
+
+// The digests of the empty state, in both versions.
+const EMPTY_DIGEST: [u8; 32] = [
+    0x47, 0x54, 0x51, 0x92, 0x85, 0x57, 0x65, 0xac, 0x5b, 0x5f, 0x22, 0x97, 0x2c, 0x5c, 0x7a, 0xd2,
+    0x0c, 0xa2, 0xdb, 0x3d, 0xdf, 0xec, 0xaa, 0x6c, 0xa1, 0x70, 0x41, 0x4f, 0xd3, 0x93, 0xcc, 0x3a,
+];
+
+const OLD_EMPTY_DIGEST: [u8; 32] = [
+    0xf7, 0xf3, 0x75, 0x3b, 0x8a, 0xcc, 0x15, 0x18, 0xa0, 0xa3, 0xed, 0xfb, 0x4d, 0x66, 0x5a, 0x0d,
+    0x40, 0x46, 0x69, 0x9e, 0xf4, 0xf9, 0xaa, 0x92, 0x14, 0x72, 0x40, 0x43, 0x1e, 0xd2, 0x60, 0x0f,
+];
+
+// The body with that digest.
+fn text_with(alloc: Global, body: &[u8], digest: &[u8; 32]) -> Result<Vec<u8>, AllocError> {
+    let mut text = Vec::from_slice(alloc, body)?;
+    text.extend_from_slice(digest.as_slice())?;
     Ok(text)
 }
 
@@ -22,7 +41,7 @@ fn state_empty(rt: HostRuntime) -> Result<(), Fail> {
     let alloc = rt.alloc();
     let text = saved(alloc, &Mirror::new(alloc, "ex")?)?;
     assert_eq!(rt; text.len(), 68);
-    assert_eq!(rt; text, text_of(alloc, &EMPTY)?);
+    assert_eq!(rt; text, text_with(alloc, &EMPTY, &EMPTY_DIGEST)?);
     assert_eq!(rt; saved(alloc, &loaded(alloc, false, &text)?)?, text);
     Ok(())
 }
@@ -30,53 +49,22 @@ fn state_empty(rt: HostRuntime) -> Result<(), Fail> {
 #[test]
 fn state_v1_empty(rt: HostRuntime) -> Result<(), Fail> {
     let alloc = rt.alloc();
-    let old = text_of(
+    let old = text_with(
         alloc,
         b"TLMIRR01\x00\x02ex\x00\x00\x00\x00\x00\x00\x00\x00\x00\x00\x00\x00\x00\x00\x00\x00",
+        &OLD_EMPTY_DIGEST,
     )?;
     assert_eq!(rt; old.len(), 60);
     let text = saved(alloc, &loaded(alloc, false, &old)?)?;
-    assert_eq!(rt; text, text_of(alloc, &EMPTY)?);
+    assert_eq!(rt; text, text_with(alloc, &EMPTY, &EMPTY_DIGEST)?);
     Ok(())
-}
-
-// The bundle of the entries of no bytes, `00` and `10`, and its state without a note.
-const BUNDLE_OF_3: &[u8] = b"\x00\x00\x00\x01\x00\x00\x01\x10";
-
-fn bundle_state(alloc: Global) -> Result<Vec<u8>, AllocError> {
-    let mut text = Vec::from_slice(
-        alloc,
-        b"TLMIRR02\x00\x02ex\x00\x00\x00\x00\x00\x00\x00\x00\x00\x00\x00\x00\x00\x00\x00\x02",
-    )?;
-    for pair in pairs_of_3(true) {
-        text.extend_from_slice(pair.as_slice())?;
-    }
-    text.extend_from_slice(b"\x00\x00\x00\x00\x00\x00\x00\x03")?;
-    text.extend_from_slice(&ENTRIES_OF_3)?;
-    text_of(alloc, text.as_slice())
-}
-
-// The same in version 1.
-fn old_bundle_state(alloc: Global) -> Result<Vec<u8>, AllocError> {
-    let mut text = Vec::from_slice(
-        alloc,
-        b"TLMIRR01\x00\x02ex\x00\x00\x00\x00\x00\x00\x00\x00\x00\x00\x00\x00\x00\x00\x00\x05",
-    )?;
-    text.extend_from_slice(
-        b"\x00\x00\x00\x01\x00\x00\x00\x00\x02\x00\x00\x00\x00\x00\x02\x00\x10",
-    )?;
-    for pair in pairs_of_3(true) {
-        text.extend_from_slice(b"\x00\x00\x00\x41\x01")?;
-        text.extend_from_slice(pair.as_slice())?;
-    }
-    text_of(alloc, text.as_slice())
 }
 
 #[test]
 fn state_v1_bundle(rt: HostRuntime) -> Result<(), Fail> {
     let alloc = rt.alloc();
     let mut mirror = Mirror::<Sha256Tree>::new(alloc, "ex")?;
-    mirror.take_bundle(alloc, 3, BUNDLE_OF_3)?;
+    mirror.take_bundle(alloc, 3, BUNDLE)?;
     let text = saved(alloc, &mirror)?;
     assert_eq!(rt; text.len(), 204);
     assert_eq!(rt; text, bundle_state(alloc)?);
@@ -89,7 +77,7 @@ fn state_v1_bundle(rt: HostRuntime) -> Result<(), Fail> {
 #[test]
 fn state_of_a_complete_log(rt: HostRuntime) -> Result<(), Fail> {
     let alloc = rt.alloc();
-    let text = state_of_3(alloc, pairs_of_3(true).as_slice(), &ENTRIES_OF_3)?;
+    let text = complete_state(alloc)?;
     assert_eq!(rt; saved(alloc, &loaded(alloc, true, &text)?)?, text);
     Ok(())
 }
@@ -142,7 +130,7 @@ fn assert_front(
 #[test]
 fn failing_writer(rt: HostRuntime) -> Result<(), Fail> {
     let alloc = rt.alloc();
-    let text = state_of_3(alloc, pairs_of_3(true).as_slice(), &ENTRIES_OF_3)?;
+    let text = complete_state(alloc)?;
     let mirror = loaded(alloc, true, &text)?;
     for most in 0..text.len() {
         assert_front(&rt, alloc, &mirror, &text, most);
