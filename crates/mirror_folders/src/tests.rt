@@ -1,6 +1,7 @@
 //! Logs of numbers, exported into memory and into folders.
 mod exports;
 mod folders;
+mod memory;
 
 ghost use Rattle.std.specs.Prelude.{◌≡◌, IfOk, map, min, ◌+◌, ◌-◌, ◌^◌};
 ghost use Rattle.mirror_model.specs.TrueLaws.{AreShort};

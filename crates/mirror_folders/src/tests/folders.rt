@@ -13,7 +13,7 @@ use tlog_mirror::Mirror;
 use tlog_tiles::Path;
 
 // A folder of that path, with nothing in it.
-fn fresh<R: Files + Alloc>(rt: &R, folder: &str) -> io::Result<()> {
+pub(super) fn fresh<R: Files + Alloc>(rt: &R, folder: &str) -> io::Result<()> {
     match fs::remove_dir_all(rt, folder) {
         Ok(()) => {}
         Err(e) => {
