@@ -118,7 +118,7 @@ fn fork_under_collisions(rt: HostRuntime) -> Result<(), Fail> {
     let mut mirror = with_heads::<SumTree>(rt.alloc(), &[(small, first), (large, second)])?;
     take_all(&rt, rt.alloc(), &mut mirror, &[first, second])?;
     let heads = mirror.heads(rt.alloc())?;
-    assert!(rt; heads.iter().all(|head| head.complete));
+    assert!(rt; heads.len() == 2 && heads.iter().all(|head| head.complete));
     tells(&rt, rt.alloc(), &mirror, 1, fork)
 }
 

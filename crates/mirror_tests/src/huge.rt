@@ -1,5 +1,7 @@
-//! A long log of equal entries, of which few strings are held. Its root was computed by a program of another language.
+//! A long log of equal entries, of which few strings are held. Its root and its saved text were computed by a program
+//! of another language.
 use crate::given::{doubled, equal_row, take_equal, take_head};
+use crate::logs::{is_saved_as, saved};
 use std::alloc::Global;
 use std::process::Abort;
 use std::test::Fail;
@@ -46,19 +48,12 @@ fn misses(
     Ok(())
 }
 
-// A mirror that holds the head of 131,077 entries of no bytes.
-fn huge_head(alloc: Global) -> Result<Mirror<Sha256Tree>, Fail> {
+// Takes the head of 131,077 entries of no bytes.
+fn take_huge_head(alloc: Global, mirror: &mut Mirror<Sha256Tree>) -> Result<(), Fail> {
     let head = "131077\nHdnIJwT2o7JSdzsKMFDTblKplPAeqH43tyEXIuwgVpQ=";
     let leaves = equal_row(alloc, &doubled(0), 5)?;
     let halves = equal_row(alloc, &doubled(16), 2)?;
-    let mut mirror = Mirror::<Sha256Tree>::new(alloc, "ex")?;
-    take_head(
-        alloc,
-        &mut mirror,
-        head,
-        &[leaves.as_slice(), halves.as_slice()],
-    )?;
-    Ok(mirror)
+    take_head(alloc, mirror, head, &[leaves.as_slice(), halves.as_slice()])
 }
 
 // The root of that head.
@@ -71,7 +66,8 @@ fn huge_root(rt: &impl Abort, mirror: &Mirror<Sha256Tree>, alloc: Global) -> Res
 // Of the tile and the bundle that are taken first, the tile tells of 256 bundles, each of which is every other one.
 #[test]
 fn huge_equal_log(rt: HostRuntime) -> Result<(), Fail> {
-    let mut mirror = huge_head(rt.alloc())?;
+    let mut mirror = Mirror::<Sha256Tree>::new(rt.alloc(), "ex")?;
+    take_huge_head(rt.alloc(), &mut mirror)?;
     let root = huge_root(&rt, &mirror, rt.alloc())?;
     let first = "tile/1/000\ntile/1/001\ntile/entries/512.p/5\n";
     misses(&rt, rt.alloc(), &mirror, 131_077, &root, first)?;
@@ -82,5 +78,34 @@ fn huge_equal_log(rt: HostRuntime) -> Result<(), Fail> {
     take_equal(rt.alloc(), &mut mirror, 512)?;
     misses(&rt, rt.alloc(), &mirror, 131_077, &root, "")?;
     assert!(rt; mirror.is_complete(131_077, &root));
+    Ok(())
+}
+
+// The end of the text that is saved of a mirror which took all of these items.
+const STATE: &str = "Q2013onAUekCU1IIoUzU3URgxQVTlMuBPp7JuRa5RcU=";
+
+// A mirror that took the same items, the head first or last.
+fn of_all_items(alloc: Global, head_is_first: bool) -> Result<Mirror<Sha256Tree>, Fail> {
+    let mut mirror = Mirror::<Sha256Tree>::new(alloc, "ex")?;
+    if head_is_first {
+        take_huge_head(alloc, &mut mirror)?;
+    }
+    mirror.take_bundle(alloc, 1, &[0, 0])?;
+    take_equal(alloc, &mut mirror, 512)?;
+    if !head_is_first {
+        take_huge_head(alloc, &mut mirror)?;
+    }
+    Ok(mirror)
+}
+
+#[test]
+fn head_last(rt: HostRuntime) -> Result<(), Fail> {
+    let last = of_all_items(rt.alloc(), false)?;
+    let root = huge_root(&rt, &last, rt.alloc())?;
+    assert!(rt; last.is_complete(131_077, &root));
+    assert!(rt; is_saved_as(rt.alloc(), &last, STATE)?);
+    let first = of_all_items(rt.alloc(), true)?;
+    let text = saved(rt.alloc(), &first)?;
+    assert!(rt; saved(rt.alloc(), &last)?.as_slice() == text.as_slice());
     Ok(())
 }

@@ -1,8 +1,8 @@
 //! The worked rows of the mirror, in a crate of their own, since a crate's tests are checked together with the crate
 //! again.
 //!
-//! It holds tests of `tlog_mirror` and nothing else: logs whose roots and lines were computed elsewhere, taken,
-//! listed and served through the mirror's public calls.
+//! It holds tests of `tlog_mirror` and nothing else: logs whose roots and lines were computed elsewhere, taken, merged,
+//! listed, served, played and saved through public calls.
 #![tactic(auto)]
 
 #[cfg(test)]
@@ -16,7 +16,11 @@ mod huge;
 #[cfg(test)]
 mod items;
 #[cfg(test)]
+mod logs;
+#[cfg(test)]
 mod new;
+#[cfg(test)]
+mod plays;
 #[cfg(test)]
 mod restored;
 #[cfg(test)]
