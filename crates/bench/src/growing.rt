@@ -1,12 +1,13 @@
 //! A log that grows by one entry at a time, and the heads that it signs.
-ghost use Rattle.std.specs.Prelude.{codes};
-ghost use Rattle.std.specs.Prelude.{true};
+ghost use Rattle.std.specs.Prelude.{◌≡◌, [], ◌∷◌, ◌++◌, IfNone, IfOk, IfSome, Some, codes, true};
+ghost use Rattle.tlog_hash.specs.Tree.{fold_of};
 
 use signed_note::Verifier;
 use std::alloc::{AllocError, Global};
 use tlog_hash::{Hash, Sha256Tree, TreeHash, fold};
-use tlog_mirror::Mirror;
+use tlog_mirror::{Mirror, TakeFault};
 use tlog_text::{push_hash, push_number};
+use tlog_tiles::write_row;
 
 // How many levels of tiles a log has at most: 2^32 entries have four.
 const LEVELS: usize = 4;
@@ -76,7 +77,7 @@ impl Log {
         for row in &edge {
             lent.push(row.as_slice())?;
         }
-        mirror.take_head(alloc, keys, note.as_bytes(), lent.as_slice())?;
+        take(alloc, keys, mirror, note.as_bytes(), lent.as_slice())?;
         Ok(())
     }
 
@@ -84,7 +85,7 @@ impl Log {
     fn root(&self, alloc: Global) -> Result<Hash, AllocError> {
         let mut found = None;
         for row in &self.rows {
-            found = joined(alloc, row.as_slice(), found)?;
+            found = joined::<Sha256Tree>(alloc, row.as_slice(), found)?;
         }
         Ok(found.unwrap_or(Sha256Tree::empty()))
     }
@@ -105,31 +106,39 @@ impl Log {
         let mut edge = Vec::new(alloc);
         for row in &self.rows {
             if !row.is_empty() {
-                edge.push(bytes_of(alloc, row.as_slice())?)?;
+                edge.push(write_row(alloc, row.as_slice())?)?;
             }
         }
         Ok(edge)
     }
 }
 
+// A mirror takes a head with those rows.
+fn take<H: TreeHash>(
+    alloc: Global,
+    keys: &[Box<dyn Verifier>],
+    mirror: &mut Mirror<H>,
+    note: &[u8],
+    rows: &[&[u8]],
+) -> Result<(), TakeFault> {
+    mirror.take_head(alloc, keys, note, rows)
+}
+
 // The hash over a row and the hash behind it, if there is one.
-fn joined(alloc: Global, row: &[Hash], behind: Option<Hash>) -> Result<Option<Hash>, AllocError> {
-    let mut hashes = Vec::new(alloc);
-    hashes.extend_from_slice(row)?;
+fn joined<H: TreeHash>(
+    alloc: Global,
+    row: &[Hash],
+    behind: Option<Hash>,
+) -> Result<Option<Hash>, AllocError>
+    ensures alone { IfNone behind (IfOk result (λ found. IfSome found (λ hash. hash ≡ fold_of H.digest row.now))) }
+    ensures more { IfSome behind (λ last. IfOk result (λ found. found ≡ Some (fold_of H.digest (row.now ++ last ∷ [])))) }
+{
+    let mut hashes = Vec::from_slice(alloc, row)?;
     if let Some(hash) = behind {
         hashes.push(hash)?;
     }
     if hashes.is_empty() {
         return Ok(None);
     }
-    Ok(Some(fold::<Sha256Tree>(hashes.as_slice())))
-}
-
-// The bytes of a row.
-fn bytes_of(alloc: Global, row: &[Hash]) -> Result<Vec<u8>, AllocError> {
-    let mut bytes = Vec::new(alloc);
-    for hash in row {
-        bytes.extend_from_slice(hash.as_slice())?;
-    }
-    Ok(bytes)
+    Ok(Some(fold::<H>(hashes.as_slice())))
 }

@@ -8,10 +8,8 @@
 //! It prints what was done; what it measured goes to standard error, since that differs from run to run.
 #![tactic(auto)]
 
-mod clock;
 mod growing;
 mod heads;
-mod list;
 mod sample;
 mod store;
 mod takes;

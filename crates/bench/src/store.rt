@@ -1,11 +1,14 @@
 //! What it costs to hold strings in a store.
-use crate::clock::{now, ratio, resident_bytes, since, tell};
+ghost use Rattle.std.specs.Prelude.{◌≡◌, ◌/◌, ◌<◌, ◌≤◌};
+
 use crate::sample::{Kind, Sample, digest_of};
+use bench_base::{now, ratio, resident_bytes, since, tell};
 use node_store::Store;
+use std::alloc::Global;
 use std::io;
 use std::rt::Files;
 use std::time::CpuClock;
-use tlog_hash::Sha256Tree;
+use tlog_hash::{Sha256Tree, TreeHash};
 
 /// Hashes so many strings of each kind, and adds them to a store.
 pub fn measure_store<R: AllocGlobal + CpuClock + Files + Print + Eprint>(
@@ -22,34 +25,70 @@ fn measure_kind<R: AllocGlobal + CpuClock + Files + Print + Eprint>(
     kind: Kind,
     count: u32,
 ) -> io::Result<()> {
-    let name = kind.name();
+    let hashing = hash_told(rt, kind, count)?;
+    let mut store = Store::<Sha256Tree>::new(rt.alloc());
+    add_told(rt, &mut store, kind, count, hashing)?;
+    copy_told(rt, &store, hashing)
+}
 
+// Hashes so many strings, tells the time that it took, and answers it.
+fn hash_told<R: CpuClock + Eprint>(rt: &R, kind: Kind, count: u32) -> io::Result<u128> {
+    let name = kind.name();
     let start = now(rt)?;
     let mark = hash_each(kind, count);
     let hashing = since(rt, start)?;
+    eprintln!(rt; "{count} {name}: hashing takes {hashing} ns ({mark}), and of it")?;
+    Ok(hashing)
+}
 
+// Adds so many strings, and tells the time that it took and the memory that they take.
+fn add_told<R: AllocGlobal + CpuClock + Files + Print + Eprint>(
+    rt: &R,
+    store: &mut Store<Sha256Tree>,
+    kind: Kind,
+    count: u32,
+    hashing: u128,
+) -> io::Result<()> {
+    let name = kind.name();
     let before = resident_bytes(rt);
     let start = now(rt)?;
-    let mut store = Store::<Sha256Tree>::new(rt.alloc());
-    let added = add_each(&mut store, kind, count);
-    let adding = since(rt, start)?;
+    let added = add_each(store, kind, count);
+    tell(rt, "  adding, ns", since(rt, start)?, hashing)?;
     let memory = resident_bytes(rt).saturating_sub(before);
+    let each = share_of(memory, count);
+    eprintln!(rt; "  {memory} bytes, {each} for each")?;
+    println!(rt; "{added} {name} added, {} held", store.len())
+}
 
+// How many of the bytes fall to each of so many.
+fn share_of(bytes: u64, count: u32) -> u128
+    ensures { 0 < count → result ≡ bytes / count }
+{
+    ratio(u128::from(bytes), u128::from(count))
+}
+
+// Adds all of a store to another, and tells the time that it took.
+fn copy_told<R: AllocGlobal + CpuClock + Print + Eprint>(
+    rt: &R,
+    store: &Store<Sha256Tree>,
+    hashing: u128,
+) -> io::Result<()> {
     let start = now(rt)?;
-    let mut other = Store::<Sha256Tree>::new(rt.alloc());
-    let _whole = other.add_all(&store).is_ok();
-    let copying = since(rt, start)?;
-
-    println!(rt;
-        "{added} {name} added, {} held, {} in another store",
-        store.len(),
-        other.len()
+    let held = copied_count(rt.alloc(), store);
+    tell(
+        rt,
+        "  adding all to another store, ns",
+        since(rt, start)?,
+        hashing,
     )?;
-    let each = ratio(memory as u128, count as u128);
-    eprintln!(rt; "{count} {name}: hashing takes {hashing} ns ({mark}), and of it")?;
-    tell(rt, "  adding, ns", adding, hashing)?;
-    tell(rt, "  adding all to another store, ns", copying, hashing)?;
-    eprintln!(rt; "  {memory} bytes, {each} for each")
+    println!(rt; "{held} in another store")
+}
+
+// How many strings another store holds, once all of that one were added to it.
+fn copied_count<H: TreeHash>(alloc: Global, store: &Store<H>) -> usize {
+    let mut other = Store::<H>::new(alloc);
+    let _whole = other.add_all(store).is_ok();
+    other.len()
 }
 
 // Hashes so many strings. The result keeps the work from being left out.
@@ -64,7 +103,9 @@ fn hash_each(kind: Kind, count: u32) -> u8 {
 }
 
 // Adds so many strings, and answers how many times that was Ok.
-fn add_each(store: &mut Store<Sha256Tree>, kind: Kind, count: u32) -> u32 {
+fn add_each(store: &mut Store<Sha256Tree>, kind: Kind, count: u32) -> u32
+    ensures { result ≤ count }
+{
     let mut sample = Sample::new();
     let mut added = 0u32;
     for number in 0..count {

@@ -1,42 +1,81 @@
-//! Takes of bundles and tiles.
-use crate::clock::{now, since, tell};
-use crate::list::{begin, entries_of, hash_tree};
-use log_sources::{ListSource, Source};
+//! Takes of bundles.
+ghost use Rattle.std.specs.Prelude.{◌≡◌, ◌/◌};
+
+use crate::heads::take_bundle;
+use bench_base::{begin, entries_of, hash_tree, now, since, tell};
+use log_sources::{ListSource, Source, SourceFault};
 use std::time::CpuClock;
 use tlog_hash::Sha256Tree;
 use tlog_mirror::Mirror;
 use tlog_tiles::Path;
 
-// How many entries a full bundle has, and hashes a full tile.
+// How many entries a full bundle has.
 const WIDTH: u32 = 256;
 
-/// Lets a mirror take all full bundles of a log of so many entries, and another its full tiles.
+/// Lets a mirror take all full bundles of a log of so many entries, each twice.
 pub fn measure_takes<R: AllocGlobal + CpuClock + Print + Eprint>(
     rt: &R,
     count: u32,
 ) -> anyhow::Result<()> {
-    let alloc = rt.alloc();
-    let count = count - count % WIDTH;
-    let entries = entries_of(alloc, count)?;
+    let bundles = full_bundles(count);
+    let entries = entries_of(rt.alloc(), bundles * WIDTH)?;
     let (hashing, _root) = hash_tree(rt, entries.as_slice())?;
-    eprintln!(rt; "{count} entries: hashing their tree takes {hashing} ns, and of it")?;
-    let (mut mirror, mut source) = begin(alloc, entries)?;
-    let mut taking = 0u128;
-    let mut again = 0u128;
-    for index in 0..count / WIDTH {
-        let path = Path::Entries {
-            index: u64::from(index),
-            width: WIDTH,
-        };
-        if let Some(bytes) = source.get(&path)? {
-            taking = taking.saturating_add(take(rt, &mut mirror, bytes.as_slice())?);
-            again = again.saturating_add(take(rt, &mut mirror, bytes.as_slice())?);
-        }
-    }
+    eprintln!(rt; "{bundles} bundles: hashing their tree takes {hashing} ns, and of it")?;
+    let (mut mirror, mut source) = begin(rt.alloc(), entries)?;
+    take_all(rt, &mut mirror, &mut source, bundles, hashing)
+}
+
+// Takes so many bundles of the source, each twice, and tells the time that it took.
+fn take_all<R: AllocGlobal + CpuClock + Print + Eprint>(
+    rt: &R,
+    mirror: &mut Mirror<Sha256Tree>,
+    source: &mut ListSource<Sha256Tree>,
+    bundles: u32,
+    hashing: u128,
+) -> anyhow::Result<()> {
+    let (taking, again) = take_each(rt, mirror, source, bundles)?;
     tell(rt, "  takes of bundles of 256, ns", taking, hashing)?;
     tell(rt, "  takes of the same again, ns", again, hashing)?;
     println!(rt; "{} strings taken", mirror.strings().len())?;
     Ok(())
+}
+
+// Takes so many bundles of the source, each twice, and answers the time of the first takes and that of the second.
+fn take_each<R: AllocGlobal + CpuClock>(
+    rt: &R,
+    mirror: &mut Mirror<Sha256Tree>,
+    source: &mut ListSource<Sha256Tree>,
+    bundles: u32,
+) -> anyhow::Result<(u128, u128)> {
+    let mut taking = 0u128;
+    let mut again = 0u128;
+    for index in 0..bundles {
+        if let Some(bytes) = bundle_at(source, index)? {
+            taking = taking.saturating_add(take(rt, mirror, bytes.as_slice())?);
+            again = again.saturating_add(take(rt, mirror, bytes.as_slice())?);
+        }
+    }
+    Ok((taking, again))
+}
+
+// A full bundle of the source.
+fn bundle_at<S: Source>(source: &mut S, index: u32) -> Result<Option<Vec<u8>>, SourceFault> {
+    source.get(&bundle_path(index))
+}
+
+// How many full bundles there are of so many entries.
+fn full_bundles(count: u32) -> u32
+    ensures { result ≡ count / 256 }
+{
+    count / WIDTH
+}
+
+// The path of a full bundle.
+fn bundle_path(index: u32) -> Path {
+    Path::Entries {
+        index: u64::from(index),
+        width: WIDTH,
+    }
 }
 
 // Takes a bundle, and answers the time that it took.
@@ -46,6 +85,6 @@ fn take<R: AllocGlobal + CpuClock>(
     bundle: &[u8],
 ) -> anyhow::Result<u128> {
     let start = now(rt)?;
-    mirror.take_bundle(rt.alloc(), WIDTH, bundle)?;
+    take_bundle(rt.alloc(), mirror, WIDTH, bundle)?;
     Ok(since(rt, start)?)
 }

@@ -1,5 +1,6 @@
 //! A log of numbered entries.
-ghost use Rattle.std.specs.Prelude.{map, IfOk};
+ghost use Rattle.std.specs.Prelude.{◌≡◌, length, map, IfOk};
+ghost use Rattle.mirror_model.specs.Origin.{IsOrigin};
 ghost use Rattle.mirror_model.specs.TrueLaws.{AreShort};
 
 use crate::clock::{now, since};
@@ -30,7 +31,8 @@ fn entry_of(number: u32) -> [u8; 100] {
 
 /// The first entries, as many as that.
 pub fn entries_of(alloc: Global, count: u32) -> Result<Vec<Vec<u8>>, AllocError>
-    ensures { IfOk result (λ entries. AreShort (map (λ e. e.items) entries.items)) }
+    ensures short { IfOk result (λ entries. AreShort (map (λ e. e.items) entries.items)) }
+    ensures count { IfOk result (λ entries. length entries.items ≡ count) }
 {
     let mut entries = Vec::new(alloc);
     for number in 0..count {
@@ -59,6 +61,8 @@ pub fn begin(
     entries: Vec<Vec<u8>>,
 ) -> anyhow::Result<(Mirror<Sha256Tree>, ListSource<Sha256Tree>)>
     requires { AreShort (map (λ e. e.items) entries.items) }
+    ensures origin { IfOk result (λ made. IsOrigin made.0.view.origin) }
+    ensures entries { IfOk result (λ made. made.1.entries ≡ map (λ e. e.items) entries.items) }
 {
     // That the mirror is made shows that the origin is lawful.
     let mirror = Mirror::new(alloc, ORIGIN)?;

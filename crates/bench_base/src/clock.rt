@@ -1,4 +1,6 @@
 //! Time, memory, and how they are told.
+ghost use Rattle.std.specs.Prelude.{◌≡◌, ◌≢◌, ◌*◌, ◌/◌, ◌^◌, ◌<◌};
+
 use std::rt::Files;
 use std::time::CpuClock;
 use std::{fs, io};
@@ -17,7 +19,10 @@ pub fn since(rt: &impl CpuClock, start: u128) -> io::Result<u128> {
 }
 
 /// The quotient, 0 where it has none.
-pub fn ratio(above: u128, below: u128) -> u128 {
+pub fn ratio(above: u128, below: u128) -> u128
+    ensures some { below ≢ 0 → result ≡ above / below }
+    ensures none { below ≡ 0 → result ≡ 0 }
+{
     if below == 0 { 0 } else { above / below }
 }
 
@@ -39,11 +44,22 @@ pub fn resident_bytes<R: AllocGlobal + Files>(rt: &R) -> u64 {
     let Ok(text) = fs::read_to_string(rt, "/proc/self/statm") else {
         return 0;
     };
-    let mut words = text.as_str().split_whitespace();
+    bytes_of_pages(pages_of(text.as_str()))
+}
+
+// The second number of a text, and 0 where it has none.
+fn pages_of(text: &str) -> u64 {
+    let mut words = text.split_whitespace();
     let _size = words.next();
-    let pages = match words.next() {
+    match words.next() {
         Some(word) => word.parse::<u64>().unwrap_or(0),
         None => 0,
-    };
-    pages.saturating_mul(PAGE)
+    }
+}
+
+// How many bytes so many pages have, 0 where they have too many.
+fn bytes_of_pages(pages: u64) -> u64
+    ensures fits { pages * 4096 < 2 ^ 64 → result ≡ pages * 4096 }
+{
+    pages.checked_mul(PAGE).unwrap_or(0)
 }
