@@ -1,8 +1,13 @@
 //! Whole runs of the program, over memory and folders, and over streams that fail.
+mod broken;
 mod commands;
 mod endings;
+mod faults;
+mod heads;
+mod lines;
 mod reading;
 mod serving;
+mod states;
 mod streams;
 
 use crate::check::{CheckFault, run_check};

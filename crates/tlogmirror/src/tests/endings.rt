@@ -7,19 +7,11 @@ use crate::run::run;
 use crate::tests::streams::FailingWriter;
 use crate::tests::words_of;
 use command_line::CommandFault;
-use std::fs::Files;
-use std::net::{Net, TcpListener, TcpStream};
 use std::process::Abort;
-use std::rt::Clock;
 use std::test::Fail;
 
-/// What a run of the program asks of the system.
-pub trait Host: Files + Clock + AllocGlobal + Net<Stream = TcpStream, Listener = TcpListener> {}
-
-impl<R: Files + Clock + AllocGlobal + Net<Stream = TcpStream, Listener = TcpListener>> Host for R {}
-
 // A whole run of the program on this input: the status, and what both streams were given.
-pub fn run_of<R: Host>(rt: &R, line: &str, input: &[u8]) -> Result<(u8, Vec<u8>, Vec<u8>), Fail> {
+pub fn run_of(rt: &HostRuntime, line: &str, input: &[u8]) -> Result<(u8, Vec<u8>, Vec<u8>), Fail> {
     let alloc = rt.alloc();
     let words = words_of(alloc, line)?;
     let mut input = input;
@@ -31,8 +23,9 @@ pub fn run_of<R: Host>(rt: &R, line: &str, input: &[u8]) -> Result<(u8, Vec<u8>,
 }
 
 // The run of that line on this input ends with that status, and writes these texts.
-pub fn assert_run<R: Host + Abort>(
-    rt: &R,
+pub fn assert_run(
+    rt: &HostRuntime,
+    abort: &impl Abort,
     line: &str,
     input: &[u8],
     status: u8,
@@ -40,9 +33,42 @@ pub fn assert_run<R: Host + Abort>(
     errors: &str,
 ) -> Result<(), Fail> {
     let run = run_of(rt, line, input)?;
-    assert_eq!(rt; str::from_utf8(&run.2)?, errors, "{line}");
-    assert_eq!(rt; str::from_utf8(&run.1)?, output, "{line}");
-    assert_eq!(rt; run.0, status, "{line}");
+    assert_eq!(abort; str::from_utf8(&run.2)?, errors, "{line}");
+    assert_eq!(abort; str::from_utf8(&run.1)?, output, "{line}");
+    assert_eq!(abort; run.0, status, "{line}");
+    Ok(())
+}
+
+#[test]
+fn whole_runs(rt: HostRuntime) -> Result<(), Fail> {
+    let root = "size 0\nroot 47DEQpj8HBSa+/TImW+5JCeuQeRkm5NMpJWZG3hSuFU=\n";
+    for (line, input, status, output, errors) in [
+        ("root --width 0", "", 0, root, ""),
+        ("root --width 1", "", 1, "", "tlogmirror: BundleShort\n"),
+        ("root --width 0", "x", 1, "", "tlogmirror: BundleLong\n"),
+        ("root --width 257", "", 2, "", "tlogmirror: BadArgument\n"),
+        ("check", "inclusion\n", 1, "", "tlogmirror: BadProofText\n"),
+        ("check", crate::tests::INCLUSION, 0, "yes\n", ""),
+        ("check", crate::tests::OTHER_INDEX, 3, "no\n", ""),
+        ("--version", "", 0, "tlogmirror 0.1.0\n", ""),
+    ] {
+        assert_run(&rt, &rt, line, input.as_bytes(), status, output, errors)?;
+    }
+    Ok(())
+}
+
+#[test]
+fn texts_of_the_command_line(rt: HostRuntime) -> Result<(), Fail> {
+    let (status, output, errors) = run_of(&rt, "root --help", &[])?;
+    assert_eq!(rt; status, 0);
+    assert!(rt; str::from_utf8(&output)?.contains("Usage: tlogmirror root --width <W>"));
+    assert_eq!(rt; errors.len(), 0);
+    for line in ["", "roots", "root", "root --width"] {
+        let (status, output, errors) = run_of(&rt, line, &[])?;
+        assert_eq!(rt; status, 2, "{line}");
+        assert_eq!(rt; output.len(), 0, "{line}");
+        assert!(rt; str::from_utf8(&errors)?.starts_with("error: "), "{line}");
+    }
     Ok(())
 }
 
