@@ -18,7 +18,11 @@ mod items;
 #[cfg(test)]
 mod logs;
 #[cfg(test)]
+mod memory;
+#[cfg(test)]
 mod new;
+#[cfg(test)]
+mod orders;
 #[cfg(test)]
 mod plays;
 #[cfg(test)]
@@ -27,3 +31,5 @@ mod restored;
 mod served;
 #[cfg(test)]
 mod settle;
+#[cfg(test)]
+mod whole;

@@ -1,0 +1,144 @@
+//! Requests for memory that are refused. Each test is run once for each of its requests, with that one refused, as by
+//! `rt try --test --fail-alloc N`: where a take, a merge or a play is refused, a part of it may stand and no more, and
+//! the same once more completes it.
+use crate::given::Five;
+use crate::logs::joined;
+use crate::plays::{are_done, are_merged, three_events, two_mirrors};
+use crate::whole::{BUNDLE_OF_3, ROOT_OF_3, row_of_3};
+use signed_note::Verifier;
+use std::alloc::{AllocError, Global};
+use std::process::Abort;
+use std::test::Fail;
+use tlog_hash::Sha256Tree;
+use tlog_mirror::{Event, MergeFault, Mirror, TakeFault, fits, play};
+use tlog_text::read_hash;
+
+const HEAD_OF_3: &str =
+    "ex\n3\nrra8/idLcKFPsGel5VeCZNsPqbUa9eC6FZFY8yngbnc=\n\n\u{2014} good AQIDBAU=\n";
+
+#[test]
+fn takes_again_after_want_of_memory(rt: HostRuntime) -> Result<(), Fail> {
+    let alloc = rt.alloc();
+    let row = joined(alloc, &row_of_3(alloc)?)?;
+    let mut mirror = Mirror::<Sha256Tree>::new(alloc, "ex")?;
+    take_tile_at_last(&rt, alloc, &mut mirror, &row);
+    take_bundle_at_last(&rt, alloc, &mut mirror);
+    let mut other = Mirror::<Sha256Tree>::new(alloc, "ex")?;
+    take_head_at_last(&rt, alloc, &mut other, &row)
+}
+
+// Takes the tile of the three entries, whose row has two joins.
+fn take_tile_at_last(rt: &impl Abort, alloc: Global, mirror: &mut Mirror<Sha256Tree>, row: &[u8]) {
+    let mut answer = mirror.take_tile(alloc, 3, row);
+    if answer == Err(TakeFault::OutOfMemory) {
+        assert!(rt; mirror.strings().len() < 2);
+        answer = mirror.take_tile(alloc, 3, row);
+    }
+    assert_eq!(rt; answer, Ok(()));
+    assert_eq!(rt; mirror.strings().len(), 2);
+}
+
+// Takes their bundle over that, which has three strings more.
+fn take_bundle_at_last(rt: &impl Abort, alloc: Global, mirror: &mut Mirror<Sha256Tree>) {
+    let mut answer = mirror.take_bundle(alloc, 3, BUNDLE_OF_3);
+    if answer == Err(TakeFault::OutOfMemory) {
+        assert!(rt; mirror.strings().len() < 5);
+        answer = mirror.take_bundle(alloc, 3, BUNDLE_OF_3);
+    }
+    assert_eq!(rt; answer, Ok(()));
+    assert_eq!(rt; mirror.strings().len(), 5);
+}
+
+// Takes their head over nothing: two joins, and the note last.
+fn take_head_at_last(
+    rt: &impl Abort,
+    alloc: Global,
+    mirror: &mut Mirror<Sha256Tree>,
+    row: &[u8],
+) -> Result<(), Fail> {
+    let mut keys: Vec<Box<dyn Verifier>> = Vec::new(alloc);
+    keys.push(Box::new(alloc, Five)?)?;
+    let mut answer = mirror.take_head(alloc, &keys, HEAD_OF_3.as_bytes(), &[row]);
+    if answer == Err(TakeFault::OutOfMemory) {
+        assert!(rt; mirror.note_at(0).is_none());
+        answer = mirror.take_head(alloc, &keys, HEAD_OF_3.as_bytes(), &[row]);
+    }
+    assert_eq!(rt; answer, Ok(()));
+    assert!(rt; mirror.note_at(0) == Some(HEAD_OF_3.as_bytes()));
+    assert_eq!(rt; mirror.strings().len(), 2);
+    Ok(())
+}
+
+#[test]
+fn merges_again_after_want_of_memory(rt: HostRuntime) -> Result<(), Fail> {
+    let alloc = rt.alloc();
+    let row = joined(alloc, &row_of_3(alloc)?)?;
+    let mut other = Mirror::<Sha256Tree>::new(alloc, "ex")?;
+    take_head_at_last(&rt, alloc, &mut other, &row)?;
+    take_bundle_at_last(&rt, alloc, &mut other);
+    let mut mirror = Mirror::<Sha256Tree>::new(alloc, "ex")?;
+    merge_at_last(&rt, alloc, &mut mirror, &other);
+    let root = read_hash(ROOT_OF_3).ok_or("no hash")?;
+    assert!(rt; mirror.is_complete(3, &root) && other.is_complete(3, &root));
+    Ok(())
+}
+
+// Merges a mirror that is empty with one of five strings and a note, which comes last.
+fn merge_at_last(
+    rt: &impl Abort,
+    alloc: Global,
+    mirror: &mut Mirror<Sha256Tree>,
+    other: &Mirror<Sha256Tree>,
+) {
+    let mut answer = mirror.merge(alloc, other);
+    if answer == Err(MergeFault::OutOfMemory) {
+        assert!(rt; mirror.note_at(0).is_none());
+        answer = mirror.merge(alloc, other);
+    }
+    assert_eq!(rt; answer, Ok(()));
+    assert_eq!(rt; mirror.strings().len(), 5);
+}
+
+#[test]
+fn plays_again_after_want_of_memory(rt: HostRuntime) -> Result<(), Fail> {
+    let alloc = rt.alloc();
+    let events = three_events(alloc)?;
+    let mut world = two_mirrors(alloc)?;
+    play_at_last(&rt, alloc, &mut world, &events)?;
+    assert!(rt; are_merged(&world));
+    Ok(())
+}
+
+// Plays the three events. A play that is refused as a whole leaves all as it was, an event that is refused answers so.
+fn play_at_last(
+    rt: &impl Abort,
+    alloc: Global,
+    world: &mut [Mirror<Sha256Tree>],
+    events: &[Event],
+) -> Result<(), Fail> {
+    let mut keys: Vec<Box<dyn Verifier>> = Vec::new(alloc);
+    keys.push(Box::new(alloc, Five)?)?;
+    if !fits(events, world.len()) {
+        return Err("events that do not fit".into());
+    }
+    match play(alloc, world, &keys, events) {
+        Ok(answers) if are_done(&answers, 3) => return Ok(()),
+        Ok(answers) => assert!(rt; are_done_but_one(&answers)),
+        Err(AllocError) => assert!(rt; world.iter().all(|mirror| holds_nothing(mirror))),
+    }
+    let answers = play(alloc, world, &keys, events)?;
+    assert!(rt; are_done(&answers, 3));
+    Ok(())
+}
+
+// Whether three events were answered, one of them by want of memory and the others by Ok.
+fn are_done_but_one(answers: &[Result<(), TakeFault>]) -> bool {
+    let done = answers.iter().filter(|answer| answer.is_ok()).count();
+    let refused = Err(TakeFault::OutOfMemory);
+    done == 2 && answers.len() == 3 && answers.contains(&refused)
+}
+
+// Whether a mirror holds neither a string nor a note.
+fn holds_nothing(mirror: &Mirror<Sha256Tree>) -> bool {
+    mirror.strings().len() == 0 && mirror.note_at(0).is_none()
+}
