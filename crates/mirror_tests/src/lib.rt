@@ -20,6 +20,8 @@ mod logs;
 #[cfg(test)]
 mod memory;
 #[cfg(test)]
+mod merges;
+#[cfg(test)]
 mod new;
 #[cfg(test)]
 mod orders;
