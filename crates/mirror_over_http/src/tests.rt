@@ -1,6 +1,9 @@
 //! Mirrors of C(n), which is the list of the numbers from 0 on, n of them, each in two bytes, big-endian.
+mod answers;
 mod loopback;
 mod pulls;
+mod replies;
+mod requests;
 
 ghost use Rattle.std.specs.Prelude.{◌≡◌, map, IfOk};
 ghost use Rattle.mirror_model.specs.TrueLaws.{AreShort};
