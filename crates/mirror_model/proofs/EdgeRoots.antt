@@ -1,5 +1,7 @@
 -- EdgeRoot of the true edge rows.
-use Rattle.std.proofs.Common.{subst, Bool, true, false, ◌≡◌, ℕ, zero, suc, ◌+◌, ◌*◌, ◌/◌, ◌%◌, ◌^◌, ◌<◌, ◌≤◌, List, [], ◌∷◌, ◌++◌, length, take, drop, sym, refl, ap, ◌∙◌, arith, length-drop, take-append-drop, map}
+use Rattle.std.proofs.Common.{subst, Bool, true, false, ◌≡◌, ℕ, zero, suc, ◌+◌, ◌*◌, ◌/◌, ◌%◌, ◌^◌, ◌<◌, ◌≤◌, List, []}
+use Rattle.std.proofs.Common.{◌∷◌, ◌++◌, length, take, drop, sym, refl, ap, ◌∙◌, arith, length-drop, take-append-drop}
+use Rattle.std.proofs.Common.{map}
 use Rattle.std.proofs.lemmas.List.{length-map, map-append, drop-drop, take_all, nil_from_length}
 use Rattle.std.proofs.lemmas.Nat.{mul-le}
 use Rattle.std.proofs.lemmas.Bool.{eqb-true, eqb-false}
@@ -25,15 +27,18 @@ pub record IsLevel (n b c q p w : ℕ) : Type 0 where
   pub sum : q ≡ 256 * p + w
   pub next : c ≡ 256 * b
 
-pub level_is : (n level : ℕ) → IsLevel n (256 ^ level) (256 ^ (level + 1)) (n / 256 ^ level) (n / 256 ^ (level + 1)) (n / 256 ^ level % 256)
+pub level_is : (n level : ℕ) →
+    IsLevel n (256 ^ level) (256 ^ (level + 1)) (n / 256 ^ level) (n / 256 ^ (level + 1)) (n / 256 ^ level % 256)
 level_is n level =
     let b = 256 ^ level in
     let q = n / b in
     let some : 0 < b = level_positive level in
     let one_more : level + 1 ≡ suc level = omega arith in
     let next : 256 ^ (level + 1) ≡ 256 * b = ap (λ m. 256 ^ m) one_more ∙ pow-succ' 256 level in
-    let p_is : n / 256 ^ (level + 1) ≡ q / 256 = ap (λ m. n / m) (next ∙ omega arith) ∙ sym (div-div-eq-div-mul n b 256) in
-    let sum : q ≡ 256 * (n / 256 ^ (level + 1)) + q % 256 = sym (div-add-mod q 256) ∙ ap (λ m. 256 * m + q % 256) (sym p_is) in
+    let p_is : n / 256 ^ (level + 1) ≡ q / 256 =
+    ap (λ m. n / m) (next ∙ omega arith) ∙ sym (div-div-eq-div-mul n b 256) in
+    let sum : q ≡ 256 * (n / 256 ^ (level + 1)) + q % 256 =
+    sym (div-add-mod q 256) ∙ ap (λ m. 256 * m + q % 256) (sym p_is) in
     record {
       some = some;
       start = ap (λ m. n / 256 ^ (level + 1) * m) next ∙ omega arith;
@@ -57,27 +62,36 @@ edge_rows_from digest (suc levels) level es =
     then edge_rows_from digest levels (level + 1) es
     else edge_row digest es level ∷ edge_rows_from digest levels (level + 1) es
 
-pub edge_rows-levels : (digest : List ℕ → List ℕ) (es : List (List ℕ)) → edge_rows digest es ≡ edge_rows_from digest 8 0 es
+pub edge_rows-levels : (digest : List ℕ → List ℕ) (es : List (List ℕ)) →
+    edge_rows digest es ≡ edge_rows_from digest 8 0 es
 unfolding edge_levels
 edge_rows-levels digest es = by_levels 8 0
   where
-    by_levels : (levels level : ℕ) → map (edge_row digest es) (filter (λ l. not (nat_eq (width_of (length es) l) 0)) (levels_from levels level)) ≡ edge_rows_from digest levels level es
+    by_levels : (levels level : ℕ) →
+        map (edge_row digest es) (filter (λ l. not (nat_eq (width_of (length es) l) 0)) (levels_from levels level))
+        ≡ edge_rows_from digest levels level es
     by_levels zero level = refl
     by_levels (suc levels) level = at (nat_eq (width_of (length es) level) 0) _ _ (by_levels levels (level + 1))
       where
-        at : (x : Bool) (xs : List ℕ) (rows : List (List (List ℕ))) → map (edge_row digest es) xs ≡ rows → map (edge_row digest es) (cond (not x) (level ∷ xs) xs) ≡ (if x then rows else edge_row digest es level ∷ rows)
+        at : (x : Bool) (xs : List ℕ) (rows : List (List (List ℕ))) → map (edge_row digest es) xs ≡ rows →
+            map (edge_row digest es) (cond (not x) (level ∷ xs) xs)
+            ≡ (if x then rows else edge_row digest es level ∷ rows)
         at true xs rows e = e
         at false xs rows e = ap (λ rows. edge_row digest es level ∷ rows) e
 
 module _ (digest : List ℕ → List ℕ) (es : List (List ℕ)) where
-  pub fold_row_rest : (level c q p w : ℕ) → IsLevel (length es) (256 ^ level) c q p w → q * 256 ^ level < length es → fold_of digest (level_row digest es level (256 * p) w ++ mth digest (drop (q * 256 ^ level) es) ∷ []) ≡ mth digest (drop (p * c) es)
+  pub fold_row_rest : (level c q p w : ℕ) → IsLevel (length es) (256 ^ level) c q p w → q * 256 ^ level < length es →
+      fold_of digest (level_row digest es level (256 * p) w ++ mth digest (drop (q * 256 ^ level) es) ∷ [])
+      ≡ mth digest (drop (p * c) es)
   fold_row_rest level c q p w h more =
       let b = 256 ^ level in
       let rows = ranges b (256 * p) w es in
       let rest = drop (q * b) es in
       let fits : (256 * p + w) * b ≤ length es = rw (← h.sum) h.upto in
       let all = all_ranges b (256 * p) w es fits in
-      let cut : IsCut b (rows ++ rest ∷ []) = cut_push b rows rest all (omega (arith, length-drop (q * b) es)) (omega (arith, length-drop (q * b) es, h.above)) in
+      let cut : IsCut b (rows ++ rest ∷ []) =
+      cut_push b rows rest all (omega (arith, length-drop (q * b) es))
+      (omega (arith, length-drop (q * b) es, h.above)) in
       let whole : joined_up (rows ++ rest ∷ []) ≡ drop (p * c) es =
       joined_push b rows rest
       ∙ ap (λ xs. xs ++ rest) (joined_ranges b (256 * p) w es)
@@ -85,9 +99,11 @@ module _ (digest : List ℕ → List ℕ) (es : List (List ℕ)) where
       ∙ ap (λ xs. take (w * b) (drop ((256 * p) * b) es) ++ xs) (sym (drop-drop (w * b) ((256 * p) * b) es))
       ∙ take-append-drop (w * b) (drop ((256 * p) * b) es)
       ∙ ap (λ n. drop n es) (sym h.start) in
-      ap (fold_of digest) (sym (map-append (mth digest) rows (rest ∷ []))) ∙ sym (mth-level digest level (rows ++ rest ∷ []) cut) ∙ ap (mth digest) whole
+      ap (fold_of digest) (sym (map-append (mth digest) rows (rest ∷ []))) ∙
+      sym (mth-level digest level (rows ++ rest ∷ []) cut) ∙ ap (mth digest) whole
 
-  pub fold_row : (level c q p w : ℕ) → IsLevel (length es) (256 ^ level) c q p w → length es ≡ q * 256 ^ level → 0 < w → fold_of digest (level_row digest es level (256 * p) w) ≡ mth digest (drop (p * c) es)
+  pub fold_row : (level c q p w : ℕ) → IsLevel (length es) (256 ^ level) c q p w → length es ≡ q * 256 ^ level → 0 < w →
+      fold_of digest (level_row digest es level (256 * p) w) ≡ mth digest (drop (p * c) es)
   fold_row level c q p w h end some =
       let b = 256 ^ level in
       let rows = ranges b (256 * p) w es in
@@ -115,7 +131,11 @@ module _ (digest : List ℕ → List ℕ) (es : List (List ℕ)) where
       zero_from zero b h = refl
       zero_from (suc q) b h = let e : suc q * b ≡ b + q * b = omega arith in absurd (omega (arith, e))
 
-  root_step : (level w p q c : ℕ) (rest : List (List (List ℕ))) (x : Bool) → nat_eq w 0 ≡ x → IsLevel (length es) (256 ^ level) c q p w → q * 256 ^ level < length es → (p * c < length es → root_from digest (mth digest (drop (p * c) es)) rest ≡ mth digest es) → root_from digest (mth digest (drop (q * 256 ^ level) es)) (if x then rest else level_row digest es level (256 * p) w ∷ rest) ≡ mth digest es
+  root_step : (level w p q c : ℕ) (rest : List (List (List ℕ))) (x : Bool) → nat_eq w 0 ≡ x →
+      IsLevel (length es) (256 ^ level) c q p w → q * 256 ^ level < length es →
+      (p * c < length es → root_from digest (mth digest (drop (p * c) es)) rest ≡ mth digest es) →
+      root_from digest (mth digest (drop (q * 256 ^ level) es))
+      (if x then rest else level_row digest es level (256 * p) w ∷ rest) ≡ mth digest es
   root_step level w p q c rest true e h more ih =
       let z : w ≡ 0 = eqb-true _ _ e in
       let zb : w * 256 ^ level ≡ 0 = ap (λ m. m * 256 ^ level) z ∙ omega arith in
@@ -124,7 +144,11 @@ module _ (digest : List ℕ → List ℕ) (es : List (List ℕ)) where
   root_step level w p q c rest false e h more ih =
       ap (λ v. root_from digest v rest) (fold_row_rest level c q p w h more) ∙ ih (omega (arith, h.start, h.done))
 
-  edge_step : (level w p q c : ℕ) (rest : List (List (List ℕ))) (x : Bool) → nat_eq w 0 ≡ x → IsLevel (length es) (256 ^ level) c q p w → length es ≡ q * 256 ^ level → (length es ≡ p * c → edge_root digest rest ≡ mth digest es) → (p * c < length es → root_from digest (mth digest (drop (p * c) es)) rest ≡ mth digest es) → edge_root digest (if x then rest else level_row digest es level (256 * p) w ∷ rest) ≡ mth digest es
+  edge_step : (level w p q c : ℕ) (rest : List (List (List ℕ))) (x : Bool) → nat_eq w 0 ≡ x →
+      IsLevel (length es) (256 ^ level) c q p w → length es ≡ q * 256 ^ level →
+      (length es ≡ p * c → edge_root digest rest ≡ mth digest es) →
+      (p * c < length es → root_from digest (mth digest (drop (p * c) es)) rest ≡ mth digest es) →
+      edge_root digest (if x then rest else level_row digest es level (256 * p) w ∷ rest) ≡ mth digest es
   edge_step level w p q c rest true e h end ih next =
       let z : w ≡ 0 = eqb-true _ _ e in
       let zb : w * 256 ^ level ≡ 0 = ap (λ m. m * 256 ^ level) z ∙ omega arith in
@@ -132,32 +156,48 @@ module _ (digest : List ℕ → List ℕ) (es : List (List ℕ)) where
   edge_step level w p q c rest false e h end ih next =
       let some : w ≡ 0 → ⊥ = eqb-false _ _ e in
       let one : 1 * 256 ^ level ≤ w * 256 ^ level = mul-le _ _ _ _ (omega arith) (omega arith) in
-      ap (λ v. root_from digest v rest) (fold_row level c q p w h end (omega arith)) ∙ next (omega (arith, h.start, h.done, h.some, one))
+      ap (λ v. root_from digest v rest) (fold_row level c q p w h end (omega arith)) ∙
+      next (omega (arith, h.start, h.done, h.some, one))
 
-  root_from-rows : (levels level : ℕ) → length es < 256 ^ (level + levels) → length es / 256 ^ level * 256 ^ level < length es → root_from digest (mth digest (done level)) (edge_rows_from digest levels level es) ≡ mth digest es
-  root_from-rows zero level low more = ap (λ q. mth digest (drop (q * 256 ^ level) es)) (no_more level low) ∙ (let z : 0 * 256 ^ level ≡ 0 = omega arith in ap (λ n. mth digest (drop n es)) z)
+  root_from-rows : (levels level : ℕ) → length es < 256 ^ (level + levels) →
+      length es / 256 ^ level * 256 ^ level < length es →
+      root_from digest (mth digest (done level)) (edge_rows_from digest levels level es) ≡ mth digest es
+  root_from-rows zero level low more =
+      ap (λ q. mth digest (drop (q * 256 ^ level) es)) (no_more level low) ∙
+      (let z : 0 * 256 ^ level ≡ 0 = omega arith in ap (λ n. mth digest (drop n es)) z)
   root_from-rows (suc levels) level low more =
       let h = level_is (length es) level in
-      let low' : length es < 256 ^ ((level + 1) + levels) = (let e : level + suc levels ≡ (level + 1) + levels = omega arith in subst (λ m. length es < 256 ^ m) e low) in
-      root_step level (length es / 256 ^ level % 256) (length es / 256 ^ (level + 1)) (length es / 256 ^ level) (256 ^ (level + 1)) (edge_rows_from digest levels (level + 1) es) _ refl h more (root_from-rows levels (level + 1) low')
+      let low' : length es < 256 ^ ((level + 1) + levels) =
+      (let e : level + suc levels ≡ (level + 1) + levels = omega arith in subst (λ m. length es < 256 ^ m) e low) in
+      root_step level (length es / 256 ^ level % 256) (length es / 256 ^ (level + 1)) (length es / 256 ^ level)
+      (256 ^ (level + 1)) (edge_rows_from digest levels (level + 1) es) _ refl h more
+      (root_from-rows levels (level + 1) low')
 
-  edge_root-rows : (levels level : ℕ) → length es < 256 ^ (level + levels) → length es ≡ length es / 256 ^ level * 256 ^ level → edge_root digest (edge_rows_from digest levels level es) ≡ mth digest es
+  edge_root-rows : (levels level : ℕ) → length es < 256 ^ (level + levels) →
+      length es ≡ length es / 256 ^ level * 256 ^ level →
+      edge_root digest (edge_rows_from digest levels level es) ≡ mth digest es
   edge_root-rows zero level low end =
       let z : length es ≡ 0 = end ∙ ap (λ q. q * 256 ^ level) (no_more level low) ∙ omega arith in
       sym (ap (mth digest) (nil_from_length es z) ∙ mth-none digest)
   edge_root-rows (suc levels) level low end =
       let h = level_is (length es) level in
-      let low' : length es < 256 ^ ((level + 1) + levels) = (let e : level + suc levels ≡ (level + 1) + levels = omega arith in subst (λ m. length es < 256 ^ m) e low) in
-      edge_step level (length es / 256 ^ level % 256) (length es / 256 ^ (level + 1)) (length es / 256 ^ level) (256 ^ (level + 1)) (edge_rows_from digest levels (level + 1) es) _ refl h end (edge_root-rows levels (level + 1) low') (root_from-rows levels (level + 1) low')
+      let low' : length es < 256 ^ ((level + 1) + levels) =
+      (let e : level + suc levels ≡ (level + 1) + levels = omega arith in subst (λ m. length es < 256 ^ m) e low) in
+      edge_step level (length es / 256 ^ level % 256) (length es / 256 ^ (level + 1)) (length es / 256 ^ level)
+      (256 ^ (level + 1)) (edge_rows_from digest levels (level + 1) es) _ refl h end
+      (edge_root-rows levels (level + 1) low') (root_from-rows levels (level + 1) low')
 
-pub edge_root_is : (digest : List ℕ → List ℕ) (es : List (List ℕ)) → length es < 256 ^ 8 → edge_root digest (edge_rows digest es) ≡ mth digest es
-edge_root_is digest es low = ap (edge_root digest) (edge_rows-levels digest es) ∙ edge_root-rows digest es 8 0 low (one (length es))
+pub edge_root_is : (digest : List ℕ → List ℕ) (es : List (List ℕ)) → length es < 256 ^ 8 →
+    edge_root digest (edge_rows digest es) ≡ mth digest es
+edge_root_is digest es low =
+    ap (edge_root digest) (edge_rows-levels digest es) ∙ edge_root-rows digest es 8 0 low (one (length es))
   where
     one : (n : ℕ) → n ≡ n / 256 ^ 0 * 256 ^ 0
     one n = omega arith
 
 -- the true edge rows have the widths of the edge
-pub edge_rows_wide : (digest : List ℕ → List ℕ) (es : List (List ℕ)) → map length (edge_rows digest es) ≡ edge_widths (length es)
+pub edge_rows_wide : (digest : List ℕ → List ℕ) (es : List (List ℕ)) →
+    map length (edge_rows digest es) ≡ edge_widths (length es)
 edge_rows_wide digest es = each (edge_levels (length es))
   where
     length-row : (b first count : ℕ) → length (map (mth digest) (ranges b first count es)) ≡ count
@@ -165,4 +205,6 @@ edge_rows_wide digest es = each (edge_levels (length es))
 
     each : (levels : List ℕ) → map length (map (edge_row digest es) levels) ≡ map (width_of (length es)) levels
     each [] = refl
-    each (level ∷ levels) = λ i. length-row (256 ^ level) (256 * edge_index_of (length es) level) (width_of (length es) level) i ∷ each levels i
+    each (level ∷ levels) =
+        λ i. length-row (256 ^ level) (256 * edge_index_of (length es) level) (width_of (length es) level) i
+        ∷ each levels i

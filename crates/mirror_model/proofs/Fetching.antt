@@ -1,5 +1,7 @@
 -- The laws of specs/FetchLaws.antt.
-use Rattle.std.proofs.Common.{min, zero, suc, ◌≡◌, ◌⊎◌, ℕ, ◌+◌, ◌-◌, ◌*◌, ◌/◌, ◌^◌, ◌<◌, ◌≤◌, List, [], ◌∷◌, ◌++◌, length, map, take, drop, length-take, length-drop, refl, sym, ◌∙◌, ap, subst, inl, inr, arith}
+use Rattle.std.proofs.Common.{min, zero, suc, ◌≡◌, ◌⊎◌, ℕ, ◌+◌, ◌-◌, ◌*◌, ◌/◌, ◌^◌, ◌<◌, ◌≤◌, List, [], ◌∷◌, ◌++◌}
+use Rattle.std.proofs.Common.{length, map, take, drop, length-take, length-drop, refl, sym, ◌∙◌, ap, subst, inl, inr}
+use Rattle.std.proofs.Common.{arith}
 use Rattle.std.specs.Prelude.{Contains}
 use Rattle.std.specs.FinSet as set
 use Rattle.std.proofs.lemmas.Nat.{div-mul-add}
@@ -14,7 +16,8 @@ use Rattle.mirror_model.specs.Edge.{edge_rows, edge_strings}
 use Rattle.mirror_model.specs.Rounds.{true_strings}
 use Rattle.mirror_model.specs.Item.{notes_of, strings_of}
 use Rattle.mirror_model.specs.Strings.{IsDigest}
-use Rattle.mirror_model.proofs.StringSets.{has_left, has_right, has_cases, listed_from_has, has_from_listed, holds_from_held}
+use Rattle.mirror_model.proofs.StringSets.{has_left, has_right, has_cases, listed_from_has, has_from_listed}
+use Rattle.mirror_model.proofs.StringSets.{holds_from_held}
 use Rattle.mirror_model.proofs.NodeBlocks.{node_inside}
 use Rattle.mirror_model.proofs.RowLaws.{to_block, bundle, full_tile}
 use Rattle.mirror_model.proofs.EdgeStrings.{full_or_edge}
@@ -33,7 +36,9 @@ take_past (x ∷ xs) ys k m e =
     let same : k ≡ suc (length xs + m) = omega arith in
     ap (λ n. take n (x ∷ (xs ++ ys))) same ∙ ap (λ (l : List ℕ). x ∷ l) (take_past xs ys (length xs + m) m refl)
 
-begins : (digest : List ℕ → List ℕ) → IsDigest digest → (b first w n : ℕ) (es : List (List ℕ)) → w ≤ n → take (32 * w) (row_text (map (mth digest) (ranges b first n es))) ≡ row_text (map (mth digest) (ranges b first w es))
+begins : (digest : List ℕ → List ℕ) → IsDigest digest → (b first w n : ℕ) (es : List (List ℕ)) → w ≤ n →
+    take (32 * w) (row_text (map (mth digest) (ranges b first n es)))
+    ≡ row_text (map (mth digest) (ranges b first w es))
 begins digest hash b first zero n es le = refl
 begins digest hash b first (suc w) zero es le = absurd (omega arith)
 begins digest hash b first (suc w) (suc n) es le =
@@ -44,7 +49,8 @@ begins digest hash b first (suc w) (suc n) es le =
     ∙ ap (λ (l : List ℕ). h ++ l) (begins digest hash b (first + 1) w n es (omega arith))
 
 pub full_tiles_begin : FullTilesBegin
-full_tiles_begin digest hash entries level index width le = begins digest hash (256 ^ level) (256 * index) width 256 entries le
+full_tiles_begin digest hash entries level index width le =
+    begins digest hash (256 ^ level) (256 * index) width 256 entries le
 
 -- ---- a path that was answered
 
@@ -64,10 +70,17 @@ answered_is_not_again digest held es small edge (Tile level index width) all f =
       | inr on_edge ↦ unheld (on_edge_held x.string on_edge)
       | inl u ↦
           let c = 256 ^ (level + 1) in
-          let at : x.start / c ≡ u.index = index_of u.index c x.start x.len (level_positive (level + 1)) u.inside.start_in u.inside.upto u.inside.some in
+          let at : x.start / c ≡ u.index =
+          index_of u.index c x.start x.len
+          (level_positive (level + 1)) u.inside.start_in u.inside.upto u.inside.some in
           let same : index ≡ u.index = t.tile.index_is ∙ at in
-          let has : Contains (joins digest (level_row digest es level (256 * u.index) 256)) x.string = (full_tile digest es level u.index u.full x.string).1 (record { node = x; is = n; inside = u.inside; long = t.tile.above; string_is = refl }) in
-          let here : Contains (joins digest (level_row digest es level (256 * index) width)) x.string = subst (λ w. Contains (joins digest (level_row digest es level (256 * index) w)) x.string) (sym ft.0) (subst (λ i. Contains (joins digest (level_row digest es level (256 * i) 256)) x.string) (sym same) has) in
+          let has : Contains (joins digest (level_row digest es level (256 * u.index) 256)) x.string =
+          (full_tile digest es level u.index u.full x.string).1
+          (record { node = x; is = n; inside = u.inside; long = t.tile.above; string_is = refl }) in
+          let here : Contains (joins digest (level_row digest es level (256 * index) width)) x.string =
+          subst (λ w. Contains (joins digest (level_row digest es level (256 * index) w)) x.string) (sym ft.0)
+          (subst (λ i. Contains (joins digest (level_row digest es level (256 * i) 256)) x.string)
+          (sym same) has) in
           unheld (holds_from_held held (true_strings digest es (Tile level index width)) all x.string here)
     ]
 answered_is_not_again digest held es small edge (Entries index width) all f =
@@ -82,13 +95,30 @@ answered_is_not_again digest held es small edge (Entries index width) all f =
           let i = blk.index in
           let here = node_inside digest (part (i * 256) 256 es) (i * 256) x blk.is in
           let part_short = length-take 256 (drop (i * 256) es) in
-          let at : x.start / 256 ≡ i = index_of i 256 x.start x.len (omega arith) here.start_in (omega (arith, here.upto, part_short)) here.some in
+          let at : x.start / 256 ≡ i =
+          index_of i 256 x.start x.len (omega arith) here.start_in
+          (omega (arith, here.upto, part_short)) here.some in
           let same : index ≡ i = b.index_is ∙ at in
           let place : 256 * index ≡ i * 256 = omega (arith, same) in
-          let has : Contains (strings digest (part (i * 256) 256 es)) x.string = (bundle digest es i blk.below x.string).1 (record { node = x; is = n; inside = record { start_in = here.start_in; upto = omega (arith, here.upto, part_short); some = here.some }; string_is = refl }) in
-          let wide : width ≡ min 256 (length (drop (i * 256) es)) = b.width_is ∙ (let len : length (drop (i * 256) es) ≡ length es - 256 * index = length-drop (i * 256) es ∙ omega (arith, place) in ap (λ m. min 256 m) (sym len)) in
-          let same_part : part (256 * index) width es ≡ part (i * 256) 256 es = ap (λ m. take width (drop m es)) place ∙ (ap (λ m. take m (drop (i * 256) es)) wide ∙ take_min 256 (drop (i * 256) es)) in
-          unheld (holds_from_held held (true_strings digest es (Entries index width)) all x.string (subst (λ zs. Contains (strings digest zs) x.string) (sym same_part) has))
+          let has : Contains (strings digest (part (i * 256) 256 es)) x.string =
+          (bundle digest es i blk.below x.string).1
+          (record {
+            node =
+                x;
+            is = n;
+            inside =
+                record { start_in = here.start_in; upto = omega (arith, here.upto, part_short); some = here.some };
+            string_is = refl;
+          }) in
+          let wide : width ≡ min 256 (length (drop (i * 256) es)) =
+          b.width_is ∙
+          (let len : length (drop (i * 256) es) ≡ length es - 256 * index =
+          length-drop (i * 256) es ∙ omega (arith, place) in ap (λ m. min 256 m) (sym len)) in
+          let same_part : part (256 * index) width es ≡ part (i * 256) 256 es =
+          ap (λ m. take width (drop m es)) place ∙
+          (ap (λ m. take m (drop (i * 256) es)) wide ∙ take_min 256 (drop (i * 256) es)) in
+          unheld (holds_from_held held (true_strings digest es (Entries index width)) all x.string
+          (subst (λ zs. Contains (strings digest zs) x.string) (sym same_part) has))
     ]
 
 -- ---- what is missing
@@ -102,9 +132,11 @@ missing_is_front_list digest hash v entries clash paths m = record {
   );
 }
   where
-    among : (x : List ℕ) → Has v.strings x ⊎ Contains (strings digest entries) x → Has (set.union v.strings (set.from_list (strings digest entries))) x
+    among : (x : List ℕ) → Has v.strings x ⊎ Contains (strings digest entries) x →
+        Has (set.union v.strings (set.from_list (strings digest entries))) x
     among x (inl h) = has_left v.strings (set.from_list (strings digest entries)) x h
-    among x (inr c) = has_right v.strings (set.from_list (strings digest entries)) x (has_from_listed (strings digest entries) x c)
+    among x (inr c) =
+        has_right v.strings (set.from_list (strings digest entries)) x (has_from_listed (strings digest entries) x c)
 
     apart : NoClashWith digest v.strings entries
     apart x y a b e = clash.same x y (among x a) (among y b) e
@@ -113,8 +145,28 @@ missing_is_front_list digest hash v entries clash paths m = record {
 
 pub plus_holds : PlusHolds
 plus_holds digest v item y = record {
-  string = λ h. elim (has_cases v.strings (set.from_list (strings_of digest item)) y h) [ inl a ↦ inl a | inr b ↦ inr (listed_from_has (strings_of digest item) y b) ];
-  string_held = elim [ inl a ↦ has_left v.strings (set.from_list (strings_of digest item)) y a | inr b ↦ has_right v.strings (set.from_list (strings_of digest item)) y (has_from_listed (strings_of digest item) y b) ];
-  note = λ h. elim (has_cases v.notes (set.from_list (notes_of item)) y h) [ inl a ↦ inl a | inr b ↦ inr (listed_from_has (notes_of item) y b) ];
-  note_held = elim [ inl a ↦ has_left v.notes (set.from_list (notes_of item)) y a | inr b ↦ has_right v.notes (set.from_list (notes_of item)) y (has_from_listed (notes_of item) y b) ];
+  string = λ h. elim
+      (has_cases v.strings (set.from_list (strings_of digest item)) y h) [
+        | inl a ↦ inl a
+        | inr b ↦ inr
+            (listed_from_has (strings_of digest item) y b)
+      ];
+  string_held =
+      elim [
+        | inl a ↦ has_left v.strings (set.from_list (strings_of digest item)) y a
+        | inr b ↦ has_right v.strings
+            (set.from_list (strings_of digest item)) y (has_from_listed (strings_of digest item) y b)
+      ];
+  note = λ h. elim
+      (has_cases v.notes (set.from_list (notes_of item)) y h) [
+        | inl a ↦ inl a
+        | inr b ↦ inr
+            (listed_from_has (notes_of item) y b)
+      ];
+  note_held =
+      elim [
+        | inl a ↦ has_left v.notes (set.from_list (notes_of item)) y a
+        | inr b ↦ has_right v.notes
+            (set.from_list (notes_of item)) y (has_from_listed (notes_of item) y b)
+      ];
 }

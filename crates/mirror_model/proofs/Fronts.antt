@@ -1,5 +1,6 @@
 -- The front and what is held.
-use Rattle.std.proofs.Common.{subst, inl, inr, ◌≡◌, ℕ, zero, suc, ◌+◌, ◌-◌, ◌*◌, ◌/◌, ◌^◌, ◌<◌, ◌≤◌, min, List, ◌∷◌, ◌++◌, length, take, drop, sym, refl, ap, ◌∙◌, arith, length-take, length-drop}
+use Rattle.std.proofs.Common.{subst, inl, inr, ◌≡◌, ℕ, zero, suc, ◌+◌, ◌-◌, ◌*◌, ◌/◌, ◌^◌, ◌<◌, ◌≤◌, min, List, ◌∷◌}
+use Rattle.std.proofs.Common.{◌++◌, length, take, drop, sym, refl, ap, ◌∙◌, arith, length-take, length-drop}
 use Rattle.std.proofs.lemmas.List.{take_min}
 use Rattle.std.proofs.lemmas.Nat.{div-mul-add}
 use Rattle.std.proofs.lemmas.Bool.{cases_lt}
@@ -32,7 +33,9 @@ power_le i k h = let e : i + (k - i) ≡ k = omega arith in subst (λ m. 256 ^ i
   where
     climb : (d : ℕ) → 256 ^ i ≤ 256 ^ (i + d)
     climb zero = let z : i ≡ i + 0 = omega arith in subst (λ m. 256 ^ i ≤ 256 ^ m) z (omega arith)
-    climb (suc d) = let z : suc (i + d) ≡ i + suc d = omega arith in subst (λ m. 256 ^ i ≤ 256 ^ m) z (omega (arith, climb d, pow-succ' 256 (i + d)))
+    climb (suc d) =
+        let z : suc (i + d) ≡ i + suc d =
+        omega arith in subst (λ m. 256 ^ i ≤ 256 ^ m) z (omega (arith, climb d, pow-succ' 256 (i + d)))
 
 module _ (digest : List ℕ → List ℕ) (held : Strings) where
   pub front_node : (t : Tree (List ℕ)) (s : ℕ) (x : Node) → InFront digest held t s x → IsNode digest t s x
@@ -50,12 +53,14 @@ module _ (digest : List ℕ → List ℕ) (held : Strings) where
   front_unheld (Join l r) s x (inr (h, inr a)) = front_unheld r (s + size_of l) x a
 
   -- the node stands within the tree
-  node_bounds : (t : Tree (List ℕ)) (s : ℕ) (x : Node) → IsNode digest t s x → (s ≤ x.start) × (x.start + x.len ≤ s + size_of t)
+  node_bounds : (t : Tree (List ℕ)) (s : ℕ) (x : Node) → IsNode digest t s x →
+      (s ≤ x.start) × (x.start + x.len ≤ s + size_of t)
   node_bounds Empty s x h = absurd h
   node_bounds (One e) s x h = (omega (arith, h.start_is), omega (arith, h.start_is, h.len_is))
   node_bounds (Join l r) s x (inl h) = (omega (arith, h.start_is), omega (arith, h.start_is, h.len_is))
   node_bounds (Join l r) s x (inr (inl a)) = let b = node_bounds l s x a in (b.0, omega (arith, b.1))
-  node_bounds (Join l r) s x (inr (inr a)) = let b = node_bounds r (s + size_of l) x a in (omega (arith, b.0), omega (arith, b.1))
+  node_bounds (Join l r) s x (inr (inr a)) =
+      let b = node_bounds r (s + size_of l) x a in (omega (arith, b.0), omega (arith, b.1))
 
   -- an unheld node is below one of the front
   pub record HasFrontAbove (t : Tree (List ℕ)) (s : ℕ) (x : Node) : Type 0 where
@@ -63,33 +68,65 @@ module _ (digest : List ℕ → List ℕ) (held : Strings) where
     pub is : InFront digest held t s top
     pub within : IsNodeWithin x top
 
-  below_this : (t : Tree (List ℕ)) (s : ℕ) (string : List ℕ) (x : Node) → IsNode digest t s x → (Has held string → ⊥) → (InFront digest held t s (record { start = s; len = size_of t; string = string })) → HasFrontAbove t s x
-  below_this t s string x n e f = let b = node_bounds t s x n in record { top = record { start = s; len = size_of t; string = string }; is = f; within = record { start_in = b.0; end_in = b.1 } }
+  below_this : (t : Tree (List ℕ)) (s : ℕ) (string : List ℕ) (x : Node) → IsNode digest t s x → (Has held string → ⊥) →
+      (InFront digest held t s (record { start = s; len = size_of t; string = string })) → HasFrontAbove t s x
+  below_this t s string x n e f =
+      let b = node_bounds t s x n in record {
+        top = record { start = s; len = size_of t; string = string };
+        is =
+            f;
+        within = record { start_in = b.0; end_in = b.1 };
+      }
 
-  pub front_above : (t : Tree (List ℕ)) (s : ℕ) (x : Node) → IsNode digest t s x → (Has held x.string → ⊥) → HasFrontAbove t s x
+  pub front_above : (t : Tree (List ℕ)) (s : ℕ) (x : Node) → IsNode digest t s x → (Has held x.string → ⊥) →
+      HasFrontAbove t s x
   front_above Empty s x n e = absurd n
-  front_above (One v) s x n e = record { top = x; is = record { this = n; unheld = e }; within = record { start_in = omega arith; end_in = omega arith } }
-  front_above (Join l r) s x (inl n) e = record { top = x; is = inl (record { this = n; unheld = e }); within = record { start_in = omega arith; end_in = omega arith } }
+  front_above (One v) s x n e =
+      record {
+        top =
+            x;
+        is = record { this = n; unheld = e };
+        within = record { start_in = omega arith; end_in = omega arith };
+      }
+  front_above (Join l r) s x (inl n) e =
+      record {
+        top =
+            x;
+        is = inl (record { this = n; unheld = e });
+        within = record { start_in = omega arith; end_in = omega arith };
+      }
   front_above (Join l r) s x (inr (inl n)) e =
       let string = 1 ∷ entries_root digest l ++ entries_root digest r in
       elim (decide_has held string) [
-        | inl held_here ↦ let f = front_above l s x n e in record { top = f.top; is = inr (held_here, inl f.is); within = f.within }
-        | inr none ↦ below_this (Join l r) s string x (inr (inl n)) none (inl (record { this = record { start_is = refl; len_is = refl; string_is = refl }; unheld = none }))
+        | inl held_here ↦ let f =
+            front_above l s x n e in record { top = f.top; is = inr (held_here, inl f.is); within = f.within }
+        | inr none ↦ below_this (Join l r) s string x (inr (inl n)) none
+            (inl (record { this = record { start_is = refl; len_is = refl; string_is = refl }; unheld = none }))
       ]
   front_above (Join l r) s x (inr (inr n)) e =
       let string = 1 ∷ entries_root digest l ++ entries_root digest r in
       elim (decide_has held string) [
-        | inl held_here ↦ let f = front_above r (s + size_of l) x n e in record { top = f.top; is = inr (held_here, inr f.is); within = f.within }
-        | inr none ↦ below_this (Join l r) s string x (inr (inr n)) none (inl (record { this = record { start_is = refl; len_is = refl; string_is = refl }; unheld = none }))
+        | inl held_here ↦ let f =
+            front_above r (s + size_of l) x n e in record
+            { top = f.top; is = inr (held_here, inr f.is); within = f.within }
+        | inr none ↦ below_this (Join l r) s string x (inr (inr n)) none
+            (inl (record { this = record { start_is = refl; len_is = refl; string_is = refl }; unheld = none }))
       ]
 
   -- the front is empty exactly where all strings of the tree are held
-  pub none_in_front : (es : List (List ℕ)) → ((x : Node) → InFront digest held (tree_of es) 0 x → ⊥) ↔ HoldsAll held (strings digest es)
+  pub none_in_front : (es : List (List ℕ)) →
+      ((x : Node) → InFront digest held (tree_of es) 0 x → ⊥) ↔ HoldsAll held (strings digest es)
   none_in_front es = (
     λ none y c.
         let n = node_of_string digest es 0 y c in
-        elim (decide_has held y) [ inl held_here ↦ held_here | inr no_y ↦ let f = front_above (tree_of es) 0 n.node n.is (λ h. no_y (subst (Has held) n.string_is h)) in absurd (none f.top f.is) ],
-    λ all x f. front_unheld (tree_of es) 0 x f (all x.string (string_of_node digest es 0 x (front_node (tree_of es) 0 x f))),
+        elim (decide_has held y) [
+          | inl held_here ↦ held_here
+          | inr no_y ↦ let f =
+              front_above (tree_of es) 0 n.node n.is (λ h. no_y (subst (Has held) n.string_is h)) in absurd
+              (none f.top f.is)
+        ],
+    λ all x f. front_unheld (tree_of es) 0 x f
+        (all x.string (string_of_node digest es 0 x (front_node (tree_of es) 0 x f))),
   )
 
   -- the level of a node
@@ -100,8 +137,15 @@ module _ (digest : List ℕ → List ℕ) (held : Strings) where
     pub upto : len ≤ 256 ^ (level + 1)
 
   level_from : (levels level len : ℕ) → level + levels ≡ 8 → 256 ^ level < len → len ≤ 256 ^ 8 → HasLevel len
-  level_from zero level len e low high = let same : level ≡ 8 = omega arith in let low' = subst (λ m. 256 ^ m < len) same low in absurd (omega (arith, low', high))
-  level_from (suc levels) level len e low high = elim (cases_lt (256 ^ (level + 1)) len) [ inl more ↦ level_from levels (level + 1) len (omega arith) more high | inr le ↦ record { level = level; low = omega arith; above = low; upto = le } ]
+  level_from zero level len e low high =
+      let same : level ≡ 8 =
+      omega arith in let low' = subst (λ m. 256 ^ m < len) same low in absurd (omega (arith, low', high))
+  level_from (suc levels) level len e low high =
+      elim (cases_lt (256 ^ (level + 1)) len) [
+        | inl more ↦ level_from levels (level + 1) len
+            (omega arith) more high
+        | inr le ↦ record { level = level; low = omega arith; above = low; upto = le }
+      ]
 
   -- each node has a path
   pub record HasPath (size start len : ℕ) : Type 0 where
@@ -111,12 +155,22 @@ module _ (digest : List ℕ → List ℕ) (held : Strings) where
   pub path_of : (size start len : ℕ) → len ≤ 256 ^ 8 → HasPath size start len
   path_of size start len high =
       elim (cases_lt 256 len) [
-        | inl many ↦ let l = level_from 7 1 len refl many high in record { path = Tile l.level (start / 256 ^ (l.level + 1)) 256; is = record { many = many; tile = record { above = l.above; upto = l.upto; index_is = refl }; width_is = refl } }
-        | inr few ↦ record { path = Entries (start / 256) (min 256 (size - 256 * (start / 256))); is = record { few = few; index_is = refl; width_is = refl } }
+        | inl many ↦ let l =
+            level_from 7 1 len refl many high in record {
+              path = Tile l.level (start / 256 ^ (l.level + 1)) 256;
+              is =
+                  record { many = many; tile = record { above = l.above; upto = l.upto; index_is = refl }; width_is = refl };
+            }
+        | inr few ↦ record {
+          path = Entries (start / 256) (min 256 (size - 256 * (start / 256)));
+          is =
+              record { few = few; index_is = refl; width_is = refl };
+        }
       ]
 
   -- Front is empty exactly where Tree(E) is held
-  pub front_empty : (es : List (List ℕ)) → length es ≤ 256 ^ 8 → ((p : Path) → IsFront digest held es p → ⊥) ↔ HoldsAll held (strings digest es)
+  pub front_empty : (es : List (List ℕ)) → length es ≤ 256 ^ 8 →
+      ((p : Path) → IsFront digest held es p → ⊥) ↔ HoldsAll held (strings digest es)
   front_empty es small = (
     λ none. (none_in_front es).0 (λ x f.
         let n = node_inside digest es 0 x (front_node (tree_of es) 0 x f) in
@@ -125,12 +179,16 @@ module _ (digest : List ℕ → List ℕ) (held : Strings) where
     λ all p f. (none_in_front es).1 all f.node f.is,
   )
 
-  module _ (after : Strings) (grows : (y : List ℕ) → Has held y → Has after y) (es : List (List ℕ)) (small : length es ≤ 256 ^ 8) (edge : HoldsAll held (edge_strings digest (edge_rows digest es))) (answered : (p : Path) → IsFront digest held es p → HoldsAll after (true_strings digest es p)) where
+  module _ (after : Strings) (grows : (y : List ℕ) → Has held y → Has after y) (es : List (List ℕ))
+      (small : length es ≤ 256 ^ 8) (edge : HoldsAll held (edge_strings digest (edge_rows digest es)))
+      (answered : (p : Path) → IsFront digest held es p → HoldsAll after (true_strings digest es p)) where
     index_of : (i c start len : ℕ) → 0 < c → i * c ≤ start → start + len ≤ i * c + c → 1 ≤ len → start / c ≡ i
-    index_of i c start len some low high one = ap (λ m. m / c) (omega arith) ∙ div-mul-add i c (start - i * c) (omega arith)
+    index_of i c start len some low high one =
+        ap (λ m. m / c) (omega arith) ∙ div-mul-add i c (start - i * c) (omega arith)
 
     -- a node of a bundle that was asked for is held
-    in_bundle : (x y : Node) → IsNode digest (tree_of es) 0 x → IsNode digest (tree_of es) 0 y → IsNodeWithin x y → InFront digest held (tree_of es) 0 y → y.len ≤ 256 → (Has after x.string → ⊥) → ⊥
+    in_bundle : (x y : Node) → IsNode digest (tree_of es) 0 x → IsNode digest (tree_of es) 0 y → IsNodeWithin x y →
+        InFront digest held (tree_of es) 0 y → y.len ≤ 256 → (Has after x.string → ⊥) → ⊥
     in_bundle x y nx ny w f few e =
         let inside = node_inside digest es 0 y ny in
         let inside_x = node_inside digest es 0 x nx in
@@ -141,11 +199,35 @@ module _ (digest : List ℕ → List ℕ) (held : Strings) where
               let here = node_inside digest (part (i * 256) 256 es) (i * 256) y blk.is in
               let short = length-take 256 (drop (i * 256) es) in
               let width = min 256 (length es - 256 * i) in
-              let at : y.start / 256 ≡ i = index_of i 256 y.start y.len (omega arith) here.start_in (omega (arith, here.upto, short)) here.some in
+              let at : y.start / 256 ≡ i =
+              index_of i 256 y.start y.len (omega arith) here.start_in
+              (omega (arith, here.upto, short)) here.some in
               let swap : 256 * i ≡ i * 256 = omega arith in
-              let all : HoldsAll after (strings digest (part (i * 256) width es)) = subst (λ n. HoldsAll after (strings digest (part n width es))) swap (answered (Entries i width) (record { node = y; is = f; path_is = record { few = few; index_is = sym at; width_is = refl } })) in
-              let same : part (i * 256) width es ≡ part (i * 256) 256 es = ap (λ n. take n (drop (i * 256) es)) (let len : length (drop (i * 256) es) ≡ length es - 256 * i = length-drop (i * 256) es ∙ omega arith in ap (λ n. min 256 n) (sym len)) ∙ take_min 256 (drop (i * 256) es) in
-              let has : Contains (strings digest (part (i * 256) 256 es)) x.string = (bundle digest es i blk.below x.string).1 (record { node = x; is = nx; inside = record { start_in = omega (arith, here.start_in, w.start_in); upto = omega (arith, here.upto, short, w.end_in); some = inside_x.some }; string_is = refl }) in
+              let all : HoldsAll after (strings digest (part (i * 256) width es)) =
+              subst (λ n. HoldsAll after (strings digest (part n width es))) swap
+              (answered (Entries i width)
+              (record { node = y; is = f; path_is = record { few = few; index_is = sym at; width_is = refl } })) in
+              let same : part (i * 256) width es ≡ part (i * 256) 256 es =
+              ap (λ n. take n (drop (i * 256) es))
+              (let len : length (drop (i * 256) es) ≡ length es - 256 * i =
+              length-drop (i * 256) es ∙ omega arith in ap (λ n. min 256 n) (sym len)) ∙
+              take_min 256 (drop (i * 256) es) in
+              let has : Contains (strings digest (part (i * 256) 256 es)) x.string =
+              (bundle digest es i blk.below x.string).1
+              (record {
+                node =
+                    x;
+                is = nx;
+                inside =
+                    record {
+                      start_in =
+                          omega (arith, here.start_in, w.start_in);
+                      upto =
+                          omega (arith, here.upto, short, w.end_in);
+                      some = inside_x.some;
+                    };
+                string_is = refl;
+              }) in
               e (all x.string (subst (λ zs. Contains (strings digest zs) x.string) (sym same) has))
         ]
 
@@ -171,19 +253,52 @@ module _ (digest : List ℕ → List ℕ) (held : Strings) where
                 | inr on_edge ↦ absurd (front_unheld (tree_of es) 0 y f.is (edge y.string on_edge))
                 | inl t ↦
                     let c = 256 ^ (l.level + 1) in
-                    let at : y.start / c ≡ t.index = index_of t.index c y.start y.len (level_positive (l.level + 1)) t.inside.start_in t.inside.upto t.inside.some in
-                    let asked : IsFront digest held es (Tile l.level t.index 256) = record { node = y; is = f.is; path_is = record { many = many; tile = record { above = l.above; upto = l.upto; index_is = sym at }; width_is = refl } } in
+                    let at : y.start / c ≡ t.index =
+                    index_of t.index c y.start y.len
+                    (level_positive (l.level + 1)) t.inside.start_in t.inside.upto t.inside.some in
+                    let asked : IsFront digest held es (Tile l.level t.index 256) =
+                    record {
+                      node =
+                          y;
+                      is = f.is;
+                      path_is =
+                          record {
+                            many =
+                                many;
+                            tile =
+                                record { above = l.above; upto = l.upto; index_is = sym at };
+                            width_is = refl;
+                          };
+                    } in
                     elim (cases_lt (256 ^ l.level) x.len) [
                       | inr short ↦ record { level = l.level; index = t.index; asked = asked; short = short }
                       | inl long ↦
-                          let has : Contains (joins digest (level_row digest es l.level (256 * t.index) 256)) x.string = (full_tile digest es l.level t.index t.full x.string).1 (record { node = x; is = n; inside = record { start_in = omega (arith, t.inside.start_in, f.within.start_in); upto = omega (arith, t.inside.upto, f.within.end_in); some = inside_x.some }; long = long; string_is = refl }) in
+                          let has : Contains (joins digest (level_row digest es l.level (256 * t.index) 256)) x.string =
+                          (full_tile digest es l.level t.index t.full x.string).1
+                          (record {
+                            node =
+                                x;
+                            is = n;
+                            inside =
+                                record {
+                                  start_in =
+                                      omega (arith, t.inside.start_in, f.within.start_in);
+                                  upto =
+                                      omega (arith, t.inside.upto, f.within.end_in);
+                                  some = inside_x.some;
+                                };
+                            long =
+                                long;
+                            string_is = refl;
+                          }) in
                           absurd (e (answered (Tile l.level t.index 256) asked x.string has))
                     ]
               ]
         ]
 
     -- after a round the largest unheld node has at most 256^top entries
-    pub after_round : (top : ℕ) → AsksUpTo digest es held top → (x : Node) → IsNode digest (tree_of es) 0 x → (Has after x.string → ⊥) → x.len ≤ 256 ^ top
+    pub after_round : (top : ℕ) → AsksUpTo digest es held top → (x : Node) → IsNode digest (tree_of es) 0 x →
+        (Has after x.string → ⊥) → x.len ≤ 256 ^ top
     after_round top asks x n e =
         let t = below_tile x n e in
         let le = power_le t.level top (asks t.level t.index 256 t.asked) in
@@ -193,4 +308,9 @@ module _ (digest : List ℕ → List ℕ) (held : Strings) where
     pub after_bundles : AsksBundlesAlone digest es held → HoldsAll after (strings digest es)
     after_bundles alone y c =
         let n = node_of_string digest es 0 y c in
-        elim (decide_has after y) [ inl held_here ↦ held_here | inr none ↦ let t = below_tile n.node n.is (λ h. none (subst (Has after) n.string_is h)) in absurd (alone t.level t.index 256 t.asked) ]
+        elim (decide_has after y) [
+          | inl held_here ↦ held_here
+          | inr none ↦ let t =
+              below_tile n.node n.is (λ h. none (subst (Has after) n.string_is h)) in absurd
+              (alone t.level t.index 256 t.asked)
+        ]

@@ -1,5 +1,7 @@
 -- A full bundle in the place of a partial one.
-use Rattle.std.proofs.Common.{zero, suc, ◌≡◌, ◌⊎◌, ℕ, ◌+◌, ◌*◌, ◌/◌, ◌%◌, ◌^◌, ◌<◌, ◌≤◌, List, [], ◌∷◌, length, map, take, drop, get_or, length-take, Bool, true, false, refl, sym, ◌∙◌, ap, subst, inl, inr, arith}
+use Rattle.std.proofs.Common.{zero, suc, ◌≡◌, ◌⊎◌, ℕ, ◌+◌, ◌*◌, ◌/◌, ◌%◌, ◌^◌, ◌<◌, ◌≤◌, List, [], ◌∷◌, length, map}
+use Rattle.std.proofs.Common.{take, drop, get_or, length-take, Bool, true, false, refl, sym, ◌∙◌, ap, subst, inl, inr}
+use Rattle.std.proofs.Common.{arith}
 use Rattle.std.specs.List.{Contains, filter}
 use Rattle.std.specs.Prelude.{if◌then◌else◌}
 use Rattle.std.proofs.lemmas.List.{drop-take, take-take, take-append-drop, map-append}
@@ -14,23 +16,29 @@ use Rattle.tlog_shape.specs.Edge.{width_of, edge_index_of}
 use Rattle.mirror_model.specs.Edge.{edge_levels, edge_row, edge_rows, edge_strings, strings_from}
 use Rattle.mirror_model.specs.FetchLaws.{FullBundlesServe}
 
-strings_cases : (digest : List ℕ → List ℕ) (es : List (List ℕ)) (y : List ℕ) → Contains (strings digest es) y → Contains (map (λ e. 0 ∷ e) es) y ⊎ Contains (joins digest (map (leaf_hash digest) es)) y
+strings_cases : (digest : List ℕ → List ℕ) (es : List (List ℕ)) (y : List ℕ) → Contains (strings digest es) y →
+    Contains (map (λ e. 0 ∷ e) es) y ⊎ Contains (joins digest (map (leaf_hash digest) es)) y
 unfolding strings
 strings_cases digest es y c = Contains-append_cases (map (λ e. 0 ∷ e) es) (joins digest (map (leaf_hash digest) es)) y c
 
-pub strings_leaf : (digest : List ℕ → List ℕ) (es : List (List ℕ)) (y : List ℕ) → Contains (map (λ e. 0 ∷ e) es) y → Contains (strings digest es) y
+pub strings_leaf : (digest : List ℕ → List ℕ) (es : List (List ℕ)) (y : List ℕ) → Contains (map (λ e. 0 ∷ e) es) y →
+    Contains (strings digest es) y
 unfolding strings
 strings_leaf digest es y c = Contains-append_left (map (λ e. 0 ∷ e) es) (joins digest (map (leaf_hash digest) es)) y c
 
-leaf_more : (w n : ℕ) (xs : List (List ℕ)) (y : List ℕ) → w ≤ n → Contains (map (λ e. 0 ∷ e) (take w xs)) y → Contains (map (λ e. 0 ∷ e) (take n xs)) y
+leaf_more : (w n : ℕ) (xs : List (List ℕ)) (y : List ℕ) → w ≤ n → Contains (map (λ e. 0 ∷ e) (take w xs)) y →
+    Contains (map (λ e. 0 ∷ e) (take n xs)) y
 leaf_more w n xs y le c =
     let f : List ℕ → List ℕ = λ e. 0 ∷ e in
     let zs = take n xs in
     let c' : Contains (map f (take w zs)) y = subst (λ l. Contains (map f l) y) (sym (take-take w n xs le)) c in
-    subst (λ l. Contains (map f l) y) (take-append-drop w zs) (subst (λ l. Contains l y) (sym (map-append f (take w zs) (drop w zs))) (Contains-append_left (map f (take w zs)) (map f (drop w zs)) y c'))
+    subst (λ l. Contains (map f l) y) (take-append-drop w zs)
+    (subst (λ l. Contains l y) (sym (map-append f (take w zs) (drop w zs)))
+    (Contains-append_left (map f (take w zs)) (map f (drop w zs)) y c'))
 
 -- the hashes of the lowest level are leaf hashes
-pub rows_of_leaves : (digest : List ℕ → List ℕ) (w first : ℕ) (es : List (List ℕ)) → first + w ≤ length es → map (mth digest) (ranges 1 first w es) ≡ map (leaf_hash digest) (take w (drop first es))
+pub rows_of_leaves : (digest : List ℕ → List ℕ) (w first : ℕ) (es : List (List ℕ)) → first + w ≤ length es →
+    map (mth digest) (ranges 1 first w es) ≡ map (leaf_hash digest) (take w (drop first es))
 rows_of_leaves digest zero first es le = refl
 rows_of_leaves digest (suc w) first es le =
     let x = get_or es first [] in
@@ -38,10 +46,15 @@ rows_of_leaves digest (suc w) first es le =
     let d : drop first es ≡ x ∷ drop (suc first) es = drop-cons es first [] lt in
     let same : first * 1 ≡ first = omega arith in
     let next : first + 1 ≡ suc first = omega arith in
-    let one : mth digest (take 1 (drop (first * 1) es)) ≡ leaf_hash digest x = ap (λ n. mth digest (take 1 (drop n es))) same ∙ (ap (λ (l : List (List ℕ)). mth digest (take 1 l)) d ∙ mth-one digest x) in
-    let rest : map (mth digest) (ranges 1 (first + 1) w es) ≡ map (leaf_hash digest) (take w (drop (suc first) es)) = rows_of_leaves digest w (first + 1) es (omega arith) ∙ ap (λ n. map (leaf_hash digest) (take w (drop n es))) next in
+    let one : mth digest (take 1 (drop (first * 1) es)) ≡ leaf_hash digest x =
+    ap (λ n. mth digest (take 1 (drop n es))) same ∙
+    (ap (λ (l : List (List ℕ)). mth digest (take 1 l)) d ∙ mth-one digest x) in
+    let rest : map (mth digest) (ranges 1 (first + 1) w es) ≡ map (leaf_hash digest) (take w (drop (suc first) es)) =
+    rows_of_leaves digest w (first + 1) es (omega arith) ∙
+    ap (λ n. map (leaf_hash digest) (take w (drop n es))) next in
     ap (λ (h : List ℕ). h ∷ map (mth digest) (ranges 1 (first + 1) w es)) one
-    ∙ (ap (λ (hs : List (List ℕ)). leaf_hash digest x ∷ hs) rest ∙ sym (ap (λ (l : List (List ℕ)). map (leaf_hash digest) (take (suc w) l)) d))
+    ∙ (ap (λ (hs : List (List ℕ)). leaf_hash digest x ∷ hs) rest ∙
+    sym (ap (λ (l : List (List ℕ)). map (leaf_hash digest) (take (suc w) l)) d))
 
 pub filter_first : (p : ℕ → Bool) (x : ℕ) (xs : List ℕ) → p x ≡ true → filter p (x ∷ xs) ≡ x ∷ filter p xs
 filter_first p x xs e = ap (λ b. if b then x ∷ filter p xs else filter p xs) e
@@ -50,11 +63,17 @@ zero_not : (k : ℕ) → (suc k == 0) ≡ false
 zero_not k = grind (arith, nat_tests)
 
 -- an edge with a tile of the lowest level begins with it
-levels_first : (n k : ℕ) → width_of n 0 ≡ suc k → edge_levels n ≡ 0 ∷ filter (λ level. not (width_of n level == 0)) (1 ∷ 2 ∷ 3 ∷ 4 ∷ 5 ∷ 6 ∷ 7 ∷ [])
+levels_first : (n k : ℕ) → width_of n 0 ≡ suc k →
+    edge_levels n ≡ 0 ∷ filter (λ level. not (width_of n level == 0)) (1 ∷ 2 ∷ 3 ∷ 4 ∷ 5 ∷ 6 ∷ 7 ∷ [])
 unfolding edge_levels
-levels_first n k e = filter_first (λ level. not (width_of n level == 0)) 0 (1 ∷ 2 ∷ 3 ∷ 4 ∷ 5 ∷ 6 ∷ 7 ∷ []) (ap (λ m. not (m == 0)) e ∙ ap not (zero_not k))
+levels_first n k e =
+    filter_first (λ level. not (width_of n level == 0)) 0 (1 ∷ 2 ∷ 3 ∷ 4 ∷ 5 ∷ 6 ∷ 7 ∷ [])
+    (ap (λ m. not (m == 0)) e ∙ ap not (zero_not k))
 
-join_on_edge : (digest : List ℕ → List ℕ) (es : List (List ℕ)) (index width : ℕ) → length es ≡ 256 * index + width → 1 ≤ width → width < 256 → (y : List ℕ) → Contains (joins digest (map (leaf_hash digest) (take width (drop (256 * index) es)))) y → Contains (edge_strings digest (edge_rows digest es)) y
+join_on_edge : (digest : List ℕ → List ℕ) (es : List (List ℕ)) (index width : ℕ) → length es ≡ 256 * index + width →
+    1 ≤ width → width < 256 → (y : List ℕ) →
+    Contains (joins digest (map (leaf_hash digest) (take width (drop (256 * index) es)))) y →
+    Contains (edge_strings digest (edge_rows digest es)) y
 join_on_edge digest es index width total some partial y c =
     let n = length es in
     let unit : n / 256 ^ 0 ≡ n = omega arith in
@@ -64,17 +83,28 @@ join_on_edge digest es index width total some partial y c =
     let levels = levels_first n (width - 1) one_more in
     let others = filter (λ level. not (width_of n level == 0)) (1 ∷ 2 ∷ 3 ∷ 4 ∷ 5 ∷ 6 ∷ 7 ∷ []) in
     let row : edge_row digest es 0 ≡ map (leaf_hash digest) (take width (drop (256 * index) es)) =
-    ap (λ w. level_row digest es 0 (256 * edge_index_of n 0) w) wide ∙ (ap (λ i. level_row digest es 0 (256 * i) width) at ∙ rows_of_leaves digest width (256 * index) es (omega (arith, total))) in
-    let first : Contains (joins digest (edge_row digest es 0)) y = subst (λ r. Contains (joins digest r) y) (sym row) c in
-    subst (λ ls. Contains (edge_strings digest (map (edge_row digest es) ls)) y) (sym levels) (Contains-append_left (joins digest (edge_row digest es 0)) (strings_from digest (fold_of digest (edge_row digest es 0)) (map (edge_row digest es) others)) y first)
+    ap (λ w. level_row digest es 0 (256 * edge_index_of n 0) w) wide ∙
+    (ap (λ i. level_row digest es 0 (256 * i) width) at ∙
+    rows_of_leaves digest width (256 * index) es (omega (arith, total))) in
+    let first : Contains (joins digest (edge_row digest es 0)) y =
+    subst (λ r. Contains (joins digest r) y) (sym row) c in
+    subst (λ ls. Contains (edge_strings digest (map (edge_row digest es) ls)) y) (sym levels)
+    (Contains-append_left (joins digest (edge_row digest es 0))
+    (strings_from digest (fold_of digest (edge_row digest es 0)) (map (edge_row digest es) others)) y first)
 
 pub full_bundles_serve : FullBundlesServe
 full_bundles_serve digest entries size index width le total some partial full y c =
     let es = take size entries in
     let long : length es ≡ 256 * index + width = omega (arith, length-take size entries) in
     let whole : size ≡ 256 * index + width = omega arith in
-    let same : part (256 * index) width es ≡ take width (drop (256 * index) entries) = ap (λ k. take width (drop (256 * index) (take k entries))) whole ∙ (ap (take width) (drop-take (256 * index) width entries) ∙ take-take width width (drop (256 * index) entries) (omega arith)) in
+    let same : part (256 * index) width es ≡ take width (drop (256 * index) entries) =
+    ap (λ k. take width (drop (256 * index) (take k entries))) whole ∙
+    (ap (take width) (drop-take (256 * index) width entries) ∙
+    take-take width width (drop (256 * index) entries) (omega arith)) in
     elim (strings_cases digest (part (256 * index) width es) y c) [
-      | inl leaf ↦ inl (strings_leaf digest (part (256 * index) 256 entries) y (leaf_more width 256 (drop (256 * index) entries) y (omega arith) (subst (λ l. Contains (map (λ e. 0 ∷ e) l) y) same leaf)))
+      | inl leaf ↦ inl
+          (strings_leaf digest (part (256 * index) 256 entries) y
+          (leaf_more width 256 (drop (256 * index) entries) y (omega arith)
+          (subst (λ l. Contains (map (λ e. 0 ∷ e) l) y) same leaf)))
       | inr join ↦ inr (join_on_edge digest es index width long some partial y join)
     ]

@@ -8,34 +8,47 @@ use Rattle.mirror_model.specs.View.{View, union, IsSubview}
 use Rattle.mirror_model.specs.Strings.{HasClash}
 use Rattle.mirror_model.specs.Item.{IsGood, plus}
 use Rattle.mirror_model.specs.declared.events.Event.TheVariants.{Take, Merge}
-use Rattle.mirror_model.specs.Steps.{Answer, Done, Refused, Clashed, Exhausted, Answers, IsBetween, Takes, Merges, MergesAt}
+use Rattle.mirror_model.specs.Steps.{Answer, Done, Refused, Clashed, Exhausted, Answers, IsBetween, Takes, Merges}
+use Rattle.mirror_model.specs.Steps.{MergesAt}
 use Rattle.mirror_model.specs.UnionLaws.{UnionClashes, UnionIsClean}
-use Rattle.mirror_model.specs.EventLaws.{TakesGrow, MergesGrow, TakesKeepLawful, MergesKeepLawful, IsLeft, TakesLeave, MergesLeave, EventGrows, EventIsOne, EventAgain, MergeWithItself}
+use Rattle.mirror_model.specs.EventLaws.{TakesGrow, MergesGrow, TakesKeepLawful, MergesKeepLawful, IsLeft, TakesLeave}
+use Rattle.mirror_model.specs.EventLaws.{MergesLeave, EventGrows, EventIsOne, EventAgain, MergeWithItself}
 use Rattle.node_store.proofs.Sets.{decide}
 use Rattle.mirror_model.proofs.StringSets.{has_left, has_right, has_cases, union_itself, clash_contradicts}
 use Rattle.mirror_model.proofs.Views.{within_itself, within_union, within_plus, same_is_one, union_is_lawful}
 use Rattle.mirror_model.proofs.ItemStrings.{plus_is_lawful}
-use Rattle.mirror_model.proofs.Steps.{get_set_same, get_set_other, one_of_list, same_number, answer_grows, takes_again, merges_again, takes_once, merges_once}
+use Rattle.mirror_model.proofs.Steps.{get_set_same, get_set_other, one_of_list, same_number, answer_grows, takes_again}
+use Rattle.mirror_model.proofs.Steps.{merges_again, takes_once, merges_once}
 use Rattle.mirror_model.proofs.Playing.{event_grows}
 use Rattle.mirror_model.proofs.Keeping.{answer_lawful}
 
 -- ---- what each leaves
 
 pub takes_grow : TakesGrow
-takes_grow digest keys old new item answer h = answer_grows digest (IsGood digest old.origin keys item) (plus digest old item) old (within_plus digest old item) answer new h
+takes_grow digest keys old new item answer h =
+    answer_grows digest (IsGood digest old.origin keys item) (plus digest old item) old
+    (within_plus digest old item) answer new h
 
 pub merges_grow : MergesGrow
-merges_grow digest old other new answer h = answer_grows digest (old.origin ≡ other.origin) (union old other) old (within_union old other) answer new h
+merges_grow digest old other new answer h =
+    answer_grows digest (old.origin ≡ other.origin) (union old other) old (within_union old other) answer new h
 
 pub takes_keep_lawful : TakesKeepLawful
-takes_keep_lawful digest hash keys old new item answer p h = answer_lawful digest (IsGood digest old.origin keys item) (plus digest old item) old p (λ good clean. plus_is_lawful digest hash keys old item p good clean) answer new h
+takes_keep_lawful digest hash keys old new item answer p h =
+    answer_lawful digest (IsGood digest old.origin keys item) (plus digest old item) old p
+    (λ good clean. plus_is_lawful digest hash keys old item p good clean) answer new h
 
 pub merges_keep_lawful : MergesKeepLawful
-merges_keep_lawful digest old other new answer p q h = answer_lawful digest (old.origin ≡ other.origin) (union old other) old p (λ same clean. union_is_lawful digest old other p q same clean) answer new h
+merges_keep_lawful digest old other new answer p q h =
+    answer_lawful digest (old.origin ≡ other.origin) (union old other) old p
+    (λ same clean. union_is_lawful digest old other p q same clean) answer new h
 
-left_of : (digest : List ℕ → List ℕ) (old : View) (Allowed : Type 0) (whole new : View) → IsSubview old whole → Answers digest old Allowed whole Exhausted new → IsLeft digest old Allowed whole new
+left_of : (digest : List ℕ → List ℕ) (old : View) (Allowed : Type 0) (whole new : View) → IsSubview old whole →
+    Answers digest old Allowed whole Exhausted new → IsLeft digest old Allowed whole new
 left_of digest old Allowed whole new larger (inl e) = record {
-  between = subst (IsBetween old whole) (sym e) (record { grows = within_itself old; within = larger; notes_last = λ note h. inl h });
+  between =
+      subst (IsBetween old whole) (sym e)
+      (record { grows = within_itself old; within = larger; notes_last = λ note h. inl h });
   not_allowed = λ none. e;
   clashing = λ c. e;
 }
@@ -46,10 +59,12 @@ left_of digest old Allowed whole new larger (inr h) = record {
 }
 
 pub takes_leave : TakesLeave
-takes_leave digest keys old new item h = left_of digest old (IsGood digest old.origin keys item) (plus digest old item) new (within_plus digest old item) h
+takes_leave digest keys old new item h =
+    left_of digest old (IsGood digest old.origin keys item) (plus digest old item) new (within_plus digest old item) h
 
 pub merges_leave : MergesLeave
-merges_leave digest old other new h = left_of digest old (old.origin ≡ other.origin) (union old other) new (within_union old other) h
+merges_leave digest old other new h =
+    left_of digest old (old.origin ≡ other.origin) (union old other) new (within_union old other) h
 
 -- ---- lists that are set
 
@@ -74,13 +89,16 @@ merged_itself digest v new Done h = h.2 ∙ union_twice v
 merged_itself digest v new Refused h = h.1
 merged_itself digest v new Clashed h = h.2
 merged_itself digest v new Exhausted (inl e) = e
-merged_itself digest v new Exhausted (inr h) = same_is_one new v (subst (IsSubview new) (union_twice v) h.2.within) h.2.grows
+merged_itself digest v new Exhausted (inr h) =
+    same_is_one new v (subst (IsSubview new) (union_twice v) h.2.within) h.2.grows
 
 pub merge_with_itself : MergeWithItself
 merge_with_itself digest keys old new mirror answer h =
     let same : h.other ≡ h.before = one_of_list old mirror h.other h.before h.found_other h.found in
-    let m : Merges digest h.before h.before answer h.after = subst (λ w. Merges digest h.before w answer h.after) same h.merges in
-    h.set ∙ ap (slice_set old mirror) (merged_itself digest h.before h.after answer m) ∙ set_itself old mirror h.before h.found
+    let m : Merges digest h.before h.before answer h.after =
+    subst (λ w. Merges digest h.before w answer h.after) same h.merges in
+    h.set ∙ ap (slice_set old mirror) (merged_itself digest h.before h.after answer m) ∙
+    set_itself old mirror h.before h.found
 
 -- ---- events on a list
 
@@ -98,28 +116,41 @@ event_is_one digest keys old new other (Take target item) a b p q m n =
 event_is_one digest keys old new other (Merge target source) a b p q m n =
     let same : q.before ≡ p.before = one_of_list old target q.before p.before q.found p.found in
     let same_other : q.other ≡ p.other = one_of_list old source q.other p.other q.found_other p.found_other in
-    let q' : Merges digest p.before p.other b q.after = subst (λ v. Merges digest v p.other b q.after) same (subst (λ v. Merges digest q.before v b q.after) same_other q.merges) in
+    let q' : Merges digest p.before p.other b q.after =
+    subst (λ v. Merges digest v p.other b q.after) same
+    (subst (λ v. Merges digest q.before v b q.after) same_other q.merges) in
     let one = merges_once digest p.before p.other p.after q.after a b p.merges q' m n in
     (one.0, p.set ∙ ap (slice_set old target) one.1 ∙ sym q.set)
 
 module _ (digest : List ℕ → List ℕ) (keys : List Key) (old between new : List View) (answer : Answer) where
-  twice_set : (target : ℕ) (first second : View) → between ≡ slice_set old target first → new ≡ slice_set between target second → new ≡ slice_set old target second
+  twice_set : (target : ℕ) (first second : View) → between ≡ slice_set old target first →
+      new ≡ slice_set between target second → new ≡ slice_set old target second
   twice_set target first second p q = q ∙ ap (λ xs. slice_set xs target second) p ∙ set_again old target first second
 
-  stands_after : (target : ℕ) (before first : View) → slice_get old target ≡ Some before → between ≡ slice_set old target first → slice_get between target ≡ Some first
-  stands_after target before first found p = ap (λ xs. slice_get xs target) p ∙ get_set_same old target before first found
+  stands_after : (target : ℕ) (before first : View) → slice_get old target ≡ Some before →
+      between ≡ slice_set old target first → slice_get between target ≡ Some first
+  stands_after target before first found p =
+      ap (λ xs. slice_get xs target) p ∙ get_set_same old target before first found
 
-  merge_again : (target source : ℕ) → MergesAt digest keys old target source Exhausted between → MergesAt digest keys between target source answer new → MergesAt digest keys old target source answer new
+  merge_again : (target source : ℕ) → MergesAt digest keys old target source Exhausted between →
+      MergesAt digest keys between target source answer new → MergesAt digest keys old target source answer new
   merge_again target source p q =
       elim (same_number source target) [
         | inl e ↦
-            let itself : between ≡ old = merge_with_itself digest keys old between target Exhausted (subst (λ n. MergesAt digest keys old target n Exhausted between) e p) in
+            let itself : between ≡ old =
+            merge_with_itself digest keys old between target Exhausted
+            (subst (λ n. MergesAt digest keys old target n Exhausted between) e p) in
             subst (λ w. MergesAt digest keys w target source answer new) itself q
         | inr ne ↦
-            let same : q.before ≡ p.after = one_of_list between target q.before p.after q.found (stands_after target p.before p.after p.found p.set) in
-            let there : slice_get between source ≡ Some p.other = ap (λ xs. slice_get xs source) p.set ∙ get_set_other old target source p.after ne ∙ p.found_other in
+            let same : q.before ≡ p.after =
+            one_of_list between target q.before p.after q.found
+            (stands_after target p.before p.after p.found p.set) in
+            let there : slice_get between source ≡ Some p.other =
+            ap (λ xs. slice_get xs source) p.set ∙ get_set_other old target source p.after ne ∙ p.found_other in
             let same_other : q.other ≡ p.other = one_of_list between source q.other p.other q.found_other there in
-            let second : Merges digest p.after p.other answer q.after = subst (λ v. Merges digest v p.other answer q.after) same (subst (λ v. Merges digest q.before v answer q.after) same_other q.merges) in
+            let second : Merges digest p.after p.other answer q.after =
+            subst (λ v. Merges digest v p.other answer q.after) same
+            (subst (λ v. Merges digest q.before v answer q.after) same_other q.merges) in
             record {
               before = p.before;
               other = p.other;
@@ -133,7 +164,9 @@ module _ (digest : List ℕ → List ℕ) (keys : List Key) (old between new : L
 
 pub event_again : EventAgain
 event_again digest keys old between new (Take target item) answer p q =
-    let same : q.before ≡ p.after = one_of_list between target q.before p.after q.found (stands_after digest keys old between new answer target p.before p.after p.found p.set) in
+    let same : q.before ≡ p.after =
+    one_of_list between target q.before p.after q.found
+    (stands_after digest keys old between new answer target p.before p.after p.found p.set) in
     let second = subst (λ v. Takes digest keys v item answer q.after) same q.takes in
     record {
       before = p.before;
@@ -142,7 +175,8 @@ event_again digest keys old between new (Take target item) answer p q =
       takes = takes_again digest keys p.before p.after q.after item answer p.takes second;
       set = twice_set digest keys old between new answer target p.after q.after p.set q.set;
     }
-event_again digest keys old between new (Merge target source) answer p q = merge_again digest keys old between new answer target source p q
+event_again digest keys old between new (Merge target source) answer p q =
+    merge_again digest keys old between new answer target source p q
 
 -- ---- clashes of a union
 
@@ -151,30 +185,63 @@ module _ (digest : List ℕ → List ℕ) (v w : Strings) (clean : NoClash diges
   from_union c = elim (has_cases v w c.first c.first_held) [
     | inl a ↦ elim (has_cases v w c.second c.second_held) [
       | inl b ↦ absurd (c.differ (clean.same c.first c.second a b c.same_digest))
-      | inr b ↦ record { first = c.first; second = c.second; first_held = a; second_held = b; same_digest = c.same_digest; differ = c.differ }
+      | inr b ↦ record {
+        first =
+            c.first;
+        second = c.second;
+        first_held = a;
+        second_held = b;
+        same_digest = c.same_digest;
+        differ = c.differ;
+      }
     ]
     | inr a ↦ elim (has_cases v w c.second c.second_held) [
-      | inl b ↦ record { first = c.second; second = c.first; first_held = b; second_held = a; same_digest = sym c.same_digest; differ = λ e. c.differ (sym e) }
+      | inl b ↦ record {
+        first =
+            c.second;
+        second =
+            c.first;
+        first_held = b;
+        second_held = a;
+        same_digest = sym c.same_digest;
+        differ = λ e. c.differ (sym e);
+      }
       | inr b ↦ absurd (c.differ (clean'.same c.first c.second a b c.same_digest))
     ]
   ]
 
   to_union : ClashesWith digest v w → HasClash digest (set.union v w)
-  to_union c = record { first = c.first; second = c.second; first_held = has_left v w c.first c.first_held; second_held = has_right v w c.second c.second_held; same_digest = c.same_digest; differ = c.differ }
+  to_union c =
+      record {
+        first =
+            c.first;
+        second =
+            c.second;
+        first_held =
+            has_left v w c.first c.first_held;
+        second_held =
+            has_right v w c.second c.second_held;
+        same_digest = c.same_digest;
+        differ = c.differ;
+      }
 
   to_clean : (ClashesWith digest v w → ⊥) → NoClash digest (set.union v w)
   to_clean none = record {
     same = λ x y hx hy e. elim (decide x y) [
       | inl same ↦ same
-      | inr differ ↦ absurd (none (from_union (record { first = x; second = y; first_held = hx; second_held = hy; same_digest = e; differ = differ })))
+      | inr differ ↦ absurd
+          (none (from_union
+          (record { first = x; second = y; first_held = hx; second_held = hy; same_digest = e; differ = differ })))
     ];
   }
 
 pub union_clashes : UnionClashes
-union_clashes digest v w clean clean' = (from_union digest v.strings w.strings clean clean', to_union digest v.strings w.strings clean clean')
+union_clashes digest v w clean clean' =
+    (from_union digest v.strings w.strings clean clean', to_union digest v.strings w.strings clean clean')
 
 pub union_is_clean : UnionIsClean
 union_is_clean digest v w clean clean' = (
-  λ all c. clash_contradicts digest (set.union v.strings w.strings) all (to_union digest v.strings w.strings clean clean' c),
+  λ all c. clash_contradicts digest (set.union v.strings w.strings) all
+      (to_union digest v.strings w.strings clean clean' c),
   to_clean digest v.strings w.strings clean clean',
 )

@@ -13,8 +13,16 @@ head_once note origin origin' size size' root root' p q =
     let texts = (notes_are_read note p.text q.text p.lines q.lines p.is_note q.is_note).0 in
     let a : Checkpoint = record { origin = origin; size = size; root = root; extensions = p.extensions } in
     let b : Checkpoint = record { origin = origin'; size = size'; root = root'; extensions = q.extensions } in
-    let same : a ≡ b = one_reading p.text a b p.is_checkpoint (subst (λ t. IsCheckpoint t origin' size' root' q.extensions) (sym texts) q.is_checkpoint) in
-    record { origin_is = ap (λ (c : Checkpoint). c.origin) same; size_is = ap (λ (c : Checkpoint). c.size) same; root_is = ap (λ (c : Checkpoint). c.root) same }
+    let same : a ≡ b =
+    one_reading p.text a b p.is_checkpoint
+    (subst (λ t. IsCheckpoint t origin' size' root' q.extensions) (sym texts) q.is_checkpoint) in
+    record {
+      origin_is =
+          ap (λ (c : Checkpoint). c.origin) same;
+      size_is =
+          ap (λ (c : Checkpoint). c.size) same;
+      root_is = ap (λ (c : Checkpoint). c.root) same;
+    }
 
 pub heads_have_edges : HeadsHaveEdges
 heads_have_edges digest v lawful size root head =
@@ -22,6 +30,8 @@ heads_have_edges digest v lawful size root head =
     let same = head_once head.note v.origin v.origin e.size size e.root root e.is_head head.holds.is_head in
     record {
       rows = e.edge.rows;
-      has_edge = subst (λ n. HasEdgeRows digest n root e.edge.rows) same.size_is (subst (λ r. HasEdgeRows digest e.size r e.edge.rows) same.root_is e.edge.has_edge);
+      has_edge =
+          subst (λ n. HasEdgeRows digest n root e.edge.rows) same.size_is
+          (subst (λ r. HasEdgeRows digest e.size r e.edge.rows) same.root_is e.edge.has_edge);
       are_held = e.edge.are_held;
     }

@@ -1,5 +1,6 @@
 -- Plays: several runs are one, and what it leaves.
-use Rattle.std.proofs.Common.{◌≡◌, ℕ, List, [], ◌∷◌, ◌++◌, length, zero, suc, sym, refl, ap, ◌∙◌, subst, inl, inr, arith}
+use Rattle.std.proofs.Common.{◌≡◌, ℕ, List, [], ◌∷◌, ◌++◌, length, zero, suc, sym, refl, ap, ◌∙◌, subst, inl, inr}
+use Rattle.std.proofs.Common.{arith}
 use Rattle.std.specs.Prelude.{slice_get, slice_set, Some, map}
 use Rattle.std.specs.List.{Contains}
 use Rattle.std.proofs.lemmas.List.Elements.{Contains-append_cases, Contains-append_left, Contains-append_right}
@@ -11,7 +12,9 @@ use Rattle.mirror_model.specs.declared.events.Event.TheVariants.{Take, Merge}
 use Rattle.mirror_model.specs.Steps.{Answer, Done, Refused, Clashed, Exhausted, Happens, Run}
 use Rattle.mirror_model.specs.Reached.{IsNext, AreRetried}
 use Rattle.mirror_model.specs.RunLaws.{AreLawful, IsReached, ForMirrors}
-use Rattle.mirror_model.specs.Headline.{Play, events_in, NoneClashed, Plays, ReachesToo, PlaysBring, SameReachedSameView, NoPlayClashes, MirrorsAgree, PlaysTellTruth, PlaysGrow, StandsIn, LeavesRest, placed, PartIsPlayed, PartIsRetried}
+use Rattle.mirror_model.specs.Headline.{Play, events_in, NoneClashed, Plays, ReachesToo, PlaysBring}
+use Rattle.mirror_model.specs.Headline.{SameReachedSameView, NoPlayClashes, MirrorsAgree, PlaysTellTruth, PlaysGrow}
+use Rattle.mirror_model.specs.Headline.{StandsIn, LeavesRest, placed, PartIsPlayed, PartIsRetried}
 use Rattle.mirror_model.proofs.Views.{same_is_one, complete_stays, forks_stay}
 use Rattle.mirror_model.proofs.OneLists.{serves_truth, forks_tell, complete_is_same}
 use Rattle.mirror_model.proofs.Steps.{same_number, one_of_list, get_set_same, get_set_other}
@@ -28,35 +31,48 @@ next_append : (e : Event) (es fs : List Event) → IsNext e es → IsNext e (es 
 next_append e [] fs h = absurd h
 next_append e (f ∷ es) fs h = h
 
-retried_append : (es fs : List Event) (as' bs : List Answer) → length es ≡ length as' → AreRetried es as' → AreRetried fs bs → AreRetried (es ++ fs) (as' ++ bs)
+retried_append : (es fs : List Event) (as' bs : List Answer) → length es ≡ length as' → AreRetried es as' →
+    AreRetried fs bs → AreRetried (es ++ fs) (as' ++ bs)
 retried_append [] fs [] bs len p q = q
 retried_append [] fs (a ∷ as') bs len p q = absurd (omega (arith, len))
 retried_append (e ∷ es) fs [] bs len p q = absurd (omega (arith, len))
 retried_append (e ∷ es) fs (Done ∷ as') bs len p q = retried_append es fs as' bs (omega (arith, len)) p q
 retried_append (e ∷ es) fs (Refused ∷ as') bs len p q = retried_append es fs as' bs (omega (arith, len)) p q
 retried_append (e ∷ es) fs (Clashed ∷ as') bs len p q = retried_append es fs as' bs (omega (arith, len)) p q
-retried_append (e ∷ es) fs (Exhausted ∷ as') bs len p q = (next_append e es fs p.0, retried_append es fs as' bs (omega (arith, len)) p.1 q)
+retried_append (e ∷ es) fs (Exhausted ∷ as') bs len p q =
+    (next_append e es fs p.0, retried_append es fs as' bs (omega (arith, len)) p.1 q)
 
 module _ (digest : List ℕ → List ℕ) (keys : List Key) where
-  run_append : (old mid new : List View) (es fs : List Event) (as' bs : List Answer) → Run digest keys old es as' mid → Run digest keys mid fs bs new → Run digest keys old (es ++ fs) (as' ++ bs) new
+  run_append : (old mid new : List View) (es fs : List Event) (as' bs : List Answer) → Run digest keys old es as' mid →
+      Run digest keys mid fs bs new → Run digest keys old (es ++ fs) (as' ++ bs) new
   run_append old mid new [] fs [] bs p q = subst (λ w. Run digest keys w fs bs new) p q
   run_append old mid new (e ∷ es) fs (a ∷ as') bs p q = (p.0, p.1, run_append p.0 mid new es fs as' bs p.2 q)
   run_append old mid new [] fs (a ∷ as') bs p q = absurd p
   run_append old mid new (e ∷ es) fs [] bs p q = absurd p
 
-  joined : (old new : List View) (plays : List Play) → Plays digest keys old plays new → Run digest keys old (events_in plays) (answers_in plays) new
+  joined : (old new : List View) (plays : List Play) → Plays digest keys old plays new →
+      Run digest keys old (events_in plays) (answers_in plays) new
   joined old new [] p = p
-  joined old new (play ∷ plays) p = run_append old p.0 new play.events (events_in plays) play.answers (answers_in plays) p.1 (joined p.0 new plays p.3)
+  joined old new (play ∷ plays) p =
+      run_append old p.0 new play.events (events_in plays) play.answers (answers_in plays) p.1
+      (joined p.0 new plays p.3)
 
-  joined_retried : (old new : List View) (plays : List Play) → Plays digest keys old plays new → AreRetried (events_in plays) (answers_in plays)
+  joined_retried : (old new : List View) (plays : List Play) → Plays digest keys old plays new →
+      AreRetried (events_in plays) (answers_in plays)
   joined_retried old new [] p = tt
-  joined_retried old new (play ∷ plays) p = retried_append play.events (events_in plays) play.answers (answers_in plays) (run_lengths digest keys old p.0 play.events play.answers p.1) p.2 (joined_retried p.0 new plays p.3)
+  joined_retried old new (play ∷ plays) p =
+      retried_append play.events (events_in plays) play.answers (answers_in plays)
+      (run_lengths digest keys old p.0 play.events play.answers p.1) p.2 (joined_retried p.0 new plays p.3)
 
 -- an answer of one of the plays
-in_answers : (plays : List Play) (play : Play) → Contains plays play → Contains play.answers Clashed → Contains (answers_in plays) Clashed
+in_answers : (plays : List Play) (play : Play) → Contains plays play → Contains play.answers Clashed →
+    Contains (answers_in plays) Clashed
 in_answers [] play c d = absurd (omega (arith, c.1))
-in_answers (first ∷ plays) play (zero, lt, is) d = Contains-append_left first.answers (answers_in plays) Clashed (subst (λ (p : Play). Contains p.answers Clashed) (sym is) d)
-in_answers (first ∷ plays) play (suc k, lt, is) d = Contains-append_right first.answers (answers_in plays) Clashed (in_answers plays play (k, omega (arith, lt), is) d)
+in_answers (first ∷ plays) play (zero, lt, is) d =
+    Contains-append_left first.answers (answers_in plays) Clashed
+    (subst (λ (p : Play). Contains p.answers Clashed) (sym is) d)
+in_answers (first ∷ plays) play (suc k, lt, is) d =
+    Contains-append_right first.answers (answers_in plays) Clashed (in_answers plays play (k, omega (arith, lt), is) d)
 
 none_in_answers : (plays : List Play) → NoneClashed plays → Contains (answers_in plays) Clashed → ⊥
 none_in_answers [] none c = absurd (omega (arith, c.1))
@@ -67,7 +83,10 @@ none_in_answers (play ∷ plays) none c = elim (Contains-append_cases play.answe
 
 -- ---- what mirrors agree on
 
-half : (digest : List ℕ → List ℕ) (origin : List ℕ) (keys : List Key) (opened opened' : List View) (events events' : List Event) (mirror mirror' : ℕ) (v w : View) → IsReached digest origin keys opened events mirror v → IsReached digest origin keys opened' events' mirror' w → ReachesToo digest origin keys opened opened' events events' mirror mirror' → IsSubview v w
+half : (digest : List ℕ → List ℕ) (origin : List ℕ) (keys : List Key) (opened opened' : List View)
+    (events events' : List Event) (mirror mirror' : ℕ) (v w : View) →
+    IsReached digest origin keys opened events mirror v → IsReached digest origin keys opened' events' mirror' w →
+    ReachesToo digest origin keys opened opened' events events' mirror mirror' → IsSubview v w
 half digest origin keys opened opened' events events' mirror mirror' v w a b too = record {
   origin_is = a.origin_is ∙ sym b.origin_is;
   notes_are = λ q h. b.has.notes q (elim (a.only.notes q h) [
@@ -90,7 +109,9 @@ pub same_reached : ForMirrors SameReachedSameView
 same_reached digest origin keys opened opened' plays plays' mirror mirror' v w p q apart apart' alike =
     let a = plays_bring digest origin keys opened plays mirror v p apart in
     let b = plays_bring digest origin keys opened' plays' mirror' w q apart' in
-    same_is_one v w (half digest origin keys opened opened' (events_in plays) (events_in plays') mirror mirror' v w a b alike.there) (half digest origin keys opened' opened (events_in plays') (events_in plays) mirror' mirror w v b a alike.back)
+    same_is_one v w
+    (half digest origin keys opened opened' (events_in plays) (events_in plays') mirror mirror' v w a b alike.there)
+    (half digest origin keys opened' opened (events_in plays') (events_in plays) mirror' mirror w v b a alike.back)
 
 pub no_play_clashes : ForMirrors NoPlayClashes
 no_play_clashes digest origin keys opened plays mirror v clean l play in_plays c =
@@ -107,18 +128,25 @@ mirrors_agree digest origin keys opened opened' plays plays' mirror mirror' v w 
 
 -- ---- what they tell
 
-plays_lawful : (digest : List ℕ → List ℕ) → IsDigest digest → (keys : List Key) (opened final : List View) (plays : List Play) → AreLawful digest opened → Plays digest keys opened plays final → AreLawful digest final
-plays_lawful digest hash keys opened final plays lawful p = run_is_lawful digest hash keys opened final (events_in plays) (answers_in plays) lawful (joined digest keys opened final plays p)
+plays_lawful : (digest : List ℕ → List ℕ) → IsDigest digest →
+    (keys : List Key) (opened final : List View) (plays : List Play) → AreLawful digest opened →
+    Plays digest keys opened plays final → AreLawful digest final
+plays_lawful digest hash keys opened final plays lawful p =
+    run_is_lawful digest hash keys opened final (events_in plays) (answers_in plays) lawful
+    (joined digest keys opened final plays p)
 
 pub plays_tell_truth : PlaysTellTruth
 plays_tell_truth digest hash keys opened final plays lawful p mirror v is = record {
   served = λ note size root entries s. serves_truth digest v note size root entries s;
-  forks = λ a b first second differ f s. forks_tell digest hash v (plays_lawful digest hash keys opened final plays lawful p mirror v is) a b first second differ f s;
+  forks = λ a b first second differ f s. forks_tell digest hash v
+      (plays_lawful digest hash keys opened final plays lawful p mirror v is) a b first second differ f s;
 }
 
 pub plays_grow : PlaysGrow
 plays_grow digest hash keys opened final plays lawful p mirror before after found is =
-    let grows : IsSubview before after = run_grows digest keys opened final (events_in plays) (answers_in plays) (joined digest keys opened final plays p) mirror before after found is in
+    let grows : IsSubview before after =
+    run_grows digest keys opened final (events_in plays) (answers_in plays)
+    (joined digest keys opened final plays p) mirror before after found is in
     let after_lawful = plays_lawful digest hash keys opened final plays lawful p mirror after is in
     record {
       stays = λ size root entries c. complete_stays digest before after grows size root entries c;
@@ -130,15 +158,21 @@ plays_grow digest hash keys opened final plays lawful p mirror before after foun
 
 module _ (place : ℕ → ℕ) where
   -- one view of the part is set, and so is that of the whole
-  set_stands : (part whole : List View) (target : ℕ) (before after : View) → StandsIn place part whole → slice_get part target ≡ Some before → StandsIn place (slice_set part target after) (slice_set whole (place target) after)
+  set_stands : (part whole : List View) (target : ℕ) (before after : View) → StandsIn place part whole →
+      slice_get part target ≡ Some before →
+      StandsIn place (slice_set part target after) (slice_set whole (place target) after)
   set_stands part whole target before after s found = record {
     apart = s.apart;
     found = λ i v is. elim (same_number i target) [
       | inl e ↦
-          let here : slice_get (slice_set part target after) i ≡ Some after = subst (λ n. slice_get (slice_set part target after) n ≡ Some after) (sym e) (get_set_same part target before after found) in
+          let here : slice_get (slice_set part target after) i ≡ Some after =
+          subst (λ n. slice_get (slice_set part target after) n ≡ Some after) (sym e)
+          (get_set_same part target before after found) in
           let same : v ≡ after = one_of_list (slice_set part target after) i v after is here in
-          let there : slice_get (slice_set whole (place target) after) (place target) ≡ Some after = get_set_same whole (place target) before after (s.found target before found) in
-          subst (λ w. slice_get (slice_set whole (place target) after) (place i) ≡ Some w) (sym same) (subst (λ n. slice_get (slice_set whole (place target) after) (place n) ≡ Some after) (sym e) there)
+          let there : slice_get (slice_set whole (place target) after) (place target) ≡ Some after =
+          get_set_same whole (place target) before after (s.found target before found) in
+          subst (λ w. slice_get (slice_set whole (place target) after) (place i) ≡ Some w) (sym same)
+          (subst (λ n. slice_get (slice_set whole (place target) after) (place n) ≡ Some after) (sym e) there)
       | inr ne ↦
           let was : slice_get part i ≡ Some v = sym (get_set_other part target i after ne) ∙ is in
           get_set_other whole (place target) (place i) after (λ e. ne (s.apart i target e)) ∙ s.found i v was
@@ -153,33 +187,66 @@ module _ (place : ℕ → ℕ) where
       stands : StandsIn place mid new
       rest : (number : ℕ) → ((i : ℕ) → number ≡ place i → ⊥) → slice_get new number ≡ slice_get whole number
 
-    event_placed : (part mid whole : List View) (e : Event) (a : Answer) → StandsIn place part whole → Happens digest keys part e a mid → Placed e a mid whole
+    event_placed : (part mid whole : List View) (e : Event) (a : Answer) → StandsIn place part whole →
+        Happens digest keys part e a mid → Placed e a mid whole
     event_placed part mid whole (Take target item) a s h = record {
       new = slice_set whole (place target) h.after;
-      happens = record { before = h.before; after = h.after; found = s.found target h.before h.found; takes = h.takes; set = refl };
-      stands = subst (λ m. StandsIn place m (slice_set whole (place target) h.after)) (sym h.set) (set_stands part whole target h.before h.after s h.found);
+      happens =
+          record {
+            before =
+                h.before;
+            after = h.after;
+            found = s.found target h.before h.found;
+            takes = h.takes;
+            set = refl;
+          };
+      stands = subst (λ m. StandsIn place m (slice_set whole (place target) h.after)) (sym h.set)
+          (set_stands part whole target h.before h.after s h.found);
       rest = λ number other. get_set_other whole (place target) number h.after (other target);
     }
     event_placed part mid whole (Merge target source) a s h = record {
       new = slice_set whole (place target) h.after;
-      happens = record { before = h.before; other = h.other; after = h.after; found = s.found target h.before h.found; found_other = s.found source h.other h.found_other; merges = h.merges; set = refl };
-      stands = subst (λ m. StandsIn place m (slice_set whole (place target) h.after)) (sym h.set) (set_stands part whole target h.before h.after s h.found);
+      happens =
+          record {
+            before =
+                h.before;
+            other =
+                h.other;
+            after =
+                h.after;
+            found =
+                s.found target h.before h.found;
+            found_other =
+                s.found source h.other h.found_other;
+            merges = h.merges;
+            set = refl;
+          };
+      stands = subst (λ m. StandsIn place m (slice_set whole (place target) h.after)) (sym h.set)
+          (set_stands part whole target h.before h.after s h.found);
       rest = λ number other. get_set_other whole (place target) number h.after (other target);
     }
 
-    run_placed : (part whole after : List View) (es : List Event) (as' : List Answer) → StandsIn place part whole → Run digest keys part es as' after → (new : List View) × Run digest keys whole (map (placed place) es) as' new × LeavesRest place after whole new
-    run_placed part whole after [] [] s run = (whole, refl, record { stands = subst (λ m. StandsIn place m whole) (sym run) s; rest = λ number other. refl })
+    run_placed : (part whole after : List View) (es : List Event) (as' : List Answer) → StandsIn place part whole →
+        Run digest keys part es as' after →
+        (new : List View) × Run digest keys whole (map (placed place) es) as' new × LeavesRest place after whole new
+    run_placed part whole after [] [] s run =
+        (whole, refl, record { stands = subst (λ m. StandsIn place m whole) (sym run) s; rest = λ number other. refl })
     run_placed part whole after (e ∷ es) (a ∷ as') s run =
         let step = event_placed part run.0 whole e a s run.1 in
-        let more = run_placed run.0 step.new after es as' step.stands run.2 in
-        (more.0, (step.new, step.happens, more.1), record { stands = more.2.stands; rest = λ number other. more.2.rest number other ∙ step.rest number other })
+        let more = run_placed run.0 step.new after es as' step.stands run.2 in (
+          more.0,
+          (step.new, step.happens, more.1),
+          record { stands = more.2.stands; rest = λ number other. more.2.rest number other ∙ step.rest number other },
+        )
     run_placed part whole after [] (a ∷ as') s run = absurd run
     run_placed part whole after (e ∷ es) [] s run = absurd run
 
 pub part_is_played : PartIsPlayed
-part_is_played digest keys place part whole after events answers s run = run_placed place digest keys part whole after events answers s run
+part_is_played digest keys place part whole after events answers s run =
+    run_placed place digest keys part whole after events answers s run
 
-next_placed : (place : ℕ → ℕ) (e : Event) (es : List Event) → IsNext e es → IsNext (placed place e) (map (placed place) es)
+next_placed : (place : ℕ → ℕ) (e : Event) (es : List Event) → IsNext e es →
+    IsNext (placed place e) (map (placed place) es)
 next_placed place e [] h = h
 next_placed place e (f ∷ es) h = ap (placed place) h
 

@@ -1,5 +1,6 @@
 -- Items: what their bytes are, and what they add to a view.
-use Rattle.std.proofs.Common.{◌≡◌, ℕ, ◌*◌, ◌/◌, ◌<◌, ◌^◌, List, [], ◌∷◌, ◌++◌, length, take, drop, sym, refl, ap, ◌∙◌, append_assoc, arith}
+use Rattle.std.proofs.Common.{◌≡◌, ℕ, ◌*◌, ◌/◌, ◌<◌, ◌^◌, List, [], ◌∷◌, ◌++◌, length, take, drop, sym, refl, ap, ◌∙◌}
+use Rattle.std.proofs.Common.{append_assoc, arith}
 use Rattle.std.specs.List.{flat_map, AllByRecursion}
 use Rattle.std.specs.Int.{w16, to_be_bytes, from_be_bytes}
 use Rattle.std.proofs.lemmas.List.{take_at, drop_at, append-nil, take_all}
@@ -14,10 +15,12 @@ use Rattle.mirror_model.specs.ItemLaws.{RowOfIsRow, RowIsRowOf, BundleIsEntriesO
 -- ---- bytes
 
 -- the entries at the front
-entries_at : (es : List (List ℕ)) (after : List ℕ) → AllByRecursion (λ e. length e < 2 ^ 16) es → entries_of (length es) (flat_map entry_text es ++ after) ≡ es
+entries_at : (es : List (List ℕ)) (after : List ℕ) → AllByRecursion (λ e. length e < 2 ^ 16) es →
+    entries_of (length es) (flat_map entry_text es ++ after) ≡ es
 entries_at [] after short = refl
 entries_at (e ∷ es) after short =
-    let len : from_be_bytes w16 (to_be_bytes w16 (length e)) ≡ length e = from_be_bytes-to_be_bytes_2 (length e) short.0 in
+    let len : from_be_bytes w16 (to_be_bytes w16 (length e)) ≡ length e =
+    from_be_bytes-to_be_bytes_2 (length e) short.0 in
     let rest = flat_map entry_text es ++ after in
     let text : (e ++ flat_map entry_text es) ++ after ≡ e ++ rest = append_assoc e (flat_map entry_text es) after in
     (λ i. take (len i) (text i) ∷ entries_of (length es) (drop (len i) (text i)))
@@ -26,15 +29,20 @@ entries_at (e ∷ es) after short =
 
 pub bundle_is_one : BundleIsEntriesOf
 bundle_is_one width bytes es b =
-    sym (ap (λ w. entries_of w bytes) (sym b.count) ∙ ap (entries_of (length es)) (b.text ∙ sym (append-nil (flat_map entry_text es))) ∙ entries_at es [] (recursion_from_All (λ e. length e < 2 ^ 16) es b.fits))
+    sym (ap (λ w. entries_of w bytes) (sym b.count) ∙
+    ap (entries_of (length es)) (b.text ∙ sym (append-nil (flat_map entry_text es))) ∙
+    entries_at es [] (recursion_from_All (λ e. length e < 2 ^ 16) es b.fits))
 
 pub row_is_row : RowOfIsRow
 row_is_row width bytes len =
     let count : length bytes / 32 ≡ width = ap (λ n. n / 32) len ∙ omega arith in
     record {
       count = length-ranges 32 0 (length bytes / 32) bytes ∙ count;
-      sizes = All-from_recursion (λ h. length h ≡ 32) (row_of bytes) (all_ranges 32 0 (length bytes / 32) bytes (omega (arith, count)));
-      text = sym (joined_ranges 32 0 (length bytes / 32) bytes ∙ take_all (length bytes / 32 * 32) bytes (omega (arith, count)));
+      sizes = All-from_recursion (λ h. length h ≡ 32) (row_of bytes)
+          (all_ranges 32 0 (length bytes / 32) bytes (omega (arith, count)));
+      text = sym
+          (joined_ranges 32 0 (length bytes / 32) bytes ∙
+          take_all (length bytes / 32 * 32) bytes (omega (arith, count)));
     }
 
 pub row_is_one : RowIsRowOf

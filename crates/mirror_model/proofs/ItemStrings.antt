@@ -1,8 +1,10 @@
 -- What the strings of a good item are, and that it leaves a lawful view lawful.
-use Rattle.std.proofs.Common.{◌≡◌, ℕ, ◌*◌, ◌<◌, ◌≤◌, ◌^◌, List, [], ◌∷◌, ◌++◌, length, map, take, drop, All, sym, refl, ap, subst, ◌⊎◌, inl, inr, arith, get_or, take-append-drop}
+use Rattle.std.proofs.Common.{◌≡◌, ℕ, ◌*◌, ◌<◌, ◌≤◌, ◌^◌, List, [], ◌∷◌, ◌++◌, length, map, take, drop, All, sym, refl}
+use Rattle.std.proofs.Common.{ap, subst, ◌⊎◌, inl, inr, arith, get_or, take-append-drop}
 use Rattle.std.specs.List.{Contains, AllByRecursion}
 use Rattle.std.specs.FinSet as set
-use Rattle.std.proofs.lemmas.List.Elements.{All-contains, All-nil, All-from_recursion, recursion_from_All, All-weaker, Contains-append_cases, All-contains_itself}
+use Rattle.std.proofs.lemmas.List.Elements.{All-contains, All-nil, All-from_recursion, recursion_from_All, All-weaker}
+use Rattle.std.proofs.lemmas.List.Elements.{Contains-append_cases, All-contains_itself}
 use Rattle.tlog_shape.specs.Split.{split_of}
 use Rattle.tlog_hash.specs.Tree.{Tree, Empty, One, Join, tree_of, root, fold_of, joins, strings, leaf_hash}
 use Rattle.tlog_hash.specs.Nodes.{IsJoin}
@@ -58,11 +60,17 @@ module _ (digest : List ℕ → List ℕ) (hash : IsDigest digest) where
       one : (x : List ℕ) → AreHashes (x ∷ []) → Leaves (tree_of (x ∷ []))
       one x h = subst Leaves (sym (tree_of-one x)) h.0
 
-      more : (xs : List (List ℕ)) → 2 ≤ length xs → (AreHashes (take (split_of (length xs)) xs) → Leaves (tree_of (take (split_of (length xs)) xs))) → (AreHashes (drop (split_of (length xs)) xs) → Leaves (tree_of (drop (split_of (length xs)) xs))) → AreHashes xs → Leaves (tree_of xs)
+      more : (xs : List (List ℕ)) → 2 ≤ length xs →
+          (AreHashes (take (split_of (length xs)) xs) → Leaves (tree_of (take (split_of (length xs)) xs))) →
+          (AreHashes (drop (split_of (length xs)) xs) → Leaves (tree_of (drop (split_of (length xs)) xs))) →
+          AreHashes xs → Leaves (tree_of xs)
       more xs two l r h =
           let k = split_of (length xs) in
           let parts : AreHashes (take k xs ++ drop k xs) = subst AreHashes (sym (take-append-drop k xs)) h in
-          subst Leaves (sym (tree_of-join xs two)) (l (all-left (λ h. length h ≡ 32) (take k xs) (drop k xs) parts), r (all-right (λ h. length h ≡ 32) (take k xs) (drop k xs) parts))
+          subst Leaves (sym (tree_of-join xs two)) (
+            l (all-left (λ h. length h ≡ 32) (take k xs) (drop k xs) parts),
+            r (all-right (λ h. length h ≡ 32) (take k xs) (drop k xs) parts),
+          )
 
   root_length : (t : Tree (List ℕ)) → Leaves t → length (root digest t) ≡ 32
   root_length Empty h = hash []
@@ -72,7 +80,15 @@ module _ (digest : List ℕ → List ℕ) (hash : IsDigest digest) where
   join_pair : (t : Tree (List ℕ)) → Leaves t → (y : List ℕ) → IsJoin digest t y → IsPair y
   join_pair Empty h y j = absurd j
   join_pair (One x) h y j = absurd j
-  join_pair (Join l r) h y (inl e) = record { left = root digest l; right = root digest r; left_len = root_length l h.0; right_len = root_length r h.1; is = e }
+  join_pair (Join l r) h y (inl e) =
+      record {
+        left =
+            root digest l;
+        right = root digest r;
+        left_len = root_length l h.0;
+        right_len = root_length r h.1;
+        is = e;
+      }
   join_pair (Join l r) h y (inr (inl a)) = join_pair l h.0 y a
   join_pair (Join l r) h y (inr (inr a)) = join_pair r h.1 y a
 
@@ -84,16 +100,19 @@ module _ (digest : List ℕ → List ℕ) (hash : IsDigest digest) where
   fold_length row h = root_length (tree_of row) (tree_leaves row h)
 
   -- the strings of a head
-  from_pairs : (value : List ℕ) → length value ≡ 32 → (rows : List (List (List ℕ))) → AllByRecursion AreHashes rows → (y : List ℕ) → Contains (strings_from digest value rows) y → IsPair y
+  from_pairs : (value : List ℕ) → length value ≡ 32 → (rows : List (List (List ℕ))) → AllByRecursion AreHashes rows →
+      (y : List ℕ) → Contains (strings_from digest value rows) y → IsPair y
   from_pairs value len [] h y c = All-contains IsPair [] y (All-nil IsPair) c
   from_pairs value len (row ∷ rows) h y c =
       let more : AreHashes (row ++ value ∷ []) = all-append (λ h. length h ≡ 32) row (value ∷ []) h.0 (len, tt) in
-      elim (Contains-append_cases (joins digest (row ++ value ∷ [])) (strings_from digest (fold_of digest (row ++ value ∷ [])) rows) y c) [
+      elim (Contains-append_cases (joins digest (row ++ value ∷ []))
+      (strings_from digest (fold_of digest (row ++ value ∷ [])) rows) y c) [
         | inl a ↦ joins_pairs (row ++ value ∷ []) more y a
         | inr b ↦ from_pairs (fold_of digest (row ++ value ∷ [])) (fold_length (row ++ value ∷ []) more) rows h.1 y b
       ]
 
-  edge_pairs : (rows : List (List (List ℕ))) → AllByRecursion AreHashes rows → (y : List ℕ) → Contains (edge_strings digest rows) y → IsPair y
+  edge_pairs : (rows : List (List (List ℕ))) → AllByRecursion AreHashes rows → (y : List ℕ) →
+      Contains (edge_strings digest rows) y → IsPair y
   edge_pairs [] h y c = All-contains IsPair [] y (All-nil IsPair) c
   edge_pairs (row ∷ rows) h y c =
       elim (Contains-append_cases (joins digest row) (strings_from digest (fold_of digest row) rows) y c) [
@@ -104,43 +123,71 @@ module _ (digest : List ℕ → List ℕ) (hash : IsDigest digest) where
   row_hashes : (width : ℕ) (bytes : List ℕ) → length bytes ≡ 32 * width → AreHashes (row_of bytes)
   row_hashes width bytes len = recursion_from_All (λ h. length h ≡ 32) (row_of bytes) (row_is_row width bytes len).sizes
 
-  rows_hashes : (rows : List (List ℕ)) (widths : List ℕ) → map length rows ≡ map (λ width. 32 * width) widths → AllByRecursion AreHashes (map row_of rows)
+  rows_hashes : (rows : List (List ℕ)) (widths : List ℕ) → map length rows ≡ map (λ width. 32 * width) widths →
+      AllByRecursion AreHashes (map row_of rows)
   rows_hashes [] widths e = tt
   rows_hashes (row ∷ rows) [] e = absurd (let len = ap length e in cc len)
-  rows_hashes (row ∷ rows) (width ∷ widths) e = (row_hashes width row (ap (λ xs. get_or xs 0 0) e), rows_hashes rows widths (ap (drop 1) e))
+  rows_hashes (row ∷ rows) (width ∷ widths) e =
+      (row_hashes width row (ap (λ xs. get_or xs 0 0) e), rows_hashes rows widths (ap (drop 1) e))
 
   leaf_hashes : (entries : List (List ℕ)) → AreHashes (map (leaf_hash digest) entries)
   leaf_hashes [] = tt
   leaf_hashes (e ∷ es) = (hash (0 ∷ e), leaf_hashes es)
 
-  leaves_short : (entries : List (List ℕ)) → AllByRecursion (λ e. length e < 2 ^ 16) entries → AllByRecursion IsItemString (map (λ e. 0 ∷ e) entries)
+  leaves_short : (entries : List (List ℕ)) → AllByRecursion (λ e. length e < 2 ^ 16) entries →
+      AllByRecursion IsItemString (map (λ e. 0 ∷ e) entries)
   leaves_short [] h = tt
   leaves_short (e ∷ es) h = (inl (record { entry = e; is = refl; short = h.0 }), leaves_short es h.1)
 
-  entry_strings : (entries : List (List ℕ)) → All (λ e. length e < 2 ^ 16) entries → (y : List ℕ) → Contains (strings digest entries) y → IsItemString y
+  entry_strings : (entries : List (List ℕ)) → All (λ e. length e < 2 ^ 16) entries → (y : List ℕ) →
+      Contains (strings digest entries) y → IsItemString y
   unfolding strings
   entry_strings entries short y c =
       elim (Contains-append_cases (map (λ e. 0 ∷ e) entries) (joins digest (map (leaf_hash digest) entries)) y c) [
-        | inl a ↦ All-contains IsItemString (map (λ e. 0 ∷ e) entries) y (All-from_recursion IsItemString _ (leaves_short entries (recursion_from_All (λ e. length e < 2 ^ 16) entries short))) a
+        | inl a ↦ All-contains IsItemString (map (λ e. 0 ∷ e) entries) y
+            (All-from_recursion IsItemString _
+            (leaves_short entries (recursion_from_All (λ e. length e < 2 ^ 16) entries short))) a
         | inr b ↦ inr (joins_pairs (map (leaf_hash digest) entries) (leaf_hashes entries) y b)
       ]
 
-  pub item_strings : (origin : List ℕ) (keys : List Key) (item : Item) → IsGood digest origin keys item → (y : List ℕ) → Contains (strings_of digest item) y → IsItemString y
-  item_strings origin keys (Head note rows) good y c = inr (edge_pairs (map row_of rows) (rows_hashes rows (edge_widths good.size) good.has_edge.widths) y c)
-  item_strings origin keys (Tile width bytes) good y c = inr (joins_pairs (row_of bytes) (row_hashes width bytes good.length_is) y c)
-  item_strings origin keys (Bundle width bytes) good y c = entry_strings (entries_of width bytes) (subst (All (λ e. length e < 2 ^ 16)) (bundle_is_one width bytes good.entries good.is_bundle) good.is_bundle.fits) y c
+  pub item_strings : (origin : List ℕ) (keys : List Key) (item : Item) → IsGood digest origin keys item → (y : List ℕ) →
+      Contains (strings_of digest item) y → IsItemString y
+  item_strings origin keys (Head note rows) good y c =
+      inr (edge_pairs (map row_of rows) (rows_hashes rows (edge_widths good.size) good.has_edge.widths) y c)
+  item_strings origin keys (Tile width bytes) good y c =
+      inr (joins_pairs (row_of bytes) (row_hashes width bytes good.length_is) y c)
+  item_strings origin keys (Bundle width bytes) good y c =
+      entry_strings (entries_of width bytes)
+      (subst (All (λ e. length e < 2 ^ 16))
+      (bundle_is_one width bytes good.entries good.is_bundle) good.is_bundle.fits) y c
 
   -- the edge of a good head is held with its strings
-  note_edge : (keys : List Key) (v : View) (item : Item) → IsGood digest v.origin keys item → (note : List ℕ) → Contains (notes_of item) note → HasEdge digest (plus digest v item) note
+  note_edge : (keys : List Key) (v : View) (item : Item) → IsGood digest v.origin keys item → (note : List ℕ) →
+      Contains (notes_of item) note → HasEdge digest (plus digest v item) note
   note_edge keys v (Head bytes rows) good note c =
-      let is : note ≡ bytes = All-contains (λ n. n ≡ bytes) (bytes ∷ []) note (All-from_recursion (λ n. n ≡ bytes) (bytes ∷ []) (refl, tt)) c in
+      let is : note ≡ bytes =
+      All-contains (λ n. n ≡ bytes) (bytes ∷ []) note
+      (All-from_recursion (λ n. n ≡ bytes) (bytes ∷ []) (refl, tt)) c in
       let ss = edge_strings digest (map row_of rows) in
-      let held : HasAll (set.union v.strings (set.from_list ss)) ss = held_from_all _ ss (recursion_from_All (Has (set.union v.strings (set.from_list ss))) ss (All-weaker (Contains ss) (Has (set.union v.strings (set.from_list ss))) (λ y d. has_right v.strings (set.from_list ss) y (has_from_listed ss y d)) ss (All-contains_itself ss))) in
+      let held : HasAll (set.union v.strings (set.from_list ss)) ss =
+      held_from_all _ ss
+      (recursion_from_All (Has (set.union v.strings (set.from_list ss))) ss
+      (All-weaker (Contains ss) (Has (set.union v.strings (set.from_list ss)))
+      (λ y d. has_right v.strings (set.from_list ss) y (has_from_listed ss y d)) ss (All-contains_itself ss))) in
       let h = good.is_head in
       record {
         size = good.size;
         root = good.root;
-        is_head = subst (λ n. IsHead n v.origin good.size good.root) (sym is) (record { text = h.text; lines = h.lines; extensions = h.extensions; is_note = h.is_note; is_checkpoint = h.is_checkpoint });
+        is_head =
+            subst (λ n. IsHead n v.origin good.size good.root) (sym is)
+            (record {
+              text =
+                  h.text;
+              lines = h.lines;
+              extensions = h.extensions;
+              is_note = h.is_note;
+              is_checkpoint = h.is_checkpoint;
+            });
         edge = record { rows = rows; has_edge = good.has_edge; are_held = held };
       }
   note_edge keys v (Tile width bytes) good note c = absurd (All-contains (λ n. ⊥) [] note (All-nil (λ n. ⊥)) c)
@@ -156,11 +203,26 @@ is_short e (inr p) = absurd (let zero_one : 0 ≡ 1 = ap (λ xs. get_or xs 0 0) 
 
 pub plus_is_lawful : PlusIsLawful
 plus_is_lawful digest hash keys v item lawful good clean =
-    let new : (y : List ℕ) → Contains (strings_of digest item) y → IsItemString y = item_strings digest hash v.origin keys item good in
+    let new : (y : List ℕ) → Contains (strings_of digest item) y → IsItemString y =
+    item_strings digest hash v.origin keys item good in
     record {
       no_clash = clean;
-      are_strings = λ s h. elim (has_cases v.strings (set.from_list (strings_of digest item)) s h) [ inl a ↦ lawful.are_strings s a | inr b ↦ is_string s (new s (listed_from_has _ s b)) ];
-      leaves_short = λ e h. elim (has_cases v.strings (set.from_list (strings_of digest item)) (0 ∷ e) h) [ inl a ↦ lawful.leaves_short e a | inr b ↦ is_short e (new (0 ∷ e) (listed_from_has _ (0 ∷ e) b)) ];
+      are_strings =
+          λ s h. elim
+          (has_cases v.strings
+          (set.from_list (strings_of digest item)) s h) [
+            | inl a ↦ lawful.are_strings s a
+            | inr b ↦ is_string s
+                (new s (listed_from_has _ s b))
+          ];
+      leaves_short =
+          λ e h. elim
+          (has_cases v.strings (set.from_list (strings_of digest item))
+          (0 ∷ e) h) [
+            | inl a ↦ lawful.leaves_short e a
+            | inr b ↦ is_short e
+                (new (0 ∷ e) (listed_from_has _ (0 ∷ e) b))
+          ];
       edges = λ note h. elim (has_cases v.notes (set.from_list (notes_of item)) note h) [
         | inl a ↦ edge_stays digest v (plus digest v item) (within_plus digest v item) note (lawful.edges note a)
         | inr b ↦ note_edge digest hash keys v item good note (listed_from_has _ note b)

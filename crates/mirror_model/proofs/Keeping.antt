@@ -23,15 +23,18 @@ use Rattle.mirror_model.proofs.Playing.{event_grows, set_back}
 
 -- ---- notes
 
-only_note : (item : Item) (note other : List ℕ) → Contains (notes_of item) note → Contains (notes_of item) other → other ≡ note
+only_note : (item : Item) (note other : List ℕ) → Contains (notes_of item) note → Contains (notes_of item) other →
+    other ≡ note
 only_note (Head bytes rows) note other a b = one other b ∙ sym (one note a)
   where
     one : (n : List ℕ) → Contains (bytes ∷ []) n → n ≡ bytes
-    one n c = All-contains (λ m. m ≡ bytes) (bytes ∷ []) n (All-from_recursion (λ m. m ≡ bytes) (bytes ∷ []) (refl, tt)) c
+    one n c =
+        All-contains (λ m. m ≡ bytes) (bytes ∷ []) n (All-from_recursion (λ m. m ≡ bytes) (bytes ∷ []) (refl, tt)) c
 only_note (Tile width bytes) note other a b = absurd (All-contains (λ m. ⊥) [] note (All-nil (λ m. ⊥)) a)
 only_note (Bundle width bytes) note other a b = absurd (All-contains (λ m. ⊥) [] note (All-nil (λ m. ⊥)) a)
 
-note_between : (digest : List ℕ → List ℕ) (old new : View) (item : Item) (note : List ℕ) → IsBetween old (plus digest old item) new → Has new.notes note → Has old.notes note ⊎ (new ≡ plus digest old item)
+note_between : (digest : List ℕ → List ℕ) (old new : View) (item : Item) (note : List ℕ) →
+    IsBetween old (plus digest old item) new → Has new.notes note → Has old.notes note ⊎ (new ≡ plus digest old item)
 note_between digest old new item note b has =
     elim (b.notes_last note has) [
       | inl was ↦ inl was
@@ -41,7 +44,8 @@ note_between digest old new item note b has =
           origin_is = sym b.within.origin_is;
           notes_are = λ other h. elim (has_cases old.notes (set.from_list (notes_of item)) other h) [
             | inl was ↦ b.grows.notes_are other was
-            | inr too ↦ subst (Has new.notes) (sym (only_note item note other (listed_from_has _ note is) (listed_from_has _ other too))) has
+            | inr too ↦ subst (Has new.notes)
+                (sym (only_note item note other (listed_from_has _ note is) (listed_from_has _ other too))) has
           ];
           strings_are = all;
         }))
@@ -65,20 +69,29 @@ between_is_lawful digest old full new p q b = record {
   ];
 }
   where
-    from_full : (note : List ℕ) → HasEdge digest full note → ((s : List ℕ) → Has full.strings s → Has new.strings s) → HasEdge digest new note
+    from_full : (note : List ℕ) → HasEdge digest full note → ((s : List ℕ) → Has full.strings s → Has new.strings s) →
+        HasEdge digest new note
     from_full note e all = record {
       size = e.size;
       root = e.root;
       is_head = subst (λ o. IsHead note o e.size e.root) (sym b.within.origin_is) e.is_head;
-      edge = record { rows = e.edge.rows; has_edge = e.edge.has_edge; are_held = held_more full.strings new.strings _ all e.edge.are_held };
+      edge = record {
+        rows = e.edge.rows;
+        has_edge =
+            e.edge.has_edge;
+        are_held = held_more full.strings new.strings _ all e.edge.are_held;
+      };
     }
 
-pub answer_lawful : (digest : List ℕ → List ℕ) (Allowed : Type 0) (full old : View) → IsLawful digest old → (Allowed → NoClash digest full.strings → IsLawful digest full) → (a : Answer) (new : View) → Answers digest old Allowed full a new → IsLawful digest new
+pub answer_lawful : (digest : List ℕ → List ℕ) (Allowed : Type 0) (full old : View) → IsLawful digest old →
+    (Allowed → NoClash digest full.strings → IsLawful digest full) → (a : Answer) (new : View) →
+    Answers digest old Allowed full a new → IsLawful digest new
 answer_lawful digest Allowed full old p whole Done new h = subst (IsLawful digest) (sym h.2) (whole h.0 h.1)
 answer_lawful digest Allowed full old p whole Refused new h = subst (IsLawful digest) (sym h.1) p
 answer_lawful digest Allowed full old p whole Clashed new h = subst (IsLawful digest) (sym h.2) p
 answer_lawful digest Allowed full old p whole Exhausted new (inl same) = subst (IsLawful digest) (sym same) p
-answer_lawful digest Allowed full old p whole Exhausted new (inr h) = between_is_lawful digest old full new p (whole h.0 h.1) h.2
+answer_lawful digest Allowed full old p whole Exhausted new (inr h) =
+    between_is_lawful digest old full new p (whole h.0 h.1) h.2
 
 pub event_keeps_lawful : EventKeepsLawful
 event_keeps_lawful digest hash keys old new (Take target item) a all h number v found =
@@ -86,7 +99,9 @@ event_keeps_lawful digest hash keys old new (Take target item) a all h number v 
       | inl same ↦ all number v same
       | inr b ↦
           let p = all target h.before h.found in
-          subst (IsLawful digest) (sym b.1) (answer_lawful digest (IsGood digest h.before.origin keys item) (plus digest h.before item) h.before p (λ good clean. plus_is_lawful digest hash keys h.before item p good clean) a h.after h.takes)
+          subst (IsLawful digest) (sym b.1)
+          (answer_lawful digest (IsGood digest h.before.origin keys item) (plus digest h.before item) h.before p
+          (λ good clean. plus_is_lawful digest hash keys h.before item p good clean) a h.after h.takes)
     ]
 event_keeps_lawful digest hash keys old new (Merge target source) a all h number v found =
     elim (set_back digest keys old new target h.after h.set h.before h.found number v found) [
@@ -94,12 +109,16 @@ event_keeps_lawful digest hash keys old new (Merge target source) a all h number
       | inr b ↦
           let p = all target h.before h.found in
           let q = all source h.other h.found_other in
-          subst (IsLawful digest) (sym b.1) (answer_lawful digest (h.before.origin ≡ h.other.origin) (union h.before h.other) h.before p (λ same clean. union_is_lawful digest h.before h.other p q same clean) a h.after h.merges)
+          subst (IsLawful digest) (sym b.1)
+          (answer_lawful digest (h.before.origin ≡ h.other.origin) (union h.before h.other) h.before p
+          (λ same clean. union_is_lawful digest h.before h.other p q same clean) a h.after h.merges)
     ]
 
 pub run_is_lawful : RunIsLawful
 run_is_lawful digest hash keys old new [] [] all run = subst (AreLawful digest) (sym run) all
-run_is_lawful digest hash keys old new (e ∷ es) (a ∷ answers) all run = run_is_lawful digest hash keys run.0 new es answers (event_keeps_lawful digest hash keys old run.0 e a all run.1) run.2
+run_is_lawful digest hash keys old new (e ∷ es) (a ∷ answers) all run =
+    run_is_lawful digest hash keys run.0 new es answers
+    (event_keeps_lawful digest hash keys old run.0 e a all run.1) run.2
 run_is_lawful digest hash keys old new [] (a ∷ answers) all run = absurd run
 run_is_lawful digest hash keys old new (e ∷ es) [] all run = absurd run
 

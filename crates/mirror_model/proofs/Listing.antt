@@ -12,7 +12,8 @@ use Rattle.tlog_tiles.specs.declared.paths.Path.{Path}
 use Rattle.tlog_tiles.specs.declared.paths.Path.TheVariants.{Checkpoint, Tile, Entries}
 use Rattle.mirror_model.specs.Forks.{Point, point_cmp}
 use Rattle.mirror_model.specs.Front.{path_cmp}
-use Rattle.mirror_model.specs.Listed.{PointPair, pair_cmp, NotesAreListedOnce, HeadsAreListedOnce, ForksAreListedOnce, MissingIsListedOnce, FrontIsListedOnce}
+use Rattle.mirror_model.specs.Listed.{PointPair, pair_cmp, NotesAreListedOnce, HeadsAreListedOnce, ForksAreListedOnce}
+use Rattle.mirror_model.specs.Listed.{MissingIsListedOnce, FrontIsListedOnce}
 
 -- ---- lists in order
 
@@ -34,14 +35,18 @@ module _ {X : Type 0} (cmp : X → X → Ordering) (turns : (x y : X) → cmp x 
   nothing_in y c = All-contains (λ z. ⊥) [] y (All-nil (λ z. ⊥)) c
 
   -- the rest of two lists that begin alike
-  rest_in : (x y : X) (xs ys : List X) → x ≡ y → AllByRecursion (λ z. cmp x z ≡ Less) xs → ((z : X) → Contains (x ∷ xs) z → Contains (y ∷ ys) z) → (z : X) → Contains xs z → Contains ys z
+  rest_in : (x y : X) (xs ys : List X) → x ≡ y → AllByRecursion (λ z. cmp x z ≡ Less) xs →
+      ((z : X) → Contains (x ∷ xs) z → Contains (y ∷ ys) z) → (z : X) → Contains xs z → Contains ys z
   rest_in x y xs ys same all to z c =
       elim (head_or y ys z (to z (later x xs z c))) [
         | inr there ↦ there
-        | inl e ↦ absurd (let here : cmp x x ≡ Less = subst (λ w. cmp x w ≡ Less) (sym (same ∙ e)) (above x xs all z c) in never_both x x here here)
+        | inl e ↦ absurd
+            (let here : cmp x x ≡ Less =
+            subst (λ w. cmp x w ≡ Less) (sym (same ∙ e)) (above x xs all z c) in never_both x x here here)
       ]
 
-  pub same_lists : (xs ys : List X) → IsStrictlySortedBy cmp xs → IsStrictlySortedBy cmp ys → ((z : X) → Contains xs z → Contains ys z) → ((z : X) → Contains ys z → Contains xs z) → xs ≡ ys
+  pub same_lists : (xs ys : List X) → IsStrictlySortedBy cmp xs → IsStrictlySortedBy cmp ys →
+      ((z : X) → Contains xs z → Contains ys z) → ((z : X) → Contains ys z → Contains xs z) → xs ≡ ys
   unfolding IsStrictlySortedBy
   same_lists [] [] p q to from = refl
   same_lists [] (y ∷ ys) p q to from = absurd (nothing_in y (from y (0, omega arith, refl)))
@@ -54,31 +59,44 @@ module _ {X : Type 0} (cmp : X → X → Ordering) (turns : (x y : X) → cmp x 
           | inr back ↦ absurd (never_both x y (above x xs p.0 y back) (above y ys q.0 x there))
         ]
       ] in
-      let rest : xs ≡ ys = same_lists xs ys p.1 q.1 (rest_in x y xs ys first p.0 to) (rest_in y x ys xs (sym first) q.0 from) in
+      let rest : xs ≡ ys =
+      same_lists xs ys p.1 q.1 (rest_in x y xs ys first p.0 to) (rest_in y x ys xs (sym first) q.0 from) in
       λ i. first i ∷ rest i
 
 -- ---- the orders
 
-turn_then : (a a' b b' : Ordering) → a ≡ ordering_reverse a' → b ≡ ordering_reverse b' → ordering_then a b ≡ ordering_reverse (ordering_then a' b')
+turn_then : (a a' b b' : Ordering) → a ≡ ordering_reverse a' → b ≡ ordering_reverse b' →
+    ordering_then a b ≡ ordering_reverse (ordering_then a' b')
 turn_then a a' b b' e f = (λ i. ordering_then (e i) (f i)) ∙ both a' b'
   where
-    both : (c d : Ordering) → ordering_then (ordering_reverse c) (ordering_reverse d) ≡ ordering_reverse (ordering_then c d)
+    both : (c d : Ordering) →
+        ordering_then (ordering_reverse c) (ordering_reverse d) ≡ ordering_reverse (ordering_then c d)
     both Less d = refl
     both Equal d = refl
     both Greater d = refl
 
 point_turns : (a b : Point) → point_cmp a b ≡ ordering_reverse (point_cmp b a)
-point_turns a b = turn_then (nat_cmp a.size b.size) (nat_cmp b.size a.size) (slice_cmp nat_cmp a.root b.root) (slice_cmp nat_cmp b.root a.root) (nat_cmp_total.antisymm a.size b.size) (nat_list_cmp_total.antisymm a.root b.root)
+point_turns a b =
+    turn_then (nat_cmp a.size b.size) (nat_cmp b.size a.size) (slice_cmp nat_cmp a.root b.root)
+    (slice_cmp nat_cmp b.root a.root) (nat_cmp_total.antisymm a.size b.size) (nat_list_cmp_total.antisymm a.root b.root)
 
 pair_turns : (a b : PointPair) → pair_cmp a b ≡ ordering_reverse (pair_cmp b a)
-pair_turns a b = turn_then (point_cmp a.small b.small) (point_cmp b.small a.small) (point_cmp a.large b.large) (point_cmp b.large a.large) (point_turns a.small b.small) (point_turns a.large b.large)
+pair_turns a b =
+    turn_then (point_cmp a.small b.small) (point_cmp b.small a.small) (point_cmp a.large b.large)
+    (point_cmp b.large a.large) (point_turns a.small b.small) (point_turns a.large b.large)
 
 path_turns : (a b : Path) → path_cmp a b ≡ ordering_reverse (path_cmp b a)
-path_turns (Tile level index width) (Tile l i w) = turn_then (nat_cmp l level) (nat_cmp level l) (ordering_then (nat_cmp index i) (nat_cmp width w)) (ordering_then (nat_cmp i index) (nat_cmp w width)) (nat_cmp_total.antisymm l level) (turn_then (nat_cmp index i) (nat_cmp i index) (nat_cmp width w) (nat_cmp w width) (nat_cmp_total.antisymm index i) (nat_cmp_total.antisymm width w))
+path_turns (Tile level index width) (Tile l i w) =
+    turn_then (nat_cmp l level) (nat_cmp level l) (ordering_then (nat_cmp index i) (nat_cmp width w))
+    (ordering_then (nat_cmp i index) (nat_cmp w width)) (nat_cmp_total.antisymm l level)
+    (turn_then (nat_cmp index i) (nat_cmp i index) (nat_cmp width w) (nat_cmp w width) (nat_cmp_total.antisymm index i)
+    (nat_cmp_total.antisymm width w))
 path_turns (Tile level index width) (Entries i w) = refl
 path_turns (Tile level index width) Checkpoint = refl
 path_turns (Entries index width) (Tile l i w) = refl
-path_turns (Entries index width) (Entries i w) = turn_then (nat_cmp index i) (nat_cmp i index) (nat_cmp width w) (nat_cmp w width) (nat_cmp_total.antisymm index i) (nat_cmp_total.antisymm width w)
+path_turns (Entries index width) (Entries i w) =
+    turn_then (nat_cmp index i) (nat_cmp i index) (nat_cmp width w) (nat_cmp w width) (nat_cmp_total.antisymm index i)
+    (nat_cmp_total.antisymm width w)
 path_turns (Entries index width) Checkpoint = refl
 path_turns Checkpoint (Tile l i w) = refl
 path_turns Checkpoint (Entries i w) = refl
@@ -87,16 +105,26 @@ path_turns Checkpoint Checkpoint = refl
 -- ---- the lists that calls answer
 
 pub notes_are_listed_once : NotesAreListedOnce
-notes_are_listed_once v first second p q = same_lists (slice_cmp nat_cmp) nat_list_cmp_total.antisymm first second p.sorted q.sorted (λ z c. (q.exact z).1 ((p.exact z).0 c)) (λ z c. (p.exact z).1 ((q.exact z).0 c))
+notes_are_listed_once v first second p q =
+    same_lists (slice_cmp nat_cmp) nat_list_cmp_total.antisymm first second p.sorted q.sorted
+    (λ z c. (q.exact z).1 ((p.exact z).0 c)) (λ z c. (p.exact z).1 ((q.exact z).0 c))
 
 pub heads_are_listed_once : HeadsAreListedOnce
-heads_are_listed_once v first second p q = same_lists point_cmp point_turns first second p.sorted q.sorted (λ z c. (q.exact z).1 ((p.exact z).0 c)) (λ z c. (p.exact z).1 ((q.exact z).0 c))
+heads_are_listed_once v first second p q =
+    same_lists point_cmp point_turns first second p.sorted q.sorted (λ z c. (q.exact z).1 ((p.exact z).0 c))
+    (λ z c. (p.exact z).1 ((q.exact z).0 c))
 
 pub forks_are_listed_once : ForksAreListedOnce
-forks_are_listed_once digest v first second p q = same_lists pair_cmp pair_turns first second p.sorted q.sorted (λ z c. (q.exact z).1 ((p.exact z).0 c)) (λ z c. (p.exact z).1 ((q.exact z).0 c))
+forks_are_listed_once digest v first second p q =
+    same_lists pair_cmp pair_turns first second p.sorted q.sorted (λ z c. (q.exact z).1 ((p.exact z).0 c))
+    (λ z c. (p.exact z).1 ((q.exact z).0 c))
 
 pub missing_is_listed_once : MissingIsListedOnce
-missing_is_listed_once digest v size root first second p q = same_lists path_cmp path_turns first second p.sorted q.sorted (λ z c. (q.exact z).1 ((p.exact z).0 c)) (λ z c. (p.exact z).1 ((q.exact z).0 c))
+missing_is_listed_once digest v size root first second p q =
+    same_lists path_cmp path_turns first second p.sorted q.sorted (λ z c. (q.exact z).1 ((p.exact z).0 c))
+    (λ z c. (p.exact z).1 ((q.exact z).0 c))
 
 pub front_is_listed_once : FrontIsListedOnce
-front_is_listed_once digest v entries first second p q = same_lists path_cmp path_turns first second p.sorted q.sorted (λ z c. (q.exact z).1 ((p.exact z).0 c)) (λ z c. (p.exact z).1 ((q.exact z).0 c))
+front_is_listed_once digest v entries first second p q =
+    same_lists path_cmp path_turns first second p.sorted q.sorted (λ z c. (q.exact z).1 ((p.exact z).0 c))
+    (λ z c. (p.exact z).1 ((q.exact z).0 c))

@@ -1,5 +1,6 @@
 -- Round after round until all is held.
-use Rattle.std.proofs.Common.{zero, suc, ◌≡◌, ℕ, ◌+◌, ◌-◌, ◌*◌, ◌/◌, ◌^◌, ◌<◌, ◌≤◌, List, [], ◌∷◌, length, sym, refl, ap, ◌∙◌, subst, inl, inr, arith}
+use Rattle.std.proofs.Common.{zero, suc, ◌≡◌, ℕ, ◌+◌, ◌-◌, ◌*◌, ◌/◌, ◌^◌, ◌<◌, ◌≤◌, List, [], ◌∷◌, length, sym, refl}
+use Rattle.std.proofs.Common.{ap, ◌∙◌, subst, inl, inr, arith}
 use Rattle.std.proofs.lemmas.Nat.{mul-le}
 use Rattle.std.proofs.lemmas.Bool.{cases_lt}
 use Rattle.std.proofs.Math.Nat.{pow-succ', div-mul-le_self, lt-div-mul-add}
@@ -31,18 +32,27 @@ one_lower n level below none =
     omega (arith, above, zb)
   where
     from_product : (i k c : ℕ) → i * c < k * c → i < k
-    from_product i k c h = elim (cases_lt i k) [ inl a ↦ a | inr a ↦ absurd (let le : k * c ≤ i * c = mul-le _ _ _ _ a (omega arith) in omega arith) ]
+    from_product i k c h =
+        elim (cases_lt i k) [
+          | inl a ↦ a
+          | inr a ↦ absurd
+              (let le : k * c ≤ i * c = mul-le _ _ _ _ a (omega arith) in omega arith)
+        ]
 
 -- so a size has no more entries than its greatest level's next power
 below_top : (n top : ℕ) → n < 256 ^ 8 → IsTop n top → n < 256 ^ (top + 1)
-below_top n top small t = down (7 - top) (let e : (top + 1) + (7 - top) ≡ 8 = omega (arith, t.within) in subst (λ m. n < 256 ^ m) (sym e) small) (omega (arith, t.within))
+below_top n top small t =
+    down (7 - top)
+    (let e : (top + 1) + (7 - top) ≡ 8 = omega (arith, t.within) in subst (λ m. n < 256 ^ m) (sym e) small)
+    (omega (arith, t.within))
   where
     down : (d : ℕ) → n < 256 ^ ((top + 1) + d) → top + d ≤ 7 → n < 256 ^ (top + 1)
     down zero h within = let e : (top + 1) + 0 ≡ top + 1 = omega arith in subst (λ m. n < 256 ^ m) e h
     down (suc d) h within =
         let level = (top + 1) + d in
         let e : (top + 1) + suc d ≡ level + 1 = omega arith in
-        let none : width_of n level ≡ 0 = zero_or (width_of n level) (λ some. omega (arith, t.greatest level (omega (arith, within)) some)) in
+        let none : width_of n level ≡ 0 =
+        zero_or (width_of n level) (λ some. omega (arith, t.greatest level (omega (arith, within)) some)) in
         down d (one_lower n level (subst (λ m. n < 256 ^ m) e h) none) (omega (arith, within))
       where
         zero_or : (w : ℕ) → (0 < w → ⊥) → w ≡ 0
@@ -51,7 +61,8 @@ below_top n top small t = down (7 - top) (let e : (top + 1) + (7 - top) ≡ 8 = 
 
 pub front_is_below_top : FrontIsBelowTop
 front_is_below_top digest held entries top small t edge level index width f =
-    let full = (front_tile digest held entries (omega (arith, small)) (holds_from_held held _ edge) level index width f).2 in
+    let full =
+    (front_tile digest held entries (omega (arith, small)) (holds_from_held held _ edge) level index width f).2 in
     let below = below_top (length entries) top small t in
     elim (cases_lt level top) [
       | inl lt ↦ lt
@@ -64,25 +75,35 @@ front_is_below_top digest held entries top small t edge level index width f =
 
 module _ (digest : List ℕ → List ℕ) (entries : List (List ℕ)) (small : length entries ≤ 256 ^ 8) where
   -- what is held stays held
-  held_on : (held : Strings) (afters : List Strings) → AreRounds digest entries held afters → (y : List ℕ) → Has held y → Has (last_held held afters) y
+  held_on : (held : Strings) (afters : List Strings) → AreRounds digest entries held afters → (y : List ℕ) →
+      Has held y → Has (last_held held afters) y
   held_on held [] rounds y h = h
   held_on held (after ∷ afters) rounds y h = held_on after afters rounds.1 y (rounds.0.grows y h)
 
   -- a front whose tiles are below level 1 has none
-  no_tile : (held : Strings) (level index width : ℕ) → IsFront digest held entries (Tile level index width) → level < 1 → ⊥
-  no_tile held zero index width f lt = let p = f.path_is in let one : 256 ^ (0 + 1) ≡ 256 = refl in omega (arith, p.many, p.tile.upto, one)
+  no_tile : (held : Strings) (level index width : ℕ) → IsFront digest held entries (Tile level index width) →
+      level < 1 → ⊥
+  no_tile held zero index width f lt =
+      let p = f.path_is in let one : 256 ^ (0 + 1) ≡ 256 = refl in omega (arith, p.many, p.tile.upto, one)
   no_tile held (suc level) index width f lt = omega arith
 
   -- from a front whose tiles are below a level
-  rounds_from : (k : ℕ) (held : Strings) (afters : List Strings) → AreRounds digest entries held afters → ((level index width : ℕ) → IsFront digest held entries (Tile level index width) → level < k) → 1 ≤ length afters → k ≤ length afters → HasAll (last_held held afters) (strings digest entries)
+  rounds_from : (k : ℕ) (held : Strings) (afters : List Strings) → AreRounds digest entries held afters →
+      ((level index width : ℕ) → IsFront digest held entries (Tile level index width) → level < k) → 1 ≤ length afters →
+      k ≤ length afters → HasAll (last_held held afters) (strings digest entries)
   rounds_from k held [] rounds low some enough = absurd (omega arith)
   rounds_from zero held (after ∷ afters) rounds low some enough =
-      held_more after (last_held after afters) (strings digest entries) (held_on after afters rounds.1) (bundles_complete digest held after entries small rounds.0 (λ level index width f. let lt = low level index width f in omega (arith, lt)))
+      held_more after (last_held after afters) (strings digest entries) (held_on after afters rounds.1)
+      (bundles_complete digest held after entries small rounds.0
+      (λ level index width f. let lt = low level index width f in omega (arith, lt)))
   rounds_from (suc zero) held (after ∷ afters) rounds low some enough =
-      held_more after (last_held after afters) (strings digest entries) (held_on after afters rounds.1) (bundles_complete digest held after entries small rounds.0 (λ level index width f. no_tile held level index width f (low level index width f)))
+      held_more after (last_held after afters) (strings digest entries) (held_on after afters rounds.1)
+      (bundles_complete digest held after entries small rounds.0
+      (λ level index width f. no_tile held level index width f (low level index width f)))
   rounds_from (suc (suc k)) held (after ∷ afters) rounds low some enough =
       rounds_from (suc k) after afters rounds.1
-      (λ level index width f. round_goes_down digest held after entries small rounds.0 (suc k) (λ l i w g. let lt = low l i w g in omega (arith, lt)) level index width f)
+      (λ level index width f. round_goes_down digest held after entries small rounds.0 (suc k)
+      (λ l i w g. let lt = low l i w g in omega (arith, lt)) level index width f)
       (omega arith) (omega arith)
 
 pub rounds_complete : RoundsComplete

@@ -27,29 +27,34 @@ use Rattle.mirror_model.proofs.Refusing.{Taken, not_done, not_clashed, not_exhau
 -- ---- notes and checkpoints
 
 -- what is refused as a note is no note
-no_note : (bytes text : List ℕ) (lines : List Line) (fault : NoteFault) → IsNoNote bytes fault → IsNote bytes text lines → ⊥
+no_note : (bytes text : List ℕ) (lines : List Line) (fault : NoteFault) → IsNoNote bytes fault →
+    IsNote bytes text lines → ⊥
 no_note bytes text lines fault refused is =
     let one : Result NoteParts NoteFault = Ok (record { bytes = bytes; text = text; lines = lines }) in
     let other : Result NoteParts NoteFault = Err fault in
-    let same : one ≡ other = note.one_answer bytes one other (λ e. cc e) (λ e. refused.has_memory (cc e)) (refl, is) refused.refused in
+    let same : one ≡ other =
+    note.one_answer bytes one other (λ e. cc e) (λ e. refused.has_memory (cc e)) (refl, is) refused.refused in
     cc same
 
 same_note_fault : (bytes : List ℕ) (f g : NoteFault) → IsNoNote bytes f → IsNoNote bytes g → f ≡ g
 same_note_fault bytes f g p q =
     let one : Result NoteParts NoteFault = Err f in
     let other : Result NoteParts NoteFault = Err g in
-    let same : one ≡ other = note.one_answer bytes one other (λ e. p.has_memory (cc e)) (λ e. q.has_memory (cc e)) p.refused q.refused in
+    let same : one ≡ other =
+    note.one_answer bytes one other (λ e. p.has_memory (cc e)) (λ e. q.has_memory (cc e)) p.refused q.refused in
     cc same
 
 -- and likewise of texts
-no_checkpoint : (text : List ℕ) (c : Checkpoint) (fault : CheckpointFault) → ReadsCheckpoint text (Err fault) → fault ≢ reading.OutOfMemory → ReadsCheckpoint text (Ok c) → ⊥
+no_checkpoint : (text : List ℕ) (c : Checkpoint) (fault : CheckpointFault) → ReadsCheckpoint text (Err fault) →
+    fault ≢ reading.OutOfMemory → ReadsCheckpoint text (Ok c) → ⊥
 no_checkpoint text c fault refused memory is =
     let one : Result Checkpoint CheckpointFault = Ok c in
     let other : Result Checkpoint CheckpointFault = Err fault in
     let same : one ≡ other = checkpoint.one_answer text one other (λ e. cc e) (λ e. memory (cc e)) is refused in
     cc same
 
-same_text_fault : (text : List ℕ) (f g : CheckpointFault) → ReadsCheckpoint text (Err f) → ReadsCheckpoint text (Err g) → f ≢ reading.OutOfMemory → g ≢ reading.OutOfMemory → f ≡ g
+same_text_fault : (text : List ℕ) (f g : CheckpointFault) → ReadsCheckpoint text (Err f) →
+    ReadsCheckpoint text (Err g) → f ≢ reading.OutOfMemory → g ≢ reading.OutOfMemory → f ≡ g
 same_text_fault text f g p q no_f no_g =
     let one : Result Checkpoint CheckpointFault = Err f in
     let other : Result Checkpoint CheckpointFault = Err g in
@@ -75,7 +80,9 @@ module _ (bytes origin : List ℕ) (keys : List Key) where
     is_checkpoint : IsCheckpoint text checkpoint.origin checkpoint.size checkpoint.root checkpoint.extensions
     then :
         ((a ≡ Err taking.OtherOrigin) × (checkpoint.origin ≢ origin))
-        ⊎ ((checkpoint.origin ≡ origin) × (((a ≡ Err taking.NoTrustedSignature) × (Opens text lines keys → ⊥)) ⊎ ((a ≡ Ok checkpoint) × Opens text lines keys)))
+        ⊎ ((checkpoint.origin ≡ origin)
+        × (((a ≡ Err taking.NoTrustedSignature) × (Opens text lines keys → ⊥))
+        ⊎ ((a ≡ Ok checkpoint) × Opens text lines keys)))
 
   -- the text is refused
   record AtText (a : Read) (text : List ℕ) : Type 0 where
@@ -98,11 +105,52 @@ module _ (bytes origin : List ℕ) (keys : List Key) where
     refused : IsNoNote bytes fault
 
   steps : (a : Read) → ReadsHead bytes origin keys a → a ≢ Err taking.OutOfMemory → AtNote a ⊎ AfterNote a
-  steps (Ok c) h m = inr (record { text = h.text; lines = h.lines; is_note = h.is.is_note; then = inr (record { checkpoint = c; is_checkpoint = h.is.is_checkpoint; then = inr (h.origin_is, inr (refl, h.opens)) }) })
+  steps (Ok c) h m =
+      inr (record {
+        text = h.text;
+        lines =
+            h.lines;
+        is_note =
+            h.is.is_note;
+        then =
+            inr (record
+            { checkpoint = c; is_checkpoint = h.is.is_checkpoint; then = inr (h.origin_is, inr (refl, h.opens)) });
+      })
   steps (Err (taking.Note fault)) h m = inl (record { fault = fault; is = refl; refused = h })
-  steps (Err (taking.Checkpoint fault)) h m = inr (record { text = h.text; lines = h.lines; is_note = h.is_note; then = inl (record { fault = fault; is = refl; refused = h.refused; has_memory = h.has_memory }) })
-  steps (Err taking.OtherOrigin) h m = inr (record { text = h.text; lines = h.lines; is_note = h.is.is_note; then = inr (record { checkpoint = h.checkpoint; is_checkpoint = h.is.is_checkpoint; then = inl (refl, h.differs) }) })
-  steps (Err taking.NoTrustedSignature) h m = inr (record { text = h.text; lines = h.lines; is_note = h.is.is_note; then = inr (record { checkpoint = h.checkpoint; is_checkpoint = h.is.is_checkpoint; then = inr (h.origin_is, inl (refl, h.closed)) }) })
+  steps (Err (taking.Checkpoint fault)) h m =
+      inr (record {
+        text = h.text;
+        lines =
+            h.lines;
+        is_note =
+            h.is_note;
+        then = inl (record { fault = fault; is = refl; refused = h.refused; has_memory = h.has_memory });
+      })
+  steps (Err taking.OtherOrigin) h m =
+      inr (record {
+        text = h.text;
+        lines =
+            h.lines;
+        is_note =
+            h.is.is_note;
+        then =
+            inr (record { checkpoint = h.checkpoint; is_checkpoint = h.is.is_checkpoint; then = inl (refl, h.differs) });
+      })
+  steps (Err taking.NoTrustedSignature) h m =
+      inr (record {
+        text = h.text;
+        lines =
+            h.lines;
+        is_note =
+            h.is.is_note;
+        then =
+            inr (record {
+              checkpoint =
+                  h.checkpoint;
+              is_checkpoint = h.is.is_checkpoint;
+              then = inr (h.origin_is, inl (refl, h.closed));
+            });
+      })
   steps (Err taking.EdgeCount) h m = absurd h
   steps (Err taking.EdgeLength) h m = absurd h
   steps (Err taking.EdgeMismatch) h m = absurd h
@@ -116,7 +164,8 @@ module _ (bytes origin : List ℕ) (keys : List Key) where
     -- of one text and its lines
     same_after_text : (text : List ℕ) (lines : List Line) → AfterText a text lines → AfterText b text lines → a ≡ b
     same_after_text text lines p q =
-        let same : p.checkpoint ≡ q.checkpoint = same_checkpoint text p.checkpoint q.checkpoint p.is_checkpoint q.is_checkpoint in
+        let same : p.checkpoint ≡ q.checkpoint =
+        same_checkpoint text p.checkpoint q.checkpoint p.is_checkpoint q.is_checkpoint in
         let origins : p.checkpoint.origin ≡ q.checkpoint.origin = ap (λ (c : Checkpoint). c.origin) same in
         elim p.then [
           | inl x ↦ elim q.then [ inl y ↦ x.0 ∙ sym y.0 | inr y ↦ absurd (x.1 (origins ∙ y.0)) ]
@@ -129,24 +178,32 @@ module _ (bytes origin : List ℕ) (keys : List Key) where
           ]
         ]
 
-    same_text : (text : List ℕ) (lines : List Line) → AtText a text ⊎ AfterText a text lines → AtText b text ⊎ AfterText b text lines → a ≡ b
-    same_text text lines (inl p) (inl q) = p.is ∙ ap (λ f. Err (taking.Checkpoint f)) (same_text_fault text p.fault q.fault p.refused q.refused p.has_memory q.has_memory) ∙ sym q.is
-    same_text text lines (inl p) (inr q) = absurd (no_checkpoint text q.checkpoint p.fault p.refused p.has_memory q.is_checkpoint)
-    same_text text lines (inr p) (inl q) = absurd (no_checkpoint text p.checkpoint q.fault q.refused q.has_memory p.is_checkpoint)
+    same_text : (text : List ℕ) (lines : List Line) → AtText a text ⊎ AfterText a text lines →
+        AtText b text ⊎ AfterText b text lines → a ≡ b
+    same_text text lines (inl p) (inl q) =
+        p.is ∙ ap (λ f. Err (taking.Checkpoint f))
+        (same_text_fault text p.fault q.fault p.refused q.refused p.has_memory q.has_memory) ∙ sym q.is
+    same_text text lines (inl p) (inr q) =
+        absurd (no_checkpoint text q.checkpoint p.fault p.refused p.has_memory q.is_checkpoint)
+    same_text text lines (inr p) (inl q) =
+        absurd (no_checkpoint text p.checkpoint q.fault q.refused q.has_memory p.is_checkpoint)
     same_text text lines (inr p) (inr q) = same_after_text text lines p q
 
     same_note : AtNote a ⊎ AfterNote a → AtNote b ⊎ AfterNote b → a ≡ b
-    same_note (inl p) (inl q) = p.is ∙ ap (λ f. Err (taking.Note f)) (same_note_fault bytes p.fault q.fault p.refused q.refused) ∙ sym q.is
+    same_note (inl p) (inl q) =
+        p.is ∙ ap (λ f. Err (taking.Note f)) (same_note_fault bytes p.fault q.fault p.refused q.refused) ∙ sym q.is
     same_note (inl p) (inr q) = absurd (no_note bytes q.text q.lines p.fault p.refused q.is_note)
     same_note (inr p) (inl q) = absurd (no_note bytes p.text p.lines q.fault q.refused p.is_note)
     same_note (inr p) (inr q) =
         let same = notes_are_read bytes p.text q.text p.lines q.lines p.is_note q.is_note in
         let there : AtText b p.text ⊎ AfterText b p.text p.lines =
-        subst (λ t. AtText b t ⊎ AfterText b t p.lines) (sym same.0) (subst (λ l. AtText b q.text ⊎ AfterText b q.text l) (sym same.1) q.then) in
+        subst (λ t. AtText b t ⊎ AfterText b t p.lines) (sym same.0)
+        (subst (λ l. AtText b q.text ⊎ AfterText b q.text l) (sym same.1) q.then) in
         same_text p.text p.lines p.then there
 
 pub head_notes_are_read_once : HeadNotesAreReadOnce
-head_notes_are_read_once bytes origin keys a b p q no_a no_b = same_note bytes origin keys a b (steps bytes origin keys a p no_a) (steps bytes origin keys b q no_b)
+head_notes_are_read_once bytes origin keys a b p q no_a no_b =
+    same_note bytes origin keys a b (steps bytes origin keys a p no_a) (steps bytes origin keys b q no_b)
 
 -- ---- what is read of an open head
 
@@ -154,20 +211,34 @@ pub open_heads_are_read : OpenHeadsAreRead
 open_heads_are_read bytes origin keys size root = (
   λ h. record {
     checkpoint = record { origin = origin; size = size; root = root; extensions = h.extensions };
-    is_open = record { text = h.text; lines = h.lines; is = record { is_note = h.is_note; is_checkpoint = h.is_checkpoint }; origin_is = refl; opens = h.opens };
+    is_open =
+        record {
+          text =
+              h.text;
+          lines =
+              h.lines;
+          is =
+              record { is_note = h.is_note; is_checkpoint = h.is_checkpoint };
+          origin_is = refl;
+          opens = h.opens;
+        };
     size_is = refl;
     root_is = refl;
   },
   λ h. open_head bytes origin keys h.checkpoint size root h.size_is h.root_is h.is_open,
 )
   where
-    open_head : (bytes origin : List ℕ) (keys : List Key) (c : Checkpoint) (size : ℕ) (root : List ℕ) → c.size ≡ size → c.root ≡ root → IsOpenCheckpoint bytes origin keys c → IsOpenHead bytes origin keys size root
+    open_head : (bytes origin : List ℕ) (keys : List Key) (c : Checkpoint) (size : ℕ) (root : List ℕ) → c.size ≡ size →
+        c.root ≡ root → IsOpenCheckpoint bytes origin keys c → IsOpenHead bytes origin keys size root
     open_head bytes origin keys c size root s r h = record {
       text = h.text;
       lines = h.lines;
       extensions = c.extensions;
       is_note = h.is.is_note;
-      is_checkpoint = subst (λ o. IsCheckpoint h.text o size root c.extensions) h.origin_is (subst (λ n. IsCheckpoint h.text c.origin n root c.extensions) s (subst (λ x. IsCheckpoint h.text c.origin c.size x c.extensions) r h.is.is_checkpoint));
+      is_checkpoint =
+          subst (λ o. IsCheckpoint h.text o size root c.extensions) h.origin_is
+          (subst (λ n. IsCheckpoint h.text c.origin n root c.extensions) s
+          (subst (λ x. IsCheckpoint h.text c.origin c.size x c.extensions) r h.is.is_checkpoint));
       opens = h.opens;
     }
 
@@ -178,7 +249,10 @@ module _ (digest : List ℕ → List ℕ) (origin : List ℕ) (keys : List Key) 
   abbrev EdgeStep : Taken → Checkpoint → Type 0
   EdgeStep a c =
       ((a ≡ Err taking.EdgeCount) × (HasEdgeCount c.size rows → ⊥))
-      ⊎ (HasEdgeCount c.size rows × (((a ≡ Err taking.EdgeLength) × (HasEdgeLengths c.size rows → ⊥)) ⊎ (HasEdgeLengths c.size rows × (a ≡ Err taking.EdgeMismatch) × (edge_root digest (map row_of rows) ≢ c.root))))
+      ⊎ (HasEdgeCount c.size rows
+      × (((a ≡ Err taking.EdgeLength) × (HasEdgeLengths c.size rows → ⊥))
+      ⊎ (HasEdgeLengths c.size rows × (a ≡ Err taking.EdgeMismatch)
+      × (edge_root digest (map row_of rows) ≢ c.root))))
 
   -- a refusal is one of the note, or one of the edge rows
   record AtHead (a : Taken) : Type 0 where
@@ -197,20 +271,34 @@ module _ (digest : List ℕ → List ℕ) (origin : List ℕ) (keys : List Key) 
 
   head_refused : (a : Taken) → JudgesHead digest origin keys bytes rows a → answer_of a ≡ Refused → AtHead a ⊎ AtEdge a
   head_refused (Ok done) h e = absurd (not_done done e)
-  head_refused (Err (taking.Note fault)) h e = inl (record { fault = taking.Note fault; is = refl; memory = λ m. cc m; reads = h })
-  head_refused (Err (taking.Checkpoint fault)) h e = inl (record { fault = taking.Checkpoint fault; is = refl; memory = λ m. cc m; reads = h })
-  head_refused (Err taking.OtherOrigin) h e = inl (record { fault = taking.OtherOrigin; is = refl; memory = λ m. cc m; reads = h })
-  head_refused (Err taking.NoTrustedSignature) h e = inl (record { fault = taking.NoTrustedSignature; is = refl; memory = λ m. cc m; reads = h })
-  head_refused (Err taking.EdgeCount) h e = inr (record { checkpoint = h.checkpoint; is_open = h.is_open; step = inl (refl, h.differs) })
-  head_refused (Err taking.EdgeLength) h e = inr (record { checkpoint = h.checkpoint; is_open = h.is_open; step = inr (h.count_is, inl (refl, h.differ)) })
-  head_refused (Err taking.EdgeMismatch) h e = inr (record { checkpoint = h.checkpoint; is_open = h.is_open; step = inr (same_count h.checkpoint.size h.lengths_are, inr (h.lengths_are, refl, h.differs)) })
+  head_refused (Err (taking.Note fault)) h e =
+      inl (record { fault = taking.Note fault; is = refl; memory = λ m. cc m; reads = h })
+  head_refused (Err (taking.Checkpoint fault)) h e =
+      inl (record { fault = taking.Checkpoint fault; is = refl; memory = λ m. cc m; reads = h })
+  head_refused (Err taking.OtherOrigin) h e =
+      inl (record { fault = taking.OtherOrigin; is = refl; memory = λ m. cc m; reads = h })
+  head_refused (Err taking.NoTrustedSignature) h e =
+      inl (record { fault = taking.NoTrustedSignature; is = refl; memory = λ m. cc m; reads = h })
+  head_refused (Err taking.EdgeCount) h e =
+      inr (record { checkpoint = h.checkpoint; is_open = h.is_open; step = inl (refl, h.differs) })
+  head_refused (Err taking.EdgeLength) h e =
+      inr (record { checkpoint = h.checkpoint; is_open = h.is_open; step = inr (h.count_is, inl (refl, h.differ)) })
+  head_refused (Err taking.EdgeMismatch) h e =
+      inr (record {
+        checkpoint =
+            h.checkpoint;
+        is_open =
+            h.is_open;
+        step = inr (same_count h.checkpoint.size h.lengths_are, inr (h.lengths_are, refl, h.differs));
+      })
   head_refused (Err taking.RowLength) h e = absurd h
   head_refused (Err taking.BundleShort) h e = absurd h
   head_refused (Err taking.BundleLong) h e = absurd h
   head_refused (Err taking.Collision) h e = absurd (not_clashed e)
   head_refused (Err taking.OutOfMemory) h e = absurd (not_exhausted e)
 
-  head_taken : (a : Taken) → JudgesHead digest origin keys bytes rows a → answer_of a ≢ Refused → a ≢ Err taking.OutOfMemory → IsGoodHead digest origin keys bytes rows
+  head_taken : (a : Taken) → JudgesHead digest origin keys bytes rows a → answer_of a ≢ Refused →
+      a ≢ Err taking.OutOfMemory → IsGoodHead digest origin keys bytes rows
   head_taken (Ok done) h no_refusal memory = h
   head_taken (Err (taking.Note fault)) h no_refusal memory = absurd (no_refusal refl)
   head_taken (Err (taking.Checkpoint fault)) h no_refusal memory = absurd (no_refusal refl)
@@ -226,11 +314,13 @@ module _ (digest : List ℕ → List ℕ) (origin : List ℕ) (keys : List Key) 
   head_taken (Err taking.OutOfMemory) h no_refusal memory = absurd (memory refl)
 
   -- a note that is read is not refused
-  read_or_refused : (c : Checkpoint) (fault : TakeFault) → IsOpenCheckpoint bytes origin keys c → ReadsHead bytes origin keys (Err fault) → fault ≢ taking.OutOfMemory → ⊥
+  read_or_refused : (c : Checkpoint) (fault : TakeFault) → IsOpenCheckpoint bytes origin keys c →
+      ReadsHead bytes origin keys (Err fault) → fault ≢ taking.OutOfMemory → ⊥
   read_or_refused c fault is refused memory =
       let one : Result Checkpoint TakeFault = Ok c in
       let other : Result Checkpoint TakeFault = Err fault in
-      let same : one ≡ other = head_notes_are_read_once bytes origin keys one other is refused (λ e. cc e) (λ e. memory (cc e)) in
+      let same : one ≡ other =
+      head_notes_are_read_once bytes origin keys one other is refused (λ e. cc e) (λ e. memory (cc e)) in
       cc same
 
   same_open : (c d : Checkpoint) → IsOpenCheckpoint bytes origin keys c → IsOpenCheckpoint bytes origin keys d → c ≡ d
@@ -253,21 +343,27 @@ module _ (digest : List ℕ → List ℕ) (origin : List ℕ) (keys : List Key) 
   one_refusal a b (inl p) (inl q) =
       let one : Result Checkpoint TakeFault = Err p.fault in
       let other : Result Checkpoint TakeFault = Err q.fault in
-      let same : one ≡ other = head_notes_are_read_once bytes origin keys one other p.reads q.reads (λ e. p.memory (cc e)) (λ e. q.memory (cc e)) in
+      let same : one ≡ other =
+      head_notes_are_read_once bytes origin keys one other p.reads q.reads (λ e. p.memory (cc e))
+      (λ e. q.memory (cc e)) in
       let faults : p.fault ≡ q.fault = cc same in
       p.is ∙ ap Err faults ∙ sym q.is
   one_refusal a b (inl p) (inr q) = absurd (read_or_refused q.checkpoint p.fault q.is_open p.reads p.memory)
   one_refusal a b (inr p) (inl q) = absurd (read_or_refused p.checkpoint q.fault p.is_open q.reads q.memory)
-  one_refusal a b (inr p) (inr q) = same_edge a b p.checkpoint p.step (subst (EdgeStep b) (sym (same_open p.checkpoint q.checkpoint p.is_open q.is_open)) q.step)
+  one_refusal a b (inr p) (inr q) =
+      same_edge a b p.checkpoint p.step
+      (subst (EdgeStep b) (sym (same_open p.checkpoint q.checkpoint p.is_open q.is_open)) q.step)
 
   -- the checkpoint of a good head, and its rows
-  good_edge : (c : Checkpoint) → IsOpenCheckpoint bytes origin keys c → IsGoodHead digest origin keys bytes rows → HasEdgeRows digest c.size c.root rows
+  good_edge : (c : Checkpoint) → IsOpenCheckpoint bytes origin keys c → IsGoodHead digest origin keys bytes rows →
+      HasEdgeRows digest c.size c.root rows
   good_edge c is good =
       let h = (open_heads_are_read bytes origin keys good.size good.root).0 good.is_head in
       let same = same_open h.checkpoint c h.is_open is in
       let sizes : good.size ≡ c.size = sym h.size_is ∙ ap (λ (x : Checkpoint). x.size) same in
       let roots : good.root ≡ c.root = sym h.root_is ∙ ap (λ (x : Checkpoint). x.root) same in
-      subst (λ n. HasEdgeRows digest n c.root rows) sizes (subst (λ r. HasEdgeRows digest good.size r rows) roots good.has_edge)
+      subst (λ n. HasEdgeRows digest n c.root rows) sizes
+      (subst (λ r. HasEdgeRows digest good.size r rows) roots good.has_edge)
 
   refused_edge : (a : Taken) (c : Checkpoint) → EdgeStep a c → HasEdgeRows digest c.size c.root rows → ⊥
   refused_edge a c (inl p) h = p.1 (same_count c.size h.widths)
@@ -281,7 +377,9 @@ module _ (digest : List ℕ → List ℕ) (origin : List ℕ) (keys : List Key) 
 
 pub heads_are_judged : HeadsAreJudged
 heads_are_judged digest origin keys bytes rows = record {
-  refused = λ a h e good. not_good digest origin keys bytes rows a (head_refused digest origin keys bytes rows a h e) good;
+  refused =
+      λ a h e good. not_good digest origin keys bytes rows a (head_refused digest origin keys bytes rows a h e) good;
   taken = head_taken digest origin keys bytes rows;
-  once = λ a b p q e f. one_refusal digest origin keys bytes rows a b (head_refused digest origin keys bytes rows a p e) (head_refused digest origin keys bytes rows b q f);
+  once = λ a b p q e f. one_refusal digest origin keys bytes rows a b (head_refused digest origin keys bytes rows a p e)
+      (head_refused digest origin keys bytes rows b q f);
 }

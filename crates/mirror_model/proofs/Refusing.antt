@@ -12,7 +12,9 @@ use Rattle.mirror_model.specs.Answered.{answer_of}
 use Rattle.mirror_model.specs.Refusals.{JudgesTile, JudgesBundle}
 use Rattle.mirror_model.specs.RefusalLaws.{TilesAreJudged, BundlesAreJudged}
 use Rattle.mirror_model.specs.declared.fault.TakeFault.{TakeFault}
-use Rattle.mirror_model.specs.declared.fault.TakeFault.TheVariants.{Note, Checkpoint, OtherOrigin, NoTrustedSignature, EdgeCount, EdgeLength, EdgeMismatch, RowLength, BundleShort, BundleLong, Collision, OutOfMemory}
+use Rattle.mirror_model.specs.declared.fault.TakeFault.TheVariants.{Note, Checkpoint, OtherOrigin, NoTrustedSignature}
+use Rattle.mirror_model.specs.declared.fault.TakeFault.TheVariants.{EdgeCount, EdgeLength, EdgeMismatch, RowLength}
+use Rattle.mirror_model.specs.declared.fault.TakeFault.TheVariants.{BundleShort, BundleLong, Collision, OutOfMemory}
 
 -- the answer of a take
 abbrev pub Taken : Type 0
@@ -31,7 +33,8 @@ not_exhausted e = cc e
 
 module _ (width : ℕ) (bytes : List ℕ) where
   -- a tile has one refusal
-  tile_refused : (a : Taken) → JudgesTile width bytes a → answer_of a ≡ Refused → (a ≡ Err RowLength) × (length bytes ≢ 32 * width)
+  tile_refused : (a : Taken) → JudgesTile width bytes a → answer_of a ≡ Refused →
+      (a ≡ Err RowLength) × (length bytes ≢ 32 * width)
   tile_refused (Ok done) h e = absurd (not_done done e)
   tile_refused (Err (Note fault)) h e = absurd h
   tile_refused (Err (Checkpoint fault)) h e = absurd h
@@ -46,7 +49,8 @@ module _ (width : ℕ) (bytes : List ℕ) where
   tile_refused (Err Collision) h e = absurd (not_clashed e)
   tile_refused (Err OutOfMemory) h e = absurd (not_exhausted e)
 
-  tile_taken : (a : Taken) → JudgesTile width bytes a → answer_of a ≢ Refused → a ≢ Err OutOfMemory → IsGoodTile width bytes
+  tile_taken : (a : Taken) → JudgesTile width bytes a → answer_of a ≢ Refused → a ≢ Err OutOfMemory →
+      IsGoodTile width bytes
   tile_taken (Ok done) h no_refusal memory = h
   tile_taken (Err (Note fault)) h no_refusal memory = absurd h
   tile_taken (Err (Checkpoint fault)) h no_refusal memory = absurd h
@@ -70,11 +74,13 @@ tiles_are_judged width bytes = record {
 
 -- ---- bundles
 
-pub bundle_not_short : (width : ℕ) (bytes : List ℕ) → ReadsBundle width bytes (Err bundling.BundleShort) → IsGoodBundle width bytes → ⊥
+pub bundle_not_short : (width : ℕ) (bytes : List ℕ) → ReadsBundle width bytes (Err bundling.BundleShort) →
+    IsGoodBundle width bytes → ⊥
 bundle_not_short width bytes h good =
     h [] (record { front = bytes; entries = good.entries; parts = sym (append-nil bytes); is_bundle = good.is_bundle })
 
-pub bundle_not_long : (width : ℕ) (bytes : List ℕ) → ReadsBundle width bytes (Err bundling.BundleLong) → IsGoodBundle width bytes → ⊥
+pub bundle_not_long : (width : ℕ) (bytes : List ℕ) → ReadsBundle width bytes (Err bundling.BundleLong) →
+    IsGoodBundle width bytes → ⊥
 bundle_not_long width bytes h good =
     let one : Result (List (List ℕ)) BundleFault = Ok good.entries in
     let other : Result (List (List ℕ)) BundleFault = Err bundling.BundleLong in
@@ -104,7 +110,8 @@ module _ (width : ℕ) (bytes : List ℕ) where
   bundle_refused (Err Collision) h e = absurd (not_clashed e)
   bundle_refused (Err OutOfMemory) h e = absurd (not_exhausted e)
 
-  bundle_taken : (a : Taken) → JudgesBundle width bytes a → answer_of a ≢ Refused → a ≢ Err OutOfMemory → IsGoodBundle width bytes
+  bundle_taken : (a : Taken) → JudgesBundle width bytes a → answer_of a ≢ Refused → a ≢ Err OutOfMemory →
+      IsGoodBundle width bytes
   bundle_taken (Ok done) h no_refusal memory = h
   bundle_taken (Err (Note fault)) h no_refusal memory = absurd h
   bundle_taken (Err (Checkpoint fault)) h no_refusal memory = absurd h
@@ -129,11 +136,15 @@ module _ (width : ℕ) (bytes : List ℕ) where
 pub bundles_are_judged : BundlesAreJudged
 unfolding short_or_long
 bundles_are_judged width bytes = record {
-  refused = λ a h e good. elim (bundle_refused width bytes a h e) [ inl p ↦ bundle_not_short width bytes p.1 good | inr p ↦ bundle_not_long width bytes p.1 good ];
+  refused =
+      λ a h e good. elim
+      (bundle_refused width bytes a h e) [ inl p ↦ bundle_not_short width bytes p.1 good | inr p ↦ bundle_not_long width bytes p.1 good ];
   taken = bundle_taken width bytes;
   once = λ a b p q e f.
       elim (bundle_refused width bytes a p e) [
-        | inl x ↦ elim (bundle_refused width bytes b q f) [ inl y ↦ x.0 ∙ sym y.0 | inr y ↦ absurd (not_both width bytes x.1 y.1) ]
-        | inr x ↦ elim (bundle_refused width bytes b q f) [ inl y ↦ absurd (not_both width bytes y.1 x.1) | inr y ↦ x.0 ∙ sym y.0 ]
+        | inl x ↦ elim
+            (bundle_refused width bytes b q f) [ inl y ↦ x.0 ∙ sym y.0 | inr y ↦ absurd (not_both width bytes x.1 y.1) ]
+        | inr x ↦ elim
+            (bundle_refused width bytes b q f) [ inl y ↦ absurd (not_both width bytes y.1 x.1) | inr y ↦ x.0 ∙ sym y.0 ]
       ];
 }

@@ -16,15 +16,33 @@ pub record HasTop (digest : List ℕ → List ℕ) (t : Tree (List ℕ)) : Type 
 
 pub top_of : (digest : List ℕ → List ℕ) (t : Tree (List ℕ)) → 1 ≤ size_of t → HasTop digest t
 top_of digest Empty some = absurd (omega arith)
-top_of digest (One e) some = record { node = record { start = 0; len = 1; string = 0 ∷ e }; is = record { start_is = refl; len_is = refl; string_is = refl }; start_is = refl; len_is = refl }
-top_of digest (Join l r) some = record { node = record { start = 0; len = size_of l + size_of r; string = 1 ∷ entries_root digest l ++ entries_root digest r }; is = inl (record { start_is = refl; len_is = refl; string_is = refl }); start_is = refl; len_is = refl }
+top_of digest (One e) some =
+    record {
+      node =
+          record { start = 0; len = 1; string = 0 ∷ e };
+      is =
+          record { start_is = refl; len_is = refl; string_is = refl };
+      start_is = refl;
+      len_is = refl;
+    }
+top_of digest (Join l r) some =
+    record {
+      node =
+          record { start = 0; len = size_of l + size_of r; string = 1 ∷ entries_root digest l ++ entries_root digest r };
+      is =
+          inl (record { start_is = refl; len_is = refl; string_is = refl });
+      start_is = refl;
+      len_is = refl;
+    }
 
 pub whole_is_mark : WholeListIsMark
 whole_is_mark digest v point entries some c =
     let size = size_of-tree entries in
     let top = top_of digest (tree_of entries) (omega (arith, size, c.tree.size_is)) in
     let len : top.node.len ≡ length entries = top.len_is ∙ size in
-    let whole : part top.node.start top.node.len entries ≡ entries = ap (λ s. take top.node.len (drop s entries)) top.start_is ∙ take_all top.node.len entries (omega (arith, len)) in
+    let whole : part top.node.start top.node.len entries ≡ entries =
+    ap (λ s. take top.node.len (drop s entries)) top.start_is ∙
+    take_all top.node.len entries (omega (arith, len)) in
     record {
       size = point.size;
       root = point.root;

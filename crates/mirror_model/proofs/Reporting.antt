@@ -1,5 +1,6 @@
 -- What is reported is reported once.
-use Rattle.std.proofs.Common.{◌≡◌, ℕ, List, [], ◌∷◌, map, Bool, true, false, IsTrue, Some, None, sym, refl, ap, ◌∙◌, subst}
+use Rattle.std.proofs.Common.{◌≡◌, ℕ, List, [], ◌∷◌, map, Bool, true, false, IsTrue, Some, None, sym, refl, ap, ◌∙◌}
+use Rattle.std.proofs.Common.{subst}
 use Rattle.std.specs.List.{AllByRecursion}
 use Rattle.std.proofs.lemmas.List.Elements.{recursion_from_All}
 use Rattle.mirror_model.specs.View.{View}
@@ -8,7 +9,8 @@ use Rattle.mirror_model.specs.Forks.{Point}
 use Rattle.mirror_model.specs.Listed.{PointPair}
 use Rattle.mirror_model.specs.Reports.{head_point, fork_pair, IsFlagged}
 use Rattle.mirror_model.specs.Texts.{status_text, forks_text, missing_text}
-use Rattle.mirror_model.specs.ReportLaws.{HeadsAreReportedOnce, ForksAreReportedOnce, ServedIsSaidOnce, StatusIsOneText, ForksAreOneText, MissingIsOneText}
+use Rattle.mirror_model.specs.ReportLaws.{HeadsAreReportedOnce, ForksAreReportedOnce, ServedIsSaidOnce, StatusIsOneText}
+use Rattle.mirror_model.specs.ReportLaws.{ForksAreOneText, MissingIsOneText}
 use Rattle.mirror_model.specs.declared.reports.Head.{Head}
 use Rattle.mirror_model.specs.declared.reports.Fork.{Fork}
 use Rattle.mirror_model.proofs.Listing.{heads_are_listed_once, forks_are_listed_once, missing_is_listed_once}
@@ -28,11 +30,14 @@ module _ (digest : List ℕ → List ℕ) (v : View) where
       let there : IsComplete digest v a.size a.root → IsComplete digest v b.size b.root =
       λ h. subst (λ r. IsComplete digest v b.size r) roots (subst (λ n. IsComplete digest v n a.root) sizes h) in
       let back : IsComplete digest v b.size b.root → IsComplete digest v a.size a.root =
-      λ h. subst (λ r. IsComplete digest v a.size r) (sym roots) (subst (λ n. IsComplete digest v n b.root) (sym sizes) h) in
-      let flags : a.complete ≡ b.complete = same_flag a.complete b.complete (λ h. q.1 (there (p.0 h))) (λ h. p.1 (back (q.0 h))) in
+      λ h. subst (λ r. IsComplete digest v a.size r) (sym roots)
+      (subst (λ n. IsComplete digest v n b.root) (sym sizes) h) in
+      let flags : a.complete ≡ b.complete =
+      same_flag a.complete b.complete (λ h. q.1 (there (p.0 h))) (λ h. p.1 (back (q.0 h))) in
       λ i. record { size = sizes i; root = roots i; complete = flags i }
 
-  same_heads : (first second : List Head) → map head_point first ≡ map head_point second → AllByRecursion (IsFlagged digest v) first → AllByRecursion (IsFlagged digest v) second → first ≡ second
+  same_heads : (first second : List Head) → map head_point first ≡ map head_point second →
+      AllByRecursion (IsFlagged digest v) first → AllByRecursion (IsFlagged digest v) second → first ≡ second
   same_heads [] [] e p q = refl
   same_heads [] (b ∷ ys) e p q = cc e
   same_heads (a ∷ xs) [] e p q = cc e
@@ -45,7 +50,8 @@ module _ (digest : List ℕ → List ℕ) (v : View) where
 
 pub heads_are_reported_once : HeadsAreReportedOnce
 heads_are_reported_once digest v first second p q =
-    same_heads digest v first second (heads_are_listed_once v (map head_point first) (map head_point second) p.lists q.lists)
+    same_heads digest v first second
+    (heads_are_listed_once v (map head_point first) (map head_point second) p.lists q.lists)
     (recursion_from_All (IsFlagged digest v) first p.flags) (recursion_from_All (IsFlagged digest v) second q.flags)
 
 same_fork : (a b : Fork) → fork_pair a ≡ fork_pair b → a ≡ b
@@ -83,7 +89,8 @@ served_is_said_once digest hash v lawful None None p q = refl
 pub status_is_one_text : StatusIsOneText
 status_is_one_text digest hash v lawful first second p q =
     let heads : p.heads ≡ q.heads = heads_are_reported_once digest v p.heads q.heads p.are_heads q.are_heads in
-    let served : p.served ≡ q.served = served_is_said_once digest hash v lawful p.served q.served p.is_served q.is_served in
+    let served : p.served ≡ q.served =
+    served_is_said_once digest hash v lawful p.served q.served p.is_served q.is_served in
     p.is ∙ (λ i. status_text v.origin (heads i) (served i)) ∙ sym q.is
 
 pub forks_are_one_text : ForksAreOneText
@@ -92,4 +99,5 @@ forks_are_one_text digest v first second p q =
 
 pub missing_is_one_text : MissingIsOneText
 missing_is_one_text digest v size root first second p q =
-    p.is ∙ ap missing_text (missing_is_listed_once digest v size root p.paths q.paths p.are_missing q.are_missing) ∙ sym q.is
+    p.is ∙ ap missing_text (missing_is_listed_once digest v size root p.paths q.paths p.are_missing q.are_missing) ∙
+    sym q.is

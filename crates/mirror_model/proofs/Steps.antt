@@ -1,5 +1,6 @@
 -- One event: what it leaves in each view of a list.
-use Rattle.std.proofs.Common.{zero, suc, ◌≡◌, ℕ, List, [], ◌∷◌, Some, None, sym, refl, ap, ◌∙◌, subst, ◌⊎◌, inl, inr, nat_eq, Bool, true, false}
+use Rattle.std.proofs.Common.{zero, suc, ◌≡◌, ℕ, List, [], ◌∷◌, Some, None, sym, refl, ap, ◌∙◌, subst, ◌⊎◌, inl, inr}
+use Rattle.std.proofs.Common.{nat_eq, Bool, true, false}
 use Rattle.std.specs.Prelude.{◌≢◌, slice_get, slice_set}
 use Rattle.std.proofs.lemmas.Bool.{eqb-true, eqb-false}
 use Rattle.mirror_model.specs.View.{View, union, IsSubview}
@@ -14,12 +15,14 @@ use Rattle.mirror_model.proofs.StringSets.{has_left, has_right, has_cases, clash
 -- ---- lists of views
 
 module _ {X : Type 0} where
-  pub get_set_same : (xs : List X) (i : ℕ) (old new : X) → slice_get xs i ≡ Some old → slice_get (slice_set xs i new) i ≡ Some new
+  pub get_set_same : (xs : List X) (i : ℕ) (old new : X) → slice_get xs i ≡ Some old →
+      slice_get (slice_set xs i new) i ≡ Some new
   get_set_same [] i old new h = let none : None ≡ Some old = h in absurd (cc none)
   get_set_same (x ∷ xs) zero old new h = refl
   get_set_same (x ∷ xs) (suc i) old new h = get_set_same xs i old new h
 
-  pub get_set_other : (xs : List X) (i j : ℕ) (new : X) → (j ≡ i → ⊥) → slice_get (slice_set xs i new) j ≡ slice_get xs j
+  pub get_set_other : (xs : List X) (i j : ℕ) (new : X) → (j ≡ i → ⊥) →
+      slice_get (slice_set xs i new) j ≡ slice_get xs j
   get_set_other [] i j new h = refl
   get_set_other (x ∷ xs) zero zero new h = absurd (h refl)
   get_set_other (x ∷ xs) zero (suc j) new h = refl
@@ -47,7 +50,8 @@ module _ (digest : List ℕ → List ℕ) (Allowed : Type 0) (full old : View) (
   answer_grows Exhausted new (inr h) = h.2.grows
 
   -- a view that an event changed is within the full one, and the event was allowed
-  pub answer_within : (a : Answer) (new : View) → Answers digest old Allowed full a new → (new ≡ old) ⊎ (Allowed × IsSubview new full)
+  pub answer_within : (a : Answer) (new : View) → Answers digest old Allowed full a new →
+      (new ≡ old) ⊎ (Allowed × IsSubview new full)
   answer_within Done new h = inr (h.0, subst (λ v. IsSubview v full) (sym h.2) (within_itself full))
   answer_within Refused new h = inl h.1
   answer_within Clashed new h = inl h.2
@@ -55,17 +59,24 @@ module _ (digest : List ℕ → List ℕ) (Allowed : Type 0) (full old : View) (
   answer_within Exhausted new (inr h) = inr (h.0, h.2.within)
 
   -- only an event that was done, or for which memory was refused, changes a view
-  pub answer_changes : (a : Answer) (new : View) → Answers digest old Allowed full a new → (a ≡ Refused) ⊎ (a ≡ Clashed) → new ≡ old
+  pub answer_changes : (a : Answer) (new : View) → Answers digest old Allowed full a new →
+      (a ≡ Refused) ⊎ (a ≡ Clashed) → new ≡ old
   answer_changes a new h (inl e) = (subst (λ b. Answers digest old Allowed full b new) e h).1
   answer_changes a new h (inr e) = (subst (λ b. Answers digest old Allowed full b new) e h).2
 
-module _ (digest : List ℕ → List ℕ) (Allowed Allowed' : Type 0) (again : Allowed' → Allowed) (back : Allowed → Allowed') (full full' old between : View) (same : IsSubview old between → IsSubview between full → full' ≡ full) where
+module _ (digest : List ℕ → List ℕ) (Allowed Allowed' : Type 0) (again : Allowed' → Allowed) (back : Allowed → Allowed')
+    (full full' old between : View) (same : IsSubview old between → IsSubview between full → full' ≡ full) where
   -- what is done again
-  pub answers_again : (a : Answer) (new : View) → (between ≡ old → Answers digest between Allowed' full' a new → Answers digest old Allowed full a new) → Answers digest old Allowed full Exhausted between → Answers digest between Allowed' full' a new → Answers digest old Allowed full a new
+  pub answers_again : (a : Answer) (new : View) →
+      (between ≡ old → Answers digest between Allowed' full' a new → Answers digest old Allowed full a new) →
+      Answers digest old Allowed full Exhausted between → Answers digest between Allowed' full' a new →
+      Answers digest old Allowed full a new
   answers_again a new keep (inl e) h = keep e h
   answers_again Done new keep (inr m) h = let e = same m.2.grows m.2.within in (m.0, m.1, h.2 ∙ e)
   answers_again Refused new keep (inr m) h = absurd (h.0 (back m.0))
-  answers_again Clashed new keep (inr m) h = let e = same m.2.grows m.2.within in absurd (clash_contradicts digest full.strings m.1 (subst (λ v. HasClash digest v.strings) e h.1))
+  answers_again Clashed new keep (inr m) h =
+      let e = same m.2.grows m.2.within in absurd
+      (clash_contradicts digest full.strings m.1 (subst (λ v. HasClash digest v.strings) e h.1))
   answers_again Exhausted new keep (inr m) (inl e) = inr (m.0, m.1, subst (IsBetween old full) (sym e) m.2)
   answers_again Exhausted new keep (inr m) (inr h) =
       let e = same m.2.grows m.2.within in
@@ -77,71 +88,120 @@ module _ (digest : List ℕ → List ℕ) (Allowed Allowed' : Type 0) (again : A
           grows = within_trans old between new m.2.grows next.grows;
           within = next.within;
           notes_last = λ note has. elim (next.notes_last note has) [
-            | inl a ↦ elim (m.2.notes_last note a) [ inl b ↦ inl b | inr b ↦ inr (λ s hs. next.grows.strings_are s (b s hs)) ]
+            | inl a ↦ elim
+                (m.2.notes_last note a) [ inl b ↦ inl b | inr b ↦ inr (λ s hs. next.grows.strings_are s (b s hs)) ]
             | inr b ↦ inr b
           ];
         },
       )
 
 -- a view between V and V with an item gives the same with the item
-pub plus_again : (digest : List ℕ → List ℕ) (old between : View) (item : Item) → IsSubview old between → IsSubview between (plus digest old item) → plus digest between item ≡ plus digest old item
+pub plus_again : (digest : List ℕ → List ℕ) (old between : View) (item : Item) → IsSubview old between →
+    IsSubview between (plus digest old item) → plus digest between item ≡ plus digest old item
 plus_again digest old between item grows within = same_is_one (plus digest between item) (plus digest old item)
     (record {
       origin_is = within.origin_is;
-      notes_are = λ q h. elim (has_cases between.notes _ q h) [ inl a ↦ within.notes_are q a | inr b ↦ has_right old.notes _ q b ];
-      strings_are = λ q h. elim (has_cases between.strings _ q h) [ inl a ↦ within.strings_are q a | inr b ↦ has_right old.strings _ q b ];
+      notes_are =
+          λ q h. elim
+          (has_cases between.notes _ q h) [ inl a ↦ within.notes_are q a | inr b ↦ has_right old.notes _ q b ];
+      strings_are =
+          λ q h. elim
+          (has_cases between.strings _ q h) [ inl a ↦ within.strings_are q a | inr b ↦ has_right old.strings _ q b ];
     })
     (record {
       origin_is = grows.origin_is;
-      notes_are = λ q h. elim (has_cases old.notes _ q h) [ inl a ↦ has_left between.notes _ q (grows.notes_are q a) | inr b ↦ has_right between.notes _ q b ];
-      strings_are = λ q h. elim (has_cases old.strings _ q h) [ inl a ↦ has_left between.strings _ q (grows.strings_are q a) | inr b ↦ has_right between.strings _ q b ];
+      notes_are =
+          λ q h. elim
+          (has_cases old.notes _ q h) [
+            | inl a ↦ has_left between.notes _ q
+                (grows.notes_are q a)
+            | inr b ↦ has_right between.notes _ q b
+          ];
+      strings_are =
+          λ q h. elim
+          (has_cases old.strings _ q h) [
+            | inl a ↦ has_left between.strings _ q
+                (grows.strings_are q a)
+            | inr b ↦ has_right between.strings _ q b
+          ];
     })
 
-pub union_again : (old between other : View) → IsSubview old between → IsSubview between (union old other) → union between other ≡ union old other
+pub union_again : (old between other : View) → IsSubview old between → IsSubview between (union old other) →
+    union between other ≡ union old other
 union_again old between other grows within = same_is_one (union between other) (union old other)
     (record {
       origin_is = within.origin_is;
-      notes_are = λ q h. elim (has_cases between.notes other.notes q h) [ inl a ↦ within.notes_are q a | inr b ↦ has_right old.notes other.notes q b ];
-      strings_are = λ q h. elim (has_cases between.strings other.strings q h) [ inl a ↦ within.strings_are q a | inr b ↦ has_right old.strings other.strings q b ];
+      notes_are =
+          λ q h. elim
+          (has_cases between.notes other.notes q h) [ inl a ↦ within.notes_are q a | inr b ↦ has_right old.notes other.notes q b ];
+      strings_are =
+          λ q h. elim
+          (has_cases between.strings other.strings q h) [ inl a ↦ within.strings_are q a | inr b ↦ has_right old.strings other.strings q b ];
     })
     (record {
       origin_is = grows.origin_is;
-      notes_are = λ q h. elim (has_cases old.notes other.notes q h) [ inl a ↦ has_left between.notes other.notes q (grows.notes_are q a) | inr b ↦ has_right between.notes other.notes q b ];
-      strings_are = λ q h. elim (has_cases old.strings other.strings q h) [ inl a ↦ has_left between.strings other.strings q (grows.strings_are q a) | inr b ↦ has_right between.strings other.strings q b ];
+      notes_are =
+          λ q h. elim
+          (has_cases old.notes other.notes q h) [
+            | inl a ↦ has_left between.notes other.notes q
+                (grows.notes_are q a)
+            | inr b ↦ has_right between.notes other.notes q b
+          ];
+      strings_are =
+          λ q h. elim
+          (has_cases old.strings other.strings q h) [
+            | inl a ↦ has_left between.strings other.strings q
+                (grows.strings_are q a)
+            | inr b ↦ has_right between.strings other.strings q b
+          ];
     })
 
-same_origin : (digest : List ℕ → List ℕ) (Allowed : Type 0) (full old between : View) → IsSubview old full → Answers digest old Allowed full Exhausted between → old.origin ≡ between.origin
-same_origin digest Allowed full old between larger h = (answer_grows digest Allowed full old larger Exhausted between h).origin_is
+same_origin : (digest : List ℕ → List ℕ) (Allowed : Type 0) (full old between : View) → IsSubview old full →
+    Answers digest old Allowed full Exhausted between → old.origin ≡ between.origin
+same_origin digest Allowed full old between larger h =
+    (answer_grows digest Allowed full old larger Exhausted between h).origin_is
 
 pub takes_again : TakesAgain
 takes_again digest keys old between new item answer first second =
-    let o = same_origin digest (IsGood digest old.origin keys item) (plus digest old item) old between (within_plus digest old item) first in
-    answers_again digest (IsGood digest old.origin keys item) (IsGood digest between.origin keys item) (λ g. subst (λ p. IsGood digest p keys item) (sym o) g) (λ g. subst (λ p. IsGood digest p keys item) o g) (plus digest old item) (plus digest between item) old between (plus_again digest old between item) answer new
-    (λ e h. subst (λ v. Answers digest v (IsGood digest v.origin keys item) (plus digest v item) answer new) e h) first second
+    let o = same_origin digest (IsGood digest old.origin keys item) (plus digest old item) old between
+    (within_plus digest old item) first in
+    answers_again digest (IsGood digest old.origin keys item) (IsGood digest between.origin keys item)
+    (λ g. subst (λ p. IsGood digest p keys item) (sym o) g) (λ g. subst (λ p. IsGood digest p keys item) o g)
+    (plus digest old item) (plus digest between item) old between (plus_again digest old between item) answer new
+    (λ e h. subst
+    (λ v. Answers digest v (IsGood digest v.origin keys item) (plus digest v item) answer new) e h) first second
 
 pub merges_again : MergesAgain
 merges_again digest old other between new answer first second =
-    let o = same_origin digest (old.origin ≡ other.origin) (union old other) old between (within_union old other) first in
-    answers_again digest (old.origin ≡ other.origin) (between.origin ≡ other.origin) (λ g. o ∙ g) (λ g. sym o ∙ g) (union old other) (union between other) old between (union_again old between other) answer new
+    let o = same_origin digest (old.origin ≡ other.origin) (union old other) old between
+    (within_union old other) first in
+    answers_again digest (old.origin ≡ other.origin) (between.origin ≡ other.origin) (λ g. o ∙ g) (λ g. sym o ∙ g)
+    (union old other) (union between other) old between (union_again old between other) answer new
     (λ e h. subst (λ v. Answers digest v (v.origin ≡ other.origin) (union v other) answer new) e h) first second
 
 -- ---- one answer
 
-answers_once : (digest : List ℕ → List ℕ) (Allowed : Type 0) (full old new other : View) (a b : Answer) → Answers digest old Allowed full a new → Answers digest old Allowed full b other → a ≢ Exhausted → b ≢ Exhausted → (a ≡ b) × (new ≡ other)
+answers_once : (digest : List ℕ → List ℕ) (Allowed : Type 0) (full old new other : View) (a b : Answer) →
+    Answers digest old Allowed full a new → Answers digest old Allowed full b other → a ≢ Exhausted → b ≢ Exhausted →
+    (a ≡ b) × (new ≡ other)
 answers_once digest Allowed full old new other Done Done p q m n = (refl, p.2 ∙ sym q.2)
 answers_once digest Allowed full old new other Done Refused p q m n = absurd (q.0 p.0)
-answers_once digest Allowed full old new other Done Clashed p q m n = absurd (clash_contradicts digest full.strings p.1 q.1)
+answers_once digest Allowed full old new other Done Clashed p q m n =
+    absurd (clash_contradicts digest full.strings p.1 q.1)
 answers_once digest Allowed full old new other Refused Done p q m n = absurd (p.0 q.0)
 answers_once digest Allowed full old new other Refused Refused p q m n = (refl, p.1 ∙ sym q.1)
 answers_once digest Allowed full old new other Refused Clashed p q m n = absurd (p.0 q.0)
-answers_once digest Allowed full old new other Clashed Done p q m n = absurd (clash_contradicts digest full.strings q.1 p.1)
+answers_once digest Allowed full old new other Clashed Done p q m n =
+    absurd (clash_contradicts digest full.strings q.1 p.1)
 answers_once digest Allowed full old new other Clashed Refused p q m n = absurd (q.0 p.0)
 answers_once digest Allowed full old new other Clashed Clashed p q m n = (refl, p.2 ∙ sym q.2)
 answers_once digest Allowed full old new other Exhausted b p q m n = absurd (m refl)
 answers_once digest Allowed full old new other a Exhausted p q m n = absurd (n refl)
 
 pub takes_once : TakesOnce
-takes_once digest keys old new other item a b = answers_once digest (IsGood digest old.origin keys item) (plus digest old item) old new other a b
+takes_once digest keys old new other item a b =
+    answers_once digest (IsGood digest old.origin keys item) (plus digest old item) old new other a b
 
 pub merges_once : MergesOnce
-merges_once digest old source new other a b = answers_once digest (old.origin ≡ source.origin) (union old source) old new other a b
+merges_once digest old source new other a b =
+    answers_once digest (old.origin ≡ source.origin) (union old source) old new other a b

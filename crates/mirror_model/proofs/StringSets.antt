@@ -6,8 +6,10 @@ use Rattle.std.specs.Cmp.{tied_itself}
 use Rattle.std.specs.Cmp.Lexicographic.{slice_cmp, nat_list_cmp_total}
 use Rattle.std.specs.List.{Contains, AllByRecursion, list_any}
 use Rattle.std.specs.FinSet as set
-use Rattle.std.specs.FinSet.{contains, contains-union, contains-empty, contains-insert, contains-from_list, contains-items, same_set, slice_cmp-IsAntisymmetric, nat_cmp-IsAntisymmetric}
-use Rattle.std.proofs.lemmas.List.Elements.{All-contains, All-from_recursion, recursion_from_All, All-weaker, All-contains_itself}
+use Rattle.std.specs.FinSet.{contains, contains-union, contains-empty, contains-insert, contains-from_list}
+use Rattle.std.specs.FinSet.{contains-items, same_set, slice_cmp-IsAntisymmetric, nat_cmp-IsAntisymmetric}
+use Rattle.std.proofs.lemmas.List.Elements.{All-contains, All-from_recursion, recursion_from_All, All-weaker}
+use Rattle.std.proofs.lemmas.List.Elements.{All-contains_itself}
 use Rattle.std.proofs.lemmas.Map.Lookups.{exact_bytes}
 use Rattle.std.proofs.lemmas.Map.Views.{tells_apart, Contains-from_any}
 use Rattle.node_store.proofs.Sets.{or_left, or_right, or_either, tied, decide}
@@ -42,7 +44,9 @@ has_empty q h = let e = contains-empty (slice_cmp nat_cmp) q in cc (e, h)
 
 -- two sets with the same strings are one
 pub same_strings : (s t : Strings) → ((q : List ℕ) → Has s q → Has t q) → ((q : List ℕ) → Has t q → Has s q) → s ≡ t
-same_strings s t to from = same_set nat_list_cmp_total (slice_cmp-IsAntisymmetric nat_cmp-IsAntisymmetric) s t (λ q. same_bool _ _ (to q) (from q))
+same_strings s t to from =
+    same_set nat_list_cmp_total (slice_cmp-IsAntisymmetric nat_cmp-IsAntisymmetric) s t
+    (λ q. same_bool _ _ (to q) (from q))
   where
     same_bool : (a b : Bool) → (a ≡ true → b ≡ true) → (b ≡ true → a ≡ true) → a ≡ b
     same_bool true b f g = sym (f refl)
@@ -60,14 +64,24 @@ union_assoc v w x = same_strings _ _ to from
   where
     to : (q : List ℕ) → Has (set.union (set.union v w) x) q → Has (set.union v (set.union w x)) q
     to q h = elim (has_cases (set.union v w) x q h) [
-      | inl a ↦ elim (has_cases v w q a) [ inl b ↦ has_left v (set.union w x) q b | inr b ↦ has_right v (set.union w x) q (has_left w x q b) ]
+      | inl a ↦ elim
+          (has_cases v w q a) [
+            | inl b ↦ has_left v (set.union w x) q b
+            | inr b ↦ has_right v (set.union w x) q
+                (has_left w x q b)
+          ]
       | inr a ↦ has_right v (set.union w x) q (has_right w x q a)
     ]
 
     from : (q : List ℕ) → Has (set.union v (set.union w x)) q → Has (set.union (set.union v w) x) q
     from q h = elim (has_cases v (set.union w x) q h) [
       | inl a ↦ has_left (set.union v w) x q (has_left v w q a)
-      | inr a ↦ elim (has_cases w x q a) [ inl b ↦ has_left (set.union v w) x q (has_right v w q b) | inr b ↦ has_right (set.union v w) x q b ]
+      | inr a ↦ elim
+          (has_cases w x q a) [
+            | inl b ↦ has_left (set.union v w) x q (has_right v w q b)
+            | inr b ↦ has_right
+                (set.union v w) x q b
+          ]
     ]
 
 pub union_itself : (v : Strings) → set.union v v ≡ v
@@ -76,14 +90,21 @@ union_itself v = same_strings _ _ (λ q h. elim (has_cases v v q h) [ inl a ↦ 
 -- ---- lists
 
 pub listed_from_has : (ss : List (List ℕ)) (q : List ℕ) → Has (set.from_list ss) q → Contains ss q
-listed_from_has ss q h = Contains-from_any (tells_apart exact_bytes) q ss (sym (contains-from_list nat_list_cmp_total ss q) ∙ h)
+listed_from_has ss q h =
+    Contains-from_any (tells_apart exact_bytes) q ss (sym (contains-from_list nat_list_cmp_total ss q) ∙ h)
 
 pub has_from_listed : (ss : List (List ℕ)) (q : List ℕ) → Contains ss q → Has (set.from_list ss) q
-has_from_listed ss q c = All-contains (Has (set.from_list ss)) ss q (All-from_recursion (Has (set.from_list ss)) ss (each ss (set.from_list ss) (λ x h. h))) c
+has_from_listed ss q c =
+    All-contains (Has (set.from_list ss)) ss q
+    (All-from_recursion (Has (set.from_list ss)) ss (each ss (set.from_list ss) (λ x h. h))) c
   where
-    each : (ss : List (List ℕ)) (all : Strings) → ((x : List ℕ) → Has (set.from_list ss) x → Has all x) → AllByRecursion (Has all) ss
+    each : (ss : List (List ℕ)) (all : Strings) → ((x : List ℕ) → Has (set.from_list ss) x → Has all x) →
+        AllByRecursion (Has all) ss
     each [] all more = tt
-    each (s ∷ ss) all more = (more s (contains-insert nat_list_cmp_total (set.from_list ss) s s ∙ or_left _ _ (tied s)), each ss all (λ x h. more x (contains-insert nat_list_cmp_total (set.from_list ss) s x ∙ or_right _ _ h)))
+    each (s ∷ ss) all more = (
+      more s (contains-insert nat_list_cmp_total (set.from_list ss) s s ∙ or_left _ _ (tied s)),
+      each ss all (λ x h. more x (contains-insert nat_list_cmp_total (set.from_list ss) s x ∙ or_right _ _ h)),
+    )
 
 -- the strings of a set, in order
 pub in_items : (s : Strings) (q : List ℕ) → Has s q → Contains (set.items s) q
@@ -106,18 +127,24 @@ held_from_all held [] h = tt
 held_from_all held (s ∷ ss) h = (h.0, held_from_all held ss h.1)
 
 pub holds_from_held : (held : Strings) (wanted : List (List ℕ)) → HasAll held wanted → HoldsAll held wanted
-holds_from_held held wanted h string c = All-contains (Has held) wanted string (All-from_recursion (Has held) wanted (all_from_held held wanted h)) c
+holds_from_held held wanted h string c =
+    All-contains (Has held) wanted string (All-from_recursion (Has held) wanted (all_from_held held wanted h)) c
 
 pub held_from_holds : (held : Strings) (wanted : List (List ℕ)) → HoldsAll held wanted → HasAll held wanted
-held_from_holds held wanted h = held_from_all held wanted (recursion_from_All (Has held) wanted (All-weaker (Contains wanted) (Has held) h wanted (All-contains_itself wanted)))
+held_from_holds held wanted h =
+    held_from_all held wanted
+    (recursion_from_All (Has held) wanted
+    (All-weaker (Contains wanted) (Has held) h wanted (All-contains_itself wanted)))
 
-pub held_more : (v w : Strings) (wanted : List (List ℕ)) → ((q : List ℕ) → Has v q → Has w q) → HasAll v wanted → HasAll w wanted
+pub held_more : (v w : Strings) (wanted : List (List ℕ)) → ((q : List ℕ) → Has v q → Has w q) → HasAll v wanted →
+    HasAll w wanted
 held_more v w [] more h = tt
 held_more v w (s ∷ ss) more h = (more s h.0, held_more v w ss more h.1)
 
 -- ---- clashes
 
-pub no_clash_within : (digest : List ℕ → List ℕ) (v w : Strings) → ((q : List ℕ) → Has v q → Has w q) → NoClash digest w → NoClash digest v
+pub no_clash_within : (digest : List ℕ → List ℕ) (v w : Strings) → ((q : List ℕ) → Has v q → Has w q) →
+    NoClash digest w → NoClash digest v
 no_clash_within digest v w more clean = record { same = λ x y hx hy e. clean.same x y (more x hx) (more y hy) e }
 
 pub clash_contradicts : (digest : List ℕ → List ℕ) (v : Strings) → NoClash digest v → HasClash digest v → ⊥

@@ -53,7 +53,8 @@ module _ (origin : List ℕ) (v : View) where
   abbrev opened : List View
   opened = nothing origin ∷ v ∷ []
 
-  there : (part : View → Strings) (q : List ℕ) → (Has (part (nothing origin)) q → ⊥) → OpensWith opened part one_merge 0 q → OpensWith opened part one_merge 1 q
+  there : (part : View → Strings) (q : List ℕ) → (Has (part (nothing origin)) q → ⊥) →
+      OpensWith opened part one_merge 0 q → OpensWith opened part one_merge 1 q
   there part q none o = elim (open_first (Merge 0 1) [] o.number 0 o.reaches) [
     | inl a ↦
         let zero_is : o.number ≡ 0 = open_none o.number 0 a in
@@ -67,7 +68,8 @@ module _ (origin : List ℕ) (v : View) where
         record { number = 1; view = o.view; is = at; reaches = open_itself 1 one_merge; has = o.has }
   ]
 
-  back : (part : View → Strings) (q : List ℕ) → OpensWith opened part one_merge 1 q → OpensWith opened part one_merge 0 q
+  back : (part : View → Strings) (q : List ℕ) → OpensWith opened part one_merge 1 q →
+      OpensWith opened part one_merge 0 q
   back part q o =
       let at : slice_get opened 1 ≡ Some o.view = ap (slice_get opened) (sym (own o.number o.reaches)) ∙ o.is in
       record { number = 1; view = o.view; is = at; reaches = open_by [] 0 1 0 (open_itself 0 []); has = o.has }
@@ -111,7 +113,8 @@ unfolding strings joins pairs_of tree_of tree_within
 is_tree held h = record { size_is = refl; root_is = refl; are_held = (h, tt) }
 
 abbrev the_view : (note origin : List ℕ) → View
-the_view note origin = record { origin = origin; notes = set.from_list (note ∷ []); strings = set.from_list ((0 ∷ 1 ∷ []) ∷ []) }
+the_view note origin =
+    record { origin = origin; notes = set.from_list (note ∷ []); strings = set.from_list ((0 ∷ 1 ∷ []) ∷ []) }
 
 itself : (s : List ℕ) → IsAtMost s s
 itself s = ap is_le (tied_itself nat_list_cmp_total s)
@@ -122,22 +125,35 @@ one_entry_is_served note origin head = record {
   lawful = record {
     no_clash = record { same = λ x y hx hy e. same_listed _ x hx ∙ sym (same_listed _ y hy) };
     are_strings = λ s h. subst IsTagged (sym (same_listed _ s h)) (OfEntry (1 ∷ []));
-    leaves_short = λ e h. let is : 0 ∷ e ≡ 0 ∷ 1 ∷ [] = same_listed _ (0 ∷ e) h in let len : length (0 ∷ e) ≡ 2 = ap length is in omega (arith, len);
+    leaves_short =
+        λ e h. let is : 0 ∷ e ≡ 0 ∷ 1 ∷ [] =
+        same_listed _ (0 ∷ e) h in let len : length (0 ∷ e) ≡ 2 = ap length is in omega (arith, len);
     edges = λ other h. record {
       size = 1;
       root = mth sum_digest one_entry;
       is_head = subst (λ n. IsHead n origin 1 (mth sum_digest one_entry)) (sym (same_listed note other h)) head;
-      edge = record { rows = (1 ∷ replicate 31 0) ∷ []; has_edge = rows_lead; are_held = no_strings (set.from_list ((0 ∷ 1 ∷ []) ∷ [])) };
+      edge = record {
+        rows = (1 ∷ replicate 31 0) ∷ [];
+        has_edge =
+            rows_lead;
+        are_held = no_strings (set.from_list ((0 ∷ 1 ∷ []) ∷ []));
+      };
     };
   };
   served = record {
     holds = record { is_held = has_from_listed (note ∷ []) note (first_listed note); is_head = head };
-    tree = is_tree (set.from_list ((0 ∷ 1 ∷ []) ∷ [])) (has_from_listed ((0 ∷ 1 ∷ []) ∷ []) (0 ∷ 1 ∷ []) (first_listed (0 ∷ 1 ∷ [])));
+    tree = is_tree (set.from_list ((0 ∷ 1 ∷ []) ∷ []))
+        (has_from_listed ((0 ∷ 1 ∷ []) ∷ []) (0 ∷ 1 ∷ []) (first_listed (0 ∷ 1 ∷ [])));
     greatest_size = λ other n r c. let s = once other n r c in omega (arith, s.size_is);
-    least_root = λ other r c. let s = once other 1 r c in subst (IsAtMost (mth sum_digest one_entry)) (s.root_is) (itself (mth sum_digest one_entry));
+    least_root =
+        λ other r c. let s =
+        once other 1 r c in subst (IsAtMost (mth sum_digest one_entry)) (s.root_is) (itself (mth sum_digest one_entry));
     least_note = λ other c. subst (IsAtMost note) (sym (same_listed note other c.holds.is_held)) (itself note);
   };
 }
   where
-    once : (other : List ℕ) (n : ℕ) (r : List ℕ) → IsCompleteNote sum_digest (the_view note origin) other n r → IsSameHead origin origin 1 n (mth sum_digest one_entry) r
-    once other n r c = head_once note origin origin 1 n (mth sum_digest one_entry) r head (subst (λ k. IsHead k origin n r) (same_listed note other c.holds.is_held) c.holds.is_head)
+    once : (other : List ℕ) (n : ℕ) (r : List ℕ) → IsCompleteNote sum_digest (the_view note origin) other n r →
+        IsSameHead origin origin 1 n (mth sum_digest one_entry) r
+    once other n r c =
+        head_once note origin origin 1 n (mth sum_digest one_entry) r head
+        (subst (λ k. IsHead k origin n r) (same_listed note other c.holds.is_held) c.holds.is_head)

@@ -2,7 +2,8 @@
 use Rattle.std.proofs.Common.{◌≡◌, ℕ, List, sym, subst, ◌⊎◌, inl, inr}
 use Rattle.std.specs.FinSet.{insert, empty, union}
 use Rattle.node_store.specs.Strings.{Strings, Has, Clashes, ClashesWith, NoClash}
-use Rattle.node_store.proofs.Sets.{Has-insert, Has-insert_same, Has-insert_other, Has-empty, Has-union_left, Has-union_right, Has-union_cases, same_strings}
+use Rattle.node_store.proofs.Sets.{Has-insert, Has-insert_same, Has-insert_other, Has-empty, Has-union_left}
+use Rattle.node_store.proofs.Sets.{Has-union_right, Has-union_cases, same_strings}
 
 -- now is old with the strings of other but for some of rest
 pub record IsPartway (old other now rest : Strings) : Type 0 where
@@ -19,11 +20,13 @@ partway_start old other rest e = record {
   covers = λ s h. inr (subst (λ v. Has v s) (sym e) h);
 }
 
-pub partway_more : (old other now rest now' rest' : Strings) (x : List ℕ) → rest ≡ insert rest' x → now' ≡ insert now x → IsPartway old other now rest → IsPartway old other now' rest'
+pub partway_more : (old other now rest now' rest' : Strings) (x : List ℕ) → rest ≡ insert rest' x →
+    now' ≡ insert now x → IsPartway old other now rest → IsPartway old other now' rest'
 partway_more old other now rest now' rest' x r n p = record {
   grows = λ s h. there s (Has-insert_other now x s (p.grows s h));
   within = λ s h. elim (Has-insert now x s (subst (λ v. Has v s) n h)) [
-    | inl is ↦ Has-union_right old other s (p.left s (subst (λ v. Has v s) (sym r) (subst (Has (insert rest' x)) (sym is) (Has-insert_same rest' x))))
+    | inl is ↦ Has-union_right old other s
+        (p.left s (subst (λ v. Has v s) (sym r) (subst (Has (insert rest' x)) (sym is) (Has-insert_same rest' x))))
     | inr m ↦ p.within s m
   ];
   left = λ s h. p.left s (subst (λ v. Has v s) (sym r) (Has-insert_other rest' x s h));
@@ -48,11 +51,22 @@ partway_end old other now rest none p =
     ])
 
 -- what is in rest clashes with nothing that is there
-pub partway_clash : (digest : List ℕ → List ℕ) (old other now rest : Strings) (x : List ℕ) → NoClash digest other → (ClashesWith digest old other → ⊥) → IsPartway old other now rest → Has rest x → Clashes digest now x → ⊥
+pub partway_clash : (digest : List ℕ → List ℕ) (old other now rest : Strings) (x : List ℕ) → NoClash digest other →
+    (ClashesWith digest old other → ⊥) → IsPartway old other now rest → Has rest x → Clashes digest now x → ⊥
 partway_clash digest old other now rest x clean apart p in_rest c =
     let in_other = p.left x in_rest in
     elim (Has-union_cases old other c.other (p.within c.other c.is_held)) [
-      | inl m ↦ apart (record { first = c.other; second = x; first_held = m; second_held = in_other; same_digest = c.same_digest; differ = c.differs })
+      | inl m ↦ apart
+          (record {
+            first =
+                c.other;
+            second =
+                x;
+            first_held = m;
+            second_held = in_other;
+            same_digest = c.same_digest;
+            differ = c.differs;
+          })
       | inr m ↦ c.differs (clean.same c.other x m in_other c.same_digest)
     ]
 
@@ -64,9 +78,11 @@ pub record IsPassed (digest : List ℕ → List ℕ) (now other rest : Strings) 
   pub passed : (s : List ℕ) → Has other s → (Clashes digest now s → ⊥) ⊎ Has rest s
 
 pub passed_start : (digest : List ℕ → List ℕ) (now other rest : Strings) → rest ≡ other → IsPassed digest now other rest
-passed_start digest now other rest e = record { left = λ s h. subst (λ v. Has v s) e h; passed = λ s h. inr (subst (λ v. Has v s) (sym e) h) }
+passed_start digest now other rest e =
+    record { left = λ s h. subst (λ v. Has v s) e h; passed = λ s h. inr (subst (λ v. Has v s) (sym e) h) }
 
-pub passed_more : (digest : List ℕ → List ℕ) (now other rest rest' : Strings) (x : List ℕ) → rest ≡ insert rest' x → (Clashes digest now x → ⊥) → IsPassed digest now other rest → IsPassed digest now other rest'
+pub passed_more : (digest : List ℕ → List ℕ) (now other rest rest' : Strings) (x : List ℕ) → rest ≡ insert rest' x →
+    (Clashes digest now x → ⊥) → IsPassed digest now other rest → IsPassed digest now other rest'
 passed_more digest now other rest rest' x r not_x p = record {
   left = λ s h. p.left s (subst (λ v. Has v s) (sym r) (Has-insert_other rest' x s h));
   passed = λ s h. elim (p.passed s h) [
@@ -78,14 +94,17 @@ passed_more digest now other rest rest' x r not_x p = record {
   ];
 }
 
-pub passed_end : (digest : List ℕ → List ℕ) (now other rest : Strings) → rest ≡ empty → IsPassed digest now other rest → ClashesWith digest now other → ⊥
+pub passed_end : (digest : List ℕ → List ℕ) (now other rest : Strings) → rest ≡ empty → IsPassed digest now other rest →
+    ClashesWith digest now other → ⊥
 passed_end digest now other rest none p c =
     elim (p.passed c.second c.second_held) [
-      | inl not_second ↦ not_second (record { other = c.first; is_held = c.first_held; same_digest = c.same_digest; differs = c.differ })
+      | inl not_second ↦ not_second
+          (record { other = c.first; is_held = c.first_held; same_digest = c.same_digest; differs = c.differ })
       | inr k ↦ Has-empty c.second (subst (λ v. Has v c.second) none k)
     ]
 
-pub passed_clash : (digest : List ℕ → List ℕ) (now other rest rest' : Strings) (x : List ℕ) → rest ≡ insert rest' x → IsPassed digest now other rest → Clashes digest now x → ClashesWith digest now other
+pub passed_clash : (digest : List ℕ → List ℕ) (now other rest rest' : Strings) (x : List ℕ) → rest ≡ insert rest' x →
+    IsPassed digest now other rest → Clashes digest now x → ClashesWith digest now other
 passed_clash digest now other rest rest' x r p c =
     record {
       first = c.other;

@@ -4,7 +4,8 @@ use Rattle.std.specs.Prelude.{◌||◌, ◌≢◌}
 use Rattle.std.specs.Ordering.{nat_cmp, eq_by_cmp, is_eq}
 use Rattle.std.specs.Cmp.{tied_itself}
 use Rattle.std.specs.Cmp.Lexicographic.{slice_cmp, nat_list_cmp_total}
-use Rattle.std.specs.FinSet.{contains, insert, empty, union, contains-insert, contains-empty, contains-union, same_set, slice_cmp-IsAntisymmetric, nat_cmp-IsAntisymmetric}
+use Rattle.std.specs.FinSet.{contains, insert, empty, union, contains-insert, contains-empty, contains-union, same_set}
+use Rattle.std.specs.FinSet.{slice_cmp-IsAntisymmetric, nat_cmp-IsAntisymmetric}
 use Rattle.std.proofs.lemmas.Map.Lookups.{exact_bytes}
 use Rattle.std.proofs.lemmas.Map.Views.{tells_apart}
 use Rattle.node_store.specs.Strings.{Strings, Has}
@@ -31,7 +32,9 @@ decide x y = at (eq_by_cmp (slice_cmp nat_cmp) x y) refl
   where
     at : (b : Bool) → eq_by_cmp (slice_cmp nat_cmp) x y ≡ b → (x ≡ y) ⊎ (x ≢ y)
     at true e = inl (tells_apart exact_bytes x y e)
-    at false e = inr (λ same. let t : eq_by_cmp (slice_cmp nat_cmp) x y ≡ true = ap (eq_by_cmp (slice_cmp nat_cmp) x) (sym same) ∙ tied x in cc (t, e))
+    at false e =
+        inr (λ same. let t : eq_by_cmp (slice_cmp nat_cmp) x y ≡ true =
+        ap (eq_by_cmp (slice_cmp nat_cmp) x) (sym same) ∙ tied x in cc (t, e))
 
 pub Has-empty : (q : List ℕ) → Has empty q → ⊥
 Has-empty q h = let e = contains-empty (slice_cmp nat_cmp) q in cc (e, h)
@@ -39,7 +42,8 @@ Has-empty q h = let e = contains-empty (slice_cmp nat_cmp) q in cc (e, h)
 -- what a set has after an insertion
 pub Has-insert : (v : Strings) (k q : List ℕ) → Has (insert v k) q → (q ≡ k) ⊎ Has v q
 Has-insert v k q h =
-    elim (or_either (eq_by_cmp (slice_cmp nat_cmp) q k) (contains v q) (sym (contains-insert nat_list_cmp_total v k q) ∙ h)) [
+    elim (or_either (eq_by_cmp (slice_cmp nat_cmp) q k) (contains v q)
+    (sym (contains-insert nat_list_cmp_total v k q) ∙ h)) [
       | inl t ↦ inl (tells_apart exact_bytes q k t)
       | inr m ↦ inr m
     ]
@@ -62,7 +66,9 @@ Has-union_cases v w q h = or_either _ _ (sym (contains-union nat_list_cmp_total 
 
 -- two sets with the same strings are one
 pub same_strings : (s t : Strings) → ((q : List ℕ) → Has s q → Has t q) → ((q : List ℕ) → Has t q → Has s q) → s ≡ t
-same_strings s t to from = same_set nat_list_cmp_total (slice_cmp-IsAntisymmetric nat_cmp-IsAntisymmetric) s t (λ q. same_bool _ _ (to q) (from q))
+same_strings s t to from =
+    same_set nat_list_cmp_total (slice_cmp-IsAntisymmetric nat_cmp-IsAntisymmetric) s t
+    (λ q. same_bool _ _ (to q) (from q))
   where
     same_bool : (a b : Bool) → (a ≡ true → b ≡ true) → (b ≡ true → a ≡ true) → a ≡ b
     same_bool true b f g = sym (f refl)
@@ -72,4 +78,5 @@ same_strings s t to from = same_set nat_list_cmp_total (slice_cmp-IsAntisymmetri
 -- to insert what is held changes nothing
 pub insert_held : (v : Strings) (k : List ℕ) → Has v k → insert v k ≡ v
 insert_held v k held =
-    same_strings _ _ (λ q h. elim (Has-insert v k q h) [ inl e ↦ subst (Has v) (sym e) held | inr m ↦ m ]) (λ q h. Has-insert_other v k q h)
+    same_strings _ _ (λ q h. elim (Has-insert v k q h) [ inl e ↦ subst (Has v) (sym e) held | inr m ↦ m ])
+    (λ q h. Has-insert_other v k q h)

@@ -34,7 +34,9 @@ four_bytes n =
 digest_fits : (h : List ℕ) (n : ℕ) → IsBytes (digest_bytes h n)
 unfolding digest_bytes
 digest_fits h zero = IsBytes-nil
-digest_fits h (suc n) = IsBytes-append (digest_bytes h n) (to_be_bytes w32 (slice_index h n)) (digest_fits h n) (four_bytes (slice_index h n))
+digest_fits h (suc n) =
+    IsBytes-append (digest_bytes h n) (to_be_bytes w32 (slice_index h n)) (digest_fits h n)
+    (four_bytes (slice_index h n))
 
 sha256_fits : (m : List ℕ) → IsBytes (sha256 m)
 unfolding sha256

@@ -1,5 +1,6 @@
 -- The words of lines of key files: a text has them in one way.
-use Rattle.std.proofs.Common.{◌≡◌, ℕ, ◌*◌, ◌<◌, ◌^◌, true, false, List, ◌∷◌, ◌++◌, length, refl, sym, ap, ◌∙◌, subst, arith}
+use Rattle.std.proofs.Common.{◌≡◌, ℕ, ◌*◌, ◌<◌, ◌^◌, true, false, List, ◌∷◌, ◌++◌, length, refl, sym, ap, ◌∙◌, subst}
+use Rattle.std.proofs.Common.{arith}
 use Rattle.std.specs.Prelude.{Result, Ok, is_ok}
 use Rattle.std.specs.List.{AllPass}
 use Rattle.std.proofs.lemmas.Bool.{false≢true}
@@ -26,13 +27,15 @@ sized text bytes n len h =
     decode_sized-twice text n (omega arith) ∙ h
 
 -- digits that do not decode so are those of no such bytes
-pub not_sized : (text bytes : List ℕ) (n : ℕ) (r : Result (List ℕ) FromHexError) → r ≡ decode_sized text n → is_ok r ≡ false → length bytes ≡ n → IsHexOf text bytes → ⊥
+pub not_sized : (text bytes : List ℕ) (n : ℕ) (r : Result (List ℕ) FromHexError) → r ≡ decode_sized text n →
+    is_ok r ≡ false → length bytes ≡ n → IsHexOf text bytes → ⊥
 not_sized text bytes n r is bad len h =
     let ok : is_ok r ≡ true = ap is_ok (is ∙ sized text bytes n len h) in
     false≢true (sym bad ∙ ok)
 
 -- digits that do are those of the bytes
-pub from_sized : (text bytes : List ℕ) (n : ℕ) → decode_sized text n ≡ Ok bytes → IsHexOf text bytes × (length bytes ≡ n)
+pub from_sized : (text bytes : List ℕ) (n : ℕ) → decode_sized text n ≡ Ok bytes →
+    IsHexOf text bytes × (length bytes ≡ n)
 from_sized text bytes n h =
     let len : length text ≡ 2 * n = decode_sized-ok text n bytes h in
     let is : IsHexOf text bytes = sym (decode_sized-twice text n len) ∙ h in
@@ -44,35 +47,53 @@ pub no_space : (text name digits : List ℕ) (id : ℕ) → Lacks space text →
 no_space text name digits id lacks w = no_cut space text name (w.id_digits ++ space ∷ digits) w.whole lacks
 
 -- the first word of three
-first_word : (text name rest other digits : List ℕ) (id : ℕ) → text ≡ name ++ space ∷ rest → Lacks space name → IsOwnName other → (w : AreWords text other id digits) → (name ≡ other) × (rest ≡ w.id_digits ++ space ∷ digits)
+first_word : (text name rest other digits : List ℕ) (id : ℕ) → text ≡ name ++ space ∷ rest → Lacks space name →
+    IsOwnName other → (w : AreWords text other id digits) → (name ≡ other) × (rest ≡ w.id_digits ++ space ∷ digits)
 first_word text name rest other digits id is lacks own w =
-    cut_once space name rest other (w.id_digits ++ space ∷ digits) (sym is ∙ w.whole) lacks (name_lacks_space other own.key_name)
+    cut_once space name rest other (w.id_digits ++ space ∷ digits) (sym is ∙ w.whole) lacks
+    (name_lacks_space other own.key_name)
 
-pub one_space : (text name rest other digits : List ℕ) (id : ℕ) → text ≡ name ++ space ∷ rest → Lacks space name → Lacks space rest → IsOwnName other → AreWords text other id digits → ⊥
+pub one_space : (text name rest other digits : List ℕ) (id : ℕ) → text ≡ name ++ space ∷ rest → Lacks space name →
+    Lacks space rest → IsOwnName other → AreWords text other id digits → ⊥
 one_space text name rest other digits id is lacks none own w =
     let first = first_word text name rest other digits id is lacks own w in
     no_cut space rest w.id_digits digits first.1 none
 
 -- the second word
-second_word : (text name id_digits rest other digits : List ℕ) (id : ℕ) → text ≡ name ++ space ∷ (id_digits ++ space ∷ rest) → Lacks space name → Lacks space id_digits → IsOwnName other → (w : AreWords text other id digits)
+second_word : (text name id_digits rest other digits : List ℕ) (id : ℕ) →
+    text ≡ name ++ space ∷ (id_digits ++ space ∷ rest) → Lacks space name → Lacks space id_digits → IsOwnName other →
+    (w : AreWords text other id digits)
     → (name ≡ other) × (id_digits ≡ w.id_digits) × (rest ≡ digits)
 second_word text name id_digits rest other digits id is lacks none own w =
     let first = first_word text name (id_digits ++ space ∷ rest) other digits id is lacks own w in
-    let second = cut_once space id_digits rest w.id_digits digits first.1 none (hex_lacks space w.id_digits (big_bytes 4 id) w.id_is refl) in
+    let second =
+    cut_once space id_digits rest w.id_digits digits first.1 none
+    (hex_lacks space w.id_digits (big_bytes 4 id) w.id_is refl) in
     (first.0, second.0, second.1)
 
-pub no_id : (text name id_digits rest other digits : List ℕ) (id : ℕ) → text ≡ name ++ space ∷ (id_digits ++ space ∷ rest) → Lacks space name → Lacks space id_digits → ((n : ℕ) → IsHexOf id_digits (big_bytes 4 n) → ⊥) → IsOwnName other → AreWords text other id digits → ⊥
+pub no_id : (text name id_digits rest other digits : List ℕ) (id : ℕ) →
+    text ≡ name ++ space ∷ (id_digits ++ space ∷ rest) → Lacks space name → Lacks space id_digits →
+    ((n : ℕ) → IsHexOf id_digits (big_bytes 4 n) → ⊥) → IsOwnName other → AreWords text other id digits → ⊥
 no_id text name id_digits rest other digits id is lacks none bad own w =
     let words = second_word text name id_digits rest other digits id is lacks none own w in
     bad id (subst (λ (x : List ℕ). IsHexOf x (big_bytes 4 id)) (sym words.1) w.id_is)
 
 -- digits are those of one id
-same_id : (digits : List ℕ) (id other : ℕ) → id < 2 ^ 32 → other < 2 ^ 32 → IsHexOf digits (big_bytes 4 id) → IsHexOf digits (big_bytes 4 other) → id ≡ other
+same_id : (digits : List ℕ) (id other : ℕ) → id < 2 ^ 32 → other < 2 ^ 32 → IsHexOf digits (big_bytes 4 id) →
+    IsHexOf digits (big_bytes 4 other) → id ≡ other
 same_id digits id other small fits p q =
-    sym (bytes_id id small) ∙ (ap (big_number 4) (decode_of-same digits (big_bytes 4 id) (big_bytes 4 other) p q) ∙ bytes_id other fits)
+    sym (bytes_id id small) ∙
+    (ap (big_number 4) (decode_of-same digits (big_bytes 4 id) (big_bytes 4 other) p q) ∙ bytes_id other fits)
 
 -- the words of a text are one
-pub same_words : (text name digits other more : List ℕ) (id n : ℕ) → AreWords text name id digits → Lacks space name → IsOwnName other → AreWords text other n more → (name ≡ other) × (id ≡ n) × (digits ≡ more)
+pub same_words : (text name digits other more : List ℕ) (id n : ℕ) → AreWords text name id digits → Lacks space name →
+    IsOwnName other → AreWords text other n more → (name ≡ other) × (id ≡ n) × (digits ≡ more)
 same_words text name digits other more id n w lacks own v =
-    let words = second_word text name w.id_digits digits other more n w.whole lacks (hex_lacks space w.id_digits (big_bytes 4 id) w.id_is refl) own v in
-    (words.0, same_id w.id_digits id n w.small v.small w.id_is (subst (λ (x : List ℕ). IsHexOf x (big_bytes 4 n)) (sym words.1) v.id_is), words.2)
+    let words =
+    second_word text name w.id_digits digits other more n w.whole lacks
+    (hex_lacks space w.id_digits (big_bytes 4 id) w.id_is refl) own v in (
+      words.0,
+      same_id w.id_digits id n w.small v.small w.id_is
+          (subst (λ (x : List ℕ). IsHexOf x (big_bytes 4 n)) (sym words.1) v.id_is),
+      words.2,
+    )

@@ -1,5 +1,6 @@
 -- A signature part of well-formed lines has as many lines as they are.
-use Rattle.std.proofs.Common.{◌≡◌, ◌≢◌, ℕ, ◌+◌, ◌-◌, Bool, true, false, cond, nat_eq, List, [], ◌∷◌, ◌++◌, length, refl, sym, ap, ◌∙◌, arith, append_assoc, length-append, add-zero, zero-add}
+use Rattle.std.proofs.Common.{◌≡◌, ◌≢◌, ℕ, ◌+◌, ◌-◌, Bool, true, false, cond, nat_eq, List, [], ◌∷◌, ◌++◌, length, refl}
+use Rattle.std.proofs.Common.{sym, ap, ◌∙◌, arith, append_assoc, length-append, add-zero, zero-add}
 use Rattle.std.specs.Prelude.{All, count_by, slice_index}
 use Rattle.std.specs.List.{flat_map}
 use Rattle.std.proofs.lemmas.List.{append-nil, get_or_push}
@@ -30,20 +31,29 @@ newlines-lacking (x ∷ xs) p =
     sum_by-append one_at (x ∷ []) xs ∙ omega (arith, head, newlines-lacking xs p.1)
 
 newlines-line : (line : Line) → IsSignatureLine line → newlines (line_text line) ≡ 1
-newlines-line line h = sum_by-append one_at (line_body line) (newline ∷ []) ∙ omega (arith, newlines-lacking (line_body line) (body_lacks_newline line h))
+newlines-line line h =
+    sum_by-append one_at (line_body line) (newline ∷ []) ∙
+    omega (arith, newlines-lacking (line_body line) (body_lacks_newline line h))
 
 newlines-lines : (lines : List Line) → All IsSignatureLine lines → newlines (flat_map line_text lines) ≡ length lines
 newlines-lines [] h = refl
 newlines-lines (line ∷ lines) h =
     sum_by-append one_at (line_text line) (flat_map line_text lines)
-    ∙ omega (arith, newlines-line line (All-head IsSignatureLine line lines h), newlines-lines lines (All-tail IsSignatureLine line lines h))
+    ∙ omega (
+      arith,
+      newlines-line line (All-head IsSignatureLine line lines h),
+      newlines-lines lines (All-tail IsSignatureLine line lines h),
+    )
 
 -- lines end in a newline
-lines_end : (line : Line) (lines : List Line) → (front : List ℕ) × (flat_map line_text (line ∷ lines) ≡ front ++ newline ∷ [])
+lines_end : (line : Line) (lines : List Line) →
+    (front : List ℕ) × (flat_map line_text (line ∷ lines) ≡ front ++ newline ∷ [])
 lines_end line [] = (line_body line, append-nil (line_text line))
 lines_end line (next ∷ lines) =
-    let rest = lines_end next lines in
-    (line_text line ++ rest.0, ap (λ (x : List ℕ). line_text line ++ x) rest.1 ∙ sym (append_assoc (line_text line) rest.0 (newline ∷ [])))
+    let rest = lines_end next lines in (
+      line_text line ++ rest.0,
+      ap (λ (x : List ℕ). line_text line ++ x) rest.1 ∙ sym (append_assoc (line_text line) rest.0 (newline ∷ [])),
+    )
 
 -- no line is without its newline
 none_open : (b d : Bool) → d ≡ true → ◌≡◌ {A = ℕ} (cond b 0 (cond d 0 1)) 0
@@ -56,11 +66,16 @@ ended_count : (front : List ℕ) → line_count (front ++ newline ∷ []) ≡ ne
 ended_count front =
     let xs : List ℕ = front ++ newline ∷ [] in
     let place : length xs - 1 ≡ length front = omega (arith, length-append front (newline ∷ [])) in
-    let last : slice_index xs (length xs - 1) ≡ newline = ap (slice_index xs) place ∙ get_or_push front newline 0 (length front) refl in
-    let closed : nat_eq (slice_index xs (length xs - 1)) newline ≡ true = (Decides-eqb (slice_index xs (length xs - 1)) newline).1 last in
-    ap (λ (n : ℕ). newlines xs + n) (none_open (nat_eq (length xs) 0) (nat_eq (slice_index xs (length xs - 1)) newline) closed) ∙ add-zero (newlines xs)
+    let last : slice_index xs (length xs - 1) ≡ newline =
+    ap (slice_index xs) place ∙ get_or_push front newline 0 (length front) refl in
+    let closed : nat_eq (slice_index xs (length xs - 1)) newline ≡ true =
+    (Decides-eqb (slice_index xs (length xs - 1)) newline).1 last in
+    ap (λ (n : ℕ). newlines xs + n)
+    (none_open (nat_eq (length xs) 0) (nat_eq (slice_index xs (length xs - 1)) newline) closed) ∙
+    add-zero (newlines xs)
 
-pub line_count-lines : (lines : List Line) → All IsSignatureLine lines → line_count (flat_map line_text lines) ≡ length lines
+pub line_count-lines : (lines : List Line) → All IsSignatureLine lines →
+    line_count (flat_map line_text lines) ≡ length lines
 line_count-lines [] h = refl
 line_count-lines (line ∷ lines) h =
     let end = lines_end line lines in

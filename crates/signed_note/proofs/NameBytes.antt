@@ -1,5 +1,6 @@
 -- The bytes of a key's name: as its characters, none is white space in ASCII.
-use Rattle.std.proofs.Common.{◌≡◌, ℕ, ◌<◌, Bool, true, false, not, ◌||◌, nat_eq, ◌&&◌, List, [], ◌∷◌, get_or, refl, ap, arith, lit<}
+use Rattle.std.proofs.Common.{◌≡◌, ℕ, ◌<◌, Bool, true, false, not, ◌||◌, nat_eq, ◌&&◌, List, [], ◌∷◌, get_or, refl, ap}
+use Rattle.std.proofs.Common.{arith, lit<}
 use Rattle.std.specs.List.{list_all}
 use Rattle.std.specs.Char.{is_whitespace}
 use Rattle.std.specs.Str.{NoCharPasses, NonePass, chars}
@@ -25,7 +26,11 @@ none_barred (c ∷ cs) h =
 
 lacks_barred : (name : List ℕ) → IsKeyName name → (c : ℕ) → c < 128 → is_barred c ≡ true → Lacks c name
 lacks_barred name named c small barred =
-    let none : NoCharPasses is_barred name = (chars name, encodes-chars name named.utf8, none_barred (chars name) (list_all-from_AllPass is_name_char (chars name) named.characters)) in
+    let none : NoCharPasses is_barred name = (
+      chars name,
+      encodes-chars name named.utf8,
+      none_barred (chars name) (list_all-from_AllPass is_name_char (chars name) named.characters),
+    ) in
     Lacks-from_reads c name (λ i lt e.
     let fails : is_barred (get_or name i 0) ≡ false = NoCharPasses-byte is_barred name i none lt (omega (arith, e)) in
     absurd (cc (ap is_barred e, fails, barred)))

@@ -1,5 +1,6 @@
 -- Bytes have one reading as a note.
-use Rattle.std.proofs.Common.{◌≡◌, ◌≢◌, ◌↔◌, IsTrue, ℕ, zero, suc, ◌<◌, ◌≤◌, Bool, List, [], ◌∷◌, length, take, drop, refl, sym, ap, subst, ◌∙◌, arith, append_assoc, inl, inr}
+use Rattle.std.proofs.Common.{◌≡◌, ◌≢◌, ◌↔◌, IsTrue, ℕ, zero, suc, ◌<◌, ◌≤◌, Bool, List, [], ◌∷◌, length, take, drop}
+use Rattle.std.proofs.Common.{refl, sym, ap, subst, ◌∙◌, arith, append_assoc, inl, inr}
 use Rattle.std.specs.Prelude.{Result, Ok, Err, All}
 use Rattle.std.specs.List.{flat_map}
 use Rattle.std.specs.Str.{bytes_eq}
@@ -9,12 +10,14 @@ use Rattle.std.proofs.lemmas.List.Elements.{All-head, All-tail}
 use Rattle.byteorder.specs.Endian.{big_bytes, big_number}
 use Rattle.signed_note.specs.Names.{newline, IsNoteText}
 use Rattle.tlog_text.specs.Hash.{base64_of}
-use Rattle.signed_note.specs.Notes.{Line, NoteParts, signed_bytes, line_body, line_text, IsSignatureLine, IsNoteSplit, IsNote}
+use Rattle.signed_note.specs.Notes.{Line, NoteParts, signed_bytes, line_body, line_text, IsSignatureLine, IsNoteSplit}
+use Rattle.signed_note.specs.Notes.{IsNote}
 use Rattle.signed_note.specs.Reading.{line_count, ReadsNote}
 use Rattle.signed_note.specs.Laws.{NotesAreRead, OneNoteAnswer}
 use Rattle.signed_note.specs.declared.limits.TheConstants.{MAX_LINES, MAX_NOTE_LEN}
 use Rattle.signed_note.specs.declared.fault.NoteFault.{NoteFault}
-use Rattle.signed_note.specs.declared.fault.NoteFault.TheVariants.{NoteTooLong, NotText, NoSignatures, TooManySignatures, BadSignatureLine, OutOfMemory}
+use Rattle.signed_note.specs.declared.fault.NoteFault.TheVariants.{NoteTooLong, NotText, NoSignatures}
+use Rattle.signed_note.specs.declared.fault.NoteFault.TheVariants.{TooManySignatures, BadSignatureLine, OutOfMemory}
 use Rattle.signed_note.proofs.Lacking.{cut_once}
 use Rattle.signed_note.proofs.NameBytes.{name_lacks_space}
 use Rattle.tlog_text.proofs.Hashes.{base64_of-same}
@@ -26,18 +29,22 @@ use Rattle.signed_note.proofs.Splits.{split_once}
 Line-same : (x y : Line) → x.name ≡ y.name → x.id ≡ y.id → x.signature ≡ y.signature → x ≡ y
 Line-same x y n i s =
     let first : x ≡ record x { name = y.name } = ap (λ (v : List ℕ). record x { name = v }) n in
-    let second : record x { name = y.name } ≡ record x { name = y.name; id = y.id } = ap (λ (v : ℕ). record x { name = y.name; id = v }) i in
+    let second : record x { name = y.name } ≡ record x { name = y.name; id = y.id } =
+    ap (λ (v : ℕ). record x { name = y.name; id = v }) i in
     let third : record x { name = y.name; id = y.id } ≡ y = ap (λ (v : List ℕ). record y { signature = v }) s in
     first ∙ (second ∙ third)
 
 same_body : (x y : Line) → IsSignatureLine x → IsSignatureLine y → line_body x ≡ line_body y → x ≡ y
 same_body x y p q e =
-    let words = line_words (line_body x) x.name (base64_of (signed_bytes x)) refl (name_lacks_space x.name p.name) y q e in
-    let same : signed_bytes x ≡ signed_bytes y = base64_of-same (signed_bytes x) (signed_bytes y) (signed_bytes_fit x p) (signed_bytes_fit y q) words.1 in
+    let words =
+    line_words (line_body x) x.name (base64_of (signed_bytes x)) refl (name_lacks_space x.name p.name) y q e in
+    let same : signed_bytes x ≡ signed_bytes y =
+    base64_of-same (signed_bytes x) (signed_bytes y) (signed_bytes_fit x p) (signed_bytes_fit y q) words.1 in
     let ids : big_bytes 4 x.id ≡ big_bytes 4 y.id = ap (take 4) same in
     Line-same x y words.0 (sym (bytes_id x.id p.id) ∙ (ap (big_number 4) ids ∙ bytes_id y.id q.id)) (ap (drop 4) same)
 
-same_lines : (lines others : List Line) → flat_map line_text lines ≡ flat_map line_text others → All IsSignatureLine lines → All IsSignatureLine others → lines ≡ others
+same_lines : (lines others : List Line) → flat_map line_text lines ≡ flat_map line_text others →
+    All IsSignatureLine lines → All IsSignatureLine others → lines ≡ others
 same_lines [] [] e p q = refl
 same_lines [] (y ∷ ys) e p q = absurd (omega (arith, ap length e))
 same_lines (x ∷ xs) [] e p q = absurd (omega (arith, ap length e))
@@ -45,7 +52,8 @@ same_lines (x ∷ xs) (y ∷ ys) e p q =
     let good = All-head IsSignatureLine x xs p in
     let fine = All-head IsSignatureLine y ys q in
     let cut = cut_once newline (line_body x) (flat_map line_text xs) (line_body y) (flat_map line_text ys)
-    (sym (append_assoc (line_body x) (newline ∷ []) (flat_map line_text xs)) ∙ (e ∙ append_assoc (line_body y) (newline ∷ []) (flat_map line_text ys)))
+    (sym (append_assoc (line_body x) (newline ∷ []) (flat_map line_text xs)) ∙
+    (e ∙ append_assoc (line_body y) (newline ∷ []) (flat_map line_text ys)))
     (body_lacks_newline x good) (body_lacks_newline y fine) in
     let head : x ≡ y = same_body x y good fine cut.0 in
     let tail : xs ≡ ys = same_lines xs ys cut.1 (All-tail IsSignatureLine x xs p) (All-tail IsSignatureLine y ys q) in
@@ -70,7 +78,8 @@ rank (Ok parts) = 5
 rank (Err fault) = rank_of fault
 
 -- what an answer further on says of the bytes
-length_passed : (bytes : List ℕ) (a : Result NoteParts NoteFault) → ReadsNote bytes a → 0 < rank a → length bytes ≤ MAX_NOTE_LEN
+length_passed : (bytes : List ℕ) (a : Result NoteParts NoteFault) → ReadsNote bytes a → 0 < rank a →
+    length bytes ≤ MAX_NOTE_LEN
 length_passed bytes (Ok parts) h lt = h.1.short
 length_passed bytes (Err NoteTooLong) h lt = absurd (omega arith)
 length_passed bytes (Err NotText) h lt = h.0
@@ -92,8 +101,10 @@ some_lines : (lines : List Line) → 1 ≤ length lines → flat_map line_text l
 some_lines [] some e = omega arith
 some_lines (line ∷ lines) some e = omega (arith, ap length e)
 
-part_passed : (bytes : List ℕ) (a : Result NoteParts NoteFault) → ReadsNote bytes a → 2 < rank a → (text : List ℕ) × (signed : List ℕ) × IsNoteSplit bytes text signed × (signed ≢ [])
-part_passed bytes (Ok parts) h lt = (parts.text, flat_map line_text parts.lines, h.1.split, some_lines parts.lines h.1.some)
+part_passed : (bytes : List ℕ) (a : Result NoteParts NoteFault) → ReadsNote bytes a → 2 < rank a →
+    (text : List ℕ) × (signed : List ℕ) × IsNoteSplit bytes text signed × (signed ≢ [])
+part_passed bytes (Ok parts) h lt =
+    (parts.text, flat_map line_text parts.lines, h.1.split, some_lines parts.lines h.1.some)
 part_passed bytes (Err NoteTooLong) h lt = absurd (omega arith)
 part_passed bytes (Err NotText) h lt = absurd (omega arith)
 part_passed bytes (Err NoSignatures) h lt = absurd (omega arith)
@@ -101,7 +112,8 @@ part_passed bytes (Err TooManySignatures) h lt = (h.0, h.1, h.2.split, h.2.some)
 part_passed bytes (Err BadSignatureLine) h lt = (h.0, h.1, h.2.split, h.2.some)
 part_passed bytes (Err OutOfMemory) h lt = absurd (omega arith)
 
-count_passed : (bytes : List ℕ) (a : Result NoteParts NoteFault) → ReadsNote bytes a → 3 < rank a → (text : List ℕ) × (signed : List ℕ) × IsNoteSplit bytes text signed × (line_count signed ≤ MAX_LINES)
+count_passed : (bytes : List ℕ) (a : Result NoteParts NoteFault) → ReadsNote bytes a → 3 < rank a →
+    (text : List ℕ) × (signed : List ℕ) × IsNoteSplit bytes text signed × (line_count signed ≤ MAX_LINES)
 count_passed bytes (Ok parts) h lt =
     let few : length parts.lines ≤ MAX_LINES = h.1.few in
     (parts.text, flat_map line_text parts.lines, h.1.split, omega (arith, line_count-lines parts.lines h.1.well_formed))
@@ -112,7 +124,8 @@ count_passed bytes (Err TooManySignatures) h lt = absurd (omega arith)
 count_passed bytes (Err BadSignatureLine) h lt = (h.0, h.1, h.2.split, h.3)
 count_passed bytes (Err OutOfMemory) h lt = absurd (omega arith)
 
-lines_passed : (bytes : List ℕ) (a : Result NoteParts NoteFault) → ReadsNote bytes a → 4 < rank a → (text : List ℕ) × (lines : List Line) × IsNote bytes text lines
+lines_passed : (bytes : List ℕ) (a : Result NoteParts NoteFault) → ReadsNote bytes a → 4 < rank a →
+    (text : List ℕ) × (lines : List Line) × IsNote bytes text lines
 lines_passed bytes (Ok parts) h lt = (parts.text, parts.lines, h.1)
 lines_passed bytes (Err NoteTooLong) h lt = absurd (omega arith)
 lines_passed bytes (Err NotText) h lt = absurd (omega arith)
@@ -134,11 +147,13 @@ rank_most (Ok parts) = omega arith
 rank_most (Err fault) = omega (arith, rank_of_fault fault)
 
 -- two answers are not one further on than the other
-no_further : (bytes : List ℕ) (a b : Result NoteParts NoteFault) → ReadsNote bytes a → ReadsNote bytes b → a ≢ Err OutOfMemory → rank a < rank b → ⊥
+no_further : (bytes : List ℕ) (a b : Result NoteParts NoteFault) → ReadsNote bytes a → ReadsNote bytes b →
+    a ≢ Err OutOfMemory → rank a < rank b → ⊥
 no_further bytes (Ok parts) b p q ne lt = omega (arith, rank_most b)
 no_further bytes (Err NoteTooLong) b p q ne lt = omega (arith, length_passed bytes b q lt)
 no_further bytes (Err NotText) b p q ne lt = p.1 (text_passed bytes b q lt)
-no_further bytes (Err NoSignatures) b p q ne lt = let part = part_passed bytes b q lt in part.3 (p.1 part.0 part.1 part.2)
+no_further bytes (Err NoSignatures) b p q ne lt =
+    let part = part_passed bytes b q lt in part.3 (p.1 part.0 part.1 part.2)
 no_further bytes (Err TooManySignatures) b p q ne lt =
     let part = count_passed bytes b q lt in
     let same = split_once bytes p.0 p.1 part.0 part.1 p.2.split part.2 in
@@ -170,21 +185,26 @@ at_its_rank OutOfMemory ne = absurd (ne refl)
 NoteParts-same : (x y : NoteParts) → x.bytes ≡ y.bytes → x.text ≡ y.text → x.lines ≡ y.lines → x ≡ y
 NoteParts-same x y b t l =
     let first : x ≡ record x { bytes = y.bytes } = ap (λ (v : List ℕ). record x { bytes = v }) b in
-    let second : record x { bytes = y.bytes } ≡ record x { bytes = y.bytes; text = y.text } = ap (λ (v : List ℕ). record x { bytes = y.bytes; text = v }) t in
+    let second : record x { bytes = y.bytes } ≡ record x { bytes = y.bytes; text = y.text } =
+    ap (λ (v : List ℕ). record x { bytes = y.bytes; text = v }) t in
     let third : record x { bytes = y.bytes; text = y.text } ≡ y = ap (λ (v : List Line). record y { lines = v }) l in
     first ∙ (second ∙ third)
 
 -- two notes are equal exactly where their bytes are
-pub same_notes : (x y : NoteParts) → IsNote x.bytes x.text x.lines → IsNote y.bytes y.text y.lines → (b : Bool) → b ≡ bytes_eq x.bytes y.bytes → IsTrue b ↔ (x ≡ y)
+pub same_notes : (x y : NoteParts) → IsNote x.bytes x.text x.lines → IsNote y.bytes y.text y.lines → (b : Bool) →
+    b ≡ bytes_eq x.bytes y.bytes → IsTrue b ↔ (x ≡ y)
 same_notes x y p q b is = (
   λ yes.
       let e : x.bytes ≡ y.bytes = (bytes_eq-Decides x.bytes y.bytes).0 (sym is ∙ yes) in
-      let parts = notes_are_read x.bytes x.text y.text x.lines y.lines p (subst (λ (v : List ℕ). IsNote v y.text y.lines) (sym e) q) in
+      let parts =
+      notes_are_read x.bytes x.text y.text x.lines y.lines p
+      (subst (λ (v : List ℕ). IsNote v y.text y.lines) (sym e) q) in
       NoteParts-same x y e parts.0 parts.1,
   λ e. is ∙ (bytes_eq-Decides x.bytes y.bytes).1 (ap (λ (v : NoteParts). v.bytes) e),
 )
 
-same_place : (bytes : List ℕ) (a b : Result NoteParts NoteFault) → ReadsNote bytes a → ReadsNote bytes b → a ≢ Err OutOfMemory → b ≢ Err OutOfMemory → rank a ≡ rank b → a ≡ b
+same_place : (bytes : List ℕ) (a b : Result NoteParts NoteFault) → ReadsNote bytes a → ReadsNote bytes b →
+    a ≢ Err OutOfMemory → b ≢ Err OutOfMemory → rank a ≡ rank b → a ≡ b
 same_place bytes (Ok x) (Ok y) p q na nb e =
     let one = notes_are_read bytes x.text y.text x.lines y.lines p.1 q.1 in
     ap Ok (NoteParts-same x y (p.0 ∙ sym q.0) one.0 one.1)

@@ -1,5 +1,6 @@
 -- What a signature line encodes: its base64 and its id.
-use Rattle.std.proofs.Common.{◌≡◌, ◌≢◌, ℕ, zero, suc, ◌+◌, ◌*◌, ◌/◌, ◌%◌, ◌<◌, ◌^◌, Bool, true, List, [], ◌∷◌, ◌++◌, length, replicate, refl, sym, ap, ◌∙◌, arith, length-append}
+use Rattle.std.proofs.Common.{◌≡◌, ◌≢◌, ℕ, zero, suc, ◌+◌, ◌*◌, ◌/◌, ◌%◌, ◌<◌, ◌^◌, Bool, true, List, [], ◌∷◌, ◌++◌}
+use Rattle.std.proofs.Common.{length, replicate, refl, sym, ap, ◌∙◌, arith, length-append}
 use Rattle.std.proofs.lemmas.List.{length-replicate}
 use Rattle.std.specs.Prelude.{slice_index}
 use Rattle.std.specs.Int.{w32, from_be_bytes}
@@ -50,7 +51,8 @@ Passing-replicate : (p : ℕ → Bool) (n b : ℕ) → p b ≡ true → Passing 
 Passing-replicate p zero b h = tt
 Passing-replicate p (suc n) b h = (h, Passing-replicate p n b h)
 
-symbols_pass : (p : ℕ → Bool) (t m : List ℕ) → ((i : ℕ) → i < 64 → p (slice_index t i) ≡ true) → IsBytes m → Passing p (encode_symbols t m)
+symbols_pass : (p : ℕ → Bool) (t m : List ℕ) → ((i : ℕ) → i < 64 → p (slice_index t i) ≡ true) → IsBytes m →
+    Passing p (encode_symbols t m)
 unfolding encode_symbols
 symbols_pass p t [] h small = tt
 symbols_pass p t (x ∷ []) h small =
@@ -64,8 +66,13 @@ symbols_pass p t (x ∷ y ∷ z ∷ rest) h small =
     let a : x < 256 = small 0 in
     let b : y < 256 = small 1 in
     let c : z < 256 = small 2 in
-    Passing-append p (encode_group t x y z) (encode_symbols t rest)
-    (h (x / 4) (omega arith), (h (x % 4 * 16 + y / 16) (omega arith), (h (y % 16 * 4 + z / 64) (omega arith), (h (z % 64) (omega arith), tt))))
+    Passing-append p (encode_group t x y z) (encode_symbols t rest) (
+      h (x / 4) (omega arith),
+      (
+        h (x % 4 * 16 + y / 16) (omega arith),
+        (h (y % 16 * 4 + z / 64) (omega arith), (h (z % 64) (omega arith), tt)),
+      ),
+    )
     (symbols_pass p t rest h (λ i. small (suc (suc (suc i)))))
 
 table_passes : (i : ℕ) → i < 64 → is_note_char (slice_index symbols i) ≡ true

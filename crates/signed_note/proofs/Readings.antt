@@ -10,7 +10,8 @@ use Rattle.signed_note.specs.Notes.{Line, IsNoteSplit, IsNote}
 use Rattle.signed_note.specs.Reading.{line_count, AreSignatureLines, HasPart, ReadsSignatureLines, ReadsNote}
 use Rattle.signed_note.specs.declared.limits.TheConstants.{MAX_LINES}
 use Rattle.signed_note.specs.declared.fault.NoteFault.{NoteFault}
-use Rattle.signed_note.specs.declared.fault.NoteFault.TheVariants.{NoteTooLong, NotText, NoSignatures, TooManySignatures, BadSignatureLine, OutOfMemory}
+use Rattle.signed_note.specs.declared.fault.NoteFault.TheVariants.{NoteTooLong, NotText, NoSignatures}
+use Rattle.signed_note.specs.declared.fault.NoteFault.TheVariants.{TooManySignatures, BadSignatureLine, OutOfMemory}
 use Rattle.signed_note.proofs.LineCounts.{line_count-lines}
 
 pub note_text : (bytes : List ℕ) → IsUtf8 bytes → list_all is_note_char (chars bytes) ≡ true → IsNoteText bytes
@@ -28,7 +29,8 @@ some_bytes [] h e = cc
 some_bytes (x ∷ xs) h e = cc
 
 -- a readable note whose part is lines is a note
-pub note_from_lines : (bytes text signed : List ℕ) (lines : List Line) → HasPart bytes text signed → line_count signed ≤ MAX_LINES → AreSignatureLines signed lines → IsNote bytes text lines
+pub note_from_lines : (bytes text signed : List ℕ) (lines : List Line) → HasPart bytes text signed →
+    line_count signed ≤ MAX_LINES → AreSignatureLines signed lines → IsNote bytes text lines
 note_from_lines bytes text signed [] part few are = absurd (part.some are.whole)
 note_from_lines bytes text signed (line ∷ lines) part few are = record {
   short = part.readable.short;
@@ -40,7 +42,8 @@ note_from_lines bytes text signed (line ∷ lines) part few are = record {
 }
 
 -- what refuses its lines refuses the note
-pub note_refused : (bytes text signed : List ℕ) (fault : NoteFault) → HasPart bytes text signed → line_count signed ≤ MAX_LINES → ReadsSignatureLines signed (Err fault) → ReadsNote bytes (Err fault)
+pub note_refused : (bytes text signed : List ℕ) (fault : NoteFault) → HasPart bytes text signed →
+    line_count signed ≤ MAX_LINES → ReadsSignatureLines signed (Err fault) → ReadsNote bytes (Err fault)
 note_refused bytes text signed NoteTooLong part few h = absurd h
 note_refused bytes text signed NotText part few h = absurd h
 note_refused bytes text signed NoSignatures part few h = absurd h

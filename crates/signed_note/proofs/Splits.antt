@@ -1,5 +1,6 @@
 -- The last blank line of a note: where it is, and that it separates in one way.
-use Rattle.std.proofs.Common.{◌≡◌, ◌⊎◌, inl, inr, ℕ, suc, ◌+◌, ◌<◌, List, [], ◌∷◌, ◌++◌, length, take, drop, get_or, refl, sym, ap, ◌∙◌, subst, arith, append_assoc, length-append, drop-cons}
+use Rattle.std.proofs.Common.{◌≡◌, ◌⊎◌, inl, inr, ℕ, suc, ◌+◌, ◌<◌, List, [], ◌∷◌, ◌++◌, length, take, drop, get_or}
+use Rattle.std.proofs.Common.{refl, sym, ap, ◌∙◌, subst, arith, append_assoc, length-append, drop-cons}
 use Rattle.std.proofs.lemmas.List.{append-nil, take_more, take-append-drop, get_or-append-add, length-take-le}
 use Rattle.std.proofs.Math.Seq.{take-append_seam}
 use Rattle.signed_note.specs.Names.{newline, EndsInNewline}
@@ -22,30 +23,39 @@ blank_in front after =
 pub blank_of_split : (bytes text signed : List ℕ) → IsNoteSplit bytes text signed → (at : ℕ) × IsBlank bytes at
 blank_of_split bytes text signed s =
     let front = s.ended.0 in
-    let whole : bytes ≡ front ++ newline ∷ (newline ∷ signed) = s.whole ∙ (ap (λ (x : List ℕ). x ++ newline ∷ signed) s.ended.1 ∙ append_assoc front (newline ∷ []) (newline ∷ signed)) in
+    let whole : bytes ≡ front ++ newline ∷ (newline ∷ signed) =
+    s.whole ∙
+    (ap (λ (x : List ℕ). x ++ newline ∷ signed) s.ended.1 ∙ append_assoc front (newline ∷ []) (newline ∷ signed)) in
     (length front, subst (λ b. IsBlank b (length front)) (sym whole) (blank_in front signed))
 
 -- at the last blank line the bytes are split
-pub split_at_blank : (bytes : List ℕ) (at : ℕ) → IsBlank bytes at → ((j : ℕ) → at < j → IsBlank bytes j → ⊥) → IsNoteSplit bytes (take (at + 1) bytes) (drop (at + 2) bytes)
+pub split_at_blank : (bytes : List ℕ) (at : ℕ) → IsBlank bytes at → ((j : ℕ) → at < j → IsBlank bytes j → ⊥) →
+    IsNoteSplit bytes (take (at + 1) bytes) (drop (at + 2) bytes)
 split_at_blank bytes at blank last =
     let within : at + 1 < length bytes = blank.within in
     let here : at < length bytes = omega arith in
     let text : List ℕ = take (at + 1) bytes in
     let signed : List ℕ = drop (at + 2) bytes in
     let two : suc (at + 1) ≡ at + 2 = omega arith in
-    let after : drop (at + 1) bytes ≡ newline ∷ signed = drop-cons bytes (at + 1) 0 within ∙ (rw (two, blank.second) refl) in
-    let whole : bytes ≡ text ++ newline ∷ signed = sym (take-append-drop (at + 1) bytes) ∙ ap (λ (x : List ℕ). text ++ x) after in
+    let after : drop (at + 1) bytes ≡ newline ∷ signed =
+    drop-cons bytes (at + 1) 0 within ∙ (rw (two, blank.second) refl) in
+    let whole : bytes ≡ text ++ newline ∷ signed =
+    sym (take-append-drop (at + 1) bytes) ∙ ap (λ (x : List ℕ). text ++ x) after in
     record {
       whole = whole;
       ended = (take at bytes, take_more bytes at 0 here ∙ ap (λ (b : ℕ). take at bytes ++ b ∷ []) blank.first);
       last = λ before more e.
-          let longer : bytes ≡ (text ++ before) ++ newline ∷ (newline ∷ more) = whole ∙ (ap (λ (x : List ℕ). text ++ x) e ∙ sym (append_assoc text before (newline ∷ (newline ∷ more)))) in
+          let longer : bytes ≡ (text ++ before) ++ newline ∷ (newline ∷ more) =
+          whole ∙ (ap (λ (x : List ℕ). text ++ x) e ∙
+          sym (append_assoc text before (newline ∷ (newline ∷ more)))) in
           let size : length text ≡ at + 1 = length-take-le (at + 1) bytes (omega arith) in
-          last (length (text ++ before)) (omega (arith, length-append text before, size)) (subst (λ b. IsBlank b (length (text ++ before))) (sym longer) (blank_in (text ++ before) more));
+          last (length (text ++ before)) (omega (arith, length-append text before, size))
+          (subst (λ b. IsBlank b (length (text ++ before))) (sym longer) (blank_in (text ++ before) more));
     }
 
 -- of two fronts of one list one begins with the other
-overlap : (t x u y : List ℕ) → t ++ x ≡ u ++ y → ((w : List ℕ) × (u ≡ t ++ w) × (x ≡ w ++ y)) ⊎ ((w : List ℕ) × (t ≡ u ++ w) × (y ≡ w ++ x))
+overlap : (t x u y : List ℕ) → t ++ x ≡ u ++ y →
+    ((w : List ℕ) × (u ≡ t ++ w) × (x ≡ w ++ y)) ⊎ ((w : List ℕ) × (t ≡ u ++ w) × (y ≡ w ++ x))
 overlap [] x u y e = inl (u, refl, e)
 overlap (a ∷ t) x [] y e = inr (a ∷ t, refl, sym e)
 overlap (a ∷ t) x (b ∷ u) y e =
@@ -59,17 +69,22 @@ overlap (a ∷ t) x (b ∷ u) y e =
 -- what ends in a newline ends in it also without a front of it
 ends_still : (t w front : List ℕ) (z : ℕ) (v : List ℕ) → w ≡ z ∷ v → t ++ w ≡ front ++ newline ∷ [] → EndsInNewline w
 ends_still [] w front z v is e = (front, e)
-ends_still (a ∷ t) w [] z v is e = let nothing : t ++ w ≡ [] = cc in absurd (omega (arith, ap length nothing, length-append t w, ap length is))
-ends_still (a ∷ t) w (b ∷ front) z v is e = let tails : t ++ w ≡ front ++ newline ∷ [] = cc in ends_still t w front z v is tails
+ends_still (a ∷ t) w [] z v is e =
+    let nothing : t ++ w ≡ [] = cc in absurd (omega (arith, ap length nothing, length-append t w, ap length is))
+ends_still (a ∷ t) w (b ∷ front) z v is e =
+    let tails : t ++ w ≡ front ++ newline ∷ [] = cc in ends_still t w front z v is tails
 
 -- a later end of the text has no place
-no_later : (bytes text signed other more w : List ℕ) → IsNoteSplit bytes text signed → IsNoteSplit bytes other more → other ≡ text ++ w → newline ∷ signed ≡ w ++ newline ∷ more → w ≡ []
+no_later : (bytes text signed other more w : List ℕ) → IsNoteSplit bytes text signed → IsNoteSplit bytes other more →
+    other ≡ text ++ w → newline ∷ signed ≡ w ++ newline ∷ more → w ≡ []
 no_later bytes text signed other more [] s r longer e = refl
 no_later bytes text signed other more (z ∷ v) s r longer e =
     let ends = ends_still text (z ∷ v) r.ended.0 z v refl (sym longer ∙ r.ended.1) in
-    absurd (s.last ends.0 more (e ∙ (ap (λ (x : List ℕ). x ++ newline ∷ more) ends.1 ∙ append_assoc ends.0 (newline ∷ []) (newline ∷ more))))
+    absurd (s.last ends.0 more
+    (e ∙ (ap (λ (x : List ℕ). x ++ newline ∷ more) ends.1 ∙ append_assoc ends.0 (newline ∷ []) (newline ∷ more))))
 
-pub split_once : (bytes text signed other more : List ℕ) → IsNoteSplit bytes text signed → IsNoteSplit bytes other more → (text ≡ other) × (signed ≡ more)
+pub split_once : (bytes text signed other more : List ℕ) → IsNoteSplit bytes text signed →
+    IsNoteSplit bytes other more → (text ≡ other) × (signed ≡ more)
 split_once bytes text signed other more s r =
     elim (overlap text (newline ∷ signed) other (newline ∷ more) (sym s.whole ∙ r.whole)) [
       | inl h ↦

@@ -15,10 +15,14 @@ empty_no_clash digest v is = subst (NoClash digest) (sym is) (record { same = λ
 no_mark : (point : Point) → HasMark set.empty point → ⊥
 no_mark point h = let e = contains-empty point_cmp point in cc (e, h)
 
-pub empty_known : (digest : List ℕ → List ℕ) (held : Strings) (points : Points) → points ≡ set.empty → AreBuilt digest held points
-empty_known digest held points is = subst (AreBuilt digest held) (sym is) (record { built = λ size root h. absurd (no_mark (record { size = size; root = root }) h) })
+pub empty_known : (digest : List ℕ → List ℕ) (held : Strings) (points : Points) → points ≡ set.empty →
+    AreBuilt digest held points
+empty_known digest held points is =
+    subst (AreBuilt digest held) (sym is)
+    (record { built = λ size root h. absurd (no_mark (record { size = size; root = root }) h) })
 
-pub empty_settled : (digest : List ℕ → List ℕ) (held : Strings) (points : Points) → points ≡ set.empty → AreSettled digest held points
+pub empty_settled : (digest : List ℕ → List ℕ) (held : Strings) (points : Points) → points ≡ set.empty →
+    AreSettled digest held points
 empty_settled digest held points is = subst (AreSettled digest held) (sym is) (record {
   known = empty_known digest held set.empty (λ i. set.empty);
   closed = λ size root h. absurd (no_mark (record { size = size; root = root }) h);

@@ -5,7 +5,8 @@ use Rattle.std.specs.declared.cmp.Ordering.{Ordering}
 use Rattle.std.specs.declared.cmp.Ordering.TheVariants.{Less, Equal, Greater}
 use Rattle.std.specs.Prelude.{◌&&◌}
 use Rattle.std.proofs.lemmas.Bool.{eqb-true}
-use Rattle.std.specs.Cmp.{IsEquivalence, eq_by_cmp_equiv, tied_itself, IsTotalOrder, nat_cmp_total, on_total, then_total, back_total}
+use Rattle.std.specs.Cmp.{IsEquivalence, eq_by_cmp_equiv, tied_itself, IsTotalOrder, nat_cmp_total, on_total}
+use Rattle.std.specs.Cmp.{then_total, back_total}
 use Rattle.std.specs.FinSet.{nat_cmp-IsAntisymmetric}
 use Rattle.tlog_tiles.specs.declared.paths.Path.{Path}
 use Rattle.tlog_tiles.specs.declared.paths.Path.TheVariants.{Checkpoint, Tile, Entries}
@@ -32,10 +33,15 @@ width_of (Entries index width) = width
 width_of Checkpoint = 0
 
 abbrev by_numbers : Path → Path → Ordering
-by_numbers = then_cmp (on kind_of nat_cmp) (then_cmp (on level_of (flip_args nat_cmp)) (then_cmp (on index_of nat_cmp) (on width_of nat_cmp)))
+by_numbers =
+    then_cmp (on kind_of nat_cmp)
+    (then_cmp (on level_of (flip_args nat_cmp)) (then_cmp (on index_of nat_cmp) (on width_of nat_cmp)))
 
 by_numbers_total : IsTotalOrder by_numbers
-by_numbers_total = then_total (on_total kind_of nat_cmp_total) (then_total (on_total level_of (back_total nat_cmp_total)) (then_total (on_total index_of nat_cmp_total) (on_total width_of nat_cmp_total)))
+by_numbers_total =
+    then_total (on_total kind_of nat_cmp_total)
+    (then_total (on_total level_of (back_total nat_cmp_total))
+    (then_total (on_total index_of nat_cmp_total) (on_total width_of nat_cmp_total)))
 
 same_order : (a b : Path) → by_numbers a b ≡ path_cmp a b
 unfolding kind_of level_of index_of width_of
@@ -140,12 +146,18 @@ module _ (E : Path → Path → Bool) (d : IsDerived E) where
   exact Checkpoint Checkpoint h = refl
 
   itself : (a : Path) → E a a ≡ true
-  itself (Tile l i w) = d.tiles l i w l i w ∙ both_true (nat_eq l l) (nat_eq i i && nat_eq w w) (eq-eqb l l refl) (both_true (nat_eq i i) (nat_eq w w) (eq-eqb i i refl) (eq-eqb w w refl))
+  itself (Tile l i w) =
+      d.tiles l i w l i w ∙
+      both_true (nat_eq l l) (nat_eq i i && nat_eq w w) (eq-eqb l l refl)
+      (both_true (nat_eq i i) (nat_eq w w) (eq-eqb i i refl) (eq-eqb w w refl))
   itself (Entries i w) = d.bundles i w i w ∙ both_true (nat_eq i i) (nat_eq w w) (eq-eqb i i refl) (eq-eqb w w refl)
   itself Checkpoint = d.checkpoints
 
   pub ties : (a b : Path) → E a b ≡ eq_by_cmp path_cmp a b
-  ties a b = same_bool (E a b) (is_eq (path_cmp a b)) (λ h. ap (λ c. is_eq (path_cmp a c)) (sym (exact a b h)) ∙ ap is_eq (tied_itself path_total a)) (λ h. ap (E a) (sym (path_tied a b (equal_is (path_cmp a b) h))) ∙ itself a)
+  ties a b =
+      same_bool (E a b) (is_eq (path_cmp a b))
+      (λ h. ap (λ c. is_eq (path_cmp a c)) (sym (exact a b h)) ∙ ap is_eq (tied_itself path_total a))
+      (λ h. ap (E a) (sym (path_tied a b (equal_is (path_cmp a b) h))) ∙ itself a)
 
   pub equivalence : IsEquivalence E
   equivalence = subst IsEquivalence (λ i a b. sym (ties a b) i) (eq_by_cmp_equiv path_total)

@@ -1,5 +1,6 @@
 -- One step of the two descents that find out whether a tree begins another.
-use Rattle.std.proofs.Common.{◌≡◌, ℕ, ◌+◌, ◌-◌, ◌<◌, ◌≤◌, List, [], ◌∷◌, ◌++◌, length, take, drop, sym, refl, ap, ◌∙◌, subst, Bool, true, false, eqb, not, arith, append_assoc, length-append, take-append-drop}
+use Rattle.std.proofs.Common.{◌≡◌, ℕ, ◌+◌, ◌-◌, ◌<◌, ◌≤◌, List, [], ◌∷◌, ◌++◌, length, take, drop, sym, refl, ap, ◌∙◌}
+use Rattle.std.proofs.Common.{subst, Bool, true, false, eqb, not, arith, append_assoc, length-append, take-append-drop}
 use Rattle.std.specs.Prelude.{IsTrue, ◌↔◌, ◌≢◌}
 use Rattle.std.specs.Cmp.Lexicographic.{pointwise}
 use Rattle.std.proofs.lemmas.Slice.Eq.{slice_eq-Decides}
@@ -24,7 +25,8 @@ prefix_of_prefix xs ys zs p fits = (
       let whole : length xs + (length ys - length xs) ≡ length ys = omega arith in
       record {
         rest = take (length ys - length xs) q.rest;
-        is = sym (take-append-add xs q.rest (length ys - length xs)) ∙ (λ i. take (whole i) (q.is i)) ∙ ap (take (length ys)) (sym p.is) ∙ take-append_seam ys p.rest;
+        is = sym (take-append-add xs q.rest (length ys - length xs)) ∙ (λ i. take (whole i) (q.is i)) ∙
+            ap (take (length ys)) (sym p.is) ∙ take-append_seam ys p.rest;
       },
   λ q. record { rest = q.rest ++ p.rest; is = sym (append_assoc xs q.rest p.rest) ∙ ap (λ l. l ++ p.rest) q.is ∙ p.is },
 )
@@ -42,10 +44,19 @@ same_list xs ys len p =
     sym (append-nil xs) ∙ ap (λ zs. xs ++ zs) (sym (nil_from_length p.rest none)) ∙ p.is
 
 -- at k, within the first list
-cut_prefix : (k : ℕ) (xs ys : List (List ℕ)) → k ≤ length xs → IsPrefix xs ys ↔ ((take k xs ≡ take k ys) × IsPrefix (drop k xs) (drop k ys))
+cut_prefix : (k : ℕ) (xs ys : List (List ℕ)) → k ≤ length xs →
+    IsPrefix xs ys ↔ ((take k xs ≡ take k ys) × IsPrefix (drop k xs) (drop k ys))
 cut_prefix k xs ys fits = (
-  λ p. (sym (take-append-le k xs p.rest fits) ∙ ap (take k) p.is, record { rest = p.rest; is = sym (drop-append-le k xs p.rest fits) ∙ ap (drop k) p.is }),
-  λ h. record { rest = h.1.rest; is = ap (λ zs. zs ++ h.1.rest) (sym (take-append-drop k xs)) ∙ append_assoc (take k xs) (drop k xs) h.1.rest ∙ (λ i. h.0 i ++ h.1.is i) ∙ take-append-drop k ys },
+  λ p. (
+    sym (take-append-le k xs p.rest fits) ∙ ap (take k) p.is,
+    record { rest = p.rest; is = sym (drop-append-le k xs p.rest fits) ∙ ap (drop k) p.is },
+  ),
+  λ h. record {
+    rest = h.1.rest;
+    is =
+        ap (λ zs. zs ++ h.1.rest) (sym (take-append-drop k xs)) ∙ append_assoc (take k xs) (drop k xs) h.1.rest ∙
+        (λ i. h.0 i ++ h.1.is i) ∙ take-append-drop k ys;
+  },
 )
 
 -- what `!=` on hashes tells
@@ -70,7 +81,8 @@ one_split m n k two k_is fits above =
     let half = split_of-half n two in
     split_of-unique m k (omega arith) (subst IsPowerOfTwo (sym k_is) (split_of-power n two)) above (omega arith)
 
-module _ (digest : List ℕ → List ℕ) (held : Strings) (m n : ℕ) (small large : List ℕ) (xs ys : List (List ℕ)) (t : IsTreeOf digest held m small xs) (u : IsTreeOf digest held n large ys) where
+module _ (digest : List ℕ → List ℕ) (held : Strings) (m n : ℕ) (small large : List ℕ) (xs ys : List (List ℕ))
+    (t : IsTreeOf digest held m small xs) (u : IsTreeOf digest held n large ys) where
   pub tells_empty : m ≡ 0 → IsTrue true ↔ IsPrefix xs ys
   tells_empty none = (λ _. begins_none xs ys (t.size_is ∙ none), λ _. refl)
 
@@ -81,21 +93,28 @@ module _ (digest : List ℕ → List ℕ) (held : Strings) (m n : ℕ) (small la
         let decides = slice_eq-Decides Decides-eqb small large b is in (
           λ h.
               let root_is : small ≡ large = decides.0 h in
-              let one : xs ≡ ys = only digest held size clean n large xs ys (record { size_is = t.size_is ∙ equal; root_is = t.root_is ∙ root_is; are_held = t.are_held }) u in
+              let one : xs ≡ ys =
+              only digest held size clean n large xs ys
+              (record { size_is = t.size_is ∙ equal; root_is = t.root_is ∙ root_is; are_held = t.are_held }) u in
               record { rest = []; is = append-nil xs ∙ one },
-          λ p. decides.1 (sym t.root_is ∙ ap (mth digest) (same_list xs ys (t.size_is ∙ equal ∙ sym u.size_is) p) ∙ u.root_is),
+          λ p. decides.1
+              (sym t.root_is ∙ ap (mth digest) (same_list xs ys (t.size_is ∙ equal ∙ sym u.size_is) p) ∙ u.root_is),
         )
 
-    module _ (k : ℕ) (l r : List ℕ) (two : 2 ≤ n) (k_is : k ≡ split_of n) (len : length l ≡ 32) (h : IsHeldAt digest held large (1 ∷ l ++ r)) (b : Bool) where
+    module _ (k : ℕ) (l r : List ℕ) (two : 2 ≤ n) (k_is : k ≡ split_of n) (len : length l ≡ 32)
+        (h : IsHeldAt digest held large (1 ∷ l ++ r)) (b : Bool) where
       -- the first list ends within the second one's left part
-      pub tells_within : m ≤ k → ((vs ws : List (List ℕ)) → IsTreeOf digest held m small vs → IsTreeOf digest held k l ws → IsTrue b ↔ IsPrefix vs ws) → IsTrue b ↔ IsPrefix xs ys
+      pub tells_within : m ≤ k →
+          ((vs ws : List (List ℕ)) → IsTreeOf digest held m small vs → IsTreeOf digest held k l ws →
+          IsTrue b ↔ IsPrefix vs ws) → IsTrue b ↔ IsPrefix xs ys
       tells_within upto f =
           let left = left-tree digest held size clean n k large l r two k_is len h ys u in
           let law = prefix_of_prefix xs (take k ys) ys (prefix_take k ys) (omega (arith, t.size_is, left.size_is)) in
           let x = f xs (take k ys) t left in
           (λ g. law.1 (x.0 g), λ p. x.1 (law.0 p))
 
-      module _ (fits : m ≤ n) (above : k < m) (own_l own_r : List ℕ) (own_len : length own_l ≡ 32) (own : IsHeldAt digest held small (1 ∷ own_l ++ own_r)) where
+      module _ (fits : m ≤ n) (above : k < m) (own_l own_r : List ℕ) (own_len : length own_l ≡ 32)
+          (own : IsHeldAt digest held small (1 ∷ own_l ++ own_r)) where
         own_is : k ≡ split_of m
         own_is = one_split m n k two k_is fits above
 
@@ -115,14 +134,21 @@ module _ (digest : List ℕ → List ℕ) (held : Strings) (m n : ℕ) (small la
         pub tells_differ : (own_l ≡ l → ⊥) → IsTrue false ↔ IsPrefix xs ys
         tells_differ differ = (
           λ g. absurd (let wrong : false ≡ true = g in cc wrong),
-          λ p. absurd (differ (sym left_x.root_is ∙ ap (mth digest) ((cut_prefix k xs ys within).0 p).0 ∙ left_y.root_is)),
+          λ p. absurd
+              (differ (sym left_x.root_is ∙ ap (mth digest) ((cut_prefix k xs ys within).0 p).0 ∙ left_y.root_is)),
         )
 
         -- the left parts are one
-        pub tells_beyond : own_l ≡ l → ((vs ws : List (List ℕ)) → IsTreeOf digest held (m - k) own_r vs → IsTreeOf digest held (n - k) r ws → IsTrue b ↔ IsPrefix vs ws) → IsTrue b ↔ IsPrefix xs ys
+        pub tells_beyond : own_l ≡ l →
+            ((vs ws : List (List ℕ)) → IsTreeOf digest held (m - k) own_r vs → IsTreeOf digest held (n - k) r ws →
+            IsTrue b ↔ IsPrefix vs ws) → IsTrue b ↔ IsPrefix xs ys
         tells_beyond same f =
-            let one : take k xs ≡ take k ys = only digest held size clean k l (take k xs) (take k ys) (subst (λ v. IsTreeOf digest held k v (take k xs)) same left_x) left_y in
-            let x = f (drop k xs) (drop k ys) (right-tree digest held size clean m k small own_l own_r own_two own_is own_len own xs t) (right-tree digest held size clean n k large l r two k_is len h ys u) in
+            let one : take k xs ≡ take k ys =
+            only digest held size clean k l (take k xs) (take k ys)
+            (subst (λ v. IsTreeOf digest held k v (take k xs)) same left_x) left_y in
+            let x = f (drop k xs) (drop k ys)
+            (right-tree digest held size clean m k small own_l own_r own_two own_is own_len own xs t)
+            (right-tree digest held size clean n k large l r two k_is len h ys u) in
             let law = cut_prefix k xs ys within in
             (λ g. law.1 (one, x.0 g), λ p. x.1 (law.0 p).1)
 
@@ -146,15 +172,22 @@ apart_short xs ys short not = (
 )
 
 -- heads that are one have one list, which is not apart from itself
-apart_differ : (digest : List ℕ → List ℕ) → IsDigest digest → (v : View) → IsLawful digest v → (a b : Point) (xs ys : List (List ℕ)) → Complete digest v a.size a.root xs → Complete digest v b.size b.root ys → Apart xs ys → a ≢ b
+apart_differ : (digest : List ℕ → List ℕ) → IsDigest digest → (v : View) → IsLawful digest v →
+    (a b : Point) (xs ys : List (List ℕ)) → Complete digest v a.size a.root xs → Complete digest v b.size b.root ys →
+    Apart xs ys → a ≢ b
 apart_differ digest hash v lawful a b xs ys p q apart is =
-    let one : xs ≡ ys = one_list digest hash v lawful a.size a.root xs ys p (subst (λ (x : Point). Complete digest v x.size x.root ys) (sym is) q) in
+    let one : xs ≡ ys =
+    one_list digest hash v lawful a.size a.root xs ys p
+    (subst (λ (x : Point). Complete digest v x.size x.root ys) (sym is) q) in
     apart.0 (record { rest = []; is = append-nil xs ∙ one })
 
-tells_fork : (digest : List ℕ → List ℕ) → IsDigest digest → (v : View) → IsLawful digest v → (a b : Point) (xs ys : List (List ℕ)) → Complete digest v a.size a.root xs → Complete digest v b.size b.root ys → IsFork digest v a b ↔ Apart xs ys
+tells_fork : (digest : List ℕ → List ℕ) → IsDigest digest → (v : View) → IsLawful digest v →
+    (a b : Point) (xs ys : List (List ℕ)) → Complete digest v a.size a.root xs → Complete digest v b.size b.root ys →
+    IsFork digest v a b ↔ Apart xs ys
 tells_fork digest hash v lawful a b xs ys p q = (
   λ f. (forks_tell digest hash v lawful a b xs ys f.differ p q).0 f,
-  λ apart. (forks_tell digest hash v lawful a b xs ys (apart_differ digest hash v lawful a b xs ys p q apart) p q).1 apart,
+  λ apart. (forks_tell digest hash v lawful a b xs ys
+      (apart_differ digest hash v lawful a b xs ys p q apart) p q).1 apart,
 )
 
 pub forks_go_on : ForksGoOn

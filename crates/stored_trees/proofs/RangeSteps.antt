@@ -1,5 +1,6 @@
 -- Ranges of a list by its tree.
-use Rattle.std.proofs.Common.{◌≡◌, ℕ, ◌+◌, ◌-◌, ◌<◌, ◌≤◌, List, ◌∷◌, ◌++◌, length, take, drop, sym, ap, ◌∙◌, arith, length-take, length-drop, Option, Some, None}
+use Rattle.std.proofs.Common.{◌≡◌, ℕ, ◌+◌, ◌-◌, ◌<◌, ◌≤◌, List, ◌∷◌, ◌++◌, length, take, drop, sym, ap, ◌∙◌, arith}
+use Rattle.std.proofs.Common.{length-take, length-drop, Option, Some, None}
 use Rattle.std.specs.Prelude.{IfSome, IfNone}
 use Rattle.std.proofs.lemmas.List.{drop-take, take-take, drop-drop}
 use Rattle.std.proofs.Math.Seq.{take-add, take-length}
@@ -35,7 +36,9 @@ module _ {A : Type 0} (es : List A) where
       ∙ ap (λ xs. take j (drop start es) ++ take (len - j) xs) (drop-drop j start es)
 
   pub length-part : (start len : ℕ) → start + len ≤ length es → length (part start len es) ≡ len
-  length-part start len within = length-take len (drop start es) ∙ (let d : length (drop start es) ≡ length es - start = length-drop start es in omega arith)
+  length-part start len within =
+      length-take len (drop start es) ∙
+      (let d : length (drop start es) ≡ length es - start = length-drop start es in omega arith)
 
   pub part-whole : (start len : ℕ) → start ≡ 0 → len ≡ length es → part start len es ≡ es
   part-whole start len s l = ap (λ n. take len (drop n es)) s ∙ ap (λ n. take n es) l ∙ take-length es
@@ -50,7 +53,9 @@ none_from None P Q f h = f h
 none_from (Some x) P Q f h = tt
 
 -- a range that lies in both parts
-pub mth-straddle : (digest : List ℕ → List ℕ) (es : List (List ℕ)) (start len j : ℕ) (a b : List ℕ) → 2 ≤ len → start + len ≤ length es → j ≡ split_of len → j < len → a ≡ mth digest (part start j es) → b ≡ mth digest (part (start + j) (len - j) es) → digest (1 ∷ a ++ b) ≡ mth digest (part start len es)
+pub mth-straddle : (digest : List ℕ → List ℕ) (es : List (List ℕ)) (start len j : ℕ) (a b : List ℕ) → 2 ≤ len →
+    start + len ≤ length es → j ≡ split_of len → j < len → a ≡ mth digest (part start j es) →
+    b ≡ mth digest (part (start + j) (len - j) es) → digest (1 ∷ a ++ b) ≡ mth digest (part start len es)
 mth-straddle digest es start len j a b two within is below a_is b_is =
     let xs = part start j es in
     let ys = part (start + j) (len - j) es in
@@ -61,16 +66,27 @@ mth-straddle digest es start len j a b two within is below a_is b_is =
     ∙ sym (mth-append digest xs ys (omega arith) (lx ∙ is ∙ ap split_of (sym total)))
     ∙ ap (mth digest) (sym (part-split es start j len (omega arith)))
 
-module _ (digest : List ℕ → List ℕ) (held : Strings) (size : (s : List ℕ) → length (digest s) ≡ 32) (clean : NoClash digest held) (n k : ℕ) (root l r : List ℕ) (two : 2 ≤ n) (k_is : k ≡ split_of n) (len_l : length l ≡ 32) (h : IsHeldAt digest held root (1 ∷ l ++ r)) where
-  pub none_left : ((es : List (List ℕ)) → IsTreeOf digest held k l es → ⊥) → (es : List (List ℕ)) → IsTreeOf digest held n root es → ⊥
+module _ (digest : List ℕ → List ℕ) (held : Strings) (size : (s : List ℕ) → length (digest s) ≡ 32)
+    (clean : NoClash digest held) (n k : ℕ) (root l r : List ℕ) (two : 2 ≤ n) (k_is : k ≡ split_of n)
+    (len_l : length l ≡ 32) (h : IsHeldAt digest held root (1 ∷ l ++ r)) where
+  pub none_left : ((es : List (List ℕ)) → IsTreeOf digest held k l es → ⊥) → (es : List (List ℕ)) →
+      IsTreeOf digest held n root es → ⊥
   none_left f es t = f (take k es) (left-tree digest held size clean n k root l r two k_is len_l h es t)
 
-  pub none_right : ((es : List (List ℕ)) → IsTreeOf digest held (n - k) r es → ⊥) → (es : List (List ℕ)) → IsTreeOf digest held n root es → ⊥
+  pub none_right : ((es : List (List ℕ)) → IsTreeOf digest held (n - k) r es → ⊥) → (es : List (List ℕ)) →
+      IsTreeOf digest held n root es → ⊥
   none_right f es t = f (drop k es) (right-tree digest held size clean n k root l r two k_is len_l h es t)
 
-  pub range_left : (start len : ℕ) → start + len ≤ k → (x : List ℕ) → ((es : List (List ℕ)) → IsTreeOf digest held k l es → x ≡ mth digest (part start len es)) → (es : List (List ℕ)) → IsTreeOf digest held n root es → x ≡ mth digest (part start len es)
+  pub range_left : (start len : ℕ) → start + len ≤ k → (x : List ℕ) →
+      ((es : List (List ℕ)) → IsTreeOf digest held k l es → x ≡ mth digest (part start len es)) → (es : List (List ℕ)) →
+      IsTreeOf digest held n root es → x ≡ mth digest (part start len es)
   range_left start len upto x f es t =
-      f (take k es) (left-tree digest held size clean n k root l r two k_is len_l h es t) ∙ ap (mth digest) (part-take es k start len upto)
+      f (take k es) (left-tree digest held size clean n k root l r two k_is len_l h es t) ∙
+      ap (mth digest) (part-take es k start len upto)
 
-  pub range_right : (start len : ℕ) → k ≤ start → (x : List ℕ) → ((es : List (List ℕ)) → IsTreeOf digest held (n - k) r es → x ≡ mth digest (part (start - k) len es)) → (es : List (List ℕ)) → IsTreeOf digest held n root es → x ≡ mth digest (part start len es)
-  range_right start len past x f es t = f (drop k es) (right-tree digest held size clean n k root l r two k_is len_l h es t) ∙ ap (mth digest) (part-drop es k start len past)
+  pub range_right : (start len : ℕ) → k ≤ start → (x : List ℕ) →
+      ((es : List (List ℕ)) → IsTreeOf digest held (n - k) r es → x ≡ mth digest (part (start - k) len es)) →
+      (es : List (List ℕ)) → IsTreeOf digest held n root es → x ≡ mth digest (part start len es)
+  range_right start len past x f es t =
+      f (drop k es) (right-tree digest held size clean n k root l r two k_is len_l h es t) ∙
+      ap (mth digest) (part-drop es k start len past)

@@ -1,5 +1,6 @@
 -- What is remembered of a tree, step by step.
-use Rattle.std.proofs.Common.{◌≡◌, ℕ, ◌+◌, ◌-◌, ◌≤◌, List, [], ◌∷◌, ◌++◌, length, sym, refl, ap, ◌∙◌, subst, arith, ◌⊎◌, inl, inr, Bool, true, false, Result, Ok, Err}
+use Rattle.std.proofs.Common.{◌≡◌, ℕ, ◌+◌, ◌-◌, ◌≤◌, List, [], ◌∷◌, ◌++◌, length, sym, refl, ap, ◌∙◌, subst, arith, ◌⊎◌}
+use Rattle.std.proofs.Common.{inl, inr, Bool, true, false, Result, Ok, Err}
 use Rattle.std.specs.Prelude.{◌||◌, OnOk, OnErr}
 use Rattle.std.specs.Ordering.{eq_by_cmp, is_eq}
 use Rattle.std.specs.declared.cmp.Ordering.{Ordering}
@@ -16,7 +17,8 @@ use Rattle.mirror_model.specs.Marks.{Points}
 use Rattle.mirror_model.proofs.StringSets.{held_more}
 use Rattle.stored_trees.specs.Slices.{HasMark, IsSliceOf, HasSlices, AreSettled, Gains, SettledStays, MarksAreSlices}
 use Rattle.stored_trees.proofs.Marking.{point_total, point_same}
-use Rattle.stored_trees.proofs.SliceSteps.{point_at, no_slice, one_slice, whole_slice, left_slice, right_slice, parts_slice, slice_stays}
+use Rattle.stored_trees.proofs.SliceSteps.{point_at, no_slice, one_slice, whole_slice, left_slice, right_slice}
+use Rattle.stored_trees.proofs.SliceSteps.{parts_slice, slice_stays}
 
 -- ---- a set with one point more
 
@@ -44,7 +46,8 @@ module _ (digest : List ℕ → List ℕ) (held : Strings) where
   gains_nothing n root v s = record { at_least = λ p h. h; at_most = λ p h. inl h; settled = s }
 
   -- the whole is added, after all its smaller slices
-  module _ (n : ℕ) (root : List ℕ) (some : 1 ≤ n) (b : IsBuilt digest held n root) (v : Points) (parts : (p : Point) → IsSliceOf digest held n root p → (p ≡ point_at n root) ⊎ HasMark v p) where
+  module _ (n : ℕ) (root : List ℕ) (some : 1 ≤ n) (b : IsBuilt digest held n root) (v : Points)
+      (parts : (p : Point) → IsSliceOf digest held n root p → (p ≡ point_at n root) ⊎ HasMark v p) where
     pub whole_done : HasSlices digest held (set.insert v (point_at n root)) n root
     whole_done p m =
         elim (parts p m) [
@@ -61,12 +64,14 @@ module _ (digest : List ℕ → List ℕ) (held : Strings) where
         ];
       };
       closed = λ size hash h. elim (mark_cases v (point_at n root) (point_at size hash) h) [
-        | inl is ↦ subst (λ (q : Point). HasSlices digest held (set.insert v (point_at n root)) q.size q.root) (sym is) whole_done
+        | inl is ↦ subst (λ (q : Point). HasSlices digest held (set.insert v (point_at n root)) q.size q.root)
+            (sym is) whole_done
         | inr m ↦ λ p slice. mark_kept v (point_at n root) p (s.closed size hash m p slice)
       ];
     }
 
-    pub gains_whole : (w : Points) → Gains digest held n root w v → Gains digest held n root w (set.insert v (point_at n root))
+    pub gains_whole : (w : Points) → Gains digest held n root w v →
+        Gains digest held n root w (set.insert v (point_at n root))
     gains_whole w g = record {
       at_least = λ p h. mark_kept v (point_at n root) p (g.at_least p h);
       at_most = λ p h. elim (mark_cases v (point_at n root) p h) [
@@ -77,10 +82,13 @@ module _ (digest : List ℕ → List ℕ) (held : Strings) where
     }
 
   -- one entry
-  pub one_parts : (root : List ℕ) (v : Points) (p : Point) → IsSliceOf digest held 1 root p → (p ≡ point_at 1 root) ⊎ HasMark v p
+  pub one_parts : (root : List ℕ) (v : Points) (p : Point) → IsSliceOf digest held 1 root p →
+      (p ≡ point_at 1 root) ⊎ HasMark v p
   one_parts root v p m = inl (one_slice digest held root p m)
 
-  module _ (size : (s : List ℕ) → length (digest s) ≡ 32) (clean : NoClash digest held) (n k : ℕ) (root l r : List ℕ) (two : 2 ≤ n) (k_is : k ≡ split_of n) (len : length l ≡ 32) (h : IsHeldAt digest held root (1 ∷ l ++ r)) (b : IsBuilt digest held n root) where
+  module _ (size : (s : List ℕ) → length (digest s) ≡ 32) (clean : NoClash digest held) (n k : ℕ) (root l r : List ℕ)
+      (two : 2 ≤ n) (k_is : k ≡ split_of n) (len : length l ≡ 32) (h : IsHeldAt digest held root (1 ∷ l ++ r))
+      (b : IsBuilt digest held n root) where
     -- the left part is remembered, and then the right one
     pub gains_left : (u v : Points) → Gains digest held k l u v → Gains digest held n root u v
     gains_left u v g = record {
@@ -92,7 +100,8 @@ module _ (digest : List ℕ → List ℕ) (held : Strings) where
       settled = g.settled;
     }
 
-    pub gains_right : (u v w : Points) → Gains digest held k l u v → Gains digest held (n - k) r v w → Gains digest held n root u w
+    pub gains_right : (u v w : Points) → Gains digest held k l u v → Gains digest held (n - k) r v w →
+        Gains digest held n root u w
     gains_right u v w f g = record {
       at_least = λ p m. g.at_least p (f.at_least p m);
       at_most = λ p m. elim (g.at_most p m) [
@@ -102,7 +111,9 @@ module _ (digest : List ℕ → List ℕ) (held : Strings) where
       settled = g.settled;
     }
 
-    pub both_parts : (v w : Points) → HasSlices digest held v k l → Gains digest held (n - k) r v w → HasSlices digest held w (n - k) r → (p : Point) → IsSliceOf digest held n root p → (p ≡ point_at n root) ⊎ HasMark w p
+    pub both_parts : (v w : Points) → HasSlices digest held v k l → Gains digest held (n - k) r v w →
+        HasSlices digest held w (n - k) r → (p : Point) → IsSliceOf digest held n root p →
+        (p ≡ point_at n root) ⊎ HasMark w p
     both_parts v w left g right p m =
         elim (parts_slice digest held size clean n k root l r two k_is len h b p m) [
           | inl is ↦ inl is
@@ -113,11 +124,15 @@ module _ (digest : List ℕ → List ℕ) (held : Strings) where
 -- ---- what adding answers
 
 -- the set is as it was, or has the point too
-pub added_done : {E : Type 0} (digest : List ℕ → List ℕ) (held : Strings) (n : ℕ) (root : List ℕ) (r : Result (Unit {0}) E) (v w : Points) (p : Point) → OnOk r (w ≡ set.insert v p) → HasSlices digest held (set.insert v p) n root → OnOk r (HasSlices digest held w n root)
+pub added_done : {E : Type 0} (digest : List ℕ → List ℕ) (held : Strings) (n : ℕ) (root : List ℕ)
+    (r : Result (Unit {0}) E) (v w : Points) (p : Point) → OnOk r (w ≡ set.insert v p) →
+    HasSlices digest held (set.insert v p) n root → OnOk r (HasSlices digest held w n root)
 added_done digest held n root (Ok x) v w p is h = subst (λ q. HasSlices digest held q n root) (sym is) h
 added_done digest held n root (Err e) v w p is h = tt
 
-pub added_gains : {E : Type 0} (digest : List ℕ → List ℕ) (held : Strings) (n : ℕ) (root : List ℕ) (r : Result (Unit {0}) E) (u v w : Points) (p : Point) → OnOk r (w ≡ set.insert v p) → OnErr r (w ≡ v) → Gains digest held n root u v → Gains digest held n root u (set.insert v p) → Gains digest held n root u w
+pub added_gains : {E : Type 0} (digest : List ℕ → List ℕ) (held : Strings) (n : ℕ) (root : List ℕ)
+    (r : Result (Unit {0}) E) (u v w : Points) (p : Point) → OnOk r (w ≡ set.insert v p) → OnErr r (w ≡ v) →
+    Gains digest held n root u v → Gains digest held n root u (set.insert v p) → Gains digest held n root u w
 added_gains digest held n root (Ok x) u v w p is same f g = subst (Gains digest held n root u) (sym is) g
 added_gains digest held n root (Err e) u v w p is same f g = subst (Gains digest held n root u) (sym same) f
 
@@ -125,8 +140,23 @@ added_gains digest held n root (Err e) u v w p is same f g = subst (Gains digest
 
 pub settled_stays : SettledStays
 settled_stays digest hash held more upon clean points s = record {
-  known = record { built = λ size root h. let b = s.known.built size root h in record { entries = b.entries; is = record { size_is = b.is.size_is; root_is = b.is.root_is; are_held = held_more held more _ upon b.is.are_held } } };
-  closed = λ size root h p m. s.closed size root h p (slice_stays digest held more upon hash clean size root p (s.known.built size root h) m);
+  known = record {
+    built =
+        λ size root h. let b =
+        s.known.built size root h in record {
+          entries =
+              b.entries;
+          is =
+              record {
+                size_is =
+                    b.is.size_is;
+                root_is = b.is.root_is;
+                are_held = held_more held more _ upon b.is.are_held;
+              };
+        };
+  };
+  closed = λ size root h p m. s.closed size root h p
+      (slice_stays digest held more upon hash clean size root p (s.known.built size root h) m);
 }
 
 pub marks_are_slices : MarksAreSlices
@@ -135,7 +165,15 @@ marks_are_slices digest v point = (
     size = m.size;
     root = m.root;
     head = m.complete.head;
-    slice = record { entries = m.entries; tree = m.complete.tree; node = m.node; is = m.is; len_is = m.len_is; hash_is = m.hash_is };
+    slice = record {
+      entries =
+          m.entries;
+      tree = m.complete.tree;
+      node = m.node;
+      is = m.is;
+      len_is = m.len_is;
+      hash_is = m.hash_is;
+    };
   },
   λ m. record {
     size = m.size;

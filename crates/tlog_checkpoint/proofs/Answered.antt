@@ -1,11 +1,13 @@
 -- What reading answers, from what its steps answer.
-use Rattle.std.proofs.Common.{◌≡◌, ◌≢◌, ℕ, suc, ◌-◌, ◌<◌, ◌≤◌, ◌==◌, ◌||◌, Bool, true, false, List, [], ◌∷◌, length, map, take, drop, get_or, Result, Ok, Err, refl, sym, ◌∙◌, ap, subst, arith, inl, inr}
+use Rattle.std.proofs.Common.{◌≡◌, ◌≢◌, ℕ, suc, ◌-◌, ◌<◌, ◌≤◌, ◌==◌, ◌||◌, Bool, true, false, List, [], ◌∷◌, length}
+use Rattle.std.proofs.Common.{map, take, drop, get_or, Result, Ok, Err, refl, sym, ◌∙◌, ap, subst, arith, inl, inr}
 use Rattle.std.specs.List.{AllByRecursion, Contains, list_any}
 use Rattle.std.proofs.lemmas.List.{take_all, length-map}
 use Rattle.std.proofs.lemmas.Bool.{cases_Bool, eqb-true, eq-eqb}
 use Rattle.tlog_checkpoint.specs.declared.Checkpoint.{Checkpoint}
 use Rattle.tlog_checkpoint.specs.declared.fault.CheckpointFault.{CheckpointFault}
-use Rattle.tlog_checkpoint.specs.declared.fault.CheckpointFault.TheVariants.{TooFewLines, EmptyLine, BadSize, SizeTooLarge, BadRoot, OutOfMemory}
+use Rattle.tlog_checkpoint.specs.declared.fault.CheckpointFault.TheVariants.{TooFewLines, EmptyLine, BadSize}
+use Rattle.tlog_checkpoint.specs.declared.fault.CheckpointFault.TheVariants.{SizeTooLarge, BadRoot, OutOfMemory}
 use Rattle.tlog_checkpoint.specs.Lines.{HasLines, text_of, IsLine}
 use Rattle.tlog_checkpoint.specs.Grammar.{HasFields, IsFullLine}
 use Rattle.tlog_checkpoint.specs.Parts.{ReadsFields}
@@ -42,41 +44,96 @@ module _ {R : Type 0} (now : R → List ℕ) where
   ]
 
   -- none is empty where none was found
-  all_full : (refs : List R) → has_empty refs ≡ false → AllByRecursion IsLine (map now refs) → AllByRecursion IsFullLine (map now refs)
+  all_full : (refs : List R) → has_empty refs ≡ false → AllByRecursion IsLine (map now refs) →
+      AllByRecursion IsFullLine (map now refs)
   all_full [] h lines = tt
   all_full (r ∷ refs) h lines =
       let parts = or_false (length (now r) == 0) (has_empty refs) h in
       (record { not_empty = λ none. full (now r) parts.0 none; is_line = lines.0 }, all_full refs parts.1 lines.1)
 
 -- the first three items, and the others
-first_three : {R : Type 0} (d : R) (xs : List R) → 3 ≤ length xs → xs ≡ get_or xs 0 d ∷ get_or xs 1 d ∷ get_or xs 2 d ∷ take (length xs - 3) (drop 3 xs)
+first_three : {R : Type 0} (d : R) (xs : List R) → 3 ≤ length xs →
+    xs ≡ get_or xs 0 d ∷ get_or xs 1 d ∷ get_or xs 2 d ∷ take (length xs - 3) (drop 3 xs)
 first_three d [] h = absurd (omega arith)
 first_three d (x ∷ []) h = absurd (omega arith)
 first_three d (x ∷ y ∷ []) h = absurd (omega arith)
-first_three {R = R} d (x ∷ y ∷ z ∷ xs) h = ap (λ (rest : List R). x ∷ y ∷ z ∷ rest) (sym (take_all (length (x ∷ y ∷ z ∷ xs) - 3) xs (omega arith)))
+first_three {R = R} d (x ∷ y ∷ z ∷ xs) h =
+    ap (λ (rest : List R). x ∷ y ∷ z ∷ rest) (sym (take_all (length (x ∷ y ∷ z ∷ xs) - 3) xs (omega arith)))
 
 -- what the fields' lines answer is what the text answers
-from_fields : (text o s r : List ℕ) (e : List (List ℕ)) (a : Result Checkpoint CheckpointFault) → HasFields text o s r e → ReadsFields o s r e a → ReadsCheckpoint text a
-from_fields text o s r e (Ok c) h is = record { size_line = s; root_line = r; fields = rw (is.0, is.3) h; has_size = is.1.0; in_range = is.1.1; has_root = is.2 }
+from_fields : (text o s r : List ℕ) (e : List (List ℕ)) (a : Result Checkpoint CheckpointFault) →
+    HasFields text o s r e → ReadsFields o s r e a → ReadsCheckpoint text a
+from_fields text o s r e (Ok c) h is =
+    record {
+      size_line =
+          s;
+      root_line = r;
+      fields = rw (is.0, is.3) h;
+      has_size = is.1.0;
+      in_range = is.1.1;
+      has_root = is.2;
+    }
 from_fields text o s r e (Err TooFewLines) h is = absurd is
 from_fields text o s r e (Err EmptyLine) h is = absurd is
-from_fields text o s r e (Err BadSize) h is = record { origin = o; size_line = s; root_line = r; extensions = e; fields = h; no_size = is }
-from_fields text o s r e (Err SizeTooLarge) h is = record { origin = o; size_line = s; root_line = r; extensions = e; fields = h; size = is.0; has_size = is.1; too_large = is.2 }
-from_fields text o s r e (Err BadRoot) h is = record { origin = o; size_line = s; root_line = r; extensions = e; fields = h; size = is.0; has_size = is.1.0; in_range = is.1.1; no_root = is.2 }
+from_fields text o s r e (Err BadSize) h is =
+    record { origin = o; size_line = s; root_line = r; extensions = e; fields = h; no_size = is }
+from_fields text o s r e (Err SizeTooLarge) h is =
+    record {
+      origin =
+          o;
+      size_line = s;
+      root_line = r;
+      extensions = e;
+      fields = h;
+      size = is.0;
+      has_size = is.1;
+      too_large = is.2;
+    }
+from_fields text o s r e (Err BadRoot) h is =
+    record {
+      origin =
+          o;
+      size_line =
+          s;
+      root_line = r;
+      extensions = e;
+      fields = h;
+      size = is.0;
+      has_size = is.1.0;
+      in_range = is.1.1;
+      no_root = is.2;
+    }
 from_fields text o s r e (Err OutOfMemory) h is = tt
 
 -- a text of fewer than three lines
 pub few_lines : (text : List ℕ) (found : List (List ℕ)) → HasLines text found → length found < 3 → HasTooFewLines text
 few_lines text found h few lines is = let same : lines ≡ found = one_lines text lines found is h in rw same few
 
-module _ {R : Type 0} (now : R → List ℕ) (text : List ℕ) (refs : List R) (lines : HasLines text (map now refs)) (enough : 3 ≤ length refs) where
+module _ {R : Type 0} (now : R → List ℕ) (text : List ℕ) (refs : List R) (lines : HasLines text (map now refs))
+    (enough : 3 ≤ length refs) where
   -- a text with an empty line
   pub empty_line : has_empty now refs ≡ true → HasEmptyLine text
-  empty_line h = record { lines = map now refs; has_lines = lines; enough = omega (arith, length-map refs now); has_empty = empty_among now refs h }
+  empty_line h =
+      record {
+        lines =
+            map now refs;
+        has_lines = lines;
+        enough = omega (arith, length-map refs now);
+        has_empty = empty_among now refs h;
+      }
 
   -- a text with none
   pub no_empty_line : (d : R) (a : Result Checkpoint CheckpointFault) → has_empty now refs ≡ false
-      → ReadsFields (now (get_or refs 0 d)) (now (get_or refs 1 d)) (now (get_or refs 2 d)) (map now (take (length refs - 3) (drop 3 refs))) a → ReadsCheckpoint text a
+      → ReadsFields (now (get_or refs 0 d)) (now (get_or refs 1 d)) (now (get_or refs 2 d))
+      (map now (take (length refs - 3) (drop 3 refs))) a → ReadsCheckpoint text a
   no_empty_line d a none is =
-      let split : map now refs ≡ now (get_or refs 0 d) ∷ now (get_or refs 1 d) ∷ now (get_or refs 2 d) ∷ map now (take (length refs - 3) (drop 3 refs)) = ap (map now) (first_three d refs enough) in
-      from_fields text _ _ _ _ a (record { is_text = lines.is_text ∙ ap text_of split; are_full = subst (AllByRecursion IsFullLine) split (all_full now refs none lines.are_lines) }) is
+      let split : map now refs
+      ≡ now (get_or refs 0 d) ∷ now (get_or refs 1 d) ∷ now (get_or refs 2 d)
+      ∷ map now (take (length refs - 3) (drop 3 refs)) = ap (map now) (first_three d refs enough) in
+      from_fields text _ _ _ _ a
+      (record {
+        is_text =
+            lines.is_text ∙ ap text_of split;
+        are_full =
+            subst (AllByRecursion IsFullLine) split (all_full now refs none lines.are_lines);
+      }) is

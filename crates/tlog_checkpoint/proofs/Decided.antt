@@ -1,11 +1,13 @@
 -- Each text is a checkpoint, or refused for one of the reasons that the refusals name.
-use Rattle.std.proofs.Common.{◌≡◌, ◌≢◌, ℕ, ◌+◌, ◌-◌, ◌==◌, ◌⊎◌, List, [], ◌∷◌, ◌++◌, length, map, take, drop, get_or, Result, Ok, Err, refl, ap, arith, inl, inr, lit<}
+use Rattle.std.proofs.Common.{◌≡◌, ◌≢◌, ℕ, ◌+◌, ◌-◌, ◌==◌, ◌⊎◌, List, [], ◌∷◌, ◌++◌, length, map, take, drop, get_or}
+use Rattle.std.proofs.Common.{Result, Ok, Err, refl, ap, arith, inl, inr, lit<}
 use Rattle.std.specs.List.{list_any}
 use Rattle.std.specs.Str.Parse.{digits_value}
 use Rattle.std.proofs.lemmas.Bool.{cases_Bool, cases_lt, cases_eq}
 use Rattle.tlog_checkpoint.specs.declared.Checkpoint.{Checkpoint}
 use Rattle.tlog_checkpoint.specs.declared.fault.CheckpointFault.{CheckpointFault}
-use Rattle.tlog_checkpoint.specs.declared.fault.CheckpointFault.TheVariants.{TooFewLines, EmptyLine, BadSize, SizeTooLarge, BadRoot, OutOfMemory}
+use Rattle.tlog_checkpoint.specs.declared.fault.CheckpointFault.TheVariants.{TooFewLines, EmptyLine, BadSize}
+use Rattle.tlog_checkpoint.specs.declared.fault.CheckpointFault.TheVariants.{SizeTooLarge, BadRoot, OutOfMemory}
 use Rattle.tlog_checkpoint.specs.Lines.{HasLines}
 use Rattle.tlog_checkpoint.specs.Parts.{ReadsFields}
 use Rattle.tlog_checkpoint.specs.Reading.{ReadsCheckpoint}
@@ -59,7 +61,11 @@ fields_answered o s r e = elim (number_decided s) [
     | inr large ↦ (Err SizeTooLarge, λ is. cc is, (digits_value 10 s, size, omega (arith, large)))
     | inl small ↦ elim (hash_decided r) [
       | inr none ↦ (Err BadRoot, λ is. cc is, (digits_value 10 s, (size, omega (arith, small)), none))
-      | inl root ↦ (Ok (record { origin = o; size = digits_value 10 s; root = root.0; extensions = e }), λ is. cc is, (refl, (size, omega (arith, small)), root.1, refl))
+      | inl root ↦ (
+        Ok (record { origin = o; size = digits_value 10 s; root = root.0; extensions = e }),
+        λ is. cc is,
+        (refl, (size, omega (arith, small)), root.1, refl),
+      )
     ]
   ]
 ]
@@ -80,7 +86,9 @@ lines_answered text lines h = elim (cases_lt (length lines) 3) [
       elim (cases_Bool (list_any (λ line. length line == 0) lines)) [
         | inl empty ↦ (Err EmptyLine, λ is. cc is, empty_line (λ x. x) text lines here enough empty)
         | inr full ↦
-            let fields = fields_answered (get_or lines 0 []) (get_or lines 1 []) (get_or lines 2 []) (map (λ x. x) (take (length lines - 3) (drop 3 lines))) in
+            let fields =
+            fields_answered (get_or lines 0 []) (get_or lines 1 []) (get_or lines 2 [])
+            (map (λ x. x) (take (length lines - 3) (drop 3 lines))) in
             (fields.0, fields.1, no_empty_line (λ x. x) text lines here enough [] fields.0 full fields.2)
       ]
 ]
@@ -89,5 +97,10 @@ pub each_answered : EachAnswered
 unfolding Answered EndsInNewline
 each_answered text = elim (end_decided text) [
   | inl end ↦ lines_answered text _ (lines_of_body text end.0 end.1)
-  | inr none ↦ (Err TooFewLines, λ is. cc is, λ lines h. let empty : lines ≡ [] = no_lines text (λ front is. none (front, is)) lines h in rw empty (lit< tt))
+  | inr none ↦ (
+    Err TooFewLines,
+    λ is. cc is,
+    λ lines h. let empty : lines ≡ [] =
+        no_lines text (λ front is. none (front, is)) lines h in rw empty (lit< tt),
+  )
 ]

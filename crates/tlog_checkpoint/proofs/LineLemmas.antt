@@ -1,5 +1,6 @@
 -- A text and its lines: cutting the text at its newlines and ending each line with one undo each other.
-use Rattle.std.proofs.Common.{◌≡◌, ◌≢◌, ℕ, Bool, true, false, not, List, [], ◌∷◌, ◌++◌, refl, sym, ◌∙◌, ap, append_assoc, inl, inr}
+use Rattle.std.proofs.Common.{◌≡◌, ◌≢◌, ℕ, Bool, true, false, not, List, [], ◌∷◌, ◌++◌, refl, sym, ◌∙◌, ap}
+use Rattle.std.proofs.Common.{append_assoc, inl, inr}
 use Rattle.std.specs.List.{list_all, AllByRecursion, slice_split, onto_first}
 use Rattle.std.proofs.lemmas.List.{append_cancel_right}
 use Rattle.std.proofs.lemmas.Bool.{cases_Bool, eqb-true, and_parts}
@@ -11,32 +12,40 @@ not_true true h = absurd cc
 not_true false h = refl
 
 -- the first line is cut off at its newline
-split_first : (line rest : List ℕ) → IsLine line → slice_split is_newline (line ++ 10 ∷ rest) ≡ line ∷ slice_split is_newline rest
+split_first : (line rest : List ℕ) → IsLine line →
+    slice_split is_newline (line ++ 10 ∷ rest) ≡ line ∷ slice_split is_newline rest
 split_first [] rest h = refl
 split_first (b ∷ bs) rest h =
     let parts = and_parts (not (is_newline b)) (list_all (λ byte. not (is_newline byte)) bs) h in
     let here : is_newline b ≡ false = not_true (is_newline b) parts.0 in
-    let later : slice_split is_newline (bs ++ 10 ∷ rest) ≡ bs ∷ slice_split is_newline rest = split_first bs rest parts.1 in
+    let later : slice_split is_newline (bs ++ 10 ∷ rest) ≡ bs ∷ slice_split is_newline rest =
+    split_first bs rest parts.1 in
     rw (here, later) refl
 
 -- the parts of a text of lines are the lines, and nothing after the last newline
-pub split-text_of : (lines : List (List ℕ)) → AllByRecursion IsLine lines → slice_split is_newline (text_of lines) ≡ lines ++ [] ∷ []
+pub split-text_of : (lines : List (List ℕ)) → AllByRecursion IsLine lines →
+    slice_split is_newline (text_of lines) ≡ lines ++ [] ∷ []
 split-text_of [] h = refl
 split-text_of (line ∷ lines) h =
-    rw (append_assoc line (10 ∷ []) (text_of lines)) (split_first line (text_of lines) h.0 ∙ ap (λ (x : List (List ℕ)). line ∷ x) (split-text_of lines h.1))
+    rw (append_assoc line (10 ∷ []) (text_of lines))
+    (split_first line (text_of lines) h.0 ∙ ap (λ (x : List (List ℕ)). line ∷ x) (split-text_of lines h.1))
 
 -- a text is one list of lines at most
 pub one_lines : (text : List ℕ) (a b : List (List ℕ)) → HasLines text a → HasLines text b → a ≡ b
 one_lines text a b p q =
-    append_cancel_right a b ([] ∷ []) (sym (split-text_of a p.are_lines) ∙ ap (slice_split is_newline) (sym p.is_text ∙ q.is_text) ∙ split-text_of b q.are_lines)
+    append_cancel_right a b ([] ∷ [])
+    (sym (split-text_of a p.are_lines) ∙ ap (slice_split is_newline) (sym p.is_text ∙ q.is_text) ∙
+    split-text_of b q.are_lines)
 
 -- what stands before the first cut gains a byte
-text_of-onto_first : (b : ℕ) (parts : List (List ℕ)) (body : List ℕ) → text_of parts ≡ body ++ 10 ∷ [] → text_of (onto_first b parts) ≡ b ∷ body ++ 10 ∷ []
+text_of-onto_first : (b : ℕ) (parts : List (List ℕ)) (body : List ℕ) → text_of parts ≡ body ++ 10 ∷ [] →
+    text_of (onto_first b parts) ≡ b ∷ body ++ 10 ∷ []
 text_of-onto_first b [] [] h = absurd cc
 text_of-onto_first b [] (x ∷ body) h = absurd cc
 text_of-onto_first b (part ∷ parts) body h = ap (λ (x : List ℕ). b ∷ x) h
 
-are_lines-onto_first : (b : ℕ) (parts : List (List ℕ)) → is_newline b ≡ false → AllByRecursion IsLine parts → AllByRecursion IsLine (onto_first b parts)
+are_lines-onto_first : (b : ℕ) (parts : List (List ℕ)) → is_newline b ≡ false → AllByRecursion IsLine parts →
+    AllByRecursion IsLine (onto_first b parts)
 are_lines-onto_first b [] h p = (rw h refl, tt)
 are_lines-onto_first b (part ∷ parts) h p = (rw h p.0, p.1)
 
@@ -62,14 +71,18 @@ pub lines_of_body : (text body : List ℕ) → text ≡ body ++ 10 ∷ [] → Ha
 lines_of_body text body h = record { is_text = h ∙ sym (text_of-split body); are_lines = are_lines-split body }
 
 -- lines end in a newline
-ends_in_newline : (line : List ℕ) (lines : List (List ℕ)) → (front : List ℕ) × (text_of (line ∷ lines) ≡ front ++ 10 ∷ [])
+ends_in_newline : (line : List ℕ) (lines : List (List ℕ)) →
+    (front : List ℕ) × (text_of (line ∷ lines) ≡ front ++ 10 ∷ [])
 ends_in_newline line [] = (line, rw (append_assoc line (10 ∷ []) []) refl)
 ends_in_newline line (next ∷ lines) =
-    let more = ends_in_newline next lines in
-    (ended line ++ more.0, ap (λ (x : List ℕ). ended line ++ x) more.1 ∙ sym (append_assoc (ended line) more.0 (10 ∷ [])))
+    let more = ends_in_newline next lines in (
+      ended line ++ more.0,
+      ap (λ (x : List ℕ). ended line ++ x) more.1 ∙ sym (append_assoc (ended line) more.0 (10 ∷ [])),
+    )
 
 -- a text that ends in no newline has no lines
-pub no_lines : (text : List ℕ) → ((front : List ℕ) → text ≢ front ++ 10 ∷ []) → (lines : List (List ℕ)) → HasLines text lines → lines ≡ []
+pub no_lines : (text : List ℕ) → ((front : List ℕ) → text ≢ front ++ 10 ∷ []) → (lines : List (List ℕ)) →
+    HasLines text lines → lines ≡ []
 no_lines text none [] h = refl
 no_lines text none (line ∷ lines) h =
     let end = ends_in_newline line lines in

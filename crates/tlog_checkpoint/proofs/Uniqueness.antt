@@ -16,7 +16,8 @@ are_lines [] h = tt
 are_lines (line ∷ lines) h = (h.0.is_line, are_lines lines h.1)
 
 -- fields are lines
-pub lines_from_fields : (text o s r : List ℕ) (e : List (List ℕ)) → HasFields text o s r e → HasLines text (o ∷ s ∷ r ∷ e)
+pub lines_from_fields : (text o s r : List ℕ) (e : List (List ℕ)) → HasFields text o s r e →
+    HasLines text (o ∷ s ∷ r ∷ e)
 lines_from_fields text o s r e h = record { is_text = h.is_text; are_lines = are_lines (o ∷ s ∷ r ∷ e) h.are_full }
 
 -- the fields of a text are one list
@@ -26,18 +27,23 @@ pub record SameFields (o s r : List ℕ) (e : List (List ℕ)) (o' s' r' : List 
   pub root : r ≡ r'
   pub extensions : e ≡ e'
 
-pub one_fields : (text o s r : List ℕ) (e : List (List ℕ)) (o' s' r' : List ℕ) (e' : List (List ℕ)) → HasFields text o s r e → HasFields text o' s' r' e' → SameFields o s r e o' s' r' e'
+pub one_fields : (text o s r : List ℕ) (e : List (List ℕ)) (o' s' r' : List ℕ) (e' : List (List ℕ)) →
+    HasFields text o s r e → HasFields text o' s' r' e' → SameFields o s r e o' s' r' e'
 one_fields text o s r e o' s' r' e' p q =
-    let same = one_lines text (o ∷ s ∷ r ∷ e) (o' ∷ s' ∷ r' ∷ e') (lines_from_fields text o s r e p) (lines_from_fields text o' s' r' e' q) in
+    let same =
+    one_lines text (o ∷ s ∷ r ∷ e) (o' ∷ s' ∷ r' ∷ e') (lines_from_fields text o s r e p)
+    (lines_from_fields text o' s' r' e' q) in
     record { origin = cc same; size = cc same; root = cc same; extensions = cc same }
 
 -- equal fields make equal checkpoints
-same_checkpoint : (a b : Checkpoint) → a.origin ≡ b.origin → a.size ≡ b.size → a.root ≡ b.root → a.extensions ≡ b.extensions → a ≡ b
+same_checkpoint : (a b : Checkpoint) → a.origin ≡ b.origin → a.size ≡ b.size → a.root ≡ b.root →
+    a.extensions ≡ b.extensions → a ≡ b
 same_checkpoint a b o s r e i = record { origin = o i; size = s i; root = r i; extensions = e i }
 
 pub one_reading : OneReading
 one_reading text a b p q =
-    let same = one_fields text a.origin p.size_line p.root_line a.extensions b.origin q.size_line q.root_line b.extensions p.fields q.fields in
+    let same =
+    one_fields text a.origin p.size_line p.root_line a.extensions b.origin q.size_line q.root_line b.extensions p.fields q.fields in
     let line = λ (x : List ℕ). IsDecimal x a.size in
     let root = λ (x : List ℕ). IsHashText x a.root in
     same_checkpoint a b same.origin
@@ -48,10 +54,13 @@ one_reading text a b p q =
 pub one_text : OneText
 one_text s t origin size root extensions p q =
     let small : size < 2 ^ 64 = omega (arith, p.in_range) in
-    let size_lines : p.size_line ≡ q.size_line = decimal_is p.size_line size small p.has_size ∙ sym (decimal_is q.size_line size small q.has_size) in
+    let size_lines : p.size_line ≡ q.size_line =
+    decimal_is p.size_line size small p.has_size ∙ sym (decimal_is q.size_line size small q.has_size) in
     let root_lines : p.root_line ≡ q.root_line = p.has_root.is_base64 ∙ sym q.has_root.is_base64 in
-    let lines : text_of (origin ∷ p.size_line ∷ p.root_line ∷ extensions) ≡ text_of (origin ∷ q.size_line ∷ q.root_line ∷ extensions) = rw (size_lines, root_lines) refl in
+    let lines : text_of (origin ∷ p.size_line ∷ p.root_line ∷ extensions)
+    ≡ text_of (origin ∷ q.size_line ∷ q.root_line ∷ extensions) = rw (size_lines, root_lines) refl in
     p.fields.is_text ∙ lines ∙ sym q.fields.is_text
 
 pub reads_writable : ReadsWritable
-reads_writable text c p = record { origin = p.fields.are_full.0; size = p.in_range; extensions = p.fields.are_full.1.1.1 }
+reads_writable text c p =
+    record { origin = p.fields.are_full.0; size = p.in_range; extensions = p.fields.are_full.1.1.1 }

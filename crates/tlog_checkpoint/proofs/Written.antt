@@ -1,5 +1,6 @@
 -- What is written is a checkpoint's text: the lines of its fields are lines, and not empty.
-use Rattle.std.proofs.Common.{◌≡◌, ◌≢◌, ℕ, ◌<◌, List, [], ◌∷◌, ◌++◌, length, refl, sym, ◌∙◌, ap, subst, arith, append_assoc}
+use Rattle.std.proofs.Common.{◌≡◌, ◌≢◌, ℕ, ◌<◌, List, [], ◌∷◌, ◌++◌, length, refl, sym, ◌∙◌, ap, subst, arith}
+use Rattle.std.proofs.Common.{append_assoc}
 use Rattle.tlog_checkpoint.specs.declared.Checkpoint.{Checkpoint}
 use Rattle.tlog_checkpoint.specs.Lines.{ended, text_of, IsLine}
 use Rattle.tlog_text.specs.Number.{IsDecimal}
@@ -23,18 +24,27 @@ root_full line root is =
     record { not_empty = some_full line some; is_line = subst IsLine (sym is.is_base64) (base64_lacks_newline root) }
 
 -- a text that was made line by line
-pub joined_lines : (one two three text origin size root : List ℕ) (extensions : List (List ℕ)) → one ≡ ended origin → two ≡ one ++ ended size → three ≡ two ++ ended root → text ≡ three ++ text_of extensions
+pub joined_lines : (one two three text origin size root : List ℕ) (extensions : List (List ℕ)) → one ≡ ended origin →
+    two ≡ one ++ ended size → three ≡ two ++ ended root → text ≡ three ++ text_of extensions
     → text ≡ text_of (origin ∷ size ∷ root ∷ extensions)
 joined_lines one two three text o s r e a b c d =
-    d ∙ (rw (c, b, a) (append_assoc (ended o ++ ended s) (ended r) (text_of e) ∙ append_assoc (ended o) (ended s) (ended r ++ text_of e)))
+    d ∙ (rw (c, b, a)
+    (append_assoc (ended o ++ ended s) (ended r) (text_of e) ∙
+    append_assoc (ended o) (ended s) (ended r ++ text_of e)))
 
 -- the text of a checkpoint's lines
-pub written : (text size root : List ℕ) (c : Checkpoint) → IsWritableCheckpoint c → IsDecimal size c.size → IsHashText root c.root
+pub written : (text size root : List ℕ) (c : Checkpoint) → IsWritableCheckpoint c → IsDecimal size c.size →
+    IsHashText root c.root
     → text ≡ text_of (c.origin ∷ size ∷ root ∷ c.extensions) → IsCheckpoint text c.origin c.size c.root c.extensions
 written text size root c can has_size has_root is = record {
   size_line = size;
   root_line = root;
-  fields = record { is_text = is; are_full = (can.origin, (decimal_full size c.size has_size, (root_full root c.root has_root, can.extensions))) };
+  fields = record {
+    is_text =
+        is;
+    are_full =
+        (can.origin, (decimal_full size c.size has_size, (root_full root c.root has_root, can.extensions)));
+  };
   has_size = has_size;
   in_range = can.size;
   has_root = has_root;
@@ -43,5 +53,6 @@ written text size root c can has_size has_root is = record {
 pub each_written : EachWritten
 each_written c can hash = (
   text_of (c.origin ∷ decimal c.size ∷ base64_of c.root ∷ c.extensions),
-  written _ (decimal c.size) (base64_of c.root) c can (decimal_written c.size (omega (arith, can.size))) (record { is_base64 = refl; is_hash = hash }) refl,
+  written _ (decimal c.size) (base64_of c.root) c can (decimal_written c.size (omega (arith, can.size)))
+      (record { is_base64 = refl; is_hash = hash }) refl,
 )

@@ -1,5 +1,6 @@
 -- Folds and tree hashes of a list that is cut into blocks.
-use Rattle.std.proofs.Common.{subst, ◌≡◌, ℕ, zero, suc, ◌+◌, ◌*◌, ◌^◌, ◌<◌, ◌≤◌, List, [], ◌∷◌, ◌++◌, length, take, drop, map, sym, refl, ap, ◌∙◌, arith, length-take, length-drop}
+use Rattle.std.proofs.Common.{subst, ◌≡◌, ℕ, zero, suc, ◌+◌, ◌*◌, ◌^◌, ◌<◌, ◌≤◌, List, [], ◌∷◌, ◌++◌, length, take}
+use Rattle.std.proofs.Common.{drop, map, sym, refl, ap, ◌∙◌, arith, length-take, length-drop}
 use Rattle.std.proofs.lemmas.List.{take-map, drop-map, length-map, append-nil, drop-drop}
 use Rattle.std.proofs.lemmas.List.Concat.{flat_map-append, flat_map-cons}
 use Rattle.std.proofs.Math.Seq.{take-add}
@@ -23,13 +24,19 @@ module _ {A B : Type 0} (f : A → B) where
       one : (x : A) → tree_of (map f (x ∷ [])) ≡ map_tree f (tree_of (x ∷ []))
       one x = tree_of-one (f x) ∙ sym (ap (map_tree f) (tree_of-one x))
 
-      more : (xs : List A) → 2 ≤ length xs → tree_of (map f (take (split_of (length xs)) xs)) ≡ map_tree f (tree_of (take (split_of (length xs)) xs)) → tree_of (map f (drop (split_of (length xs)) xs)) ≡ map_tree f (tree_of (drop (split_of (length xs)) xs)) → tree_of (map f xs) ≡ map_tree f (tree_of xs)
+      more : (xs : List A) → 2 ≤ length xs →
+          tree_of (map f (take (split_of (length xs)) xs)) ≡ map_tree f (tree_of (take (split_of (length xs)) xs)) →
+          tree_of (map f (drop (split_of (length xs)) xs)) ≡ map_tree f (tree_of (drop (split_of (length xs)) xs)) →
+          tree_of (map f xs) ≡ map_tree f (tree_of xs)
       more xs two l r =
           let len : length (map f xs) ≡ length xs = length-map xs f in
           let two' : 2 ≤ length (map f xs) = omega arith in
-          let a : take (split_of (length (map f xs))) (map f xs) ≡ map f (take (split_of (length xs)) xs) = ap (λ n. take (split_of n) (map f xs)) len ∙ take-map f _ xs in
-          let d : drop (split_of (length (map f xs))) (map f xs) ≡ map f (drop (split_of (length xs)) xs) = ap (λ n. drop (split_of n) (map f xs)) len ∙ drop-map f _ xs in
-          tree_of-join (map f xs) two' ∙ (λ i. Join ((ap tree_of a ∙ l) i) ((ap tree_of d ∙ r) i)) ∙ sym (ap (map_tree f) (tree_of-join xs two))
+          let a : take (split_of (length (map f xs))) (map f xs) ≡ map f (take (split_of (length xs)) xs) =
+          ap (λ n. take (split_of n) (map f xs)) len ∙ take-map f _ xs in
+          let d : drop (split_of (length (map f xs))) (map f xs) ≡ map f (drop (split_of (length xs)) xs) =
+          ap (λ n. drop (split_of n) (map f xs)) len ∙ drop-map f _ xs in
+          tree_of-join (map f xs) two' ∙ (λ i. Join ((ap tree_of a ∙ l) i) ((ap tree_of d ∙ r) i)) ∙
+          sym (ap (map_tree f) (tree_of-join xs two))
 
 module _ (digest : List ℕ → List ℕ) where
   pub mth-tree : (es : List (List ℕ)) → mth digest es ≡ entries_root digest (tree_of es)
@@ -48,14 +55,20 @@ module _ (digest : List ℕ → List ℕ) where
   mth-graft (Join l r) = λ i. digest (1 ∷ mth-graft l i ++ mth-graft r i)
 
   -- Fold of a row is Fold of the folds of its blocks
-  pub fold_of-blocks : (j : ℕ) (bs : List (List (List ℕ))) → IsCut (2 ^ j) bs → fold_of digest (joined_up bs) ≡ fold_of digest (map (fold_of digest) bs)
+  pub fold_of-blocks : (j : ℕ) (bs : List (List (List ℕ))) → IsCut (2 ^ j) bs →
+      fold_of digest (joined_up bs) ≡ fold_of digest (map (fold_of digest) bs)
   unfolding fold_of
-  fold_of-blocks j bs c = ap (root digest) (tree_of-blocks j bs c) ∙ fold-graft (tree_of bs) ∙ sym (ap (root digest) (tree_of-map (fold_of digest) bs))
+  fold_of-blocks j bs c =
+      ap (root digest) (tree_of-blocks j bs c) ∙ fold-graft (tree_of bs) ∙
+      sym (ap (root digest) (tree_of-map (fold_of digest) bs))
 
   -- MTH is Fold of the blocks' MTH
-  pub mth-blocks : (j : ℕ) (bs : List (List (List ℕ))) → IsCut (2 ^ j) bs → mth digest (joined_up bs) ≡ fold_of digest (map (mth digest) bs)
+  pub mth-blocks : (j : ℕ) (bs : List (List (List ℕ))) → IsCut (2 ^ j) bs →
+      mth digest (joined_up bs) ≡ fold_of digest (map (mth digest) bs)
   unfolding fold_of
-  mth-blocks j bs c = mth-tree (joined_up bs) ∙ ap (entries_root digest) (tree_of-blocks j bs c) ∙ mth-graft (tree_of bs) ∙ sym (ap (root digest) (tree_of-map (mth digest) bs))
+  mth-blocks j bs c =
+      mth-tree (joined_up bs) ∙ ap (entries_root digest) (tree_of-blocks j bs c) ∙ mth-graft (tree_of bs) ∙
+      sym (ap (root digest) (tree_of-map (mth digest) bs))
 
 -- ---- ranges of a list as blocks
 
@@ -65,31 +78,40 @@ module _ {A : Type 0} (b : ℕ) where
   length-ranges first (suc count) es = omega (arith, length-ranges (first + 1) count es)
 
   -- one range more, at the end
-  pub ranges_more : (first count : ℕ) (es : List A) → ranges b first (count + 1) es ≡ ranges b first count es ++ part ((first + count) * b) b es ∷ []
+  pub ranges_more : (first count : ℕ) (es : List A) →
+      ranges b first (count + 1) es ≡ ranges b first count es ++ part ((first + count) * b) b es ∷ []
   ranges_more first zero es = let e : first * b ≡ (first + 0) * b = omega arith in ap (λ n. part n b es ∷ []) e
   ranges_more first (suc count) es =
       let n : suc count + 1 ≡ suc (count + 1) = omega arith in
       let e : (first + 1 + count) * b ≡ (first + suc count) * b = ap (λ m. m * b) (omega arith) in
-      ap (λ m. ranges b first m es) n ∙ ap (λ xs. part (first * b) b es ∷ xs) (ranges_more (first + 1) count es ∙ ap (λ m. ranges b (first + 1) count es ++ part m b es ∷ []) e)
+      ap (λ m. ranges b first m es) n ∙
+      ap (λ xs. part (first * b) b es ∷ xs)
+      (ranges_more (first + 1) count es ∙ ap (λ m. ranges b (first + 1) count es ++ part m b es ∷ []) e)
 
-  pub joined_ranges : (first count : ℕ) (es : List A) → joined_up (ranges b first count es) ≡ part (first * b) (count * b) es
+  pub joined_ranges : (first count : ℕ) (es : List A) →
+      joined_up (ranges b first count es) ≡ part (first * b) (count * b) es
   joined_ranges first zero es = let z : 0 ≡ 0 * b = omega arith in ap (λ n. take n (drop (first * b) es)) z
   joined_ranges first (suc count) es =
       let rest = joined_ranges (first + 1) count es in
       let at : (first + 1) * b ≡ first * b + b = omega arith in
       let len : suc count * b ≡ b + count * b = omega arith in
       flat_map-cons (λ y. y) (part (first * b) b es) (ranges b (first + 1) count es)
-      ∙ ap (λ xs. part (first * b) b es ++ xs) (rest ∙ ap (λ n. take (count * b) (drop n es)) at ∙ ap (take (count * b)) (sym (drop-drop b (first * b) es)))
+      ∙ ap (λ xs. part (first * b) b es ++ xs)
+      (rest ∙ ap (λ n. take (count * b) (drop n es)) at ∙ ap (take (count * b)) (sym (drop-drop b (first * b) es)))
       ∙ sym (ap (λ n. take n (drop (first * b) es)) len ∙ take-add b (count * b) (drop (first * b) es))
 
-  pub all_ranges : (first count : ℕ) (es : List A) → (first + count) * b ≤ length es → AllByRecursion (λ x. length x ≡ b) (ranges b first count es)
+  pub all_ranges : (first count : ℕ) (es : List A) → (first + count) * b ≤ length es →
+      AllByRecursion (λ x. length x ≡ b) (ranges b first count es)
   all_ranges first zero es h = tt
   all_ranges first (suc count) es h =
       let more : (first + suc count) * b ≡ (first * b + b) + count * b = omega arith in
-      let same : (first + suc count) * b ≡ ((first + 1) + count) * b = omega arith in
-      (omega (arith, length-take b (drop (first * b) es), length-drop (first * b) es, more), all_ranges (first + 1) count es (omega (arith, same)))
+      let same : (first + suc count) * b ≡ ((first + 1) + count) * b = omega arith in (
+        omega (arith, length-take b (drop (first * b) es), length-drop (first * b) es, more),
+        all_ranges (first + 1) count es (omega (arith, same)),
+      )
 
-  pub cut_push : (bs : List (List A)) (x : List A) → AllByRecursion (λ y. length y ≡ b) bs → 0 < length x → length x ≤ b → IsCut b (bs ++ x ∷ [])
+  pub cut_push : (bs : List (List A)) (x : List A) → AllByRecursion (λ y. length y ≡ b) bs → 0 < length x →
+      length x ≤ b → IsCut b (bs ++ x ∷ [])
   cut_push [] x all some upto = (some, upto)
   cut_push (y ∷ []) x all some upto = (all.0, (some, upto))
   cut_push (y ∷ z ∷ bs) x all some upto = (all.0, cut_push (z ∷ bs) x all.1 some upto)
@@ -100,9 +122,11 @@ module _ {A : Type 0} (b : ℕ) where
   cut_full (y ∷ z ∷ bs) all some positive = (all.0, cut_full (z ∷ bs) all.1 (omega arith) positive)
 
   pub joined_push : (bs : List (List A)) (x : List A) → joined_up (bs ++ x ∷ []) ≡ joined_up bs ++ x
-  joined_push bs x = flat_map-append (λ y. y) bs (x ∷ []) ∙ ap (λ ys. joined_up bs ++ ys) (flat_map-cons (λ y. y) x [] ∙ append-nil x)
+  joined_push bs x =
+      flat_map-append (λ y. y) bs (x ∷ []) ∙ ap (λ ys. joined_up bs ++ ys) (flat_map-cons (λ y. y) x [] ∙ append-nil x)
 
 module _ (digest : List ℕ → List ℕ) where
   -- MTH is Fold of the MTH of blocks of 256^level entries
-  pub mth-level : (level : ℕ) (bs : List (List (List ℕ))) → IsCut (256 ^ level) bs → mth digest (joined_up bs) ≡ fold_of digest (map (mth digest) bs)
+  pub mth-level : (level : ℕ) (bs : List (List (List ℕ))) → IsCut (256 ^ level) bs →
+      mth digest (joined_up bs) ≡ fold_of digest (map (mth digest) bs)
   mth-level level bs c = mth-blocks digest (8 * level) bs (subst (λ b. IsCut b bs) (level_power level) c)

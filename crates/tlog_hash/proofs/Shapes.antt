@@ -1,5 +1,6 @@
 -- The shape of a tree: what else is known of it is its length.
-use Rattle.std.proofs.Common.{◌≡◌, ℕ, ◌+◌, ◌-◌, ◌≤◌, List, [], ◌∷◌, length, take, drop, map, replicate, sym, refl, ap, ◌∙◌, arith}
+use Rattle.std.proofs.Common.{◌≡◌, ℕ, ◌+◌, ◌-◌, ◌≤◌, List, [], ◌∷◌, length, take, drop, map, replicate, sym, refl, ap}
+use Rattle.std.proofs.Common.{◌∙◌, arith}
 use Rattle.std.proofs.lemmas.List.{length-replicate, take-replicate, drop-replicate}
 use Rattle.tlog_shape.specs.Split.{split_of}
 use Rattle.tlog_shape.proofs.Splits.{split_of-below}
@@ -42,4 +43,7 @@ shape-join n two =
     let len : length blanks ≡ n = length-replicate n 0 in
     let two' : 2 ≤ length blanks = omega arith in
     let below = split_of-below n two in
-    tree_of-join blanks two' ∙ ap (λ m. Join (tree_of (take (split_of m) (replicate n 0))) (tree_of (drop (split_of m) (replicate n 0)))) len ∙ (λ i. Join (tree_of (take-replicate (split_of n) n 0 (omega (arith, below)) i)) (tree_of (drop-replicate (split_of n) n 0 i)))
+    tree_of-join blanks two' ∙
+    ap (λ m. Join (tree_of (take (split_of m) (replicate n 0))) (tree_of (drop (split_of m) (replicate n 0)))) len ∙
+    (λ i. Join (tree_of (take-replicate (split_of n) n 0 (omega (arith, below)) i))
+    (tree_of (drop-replicate (split_of n) n 0 i)))

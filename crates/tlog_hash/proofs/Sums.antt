@@ -5,7 +5,8 @@ use Rattle.std.proofs.lemmas.List.Sums.{sum_by-cons, sum_by-append}
 use Rattle.tlog_hash.specs.Sum.{sum_digest}
 
 -- a digest whose first byte is that sum
-pub sum_digest-is : (string : List ℕ) (first : ℕ) → first ≡ sum string % 256 → first ∷ replicate 31 0 ≡ sum_digest string
+pub sum_digest-is : (string : List ℕ) (first : ℕ) → first ≡ sum string % 256 →
+    first ∷ replicate 31 0 ≡ sum_digest string
 unfolding sum_digest
 sum_digest-is string first is = ap (λ byte. byte ∷ replicate 31 0) is
 
@@ -14,5 +15,6 @@ sum-leaf entry = ap (λ n. n % 256) (sym (sum_by-cons (λ x. x) 0 entry))
 
 pub sum-node : (left right : List ℕ) → ((1 + sum left) % 256 + sum right) % 256 ≡ sum (1 ∷ left ++ right) % 256
 sum-node left right =
-    let whole : sum (1 ∷ left ++ right) ≡ 1 + sum left + sum right = omega (arith, sum_by-cons (λ x. x) 1 (left ++ right), sum_by-append (λ x. x) left right) in
+    let whole : sum (1 ∷ left ++ right) ≡ 1 + sum left + sum right =
+    omega (arith, sum_by-cons (λ x. x) 1 (left ++ right), sum_by-append (λ x. x) left right) in
     mod-add-mod (1 + sum left) 256 (sum right) ∙ ap (λ n. n % 256) (sym whole)

@@ -4,8 +4,10 @@ use Rattle.std.specs.List.{Contains}
 use Rattle.tlog_shape.specs.Split.{split_of}
 use Rattle.tlog_shape.proofs.Splits.{split_of-below, split_of-positive}
 use Rattle.tlog_hash.specs.Tree.{fold_of, mth, strings}
-use Rattle.tlog_hash.specs.Laws.{IsTreeHash, IsFold, MthIsTreeHash, FoldIsFold, TreeStrings, TreeOfBlocks, NodesAreStrings}
-use Rattle.tlog_hash.proofs.Trees.{induction, mth-none, mth-one, mth-join, fold_of-one, fold_of-join, strings-none, strings-one}
+use Rattle.tlog_hash.specs.Laws.{IsTreeHash, IsFold, MthIsTreeHash, FoldIsFold, TreeStrings, TreeOfBlocks}
+use Rattle.tlog_hash.specs.Laws.{NodesAreStrings}
+use Rattle.tlog_hash.proofs.Trees.{induction, mth-none, mth-one, mth-join, fold_of-one, fold_of-join, strings-none}
+use Rattle.tlog_hash.proofs.Trees.{strings-one}
 use Rattle.tlog_hash.proofs.Cuts.{tree_of-blocks}
 use Rattle.tlog_hash.proofs.NodeStrings.{node_of_string, string_of_node, strings_join}
 
@@ -32,7 +34,8 @@ module _ (digest : List ℕ → List ℕ) (hash : List (List ℕ) → List ℕ) 
       row
 
 pub mth_is_tree_hash : MthIsTreeHash
-mth_is_tree_hash digest = (record { none = mth-none digest; one = mth-one digest; join = mth-join digest }, only_mth digest)
+mth_is_tree_hash digest =
+    (record { none = mth-none digest; one = mth-one digest; join = mth-join digest }, only_mth digest)
 
 pub fold_is_fold : FoldIsFold
 fold_is_fold digest = (record { one = fold_of-one digest; join = fold_of-join digest }, only_fold digest)
@@ -44,5 +47,8 @@ pub tree_of_blocks : TreeOfBlocks
 tree_of_blocks exponent blocks cut = tree_of-blocks exponent blocks cut
 
 pub nodes_are_strings : NodesAreStrings
-nodes_are_strings digest es y =
-    (λ h. let n = node_of_string digest es 0 y h in (n.node, n.is, n.string_is), λ h. subst (Contains (strings digest es)) h.2 (string_of_node digest es 0 h.0 h.1))
+nodes_are_strings digest es y = (
+  λ h. let n =
+      node_of_string digest es 0 y h in (n.node, n.is, n.string_is),
+  λ h. subst (Contains (strings digest es)) h.2 (string_of_node digest es 0 h.0 h.1),
+)

@@ -1,5 +1,6 @@
 -- The equations of Incl and Cons, and that they leave nothing open.
-use Rattle.std.proofs.Common.{rules, Bool, true, false, ◌⊎◌, inl, inr, ◌≡◌, ℕ, ◌+◌, ◌-◌, ◌<◌, ◌≤◌, List, [], ◌∷◌, ◌++◌, reverse, Option, Some, None, sym, refl, ap, ◌∙◌, arith}
+use Rattle.std.proofs.Common.{rules, Bool, true, false, ◌⊎◌, inl, inr, ◌≡◌, ℕ, ◌+◌, ◌-◌, ◌<◌, ◌≤◌, List, [], ◌∷◌, ◌++◌}
+use Rattle.std.proofs.Common.{reverse, Option, Some, None, sym, refl, ap, ◌∙◌, arith}
 use Rattle.std.proofs.lemmas.List.{reverse-append, reverse-reverse}
 use Rattle.std.proofs.lemmas.Bool.{cases_lt}
 use Rattle.std.specs.Prelude.{nat_eq}
@@ -26,7 +27,12 @@ last-first path hash = reverse-append path (hash ∷ [])
 
 -- how many leaves a tree has
 three : (n : ℕ) → (n ≡ 0) ⊎ ((n ≡ 1) ⊎ (2 ≤ n))
-three n = elim (cases_lt n 1) [ inl a ↦ inl (omega arith) | inr a ↦ elim (cases_lt n 2) [ inl b ↦ inr (inl (omega arith)) | inr b ↦ inr (inr b) ] ]
+three n =
+    elim (cases_lt n 1) [
+      | inl a ↦ inl (omega arith)
+      | inr a ↦ elim
+          (cases_lt n 2) [ inl b ↦ inr (inl (omega arith)) | inr b ↦ inr (inr b) ]
+    ]
 
 module _ (digest : List ℕ → List ℕ) where
   incl-none : (i : ℕ) (h : List ℕ) (rq : List (List ℕ)) → incl_in digest (shape 0) i h rq ≡ None
@@ -38,31 +44,46 @@ module _ (digest : List ℕ → List ℕ) where
   incl-one_long : (i : ℕ) (h p : List ℕ) (rq : List (List ℕ)) → incl_in digest (shape 1) i h (p ∷ rq) ≡ None
   incl-one_long i h p rq = ap (λ t. incl_in digest t i h (p ∷ rq)) shape-one
 
-  incl-left : (i n : ℕ) (h p : List ℕ) (rq : List (List ℕ)) → 2 ≤ n → i < split_of n → incl_in digest (shape n) i h (p ∷ rq) ≡ option_map (hash_right digest p) (incl_in digest (shape (split_of n)) i h rq)
+  incl-left : (i n : ℕ) (h p : List ℕ) (rq : List (List ℕ)) → 2 ≤ n → i < split_of n →
+      incl_in digest (shape n) i h (p ∷ rq)
+      ≡ option_map (hash_right digest p) (incl_in digest (shape (split_of n)) i h rq)
   incl-left i n h p rq two inside =
       let k = split_of n in
       let sk = size_of-shape k in
-      ap (λ t. incl_in digest t i h (p ∷ rq)) (shape-join n two) ∙ climb-left (hash_right digest) (hash_left digest) (shape k) (shape (n - k)) i h p rq (omega arith)
+      ap (λ t. incl_in digest t i h (p ∷ rq)) (shape-join n two) ∙
+      climb-left (hash_right digest) (hash_left digest) (shape k) (shape (n - k)) i h p rq (omega arith)
 
-  incl-right : (i n : ℕ) (h p : List ℕ) (rq : List (List ℕ)) → 2 ≤ n → split_of n ≤ i → incl_in digest (shape n) i h (p ∷ rq) ≡ option_map (hash_left digest p) (incl_in digest (shape (n - split_of n)) (i - split_of n) h rq)
+  incl-right : (i n : ℕ) (h p : List ℕ) (rq : List (List ℕ)) → 2 ≤ n → split_of n ≤ i →
+      incl_in digest (shape n) i h (p ∷ rq)
+      ≡ option_map (hash_left digest p) (incl_in digest (shape (n - split_of n)) (i - split_of n) h rq)
   incl-right i n h p rq two past =
       let k = split_of n in
       let sk = size_of-shape k in
-      ap (λ t. incl_in digest t i h (p ∷ rq)) (shape-join n two) ∙ climb-right (hash_right digest) (hash_left digest) (shape k) (shape (n - k)) i h p rq (omega arith)
+      ap (λ t. incl_in digest t i h (p ∷ rq)) (shape-join n two) ∙
+      climb-right (hash_right digest) (hash_left digest) (shape k) (shape (n - k)) i h p rq (omega arith)
       ∙ ap (λ j. option_map (hash_left digest p) (incl_in digest (shape (n - k)) (i - j) h rq)) sk
 
-  only_incl : (read : ℕ → ℕ → List ℕ → List (List ℕ) → Option (List ℕ)) → IsPathReader digest read → (rq : List (List ℕ)) (i n : ℕ) (h : List ℕ) → read i n h (reverse rq) ≡ incl_in digest (shape n) i h rq
+  only_incl : (read : ℕ → ℕ → List ℕ → List (List ℕ) → Option (List ℕ)) → IsPathReader digest read →
+      (rq : List (List ℕ)) (i n : ℕ) (h : List ℕ) → read i n h (reverse rq) ≡ incl_in digest (shape n) i h rq
   only_incl read e [] i n h = elim (three n) [
-    | inl z ↦ ap (λ m. read i m h []) z ∙ e.none i h [] ∙ sym (ap (λ m. incl_in digest (shape m) i h []) z ∙ incl-none i h [])
-    | inr (inl o) ↦ ap (λ m. read i m h []) o ∙ e.one i h ∙ sym (ap (λ m. incl_in digest (shape m) i h []) o ∙ incl-one i h)
+    | inl z ↦ ap (λ m. read i m h []) z ∙ e.none i h [] ∙
+        sym (ap (λ m. incl_in digest (shape m) i h []) z ∙ incl-none i h [])
+    | inr (inl o) ↦ ap (λ m. read i m h []) o ∙ e.one i h ∙
+        sym (ap (λ m. incl_in digest (shape m) i h []) o ∙ incl-one i h)
     | inr (inr two) ↦ e.short i n h two ∙ sym (none_empty (hash_right digest) (hash_left digest) n i h two)
   ]
   only_incl read e (p ∷ rq) i n h = ap (read i n h) (reverse-append (p ∷ []) rq) ∙ elim (three n) [
-    | inl z ↦ ap (λ m. read i m h (reverse rq ++ p ∷ [])) z ∙ e.none i h (reverse rq ++ p ∷ []) ∙ sym (ap (λ m. incl_in digest (shape m) i h (p ∷ rq)) z ∙ incl-none i h (p ∷ rq))
-    | inr (inl o) ↦ ap (λ m. read i m h (reverse rq ++ p ∷ [])) o ∙ e.one_long i h p (reverse rq) ∙ sym (ap (λ m. incl_in digest (shape m) i h (p ∷ rq)) o ∙ incl-one_long i h p rq)
+    | inl z ↦ ap (λ m. read i m h (reverse rq ++ p ∷ [])) z ∙ e.none i h (reverse rq ++ p ∷ []) ∙
+        sym (ap (λ m. incl_in digest (shape m) i h (p ∷ rq)) z ∙ incl-none i h (p ∷ rq))
+    | inr (inl o) ↦ ap (λ m. read i m h (reverse rq ++ p ∷ [])) o ∙ e.one_long i h p (reverse rq) ∙
+        sym (ap (λ m. incl_in digest (shape m) i h (p ∷ rq)) o ∙ incl-one_long i h p rq)
     | inr (inr two) ↦ elim (cases_lt i (split_of n)) [
-      | inl inside ↦ e.left i n h p (reverse rq) two inside ∙ ap (option_map (hash_right digest p)) (only_incl read e rq i (split_of n) h) ∙ sym (incl-left i n h p rq two inside)
-      | inr past ↦ e.right i n h p (reverse rq) two past ∙ ap (option_map (hash_left digest p)) (only_incl read e rq (i - split_of n) (n - split_of n) h) ∙ sym (incl-right i n h p rq two past)
+      | inl inside ↦ e.left i n h p (reverse rq) two inside ∙
+          ap (option_map (hash_right digest p)) (only_incl read e rq i (split_of n) h) ∙
+          sym (incl-left i n h p rq two inside)
+      | inr past ↦ e.right i n h p (reverse rq) two past ∙
+          ap (option_map (hash_left digest p)) (only_incl read e rq (i - split_of n) (n - split_of n) h) ∙
+          sym (incl-right i n h p rq two past)
     ]
   ]
 
@@ -72,10 +93,13 @@ incl_equations digest = (
   record {
     none = λ i h path. incl-none digest i h (reverse path);
     one = λ i h. incl-one digest i h;
-    one_long = λ i h p path. ap (incl_in digest (shape 1) i h) (last-first path p) ∙ incl-one_long digest i h p (reverse path);
+    one_long =
+        λ i h p path. ap (incl_in digest (shape 1) i h) (last-first path p) ∙ incl-one_long digest i h p (reverse path);
     short = λ i n h two. none_empty (hash_right digest) (hash_left digest) n i h two;
-    left = λ i n h p path two inside. ap (incl_in digest (shape n) i h) (last-first path p) ∙ incl-left digest i n h p (reverse path) two inside;
-    right = λ i n h p path two past. ap (incl_in digest (shape n) i h) (last-first path p) ∙ incl-right digest i n h p (reverse path) two past;
+    left = λ i n h p path two inside. ap (incl_in digest (shape n) i h) (last-first path p) ∙
+        incl-left digest i n h p (reverse path) two inside;
+    right = λ i n h p path two past. ap (incl_in digest (shape n) i h) (last-first path p) ∙
+        incl-right digest i n h p (reverse path) two past;
   },
   λ read e i n h path. ap (read i n h) (sym (reverse-reverse path)) ∙ only_incl digest read e (reverse path) i n h,
 )
@@ -95,7 +119,9 @@ end-turned : (flag : Bool) (g : List ℕ) (path : List (List ℕ)) → at_end fl
 end-turned flag g [] = refl
 end-turned true g (h ∷ []) = refl
 end-turned false g (h ∷ []) = refl
-end-turned flag g (h ∷ z ∷ path) = ap (at_end flag g) (reverse-append (h ∷ []) (z ∷ path) ∙ ap (λ xs. xs ++ h ∷ []) (reverse-append (z ∷ []) path)) ∙ end-long flag g z h (reverse path) ∙ sym (none flag)
+end-turned flag g (h ∷ z ∷ path) =
+    ap (at_end flag g) (reverse-append (h ∷ []) (z ∷ path) ∙ ap (λ xs. xs ++ h ∷ []) (reverse-append (z ∷ []) path)) ∙
+    end-long flag g z h (reverse path) ∙ sym (none flag)
   where
     none : (flag : Bool) → at_end flag g (h ∷ z ∷ path) ≡ None
     none true = refl
@@ -115,60 +141,83 @@ module _ (digest : List ℕ → List ℕ) where
   cons-none flag g [] n = elim (three n) [
     | inl z ↦ ap (λ m. cons_in digest (shape m) 0 flag g []) z ∙ cons-empty 0 flag g []
     | inr (inl o) ↦ ap (λ m. cons_in digest (shape m) 0 flag g []) o ∙ cons-one_none flag g []
-    | inr (inr two) ↦ ap (λ t. cons_in digest t 0 flag g []) (shape-join n two) ∙ cons-short digest (shape (split_of n)) (shape (n - split_of n)) 0 flag g (omega (arith, sizes digest n two))
+    | inr (inr two) ↦ ap (λ t. cons_in digest t 0 flag g []) (shape-join n two) ∙
+        cons-short digest (shape (split_of n)) (shape (n - split_of n)) 0 flag g (omega (arith, sizes digest n two))
   ]
   cons-none flag g (p ∷ rq) n = elim (three n) [
     | inl z ↦ ap (λ m. cons_in digest (shape m) 0 flag g (p ∷ rq)) z ∙ cons-empty 0 flag g (p ∷ rq)
     | inr (inl o) ↦ ap (λ m. cons_in digest (shape m) 0 flag g (p ∷ rq)) o ∙ cons-one_none flag g (p ∷ rq)
     | inr (inr two) ↦
         ap (λ t. cons_in digest t 0 flag g (p ∷ rq)) (shape-join n two)
-        ∙ cons-left digest (shape (split_of n)) (shape (n - split_of n)) 0 flag g p rq (omega (arith, sizes digest n two)) (omega arith)
+        ∙ cons-left digest (shape (split_of n)) (shape (n - split_of n)) 0 flag g p rq
+        (omega (arith, sizes digest n two)) (omega arith)
         ∙ ap (option_map (both_right digest p)) (cons-none flag g rq (split_of n))
   ]
 
-  join-beyond : (l r : Tree ℕ) (m : ℕ) (flag : Bool) (g : List ℕ) → size_of l + size_of r < m → cons_in digest (Join l r) m flag g [] ≡ None
+  join-beyond : (l r : Tree ℕ) (m : ℕ) (flag : Bool) (g : List ℕ) → size_of l + size_of r < m →
+      cons_in digest (Join l r) m flag g [] ≡ None
   join-beyond l r m flag g past = rw (equal_not m (size_of l + size_of r) past)
 
-  join-beyond_more : (l r : Tree ℕ) (m : ℕ) (flag : Bool) (g p : List ℕ) (rq : List (List ℕ)) → size_of l + size_of r < m → cons_in digest (Join l r) m flag g (p ∷ rq) ≡ option_map (both_left digest p) (cons_in digest r (m - size_of l) false g rq)
-  join-beyond_more l r m flag g p rq past = rw (equal_not m (size_of l + size_of r) past, not_at_most m (size_of l) (omega arith))
+  join-beyond_more : (l r : Tree ℕ) (m : ℕ) (flag : Bool) (g p : List ℕ) (rq : List (List ℕ)) →
+      size_of l + size_of r < m →
+      cons_in digest (Join l r) m flag g (p ∷ rq)
+      ≡ option_map (both_left digest p) (cons_in digest r (m - size_of l) false g rq)
+  join-beyond_more l r m flag g p rq past =
+      rw (equal_not m (size_of l + size_of r) past, not_at_most m (size_of l) (omega arith))
 
-  one-beyond : (m : ℕ) (flag : Bool) (g : List ℕ) (rq : List (List ℕ)) → 1 < m → cons_in digest (One 0) m flag g rq ≡ None
+  one-beyond : (m : ℕ) (flag : Bool) (g : List ℕ) (rq : List (List ℕ)) → 1 < m →
+      cons_in digest (One 0) m flag g rq ≡ None
   one-beyond m flag g rq past = rw (equal_not m 1 past)
 
-  cons-beyond : (flag : Bool) (g : List ℕ) (rq : List (List ℕ)) (m n : ℕ) → n < m → cons_in digest (shape n) m flag g rq ≡ None
+  cons-beyond : (flag : Bool) (g : List ℕ) (rq : List (List ℕ)) (m n : ℕ) → n < m →
+      cons_in digest (shape n) m flag g rq ≡ None
   cons-beyond flag g [] m n past = elim (three n) [
     | inl z ↦ ap (λ k. cons_in digest (shape k) m flag g []) z ∙ cons-empty m flag g []
-    | inr (inl o) ↦ ap (λ t. cons_in digest t m flag g []) (ap shape o ∙ shape-one) ∙ one-beyond m flag g [] (omega arith)
-    | inr (inr two) ↦ ap (λ t. cons_in digest t m flag g []) (shape-join n two) ∙ join-beyond (shape (split_of n)) (shape (n - split_of n)) m flag g (omega (arith, sizes digest n two))
+    | inr (inl o) ↦ ap (λ t. cons_in digest t m flag g []) (ap shape o ∙ shape-one) ∙
+        one-beyond m flag g [] (omega arith)
+    | inr (inr two) ↦ ap (λ t. cons_in digest t m flag g []) (shape-join n two) ∙
+        join-beyond (shape (split_of n)) (shape (n - split_of n)) m flag g (omega (arith, sizes digest n two))
   ]
   cons-beyond flag g (p ∷ rq) m n past = elim (three n) [
     | inl z ↦ ap (λ k. cons_in digest (shape k) m flag g (p ∷ rq)) z ∙ cons-empty m flag g (p ∷ rq)
-    | inr (inl o) ↦ ap (λ t. cons_in digest t m flag g (p ∷ rq)) (ap shape o ∙ shape-one) ∙ one-beyond m flag g (p ∷ rq) (omega arith)
+    | inr (inl o) ↦ ap (λ t. cons_in digest t m flag g (p ∷ rq)) (ap shape o ∙ shape-one) ∙
+        one-beyond m flag g (p ∷ rq) (omega arith)
     | inr (inr two) ↦
         let below = split_of-below n two in
         let sk = size_of-shape (split_of n) in
         ap (λ t. cons_in digest t m flag g (p ∷ rq)) (shape-join n two)
-        ∙ join-beyond_more (shape (split_of n)) (shape (n - split_of n)) m flag g p rq (omega (arith, sizes digest n two))
-        ∙ ap (option_map (both_left digest p)) (cons-beyond false g rq (m - size_of (shape (split_of n))) (n - split_of n) (omega arith))
+        ∙ join-beyond_more (shape (split_of n)) (shape (n - split_of n)) m flag g p rq
+        (omega (arith, sizes digest n two))
+        ∙ ap (option_map (both_left digest p))
+        (cons-beyond false g rq (m - size_of (shape (split_of n))) (n - split_of n) (omega arith))
   ]
 
-  step-left : (m n : ℕ) (flag : Bool) (g p : List ℕ) (rq : List (List ℕ)) → 0 < m → m < n → m ≤ split_of n → cons_in digest (shape n) m flag g (p ∷ rq) ≡ option_map (both_right digest p) (cons_in digest (shape (split_of n)) m flag g rq)
+  step-left : (m n : ℕ) (flag : Bool) (g p : List ℕ) (rq : List (List ℕ)) → 0 < m → m < n → m ≤ split_of n →
+      cons_in digest (shape n) m flag g (p ∷ rq)
+      ≡ option_map (both_right digest p) (cons_in digest (shape (split_of n)) m flag g rq)
   step-left m n flag g p rq some lt inside =
       let two : 2 ≤ n = omega arith in
       let sk = size_of-shape (split_of n) in
-      ap (λ t. cons_in digest t m flag g (p ∷ rq)) (shape-join n two) ∙ cons-left digest (shape (split_of n)) (shape (n - split_of n)) m flag g p rq (omega (arith, sizes digest n two)) (omega arith)
+      ap (λ t. cons_in digest t m flag g (p ∷ rq)) (shape-join n two) ∙
+      cons-left digest (shape (split_of n)) (shape (n - split_of n)) m flag g p rq
+      (omega (arith, sizes digest n two)) (omega arith)
 
-  step-right : (m n : ℕ) (flag : Bool) (g p : List ℕ) (rq : List (List ℕ)) → m < n → split_of n < m → cons_in digest (shape n) m flag g (p ∷ rq) ≡ option_map (both_left digest p) (cons_in digest (shape (n - split_of n)) (m - split_of n) false g rq)
+  step-right : (m n : ℕ) (flag : Bool) (g p : List ℕ) (rq : List (List ℕ)) → m < n → split_of n < m →
+      cons_in digest (shape n) m flag g (p ∷ rq)
+      ≡ option_map (both_left digest p) (cons_in digest (shape (n - split_of n)) (m - split_of n) false g rq)
   step-right m n flag g p rq lt past =
       let two : 2 ≤ n = omega arith in
       let sk = size_of-shape (split_of n) in
-      ap (λ t. cons_in digest t m flag g (p ∷ rq)) (shape-join n two) ∙ cons-right digest (shape (split_of n)) (shape (n - split_of n)) m flag g p rq (omega (arith, sizes digest n two)) (omega arith)
+      ap (λ t. cons_in digest t m flag g (p ∷ rq)) (shape-join n two) ∙
+      cons-right digest (shape (split_of n)) (shape (n - split_of n)) m flag g p rq
+      (omega (arith, sizes digest n two)) (omega arith)
       ∙ ap (λ j. option_map (both_left digest p) (cons_in digest (shape (n - split_of n)) (m - j) false g rq)) sk
 
   step-short : (m n : ℕ) (flag : Bool) (g : List ℕ) → 0 < m → m < n → cons_in digest (shape n) m flag g [] ≡ None
   step-short m n flag g some lt =
       let two : 2 ≤ n = omega arith in
-      ap (λ t. cons_in digest t m flag g []) (shape-join n two) ∙ cons-short digest (shape (split_of n)) (shape (n - split_of n)) m flag g (omega (arith, sizes digest n two))
+      ap (λ t. cons_in digest t m flag g []) (shape-join n two) ∙
+      cons-short digest (shape (split_of n)) (shape (n - split_of n)) m flag g (omega (arith, sizes digest n two))
 
   -- how the two sizes lie
   four : (m n : ℕ) → (m ≡ 0) ⊎ ((n < m) ⊎ (((m ≡ n) × (1 ≤ n)) ⊎ ((0 < m) × (m < n))))
@@ -180,14 +229,17 @@ module _ (digest : List ℕ → List ℕ) where
     ]
   ]
 
-  module _ (read : ℕ → ℕ → Bool → List ℕ → List (List ℕ) → Option (List ℕ × List ℕ)) (e : IsSubproofReader digest read) where
+  module _ (read : ℕ → ℕ → Bool → List ℕ → List (List ℕ) → Option (List ℕ × List ℕ))
+      (e : IsSubproofReader digest read) where
     abbrev IsSame : List (List ℕ) → ℕ → ℕ → Bool → List ℕ → Type 0
     IsSame rq m n flag g = read m n flag g (reverse rq) ≡ cons_in digest (shape n) m flag g rq
 
     -- where one step down does not help, all is said
-    or_within : (rq : List (List ℕ)) (m n : ℕ) (flag : Bool) (g : List ℕ) → (0 < m → m < n → IsSame rq m n flag g) → IsSame rq m n flag g
+    or_within : (rq : List (List ℕ)) (m n : ℕ) (flag : Bool) (g : List ℕ) → (0 < m → m < n → IsSame rq m n flag g) →
+        IsSame rq m n flag g
     or_within rq m n flag g within = elim (four m n) [
-      | inl z ↦ ap (λ k. read k n flag g (reverse rq)) z ∙ e.none n flag g (reverse rq) ∙ sym (ap (λ k. cons_in digest (shape n) k flag g rq) z ∙ cons-none flag g rq n)
+      | inl z ↦ ap (λ k. read k n flag g (reverse rq)) z ∙ e.none n flag g (reverse rq) ∙
+          sym (ap (λ k. cons_in digest (shape n) k flag g rq) z ∙ cons-none flag g rq n)
       | inr (inl past) ↦ e.beyond m n flag g (reverse rq) past ∙ sym (cons-beyond flag g rq m n past)
       | inr (inr (inl h)) ↦
           ap (λ k. read k n flag g (reverse rq)) h.0 ∙ e.whole n flag g (reverse rq) h.1 ∙ end-turned flag g rq
@@ -196,12 +248,17 @@ module _ (digest : List ℕ → List ℕ) where
     ]
 
     only_cons : (rq : List (List ℕ)) (m n : ℕ) (flag : Bool) (g : List ℕ) → IsSame rq m n flag g
-    only_cons [] m n flag g = or_within [] m n flag g (λ some lt. e.short m n flag g some lt ∙ sym (step-short m n flag g some lt))
+    only_cons [] m n flag g =
+        or_within [] m n flag g (λ some lt. e.short m n flag g some lt ∙ sym (step-short m n flag g some lt))
     only_cons (p ∷ rq) m n flag g =
         or_within (p ∷ rq) m n flag g
         (λ some lt. ap (read m n flag g) (reverse-append (p ∷ []) rq) ∙ elim (cases_lt (split_of n) m) [
-          | inr inside ↦ e.left m n flag g p (reverse rq) some lt inside ∙ ap (option_map (both_right digest p)) (only_cons rq m (split_of n) flag g) ∙ sym (step-left m n flag g p rq some lt inside)
-          | inl past ↦ e.right m n flag g p (reverse rq) lt past ∙ ap (option_map (both_left digest p)) (only_cons rq (m - split_of n) (n - split_of n) false g) ∙ sym (step-right m n flag g p rq lt past)
+          | inr inside ↦ e.left m n flag g p (reverse rq) some lt inside ∙
+              ap (option_map (both_right digest p)) (only_cons rq m (split_of n) flag g) ∙
+              sym (step-left m n flag g p rq some lt inside)
+          | inl past ↦ e.right m n flag g p (reverse rq) lt past ∙
+              ap (option_map (both_left digest p)) (only_cons rq (m - split_of n) (n - split_of n) false g) ∙
+              sym (step-right m n flag g p rq lt past)
         ])
 
 pub cons_equations : ConsEquations
@@ -212,8 +269,11 @@ cons_equations digest = (
     beyond = λ m n flag g path past. cons-beyond digest flag g (reverse path) m n past;
     whole = λ n flag g path some. whole digest n flag g (reverse path) some ∙ end-turned flag g path;
     short = λ m n flag g some lt. step-short digest m n flag g some lt;
-    left = λ m n flag g p path some lt inside. ap (cons_in digest (shape n) m flag g) (last-first path p) ∙ step-left digest m n flag g p (reverse path) some lt inside;
-    right = λ m n flag g p path lt past. ap (cons_in digest (shape n) m flag g) (last-first path p) ∙ step-right digest m n flag g p (reverse path) lt past;
+    left = λ m n flag g p path some lt inside. ap (cons_in digest (shape n) m flag g) (last-first path p) ∙
+        step-left digest m n flag g p (reverse path) some lt inside;
+    right = λ m n flag g p path lt past. ap (cons_in digest (shape n) m flag g) (last-first path p) ∙
+        step-right digest m n flag g p (reverse path) lt past;
   },
-  λ read e m n flag g path. ap (read m n flag g) (sym (reverse-reverse path)) ∙ only_cons digest read e (reverse path) m n flag g,
+  λ read e m n flag g path. ap (read m n flag g) (sym (reverse-reverse path)) ∙
+      only_cons digest read e (reverse path) m n flag g,
 )

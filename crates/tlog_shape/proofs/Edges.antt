@@ -14,7 +14,8 @@ fits-index index n size some fits = omega (arith, le-div (index + 1) n size some
 
 pub index-fits : (index n size : ℕ) → index < n / size → (index + 1) * size ≤ n
 index-fits index n size below =
-    let le : (index + 1) * size ≤ n / size * size = mul-le (index + 1) size (n / size) size (omega arith) (omega arith) in
+    let le : (index + 1) * size ≤ n / size * size =
+    mul-le (index + 1) size (n / size) size (omega arith) (omega arith) in
     omega (arith, le, div-mul-le_self n size)
 
 -- ---- the top level
@@ -88,8 +89,10 @@ level_multiple size level power upto =
     let m = power_multiple e high le in
     record { times = m.times; is = level_power (level + 1) ∙ m.is ∙ ap (λ k. m.times * k) (sym power.is) }
 
--- a node of a power of two of entries, aligned to its size, that begins in a block of a multiple of that size ends in it
-within_block : (start size whole times : ℕ) → 0 < size → start % size ≡ 0 → whole ≡ times * size → 0 < whole → start + size ≤ (start / whole + 1) * whole
+-- a node of a power of two of entries, aligned to its size, that begins in a block of a multiple of that size ends in
+-- it
+within_block : (start size whole times : ℕ) → 0 < size → start % size ≡ 0 → whole ≡ times * size → 0 < whole →
+    start + size ≤ (start / whole + 1) * whole
 within_block start size whole times some aligned is positive =
     let a = start / size in
     let start_is : start ≡ a * size = omega (arith, div-add-mod' start size, aligned) in
@@ -100,22 +103,26 @@ within_block start size whole times some aligned is positive =
     let below : a < (index + 1) * times = elim (cases_lt a ((index + 1) * times)) [
       | inl l ↦ l
       | inr over ↦
-          let large : ((index + 1) * times) * size ≤ a * size = mul-le ((index + 1) * times) size a size over (omega arith) in
+          let large : ((index + 1) * times) * size ≤ a * size =
+          mul-le ((index + 1) * times) size a size over (omega arith) in
           absurd (omega (arith, large, start_is, after, blocks, counted))
     ] in
-    let next : (a + 1) * size ≤ ((index + 1) * times) * size = mul-le (a + 1) size ((index + 1) * times) size (omega (arith, below)) (omega arith) in
+    let next : (a + 1) * size ≤ ((index + 1) * times) * size =
+    mul-le (a + 1) size ((index + 1) * times) size (omega (arith, below)) (omega arith) in
     let more : (a + 1) * size ≡ a * size + size = omega arith in
     omega (arith, next, more, start_is, counted)
 
 -- the span of a tile whose level was counted up to the first that leaves nothing
-pub spans_node : (size level rest : ℕ) → 2 ≤ size → rest ≡ (size - 1) / 256 ^ (level + 1) → rest ≡ 0 → size ≤ 256 ^ (level + 1)
+pub spans_node : (size level rest : ℕ) → 2 ≤ size → rest ≡ (size - 1) / 256 ^ (level + 1) → rest ≡ 0 →
+    size ≤ 256 ^ (level + 1)
 spans_node size level rest several rest_is done =
     let whole = 256 ^ (level + 1) in
     let after : size - 1 < (size - 1) / whole * whole + whole = lt-div-mul-add (level_positive (level + 1)) in
     let none : (size - 1) / whole * whole ≡ 0 = ap (λ q. q * whole) (sym rest_is ∙ done) ∙ omega arith in
     omega (arith, after, none)
 
-module _ (start size level index : ℕ) (several : 2 ≤ size) (upto : size ≤ 256 ^ (level + 1)) (index_is : index ≡ start / 256 ^ (level + 1)) where
+module _ (start size level index : ℕ) (several : 2 ≤ size) (upto : size ≤ 256 ^ (level + 1))
+    (index_is : index ≡ start / 256 ^ (level + 1)) where
   pub tile_is : 256 ^ level ≤ size - 1 → IsTileOfNode start size level index
   tile_is above = record { above = omega (arith, above, several); upto = upto; index_is = index_is }
 
@@ -125,7 +132,9 @@ module _ (start size level index : ℕ) (several : 2 ≤ size) (upto : size ≤ 
       let multiple = level_multiple size level power upto in
       record {
         from = rw index_is (div-mul-le_self start whole);
-        to = rw index_is (within_block start size whole multiple.times (omega (arith, several)) aligned multiple.is (level_positive (level + 1)));
+        to = rw index_is
+            (within_block start size whole multiple.times (omega (arith, several)) aligned multiple.is
+            (level_positive (level + 1)));
       }
 
 -- one level more

@@ -24,7 +24,8 @@ level_next level =
 pub shift_level : (n level : ℕ) → n / 256 ^ level / 256 ≡ n / 256 ^ (level + 1)
 shift_level n level =
     let e : 8 * level + 8 ≡ 8 * (level + 1) = omega arith in
-    ap (λ m. n / m / 256) (level_power level) ∙ shr-shr n (8 * level) 8 ∙ ap (λ m. n / 2 ^ m) e ∙ ap (λ m. n / m) (sym (level_power (level + 1)))
+    ap (λ m. n / m / 256) (level_power level) ∙ shr-shr n (8 * level) 8 ∙ ap (λ m. n / 2 ^ m) e ∙
+    ap (λ m. n / m) (sym (level_power (level + 1)))
 
 pub level_mono : (low high : ℕ) → low ≤ high → 256 ^ low ≤ 256 ^ high
 level_mono low high le =

@@ -1,5 +1,6 @@
 -- The digits of a number.
-use Rattle.std.proofs.Common.{◌≡◌, ◌≢◌, ℕ, ◌+◌, ◌<◌, ◌≤◌, ◌^◌, Bool, true, false, List, length, get_or, refl, sym, subst, ◌∙◌, ap, arith, rules, Ok, Err, inl, inr, map, lit<, lit≤, MatchBool}
+use Rattle.std.proofs.Common.{◌≡◌, ◌≢◌, ℕ, ◌+◌, ◌<◌, ◌≤◌, ◌^◌, Bool, true, false, List, length, get_or, refl, sym}
+use Rattle.std.proofs.Common.{subst, ◌∙◌, ap, arith, rules, Ok, Err, inl, inr, map, lit<, lit≤, MatchBool}
 use Rattle.std.specs.List.{list_all}
 use Rattle.std.specs.Char.{is_ascii_digit}
 use Rattle.std.specs.Fmt.{decimal}
@@ -19,7 +20,8 @@ own : IsNumeralModel (λ ds. list_all is_ascii_digit ds ≡ true) (digits_value 
 own = numerals_by_value _ (search rules)
 
 -- digits with no leading zero give their number
-pub decimal_here : (ds : List ℕ) → 0 < length ds → list_all is_ascii_digit ds ≡ true → (1 < length ds → get_or ds 0 0 ≢ 48) → IsDecimal ds (digits_value 10 ds)
+pub decimal_here : (ds : List ℕ) → 0 < length ds → list_all is_ascii_digit ds ≡ true →
+    (1 < length ds → get_or ds 0 0 ≢ 48) → IsDecimal ds (digits_value 10 ds)
 decimal_here ds some digits zero = record { numeral = (some, own.to ds digits); no_leading_zero = zero; value = refl }
 
 -- what has another byte than digits gives none
@@ -29,7 +31,8 @@ no_digits ds n other is =
     cc
 
 -- the test of digits with no leading zero tells whether they give a number
-pub decimal_test : (ds : List ℕ) (r : Bool) → 0 < length ds → (1 < length ds → get_or ds 0 0 ≢ 48) → r ≡ list_all is_ascii_digit ds → MatchBool r (IsDecimal ds (digits_value 10 ds)) ((n : ℕ) → IsDecimal ds n → ⊥)
+pub decimal_test : (ds : List ℕ) (r : Bool) → 0 < length ds → (1 < length ds → get_or ds 0 0 ≢ 48) →
+    r ≡ list_all is_ascii_digit ds → MatchBool r (IsDecimal ds (digits_value 10 ds)) ((n : ℕ) → IsDecimal ds n → ⊥)
 decimal_test ds true some zero is = decimal_here ds some (sym is) zero
 decimal_test ds false some zero is = λ n. no_digits ds n (sym is)
 
@@ -38,14 +41,16 @@ pub one_number : (ds : List ℕ) (m n : ℕ) → IsDecimal ds m → IsDecimal ds
 one_number ds m n p q = sym p.value ∙ q.value
 
 -- the number, where reading it gave one
-pub number_read : (E : Type 0) (ds : List ℕ) (n : ℕ) → IsDecimal ds (digits_value 10 ds) → ParsesUnsigned {E = E} 64 10 ds (Ok n) → IsDecimal ds n
+pub number_read : (E : Type 0) (ds : List ℕ) (n : ℕ) → IsDecimal ds (digits_value 10 ds) →
+    ParsesUnsigned {E = E} 64 10 ds (Ok n) → IsDecimal ds n
 number_read E ds n is parses =
     let ok = parse_digits own {E = E} 64 ds (Ok n) parses (own.from ds is.numeral.1) in
     let e : n ≡ digits_value 10 ds = ok.1 in
     rw e is
 
 -- the number is large where reading it failed
-pub number_large : (E : Type 0) (ds : List ℕ) (e : E) → IsDecimal ds (digits_value 10 ds) → ParsesUnsigned {E = E} 64 10 ds (Err e) → 2 ^ 64 ≤ digits_value 10 ds
+pub number_large : (E : Type 0) (ds : List ℕ) (e : E) → IsDecimal ds (digits_value 10 ds) →
+    ParsesUnsigned {E = E} 64 10 ds (Err e) → 2 ^ 64 ≤ digits_value 10 ds
 number_large E ds e is parses =
     let none = parse_digits own {E = E} 64 ds (Err e) parses (own.from ds is.numeral.1) in
     elim (cases_lt (digits_value 10 ds) (2 ^ 64)) [
@@ -64,7 +69,8 @@ short ds zero some first = elim (cases_lt 1 (length ds)) [
 pub decimal_is : (ds : List ℕ) (n : ℕ) → n < 2 ^ 64 → IsDecimal ds n → ds ≡ decimal n
 decimal_is ds n lt is =
     let low : digits_value 10 ds < 2 ^ 64 = omega (arith, is.value) in
-    sym (decimal-digits_value own ds (own.from ds is.numeral.1) is.numeral.0 (short ds is.no_leading_zero is.numeral.0) low) ∙ ap decimal is.value
+    sym (decimal-digits_value own ds (own.from ds is.numeral.1) is.numeral.0
+    (short ds is.no_leading_zero is.numeral.0) low) ∙ ap decimal is.value
 
 -- no zero stands first in two digits or more
 first_digit : (n : ℕ) → n < 2 ^ 64 → 1 < length (decimal n) → get_or (decimal n) 0 0 ≢ 48
@@ -72,9 +78,12 @@ first_digit n lt more first = elim (cases_lt 0 n) [
   | inl some ↦
       let low : n < 2 ^ 64 = omega arith in
       let is : decimal n ≡ map (λ d. 48 + d) (digits_of 10 n) = decimal-digits_of n some low in
-      let len : length (decimal n) ≡ length (digits_of 10 n) = ap length is ∙ length-map (digits_of 10 n) (λ d. 48 + d) in
-      let at : get_or (map (λ d. 48 + d) (digits_of 10 n)) 0 0 ≡ 48 + get_or (digits_of 10 n) 0 0 = get_or-map (λ d. 48 + d) (digits_of 10 n) 0 0 0 (omega arith) in
-      let same : get_or (decimal n) 0 0 ≡ get_or (map (λ d. 48 + d) (digits_of 10 n)) 0 0 = ap (λ (x : List ℕ). get_or x 0 0) is in
+      let len : length (decimal n) ≡ length (digits_of 10 n) =
+      ap length is ∙ length-map (digits_of 10 n) (λ d. 48 + d) in
+      let at : get_or (map (λ d. 48 + d) (digits_of 10 n)) 0 0 ≡ 48 + get_or (digits_of 10 n) 0 0 =
+      get_or-map (λ d. 48 + d) (digits_of 10 n) 0 0 0 (omega arith) in
+      let same : get_or (decimal n) 0 0 ≡ get_or (map (λ d. 48 + d) (digits_of 10 n)) 0 0 =
+      ap (λ (x : List ℕ). get_or x 0 0) is in
       let above : 0 < get_or (digits_of 10 n) 0 0 = first_digits_of 10 n (lit≤ tt) some in
       omega arith
   | inr none ↦
@@ -95,6 +104,8 @@ numbers_are_spelled = record {
 }
 
 -- a text that is refused is no number that is taken
-pub refused_number : (greatest : ℕ) (text : List ℕ) (e : NumberFault) → ReadsNumber greatest text (Err e) → (n : ℕ) → IsDecimal text n → n ≤ greatest → ⊥
+pub refused_number : (greatest : ℕ) (text : List ℕ) (e : NumberFault) → ReadsNumber greatest text (Err e) → (n : ℕ) →
+    IsDecimal text n → n ≤ greatest → ⊥
 refused_number greatest text NotANumber refused n is small = refused n is
-refused_number greatest text TooLarge refused n is small = omega (arith, one_number text refused.0 n refused.1 is, refused.2)
+refused_number greatest text TooLarge refused n is small =
+    omega (arith, one_number text refused.0 n refused.1 is, refused.2)

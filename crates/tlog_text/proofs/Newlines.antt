@@ -1,5 +1,6 @@
 -- No newline stands in digits or in base64.
-use Rattle.std.proofs.Common.{◌≡◌, ◌≢◌, ℕ, zero, suc, ◌+◌, ◌*◌, ◌/◌, ◌%◌, ◌==◌, Bool, true, not, List, [], ◌∷◌, length, replicate, slice_index, refl, ◌∙◌, arith}
+use Rattle.std.proofs.Common.{◌≡◌, ◌≢◌, ℕ, zero, suc, ◌+◌, ◌*◌, ◌/◌, ◌%◌, ◌==◌, Bool, true, not, List, [], ◌∷◌, length}
+use Rattle.std.proofs.Common.{replicate, slice_index, refl, ◌∙◌, arith}
 use Rattle.std.specs.Prelude.{IsTrue}
 use Rattle.std.specs.List.{list_all}
 use Rattle.std.specs.Str.Parse.{AllDigits}
@@ -34,12 +35,14 @@ at_each (x ∷ xs) h zero = (and_parts (not_newline x) (list_all not_newline xs)
 at_each (x ∷ xs) h (suc k) = at_each xs (and_parts (not_newline x) (list_all not_newline xs) h).1 k
 
 -- the symbols of base64, of a table that lacks the newline
-symbols_lack : (t m : List ℕ) → ((k : ℕ) → not_newline (slice_index t k) ≡ true) → list_all not_newline (encode_symbols t m) ≡ true
+symbols_lack : (t m : List ℕ) → ((k : ℕ) → not_newline (slice_index t k) ≡ true) →
+    list_all not_newline (encode_symbols t m) ≡ true
 unfolding encode_symbols
 symbols_lack t [] h = refl
 symbols_lack t (a ∷ []) h = rw (h (a / 4), h (a % 4 * 16)) refl
 symbols_lack t (a ∷ b ∷ []) h = rw (h (a / 4), h (a % 4 * 16 + b / 16), h (b % 16 * 4)) refl
-symbols_lack t (a ∷ b ∷ c ∷ rest) h = rw (h (a / 4), h (a % 4 * 16 + b / 16), h (b % 16 * 4 + c / 64), h (c % 64)) (symbols_lack t rest h)
+symbols_lack t (a ∷ b ∷ c ∷ rest) h =
+    rw (h (a / 4), h (a % 4 * 16 + b / 16), h (b % 16 * 4 + c / 64), h (c % 64)) (symbols_lack t rest h)
 
 padding_lacks : (n : ℕ) → list_all not_newline (replicate n 61) ≡ true
 padding_lacks zero = refl
@@ -53,4 +56,5 @@ pub base64_lacks_newline : (m : List ℕ) → LacksNewline (base64_of m)
 unfolding base64_of
 base64_lacks_newline m =
     list_all-append not_newline (encode_symbols standard.encode_table m) (replicate (padding_len (length m)) 61)
-    ∙ and_from _ _ (symbols_lack standard.encode_table m (at_each standard.encode_table no_newline_in_table)) (padding_lacks (padding_len (length m)))
+    ∙ and_from _ _ (symbols_lack standard.encode_table m (at_each standard.encode_table no_newline_in_table))
+    (padding_lacks (padding_len (length m)))

@@ -27,11 +27,13 @@ pub number_width : (text : List ℕ) (n width : ℕ) → IsDecimal text n → Is
 number_width text n width is h = one_number text n width is (width_decimal text width h)
 
 -- what is refused as a number of at most 255 is no width
-pub no_number : (text : List ℕ) (fault : NumberFault) → ReadsNumber 255 text (Err fault) → (width : ℕ) → IsPartialWidth text width → ⊥
+pub no_number : (text : List ℕ) (fault : NumberFault) → ReadsNumber 255 text (Err fault) → (width : ℕ) →
+    IsPartialWidth text width → ⊥
 no_number text NotANumber h width w = h width (width_decimal text width w)
 no_number text TooLarge h width w =
     let over : 255 < h.0 = h.2 in
     omega (arith, number_width text h.0 width h.1 w, w.partial)
 
 pub partial_width_is : (text : List ℕ) (n : ℕ) → IsDecimal text n → n ≤ 255 → 1 ≤ n → IsPartialWidth text n
-partial_width_is text n is most some = record { some = some; partial = most; text_is = decimal_is text n (omega arith) is }
+partial_width_is text n is most some =
+    record { some = some; partial = most; text_is = decimal_is text n (omega arith) is }

@@ -12,10 +12,16 @@ returns-in_default c = (refl, no_pin_words c.args.text.now c.in_default.ensures.
 pub returns-in_default-from_hex : goal.returns-in_default-from_hex
 returns-in_default-from_hex c = (
   refl,
-  no_pin_digits c.args.text.now c.in-Some.name.now c.in-Some.digits.now c.in-Some.id c.in-Some.ensures.found (Lacks-from_reads space c.in-Some.name.now c.in-Some.ensures.first)
-      (λ bytes len h. not_sized c.in-Some.digits.now bytes 32 c.from_hex.result c.from_hex.ensures (ap is_ok c.in_default-from_hex.is) len h),
+  no_pin_digits c.args.text.now c.in-Some.name.now c.in-Some.digits.now c.in-Some.id c.in-Some.ensures.found
+      (Lacks-from_reads space c.in-Some.name.now c.in-Some.ensures.first)
+      (λ bytes len h. not_sized c.in-Some.digits.now bytes 32 c.from_hex.result c.from_hex.ensures
+      (ap is_ok c.in_default-from_hex.is) len h),
 )
 
 pub returns-in-Err-BadName : goal.returns-in-Err-BadName
-returns-in-Err-BadName c =
-    (refl, no_pin_name c.args.text.now c.in-Some.name.now c.in-Some.digits.now c.in-Some.id c.in-Some.ensures.found (Lacks-from_reads space c.in-Some.name.now c.in-Some.ensures.first) (rw c.in-Err-BadName.field-0-is at c.in-Err-BadName.ensures))
+returns-in-Err-BadName c = (
+  refl,
+  no_pin_name c.args.text.now c.in-Some.name.now c.in-Some.digits.now c.in-Some.id c.in-Some.ensures.found
+      (Lacks-from_reads space c.in-Some.name.now c.in-Some.ensures.first)
+      (rw c.in-Err-BadName.field-0-is at c.in-Err-BadName.ensures),
+)

@@ -11,11 +11,16 @@ returns-in_default c = (refl, no_secret_words c.args.text.now c.in_default.ensur
 pub returns-in_err-secret : goal.returns-in_err-secret
 returns-in_err-secret c =
     let p = err_from_is_err_and c.from_residual.result c.from_residual.ensures.1 in
-    rw (p.1, p.2) (secret_refused c.args.text.now c.in-Some.name.now c.in-Some.digits.now c.in-Some.id c.args.number c.in_err-secret.field-0.0 c.in-Some.ensures.found (Lacks-from_reads space c.in-Some.name.now c.in-Some.ensures.first) c.in_err-secret.ensures)
+    rw (p.1, p.2)
+    (secret_refused c.args.text.now c.in-Some.name.now c.in-Some.digits.now c.in-Some.id c.args.number c.in_err-secret.field-0.0 c.in-Some.ensures.found (Lacks-from_reads space c.in-Some.name.now c.in-Some.ensures.first) c.in_err-secret.ensures)
 
 pub returns-in-Err-BadName : goal.returns-in-Err-BadName
-returns-in-Err-BadName c =
-    (refl, no_secret_name c.args.text.now c.in-Some.name.now c.in-Some.digits.now c.in-Some.id c.in-Some.ensures.found (Lacks-from_reads space c.in-Some.name.now c.in-Some.ensures.first) (rw c.in-Err-BadName.field-0-is at c.in-Err-BadName.ensures))
+returns-in-Err-BadName c = (
+  refl,
+  no_secret_name c.args.text.now c.in-Some.name.now c.in-Some.digits.now c.in-Some.id c.in-Some.ensures.found
+      (Lacks-from_reads space c.in-Some.name.now c.in-Some.ensures.first)
+      (rw c.in-Err-BadName.field-0-is at c.in-Err-BadName.ensures),
+)
 
 pub returns : goal.returns
 returns c =

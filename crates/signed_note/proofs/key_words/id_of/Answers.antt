@@ -5,4 +5,6 @@ use Rattle.signed_note.proofs.key_words.id_of.Goals as goal
 
 pub returns-in_err-bytes-clause-none : goal.returns-in_err-bytes-clause-none
 returns-in_err-bytes-clause-none c =
-    rw c.from_residual.ensures (λ id h. not_sized c.args.digits.now (big_bytes 4 id) 4 c.from_hex.result c.from_hex.ensures (sym c.in_err-bytes.ensures.variant) refl h)
+    rw c.from_residual.ensures
+    (λ id h. not_sized c.args.digits.now (big_bytes 4 id) 4 c.from_hex.result c.from_hex.ensures
+    (sym c.in_err-bytes.ensures.variant) refl h)

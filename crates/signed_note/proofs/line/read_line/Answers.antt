@@ -7,13 +7,15 @@ use Rattle.signed_note.proofs.line.read_line.Goals as goal
 
 pub returns-then-not-is_key_name : goal.returns-then-not-is_key_name
 returns-then-not-is_key_name c =
-    not_named c.args.line.now c.in-Some.name.now c.in-Some.encoded.now c.in-Some.ensures.found (Lacks-from_reads space c.in-Some.name.now c.in-Some.ensures.first)
+    not_named c.args.line.now c.in-Some.name.now c.in-Some.encoded.now c.in-Some.ensures.found
+    (Lacks-from_reads space c.in-Some.name.now c.in-Some.ensures.first)
     (λ named. let yes = c.is_key_name.ensures.1 named in absurd cc)
 
 pub returns-in_err-payload : goal.returns-in_err-payload
 returns-in_err-payload c =
     let p = err_from_is_err_and c.from_residual.result c.from_residual.ensures.1 in
-    rw (p.1, p.2) (refused c.args.line.now c.in-Some.name.now c.in-Some.encoded.now c.in_err-payload.field-0.0 c.in-Some.ensures.found (Lacks-from_reads space c.in-Some.name.now c.in-Some.ensures.first) c.in_err-payload.ensures)
+    rw (p.1, p.2)
+    (refused c.args.line.now c.in-Some.name.now c.in-Some.encoded.now c.in_err-payload.field-0.0 c.in-Some.ensures.found (Lacks-from_reads space c.in-Some.name.now c.in-Some.ensures.first) c.in_err-payload.ensures)
 
 pub returns-then-len-lt5 : goal.returns-then-len-lt5
 returns-then-len-lt5 c =

@@ -7,6 +7,11 @@ use Rattle.signed_note.proofs.name.is_key_name.Goals as goal
 pub returns-then-not-is_empty : goal.returns-then-not-is_empty
 returns-then-not-is_empty c =
     let some : 0 < length c.args.name.now = grind (arith, nat_tests) in (
-      λ h. record { utf8 = c.utf8.name; some = some; characters = AllPass-from_list_all is_name_char _ (sym c.has_name_characters.ensures ∙ h) },
+      λ h. record {
+        utf8 = c.utf8.name;
+        some =
+            some;
+        characters = AllPass-from_list_all is_name_char _ (sym c.has_name_characters.ensures ∙ h);
+      },
       λ h. c.has_name_characters.ensures ∙ list_all-from_AllPass is_name_char _ h.characters,
     )

@@ -11,7 +11,9 @@ returns-then-is_printed c =
       | then-is_key_name w ↦ (
         λ h. record {
           key_name = c.is_key_name.ensures.0 w.if-is_key_name.true;
-          printed = AllPass-from_list_all (nat_le space) _ (sym w.is_printed.ensures ∙ (sym w.value-is ∙ c.if-is_printed.true));
+          printed =
+              AllPass-from_list_all (nat_le space) _
+              (sym w.is_printed.ensures ∙ (sym w.value-is ∙ c.if-is_printed.true));
           short = grind (arith, nat_tests);
         },
         λ h. let short : length c.args.name.now ≤ 255 = h.short in grind (arith, nat_tests),

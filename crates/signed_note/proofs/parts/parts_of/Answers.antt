@@ -12,12 +12,16 @@ range_from-requires c =
     let blank : IsBlank c.args.whole.now c.in_ok-at.at = rw c.as_bytes.ensures.value at c.in_ok-at.ensures.found in
     let here : get_or c.args.whole.now (c.in_ok-at.at + 1) 0 ≡ newline = blank.second in
     let two : c.in_ok-at.at + 1 + 1 ≡ c.in_ok-at.at + 2 = omega arith in
-    let cut : IsCharBoundary c.args.whole.now (c.in_ok-at.at + 2) = rw two at (IsCharBoundary-after_ascii c.args.whole.now (c.in_ok-at.at + 1) c.utf8.whole blank.within (omega (arith, here))) in
+    let cut : IsCharBoundary c.args.whole.now (c.in_ok-at.at + 2) =
+    rw two at
+    (IsCharBoundary-after_ascii c.args.whole.now (c.in_ok-at.at + 1) c.utf8.whole blank.within
+    (omega (arith, here))) in
     λ _. cut
 
 pub returns-clause-found : goal.returns-clause-found
 returns-clause-found c =
     let blank : IsBlank c.args.whole.now c.in_ok-at.at = rw c.as_bytes.ensures.value at c.in_ok-at.ensures.found in
-    let front : slice_range c.args.whole.now 0 (c.in_ok-at.at + 1) ≡ take (c.in_ok-at.at + 1) c.args.whole.now = grind arith in
+    let front : slice_range c.args.whole.now 0 (c.in_ok-at.at + 1) ≡ take (c.in_ok-at.at + 1) c.args.whole.now =
+    grind arith in
     rw (c.range.ensures.value, c.range_from.ensures.value, front)
     (split_at_blank c.args.whole.now c.in_ok-at.at blank (rw c.as_bytes.ensures.value at c.in_ok-at.ensures.last))

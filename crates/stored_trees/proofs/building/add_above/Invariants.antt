@@ -8,8 +8,13 @@ use Rattle.stored_trees.proofs.building.add_above.Given as goal
 -- what is left leads to the same
 abbrev pub invariant-loop-row : goal.invariant-loop-row
 invariant-loop-row g l = record {
-  root : root_from g.H.TreeHash.digest l.value (map (λ row. row.items) (into_iter_items l.row-iterator)) ≡ root_from g.H.TreeHash.digest l.fn.start (map (λ row. row.items) l.fn.rows.items);
-  strings : set.union l.store (set.from_list (strings_from g.H.TreeHash.digest l.value (map (λ row. row.items) (into_iter_items l.row-iterator)))) ≡ set.union l.fn.store (set.from_list (strings_from g.H.TreeHash.digest l.fn.start (map (λ row. row.items) l.fn.rows.items)));
+  root : root_from g.H.TreeHash.digest l.value (map (λ row. row.items) (into_iter_items l.row-iterator))
+      ≡ root_from g.H.TreeHash.digest l.fn.start (map (λ row. row.items) l.fn.rows.items);
+  strings : set.union l.store
+      (set.from_list
+      (strings_from g.H.TreeHash.digest l.value (map (λ row. row.items) (into_iter_items l.row-iterator))))
+      ≡ set.union l.fn.store
+      (set.from_list (strings_from g.H.TreeHash.digest l.fn.start (map (λ row. row.items) l.fn.rows.items)));
   count : into_iter_len l.row-iterator ≡ length (into_iter_items l.row-iterator);
   no_clash : NoClash g.H.TreeHash.digest l.store;
 }

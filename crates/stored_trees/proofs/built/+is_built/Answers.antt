@@ -5,7 +5,8 @@ use Rattle.stored_trees.proofs.built.+is_built.Goals as goal
 
 pub returns-then-size-eq0 : goal.returns-then-size-eq0
 returns-then-size-eq0 g t c =
-    tells_none g.H.TreeHash.digest c.args.store.now c.args.size c.args.root.now c.eq.result c.if-size-eq0.true (c.eq.ensures ∙ ap (λ d. pointwise eqb d c.args.root.now) c.empty.ensures)
+    tells_none g.H.TreeHash.digest c.args.store.now c.args.size c.args.root.now c.eq.result c.if-size-eq0.true
+    (c.eq.ensures ∙ ap (λ d. pointwise eqb d c.args.root.now) c.empty.ensures)
 
 pub returns-then-size-eq1 : goal.returns-then-size-eq1
 returns-then-size-eq1 g t c =
@@ -13,7 +14,8 @@ returns-then-size-eq1 g t c =
 
 pub returns-in_default : goal.returns-in_default
 returns-in_default g t c =
-    tells_no_pair g.H.TreeHash.digest c.args.store.now c.args.size c.args.root.now (omega arith) c.in_default.ensures.none
+    tells_no_pair g.H.TreeHash.digest c.args.store.now c.args.size c.args.root.now
+    (omega arith) c.in_default.ensures.none
 
 pub returns-then-is_built : goal.returns-then-is_built
 returns-then-is_built g t c =
@@ -28,4 +30,5 @@ returns-else-is_built g t c =
     c.if-is_built.false c.is_built.ensures
 
 pub returns-then-contains : goal.returns-then-contains
-returns-then-contains g t c = (λ _. c.requires.built c.args.size c.args.root.now (c.contains.ensures.0 c.if-contains.true), λ _. refl)
+returns-then-contains g t c =
+    (λ _. c.requires.built c.args.size c.args.root.now (c.contains.ensures.0 c.if-contains.true), λ _. refl)

@@ -9,5 +9,10 @@ returns-in_default-clause-none g c = λ entries h.
 
 pub loop-hash-preserved : goal.loop-hash-preserved
 loop-hash-preserved g c =
-    rw (take_more c.args.row.now c.loop-hash.hash-index [] c.loop-hash-test.true, c.in_ok-push.ensures.items, map-append (λ e. e.now) c.loop-hash.lent.items (c.in-Some.entry ∷ []))
-    (leaves_push g.H.TreeHash.digest c.args.store.now (take c.loop-hash.hash-index c.args.row.now) (map (λ e. e.now) c.loop-hash.lent.items) _ c.in-Some.entry.now c.loop-hash.invariant c.in-Some.ensures.some)
+    rw (
+      take_more c.args.row.now c.loop-hash.hash-index [] c.loop-hash-test.true,
+      c.in_ok-push.ensures.items,
+      map-append (λ e. e.now) c.loop-hash.lent.items (c.in-Some.entry ∷ []),
+    )
+    (leaves_push g.H.TreeHash.digest c.args.store.now (take c.loop-hash.hash-index c.args.row.now)
+    (map (λ e. e.now) c.loop-hash.lent.items) _ c.in-Some.entry.now c.loop-hash.invariant c.in-Some.ensures.some)

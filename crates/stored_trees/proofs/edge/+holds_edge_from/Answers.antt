@@ -5,7 +5,8 @@ use Rattle.stored_trees.proofs.edge.+holds_edge_from.Goals as goal
 
 pub returns-then-level-eq8 : goal.returns-then-level-eq8
 returns-then-level-eq8 g t c =
-    edge_none g.H.TreeHash.digest c.args.store.now c.args.size c.args.level c.args.root.now _ c.if-level-eq8.true (c.eq.ensures ∙ ap (λ d. pointwise eqb d c.args.root.now) c.empty.ensures)
+    edge_none g.H.TreeHash.digest c.args.store.now c.args.size c.args.level c.args.root.now _ c.if-level-eq8.true
+    (c.eq.ensures ∙ ap (λ d. pointwise eqb d c.args.root.now) c.empty.ensures)
 
 pub returns-then-width-eq0 : goal.returns-then-width-eq0
 returns-then-width-eq0 g t c =

@@ -11,13 +11,20 @@ none_in paths path is h = let len = ap length is in omega (arith, len, h.1)
 pub returns-then-size-eq0 : goal.returns-then-size-eq0
 returns-then-size-eq0 g c = λ path. (
   λ h. absurd (none_in c.new-paths.result.items path c.new-paths.ensures.items h),
-  λ m. absurd (nothing_missing g.H.TreeHash.digest c.args.store.now c.args.root.now path (subst (λ n. IsMissing g.H.TreeHash.digest c.args.store.now n c.args.root.now path) c.if-size-eq0.true m)),
+  λ m. absurd
+      (nothing_missing g.H.TreeHash.digest c.args.store.now c.args.root.now path
+      (subst (λ n. IsMissing g.H.TreeHash.digest c.args.store.now n c.args.root.now path) c.if-size-eq0.true m)),
 )
 
 pub returns : goal.returns
 returns g c = λ path.
     let added = c.in_ok-push_lost.ensures path in
     let same = lost_is_missing g.H.TreeHash.digest c.args.store.now c.args.size c.args.root.now path in (
-      λ h. elim (added.0 h) [ inl a ↦ absurd (none_in c.new-paths.result.items path c.new-paths.ensures.items a) | inr m ↦ same.0 m ],
+      λ h. elim
+          (added.0 h) [
+            | inl a ↦ absurd
+                (none_in c.new-paths.result.items path c.new-paths.ensures.items a)
+            | inr m ↦ same.0 m
+          ],
       λ m. added.1 (inr (same.1 m)),
     )

@@ -24,7 +24,9 @@ derived = record {
 pub returns-clause-sorted : goal.returns-clause-sorted
 returns-clause-sorted c =
     let is = dedup_is _ _ _ c.dedup.ensures.filtered in
-    let sorted = c.sort_unstable_by.ensures.sorted (λ x y. is_lt (path_cmp x y)) (ranks_by path_total (λ x. x)) (answers_always _ _ _ (λ f a r g h. search rules)) in
+    let sorted =
+    c.sort_unstable_by.ensures.sorted (λ x y. is_lt (path_cmp x y)) (ranks_by path_total (λ x. x))
+    (answers_always _ _ _ (λ f a r g h. search rules)) in
     rw is (IsStrictlySortedBy-dedup path_total (ties (path_eq.ghosts).eq derived) _ sorted)
 
 pub returns-clause-same : goal.returns-clause-same
@@ -32,5 +34,7 @@ returns-clause-same c = λ path.
     let is = dedup_is _ _ _ c.dedup.ensures.filtered in
     let moved = c.sort_unstable_by.ensures.permutation in (
       λ h. Contains-permutation _ _ path (IsPermutation-sym _ _ moved) (Contains-from_dedup _ _ path (rw is at h)),
-      λ h. rw is (Contains-dedup (equivalence (path_eq.ghosts).eq derived) (exact (path_eq.ghosts).eq derived) _ path (Contains-permutation _ _ path moved h)),
+      λ h. rw is
+          (Contains-dedup (equivalence (path_eq.ghosts).eq derived) (exact (path_eq.ghosts).eq derived) _ path
+          (Contains-permutation _ _ path moved h)),
     )

@@ -7,4 +7,5 @@ pub returns-clause-value : goal.returns-clause-value
 returns-clause-value c = one_shl (8 * c.args.level) 64 (omega (arith, c.requires)) ∙ sym (level_power c.args.level)
 
 pub returns-clause-power : goal.returns-clause-power
-returns-clause-power c = record { exponent = 8 * c.args.level; is = one_shl (8 * c.args.level) 64 (omega (arith, c.requires)) }
+returns-clause-power c =
+    record { exponent = 8 * c.args.level; is = one_shl (8 * c.args.level) 64 (omega (arith, c.requires)) }

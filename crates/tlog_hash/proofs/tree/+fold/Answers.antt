@@ -7,4 +7,5 @@ returns-then-row-eq1 g t c = fold_of-single g.H.TreeHash.digest c.args.row.now c
 
 pub returns : goal.returns
 returns g t c =
-    rw (c.node.ensures, c.fold-left.ensures, c.fold-right.ensures) (fold_of-parts g.H.TreeHash.digest c.args.row.now c.split-k.result (omega arith) c.split-k.ensures.value)
+    rw (c.node.ensures, c.fold-left.ensures, c.fold-right.ensures)
+    (fold_of-parts g.H.TreeHash.digest c.args.row.now c.split-k.result (omega arith) c.split-k.ensures.value)

@@ -17,9 +17,12 @@ returns-then-at-eq0 g c =
     let m : c.args.first - 1 + 1 ≡ c.args.first = omega arith in
     let f = c.to_block-at.result.0 in
     let s = c.to_block-at.result.1 in
-    let blocks : HasBlocks c.args.second c.args.first f s = (subst (λ x. HasBlocks x c.args.first f s) n (subst (λ x. HasBlocks (c.args.second - 1 + 1) x f s) m c.to_block-at.ensures.blocks)) in
+    let blocks : HasBlocks c.args.second c.args.first f s =
+    (subst (λ x. HasBlocks x c.args.first f s) n
+    (subst (λ x. HasBlocks (c.args.second - 1 + 1) x f s) m c.to_block-at.ensures.blocks)) in
     let is = climbs d c.args.second c.args.first f s c.to_block-at.ensures.even blocks c.requires.more c.args.first_root.now c.args.first_root.now c.args.path.now c.args.path.now (inl (c.if-at-eq0.true, refl, refl)) in
-    subst (λ o. IsTrue c.leads_to.result ↔ (o ≡ Some (c.args.first_root.now, c.args.second_root.now))) (sym is) c.leads_to.ensures
+    subst (λ o. IsTrue c.leads_to.result ↔ (o ≡ Some (c.args.first_root.now, c.args.second_root.now)))
+    (sym is) c.leads_to.ensures
 
 pub returns-else-at-eq0 : goal.returns-else-at-eq0
 returns-else-at-eq0 g c =
@@ -30,7 +33,10 @@ returns-else-at-eq0 g c =
     let s = c.to_block-at.result.1 in
     let path = c.args.path.now in
     let rest = drop 1 path in
-    let blocks : HasBlocks c.args.second c.args.first f s = (subst (λ x. HasBlocks x c.args.first f s) n (subst (λ x. HasBlocks (c.args.second - 1 + 1) x f s) m c.to_block-at.ensures.blocks)) in
+    let blocks : HasBlocks c.args.second c.args.first f s =
+    (subst (λ x. HasBlocks x c.args.first f s) n
+    (subst (λ x. HasBlocks (c.args.second - 1 + 1) x f s) m c.to_block-at.ensures.blocks)) in
     let is = climbs d c.args.second c.args.first f s c.to_block-at.ensures.even blocks c.requires.more c.args.first_root.now (get_or path 0 []) rest path (inr (omega arith, drop_more path 0 [] (omega arith))) in
     let told = rw (take_rest path 1) at c.leads_to-else-at-eq0.ensures in
-    subst (λ o. IsTrue c.leads_to-else-at-eq0.result ↔ (o ≡ Some (c.args.first_root.now, c.args.second_root.now))) (sym is) told
+    subst (λ o. IsTrue c.leads_to-else-at-eq0.result ↔ (o ≡ Some (c.args.first_root.now, c.args.second_root.now)))
+    (sym is) told

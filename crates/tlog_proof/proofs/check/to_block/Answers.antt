@@ -6,4 +6,10 @@ pub loop-node-init : goal.loop-node-init
 loop-node-init c = record { within = omega arith; blocks = blocks_first c.args.index c.args.last }
 
 pub loop-node-preserved : goal.loop-node-preserved
-loop-node-preserved c = record { within = omega arith; blocks = blocks_more _ _ c.loop-node.node c.loop-node.end c.loop-node-test.true c.loop-node.invariant.blocks }
+loop-node-preserved c =
+    record {
+      within =
+          omega arith;
+      blocks =
+          blocks_more _ _ c.loop-node.node c.loop-node.end c.loop-node-test.true c.loop-node.invariant.blocks;
+    }

@@ -13,6 +13,10 @@ loop-node-preserved c =
       some = omega arith;
       within = omega arith;
       alone = omega arith;
-      same = λ digest. keeps_more (hash_right digest) (hash_left digest) c.args.index c.args.last f s c.loop-node-test.true alone (c.loop-node.invariant.same digest);
-      both = λ digest. keeps_more (both_right digest) (both_left digest) c.args.index c.args.last f s c.loop-node-test.true alone (c.loop-node.invariant.both digest);
+      same = λ digest. keeps_more (hash_right digest)
+          (hash_left digest) c.args.index c.args.last f s c.loop-node-test.true alone
+          (c.loop-node.invariant.same digest);
+      both = λ digest. keeps_more (both_right digest)
+          (both_left digest) c.args.index c.args.last f s c.loop-node-test.true alone
+          (c.loop-node.invariant.both digest);
     }

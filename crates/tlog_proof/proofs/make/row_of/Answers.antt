@@ -16,9 +16,15 @@ returns g c = λ entries listed.
     let width = c.from-2.result in
     let upto = 256 * c.args.index + width in
     let hashes : size / c.entries_of.result ≡ size / b = ap (λ n. size / n) c.entries_of.ensures.value in
-    let few : upto ≤ size / b = omega (arith, hashes, c.if-index-hashes.false, c.if-from-hashes.false, c.from.ensures, c.from-2.ensures) in
+    let few : upto ≤ size / b =
+    omega (arith, hashes, c.if-index-hashes.false, c.if-from-hashes.false, c.from.ensures, c.from-2.ensures) in
     let whole : upto * b ≤ size / b * b = mul-le upto b (size / b) b few (omega arith) in
-    let within : upto * b ≤ length entries = omega (arith, whole, div-mul-le_self size b, c.size-size.ensures entries listed) in
+    let within : upto * b ≤ length entries =
+    omega (arith, whole, div-mul-le_self size b, c.size-size.ensures entries listed) in
     let row = λ (es : List (List ℕ)). level_row g.R.Ranges.digest es level (256 * c.args.index) width in
-    let right = λ (w : ℕ). AnswersAs OutOfMemory (λ (v : Vec (List ℕ) Global). v.items) c.add_row.result (row_in g.R.Ranges.digest entries level c.args.index w) in
-    subst right c.from-2.ensures (row_answer (g.R.Ranges.lists c.args.ranges.now) row (upto * b) c.add_row.result c.add_row.ensures.ok c.add_row.ensures.err entries listed within)
+    let right =
+    λ (w : ℕ). AnswersAs OutOfMemory (λ (v : Vec (List ℕ) Global). v.items) c.add_row.result
+    (row_in g.R.Ranges.digest entries level c.args.index w) in
+    subst right c.from-2.ensures
+    (row_answer (g.R.Ranges.lists c.args.ranges.now) row
+    (upto * b) c.add_row.result c.add_row.ensures.ok c.add_row.ensures.err entries listed within)

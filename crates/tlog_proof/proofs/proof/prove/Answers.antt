@@ -16,15 +16,20 @@ returns-in_ok-leaf-in-Inclusion-clause-answer g c = λ es listed.
     let root = (c.in_ok-root-in-Inclusion.ensures.ok es listed).1 in
     let leaf = c.in_ok-leaf-in-Inclusion.ensures.ok es listed in
     ap (asked_proof d es) c.in-Inclusion.is
-    ∙ ap (seen (λ path. Inclusion size index (mth d (take size es)) (d (0 ∷ get_or es index [])) path)) (c.in_ok-path-in-Inclusion.ensures es listed)
-    ∙ (λ j. Ok (Inclusion size index (sym root j) (sym (leaf.1 ∙ mth-part_one d es index (omega (arith, leaf.0))) j) (sym c.new.ensures j)))
+    ∙ ap (seen (λ path. Inclusion size index (mth d (take size es)) (d (0 ∷ get_or es index [])) path))
+    (c.in_ok-path-in-Inclusion.ensures es listed)
+    ∙ (λ j. Ok
+    (Inclusion size index (sym root j) (sym (leaf.1 ∙ mth-part_one d es index (omega (arith, leaf.0))) j)
+    (sym c.new.ensures j)))
 
 pub returns-in_ok-leaf-in-Inclusion-clause-writable : goal.returns-in_ok-leaf-in-Inclusion-clause-writable
 returns-in_ok-leaf-in-Inclusion-clause-writable g c = λ es listed small.
-    let fit = path_writable g.R.Ranges.digest es c.in-Inclusion.size c.in-Inclusion.index c.in_ok-path-in-Inclusion.path.items small (c.in_ok-path-in-Inclusion.ensures es listed) in
+    let fit =
+    path_writable g.R.Ranges.digest es c.in-Inclusion.size c.in-Inclusion.index c.in_ok-path-in-Inclusion.path.items small (c.in_ok-path-in-Inclusion.ensures es listed) in
     (fit.0, fit.1, omega (arith, fit.2, ap length c.new.ensures))
 
 pub returns-in_ok-second_root-in-Consistency-clause-writable : goal.returns-in_ok-second_root-in-Consistency-clause-writable
 returns-in_ok-second_root-in-Consistency-clause-writable g c = λ es listed small.
-    let fit = proof_writable g.R.Ranges.digest es c.in-Consistency.first c.in-Consistency.second c.in_ok-path-in-Consistency.path.items small (c.in_ok-path-in-Consistency.ensures es listed) in
+    let fit =
+    proof_writable g.R.Ranges.digest es c.in-Consistency.first c.in-Consistency.second c.in_ok-path-in-Consistency.path.items small (c.in_ok-path-in-Consistency.ensures es listed) in
     (fit.0, fit.1, omega (arith, fit.2, ap length c.new-in-Consistency.ensures))

@@ -10,8 +10,11 @@ use Rattle.tlog_proof.proofs.read.number_field.Goals as goal
 pub returns-in-Ok-clause-sound : goal.returns-in-Ok-clause-sound
 returns-in-Ok-clause-sound c =
     let read = c.in-Ok.ensures in
-    let spelled = decimal_is c.in_ok-digits.digits.now c.in-Ok.n (omega (arith, read.1)) read.0 in
-    (read.1, c.in_ok-digits.ensures.sound.1 ∙ ap (λ digits. line c.args.name.now digits c.in_ok-digits.rest.now) spelled)
+    let spelled = decimal_is c.in_ok-digits.digits.now c.in-Ok.n (omega (arith, read.1)) read.0 in (
+      read.1,
+      c.in_ok-digits.ensures.sound.1 ∙
+          ap (λ digits. line c.args.name.now digits c.in_ok-digits.rest.now) spelled,
+    )
 
 pub returns-in_err-digits-clause-complete : goal.returns-in_err-digits-clause-complete
 returns-in_err-digits-clause-complete c = λ n rest small e.

@@ -1,4 +1,5 @@
-use Rattle.std.proofs.Common.{◌≡◌, ◌+◌, ◌∷◌, [], ◌++◌, take, get_or, string_bytes, sym, subst, ap, ◌∙◌, append_assoc, arith}
+use Rattle.std.proofs.Common.{◌≡◌, ◌+◌, ◌∷◌, [], ◌++◌, take, get_or, string_bytes, sym, subst, ap, ◌∙◌, append_assoc}
+use Rattle.std.proofs.Common.{arith}
 use Rattle.std.specs.Prelude.{codes}
 use Rattle.std.specs.List.{AllByRecursion}
 use Rattle.std.proofs.lemmas.List.{take_more}
@@ -20,6 +21,9 @@ loop-hash-preserved c =
           c.in_ok-add_hash.ensures.ok
           ∙ ap (λ bs. bs ++ hash_line (codes "path ") hash []) c.loop-hash.invariant.written
           ∙ append_assoc old (path_lines so_far []) (hash_line (codes "path ") hash [])
-          ∙ ap (λ bs. old ++ bs) (path_lines-append so_far (hash_line (codes "path ") hash []) ∙ sym (path_lines-push so_far hash []) ∙ ap (λ p. path_lines p []) (sym more));
-      hashes = subst (AllByRecursion Is32Bytes) (sym more) (hashes-push so_far hash c.loop-hash.invariant.hashes c.in_ok-add_hash.ensures.is_hash);
+          ∙ ap (λ bs. old ++ bs)
+          (path_lines-append so_far (hash_line (codes "path ") hash []) ∙ sym (path_lines-push so_far hash []) ∙
+          ap (λ p. path_lines p []) (sym more));
+      hashes = subst (AllByRecursion Is32Bytes) (sym more)
+          (hashes-push so_far hash c.loop-hash.invariant.hashes c.in_ok-add_hash.ensures.is_hash);
     }

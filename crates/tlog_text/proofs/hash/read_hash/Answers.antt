@@ -8,7 +8,8 @@ use Rattle.tlog_text.proofs.Hashes.{found, length-hash, other_len, refused}
 use Rattle.tlog_text.proofs.hash.read_hash.Goals as goal
 
 pub returns-then-text-ne-SYMBOLS-clause-none : goal.returns-then-text-ne-SYMBOLS-clause-none
-returns-then-text-ne-SYMBOLS-clause-none c = λ hash h. c.if-text-ne-SYMBOLS.true (ap length h.is_base64 ∙ length-hash hash h.is_hash)
+returns-then-text-ne-SYMBOLS-clause-none c =
+    λ hash h. c.if-text-ne-SYMBOLS.true (ap length h.is_base64 ∙ length-hash hash h.is_hash)
 
 pub returns-in_default-clause-none : goal.returns-in_default-clause-none
 returns-in_default-clause-none c =
@@ -27,6 +28,10 @@ returns-clause-some c =
     let text = c.args.text.now in
     let bytes : (i : ℕ) → slice_index text i < 256 = λ i. let f = c.type_inv.text i in omega arith in
     let value = c.decode_slice.ensures.value ∙ ap (λ s. decode_slice_of standard s 33) c.as_bytes.ensures.value in
-    let written = subst (λ s. IsWrittenOver (decoded_bytes_of standard s) (replicate 33 0) c.decode_slice.new.output) c.as_bytes.ensures.value c.in-Ok.ensures.written in
+    let written =
+    subst (λ s. IsWrittenOver (decoded_bytes_of standard s)
+    (replicate 33 0) c.decode_slice.new.output) c.as_bytes.ensures.value c.in-Ok.ensures.written in
     let are = subst (λ s. IsBytes (decoded_bytes_of standard s)) c.as_bytes.ensures.value c.in-Ok.ensures.bytes in
-    subst (IsHashText text) (sym c.front.ensures) (found text bytes c.if-text-ne-SYMBOLS.false (replicate 33 0) c.decode_slice.new.output c.decode_slice.result c.in-Ok.len value c.in-Ok.is c.if-len-ne32.false written are)
+    subst (IsHashText text) (sym c.front.ensures)
+    (found text bytes c.if-text-ne-SYMBOLS.false
+    (replicate 33 0) c.decode_slice.new.output c.decode_slice.result c.in-Ok.len value c.in-Ok.is c.if-len-ne32.false written are)

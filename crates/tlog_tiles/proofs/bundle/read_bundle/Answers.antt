@@ -14,17 +14,29 @@ returns-in_default c = λ rest h.
 
 pub loop-preserved : goal.loop-preserved
 loop-preserved c =
-    let items : map (λ x. x.now) c.push.new.self.items ≡ map (λ x. x.now) c.loop.entries.items ++ c.in-Some.entry.now ∷ [] = rw c.in_ok-push.ensures.items (map_push _ c.loop.entries.items c.in-Some.entry) in
+    let items : map (λ x. x.now) c.push.new.self.items
+    ≡ map (λ x. x.now) c.loop.entries.items ++ c.in-Some.entry.now ∷ [] =
+    rw c.in_ok-push.ensures.items (map_push _ c.loop.entries.items c.in-Some.entry) in
     let left : c.args.width - c.loop.counter ≡ suc (c.args.width - (c.loop.counter + 1)) = omega arith in
     let found = c.in-Some.ensures.found in
     record {
-      count = ap length c.in_ok-push.ensures.items ∙ (length_push c.loop.entries.items c.in-Some.entry ∙ ap (λ n. n + 1) c.loop.invariant.count);
-      fits = All-same (λ e. length e < 2 ^ 16) _ _ items (All-push (λ e. length e < 2 ^ 16) (map (λ x. x.now) c.loop.entries.items) c.in-Some.entry.now c.loop.invariant.fits found.0);
-      text = rw items (joined_push c.args.bytes.now c.loop.rest.now c.in-Some.after.now c.in-Some.entry.now (map (λ x. x.now) c.loop.entries.items) c.loop.invariant.text found.1);
-      others = λ r h. HasBundle-rest (c.args.width - (c.loop.counter + 1)) c.in-Some.entry.now c.in-Some.after.now r found.0 (subst (λ b. HasBundle (suc (c.args.width - (c.loop.counter + 1))) b r) found.1 (subst (λ n. HasBundle n c.loop.rest.now r) left (c.loop.invariant.others r h)));
+      count = ap length c.in_ok-push.ensures.items ∙
+          (length_push c.loop.entries.items c.in-Some.entry ∙ ap (λ n. n + 1) c.loop.invariant.count);
+      fits = All-same (λ e. length e < 2 ^ 16) _ _ items
+          (All-push (λ e. length e < 2 ^ 16)
+          (map (λ x. x.now) c.loop.entries.items) c.in-Some.entry.now c.loop.invariant.fits found.0);
+      text = rw items
+          (joined_push c.args.bytes.now c.loop.rest.now c.in-Some.after.now c.in-Some.entry.now
+          (map (λ x. x.now) c.loop.entries.items) c.loop.invariant.text found.1);
+      others = λ r h. HasBundle-rest
+          (c.args.width - (c.loop.counter + 1)) c.in-Some.entry.now c.in-Some.after.now r found.0
+          (subst (λ b. HasBundle (suc (c.args.width - (c.loop.counter + 1))) b r) found.1
+          (subst (λ n. HasBundle n c.loop.rest.now r) left (c.loop.invariant.others r h)));
     }
 
 pub returns-then-not-is_empty : goal.returns-then-not-is_empty
 returns-then-not-is_empty c =
     let counted : length c.loop.entries.items ≡ c.args.width = omega arith in
-    left_over c.args.width c.args.bytes.now c.loop.rest.now (map (λ x. x.now) c.loop.entries.items) (sym c.is_empty.ensures ∙ c.if-not-is_empty.true) (length-map c.loop.entries.items (λ x. x.now) ∙ counted) c.loop.invariant.fits c.loop.invariant.text
+    left_over c.args.width c.args.bytes.now c.loop.rest.now (map (λ x. x.now) c.loop.entries.items)
+    (sym c.is_empty.ensures ∙ c.if-not-is_empty.true)
+    (length-map c.loop.entries.items (λ x. x.now) ∙ counted) c.loop.invariant.fits c.loop.invariant.text

@@ -9,7 +9,11 @@ loop-i-preserved c =
     let items = c.in_ok-push.ensures.items in
     let size : length c.copy_from_slice.new.self ≡ 32 = c.copy_from_slice.ensures.len in
     record {
-      count = ap length items ∙ (length_push c.loop-i.row.items c.copy_from_slice.new.self ∙ ap (λ n. n + 1) c.loop-i.invariant.count);
-      sizes = All-same (λ (h : List ℕ). length h ≡ 32) _ _ items (All-push (λ (h : List ℕ). length h ≡ 32) c.loop-i.row.items c.copy_from_slice.new.self c.loop-i.invariant.sizes size);
-      text = rw items (row_push c.args.bytes.now c.loop-i.i c.loop-i.row.items c.copy_from_slice.new.self c.loop-i.invariant.text c.copy_from_slice.ensures.after);
+      count = ap length items ∙
+          (length_push c.loop-i.row.items c.copy_from_slice.new.self ∙ ap (λ n. n + 1) c.loop-i.invariant.count);
+      sizes = All-same (λ (h : List ℕ). length h ≡ 32) _ _ items
+          (All-push
+          (λ (h : List ℕ). length h ≡ 32) c.loop-i.row.items c.copy_from_slice.new.self c.loop-i.invariant.sizes size);
+      text = rw items
+          (row_push c.args.bytes.now c.loop-i.i c.loop-i.row.items c.copy_from_slice.new.self c.loop-i.invariant.text c.copy_from_slice.ensures.after);
     }

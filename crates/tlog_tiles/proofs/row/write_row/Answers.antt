@@ -8,5 +8,6 @@ pub returns : goal.returns
 returns c = record {
   count = refl;
   sizes = All-from_get_or (λ (h : List ℕ). length h ≡ 32) c.args.row.now [] c.told-row;
-  text = c.loop-hash.invariant ∙ ap (λ (r : List (List ℕ)). row_text r) (take_all c.loop-hash.hash-index c.args.row.now c.loop-hash-test.false);
+  text = c.loop-hash.invariant ∙
+      ap (λ (r : List (List ℕ)). row_text r) (take_all c.loop-hash.hash-index c.args.row.now c.loop-hash-test.false);
 }

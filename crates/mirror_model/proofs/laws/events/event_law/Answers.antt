@@ -1,4 +1,5 @@
-use Rattle.mirror_model.proofs.Happening.{takes_grow, merges_grow, event_grows_each, takes_keep_lawful, merges_keep_lawful}
+use Rattle.mirror_model.proofs.Happening.{takes_grow, merges_grow, event_grows_each, takes_keep_lawful}
+use Rattle.mirror_model.proofs.Happening.{merges_keep_lawful}
 use Rattle.mirror_model.proofs.Keeping.{event_keeps_lawful}
 use Rattle.mirror_model.proofs.laws.events.event_law.Goals as goal
 

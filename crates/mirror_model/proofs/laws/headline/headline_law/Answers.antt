@@ -1,4 +1,5 @@
-use Rattle.mirror_model.proofs.Headline.{mirrors_agree, no_play_clashes, same_reached, plays_bring, plays_tell_truth, plays_grow}
+use Rattle.mirror_model.proofs.Headline.{mirrors_agree, no_play_clashes, same_reached, plays_bring, plays_tell_truth}
+use Rattle.mirror_model.proofs.Headline.{plays_grow}
 use Rattle.mirror_model.proofs.laws.headline.headline_law.Goals as goal
 
 pub returns-clause-agree : goal.returns-clause-agree

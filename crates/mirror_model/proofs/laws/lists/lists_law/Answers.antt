@@ -1,4 +1,5 @@
-use Rattle.mirror_model.proofs.Listing.{notes_are_listed_once, heads_are_listed_once, forks_are_listed_once, missing_is_listed_once, front_is_listed_once}
+use Rattle.mirror_model.proofs.Listing.{notes_are_listed_once, heads_are_listed_once, forks_are_listed_once}
+use Rattle.mirror_model.proofs.Listing.{missing_is_listed_once, front_is_listed_once}
 use Rattle.mirror_model.proofs.laws.lists.lists_law.Goals as goal
 
 pub returns-clause-heads : goal.returns-clause-heads

@@ -1,4 +1,5 @@
-use Rattle.mirror_model.proofs.Reporting.{heads_are_reported_once, forks_are_reported_once, served_is_said_once, status_is_one_text, forks_are_one_text, missing_is_one_text}
+use Rattle.mirror_model.proofs.Reporting.{heads_are_reported_once, forks_are_reported_once, served_is_said_once}
+use Rattle.mirror_model.proofs.Reporting.{status_is_one_text, forks_are_one_text, missing_is_one_text}
 use Rattle.mirror_model.proofs.laws.reports.reports_law.Goals as goal
 
 pub returns-clause-heads : goal.returns-clause-heads

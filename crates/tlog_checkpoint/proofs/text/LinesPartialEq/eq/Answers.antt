@@ -6,7 +6,9 @@ use Rattle.std.proofs.lemmas.Slice.Eq.{bytes_eq-Decides, slice_eq-Decides}
 use Rattle.tlog_checkpoint.proofs.text.LinesPartialEq.eq.Goals as goal
 
 pub returns-clause-bytes : goal.returns-clause-bytes
-returns-clause-bytes c = rw (← c.self.view_is, ← c.other.view_is) (c.eq.ensures ∙ sym (pointwise-map string_bytes bytes_eq c.self.inside.lines.items c.other.inside.lines.items))
+returns-clause-bytes c =
+    rw (← c.self.view_is, ← c.other.view_is)
+    (c.eq.ensures ∙ sym (pointwise-map string_bytes bytes_eq c.self.inside.lines.items c.other.inside.lines.items))
 
 pub returns-clause-same : goal.returns-clause-same
 returns-clause-same c =

@@ -14,4 +14,5 @@ returns g t c = λ plain ok.
     let mark = c.in_ok-write_str.ensures.writes front.plain refl in
     let digits = c.in_ok-write_three.ensures mark.plain refl in
     let slash = c.write_str-2.ensures.writes digits.plain ok in
-    put_four g.W.Write.write_str_gives _ _ _ _ _ _ _ _ _ _ front mark digits slash (sym (groups_text-more c.args.number some))
+    put_four g.W.Write.write_str_gives _ _ _ _ _ _ _ _ _ _ front mark digits slash
+    (sym (groups_text-more c.args.number some))

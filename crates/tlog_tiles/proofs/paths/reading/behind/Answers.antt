@@ -4,7 +4,11 @@ use Rattle.tlog_tiles.proofs.TextLemmas.{found_only, none_only}
 use Rattle.tlog_tiles.proofs.paths.reading.behind.Goals as goal
 
 pub returns-clause-found : goal.returns-clause-found
-returns-clause-found c = found_only _ _ c.strip_prefix.result (strip_prefix_is Decides-eqb c.args.bytes.now c.args.front.now c.strip_prefix.result c.strip_prefix.ensures.cases)
+returns-clause-found c =
+    found_only _ _ c.strip_prefix.result
+    (strip_prefix_is Decides-eqb c.args.bytes.now c.args.front.now c.strip_prefix.result c.strip_prefix.ensures.cases)
 
 pub returns-clause-none : goal.returns-clause-none
-returns-clause-none c = none_only _ _ c.strip_prefix.result (strip_prefix_is Decides-eqb c.args.bytes.now c.args.front.now c.strip_prefix.result c.strip_prefix.ensures.cases)
+returns-clause-none c =
+    none_only _ _ c.strip_prefix.result
+    (strip_prefix_is Decides-eqb c.args.bytes.now c.args.front.now c.strip_prefix.result c.strip_prefix.ensures.cases)

@@ -10,5 +10,7 @@ returns-then-bytes-at-eq47-clause-found c =
     let at = c.loop-at.at - 1 in
     let whole = take_rest bytes (at + 1) in
     let within : at < length bytes = omega arith in
-    let none = no_slash-drop bytes (at + 1) (λ k low high. c.loop-at.invariant k (omega arith) high) in
-    (subst HasNoSlash (sym whole) none, cut_at bytes at within c.if-bytes-at-eq47.true ∙ ap (λ (x : List ℕ). take at bytes ++ 47 ∷ x) (sym whole))
+    let none = no_slash-drop bytes (at + 1) (λ k low high. c.loop-at.invariant k (omega arith) high) in (
+      subst HasNoSlash (sym whole) none,
+      cut_at bytes at within c.if-bytes-at-eq47.true ∙ ap (λ (x : List ℕ). take at bytes ++ 47 ∷ x) (sym whole),
+    )
