@@ -1,5 +1,7 @@
 -- The text of a checkpoint may be signed.
-use Rattle.std.proofs.Common.{◌≡◌, ℕ, ◌<◌, ◌≤◌, ◌^◌, true, false, not, ◌==◌, List, [], ◌∷◌, ◌++◌, length, get_or, All, Any, Contains, refl, sym, ap, ◌∙◌, subst, inl, inr, arith, lit<, length-append, append_assoc}
+use Rattle.std.proofs.Common.{◌≡◌, ℕ, ◌<◌, ◌≤◌, ◌^◌, true, false, not, ◌==◌, List, [], ◌∷◌, ◌++◌, length, get_or, All}
+use Rattle.std.proofs.Common.{Any, Contains, refl, sym, ap, ◌∙◌, subst, inl, inr, arith, lit<, length-append}
+use Rattle.std.proofs.Common.{append_assoc}
 use lib.Utf8.{encode, encodes}
 use Rattle.std.specs.List.{list_all, AllPass}
 use Rattle.std.specs.Str.{chars}
@@ -41,7 +43,8 @@ printed_chars (c ∷ cs) h =
     All-cons (λ y. is_note_char y ≡ true) c cs
     (elim (cases_lt c 128) [
       | inl ascii ↦
-          let front : encode c ++ encodes cs ≡ c ∷ encodes cs = ap (λ (xs : List ℕ). xs ++ encodes cs) (encode_ascii c ascii) in
+          let front : encode c ++ encodes cs ≡ c ∷ encodes cs =
+          ap (λ (xs : List ℕ). xs ++ encodes cs) (encode_ascii c ascii) in
           printed_char c (All-head (λ byte. 32 ≤ byte) c (encodes cs) (subst (All (λ byte. 32 ≤ byte)) front h))
       | inr wide ↦ printed_char c (omega arith)
     ])
@@ -53,7 +56,9 @@ origin_text origin h =
     let spelled : encodes cs ≡ origin = h.utf8.1.1 in
     record {
       utf8 = h.utf8;
-      characters = subst (AllPass is_note_char) (sym (chars-encodes cs h.utf8.1.0) ∙ ap chars spelled) (printed_chars cs (subst (All (λ byte. 32 ≤ byte)) (sym spelled) h.printed));
+      characters =
+          subst (AllPass is_note_char) (sym (chars-encodes cs h.utf8.1.0) ∙ ap chars spelled)
+          (printed_chars cs (subst (All (λ byte. 32 ≤ byte)) (sym spelled) h.printed));
     }
 
 no_newline : (line : List ℕ) → All (λ byte. 32 ≤ byte) line → list_all (λ byte. not (is_newline byte)) line ≡ true
@@ -99,19 +104,35 @@ text_is a b c =
     ∙ ap (λ (x : List ℕ). ended a ++ x) (sym (append_assoc (ended b) c (newline ∷ [])))
     ∙ sym (append_assoc (ended a) (ended b ++ c) (newline ∷ []))
 
-pub checkpoint_text : (text origin : List ℕ) (size : ℕ) (root : List ℕ) → IsOrigin origin → IsCheckpoint text origin size root [] → IsLawfulText text
+pub checkpoint_text : (text origin : List ℕ) (size : ℕ) (root : List ℕ) → IsOrigin origin →
+    IsCheckpoint text origin size root [] → IsLawfulText text
 checkpoint_text text origin size root lawful h =
-    let whole : text ≡ (ended origin ++ (ended h.size_line ++ h.root_line)) ++ newline ∷ [] = h.fields.is_text ∙ text_is origin h.size_line h.root_line in
+    let whole : text ≡ (ended origin ++ (ended h.size_line ++ h.root_line)) ++ newline ∷ [] =
+    h.fields.is_text ∙ text_is origin h.size_line h.root_line in
     let is_base64 : h.root_line ≡ base64_of root = h.has_root.is_base64 in
-    let root_text : IsNoteText h.root_line = subst IsNoteText (sym is_base64) (ascii_text (base64_of root) (base64_is_ascii root) (base64_passes root h.has_root.is_hash.are_bytes)) in
+    let root_text : IsNoteText h.root_line =
+    subst IsNoteText (sym is_base64)
+    (ascii_text (base64_of root) (base64_is_ascii root) (base64_passes root h.has_root.is_hash.are_bytes)) in
     let front : IsNoteText (ended origin ++ (ended h.size_line ++ h.root_line)) =
     text_append (ended origin) (ended h.size_line ++ h.root_line) (lined origin (origin_text origin lawful))
-    (text_append (ended h.size_line) h.root_line (lined h.size_line (number_text h.size_line size h.has_size)) root_text) in
+    (text_append (ended h.size_line) h.root_line
+    (lined h.size_line (number_text h.size_line size h.has_size)) root_text) in
     let root_size : length h.root_line ≡ 44 = ap length is_base64 ∙ length-hash root h.has_root.is_hash in
     record {
       readable = subst IsNoteText (sym whole) (lined (ended origin ++ (ended h.size_line ++ h.root_line)) front);
       ended = (ended origin ++ (ended h.size_line ++ h.root_line), whole);
-      short = omega (arith, ap length whole, length-append (ended origin ++ (ended h.size_line ++ h.root_line)) (newline ∷ []), length-append (ended origin) (ended h.size_line ++ h.root_line), length-append (ended h.size_line) h.root_line, length-append origin (newline ∷ []), length-append h.size_line (newline ∷ []), root_size, number_short h.size_line size h.has_size h.in_range, lawful.most);
+      short = omega (
+        arith,
+        ap length whole,
+        length-append (ended origin ++ (ended h.size_line ++ h.root_line)) (newline ∷ []),
+        length-append (ended origin) (ended h.size_line ++ h.root_line),
+        length-append (ended h.size_line) h.root_line,
+        length-append origin (newline ∷ []),
+        length-append h.size_line (newline ∷ []),
+        root_size,
+        number_short h.size_line size h.has_size h.in_range,
+        lawful.most,
+      );
     }
 
 -- ---- keys
@@ -123,8 +144,11 @@ any_one P x h =
     subst P (sym same) h.4
 
 -- what opens under a key opens under any keys that have it
-pub opens_more : (text : List ℕ) (line : Line) (key : Key) (keys : List Key) → Contains keys key → Opens text (line ∷ []) (key ∷ []) → Opens text (line ∷ []) keys
+pub opens_more : (text : List ℕ) (line : Line) (key : Key) (keys : List Key) → Contains keys key →
+    Opens text (line ∷ []) (key ∷ []) → Opens text (line ∷ []) keys
 unfolding Opens
 opens_more text line key keys has h =
-    let accepted : IsAcceptedBy text line key = any_one (λ k. IsAcceptedBy text line k) key (any_one (λ l. Any (λ k. IsAcceptedBy text l k) (key ∷ [])) line h) in
+    let accepted : IsAcceptedBy text line key =
+    any_one (λ k. IsAcceptedBy text line k) key
+    (any_one (λ l. Any (λ k. IsAcceptedBy text l k) (key ∷ [])) line h) in
     (0, line, lit< tt, refl, (has.0, key, has.1, has.2, accepted))

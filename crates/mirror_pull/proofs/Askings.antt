@@ -1,5 +1,6 @@
 -- Paths that a pull asks for, one call after another.
-use Rattle.std.proofs.Common.{◌≡◌, ◌≢◌, ℕ, List, [], ◌∷◌, ◌++◌, Option, Some, None, Result, Ok, Err, Contains, sym, ◌∙◌, ap, subst, append_assoc}
+use Rattle.std.proofs.Common.{◌≡◌, ◌≢◌, ℕ, List, [], ◌∷◌, ◌++◌, Option, Some, None, Result, Ok, Err, Contains, sym, ◌∙◌}
+use Rattle.std.proofs.Common.{ap, subst, append_assoc}
 use Rattle.std.proofs.lemmas.List.{append-nil, get_or_default}
 use Rattle.std.proofs.lemmas.List.Quantifiers.{all_pairs_push}
 use Rattle.tlog_tiles.specs.declared.paths.Path.{Path}
@@ -21,16 +22,20 @@ adds_told_kept None b k = tt
 adds_told_kept (Some xs) None k = absurd k
 adds_told_kept (Some xs) (Some ys) k = k ∙ sym (append-nil xs)
 
-pub adds_told_then : {X : Type 0} (a b c : Option (List X)) (xs ys : List X) → AddsTold a b xs → AddsTold b c ys → AddsTold a c (xs ++ ys)
+pub adds_told_then : {X : Type 0} (a b c : Option (List X)) (xs ys : List X) → AddsTold a b xs → AddsTold b c ys →
+    AddsTold a c (xs ++ ys)
 adds_told_then None b c xs ys p q = tt
 adds_told_then (Some us) None c xs ys p q = absurd p
 adds_told_then (Some us) (Some vs) None xs ys p q = absurd q
-adds_told_then {X} (Some us) (Some vs) (Some ws) xs ys p q = q ∙ (ap (λ (l : List X). l ++ ys) p ∙ append_assoc us xs ys)
+adds_told_then {X} (Some us) (Some vs) (Some ws) xs ys p q =
+    q ∙ (ap (λ (l : List X). l ++ ys) p ∙ append_assoc us xs ys)
 
 -- a path that is not among those asked for comes once
-pub once_more : (before : List Path) (path : Path) → (Contains before path → ⊥) → IsOnce before → IsOnce (before ++ path ∷ [])
+pub once_more : (before : List Path) (path : Path) → (Contains before path → ⊥) → IsOnce before →
+    IsOnce (before ++ path ∷ [])
 once_more before path fresh once =
-    all_pairs_push (λ (a b : Path). a ≢ b) before path once (λ k d lt e. fresh (k, lt, get_or_default before k path d lt ∙ e))
+    all_pairs_push (λ (a b : Path). a ≢ b) before path once
+    (λ k d lt e. fresh (k, lt, get_or_default before k path d lt ∙ e))
 
 pub adds_none : (before : List Path) (a : Option (List Path)) → Adds before a a []
 adds_none before a = record { told = adds_told_none a; once = λ o. subst IsOnce (sym (append-nil before)) o }
@@ -41,17 +46,21 @@ adds_to_none before a = record { more = []; list = sym (append-nil before); adds
 pub adds_some_none : (before : List Path) (a : Option (List Path)) → AddsSome before a a
 adds_some_none before a = record { more = []; adds = adds_none before a }
 
-pub adds_one : (before : List Path) (path : Path) (a b : Option (List Path)) → (Contains before path → ⊥) → AddsTold a b (path ∷ []) → Adds before a b (path ∷ [])
+pub adds_one : (before : List Path) (path : Path) (a b : Option (List Path)) → (Contains before path → ⊥) →
+    AddsTold a b (path ∷ []) → Adds before a b (path ∷ [])
 adds_one before path a b fresh told = record { told = told; once = once_more before path fresh }
 
-pub adds_then : (before middle : List Path) (a b c : Option (List Path)) (xs ys : List Path) → middle ≡ before ++ xs → Adds before a b xs → Adds middle b c ys → Adds before a c (xs ++ ys)
+pub adds_then : (before middle : List Path) (a b c : Option (List Path)) (xs ys : List Path) → middle ≡ before ++ xs →
+    Adds before a b xs → Adds middle b c ys → Adds before a c (xs ++ ys)
 adds_then before middle a b c xs ys e p q =
     record {
       told = adds_told_then a b c xs ys p.told q.told;
-      once = λ o. subst IsOnce (append_assoc before xs ys) (subst (λ m. IsOnce (m ++ ys)) e (q.once (subst IsOnce (sym e) (p.once o))));
+      once = λ o. subst IsOnce (append_assoc before xs ys)
+          (subst (λ m. IsOnce (m ++ ys)) e (q.once (subst IsOnce (sym e) (p.once o))));
     }
 
-pub adds_to_then : (before middle after : List Path) (a b c : Option (List Path)) → AddsTo before middle a b → AddsTo middle after b c → AddsTo before after a c
+pub adds_to_then : (before middle after : List Path) (a b c : Option (List Path)) → AddsTo before middle a b →
+    AddsTo middle after b c → AddsTo before after a c
 adds_to_then before middle after a b c p q =
     record {
       more = p.more ++ q.more;
@@ -59,7 +68,8 @@ adds_to_then before middle after a b c p q =
       adds = adds_then before middle a b c p.more q.more p.list p.adds q.adds;
     }
 
-pub adds_some_then : (before middle : List Path) (a b c : Option (List Path)) → AddsTo before middle a b → AddsSome middle b c → AddsSome before a c
+pub adds_some_then : (before middle : List Path) (a b c : Option (List Path)) → AddsTo before middle a b →
+    AddsSome middle b c → AddsSome before a c
 adds_some_then before middle a b c p q =
     record { more = p.more ++ q.more; adds = adds_then before middle a b c p.more q.more p.list p.adds q.adds }
 
@@ -67,17 +77,23 @@ pub some_of : (before after : List Path) (a b : Option (List Path)) → AddsTo b
 some_of before after a b p = record { more = p.more; adds = p.adds }
 
 -- of two parts of a pull, one after the other, the second's answer is the answer of both
-pub asks_then : {T : Type 0} (before middle after : List Path) (a b c : Option (List Path)) (r : Result T PullFault) → AddsTo before middle a b → AsksPaths middle after b c r → AsksPaths before after a c r
+pub asks_then : {T : Type 0} (before middle after : List Path) (a b c : Option (List Path)) (r : Result T PullFault) →
+    AddsTo before middle a b → AsksPaths middle after b c r → AsksPaths before after a c r
 asks_then before middle after a b c (Ok x) p q = adds_to_then before middle after a b c p q
 asks_then before middle after a b c (Err e) p q = adds_some_then before middle a b c p q
 
 -- a get that is answered by a fault
-pub some_get : (before : List Path) (path : Path) (a b : Option (List Path)) (f : SourceFault) → (Contains before path → ⊥) → TellsGet {T = Option (Vec ℕ Global)} a b path (Err f) → AsksPaths {T = Option (Vec ℕ Global)} before before a b (Err (of_source f))
-some_get before path a b source.Failed fresh told = record { more = path ∷ []; adds = adds_one before path a b fresh told }
-some_get before path a b source.OutOfMemory fresh told = record { more = []; adds = record { told = adds_told_kept a b told; once = (adds_none before a).once } }
+pub some_get : (before : List Path) (path : Path) (a b : Option (List Path)) (f : SourceFault) →
+    (Contains before path → ⊥) → TellsGet {T = Option (Vec ℕ Global)} a b path (Err f) →
+    AsksPaths {T = Option (Vec ℕ Global)} before before a b (Err (of_source f))
+some_get before path a b source.Failed fresh told =
+    record { more = path ∷ []; adds = adds_one before path a b fresh told }
+some_get before path a b source.OutOfMemory fresh told =
+    record { more = []; adds = record { told = adds_told_kept a b told; once = (adds_none before a).once } }
 
 -- what a part asked, after which another asks nothing, whatever its answer
-pub asks_late : {T : Type 0} (before after : List Path) (a b : Option (List Path)) (r : Result T PullFault) → AddsTo before after a b → AsksPaths before after a b r
+pub asks_late : {T : Type 0} (before after : List Path) (a b : Option (List Path)) (r : Result T PullFault) →
+    AddsTo before after a b → AsksPaths before after a b r
 asks_late before after a b (Ok x) p = p
 asks_late before after a b (Err e) p = some_of before after a b p
 

@@ -1,5 +1,6 @@
 -- Paths that were not asked for yet, by their places.
-use Rattle.std.proofs.Common.{◌≡◌, ◌≢◌, ◌⊎◌, ℕ, zero, suc, ◌<◌, List, [], ◌∷◌, ◌++◌, length, get_or, take, arith, AllPairs, Contains, refl, sym, ◌∙◌, ap, subst, inl, inr, append_assoc}
+use Rattle.std.proofs.Common.{◌≡◌, ◌≢◌, ◌⊎◌, ℕ, zero, suc, ◌<◌, List, [], ◌∷◌, ◌++◌, length, get_or, take, arith}
+use Rattle.std.proofs.Common.{AllPairs, Contains, refl, sym, ◌∙◌, ap, subst, inl, inr, append_assoc}
 use Rattle.std.proofs.Common.{◌+◌, ◌≤◌, ◌↔◌, All, Option, length-take, length-append}
 use Rattle.std.proofs.lemmas.List.{append-nil, get_or_default, get_or-take, take_more}
 use Rattle.std.proofs.lemmas.List.Elements.{Contains-push_cases, Contains-append_cases, Contains-get_or}
@@ -22,7 +23,8 @@ pub fresh_unasked : (asked : List Path) (path : Path) → IsFresh asked path →
 fresh_unasked asked path fresh has = fresh path has refl
 
 -- nor was its full path, after the path itself where that is another
-pub full_unasked : (asked : List Path) (path : Path) → path ≢ full_of path → IsFresh asked path → Contains (asked ++ path ∷ []) (full_of path) → ⊥
+pub full_unasked : (asked : List Path) (path : Path) → path ≢ full_of path → IsFresh asked path →
+    Contains (asked ++ path ∷ []) (full_of path) → ⊥
 full_unasked asked path partial fresh has = elim (Contains-push_cases asked path (full_of path) has) [
   | inl before ↦ fresh (full_of path) before (full_full path)
   | inr same ↦ partial same
@@ -31,7 +33,8 @@ full_unasked asked path partial fresh has = elim (Contains-push_cases asked path
 -- a path whose file may be gone is not the full one
 pub gone_partial : (n : ℕ) (path : Path) → IsGone n path → path ≢ full_of path
 gone_partial n Checkpoint gone e = absurd gone.full
-gone_partial n (Tile level index width) gone e = let w : width ≡ 256 = ap width_named e in omega (arith, gone.partial, w)
+gone_partial n (Tile level index width) gone e =
+    let w : width ≡ 256 = ap width_named e in omega (arith, gone.partial, w)
 gone_partial n (Entries index width) gone e = let w : width ≡ 256 = ap width_named e in omega (arith, gone.partial, w)
 
 -- ---- gets, one after another
@@ -39,10 +42,13 @@ gone_partial n (Entries index width) gone e = let w : width ≡ 256 = ap width_n
 pub gets_one : (n : ℕ) (path : Path) → Gets n (path ∷ []) (path ∷ []) (path ∷ [])
 gets_one n path = GetsFound path GetsNone
 
-pub gets_then : (n : ℕ) (ps gs fs qs hs es : List Path) → Gets n ps gs fs → Gets n qs hs es → Gets n (ps ++ qs) (gs ++ hs) (fs ++ es)
+pub gets_then : (n : ℕ) (ps gs fs qs hs es : List Path) → Gets n ps gs fs → Gets n qs hs es →
+    Gets n (ps ++ qs) (gs ++ hs) (fs ++ es)
 gets_then n ps gs fs qs hs es GetsNone h = h
-gets_then n ps gs fs qs hs es (GetsFound path {paths = ps'} {gets = gs'} {founds = fs'} g) h = GetsFound path (gets_then n ps' gs' fs' qs hs es g h)
-gets_then n ps gs fs qs hs es (GetsFull path {paths = ps'} {gets = gs'} {founds = fs'} gone g) h = GetsFull path gone (gets_then n ps' gs' fs' qs hs es g h)
+gets_then n ps gs fs qs hs es (GetsFound path {paths = ps'} {gets = gs'} {founds = fs'} g) h =
+    GetsFound path (gets_then n ps' gs' fs' qs hs es g h)
+gets_then n ps gs fs qs hs es (GetsFull path {paths = ps'} {gets = gs'} {founds = fs'} gone g) h =
+    GetsFull path gone (gets_then n ps' gs' fs' qs hs es g h)
 
 pub each_then : (ps gs qs hs : List Path) → AsksEach ps gs → AsksEach qs hs → AsksEach (ps ++ qs) (gs ++ hs)
 each_then ps gs qs hs AsksNone h = h
@@ -52,8 +58,10 @@ each_then ps gs qs hs (AsksTwo path {paths = ps'} {gets = gs'} g) h = AsksTwo pa
 -- what was asked for is at the places of the paths
 pub gets_each_asked : (n : ℕ) (ps gs fs : List Path) → Gets n ps gs fs → AsksEach ps gs
 gets_each_asked n ps gs fs GetsNone = AsksNone
-gets_each_asked n ps gs fs (GetsFound path {paths = ps'} {gets = gs'} {founds = fs'} g) = AsksOne path (gets_each_asked n ps' gs' fs' g)
-gets_each_asked n ps gs fs (GetsFull path {paths = ps'} {gets = gs'} {founds = fs'} gone g) = AsksTwo path (gets_each_asked n ps' gs' fs' g)
+gets_each_asked n ps gs fs (GetsFound path {paths = ps'} {gets = gs'} {founds = fs'} g) =
+    AsksOne path (gets_each_asked n ps' gs' fs' g)
+gets_each_asked n ps gs fs (GetsFull path {paths = ps'} {gets = gs'} {founds = fs'} gone g) =
+    AsksTwo path (gets_each_asked n ps' gs' fs' g)
 
 -- the place of what was asked for
 pub record HasPlace (paths : List Path) (get : Path) : Type 0 where
@@ -62,7 +70,8 @@ pub record HasPlace (paths : List Path) (get : Path) : Type 0 where
   pub same : full_of get ≡ full_of path
 
 later_place : (p : Path) (ps : List Path) (get : Path) → HasPlace ps get → HasPlace (p ∷ ps) get
-later_place p ps get h = record { path = h.path; listed = (suc h.listed.0, omega (arith, h.listed.1), h.listed.2); same = h.same }
+later_place p ps get h =
+    record { path = h.path; listed = (suc h.listed.0, omega (arith, h.listed.1), h.listed.2); same = h.same }
 
 pub cases_first : (x : Path) (xs : List Path) (y : Path) → Contains (x ∷ xs) y → (x ≡ y) ⊎ Contains xs y
 cases_first x xs y (zero, lt, e) = inl e
@@ -74,16 +83,18 @@ each_place ps gs (AsksOne path {paths = ps'} {gets = gs'} g) get c = elim (cases
   | inl e ↦ record { path = path; listed = (0, omega arith, refl); same = ap full_of (sym e) }
   | inr later ↦ later_place path ps' get (each_place ps' gs' g get later)
 ]
-each_place ps gs (AsksTwo path {paths = ps'} {gets = gs'} g) get c = elim (cases_first path (full_of path ∷ gs') get c) [
-  | inl e ↦ record { path = path; listed = (0, omega arith, refl); same = ap full_of (sym e) }
-  | inr next ↦ elim (cases_first (full_of path) gs' get next) [
-    | inl e ↦ record { path = path; listed = (0, omega arith, refl); same = ap full_of (sym e) ∙ full_full path }
-    | inr later ↦ later_place path ps' get (each_place ps' gs' g get later)
-  ]
-]
+each_place ps gs (AsksTwo path {paths = ps'} {gets = gs'} g) get c =
+    elim (cases_first path (full_of path ∷ gs') get c) [
+      | inl e ↦ record { path = path; listed = (0, omega arith, refl); same = ap full_of (sym e) }
+      | inr next ↦ elim (cases_first (full_of path) gs' get next) [
+        | inl e ↦ record { path = path; listed = (0, omega arith, refl); same = ap full_of (sym e) ∙ full_full path }
+        | inr later ↦ later_place path ps' get (each_place ps' gs' g get later)
+      ]
+    ]
 
 -- a path whose place is none of these stays fresh
-pub fresh_after : (asked after ps : List Path) (path : Path) → AddsEach ps asked after → IsFresh asked path → ((p : Path) → Contains ps p → full_of p ≢ full_of path) → IsFresh after path
+pub fresh_after : (asked after ps : List Path) (path : Path) → AddsEach ps asked after → IsFresh asked path →
+    ((p : Path) → Contains ps p → full_of p ≢ full_of path) → IsFresh after path
 fresh_after asked after ps path adds fresh apart before has =
     elim (Contains-append_cases asked adds.gets before (subst (λ (l : List Path). Contains l before) adds.list has)) [
       | inl old ↦ fresh before old
@@ -98,10 +109,12 @@ level_full (Tile level index width) = refl
 level_full (Entries index width) = refl
 
 lower_apart : (a b : Path) → level_of a < level_of b → full_of a ≢ full_of b
-lower_apart a b lt e = let l : level_of a ≡ level_of b = sym (level_full a) ∙ (ap level_of e ∙ level_full b) in omega (arith, lt, l)
+lower_apart a b lt e =
+    let l : level_of a ≡ level_of b = sym (level_full a) ∙ (ap level_of e ∙ level_full b) in omega (arith, lt, l)
 
 pub edge_apart : (size : ℕ) → AllPairs (λ a b. full_of a ≢ full_of b) (edge_of size)
-edge_apart size i j d lt within = lower_apart (get_or (edge_of size) i d) (get_or (edge_of size) j d) (edge_rises size i j d lt within)
+edge_apart size i j d lt within =
+    lower_apart (get_or (edge_of size) i d) (get_or (edge_of size) j d) (edge_rises size i j d lt within)
 
 pub edge_partial : (size : ℕ) (path : Path) → Contains (edge_of size) path → path ≢ full_of path
 edge_partial size path has = go path ((edge_is size path).0 has)
@@ -114,19 +127,22 @@ edge_partial size path has = go path ((edge_is size path).0 has)
 -- ---- one path after another of a list
 
 -- the places of a list of paths differ, so each is fresh when its turn comes
-pub fresh_next : (before mid ps : List Path) (i : ℕ) → i < length ps → AreFresh before ps → AddsEach (take i ps) before mid → IsFresh mid (get_or ps i Checkpoint)
+pub fresh_next : (before mid ps : List Path) (i : ℕ) → i < length ps → AreFresh before ps →
+    AddsEach (take i ps) before mid → IsFresh mid (get_or ps i Checkpoint)
 fresh_next before mid ps i lt are adds =
     let p = get_or ps i Checkpoint in
     fresh_after before mid (take i ps) p adds (are.fresh p (Contains-get_or ps i Checkpoint lt)) (λ q has.
     let k = has.0 in
     let short : k < i = omega (arith, has.1, length-take i ps) in
-    let is : get_or ps k Checkpoint ≡ q = get_or_default ps k Checkpoint q (omega (arith, short, lt)) ∙ (sym (get_or-take i ps k q short) ∙ has.2) in
+    let is : get_or ps k Checkpoint ≡ q =
+    get_or_default ps k Checkpoint q (omega (arith, short, lt)) ∙ (sym (get_or-take i ps k q short) ∙ has.2) in
     subst (λ (r : Path). full_of r ≢ full_of p) is (are.apart k i Checkpoint short lt))
 
 pub take_one : (ps : List Path) (i : ℕ) → i < length ps → take (i + 1) ps ≡ take i ps ++ get_or ps i Checkpoint ∷ []
 take_one ps i lt = take_more ps i Checkpoint lt
 
-pub adds_each_then : (ps qs before mid after : List Path) → AddsEach ps before mid → AddsEach qs mid after → AddsEach (ps ++ qs) before after
+pub adds_each_then : (ps qs before mid after : List Path) → AddsEach ps before mid → AddsEach qs mid after →
+    AddsEach (ps ++ qs) before after
 adds_each_then ps qs before mid after a b = record {
   gets = a.gets ++ b.gets;
   each = each_then ps a.gets qs b.gets a.each b.each;
@@ -134,15 +150,22 @@ adds_each_then ps qs before mid after a b = record {
 }
 
 pub each_step :
-    (qs ps before mid after : List Path) (i : ℕ) → qs ≡ ps → i < length qs → AreFresh before ps → ((p : Path) → Contains ps p → p ≢ full_of p) →
-    AddsEach (take i ps) before mid → (IsFresh mid (get_or qs i Checkpoint) → get_or qs i Checkpoint ≢ full_of (get_or qs i Checkpoint) → AddsEach (get_or qs i Checkpoint ∷ []) mid after) →
+    (qs ps before mid after : List Path) (i : ℕ) → qs ≡ ps → i < length qs → AreFresh before ps →
+    ((p : Path) → Contains ps p → p ≢ full_of p) →
+    AddsEach (take i ps) before mid →
+    (IsFresh mid (get_or qs i Checkpoint) → get_or qs i Checkpoint ≢ full_of (get_or qs i Checkpoint) →
+    AddsEach (get_or qs i Checkpoint ∷ []) mid after) →
     AddsEach (take (i + 1) ps) before after
 each_step qs ps before mid after i same lt are partial adds step =
     let less : i < length ps = omega (arith, lt, ap length same) in
     let p = get_or ps i Checkpoint in
     let is : get_or qs i Checkpoint ≡ p = ap (λ (l : List Path). get_or l i Checkpoint) same in
-    let more = step (subst (IsFresh mid) (sym is) (fresh_next before mid ps i less are adds)) (subst (λ (r : Path). r ≢ full_of r) (sym is) (partial p (Contains-get_or ps i Checkpoint less))) in
-    subst (λ (l : List Path). AddsEach l before after) (sym (take_one ps i less)) (adds_each_then (take i ps) (p ∷ []) before mid after adds (subst (λ (r : Path). AddsEach (r ∷ []) mid after) is more))
+    let more =
+    step (subst (IsFresh mid) (sym is) (fresh_next before mid ps i less are adds))
+    (subst (λ (r : Path). r ≢ full_of r) (sym is) (partial p (Contains-get_or ps i Checkpoint less))) in
+    subst (λ (l : List Path). AddsEach l before after) (sym (take_one ps i less))
+    (adds_each_then (take i ps) (p ∷ []) before mid after adds
+    (subst (λ (r : Path). AddsEach (r ∷ []) mid after) is more))
 
 pub adds_each_none : (before : List Path) → AddsEach [] before before
 adds_each_none before = record { gets = []; each = AsksNone; list = sym (append-nil before) }
@@ -152,7 +175,8 @@ adds_each_none before = record { gets = []; each = AsksNone; list = sym (append-
 pub gets_none : (n : ℕ) (before : List Path) → GetsAll n [] before before
 gets_none n before = record { gets = []; founds = []; are = GetsNone; list = sym (append-nil before) }
 
-pub gets_all_then : (n : ℕ) (ps qs before mid after : List Path) → GetsAll n ps before mid → GetsAll n qs mid after → GetsAll n (ps ++ qs) before after
+pub gets_all_then : (n : ℕ) (ps qs before mid after : List Path) → GetsAll n ps before mid → GetsAll n qs mid after →
+    GetsAll n (ps ++ qs) before after
 gets_all_then n ps qs before mid after a b = record {
   gets = a.gets ++ b.gets;
   founds = a.founds ++ b.founds;
@@ -161,33 +185,50 @@ gets_all_then n ps qs before mid after a b = record {
 }
 
 pub adds_of_gets : (n : ℕ) (ps before after : List Path) → GetsAll n ps before after → AddsEach ps before after
-adds_of_gets n ps before after a = record { gets = a.gets; each = gets_each_asked n ps a.gets a.founds a.are; list = a.list }
+adds_of_gets n ps before after a =
+    record { gets = a.gets; each = gets_each_asked n ps a.gets a.founds a.are; list = a.list }
 
 pub contains_take : (i : ℕ) (xs : List Path) (q : Path) → Contains (take i xs) q → Contains xs q
-contains_take i xs q c = let short : c.0 < i = omega (arith, c.1, length-take i xs) in (c.0, omega (arith, c.1, length-take i xs), sym (get_or-take i xs c.0 q short) ∙ c.2)
+contains_take i xs q c =
+    let short : c.0 < i =
+    omega (arith, c.1, length-take i xs) in
+    (c.0, omega (arith, c.1, length-take i xs), sym (get_or-take i xs c.0 q short) ∙ c.2)
 
 -- a round asks for something where its first path was not asked for
 pub asks_step :
-    (before mid after ps : List Path) (a b : Option (List Path)) (i : ℕ) → (i ≡ 0 → mid ≡ before) → (1 ≤ i → (Contains before (get_or ps 0 Checkpoint) → ⊥) → length before < length mid) → AddsTo mid after a b →
-    ((Contains mid (get_or ps i Checkpoint) → ⊥) → length mid < length after) → (Contains before (get_or ps 0 Checkpoint) → ⊥) → length before < length after
-asks_step before mid after ps a b zero start more told step new = let same = start refl in omega (arith, ap length same, step (λ has. new (subst (λ (l : List Path). Contains l (get_or ps 0 Checkpoint)) same has)))
-asks_step before mid after ps a b (suc i) start more told step new = omega (arith, more (omega arith) new, ap length told.list, length-append mid told.more)
+    (before mid after ps : List Path) (a b : Option (List Path)) (i : ℕ) → (i ≡ 0 → mid ≡ before) →
+    (1 ≤ i → (Contains before (get_or ps 0 Checkpoint) → ⊥) → length before < length mid) → AddsTo mid after a b →
+    ((Contains mid (get_or ps i Checkpoint) → ⊥) → length mid < length after) →
+    (Contains before (get_or ps 0 Checkpoint) → ⊥) → length before < length after
+asks_step before mid after ps a b zero start more told step new =
+    let same =
+    start refl in omega
+    (arith, ap length same, step (λ has. new (subst (λ (l : List Path). Contains l (get_or ps 0 Checkpoint)) same has)))
+asks_step before mid after ps a b (suc i) start more told step new =
+    omega (arith, more (omega arith) new, ap length told.list, length-append mid told.more)
 
 -- rounds that came so far asked for something, and so does one more
 pub asks_round :
-    (before mid after seen paths list : List Path) (rounds : ℕ) → seen ≡ mid → list ≡ paths → (rounds ≡ 0 → mid ≡ before) → (1 ≤ rounds → length before < length mid) → All (λ path. Contains seen path → ⊥) paths → 1 ≤ length paths →
-    (1 ≤ length list → (Contains mid (get_or list 0 Checkpoint) → ⊥) → length mid < length after) → length before < length after
+    (before mid after seen paths list : List Path) (rounds : ℕ) → seen ≡ mid → list ≡ paths →
+    (rounds ≡ 0 → mid ≡ before) → (1 ≤ rounds → length before < length mid) →
+    All (λ path. Contains seen path → ⊥) paths → 1 ≤ length paths →
+    (1 ≤ length list → (Contains mid (get_or list 0 Checkpoint) → ⊥) → length mid < length after) →
+    length before < length after
 asks_round before mid after seen paths list rounds same is start more new some step =
     let unasked : Contains mid (get_or list 0 Checkpoint) → ⊥ = λ has.
-    new 0 Checkpoint some (subst (λ (l : List Path). Contains l (get_or paths 0 Checkpoint)) (sym same) (subst (λ (l : List Path). Contains mid (get_or l 0 Checkpoint)) is has)) in
+    new 0 Checkpoint some
+    (subst (λ (l : List Path). Contains l (get_or paths 0 Checkpoint)) (sym same)
+    (subst (λ (l : List Path). Contains mid (get_or l 0 Checkpoint)) is has)) in
     let longer = step (omega (arith, some, ap length is)) unasked in
     go rounds start more longer
   where
-    go : (r : ℕ) → (r ≡ 0 → mid ≡ before) → (1 ≤ r → length before < length mid) → length mid < length after → length before < length after
+    go : (r : ℕ) → (r ≡ 0 → mid ≡ before) → (1 ≤ r → length before < length mid) → length mid < length after →
+        length before < length after
     go zero start more longer = omega (arith, ap length (start refl), longer)
     go (suc r) start more longer = omega (arith, more (omega arith), longer)
 
 -- so they are none exactly where nothing was asked for
-pub none_round : (before mid : List Path) (rounds : ℕ) → (rounds ≡ 0 → mid ≡ before) → (1 ≤ rounds → length before < length mid) → (rounds ≡ 0) ↔ (mid ≡ before)
+pub none_round : (before mid : List Path) (rounds : ℕ) → (rounds ≡ 0 → mid ≡ before) →
+    (1 ≤ rounds → length before < length mid) → (rounds ≡ 0) ↔ (mid ≡ before)
 none_round before mid zero start more = (start, λ e. refl)
 none_round before mid (suc r) start more = (start, λ e. absurd (omega (arith, more (omega arith), ap length e)))

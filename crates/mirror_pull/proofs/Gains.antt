@@ -1,5 +1,7 @@
 -- Views that gain strings.
-use Rattle.std.proofs.Common.{◌≡◌, ◌⊎◌, ℕ, zero, suc, ◌+◌, ◌^◌, ◌<◌, ◌≤◌, ◌++◌, length, get_or, map, take, arith, List, [], ◌∷◌, Result, Ok, Err, Bool, true, false, refl, sym, ap, ◌∙◌, Option, subst, inl, inr, Contains}
+use Rattle.std.proofs.Common.{◌≡◌, ◌⊎◌, ℕ, zero, suc, ◌+◌, ◌^◌, ◌<◌, ◌≤◌, ◌++◌, length, get_or, map, take, arith, List}
+use Rattle.std.proofs.Common.{[], ◌∷◌, Result, Ok, Err, Bool, true, false, refl, sym, ap, ◌∙◌, Option, subst, inl, inr}
+use Rattle.std.proofs.Common.{Contains}
 use Rattle.std.specs.FinSet as set
 use Rattle.node_store.specs.Strings.{Has}
 use Rattle.signed_note.specs.Keys.{Key}
@@ -15,7 +17,8 @@ use Rattle.std.proofs.lemmas.List.{get_or_default, take_more, take-map, map-appe
 use Rattle.mirror_model.specs.Steps.{Takes, Exhausted}
 use Rattle.mirror_model.proofs.Views.{within_itself, within_trans, within_plus}
 use Rattle.mirror_model.proofs.StringSets.{has_right, has_cases, has_empty, listed_from_has, has_from_listed}
-use Rattle.mirror_pull.specs.Taking.{GainsStrings, Grows, PullsTo, TakesItem, TakesHead, IsTakeable, item_at, IsEarly, IsLate}
+use Rattle.mirror_pull.specs.Taking.{GainsStrings, Grows, PullsTo, TakesItem, TakesHead, IsTakeable, item_at, IsEarly}
+use Rattle.mirror_pull.specs.Taking.{IsLate}
 use Rattle.mirror_pull.specs.Answering.{of_take, refused_of, refused_of_fault}
 use Rattle.mirror_model.specs.Answered.{answer_of}
 use Rattle.mirror_model.specs.declared.fault.TakeFault.{TakeFault}
@@ -26,7 +29,8 @@ use Rattle.mirror_pull.specs.Faults.{of_source}
 use Rattle.log_sources.specs.declared.source.SourceFault.{SourceFault}
 use Rattle.log_sources.specs.declared.source.SourceFault.TheVariants as source
 use Rattle.mirror_pull.specs.declared.fault.PullFault.{PullFault}
-use Rattle.mirror_pull.specs.declared.fault.PullFault.TheVariants.{NoCheckpoint, NoEdge, Head, Source, Collision, OutOfMemory}
+use Rattle.mirror_pull.specs.declared.fault.PullFault.TheVariants.{NoCheckpoint, NoEdge, Head, Source, Collision}
+use Rattle.mirror_pull.specs.declared.fault.PullFault.TheVariants.{OutOfMemory}
 
 pub early_of_source : (f : SourceFault) → IsEarly {T = Bool} (Err (of_source f))
 early_of_source source.Failed = tt
@@ -43,30 +47,46 @@ pub gains_same : (v w : View) → w ≡ v → GainsStrings v w
 gains_same v w e = subst (λ (x : View). GainsStrings v x) (sym e) (gains_itself v)
 
 pub gains_then : (v w x : View) → GainsStrings v w → GainsStrings w x → GainsStrings v x
-gains_then v w x p q = record { grows = within_trans v w x p.grows q.grows; same_notes = λ note h. p.same_notes note (q.same_notes note h) }
+gains_then v w x p q =
+    record {
+      grows =
+          within_trans v w x p.grows q.grows;
+      same_notes = λ note h. p.same_notes note (q.same_notes note h);
+    }
 
 no_note : (digest : List ℕ → List ℕ) (path : Path) (bytes : List ℕ) → notes_of (item_at path bytes) ≡ []
 no_note digest Checkpoint bytes = refl
 no_note digest (Tile level index width) bytes = refl
 no_note digest (Entries index width) bytes = refl
 
-plus_notes : (digest : List ℕ → List ℕ) (v : View) (path : Path) (bytes note : List ℕ) → Has (plus digest v (item_at path bytes)).notes note → Has v.notes note
+plus_notes : (digest : List ℕ → List ℕ) (v : View) (path : Path) (bytes note : List ℕ) →
+    Has (plus digest v (item_at path bytes)).notes note → Has v.notes note
 plus_notes digest v path bytes note h =
-    let h' = subst (λ (notes : List (List ℕ)). Has (set.union v.notes (set.from_list notes)) note) (no_note digest path bytes) h in
+    let h' = subst (λ (notes : List (List ℕ)). Has (set.union v.notes (set.from_list notes)) note)
+    (no_note digest path bytes) h in
     elim (has_cases v.notes (set.from_list []) note h') [ inl a ↦ a | inr b ↦ absurd (has_empty note b) ]
 
-pub gains_plus : (digest : List ℕ → List ℕ) (v : View) (path : Path) (bytes : List ℕ) → GainsStrings v (plus digest v (item_at path bytes))
-gains_plus digest v path bytes = record { grows = within_plus digest v (item_at path bytes); same_notes = plus_notes digest v path bytes }
+pub gains_plus : (digest : List ℕ → List ℕ) (v : View) (path : Path) (bytes : List ℕ) →
+    GainsStrings v (plus digest v (item_at path bytes))
+gains_plus digest v path bytes =
+    record { grows = within_plus digest v (item_at path bytes); same_notes = plus_notes digest v path bytes }
 
-pub gains_exhausted : (digest : List ℕ → List ℕ) (keys : List Key) (v w : View) (path : Path) (bytes : List ℕ) → Takes digest keys v (item_at path bytes) Exhausted w → GainsStrings v w
+pub gains_exhausted : (digest : List ℕ → List ℕ) (keys : List Key) (v w : View) (path : Path) (bytes : List ℕ) →
+    Takes digest keys v (item_at path bytes) Exhausted w → GainsStrings v w
 gains_exhausted digest keys v w path bytes (inl e) = gains_same v w e
 gains_exhausted digest keys v w path bytes (inr t) =
-    record { grows = t.2.grows; same_notes = λ note h. plus_notes digest v path bytes note (t.2.within.notes_are note h) }
+    record {
+      grows =
+          t.2.grows;
+      same_notes = λ note h. plus_notes digest v path bytes note (t.2.within.notes_are note h);
+    }
 
 -- whatever is answered to a tile or a bundle, the view has gained strings alone
-pub gains_item : (digest : List ℕ → List ℕ) (v w : View) (path : Path) (bytes : List ℕ) (r : Result Bool PullFault) → TakesItem digest v (item_at path bytes) r w → GainsStrings v w
+pub gains_item : (digest : List ℕ → List ℕ) (v w : View) (path : Path) (bytes : List ℕ) (r : Result Bool PullFault) →
+    TakesItem digest v (item_at path bytes) r w → GainsStrings v w
 gains_item digest v w path bytes (Ok true) t = gains_same v w t.1
-gains_item digest v w path bytes (Ok false) t = subst (λ (x : View). GainsStrings v x) (sym t.2) (gains_plus digest v path bytes)
+gains_item digest v w path bytes (Ok false) t =
+    subst (λ (x : View). GainsStrings v x) (sym t.2) (gains_plus digest v path bytes)
 gains_item digest v w path bytes (Err Collision) t = gains_same v w t.1
 gains_item digest v w path bytes (Err OutOfMemory) t = t
 gains_item digest v w path bytes (Err NoCheckpoint) t = absurd t
@@ -74,7 +94,9 @@ gains_item digest v w path bytes (Err NoEdge) t = absurd t
 gains_item digest v w path bytes (Err (Head f)) t = absurd t
 gains_item digest v w path bytes (Err Source) t = absurd t
 
-takes_fault : (digest : List ℕ → List ℕ) (v w : View) (path : Path) (bytes : List ℕ) (f : TakeFault) → Takes digest [] v (item_at path bytes) (answer_of (Err f)) w → TakesItem digest v (item_at path bytes) (refused_of_fault f) w
+takes_fault : (digest : List ℕ → List ℕ) (v w : View) (path : Path) (bytes : List ℕ) (f : TakeFault) →
+    Takes digest [] v (item_at path bytes) (answer_of (Err f)) w →
+    TakesItem digest v (item_at path bytes) (refused_of_fault f) w
 takes_fault digest v w path bytes (take.Note f) t = t
 takes_fault digest v w path bytes (take.Checkpoint f) t = t
 takes_fault digest v w path bytes take.OtherOrigin t = t
@@ -89,7 +111,9 @@ takes_fault digest v w path bytes take.Collision t = (t.1, t.2)
 takes_fault digest v w path bytes take.OutOfMemory t = gains_exhausted digest [] v w path bytes t
 
 -- what a take answers is what a pull makes of it
-pub takes_item : (digest : List ℕ → List ℕ) (v w : View) (path : Path) (bytes : List ℕ) (r : Result (Unit {0}) TakeFault) → Takes digest [] v (item_at path bytes) (answer_of r) w → TakesItem digest v (item_at path bytes) (refused_of r) w
+pub takes_item : (digest : List ℕ → List ℕ) (v w : View) (path : Path) (bytes : List ℕ)
+    (r : Result (Unit {0}) TakeFault) → Takes digest [] v (item_at path bytes) (answer_of r) w →
+    TakesItem digest v (item_at path bytes) (refused_of r) w
 takes_item digest v w path bytes (Ok x) t = t
 takes_item digest v w path bytes (Err f) t = takes_fault digest v w path bytes f t
 
@@ -111,30 +135,61 @@ only note n (k, lt, e) = go k lt e
     go zero lt e = sym e
     go (suc k) lt e = absurd (omega arith)
 
-pub head_notes : (digest : List ℕ → List ℕ) (v : View) (note : List ℕ) (rows : List (List ℕ)) (n : List ℕ) → Has (plus digest v (item.Head note rows)).notes n → Has v.notes n ⊎ (n ≡ note)
-head_notes digest v note rows n h = elim (has_cases v.notes (set.from_list (note ∷ [])) n h) [ inl a ↦ inl a | inr b ↦ inr (only note n (listed_from_has (note ∷ []) n b)) ]
+pub head_notes : (digest : List ℕ → List ℕ) (v : View) (note : List ℕ) (rows : List (List ℕ)) (n : List ℕ) →
+    Has (plus digest v (item.Head note rows)).notes n → Has v.notes n ⊎ (n ≡ note)
+head_notes digest v note rows n h =
+    elim (has_cases v.notes (set.from_list (note ∷ [])) n h) [
+      | inl a ↦ inl a
+      | inr b ↦ inr
+          (only note n (listed_from_has (note ∷ []) n b))
+    ]
 
 pub grows_itself : (keys : List Key) (v : View) → Grows keys v v
-grows_itself keys v = record { grows = within_itself v; one_note = λ note other a b fresh. absurd (fresh a); good = λ note a fresh. absurd (fresh a) }
+grows_itself keys v =
+    record {
+      grows =
+          within_itself v;
+      one_note = λ note other a b fresh. absurd (fresh a);
+      good = λ note a fresh. absurd (fresh a);
+    }
 
 pub grows_same : (keys : List Key) (v w : View) → w ≡ v → Grows keys v w
 grows_same keys v w e = subst (λ (x : View). Grows keys v x) (sym e) (grows_itself keys v)
 
-pub grows_by : (digest : List ℕ → List ℕ) (keys : List Key) (v w : View) (note : List ℕ) (rows : List (List ℕ)) → IsGoodHead digest v.origin keys note rows → IsSubview v w → ((n : List ℕ) → Has w.notes n → Has v.notes n ⊎ (n ≡ note)) → Grows keys v w
+pub grows_by : (digest : List ℕ → List ℕ) (keys : List Key) (v w : View) (note : List ℕ) (rows : List (List ℕ)) →
+    IsGoodHead digest v.origin keys note rows → IsSubview v w →
+    ((n : List ℕ) → Has w.notes n → Has v.notes n ⊎ (n ≡ note)) → Grows keys v w
 grows_by digest keys v w note rows good within notes = record {
   grows = within;
-  one_note = λ a b ha hb fa fb. elim (notes a ha) [ inl x ↦ absurd (fa x) | inr x ↦ elim (notes b hb) [ inl y ↦ absurd (fb y) | inr y ↦ x ∙ sym y ] ];
-  good = λ n h fresh. elim (notes n h) [ inl x ↦ absurd (fresh x) | inr e ↦ (good.size, good.root, subst (λ (m : List ℕ). IsOpenHead m v.origin keys good.size good.root) (sym e) good.is_head) ];
+  one_note =
+      λ a b ha hb fa fb. elim
+      (notes a ha) [ inl x ↦ absurd (fa x) | inr x ↦ elim (notes b hb) [ inl y ↦ absurd (fb y) | inr y ↦ x ∙ sym y ] ];
+  good = λ n h fresh. elim
+      (notes n h) [
+        | inl x ↦ absurd (fresh x)
+        | inr e ↦ (
+          good.size,
+          good.root,
+          subst (λ (m : List ℕ). IsOpenHead m v.origin keys good.size good.root) (sym e) good.is_head,
+        )
+      ];
 }
 
-pub grows_plus : (digest : List ℕ → List ℕ) (keys : List Key) (v : View) (note : List ℕ) (rows : List (List ℕ)) → IsGoodHead digest v.origin keys note rows → Grows keys v (plus digest v (item.Head note rows))
-grows_plus digest keys v note rows good = grows_by digest keys v (plus digest v (item.Head note rows)) note rows good (within_plus digest v (item.Head note rows)) (head_notes digest v note rows)
+pub grows_plus : (digest : List ℕ → List ℕ) (keys : List Key) (v : View) (note : List ℕ) (rows : List (List ℕ)) →
+    IsGoodHead digest v.origin keys note rows → Grows keys v (plus digest v (item.Head note rows))
+grows_plus digest keys v note rows good =
+    grows_by digest keys v (plus digest v (item.Head note rows)) note rows good
+    (within_plus digest v (item.Head note rows)) (head_notes digest v note rows)
 
-grows_exhausted : (digest : List ℕ → List ℕ) (keys : List Key) (v w : View) (note : List ℕ) (rows : List (List ℕ)) → Takes digest keys v (item.Head note rows) Exhausted w → Grows keys v w
+grows_exhausted : (digest : List ℕ → List ℕ) (keys : List Key) (v w : View) (note : List ℕ) (rows : List (List ℕ)) →
+    Takes digest keys v (item.Head note rows) Exhausted w → Grows keys v w
 grows_exhausted digest keys v w note rows (inl e) = grows_same keys v w e
-grows_exhausted digest keys v w note rows (inr t) = grows_by digest keys v w note rows t.0 t.2.grows (λ n h. head_notes digest v note rows n (t.2.within.notes_are n h))
+grows_exhausted digest keys v w note rows (inr t) =
+    grows_by digest keys v w note rows t.0 t.2.grows (λ n h. head_notes digest v note rows n (t.2.within.notes_are n h))
 
-pub takes_head_err : (digest : List ℕ → List ℕ) (keys : List Key) (v w : View) (note : List ℕ) (rows : List (List ℕ)) (f : TakeFault) → Takes digest keys v (item.Head note rows) (answer_of (Err f)) w → TakesHead {T = Bool} digest keys v (item.Head note rows) (Err (of_take f)) w
+pub takes_head_err : (digest : List ℕ → List ℕ) (keys : List Key) (v w : View) (note : List ℕ) (rows : List (List ℕ))
+    (f : TakeFault) → Takes digest keys v (item.Head note rows) (answer_of (Err f)) w →
+    TakesHead {T = Bool} digest keys v (item.Head note rows) (Err (of_take f)) w
 takes_head_err digest keys v w note rows (take.Note f) t = (tt, t.0, t.1)
 takes_head_err digest keys v w note rows (take.Checkpoint f) t = (tt, t.0, t.1)
 takes_head_err digest keys v w note rows take.OtherOrigin t = (tt, t.0, t.1)
@@ -163,7 +218,9 @@ of_size_takeable size Checkpoint h = h
 of_size_takeable size (Tile level index width) h = record { some = omega (arith, h.2); most = omega (arith, h.2) }
 of_size_takeable size (Entries index width) h = record { some = h.0; most = omega (arith, h.1) }
 
-pub missing_takeable : (digest : List ℕ → List ℕ) (v : View) (size : ℕ) (root : List ℕ) (paths : List Path) → MissingIsOfSize → size ≤ 256 ^ 8 → ListsMissing digest v size root paths → (k : ℕ) → k < length paths → IsTakeable (get_or paths k Checkpoint)
+pub missing_takeable : (digest : List ℕ → List ℕ) (v : View) (size : ℕ) (root : List ℕ) (paths : List Path) →
+    MissingIsOfSize → size ≤ 256 ^ 8 → ListsMissing digest v size root paths → (k : ℕ) → k < length paths →
+    IsTakeable (get_or paths k Checkpoint)
 missing_takeable digest v size root paths law small m k lt =
     let p = get_or paths k Checkpoint in
     let c : Contains paths p = (k, lt, get_or_default paths k p Checkpoint lt) in
@@ -171,21 +228,32 @@ missing_takeable digest v size root paths law small m k lt =
 
 -- ---- rows
 
-take_map_more : {X Y : Type 0} (f : X → Y) (xs : List X) (i : ℕ) (x : X) → i < length xs → x ≡ get_or xs i x → take (i + 1) (map f xs) ≡ take i (map f xs) ++ f x ∷ []
+take_map_more : {X Y : Type 0} (f : X → Y) (xs : List X) (i : ℕ) (x : X) → i < length xs → x ≡ get_or xs i x →
+    take (i + 1) (map f xs) ≡ take i (map f xs) ++ f x ∷ []
 take_map_more {X} f xs i x lt e =
-    let more : take (i + 1) xs ≡ take i xs ++ x ∷ [] = take_more xs i x lt ∙ ap (λ (y : X). take i xs ++ y ∷ []) (sym e) in
-    take-map f (i + 1) xs ∙ (ap (map f) more ∙ (map-append f (take i xs) (x ∷ []) ∙ ap (λ l. l ++ f x ∷ []) (sym (take-map f i xs))))
+    let more : take (i + 1) xs ≡ take i xs ++ x ∷ [] =
+    take_more xs i x lt ∙ ap (λ (y : X). take i xs ++ y ∷ []) (sym e) in
+    take-map f (i + 1) xs ∙
+    (ap (map f) more ∙ (map-append f (take i xs) (x ∷ []) ∙ ap (λ l. l ++ f x ∷ []) (sym (take-map f i xs))))
 
-pub rows_more : {A B C : Type 0} (f : A → C) (g : B → C) (xs ys : List A) (a : A) (bs : List B) (i : ℕ) (b : B) → ys ≡ xs ++ a ∷ [] → f a ≡ g b → i < length bs → b ≡ get_or bs i b → map f xs ≡ take i (map g bs) → map f ys ≡ take (i + 1) (map g bs)
+pub rows_more : {A B C : Type 0} (f : A → C) (g : B → C) (xs ys : List A) (a : A) (bs : List B) (i : ℕ) (b : B) →
+    ys ≡ xs ++ a ∷ [] → f a ≡ g b → i < length bs → b ≡ get_or bs i b → map f xs ≡ take i (map g bs) →
+    map f ys ≡ take (i + 1) (map g bs)
 rows_more {A} {B} {C} f g xs ys a bs i b grown same lt is before =
-    ap (map f) grown ∙ (map-append f xs (a ∷ []) ∙ (ap (λ (l : List C). l ++ f a ∷ []) before ∙ (ap (λ (c : C). take i (map g bs) ++ c ∷ []) same ∙ sym (take_map_more g bs i b lt is))))
+    ap (map f) grown ∙
+    (map-append f xs (a ∷ []) ∙
+    (ap (λ (l : List C). l ++ f a ∷ []) before ∙
+    (ap (λ (c : C). take i (map g bs) ++ c ∷ []) same ∙ sym (take_map_more g bs i b lt is))))
 
-pub rows_all : {A B C : Type 0} (f : A → C) (g : B → C) (xs ys : List A) (bs : List B) (i : ℕ) → ys ≡ xs → length bs ≤ i → map f xs ≡ take i (map g bs) → map f ys ≡ map g bs
+pub rows_all : {A B C : Type 0} (f : A → C) (g : B → C) (xs ys : List A) (bs : List B) (i : ℕ) → ys ≡ xs →
+    length bs ≤ i → map f xs ≡ take i (map g bs) → map f ys ≡ map g bs
 rows_all f g xs ys bs i same le is = ap (map f) same ∙ (is ∙ take_all i (map g bs) (simp length-map le))
 
 -- ---- outcomes of a pull
 
-pub outcome_head : (digest : List ℕ → List ℕ) (keys : List Key) (v w : View) (note : List ℕ) (rows : List (List ℕ)) (e : PullFault) → TakesHead {T = Bool} digest keys v (item.Head note rows) (Err e) w → PullsTo digest keys v w (Err e)
+pub outcome_head : (digest : List ℕ → List ℕ) (keys : List Key) (v w : View) (note : List ℕ) (rows : List (List ℕ))
+    (e : PullFault) → TakesHead {T = Bool} digest keys v (item.Head note rows) (Err e) w →
+    PullsTo digest keys v w (Err e)
 outcome_head digest keys v w note rows NoCheckpoint t = absurd t
 outcome_head digest keys v w note rows NoEdge t = absurd t
 outcome_head digest keys v w note rows (Head f) t = (t.0, t.2)
@@ -193,7 +261,8 @@ outcome_head digest keys v w note rows Source t = absurd t
 outcome_head digest keys v w note rows Collision t = grows_same keys v w t.1
 outcome_head digest keys v w note rows OutOfMemory t = t
 
-pub outcome_late : (digest : List ℕ → List ℕ) (keys : List Key) (v w : View) (e : PullFault) → IsLate {T = Bool} (Err e) → Grows keys v w → PullsTo digest keys v w (Err e)
+pub outcome_late : (digest : List ℕ → List ℕ) (keys : List Key) (v w : View) (e : PullFault) →
+    IsLate {T = Bool} (Err e) → Grows keys v w → PullsTo digest keys v w (Err e)
 outcome_late digest keys v w NoCheckpoint late grows = absurd late
 outcome_late digest keys v w NoEdge late grows = absurd late
 outcome_late digest keys v w (Head f) late grows = absurd late
@@ -201,18 +270,35 @@ outcome_late digest keys v w Source late grows = grows
 outcome_late digest keys v w Collision late grows = grows
 outcome_late digest keys v w OutOfMemory late grows = grows
 
-pub grows_head : (digest : List ℕ → List ℕ) (keys : List Key) (v w : View) (note : List ℕ) (rows : List (List ℕ)) → TakesHead {T = Bool} digest keys v (item.Head note rows) (Ok true) w → Grows keys v w
-grows_head digest keys v w note rows t = subst (λ (x : View). Grows keys v x) (sym t.2) (grows_plus digest keys v note rows t.0)
+pub grows_head : (digest : List ℕ → List ℕ) (keys : List Key) (v w : View) (note : List ℕ) (rows : List (List ℕ)) →
+    TakesHead {T = Bool} digest keys v (item.Head note rows) (Ok true) w → Grows keys v w
+grows_head digest keys v w note rows t =
+    subst (λ (x : View). Grows keys v x) (sym t.2) (grows_plus digest keys v note rows t.0)
 
-pub has_head : (digest : List ℕ → List ℕ) (keys : List Key) (v w x : View) (taken note : List ℕ) (rows : List (List ℕ)) (size : ℕ) (root : List ℕ) → taken ≡ note → w ≡ plus digest v (item.Head taken rows) → IsOpenHead note v.origin keys size root → IsSubview w x → HasHead x size root
+pub has_head : (digest : List ℕ → List ℕ) (keys : List Key) (v w x : View) (taken note : List ℕ) (rows : List (List ℕ))
+    (size : ℕ) (root : List ℕ) → taken ≡ note → w ≡ plus digest v (item.Head taken rows) →
+    IsOpenHead note v.origin keys size root → IsSubview w x → HasHead x size root
 has_head digest keys v w x taken note rows size root same is opened within =
-    let held : Has (plus digest v (item.Head taken rows)).notes taken = has_right v.notes (set.from_list (taken ∷ [])) taken (has_from_listed (taken ∷ []) taken (0, omega arith, refl)) in
+    let held : Has (plus digest v (item.Head taken rows)).notes taken =
+    has_right v.notes (set.from_list (taken ∷ [])) taken
+    (has_from_listed (taken ∷ []) taken (0, omega arith, refl)) in
     let held_w : Has w.notes taken = subst (λ (y : View). Has y.notes taken) (sym is) held in
     let origin : v.origin ≡ x.origin = ap (λ (y : View). y.origin) (sym is) ∙ within.origin_is in
     record {
       note = note;
       holds = record {
         is_held = subst (λ n. Has x.notes n) same (within.notes_are taken held_w);
-        is_head = subst (λ o. IsHead note o size root) origin (record { text = opened.text; lines = opened.lines; extensions = opened.extensions; is_note = opened.is_note; is_checkpoint = opened.is_checkpoint });
+        is_head =
+            subst (λ o. IsHead note o size root) origin
+            (record {
+              text =
+                  opened.text;
+              lines =
+                  opened.lines;
+              extensions =
+                  opened.extensions;
+              is_note = opened.is_note;
+              is_checkpoint = opened.is_checkpoint;
+            });
       };
     }

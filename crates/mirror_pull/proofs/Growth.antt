@@ -8,12 +8,14 @@ use Rattle.mirror_pull.specs.Taking.{PullsTo}
 use Rattle.mirror_pull.specs.GrowthLaws.{PullsKeepHeads}
 use Rattle.mirror_pull.specs.declared.pulling.Pulled.{Pulled}
 use Rattle.mirror_pull.specs.declared.fault.PullFault.{PullFault}
-use Rattle.mirror_pull.specs.declared.fault.PullFault.TheVariants.{NoCheckpoint, NoEdge, Head, Source, Collision, OutOfMemory}
+use Rattle.mirror_pull.specs.declared.fault.PullFault.TheVariants.{NoCheckpoint, NoEdge, Head, Source, Collision}
+use Rattle.mirror_pull.specs.declared.fault.PullFault.TheVariants.{OutOfMemory}
 
 same_within : (old new : View) → new ≡ old → IsSubview old new
 same_within old new e = subst (IsSubview old) (sym e) (within_itself old)
 
-pub pull_within : (digest : List ℕ → List ℕ) (keys : List Key) (old new : View) (result : Result Pulled PullFault) → PullsTo digest keys old new result → IsSubview old new
+pub pull_within : (digest : List ℕ → List ℕ) (keys : List Key) (old new : View) (result : Result Pulled PullFault) →
+    PullsTo digest keys old new result → IsSubview old new
 pull_within digest keys old new (Ok p) h = h.0.grows
 pull_within digest keys old new (Err NoCheckpoint) h = same_within old new h
 pull_within digest keys old new (Err NoEdge) h = same_within old new h

@@ -14,19 +14,23 @@ use Rattle.mirror_model.proofs.HeadNotes.{head_once}
 use Rattle.mirror_model.proofs.RefusedHeads.{open_heads_are_read, head_notes_are_read_once}
 
 -- the checkpoint that is read from a note is a head of its size and root
-pub opened_head : (note origin : List ℕ) (keys : List Key) (checkpoint : Checkpoint) → IsOpenCheckpoint note origin keys checkpoint → IsOpenHead note origin keys checkpoint.size checkpoint.root
+pub opened_head : (note origin : List ℕ) (keys : List Key) (checkpoint : Checkpoint) →
+    IsOpenCheckpoint note origin keys checkpoint → IsOpenHead note origin keys checkpoint.size checkpoint.root
 opened_head note origin keys checkpoint is =
-    (open_heads_are_read note origin keys checkpoint.size checkpoint.root).1 (record { checkpoint = checkpoint; is_open = is; size_is = refl; root_is = refl })
+    (open_heads_are_read note origin keys checkpoint.size checkpoint.root).1
+    (record { checkpoint = checkpoint; is_open = is; size_is = refl; root_is = refl })
 
 -- what reading a head's note answers
 abbrev refusal : TakeFault → Result Checkpoint TakeFault
 refusal f = Err f
 
-module _ (note origin : List ℕ) (keys : List Key) (size : ℕ) (root : List ℕ) (h : IsOpenHead note origin keys size root) where
+module _ (note origin : List ℕ) (keys : List Key) (size : ℕ) (root : List ℕ)
+    (h : IsOpenHead note origin keys size root) where
   refuted : (f : TakeFault) → (refusal f ≡ refusal fault.OutOfMemory → ⊥) → ReadsHead note origin keys (Err f) → ⊥
   refuted f other reads =
       let read = (open_heads_are_read note origin keys size root).0 h in
-      let e : Ok read.checkpoint ≡ Err f = head_notes_are_read_once note origin keys (Ok read.checkpoint) (Err f) read.is_open reads (λ x. cc x) other in
+      let e : Ok read.checkpoint ≡ Err f =
+      head_notes_are_read_once note origin keys (Ok read.checkpoint) (Err f) read.is_open reads (λ x. cc x) other in
       cc e
 
   pub read_fault : (f : TakeFault) → ReadsHead note origin keys (Err f) → f ≡ fault.OutOfMemory
@@ -43,19 +47,40 @@ module _ (note origin : List ℕ) (keys : List Key) (size : ℕ) (root : List �
   read_fault fault.Collision r = absurd r
   read_fault fault.OutOfMemory r = refl
 
-  pub read_size : (checkpoint : Checkpoint) → IsOpenCheckpoint note origin keys checkpoint → (checkpoint.size ≡ size) × (checkpoint.root ≡ root)
+  pub read_size : (checkpoint : Checkpoint) → IsOpenCheckpoint note origin keys checkpoint →
+      (checkpoint.size ≡ size) × (checkpoint.root ≡ root)
   read_size checkpoint is =
       let a = opened_head note origin keys checkpoint is in
-      let s = head_once note origin origin checkpoint.size size checkpoint.root root (record { text = a.text; lines = a.lines; extensions = a.extensions; is_note = a.is_note; is_checkpoint = a.is_checkpoint }) (record { text = h.text; lines = h.lines; extensions = h.extensions; is_note = h.is_note; is_checkpoint = h.is_checkpoint }) in
+      let s = head_once note origin origin checkpoint.size size checkpoint.root root
+      (record {
+        text =
+            a.text;
+        lines = a.lines;
+        extensions = a.extensions;
+        is_note = a.is_note;
+        is_checkpoint = a.is_checkpoint;
+      })
+      (record {
+        text =
+            h.text;
+        lines = h.lines;
+        extensions = h.extensions;
+        is_note = h.is_note;
+        is_checkpoint = h.is_checkpoint;
+      }) in
       (s.size_is, s.root_is)
 
 -- so it is where the source is honest for that note
-module _ (digest : List ℕ → List ℕ) (entries : List (List ℕ)) (keys : List Key) (v : View) (note taken : List ℕ) (size : ℕ) (may : Path → Option (List ℕ) → Type 0) (is : IsHonest digest entries v.origin keys note size may) (same : taken ≡ note) where
+module _ (digest : List ℕ → List ℕ) (entries : List (List ℕ)) (keys : List Key) (v : View) (note taken : List ℕ)
+    (size : ℕ) (may : Path → Option (List ℕ) → Type 0) (is : IsHonest digest entries v.origin keys note size may)
+    (same : taken ≡ note) where
   open_head : IsOpenHead taken v.origin keys size (mth digest (take size entries))
-  open_head = subst (λ (n : List ℕ). IsOpenHead n v.origin keys size (mth digest (take size entries))) (sym same) is.is_head
+  open_head =
+      subst (λ (n : List ℕ). IsOpenHead n v.origin keys size (mth digest (take size entries))) (sym same) is.is_head
 
   pub honest_fault : (f : TakeFault) → ReadsHead taken v.origin keys (Err f) → f ≡ fault.OutOfMemory
   honest_fault = read_fault taken v.origin keys size (mth digest (take size entries)) open_head
 
-  pub honest_size : (checkpoint : Checkpoint) → IsOpenCheckpoint taken v.origin keys checkpoint → (checkpoint.size ≡ size) × (checkpoint.root ≡ mth digest (take size entries))
+  pub honest_size : (checkpoint : Checkpoint) → IsOpenCheckpoint taken v.origin keys checkpoint →
+      (checkpoint.size ≡ size) × (checkpoint.root ≡ mth digest (take size entries))
   honest_size = read_size taken v.origin keys size (mth digest (take size entries)) open_head

@@ -1,5 +1,6 @@
 -- Lists of paths in the order of what is missing, and greatest levels.
-use Rattle.std.proofs.Common.{nat_eq, true, false, ◌≡◌, ◌≢◌, ℕ, zero, suc, ◌+◌, ◌*◌, ◌/◌, ◌%◌, ◌^◌, ◌<◌, ◌≤◌, List, [], ◌∷◌, length, get_or, arith, AllPairs, Contains, refl, sym, ◌∙◌, ap, subst, inl, inr}
+use Rattle.std.proofs.Common.{nat_eq, true, false, ◌≡◌, ◌≢◌, ℕ, zero, suc, ◌+◌, ◌*◌, ◌/◌, ◌%◌, ◌^◌, ◌<◌, ◌≤◌, List, []}
+use Rattle.std.proofs.Common.{◌∷◌, length, get_or, arith, AllPairs, Contains, refl, sym, ◌∙◌, ap, subst, inl, inr}
 use Rattle.std.specs.Ordering.{nat_cmp, ordering_then}
 use Rattle.std.specs.Cmp.{nat_cmp_is}
 use Rattle.std.specs.declared.cmp.Ordering.{Ordering}
@@ -26,21 +27,27 @@ same_then a b e f = λ i. ordering_then (e i) (f i)
 
 path_same : (path : Path) → path_cmp path path ≡ Equal
 path_same Checkpoint = refl
-path_same (Tile level index width) = same_then (nat_cmp level level) (ordering_then (nat_cmp index index) (nat_cmp width width)) (nat_same level) (same_then (nat_cmp index index) (nat_cmp width width) (nat_same index) (nat_same width))
-path_same (Entries index width) = same_then (nat_cmp index index) (nat_cmp width width) (nat_same index) (nat_same width)
+path_same (Tile level index width) =
+    same_then (nat_cmp level level) (ordering_then (nat_cmp index index) (nat_cmp width width)) (nat_same level)
+    (same_then (nat_cmp index index) (nat_cmp width width) (nat_same index) (nat_same width))
+path_same (Entries index width) =
+    same_then (nat_cmp index index) (nat_cmp width width) (nat_same index) (nat_same width)
 
 not_less : (path : Path) → path_cmp path path ≡ Less → ⊥
 not_less path less = let wrong : Less ≡ Equal = sym less ∙ path_same path in cc wrong
 
 -- no path stands twice in such a list
-pub sorted_differ : (xs : List Path) → IsStrictlySortedBy path_cmp xs → (i j : ℕ) (d : Path) → i < j → j < length xs → get_or xs i d ≡ get_or xs j d → ⊥
+pub sorted_differ : (xs : List Path) → IsStrictlySortedBy path_cmp xs → (i j : ℕ) (d : Path) → i < j → j < length xs →
+    get_or xs i d ≡ get_or xs j d → ⊥
 unfolding IsStrictlySortedBy
 sorted_differ [] sorted i j d lt within e = omega (arith, within)
 sorted_differ (x ∷ xs) sorted i zero d lt within e = omega (arith, lt)
 sorted_differ (x ∷ xs) sorted zero (suc j) d lt within e =
-    let less : path_cmp x (get_or xs j d) ≡ Less = All-from_recursion (λ y. path_cmp x y ≡ Less) xs sorted.0 j d (omega (arith, within)) in
+    let less : path_cmp x (get_or xs j d) ≡ Less =
+    All-from_recursion (λ y. path_cmp x y ≡ Less) xs sorted.0 j d (omega (arith, within)) in
     not_less x (subst (λ (y : Path). path_cmp x y ≡ Less) (sym e) less)
-sorted_differ (x ∷ xs) sorted (suc i) (suc j) d lt within e = sorted_differ xs sorted.1 i j d (omega (arith, lt)) (omega (arith, within)) e
+sorted_differ (x ∷ xs) sorted (suc i) (suc j) d lt within e =
+    sorted_differ xs sorted.1 i j d (omega (arith, lt)) (omega (arith, within)) e
 
 -- ---- the widest path of a place is one
 
@@ -58,7 +65,8 @@ pub widest_same : (size : ℕ) (p q : Path) → IsWidest size p → IsWidest siz
 widest_same size Checkpoint q a b e = absurd a
 widest_same size (Tile level index width) Checkpoint a b e = absurd b
 widest_same size (Tile level index width) (Tile l i w) a b e = ap (Tile level index) a ∙ (e ∙ sym (ap (Tile l i) b))
-widest_same size (Tile level index width) (Entries i w) a b e = let k : 1 ≡ 2 = ap kind_of e in absurd (omega (arith, k))
+widest_same size (Tile level index width) (Entries i w) a b e =
+    let k : 1 ≡ 2 = ap kind_of e in absurd (omega (arith, k))
 widest_same size (Entries index width) Checkpoint a b e = absurd b
 widest_same size (Entries index width) (Tile l i w) a b e = let k : 2 ≡ 1 = ap kind_of e in absurd (omega (arith, k))
 widest_same size (Entries index width) (Entries i w) a b e =
@@ -82,7 +90,8 @@ lower_level n level below none = elim (cases_lt n (256 ^ level)) [
       let some : 1 ≤ n / 256 ^ level = (le-div_iff_mul-le positive).1 one in
       let few : n / 256 ^ level < 256 = elim (cases_lt (n / 256 ^ level) 256) [
         | inl lt ↦ lt
-        | inr ge ↦ absurd (let over : 256 * 256 ^ level ≤ n = (le-div_iff_mul-le positive).0 ge in omega (arith, over, below, step))
+        | inr ge ↦ absurd
+            (let over : 256 * 256 ^ level ≤ n = (le-div_iff_mul-le positive).0 ge in omega (arith, over, below, step))
       ] in
       absurd (omega (arith, some, few, none))
 ]
@@ -90,7 +99,10 @@ lower_level n level below none = elim (cases_lt n (256 ^ level)) [
 top_from : (n level : ℕ) → level ≤ 7 → n < 256 ^ (level + 1) → HasTop n
 top_from n zero le below = record { top = 0; is = top_lowest n below }
 top_from n (suc level) le below = elim (eqb_tells (width_of n (suc level)) 0) [
-  | inl none ↦ (let less : n < 256 ^ (suc level) = lower_level n (suc level) below none.1 in let same : 256 ^ suc level ≡ 256 ^ (level + 1) = ap (λ (k : ℕ). 256 ^ k) (omega arith) in top_from n level (omega (arith, le)) (omega (arith, less, same)))
+  | inl none ↦
+      (let less : n < 256 ^ (suc level) =
+      lower_level n (suc level) below none.1 in let same : 256 ^ suc level ≡ 256 ^ (level + 1) =
+      ap (λ (k : ℕ). 256 ^ k) (omega arith) in top_from n level (omega (arith, le)) (omega (arith, less, same)))
   | inr some ↦ (let apart = some.1 in record { top = suc level; is = top_found n (suc level) le below (omega arith) })
 ]
 
@@ -101,8 +113,14 @@ has_top n small = top_from n 7 (omega arith) small
 
 pub none_if : (n : ℕ) → nat_eq n 0 ≡ true → n ≡ 0
 none_if zero e = refl
-none_if (suc n) e = elim (eqb_tells (suc n) 0) [ inl a ↦ a.1 | inr b ↦ (let f = b.0 in let t : true ≡ false = sym e ∙ f in absurd cc) ]
+none_if (suc n) e =
+    elim (eqb_tells (suc n) 0) [ inl a ↦ a.1 | inr b ↦ (let f = b.0 in let t : true ≡ false = sym e ∙ f in absurd cc) ]
 
 pub some_if : (n : ℕ) → nat_eq n 0 ≡ false → 1 ≤ n
-some_if zero e = elim (eqb_tells 0 0) [ inl a ↦ (let f = a.0 in let t : true ≡ false = sym f ∙ e in absurd cc) | inr b ↦ (let apart = b.1 in absurd (apart refl)) ]
+some_if zero e =
+    elim (eqb_tells 0 0) [
+      | inl a ↦ (let f = a.0 in let t : true ≡ false = sym f ∙ e in absurd cc)
+      | inr b ↦
+          (let apart = b.1 in absurd (apart refl))
+    ]
 some_if (suc n) e = omega arith

@@ -1,5 +1,8 @@
 -- A pull from an honest source, from its checkpoint to its outcome.
-use Rattle.std.proofs.Common.{◌≡◌, ◌≢◌, ◌⊎◌, ℕ, zero, suc, ◌+◌, ◌*◌, ◌^◌, ◌<◌, ◌≤◌, List, [], ◌∷◌, ◌++◌, length, get_or, map, take, arith, length-take, length-append, append_assoc, ◌↔◌, Contains, AllPairs, Option, Some, None, Result, Ok, Err, Bool, true, false, IsTrue, refl, sym, ◌∙◌, ap, subst, inl, inr}
+use Rattle.std.proofs.Common.{◌≡◌, ◌≢◌, ◌⊎◌, ℕ, zero, suc, ◌+◌, ◌*◌, ◌^◌, ◌<◌, ◌≤◌, List, [], ◌∷◌, ◌++◌, length, get_or}
+use Rattle.std.proofs.Common.{map, take, arith, length-take, length-append, append_assoc, ◌↔◌, Contains, AllPairs}
+use Rattle.std.proofs.Common.{Option, Some, None, Result, Ok, Err, Bool, true, false, IsTrue, refl, sym, ◌∙◌, ap, subst}
+use Rattle.std.proofs.Common.{inl, inr}
 use Rattle.std.specs.Prelude.{max, MatchResult}
 use Rattle.std.specs.FinSet as set
 use Rattle.std.proofs.lemmas.List.{append-nil}
@@ -39,7 +42,8 @@ use Rattle.mirror_pull.specs.Honest.{NoClashAmong, AreFrontRounds, with_head, Ho
 use Rattle.mirror_pull.specs.declared.pulling.Pulled.{Pulled}
 use Rattle.mirror_pull.specs.Parts.{IsTrueSource, AreTrueRows, MayWork, HasWorked, GetsAll, IsOutside}
 use Rattle.mirror_pull.specs.declared.fault.PullFault.{PullFault}
-use Rattle.mirror_pull.specs.declared.fault.PullFault.TheVariants.{NoCheckpoint, NoEdge, Head, Source, Collision, OutOfMemory}
+use Rattle.mirror_pull.specs.declared.fault.PullFault.TheVariants.{NoCheckpoint, NoEdge, Head, Source, Collision}
+use Rattle.mirror_pull.specs.declared.fault.PullFault.TheVariants.{OutOfMemory}
 use Rattle.mirror_pull.proofs.Freshness.{cases_first, each_place, gets_each_asked, edge_apart}
 use Rattle.mirror_pull.proofs.Gains.{head_notes}
 use Rattle.mirror_pull.proofs.TrueRows.{source_stays}
@@ -51,24 +55,30 @@ use Rattle.mirror_pull.proofs.FrontRounds.{front_rounds_end}
 
 map_same : (f g : Path → List ℕ) (ps : List Path) → ((p : Path) → Contains ps p → f p ≡ g p) → map f ps ≡ map g ps
 map_same f g [] same = refl
-map_same f g (p ∷ ps) same = λ i. same p (0, omega arith, refl) i ∷ map_same f g ps (λ q c. same q (suc c.0, omega (arith, c.1), c.2)) i
+map_same f g (p ∷ ps) same =
+    λ i. same p (0, omega arith, refl) i ∷ map_same f g ps (λ q c. same q (suc c.0, omega (arith, c.1), c.2)) i
 
 map_twice : {A B C : Type 0} (f : B → C) (g : A → B) (xs : List A) → map f (map g xs) ≡ map (λ x. f (g x)) xs
 map_twice f g [] = refl
 map_twice f g (x ∷ xs) = λ i. f (g x) ∷ map_twice f g xs i
 
-bytes_of_edge : (digest : List ℕ → List ℕ) (entries : List (List ℕ)) → map (true_bytes digest entries) (edge_of (length entries)) ≡ edge_bytes digest entries
+bytes_of_edge : (digest : List ℕ → List ℕ) (entries : List (List ℕ)) →
+    map (true_bytes digest entries) (edge_of (length entries)) ≡ edge_bytes digest entries
 bytes_of_edge digest entries =
     let n = length entries in
     let at = λ (level : ℕ). Tile level (edge_index_of n level) (width_of n level) in
     ap (map (true_bytes digest entries)) (edge_is_of_paths n)
-    ∙ (map_twice (true_bytes digest entries) at (edge_levels n) ∙ sym (map_twice row_text (edge_row digest entries) (edge_levels n)))
+    ∙ (map_twice (true_bytes digest entries) at (edge_levels n) ∙
+    sym (map_twice row_text (edge_row digest entries) (edge_levels n)))
 
-pub rows_of_edge : (digest : List ℕ → List ℕ) (entries : List (List ℕ)) (size : ℕ) → size ≤ length entries → map (true_bytes digest entries) (edge_of size) ≡ edge_bytes digest (take size entries)
+pub rows_of_edge : (digest : List ℕ → List ℕ) (entries : List (List ℕ)) (size : ℕ) → size ≤ length entries →
+    map (true_bytes digest entries) (edge_of size) ≡ edge_bytes digest (take size entries)
 rows_of_edge digest entries size le =
     let long : length (take size entries) ≡ size = omega (arith, length-take size entries, le) in
-    sym (map_same (true_bytes digest (take size entries)) (true_bytes digest entries) (edge_of size) (λ p c. same_bytes p ((edge_is size p).0 c)))
-    ∙ (ap (λ (n : ℕ). map (true_bytes digest (take size entries)) (edge_of n)) (sym long) ∙ bytes_of_edge digest (take size entries))
+    sym (map_same (true_bytes digest (take size entries)) (true_bytes digest entries) (edge_of size)
+    (λ p c. same_bytes p ((edge_is size p).0 c)))
+    ∙ (ap (λ (n : ℕ). map (true_bytes digest (take size entries)) (edge_of n)) (sym long) ∙
+    bytes_of_edge digest (take size entries))
   where
     same_bytes : (p : Path) → IsEdgeTile size p → true_bytes digest (take size entries) p ≡ true_bytes digest entries p
     same_bytes Checkpoint h = absurd h
@@ -94,11 +104,13 @@ edge_fresh size asked is = record {
 
 -- ---- what was asked for before the rounds is settled
 
-settled_edge : (size : ℕ) (edge path : Path) → IsEdgeTile size edge → full_of edge ≡ full_of path → IsWithin size path → IsWidest size path → ⊥
+settled_edge : (size : ℕ) (edge path : Path) → IsEdgeTile size edge → full_of edge ≡ full_of path → IsWithin size path →
+    IsWidest size path → ⊥
 settled_edge size Checkpoint path h same within widest = h
 settled_edge size (Entries i w) path h same within widest = h
 settled_edge size (Tile l i w) Checkpoint h same within widest = within
-settled_edge size (Tile l i w) (Entries index width) h same within widest = let k : 1 ≡ 2 = ap kind_of same in omega (arith, k)
+settled_edge size (Tile l i w) (Entries index width) h same within widest =
+    let k : 1 ≡ 2 = ap kind_of same in omega (arith, k)
 settled_edge size (Tile l i w) (Tile level index width) h same within widest =
     let at : Tile l i 256 ≡ Tile level index width = same ∙ sym (ap (Tile level index) widest) in
     h.widest 256 h.partial (subst (IsWithin size) (sym at) within)
@@ -108,7 +120,9 @@ settled_checkpoint size Checkpoint same within = within
 settled_checkpoint size (Tile level index width) same within = let k : 0 ≡ 1 = ap kind_of same in omega (arith, k)
 settled_checkpoint size (Entries index width) same within = let k : 0 ≡ 2 = ap kind_of same in omega (arith, k)
 
-pub edge_settled : (n size : ℕ) (asked after : List Path) → asked ≡ Checkpoint ∷ [] → GetsAll n (edge_of size) asked after → (before : Path) → Contains after before → (path : Path) → full_of before ≡ full_of path → IsWithin size path → IsWidest size path → ⊥
+pub edge_settled : (n size : ℕ) (asked after : List Path) → asked ≡ Checkpoint ∷ [] →
+    GetsAll n (edge_of size) asked after → (before : Path) → Contains after before → (path : Path) →
+    full_of before ≡ full_of path → IsWithin size path → IsWidest size path → ⊥
 edge_settled n size asked after is got before has path same within widest =
     elim (Contains-append_cases asked got.gets before (subst (λ (l : List Path). Contains l before) got.list has)) [
       | inl old ↦ elim (cases_first Checkpoint [] before (subst (λ (l : List Path). Contains l before) is old)) [
@@ -116,8 +130,11 @@ edge_settled n size asked after is got before has path same within widest =
         | inr none ↦ omega (arith, none.1)
       ]
       | inr new ↦
-          (let place = each_place (edge_of size) got.gets (gets_each_asked n (edge_of size) got.gets got.founds got.are) before new in
-          settled_edge size place.path path ((edge_is size place.path).0 place.listed) (sym place.same ∙ same) within widest)
+          (let place =
+          each_place (edge_of size) got.gets
+          (gets_each_asked n (edge_of size) got.gets got.founds got.are) before new in
+          settled_edge size place.path path ((edge_is size place.path).0 place.listed)
+          (sym place.same ∙ same) within widest)
     ]
 
 -- ---- the parts of what was asked for
@@ -133,28 +150,35 @@ no_more [] e = refl
 no_more (p ∷ ps) e = absurd (omega (arith, e))
 
 pub parts_asked :
-    (old new a b : Option (List Path)) (size rounds : ℕ) (none asked mid after : List Path) → none ≡ [] → asked ≡ Checkpoint ∷ [] → AddsEach (edge_of size) asked mid → AddsTo mid after a b → AddsTo none after old new →
+    (old new a b : Option (List Path)) (size rounds : ℕ) (none asked mid after : List Path) → none ≡ [] →
+    asked ≡ Checkpoint ∷ [] → AddsEach (edge_of size) asked mid → AddsTo mid after a b → AddsTo none after old new →
     (rounds ≡ 0) ↔ (after ≡ mid) → AsksInParts old new size rounds
 parts_asked old new a b size rounds none asked mid after is begun edge work told counts = record {
   edge_gets = edge.gets;
   round_gets = work.more;
   edge = edge.each;
   told =
-      let all : after ≡ Checkpoint ∷ edge.gets ++ work.more = work.list ∙ ap (λ (l : List Path). l ++ work.more) (edge.list ∙ ap (λ (l : List Path). l ++ edge.gets) begun) in
+      let all : after ≡ Checkpoint ∷ edge.gets ++ work.more =
+      work.list ∙
+      ap (λ (l : List Path). l ++ work.more) (edge.list ∙ ap (λ (l : List Path). l ++ edge.gets) begun) in
       subst (AddsTold old new) (sym (told.list ∙ ap (λ (l : List Path). l ++ told.more) is) ∙ all) told.adds.told;
   none = (
-    λ zero. no_more work.more (omega (arith, ap length (counts.0 zero), ap length work.list, length-append mid work.more)),
+    λ zero. no_more work.more
+        (omega (arith, ap length (counts.0 zero), ap length work.list, length-append mid work.more)),
     λ nothing. counts.1 (work.list ∙ (ap (λ (l : List Path). mid ++ l) nothing ∙ append-nil mid)),
   );
 }
 
-empty_front : (digest : List ℕ → List ℕ) (held : Strings) (start : ℕ) (x : Node) → InFront digest held (tree_of []) start x → ⊥
+empty_front : (digest : List ℕ → List ℕ) (held : Strings) (start : ℕ) (x : Node) →
+    InFront digest held (tree_of []) start x → ⊥
 unfolding tree_of tree_within
 empty_front digest held start x h = h
 
 -- ---- the pull
 
-module _ (digest : List ℕ → List ℕ) (hash : IsDigest digest) (keys : List Key) (entries : List (List ℕ)) (v : View) (note : List ℕ) (size : ℕ) (may : Path → Option (List ℕ) → Type 0) (is : IsHonest digest entries v.origin keys note size may) (clean : NoClashAmong digest entries v size) where
+module _ (digest : List ℕ → List ℕ) (hash : IsDigest digest) (keys : List Key) (entries : List (List ℕ)) (v : View)
+    (note : List ℕ) (size : ℕ) (may : Path → Option (List ℕ) → Type 0)
+    (is : IsHonest digest entries v.origin keys note size may) (clean : NoClashAmong digest entries v size) where
   pub pull_source : IsTrueSource digest entries may
   pull_source = record { hash = hash; short = is.short; parts = is.parts }
 
@@ -165,7 +189,9 @@ module _ (digest : List ℕ → List ℕ) (hash : IsDigest digest) (keys : List 
     true_edge_small : length (take size entries) < 256 ^ 8
     true_edge_small = omega (arith, long, small)
 
-    head_strings : (y : List ℕ) → Contains (strings_of digest (item.Head note (edge_bytes digest (take size entries)))) y → InTrees digest entries size y
+    head_strings : (y : List ℕ) →
+        Contains (strings_of digest (item.Head note (edge_bytes digest (take size entries)))) y →
+        InTrees digest entries size y
     head_strings y c =
         let e = edges_are_true digest hash (take size entries) true_edge_small in
         inr (edge_strings_within digest (take size entries) y (subst (λ ss. Contains ss y) e.strings_are c))
@@ -177,71 +203,120 @@ module _ (digest : List ℕ → List ℕ) (hash : IsDigest digest) (keys : List 
           size = size;
           root = mth digest (take size entries);
           is_head = is.is_head;
-          has_edge = record { widths = e.has_edge.widths ∙ ap (λ (n : ℕ). map (λ width. 32 * width) (map (width_of n) (edge_levels n))) long; root_is = e.has_edge.root_is };
+          has_edge =
+              record {
+                widths =
+                    e.has_edge.widths ∙ ap (λ (n : ℕ). map (λ width. 32 * width) (map (width_of n) (edge_levels n))) long;
+                root_is = e.has_edge.root_is;
+              };
         }
 
     -- the head is taken
-    pub head_fault : (w : View) (taken : List ℕ) (rows : List (List ℕ)) (e : PullFault) → taken ≡ note → rows ≡ edge_bytes digest (take size entries) → TakesHead {T = Bool} digest keys v (item.Head taken rows) (Err e) w → IsOutside e
+    pub head_fault : (w : View) (taken : List ℕ) (rows : List (List ℕ)) (e : PullFault) → taken ≡ note →
+        rows ≡ edge_bytes digest (take size entries) →
+        TakesHead {T = Bool} digest keys v (item.Head taken rows) (Err e) w → IsOutside e
     head_fault w taken rows e same are t =
-        go e (subst (λ n. TakesHead {T = Bool} digest keys v (item.Head n (edge_bytes digest (take size entries))) (Err e) w) same (subst (λ r. TakesHead {T = Bool} digest keys v (item.Head taken r) (Err e) w) are t))
+        go e (subst
+        (λ n. TakesHead {T = Bool} digest keys v (item.Head n (edge_bytes digest (take size entries)))
+        (Err e) w) same (subst (λ r. TakesHead {T = Bool} digest keys v (item.Head taken r) (Err e) w) are t))
       where
-        go : (e : PullFault) → TakesHead {T = Bool} digest keys v (item.Head note (edge_bytes digest (take size entries))) (Err e) w → IsOutside e
+        go : (e : PullFault) →
+            TakesHead {T = Bool} digest keys v (item.Head note (edge_bytes digest (take size entries))) (Err e) w →
+            IsOutside e
         go NoCheckpoint t = absurd t
         go NoEdge t = absurd t
         go (Head f) t = absurd (t.1 good_head)
         go Source t = absurd t
-        go Collision t = absurd (clash_contradicts digest (with_head digest entries v note size).strings (plus_clean digest entries size v (item.Head note (edge_bytes digest (take size entries))) head_strings clean) t.0)
+        go Collision t =
+            absurd (clash_contradicts digest (with_head digest entries v note size).strings
+            (plus_clean digest entries size v
+            (item.Head note (edge_bytes digest (take size entries))) head_strings clean) t.0)
         go OutOfMemory t = inl refl
 
     -- after which the rounds may go on
     pub rounds_may :
-        (later : Path → Option (List ℕ) → Type 0) (w : View) (root : List ℕ) (asked after : List Path) → StaysWithin may later → w ≡ with_head digest entries v note size → root ≡ mth digest (take size entries) → HasHead w size root →
-        asked ≡ Checkpoint ∷ [] → GetsAll (length entries) (edge_of size) asked after → MayWork digest entries size root later w after
+        (later : Path → Option (List ℕ) → Type 0) (w : View) (root : List ℕ) (asked after : List Path) →
+        StaysWithin may later → w ≡ with_head digest entries v note size → root ≡ mth digest (take size entries) →
+        HasHead w size root →
+        asked ≡ Checkpoint ∷ [] → GetsAll (length entries) (edge_of size) asked after →
+        MayWork digest entries size root later w after
     rounds_may later w root asked after stays taken root_is head begun got =
         let x = item.Head note (edge_bytes digest (take size entries)) in
         let e = edges_are_true digest hash (take size entries) true_edge_small in
-        let held : HasAll (plus digest v x).strings (edge_strings digest (edge_rows digest (take size entries))) = held_from_holds (plus digest v x).strings (edge_strings digest (edge_rows digest (take size entries))) (λ y c. (plus_holds digest v x y).string_held (inr (subst (λ ss. Contains ss y) (sym e.strings_are) c))) in
+        let held : HasAll (plus digest v x).strings (edge_strings digest (edge_rows digest (take size entries))) =
+        held_from_holds (plus digest v x).strings (edge_strings digest (edge_rows digest (take size entries)))
+        (λ y c. (plus_holds digest v x y).string_held (inr (subst (λ ss. Contains ss y) (sym e.strings_are) c))) in
         record {
           source = source_stays digest entries may later stays pull_source;
           within = is.within;
           small = small;
-          clean = subst (λ (u : View). NoClashAmong digest entries u size) (sym taken) (clean_gained digest entries size v (plus digest v x) (plus_only digest entries size v x head_strings) clean);
+          clean = subst (λ (u : View). NoClashAmong digest entries u size) (sym taken)
+              (clean_gained digest entries size v (plus digest v x)
+              (plus_only digest entries size v x head_strings) clean);
           root_is = root_is;
           head = head;
-          edge = subst (λ (u : View). HasAll u.strings (edge_strings digest (edge_rows digest (take size entries)))) (sym taken) held;
-          settled = λ before has path same within widest. absurd (edge_settled (length entries) size asked after begun got before has path same within widest);
+          edge = subst (λ (u : View). HasAll u.strings (edge_strings digest (edge_rows digest (take size entries))))
+              (sym taken) held;
+          settled =
+              λ before has path same within widest. absurd
+              (edge_settled (length entries) size asked after begun got before has path same within widest);
         }
 
     -- of no entries there are no rounds
-    no_rounds : (lists : List (List Path)) (x w : View) (gets : List Path) → size ≡ 0 → AreFrontRounds digest entries size x w lists gets → length lists ≡ 0
+    no_rounds : (lists : List (List Path)) (x w : View) (gets : List Path) → size ≡ 0 →
+        AreFrontRounds digest entries size x w lists gets → length lists ≡ 0
     no_rounds [] x w gets none rounds = refl
     no_rounds (list ∷ lists) x w gets none rounds =
         let round = rounds.3 in
-        let front = (round.front.exact (get_or list 0 Checkpoint)).0 (Contains-get_or list 0 Checkpoint (omega (arith, round.some))) in
-        absurd (empty_front digest x.strings 0 front.node (subst (λ (n : ℕ). InFront digest x.strings (tree_of (take n entries)) 0 front.node) none front.is))
+        let front =
+        (round.front.exact (get_or list 0 Checkpoint)).0
+        (Contains-get_or list 0 Checkpoint (omega (arith, round.some))) in
+        absurd (empty_front digest x.strings 0 front.node
+        (subst (λ (n : ℕ). InFront digest x.strings (tree_of (take n entries)) 0 front.node) none front.is))
 
-    module _ (w x : View) (rounds : ℕ) (mid after : List Path) (taken : w ≡ with_head digest entries v note size) (working : HasWorked digest entries size rounds w x mid after) where
+    module _ (w x : View) (rounds : ℕ) (mid after : List Path) (taken : w ≡ with_head digest entries v note size)
+        (working : HasWorked digest entries size rounds w x mid after) where
       pub worked_few : (top : ℕ) → IsTop size top → rounds ≤ max 1 top
       worked_few top is_top =
           let e = edges_are_true digest hash (take size entries) true_edge_small in
           let i = item.Head note (edge_bytes digest (take size entries)) in
-          let held : HasAll (plus digest v i).strings (edge_strings digest (edge_rows digest (take size entries))) = held_from_holds (plus digest v i).strings (edge_strings digest (edge_rows digest (take size entries))) (λ y c. (plus_holds digest v i y).string_held (inr (subst (λ ss. Contains ss y) (sym e.strings_are) c))) in
-          let edge = subst (λ (u : View). HasAll u.strings (edge_strings digest (edge_rows digest (take size entries)))) (sym taken) held in
-          omega (arith, front_rounds_end digest hash entries is.short size top w x working.lists working.gets is.within small is_top edge working.worked, working.count)
+          let held : HasAll (plus digest v i).strings (edge_strings digest (edge_rows digest (take size entries))) =
+          held_from_holds (plus digest v i).strings (edge_strings digest (edge_rows digest (take size entries)))
+          (λ y c. (plus_holds digest v i y).string_held
+          (inr (subst (λ ss. Contains ss y) (sym e.strings_are) c))) in
+          let edge =
+          subst (λ (u : View). HasAll u.strings (edge_strings digest (edge_rows digest (take size entries))))
+          (sym taken) held in
+          omega (
+            arith,
+            front_rounds_end digest hash entries is.short size top w x working.lists working.gets is.within small is_top edge working.worked,
+            working.count,
+          )
 
       pub worked_none : size ≡ 0 → rounds ≡ 0
       worked_none none = sym working.count ∙ no_rounds working.lists w x working.gets none working.worked
 
       pub worked_strings : (y : List ℕ) → Has x.strings y → Has v.strings y ⊎ InTrees digest entries size y
       worked_strings y h = elim (working.strings y h) [
-        | inl a ↦ plus_only digest entries size v (item.Head note (edge_bytes digest (take size entries))) head_strings y (subst (λ (u : View). Has u.strings y) taken a)
+        | inl a ↦ plus_only digest entries size v
+            (item.Head note (edge_bytes digest (take size entries))) head_strings y
+            (subst (λ (u : View). Has u.strings y) taken a)
         | inr b ↦ inr b
       ]
 
-      pub worked_complete : (root : List ℕ) → root ≡ mth digest (take size entries) → HasHead x size root → IsComplete digest x size root
-      worked_complete root root_is head = record { entries = take size entries; complete = record { head = head; tree = record { size_is = long; root_is = sym root_is; are_held = working.whole } } }
+      pub worked_complete : (root : List ℕ) → root ≡ mth digest (take size entries) → HasHead x size root →
+          IsComplete digest x size root
+      worked_complete root root_is head =
+          record {
+            entries =
+                take size entries;
+            complete =
+                record { head = head; tree = record { size_is = long; root_is = sym root_is; are_held = working.whole } };
+          }
 
-      pub worked_gets : (none asked : List Path) (old new : Option (List Path)) → none ≡ [] → asked ≡ Checkpoint ∷ [] → GetsAll (length entries) (edge_of size) asked mid → AddsTo none after old new → HonestGets digest entries note size v x old new rounds
+      pub worked_gets : (none asked : List Path) (old new : Option (List Path)) → none ≡ [] → asked ≡ Checkpoint ∷ [] →
+          GetsAll (length entries) (edge_of size) asked mid → AddsTo none after old new →
+          HonestGets digest entries note size v x old new rounds
       worked_gets none asked old new is_none begun got told = record {
         edge_gets = got.gets;
         edge_founds = got.founds;
@@ -249,15 +324,26 @@ module _ (digest : List ℕ → List ℕ) (hash : IsDigest digest) (keys : List 
         lists = working.lists;
         gets = working.gets;
         count = working.count;
-        worked = subst (λ (u : View). AreFrontRounds digest entries size u x working.lists working.gets) taken working.worked;
-        told = subst (AddsTold old new) (sym (told.list ∙ ap (λ (l : List Path). l ++ told.more) is_none) ∙ (working.list ∙ (ap (λ (l : List Path). l ++ working.gets) (got.list ∙ ap (λ (l : List Path). l ++ got.gets) begun)))) told.adds.told;
+        worked = subst
+            (λ (u : View). AreFrontRounds digest entries size u x working.lists working.gets) taken working.worked;
+        told = subst (AddsTold old new)
+            (sym (told.list ∙ ap (λ (l : List Path). l ++ told.more) is_none) ∙
+            (working.list ∙
+            (ap (λ (l : List Path). l ++ working.gets)
+            (got.list ∙ ap (λ (l : List Path). l ++ got.gets) begun)))) told.adds.told;
       }
 
       pub worked_notes : GainsStrings w x → (other : List ℕ) → Has x.notes other → Has v.notes other ⊎ (other ≡ note)
-      worked_notes gains other h = head_notes digest v note (edge_bytes digest (take size entries)) other (subst (λ (u : View). Has u.notes other) taken (gains.same_notes other h))
+      worked_notes gains other h =
+          head_notes digest v note (edge_bytes digest (take size entries)) other
+          (subst (λ (u : View). Has u.notes other) taken (gains.same_notes other h))
 
       pub worked_note : GainsStrings w x → Has x.notes note
-      worked_note gains = gains.grows.notes_are note (subst (λ (u : View). Has u.notes note) (sym taken) ((plus_holds digest v (item.Head note (edge_bytes digest (take size entries))) note).note_held (inr (0, omega arith, refl))))
+      worked_note gains =
+          gains.grows.notes_are note
+          (subst (λ (u : View). Has u.notes note) (sym taken)
+          ((plus_holds digest v (item.Head note (edge_bytes digest (take size entries))) note).note_held
+          (inr (0, omega arith, refl))))
 
 -- ---- from what was read
 
@@ -269,32 +355,43 @@ never_none b e = cc e
 
 -- a checkpoint's size is within the limit
 pub read_small :
-    (digest : List ℕ → List ℕ) (entries : List (List ℕ)) (origin : List ℕ) (keys : List Key) (note : List ℕ) (size : ℕ) (may : Path → Option (List ℕ) → Type 0) → IsHonest digest entries origin keys note size may →
+    (digest : List ℕ → List ℕ) (entries : List (List ℕ)) (origin : List ℕ) (keys : List Key) (note : List ℕ) (size : ℕ)
+    (may : Path → Option (List ℕ) → Type 0) → IsHonest digest entries origin keys note size may →
     size < 256 ^ 8
-read_small digest entries origin keys note size may is = let limit : size ≤ 9223372036854775807 = is.is_head.is_checkpoint.in_range in omega (arith, limit)
+read_small digest entries origin keys note size may is =
+    let limit : size ≤ 9223372036854775807 = is.is_head.is_checkpoint.in_range in omega (arith, limit)
 
 -- the source is honest at the size of the checkpoint that was read
-pub record IsReadHonestly (digest : List ℕ → List ℕ) (entries : List (List ℕ)) (keys : List Key) (v : View) (taken : List ℕ) (size : ℕ) (at : ℕ) (root : List ℕ) (may : Path → Option (List ℕ) → Type 0) : Type 0 where
+pub record IsReadHonestly (digest : List ℕ → List ℕ) (entries : List (List ℕ)) (keys : List Key) (v : View)
+    (taken : List ℕ) (size : ℕ) (at : ℕ) (root : List ℕ) (may : Path → Option (List ℕ) → Type 0) : Type 0 where
   pub size_is : at ≡ size
   pub root_is : root ≡ mth digest (take at entries)
   pub honest : IsHonest digest entries v.origin keys taken at may
   pub clean : NoClashAmong digest entries v at
 
 pub read_honestly :
-    (digest : List ℕ → List ℕ) (entries : List (List ℕ)) (keys : List Key) (v : View) (note taken : List ℕ) (size at : ℕ) (root : List ℕ) (may : Path → Option (List ℕ) → Type 0) →
-    IsHonest digest entries v.origin keys note size may → NoClashAmong digest entries v size → taken ≡ note → at ≡ size → root ≡ mth digest (take size entries) → IsReadHonestly digest entries keys v taken size at root may
+    (digest : List ℕ → List ℕ) (entries : List (List ℕ)) (keys : List Key) (v : View) (note taken : List ℕ)
+    (size at : ℕ) (root : List ℕ) (may : Path → Option (List ℕ) → Type 0) →
+    IsHonest digest entries v.origin keys note size may → NoClashAmong digest entries v size → taken ≡ note →
+    at ≡ size → root ≡ mth digest (take size entries) → IsReadHonestly digest entries keys v taken size at root may
 read_honestly digest entries keys v note taken size at root may is clean same size_is root_is = record {
   size_is = size_is;
   root_is = root_is ∙ ap (λ (n : ℕ). mth digest (take n entries)) (sym size_is);
-  honest = subst (λ (n : ℕ). IsHonest digest entries v.origin keys taken n may) (sym size_is) (subst (λ (b : List ℕ). IsHonest digest entries v.origin keys b size may) (sym same) is);
+  honest = subst (λ (n : ℕ). IsHonest digest entries v.origin keys taken n may) (sym size_is)
+      (subst (λ (b : List ℕ). IsHonest digest entries v.origin keys b size may) (sym same) is);
   clean = subst (λ (n : ℕ). NoClashAmong digest entries v n) (sym size_is) clean;
 }
 
-pub head_done : (digest : List ℕ → List ℕ) (entries : List (List ℕ)) (v w : View) (note taken : List ℕ) (size : ℕ) (rows : List (List ℕ)) → taken ≡ note → rows ≡ edge_bytes digest (take size entries) → w ≡ plus digest v (item.Head taken rows) → w ≡ with_head digest entries v note size
-head_done digest entries v w note taken size rows same are is = is ∙ ((λ i. plus digest v (item.Head (same i) rows)) ∙ (λ i. plus digest v (item.Head note (are i))))
+pub head_done : (digest : List ℕ → List ℕ) (entries : List (List ℕ)) (v w : View) (note taken : List ℕ) (size : ℕ)
+    (rows : List (List ℕ)) → taken ≡ note → rows ≡ edge_bytes digest (take size entries) →
+    w ≡ plus digest v (item.Head taken rows) → w ≡ with_head digest entries v note size
+head_done digest entries v w note taken size rows same are is =
+    is ∙ ((λ i. plus digest v (item.Head (same i) rows)) ∙ (λ i. plus digest v (item.Head note (are i))))
 
 pub outcome_read :
-    (digest : List ℕ → List ℕ) (entries : List (List ℕ)) (note taken : List ℕ) (size at : ℕ) (v w : View) (old new : Option (List Path)) (p : Pulled) → taken ≡ note → at ≡ size →
+    (digest : List ℕ → List ℕ) (entries : List (List ℕ)) (note taken : List ℕ) (size at : ℕ) (v w : View)
+    (old new : Option (List Path)) (p : Pulled) → taken ≡ note → at ≡ size →
     HonestOutcome digest entries taken at v w old new p → HonestOutcome digest entries note size v w old new p
 outcome_read digest entries note taken size at v w old new p same size_is h =
-    subst (λ (n : ℕ). HonestOutcome digest entries note n v w old new p) size_is (subst (λ (b : List ℕ). HonestOutcome digest entries b at v w old new p) same h)
+    subst (λ (n : ℕ). HonestOutcome digest entries note n v w old new p) size_is
+    (subst (λ (b : List ℕ). HonestOutcome digest entries b at v w old new p) same h)

@@ -1,5 +1,6 @@
 -- The rows of an edge, from an honest source.
-use Rattle.std.proofs.Common.{◌≡◌, ◌≢◌, ℕ, ◌+◌, ◌*◌, ◌≤◌, List, [], ◌∷◌, ◌++◌, length, map, take, arith, Contains, Option, Some, None, refl, sym, ◌∙◌, ap, subst, append_assoc}
+use Rattle.std.proofs.Common.{◌≡◌, ◌≢◌, ℕ, ◌+◌, ◌*◌, ◌≤◌, List, [], ◌∷◌, ◌++◌, length, map, take, arith, Contains}
+use Rattle.std.proofs.Common.{Option, Some, None, refl, sym, ◌∙◌, ap, subst, append_assoc}
 use Rattle.std.specs.Prelude.{option_map}
 use Rattle.std.proofs.Common.{Vec, Global}
 use Rattle.tlog_tiles.specs.declared.paths.Path.{Path}
@@ -20,33 +21,59 @@ use Rattle.mirror_pull.specs.Parts.{GetsAll, IsTilePath, IsTrueSource, IsTrueRow
 use Rattle.mirror_pull.proofs.Freshness.{full_unasked, fresh_next, take_one, adds_of_gets, gets_none, gets_all_then}
 
 -- honesty stays as fewer answers may come
-pub source_stays : (digest : List ℕ → List ℕ) (entries : List (List ℕ)) (may later : Path → Option (List ℕ) → Type 0) → StaysWithin may later → IsTrueSource digest entries may → IsTrueSource digest entries later
-source_stays digest entries may later within is = record { hash = is.hash; short = is.short; parts = λ path inside answer h. is.parts path inside answer (within.stays path answer h) }
+pub source_stays : (digest : List ℕ → List ℕ) (entries : List (List ℕ)) (may later : Path → Option (List ℕ) → Type 0) →
+    StaysWithin may later → IsTrueSource digest entries may → IsTrueSource digest entries later
+source_stays digest entries may later within is =
+    record {
+      hash =
+          is.hash;
+      short =
+          is.short;
+      parts = λ path inside answer h. is.parts path inside answer (within.stays path answer h);
+    }
 
-pub adds_one_each : (path : Path) (before after : List Path) → after ≡ before ++ path ∷ [] → AddsEach (path ∷ []) before after
+pub adds_one_each : (path : Path) (before after : List Path) → after ≡ before ++ path ∷ [] →
+    AddsEach (path ∷ []) before after
 adds_one_each path before after e = record { gets = path ∷ []; each = AsksOne path AsksNone; list = e }
 
-pub two_more : (path full : Path) (before middle after : List Path) → full ≡ full_of path → middle ≡ before ++ path ∷ [] → after ≡ middle ++ full ∷ [] → after ≡ before ++ path ∷ full_of path ∷ []
+pub two_more : (path full : Path) (before middle after : List Path) → full ≡ full_of path →
+    middle ≡ before ++ path ∷ [] → after ≡ middle ++ full ∷ [] → after ≡ before ++ path ∷ full_of path ∷ []
 two_more path full before middle after same e f =
-    f ∙ (ap (λ (l : List Path). l ++ full ∷ []) e ∙ (ap (λ (q : Path). (before ++ path ∷ []) ++ q ∷ []) same ∙ append_assoc before (path ∷ []) (full_of path ∷ [])))
+    f ∙ (ap (λ (l : List Path). l ++ full ∷ []) e ∙
+    (ap (λ (q : Path). (before ++ path ∷ []) ++ q ∷ []) same ∙ append_assoc before (path ∷ []) (full_of path ∷ [])))
 
-pub adds_two_each : (path full : Path) (before middle after : List Path) → full ≡ full_of path → middle ≡ before ++ path ∷ [] → after ≡ middle ++ full ∷ [] → AddsEach (path ∷ []) before after
-adds_two_each path full before middle after same e f = record { gets = path ∷ full_of path ∷ []; each = AsksTwo path AsksNone; list = two_more path full before middle after same e f }
+pub adds_two_each : (path full : Path) (before middle after : List Path) → full ≡ full_of path →
+    middle ≡ before ++ path ∷ [] → after ≡ middle ++ full ∷ [] → AddsEach (path ∷ []) before after
+adds_two_each path full before middle after same e f =
+    record {
+      gets =
+          path ∷ full_of path ∷ [];
+      each = AsksTwo path AsksNone;
+      list = two_more path full before middle after same e f;
+    }
 
 -- that the full path was not asked for, where the path was
-pub full_fresh : (path full : Path) (before middle : List Path) → full ≡ full_of path → path ≢ full_of path → middle ≡ before ++ path ∷ [] → IsFresh before path → Contains middle full → ⊥
-full_fresh path full before middle same partial e fresh has = full_unasked before path partial fresh (subst (λ (q : Path). Contains (before ++ path ∷ []) q) same (subst (λ (l : List Path). Contains l full) e has))
+pub full_fresh : (path full : Path) (before middle : List Path) → full ≡ full_of path → path ≢ full_of path →
+    middle ≡ before ++ path ∷ [] → IsFresh before path → Contains middle full → ⊥
+full_fresh path full before middle same partial e fresh has =
+    full_unasked before path partial fresh
+    (subst (λ (q : Path). Contains (before ++ path ∷ []) q) same (subst (λ (l : List Path). Contains l full) e has))
 
 pub tile_within : (n : ℕ) (path : Path) → IsTilePath n path → IsWithin n path
 tile_within n Checkpoint h = h
 tile_within n (Tile level index width) h = h
 tile_within n (Entries index width) h = absurd h
 
-module _ (digest : List ℕ → List ℕ) (entries : List (List ℕ)) (may : Path → Option (List ℕ) → Type 0) (is : IsTrueSource digest entries may) where
-  pub gets_found : (path : Path) (before after : List Path) → after ≡ before ++ path ∷ [] → GetsAll (length entries) (path ∷ []) before after
-  gets_found path before after e = record { gets = path ∷ []; founds = path ∷ []; are = GetsFound path GetsNone; list = e }
+module _ (digest : List ℕ → List ℕ) (entries : List (List ℕ)) (may : Path → Option (List ℕ) → Type 0)
+    (is : IsTrueSource digest entries may) where
+  pub gets_found : (path : Path) (before after : List Path) → after ≡ before ++ path ∷ [] →
+      GetsAll (length entries) (path ∷ []) before after
+  gets_found path before after e =
+      record { gets = path ∷ []; founds = path ∷ []; are = GetsFound path GetsNone; list = e }
 
-  pub gets_full : (path full : Path) (before middle after : List Path) → IsGone (length entries) path → full ≡ full_of path → middle ≡ before ++ path ∷ [] → after ≡ middle ++ full ∷ [] → GetsAll (length entries) (path ∷ []) before after
+  pub gets_full : (path full : Path) (before middle after : List Path) → IsGone (length entries) path →
+      full ≡ full_of path → middle ≡ before ++ path ∷ [] → after ≡ middle ++ full ∷ [] →
+      GetsAll (length entries) (path ∷ []) before after
   gets_full path full before middle after gone same e f = record {
     gets = path ∷ full_of path ∷ [];
     founds = full_of path ∷ [];
@@ -60,24 +87,36 @@ module _ (digest : List ℕ → List ℕ) (entries : List (List ℕ)) (may : Pat
   -- the full path of one whose file may be gone is answered
   pub full_answers : (path : Path) → IsGone (length entries) path → may (full_of path) None → ⊥
   full_answers Checkpoint gone h = absurd gone.full
-  full_answers (Tile level index width) gone h = let again = is.parts (Tile level index 256) gone.full None h in omega (arith, again.partial)
-  full_answers (Entries index width) gone h = let again = is.parts (Entries index 256) gone.full None h in omega (arith, again.partial)
+  full_answers (Tile level index width) gone h =
+      let again = is.parts (Tile level index 256) gone.full None h in omega (arith, again.partial)
+  full_answers (Entries index width) gone h =
+      let again = is.parts (Entries index 256) gone.full None h in omega (arith, again.partial)
 
-  pub row_found : (path : Path) (before after : List Path) (bytes : List ℕ) → IsTilePath (length entries) path → may path (Some bytes) → after ≡ before ++ path ∷ [] → IsTrueRow digest entries path before after bytes
-  row_found path before after bytes tile h e = record { bytes_are = is.parts path (tile_within (length entries) path tile) (Some bytes) h; gets = gets_found path before after e }
+  pub row_found : (path : Path) (before after : List Path) (bytes : List ℕ) → IsTilePath (length entries) path →
+      may path (Some bytes) → after ≡ before ++ path ∷ [] → IsTrueRow digest entries path before after bytes
+  row_found path before after bytes tile h e =
+      record {
+        bytes_are =
+            is.parts path (tile_within (length entries) path tile) (Some bytes) h;
+        gets = gets_found path before after e;
+      }
 
-  pub full_length : (path : Path) (bytes : List ℕ) → IsTilePath (length entries) path → IsGone (length entries) path → may (full_of path) (Some bytes) → length bytes ≡ 8192
+  pub full_length : (path : Path) (bytes : List ℕ) → IsTilePath (length entries) path → IsGone (length entries) path →
+      may (full_of path) (Some bytes) → length bytes ≡ 8192
   full_length Checkpoint bytes tile gone h = absurd tile
   full_length (Entries index width) bytes tile gone h = absurd tile
   full_length (Tile level index width) bytes tile gone h =
-      let t = tiles_are_true digest is.hash entries is.short level index 256 (record { some = gone.full.some; most = gone.full.upto }) in
+      let t = tiles_are_true digest is.hash entries is.short level index 256
+      (record { some = gone.full.some; most = gone.full.upto }) in
       ap length (is.parts (Tile level index 256) gone.full (Some bytes) h) ∙ t.good.length_is
 
-  pub row_full : (path : Path) (bytes : List ℕ) → IsTilePath (length entries) path → IsGone (length entries) path → may (full_of path) (Some bytes) → take (32 * width_named path) bytes ≡ true_bytes digest entries path
+  pub row_full : (path : Path) (bytes : List ℕ) → IsTilePath (length entries) path → IsGone (length entries) path →
+      may (full_of path) (Some bytes) → take (32 * width_named path) bytes ≡ true_bytes digest entries path
   row_full Checkpoint bytes tile gone h = absurd tile
   row_full (Entries index width) bytes tile gone h = absurd tile
   row_full (Tile level index width) bytes tile gone h =
-      ap (take (32 * width)) (is.parts (Tile level index 256) gone.full (Some bytes) h) ∙ full_tiles_begin digest is.hash entries level index width tile.upto
+      ap (take (32 * width)) (is.parts (Tile level index 256) gone.full (Some bytes) h) ∙
+      full_tiles_begin digest is.hash entries level index width tile.upto
 
 -- ---- row after row
 
@@ -86,39 +125,63 @@ edge_tile size n le path has = go path ((edge_is size path).0 has)
   where
     go : (path : Path) → IsEdgeTile size path → IsTilePath n path
     go Checkpoint h = h
-    go (Tile level index width) h = record { level_fits = h.within.level_fits; some = h.within.some; upto = h.within.upto; within = omega (arith, h.within.within, le) }
+    go (Tile level index width) h =
+        record {
+          level_fits =
+              h.within.level_fits;
+          some = h.within.some;
+          upto = h.within.upto;
+          within = omega (arith, h.within.within, le);
+        }
     go (Entries index width) h = h
 
 module _ (digest : List ℕ → List ℕ) (entries : List (List ℕ)) where
   pub rows_step :
-      {A : Type 0} (f : A → List ℕ) (qs ps before mid after : List Path) (i : ℕ) (rows more : List A) (row : A) → qs ≡ ps → i < length qs → AreFresh before ps →
-      ((p : Path) → Contains ps p → IsTilePath (length entries) p) → more ≡ rows ++ row ∷ [] → AreTrueRows digest entries (take i ps) before mid (map f rows) →
-      (IsTilePath (length entries) (get_or qs i Checkpoint) → IsFresh mid (get_or qs i Checkpoint) → IsTrueRow digest entries (get_or qs i Checkpoint) mid after (f row)) →
+      {A : Type 0} (f : A → List ℕ) (qs ps before mid after : List Path) (i : ℕ) (rows more : List A) (row : A) →
+      qs ≡ ps → i < length qs → AreFresh before ps →
+      ((p : Path) → Contains ps p → IsTilePath (length entries) p) → more ≡ rows ++ row ∷ [] →
+      AreTrueRows digest entries (take i ps) before mid (map f rows) →
+      (IsTilePath (length entries) (get_or qs i Checkpoint) → IsFresh mid (get_or qs i Checkpoint) →
+      IsTrueRow digest entries (get_or qs i Checkpoint) mid after (f row)) →
       AreTrueRows digest entries (take (i + 1) ps) before after (map f more)
   rows_step f qs ps before mid after i rows more row same lt are tiles grown old step =
       let less : i < length ps = omega (arith, lt, ap length same) in
       let p = get_or ps i Checkpoint in
       let is : get_or qs i Checkpoint ≡ p = ap (λ (l : List Path). get_or l i Checkpoint) same in
       let fresh = fresh_next before mid ps i less are (adds_of_gets (length entries) (take i ps) before mid old.gets) in
-      let new = subst (λ (r : Path). IsTrueRow digest entries r mid after (f row)) is (step (subst (IsTilePath (length entries)) (sym is) (tiles p (Contains-get_or ps i Checkpoint less))) (subst (IsFresh mid) (sym is) fresh)) in
-      subst (λ (l : List Path). AreTrueRows digest entries l before after (map f more)) (sym (take_one ps i less)) (record {
+      let new =
+      subst (λ (r : Path). IsTrueRow digest entries r mid after (f row)) is
+      (step (subst (IsTilePath (length entries)) (sym is) (tiles p (Contains-get_or ps i Checkpoint less)))
+      (subst (IsFresh mid) (sym is) fresh)) in
+      subst (λ (l : List Path). AreTrueRows digest entries l before after (map f more)) (sym (take_one ps i less))
+      (record {
         rows_are =
-            ap (map f) grown ∙ (map-append f rows (row ∷ []) ∙ (ap (λ (l : List (List ℕ)). l ++ f row ∷ []) old.rows_are ∙ (ap (λ (r : List ℕ). map (true_bytes digest entries) (take i ps) ++ r ∷ []) new.bytes_are ∙ sym (map-append (true_bytes digest entries) (take i ps) (p ∷ [])))));
+            ap (map f) grown ∙
+            (map-append f rows (row ∷ []) ∙
+            (ap (λ (l : List (List ℕ)). l ++ f row ∷ []) old.rows_are ∙
+            (ap (λ (r : List ℕ). map (true_bytes digest entries) (take i ps) ++ r ∷ []) new.bytes_are ∙
+            sym (map-append (true_bytes digest entries) (take i ps) (p ∷ [])))));
         gets = gets_all_then (length entries) (take i ps) (p ∷ []) before mid after old.gets new.gets;
       })
 
   pub rows_none : (before : List Path) → AreTrueRows digest entries [] before before []
   rows_none before = record { rows_are = refl; gets = gets_none (length entries) before }
 
-  pub rows_whole : (ps before after : List Path) (i : ℕ) (rows : List (List ℕ)) → length ps ≤ i → AreTrueRows digest entries (take i ps) before after rows → AreTrueRows digest entries ps before after rows
-  rows_whole ps before after i rows le are = subst (λ (l : List Path). AreTrueRows digest entries l before after rows) (take_all i ps le) are
+  pub rows_whole : (ps before after : List Path) (i : ℕ) (rows : List (List ℕ)) → length ps ≤ i →
+      AreTrueRows digest entries (take i ps) before after rows → AreTrueRows digest entries ps before after rows
+  rows_whole ps before after i rows le are =
+      subst (λ (l : List Path). AreTrueRows digest entries l before after rows) (take_all i ps le) are
 
   -- a row whose turn has come is asked for as it may be
   pub row_reached :
-      {R : Type 0} (qs ps before mid : List Path) (i : ℕ) (rows : List (List ℕ)) → qs ≡ ps → i < length qs → AreFresh before ps → ((p : Path) → Contains ps p → IsTilePath (length entries) p) →
-      AreTrueRows digest entries (take i ps) before mid rows → (IsTilePath (length entries) (get_or qs i Checkpoint) → IsFresh mid (get_or qs i Checkpoint) → R) → R
+      {R : Type 0} (qs ps before mid : List Path) (i : ℕ) (rows : List (List ℕ)) → qs ≡ ps → i < length qs →
+      AreFresh before ps → ((p : Path) → Contains ps p → IsTilePath (length entries) p) →
+      AreTrueRows digest entries (take i ps) before mid rows →
+      (IsTilePath (length entries) (get_or qs i Checkpoint) → IsFresh mid (get_or qs i Checkpoint) → R) → R
   row_reached qs ps before mid i rows same lt are tiles old step =
       let less : i < length ps = omega (arith, lt, ap length same) in
       let p = get_or ps i Checkpoint in
       let is : get_or qs i Checkpoint ≡ p = ap (λ (l : List Path). get_or l i Checkpoint) same in
-      step (subst (IsTilePath (length entries)) (sym is) (tiles p (Contains-get_or ps i Checkpoint less))) (subst (IsFresh mid) (sym is) (fresh_next before mid ps i less are (adds_of_gets (length entries) (take i ps) before mid old.gets)))
+      step (subst (IsTilePath (length entries)) (sym is) (tiles p (Contains-get_or ps i Checkpoint less)))
+      (subst (IsFresh mid) (sym is)
+      (fresh_next before mid ps i less are (adds_of_gets (length entries) (take i ps) before mid old.gets)))

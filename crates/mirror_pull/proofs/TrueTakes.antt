@@ -1,5 +1,7 @@
 -- Tiles and bundles from an honest source, taken.
-use Rattle.std.proofs.Common.{◌≡◌, ◌⊎◌, ℕ, zero, suc, ◌+◌, ◌-◌, ◌*◌, ◌^◌, ◌<◌, ◌≤◌, min, List, [], ◌∷◌, ◌++◌, length, take, arith, length-take, Contains, Option, Some, None, Result, Ok, Err, Bool, true, false, refl, sym, ◌∙◌, ap, subst, inl, inr}
+use Rattle.std.proofs.Common.{◌≡◌, ◌⊎◌, ℕ, zero, suc, ◌+◌, ◌-◌, ◌*◌, ◌^◌, ◌<◌, ◌≤◌, min, List, [], ◌∷◌, ◌++◌, length}
+use Rattle.std.proofs.Common.{take, arith, length-take, Contains, Option, Some, None, Result, Ok, Err, Bool, true}
+use Rattle.std.proofs.Common.{false, refl, sym, ◌∙◌, ap, subst, inl, inr}
 use Rattle.std.specs.Prelude.{MatchResult}
 use Rattle.std.specs.FinSet as set
 use Rattle.std.proofs.Common.{get_or, append_assoc}
@@ -17,7 +19,8 @@ use Rattle.mirror_model.specs.TrueLaws.{AreShort, IsWidest}
 use Rattle.mirror_model.specs.declared.items.Item.{Item}
 use Rattle.mirror_model.specs.declared.items.Item.TheVariants as item
 use Rattle.mirror_model.specs.Item.{IsGood, strings_of, plus}
-use Rattle.mirror_model.proofs.StringSets.{has_left, has_right, has_cases, has_from_listed, listed_from_has, no_clash_within, clash_contradicts}
+use Rattle.mirror_model.proofs.StringSets.{has_left, has_right, has_cases, has_from_listed, listed_from_has}
+use Rattle.mirror_model.proofs.StringSets.{no_clash_within, clash_contradicts}
 use Rattle.mirror_model.proofs.TrueItems.{prefixes_serve_same, tiles_are_true, bundles_are_true, true_strings_within}
 use Rattle.mirror_model.proofs.Fetching.{plus_holds}
 use Rattle.log_sources.specs.Files.{full_of}
@@ -28,38 +31,60 @@ use Rattle.log_sources.specs.Source.{StaysWithin}
 use Rattle.mirror_pull.specs.Asking.{IsFresh}
 use Rattle.mirror_pull.specs.Parts.{IsOutside, TakesTrue, MayTake}
 use Rattle.mirror_pull.specs.declared.fault.PullFault.{PullFault}
-use Rattle.mirror_pull.specs.declared.fault.PullFault.TheVariants.{NoCheckpoint, NoEdge, Head, Source, Collision, OutOfMemory}
-use Rattle.mirror_pull.proofs.Freshness.{cases_first, contains_take, gone_partial, fresh_next, take_one, gets_then, gets_each_asked}
+use Rattle.mirror_pull.specs.declared.fault.PullFault.TheVariants.{NoCheckpoint, NoEdge, Head, Source, Collision}
+use Rattle.mirror_pull.specs.declared.fault.PullFault.TheVariants.{OutOfMemory}
+use Rattle.mirror_pull.proofs.Freshness.{cases_first, contains_take, gone_partial, fresh_next, take_one, gets_then}
+use Rattle.mirror_pull.proofs.Freshness.{gets_each_asked}
 use Rattle.mirror_pull.proofs.TrueRows.{source_stays, full_fresh, two_more, is_gone, full_answers}
 
 pub within_more : (m n : ℕ) → m ≤ n → (path : Path) → IsWithin m path → IsWithin n path
 within_more m n le Checkpoint h = h
-within_more m n le (Tile level index width) h = record { level_fits = h.level_fits; some = h.some; upto = h.upto; within = omega (arith, h.within, le) }
-within_more m n le (Entries index width) h = record { level_fits = h.level_fits; some = h.some; upto = h.upto; within = omega (arith, h.within, le) }
+within_more m n le (Tile level index width) h =
+    record { level_fits = h.level_fits; some = h.some; upto = h.upto; within = omega (arith, h.within, le) }
+within_more m n le (Entries index width) h =
+    record { level_fits = h.level_fits; some = h.some; upto = h.upto; within = omega (arith, h.within, le) }
 
 -- bytes were found at a path of the list, or at the full path of one whose file may be gone
-pub founds_each : (n : ℕ) (ps gs fs : List Path) → Gets n ps gs fs → (f : Path) → Contains fs f → Contains ps f ⊎ ((p : Path) × Contains ps p × IsGone n p × (f ≡ full_of p))
+pub founds_each : (n : ℕ) (ps gs fs : List Path) → Gets n ps gs fs → (f : Path) → Contains fs f →
+    Contains ps f ⊎ ((p : Path) × Contains ps p × IsGone n p × (f ≡ full_of p))
 founds_each n ps gs fs GetsNone f c = absurd (omega (arith, c.1))
 founds_each n ps gs fs (GetsFound p {paths = ps'} {gets = gs'} {founds = fs'} g) f c = elim (cases_first p fs' f c) [
   | inl e ↦ inl (0, omega arith, e)
-  | inr later ↦ elim (founds_each n ps' gs' fs' g f later) [ inl a ↦ inl (suc a.0, omega (arith, a.1), a.2) | inr b ↦ inr (b.0, (suc b.1.0, omega (arith, b.1.1), b.1.2), b.2, b.3) ]
+  | inr later ↦ elim
+      (founds_each n ps' gs' fs' g f later) [
+        | inl a ↦ inl (suc a.0, omega (arith, a.1), a.2)
+        | inr b ↦ inr
+            (b.0, (suc b.1.0, omega (arith, b.1.1), b.1.2), b.2, b.3)
+      ]
 ]
-founds_each n ps gs fs (GetsFull p {paths = ps'} {gets = gs'} {founds = fs'} gone g) f c = elim (cases_first (full_of p) fs' f c) [
-  | inl e ↦ inr (p, (0, omega arith, refl), gone, sym e)
-  | inr later ↦ elim (founds_each n ps' gs' fs' g f later) [ inl a ↦ inl (suc a.0, omega (arith, a.1), a.2) | inr b ↦ inr (b.0, (suc b.1.0, omega (arith, b.1.1), b.1.2), b.2, b.3) ]
-]
+founds_each n ps gs fs (GetsFull p {paths = ps'} {gets = gs'} {founds = fs'} gone g) f c =
+    elim (cases_first (full_of p) fs' f c) [
+      | inl e ↦ inr (p, (0, omega arith, refl), gone, sym e)
+      | inr later ↦ elim
+          (founds_each n ps' gs' fs' g f later) [
+            | inl a ↦ inl (suc a.0, omega (arith, a.1), a.2)
+            | inr b ↦ inr
+                (b.0, (suc b.1.0, omega (arith, b.1.1), b.1.2), b.2, b.3)
+          ]
+    ]
 
 module _ (digest : List ℕ → List ℕ) (entries : List (List ℕ)) (size : ℕ) where
   -- a string of the tree of the entries, or of that of the first of them
   abbrev pub InTrees : List ℕ → Type 0
   InTrees y = Contains (strings digest entries) y ⊎ Contains (strings digest (take size entries)) y
 
-  in_trees : (y : List ℕ) → InTrees y → Has (set.union (set.from_list (strings digest entries)) (set.from_list (strings digest (take size entries)))) y
-  in_trees y (inl a) = has_left (set.from_list (strings digest entries)) (set.from_list (strings digest (take size entries))) y (has_from_listed (strings digest entries) y a)
-  in_trees y (inr b) = has_right (set.from_list (strings digest entries)) (set.from_list (strings digest (take size entries))) y (has_from_listed (strings digest (take size entries)) y b)
+  in_trees : (y : List ℕ) → InTrees y →
+      Has (set.union (set.from_list (strings digest entries)) (set.from_list (strings digest (take size entries)))) y
+  in_trees y (inl a) =
+      has_left (set.from_list (strings digest entries)) (set.from_list (strings digest (take size entries))) y
+      (has_from_listed (strings digest entries) y a)
+  in_trees y (inr b) =
+      has_right (set.from_list (strings digest entries)) (set.from_list (strings digest (take size entries))) y
+      (has_from_listed (strings digest (take size entries)) y b)
 
   -- a view that gained strings of the trees alone clashes with them no more than before
-  pub clean_gained : (v w : View) → ((y : List ℕ) → Has w.strings y → Has v.strings y ⊎ InTrees y) → NoClashAmong digest entries v size → NoClashAmong digest entries w size
+  pub clean_gained : (v w : View) → ((y : List ℕ) → Has w.strings y → Has v.strings y ⊎ InTrees y) →
+      NoClashAmong digest entries v size → NoClashAmong digest entries w size
   clean_gained v w only clean =
       let t = set.union (set.from_list (strings digest entries)) (set.from_list (strings digest (take size entries))) in
       no_clash_within digest (set.union w.strings t) (set.union v.strings t) (λ q h. elim (has_cases w.strings t q h) [
@@ -72,11 +97,14 @@ module _ (digest : List ℕ → List ℕ) (entries : List (List ℕ)) (size : �
       let t = set.union (set.from_list (strings digest entries)) (set.from_list (strings digest (take size entries))) in
       no_clash_within digest v.strings (set.union v.strings t) (λ q h. has_left v.strings t q h) clean
 
-  pub plus_only : (v : View) (x : Item) → ((y : List ℕ) → Contains (strings_of digest x) y → InTrees y) → (y : List ℕ) → Has (plus digest v x).strings y → Has v.strings y ⊎ InTrees y
+  pub plus_only : (v : View) (x : Item) → ((y : List ℕ) → Contains (strings_of digest x) y → InTrees y) → (y : List ℕ) →
+      Has (plus digest v x).strings y → Has v.strings y ⊎ InTrees y
   plus_only v x only y h = elim ((plus_holds digest v x y).string h) [ inl a ↦ inl a | inr b ↦ inr (only y b) ]
 
-  pub plus_clean : (v : View) (x : Item) → ((y : List ℕ) → Contains (strings_of digest x) y → InTrees y) → NoClashAmong digest entries v size → NoClash digest (plus digest v x).strings
-  plus_clean v x only clean = clean_itself (plus digest v x) (clean_gained v (plus digest v x) (plus_only v x only) clean)
+  pub plus_clean : (v : View) (x : Item) → ((y : List ℕ) → Contains (strings_of digest x) y → InTrees y) →
+      NoClashAmong digest entries v size → NoClash digest (plus digest v x).strings
+  plus_clean v x only clean =
+      clean_itself (plus digest v x) (clean_gained v (plus digest v x) (plus_only v x only) clean)
 
   module _ (hash : IsDigest digest) (short : AreShort entries) (le : size ≤ length entries) where
     long : length (take size entries) ≡ size
@@ -86,39 +114,59 @@ module _ (digest : List ℕ → List ℕ) (entries : List (List ℕ)) (size : �
     short_first = All-take (λ entry. length entry < 2 ^ 16) size entries short
 
     -- the true bytes of a path within the first entries that is the widest of its place
-    pub first_strings : (path : Path) → IsWithin size path → IsWidest size path → (y : List ℕ) → Contains (strings_of digest (true_item digest entries path)) y → InTrees y
+    pub first_strings : (path : Path) → IsWithin size path → IsWidest size path → (y : List ℕ) →
+        Contains (strings_of digest (true_item digest entries path)) y → InTrees y
     first_strings Checkpoint within widest y c = absurd within
     first_strings (Tile level index width) within widest y c =
-        let same : tile_bytes digest (take size entries) level index width ≡ tile_bytes digest entries level index width = (prefixes_serve_same digest entries size le).tile level index width within in
-        let t = tiles_are_true digest hash (take size entries) short_first level index width (record { some = within.some; most = within.upto }) in
-        let here = subst (λ ss. Contains ss y) t.strings_are (subst (λ bytes. Contains (strings_of digest (item.Tile width bytes)) y) (sym same) c) in
-        inr (true_strings_within digest (take size entries) (Tile level index width) (subst (λ n. IsWithin n (Tile level index width)) (sym long) within) widest y here)
+        let same : tile_bytes digest (take size entries) level index width
+        ≡ tile_bytes digest entries level index width =
+        (prefixes_serve_same digest entries size le).tile level index width within in
+        let t = tiles_are_true digest hash (take size entries) short_first level index width
+        (record { some = within.some; most = within.upto }) in
+        let here =
+        subst (λ ss. Contains ss y) t.strings_are
+        (subst (λ bytes. Contains (strings_of digest (item.Tile width bytes)) y) (sym same) c) in
+        inr (true_strings_within digest (take size entries) (Tile level index width)
+        (subst (λ n. IsWithin n (Tile level index width)) (sym long) within) widest y here)
     first_strings (Entries index width) within widest y c =
-        let same : bundle_bytes (take size entries) index width ≡ bundle_bytes entries index width = (prefixes_serve_same digest entries size le).bundle index width within in
+        let same : bundle_bytes (take size entries) index width ≡ bundle_bytes entries index width =
+        (prefixes_serve_same digest entries size le).bundle index width within in
         let inside = subst (λ n. IsWithin n (Entries index width)) (sym long) within in
         let b = bundles_are_true digest hash (take size entries) short_first index width inside in
-        let here = subst (λ ss. Contains ss y) b.strings_are (subst (λ bytes. Contains (strings_of digest (item.Bundle width bytes)) y) (sym same) c) in
-        inr (true_strings_within digest (take size entries) (Entries index width) inside (subst (λ n. IsWidest n (Entries index width)) (sym long) widest) y here)
+        let here =
+        subst (λ ss. Contains ss y) b.strings_are
+        (subst (λ bytes. Contains (strings_of digest (item.Bundle width bytes)) y) (sym same) c) in
+        inr (true_strings_within digest (take size entries) (Entries index width) inside
+        (subst (λ n. IsWidest n (Entries index width)) (sym long) widest) y here)
 
-    pub true_good : (origin : List ℕ) (path : Path) → IsWithin (length entries) path → IsGood digest origin [] (true_item digest entries path)
+    pub true_good : (origin : List ℕ) (path : Path) → IsWithin (length entries) path →
+        IsGood digest origin [] (true_item digest entries path)
     true_good origin Checkpoint within = absurd within
-    true_good origin (Tile level index width) within = (tiles_are_true digest hash entries short level index width (record { some = within.some; most = within.upto })).good
+    true_good origin (Tile level index width) within =
+        (tiles_are_true digest hash entries short level index width
+        (record { some = within.some; most = within.upto })).good
     true_good origin (Entries index width) within = (bundles_are_true digest hash entries short index width within).good
 
     -- those of the full path of one whose file may be gone
-    pub full_strings : (path : Path) → IsGone (length entries) path → (y : List ℕ) → Contains (strings_of digest (true_item digest entries (full_of path))) y → InTrees y
+    pub full_strings : (path : Path) → IsGone (length entries) path → (y : List ℕ) →
+        Contains (strings_of digest (true_item digest entries (full_of path))) y → InTrees y
     full_strings Checkpoint gone y c = absurd gone.full
     full_strings (Tile level index width) gone y c =
-        let t = tiles_are_true digest hash entries short level index 256 (record { some = gone.full.some; most = gone.full.upto }) in
-        inl (true_strings_within digest entries (Tile level index 256) gone.full refl y (subst (λ ss. Contains ss y) t.strings_are c))
+        let t = tiles_are_true digest hash entries short level index 256
+        (record { some = gone.full.some; most = gone.full.upto }) in
+        inl (true_strings_within digest entries (Tile level index 256) gone.full refl y
+        (subst (λ ss. Contains ss y) t.strings_are c))
     full_strings (Entries index width) gone y c =
         let b = bundles_are_true digest hash entries short index 256 gone.full in
         let one : (256 * index + 256) * 256 ^ 0 ≡ 256 * index + 256 = omega arith in
         let wide : 256 ≡ min 256 (length entries - 256 * index) = omega (arith, one, gone.full.within) in
-        inl (true_strings_within digest entries (Entries index 256) gone.full wide y (subst (λ ss. Contains ss y) b.strings_are c))
+        inl (true_strings_within digest entries (Entries index 256) gone.full wide y
+        (subst (λ ss. Contains ss y) b.strings_are c))
 
     -- what is held after the true bytes of such paths, found there or at the full paths, were taken
-    only_founds : (founds : List Path) (v : View) → ((f : Path) → Contains founds f → (y : List ℕ) → Contains (strings_of digest (true_item digest entries f)) y → InTrees y) → (y : List ℕ) → Has (with_true digest entries v founds).strings y → Has v.strings y ⊎ InTrees y
+    only_founds : (founds : List Path) (v : View) →
+        ((f : Path) → Contains founds f → (y : List ℕ) → Contains (strings_of digest (true_item digest entries f)) y →
+        InTrees y) → (y : List ℕ) → Has (with_true digest entries v founds).strings y → Has v.strings y ⊎ InTrees y
     only_founds [] v each y h = inl h
     only_founds (f ∷ fs) v each y h =
         let next = plus digest v (true_item digest entries f) in
@@ -128,23 +176,31 @@ module _ (digest : List ℕ → List ℕ) (entries : List (List ℕ)) (size : �
         ]
 
     pub taken_only :
-        (ps gs fs : List Path) (v : View) → Gets (length entries) ps gs fs → ((path : Path) → Contains ps path → IsWithin size path × IsWidest size path) →
+        (ps gs fs : List Path) (v : View) → Gets (length entries) ps gs fs →
+        ((path : Path) → Contains ps path → IsWithin size path × IsWidest size path) →
         (y : List ℕ) → Has (with_true digest entries v fs).strings y → Has v.strings y ⊎ InTrees y
     taken_only ps gs fs v got are y h =
         only_founds fs v (λ f c. elim (founds_each (length entries) ps gs fs got f c) [
           | inl listed ↦ first_strings f (are f listed).0 (are f listed).1
-          | inr full ↦ subst (λ (q : Path). (y : List ℕ) → Contains (strings_of digest (true_item digest entries q)) y → InTrees y) (sym full.3) (full_strings full.0 full.2)
+          | inr full ↦ subst
+              (λ (q : Path). (y : List ℕ) → Contains (strings_of digest (true_item digest entries q)) y → InTrees y)
+              (sym full.3) (full_strings full.0 full.2)
         ]) y h
 
 -- what a pull makes of an item that is good and clashes with nothing
 pub item_taken :
-    (digest : List ℕ → List ℕ) (entries : List (List ℕ)) (v w : View) (path found : Path) (before after gets : List Path) (r : Result Bool PullFault) →
-    IsGood digest v.origin [] (true_item digest entries found) → NoClash digest (plus digest v (true_item digest entries found)).strings →
-    Gets (length entries) (path ∷ []) gets (found ∷ []) → after ≡ before ++ gets → TakesItem digest v (true_item digest entries found) r w →
+    (digest : List ℕ → List ℕ) (entries : List (List ℕ)) (v w : View) (path found : Path)
+    (before after gets : List Path) (r : Result Bool PullFault) →
+    IsGood digest v.origin [] (true_item digest entries found) →
+    NoClash digest (plus digest v (true_item digest entries found)).strings →
+    Gets (length entries) (path ∷ []) gets (found ∷ []) → after ≡ before ++ gets →
+    TakesItem digest v (true_item digest entries found) r w →
     MatchResult r (λ refused. (refused ≡ false) × TakesTrue digest entries (path ∷ []) before after v w) IsOutside
 item_taken digest entries v w path found before after gets (Ok true) good clean got list t = absurd (t.0 good)
-item_taken digest entries v w path found before after gets (Ok false) good clean got list t = (refl, record { gets = gets; founds = found ∷ []; are = got; list = list; taken = t.2 })
-item_taken digest entries v w path found before after gets (Err Collision) good clean got list t = absurd (clash_contradicts digest (plus digest v (true_item digest entries found)).strings clean t.0)
+item_taken digest entries v w path found before after gets (Ok false) good clean got list t =
+    (refl, record { gets = gets; founds = found ∷ []; are = got; list = list; taken = t.2 })
+item_taken digest entries v w path found before after gets (Err Collision) good clean got list t =
+    absurd (clash_contradicts digest (plus digest v (true_item digest entries found)).strings clean t.0)
 item_taken digest entries v w path found before after gets (Err OutOfMemory) good clean got list t = inl refl
 item_taken digest entries v w path found before after gets (Err NoCheckpoint) good clean got list t = absurd t
 item_taken digest entries v w path found before after gets (Err NoEdge) good clean got list t = absurd t
@@ -153,7 +209,8 @@ item_taken digest entries v w path found before after gets (Err Source) good cle
 
 -- ---- one path
 
-module _ (digest : List ℕ → List ℕ) (entries : List (List ℕ)) (size : ℕ) (may : Path → Option (List ℕ) → Type 0) (v : View) (path : Path) (before : List Path) (m : MayTake digest entries size may v before (path ∷ [])) where
+module _ (digest : List ℕ → List ℕ) (entries : List (List ℕ)) (size : ℕ) (may : Path → Option (List ℕ) → Type 0)
+    (v : View) (path : Path) (before : List Path) (m : MayTake digest entries size may v before (path ∷ [])) where
   here : Contains (path ∷ []) path
   here = (0, omega arith, refl)
 
@@ -167,62 +224,92 @@ module _ (digest : List ℕ → List ℕ) (entries : List (List ℕ)) (size : �
   path_gone none = is_gone digest entries may m.source path path_within none
 
   pub path_found :
-      (w : View) (after : List Path) (bytes taken : List ℕ) (r : Result Bool PullFault) → may path (Some bytes) → taken ≡ bytes → after ≡ before ++ path ∷ [] →
-      TakesItem digest v (item_at path taken) r w → MatchResult r (λ refused. (refused ≡ false) × TakesTrue digest entries (path ∷ []) before after v w) IsOutside
+      (w : View) (after : List Path) (bytes taken : List ℕ) (r : Result Bool PullFault) → may path (Some bytes) →
+      taken ≡ bytes → after ≡ before ++ path ∷ [] →
+      TakesItem digest v (item_at path taken) r w →
+      MatchResult r (λ refused. (refused ≡ false) × TakesTrue digest entries (path ∷ []) before after v w) IsOutside
   path_found w after bytes taken r answer same list t =
       let true : taken ≡ true_bytes digest entries path = same ∙ m.source.parts path path_within (Some bytes) answer in
       let are = m.paths_are path here in
-      item_taken digest entries v w path path before after (path ∷ []) r (true_good digest entries size m.source.hash m.source.short m.within v.origin path path_within)
-      (plus_clean digest entries size v (true_item digest entries path) (first_strings digest entries size m.source.hash m.source.short m.within path are.0 are.1) m.clean)
+      item_taken digest entries v w path path before after (path ∷ []) r
+      (true_good digest entries size m.source.hash m.source.short m.within v.origin path path_within)
+      (plus_clean digest entries size v (true_item digest entries path)
+      (first_strings digest entries size m.source.hash m.source.short m.within path are.0 are.1) m.clean)
       (GetsFound path GetsNone) list (subst (λ b. TakesItem digest v (item_at path b) r w) true t)
 
-  pub path_full_fresh : (full : Path) (middle : List Path) → may path None → full ≡ full_of path → middle ≡ before ++ path ∷ [] → Contains middle full → ⊥
-  path_full_fresh full middle none same list = full_fresh path full before middle same (gone_partial (length entries) path (path_gone none)) list path_fresh
+  pub path_full_fresh : (full : Path) (middle : List Path) → may path None → full ≡ full_of path →
+      middle ≡ before ++ path ∷ [] → Contains middle full → ⊥
+  path_full_fresh full middle none same list =
+      full_fresh path full before middle same (gone_partial (length entries) path (path_gone none)) list path_fresh
 
   pub path_full :
-      (later : Path → Option (List ℕ) → Type 0) (w : View) (full : Path) (middle after : List Path) (bytes taken : List ℕ) (r : Result Bool PullFault) → StaysWithin may later →
-      may path None → later full (Some bytes) → full ≡ full_of path → taken ≡ bytes → middle ≡ before ++ path ∷ [] → after ≡ middle ++ full ∷ [] →
-      TakesItem digest v (item_at full taken) r w → MatchResult r (λ refused. (refused ≡ false) × TakesTrue digest entries (path ∷ []) before after v w) IsOutside
+      (later : Path → Option (List ℕ) → Type 0) (w : View) (full : Path) (middle after : List Path)
+      (bytes taken : List ℕ) (r : Result Bool PullFault) → StaysWithin may later →
+      may path None → later full (Some bytes) → full ≡ full_of path → taken ≡ bytes → middle ≡ before ++ path ∷ [] →
+      after ≡ middle ++ full ∷ [] →
+      TakesItem digest v (item_at full taken) r w →
+      MatchResult r (λ refused. (refused ≡ false) × TakesTrue digest entries (path ∷ []) before after v w) IsOutside
   path_full later w full middle after bytes taken r stays none answer is same list more t =
       let gone = path_gone none in
       let source = source_stays digest entries may later stays m.source in
       let there : later (full_of path) (Some bytes) = subst (λ (q : Path). later q (Some bytes)) is answer in
-      let true : taken ≡ true_bytes digest entries (full_of path) = same ∙ source.parts (full_of path) gone.full (Some bytes) there in
-      let t' = subst (λ b. TakesItem digest v (item_at (full_of path) b) r w) true (subst (λ (q : Path). TakesItem digest v (item_at q taken) r w) is t) in
-      item_taken digest entries v w path (full_of path) before after (path ∷ full_of path ∷ []) r (true_good digest entries size m.source.hash m.source.short m.within v.origin (full_of path) gone.full)
-      (plus_clean digest entries size v (true_item digest entries (full_of path)) (full_strings digest entries size m.source.hash m.source.short m.within path gone) m.clean)
+      let true : taken ≡ true_bytes digest entries (full_of path) =
+      same ∙ source.parts (full_of path) gone.full (Some bytes) there in
+      let t' = subst (λ b. TakesItem digest v (item_at (full_of path) b) r w) true
+      (subst (λ (q : Path). TakesItem digest v (item_at q taken) r w) is t) in
+      item_taken digest entries v w path (full_of path) before after (path ∷ full_of path ∷ []) r
+      (true_good digest entries size m.source.hash m.source.short m.within v.origin (full_of path) gone.full)
+      (plus_clean digest entries size v (true_item digest entries (full_of path))
+      (full_strings digest entries size m.source.hash m.source.short m.within path gone) m.clean)
       (GetsFull path gone GetsNone) (two_more path full before middle after is list more) t'
 
-  pub path_neither : (later : Path → Option (List ℕ) → Type 0) (full : Path) → StaysWithin may later → may path None → later full None → full ≡ full_of path → ⊥
-  path_neither later full stays none answer is = full_answers digest entries later (source_stays digest entries may later stays m.source) path (path_gone none) (subst (λ (q : Path). later q None) is answer)
+  pub path_neither : (later : Path → Option (List ℕ) → Type 0) (full : Path) → StaysWithin may later → may path None →
+      later full None → full ≡ full_of path → ⊥
+  path_neither later full stays none answer is =
+      full_answers digest entries later (source_stays digest entries may later stays m.source) path (path_gone none)
+      (subst (λ (q : Path). later q None) is answer)
 
 -- ---- one path after another
 
-taken_then : (digest : List ℕ → List ℕ) (entries : List (List ℕ)) (fs es : List Path) (v : View) → with_true digest entries v (fs ++ es) ≡ with_true digest entries (with_true digest entries v fs) es
+taken_then : (digest : List ℕ → List ℕ) (entries : List (List ℕ)) (fs es : List Path) (v : View) →
+    with_true digest entries v (fs ++ es) ≡ with_true digest entries (with_true digest entries v fs) es
 taken_then digest entries [] es v = refl
 taken_then digest entries (f ∷ fs) es v = taken_then digest entries fs es (plus digest v (true_item digest entries f))
 
 module _ (digest : List ℕ → List ℕ) (entries : List (List ℕ)) (size : ℕ) where
   -- what paths take stays within what may be taken
   pub paths_only :
-      (may : Path → Option (List ℕ) → Type 0) (v w : View) (before mid ps qs : List Path) → MayTake digest entries size may v before ps → ((p : Path) → Contains qs p → Contains ps p) →
-      TakesTrue digest entries qs before mid v w → (y : List ℕ) → Has w.strings y → Has v.strings y ⊎ InTrees digest entries size y
+      (may : Path → Option (List ℕ) → Type 0) (v w : View) (before mid ps qs : List Path) →
+      MayTake digest entries size may v before ps → ((p : Path) → Contains qs p → Contains ps p) →
+      TakesTrue digest entries qs before mid v w → (y : List ℕ) → Has w.strings y →
+      Has v.strings y ⊎ InTrees digest entries size y
   paths_only may v w before mid ps qs m among t y h =
-      taken_only digest entries size m.source.hash m.source.short m.within qs t.gets t.founds v t.are (λ p c. m.paths_are p (among p c)) y (subst (λ (x : View). Has x.strings y) t.taken h)
+      taken_only digest entries size m.source.hash m.source.short m.within qs t.gets t.founds v t.are
+      (λ p c. m.paths_are p (among p c)) y (subst (λ (x : View). Has x.strings y) t.taken h)
 
   pub round_next :
-      (may later : Path → Option (List ℕ) → Type 0) (v w : View) (before mid ps : List Path) (i : ℕ) → StaysWithin may later → i < length ps → MayTake digest entries size may v before ps →
-      TakesTrue digest entries (take i ps) before mid v w → MayTake digest entries size later w mid (get_or ps i Checkpoint ∷ [])
+      (may later : Path → Option (List ℕ) → Type 0) (v w : View) (before mid ps : List Path) (i : ℕ) →
+      StaysWithin may later → i < length ps → MayTake digest entries size may v before ps →
+      TakesTrue digest entries (take i ps) before mid v w →
+      MayTake digest entries size later w mid (get_or ps i Checkpoint ∷ [])
   round_next may later v w before mid ps i stays lt m t =
       let p = get_or ps i Checkpoint in
       let has = Contains-get_or ps i Checkpoint lt in
       record {
         source = source_stays digest entries may later stays m.source;
         within = m.within;
-        clean = clean_gained digest entries size v w (paths_only may v w before mid ps (take i ps) m (λ q c. contains_take i ps q c) t) m.clean;
+        clean = clean_gained digest entries size v w
+            (paths_only may v w before mid ps (take i ps) m (λ q c. contains_take i ps q c) t) m.clean;
         paths_are = λ q c. subst (λ (r : Path). IsWithin size r × IsWidest size r) (the_one p q c) (m.paths_are p has);
         fresh = record {
-          fresh = λ q c. subst (IsFresh mid) (the_one p q c) (fresh_next before mid ps i lt m.fresh (record { gets = t.gets; each = gets_each_asked (length entries) (take i ps) t.gets t.founds t.are; list = t.list }));
+          fresh = λ q c. subst (IsFresh mid) (the_one p q c)
+              (fresh_next before mid ps i lt m.fresh
+              (record {
+                gets =
+                    t.gets;
+                each = gets_each_asked (length entries) (take i ps) t.gets t.founds t.are;
+                list = t.list;
+              }));
           apart = λ a b d l within. absurd (omega (arith, l, within));
         };
       }
@@ -231,7 +318,9 @@ module _ (digest : List ℕ → List ℕ) (entries : List (List ℕ)) (size : �
       the_one p q c = elim (cases_first p [] q c) [ inl e ↦ e | inr none ↦ absurd (omega (arith, none.1)) ]
 
   pub round_step :
-      (v x w : View) (before mid after ps : List Path) (i : ℕ) → i < length ps → TakesTrue digest entries (take i ps) before mid v x → TakesTrue digest entries (get_or ps i Checkpoint ∷ []) mid after x w →
+      (v x w : View) (before mid after ps : List Path) (i : ℕ) → i < length ps →
+      TakesTrue digest entries (take i ps) before mid v x →
+      TakesTrue digest entries (get_or ps i Checkpoint ∷ []) mid after x w →
       TakesTrue digest entries (take (i + 1) ps) before after v w
   round_step v x w before mid after ps i lt a b =
       let p = get_or ps i Checkpoint in
@@ -240,11 +329,15 @@ module _ (digest : List ℕ → List ℕ) (entries : List (List ℕ)) (size : �
         founds = a.founds ++ b.founds;
         are = gets_then (length entries) (take i ps) a.gets a.founds (p ∷ []) b.gets b.founds a.are b.are;
         list = b.list ∙ (ap (λ (l : List Path). l ++ b.gets) a.list ∙ append_assoc before a.gets b.gets);
-        taken = b.taken ∙ (ap (λ (y : View). with_true digest entries y b.founds) a.taken ∙ sym (taken_then digest entries a.founds b.founds v));
+        taken = b.taken ∙
+            (ap (λ (y : View). with_true digest entries y b.founds) a.taken ∙
+            sym (taken_then digest entries a.founds b.founds v));
       })
 
   pub round_none : (v : View) (before : List Path) → TakesTrue digest entries [] before before v v
   round_none v before = record { gets = []; founds = []; are = GetsNone; list = sym (append-nil before); taken = refl }
 
-  pub round_whole : (v w : View) (before after ps : List Path) (i : ℕ) → length ps ≤ i → TakesTrue digest entries (take i ps) before after v w → TakesTrue digest entries ps before after v w
-  round_whole v w before after ps i le t = subst (λ (l : List Path). TakesTrue digest entries l before after v w) (take_all i ps le) t
+  pub round_whole : (v w : View) (before after ps : List Path) (i : ℕ) → length ps ≤ i →
+      TakesTrue digest entries (take i ps) before after v w → TakesTrue digest entries ps before after v w
+  round_whole v w before after ps i le t =
+      subst (λ (l : List Path). TakesTrue digest entries l before after v w) (take_all i ps le) t

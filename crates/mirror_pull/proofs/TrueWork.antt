@@ -1,5 +1,7 @@
 -- The rounds of a pull from an honest source.
-use Rattle.std.proofs.Common.{◌≡◌, ◌≢◌, ◌⊎◌, ℕ, zero, suc, ◌+◌, ◌^◌, ◌<◌, ◌≤◌, List, [], ◌∷◌, ◌++◌, length, get_or, take, arith, length-take, length-append, append_assoc, Contains, Option, refl, sym, ◌∙◌, ap, subst, inl, inr}
+use Rattle.std.proofs.Common.{◌≡◌, ◌≢◌, ◌⊎◌, ℕ, zero, suc, ◌+◌, ◌^◌, ◌<◌, ◌≤◌, List, [], ◌∷◌, ◌++◌, length, get_or}
+use Rattle.std.proofs.Common.{take, arith, length-take, length-append, append_assoc, Contains, Option, refl, sym, ◌∙◌}
+use Rattle.std.proofs.Common.{ap, subst, inl, inr}
 use Rattle.std.specs.Prelude.{max}
 use Rattle.std.specs.FinSet as set
 use Rattle.std.proofs.lemmas.List.{append-nil}
@@ -15,7 +17,8 @@ use Rattle.mirror_model.specs.Front.{IsFront}
 use Rattle.mirror_model.specs.Rounds.{true_strings}
 use Rattle.mirror_model.specs.TrueLaws.{IsWidest}
 use Rattle.mirror_model.specs.Listed.{ListsMissing, ListsFront}
-use Rattle.mirror_model.proofs.StringSets.{has_left, has_right, has_cases, holds_from_held, held_from_holds, held_more, no_clash_within}
+use Rattle.mirror_model.proofs.StringSets.{has_left, has_right, has_cases, holds_from_held, held_from_holds, held_more}
+use Rattle.mirror_model.proofs.StringSets.{no_clash_within}
 use Rattle.mirror_model.proofs.Views.{head_stays}
 use Rattle.mirror_model.proofs.TrueItems.{front_is_within, front_is_widest}
 use Rattle.mirror_model.proofs.Fetching.{missing_is_front_list, answered_is_not_again}
@@ -34,15 +37,30 @@ use Rattle.mirror_pull.proofs.FrontRounds.{front_round_takes, front_rounds_end}
 -- ---- rounds, one after another
 
 rounds_push :
-    (digest : List ℕ → List ℕ) (entries : List (List ℕ)) (size : ℕ) (lists : List (List Path)) (v x w : View) (gets list first : List Path) →
-    AreFrontRounds digest entries size v x lists gets → IsFrontRound digest entries size x w list first → AreFrontRounds digest entries size v w (lists ++ list ∷ []) (gets ++ first)
-rounds_push digest entries size [] v x w gets list first rounds round =
-    (w, first, [], subst (λ (y : View). IsFrontRound digest entries size y w list first) rounds.0 round, (refl, refl), ap (λ (l : List Path). l ++ first) rounds.1 ∙ sym (append-nil first))
-rounds_push digest entries size (l ∷ ls) v x w gets list first rounds round =
-    (rounds.0, rounds.1, rounds.2 ++ first, rounds.3, rounds_push digest entries size ls rounds.0 x w rounds.2 list first rounds.4 round, ap (λ (g : List Path). g ++ first) rounds.5 ∙ append_assoc rounds.1 rounds.2 first)
+    (digest : List ℕ → List ℕ) (entries : List (List ℕ)) (size : ℕ) (lists : List (List Path)) (v x w : View)
+    (gets list first : List Path) →
+    AreFrontRounds digest entries size v x lists gets → IsFrontRound digest entries size x w list first →
+    AreFrontRounds digest entries size v w (lists ++ list ∷ []) (gets ++ first)
+rounds_push digest entries size [] v x w gets list first rounds round = (
+  w,
+  first,
+  [],
+  subst (λ (y : View). IsFrontRound digest entries size y w list first) rounds.0 round,
+  (refl, refl),
+  ap (λ (l : List Path). l ++ first) rounds.1 ∙ sym (append-nil first),
+)
+rounds_push digest entries size (l ∷ ls) v x w gets list first rounds round = (
+  rounds.0,
+  rounds.1,
+  rounds.2 ++ first,
+  rounds.3,
+  rounds_push digest entries size ls rounds.0 x w rounds.2 list first rounds.4 round,
+  ap (λ (g : List Path). g ++ first) rounds.5 ∙ append_assoc rounds.1 rounds.2 first,
+)
 
 -- the rounds so far, after which they may go on
-pub record IsWorking (digest : List ℕ → List ℕ) (entries : List (List ℕ)) (size : ℕ) (root : List ℕ) (may : Path → Option (List ℕ) → Type 0) (rounds : ℕ) (v w : View) (before after : List Path) : Type 0 where
+pub record IsWorking (digest : List ℕ → List ℕ) (entries : List (List ℕ)) (size : ℕ) (root : List ℕ)
+    (may : Path → Option (List ℕ) → Type 0) (rounds : ℕ) (v w : View) (before after : List Path) : Type 0 where
   pub lists : List (List Path)
   pub gets : List Path
   pub count : length lists ≡ rounds
@@ -52,7 +70,8 @@ pub record IsWorking (digest : List ℕ → List ℕ) (entries : List (List ℕ)
   pub next : MayWork digest entries size root may w after
 
 module _ (digest : List ℕ → List ℕ) (entries : List (List ℕ)) (size : ℕ) (root : List ℕ) where
-  module _ (may : Path → Option (List ℕ) → Type 0) (v : View) (asked : List Path) (m : MayWork digest entries size root may v asked) where
+  module _ (may : Path → Option (List ℕ) → Type 0) (v : View) (asked : List Path)
+      (m : MayWork digest entries size root may v asked) where
     first : List (List ℕ)
     first = take size entries
 
@@ -66,12 +85,14 @@ module _ (digest : List ℕ → List ℕ) (entries : List (List ℕ)) (size : �
     clean_first =
         let es = set.from_list (strings digest entries) in
         let fs = set.from_list (strings digest (take size entries)) in
-        no_clash_within digest (set.union v.strings fs) (set.union v.strings (set.union es fs)) (λ q h. elim (has_cases v.strings fs q h) [
+        no_clash_within digest (set.union v.strings fs) (set.union v.strings (set.union es fs))
+        (λ q h. elim (has_cases v.strings fs q h) [
           | inl a ↦ has_left v.strings (set.union es fs) q a
           | inr b ↦ has_right v.strings (set.union es fs) q (has_right es fs q b)
         ]) m.clean
 
-    pub front_whole : (path : Path) → IsFront digest v.strings (take size entries) path → IsWithin size path × IsWidest size path
+    pub front_whole : (path : Path) → IsFront digest v.strings (take size entries) path →
+        IsWithin size path × IsWidest size path
     front_whole path f = (
       subst (λ n. IsWithin n path) long (front_is_within digest v.strings (take size entries) small m.edge path f),
       subst (λ n. IsWidest n path) long (front_is_widest digest v.strings (take size entries) path f),
@@ -81,16 +102,22 @@ module _ (digest : List ℕ → List ℕ) (entries : List (List ℕ)) (size : �
     front_fresh : (path : Path) → IsFront digest v.strings (take size entries) path → IsFresh asked path
     front_fresh path f before has same =
         let whole = front_whole path f in
-        answered_is_not_again digest v.strings (take size entries) small m.edge path (m.settled before has path same whole.0 whole.1) f
+        answered_is_not_again digest v.strings (take size entries) small m.edge path
+        (m.settled before has path same whole.0 whole.1) f
 
-    pub wanted_front : (paths : List Path) → IsWanted digest v size root asked paths → ListsFront digest v (take size entries) paths
+    pub wanted_front : (paths : List Path) → IsWanted digest v size root asked paths →
+        ListsFront digest v (take size entries) paths
     wanted_front paths wanted =
-        let lists : ListsMissing digest v (length (take size entries)) (mth digest (take size entries)) wanted.missing = subst (λ n. ListsMissing digest v n (mth digest (take size entries)) wanted.missing) (sym long) (subst (λ r. ListsMissing digest v size r wanted.missing) m.root_is wanted.lists) in
-        let fronts = missing_is_front_list digest m.source.hash v (take size entries) clean_first wanted.missing lists in
+        let lists : ListsMissing digest v (length (take size entries)) (mth digest (take size entries)) wanted.missing =
+        subst (λ n. ListsMissing digest v n (mth digest (take size entries)) wanted.missing) (sym long)
+        (subst (λ r. ListsMissing digest v size r wanted.missing) m.root_is wanted.lists) in
+        let fronts =
+        missing_is_front_list digest m.source.hash v (take size entries) clean_first wanted.missing lists in
         let same = wanted.whole (λ path listed has. front_fresh path ((fronts.exact path).0 listed) path has refl) in
         subst (ListsFront digest v (take size entries)) (sym same) fronts
 
-    pub round_may : (paths : List Path) → ListsFront digest v (take size entries) paths → MayTake digest entries size may v asked paths
+    pub round_may : (paths : List Path) → ListsFront digest v (take size entries) paths →
+        MayTake digest entries size may v asked paths
     round_may paths fronts = record {
       source = m.source;
       within = m.within;
@@ -99,59 +126,90 @@ module _ (digest : List ℕ → List ℕ) (entries : List (List ℕ)) (size : �
       fresh = record {
         fresh = λ path c. front_fresh path ((fronts.exact path).0 c);
         apart = λ i j d lt within e.
-            let whole = λ (k : ℕ) (l : k < length paths). front_whole (get_or paths k d) ((fronts.exact (get_or paths k d)).0 (Contains-get_or paths k d l)) in
-            sorted_differ paths fronts.sorted i j d lt within (widest_same size (get_or paths i d) (get_or paths j d) (whole i (omega (arith, lt, within))).1 (whole j within).1 e);
+            let whole =
+            λ (k : ℕ) (l : k < length paths). front_whole (get_or paths k d)
+            ((fronts.exact (get_or paths k d)).0 (Contains-get_or paths k d l)) in
+            sorted_differ paths fronts.sorted i j d lt within
+            (widest_same size (get_or paths i d) (get_or paths j d) (whole i (omega (arith, lt, within))).1
+            (whole j within).1 e);
       };
     }
 
     -- where nothing is missing the tree is held
-    pub none_missing : (paths : List Path) → ListsFront digest v (take size entries) paths → length paths ≡ 0 → HasAll v.strings (strings digest (take size entries))
+    pub none_missing : (paths : List Path) → ListsFront digest v (take size entries) paths → length paths ≡ 0 →
+        HasAll v.strings (strings digest (take size entries))
     none_missing paths fronts none =
-        held_from_holds v.strings (strings digest (take size entries)) ((front_empty digest v.strings (take size entries) small).0 (λ path f. let c = (fronts.exact path).1 f in omega (arith, c.1, none)))
+        held_from_holds v.strings (strings digest (take size entries))
+        ((front_empty digest v.strings (take size entries) small).0
+        (λ path f. let c = (fronts.exact path).1 f in omega (arith, c.1, none)))
 
     pub after_round :
-        (later : Path → Option (List ℕ) → Type 0) (w : View) (after paths : List Path) → StaysWithin may later → IsSubview v w → ListsFront digest v (take size entries) paths → TakesTrue digest entries paths asked after v w →
+        (later : Path → Option (List ℕ) → Type 0) (w : View) (after paths : List Path) → StaysWithin may later →
+        IsSubview v w → ListsFront digest v (take size entries) paths →
+        TakesTrue digest entries paths asked after v w →
         MayWork digest entries size root later w after
     after_round later w after paths stays grows fronts t =
-        let takes = front_round_takes digest m.source.hash entries m.source.short size v paths t.gets t.founds m.within m.small m.edge fronts t.are in
-        let taken = λ (path : Path) (f : IsFront digest v.strings (take size entries) path). subst (λ (x : View). HasAll x.strings (true_strings digest (take size entries) path)) (sym t.taken) (takes.taken path f) in
+        let takes =
+        front_round_takes digest m.source.hash entries m.source.short size v paths t.gets t.founds m.within m.small m.edge fronts t.are in
+        let taken =
+        λ (path : Path) (f : IsFront digest v.strings (take size entries) path). subst
+        (λ (x : View). HasAll x.strings (true_strings digest (take size entries) path)) (sym t.taken)
+        (takes.taken path f) in
         record {
           source = source_stays digest entries may later stays m.source;
           within = m.within;
           small = m.small;
-          clean = clean_gained digest entries size v w (paths_only digest entries size may v w asked after paths paths (round_may paths fronts) (λ p c. c) t) m.clean;
+          clean = clean_gained digest entries size v w
+              (paths_only digest entries size may v w asked after paths paths (round_may paths fronts)
+              (λ p c. c) t) m.clean;
           root_is = m.root_is;
           head = head_stays v w grows size root m.head;
-          edge = held_more v.strings w.strings (edge_strings digest (edge_rows digest (take size entries))) grows.strings_are m.edge;
-          settled = λ before has path same within widest. elim (Contains-append_cases asked t.gets before (subst (λ (l : List Path). Contains l before) t.list has)) [
-            | inl old ↦ held_more v.strings w.strings (true_strings digest (take size entries) path) grows.strings_are (m.settled before old path same within widest)
-            | inr got ↦
-                (let place = each_place paths t.gets (gets_each_asked (length entries) paths t.gets t.founds t.are) before got in
-                let f = (fronts.exact place.path).0 place.listed in
-                let is : place.path ≡ path = widest_same size place.path path (front_whole place.path f).1 widest (sym place.same ∙ same) in
-                subst (λ (p : Path). HasAll w.strings (true_strings digest (take size entries) p)) is (taken place.path f))
-          ];
+          edge = held_more v.strings w.strings
+              (edge_strings digest (edge_rows digest (take size entries))) grows.strings_are m.edge;
+          settled =
+              λ before has path same within widest. elim
+              (Contains-append_cases asked t.gets before (subst (λ (l : List Path). Contains l before) t.list has)) [
+                | inl old ↦ held_more v.strings w.strings (true_strings digest (take size entries) path) grows.strings_are
+                    (m.settled before old path same within widest)
+                | inr got ↦
+                    (let place =
+                    each_place paths t.gets (gets_each_asked (length entries) paths t.gets t.founds t.are) before got in
+                    let f = (fronts.exact place.path).0 place.listed in
+                    let is : place.path ≡ path =
+                    widest_same size place.path path (front_whole place.path f).1 widest (sym place.same ∙ same) in
+                    subst (λ (p : Path). HasAll w.strings (true_strings digest (take size entries) p)) is
+                    (taken place.path f))
+              ];
         }
 
   -- ---- the steps of the loop
 
   module _ (may : Path → Option (List ℕ) → Type 0) (v x : View) (before mid : List Path) (rounds : ℕ) where
     pub work_step :
-        (now later : Path → Option (List ℕ) → Type 0) (w : View) (after paths : List Path) → IsWorking digest entries size root now rounds v x before mid → IsWanted digest x size root mid paths → 1 ≤ length paths → StaysWithin now later → IsSubview x w →
-        TakesTrue digest entries paths mid after x w → IsWorking digest entries size root later (rounds + 1) v w before after
+        (now later : Path → Option (List ℕ) → Type 0) (w : View) (after paths : List Path) →
+        IsWorking digest entries size root now rounds v x before mid → IsWanted digest x size root mid paths →
+        1 ≤ length paths → StaysWithin now later → IsSubview x w →
+        TakesTrue digest entries paths mid after x w →
+        IsWorking digest entries size root later (rounds + 1) v w before after
     work_step now later w after paths working wanted some stays grows t =
         let fronts = wanted_front now x mid working.next paths wanted in
         record {
           lists = working.lists ++ paths ∷ [];
           gets = working.gets ++ t.gets;
           count = omega (arith, length-append working.lists (paths ∷ []), working.count);
-          worked = rounds_push digest entries size working.lists v x w working.gets paths t.gets working.worked (record { founds = t.founds; some = some; front = fronts; gets_are = t.are; taken = t.taken });
+          worked = rounds_push digest entries size working.lists v x w working.gets paths t.gets working.worked
+              (record { founds = t.founds; some = some; front = fronts; gets_are = t.are; taken = t.taken });
           list = t.list ∙ (ap (λ (l : List Path). l ++ t.gets) working.list ∙ append_assoc before working.gets t.gets);
-          strings = λ y h. elim (paths_only digest entries size now x w mid after paths paths (round_may now x mid working.next paths fronts) (λ p c. c) t y h) [ inl old ↦ working.strings y old | inr new ↦ inr new ];
+          strings =
+              λ y h. elim
+              (paths_only digest entries size now x w mid after paths paths
+              (round_may now x mid working.next paths fronts)
+              (λ p c. c) t y h) [ inl old ↦ working.strings y old | inr new ↦ inr new ];
           next = after_round now x mid working.next later w after paths stays grows fronts t;
         }
 
-    pub work_done : (paths : List Path) → IsWorking digest entries size root may rounds v x before mid → IsWanted digest x size root mid paths → length paths ≡ 0 → HasWorked digest entries size rounds v x before mid
+    pub work_done : (paths : List Path) → IsWorking digest entries size root may rounds v x before mid →
+        IsWanted digest x size root mid paths → length paths ≡ 0 → HasWorked digest entries size rounds v x before mid
     work_done paths working wanted none = record {
       lists = working.lists;
       gets = working.gets;
@@ -162,13 +220,28 @@ module _ (digest : List ℕ → List ℕ) (entries : List (List ℕ)) (size : �
       strings = working.strings;
     }
 
-  pub work_none : (may : Path → Option (List ℕ) → Type 0) (v : View) (before : List Path) → MayWork digest entries size root may v before → IsWorking digest entries size root may 0 v v before before
-  work_none may v before m = record { lists = []; gets = []; count = refl; worked = (refl, refl); list = sym (append-nil before); strings = λ y h. inl h; next = m }
+  pub work_none : (may : Path → Option (List ℕ) → Type 0) (v : View) (before : List Path) →
+      MayWork digest entries size root may v before → IsWorking digest entries size root may 0 v v before before
+  work_none may v before m =
+      record {
+        lists =
+            [];
+        gets =
+            [];
+        count = refl;
+        worked = (refl, refl);
+        list = sym (append-nil before);
+        strings = λ y h. inl h;
+        next = m;
+      }
 
   -- there are no eight rounds
   pub never_eight :
-      (start now : Path → Option (List ℕ) → Type 0) (v x : View) (before mid : List Path) (rounds : ℕ) → 8 ≤ rounds → MayWork digest entries size root start v before → IsWorking digest entries size root now rounds v x before mid → ⊥
+      (start now : Path → Option (List ℕ) → Type 0) (v x : View) (before mid : List Path) (rounds : ℕ) → 8 ≤ rounds →
+      MayWork digest entries size root start v before →
+      IsWorking digest entries size root now rounds v x before mid → ⊥
   never_eight start now v x before mid rounds many m working =
       let t = has_top size m.small in
-      let few = front_rounds_end digest m.source.hash entries m.source.short size t.top v x working.lists working.gets m.within m.small t.is m.edge working.worked in
+      let few =
+      front_rounds_end digest m.source.hash entries m.source.short size t.top v x working.lists working.gets m.within m.small t.is m.edge working.worked in
       omega (arith, few, many, working.count, t.is.within)

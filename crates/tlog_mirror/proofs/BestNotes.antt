@@ -1,5 +1,7 @@
 -- The best of the kept notes, and the first of a size and root.
-use Rattle.std.proofs.Common.{◌≡◌, ◌≢◌, ℕ, zero, suc, ◌+◌, ◌-◌, ◌<◌, ◌≤◌, List, [], ◌∷◌, length, drop, map, get_or, slice_index_or, Option, Some, None, Bool, true, false, sym, refl, ap, subst, ◌∙◌, ◌⊎◌, inl, inr, arith, nat_eq}
+use Rattle.std.proofs.Common.{◌≡◌, ◌≢◌, ℕ, zero, suc, ◌+◌, ◌-◌, ◌<◌, ◌≤◌, List, [], ◌∷◌, length, drop, map, get_or}
+use Rattle.std.proofs.Common.{slice_index_or, Option, Some, None, Bool, true, false, sym, refl, ap, subst, ◌∙◌, ◌⊎◌}
+use Rattle.std.proofs.Common.{inl, inr, arith, nat_eq}
 use Rattle.std.specs.Ordering.{nat_cmp, ordering_then, ordering_reverse, is_gt, on, then_cmp, flip_args}
 use Rattle.std.specs.declared.cmp.Ordering.{Ordering}
 use Rattle.std.specs.declared.cmp.Ordering.TheVariants.{Less, Equal, Greater}
@@ -14,11 +16,14 @@ use Rattle.std.proofs.lemmas.Bool.Decides.{Decides-eqb}
 use Rattle.node_store.specs.Strings.{Strings}
 use Rattle.mirror_model.specs.Complete.{IsBuilt}
 use Rattle.mirror_model.specs.Forks.{Point}
-use Rattle.tlog_mirror.specs.Best.{served_cmp, pair_point, kept_point, IsAhead, HasKept, IsBuiltAt, IsBest, IsBestOf, IsFirstWith}
+use Rattle.tlog_mirror.specs.Best.{served_cmp, pair_point, kept_point, IsAhead, HasKept, IsBuiltAt, IsBest, IsBestOf}
+use Rattle.tlog_mirror.specs.Best.{IsFirstWith}
 use Rattle.tlog_mirror.specs.declared.kept.KeptNote.{KeptNote}
 
 pub served_total : IsTotalOrder served_cmp
-served_total = then_total (on_total (λ (p : Point). p.size) (back_total nat_cmp_total)) (on_total (λ (p : Point). p.root) nat_list_cmp_total)
+served_total =
+    then_total (on_total (λ (p : Point). p.size) (back_total nat_cmp_total))
+    (on_total (λ (p : Point). p.root) nat_list_cmp_total)
 
 module _ {X : Type 0} where
   pub head_or : (x : X) (xs : List X) (y : X) → Contains (x ∷ xs) y → (x ≡ y) ⊎ Contains xs y
@@ -53,28 +58,38 @@ module _ (digest : List ℕ → List ℕ) (held : Strings) where
 
   module _ (one : KeptNote) (rest : List KeptNote) where
     itself : (other : KeptNote) → one ≡ other → is_gt (served_cmp (kept_point one) (kept_point other)) ≡ false
-    itself other same = ap (λ (k : KeptNote). is_gt (served_cmp (kept_point one) (kept_point k))) (sym same) ∙ ap is_gt (tied_itself served_total (kept_point one))
+    itself other same =
+        ap (λ (k : KeptNote). is_gt (served_cmp (kept_point one) (kept_point k))) (sym same) ∙
+        ap is_gt (tied_itself served_total (kept_point one))
 
     -- a better one
-    better : (found : Option (ℕ × List ℕ)) → IsBestOf digest held rest found → IsAhead (kept_point one) found → Built (kept_point one) → IsBestOf digest held (one ∷ rest) (Some (one.size, one.root))
+    better : (found : Option (ℕ × List ℕ)) → IsBestOf digest held rest found → IsAhead (kept_point one) found →
+        Built (kept_point one) → IsBestOf digest held (one ∷ rest) (Some (one.size, one.root))
     better None h ahead built = record {
       has = record { one = one; is_kept = here one rest; is = refl };
       built = built;
-      first = λ other c b. elim (head_or one rest other c) [ inl same ↦ itself other same | inr there ↦ absurd (h other there b) ];
+      first = λ other c b. elim
+          (head_or one rest other c) [ inl same ↦ itself other same | inr there ↦ absurd (h other there b) ];
     }
     better (Some q) h ahead built = record {
       has = record { one = one; is_kept = here one rest; is = refl };
       built = built;
       first = λ other c b. elim (head_or one rest other c) [
         | inl same ↦ itself other same
-        | inr there ↦ upto served_total (kept_point one) (pair_point q) (kept_point other) (ap is_gt ahead) (h.first other there b)
+        | inr there ↦ upto served_total (kept_point one) (pair_point q) (kept_point other) (ap is_gt ahead)
+            (h.first other there b)
       ];
     }
 
     -- one that is no better, or is not held whole
-    no_better : (found : Option (ℕ × List ℕ)) → IsBestOf digest held rest found → (IsAhead (kept_point one) found → ⊥) ⊎ (Built (kept_point one) → ⊥) → IsBestOf digest held (one ∷ rest) found
+    no_better : (found : Option (ℕ × List ℕ)) → IsBestOf digest held rest found →
+        (IsAhead (kept_point one) found → ⊥) ⊎ (Built (kept_point one) → ⊥) → IsBestOf digest held (one ∷ rest) found
     no_better None h not = λ other c b. elim (head_or one rest other c) [
-      | inl same ↦ elim not [ inl behind ↦ behind tt | inr not_built ↦ not_built (subst (λ (k : KeptNote). Built (kept_point k)) (sym same) b) ]
+      | inl same ↦ elim not [
+        | inl behind ↦ behind tt
+        | inr not_built ↦ not_built
+            (subst (λ (k : KeptNote). Built (kept_point k)) (sym same) b)
+      ]
       | inr there ↦ h other there b
     ]
     no_better (Some q) h not = record {
@@ -82,27 +97,38 @@ module _ (digest : List ℕ → List ℕ) (held : Strings) where
       built = h.built;
       first = λ other c b. elim (head_or one rest other c) [
         | inl same ↦ elim not [
-          | inl behind ↦ ap (λ (k : KeptNote). is_gt (served_cmp (pair_point q) (kept_point k))) (sym same) ∙ not_before (kept_point one) (pair_point q) behind
+          | inl behind ↦ ap (λ (k : KeptNote). is_gt (served_cmp (pair_point q) (kept_point k))) (sym same) ∙
+              not_before (kept_point one) (pair_point q) behind
           | inr not_built ↦ absurd (not_built (subst (λ (k : KeptNote). Built (kept_point k)) (sym same) b))
         ]
         | inr there ↦ h.first other there b
       ];
     }
 
-  module _ (kept : List KeptNote) (at : ℕ) (one : KeptNote) (some : 0 < at) (fits : at ≤ length kept) (is : one ≡ slice_index_or kept (at - 1) one) where
+  module _ (kept : List KeptNote) (at : ℕ) (one : KeptNote) (some : 0 < at) (fits : at ≤ length kept)
+      (is : one ≡ slice_index_or kept (at - 1) one) where
     step : drop (at - 1) kept ≡ one ∷ drop at kept
     step =
         let next : at - 1 + 1 ≡ at = omega (arith, some) in
         drop_more kept (at - 1) one (omega (arith, some, fits)) ∙ (λ i. sym is i ∷ drop (next i) kept)
 
-    pub better_at : (found : Option (ℕ × List ℕ)) → IsBestOf digest held (drop at kept) found → IsAhead (kept_point one) found → Built (kept_point one) → IsBestOf digest held (drop (at - 1) kept) (Some (one.size, one.root))
-    better_at found h ahead built = subst (λ xs. IsBestOf digest held xs (Some (one.size, one.root))) (sym step) (better one (drop at kept) found h ahead built)
+    pub better_at : (found : Option (ℕ × List ℕ)) → IsBestOf digest held (drop at kept) found →
+        IsAhead (kept_point one) found → Built (kept_point one) →
+        IsBestOf digest held (drop (at - 1) kept) (Some (one.size, one.root))
+    better_at found h ahead built =
+        subst (λ xs. IsBestOf digest held xs (Some (one.size, one.root))) (sym step)
+        (better one (drop at kept) found h ahead built)
 
-    pub no_better_at : (found : Option (ℕ × List ℕ)) → IsBestOf digest held (drop at kept) found → (IsAhead (kept_point one) found → ⊥) ⊎ (Built (kept_point one) → ⊥) → IsBestOf digest held (drop (at - 1) kept) found
-    no_better_at found h not = subst (λ xs. IsBestOf digest held xs found) (sym step) (no_better one (drop at kept) found h not)
+    pub no_better_at : (found : Option (ℕ × List ℕ)) → IsBestOf digest held (drop at kept) found →
+        (IsAhead (kept_point one) found → ⊥) ⊎ (Built (kept_point one) → ⊥) →
+        IsBestOf digest held (drop (at - 1) kept) found
+    no_better_at found h not =
+        subst (λ xs. IsBestOf digest held xs found) (sym step) (no_better one (drop at kept) found h not)
 
-  pub best_of_all : (kept : List KeptNote) (at : ℕ) (found : Option (ℕ × List ℕ)) → at ≤ 0 → IsBestOf digest held (drop at kept) found → IsBestOf digest held kept found
-  best_of_all kept at found zero_at h = let none : at ≡ 0 = omega (arith, zero_at) in subst (λ n. IsBestOf digest held (drop n kept) found) none h
+  pub best_of_all : (kept : List KeptNote) (at : ℕ) (found : Option (ℕ × List ℕ)) → at ≤ 0 →
+      IsBestOf digest held (drop at kept) found → IsBestOf digest held kept found
+  best_of_all kept at found zero_at h =
+      let none : at ≡ 0 = omega (arith, zero_at) in subst (λ n. IsBestOf digest held (drop n kept) found) none h
 
 -- ---- the first of a size and root
 
@@ -113,13 +139,15 @@ module _ (kept : List KeptNote) (size : ℕ) (root : List ℕ) where
   abbrev pub NoneBefore : ℕ → Type 0
   NoneBefore n = (k : ℕ) (other : KeptNote) → k < n → slice_index_or kept k other ≡ other → kept_point other ≡ point → ⊥
 
-  pub none_more : (at : ℕ) (one : KeptNote) → at < length kept → one ≡ slice_index_or kept at one → NoneBefore at → (kept_point one ≡ point → ⊥) → NoneBefore (at + 1)
+  pub none_more : (at : ℕ) (one : KeptNote) → at < length kept → one ≡ slice_index_or kept at one → NoneBefore at →
+      (kept_point one ≡ point → ⊥) → NoneBefore (at + 1)
   none_more at one fits is before differ k other lt there same =
       elim (cases_lt k at) [
         | inl less ↦ before k other less there same
         | inr more ↦
             let k_is : k ≡ at = omega (arith, lt, more) in
-            let read : slice_index_or kept at other ≡ other = subst (λ n. slice_index_or kept n other ≡ other) k_is there in
+            let read : slice_index_or kept at other ≡ other =
+            subst (λ n. slice_index_or kept n other ≡ other) k_is there in
             let one_is : one ≡ other = is ∙ any_default kept at one other fits ∙ read in
             differ (ap kept_point one_is ∙ same)
       ]
@@ -127,7 +155,8 @@ module _ (kept : List KeptNote) (size : ℕ) (root : List ℕ) where
   pub none_at_all : (at : ℕ) → length kept ≤ at → NoneBefore at → HasKept kept point → ⊥
   none_at_all at all before has = before has.is_kept.0 has.one (omega (arith, has.is_kept.1, all)) has.is_kept.2 has.is
 
-  pub first_at : (at : ℕ) (one : KeptNote) → at < length kept → one ≡ slice_index_or kept at one → NoneBefore at → one.size ≡ size → one.root ≡ root → IsFirstWith kept point one
+  pub first_at : (at : ℕ) (one : KeptNote) → at < length kept → one ≡ slice_index_or kept at one → NoneBefore at →
+      one.size ≡ size → one.root ≡ root → IsFirstWith kept point one
   first_at at one fits is before s r = record {
     at = at;
     within = fits;
@@ -139,7 +168,8 @@ module _ (kept : List KeptNote) (size : ℕ) (root : List ℕ) where
   pub other_size : (one : KeptNote) → one.size ≢ size → kept_point one ≡ point → ⊥
   other_size one differ same = differ (ap (λ (p : Point). p.size) same)
 
-  pub other_root : (one : KeptNote) (b : Bool) → b ≡ pointwise nat_eq one.root root → b ≡ false → kept_point one ≡ point → ⊥
+  pub other_root : (one : KeptNote) (b : Bool) → b ≡ pointwise nat_eq one.root root → b ≡ false →
+      kept_point one ≡ point → ⊥
   other_root one b is differs same =
       let equal : b ≡ true = (slice_eq-Decides Decides-eqb one.root root b is).1 (ap (λ (p : Point). p.root) same) in
       cc (equal, differs)

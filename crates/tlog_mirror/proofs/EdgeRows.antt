@@ -1,5 +1,7 @@
 -- The edge rows of a head: the widths that they have, how they are read, and what their strings are.
-use Rattle.std.proofs.Common.{◌≡◌, ◌≢◌, ℕ, zero, suc, ◌+◌, ◌*◌, ◌/◌, ◌<◌, Bool, true, false, cond, eqb, List, [], ◌∷◌, ◌++◌, length, map, take, drop, get_or, Vec, Global, All, Result, Ok, Err, refl, sym, ap, subst, ◌∙◌, arith, if◌then◌else◌}
+use Rattle.std.proofs.Common.{◌≡◌, ◌≢◌, ℕ, zero, suc, ◌+◌, ◌*◌, ◌/◌, ◌<◌, Bool, true, false, cond, eqb, List, [], ◌∷◌}
+use Rattle.std.proofs.Common.{◌++◌, length, map, take, drop, get_or, Vec, Global, All, Result, Ok, Err, refl, sym, ap}
+use Rattle.std.proofs.Common.{subst, ◌∙◌, arith, if◌then◌else◌}
 use Rattle.std.specs.Prelude.{not, ◌==◌}
 use denote.Bor.{Bor}
 use Rattle.std.specs.FinSet as set
@@ -14,7 +16,8 @@ use Rattle.tlog_shape.specs.Edge.{width_of}
 use Rattle.tlog_hash.specs.Tree.{fold_of, joins}
 use Rattle.tlog_hash.proofs.Folds.{length-ranges}
 use Rattle.node_store.specs.Strings.{Strings}
-use Rattle.mirror_model.specs.Edge.{all_levels, edge_levels, edge_widths, edge_root, edge_strings, root_from, strings_from}
+use Rattle.mirror_model.specs.Edge.{all_levels, edge_levels, edge_widths, edge_root, edge_strings, root_from}
+use Rattle.mirror_model.specs.Edge.{strings_from}
 use Rattle.mirror_model.specs.Item.{row_of}
 use Rattle.mirror_model.specs.Strings.{HasClash}
 use Rattle.stored_trees.proofs.BuiltTrees.{added_both}
@@ -37,7 +40,8 @@ module _ (n : ℕ) where
   abbrev has_some : ℕ → Bool
   has_some level = not (width_of n level == 0)
 
-  one_width : (level : ℕ) (b : Bool) → cond b [] (width_of n level ∷ []) ≡ map (width_of n) (cond (not b) (level ∷ []) [])
+  one_width : (level : ℕ) (b : Bool) →
+      cond b [] (width_of n level ∷ []) ≡ map (width_of n) (cond (not b) (level ∷ []) [])
   one_width level true = refl
   one_width level false = refl
 
@@ -96,7 +100,8 @@ rows_some_at (v ∷ vs) (r ∷ rs) (w ∷ ws) e f some =
 pub rows_some :
     (n : ℕ) (vs : List (Vec (List ℕ) Global)) (rows : List (List ℕ)) → items_of vs ≡ map row_of rows →
     HaveWidths (edge_widths n) rows → All (λ row. 0 < length row.items) vs
-rows_some n vs rows e f = All-from_recursion (λ row. 0 < length row.items) vs (rows_some_at vs rows (edge_widths n) e f (widths_some n))
+rows_some n vs rows e f =
+    All-from_recursion (λ row. 0 < length row.items) vs (rows_some_at vs rows (edge_widths n) e f (widths_some n))
 
 -- one more of what a function gives
 pub mapped_more :
@@ -111,8 +116,10 @@ pub other_width :
     HaveWidths widths (bytes_of rows) → ⊥
 other_width widths rows i d lt same differs have =
     let left : get_or (map length (bytes_of rows)) i 0 ≡ length (get_or rows i d).now =
-    get_or-map length (bytes_of rows) i d.now 0 (omega (arith, length_bytes rows)) ∙ ap length (get_or-map (λ (row : Bor (List ℕ)). row.now) rows i d d.now lt) in
-    let right : get_or (map (λ width. 32 * width) widths) i 0 ≡ 32 * get_or widths i 0 = get_or-map (λ width. 32 * width) widths i 0 0 (omega (arith, same, lt)) in
+    get_or-map length (bytes_of rows) i d.now 0 (omega (arith, length_bytes rows)) ∙
+    ap length (get_or-map (λ (row : Bor (List ℕ)). row.now) rows i d d.now lt) in
+    let right : get_or (map (λ width. 32 * width) widths) i 0 ≡ 32 * get_or widths i 0 =
+    get_or-map (λ width. 32 * width) widths i 0 0 (omega (arith, same, lt)) in
     differs (sym left ∙ ap (λ xs. get_or xs i 0) have ∙ right)
   where
     length_bytes : (xs : List (Bor (List ℕ))) → length (bytes_of xs) ≡ length xs
@@ -125,19 +132,26 @@ pub rows_more :
     (row : Vec (List ℕ) Global) → i < length es → i < length ws → more ≡ rows ++ row ∷ [] →
     IsRow (get_or ws i 0) (get_or es i d).now row.items → items_of rows ≡ map row_of (bytes_of (take i es)) →
     HaveWidths (take i ws) (bytes_of (take i es)) →
-    (items_of more ≡ map row_of (bytes_of (take (i + 1) es))) × HaveWidths (take (i + 1) ws) (bytes_of (take (i + 1) es))
+    (items_of more ≡ map row_of (bytes_of (take (i + 1) es)))
+    × HaveWidths (take (i + 1) ws) (bytes_of (take (i + 1) es))
 rows_more es ws i d rows more row in_es in_ws is read hashes lengths =
     let e = get_or es i d in
     let w = get_or ws i 0 in
     let bs : List (List ℕ) = bytes_of (take i es) in
     let bs_more : bytes_of (take (i + 1) es) ≡ bs ++ e.now ∷ [] =
-    mapped_more (λ (x : Bor (List ℕ)). x.now) (take i es) (take (i + 1) es) e bs e.now (take_more es i d in_es) refl refl in
+    mapped_more (λ (x : Bor (List ℕ)). x.now) (take i es) (take (i + 1) es) e bs e.now
+    (take_more es i d in_es) refl refl in
     let ws_more : take (i + 1) ws ≡ take i ws ++ w ∷ [] = take_more ws i 0 in_ws in
-    let len : length e.now ≡ 32 * w = ap length read.text ∙ length-row_text row.items read.sizes ∙ ap (λ n. 32 * n) read.count in (
-      mapped_more (λ (x : Vec (List ℕ) Global). x.items) rows more row (map row_of bs) (row_of e.now) is hashes (row_is_one w e.now row.items read)
-          ∙ sym (mapped_more row_of bs (bytes_of (take (i + 1) es)) e.now (map row_of bs) (row_of e.now) bs_more refl refl),
-      mapped_more length bs (bytes_of (take (i + 1) es)) e.now (map (λ width. 32 * width) (take i ws)) (32 * w) bs_more lengths len
-          ∙ sym (mapped_more (λ width. 32 * width) (take i ws) (take (i + 1) ws) w (map (λ width. 32 * width) (take i ws)) (32 * w) ws_more refl refl),
+    let len : length e.now ≡ 32 * w =
+    ap length read.text ∙ length-row_text row.items read.sizes ∙ ap (λ n. 32 * n) read.count in (
+      mapped_more (λ (x : Vec (List ℕ) Global). x.items) rows more row (map row_of bs) (row_of e.now) is hashes
+          (row_is_one w e.now row.items read)
+          ∙ sym (mapped_more row_of bs (bytes_of (take (i + 1) es)) e.now (map row_of bs)
+          (row_of e.now) bs_more refl refl),
+      mapped_more length bs (bytes_of (take (i + 1) es)) e.now (map (λ width. 32 * width) (take i ws))
+          (32 * w) bs_more lengths len
+          ∙ sym (mapped_more (λ width. 32 * width) (take i ws) (take (i + 1) ws) w
+          (map (λ width. 32 * width) (take i ws)) (32 * w) ws_more refl refl),
     )
 
 -- ---- strings
@@ -150,13 +164,15 @@ split_rows [] lowest some is = absurd (omega (arith, some))
 split_rows (x ∷ xs) lowest some is = ap (λ y. y ∷ xs) (sym is)
 
 module _ (digest : List ℕ → List ℕ) where
-  module _ (lowest : List (List ℕ)) (rest : List (List (List ℕ))) (start : List ℕ) (start_is : start ≡ fold_of digest lowest) where
+  module _ (lowest : List (List ℕ)) (rest : List (List (List ℕ))) (start : List ℕ)
+      (start_is : start ≡ fold_of digest lowest) where
     pub edge_root_is : root_from digest start rest ≡ edge_root digest (lowest ∷ rest)
     edge_root_is = ap (λ h. root_from digest h rest) start_is
 
     pub edge_strings_are :
         (v v1 : Strings) → v1 ≡ set.union v (set.from_list (joins digest lowest)) →
-        set.union v1 (set.from_list (strings_from digest start rest)) ≡ set.union v (set.from_list (edge_strings digest (lowest ∷ rest)))
+        set.union v1 (set.from_list (strings_from digest start rest))
+        ≡ set.union v (set.from_list (edge_strings digest (lowest ∷ rest)))
     edge_strings_are v v1 v1_is =
         (λ i. set.union (v1_is i) (set.from_list (strings_from digest (start_is i) rest)))
         ∙ added_both v (joins digest lowest) (strings_from digest (fold_of digest lowest) rest)

@@ -1,5 +1,6 @@
 -- The forks that are found are those of the view.
-use Rattle.std.proofs.Common.{◌≡◌, ◌≢◌, ℕ, ◌≤◌, List, [], ◌∷◌, length, map, Bool, true, false, sym, refl, ap, subst, ◌∙◌, ◌⊎◌, inl, inr, arith}
+use Rattle.std.proofs.Common.{◌≡◌, ◌≢◌, ℕ, ◌≤◌, List, [], ◌∷◌, length, map, Bool, true, false, sym, refl, ap, subst}
+use Rattle.std.proofs.Common.{◌∙◌, ◌⊎◌, inl, inr, arith}
 use Rattle.std.specs.Prelude.{All, ◌↔◌, ◌&&◌, Result, Ok, Err, IfOk, cond}
 use Rattle.std.specs.Ordering.{eq_by_cmp}
 use Rattle.std.specs.declared.cmp.Ordering.{Ordering}
@@ -37,14 +38,18 @@ abbrev pub by_fork : Fork → Fork → Ordering
 by_fork a b = pair_cmp (fork_pair a) (fork_pair b)
 
 pub forks_total : IsTotalOrder by_fork
-forks_total = then_total (on_total (λ (f : Fork). (fork_pair f).small) point_total) (on_total (λ (f : Fork). (fork_pair f).large) point_total)
+forks_total =
+    then_total (on_total (λ (f : Fork). (fork_pair f).small) point_total)
+    (on_total (λ (f : Fork). (fork_pair f).large) point_total)
 
 -- the derived test of two forks
 abbrev pub same_fork : Fork → Fork → Bool
 same_fork a b = same_key a.small b.small && same_key a.large b.large
 
 pub forks_tie : (a b : Fork) → same_fork a b ≡ eq_by_cmp by_fork a b
-forks_tie a b = both_tied (same_key a.small b.small) (same_key a.large b.large) (by_point a.small b.small) (by_point a.large b.large) (pairs_tie a.small b.small) (pairs_tie a.large b.large)
+forks_tie a b =
+    both_tied (same_key a.small b.small) (same_key a.large b.large) (by_point a.small b.small)
+    (by_point a.large b.large) (pairs_tie a.small b.small) (pairs_tie a.large b.large)
 
 pub forks_equivalence : IsEquivalence same_fork
 forks_equivalence = subst IsEquivalence (λ i a b. sym (forks_tie a b) i) (eq_by_cmp_equiv forks_total)
@@ -65,7 +70,8 @@ forks_exact a b h =
 abbrev is_complete : Head → Bool
 is_complete head = head.complete
 
-same_pairs : (heads : List Head) (points : List (ℕ × List ℕ)) → map head_point heads ≡ map pair_point points → map head_pair heads ≡ points
+same_pairs : (heads : List Head) (points : List (ℕ × List ℕ)) → map head_point heads ≡ map pair_point points →
+    map head_pair heads ≡ points
 same_pairs [] [] e = refl
 same_pairs [] (p ∷ points) e = absurd (cc e)
 same_pairs (h ∷ heads) [] e = absurd (cc e)
@@ -82,7 +88,8 @@ module _ {X : Type 0} (test : X → Bool) where
   filter_cases [] x c = absurd (omega (arith, c.1))
   filter_cases (y ∷ xs) x c = at (test y) refl (filter_cases xs x) c
     where
-      at : (b : Bool) → test y ≡ b → (Contains (filter test xs) x → Contains xs x × (test x ≡ true)) → Contains (cond b (y ∷ filter test xs) (filter test xs)) x → Contains (y ∷ xs) x × (test x ≡ true)
+      at : (b : Bool) → test y ≡ b → (Contains (filter test xs) x → Contains xs x × (test x ≡ true)) →
+          Contains (cond b (y ∷ filter test xs) (filter test xs)) x → Contains (y ∷ xs) x × (test x ≡ true)
       at true is rest c = elim (head_or y (filter test xs) x c) [
         | inl same ↦ (subst (Contains (y ∷ xs)) same (here y xs), ap test (sym same) ∙ is)
         | inr there ↦ (later y xs x (rest there).0, (rest there).1)
@@ -93,13 +100,15 @@ module _ {X : Type 0} (test : X → Bool) where
   into_filter [] x c t = absurd (omega (arith, c.1))
   into_filter (y ∷ xs) x c t = at (test y) refl (λ there. into_filter xs x there t) (head_or y xs x c)
     where
-      at : (b : Bool) → test y ≡ b → (Contains xs x → Contains (filter test xs) x) → (y ≡ x) ⊎ Contains xs x → Contains (cond b (y ∷ filter test xs) (filter test xs)) x
+      at : (b : Bool) → test y ≡ b → (Contains xs x → Contains (filter test xs) x) → (y ≡ x) ⊎ Contains xs x →
+          Contains (cond b (y ∷ filter test xs) (filter test xs)) x
       at true is rest (inl same) = subst (Contains (y ∷ filter test xs)) same (here y (filter test xs))
       at true is rest (inr there) = later y (filter test xs) x (rest there)
       at false is rest (inl same) = absurd (let wrong : true ≡ false = sym t ∙ ap test (sym same) ∙ is in cc wrong)
       at false is rest (inr there) = rest there
 
-module _ (digest : List ℕ → List ℕ) (held : Strings) (heads : List Head) (points : List (ℕ × List ℕ)) (same : map head_point heads ≡ map pair_point points) where
+module _ (digest : List ℕ → List ℕ) (held : Strings) (heads : List Head) (points : List (ℕ × List ℕ))
+    (same : map head_point heads ≡ map pair_point points) where
   abbrev whole : List (ℕ × List ℕ)
   whole = map head_pair (filter is_complete heads)
 
@@ -109,32 +118,46 @@ module _ (digest : List ℕ → List ℕ) (held : Strings) (heads : List Head) (
       (IsStrictlySortedBy-filter (through head_pair by_point) is_complete heads
       (sorted_in head_pair by_point heads (subst (IsStrictlySortedBy by_point) (sym (same_pairs heads points same)) s)))
 
-  whole_exact : All (IsBuiltFlag digest held) heads → (p : ℕ × List ℕ) → Contains whole p ↔ (Contains points p × IsBuilt digest held p.0 p.1)
+  whole_exact : All (IsBuiltFlag digest held) heads → (p : ℕ × List ℕ) →
+      Contains whole p ↔ (Contains points p × IsBuilt digest held p.0 p.1)
   whole_exact flags p = (
     λ c.
         let s = source_of head_pair (filter is_complete heads) p c in
         let f = filter_cases is_complete heads s.0 s.1 in
         let b = (All-contains (IsBuiltFlag digest held) heads s.0 flags f.0).0 f.1 in (
-          subst (λ ps. Contains ps p) (same_pairs heads points same) (subst (Contains (map head_pair heads)) s.2 (mapped head_pair heads s.0 f.0)),
+          subst (λ ps. Contains ps p) (same_pairs heads points same)
+              (subst (Contains (map head_pair heads)) s.2 (mapped head_pair heads s.0 f.0)),
           subst (λ (q : ℕ × List ℕ). IsBuilt digest held q.0 q.1) s.2 b,
         ),
     λ w.
         let s = source_of head_pair heads p (subst (λ ps. Contains ps p) (sym (same_pairs heads points same)) w.0) in
-        let b = (All-contains (IsBuiltFlag digest held) heads s.0 flags s.1).1 (subst (λ (q : ℕ × List ℕ). IsBuilt digest held q.0 q.1) (sym s.2) w.1) in
-        subst (Contains whole) s.2 (mapped head_pair (filter is_complete heads) s.0 (into_filter is_complete heads s.0 s.1 b)),
+        let b = (All-contains (IsBuiltFlag digest held) heads s.0 flags s.1).1
+        (subst (λ (q : ℕ × List ℕ). IsBuilt digest held q.0 q.1) (sym s.2) w.1) in
+        subst (Contains whole) s.2
+        (mapped head_pair (filter is_complete heads) s.0 (into_filter is_complete heads s.0 s.1 b)),
   )
 
-  pub sorted_whole : {A E : Type 0} (items : A → List (ℕ × List ℕ)) (r : Result A E) → IsStrictlySortedBy by_point points → IfOk r (λ x. items x ≡ map head_pair (filter (λ head. head.complete) heads)) → IfOk r (λ x. IsStrictlySortedBy by_point (items x))
+  pub sorted_whole : {A E : Type 0} (items : A → List (ℕ × List ℕ)) (r : Result A E) →
+      IsStrictlySortedBy by_point points →
+      IfOk r (λ x. items x ≡ map head_pair (filter (λ head. head.complete) heads)) →
+      IfOk r (λ x. IsStrictlySortedBy by_point (items x))
   sorted_whole items (Err e) s h = h
   sorted_whole items (Ok x) s h = subst (IsStrictlySortedBy by_point) (sym h) (whole_sorted s)
 
-  pub exact_whole : {A E : Type 0} (items : A → List (ℕ × List ℕ)) (r : Result A E) → All (IsBuiltFlag digest held) heads → IfOk r (λ x. items x ≡ map head_pair (filter (λ head. head.complete) heads)) → IfOk r (λ x. (p : ℕ × List ℕ) → Contains (items x) p ↔ (Contains points p × IsBuilt digest held p.0 p.1))
+  pub exact_whole : {A E : Type 0} (items : A → List (ℕ × List ℕ)) (r : Result A E) →
+      All (IsBuiltFlag digest held) heads →
+      IfOk r (λ x. items x ≡ map head_pair (filter (λ head. head.complete) heads)) →
+      IfOk r (λ x. (p : ℕ × List ℕ) → Contains (items x) p ↔ (Contains points p × IsBuilt digest held p.0 p.1))
   exact_whole items (Err e) flags h = h
-  exact_whole items (Ok x) flags h = λ p. subst (λ ps. Contains ps p ↔ (Contains points p × IsBuilt digest held p.0 p.1)) (sym h) (whole_exact flags p)
+  exact_whole items (Ok x) flags h =
+      λ p. subst (λ ps. Contains ps p ↔ (Contains points p × IsBuilt digest held p.0 p.1)) (sym h) (whole_exact flags p)
 
 -- ---- the forks of the view
 
-module _ (digest : List ℕ → List ℕ) (origin : List ℕ) (kept : List KeptNote) (strings : Strings) (remembered : Points) (ok : IsKeptWell digest origin kept strings remembered) (points whole : List (ℕ × List ℕ)) (exact : (p : ℕ × List ℕ) → Contains points p ↔ HasKept kept (pair_point p)) (are_whole : (p : ℕ × List ℕ) → Contains whole p ↔ (Contains points p × IsBuilt digest strings p.0 p.1)) where
+module _ (digest : List ℕ → List ℕ) (origin : List ℕ) (kept : List KeptNote) (strings : Strings) (remembered : Points)
+    (ok : IsKeptWell digest origin kept strings remembered) (points whole : List (ℕ × List ℕ))
+    (exact : (p : ℕ × List ℕ) → Contains points p ↔ HasKept kept (pair_point p))
+    (are_whole : (p : ℕ × List ℕ) → Contains whole p ↔ (Contains points p × IsBuilt digest strings p.0 p.1)) where
   abbrev own : View
   own = (state_of origin kept strings remembered).view
 
@@ -154,7 +177,8 @@ module _ (digest : List ℕ → List ℕ) (origin : List ℕ) (kept : List KeptN
 
   -- what begins no longer a list is begun by it only where they are one
   not_extended : (xs ys : List (List ℕ)) → length xs ≤ length ys → (IsPrefix xs ys → ⊥) → IsPrefix ys xs → ⊥
-  not_extended xs ys short not back = not ((prefix_of_prefix xs ys xs back short).0 (record { rest = []; is = append-nil xs }))
+  not_extended xs ys short not back =
+      not ((prefix_of_prefix xs ys xs back short).0 (record { rest = []; is = append-nil xs }))
 
   abbrev Is : Fork → Type 0
   Is f = IsFork digest own (pair_point f.small) (pair_point f.large) × (by_point f.small f.large ≡ Less)
@@ -186,7 +210,9 @@ module _ (digest : List ℕ → List ℕ) (origin : List ℕ) (kept : List KeptN
             first_complete = record { head = first_held; tree = d.first_tree };
             second_complete = record { head = second_held; tree = d.second_tree };
             not_prefix = d.not_prefix;
-            not_extension = not_extended d.first d.second (omega (arith, d.first_tree.size_is, d.second_tree.size_is, short)) d.not_prefix;
+            not_extension =
+                not_extended d.first d.second
+                (omega (arith, d.first_tree.size_is, d.second_tree.size_is, short)) d.not_prefix;
           });
         },
         w.0.order,
@@ -195,22 +221,37 @@ module _ (digest : List ℕ → List ℕ) (origin : List ℕ) (kept : List KeptN
   is_found : (f : Fork) → Is f → IsTwin points f ⊎ IsDeparture digest strings whole f
   is_found f (i, less) = at i.conflict
     where
-      at : (f.small.0 ≡ f.large.0) ⊎ Disagree digest own (pair_point f.small) (pair_point f.large) → IsTwin points f ⊎ IsDeparture digest strings whole f
-      at (inl same) = inl (record { small = listed f.small i.first_held; large = listed f.large i.second_held; order = less }, same)
+      at : (f.small.0 ≡ f.large.0) ⊎ Disagree digest own (pair_point f.small) (pair_point f.large) →
+          IsTwin points f ⊎ IsDeparture digest strings whole f
+      at (inl same) =
+          inl (record { small = listed f.small i.first_held; large = listed f.large i.second_held; order = less }, same)
       at (inr d) = inr (
         record {
-          small = (are_whole f.small).1 (listed f.small i.first_held, record { entries = d.first; is = d.first_complete.tree });
-          large = (are_whole f.large).1 (listed f.large i.second_held, record { entries = d.second; is = d.second_complete.tree });
+          small = (are_whole f.small).1
+              (listed f.small i.first_held, record { entries = d.first; is = d.first_complete.tree });
+          large = (are_whole f.large).1
+              (listed f.large i.second_held, record { entries = d.second; is = d.second_complete.tree });
           order = less;
         },
-        record { first = d.first; second = d.second; first_tree = d.first_complete.tree; second_tree = d.second_complete.tree; not_prefix = d.not_prefix },
+        record {
+          first =
+              d.first;
+          second =
+              d.second;
+          first_tree =
+              d.first_complete.tree;
+          second_tree = d.second_complete.tree;
+          not_prefix = d.not_prefix;
+        },
       )
 
   abbrev from_pair : PointPair → Fork
   from_pair pair = record { small = (pair.small.size, pair.small.root); large = (pair.large.size, pair.large.root) }
 
   module _ (old : State) (old_is : state_of origin kept strings remembered ≡ old) where
-    lists : (forks : List Fork) → IsStrictlySortedBy pair_cmp (map fork_pair forks) → ((f : Fork) → Contains forks f ↔ (IsTwin points f ⊎ IsDeparture digest strings whole f)) → ReportsForks digest old.view forks
+    lists : (forks : List Fork) → IsStrictlySortedBy pair_cmp (map fork_pair forks) →
+        ((f : Fork) → Contains forks f ↔ (IsTwin points f ⊎ IsDeparture digest strings whole f)) →
+        ReportsForks digest old.view forks
     lists forks sorted found = subst (λ (o : State). ReportsForks digest o.view forks) old_is (record {
       sorted = sorted;
       exact = λ pair. (
@@ -222,6 +263,9 @@ module _ (digest : List ℕ → List ℕ) (origin : List ℕ) (kept : List KeptN
       );
     })
 
-    pub reports_forks : {A E : Type 0} (items : A → List Fork) (r : Result A E) → IfOk r (λ x. IsStrictlySortedBy pair_cmp (map fork_pair (items x))) → IfOk r (λ x. (f : Fork) → Contains (items x) f ↔ (IsTwin points f ⊎ IsDeparture digest strings whole f)) → IfOk r (λ x. ReportsForks digest old.view (items x))
+    pub reports_forks : {A E : Type 0} (items : A → List Fork) (r : Result A E) →
+        IfOk r (λ x. IsStrictlySortedBy pair_cmp (map fork_pair (items x))) →
+        IfOk r (λ x. (f : Fork) → Contains (items x) f ↔ (IsTwin points f ⊎ IsDeparture digest strings whole f)) →
+        IfOk r (λ x. ReportsForks digest old.view (items x))
     reports_forks items (Err e) s h = h
     reports_forks items (Ok x) s h = lists (items x) s h

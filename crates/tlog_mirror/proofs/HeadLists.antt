@@ -1,5 +1,6 @@
 -- The list of the heads that are held, in order.
-use Rattle.std.proofs.Common.{◌≡◌, ℕ, zero, suc, ◌<◌, List, [], ◌∷◌, ◌++◌, length, map, get_or, Bool, true, false, sym, refl, ap, subst, ◌∙◌, arith, nat_eq}
+use Rattle.std.proofs.Common.{◌≡◌, ℕ, zero, suc, ◌<◌, List, [], ◌∷◌, ◌++◌, length, map, get_or, Bool, true, false, sym}
+use Rattle.std.proofs.Common.{refl, ap, subst, ◌∙◌, arith, nat_eq}
 use Rattle.std.specs.Prelude.{IsTrue, All, ◌↔◌, ◌&&◌, Result, Ok, Err, IfOk}
 use Rattle.std.specs.Ordering.{nat_cmp, eq_by_cmp, is_eq, on}
 use Rattle.std.specs.declared.cmp.Ordering.{Ordering}
@@ -9,7 +10,8 @@ use Rattle.std.specs.Cmp.Lexicographic.{slice_cmp, pointwise, lists_ties}
 use Rattle.std.specs.List.{Contains, AllByRecursion}
 use Rattle.std.specs.List.Sorted.{IsStrictlySortedBy}
 use Rattle.std.proofs.lemmas.List.{get_or-map, length-map}
-use Rattle.std.proofs.lemmas.List.Elements.{All-contains, All-from_recursion, All-contains_itself, All-from_get_or, All-get_or, Contains-get_or}
+use Rattle.std.proofs.lemmas.List.Elements.{All-contains, All-from_recursion, All-contains_itself, All-from_get_or}
+use Rattle.std.proofs.lemmas.List.Elements.{All-get_or, Contains-get_or}
 use Rattle.node_store.specs.Strings.{Strings}
 use Rattle.mirror_model.specs.View.{View}
 use Rattle.mirror_model.specs.Heads.{HasHead}
@@ -30,7 +32,9 @@ pub pairs_total : IsTotalOrder by_point
 pairs_total = on_total pair_point point_total
 
 pub pairs_tie : (a b : ℕ × List ℕ) → same_key a b ≡ eq_by_cmp by_point a b
-pairs_tie a b = both_tied (nat_eq a.0 b.0) (pointwise nat_eq a.1 b.1) (nat_cmp a.0 b.0) (slice_cmp nat_cmp a.1 b.1) (unsigned_ties a.0 b.0) (lists_ties nat_cmp unsigned_ties a.1 b.1)
+pairs_tie a b =
+    both_tied (nat_eq a.0 b.0) (pointwise nat_eq a.1 b.1) (nat_cmp a.0 b.0) (slice_cmp nat_cmp a.1 b.1)
+    (unsigned_ties a.0 b.0) (lists_ties nat_cmp unsigned_ties a.1 b.1)
 
 pub pairs_equivalence : IsEquivalence same_key
 pairs_equivalence = subst IsEquivalence (λ i a b. sym (pairs_tie a b) i) (eq_by_cmp_equiv pairs_total)
@@ -60,11 +64,13 @@ module _ {X Y : Type 0} (f : X → Y) (cmp : Y → Y → Ordering) where
   abbrev pub through : X → X → Ordering
   through a b = cmp (f a) (f b)
 
-  all_out : (x : X) (xs : List X) → AllByRecursion (λ y. through x y ≡ Less) xs → AllByRecursion (λ y. cmp (f x) y ≡ Less) (map f xs)
+  all_out : (x : X) (xs : List X) → AllByRecursion (λ y. through x y ≡ Less) xs →
+      AllByRecursion (λ y. cmp (f x) y ≡ Less) (map f xs)
   all_out x [] h = tt
   all_out x (y ∷ xs) h = (h.0, all_out x xs h.1)
 
-  all_in : (x : X) (xs : List X) → AllByRecursion (λ y. cmp (f x) y ≡ Less) (map f xs) → AllByRecursion (λ y. through x y ≡ Less) xs
+  all_in : (x : X) (xs : List X) → AllByRecursion (λ y. cmp (f x) y ≡ Less) (map f xs) →
+      AllByRecursion (λ y. through x y ≡ Less) xs
   all_in x [] h = tt
   all_in x (y ∷ xs) h = (h.0, all_in x xs h.1)
 
@@ -79,20 +85,28 @@ module _ {X Y : Type 0} (f : X → Y) (cmp : Y → Y → Ordering) where
   sorted_in (x ∷ xs) s = (all_in x xs s.0, sorted_in xs s.1)
 
 -- the sizes and roots of the notes that are kept
-pub kept_points : (kept : List KeptNote) (p : ℕ × List ℕ) → Contains (map (λ (one : KeptNote). (one.size, one.root)) kept) p ↔ HasKept kept (pair_point p)
+pub kept_points : (kept : List KeptNote) (p : ℕ × List ℕ) →
+    Contains (map (λ (one : KeptNote). (one.size, one.root)) kept) p ↔ HasKept kept (pair_point p)
 kept_points kept p = (
-  λ c. let s = source_of (λ (one : KeptNote). (one.size, one.root)) kept p c in record { one = s.0; is_kept = s.1; is = ap pair_point s.2 },
+  λ c. let s =
+      source_of (λ (one : KeptNote). (one.size, one.root)) kept p c in record
+      { one = s.0; is_kept = s.1; is = ap pair_point s.2 },
   λ h.
       let pair : ℕ × List ℕ = (h.one.size, h.one.root) in
       let s : h.one.size ≡ p.0 = ap (λ (q : Point). q.size) h.is in
       let r : h.one.root ≡ p.1 = ap (λ (q : Point). q.root) h.is in
       let same : pair ≡ p = λ i. (s i, r i) in
-      subst (Contains (map (λ (one : KeptNote). (one.size, one.root)) kept)) same (mapped (λ (one : KeptNote). (one.size, one.root)) kept h.one h.is_kept),
+      subst (Contains (map (λ (one : KeptNote). (one.size, one.root)) kept)) same
+      (mapped (λ (one : KeptNote). (one.size, one.root)) kept h.one h.is_kept),
 )
 
 -- ---- the heads
 
-module _ (digest : List ℕ → List ℕ) (origin : List ℕ) (kept : List KeptNote) (strings : Strings) (remembered : Points) (ok : IsKeptWell digest origin kept strings remembered) (old : State) (old_is : state_of origin kept strings remembered ≡ old) (points : List (ℕ × List ℕ)) (sorted : IsStrictlySortedBy by_point points) (exact : (p : ℕ × List ℕ) → Contains points p ↔ HasKept kept (pair_point p)) where
+module _ (digest : List ℕ → List ℕ) (origin : List ℕ) (kept : List KeptNote) (strings : Strings) (remembered : Points)
+    (ok : IsKeptWell digest origin kept strings remembered) (old : State)
+    (old_is : state_of origin kept strings remembered ≡ old) (points : List (ℕ × List ℕ))
+    (sorted : IsStrictlySortedBy by_point points)
+    (exact : (p : ℕ × List ℕ) → Contains points p ↔ HasKept kept (pair_point p)) where
   abbrev own : View
   own = (state_of origin kept strings remembered).view
 
@@ -107,21 +121,29 @@ module _ (digest : List ℕ → List ℕ) (origin : List ℕ) (kept : List KeptN
       let k = kept_head digest origin kept strings remembered ok point.size point.root h in
       mapped pair_point points (point.size, point.root) ((exact (point.size, point.root)).1 k)
 
-  reports : (heads : List Head) → map head_point heads ≡ map pair_point points → All (IsBuiltFlag digest strings) heads → ReportsHeads digest old.view heads
+  reports : (heads : List Head) → map head_point heads ≡ map pair_point points →
+      All (IsBuiltFlag digest strings) heads → ReportsHeads digest old.view heads
   reports heads same flags = record {
     lists = record {
       sorted = subst (IsStrictlySortedBy point_cmp) (sym same) (sorted_out pair_point point_cmp points sorted);
       exact = λ point. (
-        λ c. subst (λ (o : State). HasHead o.view point.size point.root) old_is (head_listed point (subst (λ xs. Contains xs point) same c)),
-        λ h. subst (λ xs. Contains xs point) (sym same) (listed_head point (subst (λ (o : State). HasHead o.view point.size point.root) (sym old_is) h)),
+        λ c. subst (λ (o : State). HasHead o.view point.size point.root) old_is
+            (head_listed point (subst (λ xs. Contains xs point) same c)),
+        λ h. subst (λ xs. Contains xs point) (sym same)
+            (listed_head point (subst (λ (o : State). HasHead o.view point.size point.root) (sym old_is) h)),
       );
     };
     flags = λ k d lt.
         let head = get_or heads k d in
         let c = mapped head_point heads head (Contains-get_or heads k d lt) in
-        with_head digest origin kept strings remembered ok old old_is head.size head.root head.complete (head_listed (head_point head) (subst (λ xs. Contains xs (head_point head)) same c)) (All-get_or (IsBuiltFlag digest strings) heads k d lt flags);
+        with_head digest origin kept strings remembered ok old old_is head.size head.root head.complete
+        (head_listed (head_point head) (subst (λ xs. Contains xs (head_point head)) same c))
+        (All-get_or (IsBuiltFlag digest strings) heads k d lt flags);
   }
 
-  pub reported : {A E : Type 0} (items : A → List Head) (r : Result A E) → IfOk r (λ heads. map head_point (items heads) ≡ map pair_point points) → IfOk r (λ heads. All (IsBuiltFlag digest strings) (items heads)) → IfOk r (λ heads. ReportsHeads digest old.view (items heads))
+  pub reported : {A E : Type 0} (items : A → List Head) (r : Result A E) →
+      IfOk r (λ heads. map head_point (items heads) ≡ map pair_point points) →
+      IfOk r (λ heads. All (IsBuiltFlag digest strings) (items heads)) →
+      IfOk r (λ heads. ReportsHeads digest old.view (items heads))
   reported items (Err e) p q = p
   reported items (Ok heads) p q = reports (items heads) p q

@@ -1,9 +1,11 @@
 -- Kept notes, which rise by their bytes: where a note is among them, and what one more changes.
-use Rattle.std.proofs.Common.{◌≡◌, ℕ, zero, suc, ◌+◌, ◌-◌, ◌<◌, ◌≤◌, Bool, true, false, List, [], ◌∷◌, ◌++◌, length, map, get_or, Result, Ok, Err, All, ◌⊎◌, inl, inr, refl, sym, ap, subst, ◌∙◌, arith}
+use Rattle.std.proofs.Common.{◌≡◌, ℕ, zero, suc, ◌+◌, ◌-◌, ◌<◌, ◌≤◌, Bool, true, false, List, [], ◌∷◌, ◌++◌, length}
+use Rattle.std.proofs.Common.{map, get_or, Result, Ok, Err, All, ◌⊎◌, inl, inr, refl, sym, ap, subst, ◌∙◌, arith}
 use Rattle.std.specs.FinSet as set
 use Rattle.std.specs.FinSet.{slice_cmp-IsAntisymmetric, nat_cmp-IsAntisymmetric}
 use Rattle.std.specs.List.{insert, Contains}
-use Rattle.std.specs.List.Sorted.{IsStrictlySortedBy, IsSortedBy, IsBinarySearchResult, IsNonDecreasingBy, IsPermutation}
+use Rattle.std.specs.List.Sorted.{IsStrictlySortedBy, IsSortedBy, IsBinarySearchResult, IsNonDecreasingBy}
+use Rattle.std.specs.List.Sorted.{IsPermutation}
 use Rattle.std.specs.Ordering.{nat_cmp, is_lt, ordering_index, ordering_reverse}
 use Rattle.std.specs.declared.cmp.Ordering.{Ordering}
 use Rattle.std.specs.declared.cmp.Ordering.TheVariants.{Less, Equal, Greater}
@@ -13,15 +15,18 @@ use Rattle.std.proofs.lemmas.Bool.{cases_lt}
 use Rattle.std.proofs.lemmas.List.{length-map}
 use Rattle.std.proofs.lemmas.List as lists
 use Rattle.std.proofs.lemmas.List.Edits.{length-insert, get_or-insert_below, get_or-insert_at, get_or-insert_above}
-use Rattle.std.proofs.lemmas.List.Elements.{All-nil, All-cons, All-contains, Contains-append_cases, Contains-append_left, Contains-append_right}
-use Rattle.std.proofs.lemmas.List.Sorted.{searchable_from_sorted, IsPermutation-insert, IsPermutation-map, IsPermutation-sym, Contains-permutation, All-permutation}
+use Rattle.std.proofs.lemmas.List.Elements.{All-nil, All-cons, All-contains, Contains-append_cases}
+use Rattle.std.proofs.lemmas.List.Elements.{Contains-append_left, Contains-append_right}
+use Rattle.std.proofs.lemmas.List.Sorted.{searchable_from_sorted, IsPermutation-insert, IsPermutation-map}
+use Rattle.std.proofs.lemmas.List.Sorted.{IsPermutation-sym, Contains-permutation, All-permutation}
 use Rattle.std.proofs.lemmas.Map.Keys.{Less-from_sorted, sorted_from_all_adjacent}
 use Rattle.node_store.specs.Strings.{Strings, Has}
 use Rattle.mirror_model.specs.View.{View, IsSubview}
 use Rattle.mirror_model.specs.Complete.{HasEdge}
 use Rattle.mirror_model.specs.Heads.{IsHead}
 use Rattle.mirror_model.specs.Marks.{Points}
-use Rattle.mirror_model.proofs.StringSets.{has_left, has_right, has_cases, same_strings, listed_from_has, has_from_listed}
+use Rattle.mirror_model.proofs.StringSets.{has_left, has_right, has_cases, same_strings, listed_from_has}
+use Rattle.mirror_model.proofs.StringSets.{has_from_listed}
 use Rattle.mirror_model.proofs.Views.{edge_stays, marks_stay}
 use Rattle.tlog_mirror.specs.Adding.{with_note}
 use Rattle.tlog_mirror.specs.Kept.{state_of, note_bytes, IsKeptWell}
@@ -36,19 +41,24 @@ is_lt_after : (a b : List ℕ) → by_bytes a b ≡ Less → is_lt (by_bytes b a
 is_lt_after a b e = ap is_lt (nat_list_cmp_total.antisymm b a) ∙ ap (λ o. is_lt (ordering_reverse o)) e
 
 module _ (kept : List KeptNote) (rising : IsStrictlySortedBy by_bytes (map note_bytes kept)) where
-  less_at : (d : KeptNote) (i j : ℕ) → i < j → j < length kept → by_bytes (note_bytes (get_or kept i d)) (note_bytes (get_or kept j d)) ≡ Less
+  less_at : (d : KeptNote) (i j : ℕ) → i < j → j < length kept →
+      by_bytes (note_bytes (get_or kept i d)) (note_bytes (get_or kept j d)) ≡ Less
   less_at d i j lt in_range =
       sym (λ t. by_bytes (get_or-map note_bytes kept i d t) (get_or-map note_bytes kept j d t))
-      ∙ Less-from_sorted by_bytes (map note_bytes kept) i j (note_bytes d) rising lt (omega (arith, length-map kept note_bytes, in_range))
+      ∙ Less-from_sorted by_bytes (map note_bytes kept) i j (note_bytes d) rising lt
+      (omega (arith, length-map kept note_bytes, in_range))
 
   rises : IsSortedBy (λ a b. is_lt (by_bytes (note_bytes a) (note_bytes b))) kept
-  rises k d low high = is_lt_after (note_bytes (get_or kept k d)) (note_bytes (get_or kept (k + 1) d)) (less_at d k (k + 1) (omega arith) high)
+  rises k d low high =
+      is_lt_after (note_bytes (get_or kept k d)) (note_bytes (get_or kept (k + 1) d))
+      (less_at d k (k + 1) (omega arith) high)
 
   comparisons_rise : (bytes : List ℕ) → IsNonDecreasingBy (λ k. ordering_index (by_bytes (note_bytes k) bytes)) kept
   comparisons_rise bytes = searchable_from_sorted nat_list_cmp_total note_bytes kept bytes rises
 
   -- a note that is not found goes between the lesser and the greater
-  module _ (k : KeptNote) (at : ℕ) (within : at ≤ length kept) (gap : IsBinarySearchResult (λ x. by_bytes (note_bytes x) (note_bytes k)) kept (Err at)) where
+  module _ (k : KeptNote) (at : ℕ) (within : at ≤ length kept)
+      (gap : IsBinarySearchResult (λ x. by_bytes (note_bytes x) (note_bytes k)) kept (Err at)) where
     below : (j : ℕ) → j < at → by_bytes (note_bytes (get_or kept j k)) (note_bytes k) ≡ Less
     below j lt = (gap (comparisons_rise (note_bytes k))).0 j k (omega arith) lt
 
@@ -60,26 +70,34 @@ module _ (kept : List KeptNote) (rising : IsStrictlySortedBy by_bytes (map note_
     abbrev new : List KeptNote
     new = insert kept at k
 
-    rises_at : (j : ℕ) → j + 1 < length new → by_bytes (note_bytes (get_or new j k)) (note_bytes (get_or new (j + 1) k)) ≡ Less
+    rises_at : (j : ℕ) → j + 1 < length new →
+        by_bytes (note_bytes (get_or new j k)) (note_bytes (get_or new (j + 1) k)) ≡ Less
     rises_at j lt =
         let len : length new ≡ length kept + 1 = length-insert kept at k within in
         elim (cases_lt (j + 1) at) [
           | inl a ↦
-              (λ t. by_bytes (note_bytes (get_or-insert_below kept at k k j (omega arith) within t)) (note_bytes (get_or-insert_below kept at k k (j + 1) a within t)))
+              (λ t. by_bytes (note_bytes (get_or-insert_below kept at k k j (omega arith) within t))
+              (note_bytes (get_or-insert_below kept at k k (j + 1) a within t)))
               ∙ less_at k j (j + 1) (omega arith) (omega arith)
           | inr b ↦ elim (cases_lt j at) [
             | inl a ↦
                 let here : j + 1 ≡ at = omega arith in
-                (λ t. by_bytes (note_bytes (get_or-insert_below kept at k k j a within t)) (note_bytes ((ap (λ n. get_or new n k) here ∙ get_or-insert_at kept at k k within) t)))
+                (λ t. by_bytes (note_bytes (get_or-insert_below kept at k k j a within t))
+                (note_bytes ((ap (λ n. get_or new n k) here ∙ get_or-insert_at kept at k k within) t)))
                 ∙ below j a
             | inr c ↦ elim (cases_lt at j) [
               | inl a ↦
                   let before : j ≡ j - 1 + 1 = omega arith in
-                  (λ t. by_bytes (note_bytes ((ap (λ n. get_or new n k) before ∙ get_or-insert_above kept at k k (j - 1) (omega arith) within) t)) (note_bytes (get_or-insert_above kept at k k j c within t)))
+                  (λ t. by_bytes
+                  (note_bytes
+                  ((ap (λ n. get_or new n k) before ∙
+                  get_or-insert_above kept at k k (j - 1) (omega arith) within) t))
+                  (note_bytes (get_or-insert_above kept at k k j c within t)))
                   ∙ less_at k (j - 1) j (omega arith) (omega arith)
               | inr a ↦
                   let here : j ≡ at = omega arith in
-                  (λ t. by_bytes (note_bytes ((ap (λ n. get_or new n k) here ∙ get_or-insert_at kept at k k within) t)) (note_bytes (get_or-insert_above kept at k k j c within t)))
+                  (λ t. by_bytes (note_bytes ((ap (λ n. get_or new n k) here ∙ get_or-insert_at kept at k k within) t))
+                  (note_bytes (get_or-insert_above kept at k k j c within t)))
                   ∙ above j c (omega arith)
             ]
           ]
@@ -87,7 +105,8 @@ module _ (kept : List KeptNote) (rising : IsStrictlySortedBy by_bytes (map note_
 
     pub inserted_rises : IsStrictlySortedBy by_bytes (map note_bytes new)
     inserted_rises = sorted_from_all_adjacent nat_list_cmp_total (map note_bytes new) (note_bytes k)
-        (λ j lt. (λ t. by_bytes (get_or-map note_bytes new j k t) (get_or-map note_bytes new (j + 1) k t)) ∙ rises_at j (omega (arith, length-map new note_bytes, lt)))
+        (λ j lt. (λ t. by_bytes (get_or-map note_bytes new j k t) (get_or-map note_bytes new (j + 1) k t)) ∙
+        rises_at j (omega (arith, length-map new note_bytes, lt)))
 
 -- a note that is found is kept
 pub found_is_kept :
@@ -113,27 +132,44 @@ module _ (kept : List KeptNote) (at : ℕ) (k : KeptNote) where
 
   pub notes_inserted : notes_of (insert kept at k) ≡ set.union (notes_of kept) (set.from_list (note_bytes k ∷ []))
   notes_inserted = same_strings _ _
-      (λ q h. elim (Contains-append_cases (note_bytes k ∷ []) (map note_bytes kept) q (Contains-permutation (map note_bytes (insert kept at k)) (map note_bytes (k ∷ kept)) q (IsPermutation-sym _ _ same_notes) (listed_from_has (map note_bytes (insert kept at k)) q h))) [
-        | inl a ↦ has_right (set.from_list (map note_bytes kept)) (set.from_list (note_bytes k ∷ [])) q (has_from_listed (note_bytes k ∷ []) q a)
-        | inr b ↦ has_left (set.from_list (map note_bytes kept)) (set.from_list (note_bytes k ∷ [])) q (has_from_listed (map note_bytes kept) q b)
+      (λ q h. elim
+      (Contains-append_cases (note_bytes k ∷ []) (map note_bytes kept) q
+      (Contains-permutation (map note_bytes (insert kept at k)) (map note_bytes (k ∷ kept)) q
+      (IsPermutation-sym _ _ same_notes) (listed_from_has (map note_bytes (insert kept at k)) q h))) [
+        | inl a ↦ has_right (set.from_list (map note_bytes kept)) (set.from_list (note_bytes k ∷ [])) q
+            (has_from_listed (note_bytes k ∷ []) q a)
+        | inr b ↦ has_left (set.from_list (map note_bytes kept)) (set.from_list (note_bytes k ∷ [])) q
+            (has_from_listed (map note_bytes kept) q b)
       ])
-      (λ q h. has_from_listed (map note_bytes (insert kept at k)) q (Contains-permutation (map note_bytes (k ∷ kept)) (map note_bytes (insert kept at k)) q same_notes
+      (λ q h. has_from_listed (map note_bytes (insert kept at k)) q
+      (Contains-permutation (map note_bytes (k ∷ kept)) (map note_bytes (insert kept at k)) q same_notes
       (elim (has_cases (set.from_list (map note_bytes kept)) (set.from_list (note_bytes k ∷ [])) q h) [
-        | inl a ↦ Contains-append_right (note_bytes k ∷ []) (map note_bytes kept) q (listed_from_has (map note_bytes kept) q a)
-        | inr b ↦ Contains-append_left (note_bytes k ∷ []) (map note_bytes kept) q (listed_from_has (note_bytes k ∷ []) q b)
+        | inl a ↦ Contains-append_right (note_bytes k ∷ []) (map note_bytes kept) q
+            (listed_from_has (map note_bytes kept) q a)
+        | inr b ↦ Contains-append_left (note_bytes k ∷ []) (map note_bytes kept) q
+            (listed_from_has (note_bytes k ∷ []) q b)
       ])))
 
 -- the one note of a list is that note
 only_note : (note q : List ℕ) → Has (set.from_list (note ∷ [])) q → q ≡ note
-only_note note q h = All-contains (λ y. y ≡ note) (note ∷ []) q (All-cons (λ y. y ≡ note) note [] refl (All-nil (λ y. y ≡ note))) (listed_from_has (note ∷ []) q h)
+only_note note q h =
+    All-contains (λ y. y ≡ note) (note ∷ []) q (All-cons (λ y. y ≡ note) note [] refl (All-nil (λ y. y ≡ note)))
+    (listed_from_has (note ∷ []) q h)
 
 -- a note that is kept changes nothing
-pub kept_already : (notes : Strings) (note : List ℕ) → Has notes note → notes ≡ set.union notes (set.from_list (note ∷ []))
+pub kept_already : (notes : Strings) (note : List ℕ) → Has notes note →
+    notes ≡ set.union notes (set.from_list (note ∷ []))
 kept_already notes note held = same_strings _ _
     (λ q h. has_left notes (set.from_list (note ∷ [])) q h)
-    (λ q h. elim (has_cases notes (set.from_list (note ∷ [])) q h) [ inl a ↦ a | inr b ↦ subst (Has notes) (sym (only_note note q b)) held ])
+    (λ q h. elim
+    (has_cases notes (set.from_list (note ∷ [])) q h) [
+      | inl a ↦ a
+      | inr b ↦ subst (Has notes)
+          (sym (only_note note q b)) held
+    ])
 
-module _ (digest : List ℕ → List ℕ) (origin : List ℕ) (kept : List KeptNote) (strings : Strings) (remembered : Points) (ok : IsKeptWell digest origin kept strings remembered) (k : KeptNote) (at : ℕ) where
+module _ (digest : List ℕ → List ℕ) (origin : List ℕ) (kept : List KeptNote) (strings : Strings) (remembered : Points)
+    (ok : IsKeptWell digest origin kept strings remembered) (k : KeptNote) (at : ℕ) where
   abbrev before : View
   before = (state_of origin kept strings remembered).view
 
@@ -143,7 +179,9 @@ module _ (digest : List ℕ → List ℕ) (origin : List ℕ) (kept : List KeptN
   more_notes : IsSubview before after
   more_notes = record {
     origin_is = refl;
-    notes_are = λ note h. subst (λ s. Has s note) (sym (notes_inserted kept at k)) (has_left before.notes (set.from_list (note_bytes k ∷ [])) note h);
+    notes_are =
+        λ note h. subst (λ s. Has s note) (sym (notes_inserted kept at k))
+        (has_left before.notes (set.from_list (note_bytes k ∷ [])) note h);
     strings_are = λ s h. h;
   }
 
@@ -159,7 +197,8 @@ module _ (digest : List ℕ → List ℕ) (origin : List ℕ) (kept : List KeptN
         are_strings = ok.sound.lawful.are_strings;
         leaves_short = ok.sound.lawful.leaves_short;
         edges = λ note h. edge_stays digest before after more_notes note
-            (elim (has_cases before.notes (set.from_list (note_bytes k ∷ [])) note (subst (λ s. Has s note) (notes_inserted kept at k) h)) [
+            (elim (has_cases before.notes (set.from_list (note_bytes k ∷ [])) note
+            (subst (λ s. Has s note) (notes_inserted kept at k) h)) [
               | inl a ↦ ok.sound.lawful.edges note a
               | inr b ↦ subst (HasEdge digest before) (sym (only_note (note_bytes k) note b)) edge
             ]);
@@ -168,7 +207,8 @@ module _ (digest : List ℕ → List ℕ) (origin : List ℕ) (kept : List KeptN
     };
     settled = ok.settled;
     rising = inserted_rises kept ok.rising k at within gap;
-    said = All-permutation (λ (x : KeptNote). IsHead (note_bytes x) origin x.size x.root) (k ∷ kept) (insert kept at k) (IsPermutation-insert kept at k)
+    said = All-permutation (λ (x : KeptNote). IsHead (note_bytes x) origin x.size x.root) (k ∷ kept) (insert kept at k)
+        (IsPermutation-insert kept at k)
         (All-cons (λ (x : KeptNote). IsHead (note_bytes x) origin x.size x.root) k kept said ok.said);
   }
 

@@ -1,5 +1,6 @@
 -- What a merge makes of a view: all strings of the other, and then its notes, one by one.
-use Rattle.std.proofs.Common.{◌≡◌, ℕ, ◌+◌, ◌<◌, List, [], ◌∷◌, ◌++◌, length, map, take, drop, get_or, All, inl, inr, refl, sym, ap, subst, ◌∙◌, arith}
+use Rattle.std.proofs.Common.{◌≡◌, ℕ, ◌+◌, ◌<◌, List, [], ◌∷◌, ◌++◌, length, map, take, drop, get_or, All, inl, inr}
+use Rattle.std.proofs.Common.{refl, sym, ap, subst, ◌∙◌, arith}
 use Rattle.std.specs.FinSet as set
 use Rattle.std.specs.List.{Contains}
 use Rattle.std.proofs.lemmas.List.{map-append, take_more, take_all, take-append-drop, get_or-map, length-map}
@@ -42,16 +43,23 @@ edge_moves digest v w note same more e = record {
 pub noted_none : (v : View) (kept : List KeptNote) → v ≡ with_notes v (first_notes 0 kept)
 noted_none v kept i = record { origin = v.origin; notes = added_none v.notes i; strings = v.strings }
 
-module _ (v : View) (kept : List KeptNote) (i : ℕ) (k : KeptNote) (lt : i < length kept) (at : k ≡ get_or kept i k) where
+module _ (v : View) (kept : List KeptNote) (i : ℕ) (k : KeptNote) (lt : i < length kept)
+    (at : k ≡ get_or kept i k) where
   -- one note more
   pub noted_more :
       (between new : View) → between ≡ with_notes v (first_notes i kept) → new ≡ with_note between (note_bytes k) →
       new ≡ with_notes v (first_notes (i + 1) kept)
   noted_more between new before is =
       let more : first_notes (i + 1) kept ≡ first_notes i kept ++ note_bytes k ∷ [] =
-      ap (map note_bytes) (take_more kept i k lt) ∙ map-append note_bytes (take i kept) (get_or kept i k ∷ []) ∙ ap (λ (x : KeptNote). first_notes i kept ++ note_bytes x ∷ []) (sym at) in
+      ap (map note_bytes) (take_more kept i k lt) ∙ map-append note_bytes (take i kept) (get_or kept i k ∷ []) ∙
+      ap (λ (x : KeptNote). first_notes i kept ++ note_bytes x ∷ []) (sym at) in
       is ∙ ap (λ w. with_note w (note_bytes k)) before
-      ∙ (λ t. record { origin = v.origin; notes = added_both v.notes (first_notes i kept) (note_bytes k ∷ []) t; strings = v.strings })
+      ∙ (λ t. record {
+        origin =
+            v.origin;
+        notes = added_both v.notes (first_notes i kept) (note_bytes k ∷ []) t;
+        strings = v.strings;
+      })
       ∙ ap (with_notes v) (sym more)
 
   is_listed : Contains kept k
@@ -59,22 +67,30 @@ module _ (v : View) (kept : List KeptNote) (i : ℕ) (k : KeptNote) (lt : i < le
 
   -- it is a head, and its edge is held
   module _ (between : View) (before : between ≡ with_notes v (first_notes i kept)) where
-    pub note_said : All (λ x. IsHead (note_bytes x) v.origin x.size x.root) kept → IsHead (note_bytes k) between.origin k.size k.root
-    note_said said = subst (λ (w : View). IsHead (note_bytes k) w.origin k.size k.root) (sym before) (All-contains (λ (x : KeptNote). IsHead (note_bytes x) v.origin x.size x.root) kept k said is_listed)
+    pub note_said : All (λ x. IsHead (note_bytes x) v.origin x.size x.root) kept →
+        IsHead (note_bytes k) between.origin k.size k.root
+    note_said said =
+        subst (λ (w : View). IsHead (note_bytes k) w.origin k.size k.root) (sym before)
+        (All-contains (λ (x : KeptNote). IsHead (note_bytes x) v.origin x.size x.root) kept k said is_listed)
 
-    pub note_edge : (digest : List ℕ → List ℕ) → All (λ x. HasEdge digest v (note_bytes x)) kept → HasEdge digest between (note_bytes k)
+    pub note_edge : (digest : List ℕ → List ℕ) → All (λ x. HasEdge digest v (note_bytes x)) kept →
+        HasEdge digest between (note_bytes k)
     note_edge digest edges =
         subst (λ (w : View). HasEdge digest w (note_bytes k)) (sym before)
         (edge_moves digest v (with_notes v (first_notes i kept)) (note_bytes k) refl (λ q h. h)
         (All-contains (λ (x : KeptNote). HasEdge digest v (note_bytes x)) kept k edges is_listed))
 
 -- all notes are there
-pub noted_all : (v new : View) (kept : List KeptNote) (i : ℕ) → i ≡ length kept → new ≡ with_notes v (first_notes i kept) → new ≡ with_notes v (map note_bytes kept)
-noted_all v new kept i all is = is ∙ ap (λ xs. with_notes v (map note_bytes xs)) (ap (λ n. take n kept) all ∙ take_all (length kept) kept (omega arith))
+pub noted_all : (v new : View) (kept : List KeptNote) (i : ℕ) → i ≡ length kept →
+    new ≡ with_notes v (first_notes i kept) → new ≡ with_notes v (map note_bytes kept)
+noted_all v new kept i all is =
+    is ∙ ap (λ xs. with_notes v (map note_bytes xs))
+    (ap (λ n. take n kept) all ∙ take_all (length kept) kept (omega arith))
 
 -- ---- the merge
 
-module _ (digest : List ℕ → List ℕ) (old : View) (origin : List ℕ) (kept : List KeptNote) (strings : Strings) (remembered : Points) where
+module _ (digest : List ℕ → List ℕ) (old : View) (origin : List ℕ) (kept : List KeptNote) (strings : Strings)
+    (remembered : Points) where
   abbrev other : View
   other = (state_of origin kept strings remembered).view
 
@@ -85,11 +101,14 @@ module _ (digest : List ℕ → List ℕ) (old : View) (origin : List ℕ) (kept
       All (λ k. HasEdge digest between (note_bytes k)) notes
   others_edges ok same between is notes all =
       subst (λ (v : View). All (λ (k : KeptNote). HasEdge digest v (note_bytes k)) notes) (sym is)
-      (subst (λ (xs : List KeptNote). All (λ (k : KeptNote). HasEdge digest (with_strings old strings) (note_bytes k)) xs) (sym all)
+      (subst (λ (xs : List KeptNote). All
+      (λ (k : KeptNote). HasEdge digest (with_strings old strings) (note_bytes k)) xs) (sym all)
       (λ i k lt.
       let note = note_bytes (get_or kept i k) in
       edge_moves digest other (with_strings old strings) note (sym same) (λ q h. has_right old.strings strings q h)
-      (ok.sound.lawful.edges note (has_from_listed (map note_bytes kept) note (i, omega (arith, length-map kept note_bytes, lt), get_or-map note_bytes kept i k note lt)))))
+      (ok.sound.lawful.edges note
+      (has_from_listed (map note_bytes kept) note
+      (i, omega (arith, length-map kept note_bytes, lt), get_or-map note_bytes kept i k note lt)))))
 
   -- want of memory among the notes
   pub merged_part :
@@ -100,12 +119,20 @@ module _ (digest : List ℕ → List ℕ) (old : View) (origin : List ℕ) (kept
     same,
     clean,
     subst (IsBetween old (union old other)) (sym is) (record {
-      grows = record { origin_is = refl; notes_are = λ n h. has_left old.notes (set.from_list (first_notes i kept)) n h; strings_are = λ s h. has_left old.strings strings s h };
+      grows = record {
+        origin_is =
+            refl;
+        notes_are =
+            λ n h. has_left old.notes (set.from_list (first_notes i kept)) n h;
+        strings_are =
+            λ s h. has_left old.strings strings s h;
+      };
       within = record {
         origin_is = refl;
         notes_are = λ n h. elim (has_cases old.notes (set.from_list (first_notes i kept)) n h) [
           | inl a ↦ has_left old.notes other.notes n a
-          | inr b ↦ has_right old.notes other.notes n (has_from_listed (map note_bytes kept) n (some_first n (listed_from_has (first_notes i kept) n b)))
+          | inr b ↦ has_right old.notes other.notes n
+              (has_from_listed (map note_bytes kept) n (some_first n (listed_from_has (first_notes i kept) n b)))
         ];
         strings_are = λ s h. h;
       };
@@ -115,7 +142,8 @@ module _ (digest : List ℕ → List ℕ) (old : View) (origin : List ℕ) (kept
     where
       some_first : (n : List ℕ) → Contains (first_notes i kept) n → Contains (map note_bytes kept) n
       some_first n c =
-          subst (λ xs. Contains xs n) (sym (map-append note_bytes (take i kept) (drop i kept)) ∙ ap (map note_bytes) (take-append-drop i kept))
+          subst (λ xs. Contains xs n)
+          (sym (map-append note_bytes (take i kept) (drop i kept)) ∙ ap (map note_bytes) (take-append-drop i kept))
           (Contains-append_left (first_notes i kept) (map note_bytes (drop i kept)) n c)
 
   -- want of memory among the strings
@@ -129,7 +157,14 @@ module _ (digest : List ℕ → List ℕ) (old : View) (origin : List ℕ) (kept
       m.1,
       record {
         grows = m.2.grows;
-        within = record { origin_is = m.2.within.origin_is; notes_are = λ n held. has_left old.notes other.notes n (m.2.within.notes_are n held); strings_are = m.2.within.strings_are };
+        within = record {
+          origin_is =
+              m.2.within.origin_is;
+          notes_are =
+              λ n held. has_left old.notes other.notes n (m.2.within.notes_are n held);
+          strings_are =
+              m.2.within.strings_are;
+        };
         notes_last = m.2.notes_last;
       },
     )

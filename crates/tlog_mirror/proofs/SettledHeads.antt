@@ -1,5 +1,6 @@
 -- What is remembered of the heads of a mirror, one after another.
-use Rattle.std.proofs.Common.{◌≡◌, ℕ, ◌+◌, ◌<◌, ◌≤◌, List, [], ◌∷◌, ◌++◌, length, take, get_or, Ok, Err, ◌⊎◌, inl, inr, sym, subst}
+use Rattle.std.proofs.Common.{◌≡◌, ℕ, ◌+◌, ◌<◌, ◌≤◌, List, [], ◌∷◌, ◌++◌, length, take, get_or, Ok, Err, ◌⊎◌, inl, inr}
+use Rattle.std.proofs.Common.{sym, subst}
 use Rattle.std.specs.Prelude.{All, Result, OnOk, ◌↔◌}
 use Rattle.std.specs.List.{Contains}
 use Rattle.std.proofs.lemmas.List.{take_more, take_all}
@@ -18,7 +19,8 @@ use Rattle.tlog_mirror.proofs.ServedNotes.{head_from_kept, kept_head}
 
 module _ (digest : List ℕ → List ℕ) (held : Strings) where
   -- one head more
-  module _ (heads : List (ℕ × List ℕ)) (i : ℕ) (fits : i < length heads) (d : ℕ × List ℕ) (v w : Points) (at_least : (point : Point) → HasMark v point → HasMark w point) where
+  module _ (heads : List (ℕ × List ℕ)) (i : ℕ) (fits : i < length heads) (d : ℕ × List ℕ) (v w : Points)
+      (at_least : (point : Point) → HasMark v point → HasMark w point) where
     abbrev first : List (ℕ × List ℕ)
     first = take i heads
 
@@ -28,30 +30,45 @@ module _ (digest : List ℕ → List ℕ) (held : Strings) where
     more : take (i + 1) heads ≡ first ++ head ∷ []
     more = take_more heads i d fits
 
-    pub done_more : All (HasSlicesOf digest held v) first → HasSlices digest held w head.0 head.1 → All (HasSlicesOf digest held w) (take (i + 1) heads)
+    pub done_more : All (HasSlicesOf digest held v) first → HasSlices digest held w head.0 head.1 →
+        All (HasSlicesOf digest held w) (take (i + 1) heads)
     done_more all one =
         subst (All (HasSlicesOf digest held w)) (sym more)
-        (All-push (HasSlicesOf digest held w) first head (All-weaker (HasSlicesOf digest held v) (HasSlicesOf digest held w) (λ h s point slice. at_least point (s point slice)) first all) one)
+        (All-push (HasSlicesOf digest held w) first head
+        (All-weaker (HasSlicesOf digest held v) (HasSlicesOf digest held w)
+        (λ h s point slice. at_least point (s point slice)) first all) one)
 
-    pub gains_more : (u : Points) → GainsAny digest held first u v → ((point : Point) → HasMark w point → HasMark v point ⊎ IsSliceOf digest held head.0 head.1 point) → AreSettled digest held w → GainsAny digest held (take (i + 1) heads) u w
+    pub gains_more : (u : Points) → GainsAny digest held first u v →
+        ((point : Point) → HasMark w point → HasMark v point ⊎ IsSliceOf digest held head.0 head.1 point) →
+        AreSettled digest held w → GainsAny digest held (take (i + 1) heads) u w
     gains_more u g at_most settled = subst (λ hs. GainsAny digest held hs u w) (sym more) (record {
       at_least = λ point h. at_least point (g.at_least point h);
       at_most = λ point h. elim (at_most point h) [
         | inl old ↦ elim (g.at_most point old) [
           | inl before ↦ inl before
-          | inr s ↦ inr (record { head = s.head; is_one = Contains-append_left first (head ∷ []) s.head s.is_one; slice = s.slice })
+          | inr s ↦ inr
+              (record {
+                head =
+                    s.head;
+                is_one = Contains-append_left first (head ∷ []) s.head s.is_one;
+                slice = s.slice;
+              })
         ]
         | inr s ↦ inr (record { head = head; is_one = Contains-push first head; slice = s })
       ];
       settled = settled;
     })
 
-  pub all_done : (heads : List (ℕ × List ℕ)) (i : ℕ) → length heads ≤ i → (v : Points) → All (HasSlicesOf digest held v) (take i heads) → All (HasSlicesOf digest held v) heads
+  pub all_done : (heads : List (ℕ × List ℕ)) (i : ℕ) → length heads ≤ i → (v : Points) →
+      All (HasSlicesOf digest held v) (take i heads) → All (HasSlicesOf digest held v) heads
   all_done heads i upto v all = subst (All (HasSlicesOf digest held v)) (take_all i heads upto) all
 
 -- ---- a mirror that has settled its heads
 
-module _ (digest : List ℕ → List ℕ) (origin : List ℕ) (kept : List KeptNote) (strings : Strings) (remembered now : Points) (ok : IsKeptWell digest origin kept strings remembered) (heads : List (ℕ × List ℕ)) (exact : (p : ℕ × List ℕ) → Contains heads p ↔ HasKept kept (pair_point p)) (gains : GainsAny digest strings heads remembered now) where
+module _ (digest : List ℕ → List ℕ) (origin : List ℕ) (kept : List KeptNote) (strings : Strings)
+    (remembered now : Points) (ok : IsKeptWell digest origin kept strings remembered) (heads : List (ℕ × List ℕ))
+    (exact : (p : ℕ × List ℕ) → Contains heads p ↔ HasKept kept (pair_point p))
+    (gains : GainsAny digest strings heads remembered now) where
   abbrev view : View
   view = (state_of origin kept strings remembered).view
 
@@ -60,8 +77,10 @@ module _ (digest : List ℕ → List ℕ) (origin : List ℕ) (kept : List KeptN
       elim (gains.at_most point h) [
         | inl old ↦ ok.sound.marks point old
         | inr s ↦
-            let head = head_from_kept digest origin kept strings remembered ok s.head.0 s.head.1 ((exact s.head).0 s.is_one) in
-            (marks_are_slices digest view point).1 (record { size = s.head.0; root = s.head.1; head = head; slice = s.slice })
+            let head =
+            head_from_kept digest origin kept strings remembered ok s.head.0 s.head.1 ((exact s.head).0 s.is_one) in
+            (marks_are_slices digest view point).1
+            (record { size = s.head.0; root = s.head.1; head = head; slice = s.slice })
       ]
 
   pub settled_well : IsKeptWell digest origin kept strings now
@@ -72,12 +91,15 @@ module _ (digest : List ℕ → List ℕ) (origin : List ℕ) (kept : List KeptN
     said = ok.said;
   }
 
-  all_marked : All (HasSlicesOf digest strings now) heads → (point : Point) → IsMark digest view point → HasMark now point
+  all_marked : All (HasSlicesOf digest strings now) heads → (point : Point) → IsMark digest view point →
+      HasMark now point
   all_marked all point m =
       let s = (marks_are_slices digest view point).0 m in
-      let one : Contains heads (s.size, s.root) = (exact (s.size, s.root)).1 (kept_head digest origin kept strings remembered ok s.size s.root s.head) in
+      let one : Contains heads (s.size, s.root) =
+      (exact (s.size, s.root)).1 (kept_head digest origin kept strings remembered ok s.size s.root s.head) in
       All-contains (HasSlicesOf digest strings now) heads (s.size, s.root) all one point s.slice
 
-  pub marked : {A E : Type 0} (r : Result A E) → OnOk r (All (HasSlicesOf digest strings now) heads) → OnOk r ((point : Point) → HasMark now point ↔ IsMark digest view point)
+  pub marked : {A E : Type 0} (r : Result A E) → OnOk r (All (HasSlicesOf digest strings now) heads) →
+      OnOk r ((point : Point) → HasMark now point ↔ IsMark digest view point)
   marked (Err e) h = h
   marked (Ok done) h = λ point. (marks_now point, all_marked h point)

@@ -1,5 +1,6 @@
 -- The take of a head: what is answered of its note and of its edge rows is answered of the head.
-use Rattle.std.proofs.Common.{◌≡◌, ◌≤◌, ℕ, List, [], ◌∷◌, length, map, Result, Ok, Err, ◌⊎◌, inl, inr, refl, sym, ap, subst, ◌∙◌}
+use Rattle.std.proofs.Common.{◌≡◌, ◌≤◌, ℕ, List, [], ◌∷◌, length, map, Result, Ok, Err, ◌⊎◌, inl, inr, refl, sym, ap}
+use Rattle.std.proofs.Common.{subst, ◌∙◌}
 use Rattle.std.specs.FinSet as set
 use Rattle.node_store.specs.Strings.{Strings, Has, HasAll, NoClash}
 use Rattle.node_store.specs.declared.store.AddFault.{AddFault}
@@ -31,9 +32,11 @@ use Rattle.mirror_model.specs.Strings.{IsDigest}
 
 -- ---- the note
 
-module _ (note origin : List ℕ) (keys : List Key) (checkpoint : Checkpoint) (opened : IsOpenCheckpoint note origin keys checkpoint) where
+module _ (note origin : List ℕ) (keys : List Key) (checkpoint : Checkpoint)
+    (opened : IsOpenCheckpoint note origin keys checkpoint) where
   is_checkpoint : IsCheckpoint opened.text origin checkpoint.size checkpoint.root checkpoint.extensions
-  is_checkpoint = subst (λ o. IsCheckpoint opened.text o checkpoint.size checkpoint.root checkpoint.extensions) opened.origin_is opened.is.is_checkpoint
+  is_checkpoint =
+      subst (λ o. IsCheckpoint opened.text o checkpoint.size checkpoint.root checkpoint.extensions) opened.origin_is opened.is.is_checkpoint
 
   pub open_is_head : IsHead note origin checkpoint.size checkpoint.root
   open_is_head = record {
@@ -44,7 +47,8 @@ module _ (note origin : List ℕ) (keys : List Key) (checkpoint : Checkpoint) (o
     is_checkpoint = is_checkpoint;
   }
 
-  pub open_is_good : (digest : List ℕ → List ℕ) (rows : List (List ℕ)) → HasEdgeRows digest checkpoint.size checkpoint.root rows → IsGoodHead digest origin keys note rows
+  pub open_is_good : (digest : List ℕ → List ℕ) (rows : List (List ℕ)) →
+      HasEdgeRows digest checkpoint.size checkpoint.root rows → IsGoodHead digest origin keys note rows
   open_is_good digest rows edge = record {
     size = checkpoint.size;
     root = checkpoint.root;
@@ -60,15 +64,18 @@ module _ (note origin : List ℕ) (keys : List Key) (checkpoint : Checkpoint) (o
   }
 
   -- what is answered of the edge rows of a note that is read is answered of the head
-  pub edge_judged : (digest : List ℕ → List ℕ) (rows : List (List ℕ)) (r : Result (Unit {0}) TakeFault) → JudgesEdge digest checkpoint.size checkpoint.root rows r → JudgesHead digest origin keys note rows r
+  pub edge_judged : (digest : List ℕ → List ℕ) (rows : List (List ℕ)) (r : Result (Unit {0}) TakeFault) →
+      JudgesEdge digest checkpoint.size checkpoint.root rows r → JudgesHead digest origin keys note rows r
   edge_judged digest rows (Ok done) h = open_is_good digest rows h
   edge_judged digest rows (Err (taking.Note fault)) h = absurd h
   edge_judged digest rows (Err (taking.Checkpoint fault)) h = absurd h
   edge_judged digest rows (Err taking.OtherOrigin) h = absurd h
   edge_judged digest rows (Err taking.NoTrustedSignature) h = absurd h
   edge_judged digest rows (Err taking.EdgeCount) h = record { checkpoint = checkpoint; is_open = opened; differs = h }
-  edge_judged digest rows (Err taking.EdgeLength) h = record { checkpoint = checkpoint; is_open = opened; count_is = h.0; differ = h.1 }
-  edge_judged digest rows (Err taking.EdgeMismatch) h = record { checkpoint = checkpoint; is_open = opened; lengths_are = h.0; differs = h.1 }
+  edge_judged digest rows (Err taking.EdgeLength) h =
+      record { checkpoint = checkpoint; is_open = opened; count_is = h.0; differ = h.1 }
+  edge_judged digest rows (Err taking.EdgeMismatch) h =
+      record { checkpoint = checkpoint; is_open = opened; lengths_are = h.0; differs = h.1 }
   edge_judged digest rows (Err taking.RowLength) h = absurd h
   edge_judged digest rows (Err taking.BundleShort) h = absurd h
   edge_judged digest rows (Err taking.BundleLong) h = absurd h
@@ -76,7 +83,8 @@ module _ (note origin : List ℕ) (keys : List Key) (checkpoint : Checkpoint) (o
   edge_judged digest rows (Err taking.OutOfMemory) h = tt
 
 -- a note that is refused refuses the head
-pub note_judged : (digest : List ℕ → List ℕ) (note origin : List ℕ) (keys : List Key) (rows : List (List ℕ)) (fault : TakeFault) → ReadsHead note origin keys (Err fault) → JudgesHead digest origin keys note rows (Err fault)
+pub note_judged : (digest : List ℕ → List ℕ) (note origin : List ℕ) (keys : List Key) (rows : List (List ℕ))
+    (fault : TakeFault) → ReadsHead note origin keys (Err fault) → JudgesHead digest origin keys note rows (Err fault)
 note_judged digest note origin keys rows (taking.Note fault) h = h
 note_judged digest note origin keys rows (taking.Checkpoint fault) h = h
 note_judged digest note origin keys rows taking.OtherOrigin h = h
@@ -93,7 +101,8 @@ note_judged digest note origin keys rows taking.OutOfMemory h = tt
 -- ---- what a refusal is to the view
 
 module _ (digest : List ℕ → List ℕ) (keys : List Key) (old : View) (note : List ℕ) (rows : List (List ℕ)) where
-  refused : (fault : TakeFault) → JudgesHead digest old.origin keys note rows (Err fault) → answer_of (Err fault) ≡ Refused → (IsGoodHead digest old.origin keys note rows → ⊥) × (old ≡ old)
+  refused : (fault : TakeFault) → JudgesHead digest old.origin keys note rows (Err fault) →
+      answer_of (Err fault) ≡ Refused → (IsGoodHead digest old.origin keys note rows → ⊥) × (old ≡ old)
   refused fault h is = ((heads_are_judged digest old.origin keys note rows).refused (Err fault) h is, refl)
 
   -- a head that is not taken leaves the view as it was
@@ -113,7 +122,8 @@ module _ (digest : List ℕ → List ℕ) (keys : List Key) (old : View) (note :
   fault_takes taking.BundleLong h clash = absurd h
   fault_takes taking.Collision h clash = (
     h,
-    clash_within digest (set.from_list (edge_strings digest (map row_of rows))) (plus digest old (Head note rows)).strings
+    clash_within digest (set.from_list (edge_strings digest (map row_of rows)))
+        (plus digest old (Head note rows)).strings
         (λ q m. has_right old.strings (set.from_list (edge_strings digest (map row_of rows))) q m) (clash refl),
     refl,
   )
@@ -127,15 +137,24 @@ module _ (digest : List ℕ → List ℕ) (keys : List Key) (old : View) (note :
       Answers digest old (Unit {0}) (with_note (with_strings old strings) note) (added answer) new →
       Takes digest keys old (Head note rows) (answer_of result) new
   head_takes good strings is answer result taken new h =
-      let full : with_note (with_strings old strings) note ≡ plus digest old (Head note rows) = λ i. record { origin = old.origin; notes = set.union old.notes (set.from_list (note ∷ [])); strings = set.union old.strings (is i) } in
+      let full : with_note (with_strings old strings) note ≡ plus digest old (Head note rows) =
+      λ i. record {
+        origin =
+            old.origin;
+        notes =
+            set.union old.notes (set.from_list (note ∷ []));
+        strings = set.union old.strings (is i);
+      } in
       let kind : answer_of result ≡ added answer = ap answer_of taken ∙ same_kind answer in
       subst (λ a. Takes digest keys old (Head note rows) a new) (sym kind)
-      (allowed digest (IsGoodHead digest old.origin keys note rows) (plus digest old (Head note rows)) old (added answer) new good
+      (allowed digest (IsGoodHead digest old.origin keys note rows) (plus digest old (Head note rows)) old
+      (added answer) new good
       (subst (λ v. Answers digest old (Unit {0}) v (added answer) new) full h))
 
   pub head_judged :
       IsGoodHead digest old.origin keys note rows → (answer : Result (Unit {0}) AddFault)
-      (result : Result (Unit {0}) TakeFault) → result ≡ taken_of answer → JudgesHead digest old.origin keys note rows result
+      (result : Result (Unit {0}) TakeFault) → result ≡ taken_of answer →
+      JudgesHead digest old.origin keys note rows result
   head_judged good answer result is = subst (JudgesHead digest old.origin keys note rows) (sym is) (at answer)
     where
       at : (answer : Result (Unit {0}) AddFault) → JudgesHead digest old.origin keys note rows (taken_of answer)
@@ -146,10 +165,13 @@ module _ (digest : List ℕ → List ℕ) (keys : List Key) (old : View) (note :
 -- ---- strings first, then the note
 
 -- all strings of a list are in the set of it
-listed_held : (v : Strings) (strings : List (List ℕ)) (all : Strings) → all ≡ set.from_list strings → HasAll (set.union v all) strings
+listed_held : (v : Strings) (strings : List (List ℕ)) (all : Strings) → all ≡ set.from_list strings →
+    HasAll (set.union v all) strings
 listed_held v strings all is =
     held_from_all (set.union v all) strings (recursion_from_All (Has (set.union v all)) strings
-    (All-weaker (Contains strings) (Has (set.union v all)) (λ q h. has_right v all q (subst (λ s. Has s q) (sym is) (has_from_listed strings q h))) strings (All-contains_itself strings)))
+    (All-weaker (Contains strings) (Has (set.union v all))
+    (λ q h. has_right v all q (subst (λ s. Has s q) (sym is) (has_from_listed strings q h))) strings
+    (All-contains_itself strings)))
 
 -- the edge of a head is held once its strings are
 pub edge_held :
@@ -173,7 +195,8 @@ module _ (digest : List ℕ → List ℕ) (old : View) (strings : Strings) (note
 
   -- where the strings are not all added, the note is not
   pub strings_refused :
-      (fault : AddFault) (new : View) → Answers digest old (Unit {0}) (with_strings old strings) (added (Err fault)) new →
+      (fault : AddFault) (new : View) →
+      Answers digest old (Unit {0}) (with_strings old strings) (added (Err fault)) new →
       Answers digest old (Unit {0}) most (added (Err fault)) new
   strings_refused adding.Collision new h = h
   strings_refused adding.OutOfMemory new h = elim h [
@@ -194,28 +217,40 @@ module _ (digest : List ℕ → List ℕ) (old : View) (strings : Strings) (note
   ]
 
   -- where they are, the note is entered
-  pub note_entered : (between new : View) → Answers digest old (Unit {0}) (with_strings old strings) Done between → new ≡ with_note between note → Answers digest old (Unit {0}) most Done new
+  pub note_entered : (between new : View) → Answers digest old (Unit {0}) (with_strings old strings) Done between →
+      new ≡ with_note between note → Answers digest old (Unit {0}) most Done new
   note_entered between new h is = (tt, h.1, is ∙ ap (λ v. with_note v note) h.2)
 
   -- or finds no memory
-  pub note_refused : (between new : View) → Answers digest old (Unit {0}) (with_strings old strings) Done between → new ≡ between → Answers digest old (Unit {0}) most Exhausted new
+  pub note_refused : (between new : View) → Answers digest old (Unit {0}) (with_strings old strings) Done between →
+      new ≡ between → Answers digest old (Unit {0}) most Exhausted new
   note_refused between new h is = inr (
     tt,
     h.1,
     subst (IsBetween old most) (sym (is ∙ h.2)) (record {
-      grows = record { origin_is = refl; notes_are = λ n held. held; strings_are = λ s held. has_left old.strings strings s held };
-      within = record { origin_is = refl; notes_are = λ n held. has_left old.notes (set.from_list (note ∷ [])) n held; strings_are = λ s held. held };
+      grows = record
+          { origin_is = refl; notes_are = λ n held. held; strings_are = λ s held. has_left old.strings strings s held };
+      within = record {
+        origin_is =
+            refl;
+        notes_are =
+            λ n held. has_left old.notes (set.from_list (note ∷ [])) n held;
+        strings_are = λ s held. held;
+      };
       notes_last = λ n held. inl held;
     }),
   )
 
 -- ---- the take
 
-module _ (digest : List ℕ → List ℕ) (keys : List Key) (old : View) (note : List ℕ) (rows : List (List ℕ)) (origin : List ℕ) (same : origin ≡ old.origin) where
+module _ (digest : List ℕ → List ℕ) (keys : List Key) (old : View) (note : List ℕ) (rows : List (List ℕ))
+    (origin : List ℕ) (same : origin ≡ old.origin) where
   -- a note that is refused
-  pub note_takes : (fault : TakeFault) → ReadsHead note origin keys (Err fault) → Takes digest keys old (Head note rows) (answer_of (Err fault)) old
+  pub note_takes : (fault : TakeFault) → ReadsHead note origin keys (Err fault) →
+      Takes digest keys old (Head note rows) (answer_of (Err fault)) old
   note_takes fault reads =
-      let here : ReadsHead note old.origin keys (Err fault) = subst (λ o. ReadsHead note o keys (Err fault)) same reads in
+      let here : ReadsHead note old.origin keys (Err fault) =
+      subst (λ o. ReadsHead note o keys (Err fault)) same reads in
       fault_takes digest keys old note rows fault (note_judged digest note old.origin keys rows fault here)
       (λ is. absurd (subst (λ f. ReadsHead note old.origin keys (Err f)) is here))
 
@@ -230,24 +265,31 @@ module _ (digest : List ℕ → List ℕ) (keys : List Key) (old : View) (note :
     pub edge_takes :
         (fault : TakeFault) → JudgesEdge digest checkpoint.size checkpoint.root rows (Err fault) → (none : Strings) →
         none ≡ set.empty →
-        (◌≡◌ {A = Result (Unit {0}) TakeFault} (Err fault) (Err taking.Collision) → HasClash digest (set.union none (set.from_list edge))) →
+        (◌≡◌ {A = Result (Unit {0}) TakeFault} (Err fault) (Err taking.Collision) →
+        HasClash digest (set.union none (set.from_list edge))) →
         Takes digest keys old (Head note rows) (answer_of (Err fault)) old
     edge_takes fault judged none empty clash =
-        fault_takes digest keys old note rows fault (edge_judged note old.origin keys checkpoint here digest rows (Err fault) judged)
-        (λ is. subst (HasClash digest) (gathered none (set.union none (set.from_list edge)) edge edge empty refl refl) (clash (ap Err is)))
+        fault_takes digest keys old note rows fault
+        (edge_judged note old.origin keys checkpoint here digest rows (Err fault) judged)
+        (λ is. subst (HasClash digest) (gathered none (set.union none (set.from_list edge)) edge edge empty refl refl)
+        (clash (ap Err is)))
 
-    module _ (good : HasEdgeRows digest checkpoint.size checkpoint.root rows) (none strings : Strings) (empty : none ≡ set.empty) (strings_are : strings ≡ set.union none (set.from_list edge)) where
+    module _ (good : HasEdgeRows digest checkpoint.size checkpoint.root rows) (none strings : Strings)
+        (empty : none ≡ set.empty) (strings_are : strings ≡ set.union none (set.from_list edge)) where
       abbrev all_are : strings ≡ set.from_list edge
       all_are = gathered none strings edge edge empty strings_are refl
 
       pub edge_short : IsDigest digest → (entry : List ℕ) → Has strings (0 ∷ entry) → length entry ≤ 65535
-      edge_short hash = gathered_short digest (Head note rows) hash old.origin keys (open_is_good note old.origin keys checkpoint here digest rows good) strings all_are
+      edge_short hash =
+          gathered_short digest (Head note rows) hash old.origin keys
+          (open_is_good note old.origin keys checkpoint here digest rows good) strings all_are
 
       module _ (bytes : List ℕ) (bytes_are : bytes ≡ note) where
         pub head_edge : HasEdge digest (with_strings old strings) bytes
         head_edge =
             subst (HasEdge digest (with_strings old strings)) (sym bytes_are)
-            (edge_held digest old note checkpoint.size checkpoint.root rows strings (open_is_head note old.origin keys checkpoint here) good all_are)
+            (edge_held digest old note checkpoint.size checkpoint.root rows strings
+            (open_is_head note old.origin keys checkpoint here) good all_are)
 
         pub whole_takes :
             (answer : Result (Unit {0}) AddFault) (result : Result (Unit {0}) TakeFault) → result ≡ taken_of answer →
@@ -255,5 +297,7 @@ module _ (digest : List ℕ → List ℕ) (keys : List Key) (old : View) (note :
             Answers digest old (Unit {0}) (with_note (with_strings old strings) bytes) (added answer) new →
             Takes digest keys old (Head note rows) (answer_of result) new
         whole_takes answer result taken new h =
-            head_takes digest keys old note rows (open_is_good note old.origin keys checkpoint here digest rows good) strings all_are answer result taken new
-            (subst (λ n. Answers digest old (Unit {0}) (with_note (with_strings old strings) n) (added answer) new) bytes_are h)
+            head_takes digest keys old note rows
+            (open_is_good note old.origin keys checkpoint here digest rows good) strings all_are answer result taken new
+            (subst (λ n. Answers digest old (Unit {0}) (with_note (with_strings old strings) n)
+            (added answer) new) bytes_are h)

@@ -1,5 +1,6 @@
 -- What adding the strings of an item to a mirror's makes of its state, and which answer that is.
-use Rattle.std.proofs.Common.{drop, get_or, arith, ◌≡◌, ℕ, ◌*◌, ◌≤◌, List, [], ◌∷◌, length, sym, refl, ap, subst, ◌∙◌, inl, inr, Ok, Err}
+use Rattle.std.proofs.Common.{drop, get_or, arith, ◌≡◌, ℕ, ◌*◌, ◌≤◌, List, [], ◌∷◌, length, sym, refl, ap, subst, ◌∙◌}
+use Rattle.std.proofs.Common.{inl, inr, Ok, Err}
 use Rattle.std.specs.Prelude.{Result}
 use Rattle.std.specs.FinSet as set
 use Rattle.tlog_hash.specs.Tree.{joins, strings}
@@ -15,7 +16,8 @@ use Rattle.mirror_model.specs.declared.fault.TakeFault.{TakeFault}
 use Rattle.node_store.specs.Strings.{Strings, Has, NoClash, ClashesWith, AllTagged}
 use Rattle.mirror_model.specs.Strings.{HasClash}
 use Rattle.mirror_model.specs.View.{View, IsSubview}
-use Rattle.mirror_model.specs.Item.{IsWidth, IsGoodTile, IsGoodBundle, IsGood, strings_of, notes_of, plus, row_of, entries_of}
+use Rattle.mirror_model.specs.Item.{IsWidth, IsGoodTile, IsGoodBundle, IsGood, strings_of, notes_of, plus, row_of}
+use Rattle.mirror_model.specs.Item.{entries_of}
 use Rattle.mirror_model.specs.declared.items.Item.{Item}
 use Rattle.mirror_model.specs.Steps.{Answer, Done, Refused, Clashed, Exhausted, Answers, Takes}
 use Rattle.mirror_model.specs.Marks.{Points, State}
@@ -57,31 +59,58 @@ is_short e (inl l) = let same : e ≡ l.entry = ap (drop 1) l.is in omega (arith
 is_short e (inr p) = absurd (let zero_one : 0 ≡ 1 = ap (λ xs. get_or xs 0 0) p.is in omega arith)
 
 module _ (digest : List ℕ → List ℕ) (v w : Strings) where
-  pub union_no_clash : NoClash digest v → NoClash digest w → (ClashesWith digest v w → ⊥) → NoClash digest (set.union v w)
+  pub union_no_clash : NoClash digest v → NoClash digest w → (ClashesWith digest v w → ⊥) →
+      NoClash digest (set.union v w)
   union_no_clash p q apart = record {
     same = λ x y hx hy e.
         elim (has_cases v w x hx) [
           | inl a ↦ elim (has_cases v w y hy) [
             | inl b ↦ p.same x y a b e
-            | inr b ↦ elim (decide x y) [ inl is ↦ is | inr not ↦ absurd (apart (record { first = x; second = y; first_held = a; second_held = b; same_digest = e; differ = not })) ]
+            | inr b ↦ elim
+                (decide x y) [
+                  | inl is ↦ is
+                  | inr not ↦ absurd
+                      (apart (record
+                      { first = x; second = y; first_held = a; second_held = b; same_digest = e; differ = not }))
+                ]
           ]
           | inr a ↦ elim (has_cases v w y hy) [
-            | inl b ↦ elim (decide y x) [ inl is ↦ sym is | inr not ↦ absurd (apart (record { first = y; second = x; first_held = b; second_held = a; same_digest = sym e; differ = not })) ]
+            | inl b ↦ elim
+                (decide y x) [
+                  | inl is ↦ sym is
+                  | inr not ↦ absurd
+                      (apart (record
+                      { first = y; second = x; first_held = b; second_held = a; same_digest = sym e; differ = not }))
+                ]
             | inr b ↦ q.same x y a b e
           ]
         ];
   }
 
   pub union_clash : ClashesWith digest v w → HasClash digest (set.union v w)
-  union_clash c = record { first = c.first; second = c.second; first_held = has_left v w c.first c.first_held; second_held = has_right v w c.second c.second_held; same_digest = c.same_digest; differ = c.differ }
+  union_clash c =
+      record {
+        first =
+            c.first;
+        second =
+            c.second;
+        first_held =
+            has_left v w c.first c.first_held;
+        second_held =
+            has_right v w c.second c.second_held;
+        same_digest = c.same_digest;
+        differ = c.differ;
+      }
 
 -- no string clashes with none
 pub empty_no_clash : (digest : List ℕ → List ℕ) (v : Strings) → v ≡ set.empty → NoClash digest v
-empty_no_clash digest v none = subst (NoClash digest) (sym none) (record { same = λ x y hx hy e. absurd (has_empty x hx) })
+empty_no_clash digest v none =
+    subst (NoClash digest) (sym none) (record { same = λ x y hx hy e. absurd (has_empty x hx) })
 
 -- ---- a mirror to whose strings more are added
 
-module _ (digest : List ℕ → List ℕ) (origin : List ℕ) (kept : List KeptNote) (strings more now : Strings) (remembered : Points) (ok : IsKeptWell digest origin kept strings remembered) where
+module _ (digest : List ℕ → List ℕ) (origin : List ℕ) (kept : List KeptNote) (strings more now : Strings)
+    (remembered : Points) (ok : IsKeptWell digest origin kept strings remembered) where
   abbrev before : View
   before = (state_of origin kept strings remembered).view
 
@@ -92,7 +121,8 @@ module _ (digest : List ℕ → List ℕ) (origin : List ℕ) (kept : List KeptN
   grown_within grows = record { origin_is = refl; notes_are = λ note h. h; strings_are = grows }
 
   pub stays_well :
-      IsDigest digest → ((s : List ℕ) → Has strings s → Has now s) → ((s : List ℕ) → Has now s → Has (set.union strings more) s) →
+      IsDigest digest → ((s : List ℕ) → Has strings s → Has now s) →
+      ((s : List ℕ) → Has now s → Has (set.union strings more) s) →
       NoClash digest now → AllTagged now → ((entry : List ℕ) → Has more (0 ∷ entry) → length entry ≤ 65535) →
       IsKeptWell digest origin kept now remembered
   stays_well hash grows within clean tagged short = record {
@@ -101,7 +131,10 @@ module _ (digest : List ℕ → List ℕ) (origin : List ℕ) (kept : List KeptN
       lawful = record {
         no_clash = clean;
         are_strings = tagged;
-        leaves_short = λ e h. elim (has_cases strings more (0 ∷ e) (within (0 ∷ e) h)) [ inl a ↦ ok.sound.lawful.leaves_short e a | inr b ↦ short e b ];
+        leaves_short =
+            λ e h. elim
+            (has_cases strings more (0 ∷ e)
+            (within (0 ∷ e) h)) [ inl a ↦ ok.sound.lawful.leaves_short e a | inr b ↦ short e b ];
         edges = λ note h. edge_stays digest before after (grown_within grows) note (ok.sound.lawful.edges note h);
       };
       marks = λ point h. marks_stay digest before after (grown_within grows) point (ok.sound.marks point h);
@@ -116,13 +149,18 @@ module _ (digest : List ℕ → List ℕ) (origin : List ℕ) (kept : List KeptN
     Adds answer = Answers digest old.view (Unit {0}) (with_strings old.view more) answer after
 
     at_old : (answer : Answer) → Answers digest before (Unit {0}) (with_strings before more) answer after → Adds answer
-    at_old answer h = subst (λ (o : State). Answers digest o.view (Unit {0}) (with_strings o.view more) answer after) old_is h
+    at_old answer h =
+        subst (λ (o : State). Answers digest o.view (Unit {0}) (with_strings o.view more) answer after) old_is h
 
     pub adds_done : now ≡ set.union strings more → NoClash digest now → Adds Done
-    adds_done is clean = at_old Done (tt, subst (NoClash digest) is clean, λ i. record { origin = origin; notes = before.notes; strings = is i })
+    adds_done is clean =
+        at_old Done
+        (tt, subst (NoClash digest) is clean, λ i. record { origin = origin; notes = before.notes; strings = is i })
 
     pub adds_clashed : now ≡ strings → ClashesWith digest strings more → Adds Clashed
-    adds_clashed is c = at_old Clashed (tt, union_clash digest strings more c, λ i. record { origin = origin; notes = before.notes; strings = is i })
+    adds_clashed is c =
+        at_old Clashed
+        (tt, union_clash digest strings more c, λ i. record { origin = origin; notes = before.notes; strings = is i })
 
     pub adds_exhausted :
         NoClash digest more → (ClashesWith digest strings more → ⊥) → ((s : List ℕ) → Has strings s → Has now s) →
@@ -140,7 +178,8 @@ module _ (digest : List ℕ → List ℕ) (origin : List ℕ) (kept : List KeptN
 -- ---- the take of an item
 
 -- what is answered where all is allowed is answered where this is allowed
-pub allowed : (digest : List ℕ → List ℕ) (Allowed : Type 0) (full old : View) (answer : Answer) (new : View) → Allowed → Answers digest old (Unit {0}) full answer new → Answers digest old Allowed full answer new
+pub allowed : (digest : List ℕ → List ℕ) (Allowed : Type 0) (full old : View) (answer : Answer) (new : View) → Allowed →
+    Answers digest old (Unit {0}) full answer new → Answers digest old Allowed full answer new
 allowed digest Allowed full old Done new good h = (good, h.1, h.2)
 allowed digest Allowed full old Refused new good h = absurd (h.0 tt)
 allowed digest Allowed full old Clashed new good h = (good, h.1, h.2)
@@ -153,16 +192,23 @@ same_kind (Err Collision) = refl
 same_kind (Err OutOfMemory) = refl
 
 -- what was added to an empty set
-pub gathered : (none strings : Strings) (xs ys : List (List ℕ)) → none ≡ set.empty → strings ≡ set.union none (set.from_list xs) → xs ≡ ys → strings ≡ set.from_list ys
+pub gathered : (none strings : Strings) (xs ys : List (List ℕ)) → none ≡ set.empty →
+    strings ≡ set.union none (set.from_list xs) → xs ≡ ys → strings ≡ set.from_list ys
 gathered none strings xs ys empty is same =
     is ∙ ap (λ v. set.union v (set.from_list xs)) empty
-    ∙ same_strings _ _ (λ q h. elim (has_cases set.empty (set.from_list xs) q h) [ inl a ↦ absurd (has_empty q a) | inr b ↦ b ]) (λ q h. has_right set.empty (set.from_list xs) q h)
+    ∙ same_strings _ _
+    (λ q h. elim (has_cases set.empty (set.from_list xs) q h) [ inl a ↦ absurd (has_empty q a) | inr b ↦ b ])
+    (λ q h. has_right set.empty (set.from_list xs) q h)
     ∙ ap set.from_list same
 
 module _ (digest : List ℕ → List ℕ) (item : Item) where
-  pub gathered_short : IsDigest digest → (origin : List ℕ) (keys : List Key) → IsGood digest origin keys item → (strings : Strings) → strings ≡ set.from_list (strings_of digest item) → (entry : List ℕ) → Has strings (0 ∷ entry) → length entry ≤ 65535
+  pub gathered_short : IsDigest digest → (origin : List ℕ) (keys : List Key) → IsGood digest origin keys item →
+      (strings : Strings) → strings ≡ set.from_list (strings_of digest item) → (entry : List ℕ) →
+      Has strings (0 ∷ entry) → length entry ≤ 65535
   gathered_short hash origin keys good strings is entry h =
-      is_short entry (item_strings digest hash origin keys item good (0 ∷ entry) (listed_from_has (strings_of digest item) (0 ∷ entry) (subst (λ v. Has v (0 ∷ entry)) is h)))
+      is_short entry
+      (item_strings digest hash origin keys item good (0 ∷ entry)
+      (listed_from_has (strings_of digest item) (0 ∷ entry) (subst (λ v. Has v (0 ∷ entry)) is h)))
 
   module _ (keys : List Key) (old : View) (good : IsGood digest old.origin keys item) where
     pub takes_added :
@@ -171,24 +217,34 @@ module _ (digest : List ℕ → List ℕ) (item : Item) where
         (new : View) → Answers digest old (Unit {0}) (with_strings old strings) (added answer) new →
         Takes digest keys old item (answer_of result) new
     takes_added strings is none answer result taken new h =
-        let notes : old.notes ≡ set.union old.notes (set.from_list (notes_of item)) = added_none old.notes ∙ ap (λ xs. set.union old.notes (set.from_list xs)) (sym none) in
-        let full : with_strings old strings ≡ plus digest old item = λ i. record { origin = old.origin; notes = notes i; strings = set.union old.strings (is i) } in
+        let notes : old.notes ≡ set.union old.notes (set.from_list (notes_of item)) =
+        added_none old.notes ∙ ap (λ xs. set.union old.notes (set.from_list xs)) (sym none) in
+        let full : with_strings old strings ≡ plus digest old item =
+        λ i. record { origin = old.origin; notes = notes i; strings = set.union old.strings (is i) } in
         let kind : answer_of result ≡ added answer = ap answer_of taken ∙ same_kind answer in
         subst (λ a. Takes digest keys old item a new) (sym kind)
-        (allowed digest (IsGood digest old.origin keys item) (plus digest old item) old (added answer) new good (subst (λ v. Answers digest old (Unit {0}) v (added answer) new) full h))
+        (allowed digest (IsGood digest old.origin keys item) (plus digest old item) old (added answer) new good
+        (subst (λ v. Answers digest old (Unit {0}) v (added answer) new) full h))
 
-    pub takes_clashed : (none : Strings) (xs : List (List ℕ)) → none ≡ set.empty → xs ≡ strings_of digest item → HasClash digest (set.union none (set.from_list xs)) → Takes digest keys old item Clashed old
+    pub takes_clashed : (none : Strings) (xs : List (List ℕ)) → none ≡ set.empty → xs ≡ strings_of digest item →
+        HasClash digest (set.union none (set.from_list xs)) → Takes digest keys old item Clashed old
     takes_clashed none xs empty same c =
-        let is = gathered none (set.union none (set.from_list xs)) xs (strings_of digest item) empty refl same in
-        (good, clash_within digest (set.union none (set.from_list xs)) (plus digest old item).strings (λ q h. has_right old.strings (set.from_list (strings_of digest item)) q (subst (λ v. Has v q) is h)) c, refl)
+        let is = gathered none (set.union none (set.from_list xs)) xs (strings_of digest item) empty refl same in (
+          good,
+          clash_within digest (set.union none (set.from_list xs)) (plus digest old item).strings
+              (λ q h. has_right old.strings (set.from_list (strings_of digest item)) q (subst (λ v. Has v q) is h)) c,
+          refl,
+        )
 
 -- ---- tiles and bundles
 
 module _ (width : ℕ) (bytes : List ℕ) (wide : IsWidth width) where
   pub tile_good : (row : List (List ℕ)) → IsRow width bytes row → IsGoodTile width bytes
-  tile_good row r = record { is_width = wide; length_is = ap length r.text ∙ length-row_text row r.sizes ∙ ap (λ n. 32 * n) r.count }
+  tile_good row r =
+      record { is_width = wide; length_is = ap length r.text ∙ length-row_text row r.sizes ∙ ap (λ n. 32 * n) r.count }
 
-  pub tile_joins : (digest : List ℕ → List ℕ) (row : List (List ℕ)) → IsRow width bytes row → joins digest row ≡ joins digest (row_of bytes)
+  pub tile_joins : (digest : List ℕ → List ℕ) (row : List (List ℕ)) → IsRow width bytes row →
+      joins digest row ≡ joins digest (row_of bytes)
   tile_joins digest row r = ap (joins digest) (row_is_one width bytes row r)
 
   pub bundle_good : (entries : List (List ℕ)) → IsBundle width bytes entries → IsGoodBundle width bytes
@@ -216,5 +272,6 @@ bundle_judged width bytes good answer result is = subst (JudgesBundle width byte
     at (Err Collision) = good
     at (Err OutOfMemory) = tt
 
-pub bundle_strings_are : (digest : List ℕ → List ℕ) (width : ℕ) (bytes : List ℕ) (entries : List (List ℕ)) → IsBundle width bytes entries → strings digest entries ≡ strings digest (entries_of width bytes)
+pub bundle_strings_are : (digest : List ℕ → List ℕ) (width : ℕ) (bytes : List ℕ) (entries : List (List ℕ)) →
+    IsBundle width bytes entries → strings digest entries ≡ strings digest (entries_of width bytes)
 bundle_strings_are digest width bytes entries b = ap (strings digest) (bundle_is_one width bytes entries b)

@@ -18,7 +18,8 @@ sign-requires c =
     let name : c.new.result ≡ c.args.origin.now = c.new.ensures ∙ c.in_ok-from_str.ensures.ok in
     let text = string_bytes c.in_ok-text.text in
     let read : IsCheckpoint text c.args.origin.now c.args.size c.args.root.now [] =
-    subst (λ o. IsCheckpoint text o c.args.size c.args.root.now []) name (subst (λ xs. IsCheckpoint text c.new.result c.args.size c.args.root.now xs) none c.in_ok-text.ensures) in
+    subst (λ o. IsCheckpoint text o c.args.size c.args.root.now []) name
+    (subst (λ xs. IsCheckpoint text c.new.result c.args.size c.args.root.now xs) none c.in_ok-text.ensures) in
     rw c.deref.ensures (checkpoint_text text c.args.origin.now c.args.size c.args.root.now c.requires.origin read)
 
 pub returns : goal.returns
@@ -27,12 +28,14 @@ returns c = λ keys has.
     let name : c.new.result ≡ c.args.origin.now = c.new.ensures ∙ c.in_ok-from_str.ensures.ok in
     let text = string_bytes c.in_ok-text.text in
     let read : IsCheckpoint text c.args.origin.now c.args.size c.args.root.now [] =
-    subst (λ o. IsCheckpoint text o c.args.size c.args.root.now []) name (subst (λ xs. IsCheckpoint text c.new.result c.args.size c.args.root.now xs) none c.in_ok-text.ensures) in
+    subst (λ o. IsCheckpoint text o c.args.size c.args.root.now []) name
+    (subst (λ xs. IsCheckpoint text c.new.result c.args.size c.args.root.now xs) none c.in_ok-text.ensures) in
     record {
       text = c.deref.result.now;
       lines = _;
       extensions = [];
       is_note = c.in_ok-note.ensures.note;
       is_checkpoint = rw c.deref.ensures read;
-      opens = opens_more c.deref.result.now (signed_line c.deref.result.now c.args.key.now) (secret_key c.args.key.now) keys has c.in_ok-note.ensures.opens;
+      opens = opens_more c.deref.result.now (signed_line c.deref.result.now c.args.key.now)
+          (secret_key c.args.key.now) keys has c.in_ok-note.ensures.opens;
     }

@@ -14,5 +14,6 @@ loop-i-preserved g c =
     let at : 256 * i ≡ i * 256 = omega arith in
     c.in_ok-push.ensures.items
     ∙ ap (λ xs. xs ++ c.fold.result ∷ []) c.loop-i.invariant
-    ∙ ap (λ h. map f (ranges 256 0 i below) ++ h ∷ []) (c.fold.ensures ∙ ap (λ n. f (take n (drop (256 * i) below))) len ∙ ap (λ n. f (take 256 (drop n below))) at)
+    ∙ ap (λ h. map f (ranges 256 0 i below) ++ h ∷ [])
+    (c.fold.ensures ∙ ap (λ n. f (take n (drop (256 * i) below))) len ∙ ap (λ n. f (take 256 (drop n below))) at)
     ∙ sym (ap (map f) (next_range 256 i below) ∙ map-append f (ranges 256 0 i below) (part (i * 256) 256 below ∷ []))

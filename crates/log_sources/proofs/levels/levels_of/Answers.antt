@@ -20,6 +20,10 @@ loop-level-preserved g c =
     let rows = map (λ row. row.items) levels in
     let level = c.loop-level.level in
     let h = c.loop-level.invariant in
-    let below : c.deref.result.now ≡ full_row digest entries level = c.deref.ensures.value ∙ read_level digest entries (λ row. row.items) levels (level + 1) level c.index.result.now h (omega arith) c.index.ensures in
+    let below : c.deref.result.now ≡ full_row digest entries level =
+    c.deref.ensures.value ∙
+    read_level digest entries (λ row. row.items) levels (level + 1) level c.index.result.now h
+    (omega arith) c.index.ensures in
     rw (c.in_ok-push-2.ensures.items, map-append (λ row. row.items) levels (c.in_ok-row.row ∷ []))
-    (more_rows digest entries (level + 1) rows c.in_ok-row.row.items h (next_level digest entries level c.deref.result.now c.in_ok-row.row.items below c.in_ok-row.ensures))
+    (more_rows digest entries (level + 1) rows c.in_ok-row.row.items h
+    (next_level digest entries level c.deref.result.now c.in_ok-row.row.items below c.in_ok-row.ensures))

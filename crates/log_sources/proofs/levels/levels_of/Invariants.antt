@@ -4,4 +4,5 @@ use Rattle.log_sources.proofs.levels.levels_of.Given as goal
 
 -- the levels so far
 abbrev pub invariant-loop-level : goal.invariant-loop-level
-invariant-loop-level g l = AreFullRows g.H.TreeHash.digest (map (λ e. e.items) l.entries) (l.level + 1) (map (λ row. row.items) l.levels.items)
+invariant-loop-level g l =
+    AreFullRows g.H.TreeHash.digest (map (λ e. e.items) l.entries) (l.level + 1) (map (λ row. row.items) l.levels.items)

@@ -9,5 +9,6 @@ returns-in_ok-bundle_text_of-in-Some c =
     let at = 256 * c.args.index in
     let cut : map (λ e. e.items) c.in-Some.part.now ≡ take c.args.width (drop at (map (λ e. e.items) entries)) =
     ap (map (λ e. e.items)) c.in-Some.ensures.found.1
-    ∙ sym (ap (take c.args.width) (drop-map (λ e. e.items) at entries) ∙ take-map (λ e. e.items) c.args.width (drop at entries)) in
+    ∙ sym (ap (take c.args.width) (drop-map (λ e. e.items) at entries) ∙
+    take-map (λ e. e.items) c.args.width (drop at entries)) in
     (c.in-Some.ensures.found.0, c.in_ok-bundle_text_of-in-Some.ensures ∙ ap bundle_text cut)

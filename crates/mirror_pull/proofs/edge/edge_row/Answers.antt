@@ -4,54 +4,66 @@ use Rattle.log_sources.specs.Files.{full_of}
 use Rattle.std.proofs.lemmas.Result.{err_from_is_err_and}
 use Rattle.mirror_pull.proofs.Askings.{adds_some_then, adds_to_then, some_of}
 use Rattle.mirror_pull.proofs.Freshness.{fresh_unasked, gone_partial}
-use Rattle.mirror_pull.proofs.TrueRows.{source_stays, adds_one_each, adds_two_each, full_fresh, row_found, row_full, is_gone, full_answers, full_length, gets_full, tile_within}
+use Rattle.mirror_pull.proofs.TrueRows.{source_stays, adds_one_each, adds_two_each, full_fresh, row_found, row_full}
+use Rattle.mirror_pull.proofs.TrueRows.{is_gone, full_answers, full_length, gets_full, tile_within}
 use Rattle.mirror_pull.proofs.edge.edge_row.Goals as goal
 
 pub returns-in_err-bytes-2-clause-told : goal.returns-in_err-bytes-2-clause-told
 returns-in_err-bytes-2-clause-told g c =
     let asked = g.S.Source.asked in
     let p = err_from_is_err_and c.from_residual-in_err-bytes-2.result c.from_residual-in_err-bytes-2.ensures.1 in
-    rw p.1 (adds_some_then c.args.asked.now.items c.ask.new.asked.items (asked c.args.source.now) (asked c.ask.new.source) (asked c.ask-2.new.source) c.in_ok-bytes.ensures.told c.in_err-bytes-2.ensures.told)
+    rw p.1 (adds_some_then c.args.asked.now.items c.ask.new.asked.items (asked c.args.source.now)
+    (asked c.ask.new.source) (asked c.ask-2.new.source) c.in_ok-bytes.ensures.told c.in_err-bytes-2.ensures.told)
 
 pub returns-in_err-bytes-clause-early : goal.returns-in_err-bytes-clause-early
 returns-in_err-bytes-clause-early g c =
-    let p = err_from_is_err_and c.from_residual.result c.from_residual.ensures.1 in rw (p.1, p.2) c.in_err-bytes.ensures.early
+    let p = err_from_is_err_and c.from_residual.result c.from_residual.ensures.1 in rw
+    (p.1, p.2) c.in_err-bytes.ensures.early
 
 pub returns-in_err-bytes-2-clause-early : goal.returns-in_err-bytes-2-clause-early
 returns-in_err-bytes-2-clause-early g c =
-    let p = err_from_is_err_and c.from_residual-in_err-bytes-2.result c.from_residual-in_err-bytes-2.ensures.1 in rw (p.1, p.2) c.in_err-bytes-2.ensures.early
+    let p = err_from_is_err_and c.from_residual-in_err-bytes-2.result c.from_residual-in_err-bytes-2.ensures.1 in rw
+    (p.1, p.2) c.in_err-bytes-2.ensures.early
 
 pub returns-in_default-2-clause-told : goal.returns-in_default-2-clause-told
 returns-in_default-2-clause-told g c =
     let asked = g.S.Source.asked in
-    some_of _ _ _ _ (adds_to_then c.args.asked.now.items c.ask.new.asked.items c.ask-2.new.asked.items (asked c.args.source.now) (asked c.ask.new.source) (asked c.ask-2.new.source) c.in_ok-bytes.ensures.told c.in_ok-bytes-2.ensures.told)
+    some_of _ _ _ _
+    (adds_to_then c.args.asked.now.items c.ask.new.asked.items c.ask-2.new.asked.items (asked c.args.source.now)
+    (asked c.ask.new.source) (asked c.ask-2.new.source) c.in_ok-bytes.ensures.told c.in_ok-bytes-2.ensures.told)
 
 pub returns-then-len-ne-FULL_TILE-clause-told : goal.returns-then-len-ne-FULL_TILE-clause-told
 returns-then-len-ne-FULL_TILE-clause-told g c =
     let asked = g.S.Source.asked in
-    some_of _ _ _ _ (adds_to_then c.args.asked.now.items c.ask.new.asked.items c.ask-2.new.asked.items (asked c.args.source.now) (asked c.ask.new.source) (asked c.ask-2.new.source) c.in_ok-bytes.ensures.told c.in_ok-bytes-2.ensures.told)
+    some_of _ _ _ _
+    (adds_to_then c.args.asked.now.items c.ask.new.asked.items c.ask-2.new.asked.items (asked c.args.source.now)
+    (asked c.ask.new.source) (asked c.ask-2.new.source) c.in_ok-bytes.ensures.told c.in_ok-bytes-2.ensures.told)
 
 pub returns-clause-told : goal.returns-clause-told
 returns-clause-told g c =
     let asked = g.S.Source.asked in
-    adds_to_then c.args.asked.now.items c.ask.new.asked.items c.ask-2.new.asked.items (asked c.args.source.now) (asked c.ask.new.source) (asked c.ask-2.new.source) c.in_ok-bytes.ensures.told c.in_ok-bytes-2.ensures.told
+    adds_to_then c.args.asked.now.items c.ask.new.asked.items c.ask-2.new.asked.items (asked c.args.source.now)
+    (asked c.ask.new.source) (asked c.ask-2.new.source) c.in_ok-bytes.ensures.told c.in_ok-bytes-2.ensures.told
 
 pub returns-in-Some-clause-each : goal.returns-in-Some-clause-each
 returns-in-Some-clause-each g c =
-    λ fresh partial. adds_one_each c.args.path c.args.asked.now.items c.ask.new.asked.items (c.in_ok-bytes.ensures.grown (fresh_unasked c.args.asked.now.items c.args.path fresh))
+    λ fresh partial. adds_one_each c.args.path c.args.asked.now.items c.ask.new.asked.items
+    (c.in_ok-bytes.ensures.grown (fresh_unasked c.args.asked.now.items c.args.path fresh))
 
 pub returns-in-Some-clause-honest : goal.returns-in-Some-clause-honest
 returns-in-Some-clause-honest g c =
     λ digest entries is tile fresh.
     let unasked = fresh_unasked c.args.asked.now.items c.args.path fresh in
     let answer = rw c.in-Some.is at (c.in_ok-bytes.ensures.answer unasked) in
-    row_found digest entries (g.S.Source.may_answer c.args.source.now) is c.args.path c.args.asked.now.items c.ask.new.asked.items c.in-Some.bytes.items tile answer (c.in_ok-bytes.ensures.grown unasked)
+    row_found digest entries
+    (g.S.Source.may_answer c.args.source.now) is c.args.path c.args.asked.now.items c.ask.new.asked.items c.in-Some.bytes.items tile answer (c.in_ok-bytes.ensures.grown unasked)
 
 pub returns-clause-each : goal.returns-clause-each
 returns-clause-each g c =
     λ fresh partial.
     let grown = c.in_ok-bytes.ensures.grown (fresh_unasked c.args.asked.now.items c.args.path fresh) in
-    let full = full_fresh c.args.path c.full_path.result c.args.asked.now.items c.ask.new.asked.items c.full_path.ensures partial grown fresh in
+    let full =
+    full_fresh c.args.path c.full_path.result c.args.asked.now.items c.ask.new.asked.items c.full_path.ensures partial grown fresh in
     adds_two_each c.args.path c.full_path.result c.args.asked.now.items c.ask.new.asked.items c.ask-2.new.asked.items c.full_path.ensures grown (c.in_ok-bytes-2.ensures.grown full)
 
 pub returns-clause-honest : goal.returns-clause-honest
@@ -61,13 +73,22 @@ returns-clause-honest g c =
     let unasked = fresh_unasked c.args.asked.now.items c.args.path fresh in
     let grown = c.in_ok-bytes.ensures.grown unasked in
     let none = rw c.in_default.is at (c.in_ok-bytes.ensures.answer unasked) in
-    let gone = is_gone digest entries (g.S.Source.may_answer c.args.source.now) is c.args.path (tile_within (length entries) c.args.path tile) none in
-    let next = source_stays digest entries (g.S.Source.may_answer c.args.source.now) may c.in_ok-bytes.ensures.later is in
-    let full = full_fresh c.args.path c.full_path.result c.args.asked.now.items c.ask.new.asked.items c.full_path.ensures (gone_partial (length entries) c.args.path gone) grown fresh in
-    let answer : may c.full_path.result (Some c.in-Some-2.bytes.items) = rw c.in-Some-2.is at (c.in_ok-bytes-2.ensures.answer full) in
-    let there : may (full_of c.args.path) (Some c.in-Some-2.bytes.items) = subst (λ (q : Path). may q (Some c.in-Some-2.bytes.items)) c.full_path.ensures answer in
+    let gone =
+    is_gone digest entries (g.S.Source.may_answer c.args.source.now) is c.args.path
+    (tile_within (length entries) c.args.path tile) none in
+    let next =
+    source_stays digest entries (g.S.Source.may_answer c.args.source.now) may c.in_ok-bytes.ensures.later is in
+    let full =
+    full_fresh c.args.path c.full_path.result c.args.asked.now.items c.ask.new.asked.items c.full_path.ensures
+    (gone_partial (length entries) c.args.path gone) grown fresh in
+    let answer : may c.full_path.result (Some c.in-Some-2.bytes.items) =
+    rw c.in-Some-2.is at (c.in_ok-bytes-2.ensures.answer full) in
+    let there : may (full_of c.args.path) (Some c.in-Some-2.bytes.items) =
+    subst (λ (q : Path). may q (Some c.in-Some-2.bytes.items)) c.full_path.ensures answer in
     record {
-      bytes_are = rw c.path_width.ensures at c.truncate.ensures.items ∙ row_full digest entries may next c.args.path c.in-Some-2.bytes.items tile gone there;
+      bytes_are =
+          rw c.path_width.ensures at c.truncate.ensures.items ∙
+          row_full digest entries may next c.args.path c.in-Some-2.bytes.items tile gone there;
       gets = gets_full digest entries may next c.args.path c.full_path.result c.args.asked.now.items c.ask.new.asked.items c.ask-2.new.asked.items gone c.full_path.ensures grown (c.in_ok-bytes-2.ensures.grown full);
     }
 
@@ -78,11 +99,17 @@ returns-in_default-2-clause-honest g c =
     let unasked = fresh_unasked c.args.asked.now.items c.args.path fresh in
     let grown = c.in_ok-bytes.ensures.grown unasked in
     let none = rw c.in_default.is at (c.in_ok-bytes.ensures.answer unasked) in
-    let gone = is_gone digest entries (g.S.Source.may_answer c.args.source.now) is c.args.path (tile_within (length entries) c.args.path tile) none in
-    let next = source_stays digest entries (g.S.Source.may_answer c.args.source.now) may c.in_ok-bytes.ensures.later is in
-    let full = full_fresh c.args.path c.full_path.result c.args.asked.now.items c.ask.new.asked.items c.full_path.ensures (gone_partial (length entries) c.args.path gone) grown fresh in
+    let gone =
+    is_gone digest entries (g.S.Source.may_answer c.args.source.now) is c.args.path
+    (tile_within (length entries) c.args.path tile) none in
+    let next =
+    source_stays digest entries (g.S.Source.may_answer c.args.source.now) may c.in_ok-bytes.ensures.later is in
+    let full =
+    full_fresh c.args.path c.full_path.result c.args.asked.now.items c.ask.new.asked.items c.full_path.ensures
+    (gone_partial (length entries) c.args.path gone) grown fresh in
     let answer : may c.full_path.result None = rw c.in_default-2.is at (c.in_ok-bytes-2.ensures.answer full) in
-    absurd (full_answers digest entries may next c.args.path gone (subst (λ (q : Path). may q None) c.full_path.ensures answer))
+    absurd (full_answers digest entries may next c.args.path gone
+    (subst (λ (q : Path). may q None) c.full_path.ensures answer))
 
 pub returns-then-len-ne-FULL_TILE-clause-honest : goal.returns-then-len-ne-FULL_TILE-clause-honest
 returns-then-len-ne-FULL_TILE-clause-honest g c =
@@ -91,10 +118,18 @@ returns-then-len-ne-FULL_TILE-clause-honest g c =
     let unasked = fresh_unasked c.args.asked.now.items c.args.path fresh in
     let grown = c.in_ok-bytes.ensures.grown unasked in
     let none = rw c.in_default.is at (c.in_ok-bytes.ensures.answer unasked) in
-    let gone = is_gone digest entries (g.S.Source.may_answer c.args.source.now) is c.args.path (tile_within (length entries) c.args.path tile) none in
-    let next = source_stays digest entries (g.S.Source.may_answer c.args.source.now) may c.in_ok-bytes.ensures.later is in
-    let full = full_fresh c.args.path c.full_path.result c.args.asked.now.items c.ask.new.asked.items c.full_path.ensures (gone_partial (length entries) c.args.path gone) grown fresh in
-    let answer : may c.full_path.result (Some c.in-Some-2.bytes.items) = rw c.in-Some-2.is at (c.in_ok-bytes-2.ensures.answer full) in
-    let there : may (full_of c.args.path) (Some c.in-Some-2.bytes.items) = subst (λ (q : Path). may q (Some c.in-Some-2.bytes.items)) c.full_path.ensures answer in
-    let long : length c.in-Some-2.bytes.items ≡ 8192 = full_length digest entries may next c.args.path c.in-Some-2.bytes.items tile gone there in
+    let gone =
+    is_gone digest entries (g.S.Source.may_answer c.args.source.now) is c.args.path
+    (tile_within (length entries) c.args.path tile) none in
+    let next =
+    source_stays digest entries (g.S.Source.may_answer c.args.source.now) may c.in_ok-bytes.ensures.later is in
+    let full =
+    full_fresh c.args.path c.full_path.result c.args.asked.now.items c.ask.new.asked.items c.full_path.ensures
+    (gone_partial (length entries) c.args.path gone) grown fresh in
+    let answer : may c.full_path.result (Some c.in-Some-2.bytes.items) =
+    rw c.in-Some-2.is at (c.in_ok-bytes-2.ensures.answer full) in
+    let there : may (full_of c.args.path) (Some c.in-Some-2.bytes.items) =
+    subst (λ (q : Path). may q (Some c.in-Some-2.bytes.items)) c.full_path.ensures answer in
+    let long : length c.in-Some-2.bytes.items ≡ 8192 =
+    full_length digest entries may next c.args.path c.in-Some-2.bytes.items tile gone there in
     absurd (c.if-len-ne-FULL_TILE.true (c.len.ensures ∙ (c.in-Some-2.bytes.ok.0 ∙ long)))

@@ -11,35 +11,47 @@ pub returns-in_err-row-clause-told : goal.returns-in_err-row-clause-told
 returns-in_err-row-clause-told g c =
     let asked = g.S.Source.asked in
     let p = err_from_is_err_and c.from_residual-in_err-row.result c.from_residual-in_err-row.ensures.1 in
-    rw p.1 (adds_some_then c.args.asked.now.items c.loop-path.asked.items (asked c.args.source.now) (asked c.loop-path.source) (asked c.edge_row.new.source) c.loop-path.invariant.told c.in_err-row.ensures.told)
+    rw p.1 (adds_some_then c.args.asked.now.items c.loop-path.asked.items (asked c.args.source.now)
+    (asked c.loop-path.source) (asked c.edge_row.new.source) c.loop-path.invariant.told c.in_err-row.ensures.told)
 
 pub returns-in_err-row-clause-counted : goal.returns-in_err-row-clause-counted
 returns-in_err-row-clause-counted g c =
     let failed = g.S.Source.failed in
     let p = err_from_is_err_and c.from_residual-in_err-row.result c.from_residual-in_err-row.ensures.1 in
-    rw (p.1, p.2) (counts_err (failed c.args.source.now) (failed c.loop-path.source) (failed c.edge_row.new.source) c.in_err-row.field-0.0 c.loop-path.invariant.counted c.in_err-row.ensures.counted)
+    rw (p.1, p.2)
+    (counts_err (failed c.args.source.now) (failed c.loop-path.source)
+    (failed c.edge_row.new.source) c.in_err-row.field-0.0 c.loop-path.invariant.counted c.in_err-row.ensures.counted)
 
 pub returns-in_err-row-clause-later : goal.returns-in_err-row-clause-later
 returns-in_err-row-clause-later g c =
     let may = g.S.Source.may_answer in
-    stays_then (may c.args.source.now) (may c.loop-path.source) (may c.edge_row.new.source) c.loop-path.invariant.later c.in_err-row.ensures.later
+    stays_then (may c.args.source.now) (may c.loop-path.source)
+    (may c.edge_row.new.source) c.loop-path.invariant.later c.in_err-row.ensures.later
 
 pub returns-in_err-row-clause-early : goal.returns-in_err-row-clause-early
 returns-in_err-row-clause-early g c =
-    let p = err_from_is_err_and c.from_residual-in_err-row.result c.from_residual-in_err-row.ensures.1 in rw (p.1, p.2) c.in_err-row.ensures.early
+    let p = err_from_is_err_and c.from_residual-in_err-row.result c.from_residual-in_err-row.ensures.1 in rw
+    (p.1, p.2) c.in_err-row.ensures.early
 
 pub loop-path-preserved : goal.loop-path-preserved
 loop-path-preserved g c =
     let asked = g.S.Source.asked in
     let may = g.S.Source.may_answer in
     record {
-      told = adds_to_then c.args.asked.now.items c.loop-path.asked.items c.edge_row.new.asked.items (asked c.args.source.now) (asked c.loop-path.source) (asked c.edge_row.new.source) c.loop-path.invariant.told c.in_ok-row.ensures.told;
+      told = adds_to_then c.args.asked.now.items c.loop-path.asked.items c.edge_row.new.asked.items
+          (asked c.args.source.now) (asked c.loop-path.source)
+          (asked c.edge_row.new.source) c.loop-path.invariant.told c.in_ok-row.ensures.told;
       counted = c.in_ok-row.ensures.counted ∙ c.loop-path.invariant.counted;
-      each = λ fresh. each_step c.deref-path-items.result.now (edge_of c.args.size) c.args.asked.now.items c.loop-path.asked.items c.edge_row.new.asked.items c.loop-path.path-index (c.deref-path-items.ensures.value ∙ c.in_ok-paths.ensures) c.loop-path-test.true fresh (edge_partial c.args.size) (c.loop-path.invariant.each fresh) c.in_ok-row.ensures.each;
+      each = λ fresh. each_step c.deref-path-items.result.now
+          (edge_of c.args.size) c.args.asked.now.items c.loop-path.asked.items c.edge_row.new.asked.items c.loop-path.path-index (c.deref-path-items.ensures.value ∙ c.in_ok-paths.ensures) c.loop-path-test.true fresh (edge_partial c.args.size) (c.loop-path.invariant.each fresh) c.in_ok-row.ensures.each;
       honest = λ digest entries is within fresh.
-          rows_step digest entries (λ row. row.items) c.deref-path-items.result.now (edge_of c.args.size) c.args.asked.now.items c.loop-path.asked.items c.edge_row.new.asked.items c.loop-path.path-index c.loop-path.rows.items c.push.new.self.items c.in_ok-row.row (c.deref-path-items.ensures.value ∙ c.in_ok-paths.ensures) c.loop-path-test.true fresh (edge_tile c.args.size (length entries) within) c.in_ok-push.ensures.items (c.loop-path.invariant.honest digest entries is within fresh)
-          (c.in_ok-row.ensures.honest digest entries (source_stays digest entries (may c.args.source.now) (may c.loop-path.source) c.loop-path.invariant.later is));
-      later = stays_then (may c.args.source.now) (may c.loop-path.source) (may c.edge_row.new.source) c.loop-path.invariant.later c.in_ok-row.ensures.later;
+          rows_step digest entries (λ row. row.items) c.deref-path-items.result.now
+          (edge_of c.args.size) c.args.asked.now.items c.loop-path.asked.items c.edge_row.new.asked.items c.loop-path.path-index c.loop-path.rows.items c.push.new.self.items c.in_ok-row.row (c.deref-path-items.ensures.value ∙ c.in_ok-paths.ensures) c.loop-path-test.true fresh (edge_tile c.args.size (length entries) within) c.in_ok-push.ensures.items (c.loop-path.invariant.honest digest entries is within fresh)
+          (c.in_ok-row.ensures.honest digest entries
+          (source_stays digest entries (may c.args.source.now)
+          (may c.loop-path.source) c.loop-path.invariant.later is));
+      later = stays_then (may c.args.source.now) (may c.loop-path.source)
+          (may c.edge_row.new.source) c.loop-path.invariant.later c.in_ok-row.ensures.later;
     }
 
 pub loop-path-init : goal.loop-path-init
@@ -48,7 +60,8 @@ loop-path-init g c =
       told = adds_to_none c.args.asked.now.items (g.S.Source.asked c.args.source.now);
       counted = refl;
       each = λ fresh. adds_each_none c.args.asked.now.items;
-      honest = λ digest entries is within fresh. rw (ap (map (λ row. row.items)) c.new-rows.ensures.items) (rows_none digest entries c.args.asked.now.items);
+      honest = λ digest entries is within fresh. rw (ap (map (λ row. row.items)) c.new-rows.ensures.items)
+          (rows_none digest entries c.args.asked.now.items);
       later = stays_itself (g.S.Source.may_answer c.args.source.now);
     }
 
@@ -56,17 +69,29 @@ pub returns-in_err-push-clause-told : goal.returns-in_err-push-clause-told
 returns-in_err-push-clause-told g c =
     let asked = g.S.Source.asked in
     let p = err_from_is_err_and c.from_residual-in_err-push.result c.from_residual-in_err-push.ensures.1 in
-    rw p.1 (some_of c.args.asked.now.items c.edge_row.new.asked.items (asked c.args.source.now) (asked c.edge_row.new.source) (adds_to_then c.args.asked.now.items c.loop-path.asked.items c.edge_row.new.asked.items (asked c.args.source.now) (asked c.loop-path.source) (asked c.edge_row.new.source) c.loop-path.invariant.told c.in_ok-row.ensures.told))
+    rw p.1 (some_of c.args.asked.now.items c.edge_row.new.asked.items (asked c.args.source.now)
+    (asked c.edge_row.new.source)
+    (adds_to_then c.args.asked.now.items c.loop-path.asked.items c.edge_row.new.asked.items
+    (asked c.args.source.now) (asked c.loop-path.source)
+    (asked c.edge_row.new.source) c.loop-path.invariant.told c.in_ok-row.ensures.told))
 
 pub returns-in_err-row-clause-honest : goal.returns-in_err-row-clause-honest
 returns-in_err-row-clause-honest g c =
     let may = g.S.Source.may_answer in
     let p = err_from_is_err_and c.from_residual-in_err-row.result c.from_residual-in_err-row.ensures.1 in
     rw (p.1, p.2) (λ digest entries is within fresh.
-    row_reached digest entries c.deref-path-items.result.now (edge_of c.args.size) c.args.asked.now.items c.loop-path.asked.items c.loop-path.path-index (map (λ row. row.items) c.loop-path.rows.items) (c.deref-path-items.ensures.value ∙ c.in_ok-paths.ensures) c.loop-path-test.true fresh (edge_tile c.args.size (length entries) within) (c.loop-path.invariant.honest digest entries is within fresh)
-    (c.in_err-row.ensures.honest digest entries (source_stays digest entries (may c.args.source.now) (may c.loop-path.source) c.loop-path.invariant.later is)))
+    row_reached digest entries c.deref-path-items.result.now
+    (edge_of c.args.size) c.args.asked.now.items c.loop-path.asked.items c.loop-path.path-index
+    (map (λ row. row.items) c.loop-path.rows.items)
+    (c.deref-path-items.ensures.value ∙ c.in_ok-paths.ensures) c.loop-path-test.true fresh
+    (edge_tile c.args.size (length entries) within) (c.loop-path.invariant.honest digest entries is within fresh)
+    (c.in_err-row.ensures.honest digest entries
+    (source_stays digest entries (may c.args.source.now) (may c.loop-path.source) c.loop-path.invariant.later is)))
 
 pub returns-clause-honest : goal.returns-clause-honest
 returns-clause-honest g c =
     λ digest entries is within fresh. let e = c.deref-path-items.ensures.value ∙ c.in_ok-paths.ensures in
-    rows_whole digest entries (edge_of c.args.size) c.args.asked.now.items c.loop-path.asked.items c.loop-path.path-index _ (omega (arith, ap length e, c.loop-path-test.false)) (c.loop-path.invariant.honest digest entries is within fresh)
+    rows_whole digest entries
+    (edge_of c.args.size) c.args.asked.now.items c.loop-path.asked.items c.loop-path.path-index _
+    (omega (arith, ap length e, c.loop-path-test.false))
+    (c.loop-path.invariant.honest digest entries is within fresh)

@@ -9,9 +9,13 @@ abbrev pub invariant-loop-path : goal.invariant-loop-path
 invariant-loop-path g l = record {
   told : AddsTo l.fn.asked.items l.asked.items (g.S.Source.asked l.fn.source) (g.S.Source.asked l.source);
   counted : g.S.Source.failed l.source ≡ g.S.Source.failed l.fn.source;
-  each : AreFresh l.fn.asked.items (edge_of l.fn.size) → AddsEach (take l.path-index (edge_of l.fn.size)) l.fn.asked.items l.asked.items;
+  each : AreFresh l.fn.asked.items (edge_of l.fn.size) →
+      AddsEach (take l.path-index (edge_of l.fn.size)) l.fn.asked.items l.asked.items;
   honest :
-      (digest : List ℕ → List ℕ) (entries : List (List ℕ)) → IsTrueSource digest entries (g.S.Source.may_answer l.fn.source) → l.fn.size ≤ length entries →
-      AreFresh l.fn.asked.items (edge_of l.fn.size) → AreTrueRows digest entries (take l.path-index (edge_of l.fn.size)) l.fn.asked.items l.asked.items (map (λ row. row.items) l.rows.items);
+      (digest : List ℕ → List ℕ) (entries : List (List ℕ)) →
+      IsTrueSource digest entries (g.S.Source.may_answer l.fn.source) → l.fn.size ≤ length entries →
+      AreFresh l.fn.asked.items (edge_of l.fn.size) →
+      AreTrueRows digest entries (take l.path-index (edge_of l.fn.size)) l.fn.asked.items l.asked.items
+      (map (λ row. row.items) l.rows.items);
   later : StaysWithin (g.S.Source.may_answer l.fn.source) (g.S.Source.may_answer l.source);
 }

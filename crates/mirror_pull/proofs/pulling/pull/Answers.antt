@@ -3,7 +3,10 @@ use Rattle.tlog_tiles.specs.declared.paths.Path.TheVariants.{Checkpoint}
 use Rattle.mirror_model.proofs.Views.{within_itself, head_stays}
 use Rattle.mirror_pull.specs.Answering.{of_take}
 use Rattle.mirror_pull.proofs.TrueRows.{source_stays}
-use Rattle.mirror_pull.proofs.TruePulls.{none_asked, first_asked, parts_asked, some_same, never_none, read_honestly, read_small, pull_source, edge_fresh, rows_of_edge, head_fault, head_done, rounds_may, worked_complete, worked_gets, worked_few, worked_none, worked_note, worked_notes, worked_strings, outcome_read}
+use Rattle.mirror_pull.proofs.TruePulls.{none_asked, first_asked, parts_asked, some_same, never_none, read_honestly}
+use Rattle.mirror_pull.proofs.TruePulls.{read_small, pull_source, edge_fresh, rows_of_edge, head_fault, head_done}
+use Rattle.mirror_pull.proofs.TruePulls.{rounds_may, worked_complete, worked_gets, worked_few, worked_none, worked_note}
+use Rattle.mirror_pull.proofs.TruePulls.{worked_notes, worked_strings, outcome_read}
 use Rattle.std.proofs.lemmas.Result.{err_from_is_err_and}
 use Rattle.mirror_pull.proofs.Askings.{adds_some_then, adds_to_then, some_of, from_none}
 use Rattle.mirror_pull.proofs.Gains.{outcome_head, outcome_late, grows_head, grows_then, has_head, stays_then}
@@ -12,33 +15,61 @@ use Rattle.mirror_pull.proofs.pulling.pull.Goals as goal
 
 pub returns-in_err-rows-clause-once : goal.returns-in_err-rows-clause-once
 returns-in_err-rows-clause-once g c =
-    from_none c.new-asked.result.items (g.S.Source.asked c.args.source.now) (g.S.Source.asked c.edge_rows.new.source) c.new-asked.ensures.items (adds_some_then c.new-asked.result.items c.ask.new.asked.items (g.S.Source.asked c.args.source.now) (g.S.Source.asked c.ask.new.source) (g.S.Source.asked c.edge_rows.new.source) c.in_ok-note.ensures.told c.in_err-rows.ensures.told)
+    from_none c.new-asked.result.items (g.S.Source.asked c.args.source.now)
+    (g.S.Source.asked c.edge_rows.new.source) c.new-asked.ensures.items
+    (adds_some_then c.new-asked.result.items c.ask.new.asked.items (g.S.Source.asked c.args.source.now)
+    (g.S.Source.asked c.ask.new.source)
+    (g.S.Source.asked c.edge_rows.new.source) c.in_ok-note.ensures.told c.in_err-rows.ensures.told)
 
 pub returns-in_err-take_rows-clause-once : goal.returns-in_err-take_rows-clause-once
 returns-in_err-take_rows-clause-once g c =
-    from_none c.new-asked.result.items (g.S.Source.asked c.args.source.now) (g.S.Source.asked c.edge_rows.new.source) c.new-asked.ensures.items (some_of c.new-asked.result.items c.edge_rows.new.asked.items (g.S.Source.asked c.args.source.now) (g.S.Source.asked c.edge_rows.new.source) (adds_to_then c.new-asked.result.items c.ask.new.asked.items c.edge_rows.new.asked.items (g.S.Source.asked c.args.source.now) (g.S.Source.asked c.ask.new.source) (g.S.Source.asked c.edge_rows.new.source) c.in_ok-note.ensures.told c.in_ok-rows.ensures.told))
+    from_none c.new-asked.result.items (g.S.Source.asked c.args.source.now)
+    (g.S.Source.asked c.edge_rows.new.source) c.new-asked.ensures.items
+    (some_of c.new-asked.result.items c.edge_rows.new.asked.items (g.S.Source.asked c.args.source.now)
+    (g.S.Source.asked c.edge_rows.new.source)
+    (adds_to_then c.new-asked.result.items c.ask.new.asked.items c.edge_rows.new.asked.items
+    (g.S.Source.asked c.args.source.now) (g.S.Source.asked c.ask.new.source)
+    (g.S.Source.asked c.edge_rows.new.source) c.in_ok-note.ensures.told c.in_ok-rows.ensures.told))
 
 pub returns-in_err-rounds-clause-once : goal.returns-in_err-rounds-clause-once
 returns-in_err-rounds-clause-once g c =
-    from_none c.new-asked.result.items (g.S.Source.asked c.args.source.now) (g.S.Source.asked c.work.new.source) c.new-asked.ensures.items (adds_some_then c.new-asked.result.items c.edge_rows.new.asked.items (g.S.Source.asked c.args.source.now) (g.S.Source.asked c.edge_rows.new.source) (g.S.Source.asked c.work.new.source) (adds_to_then c.new-asked.result.items c.ask.new.asked.items c.edge_rows.new.asked.items (g.S.Source.asked c.args.source.now) (g.S.Source.asked c.ask.new.source) (g.S.Source.asked c.edge_rows.new.source) c.in_ok-note.ensures.told c.in_ok-rows.ensures.told) c.in_err-rounds.ensures.told)
+    from_none c.new-asked.result.items (g.S.Source.asked c.args.source.now)
+    (g.S.Source.asked c.work.new.source) c.new-asked.ensures.items
+    (adds_some_then c.new-asked.result.items c.edge_rows.new.asked.items (g.S.Source.asked c.args.source.now)
+    (g.S.Source.asked c.edge_rows.new.source) (g.S.Source.asked c.work.new.source)
+    (adds_to_then c.new-asked.result.items c.ask.new.asked.items c.edge_rows.new.asked.items
+    (g.S.Source.asked c.args.source.now) (g.S.Source.asked c.ask.new.source)
+    (g.S.Source.asked c.edge_rows.new.source) c.in_ok-note.ensures.told c.in_ok-rows.ensures.told) c.in_err-rounds.ensures.told)
 
 pub returns-clause-once : goal.returns-clause-once
 returns-clause-once g c =
-    from_none c.new-asked.result.items (g.S.Source.asked c.args.source.now) (g.S.Source.asked c.work.new.source) c.new-asked.ensures.items (some_of c.new-asked.result.items c.work.new.asked.items (g.S.Source.asked c.args.source.now) (g.S.Source.asked c.work.new.source) (adds_to_then c.new-asked.result.items c.edge_rows.new.asked.items c.work.new.asked.items (g.S.Source.asked c.args.source.now) (g.S.Source.asked c.edge_rows.new.source) (g.S.Source.asked c.work.new.source) (adds_to_then c.new-asked.result.items c.ask.new.asked.items c.edge_rows.new.asked.items (g.S.Source.asked c.args.source.now) (g.S.Source.asked c.ask.new.source) (g.S.Source.asked c.edge_rows.new.source) c.in_ok-note.ensures.told c.in_ok-rows.ensures.told) c.in_ok-rounds.ensures.told))
+    from_none c.new-asked.result.items (g.S.Source.asked c.args.source.now)
+    (g.S.Source.asked c.work.new.source) c.new-asked.ensures.items
+    (some_of c.new-asked.result.items c.work.new.asked.items (g.S.Source.asked c.args.source.now)
+    (g.S.Source.asked c.work.new.source)
+    (adds_to_then c.new-asked.result.items c.edge_rows.new.asked.items c.work.new.asked.items
+    (g.S.Source.asked c.args.source.now) (g.S.Source.asked c.edge_rows.new.source)
+    (g.S.Source.asked c.work.new.source)
+    (adds_to_then c.new-asked.result.items c.ask.new.asked.items c.edge_rows.new.asked.items
+    (g.S.Source.asked c.args.source.now) (g.S.Source.asked c.ask.new.source)
+    (g.S.Source.asked c.edge_rows.new.source) c.in_ok-note.ensures.told c.in_ok-rows.ensures.told) c.in_ok-rounds.ensures.told))
 
 pub returns-in_err-take_rows-clause-outcome : goal.returns-in_err-take_rows-clause-outcome
 returns-in_err-take_rows-clause-outcome g c =
     let p = err_from_is_err_and c.from_residual-in_err-take_rows.result c.from_residual-in_err-take_rows.ensures.1 in
-    rw (p.1, p.2) (outcome_head g.H.TreeHash.digest _ c.args.mirror.now.view c.take_rows.new.mirror.view c.deref-2.result.now _ c.in_err-take_rows.field-0.0 c.in_err-take_rows.ensures)
+    rw (p.1, p.2)
+    (outcome_head g.H.TreeHash.digest _ c.args.mirror.now.view c.take_rows.new.mirror.view c.deref-2.result.now _ c.in_err-take_rows.field-0.0 c.in_err-take_rows.ensures)
 
 pub returns-in_err-rounds-clause-outcome : goal.returns-in_err-rounds-clause-outcome
 returns-in_err-rounds-clause-outcome g c =
     let p = err_from_is_err_and c.from_residual-in_err-rounds.result c.from_residual-in_err-rounds.ensures.1 in
-    rw (p.1, p.2) (outcome_late g.H.TreeHash.digest _ c.args.mirror.now.view c.work.new.mirror.view c.in_err-rounds.field-0.0 c.in_err-rounds.ensures.late (grows_then _ c.args.mirror.now.view c.take_rows.new.mirror.view c.work.new.mirror.view (grows_head g.H.TreeHash.digest _ c.args.mirror.now.view c.take_rows.new.mirror.view c.deref-2.result.now _ c.in_ok-take_rows.ensures) c.in_err-rounds.ensures.gains))
+    rw (p.1, p.2)
+    (outcome_late g.H.TreeHash.digest _ c.args.mirror.now.view c.work.new.mirror.view c.in_err-rounds.field-0.0 c.in_err-rounds.ensures.late (grows_then _ c.args.mirror.now.view c.take_rows.new.mirror.view c.work.new.mirror.view (grows_head g.H.TreeHash.digest _ c.args.mirror.now.view c.take_rows.new.mirror.view c.deref-2.result.now _ c.in_ok-take_rows.ensures) c.in_err-rounds.ensures.gains))
 
 pub returns-clause-outcome : goal.returns-clause-outcome
 returns-clause-outcome g c = (
-  grows_then _ c.args.mirror.now.view c.take_rows.new.mirror.view c.work.new.mirror.view (grows_head g.H.TreeHash.digest _ c.args.mirror.now.view c.take_rows.new.mirror.view c.deref-2.result.now _ c.in_ok-take_rows.ensures) c.in_ok-rounds.ensures.gains,
+  grows_then _ c.args.mirror.now.view c.take_rows.new.mirror.view c.work.new.mirror.view
+      (grows_head g.H.TreeHash.digest _ c.args.mirror.now.view c.take_rows.new.mirror.view c.deref-2.result.now _ c.in_ok-take_rows.ensures) c.in_ok-rounds.ensures.gains,
   record {
     head = has_head g.H.TreeHash.digest _ c.args.mirror.now.view c.take_rows.new.mirror.view c.work.new.mirror.view c.deref-2.result.now c.deref.result.now _ c.in_ok-checkpoint.checkpoint.size c.in_ok-checkpoint.checkpoint.root (c.deref-2.ensures.value ∙ sym c.deref.ensures.value) c.in_ok-take_rows.ensures.2 (opened_head _ _ _ c.in_ok-checkpoint.checkpoint c.in_ok-checkpoint.ensures) c.in_ok-rounds.ensures.gains.grows;
     complete = c.is_complete.ensures.0;
@@ -54,8 +85,14 @@ returns-clause-asks g c =
     let unasked = none_asked none Checkpoint c.new-asked.ensures.items in
     let begun = first_asked none c.ask.new.asked.items c.new-asked.ensures.items (c.in_ok-note.ensures.grown unasked) in
     let at = c.in_ok-checkpoint.checkpoint.size in
-    let told = adds_to_then none c.edge_rows.new.asked.items c.work.new.asked.items (asked c.args.source.now) (asked c.edge_rows.new.source) (asked c.work.new.source) (adds_to_then none c.ask.new.asked.items c.edge_rows.new.asked.items (asked c.args.source.now) (asked c.ask.new.source) (asked c.edge_rows.new.source) c.in_ok-note.ensures.told c.in_ok-rows.ensures.told) c.in_ok-rounds.ensures.told in
-    parts_asked (asked c.args.source.now) (asked c.work.new.source) (asked c.edge_rows.new.source) (asked c.work.new.source) at _ none c.ask.new.asked.items c.edge_rows.new.asked.items c.work.new.asked.items c.new-asked.ensures.items begun (c.in_ok-rows.ensures.each (edge_fresh at c.ask.new.asked.items begun)) c.in_ok-rounds.ensures.told told c.in_ok-rounds.ensures.none
+    let told =
+    adds_to_then none c.edge_rows.new.asked.items c.work.new.asked.items (asked c.args.source.now)
+    (asked c.edge_rows.new.source) (asked c.work.new.source)
+    (adds_to_then none c.ask.new.asked.items c.edge_rows.new.asked.items (asked c.args.source.now)
+    (asked c.ask.new.source)
+    (asked c.edge_rows.new.source) c.in_ok-note.ensures.told c.in_ok-rows.ensures.told) c.in_ok-rounds.ensures.told in
+    parts_asked (asked c.args.source.now) (asked c.work.new.source) (asked c.edge_rows.new.source)
+    (asked c.work.new.source) at _ none c.ask.new.asked.items c.edge_rows.new.asked.items c.work.new.asked.items c.new-asked.ensures.items begun (c.in_ok-rows.ensures.each (edge_fresh at c.ask.new.asked.items begun)) c.in_ok-rounds.ensures.told told c.in_ok-rounds.ensures.none
 
 pub returns-in_default-clause-honest : goal.returns-in_default-clause-honest
 returns-in_default-clause-honest g c =
@@ -77,9 +114,14 @@ returns-in_err-checkpoint-clause-honest g c =
     let none = c.new-asked.result.items in
     let unasked = none_asked none Checkpoint c.new-asked.ensures.items in
     let begun = first_asked none c.ask.new.asked.items c.new-asked.ensures.items (c.in_ok-note.ensures.grown unasked) in
-    let answer : may c.args.source.now Checkpoint (Some c.in-Some.note.items) = rw c.in-Some.is at (c.in_ok-note.ensures.answer unasked) in
-    let same : c.deref.result.now ≡ note = c.deref.ensures.value ∙ some_same c.in-Some.note.items note (is.checkpoint (Some c.in-Some.note.items) answer) in
-    inl (ap of_take (honest_fault digest entries _ v note c.deref.result.now size (may c.args.source.now) is same c.in_err-checkpoint.field-0.0 c.in_err-checkpoint.ensures)))
+    let answer : may c.args.source.now Checkpoint (Some c.in-Some.note.items) =
+    rw c.in-Some.is at (c.in_ok-note.ensures.answer unasked) in
+    let same : c.deref.result.now ≡ note =
+    c.deref.ensures.value ∙
+    some_same c.in-Some.note.items note (is.checkpoint (Some c.in-Some.note.items) answer) in
+    inl (ap of_take
+    (honest_fault digest entries _ v note c.deref.result.now size
+    (may c.args.source.now) is same c.in_err-checkpoint.field-0.0 c.in_err-checkpoint.ensures)))
 
 pub returns-in_err-rows-clause-honest : goal.returns-in_err-rows-clause-honest
 returns-in_err-rows-clause-honest g c =
@@ -91,13 +133,23 @@ returns-in_err-rows-clause-honest g c =
     let none = c.new-asked.result.items in
     let unasked = none_asked none Checkpoint c.new-asked.ensures.items in
     let begun = first_asked none c.ask.new.asked.items c.new-asked.ensures.items (c.in_ok-note.ensures.grown unasked) in
-    let answer : may c.args.source.now Checkpoint (Some c.in-Some.note.items) = rw c.in-Some.is at (c.in_ok-note.ensures.answer unasked) in
-    let same : c.deref.result.now ≡ note = c.deref.ensures.value ∙ some_same c.in-Some.note.items note (is.checkpoint (Some c.in-Some.note.items) answer) in
+    let answer : may c.args.source.now Checkpoint (Some c.in-Some.note.items) =
+    rw c.in-Some.is at (c.in_ok-note.ensures.answer unasked) in
+    let same : c.deref.result.now ≡ note =
+    c.deref.ensures.value ∙
+    some_same c.in-Some.note.items note (is.checkpoint (Some c.in-Some.note.items) answer) in
     let at = c.in_ok-checkpoint.checkpoint.size in
     let root = c.in_ok-checkpoint.checkpoint.root in
-    let size_root = honest_size digest entries _ v note c.deref.result.now size (may c.args.source.now) is same c.in_ok-checkpoint.checkpoint c.in_ok-checkpoint.ensures in
-    let read = read_honestly digest entries _ v note c.deref.result.now size at root (may c.args.source.now) is clean same size_root.0 size_root.1 in
-    let source = source_stays digest entries (may c.args.source.now) (may c.ask.new.source) c.in_ok-note.ensures.later (pull_source digest g.met.H.TreeHash.digest_length _ entries v c.deref.result.now at (may c.args.source.now) read.honest read.clean) in
+    let size_root =
+    honest_size digest entries _ v note c.deref.result.now size
+    (may c.args.source.now) is same c.in_ok-checkpoint.checkpoint c.in_ok-checkpoint.ensures in
+    let read =
+    read_honestly digest entries _ v note c.deref.result.now size at root
+    (may c.args.source.now) is clean same size_root.0 size_root.1 in
+    let source =
+    source_stays digest entries (may c.args.source.now) (may c.ask.new.source) c.in_ok-note.ensures.later
+    (pull_source digest g.met.H.TreeHash.digest_length _ entries v c.deref.result.now at
+    (may c.args.source.now) read.honest read.clean) in
     let fresh = edge_fresh at c.ask.new.asked.items begun in
     c.in_err-rows.ensures.honest digest entries source read.honest.within fresh)
 
@@ -111,19 +163,32 @@ returns-in_err-take_rows-clause-honest g c =
     let none = c.new-asked.result.items in
     let unasked = none_asked none Checkpoint c.new-asked.ensures.items in
     let begun = first_asked none c.ask.new.asked.items c.new-asked.ensures.items (c.in_ok-note.ensures.grown unasked) in
-    let answer : may c.args.source.now Checkpoint (Some c.in-Some.note.items) = rw c.in-Some.is at (c.in_ok-note.ensures.answer unasked) in
-    let same : c.deref.result.now ≡ note = c.deref.ensures.value ∙ some_same c.in-Some.note.items note (is.checkpoint (Some c.in-Some.note.items) answer) in
+    let answer : may c.args.source.now Checkpoint (Some c.in-Some.note.items) =
+    rw c.in-Some.is at (c.in_ok-note.ensures.answer unasked) in
+    let same : c.deref.result.now ≡ note =
+    c.deref.ensures.value ∙
+    some_same c.in-Some.note.items note (is.checkpoint (Some c.in-Some.note.items) answer) in
     let at = c.in_ok-checkpoint.checkpoint.size in
     let root = c.in_ok-checkpoint.checkpoint.root in
-    let size_root = honest_size digest entries _ v note c.deref.result.now size (may c.args.source.now) is same c.in_ok-checkpoint.checkpoint c.in_ok-checkpoint.ensures in
-    let read = read_honestly digest entries _ v note c.deref.result.now size at root (may c.args.source.now) is clean same size_root.0 size_root.1 in
-    let source = source_stays digest entries (may c.args.source.now) (may c.ask.new.source) c.in_ok-note.ensures.later (pull_source digest g.met.H.TreeHash.digest_length _ entries v c.deref.result.now at (may c.args.source.now) read.honest read.clean) in
+    let size_root =
+    honest_size digest entries _ v note c.deref.result.now size
+    (may c.args.source.now) is same c.in_ok-checkpoint.checkpoint c.in_ok-checkpoint.ensures in
+    let read =
+    read_honestly digest entries _ v note c.deref.result.now size at root
+    (may c.args.source.now) is clean same size_root.0 size_root.1 in
+    let source =
+    source_stays digest entries (may c.args.source.now) (may c.ask.new.source) c.in_ok-note.ensures.later
+    (pull_source digest g.met.H.TreeHash.digest_length _ entries v c.deref.result.now at
+    (may c.args.source.now) read.honest read.clean) in
     let fresh = edge_fresh at c.ask.new.asked.items begun in
     let rows = c.in_ok-rows.ensures.honest digest entries source read.honest.within fresh in
-    let are = ap (map (λ row. row.items)) c.deref-3.ensures.value ∙ (rows.rows_are ∙ rows_of_edge digest entries at read.honest.within) in
+    let are =
+    ap (map (λ row. row.items)) c.deref-3.ensures.value ∙
+    (rows.rows_are ∙ rows_of_edge digest entries at read.honest.within) in
     let note_is : c.deref-2.result.now ≡ c.deref.result.now = c.deref-2.ensures.value ∙ sym c.deref.ensures.value in
     let small = read_small digest entries v.origin _ c.deref.result.now at (may c.args.source.now) read.honest in
-    head_fault digest g.met.H.TreeHash.digest_length _ entries v c.deref.result.now at (may c.args.source.now) read.honest read.clean small c.take_rows.new.mirror.view c.deref-2.result.now _ c.in_err-take_rows.field-0.0 note_is are c.in_err-take_rows.ensures)
+    head_fault digest g.met.H.TreeHash.digest_length _ entries v c.deref.result.now at
+    (may c.args.source.now) read.honest read.clean small c.take_rows.new.mirror.view c.deref-2.result.now _ c.in_err-take_rows.field-0.0 note_is are c.in_err-take_rows.ensures)
 
 pub returns-in_err-rounds-clause-honest : goal.returns-in_err-rounds-clause-honest
 returns-in_err-rounds-clause-honest g c =
@@ -135,23 +200,42 @@ returns-in_err-rounds-clause-honest g c =
     let none = c.new-asked.result.items in
     let unasked = none_asked none Checkpoint c.new-asked.ensures.items in
     let begun = first_asked none c.ask.new.asked.items c.new-asked.ensures.items (c.in_ok-note.ensures.grown unasked) in
-    let answer : may c.args.source.now Checkpoint (Some c.in-Some.note.items) = rw c.in-Some.is at (c.in_ok-note.ensures.answer unasked) in
-    let same : c.deref.result.now ≡ note = c.deref.ensures.value ∙ some_same c.in-Some.note.items note (is.checkpoint (Some c.in-Some.note.items) answer) in
+    let answer : may c.args.source.now Checkpoint (Some c.in-Some.note.items) =
+    rw c.in-Some.is at (c.in_ok-note.ensures.answer unasked) in
+    let same : c.deref.result.now ≡ note =
+    c.deref.ensures.value ∙
+    some_same c.in-Some.note.items note (is.checkpoint (Some c.in-Some.note.items) answer) in
     let at = c.in_ok-checkpoint.checkpoint.size in
     let root = c.in_ok-checkpoint.checkpoint.root in
-    let size_root = honest_size digest entries _ v note c.deref.result.now size (may c.args.source.now) is same c.in_ok-checkpoint.checkpoint c.in_ok-checkpoint.ensures in
-    let read = read_honestly digest entries _ v note c.deref.result.now size at root (may c.args.source.now) is clean same size_root.0 size_root.1 in
-    let source = source_stays digest entries (may c.args.source.now) (may c.ask.new.source) c.in_ok-note.ensures.later (pull_source digest g.met.H.TreeHash.digest_length _ entries v c.deref.result.now at (may c.args.source.now) read.honest read.clean) in
+    let size_root =
+    honest_size digest entries _ v note c.deref.result.now size
+    (may c.args.source.now) is same c.in_ok-checkpoint.checkpoint c.in_ok-checkpoint.ensures in
+    let read =
+    read_honestly digest entries _ v note c.deref.result.now size at root
+    (may c.args.source.now) is clean same size_root.0 size_root.1 in
+    let source =
+    source_stays digest entries (may c.args.source.now) (may c.ask.new.source) c.in_ok-note.ensures.later
+    (pull_source digest g.met.H.TreeHash.digest_length _ entries v c.deref.result.now at
+    (may c.args.source.now) read.honest read.clean) in
     let fresh = edge_fresh at c.ask.new.asked.items begun in
     let rows = c.in_ok-rows.ensures.honest digest entries source read.honest.within fresh in
-    let are = ap (map (λ row. row.items)) c.deref-3.ensures.value ∙ (rows.rows_are ∙ rows_of_edge digest entries at read.honest.within) in
+    let are =
+    ap (map (λ row. row.items)) c.deref-3.ensures.value ∙
+    (rows.rows_are ∙ rows_of_edge digest entries at read.honest.within) in
     let note_is : c.deref-2.result.now ≡ c.deref.result.now = c.deref-2.ensures.value ∙ sym c.deref.ensures.value in
     let small = read_small digest entries v.origin _ c.deref.result.now at (may c.args.source.now) read.honest in
     let w = c.take_rows.new.mirror.view in
-    let taken = head_done digest entries v w c.deref.result.now c.deref-2.result.now at _ note_is are c.in_ok-take_rows.ensures.2 in
-    let head = has_head digest _ v w w c.deref-2.result.now c.deref.result.now _ at root note_is c.in_ok-take_rows.ensures.2 (opened_head _ _ _ c.in_ok-checkpoint.checkpoint c.in_ok-checkpoint.ensures) (within_itself w) in
-    let later = stays_then (may c.args.source.now) (may c.ask.new.source) (may c.edge_rows.new.source) c.in_ok-note.ensures.later c.in_ok-rows.ensures.later in
-    let m = rounds_may digest g.met.H.TreeHash.digest_length _ entries v c.deref.result.now at (may c.args.source.now) read.honest read.clean small (may c.edge_rows.new.source) w root c.ask.new.asked.items c.edge_rows.new.asked.items later taken read.root_is head begun rows.gets in
+    let taken =
+    head_done digest entries v w c.deref.result.now c.deref-2.result.now at _ note_is are c.in_ok-take_rows.ensures.2 in
+    let head =
+    has_head digest _ v w w c.deref-2.result.now c.deref.result.now _ at root note_is c.in_ok-take_rows.ensures.2
+    (opened_head _ _ _ c.in_ok-checkpoint.checkpoint c.in_ok-checkpoint.ensures) (within_itself w) in
+    let later =
+    stays_then (may c.args.source.now) (may c.ask.new.source)
+    (may c.edge_rows.new.source) c.in_ok-note.ensures.later c.in_ok-rows.ensures.later in
+    let m = rounds_may digest g.met.H.TreeHash.digest_length _ entries v c.deref.result.now at
+    (may c.args.source.now) read.honest read.clean small
+    (may c.edge_rows.new.source) w root c.ask.new.asked.items c.edge_rows.new.asked.items later taken read.root_is head begun rows.gets in
     c.in_err-rounds.ensures.honest entries m)
 
 pub returns-clause-honest : goal.returns-clause-honest
@@ -163,39 +247,69 @@ returns-clause-honest g c =
     let none = c.new-asked.result.items in
     let unasked = none_asked none Checkpoint c.new-asked.ensures.items in
     let begun = first_asked none c.ask.new.asked.items c.new-asked.ensures.items (c.in_ok-note.ensures.grown unasked) in
-    let answer : may c.args.source.now Checkpoint (Some c.in-Some.note.items) = rw c.in-Some.is at (c.in_ok-note.ensures.answer unasked) in
-    let same : c.deref.result.now ≡ note = c.deref.ensures.value ∙ some_same c.in-Some.note.items note (is.checkpoint (Some c.in-Some.note.items) answer) in
+    let answer : may c.args.source.now Checkpoint (Some c.in-Some.note.items) =
+    rw c.in-Some.is at (c.in_ok-note.ensures.answer unasked) in
+    let same : c.deref.result.now ≡ note =
+    c.deref.ensures.value ∙
+    some_same c.in-Some.note.items note (is.checkpoint (Some c.in-Some.note.items) answer) in
     let at = c.in_ok-checkpoint.checkpoint.size in
     let root = c.in_ok-checkpoint.checkpoint.root in
-    let size_root = honest_size digest entries _ v note c.deref.result.now size (may c.args.source.now) is same c.in_ok-checkpoint.checkpoint c.in_ok-checkpoint.ensures in
-    let read = read_honestly digest entries _ v note c.deref.result.now size at root (may c.args.source.now) is clean same size_root.0 size_root.1 in
-    let source = source_stays digest entries (may c.args.source.now) (may c.ask.new.source) c.in_ok-note.ensures.later (pull_source digest g.met.H.TreeHash.digest_length _ entries v c.deref.result.now at (may c.args.source.now) read.honest read.clean) in
+    let size_root =
+    honest_size digest entries _ v note c.deref.result.now size
+    (may c.args.source.now) is same c.in_ok-checkpoint.checkpoint c.in_ok-checkpoint.ensures in
+    let read =
+    read_honestly digest entries _ v note c.deref.result.now size at root
+    (may c.args.source.now) is clean same size_root.0 size_root.1 in
+    let source =
+    source_stays digest entries (may c.args.source.now) (may c.ask.new.source) c.in_ok-note.ensures.later
+    (pull_source digest g.met.H.TreeHash.digest_length _ entries v c.deref.result.now at
+    (may c.args.source.now) read.honest read.clean) in
     let fresh = edge_fresh at c.ask.new.asked.items begun in
     let rows = c.in_ok-rows.ensures.honest digest entries source read.honest.within fresh in
-    let are = ap (map (λ row. row.items)) c.deref-3.ensures.value ∙ (rows.rows_are ∙ rows_of_edge digest entries at read.honest.within) in
+    let are =
+    ap (map (λ row. row.items)) c.deref-3.ensures.value ∙
+    (rows.rows_are ∙ rows_of_edge digest entries at read.honest.within) in
     let note_is : c.deref-2.result.now ≡ c.deref.result.now = c.deref-2.ensures.value ∙ sym c.deref.ensures.value in
     let small = read_small digest entries v.origin _ c.deref.result.now at (may c.args.source.now) read.honest in
     let w = c.take_rows.new.mirror.view in
-    let taken = head_done digest entries v w c.deref.result.now c.deref-2.result.now at _ note_is are c.in_ok-take_rows.ensures.2 in
-    let head = has_head digest _ v w w c.deref-2.result.now c.deref.result.now _ at root note_is c.in_ok-take_rows.ensures.2 (opened_head _ _ _ c.in_ok-checkpoint.checkpoint c.in_ok-checkpoint.ensures) (within_itself w) in
-    let later = stays_then (may c.args.source.now) (may c.ask.new.source) (may c.edge_rows.new.source) c.in_ok-note.ensures.later c.in_ok-rows.ensures.later in
-    let m = rounds_may digest g.met.H.TreeHash.digest_length _ entries v c.deref.result.now at (may c.args.source.now) read.honest read.clean small (may c.edge_rows.new.source) w root c.ask.new.asked.items c.edge_rows.new.asked.items later taken read.root_is head begun rows.gets in
+    let taken =
+    head_done digest entries v w c.deref.result.now c.deref-2.result.now at _ note_is are c.in_ok-take_rows.ensures.2 in
+    let head =
+    has_head digest _ v w w c.deref-2.result.now c.deref.result.now _ at root note_is c.in_ok-take_rows.ensures.2
+    (opened_head _ _ _ c.in_ok-checkpoint.checkpoint c.in_ok-checkpoint.ensures) (within_itself w) in
+    let later =
+    stays_then (may c.args.source.now) (may c.ask.new.source)
+    (may c.edge_rows.new.source) c.in_ok-note.ensures.later c.in_ok-rows.ensures.later in
+    let m = rounds_may digest g.met.H.TreeHash.digest_length _ entries v c.deref.result.now at
+    (may c.args.source.now) read.honest read.clean small
+    (may c.edge_rows.new.source) w root c.ask.new.asked.items c.edge_rows.new.asked.items later taken read.root_is head begun rows.gets in
     let asked = g.S.Source.asked in
-    let told = adds_to_then none c.edge_rows.new.asked.items c.work.new.asked.items (asked c.args.source.now) (asked c.edge_rows.new.source) (asked c.work.new.source) (adds_to_then none c.ask.new.asked.items c.edge_rows.new.asked.items (asked c.args.source.now) (asked c.ask.new.source) (asked c.edge_rows.new.source) c.in_ok-note.ensures.told c.in_ok-rows.ensures.told) c.in_ok-rounds.ensures.told in
+    let told =
+    adds_to_then none c.edge_rows.new.asked.items c.work.new.asked.items (asked c.args.source.now)
+    (asked c.edge_rows.new.source) (asked c.work.new.source)
+    (adds_to_then none c.ask.new.asked.items c.edge_rows.new.asked.items (asked c.args.source.now)
+    (asked c.ask.new.source)
+    (asked c.edge_rows.new.source) c.in_ok-note.ensures.told c.in_ok-rows.ensures.told) c.in_ok-rounds.ensures.told in
     let done = c.in_ok-rounds.ensures.honest entries m in
     let x = c.work.new.mirror.view in
     let gains = c.in_ok-rounds.ensures.gains in
     let hash = g.met.H.TreeHash.digest_length in
     let before = may c.args.source.now in
-    outcome_read digest entries note c.deref.result.now size at v x (asked c.args.source.now) (asked c.work.new.source) _ same read.size_is (record {
+    outcome_read digest entries note c.deref.result.now size at v x (asked c.args.source.now)
+    (asked c.work.new.source) _ same read.size_is (record {
       size_is = refl;
       root_is = read.root_is;
       none_refused = done.0;
-      complete = c.is_complete.ensures.1 (worked_complete digest hash _ entries v c.deref.result.now at before read.honest read.clean small w x _ c.edge_rows.new.asked.items c.work.new.asked.items taken done.1 root read.root_is (head_stays w x gains.grows at root head));
+      complete =
+          c.is_complete.ensures.1
+          (worked_complete digest hash _ entries v c.deref.result.now at before read.honest read.clean small w x _ c.edge_rows.new.asked.items c.work.new.asked.items taken done.1 root read.root_is (head_stays w x gains.grows at root head));
       gets = worked_gets digest hash _ entries v c.deref.result.now at before read.honest read.clean small w x _ c.edge_rows.new.asked.items c.work.new.asked.items taken done.1 none c.ask.new.asked.items (asked c.args.source.now) (asked c.work.new.source) c.new-asked.ensures.items begun rows.gets told;
-      at_most = worked_few digest hash _ entries v c.deref.result.now at before read.honest read.clean small w x _ c.edge_rows.new.asked.items c.work.new.asked.items taken done.1;
+      at_most =
+          worked_few digest hash _ entries v c.deref.result.now at before read.honest read.clean small w x _ c.edge_rows.new.asked.items c.work.new.asked.items taken done.1;
       none = worked_none digest hash _ entries v c.deref.result.now at before read.honest read.clean small w x _ c.edge_rows.new.asked.items c.work.new.asked.items taken done.1;
-      has_note = worked_note digest hash _ entries v c.deref.result.now at before read.honest read.clean small w x _ c.edge_rows.new.asked.items c.work.new.asked.items taken done.1 gains;
+      has_note =
+          worked_note digest hash _ entries v c.deref.result.now at before read.honest read.clean small w x _ c.edge_rows.new.asked.items c.work.new.asked.items taken done.1 gains;
       notes = worked_notes digest hash _ entries v c.deref.result.now at before read.honest read.clean small w x _ c.edge_rows.new.asked.items c.work.new.asked.items taken done.1 gains;
-      strings = worked_strings digest hash _ entries v c.deref.result.now at before read.honest read.clean small w x _ c.edge_rows.new.asked.items c.work.new.asked.items taken done.1;
+      strings =
+          worked_strings digest hash _ entries v c.deref.result.now at before read.honest read.clean small w x _ c.edge_rows.new.asked.items c.work.new.asked.items taken done.1;
     })

@@ -8,17 +8,20 @@ use Rattle.mirror_pull.proofs.rounds.take_path.Goals as goal
 
 pub returns-in_err-bytes-clause-late : goal.returns-in_err-bytes-clause-late
 returns-in_err-bytes-clause-late g c =
-    let p = err_from_is_err_and c.from_residual.result c.from_residual.ensures.1 in rw (p.1, p.2) c.in_err-bytes.ensures.late
+    let p = err_from_is_err_and c.from_residual.result c.from_residual.ensures.1 in rw
+    (p.1, p.2) c.in_err-bytes.ensures.late
 
 pub returns-in_err-bytes-2-clause-late : goal.returns-in_err-bytes-2-clause-late
 returns-in_err-bytes-2-clause-late g c =
-    let p = err_from_is_err_and c.from_residual-in_err-bytes-2.result c.from_residual-in_err-bytes-2.ensures.1 in rw (p.1, p.2) c.in_err-bytes-2.ensures.late
+    let p = err_from_is_err_and c.from_residual-in_err-bytes-2.result c.from_residual-in_err-bytes-2.ensures.1 in rw
+    (p.1, p.2) c.in_err-bytes-2.ensures.late
 
 pub returns-in_err-bytes-2-clause-told : goal.returns-in_err-bytes-2-clause-told
 returns-in_err-bytes-2-clause-told g c =
     let asked = g.S.Source.asked in
     let p = err_from_is_err_and c.from_residual-in_err-bytes-2.result c.from_residual-in_err-bytes-2.ensures.1 in
-    rw p.1 (adds_some_then c.args.asked.now.items c.ask.new.asked.items (asked c.args.source.now) (asked c.ask.new.source) (asked c.ask-2.new.source) c.in_ok-bytes.ensures.told c.in_err-bytes-2.ensures.told)
+    rw p.1 (adds_some_then c.args.asked.now.items c.ask.new.asked.items (asked c.args.source.now)
+    (asked c.ask.new.source) (asked c.ask-2.new.source) c.in_ok-bytes.ensures.told c.in_err-bytes-2.ensures.told)
 
 pub returns-in-Some-clause-told : goal.returns-in-Some-clause-told
 returns-in-Some-clause-told g c = asks_late _ _ _ _ _ c.in_ok-bytes.ensures.told
@@ -26,25 +29,33 @@ returns-in-Some-clause-told g c = asks_late _ _ _ _ _ c.in_ok-bytes.ensures.told
 pub returns-in-Some-2-clause-told : goal.returns-in-Some-2-clause-told
 returns-in-Some-2-clause-told g c =
     let asked = g.S.Source.asked in
-    asks_late _ _ _ _ _ (adds_to_then c.args.asked.now.items c.ask.new.asked.items c.ask-2.new.asked.items (asked c.args.source.now) (asked c.ask.new.source) (asked c.ask-2.new.source) c.in_ok-bytes.ensures.told c.in_ok-bytes-2.ensures.told)
+    asks_late _ _ _ _ _
+    (adds_to_then c.args.asked.now.items c.ask.new.asked.items c.ask-2.new.asked.items (asked c.args.source.now)
+    (asked c.ask.new.source) (asked c.ask-2.new.source) c.in_ok-bytes.ensures.told c.in_ok-bytes-2.ensures.told)
 
 pub returns-in-None-clause-told : goal.returns-in-None-clause-told
 returns-in-None-clause-told g c =
     let asked = g.S.Source.asked in
-    adds_to_then c.args.asked.now.items c.ask.new.asked.items c.ask-2.new.asked.items (asked c.args.source.now) (asked c.ask.new.source) (asked c.ask-2.new.source) c.in_ok-bytes.ensures.told c.in_ok-bytes-2.ensures.told
+    adds_to_then c.args.asked.now.items c.ask.new.asked.items c.ask-2.new.asked.items (asked c.args.source.now)
+    (asked c.ask.new.source) (asked c.ask-2.new.source) c.in_ok-bytes.ensures.told c.in_ok-bytes-2.ensures.told
 
 pub returns-in-Some-clause-gains : goal.returns-in-Some-clause-gains
-returns-in-Some-clause-gains g c = gains_item g.H.TreeHash.digest _ _ c.args.path c.deref.result.now _ c.take_found.ensures
+returns-in-Some-clause-gains g c =
+    gains_item g.H.TreeHash.digest _ _ c.args.path c.deref.result.now _ c.take_found.ensures
 
 pub returns-in-Some-2-clause-gains : goal.returns-in-Some-2-clause-gains
-returns-in-Some-2-clause-gains g c = gains_item g.H.TreeHash.digest _ _ c.full_path-full.result c.deref-in-Some-2.result.now _ c.take_found-in-Some-2.ensures
+returns-in-Some-2-clause-gains g c =
+    gains_item g.H.TreeHash.digest _ _ c.full_path-full.result c.deref-in-Some-2.result.now _ c.take_found-in-Some-2.ensures
 
 pub returns-in-Some-clause-honest : goal.returns-in-Some-clause-honest
 returns-in-Some-clause-honest g c =
     λ entries size m.
     let may = g.S.Source.may_answer c.args.source.now in
-    let unasked = fresh_unasked c.args.asked.now.items c.args.path (path_fresh g.H.TreeHash.digest entries size may c.args.mirror.now.view c.args.path c.args.asked.now.items m) in
-    let answer : may c.args.path (Some c.in-Some.bytes.items) = rw c.in-Some.is at (c.in_ok-bytes.ensures.answer unasked) in
+    let unasked =
+    fresh_unasked c.args.asked.now.items c.args.path
+    (path_fresh g.H.TreeHash.digest entries size may c.args.mirror.now.view c.args.path c.args.asked.now.items m) in
+    let answer : may c.args.path (Some c.in-Some.bytes.items) =
+    rw c.in-Some.is at (c.in_ok-bytes.ensures.answer unasked) in
     path_found g.H.TreeHash.digest entries size may c.args.mirror.now.view c.args.path c.args.asked.now.items m c.take_found.new.mirror.view c.ask.new.asked.items c.in-Some.bytes.items c.deref.result.now c.take_found.result answer c.deref.ensures.value (c.in_ok-bytes.ensures.grown unasked) c.take_found.ensures
 
 pub returns-in-Some-2-clause-honest : goal.returns-in-Some-2-clause-honest
@@ -58,8 +69,10 @@ returns-in-Some-2-clause-honest g c =
     let unasked = fresh_unasked before c.args.path (path_fresh digest entries size may v c.args.path before m) in
     let grown = c.in_ok-bytes.ensures.grown unasked in
     let none : may c.args.path None = rw c.in_default.is at (c.in_ok-bytes.ensures.answer unasked) in
-    let full = path_full_fresh digest entries size may v c.args.path before m c.full_path-full.result c.ask.new.asked.items none c.full_path-full.ensures grown in
-    let answer : later c.full_path-full.result (Some c.in-Some-2.bytes.items) = rw c.in-Some-2.is at (c.in_ok-bytes-2.ensures.answer full) in
+    let full =
+    path_full_fresh digest entries size may v c.args.path before m c.full_path-full.result c.ask.new.asked.items none c.full_path-full.ensures grown in
+    let answer : later c.full_path-full.result (Some c.in-Some-2.bytes.items) =
+    rw c.in-Some-2.is at (c.in_ok-bytes-2.ensures.answer full) in
     path_full digest entries size may v c.args.path before m later c.take_found-in-Some-2.new.mirror.view c.full_path-full.result c.ask.new.asked.items c.ask-2.new.asked.items c.in-Some-2.bytes.items c.deref-in-Some-2.result.now c.take_found-in-Some-2.result c.in_ok-bytes.ensures.later none answer c.full_path-full.ensures c.deref-in-Some-2.ensures.value grown (c.in_ok-bytes-2.ensures.grown full) c.take_found-in-Some-2.ensures
 
 pub returns-in-None-clause-honest : goal.returns-in-None-clause-honest
@@ -73,6 +86,7 @@ returns-in-None-clause-honest g c =
     let unasked = fresh_unasked before c.args.path (path_fresh digest entries size may v c.args.path before m) in
     let grown = c.in_ok-bytes.ensures.grown unasked in
     let none : may c.args.path None = rw c.in_default.is at (c.in_ok-bytes.ensures.answer unasked) in
-    let full = path_full_fresh digest entries size may v c.args.path before m c.full_path-full.result c.ask.new.asked.items none c.full_path-full.ensures grown in
+    let full =
+    path_full_fresh digest entries size may v c.args.path before m c.full_path-full.result c.ask.new.asked.items none c.full_path-full.ensures grown in
     let answer : later c.full_path-full.result None = rw c.in-None.is at (c.in_ok-bytes-2.ensures.answer full) in
     absurd (path_neither digest entries size may v c.args.path before m later c.full_path-full.result c.in_ok-bytes.ensures.later none answer c.full_path-full.ensures)

@@ -1,4 +1,5 @@
-use Rattle.std.proofs.Common.{refl, List, [], ◌∷◌, ◌++◌, take, arith, ◌≡◌, All, Contains, ap, ◌∙◌, sym, subst, get_or, length, ◌<◌}
+use Rattle.std.proofs.Common.{refl, List, [], ◌∷◌, ◌++◌, take, arith, ◌≡◌, All, Contains, ap, ◌∙◌, sym, subst, get_or}
+use Rattle.std.proofs.Common.{length, ◌<◌}
 use Rattle.std.proofs.lemmas.List.Elements.{All-push, Contains-get_or}
 use Rattle.tlog_tiles.specs.declared.paths.Path.{Path}
 use Rattle.tlog_tiles.specs.declared.paths.Path.TheVariants.{Checkpoint}
@@ -16,20 +17,32 @@ loop-path-preserved g c =
           let m = rw c.in-Some.is at c.in_ok-missing.ensures in
           let at = c.deref-path-items.ensures.value in
           let lt : c.loop-path.path-index < length c.in-Some.missing.items = rw at at c.loop-path-test.true in
-          let here = missing_takeable g.H.TreeHash.digest c.args.mirror.now.view c.args.size c.args.root.now c.in-Some.missing.items c.walk_law.ensures.kinds c.requires m.some c.loop-path.path-index lt in
+          let here =
+          missing_takeable g.H.TreeHash.digest c.args.mirror.now.view c.args.size c.args.root.now c.in-Some.missing.items c.walk_law.ensures.kinds c.requires m.some c.loop-path.path-index lt in
           let item = subst (λ xs. IsTakeable (get_or xs c.loop-path.path-index Checkpoint)) (sym at) here in
           let grown = ap (λ v. v.items) w.paths-is ∙ w.in_ok-push.ensures.items in
           record {
-            takeable = subst (All IsTakeable) (sym grown) (All-push IsTakeable c.loop-path.paths.items _ c.loop-path.invariant.takeable item);
-            new = subst (All (λ path. Contains c.args.asked.now path → ⊥)) (sym grown) (All-push (λ path. Contains c.args.asked.now path → ⊥) c.loop-path.paths.items _ c.loop-path.invariant.new (λ has. let asked = w.if-not-is_asked.ensures.1 has in absurd cc));
-            whole = λ none. grown ∙ (ap (λ (l : List Path). l ++ get_or c.deref-path-items.result.now c.loop-path.path-index Checkpoint ∷ []) (c.loop-path.invariant.whole none) ∙ sym (take_one c.deref-path-items.result.now c.loop-path.path-index c.loop-path-test.true));
+            takeable =
+                subst (All IsTakeable) (sym grown)
+                (All-push IsTakeable c.loop-path.paths.items _ c.loop-path.invariant.takeable item);
+            new = subst (All (λ path. Contains c.args.asked.now path → ⊥)) (sym grown)
+                (All-push
+                (λ path. Contains c.args.asked.now path → ⊥) c.loop-path.paths.items _ c.loop-path.invariant.new
+                (λ has. let asked = w.if-not-is_asked.ensures.1 has in absurd cc));
+            whole = λ none. grown ∙
+                (ap (λ (l : List Path). l ++ get_or c.deref-path-items.result.now c.loop-path.path-index Checkpoint
+                ∷ []) (c.loop-path.invariant.whole none) ∙
+                sym (take_one c.deref-path-items.result.now c.loop-path.path-index c.loop-path-test.true));
           }
       | else-not-is_asked w ↦
           let kept = ap (λ v. v.items) w.paths-is in
           record {
             takeable = subst (All IsTakeable) (sym kept) c.loop-path.invariant.takeable;
             new = subst (All (λ path. Contains c.args.asked.now path → ⊥)) (sym kept) c.loop-path.invariant.new;
-            whole = λ none. absurd (none (get_or c.deref-path-items.result.now c.loop-path.path-index Checkpoint) (Contains-get_or c.deref-path-items.result.now c.loop-path.path-index Checkpoint c.loop-path-test.true) (w.if-not-is_asked.ensures.0 refl));
+            whole = λ none. absurd
+                (none (get_or c.deref-path-items.result.now c.loop-path.path-index Checkpoint)
+                (Contains-get_or c.deref-path-items.result.now c.loop-path.path-index Checkpoint c.loop-path-test.true)
+                (w.if-not-is_asked.ensures.0 refl));
           }
     ]
 
@@ -48,5 +61,7 @@ returns-clause-whole g c =
     record {
       missing = c.in-Some.missing.items;
       lists = m.some;
-      whole = λ none. c.loop-path.invariant.whole (subst (λ (xs : List Path). (path : Path) → Contains xs path → Contains c.args.asked.now path → ⊥) (sym at) none) ∙ (take_all c.loop-path.path-index c.deref-path-items.result.now c.loop-path-test.false ∙ at);
+      whole = λ none. c.loop-path.invariant.whole
+          (subst (λ (xs : List Path). (path : Path) → Contains xs path → Contains c.args.asked.now path → ⊥)
+          (sym at) none) ∙ (take_all c.loop-path.path-index c.deref-path-items.result.now c.loop-path-test.false ∙ at);
     }

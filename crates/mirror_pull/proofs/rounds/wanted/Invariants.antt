@@ -7,5 +7,6 @@ abbrev pub invariant-loop-path : goal.invariant-loop-path
 invariant-loop-path g l = record {
   takeable : All IsTakeable l.paths.items;
   new : All (λ path. Contains l.asked path → ⊥) l.paths.items;
-  whole : ((path : Path) → Contains l.path-items path → Contains l.asked path → ⊥) → l.paths.items ≡ take l.path-index l.path-items;
+  whole : ((path : Path) → Contains l.path-items path → Contains l.asked path → ⊥) →
+      l.paths.items ≡ take l.path-index l.path-items;
 }

@@ -12,22 +12,28 @@ pub returns-in_err-more-clause-told : goal.returns-in_err-more-clause-told
 returns-in_err-more-clause-told g c =
     let asked = g.S.Source.asked in
     let p = err_from_is_err_and c.from_residual-in_err-more.result c.from_residual-in_err-more.ensures.1 in
-    rw p.1 (adds_some_then c.args.asked.now.items c.loop-rounds.asked.items (asked c.args.source.now) (asked c.loop-rounds.source) (asked c.work_round.new.source) c.loop-rounds.invariant.told c.in_err-more.ensures.told)
+    rw p.1 (adds_some_then c.args.asked.now.items c.loop-rounds.asked.items (asked c.args.source.now)
+    (asked c.loop-rounds.source)
+    (asked c.work_round.new.source) c.loop-rounds.invariant.told c.in_err-more.ensures.told)
 
 pub returns-in_err-more-clause-counted : goal.returns-in_err-more-clause-counted
 returns-in_err-more-clause-counted g c =
     let failed = g.S.Source.failed in
     let p = err_from_is_err_and c.from_residual-in_err-more.result c.from_residual-in_err-more.ensures.1 in
-    rw (p.1, p.2) (counts_err (failed c.args.source.now) (failed c.loop-rounds.source) (failed c.work_round.new.source) c.in_err-more.field-0.0 c.loop-rounds.invariant.counted c.in_err-more.ensures.counted)
+    rw (p.1, p.2)
+    (counts_err (failed c.args.source.now) (failed c.loop-rounds.source)
+    (failed c.work_round.new.source) c.in_err-more.field-0.0 c.loop-rounds.invariant.counted c.in_err-more.ensures.counted)
 
 pub returns-in_err-more-clause-later : goal.returns-in_err-more-clause-later
 returns-in_err-more-clause-later g c =
     let may = g.S.Source.may_answer in
-    stays_then (may c.args.source.now) (may c.loop-rounds.source) (may c.work_round.new.source) c.loop-rounds.invariant.later c.in_err-more.ensures.later
+    stays_then (may c.args.source.now) (may c.loop-rounds.source)
+    (may c.work_round.new.source) c.loop-rounds.invariant.later c.in_err-more.ensures.later
 
 pub returns-in_err-more-clause-late : goal.returns-in_err-more-clause-late
 returns-in_err-more-clause-late g c =
-    let p = err_from_is_err_and c.from_residual-in_err-more.result c.from_residual-in_err-more.ensures.1 in rw (p.1, p.2) c.in_err-more.ensures.late
+    let p = err_from_is_err_and c.from_residual-in_err-more.result c.from_residual-in_err-more.ensures.1 in rw
+    (p.1, p.2) c.in_err-more.ensures.late
 
 pub loop-rounds-preserved : goal.loop-rounds-preserved
 loop-rounds-preserved g c =
@@ -36,20 +42,29 @@ loop-rounds-preserved g c =
     let long = some_if c.in_ok-paths.paths.len (sym c.is_empty.ensures ∙ c.if-is_empty.false) in
     let some : 1 ≤ length c.in_ok-paths.paths.items = omega (arith, long, c.in_ok-paths.paths.ok.0) in
     record {
-      told = adds_to_then c.args.asked.now.items c.loop-rounds.asked.items c.work_round.new.asked.items (asked c.args.source.now) (asked c.loop-rounds.source) (asked c.work_round.new.source) c.loop-rounds.invariant.told c.in_ok-more.ensures.told;
+      told = adds_to_then c.args.asked.now.items c.loop-rounds.asked.items c.work_round.new.asked.items
+          (asked c.args.source.now) (asked c.loop-rounds.source)
+          (asked c.work_round.new.source) c.loop-rounds.invariant.told c.in_ok-more.ensures.told;
       counted = c.in_ok-more.ensures.counted ∙ c.loop-rounds.invariant.counted;
-      later = stays_then (may c.args.source.now) (may c.loop-rounds.source) (may c.work_round.new.source) c.loop-rounds.invariant.later c.in_ok-more.ensures.later;
+      later = stays_then (may c.args.source.now) (may c.loop-rounds.source)
+          (may c.work_round.new.source) c.loop-rounds.invariant.later c.in_ok-more.ensures.later;
       start = λ e. absurd (omega (arith, e));
       asks = λ _. asks_round c.args.asked.now.items c.loop-rounds.asked.items c.work_round.new.asked.items c.deref.result.now c.in_ok-paths.paths.items c.deref-in-loop-rounds.result.now c.loop-rounds.rounds c.deref.ensures.value c.deref-in-loop-rounds.ensures.value c.loop-rounds.invariant.start c.loop-rounds.invariant.asks c.in_ok-paths.ensures.new some c.in_ok-more.ensures.asks;
       honest = λ entries m.
           let digest = g.H.TreeHash.digest in
           let before = c.loop-rounds.invariant.honest entries m in
           let wants : IsWanted digest c.loop-rounds.mirror.view c.args.size c.args.root.now c.loop-rounds.asked.items c.in_ok-paths.paths.items = rw c.deref.ensures.value at (c.in_ok-paths.ensures.whole before.1.next.head) in
-          let fronts = wanted_front digest entries c.args.size c.args.root.now (may c.loop-rounds.source) c.loop-rounds.mirror.view c.loop-rounds.asked.items before.1.next c.in_ok-paths.paths.items wants in
-          let may_take = round_may digest entries c.args.size c.args.root.now (may c.loop-rounds.source) c.loop-rounds.mirror.view c.loop-rounds.asked.items before.1.next c.in_ok-paths.paths.items fronts in
-          let took = rw c.deref-in-loop-rounds.ensures.value at c.in_ok-more.ensures.honest entries c.args.size may_take in (
+          let fronts =
+          wanted_front digest entries c.args.size c.args.root.now
+          (may c.loop-rounds.source) c.loop-rounds.mirror.view c.loop-rounds.asked.items before.1.next c.in_ok-paths.paths.items wants in
+          let may_take =
+          round_may digest entries c.args.size c.args.root.now
+          (may c.loop-rounds.source) c.loop-rounds.mirror.view c.loop-rounds.asked.items before.1.next c.in_ok-paths.paths.items fronts in
+          let took =
+          rw c.deref-in-loop-rounds.ensures.value at c.in_ok-more.ensures.honest entries c.args.size may_take in (
             omega (arith, c.saturating_add-refused.ensures, before.0, took.0),
-            work_step digest entries c.args.size c.args.root.now (may c.loop-rounds.source) c.args.mirror.now.view c.loop-rounds.mirror.view c.args.asked.now.items c.loop-rounds.asked.items c.loop-rounds.rounds (may c.loop-rounds.source) (may c.work_round.new.source) c.work_round.new.mirror.view c.work_round.new.asked.items c.in_ok-paths.paths.items before.1 wants some c.in_ok-more.ensures.later c.in_ok-more.ensures.gains.grows took.1,
+            work_step digest entries c.args.size c.args.root.now
+                (may c.loop-rounds.source) c.args.mirror.now.view c.loop-rounds.mirror.view c.args.asked.now.items c.loop-rounds.asked.items c.loop-rounds.rounds (may c.loop-rounds.source) (may c.work_round.new.source) c.work_round.new.mirror.view c.work_round.new.asked.items c.in_ok-paths.paths.items before.1 wants some c.in_ok-more.ensures.later c.in_ok-more.ensures.gains.grows took.1,
           );
       gains = gains_then c.args.mirror.now.view c.loop-rounds.mirror.view c.work_round.new.mirror.view c.loop-rounds.invariant.gains c.in_ok-more.ensures.gains;
     }
@@ -62,15 +77,21 @@ loop-rounds-init g c =
       later = stays_itself (g.S.Source.may_answer c.args.source.now);
       start = λ e. refl;
       asks = λ some. absurd (omega (arith, some));
-      honest = λ entries m. (refl, work_none g.H.TreeHash.digest entries c.args.size c.args.root.now (g.S.Source.may_answer c.args.source.now) c.args.mirror.now.view c.args.asked.now.items m);
+      honest = λ entries m. (
+        refl,
+        work_none g.H.TreeHash.digest entries c.args.size c.args.root.now
+            (g.S.Source.may_answer c.args.source.now) c.args.mirror.now.view c.args.asked.now.items m,
+      );
       gains = gains_itself c.args.mirror.now.view;
     }
 
 pub returns-in_err-more-clause-gains : goal.returns-in_err-more-clause-gains
-returns-in_err-more-clause-gains g c = gains_then c.args.mirror.now.view c.loop-rounds.mirror.view c.work_round.new.mirror.view c.loop-rounds.invariant.gains c.in_err-more.ensures.gains
+returns-in_err-more-clause-gains g c =
+    gains_then c.args.mirror.now.view c.loop-rounds.mirror.view c.work_round.new.mirror.view c.loop-rounds.invariant.gains c.in_err-more.ensures.gains
 
 pub returns-then-is_empty-clause-none : goal.returns-then-is_empty-clause-none
-returns-then-is_empty-clause-none g c = none_round c.args.asked.now.items c.loop-rounds.asked.items c.loop-rounds.rounds c.loop-rounds.invariant.start c.loop-rounds.invariant.asks
+returns-then-is_empty-clause-none g c =
+    none_round c.args.asked.now.items c.loop-rounds.asked.items c.loop-rounds.rounds c.loop-rounds.invariant.start c.loop-rounds.invariant.asks
 
 pub returns-then-is_empty-clause-honest : goal.returns-then-is_empty-clause-honest
 returns-then-is_empty-clause-honest g c =
@@ -78,18 +99,24 @@ returns-then-is_empty-clause-honest g c =
     let digest = g.H.TreeHash.digest in
     let may = g.S.Source.may_answer c.loop-rounds.source in
     let before = c.loop-rounds.invariant.honest entries m in
-    let wants : IsWanted digest c.loop-rounds.mirror.view c.args.size c.args.root.now c.loop-rounds.asked.items c.in_ok-paths.paths.items = rw c.deref.ensures.value at (c.in_ok-paths.ensures.whole before.1.next.head) in
-    (before.0, work_done digest entries c.args.size c.args.root.now may c.args.mirror.now.view c.loop-rounds.mirror.view c.args.asked.now.items c.loop-rounds.asked.items c.loop-rounds.rounds c.in_ok-paths.paths.items before.1 wants (sym c.in_ok-paths.paths.ok.0 ∙ none_if c.in_ok-paths.paths.len (sym c.is_empty.ensures ∙ c.if-is_empty.true)))
+    let wants : IsWanted digest c.loop-rounds.mirror.view c.args.size c.args.root.now c.loop-rounds.asked.items c.in_ok-paths.paths.items = rw c.deref.ensures.value at (c.in_ok-paths.ensures.whole before.1.next.head) in (
+      before.0,
+      work_done digest entries c.args.size c.args.root.now may c.args.mirror.now.view c.loop-rounds.mirror.view c.args.asked.now.items c.loop-rounds.asked.items c.loop-rounds.rounds c.in_ok-paths.paths.items before.1 wants (sym c.in_ok-paths.paths.ok.0 ∙ none_if c.in_ok-paths.paths.len (sym c.is_empty.ensures ∙ c.if-is_empty.true)),
+    )
 
 pub returns-clause-none : goal.returns-clause-none
-returns-clause-none g c =
-    (λ e. absurd (omega (arith, e)), λ same. absurd (omega (arith, c.loop-rounds.invariant.asks (omega (arith, c.loop-rounds-test.false)), ap length same)))
+returns-clause-none g c = (
+  λ e. absurd (omega (arith, e)),
+  λ same. absurd
+      (omega (arith, c.loop-rounds.invariant.asks (omega (arith, c.loop-rounds-test.false)), ap length same)),
+)
 
 pub returns-clause-honest : goal.returns-clause-honest
 returns-clause-honest g c =
     λ entries m.
     let may = g.S.Source.may_answer in
-    absurd (never_eight g.H.TreeHash.digest entries c.args.size c.args.root.now (may c.args.source.now) (may c.loop-rounds.source) c.args.mirror.now.view c.loop-rounds.mirror.view c.args.asked.now.items c.loop-rounds.asked.items c.loop-rounds.rounds c.loop-rounds-test.false m (c.loop-rounds.invariant.honest entries m).1)
+    absurd (never_eight g.H.TreeHash.digest entries c.args.size c.args.root.now (may c.args.source.now)
+    (may c.loop-rounds.source) c.args.mirror.now.view c.loop-rounds.mirror.view c.args.asked.now.items c.loop-rounds.asked.items c.loop-rounds.rounds c.loop-rounds-test.false m (c.loop-rounds.invariant.honest entries m).1)
 
 pub returns-in_err-more-clause-honest : goal.returns-in_err-more-clause-honest
 returns-in_err-more-clause-honest g c =
@@ -99,6 +126,10 @@ returns-in_err-more-clause-honest g c =
     let digest = g.H.TreeHash.digest in
     let before = c.loop-rounds.invariant.honest entries m in
     let wants : IsWanted digest c.loop-rounds.mirror.view c.args.size c.args.root.now c.loop-rounds.asked.items c.in_ok-paths.paths.items = rw c.deref.ensures.value at (c.in_ok-paths.ensures.whole before.1.next.head) in
-    let fronts = wanted_front digest entries c.args.size c.args.root.now (may c.loop-rounds.source) c.loop-rounds.mirror.view c.loop-rounds.asked.items before.1.next c.in_ok-paths.paths.items wants in
-    let may_take = round_may digest entries c.args.size c.args.root.now (may c.loop-rounds.source) c.loop-rounds.mirror.view c.loop-rounds.asked.items before.1.next c.in_ok-paths.paths.items fronts in
+    let fronts =
+    wanted_front digest entries c.args.size c.args.root.now
+    (may c.loop-rounds.source) c.loop-rounds.mirror.view c.loop-rounds.asked.items before.1.next c.in_ok-paths.paths.items wants in
+    let may_take =
+    round_may digest entries c.args.size c.args.root.now
+    (may c.loop-rounds.source) c.loop-rounds.mirror.view c.loop-rounds.asked.items before.1.next c.in_ok-paths.paths.items fronts in
     c.in_err-more.ensures.honest entries c.args.size (rw c.deref-in-loop-rounds.ensures.value may_take))

@@ -14,7 +14,11 @@ invariant-loop-rounds g l = record {
   start : l.rounds ≡ 0 → l.asked.items ≡ l.fn.asked.items;
   asks : 1 ≤ l.rounds → length l.fn.asked.items < length l.asked.items;
   honest :
-      (entries : List (List ℕ)) → MayWork g.H.TreeHash.digest entries l.fn.size l.fn.root (g.S.Source.may_answer l.fn.source) l.fn.mirror.view l.fn.asked.items →
-      (l.refused ≡ 0) × IsWorking g.H.TreeHash.digest entries l.fn.size l.fn.root (g.S.Source.may_answer l.source) l.rounds l.fn.mirror.view l.mirror.view l.fn.asked.items l.asked.items;
+      (entries : List (List ℕ)) →
+      MayWork g.H.TreeHash.digest entries l.fn.size l.fn.root
+      (g.S.Source.may_answer l.fn.source) l.fn.mirror.view l.fn.asked.items →
+      (l.refused ≡ 0)
+      × IsWorking g.H.TreeHash.digest entries l.fn.size l.fn.root
+      (g.S.Source.may_answer l.source) l.rounds l.fn.mirror.view l.mirror.view l.fn.asked.items l.asked.items;
   gains : GainsStrings l.fn.mirror.view l.mirror.view;
 }

@@ -12,9 +12,14 @@ invariant-loop-path g l = record {
   counted : g.S.Source.failed l.source ≡ g.S.Source.failed l.fn.source;
   later : StaysWithin (g.S.Source.may_answer l.fn.source) (g.S.Source.may_answer l.source);
   start : l.path-index ≡ 0 → l.asked.items ≡ l.fn.asked.items;
-  asks : 1 ≤ l.path-index → (Contains l.fn.asked.items (get_or l.paths 0 Checkpoint) → ⊥) → length l.fn.asked.items < length l.asked.items;
+  asks : 1 ≤ l.path-index → (Contains l.fn.asked.items (get_or l.paths 0 Checkpoint) → ⊥) →
+      length l.fn.asked.items < length l.asked.items;
   honest :
-      (entries : List (List ℕ)) (size : ℕ) → MayTake g.H.TreeHash.digest entries size (g.S.Source.may_answer l.fn.source) l.fn.mirror.view l.fn.asked.items l.paths →
-      (l.refused ≡ 0) × TakesTrue g.H.TreeHash.digest entries (take l.path-index l.paths) l.fn.asked.items l.asked.items l.fn.mirror.view l.mirror.view;
+      (entries : List (List ℕ)) (size : ℕ) →
+      MayTake g.H.TreeHash.digest entries size
+      (g.S.Source.may_answer l.fn.source) l.fn.mirror.view l.fn.asked.items l.paths →
+      (l.refused ≡ 0)
+      × TakesTrue g.H.TreeHash.digest entries
+      (take l.path-index l.paths) l.fn.asked.items l.asked.items l.fn.mirror.view l.mirror.view;
   gains : GainsStrings l.fn.mirror.view l.mirror.view;
 }

@@ -1,6 +1,7 @@
 use Rattle.tlog_mirror.proofs.BestNotes.{first_at, none_more, none_at_all, other_size, other_root, same_root}
 use Rattle.tlog_mirror.proofs.best.first_with.Goals as goal
-use Rattle.tlog_mirror.proofs.best.first_with.Goals.{else-one-size-via-then-one-size+else-eq, else-one-size-via-else-one-size}
+use Rattle.tlog_mirror.proofs.best.first_with.Goals.{else-one-size-via-then-one-size+else-eq}
+use Rattle.tlog_mirror.proofs.best.first_with.Goals.{else-one-size-via-else-one-size}
 
 pub returns-then-eq-clause-some : goal.returns-then-eq-clause-some
 returns-then-eq-clause-some c =
@@ -16,4 +17,5 @@ loop-one-preserved c =
     ])
 
 pub returns-clause-none : goal.returns-clause-none
-returns-clause-none c = none_at_all c.args.kept.now c.args.size c.args.root.now c.loop-one.one-index c.loop-one-test.false c.loop-one.invariant
+returns-clause-none c =
+    none_at_all c.args.kept.now c.args.size c.args.root.now c.loop-one.one-index c.loop-one-test.false c.loop-one.invariant

@@ -9,5 +9,8 @@ returns-in-Err-RowLength c =
 
 pub loop-i-preserved : goal.loop-i-preserved
 loop-i-preserved c =
-    let more = rows_more c.args.edge.now c.args.widths.now c.loop-i.i _ c.loop-i.rows.items c.push.new.self.items c.in-Ok.row (omega arith) (omega arith) c.in-Ok-push.ensures.items c.in-Ok.ensures c.loop-i.invariant.hashes c.loop-i.invariant.lengths in
+    let more =
+    rows_more c.args.edge.now c.args.widths.now c.loop-i.i _ c.loop-i.rows.items c.push.new.self.items c.in-Ok.row
+    (omega arith)
+    (omega arith) c.in-Ok-push.ensures.items c.in-Ok.ensures c.loop-i.invariant.hashes c.loop-i.invariant.lengths in
     record { hashes = more.0; lengths = more.1 }

@@ -6,6 +6,7 @@ use Rattle.tlog_mirror.proofs.edge.root_above.Given as goal
 -- what is left leads to the same
 abbrev pub invariant-loop-row : goal.invariant-loop-row
 invariant-loop-row g l = record {
-  root : root_from g.H.TreeHash.digest l.value (map (λ row. row.items) (into_iter_items l.row-iterator)) ≡ root_from g.H.TreeHash.digest l.fn.start (map (λ row. row.items) l.fn.rows.items);
+  root : root_from g.H.TreeHash.digest l.value (map (λ row. row.items) (into_iter_items l.row-iterator))
+      ≡ root_from g.H.TreeHash.digest l.fn.start (map (λ row. row.items) l.fn.rows.items);
   count : into_iter_len l.row-iterator ≡ length (into_iter_items l.row-iterator);
 }

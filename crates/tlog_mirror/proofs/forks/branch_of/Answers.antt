@@ -6,7 +6,8 @@ pub returns-then-is_prefix-clause-branch : goal.returns-then-is_prefix-clause-br
 returns-then-is_prefix-clause-branch g c =
     begun g.H.TreeHash.digest c.args.store.now c.args.before.now c.requires.branches c.args.head c.requires.built c.loop-at.at c.loop-at-test.true c.loop-at.auto.at c.index-before-at.result c.index-before-at.is
     c.is_prefix.result c.is_prefix.ensures c.loop-at.apart.items c.loop-at.invariant c.if-is_prefix.true c.requires.later
-    (record { head = c.args.head; apart = c.extend_from_slice.new.self }) (λ i. c.args.head) (c.in_ok-extend_from_slice.ensures.items ∙ ap (λ xs. c.loop-at.apart.items ++ xs) c.as_slice.ensures.value)
+    (record { head = c.args.head; apart = c.extend_from_slice.new.self }) (λ i. c.args.head)
+    (c.in_ok-extend_from_slice.ensures.items ∙ ap (λ xs. c.loop-at.apart.items ++ xs) c.as_slice.ensures.value)
 
 pub loop-at-preserved : goal.loop-at-preserved
 loop-at-preserved g c =

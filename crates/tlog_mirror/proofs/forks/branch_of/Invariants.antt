@@ -6,4 +6,7 @@ use Rattle.tlog_mirror.proofs.forks.branch_of.Given as goal
 
 -- those of the heads from here on are there from which it departs
 abbrev pub invariant-loop-at : goal.invariant-loop-at
-invariant-loop-at g l = (p : ℕ × List ℕ) → Contains l.apart.items p ↔ (Contains (map (λ b. b.head) (drop l.at l.before)) p × Departs g.H.TreeHash.digest l.store p l.head)
+invariant-loop-at g l =
+    (p : ℕ × List ℕ) →
+    Contains l.apart.items p
+    ↔ (Contains (map (λ b. b.head) (drop l.at l.before)) p × Departs g.H.TreeHash.digest l.store p l.head)

@@ -7,4 +7,5 @@ use Rattle.tlog_mirror.proofs.forks.push_twins.Given as goal
 
 -- those of the heads so far are there
 abbrev pub invariant-loop-at : goal.invariant-loop-at
-invariant-loop-at l = (fork : Fork) → Contains l.forks.items fork ↔ (Contains l.fn.forks.items fork ⊎ IsTwin (take l.at l.points) fork)
+invariant-loop-at l =
+    (fork : Fork) → Contains l.forks.items fork ↔ (Contains l.fn.forks.items fork ⊎ IsTwin (take l.at l.points) fork)

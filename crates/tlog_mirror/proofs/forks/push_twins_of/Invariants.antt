@@ -7,4 +7,6 @@ use Rattle.tlog_mirror.proofs.forks.push_twins_of.Given as goal
 
 -- those with the heads from here on are there
 abbrev pub invariant-loop-at : goal.invariant-loop-at
-invariant-loop-at l = (fork : Fork) → Contains l.forks.items fork ↔ (Contains l.fn.forks.items fork ⊎ IsTwinOf (drop l.at l.before) l.head fork)
+invariant-loop-at l =
+    (fork : Fork) →
+    Contains l.forks.items fork ↔ (Contains l.fn.forks.items fork ⊎ IsTwinOf (drop l.at l.before) l.head fork)

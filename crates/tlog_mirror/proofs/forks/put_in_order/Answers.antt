@@ -12,7 +12,9 @@ use Rattle.tlog_mirror.proofs.forks.put_in_order.Goals as goal
 pub returns-clause-sorted : goal.returns-clause-sorted
 returns-clause-sorted c =
     let is = dedup_is _ _ _ c.dedup.ensures.filtered in
-    let sorted = c.sort_unstable_by.ensures.sorted (λ x y. is_lt (by_fork x y)) (ranks_by forks_total (λ x. x)) (answers_always _ _ _ (λ f a r g h. search rules)) in
+    let sorted =
+    c.sort_unstable_by.ensures.sorted (λ x y. is_lt (by_fork x y)) (ranks_by forks_total (λ x. x))
+    (answers_always _ _ _ (λ f a r g h. search rules)) in
     sorted_out fork_pair pair_cmp _ (rw is (IsStrictlySortedBy-dedup forks_total forks_tie _ sorted))
 
 pub returns-clause-same : goal.returns-clause-same

@@ -8,9 +8,16 @@ use Rattle.tlog_mirror.proofs.plays.play_again.Goals as goal
 
 pub loop-event-preserved : goal.loop-event-preserved
 loop-event-preserved g c = record {
-  run = within_more g.H.TreeHash.digest (map (λ b. (goal.Verifier-dyn g (b.vtable, b.value)).key b.value) c.args.keys.now) answer_of c.args.events.now c.loop-event.event-index c.event-item.result c.loop-event-test.true c.event-item.is
-      c.args.tries (views_of c.args.world.now) (views_of c.loop-event.world) (views_of c.happen_again-answer.new.world) c.loop-event.answers.items c.push.new.self.items c.happen_again-answer.result c.in-Ok.ensures.items c.loop-event.invariant.run c.happen_again-answer.ensures.happens;
-  judged = judged_more g.H.TreeHash.digest (map (λ b. (goal.Verifier-dyn g (b.vtable, b.value)).key b.value) c.args.keys.now) (origins_of c.args.world.now) c.args.events.now c.loop-event.event-index c.event-item.result c.loop-event-test.true c.event-item.is c.loop-event.answers.items c.push.new.self.items c.happen_again-answer.result c.in-Ok.ensures.items c.loop-event.invariant.judged (rw c.loop-event.invariant.origins at c.happen_again-answer.ensures.judged);
+  run = within_more g.H.TreeHash.digest
+      (map (λ b. (goal.Verifier-dyn g (
+        b.vtable,
+        b.value,
+      )).key b.value) c.args.keys.now) answer_of c.args.events.now c.loop-event.event-index c.event-item.result c.loop-event-test.true c.event-item.is
+      c.args.tries (views_of c.args.world.now) (views_of c.loop-event.world)
+      (views_of c.happen_again-answer.new.world) c.loop-event.answers.items c.push.new.self.items c.happen_again-answer.result c.in-Ok.ensures.items c.loop-event.invariant.run c.happen_again-answer.ensures.happens;
+  judged = judged_more g.H.TreeHash.digest
+      (map (λ b. (goal.Verifier-dyn g (b.vtable, b.value)).key b.value) c.args.keys.now)
+      (origins_of c.args.world.now) c.args.events.now c.loop-event.event-index c.event-item.result c.loop-event-test.true c.event-item.is c.loop-event.answers.items c.push.new.self.items c.happen_again-answer.result c.in-Ok.ensures.items c.loop-event.invariant.judged (rw c.loop-event.invariant.origins at c.happen_again-answer.ensures.judged);
   origins = c.happen_again-answer.ensures.origins ∙ c.loop-event.invariant.origins;
   remembered = c.happen_again-answer.ensures.remembered ∙ c.loop-event.invariant.remembered;
   fits = rw c.happen_again-answer.auto.world c.loop-event.invariant.fits;
@@ -23,5 +30,7 @@ returns-clause-run g c =
     let keys = (map (λ b. (goal.Verifier-dyn g (b.vtable, b.value)).key b.value) c.args.keys.now) in
     let es = c.args.events.now in
     let whole : take c.loop-event.event-index es ≡ es = take_all c.loop-event.event-index es (omega arith) in
-    runs_once g.H.TreeHash.digest keys c.args.tries (views_of c.args.world.now) (views_of c.loop-event.world) es (map answer_of c.loop-event.answers.items)
-    (subst (λ xs. RunsWithin g.H.TreeHash.digest keys c.args.tries (views_of c.args.world.now) xs (map answer_of c.loop-event.answers.items) (views_of c.loop-event.world)) whole c.loop-event.invariant.run)
+    runs_once g.H.TreeHash.digest keys c.args.tries (views_of c.args.world.now) (views_of c.loop-event.world) es
+    (map answer_of c.loop-event.answers.items)
+    (subst (λ xs. RunsWithin g.H.TreeHash.digest keys c.args.tries (views_of c.args.world.now) xs
+    (map answer_of c.loop-event.answers.items) (views_of c.loop-event.world)) whole c.loop-event.invariant.run)

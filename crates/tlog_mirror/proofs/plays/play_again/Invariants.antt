@@ -7,8 +7,10 @@ use Rattle.tlog_mirror.proofs.plays.play_again.Given as goal
 -- the events so far have run, and there is room for the answers of the others
 abbrev pub invariant-loop-event : goal.invariant-loop-event
 invariant-loop-event g l = record {
-  run : RunsWithin g.H.TreeHash.digest (map (λ b. (goal.Verifier-dyn g (b.vtable, b.value)).key b.value) l.keys) l.tries (views_of l.fn.world) (take l.event-index l.events) (map answer_of l.answers.items) (views_of l.world);
-  judged : JudgesEvents g.H.TreeHash.digest (map (λ b. (goal.Verifier-dyn g (b.vtable, b.value)).key b.value) l.keys) (origins_of l.fn.world) (take l.event-index l.events) l.answers.items;
+  run : RunsWithin g.H.TreeHash.digest (map (λ b. (goal.Verifier-dyn g (b.vtable, b.value)).key b.value) l.keys) l.tries
+      (views_of l.fn.world) (take l.event-index l.events) (map answer_of l.answers.items) (views_of l.world);
+  judged : JudgesEvents g.H.TreeHash.digest (map (λ b. (goal.Verifier-dyn g (b.vtable, b.value)).key b.value) l.keys)
+      (origins_of l.fn.world) (take l.event-index l.events) l.answers.items;
   origins : origins_of l.world ≡ origins_of l.fn.world;
   remembered : all_remembered l.world ≡ all_remembered l.fn.world;
   fits : Fits l.events (length l.world);

@@ -20,14 +20,19 @@ invariant_of-self-in-Err g c =
     let kept = c.self.inside.kept.items in
     let k = c.args.kept in
     let at = c.in-Err.at in
-    let within : at ≤ length kept = subst (λ (xs : List KeptNote). at ≤ length xs) c.as_slice.ensures.value c.in-Err.ensures.bound in
+    let within : at ≤ length kept =
+    subst (λ (xs : List KeptNote). at ≤ length xs) c.as_slice.ensures.value c.in-Err.ensures.bound in
     let gap : IsBinarySearchResult (λ x. by_bytes (note_bytes x) (note_bytes k)) kept (Err at) =
-    subst (λ (xs : List KeptNote). IsBinarySearchResult (λ x. by_bytes (note_bytes x) (note_bytes k)) xs (Err at)) c.as_slice.ensures.value
-    (subst (λ b. IsBinarySearchResult (λ x. by_bytes (note_bytes x) b) c.as_slice.result.now (Err at)) c.bytes.ensures.bytes c.in-Err.ensures.place) in
-    let said : IsHead (note_bytes k) origin k.size k.root = subst (λ (s : State). IsHead (note_bytes k) s.view.origin k.size k.root) (sym c.self.view_is) c.requires.said in
+    subst (λ (xs : List KeptNote). IsBinarySearchResult (λ x. by_bytes (note_bytes x) (note_bytes k)) xs
+    (Err at)) c.as_slice.ensures.value
+    (subst (λ b. IsBinarySearchResult (λ x. by_bytes (note_bytes x) b) c.as_slice.result.now
+    (Err at)) c.bytes.ensures.bytes c.in-Err.ensures.place) in
+    let said : IsHead (note_bytes k) origin k.size k.root =
+    subst (λ (s : State). IsHead (note_bytes k) s.view.origin k.size k.root) (sym c.self.view_is) c.requires.said in
     let edge : HasEdge d (state_of origin kept c.self.inside.strings c.self.inside.remembered).view (note_bytes k) =
     subst (λ (s : State). HasEdge d s.view (note_bytes k)) (sym c.self.view_is) c.requires.edge in
-    subst (λ (xs : List KeptNote). IsKeptWell d origin xs c.self.inside.strings c.self.inside.remembered) (sym c.in_ok-insert-in-Err.ensures.items)
+    subst (λ (xs : List KeptNote). IsKeptWell d origin xs c.self.inside.strings c.self.inside.remembered)
+    (sym c.in_ok-insert-in-Err.ensures.items)
     (inserted_well d origin kept c.self.inside.strings c.self.inside.remembered c.self.invariant k at within gap said edge)
 
 pub returns-in-Ok-clause-ok : goal.returns-in-Ok-clause-ok
@@ -35,11 +40,15 @@ returns-in-Ok-clause-ok g c =
     let kept = c.self.inside.kept.items in
     let bytes = c.args.kept.note.bytes in
     let at = c.in-Ok.field-0 in
-    let within : at < length kept = subst (λ (xs : List KeptNote). at < length xs) c.as_slice.ensures.value c.in-Ok.ensures.bound in
+    let within : at < length kept =
+    subst (λ (xs : List KeptNote). at < length xs) c.as_slice.ensures.value c.in-Ok.ensures.bound in
     let found : IsBinarySearchResult (λ x. by_bytes (note_bytes x) bytes) kept (Ok at) =
-    subst (λ (xs : List KeptNote). IsBinarySearchResult (λ x. by_bytes (note_bytes x) bytes) xs (Ok at)) c.as_slice.ensures.value
-    (subst (λ b. IsBinarySearchResult (λ x. by_bytes (note_bytes x) b) c.as_slice.result.now (Ok at)) c.bytes.ensures.bytes c.in-Ok.ensures.place) in
-    kept_view c.args.self.now.view bytes (subst (λ (s : State). Has s.view.notes bytes) c.self.view_is (found_is_kept kept bytes at within found))
+    subst (λ (xs : List KeptNote). IsBinarySearchResult (λ x. by_bytes (note_bytes x) bytes) xs
+    (Ok at)) c.as_slice.ensures.value
+    (subst (λ b. IsBinarySearchResult (λ x. by_bytes (note_bytes x) b) c.as_slice.result.now
+    (Ok at)) c.bytes.ensures.bytes c.in-Ok.ensures.place) in
+    kept_view c.args.self.now.view bytes
+    (subst (λ (s : State). Has s.view.notes bytes) c.self.view_is (found_is_kept kept bytes at within found))
 
 pub returns-in_ok-insert-in-Err-clause-ok : goal.returns-in_ok-insert-in-Err-clause-ok
 returns-in_ok-insert-in-Err-clause-ok g c =

@@ -10,6 +10,7 @@ returns-clause-merges g c =
     let v = c.args.self.now.view in
     let D = g.H.TreeHash.digest in (
       refl,
-      subst (λ (w : View). NoClash D w.strings) (sym (union_repeats v)) (subst (λ (s : State). NoClash D s.view.strings) c.self.view_is c.self.invariant.sound.lawful.no_clash),
+      subst (λ (w : View). NoClash D w.strings) (sym (union_repeats v))
+          (subst (λ (s : State). NoClash D s.view.strings) c.self.view_is c.self.invariant.sound.lawful.no_clash),
       sym (union_repeats v),
     )

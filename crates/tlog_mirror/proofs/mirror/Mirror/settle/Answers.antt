@@ -7,15 +7,33 @@ use Rattle.tlog_mirror.proofs.mirror.Mirror.settle.Goals as goal
 
 pub invariant_of-self : goal.invariant_of-self
 invariant_of-self g c =
-    let exact = subst (λ heads. (p : ℕ × List ℕ) → Contains heads p ↔ HasKept c.self.inside.kept.items (pair_point p)) (sym c.as_slice-2.ensures.value) (subst (λ kept. (p : ℕ × List ℕ) → Contains c.in_ok-heads.heads.items p ↔ HasKept kept (pair_point p)) c.as_slice.ensures.value c.in_ok-heads.ensures.exact) in
-    settled_well g.H.TreeHash.digest (string_bytes c.self.inside.origin) c.self.inside.kept.items c.self.inside.strings c.self.inside.remembered c.settle_all.new.marks c.self.invariant c.as_slice-2.result.now exact c.settle_all.ensures.gains
+    let exact =
+    subst (λ heads. (p : ℕ × List ℕ) → Contains heads p ↔ HasKept c.self.inside.kept.items (pair_point p))
+    (sym c.as_slice-2.ensures.value)
+    (subst (λ kept. (p : ℕ × List ℕ) →
+    Contains c.in_ok-heads.heads.items p
+    ↔ HasKept kept (pair_point p)) c.as_slice.ensures.value c.in_ok-heads.ensures.exact) in
+    settled_well g.H.TreeHash.digest
+    (string_bytes c.self.inside.origin) c.self.inside.kept.items c.self.inside.strings c.self.inside.remembered c.settle_all.new.marks c.self.invariant c.as_slice-2.result.now exact c.settle_all.ensures.gains
 
 pub returns-clause-done : goal.returns-clause-done
 returns-clause-done g c =
-    let exact = subst (λ heads. (p : ℕ × List ℕ) → Contains heads p ↔ HasKept c.self.inside.kept.items (pair_point p)) (sym c.as_slice-2.ensures.value) (subst (λ kept. (p : ℕ × List ℕ) → Contains c.in_ok-heads.heads.items p ↔ HasKept kept (pair_point p)) c.as_slice.ensures.value c.in_ok-heads.ensures.exact) in
-    marked g.H.TreeHash.digest (string_bytes c.self.inside.origin) c.self.inside.kept.items c.self.inside.strings c.self.inside.remembered c.settle_all.new.marks c.self.invariant c.as_slice-2.result.now exact c.settle_all.ensures.gains c.settle_all.result c.settle_all.ensures.done
+    let exact =
+    subst (λ heads. (p : ℕ × List ℕ) → Contains heads p ↔ HasKept c.self.inside.kept.items (pair_point p))
+    (sym c.as_slice-2.ensures.value)
+    (subst (λ kept. (p : ℕ × List ℕ) →
+    Contains c.in_ok-heads.heads.items p
+    ↔ HasKept kept (pair_point p)) c.as_slice.ensures.value c.in_ok-heads.ensures.exact) in
+    marked g.H.TreeHash.digest
+    (string_bytes c.self.inside.origin) c.self.inside.kept.items c.self.inside.strings c.self.inside.remembered c.settle_all.new.marks c.self.invariant c.as_slice-2.result.now exact c.settle_all.ensures.gains c.settle_all.result c.settle_all.ensures.done
 
 pub returns-clause-within : goal.returns-clause-within
 returns-clause-within g c =
-    let exact = subst (λ heads. (p : ℕ × List ℕ) → Contains heads p ↔ HasKept c.self.inside.kept.items (pair_point p)) (sym c.as_slice-2.ensures.value) (subst (λ kept. (p : ℕ × List ℕ) → Contains c.in_ok-heads.heads.items p ↔ HasKept kept (pair_point p)) c.as_slice.ensures.value c.in_ok-heads.ensures.exact) in
-    marks_now g.H.TreeHash.digest (string_bytes c.self.inside.origin) c.self.inside.kept.items c.self.inside.strings c.self.inside.remembered c.settle_all.new.marks c.self.invariant c.as_slice-2.result.now exact c.settle_all.ensures.gains
+    let exact =
+    subst (λ heads. (p : ℕ × List ℕ) → Contains heads p ↔ HasKept c.self.inside.kept.items (pair_point p))
+    (sym c.as_slice-2.ensures.value)
+    (subst (λ kept. (p : ℕ × List ℕ) →
+    Contains c.in_ok-heads.heads.items p
+    ↔ HasKept kept (pair_point p)) c.as_slice.ensures.value c.in_ok-heads.ensures.exact) in
+    marks_now g.H.TreeHash.digest
+    (string_bytes c.self.inside.origin) c.self.inside.kept.items c.self.inside.strings c.self.inside.remembered c.settle_all.new.marks c.self.invariant c.as_slice-2.result.now exact c.settle_all.ensures.gains
