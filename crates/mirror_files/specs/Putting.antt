@@ -39,7 +39,8 @@ Writes old new held held' piece (Err fault) =
     (start : Option (List ℕ)) (text : List ℕ) → IsUnderWay start old held text →
     AppendsFront start new (text ++ piece)
 
--- so it does, and the digest goes on with it
+-- what a page's writer does with a piece: it is written as above, and the page's digest is that of
+-- the text with the piece behind it
 pub record Puts (old new : Option (List ℕ)) (page page' : Page) (piece : List ℕ)
     (answer : Result (Unit {0}) StreamFault)
     : Type 0 where

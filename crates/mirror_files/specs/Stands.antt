@@ -13,7 +13,7 @@ use Rattle.mirror_files.specs.declared.parts.PartsFault.TheVariants.{OutOfMemory
 use Rattle.mirror_files.specs.Reading.{HasMagic, HasBody}
 use Rattle.mirror_files.specs.Items.{items_text, list_text, IsItem, AreItems}
 
--- so many items stand at the front, and the rest follows them
+-- the bytes begin with a count of items, and the rest follows them
 pub record HasItems (form : Form) (count : ℕ) (bytes : List ℕ) (items : List (List ℕ))
     (rest : List ℕ) : Type 0 where
   pub count_is : length items ≡ count

@@ -15,7 +15,7 @@ module _ (digest : List ℕ → List ℕ) where
     pub root_is : mth digest entries ≡ root
     pub are_held : HasAll held (strings digest entries)
 
-  -- so it is of some entries
+  -- some entries have that size and tree hash, and all that their tree hash hashes is held
   pub record IsBuilt (held : Strings) (size : ℕ) (root : List ℕ) : Type 0 where
     pub entries : List (List ℕ)
     pub is : IsTreeOf held size root entries
@@ -26,7 +26,7 @@ module _ (digest : List ℕ → List ℕ) where
     pub head : HasHead v size root
     pub tree : IsTreeOf v.strings size root entries
 
-  -- so it is of some entries
+  -- Complete(V, n, r, E) for some entries E
   pub record IsComplete (v : View) (size : ℕ) (root : List ℕ) : Type 0 where
     pub entries : List (List ℕ)
     pub complete : Complete v size root entries

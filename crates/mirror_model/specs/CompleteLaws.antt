@@ -16,7 +16,7 @@ CompleteListIsOne =
     (size : ℕ) (root : List ℕ) (first second : List (List ℕ)) → Complete digest v size root first →
     Complete digest v size root second → first ≡ second
 
--- and its tree hash is the root, its length the size
+-- the tree hash of a complete list is the root, and its length the size
 abbrev pub CompleteListHasRoot : Type 0
 CompleteListHasRoot =
     (digest : List ℕ → List ℕ) (v : View) (size : ℕ) (root : List ℕ) (entries : List (List ℕ)) →
@@ -29,7 +29,7 @@ CompleteStays =
     (size : ℕ) (root : List ℕ) (entries : List (List ℕ)) →
     Complete digest v size root entries → Complete digest w size root entries
 
--- and with no others, while nothing clashes
+-- what is complete has no other entries in a view that grew, while nothing clashes there
 abbrev pub CompleteKeepsItsList : Type 0
 CompleteKeepsItsList =
     (digest : List ℕ → List ℕ) → IsDigest digest → (v w : View) → IsSubview v w →

@@ -14,13 +14,13 @@ IsFitting count (Take target (Tile width bytes)) = (target < count) × IsWidth w
 IsFitting count (Take target (Bundle width bytes)) = (target < count) × IsWidth width
 IsFitting count (Merge target source) = (target < count) × (source < count)
 
--- so is each event of the list
+-- each event of the list fits so many mirrors
 abbrev pub Fits : List Event → ℕ → Type 0
 Fits events count = All (IsFitting count) events
 
 -- At these positions of the list, which rise from the one given on, stand merges that lead from a
--- mirror to another: each is out of the mirror before, and the last is into the other. By no merges
--- a mirror is led to alone.
+-- mirror to another: each is out of the mirror before, and the last is into the other. With no
+-- merges the two are one mirror.
 abbrev pub MergesLead : List Event → ℕ → ℕ → List ℕ → ℕ → Type 0
 MergesLead events first source [] end = source ≡ end
 MergesLead events first source (position ∷ positions) end =

@@ -80,7 +80,7 @@ module _ (digest : List ℕ → List ℕ) (origin : List ℕ) (keys : List Key) 
       NoneClashed plays →
       IsReached digest origin keys opened (events_in plays) mirror v
 
-  -- so mirrors that the same items have reached, in any order, with repeats and through any merges,
+  -- mirrors that the same items have reached, in any order, with repeats and through any merges,
   -- hold equal views
   abbrev pub SameReachedSameView : Type 0
   SameReachedSameView =
@@ -187,7 +187,7 @@ pub record LeavesRest (place : ℕ → ℕ) (part whole new : List View) : Type 
       (number : ℕ) → ((i : ℕ) → number ≡ place i → ⊥) →
       slice_get new number ≡ slice_get whole number
 
--- so a play of some mirrors is one of all of them: the plays above may each be of others
+-- a play of some mirrors is one of all of them: so the plays of a list may each be of other mirrors
 abbrev pub PartIsPlayed : Type 0
 PartIsPlayed =
     (digest : List ℕ → List ℕ) (keys : List Key) (place : ℕ → ℕ) (part whole after : List View)

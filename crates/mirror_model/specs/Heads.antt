@@ -14,7 +14,7 @@ pub record IsHead (note origin : List ℕ) (size : ℕ) (root : List ℕ) : Type
   pub is_note : IsNote note text lines
   pub is_checkpoint : IsCheckpoint text origin size root extensions
 
--- so it is, and the note opens under the keys
+-- the note's text is a checkpoint of that origin, size and root, and the note opens under the keys
 pub record IsOpenHead (note origin : List ℕ) (keys : List Key) (size : ℕ) (root : List ℕ)
     : Type 0 where
   pub text : List ℕ

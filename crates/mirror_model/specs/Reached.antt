@@ -29,7 +29,8 @@ module _ (digest : List ℕ → List ℕ) (origin : List ℕ) (keys : List Key) 
     pub has : Contains (part item) string
 
 module _ (digest : List ℕ → List ℕ) (origin : List ℕ) (keys : List Key) (opened : List View) where
-  -- so a string has reached the mirror, or a note
+  -- a string has reached the mirror: it was in an opening view or is of a good item, and merges
+  -- lead from there
   abbrev pub StringReaches : List Event → ℕ → List ℕ → Type 0
   StringReaches events mirror string =
       OpensWith opened (λ v. v.strings) events mirror string

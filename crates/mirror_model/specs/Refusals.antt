@@ -48,7 +48,7 @@ pub record IsNoCheckpoint (bytes : List ℕ) (fault : CheckpointFault) : Type 0 
   pub refused : ReadsCheckpoint text (Err fault)
   pub has_memory : fault ≢ reading.OutOfMemory
 
--- it is a checkpoint, of another origin
+-- the note's text is a checkpoint, of another origin
 pub record HasOtherOrigin (bytes origin : List ℕ) : Type 0 where
   pub checkpoint : Checkpoint
   pub text : List ℕ
@@ -56,7 +56,7 @@ pub record HasOtherOrigin (bytes origin : List ℕ) : Type 0 where
   pub is : IsCheckpointNote bytes checkpoint text lines
   pub differs : checkpoint.origin ≢ origin
 
--- it is one of that origin, and no key of the list accepts a line of the note
+-- the note's text is a checkpoint of that origin, and no key of the list accepts a line of the note
 pub record HasNoSigner (bytes origin : List ℕ) (keys : List Key) : Type 0 where
   pub checkpoint : Checkpoint
   pub text : List ℕ

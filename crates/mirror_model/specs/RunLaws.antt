@@ -103,7 +103,7 @@ RunIsLawful =
     (keys : List Key) (opened final : List View) (events : List Event) (answers : List Answer) →
     AreLawful digest opened → Run digest keys opened events answers final → AreLawful digest final
 
--- and each view only grows
+-- in a run each view only grows
 abbrev pub RunGrows : Type 0
 RunGrows =
     (digest : List ℕ → List ℕ) (keys : List Key) (opened final : List View) (events : List Event)

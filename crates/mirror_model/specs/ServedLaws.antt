@@ -37,7 +37,7 @@ BundlesAreAll =
     AreBundles digest v 0 bundles →
     joined_up bundles ≡ entries
 
--- and there are such bundles
+-- the entries served stand in bundles that are served, from index 0 on
 abbrev pub BundlesAreServed : Type 0
 BundlesAreServed =
     (digest : List ℕ → List ℕ) →

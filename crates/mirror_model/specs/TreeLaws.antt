@@ -81,7 +81,7 @@ RoundLeaves =
     AsksUpTo digest entries held top → (x : Node) →
     IsNode digest (tree_of entries) 0 x → (Has after x.string → ⊥) → x.len ≤ 256 ^ top
 
--- so the next round asks for tiles of lower levels alone
+-- the round after one asks for tiles of lower levels alone
 abbrev pub RoundGoesDown : Type 0
 RoundGoesDown =
     (digest : List ℕ → List ℕ) (held after : Strings) (entries : List (List ℕ)) →
@@ -144,7 +144,7 @@ WalkIsFront =
     WalkFails digest held (shape (length entries)) 0 (mth digest entries) at many
     ↔ HasFrontAt digest held entries at many
 
--- so what it names is Front(V, E)
+-- what the walk names is Front(V, E)
 abbrev pub MissingIsFront : Type 0
 MissingIsFront =
     (digest : List ℕ → List ℕ) → IsDigest digest →

@@ -66,7 +66,7 @@ EdgesAreTrue =
     length entries < 256 ^ 8 →
     IsTrueEdge digest entries
 
--- these rows are those of the paths of the edge
+-- the edge of a size has the partial tile of each of its levels
 abbrev pub EdgeIsOfPaths : Type 0
 EdgeIsOfPaths =
     (size : ℕ) →

@@ -14,7 +14,7 @@ UnionAssociates = (v w x : View) → union (union v w) x ≡ union v (union w x)
 abbrev pub UnionIsIdempotent : Type 0
 UnionIsIdempotent = (v : View) → union v v ≡ v
 
--- and clashes in the same cases either way round
+-- a union clashes in the same cases either way round
 abbrev pub UnionClashesEitherWay : Type 0
 UnionClashesEitherWay =
     (digest : List ℕ → List ℕ) (v w : View) → HasClash digest (union v w).strings →

@@ -28,7 +28,7 @@ pub record ServesOneEntry (note origin : List ℕ) : Type 0 where
   pub lawful : IsLawful sum_digest view
   pub served : Served sum_digest view note 1 (mth sum_digest one_entry) one_entry
 
--- so it is of each note of that size and root
+-- for each note of that size and root there is a lawful view that serves the entry
 abbrev pub OneEntryIsServed : Type 0
 OneEntryIsServed =
     (note origin : List ℕ) → IsHead note origin 1 (mth sum_digest one_entry) →

@@ -27,7 +27,7 @@ FrontRoundTakes =
     Gets (length entries) list gets founds →
     IsRound digest (take size entries) v.strings (with_true digest entries v founds).strings
 
--- so many honest rounds, and no more, have fronts that are not empty
+-- of honest rounds whose fronts are not empty there are at most max(1, Top(n))
 abbrev pub FrontRoundsEnd : Type 0
 FrontRoundsEnd =
     (digest : List ℕ → List ℕ) →

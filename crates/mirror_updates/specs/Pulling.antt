@@ -58,7 +58,7 @@ abbrev pub pulled_lines : Pulled → List ℕ
 pulled_lines p =
     head_text p.size p.root ++ (counts_text p.rounds p.refused ++ complete_text p.complete)
 
--- and its exit status
+-- the exit status of a pull: 3 where the head is not complete
 abbrev pub status_of : Bool → ℕ
 status_of true = 0
 status_of false = 3

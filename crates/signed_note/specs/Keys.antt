@@ -17,7 +17,7 @@ pub record Secret : Type 0 where
   pub id : ℕ
   pub secret : List ℕ
 
--- it accepts exactly its mac of the text
+-- the key of a shared secret accepts exactly its mac of the text
 abbrev pub secret_key : Secret → Key
 secret_key k =
     record {

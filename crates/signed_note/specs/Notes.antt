@@ -1,4 +1,4 @@
--- Signed notes (C2SP signed-note, "Format", "Signatures" and "Verifying").
+-- Signed notes (C2SP signed-note, "Format" and "Signatures").
 use Rattle.std.specs.Prelude.{◌≡◌, ◌≢◌, ℕ, ◌+◌, ◌<◌, ◌≤◌, ◌^◌, Bool, IsTrue, List, [], ◌∷◌, ◌++◌}
 use Rattle.std.specs.Prelude.{length, slice_index, All, Any, ◌==◌, ◌&&◌}
 use Rattle.std.specs.List.{flat_map}

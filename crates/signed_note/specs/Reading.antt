@@ -92,7 +92,7 @@ MakesSecret name id secret (Err key.BadName) = IsOwnName name → ⊥
 MakesSecret name id secret (Err key.BadSecret) = IsOwnName name × (IsSecret secret → ⊥)
 MakesSecret name id secret (Err key.OutOfMemory) = Unit {0}
 
--- and of one of pinned texts
+-- what each answer of a constructor of pinned texts says of what it is given
 abbrev pub MakesPins : List ℕ → ℕ → List (List ℕ) → Result Pins KeyFault → Type 0
 MakesPins name id digests (Ok k) =
     IsOwnName name × (k ≡ record { name = name; id = id; digests = digests })

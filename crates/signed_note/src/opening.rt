@@ -43,7 +43,7 @@ fn opens(text: &str, lines: &[SignatureLine], keys: &[Box<dyn Verifier>]) -> boo
 }
 
 /// Whether the note is trusted: `Ok` exactly where some line and some key have equal name and id and the
-/// key accepts the line's signature over the text (C2SP signed-note, "Verifying"). Lines of unknown keys
+/// key accepts the line's signature over the text (C2SP signed-note, "Signatures"). Lines of unknown keys
 /// are ignored, and a line of a known key that the key does not accept is passed over. The keys may be of
 /// unlike kinds. Takes no memory.
 ///

@@ -18,7 +18,7 @@ module _ (digest : List ℕ → List ℕ) (held : Strings) where
 
   -- ---- what the private readers' contracts cite
 
-  -- so many hashes, this one last, fold to that hash, and the joins are held
+  -- a row of that count of hashes, with this one last, folds to that hash, and its joins are held
   pub record HasRow (count : ℕ) (hash last : List ℕ) : Type 0 where
     pub front : List (List ℕ)
     pub count_is : length front + 1 ≡ count

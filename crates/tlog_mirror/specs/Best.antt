@@ -28,7 +28,7 @@ by_point a b = point_cmp (pair_point a) (pair_point b)
 abbrev pub served_cmp : Point → Point → Ordering
 served_cmp a b = ordering_then (nat_cmp b.size a.size) (slice_cmp nat_cmp a.root b.root)
 
--- it is served before what was found, if anything was
+-- the point is served before what was found, if anything was
 abbrev pub IsAhead : Point → Option (ℕ × List ℕ) → Type 0
 IsAhead point None = Unit {0}
 IsAhead point (Some found) = served_cmp point (pair_point found) ≡ Less
@@ -58,7 +58,7 @@ module _ (digest : List ℕ → List ℕ) (held : Strings) where
   IsBestOf kept None = (other : KeptNote) → Contains kept other → IsBuiltAt (kept_point other) → ⊥
   IsBestOf kept (Some found) = IsBest kept (pair_point found)
 
--- it is a kept note of that size and root, and none before it is
+-- the first of the kept notes of that size and root
 pub record IsFirstWith (kept : List KeptNote) (point : Point) (one : KeptNote) : Type 0 where
   pub at : ℕ
   pub within : at < length kept

@@ -26,7 +26,8 @@ ReadsRows widths rows (Err taking.BundleLong) = ⊥
 ReadsRows widths rows (Err taking.Collision) = ⊥
 ReadsRows widths rows (Err taking.OutOfMemory) = Unit {0}
 
--- and edge rows where there are as many as partial tiles, and they have these widths
+-- what each answer of a reader of edge rows says: there are as many rows as partial tiles, and they
+-- have these widths
 abbrev pub ReadsEdge : ℕ → List (List ℕ) → Result (List (List (List ℕ))) TakeFault → Type 0
 ReadsEdge size rows (Ok hashes) = HasEdgeLengths size rows × (hashes ≡ map row_of rows)
 ReadsEdge size rows (Err (taking.Note fault)) = ⊥

@@ -45,7 +45,7 @@ module _ (digest : List ℕ → List ℕ) (keys : List Key) where
       (origin : List ℕ) → slice_get origins target ≡ Some origin → JudgesItem origin item answer
   JudgesEvent origins (Merge target source) answer = IsMergeAnswer answer
 
-  -- so are events, one after another, on mirrors of these origins
+  -- the same of events, one after another, on mirrors of these origins
   abbrev pub JudgesEvents :
       List (List ℕ) → List Event → List (Result (Unit {0}) TakeFault) → Type 0
   JudgesEvents origins [] [] = Unit {0}
@@ -72,7 +72,7 @@ module _ (digest : List ℕ → List ℕ) (keys : List Key) where
     pub last : Happens digest keys between event answer new
     pub all_tried : answer ≡ Exhausted → before + 1 ≡ tries
 
-  -- so happen events, one after another, with an answer each
+  -- events happen one after another, each tried so many times at most, with an answer each
   abbrev pub RunsWithin : ℕ → List View → List Event → List Answer → List View → Type 0
   RunsWithin tries old [] [] new = new ≡ old
   RunsWithin tries old (event ∷ events) (answer ∷ answers) new =

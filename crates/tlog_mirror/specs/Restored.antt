@@ -13,7 +13,7 @@ use Rattle.tlog_mirror.specs.declared.fault.HeldFault.{HeldFault}
 use Rattle.tlog_mirror.specs.declared.fault.HeldFault.TheVariants.{BadHead, NoEdge, OutOfMemory}
 use Rattle.tlog_mirror.specs.declared.kept.KeptNote.{KeptNote}
 
--- these strings, and no note
+-- the view of these strings, and of no note
 abbrev pub strings_alone : List ℕ → Strings → View
 strings_alone origin strings = record { origin = origin; notes = set.empty; strings = strings }
 

@@ -11,7 +11,7 @@ module _ (digest : List ℕ → List ℕ) (held : Strings) where
   abbrev pub HasSlicesOf : Points → ℕ × List ℕ → Type 0
   HasSlicesOf points head = HasSlices digest held points head.0 head.1
 
-  -- it is a slice of the tree of one of these
+  -- the point is a slice of the tree of one of these heads
   pub record IsSliceOfAny (heads : List (ℕ × List ℕ)) (point : Point) : Type 0 where
     pub head : ℕ × List ℕ
     pub is_one : Contains heads head

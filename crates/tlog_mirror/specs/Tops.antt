@@ -30,7 +30,8 @@ top_code =
     (λ p. record { note = p.0; size = p.1.0; root = p.1.1.0; strings = p.1.1.1 }) (λ _. refl)
 
 module _ (digest : List ℕ → List ℕ) where
-  -- its tree is held, no two strings share a digest, and entries have at most 65,535 bytes
+  -- the tree of the top is held, no two of its strings share a digest, and entries have at most
+  -- 65,535 bytes
   pub record IsWhole (top : Top) : Type 0 where
     pub built : IsBuilt digest top.strings top.size top.root
     pub no_clash : NoClash digest top.strings
@@ -45,7 +46,7 @@ module _ (digest : List ℕ → List ℕ) where
     pub entries : List (List ℕ)
     pub served : Served digest v note size root entries
 
-  -- it is what the view serves
+  -- the top is what the view serves
   pub record IsServedTop (v : View) (top : Top) : Type 0 where
     pub strings_are : top.strings ≡ v.strings
     pub served : IsServedAs v top.note top.size top.root

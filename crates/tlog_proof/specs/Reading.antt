@@ -6,7 +6,7 @@ use Rattle.tlog_proof.specs.declared.fault.TextFault.{TextFault}
 use Rattle.tlog_proof.specs.declared.fault.TextFault.TheVariants.{BadProofText, OutOfMemory}
 use Rattle.tlog_proof.specs.Text.{lines_of, IsWritableProof, HasHashes}
 
--- it is found and is so, unless memory was wanting
+-- what a reader finds has the property, unless memory was wanting
 abbrev pub FindsThat : {X : Type 0} → Result X TextFault → (X → Type 0) → Type 0
 FindsThat (Ok x) P = P x
 FindsThat (Err BadProofText) P = ⊥

@@ -56,7 +56,7 @@ IsWritableProof (Inclusion size index root leaf path) =
 IsWritableProof (Consistency first first_root second second_root path) =
     (first ≤ MAX_SIZE) × (second ≤ MAX_SIZE) × (length path ≤ MAX_PATH)
 
--- its hashes are hashes
+-- the hashes of a proof have 32 bytes
 abbrev pub HasHashes : Proof → Type 0
 HasHashes (Inclusion size index root leaf path) =
     Is32Bytes root × Is32Bytes leaf × AllByRecursion Is32Bytes path

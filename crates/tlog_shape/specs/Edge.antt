@@ -24,7 +24,7 @@ pub record IsFullTile (n level index width : ℕ) : Type 0 where
   pub fits : (index + 1) * 256 ^ (level + 1) ≤ n
   pub width_is : width ≡ 256
 
--- it is the partial tile of its level
+-- the tile is the partial tile of its level
 pub record IsPartialTile (n level index width : ℕ) : Type 0 where
   pub index_is : index ≡ edge_index_of n level
   pub width_is : width ≡ width_of n level

@@ -9,7 +9,7 @@ abbrev pub edge_at : ℕ → ℕ → List Path
 edge_at n level =
     if width_of n level == 0 then [] else Tile level (edge_index_of n level) (width_of n level) ∷ []
 
--- those of the levels below a number of levels, lowest level first
+-- the partial tiles of the levels below a number of levels, lowest level first
 abbrev pub edge_below : ℕ → ℕ → List Path
 edge_below n zero = []
 edge_below n (suc level) = edge_below n level ++ edge_at n level
