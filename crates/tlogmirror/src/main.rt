@@ -4,31 +4,11 @@
 //! 1 a fault, 2 a command line that asks for nothing that can be done, 3 a no.
 #![tactic(auto)]
 
-mod ask;
-mod build;
-mod check;
-mod ending;
-mod entries;
-mod export;
-mod fault;
-mod files;
-mod keys;
-mod merge;
-mod notes;
-mod pull;
-mod root;
-mod run;
-mod serve;
-mod state;
-mod take;
 #[cfg(test)]
 mod tests;
-mod work;
 
-use crate::ending::{carry_out, told};
-use crate::fault::RunFault;
-use crate::run::run;
 use command_line::CommandFault;
+use mirror_commands::{RunFault, carry_out, run, told};
 use std::io::ErrorKind;
 use std::process::ExitCode;
 use std::{env, io};

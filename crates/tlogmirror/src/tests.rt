@@ -10,13 +10,12 @@ mod serving;
 mod states;
 mod streams;
 
-use crate::check::{CheckFault, run_check};
-use crate::root::{RootFault, run_root};
-use crate::run::run;
 use crate::tests::streams::{ByteByByte, FailingReader, FailingWriter};
+use mirror_commands::run;
 use std::alloc::{AllocError, Global};
 use std::process::Abort;
 use std::test::Fail;
+use stream_commands::{CheckFault, RootFault, run_check, run_root};
 use tlog_hash::Sha256Tree;
 
 // The roots of the first one, two and three of the entries (no bytes), `00` and `10`.

@@ -1,10 +1,9 @@
 //! Commands over an input that cannot be read, and an output that cannot be written.
-use crate::ending::{carry_out, told};
-use crate::run::run;
 use crate::tests::commands::{ENTRIES, STATE, fresh};
 use crate::tests::endings::assert_run;
 use crate::tests::streams::{FailingReader, FailingWriter};
 use crate::tests::words_of;
+use mirror_commands::{carry_out, run, told};
 use std::fs;
 use std::process::Abort;
 use std::test::Fail;

@@ -1,14 +1,11 @@
 //! How the program ends: its status, and what it says on which stream.
-use crate::check::CheckFault;
-use crate::ending::{carry_out, told};
-use crate::fault::RunFault;
-use crate::root::RootFault;
-use crate::run::run;
 use crate::tests::streams::FailingWriter;
 use crate::tests::words_of;
 use command_line::CommandFault;
+use mirror_commands::{RunFault, carry_out, run, told};
 use std::process::Abort;
 use std::test::Fail;
+use stream_commands::{CheckFault, RootFault};
 
 // A whole run of the program on this input: the status, and what both streams were given.
 pub fn run_of(rt: &HostRuntime, line: &str, input: &[u8]) -> Result<(u8, Vec<u8>, Vec<u8>), Fail> {

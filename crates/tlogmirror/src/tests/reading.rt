@@ -1,7 +1,7 @@
 //! Entries read from a stream.
-use crate::entries::{EntriesFault, read_entries};
 use crate::tests::streams::{ByteByByte, FailingReader};
 use std::test::Fail;
+use stream_commands::{EntriesFault, read_entries};
 
 #[test]
 fn three_entries(rt: HostRuntime) -> Result<(), Fail> {

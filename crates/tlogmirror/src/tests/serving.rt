@@ -1,7 +1,7 @@
 //! Connections over loopback.
-use crate::serve::answer_one;
 use crate::tests::commands::{ENTRIES, fresh};
 use crate::tests::endings::assert_run;
+use mirror_commands::answer_one;
 use std::io::{Read, Write};
 use std::net::{Ipv4Addr, TcpListener, TcpStream};
 use std::test::Fail;

@@ -1,0 +1,132 @@
+-- What each answer of a command says of the input, and of what was written to standard output.
+use Rattle.std.specs.Prelude.{◌≡◌, ◌≤◌, ℕ, List, Option, Result, Ok, Err, Bool, true, false}
+use Rattle.std.specs.Prelude.{IfSome}
+use Rattle.std.specs.Io.KnownBytes.{Keeps}
+use Rattle.signed_note.specs.Keys.{Key}
+use Rattle.command_line.specs.declared.command.Command.{Command as Order}
+use Rattle.command_line.specs.declared.command.Command.TheVariants as order
+use Rattle.state_commands.specs.declared.question.Question.TheVariants as question
+use Rattle.mirror_commands.specs.declared.fault.RunFault.{RunFault}
+use Rattle.mirror_commands.specs.declared.fault.RunFault.TheVariants.{Root, Check, Build, Take}
+use Rattle.mirror_commands.specs.declared.fault.RunFault.TheVariants.{Merge, Pull, Status, Missing}
+use Rattle.mirror_commands.specs.declared.fault.RunFault.TheVariants.{Forks, Prove, Export, Notes}
+use Rattle.mirror_commands.specs.declared.fault.RunFault.TheVariants.{Serve}
+use Rattle.stream_commands.specs.declared.root.RootFault.{RootFault}
+use Rattle.stream_commands.specs.declared.root.RootFault.TheVariants as root
+use Rattle.stream_commands.specs.declared.check.CheckFault.TheVariants as check
+use Rattle.mirror_commands.specs.declared.fault.WorkFault.{WorkFault}
+use Rattle.mirror_commands.specs.declared.fault.TellFault.{TellFault}
+use Rattle.mirror_commands.specs.declared.fault.TellFault.TheVariants as tell
+use Rattle.stream_commands.specs.Root.{AnswersRoot}
+use Rattle.stream_commands.specs.Check.{AnswersCheck}
+use Rattle.mirror_commands.specs.Works.{AsksState, BuildsFrom, IsWriting, TellsPort, TellsPull}
+
+-- the exit status of a verdict: 3 for a no
+abbrev pub verdict_status : Bool → ℕ
+verdict_status true = 0
+verdict_status false = 3
+
+-- a write failed, so that a front of the text may have been written; `serve` writes its line before
+-- it goes on
+abbrev pub IsWriteFault : RunFault → Type 0
+IsWriteFault (Root root.WriteFault) = Unit {0}
+IsWriteFault (Check check.WriteFault) = Unit {0}
+IsWriteFault (Pull tell.WriteFault) = Unit {0}
+IsWriteFault (Status fault) = IsWriting fault
+IsWriteFault (Missing fault) = IsWriting fault
+IsWriteFault (Forks fault) = IsWriting fault
+IsWriteFault (Prove fault) = IsWriting fault
+IsWriteFault (Serve fault) = Unit {0}
+IsWriteFault other = ⊥
+
+-- what words that ask for a command say of it besides: numbers are in their ranges
+abbrev pub IsDoable : Order → Type 0
+IsDoable (order.Root c) = c.width ≤ 256
+IsDoable (order.Take c) = (1 ≤ c.width) × (c.width ≤ 256)
+IsDoable other = Unit {0}
+
+-- the answers of `root`
+abbrev pub root_done : Result (Unit {0}) RootFault
+root_done = Ok tt
+
+abbrev pub root_failed : RootFault → Result (Unit {0}) RootFault
+root_failed fault = Err fault
+
+-- the answers of a command that writes files alone
+abbrev pub work_done : Result (Unit {0}) WorkFault
+work_done = Ok tt
+
+abbrev pub work_failed : WorkFault → Result (Unit {0}) WorkFault
+work_failed fault = Err fault
+
+-- those of one that answers a question
+abbrev pub asked_status : ℕ → Result ℕ WorkFault
+asked_status status = Ok status
+
+abbrev pub asked_fault : WorkFault → Result ℕ WorkFault
+asked_fault fault = Err fault
+
+-- and those of one that tells what it did
+abbrev pub told_status : ℕ → Result ℕ TellFault
+told_status status = Ok status
+
+abbrev pub told_fault : TellFault → Result ℕ TellFault
+told_fault fault = Err fault
+
+abbrev pub served_done : Result (Unit {0}) TellFault
+served_done = Ok tt
+
+abbrev pub served_failed : TellFault → Result (Unit {0}) TellFault
+served_failed fault = Err fault
+
+module _ (digest : List ℕ → List ℕ) (keys : List Key) where
+  -- what each answer of a command says of the input, where that is known, and of what was written
+  abbrev pub Does : Order → Option (List ℕ) → Option (List ℕ) → Option (List ℕ) →
+      Result ℕ RunFault → Type 0
+  Does (order.Root c) input old new (Ok status) =
+      IfSome input (λ bytes. AnswersRoot digest c.width bytes old new root_done) × (status ≡ 0)
+  Does (order.Root c) input old new (Err (Root fault)) =
+      IfSome input (λ bytes. AnswersRoot digest c.width bytes old new (root_failed fault))
+  Does order.Check input old new (Ok status) =
+      (verdict : Bool) × IfSome input (λ bytes. AnswersCheck digest bytes old new (Ok verdict))
+      × (status ≡ verdict_status verdict)
+  Does order.Check input old new (Err (Check fault)) =
+      IfSome input (λ bytes. AnswersCheck digest bytes old new (Err fault))
+  Does (order.Build c) input old new (Ok status) =
+      IfSome input (λ bytes. BuildsFrom bytes work_done) × Keeps old new × (status ≡ 0)
+  Does (order.Build c) input old new (Err (Build fault)) =
+      IfSome input (λ bytes. BuildsFrom bytes (work_failed fault)) × Keeps old new
+  Does (order.Take c) input old new (Ok status) = Keeps old new × (status ≡ 0)
+  Does (order.Take c) input old new (Err (Take fault)) = Keeps old new
+  Does (order.Merge c) input old new (Ok status) = Keeps old new × (status ≡ 0)
+  Does (order.Merge c) input old new (Err (Merge fault)) = Keeps old new
+  Does (order.Pull c) input old new (Ok status) = TellsPull old new (told_status status)
+  Does (order.Pull c) input old new (Err (Pull fault)) = TellsPull old new (told_fault fault)
+  Does (order.Status c) input old new (Ok status) =
+      AsksState digest keys c.log.origin.now question.Status old new (asked_status status)
+  Does (order.Status c) input old new (Err (Status fault)) =
+      AsksState digest keys c.log.origin.now question.Status old new (asked_fault fault)
+  Does (order.Missing c) input old new (Ok status) =
+      AsksState digest keys c.held.log.origin.now (question.Missing c.size c.root) old new
+      (asked_status status)
+  Does (order.Missing c) input old new (Err (Missing fault)) =
+      AsksState digest keys c.held.log.origin.now (question.Missing c.size c.root) old new
+      (asked_fault fault)
+  Does (order.Forks c) input old new (Ok status) =
+      AsksState digest keys c.log.origin.now question.Forks old new (asked_status status)
+  Does (order.Forks c) input old new (Err (Forks fault)) =
+      AsksState digest keys c.log.origin.now question.Forks old new (asked_fault fault)
+  Does (order.Prove c) input old new (Ok status) =
+      AsksState digest keys c.held.log.origin.now (question.Proof c.ask) old new
+      (asked_status status)
+  Does (order.Prove c) input old new (Err (Prove fault)) =
+      AsksState digest keys c.held.log.origin.now (question.Proof c.ask) old new (asked_fault fault)
+  Does (order.Export c) input old new (Ok status) = Keeps old new × (status ≡ 0)
+  Does (order.Export c) input old new (Err (Export fault)) = Keeps old new
+  Does (order.Notes c) input old new (Ok status) = Keeps old new × (status ≡ 0)
+  Does (order.Notes c) input old new (Err (Notes fault)) = Keeps old new
+  Does (order.Serve c) input old new (Ok status) =
+      TellsPort c.port old new served_done × (status ≡ 0)
+  Does (order.Serve c) input old new (Err (Serve fault)) =
+      TellsPort c.port old new (served_failed fault)
+  Does other input old new answer = ⊥

@@ -1,0 +1,66 @@
+-- How the program ends: its exit status, and what it says on which stream.
+use Rattle.std.specs.Prelude.{◌≡◌, ◌⊎◌, ℕ, List, [], ◌++◌, Option, Result, Ok, Err, codes}
+use Rattle.std.specs.Prelude.{string_bytes}
+use Rattle.std.specs.Io.KnownBytes.{Appends, Keeps}
+use Rattle.byte_streams.specs.Streams.{AppendsFront}
+use Rattle.command_line.specs.declared.fault.CommandFault.TheVariants.{Help, Words, BadArgument}
+use Rattle.mirror_commands.specs.declared.fault.RunFault.{RunFault}
+use Rattle.mirror_commands.specs.declared.fault.RunFault.TheVariants.{Command}
+use Rattle.mirror_commands.specs.declared.ending.Said.{Said}
+use Rattle.mirror_commands.specs.declared.ending.Said.TheVariants.{Made, Fixed}
+use Rattle.mirror_commands.specs.declared.ending.Stream.{Stream}
+use Rattle.mirror_commands.specs.declared.ending.Stream.TheVariants.{Output, Errors}
+use Rattle.mirror_commands.specs.declared.ending.Ending.{Ending}
+
+-- the bytes of what is said
+abbrev pub said_bytes : Said → List ℕ
+said_bytes (Made text) = string_bytes text
+said_bytes (Fixed text) = text.now
+
+-- the line that tells a fault of this name
+abbrev pub fault_line : List ℕ → List ℕ
+fault_line name = codes "tlogmirror: " ++ (name ++ codes "\n")
+
+-- the line tells a fault
+abbrev pub IsFaultLine : List ℕ → Type 0
+IsFaultLine text = (name : List ℕ) × (text ≡ fault_line name)
+
+-- this status, and this text on this stream
+pub record Ends (status : ℕ) (stream : Stream) (text : List ℕ) (told : Ending) : Type 0 where
+  pub status_is : told.status ≡ status
+  pub stream_is : told.stream ≡ stream
+  pub text_is : said_bytes told.text ≡ text
+
+-- what the program tells of each answer of a run
+abbrev pub TellsRun : Result ℕ RunFault → Ending → Type 0
+TellsRun (Ok status) told = Ends status Output [] told
+TellsRun (Err (Command (Help text))) told = Ends 0 Output (string_bytes text) told
+TellsRun (Err (Command (Words text))) told = Ends 2 Errors (string_bytes text) told
+TellsRun (Err (Command BadArgument)) told = Ends 2 Errors (fault_line (codes "BadArgument")) told
+TellsRun (Err fault) told = (name : List ℕ) × Ends 1 Errors (fault_line name) told
+
+-- the text was written whole, and the status stays
+pub record SaysWhole (told : Ending) (status : ℕ) (output output' errors errors' : Option (List ℕ))
+    : Type 0 where
+  pub whole : Appends output output' (said_bytes told.text)
+  pub quiet : Keeps errors errors'
+  pub status_is : status ≡ told.status
+
+-- the text could not be written whole, which is told on the stream of errors as far as that goes
+pub record SaysFront (told : Ending) (status : ℕ) (output output' errors errors' : Option (List ℕ))
+    : Type 0 where
+  pub front : AppendsFront output output' (said_bytes told.text)
+  pub fault : AppendsFront errors errors' (fault_line (codes "WriteFault"))
+  pub status_is : status ≡ 1
+
+-- what is written to both streams, and the exit status
+abbrev pub CarriesOut : Ending → ℕ → Option (List ℕ) → Option (List ℕ) → Option (List ℕ) →
+    Option (List ℕ) → Type 0
+CarriesOut told status output output' errors errors' = (
+    (told.stream ≡ Output)
+    × (SaysWhole told status output output' errors errors'
+    ⊎ SaysFront told status output output' errors errors')
+    ) ⊎ (
+    (told.stream ≡ Errors) × Keeps output output'
+    × AppendsFront errors errors' (said_bytes told.text) × (status ≡ told.status)
+    )

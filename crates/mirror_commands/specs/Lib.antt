@@ -1,0 +1,4 @@
+pub mod Works
+pub mod Done
+pub mod Runs
+pub mod Endings

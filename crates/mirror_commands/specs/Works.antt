@@ -1,0 +1,75 @@
+-- What each answer of a command over files says of what was written to standard output.
+use Rattle.std.specs.Prelude.{◌≡◌, ◌⊎◌, ℕ, List, ◌++◌, Option, Result, Ok, Err, codes}
+use Rattle.std.specs.Fmt.{decimal}
+use Rattle.std.specs.Io.KnownBytes.{Appends, Keeps}
+use Rattle.byte_streams.specs.Streams.{AppendsFront}
+use Rattle.signed_note.specs.Keys.{Key}
+use Rattle.mirror_model.specs.Origin.{IsOrigin}
+use Rattle.mirror_pull.specs.declared.pulling.Pulled.{Pulled}
+use Rattle.mirror_updates.specs.Pulling.{IsPulledStatus, pulled_lines}
+use Rattle.tlog_mirror.specs.declared.fault.NewFault.TheVariants as made
+use Rattle.state_commands.specs.Questions.{AnswersQuestion}
+use Rattle.state_commands.specs.declared.question.Question.{Question}
+use Rattle.state_commands.specs.declared.fault.AskFault.{AskFault}
+use Rattle.state_commands.specs.declared.fault.AskFault.TheVariants as ask
+use Rattle.stream_commands.specs.Entries.{ReadsEntries}
+use Rattle.stream_commands.specs.declared.entries.EntriesFault.{EntriesFault}
+use Rattle.mirror_commands.specs.declared.fault.WorkFault.{WorkFault}
+use Rattle.mirror_commands.specs.declared.fault.WorkFault.TheVariants.{Named, Origin, Ask, Entries}
+use Rattle.mirror_commands.specs.declared.fault.TellFault.{TellFault}
+use Rattle.mirror_commands.specs.declared.fault.TellFault.TheVariants.{Work, WriteFault}
+
+-- the command is done, or its answer is the other one
+abbrev pub IsStatus : ℕ → Type 0
+IsStatus status = (status ≡ 0) ⊎ (status ≡ 3)
+
+-- the report was not written, or not whole
+abbrev pub IsWriting : WorkFault → Type 0
+IsWriting (Ask ask.WriteFault) = Unit {0}
+IsWriting other = ⊥
+
+-- ---- status, missing, forks, prove
+
+module _
+    (digest : List ℕ → List ℕ) (keys : List Key) (origin : List ℕ) (question : Question)
+    (old new : Option (List ℕ)) where
+  -- the state file had some bytes, and what was answered and written is what they answer
+  abbrev pub AsksState : Result ℕ WorkFault → Type 0
+  AsksState (Ok status) =
+      (state : List ℕ) × AnswersQuestion digest origin keys question state old new (Ok status)
+  AsksState (Err (Ask fault)) =
+      (state : List ℕ) × AnswersQuestion digest origin keys question state old new (Err fault)
+  AsksState (Err (Origin made.BadOrigin)) = IsOrigin origin → ⊥
+  AsksState (Err (Origin made.OutOfMemory)) = Unit {0}
+  AsksState (Err (Named fault)) = Unit {0}
+  AsksState (Err other) = ⊥
+
+-- ---- pull, serve
+
+-- the two lines of a pull were written, after its state
+abbrev pub TellsPull : Option (List ℕ) → Option (List ℕ) → Result ℕ TellFault → Type 0
+TellsPull old new (Ok status) =
+    (pulled : Pulled) × Appends old new (pulled_lines pulled) × IsPulledStatus pulled status
+TellsPull old new (Err WriteFault) = (pulled : Pulled) × AppendsFront old new (pulled_lines pulled)
+TellsPull old new (Err (Work fault)) = Keeps old new
+
+-- the line that tells where connections are accepted
+abbrev pub listening_text : ℕ → List ℕ
+listening_text port = codes "listening 127.0.0.1:" ++ (decimal port ++ codes "\n")
+
+-- that line was written, or at a fault some of it
+abbrev pub TellsPort : {T : Type 0} → ℕ → Option (List ℕ) → Option (List ℕ) → Result T TellFault →
+    Type 0
+TellsPort port old new (Ok x) = Appends old new (listening_text port)
+TellsPort port old new (Err fault) = AppendsFront old new (listening_text port)
+
+-- ---- build
+
+-- the input was read as entries, or the log was refused for another reason
+abbrev pub no_entries : EntriesFault → Result (List (List ℕ)) EntriesFault
+no_entries fault = Err fault
+
+abbrev pub BuildsFrom : {T : Type 0} → List ℕ → Result T WorkFault → Type 0
+BuildsFrom input (Ok x) = (entries : List (List ℕ)) × ReadsEntries input (Ok entries)
+BuildsFrom input (Err (Entries fault)) = ReadsEntries input (no_entries fault)
+BuildsFrom input (Err other) = Unit {0}

@@ -1,0 +1,54 @@
+//! The command `build`: a log of the entries on standard input.
+ghost use Rattle.std.specs.Prelude.{IfSome};
+ghost use Rattle.mirror_commands.specs.Works.{BuildsFrom};
+
+use crate::fault::WorkFault;
+use command_line::Build;
+use mirror_folders::DirShelf;
+use mirror_updates::{build_log, signing_key};
+use signed_note::{Verifier, read_keys};
+use state_commands::check_origin;
+use std::alloc::Global;
+use std::fs::Files;
+use std::io::Read;
+use stream_commands::read_entries;
+use tlog_hash::Sha256Tree;
+
+/// Makes a log of the entries that the input gives, signed with the first key that signs of the key file's bytes, and
+/// writes it into the folder.
+///
+/// # Errors
+///
+/// In this order: `NoSigningKey`, `BadOrigin`, those of `read_entries`, and those of the folder.
+pub fn run_build<R: Files, I: Read>(
+    rt: &R,
+    alloc: Global,
+    build: &Build<'_>,
+    key_bytes: &[u8],
+    keys: &[Box<dyn Verifier>],
+    input: &mut I,
+) -> Result<(), WorkFault>
+    ensures { IfSome (I.remaining input.old) (λ bytes. BuildsFrom bytes result) }
+{
+    // These lines were read before, so memory alone can be wanting.
+    let Ok(lines) = read_keys(alloc, key_bytes) else {
+        return Err(WorkFault::OutOfMemory);
+    };
+    let Some(key) = signing_key(lines) else {
+        return Err(WorkFault::NoSigningKey);
+    };
+    let origin = build.log.origin;
+    match check_origin(alloc, origin) {
+        Ok(()) => {}
+        Err(fault) => return Err(WorkFault::Origin(fault)),
+    }
+    let entries = match read_entries(alloc, input) {
+        Ok(entries) => entries,
+        Err(fault) => return Err(WorkFault::Entries(fault)),
+    };
+    let mut shelf = DirShelf::new(rt, alloc, build.folder);
+    match build_log::<Sha256Tree, DirShelf<'_, R>>(alloc, origin, keys, key, entries, &mut shelf) {
+        Ok(()) => Ok(()),
+        Err(fault) => Err(WorkFault::Update(fault)),
+    }
+}

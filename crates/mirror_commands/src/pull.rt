@@ -1,0 +1,136 @@
+//! The command `pull`: what is missing is fetched.
+ghost use Rattle.std.specs.Prelude.{◌≢◌, IfErr, IfOk};
+ghost use Rattle.std.specs.Io.KnownBytes.{Keeps};
+ghost use Rattle.mirror_commands.specs.Works.{IsStatus, TellsPull};
+
+use crate::fault::{TellFault, WorkFault};
+use crate::files::read_state;
+use crate::state::write_state;
+use byte_streams::write_whole;
+use command_line::{Place, Pull};
+use log_sources::Source;
+use mirror_folders::DirSource;
+use mirror_http::{HttpSource, Site, TcpDial};
+use mirror_pull::Pulled;
+use mirror_updates::{pull_into, pulled_status, pulled_text};
+use signed_note::Verifier;
+use state_commands::check_origin;
+use std::alloc::Global;
+use std::fs::Files;
+use std::io::Write;
+use std::net::{Net, TcpStream};
+use std::rt::Clock;
+use tlog_hash::Sha256Tree;
+use tlog_mirror::Mirror;
+
+/// Fetches what is missing into the mirror in the state file, or into one that holds nothing, writes its state, and
+/// then prints what the pull came to. The status is 3 where the pull is partial.
+///
+/// # Errors
+///
+/// In this order: `BadOrigin`, those of the state file, those of the pull, `FileFault` at the file that is written,
+/// and `WriteFault`.
+pub fn run_pull<R: Files + Clock + Net<Stream = TcpStream>, W: Write>(
+    rt: &R,
+    alloc: Global,
+    words: &Pull<'_>,
+    keys: &[Box<dyn Verifier>],
+    output: &mut W,
+) -> Result<u8, TellFault>
+    ensures answer { TellsPull (W.contents output.old) (W.contents output.new) result }
+    ensures status { IfOk result IsStatus }
+    ensures quiet { IfErr result (λ fault. fault ≢ TellFault.WriteFault → Keeps (W.contents output.old) (W.contents output.new)) }
+{
+    let made = &words.made;
+    let (mirror, pulled) = match pulled_from(rt, alloc, words, keys) {
+        Ok(done) => done,
+        Err(fault) => return Err(TellFault::Work(fault)),
+    };
+    match write_state(rt, alloc, made.out, &mirror) {
+        Ok(()) => {}
+        Err(fault) => return Err(TellFault::Work(fault)),
+    }
+    let Ok(text) = pulled_text(alloc, &pulled) else {
+        return Err(TellFault::Work(WorkFault::OutOfMemory));
+    };
+    match write_whole(output, text.as_bytes()) {
+        Ok(()) => Ok(pulled_status(&pulled)),
+        Err(_) => Err(TellFault::WriteFault),
+    }
+}
+
+// The mirror that is begun with, and what the pull into it came to.
+fn pulled_from<R: Files + Clock + Net<Stream = TcpStream>>(
+    rt: &R,
+    alloc: Global,
+    words: &Pull<'_>,
+    keys: &[Box<dyn Verifier>],
+) -> Result<(Mirror<Sha256Tree>, Pulled), WorkFault> {
+    let origin = words.made.log.origin;
+    check_origin(alloc, origin)?;
+    match words.state {
+        Some(name) => {
+            let state = read_state(rt, alloc, name)?;
+            let mut input = state.as_slice();
+            from_place(rt, alloc, origin, keys, Some(&mut input), &words.place)
+        }
+        None => from_place(rt, alloc, origin, keys, None, &words.place),
+    }
+}
+
+// The same, with the state's bytes, from that place.
+fn from_place<'a, R: Files + Clock + Net<Stream = TcpStream>>(
+    rt: &'a R,
+    alloc: Global,
+    origin: &str,
+    keys: &[Box<dyn Verifier>],
+    state: Option<&mut &[u8]>,
+    place: &'a Place<'a>,
+) -> Result<(Mirror<Sha256Tree>, Pulled), WorkFault> {
+    match place {
+        Place::Folder(folder) => {
+            let mut source = DirSource::new(rt, alloc, folder);
+            from_source(alloc, origin, keys, state, &mut source)
+        }
+        Place::Server {
+            host,
+            prefix,
+            dialled,
+            port,
+        } => {
+            // The words were judged by the rules of `Site`, so memory alone is wanting here.
+            let Ok(site) = Site::new(alloc, host, prefix) else {
+                return Err(WorkFault::OutOfMemory);
+            };
+            from_server(alloc, origin, keys, state, site, rt, dialled, *port)
+        }
+    }
+}
+
+// The same, from that site, over connections to that host and port.
+#[allow(clippy::too_many_arguments)]
+fn from_server<N: Net<Stream = TcpStream> + Clock + Clone + Drop>(
+    alloc: Global,
+    origin: &str,
+    keys: &[Box<dyn Verifier>],
+    state: Option<&mut &[u8]>,
+    site: Site,
+    net: N,
+    host: &str,
+    port: u16,
+) -> Result<(Mirror<Sha256Tree>, Pulled), WorkFault> {
+    let dial = TcpDial::new(alloc, net, host, port)?;
+    let mut source = HttpSource::new(alloc, site, dial);
+    from_source(alloc, origin, keys, state, &mut source)
+}
+
+// The same, from that source.
+fn from_source<S: Source>(
+    alloc: Global,
+    origin: &str,
+    keys: &[Box<dyn Verifier>],
+    state: Option<&mut &[u8]>,
+    source: &mut S,
+) -> Result<(Mirror<Sha256Tree>, Pulled), WorkFault> {
+    Ok(pull_into::<Sha256Tree, &[u8], S>(alloc, origin, keys, state, source)?)
+}

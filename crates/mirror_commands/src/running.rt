@@ -1,0 +1,94 @@
+//! One run: the key file, the words, and the command that they ask for.
+ghost use Rattle.std.specs.Prelude.{IfErr, IfOk, map, string_bytes};
+ghost use Rattle.std.specs.Io.KnownBytes.{Keeps};
+ghost use Rattle.sha2.specs.Sha256.{sha256};
+ghost use Rattle.mirror_commands.specs.Done.{IsWriteFault};
+ghost use Rattle.mirror_commands.specs.Works.{IsStatus};
+ghost use Rattle.mirror_commands.specs.Runs.{Runs, RunsKeyed};
+
+use crate::fault::RunFault;
+use crate::keys::key_bytes;
+use crate::work::run_command;
+use command_line::read_words;
+use signed_note::{KeyFileFault, KeyLine, Verifier, read_keys};
+use std::alloc::Global;
+use std::fs::Files;
+use std::io::{Read, Write};
+use std::net::{Net, TcpListener, TcpStream};
+use std::rt::Clock;
+
+/// Does the command that the words ask for, with the keys of the key file that they name, and answers the exit status:
+/// 0 where it is done, 3 where its answer is the other one.
+///
+/// # Errors
+///
+/// In this order: what `clap` finds, the key file, `BadArgument`, and those of the command. Nothing was written to the
+/// output, except where a write failed.
+pub fn run<R, I: Read, O: Write, E: Write>(
+    rt: &R,
+    alloc: Global,
+    words: &[String],
+    input: &mut I,
+    output: &mut O,
+    errors: &mut E,
+) -> Result<u8, RunFault>
+where
+    R: Files + Clock + Net<Stream = TcpStream, Listener = TcpListener>,
+    ensures answer { RunsKeyed sha256 (map string_bytes words.now) (I.remaining input.old) (O.contents output.old) (O.contents output.new) result }
+    ensures status { IfOk result IsStatus }
+    ensures quiet { IfErr result (λ fault. (IsWriteFault fault → ⊥) → Keeps (O.contents output.old) (O.contents output.new)) }
+{
+    let bytes = match key_bytes(rt, alloc, words) {
+        Ok(bytes) => bytes,
+        Err(fault) => return Err(fault),
+    };
+    let lines = match read_keys(alloc, &bytes) {
+        Ok(lines) => lines,
+        Err(fault) => return Err(RunFault::KeyLines(fault)),
+    };
+    let mut keys: Vec<Box<dyn Verifier>> = Vec::new(alloc);
+    for line in lines {
+        let pushed = match line {
+            KeyLine::Hmac(key) => match Box::new(alloc, key) {
+                Ok(key) => keys.push(key).is_ok(),
+                Err(_) => false,
+            },
+            KeyLine::Pin(pins) => match Box::new(alloc, pins) {
+                Ok(pins) => keys.push(pins).is_ok(),
+                Err(_) => false,
+            },
+        };
+        if !pushed {
+            return Err(RunFault::KeyLines(KeyFileFault::OutOfMemory));
+        }
+    }
+    run_words(rt, alloc, words, &bytes, &keys, input, output, errors)
+}
+
+/// The same with keys in hand: the bytes of the key file, and its keys. Both are empty where the command has none.
+///
+/// # Errors
+///
+/// `Command` where the words ask for no command; the others are those of the command's own call.
+#[allow(clippy::too_many_arguments)]
+pub fn run_words<R, I: Read, O: Write, E: Write>(
+    rt: &R,
+    alloc: Global,
+    words: &[String],
+    key_bytes: &[u8],
+    keys: &[Box<dyn Verifier>],
+    input: &mut I,
+    output: &mut O,
+    errors: &mut E,
+) -> Result<u8, RunFault>
+where
+    R: Files + Clock + Net<Stream = TcpStream, Listener = TcpListener>,
+    ensures answer { Runs sha256 (map (λ k. key k) keys.now) (map string_bytes words.now) (I.remaining input.old) (O.contents output.old) (O.contents output.new) result }
+    ensures status { IfOk result IsStatus }
+    ensures quiet { IfErr result (λ fault. (IsWriteFault fault → ⊥) → Keeps (O.contents output.old) (O.contents output.new)) }
+{
+    match read_words(alloc, words) {
+        Ok(command) => run_command(rt, alloc, &command, key_bytes, keys, input, output, errors),
+        Err(fault) => Err(RunFault::Command(fault)),
+    }
+}

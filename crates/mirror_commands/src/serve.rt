@@ -1,0 +1,133 @@
+//! The command `serve`: answers over HTTP.
+ghost use Rattle.std.specs.Prelude.{◌≡◌, IfOk, string_bytes};
+ghost use Rattle.mirror_commands.specs.Works.{TellsPort, listening_text};
+
+use crate::fault::{TellFault, WorkFault};
+use crate::state::loaded;
+use byte_streams::{TimedStream, write_whole};
+use command_line::{Held, Serve};
+use mirror_server::{HttpFault, answer};
+use signed_note::Verifier;
+use std::alloc::{AllocError, Global};
+use std::fs::Files;
+use std::io::Write;
+use std::net::{Ipv4Addr, Net, TcpListener, TcpStream};
+use std::rt::Clock;
+use std::time::Duration;
+use tlog_hash::Sha256Tree;
+use tlog_mirror::Mirror;
+
+// A client has so many seconds to send the head of its request.
+const HEAD_SECONDS: u64 = 10;
+
+// It has so many seconds for all, so that 60 are left for the reply at least.
+const ALL_SECONDS: u64 = 70;
+
+/// Answers as many connections as are asked for, one after the other, from the mirror in the state file. A fault of
+/// one is written to `errors`, and the next is answered.
+///
+/// # Errors
+///
+/// In this order: `BadOrigin`, those of the state file, `PortFault` where the port cannot be had, `WriteFault` where the
+/// line that tells of it cannot be written, and `PortFault` where a connection cannot be accepted.
+pub fn run_serve<R, O: Write, E: Write>(
+    rt: &R,
+    alloc: Global,
+    serve: &Serve<'_>,
+    keys: &[Box<dyn Verifier>],
+    output: &mut O,
+    errors: &mut E,
+) -> Result<(), TellFault>
+where
+    R: Files + Clock + Net<Stream = TcpStream, Listener = TcpListener>,
+    ensures line { TellsPort serve.now.port (O.contents output.old) (O.contents output.new) result }
+{
+    let mirror = match settled(rt, alloc, &serve.held, keys) {
+        Ok(mirror) => mirror,
+        Err(fault) => return Err(TellFault::Work(fault)),
+    };
+    let Ok(listener) = TcpListener::bind(rt, (Ipv4Addr::LOCALHOST, serve.port)) else {
+        return Err(TellFault::Work(WorkFault::PortFault));
+    };
+    let Ok(line) = listening_line(alloc, serve.port) else {
+        return Err(TellFault::Work(WorkFault::OutOfMemory));
+    };
+    match write_whole(output, line.as_bytes()) {
+        Ok(()) => {}
+        Err(_) => return Err(TellFault::WriteFault),
+    }
+    match serve_all(rt, alloc, &mirror, &listener, serve.requests, errors) {
+        Ok(()) => Ok(()),
+        Err(fault) => Err(TellFault::Work(fault)),
+    }
+}
+
+// The mirror in the state file, which remembers what is complete.
+fn settled<R: Files>(
+    rt: &R,
+    alloc: Global,
+    held: &Held<'_>,
+    keys: &[Box<dyn Verifier>],
+) -> Result<Mirror<Sha256Tree>, WorkFault> {
+    let mut mirror = loaded(rt, alloc, held.log.origin, keys, held.state)?;
+    mirror.settle(alloc)?;
+    Ok(mirror)
+}
+
+// The line that tells where connections are accepted.
+fn listening_line(alloc: Global, port: u16) -> Result<String, AllocError>
+    ensures { IfOk result (λ line. string_bytes line ≡ listening_text port) }
+{
+    format!(in alloc; "listening 127.0.0.1:{port}\n")
+}
+
+// Answers so many connections, one after the other.
+fn serve_all<C: Clock, E: Write>(
+    clock: &C,
+    alloc: Global,
+    mirror: &Mirror<Sha256Tree>,
+    listener: &TcpListener,
+    requests: u64,
+    errors: &mut E,
+) -> Result<(), WorkFault> {
+    for _ in 0..requests {
+        let Ok((stream, _)) = listener.accept() else {
+            return Err(WorkFault::PortFault);
+        };
+        match answer_one(clock, alloc, mirror, &stream) {
+            Ok(()) => {}
+            Err(fault) => tell(errors, fault),
+        }
+    }
+    Ok(())
+}
+
+/// Answers one connection, which is cut off in time, whatever its client does.
+///
+/// # Errors
+///
+/// Those of `answer`. `ReadFault` also where there is no clock.
+pub fn answer_one<C: Clock>(
+    clock: &C,
+    alloc: Global,
+    mirror: &Mirror<Sha256Tree>,
+    stream: &TcpStream,
+) -> Result<(), HttpFault> {
+    let Ok(mut reader) = TimedStream::new(stream, clock, Duration::from_secs(HEAD_SECONDS)) else {
+        return Err(HttpFault::ReadFault);
+    };
+    let Ok(mut writer) = TimedStream::new(stream, clock, Duration::from_secs(ALL_SECONDS)) else {
+        return Err(HttpFault::ReadFault);
+    };
+    answer(alloc, mirror, &mut reader, &mut writer)
+}
+
+// Writes the line that tells of the fault of a connection, as far as the stream takes it.
+fn tell<E: Write>(errors: &mut E, fault: HttpFault) {
+    let line = match fault {
+        HttpFault::ReadFault => "tlogmirror: ReadFault\n",
+        HttpFault::WriteFault => "tlogmirror: WriteFault\n",
+        HttpFault::OutOfMemory => "tlogmirror: OutOfMemory\n",
+    };
+    let _told = write_whole(errors, line.as_bytes());
+}

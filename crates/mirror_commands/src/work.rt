@@ -1,0 +1,119 @@
+//! The work of each command.
+ghost use Rattle.std.specs.Prelude.{IfErr, IfOk, map};
+ghost use Rattle.std.specs.Io.KnownBytes.{Keeps};
+ghost use Rattle.sha2.specs.Sha256.{sha256};
+ghost use Rattle.mirror_commands.specs.Done.{Does, IsDoable, IsWriteFault};
+ghost use Rattle.mirror_commands.specs.Works.{IsStatus};
+
+use crate::ask::run_ask;
+use crate::build::run_build;
+use crate::export::run_export;
+use crate::fault::RunFault;
+use crate::merge::run_merge;
+use crate::notes::run_notes;
+use crate::pull::run_pull;
+use crate::serve::run_serve;
+use crate::take::run_take;
+use command_line::Command;
+use signed_note::Verifier;
+use state_commands::Question;
+use std::alloc::Global;
+use std::fs::Files;
+use std::io::{Read, Write};
+use std::net::{Net, TcpListener, TcpStream};
+use std::rt::Clock;
+use stream_commands::{run_check, run_root};
+use tlog_hash::Sha256Tree;
+
+/// Does the command, and answers the exit status.
+///
+/// # Errors
+///
+/// Those of the command's own call, under its name.
+#[allow(clippy::too_many_arguments)]
+pub fn run_command<R, I: Read, O: Write, E: Write>(
+    rt: &R,
+    alloc: Global,
+    command: &Command<'_>,
+    key_bytes: &[u8],
+    keys: &[Box<dyn Verifier>],
+    input: &mut I,
+    output: &mut O,
+    errors: &mut E,
+) -> Result<u8, RunFault>
+where
+    R: Files + Clock + Net<Stream = TcpStream, Listener = TcpListener>,
+    requires { IsDoable command.now }
+    ensures answer { Does sha256 (map (λ k. key k) keys.now) command.now (I.remaining input.old) (O.contents output.old) (O.contents output.new) result }
+    ensures status { IfOk result IsStatus }
+    ensures quiet { IfErr result (λ fault. (IsWriteFault fault → ⊥) → Keeps (O.contents output.old) (O.contents output.new)) }
+{
+    match command {
+        Command::Root(root) => {
+            match run_root::<Sha256Tree, I, O>(alloc, root.width, input, output) {
+                Ok(()) => Ok(0),
+                Err(fault) => Err(RunFault::Root(fault)),
+            }
+        }
+        Command::Check => match run_check(alloc, input, output) {
+            Ok(true) => Ok(0),
+            Ok(false) => Ok(3),
+            Err(fault) => Err(RunFault::Check(fault)),
+        },
+        Command::Build(build) => match run_build(rt, alloc, build, key_bytes, keys, input) {
+            Ok(()) => Ok(0),
+            Err(fault) => Err(RunFault::Build(fault)),
+        },
+        Command::Take(take) => match run_take(rt, alloc, take, keys) {
+            Ok(()) => Ok(0),
+            Err(fault) => Err(RunFault::Take(fault)),
+        },
+        Command::Merge(merge) => match run_merge(rt, alloc, merge, keys) {
+            Ok(()) => Ok(0),
+            Err(fault) => Err(RunFault::Merge(fault)),
+        },
+        Command::Pull(pull) => match run_pull(rt, alloc, pull, keys, output) {
+            Ok(status) => Ok(status),
+            Err(fault) => Err(RunFault::Pull(fault)),
+        },
+        Command::Status(held) => {
+            match run_ask(rt, alloc, held, keys, &Question::Status, output) {
+                Ok(status) => Ok(status),
+                Err(fault) => Err(RunFault::Status(fault)),
+            }
+        }
+        Command::Missing(missing) => {
+            let question = Question::Missing {
+                size: missing.size,
+                root: missing.root,
+            };
+            match run_ask(rt, alloc, &missing.held, keys, &question, output) {
+                Ok(status) => Ok(status),
+                Err(fault) => Err(RunFault::Missing(fault)),
+            }
+        }
+        Command::Forks(held) => match run_ask(rt, alloc, held, keys, &Question::Forks, output) {
+            Ok(status) => Ok(status),
+            Err(fault) => Err(RunFault::Forks(fault)),
+        },
+        Command::Prove(prove) => {
+            let question = Question::Proof(prove.ask);
+            match run_ask(rt, alloc, &prove.held, keys, &question, output) {
+                Ok(status) => Ok(status),
+                Err(fault) => Err(RunFault::Prove(fault)),
+            }
+        }
+        Command::Export(export) => match run_export(rt, alloc, export, keys) {
+            Ok(()) => Ok(0),
+            Err(fault) => Err(RunFault::Export(fault)),
+        },
+        Command::Notes(notes) => match run_notes(rt, alloc, notes, keys) {
+            Ok(()) => Ok(0),
+            Err(fault) => Err(RunFault::Notes(fault)),
+        },
+        Command::Serve(serve) => match run_serve(rt, alloc, serve, keys, output, errors) {
+            Ok(()) => Ok(0),
+            Err(fault) => Err(RunFault::Serve(fault)),
+        },
+    }
+}

@@ -1,0 +1,3 @@
+mod Cut
+mod CheckText
+mod EntryLists

@@ -1,0 +1,4 @@
+pub mod Root
+pub mod Check
+pub mod Faults
+pub mod Entries
