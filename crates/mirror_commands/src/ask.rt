@@ -20,7 +20,7 @@ use tlog_hash::Sha256Tree;
 ///
 /// In this order: `BadOrigin`, those of the state file, and those of `print_report`. Nothing was written but at a
 /// `WriteFault`.
-pub fn run_ask<R: Files, W: Write>(
+pub(crate) fn run_ask<R: Files, W: Write>(
     rt: &R,
     alloc: Global,
     held: &Held<'_>,

@@ -20,7 +20,7 @@ use tlog_hash::Sha256Tree;
 /// # Errors
 ///
 /// In this order: `NoSigningKey`, `BadOrigin`, those of `read_entries`, and those of the folder.
-pub fn run_build<R: Files, I: Read>(
+pub(crate) fn run_build<R: Files, I: Read>(
     rt: &R,
     alloc: Global,
     build: &Build<'_>,

@@ -14,7 +14,7 @@ use tlog_hash::Sha256Tree;
 /// # Errors
 ///
 /// In this order: `BadOrigin`, those of the state file, and those of `export`.
-pub fn run_export<R: Files>(
+pub(crate) fn run_export<R: Files>(
     rt: &R,
     alloc: Global,
     export: &Export<'_>,

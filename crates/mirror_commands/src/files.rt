@@ -42,7 +42,11 @@ fn named_fault(e: &io::Error) -> NamedFault {
 ///
 /// `FileFault` where it cannot be opened or read (as a folder cannot), or has more than 16,777,472 bytes, of which no
 /// more than that and one are read. `OutOfMemory` where memory was refused.
-pub fn read_named<R: Files>(files: &R, alloc: Global, name: &str) -> Result<Vec<u8>, NamedFault>
+pub(crate) fn read_named<R: Files>(
+    files: &R,
+    alloc: Global,
+    name: &str,
+) -> Result<Vec<u8>, NamedFault>
     ensures { IfOk result (λ bytes. vec_len bytes ≤ MOST_BYTES) }
 {
     match fs::open(files, name) {

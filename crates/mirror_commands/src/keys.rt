@@ -13,7 +13,11 @@ use std::fs::Files;
 /// # Errors
 ///
 /// `Command` as `key_file` says; `KeyFile` where the file cannot be read.
-pub fn key_bytes<R: Files>(rt: &R, alloc: Global, words: &[String]) -> Result<Vec<u8>, RunFault>
+pub(crate) fn key_bytes<R: Files>(
+    rt: &R,
+    alloc: Global,
+    words: &[String],
+) -> Result<Vec<u8>, RunFault>
     ensures { FindsKeys (map string_bytes words.now) result }
 {
     match key_file(alloc, words) {

@@ -12,7 +12,7 @@ use std::fs::Files;
 ///
 /// In this order: `BadOrigin`, those of the first state file and of the second, those of the merge, and `FileFault` at
 /// the file that is written.
-pub fn run_merge<R: Files>(
+pub(crate) fn run_merge<R: Files>(
     rt: &R,
     alloc: Global,
     merge: &Merge<'_>,

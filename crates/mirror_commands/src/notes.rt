@@ -15,7 +15,7 @@ use std::fs::Files;
 ///
 /// In this order: `BadOrigin`, those of the state file, and `FileFault` where the folder cannot be made, a note cannot
 /// be written, or a file of its name has other bytes.
-pub fn run_notes<R: Files>(
+pub(crate) fn run_notes<R: Files>(
     rt: &R,
     alloc: Global,
     notes: &Export<'_>,

@@ -30,7 +30,7 @@ use tlog_mirror::Mirror;
 ///
 /// In this order: `BadOrigin`, those of the state file, those of the pull, `FileFault` at the file that is written,
 /// and `WriteFault`.
-pub fn run_pull<R: Files + Clock + Net<Stream = TcpStream>, W: Write>(
+pub(crate) fn run_pull<R: Files + Clock + Net<Stream = TcpStream>, W: Write>(
     rt: &R,
     alloc: Global,
     words: &Pull<'_>,

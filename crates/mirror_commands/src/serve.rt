@@ -30,7 +30,7 @@ const ALL_SECONDS: u64 = 70;
 ///
 /// In this order: `BadOrigin`, those of the state file, `PortFault` where the port cannot be had, `WriteFault` where the
 /// line that tells of it cannot be written, and `PortFault` where a connection cannot be accepted.
-pub fn run_serve<R, O: Write, E: Write>(
+pub(crate) fn run_serve<R, O: Write, E: Write>(
     rt: &R,
     alloc: Global,
     serve: &Serve<'_>,
