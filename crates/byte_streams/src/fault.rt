@@ -22,7 +22,7 @@ pub enum StreamFault {
     /// A write failed, or took no byte.
     #[error("WriteFault")]
     WriteFault,
-    /// A request for memory was refused.
+    /// Memory was refused.
     #[error("OutOfMemory")]
     OutOfMemory,
 }

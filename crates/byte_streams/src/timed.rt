@@ -10,6 +10,7 @@ use std::net::TcpStream;
 use std::time::{Clock, Duration, Instant};
 
 /// A stream of whose calls it can be said how long they wait.
+/// A `TcpStream` is one, by its timeouts.
 pub trait BoundsWaits {
     /// From now on a read that waits for longer fails. The time is not zero.
     fn bound_reads(&self, wait: Duration) -> io::Result<()>;

@@ -17,7 +17,7 @@ pub enum CommandFault {
     /// A word is not spelled as what it stands for, or is out of its range.
     #[error("BadArgument")]
     BadArgument,
-    /// A request for memory was refused.
+    /// Memory was refused.
     #[error("OutOfMemory")]
     OutOfMemory,
 }

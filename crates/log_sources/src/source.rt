@@ -7,6 +7,7 @@ use thiserror::Error;
 use tlog_tiles::Path;
 
 /// Why a source gave no answer.
+/// A server that cannot be reached failed; one that has no such file answered.
 #[derive(Debug, Drop, PartialEq, Eq, Clone, Copy, Error)]
 pub enum SourceFault {
     /// The source failed.
@@ -34,6 +35,7 @@ impl<T: Drop> From<AllocFailed<T>> for SourceFault {
 }
 
 /// Gives the files of a log by their paths.
+/// `ListSource` does from a list of entries; others read a folder, or ask a server.
 pub trait Source {
     ghost use Rattle.std.specs.Prelude.{◌≡◌, ℕ, List, Option, None, ⊤, IfOk, option_map};
     ghost use Rattle.tlog_tiles.specs.declared.paths.Path.{Path};

@@ -102,7 +102,7 @@ pub enum WorkFault {
     /// The port cannot be had, or a connection cannot be accepted.
     #[error("PortFault")]
     PortFault,
-    /// A request for memory was refused.
+    /// Memory was refused.
     #[error("OutOfMemory")]
     OutOfMemory,
 }

@@ -44,12 +44,13 @@ pub enum LoadFault {
 }
 
 /// Why a mirror is not saved. It prints its variant's name.
+/// A full disk, for example, is a `WriteFault`.
 #[derive(Debug, Drop, PartialEq, Eq, Clone, Copy, Error)]
 pub enum SaveFault {
     /// A write failed, or took no byte. A front of the text was written.
     #[error("WriteFault")]
     WriteFault,
-    /// Memory was refused. Nothing was written.
+    /// Memory was refused.
     #[error("OutOfMemory")]
     OutOfMemory,
 }

@@ -1,4 +1,9 @@
 //! Files: a mirror loaded from the text of its state, and saved as it.
+//!
+//! ```text
+//! let mirror: Mirror<Sha256Tree> = load(alloc, "example.com/log", &keys, &mut file)?;
+//! save(alloc, &mirror, &mut other)?;
+//! ```
 #![tactic(auto)]
 
 mod fault;

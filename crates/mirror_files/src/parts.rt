@@ -25,7 +25,7 @@ pub enum PartsFault {
     /// The digest is not that of the bytes before it.
     #[error("StateDigest")]
     StateDigest,
-    /// The lists could not be made for want of memory.
+    /// Memory was refused.
     #[error("OutOfMemory")]
     OutOfMemory,
 }

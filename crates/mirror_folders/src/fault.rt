@@ -6,6 +6,7 @@ use crate::shelf::ShelfError;
 use thiserror::Error;
 
 /// Why an export ends early. It prints its variant's name.
+/// A mirror that holds a note alone serves nothing, which is `NothingComplete`.
 #[derive(Debug, Drop, PartialEq, Eq, Clone, Copy, Error)]
 pub enum ExportFault {
     /// Nothing is served.
@@ -17,7 +18,7 @@ pub enum ExportFault {
     /// The shelf failed.
     #[error("ShelfFault")]
     ShelfFault,
-    /// A request for memory was refused.
+    /// Memory was refused.
     #[error("OutOfMemory")]
     OutOfMemory,
 }

@@ -7,12 +7,13 @@ use thiserror::Error;
 use tlog_tiles::Path;
 
 /// Why a shelf did not do what it was asked to. It prints its variant's name.
+/// A folder that may not be written to failed.
 #[derive(Debug, Drop, PartialEq, Eq, Clone, Copy, Error)]
 pub enum ShelfError {
     /// The shelf failed.
     #[error("Failed")]
     Failed,
-    /// A request for memory was refused.
+    /// Memory was refused.
     #[error("OutOfMemory")]
     OutOfMemory,
 }
@@ -26,6 +27,7 @@ impl From<AllocError> for ShelfError {
 }
 
 /// Keeps the files of a log by their paths.
+/// `DirShelf` keeps them in a folder, a file for each path, as `tile/0/000`.
 pub trait Shelf {
     ghost use Rattle.std.specs.Prelude.{◌≡◌, ℕ, List, Option, None, IfOk};
     ghost use Rattle.log_sources.specs.Told.{KeepsTold};

@@ -7,6 +7,7 @@ use std::alloc::AllocError;
 use thiserror::Error;
 
 /// Why a site is not made.
+/// The empty host is bad, and so is the prefix `2026`, which begins with no slash.
 #[derive(Debug, Drop, PartialEq, Eq, Clone, Copy, Error)]
 pub enum SiteFault {
     /// The host is empty, has over 255 bytes, or has one outside `21` to `7e` in hexadecimal.
@@ -33,6 +34,7 @@ impl From<AllocError> for SiteFault {
 }
 
 /// Why a reply is not read.
+/// A reply with the status 500, for example, is `OtherStatus(500)`.
 #[derive(Debug, Drop, PartialEq, Eq, Clone, Copy, Error)]
 pub enum ReplyFault {
     /// There is no response head of at most 64 fields within the first 8,192 bytes, or the length that

@@ -19,6 +19,7 @@ use std::marker::Model;
 use tlog_tiles::Path;
 
 /// Opens connections to where a log's files stand.
+/// `TcpDial` does by TCP, and tests do in memory.
 pub trait Dial {
     /// A connection, which is closed when it is dropped.
     type Stream: Read + Write + Drop;
@@ -90,6 +91,7 @@ fn body_of(alloc: Global, bytes: &[u8]) -> Result<Option<Vec<u8>>, SourceFault>
 }
 
 /// A source that asks for each file by one request over a fresh connection.
+/// Under the prefix `/2026` it asks for `tile/0/000` by `GET /2026/tile/0/000 HTTP/1.1`.
 ///
 /// It opens a connection only where it is asked for a file, and asks on it for that file alone. What it
 /// answers is what the other end says: nothing is known of it.

@@ -1,4 +1,10 @@
 //! The core of a mirror of one transparency log: what it holds, and what follows from that.
+//!
+//! ```text
+//! // One mirror takes a tile of one hash, and another is merged with it.
+//! let item = Item::Tile { width: 1, bytes: Bytes::new(hash) };
+//! let events = [Event::Take { target: 0, item }, Event::Merge { target: 1, source: 0 }];
+//! ```
 #![tactic(auto)]
 
 mod events;

@@ -1,4 +1,10 @@
 //! Gathering one log from one source into a mirror (C2SP tlog-tiles).
+//!
+//! ```text
+//! let mut source = DirSource::new(&rt, alloc, "examples/log");
+//! let pulled = pull(alloc, &mut mirror, &keys, &mut source)?;
+//! if pulled.complete { /* all entries of the head of pulled.size are held */ }
+//! ```
 #![tactic(auto)]
 
 mod ask;

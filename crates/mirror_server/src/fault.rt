@@ -14,7 +14,7 @@ pub enum HttpFault {
     /// A write failed, or took no byte. A front of the reply was written.
     #[error("WriteFault")]
     WriteFault,
-    /// A request for memory was refused. Nothing was written.
+    /// Memory was refused.
     #[error("OutOfMemory")]
     OutOfMemory,
 }

@@ -12,6 +12,7 @@ use thiserror::Error;
 use tlog_mirror::NewFault;
 
 /// Why a mirror or a log is not made. It prints the name of the innermost variant.
+/// A state with a wrong digest, for example, prints `StateDigest`.
 #[derive(Debug, Drop, PartialEq, Eq, Clone, Copy, Error)]
 pub enum UpdateFault {
     /// No mirror may be of that origin: it is empty, has more than 65,535 bytes, or has a character below U+0020.

@@ -22,7 +22,7 @@ pub enum AddFault {
     /// Another string of the same digest is held.
     #[error("Collision")]
     Collision,
-    /// A growth was refused.
+    /// Memory was refused.
     #[error("OutOfMemory")]
     OutOfMemory,
 }

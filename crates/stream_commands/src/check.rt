@@ -28,7 +28,7 @@ pub enum CheckFault {
     /// A write failed, or took no byte. A front of the verdict may have been written.
     #[error("WriteFault")]
     WriteFault,
-    /// A request for memory was refused.
+    /// Memory was refused.
     #[error("OutOfMemory")]
     OutOfMemory,
 }

@@ -19,6 +19,7 @@ pub const MOST_BYTES: usize = usize::MAX;
 pub const MOST_READS: u64 = 16_777_216;
 
 /// Why no entries were read.
+/// `00 02 61` ends within an entry of two bytes.
 #[derive(Debug, Drop, PartialEq, Eq, Clone, Copy, Error)]
 pub enum EntriesFault {
     /// The input ends within an entry, or within its length.
@@ -27,7 +28,7 @@ pub enum EntriesFault {
     /// A read failed, or the input did not end.
     #[error("ReadFault")]
     ReadFault,
-    /// A request for memory was refused.
+    /// Memory was refused.
     #[error("OutOfMemory")]
     OutOfMemory,
 }

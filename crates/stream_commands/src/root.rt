@@ -34,7 +34,7 @@ pub enum RootFault {
     /// A write failed, or took no byte. A front of the text may have been written.
     #[error("WriteFault")]
     WriteFault,
-    /// A request for memory was refused.
+    /// Memory was refused.
     #[error("OutOfMemory")]
     OutOfMemory,
 }

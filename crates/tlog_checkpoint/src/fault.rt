@@ -25,7 +25,7 @@ pub enum CheckpointFault {
     /// The third line is not the standard base64 of exactly 32 bytes, padded and canonical.
     #[error("BadRoot")]
     BadRoot,
-    /// Memory was wanting.
+    /// Memory was refused.
     #[error("OutOfMemory")]
     OutOfMemory,
 }

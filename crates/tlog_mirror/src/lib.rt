@@ -3,6 +3,13 @@
 //!
 //! Contracts see a `Mirror` as a state of `mirror_model`: an origin with a set of notes and a set of
 //! strings, and what is remembered of complete heads beside them.
+//!
+//! ```text
+//! let mut mirror = Mirror::<Sha256Tree>::new(alloc, "example.com/log")?;
+//! mirror.take_head(alloc, &keys, note, &edge)?;
+//! mirror.take_tile(alloc, 256, tile)?;
+//! mirror.take_bundle(alloc, 256, bundle)?;
+//! ```
 #![tactic(auto)]
 
 mod best;

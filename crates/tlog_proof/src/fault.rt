@@ -6,6 +6,7 @@ use std::alloc::{AllocError, AllocFailed};
 use thiserror::Error;
 
 /// Why a text was not read as a proof.
+/// For example the empty text is none.
 #[derive(Debug, Drop, PartialEq, Eq, Clone, Copy, Error)]
 pub enum TextFault {
     /// The text is not one that `write_text` writes.

@@ -15,6 +15,8 @@ use tlog_hash::Hash;
 use tlog_shape::split;
 
 /// Why no proof is made, in the order in which it is found.
+/// Of three entries `Ask::Inclusion { size: 4, index: 0 }` asks for a size, and `{ size: 3, index: 3 }`
+/// for an index, that is not there.
 #[derive(Debug, Drop, PartialEq, Eq, Clone, Copy, Error)]
 pub enum ProofFault {
     /// The list is shorter than the size, or the second size, that is asked for.

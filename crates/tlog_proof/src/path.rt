@@ -8,6 +8,7 @@ use std::marker::Model;
 use tlog_hash::Hash;
 
 /// The hashes of a proof, the one nearest to the root last. A contract sees the list of them.
+/// That of the last of three entries is one hash, the tree hash of the first two.
 #[derive(Debug, Drop)]
 pub struct HashPath {
     hashes: Vec<Hash>,

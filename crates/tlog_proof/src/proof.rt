@@ -13,6 +13,7 @@ use std::alloc::Global;
 use tlog_hash::{Hash, TreeHash};
 
 /// What a proof is asked for.
+/// `Ask::Inclusion { size: 3, index: 2 }` asks for the last of three entries.
 #[derive(Debug, Drop, PartialEq, Eq, Clone, Copy)]
 pub enum Ask {
     /// That the entry of an index is in the tree of a size.
@@ -22,6 +23,7 @@ pub enum Ask {
 }
 
 /// A proof with all that a check of it needs.
+/// `examples/inclusion-2-of-3.proof` is one as text.
 ///
 /// Who relies on a yes compares the roots with those of a checkpoint.
 #[derive(Debug, Drop, PartialEq, Eq)]

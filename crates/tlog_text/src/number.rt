@@ -10,6 +10,7 @@ use std::alloc::AllocError;
 use thiserror::Error;
 
 /// Why a text is no number that is taken.
+/// `01` is none, and `300` is too large where 255 is the greatest that is taken.
 #[derive(Debug, Drop, PartialEq, Eq, Clone, Copy, Error)]
 pub enum NumberFault {
     /// The text is not decimal digits, or has a leading zero before another digit.

@@ -8,6 +8,7 @@ use std::alloc::{AllocError, AllocFailed, Global};
 use thiserror::Error;
 
 /// Why bytes are not read as a bundle of a given width.
+/// Of width 1 the bytes `00 02 61` are short, and `00 01 61 00` are long.
 #[derive(Debug, Drop, PartialEq, Eq, Clone, Copy, Error)]
 pub enum BundleFault {
     /// No prefix of the bytes is a bundle of that width: they end within an entry, or before the last.
@@ -16,7 +17,7 @@ pub enum BundleFault {
     /// A prefix of the bytes is a bundle of that width, and more bytes follow it.
     #[error("BundleLong")]
     BundleLong,
-    /// The list of entries could not be made for want of memory.
+    /// Memory was refused.
     #[error("OutOfMemory")]
     OutOfMemory,
 }

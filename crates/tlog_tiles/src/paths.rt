@@ -40,6 +40,7 @@ pub enum Path {
 }
 
 /// Why a text is not a path. The first that applies is the answer.
+/// `tile/8/000` has a bad level, `tile/0/0` a bad index, and `tile/0/000.p/256` a bad width.
 #[derive(Debug, Drop, PartialEq, Eq, Clone, Copy, Error)]
 pub enum PathFault {
     /// It is neither `checkpoint` nor three segments or more of which the first is `tile`.

@@ -9,12 +9,13 @@ use thiserror::Error;
 use tlog_hash::Hash;
 
 /// Why bytes are not read as a row of a given width.
+/// For example 33 bytes are none of width 1.
 #[derive(Debug, Drop, PartialEq, Eq, Clone, Copy, Error)]
 pub enum RowFault {
     /// There are not 32 times as many bytes as the width says.
     #[error("RowLength")]
     RowLength,
-    /// The list of hashes could not be made for want of memory.
+    /// Memory was refused.
     #[error("OutOfMemory")]
     OutOfMemory,
 }
