@@ -25,7 +25,7 @@ pub fn measure_heads<R: AllocGlobal + CpuClock + Print + Eprint>(
     measure(rt, &mut mirror, count)
 }
 
-// The same, of a mirror that holds nothing.
+// Lets a mirror that holds nothing take so many heads and their entries, and tells what that costs.
 fn measure<R: AllocGlobal + CpuClock + Print + Eprint>(
     rt: &R,
     mirror: &mut Mirror<Sha256Tree>,

@@ -8,6 +8,6 @@ pub record TakesAtMost (most : ℕ) (old new : Option (List ℕ)) : Type 0 where
   pub within : length taken ≤ most
   pub consumes : Consumes old new taken
 
--- some of the first bytes were written, and nothing else
+-- the writer got a prefix of the bytes, as a write that failed leaves it, and nothing else
 abbrev pub AppendsFront : Option (List ℕ) → Option (List ℕ) → List ℕ → Type 0
 AppendsFront old new bytes = (n : ℕ) × Appends old new (take n bytes)

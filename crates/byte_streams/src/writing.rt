@@ -6,7 +6,7 @@ ghost use Rattle.byte_streams.specs.Streams.{AppendsFront};
 use crate::fault::StreamFault;
 use std::io::{ErrorKind, Write};
 
-// Writes a front of the bytes: nothing where it was interrupted.
+// Writes a prefix of the bytes: nothing where it was interrupted.
 fn write_some<W: Write>(writer: &mut W, bytes: &[u8]) -> Result<usize, StreamFault>
     ensures within { IfOk result (λ n. n ≤ length bytes.now) }
     ensures ok { IfOk result (λ n. Appends (W.contents writer.old) (W.contents writer.new) (take n bytes.now)) }
@@ -31,7 +31,7 @@ fn write_some<W: Write>(writer: &mut W, bytes: &[u8]) -> Result<usize, StreamFau
 /// # Errors
 ///
 /// `WriteFault`, and no other, comes where a write fails for another reason than an interruption,
-/// which is tried again, or takes no byte. Then a front of the bytes was written.
+/// which is tried again, or takes no byte. Then a prefix of the bytes was written.
 #[tactic(auto, using(crate::proofs::Writes::appends_more))]
 pub fn write_whole<W: Write>(writer: &mut W, bytes: &[u8]) -> Result<(), StreamFault>
     ensures ok { OnOk result (Appends (W.contents writer.old) (W.contents writer.new) bytes.now) }

@@ -56,7 +56,7 @@ Decides IsSuch (Err (Words text)) = ⊥
 Decides {X} IsSuch (Err BadArgument) = (x : X) → IsSuch x → ⊥
 Decides IsSuch (Err OutOfMemory) = Unit {0}
 
--- this command has the name, and the options say it
+-- the command has that name, and the options say it
 abbrev pub IsSaid : Text → List Row → Command → Type 0
 IsSaid name options command = (name ≡ name_of command) × Says options command
 

@@ -90,7 +90,7 @@ module _ (digest : List ℕ → List ℕ) (entries : List (List ℕ)) where
       (subst (λ n. HoldsFile n index width) (sym (ap length is ∙ length-full_row digest entries level))
       (tile_part (length entries) level index width within))
 
-  -- and what is cut from the list is the bundle
+  -- what is cut from the list for a bundle is the bundle
   pub bundle_found : {X : Type 0} (f : X → List ℕ) (found : Option X) (count index width : ℕ) → count ≡ length entries →
       MatchOption found (HoldsFile count index width → ⊥)
       (λ b. HoldsFile count index width × (f b ≡ bundle_text (part (256 * index) width entries))) →

@@ -189,7 +189,7 @@ module _ (digest : List ℕ → List ℕ) (entries : List (List ℕ)) where
       sym (map-append (mth digest) groups (tail ∷ [])) in
       ap (fold_of digest) rows ∙ sym (mth-level digest 1 (groups ++ tail ∷ []) cut) ∙ ap (mth digest) whole
 
-  -- and where there are none
+  -- the root of all entries from the upper row alone, where no leaf hashes are left
   pub root_without_rest : (leaves upper rest : List (List ℕ)) → leaves ≡ full_row digest entries 0 →
       upper ≡ full_row digest entries 1 → rest ≡ drop (256 * length upper) leaves → 0 < length leaves →
       length rest ≡ 0 → fold_of digest upper ≡ mth digest entries

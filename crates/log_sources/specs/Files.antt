@@ -3,7 +3,7 @@ use Rattle.std.specs.Prelude.{ℕ}
 use Rattle.tlog_tiles.specs.declared.paths.Path.{Path}
 use Rattle.tlog_tiles.specs.declared.paths.Path.TheVariants.{Checkpoint, Tile, Entries}
 
--- the full tile or bundle of a place
+-- the path of the full tile or bundle of a place: of `tile/0/001.p/3` it is `tile/0/001`
 abbrev pub full_of : Path → Path
 full_of Checkpoint = Checkpoint
 full_of (Tile level index width) = Tile level index 256

@@ -26,21 +26,20 @@ pub data Gets (n : ℕ) : List Path → List Path → List Path → Type 0 where
       Gets n (path ∷ paths) (path ∷ full_of path ∷ gets) (full_of path ∷ founds)
 
 module _ (digest : List ℕ → List ℕ) (entries : List (List ℕ)) where
-  -- TileBytes and BundleBytes: what a log of the entries serves at a path
+  -- what a log of the entries serves at a path: tile_bytes or bundle_bytes
   abbrev pub true_bytes : Path → List ℕ
   true_bytes Checkpoint = []
   true_bytes (Tile level index width) = tile_bytes digest entries level index width
   true_bytes (Entries index width) = bundle_bytes entries index width
 
-  -- the answer to a path within the entries is its true bytes, or nothing where a log may have
-  -- deleted the file
+  -- the answer to a path within the entries is true: its true bytes, or nothing where a log may
+  -- have deleted the file
   abbrev pub IsTrueAnswer : Path → Option (List ℕ) → Type 0
   IsTrueAnswer path (Some bytes) = bytes ≡ true_bytes path
   IsTrueAnswer path None = IsGone (length entries) path
 
-  -- Honest(source, E, origin, keys), for a source of which these answers may come: its note is a
-  -- head of the first entries, as many as size, and each path within the entries has true answers
-  -- alone
+  -- a source of which these answers may come is honest for a log of the entries: its note is a head
+  -- of the first of them, as many as size, and each path within the entries has true answers alone
   pub record IsHonest (origin : List ℕ) (keys : List Key) (note : List ℕ) (size : ℕ)
       (may : Path → Option (List ℕ) → Type 0) : Type 0 where
     pub short : AreShort entries

@@ -41,7 +41,7 @@ module _ (digest : List ℕ → List ℕ) (entries : List (List ℕ)) where
   IsListAnswer note (Tile level index width) answer = IsPartAnswer (Tile level index width) answer
   IsListAnswer note (Entries index width) answer = IsPartAnswer (Entries index width) answer
 
-  -- honest for the whole list, under any keys that have the key
+  -- the source over the list is honest for the whole list, under any keys that have the key
   abbrev pub IsHonestAnywhere : List ℕ → Key → List ℕ → Type 0
   IsHonestAnywhere origin key note =
       (keys : List Key) → Contains keys key →

@@ -12,12 +12,12 @@ TellsGet old new path (Ok x) = AddsTold old new (path ∷ [])
 TellsGet old new path (Err Failed) = AddsTold old new (path ∷ [])
 TellsGet old new path (Err OutOfMemory) = KeepsTold old new
 
--- each failure counts once
+-- the source's count of failures rises by one at each get that failed, and at no other
 abbrev pub CountsGet : {T : Type 0} → ℕ → ℕ → Result T SourceFault → Type 0
 CountsGet old new (Ok x) = new ≡ old
 CountsGet old new (Err Failed) = new ≡ one_more old
 CountsGet old new (Err OutOfMemory) = new ≡ old
 
--- an answer that may come now might have come before
+-- an answer that may come from the source now might have come before
 pub record StaysWithin (old new : Path → Option (List ℕ) → Type 0) : Type 0 where
   pub stays : (path : Path) (answer : Option (List ℕ)) → new path answer → old path answer

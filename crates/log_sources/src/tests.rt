@@ -1,4 +1,4 @@
-//! A list of E3, the entries of no bytes, `00` and `10`, and lists of numbers in two bytes each.
+//! A list of three entries: no bytes, `00` and `10`, and lists of numbers in two bytes each.
 ghost use Rattle.std.specs.Prelude.{◌≡◌, map, IfOk};
 ghost use Rattle.mirror_model.specs.TrueLaws.{AreShort};
 
@@ -9,7 +9,7 @@ use std::test::Fail;
 use tlog_hash::{Hash, Sha256Tree, TreeHash, tree_hash};
 use tlog_tiles::Path;
 
-// The tree hash of the first entry of E3, which is its leaf hash.
+// The tree hash of the first of the three entries, which is its leaf hash.
 const R1: Hash = [
     0x6e, 0x34, 0x0b, 0x9c, 0xff, 0xb3, 0x7a, 0x98, 0x9c, 0xa5, 0x44, 0xe6, 0xbb, 0x78, 0x0a, 0x2c,
     0x78, 0x90, 0x1d, 0x3f, 0xb3, 0x37, 0x38, 0x76, 0x85, 0x11, 0xa3, 0x06, 0x17, 0xaf, 0xa0, 0x1d,

@@ -26,7 +26,7 @@ abbrev pub verdict_status : Bool → ℕ
 verdict_status true = 0
 verdict_status false = 3
 
--- a write failed, so that a front of the text may have been written; `serve` writes its line before
+-- a write failed, so that a prefix of the text may have been written; `serve` writes its line before
 -- it goes on
 abbrev pub IsWriteFault : RunFault → Type 0
 IsWriteFault (Root root.WriteFault) = Unit {0}
@@ -45,37 +45,43 @@ IsDoable (order.Root c) = c.width ≤ 256
 IsDoable (order.Take c) = (1 ≤ c.width) × (c.width ≤ 256)
 IsDoable other = Unit {0}
 
--- the answers of `root`
+-- the answer of `root` that is done
 abbrev pub root_done : Result (Unit {0}) RootFault
 root_done = Ok tt
 
+-- an answer of `root` that failed
 abbrev pub root_failed : RootFault → Result (Unit {0}) RootFault
 root_failed fault = Err fault
 
--- the answers of a command that writes files alone
+-- the answer of a command that writes files alone, and did
 abbrev pub work_done : Result (Unit {0}) WorkFault
 work_done = Ok tt
 
+-- the answer of a command that writes files alone, and failed
 abbrev pub work_failed : WorkFault → Result (Unit {0}) WorkFault
 work_failed fault = Err fault
 
--- those of one that answers a question
+-- the answer of a command that asks something of a state, with its exit status
 abbrev pub asked_status : ℕ → Result ℕ WorkFault
 asked_status status = Ok status
 
+-- the answer of a command that asks something of a state, and failed
 abbrev pub asked_fault : WorkFault → Result ℕ WorkFault
 asked_fault fault = Err fault
 
--- and those of one that tells what it did
+-- the answer of a command that tells what it did, with its exit status
 abbrev pub told_status : ℕ → Result ℕ TellFault
 told_status status = Ok status
 
+-- the answer of a command that tells what it did, and failed
 abbrev pub told_fault : TellFault → Result ℕ TellFault
 told_fault fault = Err fault
 
+-- the answer of `serve` that has ended
 abbrev pub served_done : Result (Unit {0}) TellFault
 served_done = Ok tt
 
+-- the answer of `serve` that failed
 abbrev pub served_failed : TellFault → Result (Unit {0}) TellFault
 served_failed fault = Err fault
 

@@ -25,7 +25,7 @@ fault_line name = codes "tlogmirror: " ++ (name ++ codes "\n")
 abbrev pub IsFaultLine : List ℕ → Type 0
 IsFaultLine text = (name : List ℕ) × (text ≡ fault_line name)
 
--- this status, and this text on this stream
+-- the program ends with this status, and with this text on this stream
 pub record Ends (status : ℕ) (stream : Stream) (text : List ℕ) (told : Ending) : Type 0 where
   pub status_is : told.status ≡ status
   pub stream_is : told.stream ≡ stream
@@ -53,7 +53,7 @@ pub record SaysFront (told : Ending) (status : ℕ) (output output' errors error
   pub fault : AppendsFront errors errors' (fault_line (codes "WriteFault"))
   pub status_is : status ≡ 1
 
--- what is written to both streams, and the exit status
+-- what is written to both streams at an ending, and the exit status
 abbrev pub CarriesOut : Ending → ℕ → Option (List ℕ) → Option (List ℕ) → Option (List ℕ) →
     Option (List ℕ) → Type 0
 CarriesOut told status output output' errors errors' = (

@@ -55,7 +55,8 @@ pub record LacksKeys
   pub finds : FailsAtKeys words fault
   pub quiet : Keeps old new
 
--- the same of a run that begins with the file of keys
+-- what the answer of a run that begins with the file of keys says: no keys were found, or the run
+-- is one under these keys
 abbrev pub RunsKeyed : (List ℕ → List ℕ) → List (List ℕ) → Option (List ℕ) → Option (List ℕ) →
     Option (List ℕ) → Result ℕ RunFault → Type 0
 RunsKeyed digest words input old new answer =

@@ -22,11 +22,11 @@ item_of kind.Tile width first rest = item.Tile width first
 item_of kind.Bundle width first rest = item.Bundle width first
 
 module _ (digest : List ℕ → List ℕ) (origin : List ℕ) (keys : List Key) where
-  -- the bytes that a file has are loaded so
+  -- some bytes, those that a file has, are loaded with that answer
   abbrev pub LoadsSome : Result View LoadFault → Type 0
   LoadsSome answer = (bytes : List ℕ) × Loads digest origin keys bytes answer
 
-  -- the origin is judged, and then the file
+  -- what each answer of opening a state file says: the origin is judged first, and then the file
   abbrev pub OpensFile : Result View WorkFault → Type 0
   OpensFile (Ok v) = IsOrigin origin × LoadsSome (Ok v)
   OpensFile (Err (Load fault)) = IsOrigin origin × LoadsSome (Err fault)
@@ -35,7 +35,8 @@ module _ (digest : List ℕ → List ℕ) (origin : List ℕ) (keys : List Key) 
   OpensFile (Err (Named fault)) = IsOrigin origin
   OpensFile (Err other) = ⊥
 
-  -- the mirror of a file, where one is named, and else one that holds nothing
+  -- what each answer of beginning a mirror says: it is that of the file, where one is named, and
+  -- else one that holds nothing
   abbrev pub BeginsWith : Option (List ℕ) → Result View WorkFault → Type 0
   BeginsWith (Some name) answer = OpensFile answer
   BeginsWith None (Ok v) = IsOrigin origin × (v ≡ nothing origin)

@@ -19,7 +19,7 @@ use Rattle.mirror_commands.specs.declared.fault.WorkFault.TheVariants.{Named, Or
 use Rattle.mirror_commands.specs.declared.fault.TellFault.{TellFault}
 use Rattle.mirror_commands.specs.declared.fault.TellFault.TheVariants.{Work, WriteFault}
 
--- the command is done, or its answer is the other one
+-- the exit status is one of a command that was done: 0, or 3 for a no
 abbrev pub IsStatus : ℕ → Type 0
 IsStatus status = (status ≡ 0) ⊎ (status ≡ 3)
 
@@ -57,7 +57,7 @@ TellsPull old new (Err (Work fault)) = Keeps old new
 abbrev pub listening_text : ℕ → List ℕ
 listening_text port = codes "listening 127.0.0.1:" ++ (decimal port ++ codes "\n")
 
--- that line was written, or at a fault some of it
+-- the line that tells the port was written, or at a fault a prefix of it
 abbrev pub TellsPort : {T : Type 0} → ℕ → Option (List ℕ) → Option (List ℕ) → Result T TellFault →
     Type 0
 TellsPort port old new (Ok x) = Appends old new (listening_text port)
@@ -65,10 +65,12 @@ TellsPort port old new (Err fault) = AppendsFront old new (listening_text port)
 
 -- ---- build
 
--- the input was read as entries, or the log was refused for another reason
+-- the answer of a reader of entries that failed
 abbrev pub no_entries : EntriesFault → Result (List (List ℕ)) EntriesFault
 no_entries fault = Err fault
 
+-- what each answer of `build` says of its input: it was read as entries; or it was not, and why; or
+-- the log could not be built for another reason
 abbrev pub BuildsFrom : {T : Type 0} → List ℕ → Result T WorkFault → Type 0
 BuildsFrom input (Ok x) = (entries : List (List ℕ)) × ReadsEntries input (Ok entries)
 BuildsFrom input (Err (Entries fault)) = ReadsEntries input (no_entries fault)

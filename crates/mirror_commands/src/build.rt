@@ -30,7 +30,7 @@ pub(crate) fn run_build<R: Files, I: Read>(
 ) -> Result<(), WorkFault>
     ensures { IfSome (I.remaining input.old) (λ bytes. BuildsFrom bytes result) }
 {
-    // These lines were read before, so memory alone can be wanting.
+    // The lines of keys were read before, so memory alone can be wanting.
     let Ok(lines) = read_keys(alloc, key_bytes) else {
         return Err(WorkFault::OutOfMemory);
     };

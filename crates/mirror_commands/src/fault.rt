@@ -113,7 +113,7 @@ pub enum TellFault {
     /// Its work was not done.
     #[error(transparent)]
     Work(WorkFault),
-    /// A write failed, or took no byte. A front of the text may have been written.
+    /// A write failed, or took no byte. A prefix of the text may have been written.
     #[error("WriteFault")]
     WriteFault,
 }

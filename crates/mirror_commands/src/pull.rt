@@ -78,7 +78,7 @@ fn pulled_from<R: Files + Clock + Net<Stream = TcpStream>>(
     }
 }
 
-// The same, with the state's bytes, from that place.
+// The mirror of the state's bytes, and what the pull from a place into it came to.
 fn from_place<'a, R: Files + Clock + Net<Stream = TcpStream>>(
     rt: &'a R,
     alloc: Global,
@@ -107,7 +107,7 @@ fn from_place<'a, R: Files + Clock + Net<Stream = TcpStream>>(
     }
 }
 
-// The same, from that site, over connections to that host and port.
+// The mirror of the state's bytes, and what the pull from a site, over connections to a host and port, came to.
 #[allow(clippy::too_many_arguments)]
 fn from_server<N: Net<Stream = TcpStream> + Clock + Clone + Drop>(
     alloc: Global,
@@ -124,7 +124,7 @@ fn from_server<N: Net<Stream = TcpStream> + Clock + Clone + Drop>(
     from_source(alloc, origin, keys, state, &mut source)
 }
 
-// The same, from that source.
+// The mirror of the state's bytes, and what the pull from a source into it came to.
 fn from_source<S: Source>(
     alloc: Global,
     origin: &str,

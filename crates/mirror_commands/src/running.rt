@@ -65,7 +65,8 @@ where
     run_words(rt, alloc, words, &bytes, &keys, input, output, errors)
 }
 
-/// The same with keys in hand: the bytes of the key file, and its keys. Both are empty where the command has none.
+/// Does what the words ask for, with keys in hand: the bytes of the key file, and its keys. Both are empty where the
+/// command has none.
 ///
 /// # Errors
 ///

@@ -20,7 +20,7 @@ use tlog_mirror::Mirror;
 // A client has so many seconds to send the head of its request.
 const HEAD_SECONDS: u64 = 10;
 
-// It has so many seconds for all, so that 60 are left for the reply at least.
+// A client has so many seconds for all, so that 60 are left for the reply at least.
 const ALL_SECONDS: u64 = 70;
 
 /// Answers as many connections as are asked for, one after the other, from the mirror in the state file. A fault of

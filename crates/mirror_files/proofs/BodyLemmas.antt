@@ -1,4 +1,4 @@
--- The body of a state text at the front of bytes is known from the bytes.
+-- The body of a state text at the start of bytes is known from the bytes.
 use Rattle.std.proofs.Common.{◌≡◌, ◌≢◌, inl, inr, ℕ, ◌+◌, ◌≤◌, ◌<◌, ◌-◌, List, [], ◌∷◌, ◌++◌, length, take, drop, refl, sym, ap, subst, ◌∙◌, append_assoc, arith, codes, Err, length-append, length-take, length-drop, true≢false}
 use Rattle.std.proofs.lemmas.Slice.Eq.{bytes_eq-Decides}
 use Rattle.std.proofs.lemmas.List.{take_at, append-nil, take-append-drop}
@@ -28,7 +28,7 @@ pub lists_in : (bytes : List ℕ) (parts : Parts) (rest : List ℕ) → HasBody 
 lists_in bytes (Parted o n p e) rest h = record { are_parts = h.are_parts; text = ap (λ (x : List ℕ). drop 8 x) h.text }
 lists_in bytes (Tagged o n s) rest h = record { are_parts = h.are_parts; text = ap (λ (x : List ℕ). drop 8 x) h.text }
 
--- the lists of one version stand at the front in one way
+-- the lists of one version stand at the start in one way
 pub lists_one : (bytes : List ℕ) (p q : Parts) (a b : List ℕ) → magic_of p ≡ magic_of q → HasLists bytes p a → HasLists bytes q b → (p ≡ q) × (a ≡ b)
 lists_one bytes (Parted o n p e) (Tagged o' n' s') a b m x y = absurd (versions_differ (codes "TLMIRR02") refl m)
 lists_one bytes (Tagged o n s) (Parted o' n' p' e') a b m x y = absurd (versions_differ (codes "TLMIRR01") m refl)
@@ -60,7 +60,7 @@ lists_one bytes (Tagged o n s) (Tagged o' n' s') a b m x y =
     let one : Tagged o n s ≡ Tagged o' n' s' = cc (origin, notes.0, strings.0) in
     (one, strings.1)
 
--- a body stands at the front in one way
+-- a body stands at the start in one way
 pub body_one : (bytes : List ℕ) (p q : Parts) (a b : List ℕ) → HasBody bytes p a → HasBody bytes q b → (p ≡ q) × (a ≡ b)
 body_one bytes p q a b x y = lists_one (drop 8 bytes) p q a b (sym (magic_in bytes p a x) ∙ magic_in bytes q b y) (lists_in bytes p a x) (lists_in bytes q b y)
 

@@ -202,7 +202,7 @@ then_assoc Less a b = refl
 then_assoc Equal a b = refl
 then_assoc Greater a b = refl
 
--- of lists whose fronts are as long, the fronts decide first
+-- of lists whose prefixes are as long, the prefixes decide first
 cat_cmp : (l m r s : List ℕ) → length l ≡ length m → slice_cmp nat_cmp (l ++ r) (m ++ s) ≡ ordering_then (slice_cmp nat_cmp l m) (slice_cmp nat_cmp r s)
 cat_cmp [] [] r s len = refl
 cat_cmp [] (y ∷ ys) r s len = absurd cc

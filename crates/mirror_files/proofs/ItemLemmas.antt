@@ -1,4 +1,4 @@
--- Items at the front of bytes are known from the bytes.
+-- Items at the start of bytes are known from the bytes.
 use Rattle.std.proofs.Common.{◌≡◌, ℕ, suc, List, [], ◌∷◌, ◌++◌, length, take, drop, All, refl, sym, ap, ◌∙◌, append_assoc, arith}
 use Rattle.std.specs.Int.{w16, w32, to_be_bytes, from_be_bytes}
 use Rattle.std.proofs.lemmas.List.{take_at, drop_at, append-nil}
@@ -10,14 +10,14 @@ use Rattle.mirror_files.specs.declared.items.Form.TheVariants.{Short, Long, Hash
 use Rattle.mirror_files.specs.Items.{item_text, items_text, IsItem}
 use Rattle.mirror_files.specs.Stands.{HasItems}
 
--- two lists of one length at the front of one list
+-- two lists of one length at the start of one list
 pub fronts_same : (d e a b : List ℕ) → length d ≡ length e → d ++ a ≡ e ++ b → (d ≡ e) × (a ≡ b)
 fronts_same d e a b len h = (
   sym (take_at d a (length d) refl) ∙ (ap (λ (x : List ℕ). take (length d) x) h ∙ take_at e b (length d) (sym len)),
   sym (drop_at d a (length d) refl) ∙ (ap (λ (x : List ℕ). drop (length d) x) h ∙ drop_at e b (length d) (sym len)),
 )
 
--- the item at the front is known from the bytes
+-- the item at the start is known from the bytes
 pub item_one : (form : Form) (d e a b : List ℕ) → IsItem form d → IsItem form e → item_text form d ++ a ≡ item_text form e ++ b → (d ≡ e) × (a ≡ b)
 item_one Short d e a b hd he h =
     let front : to_be_bytes w16 (length d) ≡ to_be_bytes w16 (length e) = ap (λ (x : List ℕ). take 2 x) h in
@@ -49,7 +49,7 @@ items_push form bytes rest after e es p q =
     let split : items_text form (es ++ e ∷ []) ≡ items_text form es ++ (item_text form e ++ []) = flat_map-append (item_text form) es (e ∷ []) in
     p ∙ (ap (λ (x : List ℕ). items_text form es ++ x) q ∙ (sym (append_assoc (items_text form es) (item_text form e) after) ∙ ap (λ (x : List ℕ). x ++ after) (sym (split ∙ ap (λ (x : List ℕ). items_text form es ++ x) (append-nil (item_text form e))))))
 
--- items at the front, that many, are known from the bytes
+-- items at the start, that many, are known from the bytes
 pub items_one : (form : Form) (es fs : List (List ℕ)) (a b : List ℕ) → length es ≡ length fs → All (IsItem form) es → All (IsItem form) fs → items_text form es ++ a ≡ items_text form fs ++ b → (es ≡ fs) × (a ≡ b)
 items_one form [] [] a b n p q h = (refl, h)
 items_one form [] (f ∷ fs) a b n p q h = absurd cc

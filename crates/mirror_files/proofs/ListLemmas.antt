@@ -9,7 +9,7 @@ use Rattle.mirror_files.specs.StateText.{Parted, Tagged}
 use Rattle.mirror_files.specs.Stands.{HasList, HasLists}
 use Rattle.mirror_files.proofs.ItemLemmas.{item_one, items_one}
 
--- the list at the front is known from the bytes
+-- the list at the start is known from the bytes
 pub list_one : (form : Form) (bytes : List ℕ) (xs ys : List (List ℕ)) (a b : List ℕ) → HasList form bytes xs a → HasList form bytes ys b → (xs ≡ ys) × (a ≡ b)
 list_one form bytes xs ys a b p q =
     let same : list_text form xs ++ a ≡ list_text form ys ++ b = sym p.text ∙ q.text in

@@ -13,9 +13,9 @@ use Rattle.sha2.specs.declared.Sha256.{Sha256}
 use Rattle.mirror_files.specs.declared.page.Page.{Page}
 use Rattle.mirror_files.specs.Putting.{EndsText, IsUnderWay, Puts, Writes}
 
--- ---- fronts
+-- ---- prefixes
 
--- a front of a list is one of a longer list
+-- a prefix of a list is one of a longer list
 front_of : (n : ℕ) (xs ys : List ℕ) → (k : ℕ) × (take n xs ≡ take k (xs ++ ys))
 front_of zero xs ys = (zero, refl)
 front_of (suc n) [] ys = (zero, refl)
@@ -30,7 +30,7 @@ appends_two (Some s) None c xs ys p q = absurd p
 appends_two (Some s) (Some t) None xs ys p q = absurd q
 appends_two (Some s) (Some t) (Some u) xs ys p q = q ∙ (ap (λ (w : List ℕ). w ++ ys) p ∙ append_assoc s xs ys)
 
--- what was written, and a front of what follows it
+-- what was written, and a prefix of what follows it
 front_behind : (a b c : Option (List ℕ)) (xs ys : List ℕ) → Appends a b xs → AppendsFront b c ys → AppendsFront a c (xs ++ ys)
 front_behind a b c xs ys p (n, q) = (length xs + n, subst (Appends a c) (sym (take-append-add xs ys n)) (appends_two a b c xs (take n ys) p q))
 

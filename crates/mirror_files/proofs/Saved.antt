@@ -27,7 +27,7 @@ use Rattle.mirror_files.proofs.Listed.{state_string}
 use Rattle.mirror_files.proofs.Gathered.{lent_bytes}
 use Rattle.mirror_files.proofs.Putting.{front_longer}
 
--- ---- the text is written, or a front of it
+-- ---- the text is written, or a prefix of it
 
 appends_nothing : (now : Option (List ℕ)) → Appends now now []
 appends_nothing None = tt

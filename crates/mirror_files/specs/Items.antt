@@ -11,7 +11,8 @@ item_text Short item = to_be_bytes w16 (length item) ++ item
 item_text Long item = to_be_bytes w32 (length item) ++ item
 item_text Hashes item = item
 
--- an item can be written so: its length fits, and one that stands alone has 64 bytes, two hashes
+-- the item can be written in that form: its length fits, and one that stands alone has 64 bytes,
+-- two hashes
 abbrev pub IsItem : Form → List ℕ → Type 0
 IsItem Short item = length item < 2 ^ 16
 IsItem Long item = length item < 2 ^ 32
@@ -25,7 +26,7 @@ items_text form items = flat_map (item_text form) items
 abbrev pub list_text : Form → List (List ℕ) → List ℕ
 list_text form items = to_be_bytes w64 (length items) ++ items_text form items
 
--- items that can be written as such a list
+-- the items can be written as a list of that form
 pub record AreItems (form : Form) (items : List (List ℕ)) : Type 0 where
   pub count : length items < 2 ^ 64
   pub fits : All (IsItem form) items

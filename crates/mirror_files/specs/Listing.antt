@@ -8,11 +8,11 @@ use Rattle.mirror_files.specs.Loading.{Rises}
 use Rattle.mirror_files.specs.Putting.{pair_bytes}
 use Rattle.mirror_files.specs.declared.listing.Sorted.{Sorted}
 
--- what follows the tag, of each string that has it
+-- the items are what follows the tag in each string of the set that begins with it
 abbrev pub HoldsEach : ℕ → Strings → List (List ℕ) → Type 0
 HoldsEach tag strings items = (item : List ℕ) → Contains items item ↔ Has strings (tag ∷ item)
 
--- in order
+-- the items are what follows the tag in each string of the set that begins with it, in order
 pub record ListsEach (tag : ℕ) (strings : Strings) (items : List (List ℕ)) : Type 0 where
   pub rises : Rises items
   pub exact : HoldsEach tag strings items

@@ -15,7 +15,7 @@ pub record IsOfBytes (answer : Result View LoadFault) : Type 0 where
   pub was_read : answer ≢ Err ReadFault
   pub has_memory : answer ≢ Err OutOfMemory
 
--- bytes have one such answer
+-- bytes have one answer of a loader, failed reads and want of memory apart
 abbrev pub LoadsHaveOneAnswer : Type 0
 LoadsHaveOneAnswer =
     (digest : List ℕ → List ℕ) (origin : List ℕ) (keys : List Key) (bytes : List ℕ)
@@ -23,8 +23,8 @@ LoadsHaveOneAnswer =
     IsOfBytes a → IsOfBytes b → Loads digest origin keys bytes a →
     Loads digest origin keys bytes b → a ≡ b
 
--- where the bytes are a text of a lawful view of that origin whose notes open under the keys, it is
--- Ok with that view
+-- where the bytes are a text of a lawful view of that origin whose notes open under the keys, a
+-- loader answers Ok with that view
 abbrev pub TextsAreLoaded : Type 0
 TextsAreLoaded =
     (digest : List ℕ → List ℕ) (origin : List ℕ) (keys : List Key) (bytes : List ℕ) (v : View) →

@@ -29,7 +29,7 @@ use Rattle.mirror_files.specs.declared.fault.LoadFault.TheVariants.{StateString,
 use Rattle.mirror_files.specs.declared.fault.LoadFault.TheVariants.{Collision, StateEdge, ReadFault}
 use Rattle.mirror_files.specs.declared.fault.LoadFault.TheVariants.{OutOfMemory}
 
--- why the lists are not read, as a loader says it
+-- the fault of a loader at lists that cannot be read
 abbrev pub load_fault_of : PartsFault → LoadFault
 load_fault_of reading.StateMagic = StateMagic
 load_fault_of reading.StateShort = StateShort
@@ -37,7 +37,8 @@ load_fault_of reading.StateLong = StateLong
 load_fault_of reading.StateDigest = StateDigest
 load_fault_of reading.OutOfMemory = OutOfMemory
 
--- the lists, as far as they are judged without a digest and without keys
+-- what each answer of a reader of lists says of them, as far as they are judged without a digest
+-- and without keys
 abbrev pub ChecksLists : List ℕ → List ℕ → Result Parts LoadFault → Type 0
 ChecksLists origin bytes (Ok parts) = HasStrings origin bytes parts
 ChecksLists origin bytes (Err StateMagic) = ReadsParts bytes (Err reading.StateMagic)
@@ -59,19 +60,19 @@ tagged_as Entries item = 0 ∷ item
 tagged_as Pairs item = 1 ∷ item
 tagged_as Tags item = item
 
--- an item that can be listed so
+-- the item can be listed in that way
 abbrev pub IsListable : Kind → List ℕ → Type 0
 IsListable Entries item = length item ≤ 65535
 IsListable Pairs item = length item ≡ 64
 IsListable Tags item = IsStateString item
 
--- all strings of a state text can be listed so
+-- all strings of a state text can be listed in its way
 abbrev pub AreListable : Parts → Type 0
 AreListable (Parted origin notes pairs entries) =
     All (IsListable Entries) entries × All (IsListable Pairs) pairs
 AreListable (Tagged origin notes strings) = All (IsListable Tags) strings
 
--- strings are added to a set, if none clashes
+-- what each answer of adding strings to a set says: they are added, if none clashes
 abbrev pub AddsListed : (List ℕ → List ℕ) → Strings → List (List ℕ) → Result (Unit {0}) AddFault →
     Strings → Type 0
 AddsListed digest old strings (Ok done) new =
@@ -80,7 +81,7 @@ AddsListed digest old strings (Err adding.Collision) new =
     HasClash digest (set.union old (set.from_list strings))
 AddsListed digest old strings (Err adding.OutOfMemory) new = Unit {0}
 
--- strings make a set by themselves, if none clashes
+-- what each answer of making a set of strings says: they make one by themselves, if none clashes
 abbrev pub MakesStore : (List ℕ → List ℕ) → List (List ℕ) → Result Strings AddFault → Type 0
 MakesStore digest strings (Ok made) = (made ≡ set.from_list strings) × NoClash digest made
 MakesStore digest strings (Err adding.Collision) = HasClash digest (set.from_list strings)
@@ -88,7 +89,7 @@ MakesStore digest strings (Err adding.OutOfMemory) = Unit {0}
 
 -- ---- notes
 
--- what a fault of reading a head is here
+-- the fault of a loader at a note that cannot be read as a head
 abbrev pub note_fault_of : TakeFault → LoadFault
 note_fault_of (taking.Note fault) = StateHead
 note_fault_of (taking.Checkpoint fault) = StateHead
@@ -103,7 +104,7 @@ note_fault_of taking.BundleLong = StateHead
 note_fault_of taking.Collision = StateHead
 note_fault_of taking.OutOfMemory = OutOfMemory
 
--- an answer that is Ok, StateHead or want of memory
+-- an answer of a step that may come to Ok, StateHead or want of memory alone
 abbrev pub PassesOrFails : (Good Bad : Type 0) → Result (Unit {0}) LoadFault → Type 0
 PassesOrFails Good Bad (Ok done) = Good
 PassesOrFails Good Bad (Err StateMagic) = ⊥
@@ -119,17 +120,18 @@ PassesOrFails Good Bad (Err StateEdge) = ⊥
 PassesOrFails Good Bad (Err ReadFault) = ⊥
 PassesOrFails Good Bad (Err OutOfMemory) = Unit {0}
 
--- a note opens under the keys, or is StateHead
+-- what each answer of judging a note says: it opens under the keys, or it is StateHead
 abbrev pub ChecksNote : List ℕ → List Key → List ℕ → Result (Unit {0}) LoadFault → Type 0
 ChecksNote origin keys note answer =
     PassesOrFails (IsOpenNote origin keys note) (IsOpenNote origin keys note → ⊥) answer
 
--- all notes open under the keys, or StateHead is told
+-- what each answer of judging all notes says: all open under the keys, or one does not
 abbrev pub ChecksNotes : List ℕ → List Key → List (List ℕ) → Result (Unit {0}) LoadFault → Type 0
 ChecksNotes origin keys notes answer =
     PassesOrFails (All (IsOpenNote origin keys) notes) (HasClosed origin keys notes) answer
 
--- all notes are kept, each with its edge held; StateEdge where the edge of one is not
+-- what each answer of keeping all notes says: all are kept, each with its edge held, or the edge of
+-- one is not
 abbrev pub KeepsNotes : (List ℕ → List ℕ) → View → List (List ℕ) → Result (Unit {0}) LoadFault →
     View → Type 0
 KeepsNotes digest old notes (Ok done) new =

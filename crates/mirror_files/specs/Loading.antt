@@ -78,12 +78,13 @@ module _ (origin : List ℕ) (bytes : List ℕ) where
     pub is_text : IsText bytes parts
     pub origin_is : listed_origin parts ≡ origin
 
-  -- the bytes are such a text, and its lists rise
+  -- the bytes are a state text of that origin, and its lists rise
   pub record HasOrder (parts : Parts) : Type 0 where
     pub has_origin : HasOrigin parts
     pub all_rise : AllRise parts
 
-  -- the bytes are such a text, and its strings can be a tree's
+  -- the bytes are a state text of that origin in order, and each of its strings can be one of a
+  -- tree
   pub record HasStrings (parts : Parts) : Type 0 where
     pub has_order : HasOrder parts
     pub tagged : AllTaggedWell parts
@@ -100,7 +101,7 @@ module _ (origin : List ℕ) (bytes : List ℕ) where
     pub has_origin : HasOrigin parts
     pub falls : AllRise parts → ⊥
 
-  -- the bytes are such a text in order, of which a string can be no tree's
+  -- the bytes are a state text of that origin in order, of which a string can be none of a tree
   pub record HasBadString : Type 0 where
     pub parts : Parts
     pub has_order : HasOrder parts
@@ -113,12 +114,14 @@ pub record HasClosed (origin : List ℕ) (keys : List Key) (notes : List (List �
   pub closed : IsOpenNote origin keys note → ⊥
 
 module _ (origin : List ℕ) (keys : List Key) (bytes : List ℕ) where
-  -- the bytes are a text with such strings, and all its notes open
+  -- the bytes are a state text of that origin, in order and with strings of trees, and all its
+  -- notes open
   pub record HasOpenNotes (parts : Parts) : Type 0 where
     pub has_strings : HasStrings origin bytes parts
     pub opened : All (IsOpenNote origin keys) (listed_notes parts)
 
-  -- the bytes are a text with such strings, and a note of it does not open
+  -- the bytes are a state text of that origin, in order and with strings of trees, and a note of it
+  -- does not open
   pub record HasBadNote : Type 0 where
     pub parts : Parts
     pub has_strings : HasStrings origin bytes parts
@@ -131,18 +134,20 @@ pub record HasUnheld (digest : List ℕ → List ℕ) (v : View) (notes : List (
   pub lacks : HasEdge digest v note → ⊥
 
 module _ (digest : List ℕ → List ℕ) (origin : List ℕ) (keys : List Key) (bytes : List ℕ) where
-  -- the bytes are a text whose notes open, and no two of its strings share a digest
+  -- the bytes are a state text that is right up to its notes, which open, and no two of its strings
+  -- share a digest
   pub record HasNoCollision (parts : Parts) : Type 0 where
     pub has_open_notes : HasOpenNotes origin keys bytes parts
     pub no_clash : NoClash digest (listed_view parts).strings
 
-  -- the bytes are a text whose notes open, and two of its strings share a digest
+  -- the bytes are a state text that is right up to its notes, which open, and two of its strings
+  -- share a digest
   pub record HasClashing : Type 0 where
     pub parts : Parts
     pub has_open_notes : HasOpenNotes origin keys bytes parts
     pub clash : HasClash digest (listed_view parts).strings
 
-  -- the bytes are a text without a clash, and the edge of a note of it is not held
+  -- the bytes are a state text without a clash, and the edge of a note of it is not held
   pub record LacksEdge : Type 0 where
     pub parts : Parts
     pub has_no_collision : HasNoCollision parts

@@ -18,17 +18,18 @@ state_text parts = body_text parts ++ sha256 (body_text parts)
 abbrev pub pair_bytes : Bor (List ℕ) × Bor (List ℕ) → List ℕ
 pair_bytes pair = pair.0.now ++ pair.1.now
 
--- the first of two hashes has 32 bytes
+-- the first of two hashes has 32 bytes, as the second is known to have
 abbrev pub IsSizedPair : Bor (List ℕ) × Bor (List ℕ) → Type 0
 IsSizedPair pair = length pair.0.now ≡ 32
 
--- since the start a front of the text was written, and the rest of it is held back
+-- since the start a prefix of the text was written, and the rest of it is held back
 pub record IsUnderWay (start now : Option (List ℕ)) (held text : List ℕ) : Type 0 where
   pub written : List ℕ
   pub appended : Appends start now written
   pub text_is : text ≡ written ++ held
 
--- a text that is under way goes on with the piece; where a write fails a front of it was written
+-- a text that is under way goes on with the piece; where a write fails a prefix of it was
+-- written
 abbrev pub Writes :
     Option (List ℕ) → Option (List ℕ) → List ℕ → List ℕ → List ℕ → Result (Unit {0}) StreamFault →
     Type 0
@@ -39,8 +40,8 @@ Writes old new held held' piece (Err fault) =
     (start : Option (List ℕ)) (text : List ℕ) → IsUnderWay start old held text →
     AppendsFront start new (text ++ piece)
 
--- what a page's writer does with a piece: it is written as above, and the page's digest is that of
--- the text with the piece behind it
+-- what a page's writer does with a piece: it goes on with the text, and the page's digest is that
+-- of the text with the piece behind it
 pub record Puts (old new : Option (List ℕ)) (page page' : Page) (piece : List ℕ)
     (answer : Result (Unit {0}) StreamFault)
     : Type 0 where
@@ -48,7 +49,7 @@ pub record Puts (old new : Option (List ℕ)) (page page' : Page) (piece : List 
   pub hashes : OnOk answer
       ((text : List ℕ) → Holds256 page.digest text → Holds256 page'.digest (text ++ piece))
 
--- a whole text was written, or a front of it
+-- a whole text was written, or at a fault a prefix of it
 abbrev pub WritesText : Option (List ℕ) → Option (List ℕ) → List ℕ → Result (Unit {0}) StreamFault →
     Type 0
 WritesText old new text (Ok done) = Appends old new text

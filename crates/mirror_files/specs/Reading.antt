@@ -8,12 +8,13 @@ use Rattle.mirror_files.specs.declared.parts.PartsFault.TheVariants.{StateMagic,
 use Rattle.mirror_files.specs.declared.parts.PartsFault.TheVariants.{StateLong, StateDigest}
 use Rattle.mirror_files.specs.declared.parts.PartsFault.TheVariants.{OutOfMemory}
 
--- a prefix of the bytes is a body; the rest follows it
+-- the bytes begin with the body of a state text, and the rest follows it
 pub record HasBody (bytes : List ℕ) (parts : Parts) (rest : List ℕ) : Type 0 where
   pub are_parts : AreParts parts
   pub text : bytes ≡ body_text parts ++ rest
 
--- behind the body stand 32 bytes, in the place of its digest; the rest follows them
+-- the bytes begin with the body of a state text and 32 bytes in the place of its digest, and the
+-- rest follows these
 pub record HasText (bytes : List ℕ) (parts : Parts) (digest rest : List ℕ) : Type 0 where
   pub has_body : HasBody bytes parts (digest ++ rest)
   pub digest_len : length digest ≡ 32
@@ -22,7 +23,7 @@ pub record HasText (bytes : List ℕ) (parts : Parts) (digest rest : List ℕ) :
 abbrev pub HasMagic : List ℕ → Type 0
 HasMagic bytes = (take 8 bytes ≡ codes "TLMIRR02") ⊎ (take 8 bytes ≡ codes "TLMIRR01")
 
--- the body stands there, and then what is not its digest
+-- the bytes are the body of a state text, and 32 bytes that are not its digest
 pub record IsSpoiled (bytes : List ℕ) : Type 0 where
   pub parts : Parts
   pub digest : List ℕ

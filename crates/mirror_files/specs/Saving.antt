@@ -7,8 +7,8 @@ use Rattle.mirror_files.specs.StateText.{StateText}
 use Rattle.mirror_files.specs.declared.fault.SaveFault.{SaveFault}
 use Rattle.mirror_files.specs.declared.fault.SaveFault.TheVariants.{WriteFault, OutOfMemory}
 
--- Ok where the text of the view was written, and nothing else; at WriteFault a front of it was, at
--- OutOfMemory nothing
+-- what each answer of a saver says: at Ok the text of the view was written, and nothing else; at
+-- WriteFault a prefix of it, at OutOfMemory nothing
 abbrev pub Saves : View → Option (List ℕ) → Option (List ℕ) → Result (Unit {0}) SaveFault → Type 0
 Saves v old new (Ok done) = (text : List ℕ) × StateText v text × Appends old new text
 Saves v old new (Err WriteFault) = (text : List ℕ) × StateText v text × AppendsFront old new text

@@ -1,4 +1,4 @@
--- What stands at the front of bytes. The contracts of the private readers cite these words; the
+-- What stands at the start of bytes. The contracts of the private readers cite these words; the
 -- grammar of a state text needs none of them.
 use Rattle.std.specs.Prelude.{◌≡◌, ◌≢◌, ◌<◌, ℕ, List, ◌++◌, length, map, All, Result, Ok, Err}
 use Rattle.sha2.specs.Sha256.{sha256}
@@ -13,25 +13,25 @@ use Rattle.mirror_files.specs.declared.parts.PartsFault.TheVariants.{OutOfMemory
 use Rattle.mirror_files.specs.Reading.{HasMagic, HasBody}
 use Rattle.mirror_files.specs.Items.{items_text, list_text, IsItem, AreItems}
 
--- the bytes begin with a count of items, and the rest follows them
+-- the bytes begin with that many items, and the rest follows them
 pub record HasItems (form : Form) (count : ℕ) (bytes : List ℕ) (items : List (List ℕ))
     (rest : List ℕ) : Type 0 where
   pub count_is : length items ≡ count
   pub fits : All (IsItem form) items
   pub text : bytes ≡ items_text form items ++ rest
 
--- a list of items stands at the front, and the rest follows it
+-- the bytes begin with a list of items, and the rest follows it
 pub record HasList (form : Form) (bytes : List ℕ) (items : List (List ℕ)) (rest : List ℕ)
     : Type 0 where
   pub are_items : AreItems form items
   pub text : bytes ≡ list_text form items ++ rest
 
--- what is listed stands at the front, and the rest follows it
+-- the bytes begin with what a state text lists, and the rest follows it
 pub record HasLists (bytes : List ℕ) (parts : Parts) (rest : List ℕ) : Type 0 where
   pub are_parts : AreParts parts
   pub text : bytes ≡ lists_text parts ++ rest
 
--- the parts that are lent
+-- what a state text lists, as a value, of what is lent
 abbrev pub parts_of : Lists → Parts
 parts_of (lists.Parted origin notes pairs entries) =
     Parted origin.now (map (λ x. x.now) notes.items) (map (λ x. x.now) pairs.items)
@@ -39,7 +39,7 @@ parts_of (lists.Parted origin notes pairs entries) =
 parts_of (lists.Tagged origin notes strings) =
     Tagged origin.now (map (λ x. x.now) notes.items) (map (λ x. x.now) strings.items)
 
--- what the reader of the lists answers
+-- what each answer of the reader of the lists says of the bytes
 abbrev pub FindsLists : List ℕ → Result (Parts × List ℕ) PartsFault → Type 0
 FindsLists bytes (Ok found) = HasBody bytes found.0 found.1
 FindsLists bytes (Err StateMagic) = HasMagic bytes → ⊥
@@ -49,7 +49,8 @@ FindsLists bytes (Err StateLong) = ⊥
 FindsLists bytes (Err StateDigest) = ⊥
 FindsLists bytes (Err OutOfMemory) = Unit {0}
 
--- what follows the lists is the digest of the body before it, and no more
+-- what each answer of judging the end of a state text says: what follows the lists is the digest of
+-- the body before it, and no more
 abbrev pub EndsAs : List ℕ → List ℕ → Result (Unit {0}) PartsFault → Type 0
 EndsAs body end (Ok x) = end ≡ sha256 body
 EndsAs body end (Err StateMagic) = ⊥

@@ -58,7 +58,7 @@ pub record IsText (bytes : List ℕ) (parts : Parts) : Type 0 where
   pub are_parts : AreParts parts
   pub text : bytes ≡ body_text parts ++ sha256 (body_text parts)
 
--- StateText(V): version 2 of what the view holds, each list rising by bytes
+-- the bytes are the state text of the view in version 2, each list rising by bytes
 pub record StateText (v : View) (bytes : List ℕ) : Type 0 where
   pub notes : List (List ℕ)
   pub pairs : List (List ℕ)
@@ -70,7 +70,7 @@ pub record StateText (v : View) (bytes : List ℕ) : Type 0 where
   pub entries_rise : IsStrictlySortedBy (slice_cmp nat_cmp) entries
   pub entries_are : (entry : List ℕ) → Contains entries entry ↔ Has v.strings (0 ∷ entry)
 
--- OldStateText(V): version 1, whose strings have their tags
+-- the bytes are a state text of the view in version 1, whose strings have their tags
 pub record OldStateText (v : View) (bytes : List ℕ) : Type 0 where
   pub notes : List (List ℕ)
   pub strings : List (List ℕ)

@@ -47,7 +47,7 @@ pub enum LoadFault {
 /// A full disk, for example, is a `WriteFault`.
 #[derive(Debug, Drop, PartialEq, Eq, Clone, Copy, Error)]
 pub enum SaveFault {
-    /// A write failed, or took no byte. A front of the text was written.
+    /// A write failed, or took no byte. A prefix of the text was written.
     #[error("WriteFault")]
     WriteFault,
     /// Memory was refused.

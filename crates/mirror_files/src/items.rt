@@ -16,7 +16,7 @@ pub enum Form {
     Hashes,
 }
 
-// The item at the front, and the bytes behind it.
+// The item at the start, and the bytes behind it.
 pub(crate) fn item_at(form: Form, bytes: &[u8]) -> Option<(&[u8], &[u8])>
     ensures found { IfSome result (λ x. IsItem form x.0.now × (bytes.now ≡ item_text form x.0.now ++ x.1.now)) }
     ensures none { IfNone result ((item rest : List ℕ) → IsItem form item → bytes.now ≡ item_text form item ++ rest → ⊥) }
@@ -68,7 +68,7 @@ fn hashes_at(bytes: &[u8]) -> Option<(&[u8], &[u8])>
     Some(bytes.split_at(64))
 }
 
-// So many items at the front, and the bytes behind them.
+// So many items at the start, and the bytes behind them.
 fn items_at(
     alloc: Global,
     form: Form,
@@ -90,7 +90,7 @@ fn items_at(
     Ok(Some((items, rest)))
 }
 
-// The list at the front, and the bytes behind it.
+// The list at the start, and the bytes behind it.
 pub(crate) fn list_at(
     alloc: Global,
     form: Form,

@@ -61,7 +61,7 @@ impl<'a> Lists<'a> {
     }
 }
 
-// The lists of version 2 at the front, and the bytes behind them.
+// The lists of version 2 at the start, and the bytes behind them.
 pub(crate) fn parted_at(
     alloc: Global,
     bytes: &[u8],
@@ -85,7 +85,7 @@ pub(crate) fn parted_at(
     Ok(Some((Lists::Parted(origin, notes, pairs, entries), rest)))
 }
 
-// The lists of version 1 at the front, and the bytes behind them.
+// The lists of version 1 at the start, and the bytes behind them.
 pub(crate) fn tagged_at(
     alloc: Global,
     bytes: &[u8],

@@ -26,7 +26,7 @@ use tlog_mirror::Mirror;
 /// # Errors
 ///
 /// `OutOfMemory` where memory was refused: nothing was written. `WriteFault` where a write failed or took no byte: a
-/// front of the text was written.
+/// prefix of the text was written.
 pub fn save<H: TreeHash, W: Write>(
     alloc: Global,
     mirror: &Mirror<H>,

@@ -12,12 +12,12 @@ use Rattle.mirror_folders.specs.Files.{kind_paths, tiles_below, tile_paths}
 use Rattle.mirror_folders.specs.declared.files.FileKind.TheVariants.{Tiles}
 use Rattle.mirror_folders.proofs.Fronts.{files_then, files_more, files_front}
 
--- the first list is a front of the second
+-- the first list is a prefix of the second
 pub record IsFrontOf (xs ys : List Path) : Type 0 where
   pub rest : List Path
   pub is : ys ≡ xs ++ rest
 
--- those of the first indices
+-- the paths of the first indices
 abbrev pub first_paths : (ℕ → Path) → ℕ → List Path
 first_paths at count = map at (range_with_len 0 count)
 
@@ -30,7 +30,7 @@ first_front at low high le = record {
   is = sym (take-append-drop low (first_paths at high)) ∙ ap (λ (xs : List Path). xs ++ drop low (first_paths at high)) (take-map-range_with_len at 0 high low le);
 }
 
--- the tiles of fewer levels are a front of those of more
+-- the tiles of fewer levels are a prefix of those of more
 tiles_front : (n low high : ℕ) → low ≤ high → IsFrontOf (tiles_below n low) (tiles_below n high)
 tiles_front n low zero le = let none : low ≡ 0 = omega arith in record { rest = []; is = ap (tiles_below n) (sym none) ∙ sym (append-nil (tiles_below n low)) }
 tiles_front n low (suc high) le = elim (cases_lt high low) [

@@ -12,19 +12,20 @@ use Rattle.mirror_folders.specs.declared.fault.ExportFault.{ExportFault}
 use Rattle.mirror_folders.specs.declared.fault.ExportFault.TheVariants.{NothingComplete, ShelfInUse}
 use Rattle.mirror_folders.specs.declared.fault.ExportFault.TheVariants.{ShelfFault, OutOfMemory}
 
--- a front of the files was put, that is not all of them
+-- the first of the files were put, and not all of them
 pub record AddsFront (old new : Option (List Put)) (files : List Put) : Type 0 where
   pub count : ℕ
   pub short : count < length files
   pub told : AddsTold old new (take count files)
 
--- what a call that puts files added, by its answer: at Ok all of them, and else a front of them
+-- what a call that puts files added, by its answer: at Ok all of them, and else the first of them
 abbrev pub AddsFiles : {T E : Type 0} → Option (List Put) → Option (List Put) → List Put →
     Result T E → Type 0
 AddsFiles old new files (Ok x) = AddsTold old new files
 AddsFiles old new files (Err e) = AddsFront old new files
 
--- at a moment of a call that puts one after the other, so much was put, and the rest came later
+-- at a moment of a call that puts one file after the other, so much was put, and the rest came
+-- later
 pub record IsMoment (old new now : List Put) : Type 0 where
   pub so_far : List Put
   pub later : List Put
@@ -39,8 +40,8 @@ module _ (digest : List ℕ → List ℕ) where
     pub free : TellsNone old Checkpoint
     pub told : AddsTold old new files
 
-  -- a front of the files of what is served was put, not all of them, and none where the shelf had a
-  -- checkpoint
+  -- of the files of what is served the first were put, not all of them, and none where the shelf
+  -- had a checkpoint
   pub record PutsFront (v : View) (old new : Option (List Put)) : Type 0 where
     pub files : List Put
     pub are_served : IsServedFiles digest v files
@@ -56,7 +57,8 @@ module _ (digest : List ℕ → List ℕ) where
   Exports v old new (Err ShelfFault) = PutsFront v old new
   Exports v old new (Err OutOfMemory) = PutsFront v old new
 
-  -- the checkpoint that is served stands there, and every tile and bundle of it, with true bytes
+  -- the checkpoint that is served stands on the shelf, and every tile and bundle of it, with true
+  -- bytes
   pub record StandsWhole (v : View) (puts : List Put) : Type 0 where
     pub note : List ℕ
     pub size : ℕ
@@ -66,8 +68,8 @@ module _ (digest : List ℕ → List ℕ) where
     pub stands : (path : Path) → Contains (paths_of size) path →
         Stands puts path (served_bytes digest note entries path)
 
-  -- after each put a shelf that had no checkpoint has one only if every tile and bundle of it
-  -- stands there with true bytes
+  -- the checkpoint comes last: after each put a shelf that had none has one only if every tile and
+  -- bundle of it stands there with true bytes
   abbrev pub CheckpointIsLast : View → Option (List Put) → Option (List Put) → Type 0
   CheckpointIsLast v None new = Unit {0}
   CheckpointIsLast v (Some old) None = ⊥
@@ -75,7 +77,8 @@ module _ (digest : List ℕ → List ℕ) where
       (HasPut old Checkpoint → ⊥) → (now : List Put) → IsMoment old new now →
       HasPut now Checkpoint → StandsWhole v now
 
--- the shelf is blamed only where its count of failures rose, or stands at its last value
+-- an export blames its shelf only where the shelf's count of failures rose, or stands at its last
+-- value
 abbrev pub CountsExport : {T : Type 0} → ℕ → ℕ → Result T ExportFault → Type 0
 CountsExport old new (Ok x) = new ≡ old
 CountsExport old new (Err NothingComplete) = new ≡ old

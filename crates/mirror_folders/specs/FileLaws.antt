@@ -5,7 +5,8 @@ use Rattle.tlog_tiles.specs.declared.paths.Path.TheVariants.{Checkpoint, Tile, E
 use Rattle.tlog_tiles.specs.Tiles.{IsTileWithin}
 use Rattle.mirror_folders.specs.Files.{paths_of}
 
--- all that n entries give of a place, up to 256 hashes: so many are within them, and no more
+-- the width is the widest of its place among n entries: so many hashes of up to 256 are within
+-- them, and no more
 pub record IsWidestIn (n level index width : ℕ) : Type 0 where
   pub within : IsTileWithin n level index width
   pub widest : (wider : ℕ) → width < wider → IsTileWithin n level index wider → ⊥
@@ -16,7 +17,7 @@ IsFileOf n Checkpoint = Unit {0}
 IsFileOf n (Tile level index width) = IsWidestIn n level index width
 IsFileOf n (Entries index width) = IsWidestIn n 0 index width
 
--- the list has the checkpoint, and of each place that has a tile or a bundle the widest, and
--- nothing else
+-- a log's list of files has the checkpoint, and of each place that has a tile or a bundle the
+-- widest, and nothing else
 abbrev pub FilesAreAll : Type 0
 FilesAreAll = (n : ℕ) (path : Path) → Contains (paths_of n) path ↔ IsFileOf n path

@@ -75,6 +75,6 @@ module _ (digest : List ℕ → List ℕ) where
     pub served : Served digest v note size root entries
     pub files_are : files ≡ files_at note entries (paths_of size)
 
-  -- Files(V): those of what is served, and none where nothing is
+  -- the files of a view: those of what is served, and none where nothing is
   abbrev pub IsFiles : View → List Put → Type 0
   IsFiles v files = IsServedFiles v files ⊎ (ServesNothing digest v × (files ≡ []))

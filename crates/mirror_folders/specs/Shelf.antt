@@ -6,7 +6,7 @@ use Rattle.log_sources.specs.Told.{KeepsTold, AddsTold, one_more}
 use Rattle.mirror_folders.specs.declared.shelf.ShelfError.{ShelfError}
 use Rattle.mirror_folders.specs.declared.shelf.ShelfError.TheVariants.{Failed, OutOfMemory}
 
--- a path, and the bytes that were put there
+-- one put onto a shelf: a path, and the bytes that were put there
 abbrev pub Put : Type 0
 Put = Path × List ℕ
 
@@ -14,7 +14,7 @@ Put = Path × List ℕ
 abbrev pub HasPut : List Put → Path → Type 0
 HasPut puts path = Contains (map (λ put. put.0) puts) path
 
--- the bytes were put at the path, and no others after them: they are what stands there
+-- the bytes stand at the path: they were put there, and no others after them
 pub record Stands (puts : List Put) (path : Path) (bytes : List ℕ) : Type 0 where
   pub before : List Put
   pub after : List Put
@@ -27,7 +27,7 @@ abbrev pub TellsPut : {T : Type 0} → Option (List Put) → Option (List Put) �
 TellsPut old new put (Ok x) = AddsTold old new (put ∷ [])
 TellsPut old new put (Err e) = KeepsTold old new
 
--- whether something was put at the path
+-- the answer tells whether something was put at the path
 abbrev pub TellsHas : Option (List Put) → Path → Bool → Type 0
 TellsHas None path answer = Unit {0}
 TellsHas (Some puts) path answer = IsTrue answer ↔ HasPut puts path
@@ -42,12 +42,12 @@ abbrev pub TellsSome : Option (List Put) → Path → Type 0
 TellsSome None path = Unit {0}
 TellsSome (Some puts) path = HasPut puts path
 
--- each failure counts once, and want of memory is none
+-- the shelf's count of failures rises by one at each failure, and want of memory is none
 abbrev pub CountsError : ℕ → ℕ → ShelfError → Type 0
 CountsError old new Failed = new ≡ one_more old
 CountsError old new OutOfMemory = new ≡ old
 
--- a call that answers an error counts it as a failure, one that answers Ok counts none
+-- a call that answers an error counts it as a failure, and one that answers Ok counts none
 abbrev pub CountsFailures : {T : Type 0} → ℕ → ℕ → Result T ShelfError → Type 0
 CountsFailures old new (Ok x) = new ≡ old
 CountsFailures old new (Err e) = CountsError old new e

@@ -8,7 +8,7 @@ use Rattle.log_sources.specs.declared.source.SourceFault.TheVariants.{Failed, Ou
 use Rattle.mirror_http.specs.Source.{Receives}
 use Rattle.mirror_http.specs.declared.limits.TheConstants.{MOST_TAKEN}
 
--- nothing is a front of the bytes
+-- nothing is a prefix of the bytes
 pub appends_none : (c : Option (List ℕ)) (bytes : List ℕ) → AppendsFront c c bytes
 appends_none None bytes = (0, tt)
 appends_none (Some xs) bytes = (0, sym (append-nil xs))

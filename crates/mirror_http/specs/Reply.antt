@@ -53,11 +53,11 @@ LengthsAre fields n = All (λ field. IsLengthField field → IsLength field.1 n)
 abbrev pub GivesNoLength : List Field → Type 0
 GivesNoLength fields = All (λ field. IsLengthField field → ⊥) fields
 
--- some do, and all of these give n
+-- some fields give a length, and all of these give n
 abbrev pub GivesLength : List Field → ℕ → Type 0
 GivesLength fields n = Any IsLengthField fields × LengthsAre fields n
 
--- some value is no length, or two are different ones
+-- some value of a field that gives a length is none, or two are different ones
 abbrev pub HasUnclearLength : List Field → Type 0
 HasUnclearLength fields = (n : ℕ) → LengthsAre fields n → ⊥
 
@@ -67,19 +67,20 @@ IsUncoded fields = All (λ field. IsCoding field → ⊥) fields
 
 -- ---- replies
 
--- the bytes are a head of at most 64 fields, within the first 8,192 bytes, and what follows it
+-- the bytes begin with a head of at most 64 fields, within the first 8,192 bytes, and the rest
+-- follows it
 pub record HasReply (bytes : List ℕ) (h : ResponseHead) (rest : List ℕ) : Type 0 where
   pub after : List ℕ
   pub reads : ReadsResponse (take MAX_HEAD_LEN bytes) h after
   pub few : length h.fields ≤ MAX_FIELDS
   pub rest_is : rest ≡ after ++ drop MAX_HEAD_LEN bytes
 
--- a status of success, and a body as it is
+-- the reply is of success, and its body is in no coding
 pub record IsPlain (status : ℕ) (fields : List Field) : Type 0 where
   pub success : status ≡ 200
   pub uncoded : IsUncoded fields
 
--- not found, or gone
+-- the status says that the file is not found, or gone
 abbrev pub IsNotFound : ℕ → Type 0
 IsNotFound status = (status ≡ 404) ⊎ (status ≡ 410)
 

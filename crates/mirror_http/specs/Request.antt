@@ -12,18 +12,20 @@ line_end = 13 ∷ 10 ∷ []
 abbrev pub target : Place → Path → List ℕ
 target site path = site.prefix ++ slash ∷ path_text path
 
--- the lines of the request, without what ends them
+-- the first line of the request, without what ends it
 abbrev pub request_line : Place → Path → List ℕ
 request_line site path = codes "GET " ++ (target site path ++ codes " HTTP/1.0")
 
+-- the field that names the host, without what ends its line
 abbrev pub host_line : Place → List ℕ
 host_line site = codes "Host: " ++ site.host
 
--- a line and what ends it
+-- a line of the request with what ends it
 abbrev pub field_line : List ℕ → List ℕ
 field_line line = line ++ line_end
 
--- the fields that follow, and the empty line: the file as it is, on a connection of its own
+-- the fields behind that of the host, and the empty line: the file is asked for as it is, on a
+-- connection of its own
 abbrev pub fields_after_host : List ℕ
 fields_after_host =
     field_line (codes "Accept-Encoding: identity")

@@ -6,7 +6,7 @@ use Rattle.mirror_http.specs.declared.limits.TheConstants.{MAX_HOST_LEN, MAX_PRE
 use Rattle.mirror_http.specs.declared.fault.SiteFault.{SiteFault}
 use Rattle.mirror_http.specs.declared.fault.SiteFault.TheVariants.{BadHost, BadPrefix, OutOfMemory}
 
--- a host and a prefix
+-- where a log's files stand: a host, and a prefix of paths
 pub record Place : Type 0 where
   pub host : List ℕ
   pub prefix : List ℕ
@@ -19,7 +19,7 @@ slash = 47
 abbrev pub is_visible : ℕ → Bool
 is_visible c = nat_le 0x21 c && nat_le c 0x7e
 
--- a host: not empty, of visible characters
+-- the bytes are a host: some, at most as many as a host may have, all visible
 pub record IsHost (host : List ℕ) : Type 0 where
   pub some : 1 ≤ length host
   pub short : length host ≤ MAX_HOST_LEN
@@ -30,13 +30,13 @@ pub record StandsBetweenSlashes (text : List ℕ) : Type 0 where
   pub begins : (rest : List ℕ) × (text ≡ slash ∷ rest)
   pub ends : (front : List ℕ) → text ≢ front ++ slash ∷ []
 
--- a prefix that is not empty
+-- the bytes are a prefix of paths that is not empty
 pub record IsSomePrefix (prefix : List ℕ) : Type 0 where
   pub between : StandsBetweenSlashes prefix
   pub short : length prefix ≤ MAX_PREFIX_LEN
   pub visible : AllPass is_visible prefix
 
--- a prefix, to which a slash and a path are added
+-- the bytes are a prefix of paths, be it empty, to which a slash and a path are added
 abbrev pub IsSitePrefix : List ℕ → Type 0
 IsSitePrefix prefix = (prefix ≡ []) ⊎ IsSomePrefix prefix
 

@@ -37,7 +37,7 @@ impl From<AllocError> for SiteFault {
 /// A reply with the status 500, for example, is `OtherStatus(500)`.
 #[derive(Debug, Drop, PartialEq, Eq, Clone, Copy, Error)]
 pub enum ReplyFault {
-    /// There is no response head of at most 64 fields within the first 8,192 bytes, or the length that
+    /// The reply has no head of at most 64 fields within the first 8,192 bytes, or the length that
     /// the head gives is no number of 64 bits, or it gives two different ones.
     #[error("BadReply")]
     BadReply,

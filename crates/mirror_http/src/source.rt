@@ -32,7 +32,7 @@ pub trait Dial {
 ///
 /// # Errors
 ///
-/// `Failed` where a write fails or takes no byte: a front of the request was written. `OutOfMemory` where
+/// `Failed` where a write fails or takes no byte: a prefix of the request was written. `OutOfMemory` where
 /// memory was refused: nothing was written.
 #[tactic(auto, using(crate::proofs::Sources::appends_none))]
 pub fn send_request<W: Write>(

@@ -26,7 +26,7 @@ fn client_requests(rt: HostRuntime) -> Result<(), Fail> {
     Ok(())
 }
 
-// So many letters behind the front.
+// So many letters behind the prefix.
 fn longer(alloc: Global, front: &str, letters: usize) -> Result<String, Fail> {
     let mut text = String::from_str(alloc, front)?;
     for _ in 0..letters {

@@ -1,4 +1,4 @@
--- EdgeRoot of the true edge rows.
+-- The root that the true edge rows lead to.
 use Rattle.std.proofs.Common.{subst, Bool, true, false, ◌≡◌, ℕ, zero, suc, ◌+◌, ◌*◌, ◌/◌, ◌%◌, ◌^◌, ◌<◌, ◌≤◌, List, []}
 use Rattle.std.proofs.Common.{◌∷◌, ◌++◌, length, take, drop, sym, refl, ap, ◌∙◌, arith, length-drop, take-append-drop}
 use Rattle.std.proofs.Common.{map}

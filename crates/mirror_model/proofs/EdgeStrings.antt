@@ -1,4 +1,4 @@
--- EdgeStrings of the true edge rows.
+-- The strings of the true edge rows.
 use Rattle.std.proofs.Common.{subst, Bool, true, false, inl, inr, ◌⊎◌, ◌≡◌, ℕ, zero, suc, ◌+◌, ◌-◌, ◌*◌, ◌/◌, ◌%◌, ◌^◌}
 use Rattle.std.proofs.Common.{◌<◌, ◌≤◌, List, [], ◌∷◌, ◌++◌, length, take, drop, map, sym, refl, ap, ◌∙◌, arith}
 use Rattle.std.proofs.Common.{length-take, length-drop}
@@ -177,7 +177,7 @@ module _ (digest : List ℕ → List ℕ) (es : List (List ℕ)) where
       (λ m. all_strings levels (level + 1) m y) (λ m. rest_strings levels (level + 1) m y))
       (first_or_later level levels y)
 
-  -- EdgeStrings are exactly the strings of the nodes at the ends of the levels
+  -- the strings of the edge are exactly those of the nodes at the ends of the levels
   pub edge_strings_are : (y : List ℕ) → Contains (edge_strings digest (edge_rows digest es)) y ↔ HasEdgeNode 0 8 y
   edge_strings_are y =
       subst (λ rows. Contains (edge_strings digest rows) y ↔ HasEdgeNode 0 8 y) (sym (edge_rows-levels digest es))
@@ -193,7 +193,7 @@ module _ (digest : List ℕ → List ℕ) (es : List (List ℕ)) where
       subst (Contains (strings digest es)) n.string_is (string_of_node digest es 0 n.node n.is)
 
   -- a node of more than 256^level entries, and no more than 256^(level + 1), is in a full tile's range, or its
-  -- string is one of EdgeStrings
+  -- string is one of the edge
   pub record IsInFullTile (level : ℕ) (x : Node) : Type 0 where
     pub index : ℕ
     pub full : (index + 1) * 256 ^ (level + 1) ≤ length es

@@ -168,7 +168,7 @@ module _ (digest : List ℕ → List ℕ) (held : Strings) where
         }
       ]
 
-  -- Front is empty exactly where Tree(E) is held
+  -- the front is empty exactly where all strings of the tree are held
   pub front_empty : (es : List (List ℕ)) → length es ≤ 256 ^ 8 →
       ((p : Path) → IsFront digest held es p → ⊥) ↔ HoldsAll held (strings digest es)
   front_empty es small = (

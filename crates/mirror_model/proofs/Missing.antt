@@ -112,7 +112,7 @@ module _ (P : List ℕ → Type 0) (test : (s : List ℕ) → P s ⊎ (P s → �
         ]
       ]
 
-  -- the same in a set
+  -- the set has a string with the property
   pub record HasOne (held : Strings) : Type 0 where
     pub string : List ℕ
     pub has : Has held string

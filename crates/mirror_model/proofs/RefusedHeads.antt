@@ -44,7 +44,7 @@ same_note_fault bytes f g p q =
     note.one_answer bytes one other (λ e. p.has_memory (cc e)) (λ e. q.has_memory (cc e)) p.refused q.refused in
     cc same
 
--- and likewise of texts
+-- a text that is refused is no checkpoint
 no_checkpoint : (text : List ℕ) (c : Checkpoint) (fault : CheckpointFault) → ReadsCheckpoint text (Err fault) →
     fault ≢ reading.OutOfMemory → ReadsCheckpoint text (Ok c) → ⊥
 no_checkpoint text c fault refused memory is =

@@ -61,7 +61,7 @@ module _ (digest : List ℕ → List ℕ) (hash : IsDigest digest) (v : View) (l
             refl;
       }
 
-  -- and nothing else is
+  -- what is served of bundles lies within the entries served
   pub record IsPartServed (index width : ℕ) (bytes : List ℕ) : Type 0 where
     pub some : 1 ≤ width
     pub fits : 256 * index + width ≤ length entries

@@ -6,7 +6,7 @@ use Rattle.mirror_model.specs.declared.fault.TakeFault.TheVariants as taking
 use Rattle.mirror_model.specs.declared.fault.MergeFault.{MergeFault}
 use Rattle.mirror_model.specs.declared.fault.MergeFault.TheVariants as merging
 
--- what the answer of a take is to the views
+-- the kind of a take's answer: done, refused for what the item is, clashed, or out of memory
 abbrev pub answer_of : Result (Unit {0}) TakeFault → Answer
 answer_of (Ok done) = Done
 answer_of (Err (taking.Note fault)) = Refused
@@ -22,7 +22,8 @@ answer_of (Err taking.BundleLong) = Refused
 answer_of (Err taking.Collision) = Clashed
 answer_of (Err taking.OutOfMemory) = Exhausted
 
--- and that of a merge
+-- the kind of a merge's answer: done, refused since the other mirror is of another origin, clashed,
+-- or out of memory
 abbrev pub merge_answer_of : Result (Unit {0}) MergeFault → Answer
 merge_answer_of (Ok done) = Done
 merge_answer_of (Err merging.OtherOrigin) = Refused

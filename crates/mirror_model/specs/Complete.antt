@@ -20,13 +20,13 @@ module _ (digest : List ℕ → List ℕ) where
     pub entries : List (List ℕ)
     pub is : IsTreeOf held size root entries
 
-  -- Complete(V, n, r, E): a note of V has that size and root, and E is a list of that size and root
-  -- whose tree V holds
+  -- a head of that size and root is complete, with these entries: a note of the view has the size
+  -- and the root, and the view holds all that the tree hash of the entries hashes
   pub record Complete (v : View) (size : ℕ) (root : List ℕ) (entries : List (List ℕ)) : Type 0 where
     pub head : HasHead v size root
     pub tree : IsTreeOf v.strings size root entries
 
-  -- Complete(V, n, r, E) for some entries E
+  -- a head of that size and root is complete, whatever its entries are
   pub record IsComplete (v : View) (size : ℕ) (root : List ℕ) : Type 0 where
     pub entries : List (List ℕ)
     pub complete : Complete v size root entries

@@ -18,7 +18,7 @@ all_levels = 0 ∷ 1 ∷ 2 ∷ 3 ∷ 4 ∷ 5 ∷ 6 ∷ 7 ∷ []
 unfoldable pub edge_levels : ℕ → List ℕ
 edge_levels size = filter (λ level. not (width_of size level == 0)) all_levels
 
--- the widths of these tiles
+-- the widths of the partial tiles of a size, lowest level first: of 70,000 entries 112, 17 and 1
 abbrev pub edge_widths : ℕ → List ℕ
 edge_widths size = map (width_of size) (edge_levels size)
 
@@ -38,18 +38,19 @@ module _ (digest : List ℕ → List ℕ) where
   root_from value [] = value
   root_from value (row ∷ rows) = root_from (fold_of digest (row ++ value ∷ [])) rows
 
-  -- EdgeRoot(rows): the rows lowest level first; the digest of no bytes for no rows
+  -- the root that edge rows lead to, lowest level first; the digest of no bytes for no rows
   abbrev pub edge_root : List (List (List ℕ)) → List ℕ
   edge_root [] = digest []
   edge_root (row ∷ rows) = root_from (fold_of digest row) rows
 
-  -- the strings that are hashed on the way
+  -- the strings that root_from hashes on the way from a value through rows
   abbrev pub strings_from : List ℕ → List (List (List ℕ)) → List (List ℕ)
   strings_from value [] = []
   strings_from value (row ∷ rows) =
       joins digest (row ++ value ∷ []) ++ strings_from (fold_of digest (row ++ value ∷ [])) rows
 
-  -- EdgeStrings(rows): the joins of all rows that EdgeRoot folds
+  -- the strings that edge_root hashes on the way: the joins of each row with the value of the rows
+  -- below behind it
   abbrev pub edge_strings : List (List (List ℕ)) → List (List ℕ)
   edge_strings [] = []
   edge_strings (row ∷ rows) = joins digest row ++ strings_from (fold_of digest row) rows

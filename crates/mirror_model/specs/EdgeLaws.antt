@@ -23,7 +23,8 @@ EdgeIsOne =
     HasAll held (edge_strings digest (map row_of others)) →
     rows ≡ others
 
--- of a complete head of a lawful view it is the true rows of its entries
+-- edge rows of a complete head of a lawful view, where the view holds what they hash, are the true
+-- rows of the head's entries
 abbrev pub LawfulEdgeIsTrue : Type 0
 LawfulEdgeIsTrue =
     (digest : List ℕ → List ℕ) →

@@ -12,7 +12,7 @@ use Rattle.mirror_model.specs.declared.events.Event.TheVariants.{Merge}
 use Rattle.mirror_model.specs.Steps.{Answer, Exhausted, IsBetween, Takes, Merges, Happens}
 use Rattle.mirror_model.specs.RunLaws.{AreLawful}
 
--- want of memory apart, an event has one answer and leaves one view
+-- want of memory apart, a take has one answer and leaves one view
 abbrev pub TakesOnce : Type 0
 TakesOnce =
     (digest : List ℕ → List ℕ) (keys : List Key) (old new other : View) (item : Item)
@@ -21,13 +21,14 @@ TakesOnce =
     b ≢ Exhausted →
     (a ≡ b) × (new ≡ other)
 
+-- want of memory apart, a merge has one answer and leaves one view
 abbrev pub MergesOnce : Type 0
 MergesOnce =
     (digest : List ℕ → List ℕ) (old source new other : View) (a b : Answer) →
     Merges digest old source a new →
     Merges digest old source b other → a ≢ Exhausted → b ≢ Exhausted → (a ≡ b) × (new ≡ other)
 
--- an event that ran out of memory and is done again comes to the same as one event
+-- a take that ran out of memory and is done again comes to the same as one take
 abbrev pub TakesAgain : Type 0
 TakesAgain =
     (digest : List ℕ → List ℕ) (keys : List Key) (old between new : View) (item : Item)
@@ -35,6 +36,7 @@ TakesAgain =
     Takes digest keys old item Exhausted between → Takes digest keys between item answer new →
     Takes digest keys old item answer new
 
+-- a merge that ran out of memory and is done again comes to the same as one merge
 abbrev pub MergesAgain : Type 0
 MergesAgain =
     (digest : List ℕ → List ℕ) (old other between new : View) (answer : Answer) →
@@ -57,20 +59,21 @@ BetweenIsLawful =
 
 -- ---- what each leaves
 
--- old is within new
+-- a take, however it is answered, loses nothing: the old view is within the new one
 abbrev pub TakesGrow : Type 0
 TakesGrow =
     (digest : List ℕ → List ℕ) (keys : List Key) (old new : View) (item : Item) (answer : Answer) →
     Takes digest keys old item answer new →
     IsSubview old new
 
+-- a merge, however it is answered, loses nothing: the old view is within the new one
 abbrev pub MergesGrow : Type 0
 MergesGrow =
     (digest : List ℕ → List ℕ) (old other new : View) (answer : Answer) →
     Merges digest old other answer new →
     IsSubview old new
 
--- lawful stays lawful
+-- a take, however it is answered, leaves a lawful view lawful
 abbrev pub TakesKeepLawful : Type 0
 TakesKeepLawful =
     (digest : List ℕ → List ℕ) →
@@ -80,6 +83,7 @@ TakesKeepLawful =
     Takes digest keys old item answer new →
     IsLawful digest new
 
+-- a merge of two lawful views, however it is answered, leaves a lawful view
 abbrev pub MergesKeepLawful : Type 0
 MergesKeepLawful =
     (digest : List ℕ → List ℕ) (old other new : View) (answer : Answer) →
@@ -97,12 +101,16 @@ pub record IsLeft (digest : List ℕ → List ℕ) (old : View) (Allowed : Type 
   pub not_allowed : (Allowed → ⊥) → new ≡ old
   pub clashing : HasClash digest whole.strings → new ≡ old
 
+-- what a take for which memory was refused leaves: the old view, or one between it and the view
+-- with the item
 abbrev pub TakesLeave : Type 0
 TakesLeave =
     (digest : List ℕ → List ℕ) (keys : List Key) (old new : View) (item : Item) →
     Takes digest keys old item Exhausted new →
     IsLeft digest old (IsGood digest old.origin keys item) (plus digest old item) new
 
+-- what a merge for which memory was refused leaves: the old view, or one between it and the union
+-- of the two
 abbrev pub MergesLeave : Type 0
 MergesLeave =
     (digest : List ℕ → List ℕ) (old other new : View) →
@@ -111,6 +119,7 @@ MergesLeave =
 
 -- ---- the same on a list of mirrors
 
+-- an event at one mirror of a list takes nothing from any mirror's view
 abbrev pub EventGrows : Type 0
 EventGrows =
     (digest : List ℕ → List ℕ) (keys : List Key) (old new : List View) (event : Event)
@@ -121,6 +130,7 @@ EventGrows =
     slice_get new mirror ≡ Some after →
     IsSubview before after
 
+-- an event at one mirror of a list of lawful views leaves all of them lawful
 abbrev pub EventKeepsLawful : Type 0
 EventKeepsLawful =
     (digest : List ℕ → List ℕ) →
@@ -130,6 +140,8 @@ EventKeepsLawful =
     Happens digest keys old event answer new →
     AreLawful digest new
 
+-- want of memory apart, an event at one mirror of a list has one answer, and leaves one list of
+-- views
 abbrev pub EventIsOne : Type 0
 EventIsOne =
     (digest : List ℕ → List ℕ) (keys : List Key) (old new other : List View) (event : Event)
@@ -140,8 +152,8 @@ EventIsOne =
     b ≢ Exhausted →
     (a ≡ b) × (new ≡ other)
 
--- an event that ran out of memory and is done again comes to the same as one event; so does a merge
--- of a mirror with itself
+-- an event that ran out of memory and is done again comes to the same as one event, also where it
+-- merges a mirror with itself
 abbrev pub EventAgain : Type 0
 EventAgain =
     (digest : List ℕ → List ℕ) (keys : List Key) (old between new : List View) (event : Event)
@@ -150,7 +162,7 @@ EventAgain =
     Happens digest keys between event answer new →
     Happens digest keys old event answer new
 
--- such a merge changes nothing
+-- a merge of a mirror with itself changes nothing
 abbrev pub MergeWithItself : Type 0
 MergeWithItself =
     (digest : List ℕ → List ℕ) (keys : List Key) (old new : List View) (mirror : ℕ)

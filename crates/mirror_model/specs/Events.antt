@@ -27,8 +27,8 @@ MergesLead events first source (position ∷ positions) end =
     (target : ℕ) × (first ≤ position) × (slice_get events position ≡ Some (Merge target source))
     × MergesLead events (position + 1) target positions end
 
--- Reaches(x, i, events): at rising positions of the list stand a take of the item, and then merges
--- that lead from its mirror to this one
+-- an item reaches a mirror: at rising positions of the list of events stand a take of the item, and
+-- then merges that lead from its mirror to this one
 pub record Reaches (item : Item) (mirror : ℕ) (events : List Event) : Type 0 where
   pub position : ℕ
   pub target : ℕ

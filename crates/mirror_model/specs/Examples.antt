@@ -57,14 +57,17 @@ pub record HasRoots : Type 0 where
       edge_strings sum_digest ((sum_hash 5 ∷ []) ∷ (sum_hash 7 ∷ []) ∷ [])
       ≡ (1 ∷ sum_hash 7 ++ sum_hash 5) ∷ []
 
--- two lists that the test digest does not tell apart at three entries, and of which neither is a
--- prefix of the other
+-- three entries, whose tree hash under the test digest is that of the first three of large_list
 abbrev pub small_list : List (List ℕ)
 small_list = (1 ∷ []) ∷ (2 ∷ []) ∷ (57 ∷ []) ∷ []
 
+-- four entries, of which the first three have the tree hash of small_list under the test digest,
+-- though they are other entries
 abbrev pub large_list : List (List ℕ)
 large_list = (20 ∷ []) ∷ (30 ∷ []) ∷ (10 ∷ []) ∷ (100 ∷ []) ∷ []
 
+-- the test digest does not tell small_list from the first three of large_list, and yet neither list
+-- is a prefix of the other: forks are told by entries, not by hashes of prefixes
 pub record IsForked : Type 0 where
   pub small_root : mth sum_digest small_list ≡ sum_hash 62
   pub large_root : mth sum_digest large_list ≡ sum_hash 163
@@ -77,11 +80,12 @@ pub record HasParts : Type 0 where
   pub row : row_of [] ≡ []
   pub bundle : entries_of 2 (0 ∷ 0 ∷ 0 ∷ 1 ∷ 0 ∷ []) ≡ take 2 three
 
--- an item that is taken at a mirror reaches another over two merges that follow in this order, and
--- over the same two in the other order it does not
+-- an item of which nothing matters but where it is taken
 abbrev pub some_item : Item
 some_item = item.Tile 1 []
 
+-- an item that is taken at mirror 0 reaches mirror 2 over the merges 1 from 0, then 2 from 1; over
+-- the same two in the other order it does not, nor over a merge before the take
 pub record IsWay : Type 0 where
   pub reaches : Reaches some_item 2 (Take 0 some_item ∷ Merge 1 0 ∷ Merge 2 1 ∷ [])
   pub not_back : Reaches some_item 2 (Take 0 some_item ∷ Merge 2 1 ∷ Merge 1 0 ∷ []) → ⊥

@@ -45,7 +45,8 @@ FullBundlesServe =
     Contains (true_strings digest entries (Entries index 256)) y
     ⊎ Contains (edge_strings digest (edge_rows digest (take size entries))) y
 
--- a path whose true bytes' strings are held is in no front
+-- a path is in no front once all strings that its true bytes give are held, so a path that was
+-- answered is not asked for again
 abbrev pub AnsweredIsNotAgain : Type 0
 AnsweredIsNotAgain =
     (digest : List ℕ → List ℕ) (held : Strings) (entries : List (List ℕ)) →
@@ -90,6 +91,7 @@ pub record IsPlus (digest : List ℕ → List ℕ) (v : View) (item : Item) (y :
   pub note : Has (plus digest v item).notes y → Has v.notes y ⊎ Contains (notes_of item) y
   pub note_held : Has v.notes y ⊎ Contains (notes_of item) y → Has (plus digest v item).notes y
 
+-- a view with an item holds just the strings and the notes of the view, and those of the item
 abbrev pub PlusHolds : Type 0
 PlusHolds =
     (digest : List ℕ → List ℕ) (v : View) (item : Item) (y : List ℕ) → IsPlus digest v item y

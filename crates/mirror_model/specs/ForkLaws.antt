@@ -5,19 +5,19 @@ use Rattle.mirror_model.specs.Strings.{IsDigest}
 use Rattle.mirror_model.specs.Complete.{Complete, IsLawful}
 use Rattle.mirror_model.specs.Forks.{Point, IsPrefix, IsFork}
 
--- a fork stays
+-- two heads that are a fork of a view are one of each view that holds all of it
 abbrev pub ForksStay : Type 0
 ForksStay =
     (digest : List ℕ → List ℕ) (v w : View) → IsSubview v w → (a b : Point) → IsFork digest v a b →
     IsFork digest w a b
 
--- either way round it is the same fork
+-- where two heads are a fork, they are one in the other order too
 abbrev pub ForkIsUnordered : Type 0
 ForkIsUnordered =
     (digest : List ℕ → List ℕ) (v : View) (a b : Point) → IsFork digest v a b → IsFork digest v b a
 
--- of two complete heads that differ a fork is made exactly where neither list is a prefix of the
--- other
+-- two complete heads that differ are a fork exactly where neither list of entries is a prefix of
+-- the other
 abbrev pub ForkMeansNoPrefix : Type 0
 ForkMeansNoPrefix =
     (digest : List ℕ → List ℕ) → IsDigest digest → (v : View) → IsLawful digest v →

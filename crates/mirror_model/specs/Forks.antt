@@ -7,22 +7,22 @@ use Rattle.mirror_model.specs.View.{View}
 use Rattle.mirror_model.specs.Heads.{HasHead}
 use Rattle.mirror_model.specs.Complete.{Complete}
 
--- the first list begins the second
+-- the first list of entries begins the second
 pub record IsPrefix (first second : List (List ℕ)) : Type 0 where
   pub rest : List (List ℕ)
   pub is : first ++ rest ≡ second
 
--- a size and a root
+-- a size and a root, without the note that says them
 pub record Point : Type 0 where
   pub size : ℕ
   pub root : List ℕ
 
--- by size, and then by the root's bytes
+-- the order of heads: by size, and then by the root's bytes
 abbrev pub point_cmp : Point → Point → Ordering
 point_cmp a b = ordering_then (nat_cmp a.size b.size) (slice_cmp nat_cmp a.root b.root)
 
 module _ (digest : List ℕ → List ℕ) where
-  -- both are complete, and neither list of entries is a prefix of the other
+  -- two heads are both complete, and neither list of entries is a prefix of the other
   pub record Disagree (v : View) (a b : Point) : Type 0 where
     pub first : List (List ℕ)
     pub second : List (List ℕ)
@@ -31,7 +31,8 @@ module _ (digest : List ℕ → List ℕ) where
     pub not_prefix : IsPrefix first second → ⊥
     pub not_extension : IsPrefix second first → ⊥
 
-  -- Forks(V): two heads of V that differ, and have equal sizes or disagree
+  -- two heads of the view are a fork: they differ, and have equal sizes or disagree in their
+  -- entries
   pub record IsFork (v : View) (a b : Point) : Type 0 where
     pub first_held : HasHead v a.size a.root
     pub second_held : HasHead v b.size b.root

@@ -12,7 +12,8 @@ use Rattle.node_store.specs.Strings.{Strings, Has}
 use Rattle.tlog_hash.specs.Tree.{Tree, Empty, One, Join, tree_of, size_of}
 use Rattle.tlog_hash.specs.Nodes.{Node, IsThis, entries_root}
 
--- tiles by falling level and rising index, then bundles by rising index
+-- the order in which paths are asked for: tiles by falling level and rising index, then bundles by
+-- rising index
 abbrev pub path_cmp : Path → Path → Ordering
 path_cmp (Tile level index width) (Tile l i w) =
     ordering_then (nat_cmp l level) (ordering_then (nat_cmp index i) (nat_cmp width w))
@@ -60,7 +61,8 @@ module _ (digest : List ℕ → List ℕ) (held : Strings) where
       ⊎ (Has held (1 ∷ entries_root digest l ++ entries_root digest r)
       × (InFront l start x ⊎ InFront r (start + size_of l) x))
 
-  -- Front(V, E) has the path: it is that of such a node of the tree of E
+  -- the path is in the front of a list of entries: it has the strings of a node of their tree that
+  -- is in the front
   pub record IsFront (entries : List (List ℕ)) (path : Path) : Type 0 where
     pub node : Node
     pub is : InFront (tree_of entries) 0 node

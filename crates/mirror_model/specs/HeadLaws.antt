@@ -2,7 +2,7 @@
 use Rattle.std.specs.Prelude.{◌≡◌, ℕ, List}
 use Rattle.mirror_model.specs.Heads.{IsHead}
 
--- the same origin, size and root
+-- two heads have the same origin, size and root
 pub record IsSameHead (origin origin' : List ℕ) (size size' : ℕ) (root root' : List ℕ)
     : Type 0 where
   pub origin_is : origin ≡ origin'

@@ -92,7 +92,7 @@ module _ (digest : List ℕ → List ℕ) (origin : List ℕ) (keys : List Key) 
       ReachedAlike opened opened' (events_in plays) (events_in plays') mirror mirror' →
       v ≡ w
 
-  -- while no two different strings met share a digest, no event is answered by a clash
+  -- while no two different strings met share a digest, no event of any play is answered by a clash
   abbrev pub NoPlayClashes : Type 0
   NoPlayClashes =
       (opened : List View) (plays : List Play) (mirror : ℕ) (v : View) →
@@ -115,9 +115,9 @@ module _ (digest : List ℕ → List ℕ) (origin : List ℕ) (keys : List Key) 
 
 -- ---- what they tell
 
--- the checkpoint served is of the length and the tree hash of exactly the entries served; and two
--- complete heads that differ are a fork exactly where neither list of entries is a prefix of the
--- other
+-- what a view tells is true: the checkpoint served is of the length and the tree hash of exactly
+-- the entries served; and two complete heads that differ are a fork exactly where neither list of
+-- entries is a prefix of the other
 pub record IsTruthful (digest : List ℕ → List ℕ) (v : View) : Type 0 where
   pub served :
       (note : List ℕ) (size : ℕ) (root : List ℕ) (entries : List (List ℕ)) →
@@ -130,7 +130,8 @@ pub record IsTruthful (digest : List ℕ → List ℕ) (v : View) : Type 0 where
       Complete digest v b.size b.root second →
       IsFork digest v a b ↔ ((IsPrefix first second → ⊥) × (IsPrefix second first → ⊥))
 
--- after any plays from lawful views; strings that share a digest change nothing of it
+-- what a view tells is true after any plays from lawful views; strings that share a digest change
+-- nothing of it
 abbrev pub PlaysTellTruth : Type 0
 PlaysTellTruth =
     (digest : List ℕ → List ℕ) →
@@ -142,8 +143,8 @@ PlaysTellTruth =
     slice_get final mirror ≡ Some v →
     IsTruthful digest v
 
--- what was complete is complete with the same entries, and with no others; a fork that was reported
--- is reported
+-- of the views before and after: what was complete is complete with the same entries, and with no
+-- others; a fork that was reported is reported
 pub record HasGrown (digest : List ℕ → List ℕ) (before after : View) : Type 0 where
   pub stays :
       (size : ℕ) (root : List ℕ) (entries : List (List ℕ)) →
@@ -156,6 +157,8 @@ pub record HasGrown (digest : List ℕ → List ℕ) (before after : View) : Typ
       entries ≡ others
   pub forks : (a b : Point) → IsFork digest before a b → IsFork digest after a b
 
+-- from lawful views, after any plays, each mirror's view has grown: what was complete stays so,
+-- with the same entries, and each fork stays
 abbrev pub PlaysGrow : Type 0
 PlaysGrow =
     (digest : List ℕ → List ℕ) →
@@ -197,6 +200,8 @@ PartIsPlayed =
     (new : List View) × Run digest keys whole (map (placed place) events) answers new
     × LeavesRest place after whole new
 
+-- a play of some mirrors in which each event for which memory was refused is done again is such a
+-- play of all of them
 abbrev pub PartIsRetried : Type 0
 PartIsRetried =
     (place : ℕ → ℕ) (events : List Event) (answers : List Answer) →

@@ -14,7 +14,7 @@ use Rattle.mirror_model.specs.View.{View}
 use Rattle.mirror_model.specs.Edge.{edge_widths, edge_root, edge_strings}
 use Rattle.mirror_model.specs.Heads.{IsOpenHead}
 
--- the hashes of a row: 32 bytes each, one after the other
+-- the hashes of a row's bytes: 32 bytes each, one after the other
 abbrev pub row_of : List ℕ → List (List ℕ)
 row_of bytes = ranges 32 0 (length bytes / 32) bytes
 
@@ -28,7 +28,7 @@ entries_of (suc width) (high ∷ low ∷ rest) =
     let len =
     from_be_bytes w16 (high ∷ low ∷ []) in take len rest ∷ entries_of width (drop len rest)
 
--- the widths of tiles and bundles
+-- a tile or a bundle may be so wide: from 1 to 256
 pub record IsWidth (width : ℕ) : Type 0 where
   pub some : 1 ≤ width
   pub most : width ≤ 256
@@ -64,19 +64,20 @@ module _ (digest : List ℕ → List ℕ) where
     pub is_head : IsOpenHead note origin keys size root
     pub has_edge : HasEdgeRows size root rows
 
-  -- Good(item, origin, keys), which names no state
+  -- an item is good, so that a mirror of that origin may take it under these keys, whatever it
+  -- holds
   abbrev pub IsGood : List ℕ → List Key → Item → Type 0
   IsGood origin keys (Head note edge) = IsGoodHead origin keys note edge
   IsGood origin keys (Tile width bytes) = IsGoodTile width bytes
   IsGood origin keys (Bundle width bytes) = IsGoodBundle width bytes
 
-  -- Strings(item): what its hashing hashes
+  -- the strings of an item: what its hashing hashes
   abbrev pub strings_of : Item → List (List ℕ)
   strings_of (Head note edge) = edge_strings digest (map row_of edge)
   strings_of (Tile width bytes) = joins digest (row_of bytes)
   strings_of (Bundle width bytes) = strings digest (entries_of width bytes)
 
-  -- V + item
+  -- a view with an item: the item's note and strings are added
   abbrev pub plus : View → Item → View
   plus v item =
       record {

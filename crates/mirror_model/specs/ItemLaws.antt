@@ -4,11 +4,12 @@ use Rattle.tlog_tiles.specs.Bundle.{IsBundle}
 use Rattle.tlog_tiles.specs.Row.{IsRow}
 use Rattle.mirror_model.specs.Item.{row_of, entries_of}
 
--- the hashes of bytes that are a row are the row
+-- bytes of the right length are a row, whose hashes are those of row_of
 abbrev pub RowOfIsRow : Type 0
 RowOfIsRow =
     (width : ℕ) (bytes : List ℕ) → length bytes ≡ 32 * width → IsRow width bytes (row_of bytes)
 
+-- the hashes of a row are those of row_of, so bytes are one row at most
 abbrev pub RowIsRowOf : Type 0
 RowIsRowOf =
     (width : ℕ) (bytes : List ℕ) (row : List (List ℕ)) → IsRow width bytes row → row ≡ row_of bytes

@@ -14,8 +14,7 @@ use Rattle.mirror_model.specs.Complete.{HasEdgeOf, IsLawful}
 abbrev pub NothingIsLawful : Type 0
 NothingIsLawful = (digest : List ℕ → List ℕ) (origin : List ℕ) → IsLawful digest (nothing origin)
 
--- a good item, or a lawful view of the same origin, leaves a lawful view lawful where nothing
--- clashes
+-- a lawful view with a good item is lawful where nothing clashes
 abbrev pub PlusIsLawful : Type 0
 PlusIsLawful =
     (digest : List ℕ → List ℕ) → IsDigest digest → (keys : List Key) (v : View) (item : Item) →
@@ -23,6 +22,7 @@ PlusIsLawful =
     IsGood digest v.origin keys item → NoClash digest (plus digest v item).strings →
     IsLawful digest (plus digest v item)
 
+-- the union of two lawful views of one origin is lawful where nothing clashes
 abbrev pub UnionIsLawful : Type 0
 UnionIsLawful =
     (digest : List ℕ → List ℕ) (v w : View) → IsLawful digest v → IsLawful digest w →

@@ -5,7 +5,7 @@ use Rattle.mirror_model.specs.Complete.{Complete}
 use Rattle.mirror_model.specs.Forks.{Point}
 use Rattle.mirror_model.specs.Marks.{IsMark}
 
--- what may be remembered stays so, as a view grows
+-- what may be remembered of a view may be remembered of each view that holds all of it
 abbrev pub MarksStay : Type 0
 MarksStay =
     (digest : List ℕ → List ℕ) (v w : View) → IsSubview v w → (point : Point) →

@@ -11,8 +11,9 @@ use Rattle.mirror_model.specs.View.{View, view_code}
 use Rattle.mirror_model.specs.Complete.{Complete, IsLawful}
 use Rattle.mirror_model.specs.Forks.{Point, point_cmp}
 
--- Marks(V): the number of entries and the tree hash of each slice that the recursion of MTH (RFC
--- 6962, section 2.1) meets on the list of a complete head, the whole list among them
+-- a size and a hash may be remembered: they are the number of entries and the tree hash of a slice
+-- that the recursion of MTH (RFC 6962, section 2.1) meets on the list of a complete head, the whole
+-- list among them
 pub record IsMark (digest : List ℕ → List ℕ) (v : View) (point : Point) : Type 0 where
   pub size : ℕ
   pub root : List ℕ
@@ -27,6 +28,7 @@ pub record IsMark (digest : List ℕ → List ℕ) (v : View) (point : Point) : 
 abbrev pub Points : Type 0
 Points = FinSet point_cmp
 
+-- sizes and hashes in one order of codes, as a set of them wants it; it says nothing of a log
 abbrev pub point_code : Coded Point
 point_code =
     code_by (ℕ × List ℕ) (coded× coded_ℕ (coded_list coded_ℕ)) (λ p. (p.size, p.root))
@@ -37,6 +39,7 @@ pub record State : Type 0 where
   pub view : View
   pub remembered : Points
 
+-- states in one order of codes, as a model of the mirror wants it; it says nothing of a log
 abbrev pub state_code : Coded State
 state_code =
     code_by (View × Points) (coded× view_code (set.code point_code)) (λ s. (s.view, s.remembered))

@@ -18,10 +18,13 @@ pub record ReachesByLast (events : List Event) : Type 0 where
       Reaches item mirror (events ++ Merge target source ∷ [])
       ↔ (Reaches item mirror events ⊎ ((mirror ≡ target) × Reaches item source events))
 
+-- what reaches which mirror follows from the last event of the list and from what reached before
+-- it, whatever the list
 abbrev pub ReachesGoByLast : Type 0
 ReachesGoByLast = (events : List Event) → ReachesByLast events
 
--- the same of opening views, each of which reaches its own mirror before any event
+-- By the last event of a list: an opening view reaches its own mirror before any event, a merge
+-- into a mirror adds what reached its source, and nothing else changes.
 pub record OpeningReachesByLast (events : List Event) : Type 0 where
   pub none : (opened mirror : ℕ) → OpeningReaches opened mirror [] ↔ (opened ≡ mirror)
   pub take :
@@ -34,5 +37,7 @@ pub record OpeningReachesByLast (events : List Event) : Type 0 where
       ↔ (OpeningReaches opened mirror events
       ⊎ ((mirror ≡ target) × OpeningReaches opened source events))
 
+-- which opening view reaches which mirror follows from the last event of the list, whatever the
+-- list
 abbrev pub OpeningReachesGoByLast : Type 0
 OpeningReachesGoByLast = (events : List Event) → OpeningReachesByLast events

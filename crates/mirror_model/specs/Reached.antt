@@ -36,6 +36,8 @@ module _ (digest : List ℕ → List ℕ) (origin : List ℕ) (keys : List Key) 
       OpensWith opened (λ v. v.strings) events mirror string
       ⊎ TakesIn digest origin keys (strings_of digest) events mirror string
 
+  -- a note has reached the mirror: it was in an opening view or is of a good item, and merges lead
+  -- from there
   abbrev pub NoteReaches : List Event → ℕ → List ℕ → Type 0
   NoteReaches events mirror note =
       OpensWith opened (λ v. v.notes) events mirror note
@@ -46,32 +48,33 @@ module _ (digest : List ℕ → List ℕ) (origin : List ℕ) (keys : List Key) 
     pub strings : (string : List ℕ) → StringReaches events mirror string → Has v.strings string
     pub notes : (note : List ℕ) → NoteReaches events mirror note → Has v.notes note
 
-  -- the view has nothing else
+  -- the view has nothing but what the events bring to the mirror
   pub record HasReachedOnly (events : List Event) (mirror : ℕ) (v : View) : Type 0 where
     pub strings : (string : List ℕ) → Has v.strings string → StringReaches events mirror string
     pub notes : (note : List ℕ) → Has v.notes note → NoteReaches events mirror note
 
--- the events of those answers
+-- of events with an answer each, those whose answer is wanted
 abbrev pub events_of : (Answer → Bool) → List Event → List Answer → List Event
 events_of wanted [] answers = []
 events_of wanted (event ∷ events) [] = []
 events_of wanted (event ∷ events) (answer ∷ answers) =
     cond (wanted answer) (event ∷ events_of wanted events answers) (events_of wanted events answers)
 
+-- the event was done, and is neither refused nor unfinished
 abbrev pub is_done : Answer → Bool
 is_done Done = true
 is_done Refused = false
 is_done Clashed = false
 is_done Exhausted = false
 
--- the event may have changed something
+-- an event with that answer may have changed a view: it was done, or memory was refused within it
 abbrev pub may_change : Answer → Bool
 may_change Done = true
 may_change Refused = false
 may_change Clashed = false
 may_change Exhausted = true
 
--- the first of these events is this one
+-- the list begins with that event
 abbrev pub IsNext : Event → List Event → Type 0
 IsNext event [] = ⊥
 IsNext event (next ∷ events) = next ≡ event

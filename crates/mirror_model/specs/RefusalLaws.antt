@@ -11,8 +11,8 @@ use Rattle.mirror_model.specs.Refusals.{JudgesBundle}
 use Rattle.mirror_model.specs.declared.fault.TakeFault.{TakeFault}
 use Rattle.mirror_model.specs.declared.fault.TakeFault.TheVariants.{OutOfMemory}
 
--- where an item is refused it is not good; where it is answered otherwise, want of memory apart, it
--- is; and two refusals are one
+-- the answers to an item say whether it is good: where it is refused it is not; where it is
+-- answered otherwise, want of memory apart, it is; and two refusals are one
 pub record JudgesOnce (Judges : Result (Unit {0}) TakeFault → Type 0) (Good : Type 0) : Type 0 where
   pub refused : (a : Result (Unit {0}) TakeFault) → Judges a → answer_of a ≡ Refused → Good → ⊥
   pub taken :
@@ -23,14 +23,17 @@ pub record JudgesOnce (Judges : Result (Unit {0}) TakeFault → Type 0) (Good : 
       answer_of b ≡ Refused →
       a ≡ b
 
+-- a tile is refused exactly where it is not good, and for one reason
 abbrev pub TilesAreJudged : Type 0
 TilesAreJudged =
     (width : ℕ) (bytes : List ℕ) → JudgesOnce (JudgesTile width bytes) (IsGoodTile width bytes)
 
+-- a bundle is refused exactly where it is not good, and for one reason
 abbrev pub BundlesAreJudged : Type 0
 BundlesAreJudged =
     (width : ℕ) (bytes : List ℕ) → JudgesOnce (JudgesBundle width bytes) (IsGoodBundle width bytes)
 
+-- a head is refused exactly where it is not good, and for one reason
 abbrev pub HeadsAreJudged : Type 0
 HeadsAreJudged =
     (digest : List ℕ → List ℕ) (origin : List ℕ) (keys : List Key) (note : List ℕ)
@@ -44,7 +47,7 @@ HeadNotesAreReadOnce =
     ReadsHead note origin keys a →
     ReadsHead note origin keys b → a ≢ Err OutOfMemory → b ≢ Err OutOfMemory → a ≡ b
 
--- the checkpoint that is read is one of the head's size and root
+-- a checkpoint of that size and root is read from the note, which opens under the keys
 pub record IsOpenAs (note origin : List ℕ) (keys : List Key) (size : ℕ) (root : List ℕ)
     : Type 0 where
   pub checkpoint : Checkpoint
@@ -52,6 +55,7 @@ pub record IsOpenAs (note origin : List ℕ) (keys : List Key) (size : ℕ) (roo
   pub size_is : checkpoint.size ≡ size
   pub root_is : checkpoint.root ≡ root
 
+-- a note is an open head of a size and root exactly where a checkpoint of these is read from it
 abbrev pub OpenHeadsAreRead : Type 0
 OpenHeadsAreRead =
     (note origin : List ℕ) (keys : List Key) (size : ℕ) (root : List ℕ) →

@@ -40,7 +40,7 @@ pub record IsNoNote (bytes : List ℕ) (fault : NoteFault) : Type 0 where
   pub refused : ReadsNote bytes (Err fault)
   pub has_memory : fault ≢ noting.OutOfMemory
 
--- they are a note, and its text is no checkpoint, for that reason
+-- the bytes are a note, and its text is no checkpoint, for that reason
 pub record IsNoCheckpoint (bytes : List ℕ) (fault : CheckpointFault) : Type 0 where
   pub text : List ℕ
   pub lines : List Line
@@ -65,7 +65,8 @@ pub record HasNoSigner (bytes origin : List ℕ) (keys : List Key) : Type 0 wher
   pub origin_is : checkpoint.origin ≡ origin
   pub closed : Opens text lines keys → ⊥
 
--- reading a head's note, which opens under the keys
+-- what each answer of a reader of head notes says: Ok, that the note opens under the keys with that
+-- checkpoint; a fault, why it does not
 abbrev pub ReadsHead : List ℕ → List ℕ → List Key → Result Checkpoint TakeFault → Type 0
 ReadsHead bytes origin keys (Ok checkpoint) = IsOpenCheckpoint bytes origin keys checkpoint
 ReadsHead bytes origin keys (Err (taking.Note fault)) = IsNoNote bytes fault
@@ -81,11 +82,11 @@ ReadsHead bytes origin keys (Err taking.BundleLong) = ⊥
 ReadsHead bytes origin keys (Err taking.Collision) = ⊥
 ReadsHead bytes origin keys (Err taking.OutOfMemory) = Unit {0}
 
--- as many rows as the size has partial tiles
+-- there are as many rows as the size has partial tiles
 abbrev pub HasEdgeCount : ℕ → List (List ℕ) → Type 0
 HasEdgeCount size rows = length rows ≡ length (edge_widths size)
 
--- each of 32 bytes for each hash of its tile
+-- each row has 32 bytes for each hash of its partial tile, and there are as many as the size has
 abbrev pub HasEdgeLengths : ℕ → List (List ℕ) → Type 0
 HasEdgeLengths size rows = map length rows ≡ map (λ width. 32 * width) (edge_widths size)
 
@@ -96,7 +97,8 @@ pub record HasOtherCount (bytes origin : List ℕ) (keys : List Key) (rows : Lis
   pub is_open : IsOpenCheckpoint bytes origin keys checkpoint
   pub differs : HasEdgeCount checkpoint.size rows → ⊥
 
--- there are as many, and a row is longer or shorter than its tile
+-- the note part is good, there are as many rows as its size has partial tiles, and some row is
+-- longer or shorter than its tile
 pub record HasOtherLengths (bytes origin : List ℕ) (keys : List Key) (rows : List (List ℕ))
     : Type 0 where
   pub checkpoint : Checkpoint
@@ -105,7 +107,7 @@ pub record HasOtherLengths (bytes origin : List ℕ) (keys : List Key) (rows : L
   pub differ : HasEdgeLengths checkpoint.size rows → ⊥
 
 module _ (digest : List ℕ → List ℕ) where
-  -- each has its tile's length, and they do not lead to the root
+  -- the note part is good, each row has its tile's length, and the rows do not lead to the root
   pub record HasOtherRoot (bytes origin : List ℕ) (keys : List Key) (rows : List (List ℕ))
       : Type 0 where
     pub checkpoint : Checkpoint
@@ -113,7 +115,8 @@ module _ (digest : List ℕ → List ℕ) where
     pub lengths_are : HasEdgeLengths checkpoint.size rows
     pub differs : edge_root digest (map row_of rows) ≢ checkpoint.root
 
-  -- taking a head: its note, and the edge rows of its size, lowest level first
+  -- what each answer of taking a head says of it: its note, and the edge rows of its size, lowest
+  -- level first
   abbrev pub JudgesHead :
       List ℕ → List Key → List ℕ → List (List ℕ) → Result (Unit {0}) TakeFault → Type 0
   JudgesHead origin keys bytes rows (Ok done) = IsGoodHead digest origin keys bytes rows
@@ -131,7 +134,7 @@ module _ (digest : List ℕ → List ℕ) where
       IsGoodHead digest origin keys bytes rows
   JudgesHead origin keys bytes rows (Err taking.OutOfMemory) = Unit {0}
 
--- taking a tile of that width
+-- what each answer of taking a tile of that width says of its bytes
 abbrev pub JudgesTile : ℕ → List ℕ → Result (Unit {0}) TakeFault → Type 0
 JudgesTile width bytes (Ok done) = IsGoodTile width bytes
 JudgesTile width bytes (Err (taking.Note fault)) = ⊥
@@ -147,7 +150,7 @@ JudgesTile width bytes (Err taking.BundleLong) = ⊥
 JudgesTile width bytes (Err taking.Collision) = IsGoodTile width bytes
 JudgesTile width bytes (Err taking.OutOfMemory) = Unit {0}
 
--- taking a bundle of that width
+-- what each answer of taking a bundle of that width says of its bytes
 abbrev pub JudgesBundle : ℕ → List ℕ → Result (Unit {0}) TakeFault → Type 0
 JudgesBundle width bytes (Ok done) = IsGoodBundle width bytes
 JudgesBundle width bytes (Err (taking.Note fault)) = ⊥

@@ -9,7 +9,7 @@ use Rattle.mirror_model.specs.Heads.{IsHead}
 use Rattle.mirror_model.specs.Complete.{IsComplete, IsLawful}
 use Rattle.mirror_model.specs.Served.{Served, IsServedList, Replies, IsRangeHash}
 
--- a view serves one thing at most
+-- two things that are served are one: the same note, size, root and entries
 pub record IsSameServed (digest : List ℕ → List ℕ) (note other : List ℕ) (size n : ℕ)
     (root r : List ℕ) (first second : List (List ℕ)) : Type 0 where
   pub note_is : note ≡ other
@@ -17,6 +17,7 @@ pub record IsSameServed (digest : List ℕ → List ℕ) (note other : List ℕ)
   pub root_is : root ≡ r
   pub entries_are : first ≡ second
 
+-- a lawful view serves one checkpoint with its entries at most
 abbrev pub ServedIsOne : Type 0
 ServedIsOne =
     (digest : List ℕ → List ℕ) → IsDigest digest → (v : View) → IsLawful digest v →
@@ -30,6 +31,7 @@ pub record IsTruth (digest : List ℕ → List ℕ) (v : View) (note : List ℕ)
   pub is_held : Has v.notes note
   pub is_head : IsHead note v.origin (length entries) (mth digest entries)
 
+-- the checkpoint served says the length and the tree hash of exactly the entries served
 abbrev pub ServedRootIsTreeHash : Type 0
 ServedRootIsTreeHash =
     (digest : List ℕ → List ℕ) (v : View) (note : List ℕ) (size : ℕ) (root : List ℕ)
@@ -51,12 +53,12 @@ RangeHashIsOne =
     (start len : ℕ) (first second : List ℕ) → IsRangeHash digest v start len first →
     IsRangeHash digest v start len second → first ≡ second
 
--- something is served
+-- a view serves something
 pub record ServesSome (digest : List ℕ → List ℕ) (v : View) : Type 0 where
   pub entries : List (List ℕ)
   pub is : IsServedList digest v entries
 
--- some head is complete
+-- some head of a view is complete
 pub record CompletesSome (digest : List ℕ → List ℕ) (v : View) : Type 0 where
   pub size : ℕ
   pub root : List ℕ

@@ -38,7 +38,7 @@ module _ (digest : List ℕ → List ℕ) where
   abbrev pub ReportsForks : View → List Fork → Type 0
   ReportsForks v forks = ListsForks digest v (map fork_pair forks)
 
-  -- the size and root that are served, or none where nothing is
+  -- the size and root of the checkpoint that is served, or none where nothing is
   abbrev pub SaysServed : View → Option Point → Type 0
   SaysServed v (Some point) =
       (note : List ℕ) × (entries : List (List ℕ))

@@ -14,25 +14,27 @@ use Rattle.mirror_model.specs.Steps.{Answer, Clashed, Run}
 use Rattle.mirror_model.specs.Reached.{HasReached, HasReachedOnly, events_of, is_done, may_change}
 use Rattle.mirror_model.specs.Reached.{AreRetried}
 
--- all views are of that origin
+-- all views of the list are of that origin
 abbrev pub AreOf : List ℕ → List View → Type 0
 AreOf origin views = (mirror : ℕ) (v : View) → slice_get views mirror ≡ Some v → v.origin ≡ origin
 
 module _ (digest : List ℕ → List ℕ) (origin : List ℕ) (keys : List Key) where
-  -- a run of events, from views of that origin to others
+  -- a run of events leads from views of that origin to others
   pub record IsRun (opened : List View) (events : List Event) (answers : List Answer)
       (final : List View) : Type 0 where
     pub of_origin : AreOf origin opened
     pub run : Run digest keys opened events answers final
 
-  -- for all answers a mirror's view has what the events that were done bring to it, and has nothing
-  -- but what is brought to it by those that were done or for which memory was refused
+  -- the bounds of a mirror's view, for all answers: it has what the events that were done bring to
+  -- it, and has nothing but what is brought to it by those that were done or for which memory was
+  -- refused
   pub record IsBounded (opened : List View) (events : List Event) (answers : List Answer)
       (mirror : ℕ) (v : View) : Type 0 where
     pub lower : HasReached digest origin keys opened (events_of is_done events answers) mirror v
     pub upper :
         HasReachedOnly digest origin keys opened (events_of may_change events answers) mirror v
 
+  -- after a run each mirror's view has what was done, and nothing but what was done or begun
   abbrev pub RunIsBounded : Type 0
   RunIsBounded =
       (opened final : List View) (events : List Event) (answers : List Answer) →
@@ -40,14 +42,15 @@ module _ (digest : List ℕ → List ℕ) (origin : List ℕ) (keys : List Key) 
       (mirror : ℕ) (v : View) → slice_get final mirror ≡ Some v →
       IsBounded opened events answers mirror v
 
-  -- where nothing clashed, and each event for which memory was refused was done again, a mirror's
-  -- view is the union of the opening views and of the good items that reach it
+  -- a mirror's view is the union of the opening views and of the good items that reach it
   pub record IsReached (opened : List View) (events : List Event) (mirror : ℕ) (v : View)
       : Type 0 where
     pub origin_is : v.origin ≡ origin
     pub has : HasReached digest origin keys opened events mirror v
     pub only : HasReachedOnly digest origin keys opened events mirror v
 
+  -- where nothing clashed, and each event for which memory was refused was done again, a mirror's
+  -- view is the union of the opening views and of the good items that reach it
   abbrev pub RunIsReached : Type 0
   RunIsReached =
       (opened final : List View) (events : List Event) (answers : List Answer) →
@@ -55,7 +58,7 @@ module _ (digest : List ℕ → List ℕ) (origin : List ℕ) (keys : List Key) 
       (Contains answers Clashed → ⊥) → AreRetried events answers → (mirror : ℕ) (v : View) →
       slice_get final mirror ≡ Some v → IsReached opened events mirror v
 
--- a string of an opening view, or of a good item of the list
+-- the string stands in an opening view
 pub record IsOpened (opened : List View) (string : List ℕ) : Type 0 where
   pub number : ℕ
   pub view : View
@@ -63,6 +66,7 @@ pub record IsOpened (opened : List View) (string : List ℕ) : Type 0 where
   pub has : Has view.strings string
 
 module _ (digest : List ℕ → List ℕ) (origin : List ℕ) (keys : List Key) where
+  -- the string is of a good item that some event of the list takes, at whichever mirror
   pub record IsTaken (events : List Event) (string : List ℕ) : Type 0 where
     pub position : ℕ
     pub target : ℕ
@@ -71,27 +75,28 @@ module _ (digest : List ℕ → List ℕ) (origin : List ℕ) (keys : List Key) 
     pub good : IsGood digest origin keys item
     pub has : Contains (strings_of digest item) string
 
+  -- the mirrors meet the string: it stands in an opening view, or is of a good item that is taken
   abbrev pub IsMet : List View → List Event → List ℕ → Type 0
   IsMet opened events string = IsOpened opened string ⊎ IsTaken events string
 
-  -- no two different strings that are met have one digest
+  -- no two different strings that the mirrors meet have one digest
   abbrev pub NothingClashes : List View → List Event → Type 0
   NothingClashes opened events =
       (x y : List ℕ) → IsMet opened events x → IsMet opened events y → digest x ≡ digest y → x ≡ y
 
-  -- then no event is answered by a clash
+  -- where no two different strings that are met have one digest, no event is answered by a clash
   abbrev pub NoneClashes : Type 0
   NoneClashes =
       (opened final : List View) (events : List Event) (answers : List Answer) →
       IsRun digest origin keys opened events answers final → NothingClashes opened events →
       Contains answers Clashed → ⊥
 
--- for each digest, origin and keys
+-- a law holds for each digest, origin and list of keys
 abbrev pub ForMirrors : ((List ℕ → List ℕ) → List ℕ → List Key → Type 0) → Type 0
 ForMirrors Law =
     (digest : List ℕ → List ℕ) (origin : List ℕ) (keys : List Key) → Law digest origin keys
 
--- all views are lawful
+-- all views of the list are lawful
 abbrev pub AreLawful : (List ℕ → List ℕ) → List View → Type 0
 AreLawful digest views =
     (mirror : ℕ) (v : View) → slice_get views mirror ≡ Some v → IsLawful digest v

@@ -11,18 +11,18 @@ use Rattle.mirror_model.specs.View.{View}
 use Rattle.mirror_model.specs.Heads.{HoldsHead}
 use Rattle.mirror_model.specs.Complete.{IsTreeOf, IsBuilt}
 
--- by bytes, the first is the second or stands before it
+-- the first bytes are the second, or stand before them in byte order
 abbrev pub IsAtMost : List ℕ → List ℕ → Type 0
 IsAtMost first second = IsTrue (is_le (slice_cmp nat_cmp first second))
 
 module _ (digest : List ℕ → List ℕ) where
-  -- a note that is held, of a head that is complete
+  -- the note is held, and is of a head that is complete
   pub record IsCompleteNote (v : View) (note : List ℕ) (size : ℕ) (root : List ℕ) : Type 0 where
     pub holds : HoldsHead v note size root
     pub built : IsBuilt digest v.strings size root
 
-  -- Served(V): of the notes whose head is complete, one of the greatest size, then of the least
-  -- root, then the least note by bytes; with its entries
+  -- what a view serves: of the notes whose head is complete, one of the greatest size, then of the
+  -- least root, then the least note by bytes; with its entries
   pub record Served (v : View) (note : List ℕ) (size : ℕ) (root : List ℕ)
       (entries : List (List ℕ)) : Type 0 where
     pub holds : HoldsHead v note size root
@@ -39,35 +39,38 @@ module _ (digest : List ℕ → List ℕ) where
     pub root : List ℕ
     pub served : Served v note size root entries
 
-  -- MTH(E[start .. start + len]) of the entries served
+  -- the tree hash of the entries from start on, as many as len, of the entries served: MTH(E[start
+  -- .. start + len])
   pub record IsRangeHash (v : View) (start len : ℕ) (hash : List ℕ) : Type 0 where
     pub entries : List (List ℕ)
     pub served : IsServedList v entries
     pub within : start + len ≤ length entries
     pub hash_is : hash ≡ mth digest (part start len entries)
 
-  -- a note is served
+  -- the note is the checkpoint that is served
   pub record IsServedNote (v : View) (note : List ℕ) : Type 0 where
     pub size : ℕ
     pub root : List ℕ
     pub entries : List (List ℕ)
     pub served : Served v note size root entries
 
-  -- the bytes of a tile, or of a bundle, of the entries served
+  -- the bytes of a tile of the entries served, where the tile is within them
   pub record IsServedTile (v : View) (level index width : ℕ) (bytes : List ℕ) : Type 0 where
     pub entries : List (List ℕ)
     pub served : IsServedList v entries
     pub within : IsTileWithin (length entries) level index width
     pub bytes_are : bytes ≡ tile_bytes digest entries level index width
 
+  -- the bytes of a bundle of the entries served, where the bundle is within them: at 300 entries
+  -- `tile/entries/001.p/44` has the last 44, and all narrower bundles of that index are served too
   pub record IsServedBundle (v : View) (index width : ℕ) (bytes : List ℕ) : Type 0 where
     pub entries : List (List ℕ)
     pub served : IsServedList v entries
     pub within : IsTileWithin (length entries) 0 index width
     pub bytes_are : bytes ≡ bundle_bytes entries index width
 
-  -- Reply(V, path): the served note, or the bytes of the path where it is within the entries
-  -- served; where no bytes are so, there is no reply
+  -- the reply to a path: the note that is served, or the bytes of the path where it is within the
+  -- entries served; where no bytes stand here, there is no reply
   abbrev pub Replies : View → Path → List ℕ → Type 0
   Replies v Checkpoint bytes = IsServedNote v bytes
   Replies v (Tile level index width) bytes = IsServedTile v level index width bytes

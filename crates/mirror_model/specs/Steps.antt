@@ -9,8 +9,8 @@ use Rattle.mirror_model.specs.Item.{IsGood, plus}
 use Rattle.mirror_model.specs.declared.events.Event.{Event}
 use Rattle.mirror_model.specs.declared.events.Event.TheVariants.{Take, Merge}
 
--- how an event is answered: it is done; it is refused for what the item or the other mirror is; two
--- different strings would share a digest; memory was refused
+-- how an event is answered: Done, it was done; Refused, for what the item or the other mirror is;
+-- Clashed, two different strings would share a digest; Exhausted, memory was refused
 pub data Answer : Type 0 where
   Done : Answer
   Refused : Answer
@@ -68,11 +68,13 @@ module _ (digest : List ℕ → List ℕ) (keys : List Key) where
     pub merges : Merges digest before other answer after
     pub set : new ≡ slice_set old target after
 
+  -- one event happens to a list of mirrors: the mirror that it names takes the item or is merged,
+  -- and all others stay as they are
   abbrev pub Happens : List View → Event → Answer → List View → Type 0
   Happens old (Take target item) answer new = TakesAt old target item answer new
   Happens old (Merge target source) answer new = MergesAt old target source answer new
 
-  -- events, one after another, with an answer each
+  -- events happen one after another, with an answer each, from the old views to the new
   abbrev pub Run : List View → List Event → List Answer → List View → Type 0
   Run old [] [] new = new ≡ old
   Run old (event ∷ events) (answer ∷ answers) new =

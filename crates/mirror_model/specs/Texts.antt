@@ -20,6 +20,7 @@ use Rattle.mirror_model.specs.declared.reports.Fork.{Fork}
 abbrev pub point_text : ℕ → List ℕ → List ℕ
 point_text size root = decimal size ++ 32 ∷ base64_of root
 
+-- whether a head is complete, in a word
 abbrev pub flag_text : Bool → List ℕ
 flag_text true = codes "complete"
 flag_text false = codes "partial"
@@ -45,18 +46,20 @@ fork_line fork =
     codes "fork " ++ point_text fork.small.0 fork.small.1
     ++ 32 ∷ point_text fork.large.0 fork.large.1 ++ 10 ∷ []
 
+-- a line for each fork
 abbrev pub forks_text : List Fork → List ℕ
 forks_text forks = flat_map fork_line forks
 
--- a path to a line
+-- a path, on a line of its own
 abbrev pub path_line : Path → List ℕ
 path_line path = path_text path ++ 10 ∷ []
 
+-- a line for each path that is missing
 abbrev pub missing_text : List Path → List ℕ
 missing_text paths = flat_map path_line paths
 
 module _ (digest : List ℕ → List ℕ) where
-  -- StatusText(V)
+  -- the bytes that tell the status of a view: its origin, its heads, and what it serves
   pub record IsStatusText (v : View) (text : List ℕ) : Type 0 where
     pub heads : List Head
     pub served : Option Point
@@ -64,13 +67,14 @@ module _ (digest : List ℕ → List ℕ) where
     pub is_served : SaysServed digest v served
     pub is : text ≡ status_text v.origin heads served
 
-  -- ForksText(V); no fork gives no bytes
+  -- the bytes that tell the forks of a view, a line each; no fork gives no bytes
   pub record IsForksText (v : View) (text : List ℕ) : Type 0 where
     pub forks : List Fork
     pub are_forks : ReportsForks digest v forks
     pub is : text ≡ forks_text forks
 
-  -- MissingText(V, size, root), of a head that is held; nothing missing gives no bytes
+  -- the bytes that tell what is missing of a head that is held, a line for each path; nothing
+  -- missing gives no bytes
   pub record IsMissingText (v : View) (size : ℕ) (root : List ℕ) (text : List ℕ) : Type 0 where
     pub head : HasHead v size root
     pub paths : List Path

@@ -22,21 +22,21 @@ EdgeRowsAreWide =
     (digest : List ℕ → List ℕ) (entries : List (List ℕ)) →
     map length (edge_rows digest entries) ≡ edge_widths (length entries)
 
--- EdgeRoot of the true edge rows is MTH(E)
+-- the true edge rows of a list of entries lead to its tree hash
 abbrev pub EdgeRootIsRoot : Type 0
 EdgeRootIsRoot =
     (digest : List ℕ → List ℕ) (entries : List (List ℕ)) → length entries < 256 ^ 8 →
     edge_root digest (edge_rows digest entries) ≡ mth digest entries
 
--- EdgeStrings of the true edge rows are within Tree(E)
+-- the strings of the true edge rows are strings of the tree of the entries
 abbrev pub EdgeStringsWithin : Type 0
 EdgeStringsWithin =
     (digest : List ℕ → List ℕ) (entries : List (List ℕ)) (y : List ℕ) →
     Contains (edge_strings digest (edge_rows digest entries)) y →
     Contains (strings digest entries) y
 
--- y is the string of a node of E's tree that has more than `above` entries, all of them among the
--- `len` from `start` on
+-- y is the string of a node of the tree of the entries that has more than `above` entries, all of
+-- them among the `len` from `start` on
 pub record HasNodeWithin (digest : List ℕ → List ℕ) (entries : List (List ℕ))
     (start len above : ℕ) (y : List ℕ) : Type 0 where
   pub node : Node
@@ -46,8 +46,8 @@ pub record HasNodeWithin (digest : List ℕ → List ℕ) (entries : List (List 
   pub long : above < node.len
   pub string_is : node.string ≡ y
 
--- the Joins of a true full row of level L are the strings of Tree(E) for the nodes of its range of
--- more than 256^L entries
+-- the joins of a true full row of level L are the strings of the tree for the nodes of the row's
+-- range that have more than 256^L entries
 abbrev pub FullRowJoins : Type 0
 FullRowJoins =
     (digest : List ℕ → List ℕ) (entries : List (List ℕ)) (level index : ℕ) →
@@ -55,8 +55,8 @@ FullRowJoins =
     Contains (joins digest (level_row digest entries level (256 * index) 256)) y
     ↔ HasNodeWithin digest entries (index * 256 ^ (level + 1)) (256 ^ (level + 1)) (256 ^ level) y
 
--- the strings of a bundle of E, at the width that E's size gives it, are those of Tree(E) for the
--- nodes of its range
+-- the strings of a bundle, at the width that the number of entries gives it, are those of the tree
+-- for the nodes of its range
 abbrev pub BundleStrings : Type 0
 BundleStrings =
     (digest : List ℕ → List ℕ) (entries : List (List ℕ)) (index : ℕ) →
@@ -65,7 +65,7 @@ BundleStrings =
     Contains (strings digest (part (256 * index) width entries)) y
     ↔ HasNodeWithin digest entries (256 * index) width 0 y
 
--- the front is empty exactly where Tree(E) is held
+-- the front is empty exactly where all strings of the tree are held
 abbrev pub FrontIsEmpty : Type 0
 FrontIsEmpty =
     (digest : List ℕ → List ℕ) (held : Strings) (entries : List (List ℕ)) →
@@ -115,8 +115,8 @@ RoundsComplete =
     length entries < 256 ^ 8 → IsTop (length entries) top → AreRounds digest entries held afters →
     max 1 top ≤ length afters → HasAll (last_held held afters) (strings digest entries)
 
--- a full tile of a level from 1 to 7, or a bundle as wide as the size has it; its range begins
--- within the size
+-- a path that may be asked for of a head of that size: a full tile of a level from 1 to 7, or a
+-- bundle as wide as the size has it, whose range begins within the size
 abbrev pub IsOfSize : ℕ → Path → Type 0
 IsOfSize size Checkpoint = ⊥
 IsOfSize size (Tile level index width) =
@@ -124,14 +124,14 @@ IsOfSize size (Tile level index width) =
 IsOfSize size (Entries index width) =
     (1 ≤ width) × (width ≡ min 256 (size - 256 * index)) × (256 * index < size)
 
--- what is missing of a head are such paths, whether or not a list of entries fits
+-- what is missing of a head may be asked for at its size, whether or not a list of entries fits
 abbrev pub MissingIsOfSize : Type 0
 MissingIsOfSize =
     (digest : List ℕ → List ℕ) (held : Strings) (size : ℕ) (root : List ℕ) → size ≤ 256 ^ 8 →
     (path : Path) →
     IsMissing digest held size root path → IsOfSize size path
 
--- a node of the front of E
+-- a node of the front of the entries begins at that entry and has so many
 abbrev pub HasFrontAt : (List ℕ → List ℕ) → Strings → List (List ℕ) → ℕ → ℕ → Type 0
 HasFrontAt digest held entries at many =
     (x : Node) × InFront digest held (tree_of entries) 0 x × (x.start ≡ at) × (x.len ≡ many)
@@ -144,7 +144,7 @@ WalkIsFront =
     WalkFails digest held (shape (length entries)) 0 (mth digest entries) at many
     ↔ HasFrontAt digest held entries at many
 
--- what the walk names is Front(V, E)
+-- where a list of entries fits the root, what is missing is its front
 abbrev pub MissingIsFront : Type 0
 MissingIsFront =
     (digest : List ℕ → List ℕ) → IsDigest digest →

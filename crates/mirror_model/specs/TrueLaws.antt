@@ -29,6 +29,7 @@ pub record IsTrueTile (digest : List ℕ → List ℕ) (entries : List (List ℕ
       strings_of digest (item.Tile width (tile_bytes digest entries level index width))
       ≡ true_strings digest entries (Tile level index width)
 
+-- each tile of a list of entries, as a log serves it, is good and gives the strings of its row
 abbrev pub TilesAreTrue : Type 0
 TilesAreTrue =
     (digest : List ℕ → List ℕ) → IsDigest digest → (entries : List (List ℕ)) → AreShort entries →
@@ -42,6 +43,8 @@ pub record IsTrueBundle (digest : List ℕ → List ℕ) (entries : List (List �
       strings_of digest (item.Bundle width (bundle_bytes entries index width))
       ≡ true_strings digest entries (Entries index width)
 
+-- each bundle within a list of entries, as a log serves it, is good and gives what the tree hash of
+-- its entries hashes
 abbrev pub BundlesAreTrue : Type 0
 BundlesAreTrue =
     (digest : List ℕ → List ℕ) → IsDigest digest → (entries : List (List ℕ)) → AreShort entries →
@@ -60,6 +63,7 @@ pub record IsTrueEdge (digest : List ℕ → List ℕ) (entries : List (List ℕ
       edge_strings digest (map row_of (edge_bytes digest entries))
       ≡ edge_strings digest (edge_rows digest entries)
 
+-- the edge rows of a list of entries, as a log serves them, are those of its size and tree hash
 abbrev pub EdgesAreTrue : Type 0
 EdgesAreTrue =
     (digest : List ℕ → List ℕ) → IsDigest digest → (entries : List (List ℕ)) →
@@ -81,26 +85,28 @@ FrontIsWithin =
     HasAll held (edge_strings digest (edge_rows digest entries)) → (path : Path) →
     IsFront digest held entries path → IsWithin (length entries) path
 
--- a full tile, or a bundle as wide as the entries have it
+-- the widest path of its place, in a tree of n entries: a full tile, or a bundle as wide as the
+-- entries have it
 abbrev pub IsWidest : ℕ → Path → Type 0
 IsWidest n Checkpoint = ⊥
 IsWidest n (Tile level index width) = width ≡ 256
 IsWidest n (Entries index width) = width ≡ min 256 (n - 256 * index)
 
--- the true bytes of such a path within the entries give strings of their tree alone
+-- the true bytes of a path within the entries, of the widest of its place, give strings of their
+-- tree alone
 abbrev pub TrueStringsWithin : Type 0
 TrueStringsWithin =
     (digest : List ℕ → List ℕ) (entries : List (List ℕ)) (path : Path) →
     IsWithin (length entries) path → IsWidest (length entries) path → (y : List ℕ) →
     Contains (true_strings digest entries path) y → Contains (strings digest entries) y
 
--- and the paths of a front are such paths
+-- each path of a front is the widest of its place
 abbrev pub FrontIsWidest : Type 0
 FrontIsWidest =
     (digest : List ℕ → List ℕ) (held : Strings) (entries : List (List ℕ)) (path : Path) →
     IsFront digest held entries path → IsWidest (length entries) path
 
--- a path within the first n entries has the same bytes in both lists
+-- a path within the first n entries has the same bytes in these as in all
 pub record IsSameIn (digest : List ℕ → List ℕ) (entries : List (List ℕ)) (n : ℕ) : Type 0 where
   pub tile :
       (level index width : ℕ) → IsTileWithin n level index width →
@@ -110,6 +116,7 @@ pub record IsSameIn (digest : List ℕ → List ℕ) (entries : List (List ℕ))
       (index width : ℕ) → IsTileWithin n 0 index width →
       bundle_bytes (take n entries) index width ≡ bundle_bytes entries index width
 
+-- a log that has grown serves the paths that it had with the same bytes
 abbrev pub PrefixesServeSame : Type 0
 PrefixesServeSame =
     (digest : List ℕ → List ℕ) (entries : List (List ℕ)) (n : ℕ) → n ≤ length entries →

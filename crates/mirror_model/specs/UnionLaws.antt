@@ -4,13 +4,15 @@ use Rattle.node_store.specs.Strings.{NoClash, ClashesWith}
 use Rattle.mirror_model.specs.View.{View, union, IsSubview}
 use Rattle.mirror_model.specs.Strings.{HasClash}
 
--- merging views of one origin is commutative, and merging is associative and idempotent
+-- views of one origin come to the same merged either way round
 abbrev pub UnionCommutes : Type 0
 UnionCommutes = (v w : View) → v.origin ≡ w.origin → union v w ≡ union w v
 
+-- three views come to the same merged in any grouping
 abbrev pub UnionAssociates : Type 0
 UnionAssociates = (v w x : View) → union (union v w) x ≡ union v (union w x)
 
+-- a view merged with itself is itself
 abbrev pub UnionIsIdempotent : Type 0
 UnionIsIdempotent = (v : View) → union v v ≡ v
 
@@ -20,11 +22,12 @@ UnionClashesEitherWay =
     (digest : List ℕ → List ℕ) (v w : View) → HasClash digest (union v w).strings →
     HasClash digest (union w v).strings
 
--- views that hold the same are one
+-- two views of which each holds all that the other holds are equal
 abbrev pub MutualSubviewsAreEqual : Type 0
 MutualSubviewsAreEqual = (v w : View) → IsSubview v w → IsSubview w v → v ≡ w
 
--- of two sets without clash the union clashes exactly where the one clashes with the other
+-- where neither of two sets of strings clashes, their union does exactly where a string of the one
+-- clashes with one of the other
 abbrev pub UnionClashes : Type 0
 UnionClashes =
     (digest : List ℕ → List ℕ) (v w : View) →
@@ -32,6 +35,8 @@ UnionClashes =
     NoClash digest w.strings →
     HasClash digest (union v w).strings ↔ ClashesWith digest v.strings w.strings
 
+-- where neither of two sets of strings clashes, their union does not exactly where no string of the
+-- one clashes with one of the other
 abbrev pub UnionIsClean : Type 0
 UnionIsClean =
     (digest : List ℕ → List ℕ) (v w : View) →

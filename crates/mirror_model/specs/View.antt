@@ -11,9 +11,11 @@ pub record View : Type 0 where
   pub notes : Strings
   pub strings : Strings
 
+-- sets of strings in one order of codes, as a set of views wants it; it says nothing of a log
 abbrev pub strings_code : Coded Strings
 strings_code = set.code (coded_list coded_ℕ)
 
+-- views in one order of codes, as a model of the mirror wants it; it says nothing of a log
 abbrev pub view_code : Coded View
 view_code =
     code_by (List ℕ × (Strings × Strings))
@@ -21,11 +23,11 @@ view_code =
     (λ v. (v.origin, (v.notes, v.strings)))
     (λ p. record { origin = p.0; notes = p.1.0; strings = p.1.1 }) (λ _. refl)
 
--- nothing is held
+-- the view that holds nothing, of an origin
 abbrev pub nothing : List ℕ → View
 nothing origin = record { origin = origin; notes = set.empty; strings = set.empty }
 
--- V + W: what either holds, for views of one origin
+-- what either of two views holds, for views of one origin
 abbrev pub union : View → View → View
 union v w =
     record {
@@ -34,7 +36,7 @@ union v w =
       strings = set.union v.strings w.strings;
     }
 
--- all that v holds w holds
+-- all that v holds w holds, and both are of one origin
 pub record IsSubview (v w : View) : Type 0 where
   pub origin_is : v.origin ≡ w.origin
   pub notes_are : (note : List ℕ) → Has v.notes note → Has w.notes note

@@ -7,7 +7,7 @@ use Rattle.tlog_tiles.specs.declared.paths.Path.{Path}
 use Rattle.node_store.specs.Strings.{Strings, Has, IsHeldAt}
 use Rattle.mirror_model.specs.Front.{IsPathOf}
 
--- the node begins at that entry, and has as many
+-- the node begins at that entry, and has so many entries
 pub record IsSpot (start len at many : ℕ) : Type 0 where
   pub at_is : at ≡ start
   pub many_is : many ≡ len
@@ -33,8 +33,8 @@ module _ (digest : List ℕ → List ℕ) (held : Strings) where
       × IsPairHeld hash x y
       × (WalkFails l start x at many ⊎ WalkFails r (start + size_of l) y at many))
 
-  -- the paths of a head of that size and root: those of the nodes where the walk from its root
-  -- fails
+  -- the path is missing of a head of that size and root: the walk from its root fails at a node
+  -- whose strings the path has
   pub record IsMissing (size : ℕ) (hash : List ℕ) (path : Path) : Type 0 where
     pub at : ℕ
     pub many : ℕ

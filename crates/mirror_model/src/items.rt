@@ -20,7 +20,7 @@ impl Model for Bytes {
 }
 
 impl Bytes {
-    /// Those bytes.
+    /// Makes the bytes of an item.
     pub fn new(bytes: Vec<u8>) -> Self
         ensures { result ≡ bytes.items }
     {
@@ -58,7 +58,7 @@ impl Model for Rows {
 }
 
 impl Rows {
-    /// Those rows.
+    /// Makes the edge rows of a head.
     pub fn new(rows: Vec<Vec<u8>>) -> Self
         ensures { result ≡ map (λ row. row.items) rows.items }
     {

@@ -5,7 +5,7 @@ use Rattle.mirror_model.specs.declared.fault.TakeFault.TheVariants as take
 use Rattle.mirror_pull.specs.declared.fault.PullFault.{PullFault}
 use Rattle.mirror_pull.specs.declared.fault.PullFault.TheVariants as pull
 
--- a fault of the head of a pull
+-- the fault of a pull at a head that was refused
 abbrev pub of_take : TakeFault → PullFault
 of_take (take.Note f) = pull.Head (take.Note f)
 of_take (take.Checkpoint f) = pull.Head (take.Checkpoint f)
@@ -20,7 +20,7 @@ of_take take.BundleLong = pull.Head take.BundleLong
 of_take take.Collision = pull.Collision
 of_take take.OutOfMemory = pull.OutOfMemory
 
--- whether a tile or a bundle was refused for what it is, in a pull
+-- whether a tile or a bundle was refused for what it is, or the pull ends by the fault
 abbrev pub refused_of_fault : TakeFault → Result Bool PullFault
 refused_of_fault (take.Note f) = Ok true
 refused_of_fault (take.Checkpoint f) = Ok true

@@ -14,7 +14,7 @@ use Rattle.mirror_pull.specs.declared.fault.PullFault.TheVariants.{Source, Colli
 abbrev pub IsOnce : List Path → Type 0
 IsOnce paths = AllPairs (λ a b. a ≢ b) paths
 
--- the source was asked for these, of which none stands twice nor among those before
+-- the source was asked for these paths, of which none stands twice nor among those before
 pub record Adds (before : List Path) (old new : Option (List Path)) (more : List Path)
     : Type 0 where
   pub told : AddsTold old new more
@@ -37,7 +37,8 @@ abbrev pub AsksPaths : {T : Type 0} → List Path → List Path → Option (List
 AsksPaths before after old new (Ok x) = AddsTo before after old new
 AsksPaths before after old new (Err e) = AddsSome before old new
 
--- the source is blamed only where its count of failures rose
+-- a pull blames its source only where the source's count of failures rose, or stands at its last
+-- value
 abbrev pub Counts : {T : Type 0} → ℕ → ℕ → Result T PullFault → Type 0
 Counts old new (Ok x) = new ≡ old
 Counts old new (Err NoCheckpoint) = new ≡ old
@@ -47,7 +48,7 @@ Counts old new (Err Source) = Rose old new
 Counts old new (Err Collision) = new ≡ old
 Counts old new (Err OutOfMemory) = new ≡ old
 
--- nothing at the place of the path is among those asked for
+-- nothing at the place of the path, neither its file nor the full one, was asked for
 abbrev pub IsFresh : List Path → Path → Type 0
 IsFresh asked path = (before : Path) → Contains asked before → full_of before ≢ full_of path
 

@@ -10,8 +10,8 @@ use Rattle.mirror_pull.specs.Taking.{PullsTo}
 use Rattle.mirror_pull.specs.declared.pulling.Pulled.{Pulled}
 use Rattle.mirror_pull.specs.declared.fault.PullFault.{PullFault}
 
--- what was complete stays so with the same entries, and with no others while nothing clashes; forks
--- stay
+-- of the views before and after: what was complete stays so with the same entries, and with no
+-- others while nothing clashes; forks stay
 pub record KeepsHeads (digest : List ℕ → List ℕ) (old new : View) : Type 0 where
   pub complete :
       (size : ℕ) (root : List ℕ) (entries : List (List ℕ)) → Complete digest old size root entries →

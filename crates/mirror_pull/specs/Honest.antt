@@ -40,8 +40,8 @@ module _ (digest : List ℕ → List ℕ) (entries : List (List ℕ)) where
       (set.union (set.from_list (strings digest entries))
       (set.from_list (strings digest (take size entries)))))
 
-  -- one round: its list is the front, in order, and is not empty; each of its paths was asked for,
-  -- and the true bytes that were found were taken
+  -- one round of a pull took the front: its list is the front, in order, and is not empty; each of
+  -- its paths was asked for, and the true bytes that were found were taken
   pub record IsFrontRound (size : ℕ) (v w : View) (list gets : List Path) : Type 0 where
     pub founds : List Path
     pub some : 1 ≤ length list
@@ -49,7 +49,7 @@ module _ (digest : List ℕ → List ℕ) (entries : List (List ℕ)) where
     pub gets_are : Gets (length entries) list gets founds
     pub taken : w ≡ with_true v founds
 
-  -- one round after another
+  -- rounds of a pull took the front, one after another
   abbrev pub AreFrontRounds : ℕ → View → View → List (List Path) → List Path → Type 0
   AreFrontRounds size v w [] gets = (w ≡ v) × (gets ≡ [])
   AreFrontRounds size v w (list ∷ lists) gets =
@@ -91,8 +91,8 @@ module _ (digest : List ℕ → List ℕ) (entries : List (List ℕ)) where
         Has v.strings y ⊎
         (Contains (strings digest entries) y ⊎ Contains (strings digest (take size entries)) y)
 
--- a pull that is neither refused memory nor left by its source goes well, from whichever entries
--- the source is honest for while nothing clashes
+-- a pull from an honest source goes well, unless memory is refused or the source fails, and nothing
+-- clashes: from whichever entries the source is honest for
 abbrev pub PullsHonestly : (List ℕ → List ℕ) → List Key → View → View →
     (Path → Option (List ℕ) → Type 0) → Option (List Path) → Option (List Path) →
     Result Pulled PullFault → Type 0

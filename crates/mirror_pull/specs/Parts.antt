@@ -21,7 +21,7 @@ use Rattle.mirror_pull.specs.Honest.{NoClashAmong, AreFrontRounds, with_true}
 use Rattle.mirror_pull.specs.declared.fault.PullFault.{PullFault}
 use Rattle.mirror_pull.specs.declared.fault.PullFault.TheVariants.{Source, OutOfMemory}
 
--- memory was refused, or the source failed
+-- the fault comes from outside: memory was refused, or the source failed
 abbrev pub IsOutside : PullFault → Type 0
 IsOutside fault = (fault ≡ OutOfMemory) ⊎ (fault ≡ Source)
 
@@ -31,14 +31,15 @@ IsTilePath n Checkpoint = ⊥
 IsTilePath n (Tile level index width) = IsWithin n (Tile level index width)
 IsTilePath n (Entries index width) = ⊥
 
--- what the list of the paths asked for grew by, for these paths
+-- what was asked for to get these paths, and what the list of paths asked for grew by
 pub record GetsAll (n : ℕ) (paths before after : List Path) : Type 0 where
   pub gets : List Path
   pub founds : List Path
   pub are : Gets n paths gets founds
   pub list : after ≡ before ++ gets
 
--- what is wanted of what is missing of a head: all of it, where nothing of it was asked for
+-- of what is missing of a head these paths are asked for: all of it, where nothing of it was asked
+-- for
 pub record IsWanted (digest : List ℕ → List ℕ) (v : View) (size : ℕ) (root : List ℕ)
     (asked paths : List Path) : Type 0 where
   pub missing : List Path
@@ -46,7 +47,7 @@ pub record IsWanted (digest : List ℕ → List ℕ) (v : View) (size : ℕ) (ro
   pub whole : ((path : Path) → Contains missing path → Contains asked path → ⊥) → paths ≡ missing
 
 module _ (digest : List ℕ → List ℕ) (entries : List (List ℕ)) where
-  -- a source that answers each path within the entries truly
+  -- a source of which these answers may come answers each path within the entries truly
   pub record IsTrueSource (may : Path → Option (List ℕ) → Type 0) : Type 0 where
     pub hash : IsDigest digest
     pub short : AreShort entries
@@ -55,12 +56,12 @@ module _ (digest : List ℕ → List ℕ) (entries : List (List ℕ)) where
         may path answer →
         IsTrueAnswer digest entries path answer
 
-  -- a tile that was got for the edge: its true bytes
+  -- the bytes that were got for a tile of the edge are its true bytes
   pub record IsTrueRow (path : Path) (before after : List Path) (bytes : List ℕ) : Type 0 where
     pub bytes_are : bytes ≡ true_bytes digest entries path
     pub gets : GetsAll (length entries) (path ∷ []) before after
 
-  -- the tiles that were got for several paths of the edge: their true bytes
+  -- the bytes that were got for several tiles of the edge are their true bytes
   pub record AreTrueRows (paths before after : List Path) (rows : List (List ℕ)) : Type 0 where
     pub rows_are : rows ≡ map (true_bytes digest entries) paths
     pub gets : GetsAll (length entries) paths before after

@@ -12,7 +12,7 @@ use Rattle.mirror_model.specs.Listed.{ListsFront}
 use Rattle.log_sources.specs.Honest.{Gets}
 use Rattle.mirror_pull.specs.Honest.{AreFrontRounds, with_true}
 
--- an honest round is one that takes the front
+-- a round of a pull from an honest source is a round of fetching: it takes the front
 abbrev pub FrontRoundTakes : Type 0
 FrontRoundTakes =
     (digest : List ℕ → List ℕ) →
@@ -27,7 +27,8 @@ FrontRoundTakes =
     Gets (length entries) list gets founds →
     IsRound digest (take size entries) v.strings (with_true digest entries v founds).strings
 
--- of honest rounds whose fronts are not empty there are at most max(1, Top(n))
+-- of rounds of an honest pull there are at most as many as the greatest level that has a partial
+-- tile, and one at least
 abbrev pub FrontRoundsEnd : Type 0
 FrontRoundsEnd =
     (digest : List ℕ → List ℕ) →

@@ -40,7 +40,7 @@ item_at Checkpoint bytes = item.Tile 0 []
 item_at (Tile level index width) bytes = item.Tile width bytes
 item_at (Entries index width) bytes = item.Bundle width bytes
 
--- a tile or a bundle of a lawful width
+-- the path is of a tile or a bundle, with a width from 1 to 256
 abbrev pub IsTakeable : Path → Type 0
 IsTakeable Checkpoint = ⊥
 IsTakeable (Tile level index width) = IsWidth width
@@ -59,7 +59,8 @@ TakesItem digest old item (Err NoEdge) new = ⊥
 TakesItem digest old item (Err (Head f)) new = ⊥
 TakesItem digest old item (Err Source) new = ⊥
 
--- after the head a pull ends early for its source, for a clash or for want of memory alone
+-- the answer may come after the head: a pull then ends early for its source, for a clash or for
+-- want of memory alone
 abbrev pub IsLate : {T : Type 0} → Result T PullFault → Type 0
 IsLate (Ok x) = Unit {0}
 IsLate (Err NoCheckpoint) = ⊥
@@ -69,7 +70,8 @@ IsLate (Err Source) = Unit {0}
 IsLate (Err Collision) = Unit {0}
 IsLate (Err OutOfMemory) = Unit {0}
 
--- before the head, for want of memory, the source or the edge
+-- the answer may come before the head: a pull then ends for want of memory, its source or the edge
+-- alone
 abbrev pub IsEarly : {T : Type 0} → Result T PullFault → Type 0
 IsEarly (Ok x) = Unit {0}
 IsEarly (Err NoCheckpoint) = ⊥
@@ -79,13 +81,13 @@ IsEarly (Err Source) = Unit {0}
 IsEarly (Err Collision) = ⊥
 IsEarly (Err OutOfMemory) = Unit {0}
 
--- a fault of a head
+-- the fault of a take says what is wrong with the head, and is no clash and no want of memory
 abbrev pub IsOfHead : TakeFault → Type 0
 IsOfHead take.Collision = ⊥
 IsOfHead take.OutOfMemory = ⊥
 IsOfHead f = Unit {0}
 
--- taking the head, in a pull
+-- what a pull's answer to its head says of the views
 abbrev pub TakesHead : {T : Type 0} → (List ℕ → List ℕ) → List Key → View → Item →
     Result T PullFault → View → Type 0
 TakesHead digest keys old item (Ok x) new = IsGood digest old.origin keys item ×

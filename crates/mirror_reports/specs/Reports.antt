@@ -53,7 +53,7 @@ module _ (digest : List ℕ → List ℕ) (v : View) where
     pub text : IsForksText digest v (printed report)
     pub status : TellsNothing (printed report) report.status
 
-  -- the report of `missing`, of a head
+  -- the report of `missing`, for a head
   pub record TellsMissing (size : ℕ) (root : List ℕ) (report : Report) : Type 0 where
     pub text : IsMissingText digest v size root (printed report)
     pub status : TellsNothing (printed report) report.status
@@ -74,7 +74,7 @@ module _ (digest : List ℕ → List ℕ) (v : View) where
     pub text : IsProofText (printed report) proof
     pub status : report.status ≡ 0
 
-  -- the proof is refused
+  -- the proof that was asked for is refused, with that fault
   pub record RefusesProof (ask : Ask) (fault : ReportFault) : Type 0 where
     pub entries : List (List ℕ)
     pub served : IsServedList digest v entries

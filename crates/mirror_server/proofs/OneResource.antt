@@ -31,7 +31,7 @@ digits_lack_slash (d ∷ ds) h =
 pub number_lacks_slash : (text : List ℕ) (n : ℕ) → IsNumber text n → HasNoSlash text
 number_lacks_slash text n is = digits_lack_slash text is.is_decimal.numeral.1
 
--- the two texts behind a front are known, where no slash stands in the first
+-- the two texts behind a prefix are known, where no slash stands in the first
 pub one_cut : (front target a b c d : List ℕ) → HasTwo front target a b → HasTwo front target c d → HasNoSlash a → HasNoSlash c → (a ≡ c) × (b ≡ d)
 one_cut front target a b c d p q x y =
     let rest : a ++ 47 ∷ b ≡ c ++ 47 ∷ d = append_cancel_left front (a ++ 47 ∷ b) (c ++ 47 ∷ d) (sym p ∙ q) in

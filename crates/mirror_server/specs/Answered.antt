@@ -35,7 +35,7 @@ module _ (digest : List ℕ → List ℕ) (v : View) where
       IsReplyTo digest v h reply
 
   -- what each answer of a server says of all the bytes that its client has to give, and of what was
-  -- written: the whole reply, a front of it, or nothing
+  -- written: the whole reply, a prefix of it, or nothing
   abbrev pub AnswersClient : {X : Type 0} → List ℕ → Option (List ℕ) → Option (List ℕ) →
       Result X HttpFault → Type 0
   AnswersClient bytes old new (Ok x) =

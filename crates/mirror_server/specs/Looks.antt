@@ -13,7 +13,7 @@ use Rattle.mirror_server.specs.declared.head.Seen.TheVariants.{Nothing, NoHead, 
 use Rattle.mirror_server.specs.declared.head.Turn.{Turn}
 use Rattle.mirror_server.specs.declared.head.Turn.TheVariants.{More, Interrupted, End}
 
--- the two places in the bytes are those of the method and the target of a head at their front
+-- the bytes begin with the head of a request, whose method and target stand at these places
 pub record HasHeadAt (bytes : List ℕ) (method target : Span) : Type 0 where
   pub head : RequestHead
   pub rest : List ℕ
@@ -24,13 +24,14 @@ pub record HasHeadAt (bytes : List ℕ) (method target : Span) : Type 0 where
   pub method_is : span_bytes bytes method ≡ head.method
   pub target_is : span_bytes bytes target ≡ head.target
 
--- what a look at the bytes says
+-- what a look at the bytes that were read says: a whole head, the beginning of one, or no head that
+-- is read
 abbrev pub LooksLike : List ℕ → Look → Type 0
 LooksLike bytes (Whole method target) = HasHeadAt bytes method target
 LooksLike bytes Open = HasNoRequest bytes
 LooksLike bytes Bad = RequestOverflows MAX_FIELDS bytes
 
--- what was seen of all the bytes that a client gives, buf being those that were read
+-- what was seen of all the bytes that a client gives, `buf` being those that were read
 abbrev pub SeesIn : List ℕ → List ℕ → Seen → Type 0
 SeesIn all buf Nothing = all ≡ []
 SeesIn all buf NoHead = (first : ℕ) × (others : List ℕ) × (all ≡ first ∷ others) × LacksRequest all
@@ -38,7 +39,7 @@ SeesIn all buf (Head method target) =
     (h : RequestHead) × HasRequest all h × (span_bytes buf method ≡ h.method)
     × (span_bytes buf target ≡ h.target)
 
--- what is named lies in the first len bytes
+-- the method and the target that were seen lie in the first `len` bytes
 abbrev pub LiesWithin : ℕ → Seen → Type 0
 LiesWithin len Nothing = Unit {0}
 LiesWithin len NoHead = Unit {0}
@@ -63,7 +64,7 @@ pub record ReadsNone (known cur : Option (List ℕ)) (old new : List ℕ) : Type
   pub same : new ≡ old
   pub keeps : Keeps known cur
 
--- what one read did
+-- what one read of a client's bytes did
 abbrev pub ReadsOn : Option (List ℕ) → Option (List ℕ) → List ℕ → List ℕ → Turn → Type 0
 ReadsOn known cur old new More = ReadsMore known cur old new
 ReadsOn known cur old new Interrupted = ReadsNone known cur old new

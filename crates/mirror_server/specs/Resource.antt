@@ -23,11 +23,11 @@ pub record IsHexHash (text hash : List ℕ) : Type 0 where
   pub is_hash : Is32Bytes hash
   pub is_hex : text ≡ encode_lower hash
 
--- the target is a front, and two texts with a slash between
+-- the target is that beginning, and two texts with a slash between them
 abbrev pub HasTwo : List ℕ → List ℕ → List ℕ → List ℕ → Type 0
 HasTwo front target first second = target ≡ front ++ (first ++ (codes "/" ++ second))
 
--- the target is a front, a number, a slash and another number
+-- the target is that beginning, a number, a slash and another number
 pub record NamesNumbers (front target : List ℕ) (m n : ℕ) : Type 0 where
   pub first : List ℕ
   pub second : List ℕ
@@ -35,7 +35,7 @@ pub record NamesNumbers (front target : List ℕ) (m n : ℕ) : Type 0 where
   pub first_is : IsNumber first m
   pub second_is : IsNumber second n
 
--- the target is a front, a size, a slash and a root
+-- the target is that beginning, a size, a slash and a root
 pub record NamesHead (front target : List ℕ) (size : ℕ) (root : List ℕ) : Type 0 where
   pub first : List ℕ
   pub second : List ℕ

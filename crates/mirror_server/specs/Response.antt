@@ -26,7 +26,7 @@ pub record HasRequest (bytes : List ℕ) (h : RequestHead) : Type 0 where
   pub reads : ReadsRequest (take MAX_HEAD_LEN bytes) h rest
   pub few : length h.fields ≤ MAX_FIELDS
 
--- the bytes do not begin with such a head
+-- the bytes begin with no head that a server reads
 abbrev pub LacksRequest : List ℕ → Type 0
 LacksRequest bytes = (h : RequestHead) → HasRequest bytes h → ⊥
 
@@ -45,16 +45,16 @@ abbrev pub not_allowed : List ℕ
 not_allowed =
     codes "HTTP/1.1 405 Method Not Allowed\r\nAllow: GET\r\nContent-Length: 0\r\nConnection: close\r\n\r\n"
 
--- the type of a text
+-- the media type of a text
 abbrev pub plain_text : List ℕ
 plain_text = codes "text/plain; charset=utf-8"
 
--- the type of bytes
+-- the media type of bytes
 abbrev pub octets : List ℕ
 octets = codes "application/octet-stream"
 
--- the kind of a body: a checkpoint and what a mirror tells of itself are text, tiles and bundles
--- are bytes
+-- the media type of a resource: a checkpoint and what a mirror tells of itself are text, tiles and
+-- bundles are bytes
 abbrev pub media_type : Resource → List ℕ
 media_type (File path.Checkpoint) = plain_text
 media_type (File (path.Tile level index width)) = octets
@@ -64,19 +64,19 @@ media_type Forks = plain_text
 media_type (Missing size root) = plain_text
 media_type (Proof ask) = plain_text
 
--- the head of a reply with a body of that kind and length
+-- the head of a reply that has a body, of that media type and length
 abbrev pub found_head : List ℕ → ℕ → List ℕ
 found_head kind len =
     codes "HTTP/1.1 200 OK\r\nContent-Type: "
     ++ (kind
     ++ (codes "\r\nContent-Length: " ++ (decimal len ++ codes "\r\nConnection: close\r\n\r\n")))
 
--- a reply with a body of that kind
+-- a reply with a body of that media type
 abbrev pub found : List ℕ → List ℕ → List ℕ
 found kind body = found_head kind (length body) ++ body
 
 module _ (digest : List ℕ → List ℕ) (v : View) where
-  -- the text of a proof of the entries that are served
+  -- the text is that of a proof of the entries that are served
   pub record IsServedProofText (ask : Ask) (text : List ℕ) : Type 0 where
     pub entries : List (List ℕ)
     pub served : IsServedList digest v entries
@@ -84,7 +84,7 @@ module _ (digest : List ℕ → List ℕ) (v : View) where
     pub made : asked_proof digest entries ask ≡ Ok proof
     pub text_is : IsProofText text proof
 
-  -- the bytes of a resource; where there are none, the view does not serve it
+  -- the bytes are those of a resource; where it has none, the view does not serve it
   abbrev pub IsBody : Resource → List ℕ → Type 0
   IsBody (File path) body = Replies digest v path body
   IsBody Status body = IsStatusText digest v body
@@ -100,7 +100,8 @@ module _ (digest : List ℕ → List ℕ) (v : View) where
     pub is_body : IsBody resource body
     pub reply_is : reply ≡ found (media_type resource) body
 
--- the reply to a request
+-- the reply to a request: to another method than GET, to a target that names nothing that is
+-- served, and to one that does
 pub data IsReplyTo (digest : List ℕ → List ℕ) (v : View) (h : RequestHead) : List ℕ → Type 0 where
   other_method : h.method ≢ codes "GET" → IsReplyTo digest v h not_allowed
   not_there : h.method ≡ codes "GET" → ((reply : List ℕ) → IsFound digest v h.target reply → ⊥) →
@@ -108,8 +109,8 @@ pub data IsReplyTo (digest : List ℕ → List ℕ) (v : View) (h : RequestHead)
   is_there : {reply : List ℕ} → h.method ≡ codes "GET" → IsFound digest v h.target reply →
       IsReplyTo digest v h reply
 
--- Response(V, bytes): nothing where a client gives no byte, else the reply to the first request
--- that it gives
+-- what is replied to all the bytes that a client gives: nothing where these are none, else the
+-- reply to the first request among them
 pub data Response (digest : List ℕ → List ℕ) (v : View) : List ℕ → List ℕ → Type 0 where
   silent : Response digest v [] []
   refused : {first : ℕ} {bytes : List ℕ} → LacksRequest (first ∷ bytes) →

@@ -11,7 +11,7 @@ pub enum HttpFault {
     /// A read failed. Nothing was written.
     #[error("ReadFault")]
     ReadFault,
-    /// A write failed, or took no byte. A front of the reply was written.
+    /// A write failed, or took no byte. A prefix of the reply was written.
     #[error("WriteFault")]
     WriteFault,
     /// Memory was refused.

@@ -16,7 +16,7 @@ const CHUNK: usize = 1_024;
 /// What the bytes so far are.
 #[derive(Debug, PartialEq, Eq, Clone, Copy)]
 pub enum Look {
-    /// A whole head stands at the front, with its method and its target at these places.
+    /// A whole head stands at the start, with its method and its target at these places.
     Whole(Span, Span),
     /// No whole head yet.
     Open,

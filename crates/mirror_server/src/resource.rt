@@ -28,7 +28,7 @@ pub enum Resource {
     Proof(Ask),
 }
 
-// The two texts behind the front, of which the first has no slash.
+// The two texts behind the prefix, of which the first has no slash.
 fn two_behind<'a>(target: &'a str, front: &str) -> Option<(&'a str, &'a str)>
     ensures found { IfSome result (λ x. HasTwo front.now target.now x.0.now x.1.now) }
     ensures complete { (first second : List ℕ) → HasNoSlash first → HasTwo front.now target.now first second → MatchOption result ⊥ (λ x. (x.0.now ≡ first) × (x.1.now ≡ second)) }
@@ -47,7 +47,7 @@ fn number_of(text: &str) -> Option<u64>
     }
 }
 
-// The two numbers behind the front.
+// The two numbers behind the prefix.
 fn numbers_of(target: &str, front: &str) -> Option<(u64, u64)>
     ensures found { IfSome result (λ x. NamesNumbers front.now target.now x.0 x.1) }
     ensures none { IfNone result ((m n : ℕ) → NamesNumbers front.now target.now m n → ⊥) }

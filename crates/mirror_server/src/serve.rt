@@ -163,7 +163,7 @@ fn response<H: TreeHash, R: Read>(
 /// # Errors
 ///
 /// `ReadFault` where a read failed, and `OutOfMemory` where memory was refused: nothing was written.
-/// `WriteFault` where a write failed or took no byte: a front of the reply was written.
+/// `WriteFault` where a write failed or took no byte: a prefix of the reply was written.
 ///
 /// # Examples
 ///

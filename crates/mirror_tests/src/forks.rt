@@ -30,7 +30,7 @@ fn forks_at_last<H: TreeHash>(alloc: Global, mirror: &Mirror<H>) -> Result<Vec<F
     }
 }
 
-// There are to be so many forks, with this text.
+// The mirror has so many forks, with this text.
 fn tells<H: TreeHash>(
     rt: &impl Abort,
     alloc: Global,
@@ -122,7 +122,7 @@ fn fork_under_collisions(rt: HostRuntime) -> Result<(), Fail> {
     tells(&rt, rt.alloc(), &mirror, 1, fork)
 }
 
-// Each head of the one log beyond the front is a fork of each of the other, and the front of none.
+// Each head of the one log beyond the shared prefix is a fork of each of the other, and that prefix of none.
 #[test]
 fn logs_that_share_a_front(rt: HostRuntime) -> Result<(), Fail> {
     let mut mirror = with_heads::<Sha256Tree>(

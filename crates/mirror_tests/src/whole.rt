@@ -126,7 +126,7 @@ const LESSER: &str =
 const GREATER: &str =
     "ex\n1\nbjQLnP+zepicpUTmu3gKLHiQHT+zNzh2hRGjBhevoB0=\nb\n\n\u{2014} good AQIDBAU=\n";
 
-// They are one head, and the lesser note is served.
+// Two notes of one size and root are one head, and the lesser note is served.
 #[test]
 fn extension_lines(rt: HostRuntime) -> Result<(), Fail> {
     let mirror = of_two_notes(rt.alloc())?;

@@ -18,7 +18,7 @@ use Rattle.mirror_updates.specs.declared.fault.UpdateFault.{UpdateFault}
 use Rattle.mirror_updates.specs.declared.fault.UpdateFault.TheVariants.{BadOrigin, Export}
 use Rattle.mirror_updates.specs.declared.fault.UpdateFault.TheVariants.{OutOfMemory}
 
--- no shelf was asked for anything
+-- the answer comes from before the export: no shelf was asked for anything
 abbrev pub IsUnexported : {T : Type 0} → Result T UpdateFault → Type 0
 IsUnexported (Ok x) = Unit {0}
 IsUnexported (Err (Export fault)) = ⊥
@@ -49,7 +49,7 @@ module _ (digest : List ℕ → List ℕ) where
       pub held : (y : List ℕ) → Has v.strings y → Has (set.from_list (strings digest entries)) y
       pub complete : IsComplete digest v (length entries) (mth digest entries)
 
-    -- what making such a view comes to
+    -- what each answer of making a view of the log says
     abbrev pub FillsMirror : Result View UpdateFault → Type 0
     FillsMirror (Ok v) = IsLogView v
     FillsMirror (Err BadOrigin) = IsOrigin origin → ⊥

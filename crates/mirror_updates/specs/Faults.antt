@@ -13,22 +13,27 @@ use Rattle.mirror_updates.specs.declared.fault.UpdateFault.{UpdateFault}
 use Rattle.mirror_updates.specs.declared.fault.UpdateFault.TheVariants.{BadOrigin, Load, Merge}
 use Rattle.mirror_updates.specs.declared.fault.UpdateFault.TheVariants.{Pull, Export, OutOfMemory}
 
+-- the fault of a command at a mirror that could not be made
 abbrev pub of_new : NewFault → UpdateFault
 of_new new.BadOrigin = BadOrigin
 of_new new.OutOfMemory = OutOfMemory
 
+-- the fault of a command at a state that could not be loaded
 abbrev pub of_load : LoadFault → UpdateFault
 of_load load.OutOfMemory = OutOfMemory
 of_load fault = Load fault
 
+-- the fault of a command at a merge that was refused
 abbrev pub of_merge : MergeFault → UpdateFault
 of_merge merge.OutOfMemory = OutOfMemory
 of_merge fault = Merge fault
 
+-- the fault of a command at a pull that failed
 abbrev pub of_pull : PullFault → UpdateFault
 of_pull pull.OutOfMemory = OutOfMemory
 of_pull fault = Pull fault
 
+-- the fault of a command at an export that failed
 abbrev pub of_export : ExportFault → UpdateFault
 of_export export.OutOfMemory = OutOfMemory
 of_export fault = Export fault

@@ -17,13 +17,14 @@ module _ (digest : List ℕ → List ℕ) (origin : List ℕ) (keys : List Key)
     pub first_is : LoadsState digest origin keys first (Ok v)
     pub second_is : LoadsState digest origin keys second (Ok w)
 
-  -- the first is loaded, and the second is not
+  -- the first state is loaded, and the second is not, with that fault
   pub record LoadsOne (fault : UpdateFault) : Type 0 where
     pub view : View
     pub first_is : LoadsState digest origin keys first (Ok view)
     pub second_is : LoadsState digest origin keys second (Err fault)
 
-  -- the origin is judged first, then the first state, then the second, then whether they clash
+  -- what each answer of merging two states says: the origin is judged first, then the first state,
+  -- then the second, then whether they clash
   abbrev pub MergesStates : Result View UpdateFault → Type 0
   MergesStates (Ok new) =
       (v : View) × (w : View) × LoadsBoth v w × Merges digest v w Done new

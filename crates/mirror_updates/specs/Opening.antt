@@ -9,14 +9,14 @@ use Rattle.mirror_updates.specs.declared.fault.UpdateFault.{UpdateFault}
 use Rattle.mirror_updates.specs.declared.fault.UpdateFault.TheVariants.{BadOrigin, Load}
 use Rattle.mirror_updates.specs.declared.fault.UpdateFault.TheVariants.{OutOfMemory}
 
--- whether a mirror may be of an origin
+-- what each answer of judging an origin says: a mirror may be of it, or not
 abbrev pub ChecksOrigin : {T : Type 0} → List ℕ → Result T UpdateFault → Type 0
 ChecksOrigin origin (Ok x) = IsOrigin origin
 ChecksOrigin origin (Err BadOrigin) = IsOrigin origin → ⊥
 ChecksOrigin origin (Err OutOfMemory) = Unit {0}
 ChecksOrigin origin (Err fault) = ⊥
 
--- whether a mirror may be of the origin is judged before the state is read
+-- what each answer of opening a mirror says of the origin, which is judged before the state is read
 abbrev pub JudgesOrigin : {T : Type 0} → List ℕ → Result T UpdateFault → Type 0
 JudgesOrigin origin (Ok x) = IsOrigin origin
 JudgesOrigin origin (Err BadOrigin) = IsOrigin origin → ⊥
@@ -24,7 +24,8 @@ JudgesOrigin origin (Err (Load fault)) = IsOrigin origin
 JudgesOrigin origin (Err OutOfMemory) = Unit {0}
 JudgesOrigin origin (Err fault) = ⊥
 
--- it holds of the state's bytes, if a state is named; where they are not told nothing is said
+-- the property holds of the state's bytes, if a state is named; where these are not told nothing is
+-- said
 abbrev pub KnowsState : Option (Option (List ℕ)) → (Option (List ℕ) → Type 0) → Type 0
 KnowsState None Holds = Holds None
 KnowsState (Some None) Holds = Unit {0}
@@ -39,7 +40,8 @@ module _ (digest : List ℕ → List ℕ) (origin : List ℕ) (keys : List Key) 
   LoadsState bytes (Err OutOfMemory) = Unit {0}
   LoadsState bytes (Err fault) = ⊥
 
-  -- the origin is judged first, and then the state, where one is named
+  -- what each answer of opening a mirror says: the origin is judged first, and then the state,
+  -- where one is named
   abbrev pub OpensMirror : Option (List ℕ) → Result View UpdateFault → Type 0
   OpensMirror state (Err BadOrigin) = IsOrigin origin → ⊥
   OpensMirror state (Err OutOfMemory) = Unit {0}

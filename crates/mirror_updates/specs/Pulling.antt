@@ -26,7 +26,8 @@ module _ (digest : List ℕ → List ℕ) (origin : List ℕ) (keys : List Key)
     pub pulled : PullsTo digest keys view new answer
     pub honest : PullsHonestly digest keys view new may asked now_asked answer
 
-  -- the origin is judged first, then the state, then the pull
+  -- what each answer of pulling into a mirror says: the origin is judged first, then the state,
+  -- then the pull
   abbrev pub PullsInto : Result (View × Pulled) UpdateFault → Type 0
   PullsInto (Ok x) = PullsFrom x.0 (Ok x.1)
   PullsInto (Err BadOrigin) =
@@ -42,13 +43,16 @@ module _ (digest : List ℕ → List ℕ) (origin : List ℕ) (keys : List Key)
 
 -- ---- what is told
 
+-- `pulled SIZE ROOT`, the root in standard base64
 abbrev pub head_text : ℕ → List ℕ → List ℕ
 head_text size root = codes "pulled " ++ (decimal size ++ (codes " " ++ base64_of root))
 
+-- the rest of that line, ` rounds ROUNDS refused REFUSED`, with its newline
 abbrev pub counts_text : ℕ → ℕ → List ℕ
 counts_text rounds refused =
     codes " rounds " ++ (decimal rounds ++ (codes " refused " ++ (decimal refused ++ codes "\n")))
 
+-- the second line: whether the head that was pulled is complete
 abbrev pub complete_text : Bool → List ℕ
 complete_text true = codes "complete\n"
 complete_text false = codes "partial\n"
@@ -58,10 +62,11 @@ abbrev pub pulled_lines : Pulled → List ℕ
 pulled_lines p =
     head_text p.size p.root ++ (counts_text p.rounds p.refused ++ complete_text p.complete)
 
--- the exit status of a pull: 3 where the head is not complete
+-- the exit status that tells whether a head is complete: 3 where it is not
 abbrev pub status_of : Bool → ℕ
 status_of true = 0
 status_of false = 3
 
+-- the exit status of a pull says whether its head is complete: 0, or 3 where it is not
 abbrev pub IsPulledStatus : Pulled → ℕ → Type 0
 IsPulledStatus p status = status ≡ status_of p.complete

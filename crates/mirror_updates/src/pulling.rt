@@ -72,7 +72,7 @@ pub fn pulled_text(alloc: Global, pulled: &Pulled) -> Result<String, AllocError>
     Ok(text)
 }
 
-// The front of the first line.
+// The beginning of the first line.
 fn head_of(alloc: Global, size: u64, root: &Hash) -> Result<String, AllocError>
     ensures { IfOk result (λ text. string_bytes text ≡ head_text size root.now) }
 {

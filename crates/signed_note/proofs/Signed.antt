@@ -110,7 +110,7 @@ signed_line_fits text k own small = record {
   bytes = hmac_fits k.secret text;
 }
 
--- such a line has at most 309 bytes
+-- the line that a shared key signs with has at most 309 bytes
 length-signed_line : (text : List ℕ) (k : Secret) → IsOwnName k.name → length (line_text (signed_line text k)) ≤ 309
 length-signed_line text k own =
     let line : Line = signed_line text k in
@@ -155,7 +155,7 @@ signed_is_note text k lawful own small =
       few = omega arith;
     }
 
--- and opens under its key
+-- a signed text opens under its key
 pub signed_opens : (text : List ℕ) (k : Secret) → Opens text (signed_line text k ∷ []) (secret_key k ∷ [])
 signed_opens text k =
     let line : Line = signed_line text k in

@@ -53,7 +53,7 @@ split_at_blank bytes at blank last =
           (subst (λ b. IsBlank b (length (text ++ before))) (sym longer) (blank_in (text ++ before) more));
     }
 
--- of two fronts of one list one begins with the other
+-- of two prefixes of one list one begins with the other
 overlap : (t x u y : List ℕ) → t ++ x ≡ u ++ y →
     ((w : List ℕ) × (u ≡ t ++ w) × (x ≡ w ++ y)) ⊎ ((w : List ℕ) × (t ≡ u ++ w) × (y ≡ w ++ x))
 overlap [] x u y e = inl (u, refl, e)
@@ -66,7 +66,7 @@ overlap (a ∷ t) x (b ∷ u) y e =
       | inr h ↦ inr (h.0, rw heads (ap (λ (z : List ℕ). b ∷ z) h.1), h.2)
     ]
 
--- what ends in a newline ends in it also without a front of it
+-- what ends in a newline ends in it also without a prefix of it
 ends_still : (t w front : List ℕ) (z : ℕ) (v : List ℕ) → w ≡ z ∷ v → t ++ w ≡ front ++ newline ∷ [] → EndsInNewline w
 ends_still [] w front z v is e = (front, e)
 ends_still (a ∷ t) w [] z v is e =
@@ -97,6 +97,6 @@ split_once bytes text signed other more s r =
           (h.1 ∙ (ap (λ (x : List ℕ). other ++ x) none ∙ append-nil other), sym (cc rest))
     ]
 
--- the text is the front of the bytes
+-- the text is a prefix of the bytes
 pub text_front : (bytes text signed : List ℕ) → IsNoteSplit bytes text signed → take (length text) bytes ≡ text
 text_front bytes text signed s = ap (take (length text)) s.whole ∙ take-append_seam text (newline ∷ signed)

@@ -11,7 +11,7 @@ pub record Key : Type 0 where
   pub id : ℕ
   pub accepts : List ℕ → List ℕ → Bool
 
--- a key of a shared secret
+-- a key of a shared secret: its name, its key id, and the secret
 pub record Secret : Type 0 where
   pub name : List ℕ
   pub id : ℕ
@@ -26,13 +26,15 @@ secret_key k =
       accepts = λ text signature. bytes_eq (hmac k.secret text) signature;
     }
 
--- the SHA-256 digests of texts that were verified elsewhere
+-- a key of pinned texts: its name, its key id, and the SHA-256 digests of texts that were verified
+-- elsewhere
 pub record Pins : Type 0 where
   pub name : List ℕ
   pub id : ℕ
   pub digests : List (List ℕ)
 
--- they accept exactly the texts whose digest is listed, whatever the signature is
+-- the key of pinned texts accepts exactly the texts whose digest is listed, whatever the signature
+-- is
 abbrev pub pinned_key : Pins → Key
 pinned_key k =
     record {

@@ -13,7 +13,7 @@ NotesAreRead =
     (bytes text other : List ℕ) (lines others : List Line) →
     IsNote bytes text lines → IsNote bytes other others → (text ≡ other) × (lines ≡ others)
 
--- bytes have one answer, but for want of memory
+-- bytes have one answer as a note, but for want of memory
 abbrev pub OneNoteAnswer : Type 0
 OneNoteAnswer = HasOneAnswer note.OutOfMemory ReadsNote
 

@@ -7,10 +7,11 @@ use Rattle.std.specs.Char.{is_whitespace}
 use Rattle.std.specs.Str.{IsUtf8, chars}
 use Rattle.signed_note.specs.declared.limits.TheConstants.{MAX_NAME_LEN, MAX_SECRET_LEN}
 
--- U+000A and U+0020
+-- the line feed, U+000A
 abbrev pub newline : ℕ
 newline = 10
 
+-- the space, U+0020
 abbrev pub space : ℕ
 space = 32
 

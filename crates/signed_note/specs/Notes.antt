@@ -35,7 +35,7 @@ signed_bytes line = big_bytes 4 line.id ++ line.signature
 abbrev pub line_body : Line → List ℕ
 line_body line = mark ++ space ∷ (line.name ++ space ∷ (base64_of (signed_bytes line)))
 
--- the same with the newline that ends it
+-- a signature line as it stands in a note, with the newline that ends it
 abbrev pub line_text : Line → List ℕ
 line_text line = line_body line ++ newline ∷ []
 
@@ -74,12 +74,12 @@ pub record IsAcceptedBy (text : List ℕ) (line : Line) (key : Key) : Type 0 whe
   pub id : key.id ≡ line.id
   pub signature : IsTrue (key.accepts text line.signature)
 
--- some line is accepted by some key; lines of other keys, and lines that their key does not accept,
--- count for nothing
+-- a note opens under the keys: some line of it is accepted by some key; lines of other keys, and
+-- lines that their key does not accept, count for nothing
 unfoldable pub Opens : List ℕ → List Line → List Key → Type 0
 Opens text lines keys = Any (λ line. Any (λ key. IsAcceptedBy text line key) keys) lines
 
--- the same of one line and one key, as a test
+-- whether the key accepts the line's signature over the text, as a test
 abbrev pub is_accepted_by : List ℕ → Line → Key → Bool
 is_accepted_by text line key =
     bytes_eq key.name line.name && (key.id == line.id && key.accepts text line.signature)

@@ -27,7 +27,7 @@ pub record AreSignatureLines (signed : List ℕ) (lines : List Line) : Type 0 wh
   pub whole : signed ≡ flat_map line_text lines
   pub well_formed : All IsSignatureLine lines
 
--- the text is the base64 of the bytes
+-- what each answer of a reader of base64 says: the text is that of these bytes, or of none
 abbrev pub ReadsBase64 : List ℕ → Result (List ℕ) NoteFault → Type 0
 ReadsBase64 text (Ok bytes) = IsBytes bytes × (text ≡ base64_of bytes)
 ReadsBase64 text (Err note.BadSignatureLine) =
@@ -38,7 +38,8 @@ ReadsBase64 text (Err note.NotText) = ⊥
 ReadsBase64 text (Err note.NoSignatures) = ⊥
 ReadsBase64 text (Err note.TooManySignatures) = ⊥
 
--- the text, without its newline, is that signature line
+-- what each answer of a reader of one signature line says: the text, without its newline, is that
+-- line, or none
 abbrev pub ReadsLine : List ℕ → Result Line NoteFault → Type 0
 ReadsLine text (Ok line) = IsSignatureLine line × (text ≡ line_body line)
 ReadsLine text (Err note.BadSignatureLine) =
@@ -49,6 +50,7 @@ ReadsLine text (Err note.NotText) = ⊥
 ReadsLine text (Err note.NoSignatures) = ⊥
 ReadsLine text (Err note.TooManySignatures) = ⊥
 
+-- what each answer of a reader of signature parts says: the part is these lines, or none
 abbrev pub ReadsSignatureLines : List ℕ → Result (List Line) NoteFault → Type 0
 ReadsSignatureLines signed (Ok lines) = AreSignatureLines signed lines
 ReadsSignatureLines signed (Err note.BadSignatureLine) =
@@ -59,17 +61,20 @@ ReadsSignatureLines signed (Err note.NotText) = ⊥
 ReadsSignatureLines signed (Err note.NoSignatures) = ⊥
 ReadsSignatureLines signed (Err note.TooManySignatures) = ⊥
 
--- short enough, UTF-8, and without characters below U+0020 other than newline
+-- the bytes are short enough, UTF-8, and without characters below U+0020 other than newline
 pub record IsReadable (bytes : List ℕ) : Type 0 where
   pub short : length bytes ≤ MAX_NOTE_LEN
   pub readable : IsNoteText bytes
 
--- a readable note with a signature part that is not empty
+-- the bytes are readable, and divide into a text and a signature part that is not empty
 pub record HasPart (bytes text signed : List ℕ) : Type 0 where
   pub readable : IsReadable bytes
   pub split : IsNoteSplit bytes text signed
   pub some : signed ≢ []
 
+-- what each answer of a reader of notes says of the bytes: Ok, that they are a note, with its text
+-- and its signature lines; a fault, why they are none, each fault where those before it do not
+-- apply. A text without a blank line has NoSignatures
 abbrev pub ReadsNote : List ℕ → Result NoteParts NoteFault → Type 0
 ReadsNote bytes (Ok parts) = (parts.bytes ≡ bytes) × IsNote bytes parts.text parts.lines
 ReadsNote bytes (Err note.NoteTooLong) = MAX_NOTE_LEN < length bytes

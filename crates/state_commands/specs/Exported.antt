@@ -11,14 +11,15 @@ use Rattle.mirror_folders.specs.declared.fault.ExportFault.TheVariants.{NothingC
 use Rattle.state_commands.specs.declared.fault.ExportStateFault.{ExportStateFault}
 use Rattle.state_commands.specs.declared.fault.ExportStateFault.TheVariants.{Load, Export}
 
--- the answer of an export that is done, and of one that is not
+-- the answer of an export that is done
 abbrev pub export_done : Result (Unit {0}) ExportFault
 export_done = Ok tt
 
+-- the answer of an export that failed
 abbrev pub export_failed : ExportFault → Result (Unit {0}) ExportFault
 export_failed fault = Err fault
 
--- nothing was loaded
+-- the fault is of loading the state, so that nothing was exported
 abbrev pub IsLoadFault : ExportStateFault → Type 0
 IsLoadFault (Load fault) = Unit {0}
 IsLoadFault (Export fault) = ⊥

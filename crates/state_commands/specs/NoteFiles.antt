@@ -20,10 +20,11 @@ pub record HeadNote : Type 0 where
 abbrev pub NamedFile : Type 0
 NamedFile = List ℕ × List ℕ
 
--- what is lent, as values
+-- a note that a mirror lends, as a value
 abbrev pub head_note : LentNote → HeadNote
 head_note head = record { note = head.bytes.now; size = head.size; root = head.root }
 
+-- a file of a note, as values: its name and its bytes
 abbrev pub note_file : NoteFile → NamedFile
 note_file file = (string_bytes file.name, file.bytes.now)
 
@@ -55,10 +56,11 @@ files_after before [] = []
 files_after before (head ∷ rest) =
     file_after before head ∷ files_after (before ++ head ∷ []) rest
 
+-- the files of notes, in their order, numbered from 0 among those of one size and root
 abbrev pub files_of : List HeadNote → List NamedFile
 files_of heads = files_after [] heads
 
--- these are the notes of the view, by their bytes, with what they say
+-- the list has the notes of the view, by their bytes, each with what it says
 pub record HasHeads (v : View) (heads : List HeadNote) : Type 0 where
   pub notes : ListsNotes v (map (λ (head : HeadNote). head.note) heads)
   pub are_heads : All IsHeadNote heads

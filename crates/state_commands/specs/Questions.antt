@@ -52,7 +52,7 @@ module _
     pub written : Appends old new (printed report)
     pub status_is : status ≡ report.status
 
-  -- a front of it was written
+  -- a prefix of the report was written, as a write that failed leaves it
   pub record PrintsReportFront (old new : Option (List ℕ)) : Type 0 where
     pub report : Printout
     pub has : HasReport (Ok report)

@@ -13,7 +13,7 @@ pub enum AskFault {
     /// Nothing is reported of it.
     #[error(transparent)]
     Report(ReportFault),
-    /// A write failed, or took no byte. A front of the report may have been written.
+    /// A write failed, or took no byte. A prefix of the report may have been written.
     #[error("WriteFault")]
     WriteFault,
 }
@@ -24,7 +24,7 @@ pub enum ExportStateFault {
     /// The state is not loaded.
     #[error(transparent)]
     Load(LoadFault),
-    /// It is not put onto the shelf, or not all of it.
+    /// What it serves is not put onto the shelf, or not all of it.
     #[error(transparent)]
     Export(ExportFault),
 }

@@ -40,7 +40,7 @@ fn report_of<H: TreeHash, R: Read>(
     }
 }
 
-// Writes the report's text, or a front of it.
+// Writes the report's text, or a prefix of it.
 fn write_report<W: Write>(output: &mut W, report: &Report) -> Result<(), StreamFault>
     ensures ok { OnOk result (Appends (W.contents output.old) (W.contents output.new) (printed report.now)) }
     ensures err { OnErr result (AppendsFront (W.contents output.old) (W.contents output.new) (printed report.now)) }
@@ -60,7 +60,7 @@ fn write_report<W: Write>(output: &mut W, report: &Report) -> Result<(), StreamF
 ///
 /// The first that applies: `Load`, with the fault of `mirror_files::load`; `Report`, with `NoSuchHead`,
 /// `NothingComplete` or the refusal of the proof, as `mirror_reports` says; `WriteFault`, where a write fails or takes no
-/// byte, and then a front of the report was written. Want of memory is `Load` or `Report` with `OutOfMemory`. Nothing is
+/// byte, and then a prefix of the report was written. Want of memory is `Load` or `Report` with `OutOfMemory`. Nothing is
 /// written before the whole report is made.
 pub fn print_report<H: TreeHash, R: Read, W: Write>(
     alloc: Global,

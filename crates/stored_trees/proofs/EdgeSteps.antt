@@ -520,7 +520,7 @@ module _ (digest : List ℕ → List ℕ) (held : Strings) (n level : ℕ) (root
 
 -- ---- rows as bytes
 
--- such rows as bytes
+-- edge rows as bytes
 abbrev HasBytes : ℕ → List ℕ → List (List (List ℕ)) → Type 0
 HasBytes n levels rows = (texts : List (List ℕ)) × (HaveWidths n levels texts × (map row_of texts ≡ rows))
 

@@ -9,8 +9,8 @@ use Rattle.mirror_model.specs.Item.{row_of, HasEdgeRows}
 use Rattle.mirror_model.proofs.EdgeWalks.{Fit}
 
 module _ (digest : List ℕ → List ℕ) (held : Strings) where
-  -- some rows, lowest level first, are as wide as the edge of that size and lead to that root, and
-  -- all that is hashed on the way is held
+  -- the edge of that size and root is held: some rows, lowest level first, are as wide as the edge
+  -- and lead to the root, and all that is hashed on the way is held
   pub record HoldsEdge (size : ℕ) (root : List ℕ) : Type 0 where
     pub rows : List (List ℕ)
     pub has_edge : HasEdgeRows digest size root rows

@@ -5,7 +5,7 @@ use Rattle.mirror_model.specs.Complete.{Complete, IsLawful}
 use Rattle.mirror_model.specs.Forks.{IsPrefix, Point, IsFork}
 use Rattle.mirror_model.specs.Strings.{IsDigest}
 
--- what is no longer than a prefix of a list begins the list exactly where it begins that prefix
+-- a list no longer than a prefix of another begins the other exactly where it begins that prefix
 abbrev pub PrefixOfPrefix : Type 0
 PrefixOfPrefix =
     (first second third : List (List ℕ)) → IsPrefix second third → length first ≤ length second →

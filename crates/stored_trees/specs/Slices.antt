@@ -18,8 +18,9 @@ abbrev pub HasMark : Points → Point → Type 0
 HasMark points point = IsTrue (contains points point)
 
 module _ (digest : List ℕ → List ℕ) (held : Strings) where
-  -- the number of entries and the tree hash of a slice that the recursion of MTH (RFC 6962, section
-  -- 2.1) meets on a list of that size and root of which the tree is held, the whole list among them
+  -- the point is a slice of a tree that is held: the number of entries and the tree hash of a part
+  -- that the recursion of MTH (RFC 6962, section 2.1) meets on a list of that size and root, the
+  -- whole list among them
   pub record IsSliceOf (size : ℕ) (root : List ℕ) (point : Point) : Type 0 where
     pub entries : List (List ℕ)
     pub tree : IsTreeOf digest held size root entries
@@ -28,24 +29,25 @@ module _ (digest : List ℕ → List ℕ) (held : Strings) where
     pub len_is : point.size ≡ node.len
     pub hash_is : point.root ≡ mth digest (part node.start node.len entries)
 
-  -- the set has all of these
+  -- the set has all slices of the tree of that size and root
   abbrev pub HasSlices : Points → ℕ → List ℕ → Type 0
   HasSlices points size root = (point : Point) → IsSliceOf size root point → HasMark points point
 
-  -- each size and root of the set is that of a tree that is held, and all its slices are in the set
-  -- too
+  -- all that may be remembered is: each size and root of the set is that of a tree that is held,
+  -- and all slices of that tree are in the set too
   pub record AreSettled (points : Points) : Type 0 where
     pub known : AreBuilt digest held points
     pub closed : (size : ℕ) (root : List ℕ) → HasPoint points size root → HasSlices points size root
 
-  -- what is remembered on the way of the tree of that size and root
+  -- what settling the tree of that size and root adds to what is remembered: slices of that tree at
+  -- most, and what is remembered afterwards is settled
   pub record Gains (size : ℕ) (root : List ℕ) (old new : Points) : Type 0 where
     pub at_least : (point : Point) → HasMark old point → HasMark new point
     pub at_most : (point : Point) → HasMark new point →
         HasMark old point ⊎ IsSliceOf size root point
     pub settled : AreSettled new
 
--- more is held, and it does not clash: what was settled stays so
+-- what is settled stays settled as more is held, where nothing clashes
 abbrev pub SettledStays : Type 0
 SettledStays =
     (digest : List ℕ → List ℕ) → IsDigest digest → (held more : Strings) →
@@ -53,14 +55,14 @@ SettledStays =
     NoClash digest more → (points : Points) →
     AreSettled digest held points → AreSettled digest more points
 
--- a slice of a head's tree
+-- the point is a slice of the tree of a head of the view
 pub record IsHeadSlice (digest : List ℕ → List ℕ) (v : View) (point : Point) : Type 0 where
   pub size : ℕ
   pub root : List ℕ
   pub head : HasHead v size root
   pub slice : IsSliceOf digest v.strings size root point
 
--- what may be remembered of a view is what the trees of its heads have
+-- what may be remembered of a view are exactly the slices of the trees of its heads
 abbrev pub MarksAreSlices : Type 0
 MarksAreSlices =
     (digest : List ℕ → List ℕ) (v : View) (point : Point) →

@@ -45,7 +45,7 @@ pub fn missing_of<H: TreeHash>(
     Ok(paths)
 }
 
-// The same in the order of the walk, and some more than once.
+// The paths that are missing of a head, in the order of the walk, and some more than once.
 fn all_lost<H: TreeHash>(
     alloc: Global,
     store: &Store<H>,

@@ -30,7 +30,7 @@ pub fn range_hash<H: TreeHash>(
     hash_within(store, size, root, start, len)
 }
 
-// The same of a range that is within the tree.
+// The tree hash of a range that is within the tree.
 fn hash_within<H: TreeHash>(
     store: &Store<H>,
     size: u64,

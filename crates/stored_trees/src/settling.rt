@@ -41,8 +41,8 @@ pub fn settle<H: TreeHash>(
     remember(store, marks, size, root)
 }
 
-// The same of a tree that is held whole. A size and hash is added after those of both parts, so that at each moment
-// all slices of what is remembered are remembered.
+// Remembers the slices of a tree that is held whole. A size and hash is added after those of both parts, so that at
+// each moment all slices of what is remembered are remembered.
 fn remember<H: TreeHash>(
     store: &Store<H>,
     marks: &mut Marks,

@@ -30,7 +30,7 @@ IsBundle-length width bytes es le b =
     let e = ap length b.text in
     omega (arith, h, e, b.count, le)
 
--- a front of an input that fits into the part that was read is a front of that part
+-- a prefix of an input that fits into the part that was read is a prefix of that part
 front_of_part : (input front rest : List ℕ) (n : ℕ) → length front ≤ n → input ≡ front ++ rest → (others : List ℕ) × (take n input ≡ front ++ others)
 front_of_part input front rest n le e =
     let k : n ≡ length front + (n - length front) = omega arith in

@@ -15,7 +15,7 @@ none_left bytes front [] some parts b =
     cc
 none_left bytes front (e ∷ es) some parts b = let bad : suc (length es) ≡ 0 = b.count in absurd (omega arith)
 
--- where bytes are left there is an entry at the front
+-- where bytes are left there is an entry at the start
 pub first_left : (j : ℕ) (bytes : List ℕ) → nat_eq (length bytes) 0 ≡ false → HasBundle j bytes [] → (e : List ℕ) × (after : List ℕ) × (length e < 2 ^ 16) × (bytes ≡ entry_text e ++ after)
 first_left zero bytes some h = absurd (none_left bytes h.front h.entries some h.parts h.is_bundle)
 first_left (suc k) bytes some h = HasBundle-first k bytes [] h

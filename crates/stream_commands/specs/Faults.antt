@@ -12,25 +12,31 @@ use Rattle.stream_commands.specs.declared.entries.EntriesFault.TheVariants as en
 use Rattle.stream_commands.specs.declared.root.RootFault.{RootFault}
 use Rattle.stream_commands.specs.declared.root.RootFault.TheVariants as root
 
+-- the fault of `root` at input that is no bundle of the width
 abbrev pub root_of_bundle : BundleFault → RootFault
 root_of_bundle bundle.BundleShort = root.BundleShort
 root_of_bundle bundle.BundleLong = root.BundleLong
 root_of_bundle bundle.OutOfMemory = root.OutOfMemory
 
+-- the fault of `root` at a stream that failed
 abbrev pub root_of_stream : StreamFault → RootFault
 root_of_stream stream.ReadFault = root.ReadFault
 root_of_stream stream.WriteFault = root.WriteFault
 root_of_stream stream.OutOfMemory = root.OutOfMemory
 
+-- the fault of `check` at input that is no proof's text
 abbrev pub check_of_text : TextFault → CheckFault
 check_of_text text.BadProofText = check.BadProofText
 check_of_text text.OutOfMemory = check.OutOfMemory
 
+-- the fault of `check` at a stream that failed
 abbrev pub check_of_stream : StreamFault → CheckFault
 check_of_stream stream.ReadFault = check.ReadFault
 check_of_stream stream.WriteFault = check.WriteFault
 check_of_stream stream.OutOfMemory = check.OutOfMemory
 
+-- the fault of the reader of entries at input that could not be read; nothing is written there, so
+-- a failed write counts as a failed read
 abbrev pub entries_of_stream : StreamFault → EntriesFault
 entries_of_stream stream.ReadFault = entries.ReadFault
 entries_of_stream stream.WriteFault = entries.ReadFault

@@ -60,7 +60,7 @@ impl<T: Drop> From<AllocFailed<T>> for EntriesFault {
     }
 }
 
-// The entry at the front, and the bytes behind it.
+// The entry at the start, and the bytes behind it.
 fn entry_at(bytes: &[u8]) -> Option<(&[u8], &[u8])>
     ensures found { IfSome result (λ x. (length x.0.now < 2 ^ 16) × (bytes.now ≡ entry_text x.0.now ++ x.1.now)) }
     ensures none { IfNone result ((entry rest : List ℕ) → length entry < 2 ^ 16 → bytes.now ≡ entry_text entry ++ rest → ⊥) }

@@ -31,7 +31,7 @@ pub enum RootFault {
     /// A read failed.
     #[error("ReadFault")]
     ReadFault,
-    /// A write failed, or took no byte. A front of the text may have been written.
+    /// A write failed, or took no byte. A prefix of the text may have been written.
     #[error("WriteFault")]
     WriteFault,
     /// Memory was refused.
@@ -103,7 +103,7 @@ fn made<H: TreeHash, R: Read>(
 /// `ReadFault` comes where a read fails, whatever was read before. `BundleShort` and `BundleLong` are
 /// those of `read_bundle` on all the bytes that the reader had to give, of which at most 16,777,473
 /// are taken: so many are never a bundle. Nothing is written before the whole text is made.
-/// `WriteFault` comes where a write fails or takes no byte, and then a front of the text was written.
+/// `WriteFault` comes where a write fails or takes no byte, and then a prefix of the text was written.
 pub fn run_root<H: TreeHash, R: Read, W: Write>(
     alloc: Global,
     width: u32,

@@ -78,7 +78,7 @@ impl Model for Lines {
 }
 
 impl Lines {
-    /// Those lines.
+    /// Makes the lines of a text.
     pub fn new(lines: Vec<String>) -> Self
         ensures { result ≡ map string_bytes lines.items }
     {

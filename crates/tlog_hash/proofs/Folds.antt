@@ -54,7 +54,7 @@ module _ (digest : List ℕ → List ℕ) where
   mth-graft (One x) = sym (mth-tree x)
   mth-graft (Join l r) = λ i. digest (1 ∷ mth-graft l i ++ mth-graft r i)
 
-  -- Fold of a row is Fold of the folds of its blocks
+  -- folding a row is folding the folds of its blocks
   pub fold_of-blocks : (j : ℕ) (bs : List (List (List ℕ))) → IsCut (2 ^ j) bs →
       fold_of digest (joined_up bs) ≡ fold_of digest (map (fold_of digest) bs)
   unfolding fold_of
@@ -62,7 +62,7 @@ module _ (digest : List ℕ → List ℕ) where
       ap (root digest) (tree_of-blocks j bs c) ∙ fold-graft (tree_of bs) ∙
       sym (ap (root digest) (tree_of-map (fold_of digest) bs))
 
-  -- MTH is Fold of the blocks' MTH
+  -- the tree hash is the fold of the blocks' tree hashes
   pub mth-blocks : (j : ℕ) (bs : List (List (List ℕ))) → IsCut (2 ^ j) bs →
       mth digest (joined_up bs) ≡ fold_of digest (map (mth digest) bs)
   unfolding fold_of
@@ -126,7 +126,7 @@ module _ {A : Type 0} (b : ℕ) where
       flat_map-append (λ y. y) bs (x ∷ []) ∙ ap (λ ys. joined_up bs ++ ys) (flat_map-cons (λ y. y) x [] ∙ append-nil x)
 
 module _ (digest : List ℕ → List ℕ) where
-  -- MTH is Fold of the MTH of blocks of 256^level entries
+  -- the tree hash is the fold of the tree hashes of blocks of 256^level entries
   pub mth-level : (level : ℕ) (bs : List (List (List ℕ))) → IsCut (256 ^ level) bs →
       mth digest (joined_up bs) ≡ fold_of digest (map (mth digest) bs)
   mth-level level bs c = mth-blocks digest (8 * level) bs (subst (λ b. IsCut b bs) (level_power level) c)

@@ -15,7 +15,7 @@ graft f Empty = Empty
 graft f (One x) = f x
 graft f (Join l r) = Join (graft f l) (graft f r)
 
--- blocks of b items each, but for the last one, which has 1 to b
+-- the list is cut into blocks of b items each, but for the last one, which has 1 to b
 abbrev pub IsCut : {A : Type 0} → ℕ → List (List A) → Type 0
 IsCut b [] = ⊥
 IsCut b (x ∷ []) = (0 < length x) × (length x ≤ b)

@@ -14,13 +14,14 @@ pub record IsTreeHash (digest : List ℕ → List ℕ) (hash : List (List ℕ) �
       split_of (length entries) in hash entries
       ≡ digest (1 ∷ hash (take k entries) ++ hash (drop k entries))
 
--- the same for a row of hashes, of which there is at least one
+-- the equations for the hash of a row of hashes, of which there is at least one: those of RFC 6962,
+-- section 2.1, without the hashing of leaves
 pub record IsFold (digest : List ℕ → List ℕ) (hash : List (List ℕ) → List ℕ) : Type 0 where
   pub one : (h : List ℕ) → hash (h ∷ []) ≡ h
   pub join : (row : List (List ℕ)) → 2 ≤ length row → let k =
       split_of (length row) in hash row ≡ digest (1 ∷ hash (take k row) ++ hash (drop k row))
 
--- MTH meets the equations, and nothing else does
+-- mth meets the equations of RFC 6962, and no other function does
 abbrev pub MthIsTreeHash : Type 0
 MthIsTreeHash =
     (digest : List ℕ → List ℕ) →
@@ -28,7 +29,7 @@ MthIsTreeHash =
     × ((hash : List (List ℕ) → List ℕ) → IsTreeHash digest hash → (entries : List (List ℕ)) →
     hash entries ≡ mth digest entries)
 
--- Fold meets its equations, and at rows that are not empty nothing else does
+-- fold_of meets the equations for rows, and at rows that are not empty no other function does
 abbrev pub FoldIsFold : Type 0
 FoldIsFold =
     (digest : List ℕ → List ℕ) →
@@ -36,8 +37,8 @@ FoldIsFold =
     × ((hash : List (List ℕ) → List ℕ) → IsFold digest hash → (row : List (List ℕ)) →
     1 ≤ length row → hash row ≡ fold_of digest row)
 
--- Tree(E): none for no entry, 0x00 || d for one, else those of both parts and the string that joins
--- them
+-- the strings of a tree by its split: none for no entry, 0x00 || entry for one, else those of both
+-- parts and the string that joins them
 pub record IsTreeStrings (digest : List ℕ → List ℕ) : Type 0 where
   pub none : strings digest [] ≡ []
   pub one : (entry : List ℕ) → strings digest (entry ∷ []) ≡ (0 ∷ entry) ∷ []
@@ -49,6 +50,7 @@ pub record IsTreeStrings (digest : List ℕ → List ℕ) : Type 0 where
       ↔ (Contains (strings digest left) y
       ⊎ (Contains (strings digest right) y ⊎ (y ≡ 1 ∷ mth digest left ++ mth digest right)))
 
+-- the strings of the tree of a list follow its split, whatever the digest
 abbrev pub TreeStrings : Type 0
 TreeStrings = (digest : List ℕ → List ℕ) → IsTreeStrings digest
 

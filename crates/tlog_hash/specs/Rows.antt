@@ -2,7 +2,7 @@
 use Rattle.std.specs.Prelude.{ℕ, zero, suc, ◌+◌, ◌*◌, ◌^◌, List, [], ◌∷◌, take, drop, map}
 use Rattle.tlog_hash.specs.Tree.{mth}
 
--- E[start .. start + len]
+-- the items from start on, as many as len: E[start .. start + len]
 abbrev pub part : {A : Type 0} → ℕ → ℕ → List A → List A
 part start len entries = take len (drop start entries)
 

@@ -1,7 +1,7 @@
 -- The test digest, which collides at once.
 use Rattle.std.specs.Prelude.{◌≡◌, ℕ, ◌%◌, List, ◌∷◌, length, replicate, sum, refl}
 
--- 32 bytes: the sum of the string's bytes modulo 256, and zeros
+-- the test digest of a string, 32 bytes: the sum of the string's bytes modulo 256, and zeros
 unfoldable pub sum_digest : List ℕ → List ℕ
 sum_digest string = (sum string % 256) ∷ replicate 31 0
 

@@ -48,11 +48,11 @@ module _ (digest : List ℕ → List ℕ) where
   pairs (One hash) = []
   pairs (Join l r) = pairs l ++ pairs r ++ (root l, root r) ∷ []
 
-  -- Fold(row): MTH with hashes in the place of leaf hashes
+  -- the hash of a row of hashes: the tree hash with these in the place of leaf hashes
   unfoldable pub fold_of : List (List ℕ) → List ℕ
   fold_of row = root (tree_of row)
 
-  -- the pairs that Fold(row) joins
+  -- the pairs of hashes that folding a row joins
   unfoldable pub pairs_of : List (List ℕ) → List (List ℕ × List ℕ)
   pairs_of row = pairs (tree_of row)
 
@@ -60,14 +60,14 @@ module _ (digest : List ℕ → List ℕ) where
   abbrev pub leaf_hash : List ℕ → List ℕ
   leaf_hash entry = digest (0 ∷ entry)
 
-  -- MTH(E), the Merkle tree hash of the entries
+  -- the Merkle tree hash of the entries: MTH of RFC 6962
   unfoldable pub mth : List (List ℕ) → List ℕ
   mth entries = fold_of (map leaf_hash entries)
 
-  -- Joins(row): the strings that Fold(row) hashes
+  -- the strings that folding a row hashes
   unfoldable pub joins : List (List ℕ) → List (List ℕ)
   joins row = map joined (pairs_of row)
 
-  -- Tree(E): the strings that MTH(E) hashes, but for the empty string of an empty list
+  -- the strings that the tree hash of the entries hashes, but for the empty string of an empty list
   unfoldable pub strings : List (List ℕ) → List (List ℕ)
   strings entries = map (λ e. 0 ∷ e) entries ++ joins (map leaf_hash entries)

@@ -8,7 +8,7 @@ pub fn tree_hash_law()
     ensures { MthIsTreeHash }
 {}
 
-/// Fold meets the same equations over a row of hashes, and nothing else does.
+/// `fold_of` meets the equations of the tree hash over a row of hashes, and no other function does.
 pub fn fold_law()
     ensures { FoldIsFold }
 {}

@@ -111,7 +111,7 @@ module _ (digest : List ℕ → List ℕ) (held : Strings) where
       own : IsBranch digest held (map head_of (take (at - 1) before)) one
       own = branches (at - 1) one (omega (arith, some, fits)) (sym is)
 
-      -- it departs from this one
+      -- the head departs from this one
       pub not_begun : b ≡ false → (more : List (ℕ × List ℕ)) → more ≡ apart ++ one.head ∷ [] → ListsFrom (at - 1) more
       not_begun told_no more more_is p =
           subst (λ ps. Contains ps p ↔ (Contains (map head_of (drop (at - 1) before)) p × Departs digest held p head))

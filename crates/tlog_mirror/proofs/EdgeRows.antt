@@ -27,7 +27,7 @@ use Rattle.mirror_model.proofs.StringSets.{has_left}
 
 -- ---- widths
 
--- those of the levels below a number of levels
+-- the widths of the levels below a number of levels
 abbrev pub widths_below : ℕ → ℕ → List ℕ
 widths_below n zero = []
 widths_below n (suc level) = widths_below n level ++ (if width_of n level == 0 then [] else width_of n level ∷ [])

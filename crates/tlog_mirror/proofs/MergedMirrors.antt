@@ -65,7 +65,7 @@ module _ (v : View) (kept : List KeptNote) (i : ℕ) (k : KeptNote) (lt : i < le
   is_listed : Contains kept k
   is_listed = (i, lt, sym at)
 
-  -- it is a head, and its edge is held
+  -- the note is a head, and its edge is held
   module _ (between : View) (before : between ≡ with_notes v (first_notes i kept)) where
     pub note_said : All (λ x. IsHead (note_bytes x) v.origin x.size x.root) kept →
         IsHead (note_bytes k) between.origin k.size k.root

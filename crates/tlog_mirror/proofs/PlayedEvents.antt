@@ -110,7 +110,7 @@ slices_more f g xs ys a bs i b grown same lt at before =
 
 -- a list in two parts
 module _ (world front back : List State) (parts : world ≡ front ++ back) (target source : ℕ) (d e w : State) where
-  -- the target in the front part, the source at the head of the back
+  -- the target in the first part, the source first in the second part
   module _ (len : length front ≡ source) (below : target < source) where
     pub target_in_front : get_or world target d ≡ get_or front target d
     target_in_front = ap (λ xs. get_or xs target d) parts ∙ get_or_append_left front back d target (omega arith)
@@ -124,7 +124,7 @@ module _ (world front back : List State) (parts : world ≡ front ++ back) (targ
     pub set_in_front : set world target w ≡ set front target w ++ back
     set_in_front = ap (λ xs. set xs target w) parts ∙ set-append_left front back target w (omega arith)
 
-  -- the source in the front part, the target at the head of the back
+  -- the source in the first part, the target first in the second part
   module _ (len : length front ≡ target) (below : source < target) where
     pub source_in_front : get_or world source e ≡ get_or front source e
     source_in_front = ap (λ xs. get_or xs source e) parts ∙ get_or_append_left front back e source (omega arith)

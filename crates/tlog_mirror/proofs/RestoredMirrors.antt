@@ -117,7 +117,7 @@ edge_of digest v size root b h = (
   λ e. h.1 (record { rows = e.rows; has_edge = e.has_edge; are_held = e.are_held }),
 )
 
--- so it is where the origin that is read for is the view's
+-- the answers of a finder of notes, where the origin that is read for is the view's
 module _ (digest : List ℕ → List ℕ) (v : View) (keys : List Key) (note origin : List ℕ) (same : origin ≡ v.origin) where
   pub fault_at : (fault : TakeFault) → ReadsHead note origin keys (Err fault) → (held : HeldFault) →
       held ≡ held_fault_of fault → FindsHeld digest v keys note (Err held)

@@ -261,7 +261,7 @@ tile_judged width bytes good answer result is = subst (JudgesTile width bytes) (
     at (Err Collision) = good
     at (Err OutOfMemory) = tt
 
--- and so is a good bundle
+-- a good bundle is answered by a clash or want of memory alone
 pub bundle_judged :
     (width : ℕ) (bytes : List ℕ) → IsGoodBundle width bytes → (answer : Result (Unit {0}) AddFault)
     (result : Result (Unit {0}) TakeFault) → result ≡ taken_of answer → JudgesBundle width bytes result

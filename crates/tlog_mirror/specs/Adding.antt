@@ -32,13 +32,13 @@ with_notes v notes =
       strings = v.strings;
     }
 
--- what an answer of adding strings is to the views
+-- the kind of an answer of adding strings: done, clashed, or out of memory
 abbrev pub added : Result (Unit {0}) AddFault → Answer
 added (Ok done) = Done
 added (Err adding.Collision) = Clashed
 added (Err adding.OutOfMemory) = Exhausted
 
--- the same as the answer of a take
+-- an answer of adding strings as the answer of a take
 abbrev pub taken_of : Result (Unit {0}) AddFault → Result (Unit {0}) TakeFault
 taken_of (Ok done) = Ok done
 taken_of (Err adding.Collision) = Err taking.Collision

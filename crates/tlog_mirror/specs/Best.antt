@@ -13,22 +13,24 @@ use Rattle.mirror_model.specs.Forks.{Point, point_cmp}
 use Rattle.mirror_model.specs.declared.reports.Head.{Head}
 use Rattle.tlog_mirror.specs.declared.kept.KeptNote.{KeptNote}
 
--- a size with a root, as a pair
+-- a size and a root, as code has them in a pair
 abbrev pub pair_point : ℕ × List ℕ → Point
 pair_point p = record { size = p.0; root = p.1 }
 
+-- the size and the root that a kept note says
 abbrev pub kept_point : KeptNote → Point
 kept_point kept = record { size = kept.size; root = kept.root }
 
--- by size, and then by root
+-- the order of pairs of a size and a root: by size, and then by root
 abbrev pub by_point : ℕ × List ℕ → ℕ × List ℕ → Ordering
 by_point a b = point_cmp (pair_point a) (pair_point b)
 
--- the greater size first, then the lesser root
+-- which of two complete heads is served before the other: the one of the greater size, then the one
+-- of the lesser root
 abbrev pub served_cmp : Point → Point → Ordering
 served_cmp a b = ordering_then (nat_cmp b.size a.size) (slice_cmp nat_cmp a.root b.root)
 
--- the point is served before what was found, if anything was
+-- the head is served before the one that was found, if one was
 abbrev pub IsAhead : Point → Option (ℕ × List ℕ) → Type 0
 IsAhead point None = Unit {0}
 IsAhead point (Some found) = served_cmp point (pair_point found) ≡ Less
@@ -40,10 +42,11 @@ pub record HasKept (kept : List KeptNote) (point : Point) : Type 0 where
   pub is : kept_point one ≡ point
 
 module _ (digest : List ℕ → List ℕ) (held : Strings) where
+  -- the tree of that size and root is held
   abbrev pub IsBuiltAt : Point → Type 0
   IsBuiltAt point = IsBuilt digest held point.size point.root
 
-  -- the flag tells whether the tree is held
+  -- the flag of a head tells whether its tree is held
   abbrev pub IsBuiltFlag : Head → Type 0
   IsBuiltFlag head = IsTrue head.complete ↔ IsBuilt digest held head.size head.root
 
@@ -54,11 +57,13 @@ module _ (digest : List ℕ → List ℕ) (held : Strings) where
     pub first : (other : KeptNote) → Contains kept other → IsBuiltAt (kept_point other) →
         is_gt (served_cmp point (kept_point other)) ≡ false
 
+  -- what is found among the kept notes: None where the tree of none is held, else the size and root
+  -- of which none is served before it
   abbrev pub IsBestOf : List KeptNote → Option (ℕ × List ℕ) → Type 0
   IsBestOf kept None = (other : KeptNote) → Contains kept other → IsBuiltAt (kept_point other) → ⊥
   IsBestOf kept (Some found) = IsBest kept (pair_point found)
 
--- the first of the kept notes of that size and root
+-- the note is the first of the kept notes of that size and root
 pub record IsFirstWith (kept : List KeptNote) (point : Point) (one : KeptNote) : Type 0 where
   pub at : ℕ
   pub within : at < length kept

@@ -10,7 +10,8 @@ use Rattle.mirror_model.specs.declared.fault.TakeFault.TheVariants as taking
 abbrev pub HaveWidths : List ℕ → List (List ℕ) → Type 0
 HaveWidths widths rows = map length rows ≡ map (λ width. 32 * width) widths
 
--- rows are read as their hashes where they have those widths
+-- what each answer of a reader of rows of those widths says: they have them, and the hashes are
+-- theirs, or they have not
 abbrev pub ReadsRows : List ℕ → List (List ℕ) → Result (List (List (List ℕ))) TakeFault → Type 0
 ReadsRows widths rows (Ok hashes) = HaveWidths widths rows × (hashes ≡ map row_of rows)
 ReadsRows widths rows (Err (taking.Note fault)) = ⊥
@@ -26,8 +27,8 @@ ReadsRows widths rows (Err taking.BundleLong) = ⊥
 ReadsRows widths rows (Err taking.Collision) = ⊥
 ReadsRows widths rows (Err taking.OutOfMemory) = Unit {0}
 
--- what each answer of a reader of edge rows says: there are as many rows as partial tiles, and they
--- have these widths
+-- what each answer of a reader of edge rows says: there are as many rows as the size has partial
+-- tiles, and they have these widths
 abbrev pub ReadsEdge : ℕ → List (List ℕ) → Result (List (List (List ℕ))) TakeFault → Type 0
 ReadsEdge size rows (Ok hashes) = HasEdgeLengths size rows × (hashes ≡ map row_of rows)
 ReadsEdge size rows (Err (taking.Note fault)) = ⊥
@@ -44,7 +45,8 @@ ReadsEdge size rows (Err taking.BundleLong) = ⊥
 ReadsEdge size rows (Err taking.Collision) = ⊥
 ReadsEdge size rows (Err taking.OutOfMemory) = Unit {0}
 
--- they are taken where they lead to the root besides; a clash is told of such rows alone
+-- what each answer of taking edge rows says: they are as the size has them, and lead to the root; a
+-- clash is told of such rows alone
 abbrev pub JudgesEdge : (List ℕ → List ℕ) → ℕ → List ℕ → List (List ℕ) →
     Result (Unit {0}) TakeFault → Type 0
 JudgesEdge digest size root rows (Ok done) = HasEdgeRows digest size root rows

@@ -27,8 +27,9 @@ state_of origin kept strings remembered =
       remembered = remembered;
     }
 
--- it is sound; of each tree that is remembered all slices are; its kept notes rise by their bytes,
--- and each stands beside the size and the root that it says
+-- the parts of a mirror are as it keeps them: what they stand for is sound; of each tree that is
+-- remembered all slices are; the kept notes rise by their bytes, and each stands beside the size
+-- and the root that it says
 pub record IsKeptWell
     (digest : List ℕ → List ℕ) (origin : List ℕ) (kept : List KeptNote) (strings : Strings)
     (remembered : Points) : Type 0 where

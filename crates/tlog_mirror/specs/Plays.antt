@@ -28,24 +28,27 @@ all_remembered world = map (λ state. state.remembered) world
 abbrev pub origins_of : List State → List (List ℕ)
 origins_of world = map (λ state. state.view.origin) world
 
--- a merge's answer among those of takes
+-- the answer is one that a merge may have, among those of takes
 abbrev pub IsMergeAnswer : Result (Unit {0}) TakeFault → Type 0
 IsMergeAnswer (Ok done) = Unit {0}
 IsMergeAnswer (Err fault) = (merging : MergeFault) × (fault ≡ take_fault_of merging)
 
 module _ (digest : List ℕ → List ℕ) (keys : List Key) where
-  -- a take is answered by the first refusal that applies, as its call answers it
+  -- a take is answered by the first refusal that applies, as the call for its kind of item answers
+  -- it
   abbrev pub JudgesItem : List ℕ → Item → Result (Unit {0}) TakeFault → Type 0
   JudgesItem origin (Head note edge) answer = JudgesHead digest origin keys note edge answer
   JudgesItem origin (Tile width bytes) answer = JudgesTile width bytes answer
   JudgesItem origin (Bundle width bytes) answer = JudgesBundle width bytes answer
 
+  -- an event on mirrors of these origins is answered as its kind may be: a take by what its item
+  -- is, a merge by an answer of merges
   abbrev pub JudgesEvent : List (List ℕ) → Event → Result (Unit {0}) TakeFault → Type 0
   JudgesEvent origins (Take target item) answer =
       (origin : List ℕ) → slice_get origins target ≡ Some origin → JudgesItem origin item answer
   JudgesEvent origins (Merge target source) answer = IsMergeAnswer answer
 
-  -- the same of events, one after another, on mirrors of these origins
+  -- events on mirrors of these origins, one after another, are each answered as its kind may be
   abbrev pub JudgesEvents :
       List (List ℕ) → List Event → List (Result (Unit {0}) TakeFault) → Type 0
   JudgesEvents origins [] [] = Unit {0}
@@ -61,8 +64,8 @@ module _ (digest : List ℕ → List ℕ) (keys : List Key) where
       (between : List View) × RunsOut times old event between
       × Happens digest keys between event Exhausted new
 
-  -- an event happens until it is not for want of memory that it fails, that many times at most; its
-  -- last answer is this
+  -- an event happens until it fails for no want of memory, at most that many times, and this is its
+  -- last answer
   pub record HappensWithin (tries : ℕ) (old : List View) (event : Event) (answer : Answer)
       (new : List View) : Type 0 where
     pub before : ℕ
@@ -81,7 +84,7 @@ module _ (digest : List ℕ → List ℕ) (keys : List Key) where
   RunsWithin tries old [] (answer ∷ answers) new = ⊥
   RunsWithin tries old (event ∷ events) [] new = ⊥
 
--- a tile or a bundle has a width of tiles and bundles
+-- the item, where it is a tile or a bundle, has a width from 1 to 256
 abbrev pub HasWidth : Item → Type 0
 HasWidth (Head note edge) = Unit {0}
 HasWidth (Tile width bytes) = IsWidth width

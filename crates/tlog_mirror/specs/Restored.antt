@@ -17,14 +17,15 @@ use Rattle.tlog_mirror.specs.declared.kept.KeptNote.{KeptNote}
 abbrev pub strings_alone : List ℕ → Strings → View
 strings_alone origin strings = record { origin = origin; notes = set.empty; strings = strings }
 
--- a note that opens under the keys, whose text is a checkpoint of that origin
+-- the note opens under the keys, and its text is a checkpoint of that origin
 pub record IsOpenNote (origin : List ℕ) (keys : List Key) (note : List ℕ) : Type 0 where
   pub size : ℕ
   pub root : List ℕ
   pub is_head : IsOpenHead note origin keys size root
 
 module _ (digest : List ℕ → List ℕ) where
-  -- a note is kept exactly where it opens and the strings of its edge are held already
+  -- what each answer of keeping a note says: it is kept exactly where it opens and the strings of
+  -- its edge are held already
   abbrev pub KeepsHeld : View → List Key → List ℕ → Result (Unit {0}) HeldFault → View → Type 0
   KeepsHeld old keys note (Ok done) new =
       IsOpenNote old.origin keys note × HasEdge digest old note × (new ≡ with_note old note)
@@ -35,7 +36,7 @@ module _ (digest : List ℕ → List ℕ) where
 
   -- ---- what the private readers' contracts cite
 
-  -- a note that may be kept
+  -- a note that may be kept: it opens, and the strings of its edge are held
   pub record IsHeldHead (v : View) (keys : List Key) (note : List ℕ) (kept : KeptNote)
       : Type 0 where
     pub opened : IsOpenNote v.origin keys note
@@ -43,13 +44,14 @@ module _ (digest : List ℕ → List ℕ) where
     pub said : IsHead kept.note.bytes v.origin kept.size kept.root
     pub edge : HasEdge digest v kept.note.bytes
 
+  -- what each answer of the finder of a note that may be kept says of the note
   abbrev pub FindsHeld : View → List Key → List ℕ → Result KeptNote HeldFault → Type 0
   FindsHeld v keys note (Ok kept) = IsHeldHead v keys note kept
   FindsHeld v keys note (Err BadHead) = IsOpenNote v.origin keys note → ⊥
   FindsHeld v keys note (Err NoEdge) = IsOpenNote v.origin keys note × (HasEdge digest v note → ⊥)
   FindsHeld v keys note (Err OutOfMemory) = Unit {0}
 
--- what a fault of reading a head is here
+-- which fault of keeping a note a fault of reading it as a head is
 abbrev pub held_fault_of : TakeFault → HeldFault
 held_fault_of (taking.Note fault) = BadHead
 held_fault_of (taking.Checkpoint fault) = BadHead

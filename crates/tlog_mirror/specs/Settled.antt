@@ -17,7 +17,8 @@ module _ (digest : List ℕ → List ℕ) (held : Strings) where
     pub is_one : Contains heads head
     pub slice : IsSliceOf digest held head.0 head.1 point
 
-  -- what is remembered on the way of these
+  -- what settling these heads adds to what is remembered: slices of their trees at most, and what
+  -- is remembered afterwards is settled
   pub record GainsAny (heads : List (ℕ × List ℕ)) (old new : Points) : Type 0 where
     pub at_least : (point : Point) → HasMark old point → HasMark new point
     pub at_most : (point : Point) → HasMark new point → HasMark old point ⊎ IsSliceOfAny heads point

@@ -14,14 +14,15 @@ use Rattle.tlog_proof.specs.declared.make.ProofFault.TheVariants.{OutOfMemory}
 use Rattle.tlog_proof.specs.declared.proof.Ask.{Ask}
 use Rattle.tlog_proof.specs.declared.proof.Proof.{Proof}
 
--- a note with its size and root, and strings among which the tree of that size and root is looked
--- for
+-- what is served, by itself: a note with its size and root, and strings among which the tree of
+-- that size and root is looked for
 pub record Top : Type 0 where
   pub note : List ℕ
   pub size : ℕ
   pub root : List ℕ
   pub strings : Strings
 
+-- tops in one order of codes, as a model of a top wants it; it says nothing of a log
 abbrev pub top_code : Coded Top
 top_code =
     code_by (List ℕ × (ℕ × (List ℕ × Strings)))
@@ -37,7 +38,7 @@ module _ (digest : List ℕ → List ℕ) where
     pub no_clash : NoClash digest top.strings
     pub leaves_short : (entry : List ℕ) → Has top.strings (0 ∷ entry) → length entry ≤ 65535
 
-  -- the lists of entries that it stands for: one, as the laws say
+  -- the entries are a list that the top stands for: one only, as the laws say
   abbrev pub IsListOf : Top → List (List ℕ) → Type 0
   IsListOf top entries = IsTreeOf digest top.strings top.size top.root entries
 
@@ -51,28 +52,29 @@ module _ (digest : List ℕ → List ℕ) where
     pub strings_are : top.strings ≡ v.strings
     pub served : IsServedAs v top.note top.size top.root
 
-  -- nothing is served
+  -- the view serves nothing
   abbrev pub ServesNothing : View → Type 0
   ServesNothing v =
       (note : List ℕ) (size : ℕ) (root : List ℕ) (entries : List (List ℕ)) →
       Served digest v note size root entries → ⊥
 
--- of a lawful view it stands for the entries that are served
+-- the top of a lawful view stands for exactly the entries that are served
 abbrev pub TopHasServed : Type 0
 TopHasServed =
     (digest : List ℕ → List ℕ) → IsDigest digest → (v : View) → IsLawful digest v → (top : Top) →
     IsServedTop digest v top →
     (entries : List (List ℕ)) → IsListOf digest top entries ↔ IsServedList digest v entries
 
--- what was asked for was made of the entries that are served, want of memory apart
+-- what was answered to the question is what it comes to for the entries that are served, want of
+-- memory apart
 pub record IsServedProof (digest : List ℕ → List ℕ) (v : View) (ask : Ask)
     (result : Result Proof ProofFault) : Type 0 where
   pub entries : List (List ℕ)
   pub served : IsServedList digest v entries
   pub answers : AnswersAs OutOfMemory (λ proof. proof) result (asked_proof digest entries ask)
 
--- a proof that is made over it, as that of each list that it stands for, is one of the entries that
--- are served
+-- a proof that is the right one for each list that the top of a view stands for is the right one
+-- for the entries that are served
 abbrev pub ProofsAreServed : Type 0
 ProofsAreServed =
     (digest : List ℕ → List ℕ) (v : View) (top : Top) → IsServedTop digest v top →

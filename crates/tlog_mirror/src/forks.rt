@@ -47,7 +47,7 @@ impl<H: TreeHash> Mirror<H> {
     }
 }
 
-// Those of these heads whose trees are held.
+// The heads of the list whose trees are held.
 fn whole_of<H: TreeHash>(
     alloc: Global,
     store: &Store<H>,

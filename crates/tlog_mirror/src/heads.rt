@@ -40,7 +40,7 @@ impl<H: TreeHash> Mirror<H> {
     }
 }
 
-// These sizes and roots, each with whether its tree is held.
+// The heads of these sizes and roots, each with whether its tree is held.
 pub(crate) fn flagged<H: TreeHash>(
     alloc: Global,
     store: &Store<H>,

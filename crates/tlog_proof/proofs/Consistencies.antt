@@ -180,7 +180,7 @@ module _ (digest : List ℕ → List ℕ) where
         ap (option_map (both_left digest z)) (s.same rq (rq ++ v ∷ []) (inr (inl refl, refl))) ∙
         sym (climb-right (both_right digest) (both_left digest) k b c value z rq s.past_up)
 
-    -- Cons is a climb from the last whole block of the first tree
+    -- `cons` is a climb from the last whole block of the first tree
     pub cons_up : (f n count m c : ℕ) (flag : Bool) → n ≤ f → IsCounted j n count m c →
         (m < n) ⊎ ((m ≡ n) × (n ≡ 2 ^ j)) → (rq path : List (List ℕ)) → IsTurned flag c g v rq path →
         cons_in digest (shape n) m flag g path ≡ up (shape count) c rq
@@ -301,7 +301,7 @@ module _ (digest : List ℕ → List ℕ) where
         ]) rq path start
         ∙ sym (ap (λ t. up t c rq) (shape-join count two_count))
 
--- Cons from the leaves up
+-- `cons` from the leaves up
 pub cons_climbs : (digest : List ℕ → List ℕ) (j n count m c : ℕ) → IsCounted j n count m c → m < n →
     (g v : List ℕ) (rest path : List (List ℕ)) → IsStart c g v rest path →
     cons digest m n true g path ≡ climb (both_right digest) (both_left digest) (shape count) c (v, v) (reverse rest)

@@ -126,7 +126,7 @@ mapped f (Some x) y e = record { inner = x; is = refl; value = (let v : f x ≡ 
 
 module _ (digest : List ℕ → List ℕ) (size : (s : List ℕ) → length (digest s) ≡ 32) (P : List ℕ → Type 0)
     (same : (x y : List ℕ) → P x → P y → digest x ≡ digest y → x ≡ y) (e : List ℕ) (leaf : P (0 ∷ e)) where
-  -- it holds of the strings of all nodes
+  -- P holds of the strings of all nodes
   abbrev AllNodes : Tree (List ℕ) → Type 0
   AllNodes Empty = Unit {0}
   AllNodes (One d) = P (0 ∷ d)

@@ -1,4 +1,4 @@
--- The equations of Incl and Cons, and that they leave nothing open.
+-- The equations of `incl` and `cons`, and that they leave nothing open.
 use Rattle.std.proofs.Common.{rules, Bool, true, false, ◌⊎◌, inl, inr, ◌≡◌, ℕ, ◌+◌, ◌-◌, ◌<◌, ◌≤◌, List, [], ◌∷◌, ◌++◌}
 use Rattle.std.proofs.Common.{reverse, Option, Some, None, sym, refl, ap, ◌∙◌, arith}
 use Rattle.std.proofs.lemmas.List.{reverse-append, reverse-reverse}
@@ -104,7 +104,7 @@ incl_equations digest = (
   λ read e i n h path. ap (read i n h) (sym (reverse-reverse path)) ∙ only_incl digest read e (reverse path) i n h,
 )
 
--- ---- Cons
+-- ---- consistency
 
 -- two hashes and more are too many
 end-long : (flag : Bool) (g y z : List ℕ) (xs : List (List ℕ)) → at_end flag g ((xs ++ y ∷ []) ++ z ∷ []) ≡ None
@@ -114,7 +114,7 @@ end-long false g y z [] = refl
 end-long false g y z (x ∷ []) = refl
 end-long false g y z (x ∷ w ∷ xs) = refl
 
--- it is the same from either end
+-- at_end is the same from either end
 end-turned : (flag : Bool) (g : List ℕ) (path : List (List ℕ)) → at_end flag g (reverse path) ≡ at_end flag g path
 end-turned flag g [] = refl
 end-turned true g (h ∷ []) = refl

@@ -29,7 +29,7 @@ module _ (digest : List ℕ → List ℕ) where
       proof_in digest m flag (Join l r) ≡ proof_in digest (m - size_of l) false r ++ entries_root digest l ∷ []
   proof-right l r m flag below lt = rw (not_equal m (size_of l + size_of r) below, not_at_most m (size_of l) lt)
 
-  -- the same, with the hash nearest to the root first
+  -- the steps of proof_in, with the hash nearest to the root first
   pub turned-left : (l r : Tree (List ℕ)) (m : ℕ) (flag : Bool) → m < size_of l + size_of r → m ≤ size_of l →
       reverse (proof_in digest m flag (Join l r)) ≡ entries_root digest r ∷ reverse (proof_in digest m flag l)
   turned-left l r m flag below le =

@@ -7,8 +7,8 @@ use Rattle.tlog_hash.specs.Tree.{Tree, Empty, One, Join, tree_of, size_of}
 use Rattle.tlog_hash.specs.Nodes.{entries_root}
 use Rattle.tlog_hash.specs.Shape.{shape}
 
--- what is read where the first tree is all of this part: the first root itself, which the checker
--- has, or else one hash
+-- what a path leads to where the first tree is all of this part: the first root itself, which the
+-- checker has and no hash of the path repeats, or else the one hash of the path
 abbrev pub at_end : Bool → List ℕ → List (List ℕ) → Option (List ℕ × List ℕ)
 at_end true first [] = Some (first, first)
 at_end true first (hash ∷ path) = None
@@ -17,7 +17,8 @@ at_end false first (hash ∷ []) = Some (hash, hash)
 at_end false first (hash ∷ more ∷ path) = None
 
 module _ (digest : List ℕ → List ℕ) where
-  -- SUBPROOF(m, D[n], flag) in a tree
+  -- SUBPROOF(m, D[n], flag) of RFC 6962, in a tree that is made: the flag says that the checker has
+  -- the root of the first m entries
   abbrev pub proof_in : ℕ → Bool → Tree (List ℕ) → List (List ℕ)
   proof_in first flag Empty = []
   proof_in first flag (One entry) = if flag then [] else digest (0 ∷ entry) ∷ []
@@ -34,14 +35,16 @@ module _ (digest : List ℕ → List ℕ) where
   unfoldable pub subproof_of : ℕ → List (List ℕ) → Bool → List (List ℕ)
   subproof_of first entries flag = proof_in first flag (tree_of entries)
 
-  -- Proof(m, E): PROOF(m, D[n]) of RFC 6962, and no hashes for m = n
+  -- PROOF(m, D[n]) of RFC 6962, and no hashes for m = n
   abbrev pub proof_of : ℕ → List (List ℕ) → List (List ℕ)
   proof_of first entries = subproof_of first entries true
 
-  -- a hash to the right belongs to the second tree alone, one to the left to both
+  -- a hash to the right of the way belongs to the second tree alone: it joins the second root so
+  -- far
   abbrev pub both_right : List ℕ → List ℕ × List ℕ → List ℕ × List ℕ
   both_right hash roots = (roots.0, digest (1 ∷ roots.1 ++ hash))
 
+  -- a hash to the left of the way belongs to both trees: it joins both roots so far
   abbrev pub both_left : List ℕ → List ℕ × List ℕ → List ℕ × List ℕ
   both_left hash roots = (digest (1 ∷ hash ++ roots.0), digest (1 ∷ hash ++ roots.1))
 
@@ -60,14 +63,14 @@ module _ (digest : List ℕ → List ℕ) where
       else
       option_map (both_left hash) (cons_in r (first - size_of l) false root path))
 
-  -- Cons(m, n, flag, g, path): the roots of m and of n entries that a path leads to, g being the
-  -- root of m entries that the checker has; None where the path fits no trees of m and n entries
+  -- the roots of `first` and of `second` entries that a path leads to, `root` being the root of the
+  -- first tree that the checker has; None where the path fits no trees of these sizes
   unfoldable pub cons : ℕ → ℕ → Bool → List ℕ → List (List ℕ) → Option (List ℕ × List ℕ)
   cons first second flag root path = cons_in (shape second) first flag root (reverse path)
 
-  -- the consistency proof is right: the tree of the first size and root is the front of that of the
-  -- second. Trees of equal sizes have the empty path and equal roots, and from a tree of no entries
-  -- there is no proof
+  -- a consistency proof is right: the tree of the first size and root has the first entries of that
+  -- of the second. Trees of equal sizes have the empty path and equal roots, and from a tree of no
+  -- entries there is no proof
   abbrev pub IsConsistency : ℕ → List ℕ → ℕ → List ℕ → List (List ℕ) → Type 0
   IsConsistency first first_root second second_root path =
       (0 < first)
@@ -75,7 +78,8 @@ module _ (digest : List ℕ → List ℕ) where
       × (cons first second true first_root path ≡ Some (first_root, second_root)))
       ⊎ ((first ≡ second) × (path ≡ []) × (first_root ≡ second_root)))
 
-  -- a string that is hashed where Cons is computed, the hash nearest to the root first
+  -- the string is hashed where a consistency path is checked; the path has the hash nearest to the
+  -- root first
   abbrev pub IsHashedBoth : Tree ℕ → ℕ → Bool → List ℕ → List (List ℕ) → List ℕ → Type 0
   IsHashedBoth Empty first flag root path string = ⊥
   IsHashedBoth (One x) first flag root path string = ⊥

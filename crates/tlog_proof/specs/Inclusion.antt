@@ -17,14 +17,15 @@ module _ (digest : List ℕ → List ℕ) where
       if nat_lt index (size_of l) then path_in index l
       ++ entries_root digest r ∷ [] else path_in (index - size_of l) r ++ entries_root digest l ∷ []
 
-  -- Path(m, E): PATH(m, D[n]) of RFC 6962
+  -- PATH(m, D[n]) of RFC 6962, m being the index
   unfoldable pub path_of : ℕ → List (List ℕ) → List (List ℕ)
   path_of index entries = path_in index (tree_of entries)
 
-  -- a hash to the right or to the left of the way joins the hash so far
+  -- a hash to the right of the way joins the hash so far
   abbrev pub hash_right : List ℕ → List ℕ → List ℕ
   hash_right hash value = digest (1 ∷ value ++ hash)
 
+  -- a hash to the left of the way joins the hash so far
   abbrev pub hash_left : List ℕ → List ℕ → List ℕ
   hash_left hash value = digest (1 ∷ hash ++ value)
 
@@ -32,17 +33,18 @@ module _ (digest : List ℕ → List ℕ) where
   abbrev pub incl_in : Tree ℕ → ℕ → List ℕ → List (List ℕ) → Option (List ℕ)
   incl_in tree index leaf path = climb hash_right hash_left tree index leaf path
 
-  -- Incl(i, n, h, path): the root of n entries that a path leads to from the leaf hash h of entry
-  -- i, None where the path fits no tree of n entries
+  -- the root of `size` entries that a path leads to from the leaf hash of the entry at the index;
+  -- None where the path fits no tree of that size
   unfoldable pub incl : ℕ → ℕ → List ℕ → List (List ℕ) → Option (List ℕ)
   incl index size leaf path = incl_in (shape size) index leaf (reverse path)
 
-  -- the inclusion proof is right: entry number index of a tree of that size and root has that leaf
-  -- hash
+  -- an inclusion proof is right: the path leads from the leaf hash of entry number `index` to the
+  -- root of a tree of that size
   abbrev pub IsInclusion : List ℕ → ℕ → ℕ → List (List ℕ) → List ℕ → Type 0
   IsInclusion leaf index size path root = (index < size) × (incl index size leaf path ≡ Some root)
 
-  -- a string that is hashed where Incl is computed, the hash nearest to the root first
+  -- the string is hashed where an inclusion path is checked; the path has the hash nearest to the
+  -- root first
   abbrev pub IsHashed : Tree ℕ → ℕ → List ℕ → List (List ℕ) → List ℕ → Type 0
   IsHashed Empty index leaf path string = ⊥
   IsHashed (One x) index leaf path string = ⊥

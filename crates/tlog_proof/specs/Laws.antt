@@ -27,7 +27,7 @@ pub record IsPathMaker (digest : List ℕ → List ℕ) (path : ℕ → List (Li
       2 ≤ length entries → let k = split_of (length entries) in
       path m entries ≡ path (m - k) (drop k entries) ++ mth digest (take k entries) ∷ []
 
--- Path meets them, and for an entry that is there nothing else does
+-- path_of meets the equations of PATH, and for an entry that is there no other function does
 abbrev pub PathEquations : Type 0
 PathEquations =
     (digest : List ℕ → List ℕ) →
@@ -54,7 +54,8 @@ pub record IsSubproofMaker (digest : List ℕ → List ℕ)
       subproof m entries flag
       ≡ subproof (m - k) (drop k entries) false ++ mth digest (take k entries) ∷ []
 
--- PROOF(m, D[n]) is SUBPROOF(m, D[n], true), which meets them; and for 0 < m <= n nothing else does
+-- PROOF(m, D[n]) is SUBPROOF(m, D[n], true), which meets its equations; and for 0 < m <= n no other
+-- function does
 abbrev pub ProofEquations : Type 0
 ProofEquations =
     (digest : List ℕ → List ℕ) →
@@ -74,8 +75,8 @@ PathsAreShort =
 
 -- ---- how proofs are read
 
--- the equations of Incl, which read PATH backwards: the last hash of a path is the one nearest to
--- the root (RFC 9162, section 2.1.3)
+-- the equations of a reader of paths, which read PATH backwards: the last hash of a path is the one
+-- nearest to the root (RFC 9162, section 2.1.3)
 pub record IsPathReader (digest : List ℕ → List ℕ)
     (read : ℕ → ℕ → List ℕ → List (List ℕ) → Option (List ℕ)) : Type 0 where
   pub none : (i : ℕ) (leaf : List ℕ) (path : List (List ℕ)) → read i 0 leaf path ≡ None
@@ -92,7 +93,7 @@ pub record IsPathReader (digest : List ℕ → List ℕ)
       read i n leaf (path ++ hash ∷ [])
       ≡ option_map (λ v. digest (1 ∷ hash ++ v)) (read (i - split_of n) (n - split_of n) leaf path)
 
--- Incl meets them, and nothing else does
+-- incl meets the equations of a reader of paths, and no other function does
 abbrev pub InclEquations : Type 0
 InclEquations =
     (digest : List ℕ → List ℕ) →
@@ -101,7 +102,8 @@ InclEquations =
     (i n : ℕ) (leaf : List ℕ) (path : List (List ℕ)) →
     read i n leaf path ≡ incl digest i n leaf path)
 
--- the equations of Cons, which read SUBPROOF backwards (RFC 9162, section 2.1.4)
+-- the equations of a reader of consistency paths, which read SUBPROOF backwards (RFC 9162, section
+-- 2.1.4)
 pub record IsSubproofReader (digest : List ℕ → List ℕ)
     (read : ℕ → ℕ → Bool → List ℕ → List (List ℕ) → Option (List ℕ × List ℕ)) : Type 0 where
   pub none :
@@ -122,7 +124,7 @@ pub record IsSubproofReader (digest : List ℕ → List ℕ)
       read m n flag root (path ++ hash ∷ [])
       ≡ option_map (both_left digest hash) (read (m - split_of n) (n - split_of n) false root path)
 
--- Cons meets them, and nothing else does
+-- cons meets the equations of a reader of consistency paths, and no other function does
 abbrev pub ConsEquations : Type 0
 ConsEquations =
     (digest : List ℕ → List ℕ) →
@@ -134,13 +136,16 @@ ConsEquations =
 
 -- ---- what is made is accepted
 
+-- the path that is made for an entry is accepted for its leaf hash, its index, and the size and
+-- tree hash of the list
 abbrev pub MadeInclusionHolds : Type 0
 MadeInclusionHolds =
     (digest : List ℕ → List ℕ) (entries : List (List ℕ)) (i : ℕ) → i < length entries →
     IsInclusion digest (digest (0 ∷ slice_index_or entries i [])) i (length entries)
     (path_of digest i entries) (mth digest entries)
 
--- Cons of Proof(m, E) are the two roots, so what is made is accepted, for equal sizes too
+-- the path that is made from m entries to all of them leads to the two tree hashes, and is
+-- accepted, for equal sizes too
 abbrev pub MadeConsistencyHolds : Type 0
 MadeConsistencyHolds =
     (digest : List ℕ → List ℕ) (entries : List (List ℕ)) (m : ℕ) → 0 < m → m ≤ length entries →
@@ -164,7 +169,8 @@ IsMetByInclusion digest entries i entry path string =
     ⊎ (IsHashed digest (shape (length entries)) i (digest (0 ∷ entry)) (reverse path) string
     ⊎ Contains (strings digest entries) string)
 
--- a path that is accepted for entry i of a list shows that entry
+-- a path that is accepted for entry i of a list shows that entry, where nothing that is hashed
+-- clashes
 abbrev pub AcceptedInclusionShows : Type 0
 AcceptedInclusionShows =
     (digest : List ℕ → List ℕ) → ((s : List ℕ) → length (digest s) ≡ 32) →
@@ -180,7 +186,7 @@ IsMetByConsistency digest ds es path string =
     ⊎ (Contains (strings digest ds) string ⊎ Contains (strings digest es) string)
 
 -- a path of hashes that is accepted for the sizes and roots of two lists shows that the first is a
--- prefix of the second
+-- prefix of the second, where nothing that is hashed clashes
 abbrev pub AcceptedConsistencyShows : Type 0
 AcceptedConsistencyShows =
     (digest : List ℕ → List ℕ) → ((s : List ℕ) → length (digest s) ≡ 32) →

@@ -16,7 +16,8 @@ use Rattle.tlog_proof.specs.declared.proof.Proof.{Proof}
 use Rattle.tlog_proof.specs.declared.proof.Proof.TheVariants.{Inclusion, Consistency}
 
 module _ (digest : List ℕ → List ℕ) where
-  -- the path for an index in the tree of the first entries, or the first refusal that applies
+  -- the path for an index in the tree of the first entries, as many as size, or the first refusal
+  -- that applies
   abbrev pub inclusion_in : List (List ℕ) → ℕ → ℕ → Result (List (List ℕ)) ProofFault
   inclusion_in entries size index =
       if nat_lt (length entries) size then Err NoSuchSize

@@ -18,10 +18,12 @@ pub record AreProofLines (lines : List ℕ) (proof : Proof) : Type 0 where
   pub writable : IsWritableProof proof
   pub hashes : HasHashes proof
 
+-- the proof is one of inclusion
 abbrev pub IsInclusionProof : Proof → Type 0
 IsInclusionProof (Inclusion size index root leaf path) = Unit {0}
 IsInclusionProof (Consistency first first_root second second_root path) = ⊥
 
+-- the proof is one of consistency
 abbrev pub IsConsistencyProof : Proof → Type 0
 IsConsistencyProof (Inclusion size index root leaf path) = ⊥
 IsConsistencyProof (Consistency first first_root second second_root path) = Unit {0}

@@ -12,7 +12,7 @@ KeepsIncl i s j t =
     (digest : List ℕ → List ℕ) (leaf : List ℕ) (path : List (List ℕ)) →
     incl_in digest (shape (s + 1)) i leaf path ≡ incl_in digest (shape (t + 1)) j leaf path
 
--- the same of two hashes at once
+-- leaf i of s + 1 and leaf j of t + 1 have the same way up where two roots are carried along it
 abbrev pub KeepsBoth : (i s j t : ℕ) → Type 0
 KeepsBoth i s j t =
     (digest : List ℕ → List ℕ) (roots : List ℕ × List ℕ) (path : List (List ℕ)) →

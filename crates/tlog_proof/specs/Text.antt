@@ -17,22 +17,24 @@ use Rattle.tlog_proof.specs.declared.fault.TextFault.TheVariants.{BadProofText, 
 abbrev pub LacksNewline : List ℕ → Type 0
 LacksNewline bytes = (i : ℕ) → i < length bytes → slice_index bytes i ≢ 10
 
--- a line, and what follows it
+-- a line of a name, which has its space behind it, and a value; and what follows the line
 abbrev pub line : List ℕ → List ℕ → List ℕ → List ℕ
 line name value rest = name ++ (value ++ 10 ∷ rest)
 
+-- a line of a name and a number in decimal; and what follows the line
 abbrev pub number_line : List ℕ → ℕ → List ℕ → List ℕ
 number_line name n rest = line name (decimal n) rest
 
+-- a line of a name and a hash in base64; and what follows the line
 abbrev pub hash_line : List ℕ → List ℕ → List ℕ → List ℕ
 hash_line name hash rest = line name (base64_of hash) rest
 
--- a line for each hash of a path
+-- a line for each hash of a path; and what follows these lines
 abbrev pub path_lines : List (List ℕ) → List ℕ → List ℕ
 path_lines [] rest = rest
 path_lines (hash ∷ path) rest = hash_line (codes "path ") hash (path_lines path rest)
 
--- the lines after the title
+-- the lines of a proof after its title
 abbrev pub lines_of : Proof → List ℕ
 lines_of (Inclusion size index root leaf path) =
     number_line (codes "size ") size
@@ -44,12 +46,13 @@ lines_of (Consistency first first_root second second_root path) =
     (number_line (codes "second ") second
     (hash_line (codes "root ") second_root (path_lines path []))))
 
+-- the first line of a proof's text, without its newline: which kind of proof it is
 abbrev pub title_of : Proof → List ℕ
 title_of (Inclusion size index root leaf path) = codes "inclusion"
 title_of (Consistency first first_root second second_root path) = codes "consistency"
 
--- what can be written: numbers that are sizes of trees or below one, and no more hashes of a path
--- than there may be
+-- the proof can be written: its numbers are sizes of trees or below one, and its path has no more
+-- hashes than there may be
 abbrev pub IsWritableProof : Proof → Type 0
 IsWritableProof (Inclusion size index root leaf path) =
     (size ≤ MAX_SIZE) × (index ≤ MAX_SIZE) × (length path ≤ MAX_PATH)
@@ -63,13 +66,13 @@ HasHashes (Inclusion size index root leaf path) =
 HasHashes (Consistency first first_root second second_root path) =
     Is32Bytes first_root × Is32Bytes second_root × AllByRecursion Is32Bytes path
 
--- the text is that proof
+-- the text is that proof's, to the byte
 pub record IsProofText (text : List ℕ) (proof : Proof) : Type 0 where
   pub is_text : text ≡ title_of proof ++ 10 ∷ lines_of proof
   pub writable : IsWritableProof proof
   pub hashes : HasHashes proof
 
--- what each answer to a text says of it
+-- what each answer of a reader of proof texts says of the text
 abbrev pub ReadsProof : List ℕ → Result Proof TextFault → Type 0
 ReadsProof text (Ok proof) = IsProofText text proof
 ReadsProof text (Err BadProofText) = (proof : Proof) → IsProofText text proof → ⊥

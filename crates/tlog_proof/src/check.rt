@@ -50,7 +50,7 @@ pub fn check_inclusion<H: TreeHash>(
     end == 0 && hash == *root
 }
 
-/// Whether the path shows that the tree of the first size and root is the front of the tree of the
+/// Whether the path shows that the tree of the first size and root is a prefix of the tree of the
 /// second (RFC 9162, section 2.1.4.2).
 ///
 /// Equal sizes have the empty path and equal roots (own: the standard leaves them out). It is false

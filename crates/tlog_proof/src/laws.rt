@@ -20,12 +20,12 @@ pub fn path_length_law()
     ensures { PathsAreShort }
 {}
 
-/// Incl reads the equations of Path backwards, from the root down, and nothing else does.
+/// `incl` reads the equations of PATH backwards, from the root down, and no other function does.
 pub fn incl_law()
     ensures { InclEquations }
 {}
 
-/// Cons reads the equations of Proof backwards, from the root down, and nothing else does.
+/// `cons` reads the equations of PROOF backwards, from the root down, and no other function does.
 pub fn cons_law()
     ensures { ConsEquations }
 {}

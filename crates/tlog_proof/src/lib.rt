@@ -2,7 +2,7 @@
 //! 9162, sections 2.1.3 and 2.1.4).
 //!
 //! An inclusion proof shows that an entry stands at its index in a tree of some size and root, and a
-//! consistency proof that a tree is the front of a larger one. Both are lists of hashes of parts of
+//! consistency proof that a tree is a prefix of a larger one. Both are lists of hashes of parts of
 //! the tree, here called a path, the hash nearest to the root last.
 //!
 //! `inclusion` and `consistency` make the path from the hashes of ranges of the list, which any

@@ -68,7 +68,7 @@ pub fn inclusion<R: Ranges>(
     Ok(path)
 }
 
-/// The path that shows that the tree of the first `first` entries is the front of that of the first
+/// The path that shows that the tree of the first `first` entries is a prefix of that of the first
 /// `second`: PROOF of RFC 6962, section 2.1.2, and no hashes for equal sizes.
 ///
 /// Errors, the first that applies: NoSuchSize where the list has fewer than `second` entries,

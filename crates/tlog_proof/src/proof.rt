@@ -18,7 +18,7 @@ use tlog_hash::{Hash, TreeHash};
 pub enum Ask {
     /// That the entry of an index is in the tree of a size.
     Inclusion { size: u64, index: u64 },
-    /// That the tree of the first size is the front of that of the second.
+    /// That the tree of the first size is a prefix of that of the second.
     Consistency { first: u64, second: u64 },
 }
 
@@ -36,7 +36,7 @@ pub enum Proof {
         leaf: Hash,
         path: HashPath,
     },
-    /// The tree of the first size and root is the front of that of the second.
+    /// The tree of the first size and root is a prefix of that of the second.
     Consistency {
         first: u64,
         first_root: Hash,

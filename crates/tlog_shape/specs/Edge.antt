@@ -3,16 +3,17 @@
 -- A tile of level L has up to 256 hashes, each of 256^L entries.
 use Rattle.std.specs.Prelude.{◌≡◌, ◌⊎◌, ℕ, ◌+◌, ◌*◌, ◌/◌, ◌%◌, ◌^◌, ◌<◌, ◌≤◌}
 
--- Width(n, L): how many hashes the partial tile of level L has; where this is 0 there is none
+-- how many hashes the partial tile of a level has, in a tree of n entries; where this is 0 there is
+-- none
 abbrev pub width_of : ℕ → ℕ → ℕ
 width_of n level = n / 256 ^ level % 256
 
--- EdgeIndex(n, L): the index of the partial tile, which is how many full tiles of level L come
--- before it
+-- the index of the partial tile of a level, which is how many full tiles of that level come before
+-- it
 abbrev pub edge_index_of : ℕ → ℕ → ℕ
 edge_index_of n level = n / 256 ^ (level + 1)
 
--- Top(n): the greatest level of non-zero width, and 0 for n = 0
+-- top is the greatest level that has a partial tile in a tree of n entries, and 0 for n = 0
 pub record IsTop (n top : ℕ) : Type 0 where
   pub within : top ≤ 7
   pub some : 0 < n → 0 < width_of n top

@@ -65,7 +65,7 @@ module _ (text : List ℕ) (bytes : (i : ℕ) → slice_index text i < 256) (sym
         is_base64 = decode_of_strict standard text hash (refl, refl) bytes ok;
       }
 
-  -- and a hash's text is decoded to it
+  -- a hash's text is decoded to the hash
   pub is_decoded : (hash : List ℕ) → IsHashText text hash → decode_of standard text ≡ Ok hash
   unfolding base64_of
   is_decoded hash h = (decode_of_iff standard text hash (refl, refl) bytes h.is_hash.are_bytes).1 h.is_base64

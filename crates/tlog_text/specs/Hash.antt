@@ -3,11 +3,11 @@ use Rattle.std.specs.Prelude.{◌≡◌, ℕ, List, length}
 use Rattle.base64.specs.Engines.{standard}
 use Rattle.base64.specs.GeneralPurpose.{IsBytes, encode_of}
 
--- standard base64, with padding
+-- standard base64 of the bytes, with padding
 unfoldable pub base64_of : List ℕ → List ℕ
 base64_of bytes = encode_of standard bytes
 
--- 32 bytes
+-- the hash is 32 bytes
 pub record Is32Bytes (hash : List ℕ) : Type 0 where
   pub are_bytes : IsBytes hash
   pub are_32 : length hash ≡ 32

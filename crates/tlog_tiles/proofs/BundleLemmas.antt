@@ -12,7 +12,7 @@ use Rattle.tlog_tiles.specs.declared.bundle.BundleFault.TheVariants.{BundleShort
 use Rattle.tlog_tiles.specs.Laws.{BundlesAreShort}
 use Rattle.tlog_tiles.specs.Bundle.{entry_text, IsBundle, HasBundle, ReadsBundle}
 
--- the entry at the front is known from the bytes
+-- the entry at the start is known from the bytes
 pub entry_one : (d e a b : List ℕ) → length d < 2 ^ 16 → length e < 2 ^ 16 → entry_text d ++ a ≡ entry_text e ++ b →
     (d ≡ e) × (a ≡ b)
 entry_one d e a b hd he h =
@@ -99,7 +99,7 @@ left_over width bytes (x ∷ xs) es some count fits text = (
   },
 )
 
--- entries at the front, that many, are known from the bytes
+-- entries at the start, that many, are known from the bytes
 pub bundle_one : (es fs : List (List ℕ)) (a b : List ℕ) → length es ≡ length fs → All (λ e. length e < 2 ^ 16) es →
     All (λ e. length e < 2 ^ 16) fs → flat_map entry_text es ++ a ≡ flat_map entry_text fs ++ b → (es ≡ fs) × (a ≡ b)
 bundle_one [] [] a b n p q h = (refl, h)

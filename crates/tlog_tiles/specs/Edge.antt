@@ -14,7 +14,7 @@ abbrev pub edge_below : ℕ → ℕ → List Path
 edge_below n zero = []
 edge_below n (suc level) = edge_below n level ++ edge_at n level
 
--- Edge(n): the partial tiles of a tree of n entries, lowest level first; no tree has a level above
+-- the edge of a tree of n entries: its partial tiles, lowest level first; no tree has a level above
 -- 7
 unfoldable pub edge_of : ℕ → List Path
 edge_of n = edge_below n 8

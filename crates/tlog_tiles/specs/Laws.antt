@@ -32,7 +32,7 @@ OneRowAnswer = (width : ℕ) → HasOneAnswer row.OutOfMemory (ReadsRow width)
 abbrev pub OnePathAnswer : Type 0
 OnePathAnswer = AlwaysHasOneAnswer ReadsPath
 
--- a text is a path exactly where that is lawful and is printed so
+-- a text is that path exactly where the path is lawful and is printed so
 abbrev pub PathsAreSpelled : Type 0
 PathsAreSpelled =
     (text : List ℕ) (path : Path) → IsPath text path ↔ (IsLawfulPath path × (text ≡ path_text path))
@@ -65,6 +65,8 @@ pub record IsRead (digest : List ℕ → List ℕ) (entries : List (List ℕ)) :
       (index width : ℕ) → IsTileWithin (length entries) 0 index width →
       IsBundle width (bundle_bytes entries index width) (part (256 * index) width entries)
 
+-- what a log serves of its entries is read: the bytes of a tile are a row, and those of a bundle a
+-- bundle, under a digest of 32 bytes and for entries of at most 65,535 bytes
 abbrev pub ServedIsRead : Type 0
 ServedIsRead =
     (digest : List ℕ → List ℕ) → ((s : List ℕ) → length (digest s) ≡ 32) →

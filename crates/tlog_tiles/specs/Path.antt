@@ -97,14 +97,15 @@ IsPath text (Entries index width) = IsFileText (codes "entries") text index widt
 
 -- ---- the refusals
 
--- the second segment is none that it can be
+-- the text begins with `tile/` and a second segment, and that segment is neither a level nor
+-- `entries`
 pub record HasBadLevel (text : List ℕ) : Type 0 where
   pub second : List ℕ
   pub tail : List ℕ
   pub below : IsBelowTile text second tail
   pub bad : IsKind second → ⊥
 
--- the second segment is one that it can be, and the index is no lawful one
+-- the second segment is a level or `entries`, and the index is no lawful one
 pub record HasBadIndex (text : List ℕ) : Type 0 where
   pub second : List ℕ
   pub tail : List ℕ
@@ -115,7 +116,8 @@ pub record HasBadIndex (text : List ℕ) : Type 0 where
   pub parts : HasWidthPart tail index_text width_text
   pub bad : (index : ℕ) → index ≤ MAX_INDEX → IsIndex index_text index → ⊥
 
--- the second segment and the index are as they should be, and the width is none
+-- the second segment and the index are as they should be, and the width is not one of a partial
+-- tile
 pub record HasBadWidth (text : List ℕ) : Type 0 where
   pub second : List ℕ
   pub tail : List ℕ
@@ -147,6 +149,8 @@ groups_within zero number = []
 groups_within (suc bound) zero = []
 groups_within (suc bound) (suc n) = groups_within bound (suc n / 1000) ++ group_text (suc n)
 
+-- the groups of an index before its last, each an x and three digits and a slash, for the number
+-- that they make; none for 0
 unfoldable pub groups_text : ℕ → List ℕ
 groups_text number = groups_within number number
 

@@ -147,7 +147,7 @@ fn failing_writer(rt: HostRuntime) -> Result<(), Fail> {
 pub const INCLUSION: &str =
     "inclusion\nsize 3\nindex 2\nroot rra8/idLcKFPsGel5VeCZNsPqbUa9eC6FZFY8yngbnc=\nleaf ApjRIpBtz8EIkstTpzmS/FufST6kybrbJ7eRtBJ6f+c=\npath +sVCA+fMaWzw38tCySodnbr3CtnmIfS9jZhmLwDjwSU=\n";
 
-// The same, said of the second.
+// That proof, said of the second of the entries.
 pub const OTHER_INDEX: &str =
     "inclusion\nsize 3\nindex 1\nroot rra8/idLcKFPsGel5VeCZNsPqbUa9eC6FZFY8yngbnc=\nleaf ApjRIpBtz8EIkstTpzmS/FufST6kybrbJ7eRtBJ6f+c=\npath +sVCA+fMaWzw38tCySodnbr3CtnmIfS9jZhmLwDjwSU=\n";
 

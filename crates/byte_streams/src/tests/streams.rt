@@ -5,11 +5,11 @@ use std::io::{ErrorKind, Read, Write};
 /// What one call does.
 #[derive(Clone, Copy)]
 pub enum Turn {
-    /// It gives or takes so many bytes, or as many as there are.
+    /// The call gives or takes so many bytes, or as many as there are.
     Pass(usize),
-    /// It is interrupted.
+    /// The call is interrupted.
     Interrupted,
-    /// It fails.
+    /// The call fails.
     Failed,
 }
 

@@ -101,7 +101,7 @@ fn a_byte_changed(rt: HostRuntime) -> Result<(), Fail> {
     Ok(())
 }
 
-// The same with the digest mended: what is loaded is the state of a log with another last entry.
+// A byte of an entry changed, and the digest mended: what is loaded is the state of a log with another last entry.
 #[test]
 fn a_byte_changed_under_its_digest(rt: HostRuntime) -> Result<(), Fail> {
     let alloc = rt.alloc();

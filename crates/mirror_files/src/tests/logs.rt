@@ -32,7 +32,7 @@ pub(super) const DIGEST: [u8; 32] = [
     0xb3, 0xbd, 0x00, 0x99, 0xeb, 0x54, 0x37, 0xf4, 0x0e, 0x4f, 0x40, 0x59, 0x96, 0x09, 0xf7, 0xee,
 ];
 
-// Such a count.
+// A count of items, in eight bytes.
 fn push_count(text: &mut Vec<u8>, count: usize) -> Result<(), AllocError> {
     text.extend_from_slice(&(count as u64).to_be_bytes())
 }
@@ -66,7 +66,7 @@ pub(super) fn body_of(
     Ok(body)
 }
 
-// The same with its digest.
+// A state text of these pairs and entries, with its digest.
 pub(super) fn state_of(
     alloc: Global,
     pairs: &[[u8; 64]],
@@ -124,7 +124,7 @@ pub(super) fn bundle_state(alloc: Global) -> Result<Vec<u8>, AllocError> {
     Ok(text)
 }
 
-// The same in version 1, up to its digest, with that tag before the last pair.
+// The state of the mirror of the bundle in version 1, up to its digest, with that tag before the last pair.
 pub(super) fn old_body_of(alloc: Global, tag: u8) -> Result<Vec<u8>, AllocError> {
     let mut body = Vec::from_slice(alloc, b"TLMIRR01\x00\x02ex")?;
     push_count(&mut body, 0)?;
@@ -139,7 +139,7 @@ pub(super) fn old_body_of(alloc: Global, tag: u8) -> Result<Vec<u8>, AllocError>
     Ok(body)
 }
 
-// The same in version 1.
+// The state of the mirror of the bundle in version 1.
 pub(super) fn old_bundle_state(alloc: Global) -> Result<Vec<u8>, AllocError> {
     let mut text = old_body_of(alloc, 1)?;
     text.extend_from_slice(&OLD_BUNDLE_DIGEST)?;

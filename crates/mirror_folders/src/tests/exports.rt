@@ -8,11 +8,11 @@ use tlog_hash::Sha256Tree;
 use tlog_mirror::Mirror;
 use tlog_tiles::Path;
 
-// The head of C(3), signed, which a program of another language computed.
+// The head of the log of 3 numbers, signed, which a program of another language computed.
 pub(super) const NOTE: &str =
     "ex\n3\n8bnxZGS31f08aQe6Fx0eVantFhgeChNfXlXJNMPL5Ao=\n\n\u{2014} ex AAAAAbdZ36CCmDRZGzBhcbjkgY91WLYpHnpdSA8T2EJ/425O\n";
 
-// The leaf hashes of C(3), which a program of another language computed.
+// The leaf hashes of the log of 3 numbers, which a program of another language computed.
 const ROW: [u8; 96] = [
     0x70, 0x9e, 0x80, 0xc8, 0x84, 0x87, 0xa2, 0x41, 0x1e, 0x1e, 0xe4, 0xdf, 0xb9, 0xf2, 0x2a, 0x86,
     0x14, 0x92, 0xd2, 0x0c, 0x47, 0x65, 0x15, 0x0c, 0x0c, 0x79, 0x4a, 0xbd, 0x70, 0xf8, 0x14, 0x7c,
@@ -22,10 +22,10 @@ const ROW: [u8; 96] = [
     0x9c, 0x83, 0xd7, 0x7b, 0xfc, 0x12, 0xf8, 0xa1, 0x4b, 0x8c, 0xe3, 0xed, 0xe5, 0x89, 0x2f, 0xb5,
 ];
 
-// The entries of C(3), each behind its length.
+// The entries of the log of 3 numbers, each behind its length.
 const BUNDLE: [u8; 12] = [0, 2, 0, 0, 0, 2, 0, 1, 0, 2, 0, 2];
 
-// These are the three files of C(3), in this order.
+// These are the three files of the log of 3 numbers, in this order.
 pub(super) fn assert_files(
     rt: &impl Abort,
     alloc: Global,
@@ -68,7 +68,7 @@ fn export_e3(rt: HostRuntime) -> Result<(), Fail> {
     Ok(())
 }
 
-// The same row: nothing is served.
+// Of a mirror that holds nothing, nothing is served.
 #[test]
 fn export_e3_of_an_empty_mirror(rt: HostRuntime) -> Result<(), Fail> {
     let alloc = rt.alloc();

@@ -30,7 +30,7 @@ fn export_again_after_want_of_memory(rt: HostRuntime) -> Result<(), Fail> {
     Ok(())
 }
 
-// The same onto a folder, and of a file read from it.
+// Want of memory, and then ample memory, onto a folder, and of a file read from it.
 #[test]
 fn folder_again_after_want_of_memory(rt: HostRuntime) -> Result<(), Fail> {
     let alloc = rt.alloc();

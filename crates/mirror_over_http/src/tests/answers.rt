@@ -1,4 +1,4 @@
-//! Each kind of target, asked of mirrors of C(300).
+//! Each kind of target, asked of mirrors of the log of 300 numbers.
 use super::{key, list, mirror_of};
 use log_sources::Source;
 use mirror_server::answer;
@@ -10,8 +10,8 @@ use tlog_hash::{Sha256Tree, TreeHash};
 use tlog_mirror::Mirror;
 use tlog_tiles::Path;
 
-// What a mirror of C(300) serves: each target with the SHA-256 of a zero byte and all bytes of the reply, computed by a
-// program of another language.
+// What a mirror of the log of 300 numbers serves: each target with the SHA-256 of a zero byte and all bytes of the
+// reply, computed by a program of another language.
 const SERVED: &str = "\
 /checkpoint dc74a87faa055b1674ce794d3dd343e21d3823d224ccb93f365c3d1771310f39
 /tile/0/000 43db7a5d538baacb380597630c763ebe1e1af6c73e640cc3cf729d5ebf724c73
@@ -53,8 +53,8 @@ const NOT_SERVED: &str = "\
 /mirror/consistency/300/301
 ";
 
-// What a mirror serves that has the head of C(300) alone: that head, partial, and that both its bundles are missing. The
-// others have the reply 404.
+// What a mirror serves that has the head of the log of 300 numbers alone: that head, partial, and that both its bundles
+// are missing. The others have the reply 404.
 const SERVED_OF_A_HEAD: &str = "\
 /mirror/status 9b784de2796474ec825c913fd092fd9e5868202b64a71e11c58235d31e75d252
 /mirror/missing/300/6323b7440f53f742380c606a0c27e5d4847c818f8b1dc01d1ee71d5a2ac5b467 afffa4d36678cbf5e45f3c2efa183a37f64475b39dcd6f50d367f405af9ac5f5
@@ -65,7 +65,7 @@ const SERVED_OF_A_HEAD: &str = "\
 /mirror/consistency/256/300 68107bf01a2a380499e7af15598602b84302eafb8e82aca6733d0e1a7953a22d
 ";
 
-// Such a digest of the reply 404.
+// The digest of the reply 404.
 const NOT_FOUND: &str = "68107bf01a2a380499e7af15598602b84302eafb8e82aca6733d0e1a7953a22d";
 
 // The digest of the reply, in hexadecimal.
@@ -109,7 +109,7 @@ fn assert_replies(
     Ok(())
 }
 
-// A mirror that is complete at C(300).
+// A mirror that is complete at the log of 300 numbers.
 fn mirror_of_300(alloc: Global) -> Result<Mirror<Sha256Tree>, Fail> {
     let mut keys: Vec<Box<dyn Verifier>> = Vec::new(alloc);
     keys.push(Box::new(alloc, key(alloc)?)?)?;
@@ -132,7 +132,7 @@ fn file_of<S: Source>(source: &mut S, path: &Path) -> Result<Vec<u8>, Fail> {
     }
 }
 
-// The head of C(300) and the rows of its edge.
+// The head of the log of 300 numbers and the rows of its edge.
 fn head_and_rows(alloc: Global) -> Result<(Vec<u8>, Vec<u8>, Vec<u8>), Fail> {
     let mut source = list(alloc, 300)?;
     let note = file_of(&mut source, &Path::Checkpoint)?;
@@ -149,7 +149,7 @@ fn tile_path(level: u32, index: u64, width: u32) -> Path {
     }
 }
 
-// A mirror that has the head of C(300) alone.
+// A mirror that has the head of the log of 300 numbers alone.
 fn head_of_300(alloc: Global) -> Result<Mirror<Sha256Tree>, Fail> {
     let mut keys: Vec<Box<dyn Verifier>> = Vec::new(alloc);
     keys.push(Box::new(alloc, key(alloc)?)?)?;

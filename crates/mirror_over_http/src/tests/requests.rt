@@ -20,7 +20,7 @@ const NOT_FOUND: &str = "HTTP/1.1 404 Not Found\r\nContent-Length: 0\r\nConnecti
 const NOT_ALLOWED: &str =
     "HTTP/1.1 405 Method Not Allowed\r\nAllow: GET\r\nContent-Length: 0\r\nConnection: close\r\n\r\n";
 
-// Targets for which a mirror of C(3) has that reply.
+// Targets for which a mirror of the log of 3 numbers has that reply.
 const TARGETS: &str = "\
 /mirror/forks
 /mirror/missing/3/f1b9f16464b7d5fd3c6907ba171d1e55a9ed16181e0a135f5e55c934c3cbe40a
@@ -83,7 +83,7 @@ const HEADS: [&str; 6] = [
     "GET /mirror/forks HTTP/1.1\r\nContent-Length: 4\r\n\r\n\0\r\n\r",
 ];
 
-// Such as are none.
+// Bytes that are no request.
 const NO_HEADS: [&str; 10] = [
     "GET /mirror/forks\r\n\r\n",
     "GET /mirror/forks HTTP/0.9\r\n\r\n",
@@ -136,7 +136,7 @@ fn assert_targets(
     Ok(())
 }
 
-// A mirror that is complete at C(3).
+// A mirror that is complete at the log of 3 numbers.
 fn mirror_of_3(alloc: Global) -> Result<Mirror<Sha256Tree>, Fail> {
     let mut keys: Vec<Box<dyn Verifier>> = Vec::new(alloc);
     keys.push(Box::new(alloc, key(alloc)?)?)?;

@@ -1,4 +1,4 @@
-//! A source over C(257) that passes so many gets and then fails.
+//! A source over the log of 257 numbers that passes so many gets and then fails.
 use super::lying::{Liar, Lie, lying_log};
 use crate::{PullFault, Pulled, pull};
 use signed_note::Verifier;

@@ -32,7 +32,7 @@ impl Verifier for Five {
 pub const HEAD_OF_3: &str =
     "ex\n3\nrra8/idLcKFPsGel5VeCZNsPqbUa9eC6FZFY8yngbnc=\n\n\u{2014} good AQIDBAU=\n";
 
-/// The same head, with an extension line.
+/// The head of these three entries, with an extension line.
 pub const EXTENDED_HEAD: &str =
     "ex\n3\nrra8/idLcKFPsGel5VeCZNsPqbUa9eC6FZFY8yngbnc=\nx\n\n\u{2014} good AQIDBAU=\n";
 

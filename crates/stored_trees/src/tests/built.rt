@@ -67,7 +67,7 @@ fn row_is_added(rt: HostRuntime) -> Result<(), Fail> {
     Ok(())
 }
 
-// The edge of C(257): a row of its last leaf hash, and a row of the hash of the first 256 entries.
+// The edge of the log of 257 numbers: a row of its last leaf hash, and a row of the hash of the first 256 entries.
 #[test]
 fn edge_is_added(rt: HostRuntime) -> Result<(), Fail> {
     let mut store: Store<Sha256Tree> = empty_store(rt.alloc());

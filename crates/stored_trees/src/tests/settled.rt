@@ -19,7 +19,7 @@ fn marks_are_a_set(rt: HostRuntime) -> Result<(), Fail> {
     Ok(())
 }
 
-// Of E3, once it is held: three entries, the first two of them, and the whole.
+// Of the log of three entries, once it is held: all three, the first two of them, and the whole.
 #[test]
 fn settle_e3(rt: HostRuntime) -> Result<(), Fail> {
     let entries = numbers(rt.alloc(), 0, 3)?;

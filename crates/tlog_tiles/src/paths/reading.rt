@@ -42,7 +42,7 @@ fn cut_last(bytes: &[u8]) -> Option<(&[u8], &[u8])>
     None
 }
 
-// What follows the front, where the bytes begin with it.
+// What follows the prefix, where the bytes begin with it.
 fn behind<'a>(bytes: &'a [u8], front: &[u8]) -> Option<&'a [u8]>
     ensures found { IfSome result (λ rest. bytes.now ≡ front.now ++ rest.now) }
     ensures none { IfNone result ((rest : List ℕ) → bytes.now ≡ front.now ++ rest → ⊥) }
@@ -93,7 +93,7 @@ pub fn width_part(tail: &[u8]) -> (&[u8], Option<&[u8]>)
     (tail, None)
 }
 
-// The number of three digits at the front, and the bytes behind them.
+// The number of three digits at the start, and the bytes behind them.
 fn three_at(bytes: &[u8]) -> Option<(u64, &[u8])>
     ensures found { IfSome result (λ x. (x.0 < 1000) × (bytes.now ≡ three_digits x.0 ++ x.1.now)) }
     ensures none { IfNone result ((group : ℕ) (rest : List ℕ) → group < 1000 → bytes.now ≡ three_digits group ++ rest → ⊥) }
@@ -114,7 +114,7 @@ fn three_at(bytes: &[u8]) -> Option<(u64, &[u8])>
     }
 }
 
-// The number of the group at the front, which others follow, and the bytes behind it.
+// The number of the group at the start, which others follow, and the bytes behind it.
 fn group_at(bytes: &[u8]) -> Option<(u64, &[u8])>
     ensures found { IfSome result (λ x. (x.0 < 1000) × (bytes.now ≡ group_text x.0 ++ x.1.now)) }
     ensures none { IfNone result ((group : ℕ) (rest : List ℕ) → group < 1000 → bytes.now ≡ group_text group ++ rest → ⊥) }

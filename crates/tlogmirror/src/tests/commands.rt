@@ -14,7 +14,7 @@ pub const ENTRIES: &[u8] = &[0, 0, 0, 1, 0, 0, 1, 0x10];
 pub const PULLED: &str =
     "pulled 3 rra8/idLcKFPsGel5VeCZNsPqbUa9eC6FZFY8yngbnc= rounds 1 refused 0\ncomplete\n";
 
-// The text of the proof that the first two are the front of all three.
+// The text of the proof that the first two are a prefix of all three.
 const CONSISTENCY: &str =
     "consistency\nfirst 2\nroot +sVCA+fMaWzw38tCySodnbr3CtnmIfS9jZhmLwDjwSU=\nsecond 3\nroot rra8/idLcKFPsGel5VeCZNsPqbUa9eC6FZFY8yngbnc=\npath ApjRIpBtz8EIkstTpzmS/FufST6kybrbJ7eRtBJ6f+c=\n";
 

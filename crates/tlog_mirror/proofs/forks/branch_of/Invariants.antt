@@ -4,7 +4,7 @@ use Rattle.std.specs.List.{Contains}
 use Rattle.tlog_mirror.specs.Branches.{Departs}
 use Rattle.tlog_mirror.proofs.forks.branch_of.Given as goal
 
--- those of the heads from here on are there from which it departs
+-- of the heads from here on just those are listed from which the head departs
 abbrev pub invariant-loop-at : goal.invariant-loop-at
 invariant-loop-at g l =
     (p : ℕ × List ℕ) →

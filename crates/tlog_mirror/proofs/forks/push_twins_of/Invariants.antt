@@ -5,7 +5,7 @@ use Rattle.mirror_model.specs.declared.reports.Fork.{Fork}
 use Rattle.tlog_mirror.specs.Branches.{IsTwinOf}
 use Rattle.tlog_mirror.proofs.forks.push_twins_of.Given as goal
 
--- those with the heads from here on are there
+-- the forks of one size with the heads from here on are listed
 abbrev pub invariant-loop-at : goal.invariant-loop-at
 invariant-loop-at l =
     (fork : Fork) →
