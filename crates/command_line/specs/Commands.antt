@@ -1,4 +1,5 @@
--- Which command the words of a command line ask for.
+-- Which command the words of a command line ask for. `IsEmptyOrSlash` and `IsParserOf` are cited by
+-- the contracts of private functions alone.
 use Rattle.std.specs.Prelude.{◌≡◌, ◌≢◌, ◌⊎◌, ℕ, ◌≤◌, List, [], ◌∷◌, ◌++◌, Option, Some, None, false}
 use Rattle.std.specs.Prelude.{length, map, option_map, unwrap_or, codes, slice_index, ◌<◌}
 use Rattle.clap.specs.Words.{App, Kinds, Row, Text, all_of, app_of, fault_of, first_of}

@@ -1,4 +1,5 @@
--- What each answer of a reader of a command line says of the words.
+-- What each answer of a reader of a command line says of the words. `Decides`, `IsSaid` and `Tells`
+-- are cited by the contracts of private functions alone.
 use Rattle.std.specs.Prelude.{◌≡◌, ◌≢◌, ◌⊎◌, List, [], Option, Some, None, Result, Ok, Err, codes}
 use Rattle.clap.specs.Words.{IsAmong, Row, Text, first_of}
 use Rattle.clap.specs.declared.error.kind.ErrorKind.{ErrorKind}

@@ -1,4 +1,5 @@
--- A source over a list of entries: what it is seen as, and how it answers.
+-- A source over a list of entries: what it is seen as, and how it answers. `HoldsFile` is cited by
+-- the contracts of private functions alone.
 use Rattle.std.specs.Prelude.{◌≡◌, ℕ, ◌+◌, ◌*◌, ◌/◌, ◌^◌, ◌<◌, ◌≤◌, List, [], length, get_or}
 use Rattle.std.specs.Prelude.{Contains}
 use Rattle.std.specs.Prelude.{Option, Some, None}

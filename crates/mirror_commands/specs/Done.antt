@@ -26,8 +26,8 @@ abbrev pub verdict_status : Bool → ℕ
 verdict_status true = 0
 verdict_status false = 3
 
--- a write failed, so that a prefix of the text may have been written; `serve` writes its line before
--- it goes on
+-- the fault comes of a write that failed, so that a prefix of the text may have been written;
+-- `serve` writes its line before it goes on
 abbrev pub IsWriteFault : RunFault → Type 0
 IsWriteFault (Root root.WriteFault) = Unit {0}
 IsWriteFault (Check check.WriteFault) = Unit {0}

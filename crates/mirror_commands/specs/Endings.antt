@@ -1,4 +1,5 @@
--- How the program ends: its exit status, and what it says on which stream.
+-- How the program ends: its exit status, and what it says on which stream. `IsFaultLine` is cited
+-- by the contracts of private functions alone.
 use Rattle.std.specs.Prelude.{◌≡◌, ◌⊎◌, ℕ, List, [], ◌++◌, Option, Result, Ok, Err, codes}
 use Rattle.std.specs.Prelude.{string_bytes}
 use Rattle.std.specs.Io.KnownBytes.{Appends, Keeps}

@@ -1,4 +1,5 @@
--- What a run of the program answers and writes.
+-- What a run of the program answers and writes. `FindsKeys` is cited by the contracts of private
+-- functions alone.
 use Rattle.std.specs.Prelude.{◌≡◌, ◌⊎◌, ℕ, List, Option, Result, Ok, Err}
 use Rattle.std.specs.Io.KnownBytes.{Keeps}
 use Rattle.signed_note.specs.Keys.{Key}

@@ -1,4 +1,5 @@
--- What commands over state files make of the bytes that these files have.
+-- What commands over state files make of the bytes that these files have. The contracts of private
+-- functions alone cite these words.
 use Rattle.std.specs.Prelude.{◌≡◌, ◌⊎◌, ℕ, List, Option, Some, None, Result, Ok, Err}
 use Rattle.signed_note.specs.Keys.{Key}
 use Rattle.mirror_model.specs.Answered.{merge_answer_of}

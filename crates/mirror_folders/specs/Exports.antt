@@ -1,4 +1,5 @@
--- What an export puts onto a shelf, whatever its answer.
+-- What an export puts onto a shelf, whatever its answer. `AddsFiles` is cited by the contracts of
+-- private functions alone.
 use Rattle.std.specs.Prelude.{◌≡◌, ℕ, ◌<◌, List, ◌++◌, length, take, Option, Some, None, Result, Ok}
 use Rattle.std.specs.Prelude.{Err, Contains}
 use Rattle.tlog_tiles.specs.declared.paths.Path.{Path}

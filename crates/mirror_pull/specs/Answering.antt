@@ -1,4 +1,5 @@
--- Which fault of a pull a fault of a take is.
+-- Which fault of a pull a fault of a take is. `refused_of` and `refused_of_fault` are cited by the
+-- contracts of private functions alone.
 use Rattle.std.specs.Prelude.{Bool, true, false, Result, Ok, Err}
 use Rattle.mirror_model.specs.declared.fault.TakeFault.{TakeFault}
 use Rattle.mirror_model.specs.declared.fault.TakeFault.TheVariants as take

@@ -1,4 +1,5 @@
--- What a pull asks of its source.
+-- What a pull asks of its source. `AddsEach`, `AddsTo`, `AreFresh`, `AsksPaths` and `IsFresh` are
+-- cited by the contracts of private functions alone.
 use Rattle.std.specs.Prelude.{◌≡◌, ◌≢◌, ◌↔◌, ℕ, List, [], ◌∷◌, ◌++◌, Option, Result, Ok, Err}
 use Rattle.std.specs.Prelude.{AllPairs, Contains}
 use Rattle.tlog_tiles.specs.declared.paths.Path.{Path}

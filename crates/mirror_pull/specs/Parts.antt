@@ -1,4 +1,5 @@
--- What the parts of a pull from an honest source come to.
+-- What the parts of a pull from an honest source come to. The contracts of private functions alone
+-- cite these words.
 use Rattle.std.specs.Prelude.{◌≡◌, ◌≢◌, ◌⊎◌, ℕ, ◌≤◌, ◌<◌, ◌^◌, List, [], ◌∷◌, ◌++◌, length, map}
 use Rattle.std.specs.Prelude.{take, Option, Contains}
 use Rattle.tlog_hash.specs.Tree.{mth, strings}

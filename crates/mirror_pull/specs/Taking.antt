@@ -1,4 +1,5 @@
--- What a pull takes of what its source answers.
+-- What a pull takes of what its source answers. The contracts of private functions alone cite these
+-- words, but for `Grows`, `item_at`, `IsOfHead`, `IsPulled` and `PullsTo`.
 use Rattle.std.specs.Prelude.{◌≡◌, ℕ, ◌≤◌, List, [], Result, Ok, Err, Bool, true, false, IsTrue}
 use Rattle.signed_note.specs.Keys.{Key}
 use Rattle.tlog_tiles.specs.declared.paths.Path.{Path}

@@ -1,4 +1,5 @@
--- What the call that answers a client does.
+-- What the call that answers a client does. The contracts of private functions alone cite these
+-- words, but for `AnswersClient`.
 use Rattle.std.specs.Prelude.{◌≡◌, ℕ, List, ◌++◌, Option, Result, Ok, Err, IsUtf8, codes}
 use Rattle.std.specs.Fmt.{decimal}
 use Rattle.http.specs.StatusCode.{status_text}

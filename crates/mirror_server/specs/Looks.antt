@@ -1,4 +1,5 @@
--- What is seen in the bytes that were read so far.
+-- What is seen in the bytes that were read so far. The contracts of private functions alone cite
+-- these words, but for `SeesIn` and `LiesWithin`.
 use Rattle.std.specs.Prelude.{◌≡◌, ◌≤◌, ℕ, List, [], ◌∷◌, ◌++◌, ◌<◌, length, Option}
 use Rattle.std.specs.Io.KnownBytes.{Consumes, Keeps, IsAtEnd}
 use Rattle.httparse.specs.Grammar.{RequestHead, ReadsRequest, HasNoRequest}

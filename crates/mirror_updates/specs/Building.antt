@@ -1,4 +1,5 @@
--- A log built of entries (C2SP tlog-tiles).
+-- A log built of entries (C2SP tlog-tiles). `IsUnexported` is cited by the contracts of private
+-- functions alone.
 use Rattle.std.specs.Prelude.{◌≡◌, ◌⊎◌, ℕ, List, length, Option, Result, Ok, Err}
 use Rattle.std.specs.FinSet as set
 use Rattle.signed_note.specs.Keys.{Key}

@@ -1,4 +1,5 @@
--- The mirror that a command begins with.
+-- The mirror that a command begins with. `ChecksOrigin` is cited by the contracts of private
+-- functions alone.
 use Rattle.std.specs.Prelude.{◌≡◌, ◌≢◌, ℕ, List, Option, Some, None, Result, Ok, Err}
 use Rattle.signed_note.specs.Keys.{Key}
 use Rattle.mirror_model.specs.Origin.{IsOrigin}

@@ -1,4 +1,5 @@
--- Signed notes (C2SP signed-note, "Format" and "Signatures").
+-- Signed notes (C2SP signed-note, "Format" and "Signatures"). `IsBlank` and `is_accepted_by` are
+-- cited by the contracts of private functions alone.
 use Rattle.std.specs.Prelude.{◌≡◌, ◌≢◌, ℕ, ◌+◌, ◌<◌, ◌≤◌, ◌^◌, Bool, IsTrue, List, [], ◌∷◌, ◌++◌}
 use Rattle.std.specs.Prelude.{length, slice_index, All, Any, ◌==◌, ◌&&◌}
 use Rattle.std.specs.List.{flat_map}

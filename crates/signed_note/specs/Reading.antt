@@ -1,5 +1,6 @@
 -- What each answer of a reader of notes says of the bytes: the first refusal that applies, in the
 -- order of the faults. An answer other than want of memory is determined by the bytes.
+-- `ReadsBase64` is cited by the contracts of private functions alone.
 use Rattle.std.specs.Prelude.{◌≡◌, ◌≢◌, ℕ, ◌+◌, ◌-◌, ◌<◌, ◌≤◌, ◌==◌, if◌then◌else◌, List, []}
 use Rattle.std.specs.Prelude.{length, slice_index, All, Result, Ok, Err, count_by}
 use Rattle.std.specs.List.{flat_map}

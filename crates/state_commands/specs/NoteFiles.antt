@@ -1,4 +1,5 @@
--- The notes of a mirror as files: their names, and their bytes. The names are own.
+-- The notes of a mirror as files: their names, and their bytes. The names are own. `head_note` is
+-- cited by the contracts of private functions alone.
 use Rattle.std.specs.Prelude.{◌≡◌, ℕ, List, [], ◌∷◌, ◌++◌, ◌==◌, ◌&&◌, map, Bool, All, count_by}
 use Rattle.std.specs.Prelude.{codes, string_bytes}
 use Rattle.std.specs.Fmt.{decimal}

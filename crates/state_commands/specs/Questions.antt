@@ -1,4 +1,5 @@
--- What a command that asks something of a saved state answers, and what it prints.
+-- What a command that asks something of a saved state answers, and what it prints. `MakesReport` is
+-- cited by the contracts of private functions alone.
 use Rattle.std.specs.Prelude.{◌≡◌, ℕ, List, Option, Result, Ok, Err}
 use Rattle.std.specs.Io.KnownBytes.{Appends}
 use Rattle.byte_streams.specs.Streams.{AppendsFront}

@@ -1,5 +1,6 @@
 -- The edge of a head (C2SP tlog-tiles, "Merkle Tree"): rows of hashes that lead to its root, all of
--- whose joins are held.
+-- whose joins are held. The contracts of private functions alone cite these words, but for
+-- `HoldsEdge`.
 use Rattle.std.specs.Prelude.{◌≡◌, ℕ, ◌+◌, ◌-◌, List, [], ◌∷◌, ◌++◌, length, map}
 use Rattle.std.specs.List.{AllByRecursion}
 use Rattle.tlog_hash.specs.Tree.{fold_of, joins}

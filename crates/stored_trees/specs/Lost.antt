@@ -1,4 +1,5 @@
--- The paths of the nodes of a subtree where the walk from its root fails.
+-- The paths of the nodes of a subtree where the walk from its root fails. The contracts of private
+-- functions alone cite these words.
 use Rattle.std.specs.Prelude.{ℕ, List}
 use Rattle.node_store.specs.Strings.{Strings}
 use Rattle.tlog_hash.specs.Shape.{shape}

@@ -1,4 +1,5 @@
--- What the command `root` answers and writes.
+-- What the command `root` answers and writes. `MakesRoot` is cited by the contracts of private
+-- functions alone.
 use Rattle.std.specs.Prelude.{◌≡◌, ℕ, List, ◌∷◌, ◌++◌, Option, Result, Ok, Err, codes}
 use Rattle.std.specs.Io.KnownBytes.{Appends}
 use Rattle.std.specs.Fmt.{decimal}

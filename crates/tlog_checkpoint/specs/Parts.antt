@@ -1,4 +1,5 @@
--- What the steps of reading a checkpoint answer.
+-- What the steps of reading a checkpoint answer. `ReadsCheckpointLines` and `ReadsFields` are cited
+-- by the contracts of private functions alone.
 use Rattle.std.specs.Prelude.{◌≡◌, ℕ, ◌<◌, ◌≤◌, List, [], Result, Ok, Err}
 use Rattle.tlog_shape.specs.declared.TheConstants.{MAX_SIZE}
 use Rattle.tlog_checkpoint.specs.declared.Checkpoint.{Checkpoint}

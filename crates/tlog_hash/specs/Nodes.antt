@@ -1,4 +1,5 @@
--- The nodes of the tree of a list of entries (RFC 6962, section 2.1).
+-- The nodes of the tree of a list of entries (RFC 6962, section 2.1). `IsJoin` is a word of proofs
+-- alone.
 use Rattle.std.specs.Prelude.{◌≡◌, ◌⊎◌, ℕ, ◌+◌, List, ◌∷◌, ◌++◌}
 use Rattle.tlog_hash.specs.Tree.{Tree, Empty, One, Join, root, size_of, leaf_hash}
 use Rattle.tlog_hash.specs.Blocks.{map_tree}

@@ -1,4 +1,5 @@
--- What is added to a view, and how that is answered.
+-- What is added to a view, and how that is answered. The contracts of private functions alone cite
+-- these words, but for `with_note`.
 use Rattle.std.specs.Prelude.{ℕ, List, [], ◌∷◌, Result, Ok, Err}
 use Rattle.std.specs.FinSet as set
 use Rattle.node_store.specs.Strings.{Strings}

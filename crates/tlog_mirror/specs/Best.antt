@@ -1,5 +1,6 @@
 -- Which of the kept notes is served: of those whose head is complete the one of the greatest size,
--- then of the least root, then the least by bytes.
+-- then of the least root, then the least by bytes. The contracts of private functions alone cite
+-- these words.
 use Rattle.std.specs.Prelude.{◌≡◌, ℕ, ◌<◌, List, length, slice_index_or, Option, Some, None, false}
 use Rattle.std.specs.Prelude.{IsTrue, ◌↔◌}
 use Rattle.std.specs.Ordering.{nat_cmp, ordering_then, is_gt}

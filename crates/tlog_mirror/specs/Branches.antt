@@ -1,5 +1,5 @@
 -- How forks are found: complete heads by rising size and root, and what is kept of each of those
--- before it.
+-- before it. The contracts of private functions alone cite these words.
 use Rattle.std.specs.Prelude.{◌≡◌, ◌↔◌, ℕ, ◌<◌, List, length, map, take, slice_index_or}
 use Rattle.std.specs.declared.cmp.Ordering.TheVariants.{Less}
 use Rattle.std.specs.List.{Contains}

@@ -1,4 +1,5 @@
--- What is said of the edge rows of a head.
+-- What is said of the edge rows of a head. The contracts of private functions alone cite these
+-- words.
 use Rattle.std.specs.Prelude.{◌≡◌, ◌≢◌, ℕ, ◌*◌, List, length, map, Result, Ok, Err}
 use Rattle.mirror_model.specs.Edge.{edge_root}
 use Rattle.mirror_model.specs.Item.{row_of, HasEdgeRows}

@@ -1,4 +1,5 @@
--- Plays: events on mirrors, one after another.
+-- Plays: events on mirrors, one after another. `HasWidth` is cited by the contracts of private
+-- functions alone.
 use Rattle.std.specs.Prelude.{◌≡◌, ℕ, zero, suc, ◌+◌, ◌<◌, List, [], ◌∷◌, map, Some, Result, Ok}
 use Rattle.std.specs.Prelude.{Err, slice_get}
 use Rattle.std.specs.FinSet as set

@@ -1,4 +1,6 @@
 -- A mirror that is made again of what was kept of one: of its strings, and then of its notes.
+-- `FindsHeld`, `IsHeldHead` and `held_fault_of` are cited by the contracts of private functions
+-- alone.
 use Rattle.std.specs.Prelude.{◌≡◌, ℕ, List, Result, Ok, Err}
 use Rattle.std.specs.FinSet as set
 use Rattle.signed_note.specs.Keys.{Key}

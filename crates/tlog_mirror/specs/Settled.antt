@@ -1,4 +1,4 @@
--- What is remembered of several heads.
+-- What is remembered of several heads. The contracts of private functions alone cite these words.
 use Rattle.std.specs.Prelude.{◌⊎◌, ℕ, List}
 use Rattle.std.specs.List.{Contains}
 use Rattle.node_store.specs.Strings.{Strings}

@@ -1,4 +1,5 @@
--- What the parts of the reader of proof texts find.
+-- What the parts of the reader of proof texts find. The contracts of private functions alone cite
+-- these words.
 use Rattle.std.specs.Prelude.{◌≡◌, ℕ, List, Result, Ok, Err}
 use Rattle.tlog_proof.specs.declared.proof.Proof.{Proof}
 use Rattle.tlog_proof.specs.declared.proof.Proof.TheVariants.{Inclusion, Consistency}

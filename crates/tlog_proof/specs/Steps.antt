@@ -1,5 +1,5 @@
 -- Steps of the two loops, each of which leaves what is still to be read of a path (RFC 9162,
--- sections 2.1.3.2 and 2.1.4.2).
+-- sections 2.1.3.2 and 2.1.4.2). The contracts of private functions alone cite these words.
 use Rattle.std.specs.Prelude.{◌≡◌, ℕ, ◌+◌, ◌*◌, ◌^◌, ◌<◌, ◌≤◌, List}
 use Rattle.tlog_hash.specs.Shape.{shape}
 use Rattle.tlog_proof.specs.Climb.{climb}

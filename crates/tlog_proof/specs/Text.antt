@@ -1,6 +1,6 @@
 -- The text of a proof (own): a title, then lines of a name, a space and a value. Each line ends in
 -- a newline. Numbers are decimal without leading zeros, and hashes standard base64 with padding
--- (RFC 4648, section 4).
+-- (RFC 4648, section 4). `LacksNewline` is cited by the contracts of private functions alone.
 use Rattle.std.specs.Prelude.{◌≡◌, ◌≢◌, ℕ, ◌≤◌, ◌<◌, List, [], ◌∷◌, ◌++◌, length, slice_index}
 use Rattle.std.specs.Prelude.{codes, Result, Ok, Err}
 use Rattle.std.specs.Fmt.{decimal}
