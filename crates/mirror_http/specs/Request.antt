@@ -2,22 +2,22 @@
 use Rattle.std.specs.Prelude.{ℕ, List, [], ◌∷◌, ◌++◌, codes}
 use Rattle.tlog_tiles.specs.Path.{path_text}
 use Rattle.tlog_tiles.specs.declared.paths.Path.{Path}
-use Rattle.mirror_http.specs.Site.{Place, slash}
+use Rattle.mirror_http.specs.Site.{HostAndPrefix, slash}
 
 -- CR LF, which ends a line
 abbrev pub line_end : List ℕ
 line_end = 13 ∷ 10 ∷ []
 
 -- the target: the prefix, a slash and the path
-abbrev pub target : Place → Path → List ℕ
+abbrev pub target : HostAndPrefix → Path → List ℕ
 target site path = site.prefix ++ slash ∷ path_text path
 
 -- the first line of the request, without what ends it
-abbrev pub request_line : Place → Path → List ℕ
+abbrev pub request_line : HostAndPrefix → Path → List ℕ
 request_line site path = codes "GET " ++ (target site path ++ codes " HTTP/1.0")
 
 -- the field that names the host, without what ends its line
-abbrev pub host_line : Place → List ℕ
+abbrev pub host_line : HostAndPrefix → List ℕ
 host_line site = codes "Host: " ++ site.host
 
 -- a line of the request with what ends it
@@ -32,6 +32,6 @@ fields_after_host =
     ++ (field_line (codes "Connection: close") ++ line_end)
 
 -- the request: its line, its fields, and an empty line
-abbrev pub request_text : Place → Path → List ℕ
+abbrev pub request_text : HostAndPrefix → Path → List ℕ
 request_text site path =
     field_line (request_line site path) ++ (field_line (host_line site) ++ fields_after_host)

@@ -7,7 +7,7 @@ use Rattle.mirror_http.specs.declared.fault.SiteFault.{SiteFault}
 use Rattle.mirror_http.specs.declared.fault.SiteFault.TheVariants.{BadHost, BadPrefix, OutOfMemory}
 
 -- where a log's files stand: a host, and a prefix of paths
-pub record Place : Type 0 where
+pub record HostAndPrefix : Type 0 where
   pub host : List ℕ
   pub prefix : List ℕ
 
@@ -41,7 +41,7 @@ abbrev pub IsSitePrefix : List ℕ → Type 0
 IsSitePrefix prefix = (prefix ≡ []) ⊎ IsSomePrefix prefix
 
 -- what each answer of a constructor of a site says of what it is given
-abbrev pub MakesSite : List ℕ → List ℕ → Result Place SiteFault → Type 0
+abbrev pub MakesSite : List ℕ → List ℕ → Result HostAndPrefix SiteFault → Type 0
 MakesSite host prefix (Ok s) =
     IsHost host × IsSitePrefix prefix × (s ≡ record { host = host; prefix = prefix })
 MakesSite host prefix (Err BadHost) = IsHost host → ⊥

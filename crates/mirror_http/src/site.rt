@@ -23,9 +23,9 @@ pub struct Site {
 
 impl Model for Site {
     ghost use Rattle.std.specs.Prelude.{string_bytes};
-    ghost use Rattle.mirror_http.specs.Site.{Place, IsHost, IsSitePrefix};
+    ghost use Rattle.mirror_http.specs.Site.{HostAndPrefix, IsHost, IsSitePrefix};
 
-    ghost Value = { Place };
+    ghost Value = { HostAndPrefix };
 
     ghost view = { λ s. record { host = string_bytes s.host; prefix = string_bytes s.prefix } };
 

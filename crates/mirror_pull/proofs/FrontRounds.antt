@@ -28,7 +28,7 @@ use Rattle.mirror_model.proofs.Fronts.{front_empty}
 use Rattle.log_sources.specs.Files.{full_of}
 use Rattle.log_sources.specs.Honest.{IsGone, Gets, GetsNone, GetsFound, GetsFull}
 use Rattle.mirror_pull.specs.Honest.{AreFrontRounds, true_item, with_true}
-use Rattle.mirror_pull.specs.PullLaws.{FrontRoundTakes, FrontRoundsEnd}
+use Rattle.mirror_pull.specs.PullLaws.{HonestRoundIsRound, HonestRoundsAreFew}
 use Rattle.mirror_model.proofs.FullBundles.{full_bundles_serve}
 use Rattle.mirror_model.proofs.Fetching.{plus_holds}
 
@@ -157,7 +157,7 @@ module _ (digest : List ℕ → List ℕ) (hash : IsDigest digest) (entries : Li
         | inr on_edge ↦ (true_grows digest entries founds v).strings_are y (held_edge y on_edge)
       ]
 
-pub front_round_takes : FrontRoundTakes
+pub front_round_takes : HonestRoundIsRound
 front_round_takes digest hash entries short size v list gets founds le less edge lists got = record {
   edge = edge;
   grows = (true_grows digest entries founds v).strings_are;
@@ -216,7 +216,7 @@ module _ (digest : List ℕ → List ℕ) (hash : IsDigest digest) (entries : Li
         front = r.front;
       }
 
-pub front_rounds_end : FrontRoundsEnd
+pub front_rounds_end : HonestRoundsAreFew
 front_rounds_end digest hash entries short size top v w lists gets le less is_top edge rounds =
     let es = take size entries in
     let long : length es ≡ size = omega (arith, length-take size entries, le) in

@@ -102,7 +102,7 @@ edge_fresh size asked is = record {
   apart = edge_apart size;
 }
 
--- ---- what was asked for before the rounds is settled
+-- ---- what was asked for before the rounds is fetched
 
 settled_edge : (size : ℕ) (edge path : Path) → IsEdgeTile size edge → full_of edge ≡ full_of path → IsWithin size path →
     IsWidest size path → ⊥
@@ -257,7 +257,7 @@ module _ (digest : List ℕ → List ℕ) (hash : IsDigest digest) (keys : List 
           head = head;
           edge = subst (λ (u : View). HasAll u.strings (edge_strings digest (edge_rows digest (take size entries))))
               (sym taken) held;
-          settled =
+          fetched =
               λ before has path same within widest. absurd
               (edge_settled (length entries) size asked after begun got before has path same within widest);
         }

@@ -103,7 +103,7 @@ module _ (digest : List ℕ → List ℕ) (entries : List (List ℕ)) (size : �
     front_fresh path f before has same =
         let whole = front_whole path f in
         answered_is_not_again digest v.strings (take size entries) small m.edge path
-        (m.settled before has path same whole.0 whole.1) f
+        (m.fetched before has path same whole.0 whole.1) f
 
     pub wanted_front : (paths : List Path) → IsWanted digest v size root asked paths →
         ListsFront digest v (take size entries) paths
@@ -166,11 +166,11 @@ module _ (digest : List ℕ → List ℕ) (entries : List (List ℕ)) (size : �
           head = head_stays v w grows size root m.head;
           edge = held_more v.strings w.strings
               (edge_strings digest (edge_rows digest (take size entries))) grows.strings_are m.edge;
-          settled =
+          fetched =
               λ before has path same within widest. elim
               (Contains-append_cases asked t.gets before (subst (λ (l : List Path). Contains l before) t.list has)) [
                 | inl old ↦ held_more v.strings w.strings (true_strings digest (take size entries) path) grows.strings_are
-                    (m.settled before old path same within widest)
+                    (m.fetched before old path same within widest)
                 | inr got ↦
                     (let place =
                     each_place paths t.gets (gets_each_asked (length entries) paths t.gets t.founds t.are) before got in

@@ -85,15 +85,15 @@ module _ (digest : List ℕ → List ℕ) (entries : List (List ℕ)) where
     pub paths_are : (path : Path) → Contains paths path → IsWithin size path × IsWidest size path
     pub fresh : AreFresh asked paths
 
-  -- where a path is at the place of one that is within the first entries and the widest there, the
-  -- strings of the true bytes of that one are held
-  abbrev pub IsSettled : ℕ → View → Path → Type 0
-  IsSettled size v before =
+  -- what was asked for was fetched: where the path is at the place of one that is within the first
+  -- entries and the widest there, the strings of the true bytes of that one are held
+  abbrev pub IsFetched : ℕ → View → Path → Type 0
+  IsFetched size v before =
       (path : Path) → full_of before ≡ full_of path → IsWithin size path → IsWidest size path →
       HasAll v.strings (true_strings digest (take size entries) path)
 
-  -- the rounds may go well: the head and the strings of its edge are held, and all paths asked for
-  -- are settled
+  -- the rounds may go well: the head and the strings of its edge are held, and what was asked for
+  -- was fetched
   pub record MayWork (size : ℕ) (root : List ℕ) (may : Path → Option (List ℕ) → Type 0) (v : View)
       (asked : List Path) : Type 0 where
     pub source : IsTrueSource may
@@ -103,7 +103,7 @@ module _ (digest : List ℕ → List ℕ) (entries : List (List ℕ)) where
     pub root_is : root ≡ mth digest (take size entries)
     pub head : HasHead v size root
     pub edge : HasAll v.strings (edge_strings digest (edge_rows digest (take size entries)))
-    pub settled : (before : Path) → Contains asked before → IsSettled size v before
+    pub fetched : (before : Path) → Contains asked before → IsFetched size v before
 
   -- the rounds that were worked: whatever the tree of the first entries hashes is held, and strings
   -- of the two trees alone were gained

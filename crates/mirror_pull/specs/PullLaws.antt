@@ -13,8 +13,8 @@ use Rattle.log_sources.specs.Honest.{Gets}
 use Rattle.mirror_pull.specs.Honest.{AreFrontRounds, with_true}
 
 -- a round of a pull from an honest source is a round of fetching: it takes the front
-abbrev pub FrontRoundTakes : Type 0
-FrontRoundTakes =
+abbrev pub HonestRoundIsRound : Type 0
+HonestRoundIsRound =
     (digest : List ℕ → List ℕ) →
     IsDigest digest →
     (entries : List (List ℕ)) →
@@ -29,8 +29,8 @@ FrontRoundTakes =
 
 -- of rounds of an honest pull there are at most as many as the greatest level that has a partial
 -- tile, and one at least
-abbrev pub FrontRoundsEnd : Type 0
-FrontRoundsEnd =
+abbrev pub HonestRoundsAreFew : Type 0
+HonestRoundsAreFew =
     (digest : List ℕ → List ℕ) →
     IsDigest digest →
     (entries : List (List ℕ)) →

@@ -1,16 +1,16 @@
 //! Laws of honest rounds, and of what a pull keeps.
 ghost use Rattle.mirror_pull.specs.GrowthLaws.{PullsKeepHeads};
-ghost use Rattle.mirror_pull.specs.PullLaws.{FrontRoundTakes, FrontRoundsEnd};
+ghost use Rattle.mirror_pull.specs.PullLaws.{HonestRoundIsRound, HonestRoundsAreFew};
 
 /// An honest round is one that takes the front.
 pub fn front_round_law()
-    ensures { FrontRoundTakes }
+    ensures { HonestRoundIsRound }
 {}
 
 /// Honest rounds whose front is not empty are no more than the greatest level that has a partial tile, or
 /// one.
 pub fn front_rounds_law()
-    ensures { FrontRoundsEnd }
+    ensures { HonestRoundsAreFew }
 {}
 
 /// After any pull, whatever it answers, what was complete stays complete with the same entries, and with

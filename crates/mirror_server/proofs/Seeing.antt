@@ -10,7 +10,7 @@ use Rattle.httparse.specs.Spans.{RequestOverflows}
 use Rattle.httparse.specs.declared.spans.Span.{Span}
 use Rattle.byte_streams.specs.Streams.{TakesAtMost}
 use Rattle.mirror_server.specs.Response.{HasRequest, LacksRequest}
-use Rattle.mirror_server.specs.Looks.{HasHeadAt, ReadsMore, ReadsEnd, ReadsNone, SeesIn}
+use Rattle.mirror_server.specs.Looks.{HasRequestAt, ReadsMore, ReadsEnd, ReadsNone, SeesIn}
 use Rattle.mirror_server.specs.declared.limits.TheConstants.{MAX_FIELDS, MAX_HEAD_LEN}
 use Rattle.mirror_server.specs.declared.head.Seen.TheVariants.{Nothing, NoHead, Head}
 
@@ -62,7 +62,7 @@ sees_full (Some all) (Some ys) xs buf len c none =
     let front : take MAX_HEAD_LEN (xs ++ ys) ≡ xs = front_of xs ys (omega (arith, len)) ∙ rw zero_left (append-nil xs) in
     (f.0, f.1, c ∙ f.2, subst LacksRequest (sym c) (λ h has. none h has.rest (subst (λ (b : List ℕ). ReadsRequest b h has.rest) front has.reads)))
 
-pub sees_head : (known cur : Option (List ℕ)) (xs : List ℕ) (method target : Span) → length xs ≤ MAX_HEAD_LEN → Consumes known cur xs → HasHeadAt xs method target → IfSome known (λ all. SeesIn all xs (Head method target))
+pub sees_head : (known cur : Option (List ℕ)) (xs : List ℕ) (method target : Span) → length xs ≤ MAX_HEAD_LEN → Consumes known cur xs → HasRequestAt xs method target → IfSome known (λ all. SeesIn all xs (Head method target))
 sees_head None cur xs method target le c l = tt
 sees_head (Some all) None xs method target le c l = absurd c
 sees_head (Some all) (Some ys) xs method target le c l =

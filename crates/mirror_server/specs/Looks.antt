@@ -15,7 +15,7 @@ use Rattle.mirror_server.specs.declared.head.Turn.{Turn}
 use Rattle.mirror_server.specs.declared.head.Turn.TheVariants.{More, Interrupted, End}
 
 -- the bytes begin with the head of a request, whose method and target stand at these places
-pub record HasHeadAt (bytes : List ℕ) (method target : Span) : Type 0 where
+pub record HasRequestAt (bytes : List ℕ) (method target : Span) : Type 0 where
   pub head : RequestHead
   pub rest : List ℕ
   pub reads : ReadsRequest bytes head rest
@@ -28,7 +28,7 @@ pub record HasHeadAt (bytes : List ℕ) (method target : Span) : Type 0 where
 -- what a look at the bytes that were read says: a whole head, the beginning of one, or no head that
 -- is read
 abbrev pub LooksLike : List ℕ → Look → Type 0
-LooksLike bytes (Whole method target) = HasHeadAt bytes method target
+LooksLike bytes (Whole method target) = HasRequestAt bytes method target
 LooksLike bytes Open = HasNoRequest bytes
 LooksLike bytes Bad = RequestOverflows MAX_FIELDS bytes
 

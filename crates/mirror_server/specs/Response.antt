@@ -43,7 +43,8 @@ not_found = codes "HTTP/1.1 404 Not Found\r\nContent-Length: 0\r\nConnection: cl
 -- the reply to a method other than GET
 abbrev pub not_allowed : List ℕ
 not_allowed =
-    codes "HTTP/1.1 405 Method Not Allowed\r\nAllow: GET\r\nContent-Length: 0\r\nConnection: close\r\n\r\n"
+    codes "HTTP/1.1 405 Method Not Allowed\r\nAllow: GET\r\n"
+    ++ codes "Content-Length: 0\r\nConnection: close\r\n\r\n"
 
 -- the media type of a text
 abbrev pub plain_text : List ℕ
