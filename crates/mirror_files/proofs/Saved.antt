@@ -8,7 +8,7 @@ use Rattle.std.specs.Io.KnownBytes.{Appends, Keeps}
 use Rattle.std.specs.List.{Contains}
 use Rattle.sha2.specs.Sha256.{sha256}
 use Rattle.sha2.specs.Hashers.{Holds256}
-use Rattle.byte_streams.specs.Streams.{AppendsPrefix}
+use Rattle.byte_streams.specs.Streams.{AppendsFront}
 use Rattle.byte_streams.specs.declared.fault.StreamFault.{StreamFault}
 use Rattle.node_store.specs.Strings.{Has}
 use Rattle.mirror_model.specs.Listed.{ListsNotes}
@@ -40,7 +40,7 @@ keeps_itself (Some bytes) = refl
 nothing_yet : (now : Option (List ℕ)) (held : List ℕ) → held ≡ [] → IsUnderWay now now held []
 nothing_yet now held none = record { written = []; appended = appends_nothing now; text_is = sym none }
 
-pub body_fails : (old new : Option (List ℕ)) (page page' : Page) (body : List ℕ) (fault : StreamFault) → page.held.items ≡ [] → Puts old new page page' body (Err fault) → AppendsPrefix old new (body ++ sha256 body)
+pub body_fails : (old new : Option (List ℕ)) (page page' : Page) (body : List ℕ) (fault : StreamFault) → page.held.items ≡ [] → Puts old new page page' body (Err fault) → AppendsFront old new (body ++ sha256 body)
 body_fails old new page page' body fault none p = front_longer old new body (sha256 body) (p.writes old [] (nothing_yet old page.held.items none))
 
 pub body_ends : (old mid new : Option (List ℕ)) (page page' : Page) (body : List ℕ) (answer : Result (Unit {0}) StreamFault) → page.held.items ≡ [] → Holds256 page.digest [] → Puts old mid page page' body (Ok tt) → EndsText mid new page' answer → WritesText old new (body ++ sha256 body) answer
@@ -114,4 +114,4 @@ module _ (digest : List ℕ → List ℕ) (state : State) (sound : IsSound diges
     saved_whole w = (state_text own, own_text, subst (λ (p : Parts). Appends old new (state_text p)) is w)
 
     pub saved_front : (fault : StreamFault) → WritesText old new (state_text parts) (Err fault) → Saves state.view old new (Err WriteFault)
-    saved_front fault w = (state_text own, own_text, subst (λ (p : Parts). AppendsPrefix old new (state_text p)) is w)
+    saved_front fault w = (state_text own, own_text, subst (λ (p : Parts). AppendsFront old new (state_text p)) is w)
