@@ -7,18 +7,19 @@ use signed_note::HmacKey;
 use std::alloc::{AllocError, Global};
 use std::test::Fail;
 use tlog_hash::{Hash, Sha256Tree, TreeHash, tree_hash};
+use tlog_text::read_hash;
 use tlog_tiles::Path;
 
 // The tree hash of the first of the three entries, which is its leaf hash.
-const R1: Hash = [
-    0x6e, 0x34, 0x0b, 0x9c, 0xff, 0xb3, 0x7a, 0x98, 0x9c, 0xa5, 0x44, 0xe6, 0xbb, 0x78, 0x0a, 0x2c,
-    0x78, 0x90, 0x1d, 0x3f, 0xb3, 0x37, 0x38, 0x76, 0x85, 0x11, 0xa3, 0x06, 0x17, 0xaf, 0xa0, 0x1d,
-];
+const R1: &str = "bjQLnP+zepicpUTmu3gKLHiQHT+zNzh2hRGjBhevoB0=";
+
 // The leaf hash of its last entry.
-const L3: Hash = [
-    0x02, 0x98, 0xd1, 0x22, 0x90, 0x6d, 0xcf, 0xc1, 0x08, 0x92, 0xcb, 0x53, 0xa7, 0x39, 0x92, 0xfc,
-    0x5b, 0x9f, 0x49, 0x3e, 0xa4, 0xc9, 0xba, 0xdb, 0x27, 0xb7, 0x91, 0xb4, 0x12, 0x7a, 0x7f, 0xe7,
-];
+const L3: &str = "ApjRIpBtz8EIkstTpzmS/FufST6kybrbJ7eRtBJ6f+c=";
+
+// The 32 bytes that a text of base64 encodes.
+fn hash(text: &str) -> Result<Hash, Fail> {
+    Ok(read_hash(text).ok_or("no hash")?)
+}
 
 // So many numbers from that one on, each in two bytes, big-endian.
 fn numbers(alloc: Global, from: u16, count: u16) -> Result<Vec<Vec<u8>>, AllocError>
@@ -61,6 +62,7 @@ fn list<H: TreeHash>(alloc: Global, entries: Vec<Vec<u8>>) -> Result<ListSource<
 
 #[test]
 fn files_of_e3(rt: HostRuntime) -> Result<(), Fail> {
+    let (r1, l3) = (hash(R1)?, hash(L3)?);
     let mut source = list::<Sha256Tree>(rt.alloc(), e3(rt.alloc())?)?;
     let note = source.get(&Path::Checkpoint)?;
     let text = "ex\n3\nrra8/idLcKFPsGel5VeCZNsPqbUa9eC6FZFY8yngbnc=\n\n\u{2014} ex AAAAA";
@@ -70,14 +72,14 @@ fn files_of_e3(rt: HostRuntime) -> Result<(), Fail> {
         index: 0,
         width: 1,
     })?;
-    assert_eq!(rt; first.as_deref(), Some(R1.as_slice()));
+    assert_eq!(rt; first.as_deref(), Some(r1.as_slice()));
     let row = source.get(&Path::Tile {
         level: 0,
         index: 0,
         width: 3,
     })?;
     assert!(rt;
-        matches!(&row, Some(bytes) if bytes.len() == 96 && bytes.starts_with(&R1) && bytes.ends_with(&L3))
+        matches!(&row, Some(bytes) if bytes.len() == 96 && bytes.starts_with(&r1) && bytes.ends_with(&l3))
     );
     let bundle = source.get(&Path::Entries { index: 0, width: 3 })?;
     assert_eq!(rt;

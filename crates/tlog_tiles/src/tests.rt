@@ -4,25 +4,19 @@ use std::alloc::{AllocError, Global};
 use std::collections::HashSet;
 use std::test::Fail;
 use tlog_hash::{Hash, Sha256Tree, TreeHash};
+use tlog_text::read_hash;
 
 // The leaf hashes of the entries of no bytes, of `00` and of `10`.
-const LEAVES: [Hash; 3] = [
-    [
-        0x6e, 0x34, 0x0b, 0x9c, 0xff, 0xb3, 0x7a, 0x98, 0x9c, 0xa5, 0x44, 0xe6, 0xbb, 0x78, 0x0a,
-        0x2c, 0x78, 0x90, 0x1d, 0x3f, 0xb3, 0x37, 0x38, 0x76, 0x85, 0x11, 0xa3, 0x06, 0x17, 0xaf,
-        0xa0, 0x1d,
-    ],
-    [
-        0x96, 0xa2, 0x96, 0xd2, 0x24, 0xf2, 0x85, 0xc6, 0x7b, 0xee, 0x93, 0xc3, 0x0f, 0x8a, 0x30,
-        0x91, 0x57, 0xf0, 0xda, 0xa3, 0x5d, 0xc5, 0xb8, 0x7e, 0x41, 0x0b, 0x78, 0x63, 0x0a, 0x09,
-        0xcf, 0xc7,
-    ],
-    [
-        0x02, 0x98, 0xd1, 0x22, 0x90, 0x6d, 0xcf, 0xc1, 0x08, 0x92, 0xcb, 0x53, 0xa7, 0x39, 0x92,
-        0xfc, 0x5b, 0x9f, 0x49, 0x3e, 0xa4, 0xc9, 0xba, 0xdb, 0x27, 0xb7, 0x91, 0xb4, 0x12, 0x7a,
-        0x7f, 0xe7,
-    ],
+const LEAVES: [&str; 3] = [
+    "bjQLnP+zepicpUTmu3gKLHiQHT+zNzh2hRGjBhevoB0=",
+    "lqKW0iTyhcZ77pPDD4owkVfw2qNdxbh+QQt4YwoJz8c=",
+    "ApjRIpBtz8EIkstTpzmS/FufST6kybrbJ7eRtBJ6f+c=",
 ];
+
+// The 32 bytes that a text of base64 encodes.
+fn hash(text: &str) -> Result<Hash, Fail> {
+    Ok(read_hash(text).ok_or("no hash")?)
+}
 
 #[test]
 fn bundle_exact(rt: HostRuntime) -> Result<(), Fail> {
@@ -46,10 +40,11 @@ fn bundle_exact(rt: HostRuntime) -> Result<(), Fail> {
 #[test]
 fn leaf_row(rt: HostRuntime) -> Result<(), Fail> {
     let alloc = rt.alloc();
-    let bytes = write_row(alloc, &LEAVES)?;
+    let leaves = [hash(LEAVES[0])?, hash(LEAVES[1])?, hash(LEAVES[2])?];
+    let bytes = write_row(alloc, &leaves)?;
     assert_eq!(rt; bytes.len(), 96);
     let row = read_row(alloc, 3, &bytes)?;
-    assert_eq!(rt; row.as_slice(), LEAVES.as_slice());
+    assert_eq!(rt; row.as_slice(), leaves.as_slice());
     let entries = [b"".as_slice(), b"\x00".as_slice(), b"\x10".as_slice()];
     for (entry, leaf) in entries.iter().zip(&row) {
         assert_eq!(rt; Sha256Tree::leaf(entry), *leaf);
