@@ -1,8 +1,10 @@
 -- What the matches of a parser say of the words.
-use Rattle.std.proofs.Common.{◌≡◌, ◌∙◌, ap, sym, subst, inl, inr, List, [], option_map, unwrap_or, Option, Some, None, Result, Ok, Err, true≢false, is_some, refl, codes}
+use Rattle.std.proofs.Common.{◌≡◌, ◌∙◌, ap, sym, subst, inl, inr, List, [], option_map, unwrap_or, Option, Some, None}
+use Rattle.std.proofs.Common.{Result, Ok, Err, true≢false, is_some, refl, codes}
 use Rattle.std.specs.Prelude.{Box}
 use Rattle.std.specs.Box.{box_value}
-use Rattle.clap.specs.Words.{HasKind, HasMatchesOf, Row, Text, first_of, kind_of, subcommand_name_of, subcommand_rows, subcommand_rows_of}
+use Rattle.clap.specs.Words.{HasKind, HasMatchesOf, Row, Text, first_of, kind_of, subcommand_name_of, subcommand_rows}
+use Rattle.clap.specs.Words.{subcommand_rows_of}
 use Rattle.clap.specs.declared.error.Error.{Error}
 use Rattle.clap.specs.declared.parser.matches.ArgMatches.{ArgMatches}
 use Rattle.clap.specs.declared.parser.matches.ArgMatches.TheViews.{out-ArgMatches, out-SubCommand}
@@ -15,18 +17,22 @@ use Rattle.command_line.specs.declared.fault.CommandFault.{CommandFault}
 use Rattle.command_line.specs.declared.fault.CommandFault.TheVariants.{Help, Words, BadArgument, OutOfMemory}
 
 -- the command's name and its options, as the parser gives them
-entered_is : {Z : Type 0} → (o : Option (Box SubCommand Z)) (name : Text) (options : List Row) → Some name ≡ option_map (λ b. (out-SubCommand (box_value b)).name.now) o
+entered_is : {Z : Type 0} → (o : Option (Box SubCommand Z)) (name : Text) (options : List Row)
+    → Some name ≡ option_map (λ b. (out-SubCommand (box_value b)).name.now) o
     → Some options ≡ option_map (λ p. p.1) (subcommand_rows o) → subcommand_rows o ≡ Some (name, options)
 entered_is None name options n r = cc
 entered_is (Some b) name options n r = cc
 
-pub called : (words : List Text) (m : ArgMatches) (name : Text) (options : List Row) → faults words ≡ [] → HasMatchesOf mirror_app words m
-    → Some name ≡ subcommand_name_of m → Some options ≡ option_map (λ p. p.1) (subcommand_rows_of m) → Calls words name options
+pub called : (words : List Text) (m : ArgMatches) (name : Text) (options : List Row) → faults words ≡ []
+    → HasMatchesOf mirror_app words m
+    → Some name ≡ subcommand_name_of m → Some options ≡ option_map (λ p. p.1) (subcommand_rows_of m)
+    → Calls words name options
 called words m name options lawful matches n r =
     record { lawful = lawful; named = sym (matches refl).1 ∙ entered_is (out-ArgMatches m).subcommand name options n r }
 
 -- what a command's own reader makes of the options is what the words ask for
-pub understood : (words : List Text) (name : Text) (options : List Row) (r : Result Command CommandFault) → Calls words name options → Decides (IsSaid name options) r → Reads words r
+pub understood : (words : List Text) (name : Text) (options : List Row) (r : Result Command CommandFault) →
+    Calls words name options → Decides (IsSaid name options) r → Reads words r
 understood words name options (Ok command) calls u = (options, subst (λ n. Calls words n options) u.0 calls, u.1)
 understood words name options (Err (Help text)) calls u = absurd u
 understood words name options (Err (Words text)) calls u = absurd u
@@ -41,14 +47,16 @@ understood words name options (Err BadArgument) calls u = (
 understood words name options (Err OutOfMemory) calls u = tt
 
 -- words that name no command ask for none
-pub nothing_called : (words : List Text) (m : ArgMatches) → HasMatchesOf mirror_app words m → None ≡ option_map (λ p. p.1) (subcommand_rows_of m) → AsksNone words
+pub nothing_called : (words : List Text) (m : ArgMatches) → HasMatchesOf mirror_app words m →
+    None ≡ option_map (λ p. p.1) (subcommand_rows_of m) → AsksNone words
 nothing_called words m matches r command asked =
     let same : subcommand_rows_of m ≡ Some (name_of command, asked.0) = (matches refl).1 ∙ asked.1.named in
     let bad : None ≡ Some asked.0 = r ∙ ap (option_map (λ (p : Text × List Row). p.1)) same in
     true≢false (ap is_some (sym bad))
 
 -- a fault of the parser, as the program tells it
-pub refused : (words : List Text) (e : Error) (fault : CommandFault) → HasKind (faults words) e → Tells (kind_of e) fault → Reads words (Err fault)
+pub refused : (words : List Text) (e : Error) (fault : CommandFault) → HasKind (faults words) e →
+    Tells (kind_of e) fault → Reads words (Err fault)
 refused words e (Help text) (inl memory) told = absurd (elim told [ inl h ↦ cc | inr h ↦ cc ])
 refused words e (Help text) (inr among) told = (kind_of e, among, told)
 refused words e (Words text) (inl memory) told = absurd (told.0 memory)
@@ -63,6 +71,7 @@ keys_refused words (Words text) h = h
 keys_refused words BadArgument h = h
 keys_refused words OutOfMemory h = tt
 
-pub keys_read : (words : List Text) (name : Text) (options : List Row) (keys : Option Text) → Calls words name options → first_of (codes "keys") options ≡ keys → ReadsKeyFile words (Ok keys)
+pub keys_read : (words : List Text) (name : Text) (options : List Row) (keys : Option Text) → Calls words name options →
+    first_of (codes "keys") options ≡ keys → ReadsKeyFile words (Ok keys)
 keys_read words name options (Some k) calls e = record { name = name; options = options; calls = calls; given = e }
 keys_read words name options None calls e = record { name = name; options = options; calls = calls; given = e }

@@ -1,5 +1,7 @@
 -- A word that names a server is cut in one way.
-use Rattle.std.proofs.Common.{◌≡◌, ◌≢◌, inl, inr, ℕ, ◌<◌, ◌≤◌, List, [], ◌∷◌, ◌++◌, length, take, drop, nat_eq, get_or, get_or-take, ◌+◌, Option, Some, None, Bor, refl, sym, ap, subst, ◌∙◌, arith, codes, MatchOption}
+use Rattle.std.proofs.Common.{◌≡◌, ◌≢◌, inl, inr, ℕ, ◌<◌, ◌≤◌, List, [], ◌∷◌, ◌++◌, length, take, drop, nat_eq, get_or}
+use Rattle.std.proofs.Common.{get_or-take, ◌+◌, Option, Some, None, Bor, refl, sym, ap, subst, ◌∙◌, arith, codes}
+use Rattle.std.proofs.Common.{MatchOption}
 use Rattle.std.specs.Prelude.{IfNone, IfSome}
 use Rattle.std.specs.Str.Pattern.{RFindsChar}
 use Rattle.std.specs.Str.{NoCharPasses}
@@ -18,7 +20,8 @@ use Rattle.command_line.proofs.Named.{apart}
 -- ---- cuts
 
 -- before the first slash
-pub front_lacks : (c at : ℕ) (word front : List ℕ) → front ≡ take at word → ((i : ℕ) → i < at → get_or word i 0 ≢ c) → (i : ℕ) → i < length front → get_or front i 0 ≢ c
+pub front_lacks : (c at : ℕ) (word front : List ℕ) → front ≡ take at word → ((i : ℕ) → i < at → get_or word i 0 ≢ c) →
+    (i : ℕ) → i < length front → get_or front i 0 ≢ c
 front_lacks c at word front is lacks i lt same =
     let short : length front ≤ at = omega (arith, ap length is, length-take at word) in
     let in_front : i < at = omega (arith, lt, short) in
@@ -26,13 +29,18 @@ front_lacks c at word front is lacks i lt same =
 
 -- the bytes behind the last colon, where a text is cut there
 pub last_lacks : (c : ℕ) (bs : List ℕ) (r : Option (Bor (List ℕ) × Bor (List ℕ)))
-    → MatchOption r (RFindsChar c bs None) (λ x. (i : ℕ) × (j : ℕ) × RFindsChar c bs (Some (i, j)) × (x.0.now ≡ take i bs) × (x.1.now ≡ drop j bs) × (i ≤ j) × (length x.0.now ≡ i) × (length x.1.now + j ≡ length bs)) → c < 128
+    → MatchOption r (RFindsChar c bs None) (λ x. (i : ℕ) × (j : ℕ)
+    × RFindsChar c bs (Some (i, j)) × (x.0.now ≡ take i bs) × (x.1.now ≡ drop j bs) × (i ≤ j) × (length x.0.now ≡ i)
+    × (length x.1.now + j ≡ length bs)) → c < 128
     → IfSome r (λ x. (i : ℕ) → i < length x.1.now → get_or x.1.now i 0 ≢ c)
 last_lacks c bs None h low = tt
-last_lacks c bs (Some x) h low = λ i. NoCharPasses-char c x.1.now i (subst (NoCharPasses (λ d. nat_eq d c)) (sym h.4) h.2.0) low
+last_lacks c bs (Some x) h low =
+    λ i. NoCharPasses-char c x.1.now i (subst (NoCharPasses (λ d. nat_eq d c)) (sym h.4) h.2.0) low
 
 pub none_lacks : (c : ℕ) (bs : List ℕ) (r : Option (Bor (List ℕ) × Bor (List ℕ)))
-    → MatchOption r (RFindsChar c bs None) (λ x. (i : ℕ) × (j : ℕ) × RFindsChar c bs (Some (i, j)) × (x.0.now ≡ take i bs) × (x.1.now ≡ drop j bs) × (i ≤ j) × (length x.0.now ≡ i) × (length x.1.now + j ≡ length bs)) → c < 128
+    → MatchOption r (RFindsChar c bs None) (λ x. (i : ℕ) × (j : ℕ)
+    × RFindsChar c bs (Some (i, j)) × (x.0.now ≡ take i bs) × (x.1.now ≡ drop j bs) × (i ≤ j) × (length x.0.now ≡ i)
+    × (length x.1.now + j ≡ length bs)) → c < 128
     → IfNone r ((i : ℕ) → i < length bs → get_or bs i 0 ≢ c)
 none_lacks c bs None h low = λ i. NoCharPasses-char c bs i h low
 none_lacks c bs (Some x) h low = tt
@@ -44,8 +52,10 @@ Lacks-middle c (y ∷ d) e h = Lacks-middle c d e h.1
 -- two cuts at c, where what follows lacks it, are one
 cut_last : (c : ℕ) (a b d e : List ℕ) → a ++ (c ∷ b) ≡ d ++ (c ∷ e) → Lacks c b → Lacks c e → (a ≡ d) × (b ≡ e)
 cut_last c [] b [] e h p q = (refl, cc)
-cut_last c [] b (y ∷ d) e h p q = let tails : b ≡ d ++ (c ∷ e) = cc in absurd (Lacks-middle c d e (subst (Lacks c) tails p))
-cut_last c (x ∷ a) b [] e h p q = let tails : a ++ (c ∷ b) ≡ e = cc in absurd (Lacks-middle c a b (subst (Lacks c) (sym tails) q))
+cut_last c [] b (y ∷ d) e h p q = let tails : b ≡ d ++ (c ∷ e) = cc in
+    absurd (Lacks-middle c d e (subst (Lacks c) tails p))
+cut_last c (x ∷ a) b [] e h p q = let tails : a ++ (c ∷ b) ≡ e = cc in
+    absurd (Lacks-middle c a b (subst (Lacks c) (sym tails) q))
 cut_last c (x ∷ a) b (y ∷ d) e h p q =
     let heads : x ≡ y = cc in
     let tails : a ++ (c ∷ b) ≡ d ++ (c ∷ e) = cc in
@@ -53,7 +63,8 @@ cut_last c (x ∷ a) b (y ∷ d) e h p q =
     (cc, rest.1)
 
 -- two cuts before the first slash are one
-cut_first : (a b d e : List ℕ) → a ++ b ≡ d ++ e → Lacks slash a → Lacks slash d → IsEmptyOrSlash b → IsEmptyOrSlash e → (a ≡ d) × (b ≡ e)
+cut_first : (a b d e : List ℕ) → a ++ b ≡ d ++ e → Lacks slash a → Lacks slash d → IsEmptyOrSlash b → IsEmptyOrSlash e →
+    (a ≡ d) × (b ≡ e)
 cut_first [] b [] e h p q s t = (refl, h)
 cut_first [] b (y ∷ d) e h p q (inl empty) t = absurd cc
 cut_first [] b (y ∷ d) e h p q (inr some) t = let same : y ≡ slash = cc in absurd (q.0 same)
@@ -72,7 +83,11 @@ prefix_begins prefix (inr some) = inr some.between.begins
 -- digits have no colon
 all_lack : (digits : List ℕ) → AllDigits 10 digits → Lacks colon digits
 all_lack [] h = tt
-all_lack (d ∷ ds) h = (λ e. let bad : digit_value colon < 10 = subst (λ x. digit_value x < 10) e h.0 in absurd (omega (arith, bad)), all_lack ds h.1)
+all_lack (d ∷ ds) h = (
+  λ e. let bad : digit_value colon < 10 = subst (λ x. digit_value x < 10) e h.0 in
+      absurd (omega (arith, bad)),
+  all_lack ds h.1,
+)
 
 digits_lack : (digits : List ℕ) (n : ℕ) → IsDecimal digits n → Lacks colon digits
 digits_lack digits n is = all_lack digits is.numeral.1
@@ -80,20 +95,33 @@ digits_lack digits n is = all_lack digits is.numeral.1
 -- ---- servers
 
 -- a server's host and prefix are those of the word
-pub one_site : (word host prefix : List ℕ) → word ≡ host ++ prefix → ((i : ℕ) → i < length host → get_or host i 0 ≢ slash) → IsEmptyOrSlash prefix → (p : Place) → IsPlace (codes "http") word p
+pub one_site : (word host prefix : List ℕ) → word ≡ host ++ prefix
+    → ((i : ℕ) → i < length host → get_or host i 0 ≢ slash) → IsEmptyOrSlash prefix → (p : Place)
+    → IsPlace (codes "http") word p
     → (dialled : List ℕ) × (port : ℕ) × IsServer word host prefix dialled port
-one_site word host prefix whole before after (Folder path) is = absurd (apart (codes "http") (codes "http") (codes "dir") refl is.0 refl)
+one_site word host prefix whole before after (Folder path) is =
+    absurd (apart (codes "http") (codes "http") (codes "dir") refl is.0 refl)
 one_site word host prefix whole before after (Server h q dialled port) is =
     let s = is.1 in
-    let one = cut_first host prefix h.now q.now (sym whole ∙ s.whole) (Lacks-from_reads slash host before) (Lacks-from_reads slash h.now s.before) after (prefix_begins q.now s.site.is_prefix) in
-    (dialled.now, port, subst (λ (x : List ℕ). IsServer word x prefix dialled.now port) (sym one.0) (subst (λ (x : List ℕ). IsServer word h.now x dialled.now port) (sym one.1) s))
+    let one = cut_first host prefix h.now q.now (sym whole ∙ s.whole) (Lacks-from_reads slash host before)
+    (Lacks-from_reads slash h.now s.before) after (prefix_begins q.now s.site.is_prefix) in (
+      dialled.now,
+      port,
+      subst (λ (x : List ℕ). IsServer word x prefix dialled.now port) (sym one.0)
+          (subst (λ (x : List ℕ). IsServer word h.now x dialled.now port) (sym one.1) s),
+    )
 
 -- a server's port is what follows the last colon
-pub one_port : (word host prefix front digits dialled : List ℕ) (port : ℕ) → host ≡ front ++ colon ∷ digits → ((i : ℕ) → i < length digits → get_or digits i 0 ≢ colon) → IsServer word host prefix dialled port → IsNumberIn 1 65535 port digits
+pub one_port : (word host prefix front digits dialled : List ℕ) (port : ℕ) → host ≡ front ++ colon ∷ digits →
+    ((i : ℕ) → i < length digits → get_or digits i 0 ≢ colon) → IsServer word host prefix dialled port →
+    IsNumberIn 1 65535 port digits
 one_port word host prefix front digits dialled port parts lacks s =
-    let one = cut_last colon front digits dialled s.digits (sym parts ∙ s.parts) (Lacks-from_reads colon digits lacks) (digits_lack s.digits port s.is_port.number) in
+    let one = cut_last colon front digits dialled s.digits (sym parts ∙ s.parts) (Lacks-from_reads colon digits lacks)
+    (digits_lack s.digits port s.is_port.number) in
     subst (IsNumberIn 1 65535 port) (sym one.1) s.is_port
 
 -- a server's host has a colon
-pub some_port : (word host prefix dialled : List ℕ) (port : ℕ) → ((i : ℕ) → i < length host → get_or host i 0 ≢ colon) → IsServer word host prefix dialled port → ⊥
-some_port word host prefix dialled port lacks s = Lacks-middle colon dialled s.digits (subst (Lacks colon) s.parts (Lacks-from_reads colon host lacks))
+pub some_port : (word host prefix dialled : List ℕ) (port : ℕ) → ((i : ℕ) → i < length host → get_or host i 0 ≢ colon) →
+    IsServer word host prefix dialled port → ⊥
+some_port word host prefix dialled port lacks s =
+    Lacks-middle colon dialled s.digits (subst (Lacks colon) s.parts (Lacks-from_reads colon host lacks))

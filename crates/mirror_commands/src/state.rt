@@ -56,7 +56,7 @@ pub(crate) fn begun<R: Files>(
     keys: &[Box<dyn Verifier>],
     state: Option<&str>,
 ) -> Result<Mirror<Sha256Tree>, WorkFault>
-    ensures { BeginsWith sha256 origin.now (map (λ k. key k) keys.now) (option_map (λ name. name.now) state) (seen (λ mirror. mirror.view) result) }
+    ensures { BeginsWith sha256 origin.now (map (λ k. key k) keys.now) (option_map (λ name. name.now) state.entry) (seen (λ mirror. mirror.view) result) }
 {
     match state {
         Some(name) => loaded(rt, alloc, origin, keys, name),

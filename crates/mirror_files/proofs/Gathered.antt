@@ -1,5 +1,6 @@
 -- The strings of a store that have one tag, gathered and put in order.
-use Rattle.std.proofs.Common.{◌≡◌, ◌⊎◌, inl, inr, ℕ, zero, suc, ◌+◌, ◌<◌, ◌≤◌, take, get_or, Option, Some, None, List, [], ◌∷◌, ◌++◌, length, map, All, Bool, true, refl, sym, ap, subst, ◌∙◌, arith, nat_eq}
+use Rattle.std.proofs.Common.{◌≡◌, ◌⊎◌, inl, inr, ℕ, zero, suc, ◌+◌, ◌<◌, ◌≤◌, take, get_or, Option, Some, None, List}
+use Rattle.std.proofs.Common.{[], ◌∷◌, ◌++◌, length, map, All, Bool, true, refl, sym, ap, subst, ◌∙◌, arith, nat_eq}
 use Rattle.std.specs.Prelude.{◌↔◌, ◌&&◌}
 use Rattle.std.specs.Borrow.{Bor}
 use Rattle.std.specs.Prelude.{slice_get}
@@ -16,9 +17,11 @@ use Rattle.std.specs.List.Sorted.{IsPermutation, IsSorted, IsStrictlySortedBy}
 use Rattle.std.specs.Ordering.{nat_cmp, ordering_then, eq_by_cmp, is_eq}
 use Rattle.std.specs.declared.cmp.Ordering.{Ordering}
 use Rattle.std.specs.declared.cmp.Ordering.TheVariants.{Less, Equal, Greater}
-use Rattle.std.specs.Cmp.{IsTotalOrder, IsEquivalence, eq_by_cmp_equiv, unsigned_ties, both_tied, first_so, second_so, then_total}
+use Rattle.std.specs.Cmp.{IsTotalOrder, IsEquivalence, eq_by_cmp_equiv, unsigned_ties, both_tied, first_so, second_so}
+use Rattle.std.specs.Cmp.{then_total}
 use Rattle.std.specs.Cmp.Lexicographic.{slice_cmp, pointwise, lists_ties, on_texts}
-use Rattle.std.proofs.lemmas.List.Elements.{Contains-append_left, Contains-append_right, Contains-append_cases, All-from_recursion, recursion_from_All}
+use Rattle.std.proofs.lemmas.List.Elements.{Contains-append_left, Contains-append_right, Contains-append_cases}
+use Rattle.std.proofs.lemmas.List.Elements.{All-from_recursion, recursion_from_All}
 use Rattle.std.proofs.lemmas.List.Filters.{All-dedup}
 use Rattle.std.proofs.lemmas.List.Kept.{IsStrictlySortedBy-dedup, Any-dedup, Contains-from_dedup}
 use Rattle.std.proofs.lemmas.List.Sorted.{Contains-permutation, IsPermutation-sym}
@@ -75,25 +78,29 @@ module _ (tag : ℕ) (strings : Strings) where
     part_more item is = λ e. (
       λ h. elim ((p e).0 h) [
         | inl c ↦ inl (Contains-append_left items (item ∷ []) e c)
-        | inr c ↦ elim (cons_cases (tag ∷ item) after (tag ∷ e) (subst (λ (l : List (List ℕ)). Contains l (tag ∷ e)) is c)) [
-          | inl same ↦ inl (Contains-append_right items (item ∷ []) e (cons_here item e [] (ap tail_of same)))
-          | inr later ↦ inr later
-        ]
+        | inr c ↦
+            elim (cons_cases (tag ∷ item) after (tag ∷ e) (subst (λ (l : List (List ℕ)). Contains l (tag ∷ e)) is c)) [
+              | inl same ↦ inl (Contains-append_right items (item ∷ []) e (cons_here item e [] (ap tail_of same)))
+              | inr later ↦ inr later
+            ]
       ],
       λ h. elim h [
         | inl c ↦ elim (Contains-append_cases items (item ∷ []) e c) [
           | inl before ↦ (p e).1 (inl before)
           | inr one ↦ elim (cons_cases item [] e one) [
-            | inl same ↦ (p e).1 (inr (subst (λ (l : List (List ℕ)). Contains l (tag ∷ e)) (sym is) (cons_here (tag ∷ item) (tag ∷ e) after (ap (λ (x : List ℕ). tag ∷ x) same))))
+            | inl same ↦ (p e).1 (inr (subst (λ (l : List (List ℕ)). Contains l (tag ∷ e)) (sym is)
+                (cons_here (tag ∷ item) (tag ∷ e) after (ap (λ (x : List ℕ). tag ∷ x) same))))
             | inr none ↦ absurd (nothing_in e none)
           ]
         ]
-        | inr later ↦ (p e).1 (inr (subst (λ (l : List (List ℕ)). Contains l (tag ∷ e)) (sym is) (cons_later (tag ∷ item) after (tag ∷ e) later)))
+        | inr later ↦ (p e).1 (inr (subst (λ (l : List (List ℕ)). Contains l (tag ∷ e)) (sym is)
+            (cons_later (tag ∷ item) after (tag ∷ e) later)))
       ],
     )
 
     -- a string with another tag
-    pub part_pass : (other : List ℕ) → ((e : List ℕ) → other ≡ tag ∷ e → ⊥) → left ≡ other ∷ after → HoldsPart items after
+    pub part_pass : (other : List ℕ) → ((e : List ℕ) → other ≡ tag ∷ e → ⊥) → left ≡ other ∷ after →
+        HoldsPart items after
     part_pass other differs is = λ e. (
       λ h. elim ((p e).0 h) [
         | inl c ↦ inl c
@@ -104,7 +111,8 @@ module _ (tag : ℕ) (strings : Strings) where
       ],
       λ h. elim h [
         | inl c ↦ (p e).1 (inl c)
-        | inr later ↦ (p e).1 (inr (subst (λ (l : List (List ℕ)). Contains l (tag ∷ e)) (sym is) (cons_later other after (tag ∷ e) later)))
+        | inr later ↦ (p e).1 (inr
+            (subst (λ (l : List (List ℕ)). Contains l (tag ∷ e)) (sym is) (cons_later other after (tag ∷ e) later)))
       ],
     )
 
@@ -117,28 +125,35 @@ equal_is Greater h = absurd (cc h)
 
 -- lists that the test takes for one are one
 lists_exact : (xs ys : List ℕ) → pointwise nat_eq xs ys ≡ true → xs ≡ ys
-lists_exact xs ys h = slice_cmp-IsAntisymmetric nat_cmp-IsAntisymmetric xs ys (equal_is (slice_cmp nat_cmp xs ys) (sym (lists_ties nat_cmp unsigned_ties xs ys) ∙ h))
+lists_exact xs ys h = slice_cmp-IsAntisymmetric nat_cmp-IsAntisymmetric xs ys
+    (equal_is (slice_cmp nat_cmp xs ys) (sym (lists_ties nat_cmp unsigned_ties xs ys) ∙ h))
 
-module _ {X : Type 0} (bytes : X → List ℕ) {cmp : X → X → Ordering} (total : IsTotalOrder cmp) {same : X → X → Bool} (ties : (x y : X) → same x y ≡ eq_by_cmp cmp x y) (exact : (x y : X) → same x y ≡ true → bytes x ≡ bytes y) where
+module _ {X : Type 0} (bytes : X → List ℕ) {cmp : X → X → Ordering} (total : IsTotalOrder cmp) {same : X → X → Bool}
+    (ties : (x y : X) → same x y ≡ eq_by_cmp cmp x y) (exact : (x y : X) → same x y ≡ true → bytes x ≡ bytes y) where
   equivalence : IsEquivalence same
   equivalence = subst IsEquivalence (λ i a b. sym (ties a b) i) (eq_by_cmp_equiv total)
 
-  pub same_items : (old sorted new : List X) → IsPermutation old sorted → new ≡ dedup same sorted → (e : List ℕ) → Contains (map bytes new) e ↔ Contains (map bytes old) e
+  pub same_items : (old sorted new : List X) → IsPermutation old sorted → new ≡ dedup same sorted → (e : List ℕ) →
+      Contains (map bytes new) e ↔ Contains (map bytes old) e
   same_items old sorted new moved is e = (
     λ c.
         let m = from_mapped bytes (dedup same sorted) e (subst (λ (xs : List X). Contains (map bytes xs) e) is c) in
-        let there = Contains-permutation sorted old m.from (IsPermutation-sym old sorted moved) (Contains-from_dedup same sorted m.from m.is_in) in
+        let there = Contains-permutation sorted old m.from (IsPermutation-sym old sorted moved)
+        (Contains-from_dedup same sorted m.from m.is_in) in
         subst (Contains (map bytes old)) m.is (mapped bytes old m.from there),
     λ c.
         let m = from_mapped bytes old e c in
         let a = Any-dedup equivalence sorted m.from (Contains-permutation old sorted m.from moved m.is_in) in
         let there = mapped bytes (dedup same sorted) a.1 (a.0, a.2, a.3) in
-        subst (λ (xs : List X). Contains (map bytes xs) e) (sym is) (subst (Contains (map bytes (dedup same sorted))) (sym (exact m.from a.1 a.4) ∙ m.is) there),
+        subst (λ (xs : List X). Contains (map bytes xs) e) (sym is)
+        (subst (Contains (map bytes (dedup same sorted))) (sym (exact m.from a.1 a.4) ∙ m.is) there),
   )
 
 -- what rises by an order rises by its bytes, where the order is theirs
-module _ {X : Type 0} (bytes : X → List ℕ) (cmp : X → X → Ordering) (Fits : X → Type 0) (agrees : (x y : X) → Fits x → Fits y → cmp x y ≡ Less → slice_cmp nat_cmp (bytes x) (bytes y) ≡ Less) where
-  all_above : (x : X) (xs : List X) → Fits x → AllByRecursion Fits xs → AllByRecursion (λ y. cmp x y ≡ Less) xs → AllByRecursion (λ y. slice_cmp nat_cmp (bytes x) y ≡ Less) (map bytes xs)
+module _ {X : Type 0} (bytes : X → List ℕ) (cmp : X → X → Ordering) (Fits : X → Type 0)
+    (agrees : (x y : X) → Fits x → Fits y → cmp x y ≡ Less → slice_cmp nat_cmp (bytes x) (bytes y) ≡ Less) where
+  all_above : (x : X) (xs : List X) → Fits x → AllByRecursion Fits xs → AllByRecursion (λ y. cmp x y ≡ Less) xs →
+      AllByRecursion (λ y. slice_cmp nat_cmp (bytes x) y ≡ Less) (map bytes xs)
   all_above x [] fit fits h = tt
   all_above x (y ∷ ys) fit fits h = (agrees x y fit fits.0 h.0, all_above x ys fit fits.1 h.1)
 
@@ -189,12 +204,16 @@ pub pair_total : IsTotalOrder pair_cmp
 pair_total = then_total (on_texts (λ (p : Pair). p.0.now)) (on_texts (λ (p : Pair). p.1.now))
 
 pub pair_ties : (a b : Pair) → pair_same a b ≡ eq_by_cmp pair_cmp a b
-pair_ties a b = both_tied (pointwise nat_eq a.0.now b.0.now) (pointwise nat_eq a.1.now b.1.now) (slice_cmp nat_cmp a.0.now b.0.now) (slice_cmp nat_cmp a.1.now b.1.now) (lists_ties nat_cmp unsigned_ties a.0.now b.0.now) (lists_ties nat_cmp unsigned_ties a.1.now b.1.now)
+pair_ties a b = both_tied (pointwise nat_eq a.0.now b.0.now)
+    (pointwise nat_eq a.1.now b.1.now) (slice_cmp nat_cmp a.0.now b.0.now) (slice_cmp nat_cmp a.1.now b.1.now)
+    (lists_ties nat_cmp unsigned_ties a.0.now b.0.now) (lists_ties nat_cmp unsigned_ties a.1.now b.1.now)
 
 pub pair_exact : (a b : Pair) → pair_same a b ≡ true → pair_bytes a ≡ pair_bytes b
 pair_exact a b h =
-    let left = lists_exact a.0.now b.0.now (first_so (pointwise nat_eq a.0.now b.0.now) (pointwise nat_eq a.1.now b.1.now) h) in
-    let right = lists_exact a.1.now b.1.now (second_so (pointwise nat_eq a.0.now b.0.now) (pointwise nat_eq a.1.now b.1.now) h) in
+    let left = lists_exact a.0.now b.0.now
+    (first_so (pointwise nat_eq a.0.now b.0.now) (pointwise nat_eq a.1.now b.1.now) h) in
+    let right = lists_exact a.1.now b.1.now
+    (second_so (pointwise nat_eq a.0.now b.0.now) (pointwise nat_eq a.1.now b.1.now) h) in
     λ i. left i ++ right i
 
 then_assoc : (o a b : Ordering) → ordering_then (ordering_then o a) b ≡ ordering_then o (ordering_then a b)
@@ -203,16 +222,20 @@ then_assoc Equal a b = refl
 then_assoc Greater a b = refl
 
 -- of lists whose prefixes are as long, the prefixes decide first
-cat_cmp : (l m r s : List ℕ) → length l ≡ length m → slice_cmp nat_cmp (l ++ r) (m ++ s) ≡ ordering_then (slice_cmp nat_cmp l m) (slice_cmp nat_cmp r s)
+cat_cmp : (l m r s : List ℕ) → length l ≡ length m →
+    slice_cmp nat_cmp (l ++ r) (m ++ s) ≡ ordering_then (slice_cmp nat_cmp l m) (slice_cmp nat_cmp r s)
 cat_cmp [] [] r s len = refl
 cat_cmp [] (y ∷ ys) r s len = absurd cc
 cat_cmp (x ∷ xs) [] r s len = absurd cc
 cat_cmp (x ∷ xs) (y ∷ ys) r s len =
     let both : suc (length xs) ≡ suc (length ys) = len in
-    ap (λ (o : Ordering). ordering_then (nat_cmp x y) o) (cat_cmp xs ys r s (omega (arith, both))) ∙ sym (then_assoc (nat_cmp x y) (slice_cmp nat_cmp xs ys) (slice_cmp nat_cmp r s))
+    ap (λ (o : Ordering). ordering_then (nat_cmp x y) o) (cat_cmp xs ys r s (omega (arith, both)))
+    ∙ sym (then_assoc (nat_cmp x y) (slice_cmp nat_cmp xs ys) (slice_cmp nat_cmp r s))
 
 pub pairs_rise : (xs : List Pair) → All IsSizedPair xs → IsStrictlySortedBy pair_cmp xs → Rises (map pair_bytes xs)
-pairs_rise xs sized s = rises_by_bytes pair_bytes pair_cmp IsSizedPair (λ x y a b h. cat_cmp x.0.now y.0.now x.1.now y.1.now (a ∙ sym b) ∙ h) xs (recursion_from_All IsSizedPair xs sized) s
+pairs_rise xs sized s = rises_by_bytes pair_bytes pair_cmp IsSizedPair
+    (λ x y a b h. cat_cmp x.0.now y.0.now x.1.now y.1.now (a ∙ sym b) ∙ h) xs
+    (recursion_from_All IsSizedPair xs sized) s
 
 -- ---- notes, one after another
 
@@ -228,12 +251,16 @@ past_none xs i none = elim (slice_get_cases xs i).1 [
   | inr past ↦ past.0
 ]
 
-pub note_more : (v : View) (i : ℕ) (all items : List (List ℕ)) (note : List ℕ) → IsNoteAt v i (Some note) → ListsNotes v all → items ≡ take i all → items ++ note ∷ [] ≡ take (i + 1) all
+pub note_more : (v : View) (i : ℕ) (all items : List (List ℕ)) (note : List ℕ) → IsNoteAt v i (Some note) →
+    ListsNotes v all → items ≡ take i all → items ++ note ∷ [] ≡ take (i + 1) all
 note_more v i all items note found h e =
     let same : found.0 ≡ all = notes_are_listed_once v found.0 all found.1 h in
     let is : slice_get all i ≡ Some note = subst (λ (xs : List (List ℕ)). slice_get xs i ≡ Some note) same found.2 in
     let x : note ≡ get_or all i note = sym (get_or_from_slice_get all i note note is) in
-    ap (λ (xs : List (List ℕ)). xs ++ note ∷ []) e ∙ (ap (λ (y : List ℕ). take i all ++ y ∷ []) x ∙ sym (take_more all i note (slice_get_within all i note is)))
+    ap (λ (xs : List (List ℕ)). xs ++ note ∷ []) e
+    ∙ (ap (λ (y : List ℕ). take i all ++ y ∷ []) x ∙ sym (take_more all i note (slice_get_within all i note is)))
 
-pub note_end : (v : View) (i : ℕ) (items : List (List ℕ)) → IsNoteAt v i None → ((all : List (List ℕ)) → ListsNotes v all → items ≡ take i all) → ListsNotes v items
-note_end v i items found h = subst (ListsNotes v) (sym (h found.0 found.1 ∙ take_past i found.0 (past_none found.0 i found.2))) found.1
+pub note_end : (v : View) (i : ℕ) (items : List (List ℕ)) → IsNoteAt v i None →
+    ((all : List (List ℕ)) → ListsNotes v all → items ≡ take i all) → ListsNotes v items
+note_end v i items found h =
+    subst (ListsNotes v) (sym (h found.0 found.1 ∙ take_past i found.0 (past_none found.0 i found.2))) found.1

@@ -1,5 +1,6 @@
 -- All the bytes have one answer of a loader.
-use Rattle.std.proofs.Common.{◌≡◌, ◌≢◌, ◌⊎◌, inl, inr, ℕ, zero, suc, ◌<◌, List, ◌++◌, All, Result, Ok, Err, refl, sym, ap, subst, ◌∙◌, arith}
+use Rattle.std.proofs.Common.{◌≡◌, ◌≢◌, ◌⊎◌, inl, inr, ℕ, zero, suc, ◌<◌, List, ◌++◌, All, Result, Ok, Err, refl, sym}
+use Rattle.std.proofs.Common.{ap, subst, ◌∙◌, arith}
 use Rattle.std.proofs.lemmas.Bool.{cases_lt}
 use Rattle.std.proofs.lemmas.List.Elements.{All-contains}
 use Rattle.signed_note.specs.Keys.{Key}
@@ -16,10 +17,14 @@ use Rattle.sha2.specs.Sha256.{sha256}
 use Rattle.mirror_files.specs.Reading.{ReadsParts}
 use Rattle.mirror_files.specs.declared.parts.PartsFault.{PartsFault}
 use Rattle.mirror_files.specs.declared.parts.PartsFault.TheVariants as reading
-use Rattle.mirror_files.specs.Loading.{listed_origin, listed_notes, listed_view, AllRise, AllTaggedWell, HasOrigin, HasOrder, HasStrings, HasOpenNotes, HasNoCollision, Loads}
-use Rattle.mirror_files.specs.LoadLaws.{IsOfBytes, LoadsHaveOneAnswer, TextsAreLoaded, SavedIsLoaded, ViewHasOneText, OldIsSavedAsNew}
+use Rattle.mirror_files.specs.Loading.{listed_origin, listed_notes, listed_view, AllRise, AllTaggedWell, HasOrigin}
+use Rattle.mirror_files.specs.Loading.{HasOrder, HasStrings, HasOpenNotes, HasNoCollision, Loads}
+use Rattle.mirror_files.specs.LoadLaws.{IsOfBytes, LoadsHaveOneAnswer, TextsAreLoaded, SavedIsLoaded, ViewHasOneText}
+use Rattle.mirror_files.specs.LoadLaws.{OldIsSavedAsNew}
 use Rattle.mirror_files.specs.declared.fault.LoadFault.{LoadFault}
-use Rattle.mirror_files.specs.declared.fault.LoadFault.TheVariants.{StateMagic, StateShort, StateLong, StateDigest, OtherOrigin, StateOrder, StateString, StateHead, Collision, StateEdge, ReadFault, OutOfMemory}
+use Rattle.mirror_files.specs.declared.fault.LoadFault.TheVariants.{StateMagic, StateShort, StateLong, StateDigest}
+use Rattle.mirror_files.specs.declared.fault.LoadFault.TheVariants.{OtherOrigin, StateOrder, StateString, StateHead}
+use Rattle.mirror_files.specs.declared.fault.LoadFault.TheVariants.{Collision, StateEdge, ReadFault, OutOfMemory}
 use Rattle.mirror_files.proofs.Listed.{in_order}
 use Rattle.mirror_files.proofs.OneText.{text_one, text_has_one_answer}
 
@@ -86,8 +91,10 @@ module _ (digest : List ℕ → List ℕ) (origin : List ℕ) (keys : List Key) 
       has_memory : fault ≢ reading.OutOfMemory
       is : a ≡ Err (renamed fault)
 
-    late : (parts : Parts) → IsText bytes parts → (count : ℕ) → passes count parts → (test count parts → ⊥) → IsLate (answer_at count (listed_view parts))
-    late parts is_text count p f = record { parts = parts; is_text = is_text; count = count; passes_all = p; fails = f; answer_is = refl }
+    late : (parts : Parts) → IsText bytes parts → (count : ℕ) → passes count parts → (test count parts → ⊥) →
+        IsLate (answer_at count (listed_view parts))
+    late parts is_text count p f =
+        record { parts = parts; is_text = is_text; count = count; passes_all = p; fails = f; answer_is = refl }
 
     -- the tests that are passed on the way
     nothing_passed : (parts : Parts) → passes 0 parts
@@ -114,7 +121,8 @@ module _ (digest : List ℕ → List ℕ) (origin : List ℕ) (keys : List Key) 
     unfolding passes test
     clash_passed parts h = (notes_passed parts h.has_open_notes, h.no_clash)
 
-    all_passed : (parts : Parts) → HasNoCollision digest origin keys bytes parts → All (HasEdge digest (listed_view parts)) (listed_notes parts) → passes 6 parts
+    all_passed : (parts : Parts) → HasNoCollision digest origin keys bytes parts →
+        All (HasEdge digest (listed_view parts)) (listed_notes parts) → passes 6 parts
     unfolding passes test
     all_passed parts h edges = (clash_passed parts h, edges)
 
@@ -130,22 +138,31 @@ module _ (digest : List ℕ → List ℕ) (origin : List ℕ) (keys : List Key) 
           fails = λ x. x;
           answer_is = ap (λ (w : View). Ok w) (sym o.view_is);
         })
-    judged (Err StateMagic) m h = inl (record { fault = reading.StateMagic; reads = h; has_memory = λ e. cc e; is = refl })
-    judged (Err StateShort) m h = inl (record { fault = reading.StateShort; reads = h; has_memory = λ e. cc e; is = refl })
-    judged (Err StateLong) m h = inl (record { fault = reading.StateLong; reads = h; has_memory = λ e. cc e; is = refl })
-    judged (Err StateDigest) m h = inl (record { fault = reading.StateDigest; reads = h; has_memory = λ e. cc e; is = refl })
+    judged (Err StateMagic) m h =
+        inl (record { fault = reading.StateMagic; reads = h; has_memory = λ e. cc e; is = refl })
+    judged (Err StateShort) m h =
+        inl (record { fault = reading.StateShort; reads = h; has_memory = λ e. cc e; is = refl })
+    judged (Err StateLong) m h =
+        inl (record { fault = reading.StateLong; reads = h; has_memory = λ e. cc e; is = refl })
+    judged (Err StateDigest) m h =
+        inl (record { fault = reading.StateDigest; reads = h; has_memory = λ e. cc e; is = refl })
     judged (Err OtherOrigin) m h = inr (late h.parts h.is_text 0 (nothing_passed h.parts) h.differs)
     judged (Err StateOrder) m h = inr (late h.parts h.has_origin.is_text 1 (origin_passed h.parts h.has_origin) h.falls)
-    judged (Err StateString) m h = inr (late h.parts h.has_order.has_origin.is_text 2 (order_passed h.parts h.has_order) h.bad)
+    judged (Err StateString) m h =
+        inr (late h.parts h.has_order.has_origin.is_text 2 (order_passed h.parts h.has_order) h.bad)
     judged (Err StateHead) m h =
         inr (late h.parts h.has_strings.has_order.has_origin.is_text 3 (strings_passed h.parts h.has_strings)
-        (λ all. h.has_closed.closed (All-contains (IsOpenNote origin keys) (listed_notes h.parts) h.has_closed.note all h.has_closed.is_listed)))
+        (λ all. h.has_closed.closed (All-contains (IsOpenNote origin keys) (listed_notes h.parts)
+        h.has_closed.note all h.has_closed.is_listed)))
     judged (Err Collision) m h =
-        inr (late h.parts h.has_open_notes.has_strings.has_order.has_origin.is_text 4 (notes_passed h.parts h.has_open_notes)
+        inr (late h.parts h.has_open_notes.has_strings.has_order.has_origin.is_text 4
+        (notes_passed h.parts h.has_open_notes)
         (λ clean. clash_contradicts digest (listed_view h.parts).strings clean h.clash))
     judged (Err StateEdge) m h =
-        inr (late h.parts h.has_no_collision.has_open_notes.has_strings.has_order.has_origin.is_text 5 (clash_passed h.parts h.has_no_collision)
-        (λ all. h.has_unheld.lacks (All-contains (HasEdge digest (listed_view h.parts)) (listed_notes h.parts) h.has_unheld.note all h.has_unheld.is_listed)))
+        inr (late h.parts h.has_no_collision.has_open_notes.has_strings.has_order.has_origin.is_text 5
+        (clash_passed h.parts h.has_no_collision)
+        (λ all. h.has_unheld.lacks (All-contains (HasEdge digest (listed_view h.parts)) (listed_notes h.parts)
+        h.has_unheld.note all h.has_unheld.is_listed)))
     judged (Err ReadFault) m h = absurd (m.was_read refl)
     judged (Err OutOfMemory) m h = absurd (m.has_memory refl)
 
@@ -154,16 +171,19 @@ module _ (digest : List ℕ → List ℕ) (origin : List ℕ) (keys : List Key) 
     both_early : (a b : Result View LoadFault) → IsEarly a → IsEarly b → a ≡ b
     unfolding fault_of
     both_early a b p q =
-        let same : ◌≡◌ {A = Result Parts PartsFault} (Err p.fault) (Err q.fault) = text_has_one_answer bytes (Err p.fault) (Err q.fault) (λ e. p.has_memory (cc e)) (λ e. q.has_memory (cc e)) p.reads q.reads in
+        let same : ◌≡◌ {A = Result Parts PartsFault} (Err p.fault) (Err q.fault) = text_has_one_answer bytes
+        (Err p.fault) (Err q.fault) (λ e. p.has_memory (cc e)) (λ e. q.has_memory (cc e)) p.reads q.reads in
         p.is ∙ ap (λ r. Err (fault_of r)) same ∙ sym q.is
 
     not_both : (a b : Result View LoadFault) → IsEarly a → IsLate b → ⊥
     not_both a b p q =
-        let same : ◌≡◌ {A = Result Parts PartsFault} (Err p.fault) (Ok q.parts) = text_has_one_answer bytes (Err p.fault) (Ok q.parts) (λ e. p.has_memory (cc e)) (λ e. cc e) p.reads q.is_text in
+        let same : ◌≡◌ {A = Result Parts PartsFault} (Err p.fault) (Ok q.parts) = text_has_one_answer bytes
+        (Err p.fault) (Ok q.parts) (λ e. p.has_memory (cc e)) (λ e. cc e) p.reads q.is_text in
         cc same
 
     not_before : (a b : Result View LoadFault) (p : IsLate a) (q : IsLate b) → p.count < q.count → ⊥
-    not_before a b p q lt = p.fails (subst (test p.count) (text_one bytes q.parts p.parts q.is_text p.is_text) (passed q.count q.parts q.passes_all p.count lt))
+    not_before a b p q lt = p.fails (subst (test p.count) (text_one bytes q.parts p.parts q.is_text p.is_text)
+        (passed q.count q.parts q.passes_all p.count lt))
 
     both_late : (a b : Result View LoadFault) → IsLate a → IsLate b → a ≡ b
     both_late a b p q = elim (cases_lt p.count q.count) [
@@ -197,7 +217,8 @@ texts_are_loaded digest origin keys bytes v h a m p = one_load digest origin key
 
 pub saved_is_loaded : SavedIsLoaded
 saved_is_loaded digest keys v bytes lawful opened text a m p =
-    texts_are_loaded digest v.origin keys bytes v (record { text = inl text; lawful = lawful; origin_is = refl; opened = opened }) a m p
+    texts_are_loaded digest v.origin keys bytes v
+    (record { text = inl text; lawful = lawful; origin_is = refl; opened = opened }) a m p
 
 abbrev whole : Parts → List ℕ
 whole parts = body_text parts ++ sha256 (body_text parts)
@@ -205,12 +226,17 @@ whole parts = body_text parts ++ sha256 (body_text parts)
 pub text_is_one : ViewHasOneText
 text_is_one v a b s t =
     let notes : s.notes ≡ t.notes = notes_are_listed_once v s.notes t.notes s.notes_are t.notes_are in
-    let pairs : s.pairs ≡ t.pairs = same_lists (slice_cmp nat_cmp) nat_list_cmp_total.antisymm s.pairs t.pairs s.pairs_rise t.pairs_rise (λ z c. (t.pairs_are z).1 ((s.pairs_are z).0 c)) (λ z c. (s.pairs_are z).1 ((t.pairs_are z).0 c)) in
-    let entries : s.entries ≡ t.entries = same_lists (slice_cmp nat_cmp) nat_list_cmp_total.antisymm s.entries t.entries s.entries_rise t.entries_rise (λ z c. (t.entries_are z).1 ((s.entries_are z).0 c)) (λ z c. (s.entries_are z).1 ((t.entries_are z).0 c)) in
+    let pairs : s.pairs ≡ t.pairs =
+    same_lists (slice_cmp nat_cmp) nat_list_cmp_total.antisymm s.pairs t.pairs s.pairs_rise t.pairs_rise
+    (λ z c. (t.pairs_are z).1 ((s.pairs_are z).0 c)) (λ z c. (s.pairs_are z).1 ((t.pairs_are z).0 c)) in
+    let entries : s.entries ≡ t.entries =
+    same_lists (slice_cmp nat_cmp) nat_list_cmp_total.antisymm s.entries t.entries s.entries_rise t.entries_rise
+    (λ z c. (t.entries_are z).1 ((s.entries_are z).0 c)) (λ z c. (s.entries_are z).1 ((t.entries_are z).0 c)) in
     s.is_text.text ∙ (λ i. whole (Parted v.origin (notes i) (pairs i) (entries i))) ∙ sym t.is_text.text
 
 pub old_is_saved_as_new : OldIsSavedAsNew
 old_is_saved_as_new digest origin keys v loaded old new saved h text loads s t =
-    let same : ◌≡◌ {A = Result View LoadFault} (Ok loaded) (Ok v) = texts_are_loaded digest origin keys old v h (Ok loaded) (of_bytes loaded) loads in
+    let same : ◌≡◌ {A = Result View LoadFault} (Ok loaded) (Ok v) =
+    texts_are_loaded digest origin keys old v h (Ok loaded) (of_bytes loaded) loads in
     let is : loaded ≡ v = cc same in
     text_is_one v saved new (subst (λ w. StateText w saved) is s) t

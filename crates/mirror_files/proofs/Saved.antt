@@ -1,5 +1,6 @@
 -- A state, written whole.
-use Rattle.std.proofs.Common.{◌≡◌, ◌⊎◌, inl, inr, ℕ, ◌<◌, ◌≤◌, ◌^◌, List, [], ◌∷◌, ◌++◌, length, map, All, Result, Ok, Err, Option, Some, None, refl, sym, subst, arith}
+use Rattle.std.proofs.Common.{◌≡◌, ◌⊎◌, inl, inr, ℕ, ◌<◌, ◌≤◌, ◌^◌, List, [], ◌∷◌, ◌++◌, length, map, All, Result, Ok}
+use Rattle.std.proofs.Common.{Err, Option, Some, None, refl, sym, subst, arith}
 use Rattle.std.specs.declared.vec.Vec.{Vec}
 use Rattle.std.proofs.lemmas.List.{length-map}
 use Rattle.std.proofs.lemmas.List.{append-nil}
@@ -40,11 +41,17 @@ keeps_itself (Some bytes) = refl
 nothing_yet : (now : Option (List ℕ)) (held : List ℕ) → held ≡ [] → IsUnderWay now now held []
 nothing_yet now held none = record { written = []; appended = appends_nothing now; text_is = sym none }
 
-pub body_fails : (old new : Option (List ℕ)) (page page' : Page) (body : List ℕ) (fault : StreamFault) → page.held.items ≡ [] → Puts old new page page' body (Err fault) → AppendsFront old new (body ++ sha256 body)
-body_fails old new page page' body fault none p = front_longer old new body (sha256 body) (p.writes old [] (nothing_yet old page.held.items none))
+pub body_fails : (old new : Option (List ℕ)) (page page' : Page) (body : List ℕ) (fault : StreamFault) →
+    page.held.items ≡ [] → Puts old new page page' body (Err fault) → AppendsFront old new (body ++ sha256 body)
+body_fails old new page page' body fault none p =
+    front_longer old new body (sha256 body) (p.writes old [] (nothing_yet old page.held.items none))
 
-pub body_ends : (old mid new : Option (List ℕ)) (page page' : Page) (body : List ℕ) (answer : Result (Unit {0}) StreamFault) → page.held.items ≡ [] → Holds256 page.digest [] → Puts old mid page page' body (Ok tt) → EndsText mid new page' answer → WritesText old new (body ++ sha256 body) answer
-body_ends old mid new page page' body answer none hashed p e = e old body (p.writes old [] (nothing_yet old page.held.items none)) (p.hashes [] hashed)
+pub body_ends : (old mid new : Option (List ℕ))
+    (page page' : Page) (body : List ℕ) (answer : Result (Unit {0}) StreamFault) → page.held.items ≡ [] →
+    Holds256 page.digest [] → Puts old mid page page' body (Ok tt) → EndsText mid new page' answer →
+    WritesText old new (body ++ sha256 body) answer
+body_ends old mid new page page' body answer none hashed p e =
+    e old body (p.writes old [] (nothing_yet old page.held.items none)) (p.hashes [] hashed)
 
 -- ---- what is listed is the view's
 
@@ -52,7 +59,9 @@ pair_len : (pair : List ℕ) → IsStateString (1 ∷ pair) → length pair ≡ 
 pair_len pair (inl h) = absurd (let e = h.0 in cc e)
 pair_len pair (inr h) = h.1
 
-module _ (digest : List ℕ → List ℕ) (state : State) (sound : IsSound digest state) (notes pairs entries : List (List ℕ)) (notes_are : ListsNotes state.view notes) (pairs_are : ListsEach 1 state.view.strings pairs) (entries_are : ListsEach 0 state.view.strings entries) where
+module _ (digest : List ℕ → List ℕ) (state : State) (sound : IsSound digest state) (notes pairs entries : List (List ℕ))
+    (notes_are : ListsNotes state.view notes) (pairs_are : ListsEach 1 state.view.strings pairs)
+    (entries_are : ListsEach 0 state.view.strings entries) where
   note_fits : (note : List ℕ) → Contains notes note → length note < 2 ^ 32
   note_fits note c =
       let edge = sound.lawful.edges note ((notes_are.exact note).0 c) in
@@ -65,17 +74,29 @@ module _ (digest : List ℕ → List ℕ) (state : State) (sound : IsSound diges
   pair_fits : (pair : List ℕ) → Contains pairs pair → length pair ≡ 64
   pair_fits pair c =
       let held = (pairs_are.exact pair).0 c in
-      pair_len pair (state_string (1 ∷ pair) state.view sound.lawful.leaves_short (sound.lawful.are_strings (1 ∷ pair) held) held)
+      pair_len pair
+      (state_string (1 ∷ pair) state.view sound.lawful.leaves_short (sound.lawful.are_strings (1 ∷ pair) held) held)
 
-  pub are_parted : length notes < 2 ^ 64 → length pairs < 2 ^ 64 → length entries < 2 ^ 64 → AreParted state.view.origin notes pairs entries
+  pub are_parted : length notes < 2 ^ 64 → length pairs < 2 ^ 64 → length entries < 2 ^ 64 →
+      AreParted state.view.origin notes pairs entries
   are_parted few_notes few_pairs few_entries = record {
     origin_fits = omega (arith, sound.origin.most);
-    notes_fit = record { count = few_notes; fits = All-weaker (Contains notes) (IsItem Long) note_fits notes (All-contains_itself notes) };
-    pairs_fit = record { count = few_pairs; fits = All-weaker (Contains pairs) (IsItem Hashes) pair_fits pairs (All-contains_itself pairs) };
-    entries_fit = record { count = few_entries; fits = All-weaker (Contains entries) (IsItem Short) entry_fits entries (All-contains_itself entries) };
+    notes_fit = record {
+      count = few_notes;
+      fits = All-weaker (Contains notes) (IsItem Long) note_fits notes (All-contains_itself notes);
+    };
+    pairs_fit = record {
+      count = few_pairs;
+      fits = All-weaker (Contains pairs) (IsItem Hashes) pair_fits pairs (All-contains_itself pairs);
+    };
+    entries_fit = record {
+      count = few_entries;
+      fits = All-weaker (Contains entries) (IsItem Short) entry_fits entries (All-contains_itself entries);
+    };
   }
 
-  pub is_state_text : AreParted state.view.origin notes pairs entries → StateText state.view (state_text (Parted state.view.origin notes pairs entries))
+  pub is_state_text : AreParted state.view.origin notes pairs entries →
+      StateText state.view (state_text (Parted state.view.origin notes pairs entries))
   is_state_text are = record {
     notes = notes;
     pairs = pairs;
@@ -97,21 +118,26 @@ few_mapped f v = omega (arith, few v, length-map v.items f)
 
 -- ---- what a saver answers
 
-module _ (digest : List ℕ → List ℕ) (state : State) (sound : IsSound digest state) (held : Sorted) (lists : ListsView state.view held) where
+module _ (digest : List ℕ → List ℕ) (state : State) (sound : IsSound digest state) (held : Sorted)
+    (lists : ListsView state.view held) where
   abbrev own : Parts
-  own = Parted state.view.origin (map lent_bytes held.notes.items) (map pair_bytes held.pairs.items) (map lent_bytes held.entries.items)
+  own = Parted state.view.origin (map lent_bytes held.notes.items) (map pair_bytes held.pairs.items)
+      (map lent_bytes held.entries.items)
 
   pub own_parts : AreParts own
   own_parts =
-      are_parted digest state sound (map lent_bytes held.notes.items) (map pair_bytes held.pairs.items) (map lent_bytes held.entries.items) lists.notes_are lists.pairs_are lists.entries_are
+      are_parted digest state sound (map lent_bytes held.notes.items) (map pair_bytes held.pairs.items)
+      (map lent_bytes held.entries.items) lists.notes_are lists.pairs_are lists.entries_are
       (few_mapped lent_bytes held.notes) (few_mapped pair_bytes held.pairs) (few_mapped lent_bytes held.entries)
 
   own_text : StateText state.view (state_text own)
-  own_text = is_state_text digest state sound (map lent_bytes held.notes.items) (map pair_bytes held.pairs.items) (map lent_bytes held.entries.items) lists.notes_are lists.pairs_are lists.entries_are own_parts
+  own_text = is_state_text digest state sound (map lent_bytes held.notes.items) (map pair_bytes held.pairs.items)
+      (map lent_bytes held.entries.items) lists.notes_are lists.pairs_are lists.entries_are own_parts
 
   module _ (old new : Option (List ℕ)) (parts : Parts) (is : parts ≡ own) where
     pub saved_whole : WritesText old new (state_text parts) (Ok tt) → Saves state.view old new (Ok tt)
     saved_whole w = (state_text own, own_text, subst (λ (p : Parts). Appends old new (state_text p)) is w)
 
-    pub saved_front : (fault : StreamFault) → WritesText old new (state_text parts) (Err fault) → Saves state.view old new (Err WriteFault)
+    pub saved_front : (fault : StreamFault) → WritesText old new (state_text parts) (Err fault) →
+        Saves state.view old new (Err WriteFault)
     saved_front fault w = (state_text own, own_text, subst (λ (p : Parts). AppendsFront old new (state_text p)) is w)

@@ -1,5 +1,6 @@
 -- What is sent and received over a stream.
-use Rattle.std.proofs.Common.{◌≡◌, ℕ, ◌≤◌, List, length, take, Option, Some, None, Result, Ok, Err, sym, subst, ◌∙◌, ap, arith}
+use Rattle.std.proofs.Common.{◌≡◌, ℕ, ◌≤◌, List, length, take, Option, Some, None, Result, Ok, Err, sym, subst, ◌∙◌, ap}
+use Rattle.std.proofs.Common.{arith}
 use Rattle.std.specs.Prelude.{IfSome}
 use Rattle.std.proofs.lemmas.List.{append-nil, length-take, take_all}
 use Rattle.byte_streams.specs.Streams.{AppendsFront}
@@ -14,7 +15,8 @@ appends_none None bytes = (0, tt)
 appends_none (Some xs) bytes = (0, sym (append-nil xs))
 
 -- of the bytes that were taken, with one more than a reply has, the answer is that of all bytes
-all_received : (input v : List ℕ) (r : Result (Option (List ℕ)) SourceFault) → v ≡ take MOST_TAKEN input → Receives v r → Receives input r
+all_received : (input v : List ℕ) (r : Result (Option (List ℕ)) SourceFault) → v ≡ take MOST_TAKEN input →
+    Receives v r → Receives input r
 all_received input v (Ok answer) is h =
     let len = ap length is ∙ length-take MOST_TAKEN input in
     let short : length input ≤ MOST_TAKEN = omega (arith, len, h.0) in
@@ -22,7 +24,8 @@ all_received input v (Ok answer) is h =
 all_received input v (Err Failed) is h = tt
 all_received input v (Err OutOfMemory) is h = tt
 
-pub received : (known : Option (List ℕ)) (v : List ℕ) (r : Result (Option (List ℕ)) SourceFault) → IfSome known (λ input. v ≡ take MOST_TAKEN input) → Receives v r → IfSome known (λ input. Receives input r)
+pub received : (known : Option (List ℕ)) (v : List ℕ) (r : Result (Option (List ℕ)) SourceFault) →
+    IfSome known (λ input. v ≡ take MOST_TAKEN input) → Receives v r → IfSome known (λ input. Receives input r)
 received None v r is h = tt
 received (Some input) v r is h = all_received input v r is h
 

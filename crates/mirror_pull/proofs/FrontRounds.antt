@@ -202,7 +202,8 @@ module _ (digest : List ℕ → List ℕ) (hash : IsDigest digest) (entries : Li
       let round = rounds.3 in
       let takes : IsRound digest (take size entries) v.strings between.strings =
       subst (λ (x : View). IsRound digest (take size entries) v.strings x.strings) (sym round.taken)
-      (front_round_takes digest hash entries short size v list rounds.1 round.founds le less edge round.front round.gets_are) in
+      (front_round_takes digest hash entries short size v list rounds.1 round.founds le less edge round.front
+      round.gets_are) in
       let r = reaches lists count between w rounds.2 (omega (arith, lt))
       (held_more v.strings between.strings
       (edge_strings digest (edge_rows digest (take size entries))) takes.grows edge) rounds.4 in

@@ -206,7 +206,8 @@ module _ (digest : List ℕ → List ℕ) (hash : IsDigest digest) (keys : List 
           has_edge =
               record {
                 widths =
-                    e.has_edge.widths ∙ ap (λ (n : ℕ). map (λ width. 32 * width) (map (width_of n) (edge_levels n))) long;
+                    e.has_edge.widths
+                    ∙ ap (λ (n : ℕ). map (λ width. 32 * width) (map (width_of n) (edge_levels n))) long;
                 root_is = e.has_edge.root_is;
               };
         }
@@ -289,7 +290,8 @@ module _ (digest : List ℕ → List ℕ) (hash : IsDigest digest) (keys : List 
           (sym taken) held in
           omega (
             arith,
-            front_rounds_end digest hash entries is.short size top w x working.lists working.gets is.within small is_top edge working.worked,
+            front_rounds_end digest hash entries is.short size top w x working.lists working.gets is.within small is_top
+                edge working.worked,
             working.count,
           )
 
@@ -311,7 +313,10 @@ module _ (digest : List ℕ → List ℕ) (hash : IsDigest digest) (keys : List 
             entries =
                 take size entries;
             complete =
-                record { head = head; tree = record { size_is = long; root_is = sym root_is; are_held = working.whole } };
+                record {
+                  head = head;
+                  tree = record { size_is = long; root_is = sym root_is; are_held = working.whole };
+                };
           }
 
       pub worked_gets : (none asked : List Path) (old new : Option (List Path)) → none ≡ [] → asked ≡ Checkpoint ∷ [] →

@@ -150,7 +150,8 @@ module _ (digest : List ℕ → List ℕ) (entries : List (List ℕ)) (size : �
         MayWork digest entries size root later w after
     after_round later w after paths stays grows fronts t =
         let takes =
-        front_round_takes digest m.source.hash entries m.source.short size v paths t.gets t.founds m.within m.small m.edge fronts t.are in
+        front_round_takes digest m.source.hash entries m.source.short size v paths t.gets t.founds m.within m.small
+        m.edge fronts t.are in
         let taken =
         λ (path : Path) (f : IsFront digest v.strings (take size entries) path). subst
         (λ (x : View). HasAll x.strings (true_strings digest (take size entries) path)) (sym t.taken)
@@ -169,7 +170,8 @@ module _ (digest : List ℕ → List ℕ) (entries : List (List ℕ)) (size : �
           fetched =
               λ before has path same within widest. elim
               (Contains-append_cases asked t.gets before (subst (λ (l : List Path). Contains l before) t.list has)) [
-                | inl old ↦ held_more v.strings w.strings (true_strings digest (take size entries) path) grows.strings_are
+                | inl old ↦ held_more v.strings w.strings (true_strings digest (take size entries) path)
+                    grows.strings_are
                     (m.fetched before old path same within widest)
                 | inr got ↦
                     (let place =
@@ -243,5 +245,6 @@ module _ (digest : List ℕ → List ℕ) (entries : List (List ℕ)) (size : �
   never_eight start now v x before mid rounds many m working =
       let t = has_top size m.small in
       let few =
-      front_rounds_end digest m.source.hash entries m.source.short size t.top v x working.lists working.gets m.within m.small t.is m.edge working.worked in
+      front_rounds_end digest m.source.hash entries m.source.short size t.top v x working.lists working.gets m.within
+      m.small t.is m.edge working.worked in
       omega (arith, few, many, working.count, t.is.within)

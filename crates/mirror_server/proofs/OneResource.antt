@@ -1,5 +1,6 @@
 -- A target names one resource.
-use Rattle.std.proofs.Common.{◌≡◌, ℕ, ◌==◌, Bool, false, List, [], ◌∷◌, ◌++◌, get_or, Ok, refl, sym, ap, subst, ◌∙◌, if◌then◌else◌, codes, arith}
+use Rattle.std.proofs.Common.{◌≡◌, ℕ, ◌==◌, Bool, false, List, [], ◌∷◌, ◌++◌, get_or, Ok, refl, sym, ap, subst, ◌∙◌}
+use Rattle.std.proofs.Common.{if◌then◌else◌, codes, arith}
 use Rattle.std.specs.Str.{bytes_eq}
 use Rattle.std.proofs.lemmas.Slice.Eq.{bytes_eq-Decides}
 use Rattle.std.specs.Str.Parse.{AllDigits}
@@ -32,7 +33,8 @@ pub number_lacks_slash : (text : List ℕ) (n : ℕ) → IsNumber text n → Has
 number_lacks_slash text n is = digits_lack_slash text is.is_decimal.numeral.1
 
 -- the two texts behind a prefix are known, where no slash stands in the first
-pub one_cut : (front target a b c d : List ℕ) → HasTwo front target a b → HasTwo front target c d → HasNoSlash a → HasNoSlash c → (a ≡ c) × (b ≡ d)
+pub one_cut : (front target a b c d : List ℕ) → HasTwo front target a b → HasTwo front target c d → HasNoSlash a →
+    HasNoSlash c → (a ≡ c) × (b ≡ d)
 one_cut front target a b c d p q x y =
     let rest : a ++ 47 ∷ b ≡ c ++ 47 ∷ d = append_cancel_left front (a ++ 47 ∷ b) (c ++ 47 ∷ d) (sym p ∙ q) in
     first_cut a c b d x y rest
@@ -42,23 +44,33 @@ one_number_of a b m n e p q = one_number b m n (subst (λ (t : List ℕ). IsNumb
 
 pub one_hash : (text a b : List ℕ) → IsHexHash text a → IsHexHash text b → a ≡ b
 one_hash text a b p q =
-    let first : decode_of text ≡ Ok a = ap (λ (t : List ℕ). decode_of t) p.is_hex ∙ decode_of-encode_lower a p.is_hash.are_bytes in
-    let second : decode_of text ≡ Ok b = ap (λ (t : List ℕ). decode_of t) q.is_hex ∙ decode_of-encode_lower b q.is_hash.are_bytes in
+    let first : decode_of text ≡ Ok a = ap (λ (t : List ℕ). decode_of t) p.is_hex
+    ∙ decode_of-encode_lower a p.is_hash.are_bytes in
+    let second : decode_of text ≡ Ok b = ap (λ (t : List ℕ). decode_of t) q.is_hex
+    ∙ decode_of-encode_lower b q.is_hash.are_bytes in
     decode_of-same text a b first second
 
-one_pair : (front target : List ℕ) (m n i j : ℕ) → NamesNumbers front target m n → NamesNumbers front target i j → (m ≡ i) × (n ≡ j)
+one_pair : (front target : List ℕ) (m n i j : ℕ) → NamesNumbers front target m n → NamesNumbers front target i j →
+    (m ≡ i) × (n ≡ j)
 one_pair front target m n i j p q =
-    let cut = one_cut front target p.first p.second q.first q.second p.parts q.parts (number_lacks_slash p.first m p.first_is) (number_lacks_slash q.first i q.first_is) in
-    (one_number_of p.first q.first m i cut.0 p.first_is q.first_is, one_number_of p.second q.second n j cut.1 p.second_is q.second_is)
+    let cut = one_cut front target p.first p.second q.first q.second p.parts q.parts
+    (number_lacks_slash p.first m p.first_is) (number_lacks_slash q.first i q.first_is) in (
+      one_number_of p.first q.first m i cut.0 p.first_is q.first_is,
+      one_number_of p.second q.second n j cut.1 p.second_is q.second_is,
+    )
 
-one_head : (target : List ℕ) (m : ℕ) (r : List ℕ) (n : ℕ) (s : List ℕ) → NamesHead (codes "/mirror/missing/") target m r → NamesHead (codes "/mirror/missing/") target n s → ◌≡◌ {A = Resource} (Missing m r) (Missing n s)
+one_head : (target : List ℕ) (m : ℕ) (r : List ℕ) (n : ℕ) (s : List ℕ) →
+    NamesHead (codes "/mirror/missing/") target m r → NamesHead (codes "/mirror/missing/") target n s →
+    ◌≡◌ {A = Resource} (Missing m r) (Missing n s)
 one_head target m r n s p q =
-    let cut = one_cut (codes "/mirror/missing/") target p.first p.second q.first q.second p.parts q.parts (number_lacks_slash p.first m p.size_is) (number_lacks_slash q.first n q.size_is) in
+    let cut = one_cut (codes "/mirror/missing/") target p.first p.second q.first q.second p.parts q.parts
+    (number_lacks_slash p.first m p.size_is) (number_lacks_slash q.first n q.size_is) in
     let sizes = one_number_of p.first q.first m n cut.0 p.size_is q.size_is in
     let roots = one_hash q.second r s (subst (λ (t : List ℕ). IsHexHash t r) cut.1 p.root_is) q.root_is in
     λ k. Missing (sizes k) (roots k)
 
-one_file : (target : List ℕ) (a b : Path) → NamesFile target a → NamesFile target b → ◌≡◌ {A = Resource} (File a) (File b)
+one_file : (target : List ℕ) (a b : Path) → NamesFile target a → NamesFile target b →
+    ◌≡◌ {A = Resource} (File a) (File b)
 one_file target a b p q =
     let name : p.name ≡ q.name = cc (p.target_is, q.target_is) in
     let same = path_answer_one q.name (Ok a) (Ok b) (subst (λ (t : List ℕ). IsPath t a) name p.name_is) q.name_is in
@@ -81,8 +93,10 @@ mark (Proof (ask.Consistency first second)) = 99
 
 file_mark : (target : List ℕ) (path : Path) → NamesFile target path → mark_in target ≡ 0
 file_mark target Checkpoint is = ap mark_in (is.target_is ∙ ap (λ (name : List ℕ). 47 ∷ name) is.name_is)
-file_mark target (Tile level index width) is = ap mark_in (is.target_is ∙ ap (λ (name : List ℕ). 47 ∷ name) is.name_is.1.below.text_is)
-file_mark target (Entries index width) is = ap mark_in (is.target_is ∙ ap (λ (name : List ℕ). 47 ∷ name) is.name_is.below.text_is)
+file_mark target (Tile level index width) is =
+    ap mark_in (is.target_is ∙ ap (λ (name : List ℕ). 47 ∷ name) is.name_is.1.below.text_is)
+file_mark target (Entries index width) is =
+    ap mark_in (is.target_is ∙ ap (λ (name : List ℕ). 47 ∷ name) is.name_is.below.text_is)
 
 mark_is : (target : List ℕ) (r : Resource) → Names target r → mark_in target ≡ mark r
 mark_is target (File path) is = file_mark target path is
@@ -121,14 +135,20 @@ same_kind target (Proof (ask.Inclusion size_a index_a)) (File path_b) e p q = ab
 same_kind target (Proof (ask.Inclusion size_a index_a)) Status e p q = absurd (omega (arith, e))
 same_kind target (Proof (ask.Inclusion size_a index_a)) Forks e p q = absurd (omega (arith, e))
 same_kind target (Proof (ask.Inclusion size_a index_a)) (Missing size_b root_b) e p q = absurd (omega (arith, e))
-same_kind target (Proof (ask.Inclusion size_a index_a)) (Proof (ask.Inclusion size_b index_b)) e p q = (let same = one_pair (codes "/mirror/inclusion/") target size_a index_a size_b index_b p q in λ k. Proof (ask.Inclusion (same.0 k) (same.1 k)))
-same_kind target (Proof (ask.Inclusion size_a index_a)) (Proof (ask.Consistency first_b second_b)) e p q = absurd (omega (arith, e))
+same_kind target (Proof (ask.Inclusion size_a index_a)) (Proof (ask.Inclusion size_b index_b)) e p q =
+    (let same = one_pair (codes "/mirror/inclusion/") target size_a index_a size_b index_b p q in
+    λ k. Proof (ask.Inclusion (same.0 k) (same.1 k)))
+same_kind target (Proof (ask.Inclusion size_a index_a)) (Proof (ask.Consistency first_b second_b)) e p q =
+    absurd (omega (arith, e))
 same_kind target (Proof (ask.Consistency first_a second_a)) (File path_b) e p q = absurd (omega (arith, e))
 same_kind target (Proof (ask.Consistency first_a second_a)) Status e p q = absurd (omega (arith, e))
 same_kind target (Proof (ask.Consistency first_a second_a)) Forks e p q = absurd (omega (arith, e))
 same_kind target (Proof (ask.Consistency first_a second_a)) (Missing size_b root_b) e p q = absurd (omega (arith, e))
-same_kind target (Proof (ask.Consistency first_a second_a)) (Proof (ask.Inclusion size_b index_b)) e p q = absurd (omega (arith, e))
-same_kind target (Proof (ask.Consistency first_a second_a)) (Proof (ask.Consistency first_b second_b)) e p q = (let same = one_pair (codes "/mirror/consistency/") target first_a second_a first_b second_b p q in λ k. Proof (ask.Consistency (same.0 k) (same.1 k)))
+same_kind target (Proof (ask.Consistency first_a second_a)) (Proof (ask.Inclusion size_b index_b)) e p q =
+    absurd (omega (arith, e))
+same_kind target (Proof (ask.Consistency first_a second_a)) (Proof (ask.Consistency first_b second_b)) e p q =
+    (let same = one_pair (codes "/mirror/consistency/") target first_a second_a first_b second_b p q in
+    λ k. Proof (ask.Consistency (same.0 k) (same.1 k)))
 
 pub one_resource : TargetsNameOne
 one_resource target a b p q = same_kind target a b (sym (mark_is target a p) ∙ mark_is target b q) p q
@@ -137,7 +157,8 @@ one_resource target a b p q = same_kind target a b (sym (mark_is target a p) ∙
 
 -- what decodes to a hash
 pub decoded : (digits hash : List ℕ) → IsHexHash digits hash → decode_sized digits 32 ≡ Ok hash
-decoded digits hash is = ap (λ (t : List ℕ). decode_sized t 32) is.is_hex ∙ decode_sized-encode_lower hash 32 is.is_hash.are_32 is.is_hash.are_bytes
+decoded digits hash is = ap (λ (t : List ℕ). decode_sized t 32) is.is_hex
+    ∙ decode_sized-encode_lower hash 32 is.is_hash.are_32 is.is_hash.are_bytes
 
 -- ---- what names nothing
 
@@ -147,12 +168,16 @@ unequal a b r is other same = let yes = (bytes_eq-Decides a b).1 same in absurd 
 
 -- no resource is named where none of each kind is
 pub names_none :
-    (target : List ℕ) → (Names target Status → ⊥) → (Names target Forks → ⊥) → ((n : ℕ) (root : List ℕ) → Names target (Missing n root) → ⊥) →
-    ((m n : ℕ) → Names target (Proof (ask.Inclusion m n)) → ⊥) → ((m n : ℕ) → Names target (Proof (ask.Consistency m n)) → ⊥) →
+    (target : List ℕ) → (Names target Status → ⊥) → (Names target Forks → ⊥) →
+    ((n : ℕ) (root : List ℕ) → Names target (Missing n root) → ⊥) →
+    ((m n : ℕ) → Names target (Proof (ask.Inclusion m n)) → ⊥) →
+    ((m n : ℕ) → Names target (Proof (ask.Consistency m n)) → ⊥) →
     ((path : Path) → Names target (File path) → ⊥) → (r : Resource) → Names target r → ⊥
 names_none target status forks missing inclusion consistency file (File path) is = file path is
 names_none target status forks missing inclusion consistency file Status is = status is
 names_none target status forks missing inclusion consistency file Forks is = forks is
 names_none target status forks missing inclusion consistency file (Missing size root) is = missing size root is
-names_none target status forks missing inclusion consistency file (Proof (ask.Inclusion size index)) is = inclusion size index is
-names_none target status forks missing inclusion consistency file (Proof (ask.Consistency first second)) is = consistency first second is
+names_none target status forks missing inclusion consistency file (Proof (ask.Inclusion size index)) is =
+    inclusion size index is
+names_none target status forks missing inclusion consistency file (Proof (ask.Consistency first second)) is =
+    consistency first second is

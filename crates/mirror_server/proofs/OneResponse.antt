@@ -15,7 +15,8 @@ use Rattle.mirror_model.specs.View.{View}
 use Rattle.mirror_model.proofs.OneLists.{one_served, replies_once}
 use Rattle.mirror_model.proofs.Reporting.{forks_are_one_text, missing_is_one_text, status_is_one_text}
 use Rattle.mirror_server.specs.Laws.{EqualViewsReplyAlike, ResponseIsOne, ResponseIsThere}
-use Rattle.mirror_server.specs.Response.{found, HasRequest, IsBody, IsFound, IsReplyTo, IsServedProofText, media_type, Response, other_method, not_there, is_there, silent, refused, replied}
+use Rattle.mirror_server.specs.Response.{found, HasRequest, IsBody, IsFound, IsReplyTo, IsServedProofText, media_type}
+use Rattle.mirror_server.specs.Response.{Response, other_method, not_there, is_there, silent, refused, replied}
 use Rattle.mirror_server.specs.declared.limits.TheConstants.{MAX_HEAD_LEN}
 use Rattle.mirror_server.specs.declared.resource.Resource.{Resource}
 use Rattle.mirror_server.specs.declared.resource.Resource.TheVariants.{File, Status, Forks, Missing, Proof}
@@ -31,10 +32,12 @@ no_request_in_nothing h has =
     absurd (omega (arith, e))
 
 module _ (digest : List ℕ → List ℕ) (hash : IsDigest digest) (v : View) (lawful : IsLawful digest v) where
-  one_proof_text : (ask : Ask) (x y : List ℕ) → IsServedProofText digest v ask x → IsServedProofText digest v ask y → x ≡ y
+  one_proof_text : (ask : Ask) (x y : List ℕ) → IsServedProofText digest v ask x →
+      IsServedProofText digest v ask y → x ≡ y
   one_proof_text ask x y p q =
       let entries = one_served digest hash v lawful p.entries q.entries p.served q.served in
-      let made : ◌≡◌ {A = Result proof.Proof ProofFault} (Ok p.proof) (Ok q.proof) = sym p.made ∙ (ap (λ (es : List (List ℕ)). asked_proof digest es ask) entries ∙ q.made) in
+      let made : ◌≡◌ {A = Result proof.Proof ProofFault} (Ok p.proof) (Ok q.proof) =
+      sym p.made ∙ (ap (λ (es : List (List ℕ)). asked_proof digest es ask) entries ∙ q.made) in
       let same : p.proof ≡ q.proof = cc made in
       has_one_spelling.one_text x y q.proof (subst (λ (one : proof.Proof). IsProofText x one) same p.text_is) q.text_is
 
@@ -48,8 +51,10 @@ module _ (digest : List ℕ → List ℕ) (hash : IsDigest digest) (v : View) (l
   one_found : (target x y : List ℕ) → IsFound digest v target x → IsFound digest v target y → x ≡ y
   one_found target x y p q =
       let named = one_resource target p.resource q.resource p.names q.names in
-      let bodies = one_body q.resource p.body q.body (subst (λ (r : Resource). IsBody digest v r p.body) named p.is_body) q.is_body in
-      p.reply_is ∙ (ap (λ (r : Resource). found (media_type r) p.body) named ∙ (ap (λ (b : List ℕ). found (media_type q.resource) b) bodies ∙ sym q.reply_is))
+      let bodies = one_body q.resource p.body q.body
+      (subst (λ (r : Resource). IsBody digest v r p.body) named p.is_body) q.is_body in
+      p.reply_is ∙ (ap (λ (r : Resource). found (media_type r) p.body) named
+      ∙ (ap (λ (b : List ℕ). found (media_type q.resource) b) bodies ∙ sym q.reply_is))
 
   one_reply : (h : RequestHead) (x y : List ℕ) → IsReplyTo digest v h x → IsReplyTo digest v h y → x ≡ y
   one_reply h x y (other_method m) (other_method n) = refl
@@ -77,7 +82,8 @@ response_is_one digest hash v lawful bytes x y = response_once digest hash v law
 
 pub equal_views_reply_alike : EqualViewsReplyAlike
 equal_views_reply_alike digest hash v w lawful same bytes others x y given p q =
-    let there : Response digest w others x = subst (λ (b : List ℕ). Response digest w b x) given (subst (λ (u : View). Response digest u bytes x) same p) in
+    let there : Response digest w others x =
+    subst (λ (b : List ℕ). Response digest w b x) given (subst (λ (u : View). Response digest u bytes x) same p) in
     response_once digest hash w (subst (IsLawful digest) same lawful) others x y there q
 
 module _ (digest : List ℕ → List ℕ) (v : View) where

@@ -1,5 +1,6 @@
 -- A walk over a mirror's notes: what it has met, and the files of that.
-use Rattle.std.proofs.Common.{◌≡◌, ℕ, ◌+◌, ◌<◌, ◌≤◌, List, [], ◌∷◌, ◌++◌, Some, None, inl, inr, length, map, take, All, refl, sym, ap, subst, ◌∙◌}
+use Rattle.std.proofs.Common.{◌≡◌, ℕ, ◌+◌, ◌<◌, ◌≤◌, List, [], ◌∷◌, ◌++◌, Some, None, inl, inr, length, map, take, All}
+use Rattle.std.proofs.Common.{refl, sym, ap, subst, ◌∙◌}
 use Rattle.std.specs.Prelude.{Bool, cond, count_by, sum, slice_get}
 use Rattle.std.proofs.lemmas.Option.{slice_get_within, get_or_from_slice_get, slice_get_cases, none-some}
 use Rattle.std.proofs.lemmas.List.{append-nil, append_assoc, map-append, take_more, take_all}
@@ -10,7 +11,8 @@ use Rattle.mirror_model.specs.View.{View}
 use Rattle.mirror_model.specs.Listed.{ListsNotes}
 use Rattle.mirror_model.proofs.Listing.{notes_are_listed_once}
 use Rattle.tlog_mirror.specs.NoteLists.{IsNoteAt}
-use Rattle.state_commands.specs.NoteFiles.{HeadNote, NamedFile, IsHeadNote, ListsNoteFiles, file_after, files_after, files_of}
+use Rattle.state_commands.specs.NoteFiles.{HeadNote, NamedFile, IsHeadNote, ListsNoteFiles, file_after, files_after}
+use Rattle.state_commands.specs.NoteFiles.{files_of}
 
 -- what passes a test of images is counted by the test of what they come of
 pub count_by-map :
@@ -48,15 +50,19 @@ pub meets_more :
     MeetsFirst v count heads files → MeetsFirst v (count + 1) (heads ++ head ∷ []) (files ++ file ∷ [])
 meets_more v count heads files head file is at named met =
     record {
-      are_heads = All-append IsHeadNote heads (head ∷ []) met.are_heads (All-cons IsHeadNote head [] is (All-nil IsHeadNote));
+      are_heads = All-append IsHeadNote heads (head ∷ []) met.are_heads
+          (All-cons IsHeadNote head [] is (All-nil IsHeadNote));
       begin = λ notes lists.
           let same : at.0 ≡ notes = notes_are_listed_once v at.0 notes at.1 lists in
-          let got : slice_get notes count ≡ Some head.note = subst (λ (ns : List (List ℕ)). slice_get ns count ≡ Some head.note) same at.2 in
+          let got : slice_get notes count ≡ Some head.note =
+          subst (λ (ns : List (List ℕ)). slice_get ns count ≡ Some head.note) same at.2 in
           let within : count < length notes = slice_get_within notes count head.note got in
           let next : take (count + 1) notes ≡ take count notes ++ head.note ∷ [] =
           take_more notes count head.note within
-          ∙ ap (λ (note : List ℕ). take count notes ++ note ∷ []) (get_or_from_slice_get notes count head.note head.note got) in
-          let all : notes_of (heads ++ head ∷ []) ≡ notes_of heads ++ head.note ∷ [] = map-append (λ (h : HeadNote). h.note) heads (head ∷ []) in
+          ∙ ap (λ (note : List ℕ). take count notes ++ note ∷ [])
+          (get_or_from_slice_get notes count head.note head.note got) in
+          let all : notes_of (heads ++ head ∷ []) ≡ notes_of heads ++ head.note ∷ [] =
+          map-append (λ (h : HeadNote). h.note) heads (head ∷ []) in
           all ∙ ap (λ (ns : List (List ℕ)). ns ++ head.note ∷ []) (met.begin notes lists) ∙ sym next;
       files_are =
           ap (λ (fs : List NamedFile). fs ++ file ∷ []) met.files_are

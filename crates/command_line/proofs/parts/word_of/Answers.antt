@@ -6,4 +6,5 @@ pub returns-in-Some : goal.returns-in-Some
 returns-in-Some c = given_some (found_of c.args.found.now) c.args.name.now c.in-Some.word.now c.in-Some.ensures
 
 pub returns-in-None : goal.returns-in-None
-returns-in-None c = λ text given. given_none (found_of c.args.found.now) c.args.name.now text.now c.in-None.ensures given
+returns-in-None c =
+    λ text given. given_none (found_of c.args.found.now) c.args.name.now text.now c.in-None.ensures given

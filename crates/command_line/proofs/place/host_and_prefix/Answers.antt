@@ -13,11 +13,18 @@ returns-in-Some-clause-before c =
 pub returns-in-Some-clause-after : goal.returns-in-Some-clause-after
 returns-in-Some-clause-after c =
     let at = find_char slash c.args.word.now (Some c.in-Some.at) c.in-Some.ensures.cases (lit< tt) in
-    inr (drop (suc c.in-Some.at) c.args.word.now, c.split_at.ensures.back ∙ (drop-cons c.args.word.now c.in-Some.at 0 at.0 ∙ ap (λ b. b ∷ drop (suc c.in-Some.at) c.args.word.now) at.1))
+    inr (
+      drop (suc c.in-Some.at) c.args.word.now,
+      c.split_at.ensures.back
+          ∙ (drop-cons c.args.word.now c.in-Some.at 0 at.0
+          ∙ ap (λ b. b ∷ drop (suc c.in-Some.at) c.args.word.now) at.1),
+    )
 
 pub returns-in-None-clause-before : goal.returns-in-None-clause-before
 returns-in-None-clause-before c =
-    front_lacks slash (length c.args.word.now) c.args.word.now c.split_at-in-None.result.0.now c.split_at-in-None.ensures.front (find_char slash c.args.word.now None c.in-None.ensures.cases (lit< tt))
+    front_lacks slash (length c.args.word.now) c.args.word.now c.split_at-in-None.result.0.now
+    c.split_at-in-None.ensures.front (find_char slash c.args.word.now None c.in-None.ensures.cases (lit< tt))
 
 pub returns-in-None-clause-after : goal.returns-in-None-clause-after
-returns-in-None-clause-after c = inl (c.split_at-in-None.ensures.back ∙ drop_all (length c.args.word.now) c.args.word.now (omega arith))
+returns-in-None-clause-after c =
+    inl (c.split_at-in-None.ensures.back ∙ drop_all (length c.args.word.now) c.args.word.now (omega arith))

@@ -9,9 +9,15 @@ use Rattle.command_line.proofs.readers.missing_of.Goals as goal
 pub returns-in_err-number_of : goal.returns-in_err-number_of
 returns-in_err-number_of c =
     let options = rows_of (found_of c.args.found.now) in
-    refused_from (λ n. HasValue options (codes "size") (IsNumberIn 0 MAX_SIZE n)) (IsMissingAsk options) c.from_residual-in_err-number_of.result c.in_err-number_of.field-0.0 (err_from_is_err_and c.from_residual-in_err-number_of.result c.from_residual-in_err-number_of.ensures.1) c.in_err-number_of.ensures (λ y q. (y.size, q.size))
+    refused_from (λ n. HasValue options (codes "size") (IsNumberIn 0 MAX_SIZE n))
+    (IsMissingAsk options) c.from_residual-in_err-number_of.result c.in_err-number_of.field-0.0
+    (err_from_is_err_and c.from_residual-in_err-number_of.result c.from_residual-in_err-number_of.ensures.1)
+    c.in_err-number_of.ensures (λ y q. (y.size, q.size))
 
 pub returns-in_err-word_of : goal.returns-in_err-word_of
 returns-in_err-word_of c =
     let options = rows_of (found_of c.args.found.now) in
-    word_refused options (codes "root") (IsMissingAsk options) c.from_residual-in_err-word_of.result c.in_err-word_of.field-0.0 (err_from_is_err_and c.from_residual-in_err-word_of.result c.from_residual-in_err-word_of.ensures.1) c.in_err-word_of.ensures (λ y q. (q.root.value, q.root.given))
+    word_refused options (codes "root")
+    (IsMissingAsk options) c.from_residual-in_err-word_of.result c.in_err-word_of.field-0.0
+    (err_from_is_err_and c.from_residual-in_err-word_of.result c.from_residual-in_err-word_of.ensures.1)
+    c.in_err-word_of.ensures (λ y q. (q.root.value, q.root.given))

@@ -8,4 +8,6 @@ use Rattle.command_line.proofs.readers.root_of.Goals as goal
 pub returns-in_err-number_of : goal.returns-in_err-number_of
 returns-in_err-number_of c =
     let options = rows_of (found_of c.args.found.now) in
-    refused_from (λ n. HasValue options (codes "width") (IsNumberIn 0 256 n)) (IsRoot options) c.from_residual.result c.in_err-number_of.field-0.0 (err_from_is_err_and c.from_residual.result c.from_residual.ensures.1) c.in_err-number_of.ensures (λ y q. (y.width, q))
+    refused_from (λ n. HasValue options (codes "width") (IsNumberIn 0 256 n)) (IsRoot options) c.from_residual.result
+    c.in_err-number_of.field-0.0 (err_from_is_err_and c.from_residual.result c.from_residual.ensures.1)
+    c.in_err-number_of.ensures (λ y q. (y.width, q))

@@ -9,11 +9,15 @@ pub returns-in_err-number_in-in-Some : goal.returns-in_err-number_in-in-Some
 returns-in_err-number_in-in-Some c =
     let options = rows_of (found_of c.args.found.now) in
     let given = given_some (found_of c.args.found.now) (codes "width") c.in-Some.word.now c.in-Some.ensures in
-    refused_from (λ n. IsNumberIn 1 256 n c.in-Some.word.now) (IsTakeWidth (first_of (codes "width") options)) c.from_residual.result c.in_err-number_in-in-Some.field-0.0 (err_from_is_err_and c.from_residual.result c.from_residual.ensures.1) c.in_err-number_in-in-Some.ensures (λ n q. (n, subst (λ o. IsTakeWidth o n) given q))
+    refused_from (λ n. IsNumberIn 1 256 n c.in-Some.word.now) (IsTakeWidth (first_of (codes "width") options))
+    c.from_residual.result c.in_err-number_in-in-Some.field-0.0
+    (err_from_is_err_and c.from_residual.result c.from_residual.ensures.1) c.in_err-number_in-in-Some.ensures
+    (λ n q. (n, subst (λ o. IsTakeWidth o n) given q))
 
 pub returns-in_ok-number_in-in-Some : goal.returns-in_ok-number_in-in-Some
 returns-in_ok-number_in-in-Some c =
-    rw (given_some (found_of c.args.found.now) (codes "width") c.in-Some.word.now c.in-Some.ensures) c.in_ok-number_in-in-Some.ensures
+    rw (given_some (found_of c.args.found.now) (codes "width") c.in-Some.word.now c.in-Some.ensures)
+    c.in_ok-number_in-in-Some.ensures
 
 pub returns-in-None : goal.returns-in-None
 returns-in-None c = rw (given_or_none (found_of c.args.found.now) (codes "width") None c.in-None.ensures) refl

@@ -7,8 +7,10 @@ use Rattle.command_line.proofs.words.key_file.Goals as goal
 pub returns-in-Err : goal.returns-in-Err
 returns-in-Err c =
     let words = map string_bytes c.args.words.now in
-    let faults = subst (λ (a : App). is_simple_and_free a ≡ true → HasKind (fault_of a words) c.in-Err.error) c.in_ok-parser.ensures.is_app c.in-Err.ensures.kinds in
-    keys_refused words c.fault_of.result (refused words c.in-Err.error c.fault_of.result (faults refl) c.fault_of.ensures)
+    let faults = subst (λ (a : App). is_simple_and_free a ≡ true → HasKind (fault_of a words) c.in-Err.error)
+    c.in_ok-parser.ensures.is_app c.in-Err.ensures.kinds in
+    keys_refused words c.fault_of.result
+    (refused words c.in-Err.error c.fault_of.result (faults refl) c.fault_of.ensures)
 
 pub returns-in-Some : goal.returns-in-Some
 returns-in-Some c =
@@ -18,8 +20,10 @@ returns-in-Some c =
     let options = rows_of (found_of c.in-Some.found.now) in
     let lawful = subst (λ (a : App). is_simple_and_free a ≡ true → fault_of a words ≡ []) app c.in-Ok.ensures.kinds in
     let matches = subst (λ (a : App). HasMatchesOf a words c.in-Ok.matches) app c.in-Ok.ensures.matches in
-    let calls = called words c.in-Ok.matches name options (lawful refl) matches c.in-Some.ensures.name c.in-Some.ensures.rows in
-    keys_read words name options (option_map (λ k. k.now) c.get_str.result) calls (given_or_none (found_of c.in-Some.found.now) (codes "keys") (option_map (λ k. k.now) c.get_str.result) c.get_str.ensures)
+    let calls = called words c.in-Ok.matches name options (lawful refl) matches c.in-Some.ensures.name
+    c.in-Some.ensures.rows in
+    keys_read words name options (option_map (λ k. k.now) c.get_str.result) calls (given_or_none
+    (found_of c.in-Some.found.now) (codes "keys") (option_map (λ k. k.now) c.get_str.result) c.get_str.ensures)
 
 pub returns : goal.returns
 returns c =

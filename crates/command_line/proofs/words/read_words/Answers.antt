@@ -6,7 +6,8 @@ use Rattle.command_line.proofs.words.read_words.Goals as goal
 pub returns-in-Err : goal.returns-in-Err
 returns-in-Err c =
     let words = map string_bytes c.args.words.now in
-    let faults = subst (λ (a : App). is_simple_and_free a ≡ true → HasKind (fault_of a words) c.in-Err.error) c.in_ok-parser.ensures.is_app c.in-Err.ensures.kinds in
+    let faults = subst (λ (a : App). is_simple_and_free a ≡ true → HasKind (fault_of a words) c.in-Err.error)
+    c.in_ok-parser.ensures.is_app c.in-Err.ensures.kinds in
     refused words c.in-Err.error c.fault_of.result (faults refl) c.fault_of.ensures
 
 pub returns-in-Some : goal.returns-in-Some
@@ -17,7 +18,8 @@ returns-in-Some c =
     let options = rows_of (found_of c.in-Some.found.now) in
     let lawful = subst (λ (a : App). is_simple_and_free a ≡ true → fault_of a words ≡ []) app c.in-Ok.ensures.kinds in
     let matches = subst (λ (a : App). HasMatchesOf a words c.in-Ok.matches) app c.in-Ok.ensures.matches in
-    let calls = called words c.in-Ok.matches name options (lawful refl) matches c.in-Some.ensures.name c.in-Some.ensures.rows in
+    let calls = called words c.in-Ok.matches name options (lawful refl) matches c.in-Some.ensures.name
+    c.in-Some.ensures.rows in
     understood words name options c.command_of.result calls c.command_of.ensures
 
 pub returns : goal.returns

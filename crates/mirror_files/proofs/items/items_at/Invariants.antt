@@ -8,5 +8,6 @@ invariant-loop l = record {
   count : length l.items.items ≡ l.counter;
   fits : All (IsItem l.form) (map (λ i. i.now) l.items.items);
   text : l.bytes ≡ items_text l.form (map (λ i. i.now) l.items.items) ++ l.rest;
-  others : (items : List (List ℕ)) (rest : List ℕ) → HasItems l.form l.count l.bytes items rest → (left : List (List ℕ)) × HasItems l.form (l.count - l.counter) l.rest left rest;
+  others : (items : List (List ℕ)) (rest : List ℕ) → HasItems l.form l.count l.bytes items rest →
+      (left : List (List ℕ)) × HasItems l.form (l.count - l.counter) l.rest left rest;
 }

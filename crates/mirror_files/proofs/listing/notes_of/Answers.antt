@@ -10,7 +10,9 @@ pub loop-i-preserved : goal.loop-i-preserved
 loop-i-preserved g c = λ all h.
     ap (map lent_bytes) c.in_ok-push-in-Some.ensures.items
     ∙ (map_push lent_bytes c.loop-i.notes.items c.in-Some.note
-    ∙ note_more c.args.mirror.now.view c.loop-i.i all (map lent_bytes c.loop-i.notes.items) c.in-Some.note.now c.in-Some.ensures h (c.loop-i.invariant all h))
+    ∙ note_more c.args.mirror.now.view c.loop-i.i all (map lent_bytes c.loop-i.notes.items)
+    c.in-Some.note.now c.in-Some.ensures h (c.loop-i.invariant all h))
 
 pub returns-in-None : goal.returns-in-None
-returns-in-None g c = note_end c.args.mirror.now.view c.loop-i.i (map lent_bytes c.loop-i.notes.items) c.in-None.ensures c.loop-i.invariant
+returns-in-None g c = note_end c.args.mirror.now.view c.loop-i.i (map lent_bytes c.loop-i.notes.items)
+    c.in-None.ensures c.loop-i.invariant

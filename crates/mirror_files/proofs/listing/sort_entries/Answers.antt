@@ -10,4 +10,5 @@ returns-clause-rises c =
 
 pub returns-clause-same : goal.returns-clause-same
 returns-clause-same c = λ e.
-    same_items lent_bytes lent_total lent_ties lent_exact c.args.entries.now.items c.sort_unstable.new.self.items c.dedup.new.self.items c.sort_unstable.ensures.permutation (dedup_is _ _ _ c.dedup.ensures.filtered) e
+    same_items lent_bytes lent_total lent_ties lent_exact c.args.entries.now.items c.sort_unstable.new.self.items
+    c.dedup.new.self.items c.sort_unstable.ensures.permutation (dedup_is _ _ _ c.dedup.ensures.filtered) e

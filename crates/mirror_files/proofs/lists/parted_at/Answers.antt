@@ -13,7 +13,8 @@ returns-in_default-3-clause-none c = λ origin notes pairs entries rest h.
     let o = c.in-Some.ensures.found in
     let n = rw c.in-Some-2.is at c.in_ok-notes.ensures.found in
     let none = rw c.in_default-3.is at c.in_ok-pairs.ensures.none in
-    none pairs _ (next_stands Long Hashes _ _ _ rest _ notes pairs n (parted_notes _ _ _ rest origin notes pairs entries o.0 o.1 h) h.are_parts.pairs_fit)
+    none pairs _ (next_stands Long Hashes _ _ _ rest _ notes pairs n
+    (parted_notes _ _ _ rest origin notes pairs entries o.0 o.1 h) h.are_parts.pairs_fit)
 
 pub returns-in_default-4-clause-none : goal.returns-in_default-4-clause-none
 returns-in_default-4-clause-none c = λ origin notes pairs entries rest h.
@@ -21,7 +22,8 @@ returns-in_default-4-clause-none c = λ origin notes pairs entries rest h.
     let n = rw c.in-Some-2.is at c.in_ok-notes.ensures.found in
     let p = rw c.in-Some-3.is at c.in_ok-pairs.ensures.found in
     let none = rw c.in_default-4.is at c.in_ok-entries.ensures.none in
-    let q = next_stands Long Hashes _ _ _ rest _ notes pairs n (parted_notes _ _ _ rest origin notes pairs entries o.0 o.1 h) h.are_parts.pairs_fit in
+    let q = next_stands Long Hashes _ _ _ rest _ notes pairs n
+    (parted_notes _ _ _ rest origin notes pairs entries o.0 o.1 h) h.are_parts.pairs_fit in
     none entries _ (last_stands Hashes Short _ _ rest _ pairs entries p q h.are_parts.entries_fit)
 
 pub returns-clause-found : goal.returns-clause-found

@@ -13,4 +13,5 @@ returns-in_default-3-clause-none c = λ origin notes strings rest h.
     let o = c.in-Some.ensures.found in
     let n = rw c.in-Some-2.is at c.in_ok-notes.ensures.found in
     let none = rw c.in_default-3.is at c.in_ok-strings.ensures.none in
-    none strings _ (last_stands Long Long _ _ rest _ notes strings n (tagged_notes _ _ _ rest origin notes strings o.0 o.1 h) h.are_parts.strings_fit)
+    none strings _ (last_stands Long Long _ _ rest _ notes strings n
+    (tagged_notes _ _ _ rest origin notes strings o.0 o.1 h) h.are_parts.strings_fit)

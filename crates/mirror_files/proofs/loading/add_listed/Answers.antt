@@ -14,8 +14,10 @@ add_item-requires g c =
 
 pub returns-in-Err : goal.returns-in-Err
 returns-in-Err g c =
-    listed_refused g.H.TreeHash.digest (tagged_as c.args.kind) c.args.items.now c.loop-item.item-index _ c.loop-item-test.true
-    c.args.store.now c.loop-item.store c.add_item.new.store c.loop-item.invariant.store c.in-Err.fault c.in-Err.ensures.collision
+    listed_refused g.H.TreeHash.digest (tagged_as c.args.kind) c.args.items.now c.loop-item.item-index _
+    c.loop-item-test.true
+    c.args.store.now c.loop-item.store c.add_item.new.store c.loop-item.invariant.store c.in-Err.fault
+    c.in-Err.ensures.collision
 
 pub loop-item-preserved : goal.loop-item-preserved
 loop-item-preserved g c = record {
@@ -26,5 +28,6 @@ loop-item-preserved g c = record {
 
 pub returns : goal.returns
 returns g c =
-    listed_done g.H.TreeHash.digest (tagged_as c.args.kind) c.args.items.now c.loop-item.item-index c.loop-item-test.false
+    listed_done g.H.TreeHash.digest (tagged_as c.args.kind) c.args.items.now c.loop-item.item-index
+    c.loop-item-test.false
     c.args.store.now c.loop-item.store c.loop-item.invariant.store c.loop-item.invariant.no_clash

@@ -3,11 +3,14 @@ use Rattle.mirror_files.proofs.loading.check_notes.Goals as goal
 
 pub returns-in-Err : goal.returns-in-Err
 returns-in-Err g c =
-    one_refused c.args.mirror.now.view.origin _ c.args.notes.now c.loop-note.note-index _ c.loop-note-test.true c.in-Err.fault c.in-Err.ensures
+    one_refused c.args.mirror.now.view.origin _ c.args.notes.now c.loop-note.note-index _ c.loop-note-test.true
+    c.in-Err.fault c.in-Err.ensures
 
 pub loop-note-preserved : goal.loop-note-preserved
 loop-note-preserved g c =
-    one_opens c.args.mirror.now.view.origin _ c.args.notes.now c.loop-note.note-index _ c.loop-note-test.true c.loop-note.invariant c.in-Ok.ensures
+    one_opens c.args.mirror.now.view.origin _ c.args.notes.now c.loop-note.note-index _ c.loop-note-test.true
+    c.loop-note.invariant c.in-Ok.ensures
 
 pub returns : goal.returns
-returns g c = all_open c.args.mirror.now.view.origin _ c.args.notes.now c.loop-note.note-index c.loop-note-test.false c.loop-note.invariant
+returns g c = all_open c.args.mirror.now.view.origin _ c.args.notes.now c.loop-note.note-index c.loop-note-test.false
+    c.loop-note.invariant

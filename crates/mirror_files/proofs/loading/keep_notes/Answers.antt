@@ -13,24 +13,30 @@ loop-note-init g c = record {
 
 pub returns-in-Err-BadHead-clause-keeps : goal.returns-in-Err-BadHead-clause-keeps
 returns-in-Err-BadHead-clause-keeps g c =
-    never_bad g.H.TreeHash.digest c.args.mirror.now.view c.loop-note.mirror.view c.keep_held_head.new.self.view _ c.args.notes.now c.loop-note.note-index _ c.loop-note-test.true
-    c.loop-note.invariant.view c.requires c.in-Err-BadHead.field-0 c.in-Err-BadHead.ensures.keeps c.in-Err-BadHead.field-0-is
+    never_bad g.H.TreeHash.digest c.args.mirror.now.view c.loop-note.mirror.view c.keep_held_head.new.self.view _
+    c.args.notes.now c.loop-note.note-index _ c.loop-note-test.true
+    c.loop-note.invariant.view c.requires c.in-Err-BadHead.field-0 c.in-Err-BadHead.ensures.keeps
+    c.in-Err-BadHead.field-0-is
 
 pub returns-in-Err-UnheldEdge-clause-keeps : goal.returns-in-Err-UnheldEdge-clause-keeps
 returns-in-Err-UnheldEdge-clause-keeps g c =
-    edge_lacks g.H.TreeHash.digest c.args.mirror.now.view c.loop-note.mirror.view c.keep_held_head.new.self.view _ c.args.notes.now c.loop-note.note-index _ c.loop-note-test.true
+    edge_lacks g.H.TreeHash.digest c.args.mirror.now.view c.loop-note.mirror.view c.keep_held_head.new.self.view _
+    c.args.notes.now c.loop-note.note-index _ c.loop-note-test.true
     c.loop-note.invariant.view c.in-Err-UnheldEdge.field-0 c.in-Err-UnheldEdge.ensures.keeps c.in-Err-UnheldEdge.field-0-is
 
 pub loop-note-preserved : goal.loop-note-preserved
 loop-note-preserved g c = record {
-  view = kept_view g.H.TreeHash.digest c.args.mirror.now.view c.loop-note.mirror.view c.keep_held_head.new.self.view _ c.args.notes.now c.loop-note.note-index _ c.loop-note-test.true
+  view = kept_view g.H.TreeHash.digest c.args.mirror.now.view c.loop-note.mirror.view c.keep_held_head.new.self.view _
+      c.args.notes.now c.loop-note.note-index _ c.loop-note-test.true
       c.loop-note.invariant.view c.in-Ok.ensures.keeps;
-  edges = kept_edges g.H.TreeHash.digest c.args.mirror.now.view c.loop-note.mirror.view c.keep_held_head.new.self.view _ c.args.notes.now c.loop-note.note-index _ c.loop-note-test.true
+  edges = kept_edges g.H.TreeHash.digest c.args.mirror.now.view c.loop-note.mirror.view c.keep_held_head.new.self.view _
+      c.args.notes.now c.loop-note.note-index _ c.loop-note-test.true
       c.loop-note.invariant.view c.in-Ok.ensures.keeps c.loop-note.invariant.edges;
   remembered = c.in-Ok.ensures.remembered ∙ c.loop-note.invariant.remembered;
 }
 
 pub returns-clause-keeps : goal.returns-clause-keeps
 returns-clause-keeps g c =
-    kept_all g.H.TreeHash.digest c.args.mirror.now.view c.loop-note.mirror.view c.args.notes.now c.loop-note.note-index c.loop-note-test.false
+    kept_all g.H.TreeHash.digest c.args.mirror.now.view c.loop-note.mirror.view c.args.notes.now c.loop-note.note-index
+    c.loop-note-test.false
     c.loop-note.invariant.view c.loop-note.invariant.edges

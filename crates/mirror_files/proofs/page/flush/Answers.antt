@@ -4,8 +4,12 @@ use Rattle.mirror_files.proofs.page.flush.Goals as goal
 
 pub returns-in-Err-clause-writes : goal.returns-in-Err-clause-writes
 returns-in-Err-clause-writes g c =
-    unwritten_held (g.W.Write.contents c.args.writer.now) (g.W.Write.contents c.write_whole.new.writer) c.args.held.now.items c.args.held.now.items [] c.in-Err.fault (rw c.as_slice.ensures.value at c.in-Err.ensures.err)
+    unwritten_held (g.W.Write.contents c.args.writer.now)
+    (g.W.Write.contents c.write_whole.new.writer) c.args.held.now.items c.args.held.now.items [] c.in-Err.fault
+    (rw c.as_slice.ensures.value at c.in-Err.ensures.err)
 
 pub returns-clause-writes : goal.returns-clause-writes
 returns-clause-writes g c =
-    rw c.clear.ensures.items (written_held (g.W.Write.contents c.args.writer.now) (g.W.Write.contents c.write_whole.new.writer) c.args.held.now.items (rw c.as_slice.ensures.value at c.in-Ok.ensures.ok))
+    rw c.clear.ensures.items
+    (written_held (g.W.Write.contents c.args.writer.now) (g.W.Write.contents c.write_whole.new.writer)
+    c.args.held.now.items (rw c.as_slice.ensures.value at c.in-Ok.ensures.ok))

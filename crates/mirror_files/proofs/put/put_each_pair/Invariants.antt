@@ -5,4 +5,5 @@ use Rattle.mirror_files.specs.Putting.{pair_bytes, Puts}
 use Rattle.mirror_files.proofs.put.put_each_pair.Given as goal
 
 abbrev pub invariant-loop-left : goal.invariant-loop-left
-invariant-loop-left g l = Puts (g.W.Write.contents l.fn.writer) (g.W.Write.contents l.writer) l.fn.page l.page (items_text Hashes (map pair_bytes (take l.left-index l.pairs))) (Ok tt)
+invariant-loop-left g l = Puts (g.W.Write.contents l.fn.writer) (g.W.Write.contents l.writer) l.fn.page l.page
+    (items_text Hashes (map pair_bytes (take l.left-index l.pairs))) (Ok tt)

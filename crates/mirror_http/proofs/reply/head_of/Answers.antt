@@ -22,6 +22,7 @@ returns-in-Ok-Complete-clause-found c =
       at.1.reads,
       few_fields buf headers head.headers at.0.fields at.1.fields size,
       at.1.code,
-      subst (λ (fields : List Field). FramingIs fields c.framing_of-framing.result) at.1.fields c.framing_of-framing.ensures,
+      subst (λ (fields : List Field). FramingIs fields c.framing_of-framing.result)
+          at.1.fields c.framing_of-framing.ensures,
       within.section.len_fits,
     )

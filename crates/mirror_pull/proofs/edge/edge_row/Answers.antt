@@ -56,15 +56,18 @@ returns-in-Some-clause-honest g c =
     let unasked = fresh_unasked c.args.asked.now.items c.args.path fresh in
     let answer = rw c.in-Some.is at (c.in_ok-bytes.ensures.answer unasked) in
     row_found digest entries
-    (g.S.Source.may_answer c.args.source.now) is c.args.path c.args.asked.now.items c.ask.new.asked.items c.in-Some.bytes.items tile answer (c.in_ok-bytes.ensures.grown unasked)
+    (g.S.Source.may_answer c.args.source.now) is c.args.path c.args.asked.now.items c.ask.new.asked.items
+    c.in-Some.bytes.items tile answer (c.in_ok-bytes.ensures.grown unasked)
 
 pub returns-clause-each : goal.returns-clause-each
 returns-clause-each g c =
     λ fresh partial.
     let grown = c.in_ok-bytes.ensures.grown (fresh_unasked c.args.asked.now.items c.args.path fresh) in
     let full =
-    full_fresh c.args.path c.full_path.result c.args.asked.now.items c.ask.new.asked.items c.full_path.ensures partial grown fresh in
-    adds_two_each c.args.path c.full_path.result c.args.asked.now.items c.ask.new.asked.items c.ask-2.new.asked.items c.full_path.ensures grown (c.in_ok-bytes-2.ensures.grown full)
+    full_fresh c.args.path c.full_path.result c.args.asked.now.items c.ask.new.asked.items c.full_path.ensures partial
+    grown fresh in
+    adds_two_each c.args.path c.full_path.result c.args.asked.now.items c.ask.new.asked.items c.ask-2.new.asked.items
+    c.full_path.ensures grown (c.in_ok-bytes-2.ensures.grown full)
 
 pub returns-clause-honest : goal.returns-clause-honest
 returns-clause-honest g c =
@@ -89,7 +92,9 @@ returns-clause-honest g c =
       bytes_are =
           rw c.path_width.ensures at c.truncate.ensures.items ∙
           row_full digest entries may next c.args.path c.in-Some-2.bytes.items tile gone there;
-      gets = gets_full digest entries may next c.args.path c.full_path.result c.args.asked.now.items c.ask.new.asked.items c.ask-2.new.asked.items gone c.full_path.ensures grown (c.in_ok-bytes-2.ensures.grown full);
+      gets = gets_full digest entries may next c.args.path c.full_path.result c.args.asked.now.items
+          c.ask.new.asked.items c.ask-2.new.asked.items gone c.full_path.ensures grown
+          (c.in_ok-bytes-2.ensures.grown full);
     }
 
 pub returns-in_default-2-clause-honest : goal.returns-in_default-2-clause-honest

@@ -43,10 +43,16 @@ loop-path-preserved g c =
           (asked c.edge_row.new.source) c.loop-path.invariant.told c.in_ok-row.ensures.told;
       counted = c.in_ok-row.ensures.counted ∙ c.loop-path.invariant.counted;
       each = λ fresh. each_step c.deref-path-items.result.now
-          (edge_of c.args.size) c.args.asked.now.items c.loop-path.asked.items c.edge_row.new.asked.items c.loop-path.path-index (c.deref-path-items.ensures.value ∙ c.in_ok-paths.ensures) c.loop-path-test.true fresh (edge_partial c.args.size) (c.loop-path.invariant.each fresh) c.in_ok-row.ensures.each;
+          (edge_of c.args.size) c.args.asked.now.items c.loop-path.asked.items c.edge_row.new.asked.items
+          c.loop-path.path-index (c.deref-path-items.ensures.value ∙ c.in_ok-paths.ensures) c.loop-path-test.true
+          fresh (edge_partial c.args.size) (c.loop-path.invariant.each fresh) c.in_ok-row.ensures.each;
       honest = λ digest entries is within fresh.
           rows_step digest entries (λ row. row.items) c.deref-path-items.result.now
-          (edge_of c.args.size) c.args.asked.now.items c.loop-path.asked.items c.edge_row.new.asked.items c.loop-path.path-index c.loop-path.rows.items c.push.new.self.items c.in_ok-row.row (c.deref-path-items.ensures.value ∙ c.in_ok-paths.ensures) c.loop-path-test.true fresh (edge_tile c.args.size (length entries) within) c.in_ok-push.ensures.items (c.loop-path.invariant.honest digest entries is within fresh)
+          (edge_of c.args.size) c.args.asked.now.items c.loop-path.asked.items c.edge_row.new.asked.items
+          c.loop-path.path-index c.loop-path.rows.items c.push.new.self.items c.in_ok-row.row
+          (c.deref-path-items.ensures.value ∙ c.in_ok-paths.ensures)
+          c.loop-path-test.true fresh (edge_tile c.args.size (length entries) within) c.in_ok-push.ensures.items
+          (c.loop-path.invariant.honest digest entries is within fresh)
           (c.in_ok-row.ensures.honest digest entries
           (source_stays digest entries (may c.args.source.now)
           (may c.loop-path.source) c.loop-path.invariant.later is));

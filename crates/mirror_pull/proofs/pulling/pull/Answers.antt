@@ -39,7 +39,8 @@ returns-in_err-rounds-clause-once g c =
     (g.S.Source.asked c.edge_rows.new.source) (g.S.Source.asked c.work.new.source)
     (adds_to_then c.new-asked.result.items c.ask.new.asked.items c.edge_rows.new.asked.items
     (g.S.Source.asked c.args.source.now) (g.S.Source.asked c.ask.new.source)
-    (g.S.Source.asked c.edge_rows.new.source) c.in_ok-note.ensures.told c.in_ok-rows.ensures.told) c.in_err-rounds.ensures.told)
+    (g.S.Source.asked c.edge_rows.new.source) c.in_ok-note.ensures.told c.in_ok-rows.ensures.told)
+    c.in_err-rounds.ensures.told)
 
 pub returns-clause-once : goal.returns-clause-once
 returns-clause-once g c =
@@ -52,26 +53,35 @@ returns-clause-once g c =
     (g.S.Source.asked c.work.new.source)
     (adds_to_then c.new-asked.result.items c.ask.new.asked.items c.edge_rows.new.asked.items
     (g.S.Source.asked c.args.source.now) (g.S.Source.asked c.ask.new.source)
-    (g.S.Source.asked c.edge_rows.new.source) c.in_ok-note.ensures.told c.in_ok-rows.ensures.told) c.in_ok-rounds.ensures.told))
+    (g.S.Source.asked c.edge_rows.new.source) c.in_ok-note.ensures.told c.in_ok-rows.ensures.told)
+    c.in_ok-rounds.ensures.told))
 
 pub returns-in_err-take_rows-clause-outcome : goal.returns-in_err-take_rows-clause-outcome
 returns-in_err-take_rows-clause-outcome g c =
     let p = err_from_is_err_and c.from_residual-in_err-take_rows.result c.from_residual-in_err-take_rows.ensures.1 in
     rw (p.1, p.2)
-    (outcome_head g.H.TreeHash.digest _ c.args.mirror.now.view c.take_rows.new.mirror.view c.deref-2.result.now _ c.in_err-take_rows.field-0.0 c.in_err-take_rows.ensures)
+    (outcome_head g.H.TreeHash.digest _ c.args.mirror.now.view c.take_rows.new.mirror.view c.deref-2.result.now _
+    c.in_err-take_rows.field-0.0 c.in_err-take_rows.ensures)
 
 pub returns-in_err-rounds-clause-outcome : goal.returns-in_err-rounds-clause-outcome
 returns-in_err-rounds-clause-outcome g c =
     let p = err_from_is_err_and c.from_residual-in_err-rounds.result c.from_residual-in_err-rounds.ensures.1 in
     rw (p.1, p.2)
-    (outcome_late g.H.TreeHash.digest _ c.args.mirror.now.view c.work.new.mirror.view c.in_err-rounds.field-0.0 c.in_err-rounds.ensures.late (grows_then _ c.args.mirror.now.view c.take_rows.new.mirror.view c.work.new.mirror.view (grows_head g.H.TreeHash.digest _ c.args.mirror.now.view c.take_rows.new.mirror.view c.deref-2.result.now _ c.in_ok-take_rows.ensures) c.in_err-rounds.ensures.gains))
+    (outcome_late g.H.TreeHash.digest _ c.args.mirror.now.view c.work.new.mirror.view c.in_err-rounds.field-0.0
+    c.in_err-rounds.ensures.late (grows_then _ c.args.mirror.now.view c.take_rows.new.mirror.view
+    c.work.new.mirror.view (grows_head g.H.TreeHash.digest _ c.args.mirror.now.view c.take_rows.new.mirror.view
+    c.deref-2.result.now _ c.in_ok-take_rows.ensures) c.in_err-rounds.ensures.gains))
 
 pub returns-clause-outcome : goal.returns-clause-outcome
 returns-clause-outcome g c = (
   grows_then _ c.args.mirror.now.view c.take_rows.new.mirror.view c.work.new.mirror.view
-      (grows_head g.H.TreeHash.digest _ c.args.mirror.now.view c.take_rows.new.mirror.view c.deref-2.result.now _ c.in_ok-take_rows.ensures) c.in_ok-rounds.ensures.gains,
+      (grows_head g.H.TreeHash.digest _ c.args.mirror.now.view c.take_rows.new.mirror.view c.deref-2.result.now _
+      c.in_ok-take_rows.ensures) c.in_ok-rounds.ensures.gains,
   record {
-    head = has_head g.H.TreeHash.digest _ c.args.mirror.now.view c.take_rows.new.mirror.view c.work.new.mirror.view c.deref-2.result.now c.deref.result.now _ c.in_ok-checkpoint.checkpoint.size c.in_ok-checkpoint.checkpoint.root (c.deref-2.ensures.value ∙ sym c.deref.ensures.value) c.in_ok-take_rows.ensures.2 (opened_head _ _ _ c.in_ok-checkpoint.checkpoint c.in_ok-checkpoint.ensures) c.in_ok-rounds.ensures.gains.grows;
+    head = has_head g.H.TreeHash.digest _ c.args.mirror.now.view c.take_rows.new.mirror.view c.work.new.mirror.view
+        c.deref-2.result.now c.deref.result.now _ c.in_ok-checkpoint.checkpoint.size c.in_ok-checkpoint.checkpoint.root
+        (c.deref-2.ensures.value ∙ sym c.deref.ensures.value) c.in_ok-take_rows.ensures.2
+        (opened_head _ _ _ c.in_ok-checkpoint.checkpoint c.in_ok-checkpoint.ensures) c.in_ok-rounds.ensures.gains.grows;
     complete = c.is_complete.ensures.0;
     not_complete = c.is_complete.ensures.1;
     at_most = c.in_ok-rounds.ensures.rounds;
@@ -92,7 +102,9 @@ returns-clause-asks g c =
     (asked c.ask.new.source)
     (asked c.edge_rows.new.source) c.in_ok-note.ensures.told c.in_ok-rows.ensures.told) c.in_ok-rounds.ensures.told in
     parts_asked (asked c.args.source.now) (asked c.work.new.source) (asked c.edge_rows.new.source)
-    (asked c.work.new.source) at _ none c.ask.new.asked.items c.edge_rows.new.asked.items c.work.new.asked.items c.new-asked.ensures.items begun (c.in_ok-rows.ensures.each (edge_fresh at c.ask.new.asked.items begun)) c.in_ok-rounds.ensures.told told c.in_ok-rounds.ensures.none
+    (asked c.work.new.source) at _ none c.ask.new.asked.items c.edge_rows.new.asked.items c.work.new.asked.items
+    c.new-asked.ensures.items begun (c.in_ok-rows.ensures.each (edge_fresh at c.ask.new.asked.items begun))
+    c.in_ok-rounds.ensures.told told c.in_ok-rounds.ensures.none
 
 pub returns-in_default-clause-honest : goal.returns-in_default-clause-honest
 returns-in_default-clause-honest g c =
@@ -188,7 +200,8 @@ returns-in_err-take_rows-clause-honest g c =
     let note_is : c.deref-2.result.now ≡ c.deref.result.now = c.deref-2.ensures.value ∙ sym c.deref.ensures.value in
     let small = read_small digest entries v.origin _ c.deref.result.now at (may c.args.source.now) read.honest in
     head_fault digest g.met.H.TreeHash.digest_length _ entries v c.deref.result.now at
-    (may c.args.source.now) read.honest read.clean small c.take_rows.new.mirror.view c.deref-2.result.now _ c.in_err-take_rows.field-0.0 note_is are c.in_err-take_rows.ensures)
+    (may c.args.source.now) read.honest read.clean small c.take_rows.new.mirror.view c.deref-2.result.now _
+    c.in_err-take_rows.field-0.0 note_is are c.in_err-take_rows.ensures)
 
 pub returns-in_err-rounds-clause-honest : goal.returns-in_err-rounds-clause-honest
 returns-in_err-rounds-clause-honest g c =
@@ -235,7 +248,8 @@ returns-in_err-rounds-clause-honest g c =
     (may c.edge_rows.new.source) c.in_ok-note.ensures.later c.in_ok-rows.ensures.later in
     let m = rounds_may digest g.met.H.TreeHash.digest_length _ entries v c.deref.result.now at
     (may c.args.source.now) read.honest read.clean small
-    (may c.edge_rows.new.source) w root c.ask.new.asked.items c.edge_rows.new.asked.items later taken read.root_is head begun rows.gets in
+    (may c.edge_rows.new.source) w root c.ask.new.asked.items c.edge_rows.new.asked.items later taken read.root_is head
+    begun rows.gets in
     c.in_err-rounds.ensures.honest entries m)
 
 pub returns-clause-honest : goal.returns-clause-honest
@@ -282,7 +296,8 @@ returns-clause-honest g c =
     (may c.edge_rows.new.source) c.in_ok-note.ensures.later c.in_ok-rows.ensures.later in
     let m = rounds_may digest g.met.H.TreeHash.digest_length _ entries v c.deref.result.now at
     (may c.args.source.now) read.honest read.clean small
-    (may c.edge_rows.new.source) w root c.ask.new.asked.items c.edge_rows.new.asked.items later taken read.root_is head begun rows.gets in
+    (may c.edge_rows.new.source) w root c.ask.new.asked.items c.edge_rows.new.asked.items later taken read.root_is head
+    begun rows.gets in
     let asked = g.S.Source.asked in
     let told =
     adds_to_then none c.edge_rows.new.asked.items c.work.new.asked.items (asked c.args.source.now)
@@ -302,14 +317,23 @@ returns-clause-honest g c =
       none_refused = done.0;
       complete =
           c.is_complete.ensures.1
-          (worked_complete digest hash _ entries v c.deref.result.now at before read.honest read.clean small w x _ c.edge_rows.new.asked.items c.work.new.asked.items taken done.1 root read.root_is (head_stays w x gains.grows at root head));
-      gets = worked_gets digest hash _ entries v c.deref.result.now at before read.honest read.clean small w x _ c.edge_rows.new.asked.items c.work.new.asked.items taken done.1 none c.ask.new.asked.items (asked c.args.source.now) (asked c.work.new.source) c.new-asked.ensures.items begun rows.gets told;
+          (worked_complete digest hash _ entries v c.deref.result.now
+          at before read.honest read.clean small w x _ c.edge_rows.new.asked.items c.work.new.asked.items taken
+          done.1 root read.root_is (head_stays w x gains.grows at root head));
+      gets = worked_gets digest hash _ entries v c.deref.result.now at before read.honest read.clean
+          small w x _ c.edge_rows.new.asked.items c.work.new.asked.items taken done.1 none c.ask.new.asked.items
+          (asked c.args.source.now) (asked c.work.new.source) c.new-asked.ensures.items begun rows.gets told;
       at_most =
-          worked_few digest hash _ entries v c.deref.result.now at before read.honest read.clean small w x _ c.edge_rows.new.asked.items c.work.new.asked.items taken done.1;
-      none = worked_none digest hash _ entries v c.deref.result.now at before read.honest read.clean small w x _ c.edge_rows.new.asked.items c.work.new.asked.items taken done.1;
+          worked_few digest hash _ entries v c.deref.result.now at before read.honest read.clean small w x _
+          c.edge_rows.new.asked.items c.work.new.asked.items taken done.1;
+      none = worked_none digest hash _ entries v c.deref.result.now
+          at before read.honest read.clean small w x _ c.edge_rows.new.asked.items c.work.new.asked.items taken done.1;
       has_note =
-          worked_note digest hash _ entries v c.deref.result.now at before read.honest read.clean small w x _ c.edge_rows.new.asked.items c.work.new.asked.items taken done.1 gains;
-      notes = worked_notes digest hash _ entries v c.deref.result.now at before read.honest read.clean small w x _ c.edge_rows.new.asked.items c.work.new.asked.items taken done.1 gains;
+          worked_note digest hash _ entries v c.deref.result.now at before read.honest read.clean small w x _
+          c.edge_rows.new.asked.items c.work.new.asked.items taken done.1 gains;
+      notes = worked_notes digest hash _ entries v c.deref.result.now at before read.honest read.clean small w x _
+          c.edge_rows.new.asked.items c.work.new.asked.items taken done.1 gains;
       strings =
-          worked_strings digest hash _ entries v c.deref.result.now at before read.honest read.clean small w x _ c.edge_rows.new.asked.items c.work.new.asked.items taken done.1;
+          worked_strings digest hash _ entries v c.deref.result.now at before read.honest read.clean small w x _
+          c.edge_rows.new.asked.items c.work.new.asked.items taken done.1;
     })

@@ -5,18 +5,23 @@ use Rattle.mirror_pull.proofs.pulling.take_rows.Goals as goal
 pub loop-row-preserved : goal.loop-row-preserved
 loop-row-preserved g c =
     rows_more (λ row. row.now)
-    (λ row. row.items) c.loop-row.edge.items c.push.new.self.items c.as_slice.result c.args.rows.now c.loop-row.row-index c.row-item.result c.in_ok-push.ensures.items c.as_slice.ensures.value c.loop-row-test.true c.row-item.is c.loop-row.invariant
+    (λ row. row.items) c.loop-row.edge.items c.push.new.self.items c.as_slice.result c.args.rows.now
+    c.loop-row.row-index c.row-item.result c.in_ok-push.ensures.items c.as_slice.ensures.value c.loop-row-test.true
+    c.row-item.is c.loop-row.invariant
 
 pub returns-in_err-take_head : goal.returns-in_err-take_head
 returns-in_err-take_head g c =
     let p = err_from_is_err_and c.from_residual-in_err-take_head.result c.from_residual-in_err-take_head.ensures.1 in
     let e = rows_all (λ row. row.now)
-    (λ row. row.items) c.loop-row.edge.items c.deref.result.now c.args.rows.now c.loop-row.row-index c.deref.ensures.value c.loop-row-test.false c.loop-row.invariant in
+    (λ row. row.items) c.loop-row.edge.items c.deref.result.now c.args.rows.now c.loop-row.row-index
+    c.deref.ensures.value c.loop-row-test.false c.loop-row.invariant in
     rw (p.1, p.2)
-    (takes_head_err g.H.TreeHash.digest _ c.args.mirror.now.view c.take_head.new.self.view c.args.note.now _ c.in_err-take_head.field-0.0 (rw e at c.in_err-take_head.ensures.takes))
+    (takes_head_err g.H.TreeHash.digest _ c.args.mirror.now.view c.take_head.new.self.view c.args.note.now _
+    c.in_err-take_head.field-0.0 (rw e at c.in_err-take_head.ensures.takes))
 
 pub returns : goal.returns
 returns g c =
     let e = rows_all (λ row. row.now)
-    (λ row. row.items) c.loop-row.edge.items c.deref.result.now c.args.rows.now c.loop-row.row-index c.deref.ensures.value c.loop-row-test.false c.loop-row.invariant in
+    (λ row. row.items) c.loop-row.edge.items c.deref.result.now c.args.rows.now c.loop-row.row-index
+    c.deref.ensures.value c.loop-row-test.false c.loop-row.invariant in
     rw e at c.in_ok-take_head.ensures.takes

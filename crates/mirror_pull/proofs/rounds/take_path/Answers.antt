@@ -45,7 +45,8 @@ returns-in-Some-clause-gains g c =
 
 pub returns-in-Some-2-clause-gains : goal.returns-in-Some-2-clause-gains
 returns-in-Some-2-clause-gains g c =
-    gains_item g.H.TreeHash.digest _ _ c.full_path-full.result c.deref-in-Some-2.result.now _ c.take_found-in-Some-2.ensures
+    gains_item g.H.TreeHash.digest _ _ c.full_path-full.result c.deref-in-Some-2.result.now _
+    c.take_found-in-Some-2.ensures
 
 pub returns-in-Some-clause-honest : goal.returns-in-Some-clause-honest
 returns-in-Some-clause-honest g c =
@@ -56,7 +57,9 @@ returns-in-Some-clause-honest g c =
     (path_fresh g.H.TreeHash.digest entries size may c.args.mirror.now.view c.args.path c.args.asked.now.items m) in
     let answer : may c.args.path (Some c.in-Some.bytes.items) =
     rw c.in-Some.is at (c.in_ok-bytes.ensures.answer unasked) in
-    path_found g.H.TreeHash.digest entries size may c.args.mirror.now.view c.args.path c.args.asked.now.items m c.take_found.new.mirror.view c.ask.new.asked.items c.in-Some.bytes.items c.deref.result.now c.take_found.result answer c.deref.ensures.value (c.in_ok-bytes.ensures.grown unasked) c.take_found.ensures
+    path_found g.H.TreeHash.digest entries size may c.args.mirror.now.view c.args.path c.args.asked.now.items m
+    c.take_found.new.mirror.view c.ask.new.asked.items c.in-Some.bytes.items c.deref.result.now c.take_found.result
+    answer c.deref.ensures.value (c.in_ok-bytes.ensures.grown unasked) c.take_found.ensures
 
 pub returns-in-Some-2-clause-honest : goal.returns-in-Some-2-clause-honest
 returns-in-Some-2-clause-honest g c =
@@ -70,10 +73,15 @@ returns-in-Some-2-clause-honest g c =
     let grown = c.in_ok-bytes.ensures.grown unasked in
     let none : may c.args.path None = rw c.in_default.is at (c.in_ok-bytes.ensures.answer unasked) in
     let full =
-    path_full_fresh digest entries size may v c.args.path before m c.full_path-full.result c.ask.new.asked.items none c.full_path-full.ensures grown in
+    path_full_fresh digest entries size may v c.args.path before m c.full_path-full.result c.ask.new.asked.items none
+    c.full_path-full.ensures grown in
     let answer : later c.full_path-full.result (Some c.in-Some-2.bytes.items) =
     rw c.in-Some-2.is at (c.in_ok-bytes-2.ensures.answer full) in
-    path_full digest entries size may v c.args.path before m later c.take_found-in-Some-2.new.mirror.view c.full_path-full.result c.ask.new.asked.items c.ask-2.new.asked.items c.in-Some-2.bytes.items c.deref-in-Some-2.result.now c.take_found-in-Some-2.result c.in_ok-bytes.ensures.later none answer c.full_path-full.ensures c.deref-in-Some-2.ensures.value grown (c.in_ok-bytes-2.ensures.grown full) c.take_found-in-Some-2.ensures
+    path_full digest entries size may v c.args.path before m later
+    c.take_found-in-Some-2.new.mirror.view c.full_path-full.result c.ask.new.asked.items c.ask-2.new.asked.items
+    c.in-Some-2.bytes.items c.deref-in-Some-2.result.now c.take_found-in-Some-2.result c.in_ok-bytes.ensures.later
+    none answer c.full_path-full.ensures c.deref-in-Some-2.ensures.value grown (c.in_ok-bytes-2.ensures.grown full)
+    c.take_found-in-Some-2.ensures
 
 pub returns-in-None-clause-honest : goal.returns-in-None-clause-honest
 returns-in-None-clause-honest g c =
@@ -87,6 +95,8 @@ returns-in-None-clause-honest g c =
     let grown = c.in_ok-bytes.ensures.grown unasked in
     let none : may c.args.path None = rw c.in_default.is at (c.in_ok-bytes.ensures.answer unasked) in
     let full =
-    path_full_fresh digest entries size may v c.args.path before m c.full_path-full.result c.ask.new.asked.items none c.full_path-full.ensures grown in
+    path_full_fresh digest entries size may v c.args.path before m c.full_path-full.result c.ask.new.asked.items none
+    c.full_path-full.ensures grown in
     let answer : later c.full_path-full.result None = rw c.in-None.is at (c.in_ok-bytes-2.ensures.answer full) in
-    absurd (path_neither digest entries size may v c.args.path before m later c.full_path-full.result c.in_ok-bytes.ensures.later none answer c.full_path-full.ensures)
+    absurd (path_neither digest entries size may v c.args.path before m later c.full_path-full.result
+    c.in_ok-bytes.ensures.later none answer c.full_path-full.ensures)

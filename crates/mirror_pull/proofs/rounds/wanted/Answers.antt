@@ -18,7 +18,8 @@ loop-path-preserved g c =
           let at = c.deref-path-items.ensures.value in
           let lt : c.loop-path.path-index < length c.in-Some.missing.items = rw at at c.loop-path-test.true in
           let here =
-          missing_takeable g.H.TreeHash.digest c.args.mirror.now.view c.args.size c.args.root.now c.in-Some.missing.items c.walk_law.ensures.kinds c.requires m.some c.loop-path.path-index lt in
+          missing_takeable g.H.TreeHash.digest c.args.mirror.now.view c.args.size c.args.root.now
+          c.in-Some.missing.items c.walk_law.ensures.kinds c.requires m.some c.loop-path.path-index lt in
           let item = subst (λ xs. IsTakeable (get_or xs c.loop-path.path-index Checkpoint)) (sym at) here in
           let grown = ap (λ v. v.items) w.paths-is ∙ w.in_ok-push.ensures.items in
           record {

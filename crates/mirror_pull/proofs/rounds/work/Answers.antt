@@ -22,7 +22,8 @@ returns-in_err-more-clause-counted g c =
     let p = err_from_is_err_and c.from_residual-in_err-more.result c.from_residual-in_err-more.ensures.1 in
     rw (p.1, p.2)
     (counts_err (failed c.args.source.now) (failed c.loop-rounds.source)
-    (failed c.work_round.new.source) c.in_err-more.field-0.0 c.loop-rounds.invariant.counted c.in_err-more.ensures.counted)
+    (failed c.work_round.new.source)
+    c.in_err-more.field-0.0 c.loop-rounds.invariant.counted c.in_err-more.ensures.counted)
 
 pub returns-in_err-more-clause-later : goal.returns-in_err-more-clause-later
 returns-in_err-more-clause-later g c =
@@ -49,24 +50,36 @@ loop-rounds-preserved g c =
       later = stays_then (may c.args.source.now) (may c.loop-rounds.source)
           (may c.work_round.new.source) c.loop-rounds.invariant.later c.in_ok-more.ensures.later;
       start = λ e. absurd (omega (arith, e));
-      asks = λ _. asks_round c.args.asked.now.items c.loop-rounds.asked.items c.work_round.new.asked.items c.deref.result.now c.in_ok-paths.paths.items c.deref-in-loop-rounds.result.now c.loop-rounds.rounds c.deref.ensures.value c.deref-in-loop-rounds.ensures.value c.loop-rounds.invariant.start c.loop-rounds.invariant.asks c.in_ok-paths.ensures.new some c.in_ok-more.ensures.asks;
+      asks = λ _. asks_round c.args.asked.now.items c.loop-rounds.asked.items
+          c.work_round.new.asked.items c.deref.result.now c.in_ok-paths.paths.items c.deref-in-loop-rounds.result.now
+          c.loop-rounds.rounds c.deref.ensures.value c.deref-in-loop-rounds.ensures.value c.loop-rounds.invariant.start
+          c.loop-rounds.invariant.asks c.in_ok-paths.ensures.new some c.in_ok-more.ensures.asks;
       honest = λ entries m.
           let digest = g.H.TreeHash.digest in
           let before = c.loop-rounds.invariant.honest entries m in
-          let wants : IsWanted digest c.loop-rounds.mirror.view c.args.size c.args.root.now c.loop-rounds.asked.items c.in_ok-paths.paths.items = rw c.deref.ensures.value at (c.in_ok-paths.ensures.whole before.1.next.head) in
+          let wants : IsWanted digest c.loop-rounds.mirror.view
+          c.args.size c.args.root.now c.loop-rounds.asked.items c.in_ok-paths.paths.items =
+          rw c.deref.ensures.value at (c.in_ok-paths.ensures.whole before.1.next.head) in
           let fronts =
           wanted_front digest entries c.args.size c.args.root.now
-          (may c.loop-rounds.source) c.loop-rounds.mirror.view c.loop-rounds.asked.items before.1.next c.in_ok-paths.paths.items wants in
+          (may c.loop-rounds.source) c.loop-rounds.mirror.view c.loop-rounds.asked.items before.1.next
+          c.in_ok-paths.paths.items wants in
           let may_take =
           round_may digest entries c.args.size c.args.root.now
-          (may c.loop-rounds.source) c.loop-rounds.mirror.view c.loop-rounds.asked.items before.1.next c.in_ok-paths.paths.items fronts in
+          (may c.loop-rounds.source) c.loop-rounds.mirror.view c.loop-rounds.asked.items before.1.next
+          c.in_ok-paths.paths.items fronts in
           let took =
           rw c.deref-in-loop-rounds.ensures.value at c.in_ok-more.ensures.honest entries c.args.size may_take in (
             omega (arith, c.saturating_add-refused.ensures, before.0, took.0),
             work_step digest entries c.args.size c.args.root.now
-                (may c.loop-rounds.source) c.args.mirror.now.view c.loop-rounds.mirror.view c.args.asked.now.items c.loop-rounds.asked.items c.loop-rounds.rounds (may c.loop-rounds.source) (may c.work_round.new.source) c.work_round.new.mirror.view c.work_round.new.asked.items c.in_ok-paths.paths.items before.1 wants some c.in_ok-more.ensures.later c.in_ok-more.ensures.gains.grows took.1,
+                (may c.loop-rounds.source) c.args.mirror.now.view c.loop-rounds.mirror.view
+                c.args.asked.now.items c.loop-rounds.asked.items c.loop-rounds.rounds (may c.loop-rounds.source)
+                (may c.work_round.new.source) c.work_round.new.mirror.view c.work_round.new.asked.items
+                c.in_ok-paths.paths.items before.1 wants some c.in_ok-more.ensures.later
+                c.in_ok-more.ensures.gains.grows took.1,
           );
-      gains = gains_then c.args.mirror.now.view c.loop-rounds.mirror.view c.work_round.new.mirror.view c.loop-rounds.invariant.gains c.in_ok-more.ensures.gains;
+      gains = gains_then c.args.mirror.now.view c.loop-rounds.mirror.view c.work_round.new.mirror.view
+          c.loop-rounds.invariant.gains c.in_ok-more.ensures.gains;
     }
 
 pub loop-rounds-init : goal.loop-rounds-init
@@ -87,11 +100,13 @@ loop-rounds-init g c =
 
 pub returns-in_err-more-clause-gains : goal.returns-in_err-more-clause-gains
 returns-in_err-more-clause-gains g c =
-    gains_then c.args.mirror.now.view c.loop-rounds.mirror.view c.work_round.new.mirror.view c.loop-rounds.invariant.gains c.in_err-more.ensures.gains
+    gains_then c.args.mirror.now.view c.loop-rounds.mirror.view c.work_round.new.mirror.view
+    c.loop-rounds.invariant.gains c.in_err-more.ensures.gains
 
 pub returns-then-is_empty-clause-none : goal.returns-then-is_empty-clause-none
 returns-then-is_empty-clause-none g c =
-    none_round c.args.asked.now.items c.loop-rounds.asked.items c.loop-rounds.rounds c.loop-rounds.invariant.start c.loop-rounds.invariant.asks
+    none_round c.args.asked.now.items c.loop-rounds.asked.items c.loop-rounds.rounds c.loop-rounds.invariant.start
+    c.loop-rounds.invariant.asks
 
 pub returns-then-is_empty-clause-honest : goal.returns-then-is_empty-clause-honest
 returns-then-is_empty-clause-honest g c =
@@ -99,9 +114,13 @@ returns-then-is_empty-clause-honest g c =
     let digest = g.H.TreeHash.digest in
     let may = g.S.Source.may_answer c.loop-rounds.source in
     let before = c.loop-rounds.invariant.honest entries m in
-    let wants : IsWanted digest c.loop-rounds.mirror.view c.args.size c.args.root.now c.loop-rounds.asked.items c.in_ok-paths.paths.items = rw c.deref.ensures.value at (c.in_ok-paths.ensures.whole before.1.next.head) in (
+    let wants : IsWanted digest c.loop-rounds.mirror.view c.args.size c.args.root.now c.loop-rounds.asked.items
+    c.in_ok-paths.paths.items = rw c.deref.ensures.value at (c.in_ok-paths.ensures.whole before.1.next.head) in (
       before.0,
-      work_done digest entries c.args.size c.args.root.now may c.args.mirror.now.view c.loop-rounds.mirror.view c.args.asked.now.items c.loop-rounds.asked.items c.loop-rounds.rounds c.in_ok-paths.paths.items before.1 wants (sym c.in_ok-paths.paths.ok.0 ∙ none_if c.in_ok-paths.paths.len (sym c.is_empty.ensures ∙ c.if-is_empty.true)),
+      work_done digest entries c.args.size c.args.root.now may c.args.mirror.now.view c.loop-rounds.mirror.view
+          c.args.asked.now.items c.loop-rounds.asked.items c.loop-rounds.rounds c.in_ok-paths.paths.items before.1 wants
+          (sym c.in_ok-paths.paths.ok.0
+          ∙ none_if c.in_ok-paths.paths.len (sym c.is_empty.ensures ∙ c.if-is_empty.true)),
     )
 
 pub returns-clause-none : goal.returns-clause-none
@@ -116,7 +135,9 @@ returns-clause-honest g c =
     λ entries m.
     let may = g.S.Source.may_answer in
     absurd (never_eight g.H.TreeHash.digest entries c.args.size c.args.root.now (may c.args.source.now)
-    (may c.loop-rounds.source) c.args.mirror.now.view c.loop-rounds.mirror.view c.args.asked.now.items c.loop-rounds.asked.items c.loop-rounds.rounds c.loop-rounds-test.false m (c.loop-rounds.invariant.honest entries m).1)
+    (may c.loop-rounds.source) c.args.mirror.now.view c.loop-rounds.mirror.view
+    c.args.asked.now.items c.loop-rounds.asked.items c.loop-rounds.rounds c.loop-rounds-test.false m
+    (c.loop-rounds.invariant.honest entries m).1)
 
 pub returns-in_err-more-clause-honest : goal.returns-in_err-more-clause-honest
 returns-in_err-more-clause-honest g c =
@@ -125,11 +146,14 @@ returns-in_err-more-clause-honest g c =
     rw (p.1, p.2) (λ entries m.
     let digest = g.H.TreeHash.digest in
     let before = c.loop-rounds.invariant.honest entries m in
-    let wants : IsWanted digest c.loop-rounds.mirror.view c.args.size c.args.root.now c.loop-rounds.asked.items c.in_ok-paths.paths.items = rw c.deref.ensures.value at (c.in_ok-paths.ensures.whole before.1.next.head) in
+    let wants : IsWanted digest c.loop-rounds.mirror.view c.args.size c.args.root.now c.loop-rounds.asked.items
+    c.in_ok-paths.paths.items = rw c.deref.ensures.value at (c.in_ok-paths.ensures.whole before.1.next.head) in
     let fronts =
     wanted_front digest entries c.args.size c.args.root.now
-    (may c.loop-rounds.source) c.loop-rounds.mirror.view c.loop-rounds.asked.items before.1.next c.in_ok-paths.paths.items wants in
+    (may c.loop-rounds.source) c.loop-rounds.mirror.view c.loop-rounds.asked.items before.1.next
+    c.in_ok-paths.paths.items wants in
     let may_take =
     round_may digest entries c.args.size c.args.root.now
-    (may c.loop-rounds.source) c.loop-rounds.mirror.view c.loop-rounds.asked.items before.1.next c.in_ok-paths.paths.items fronts in
+    (may c.loop-rounds.source) c.loop-rounds.mirror.view c.loop-rounds.asked.items before.1.next
+    c.in_ok-paths.paths.items fronts in
     c.in_err-more.ensures.honest entries c.args.size (rw c.deref-in-loop-rounds.ensures.value may_take))

@@ -21,7 +21,8 @@ returns-in_err-take_path-clause-counted g c =
     let p = err_from_is_err_and c.from_residual.result c.from_residual.ensures.1 in
     rw (p.1, p.2)
     (counts_err (failed c.args.source.now) (failed c.loop-path.source)
-    (failed c.take_path.new.source) c.in_err-take_path.field-0.0 c.loop-path.invariant.counted c.in_err-take_path.ensures.counted)
+    (failed c.take_path.new.source)
+    c.in_err-take_path.field-0.0 c.loop-path.invariant.counted c.in_err-take_path.ensures.counted)
 
 pub returns-in_err-take_path-clause-later : goal.returns-in_err-take_path-clause-later
 returns-in_err-take_path-clause-later g c =
@@ -46,13 +47,18 @@ loop-path-preserved g c =
       later = stays_then (may c.args.source.now) (may c.loop-path.source)
           (may c.take_path.new.source) c.loop-path.invariant.later c.in_ok-take_path.ensures.later;
       start = λ e. absurd (omega (arith, e));
-      asks = λ some new. asks_step c.args.asked.now.items c.loop-path.asked.items c.take_path.new.asked.items c.args.paths.now (asked c.loop-path.source) (asked c.take_path.new.source) c.loop-path.path-index c.loop-path.invariant.start c.loop-path.invariant.asks c.in_ok-take_path.ensures.told c.in_ok-take_path.ensures.asks new;
+      asks = λ some new. asks_step c.args.asked.now.items c.loop-path.asked.items
+          c.take_path.new.asked.items c.args.paths.now (asked c.loop-path.source) (asked c.take_path.new.source)
+          c.loop-path.path-index c.loop-path.invariant.start c.loop-path.invariant.asks c.in_ok-take_path.ensures.told
+          c.in_ok-take_path.ensures.asks new;
       honest = λ entries size m.
           let digest = g.H.TreeHash.digest in
           let before = c.loop-path.invariant.honest entries size m in
           let next =
           round_next digest entries size (may c.args.source.now)
-          (may c.loop-path.source) c.args.mirror.now.view c.loop-path.mirror.view c.args.asked.now.items c.loop-path.asked.items c.args.paths.now c.loop-path.path-index c.loop-path.invariant.later c.loop-path-test.true m before.1 in
+          (may c.loop-path.source) c.args.mirror.now.view c.loop-path.mirror.view c.args.asked.now.items
+          c.loop-path.asked.items c.args.paths.now c.loop-path.path-index c.loop-path.invariant.later
+          c.loop-path-test.true m before.1 in
           let took = c.in_ok-take_path.ensures.honest entries size next in
           let not_refused = took.0 in (
             elim c.if-branch.branch [
@@ -60,9 +66,12 @@ loop-path-preserved g c =
                   (let refused = w.if-branch.true in absurd cc)
               | else-branch w ↦ w.refused-is ∙ before.0
             ],
-            round_step digest entries size c.args.mirror.now.view c.loop-path.mirror.view c.take_path.new.mirror.view c.args.asked.now.items c.loop-path.asked.items c.take_path.new.asked.items c.args.paths.now c.loop-path.path-index c.loop-path-test.true before.1 took.1,
+            round_step digest entries size c.args.mirror.now.view c.loop-path.mirror.view c.take_path.new.mirror.view
+                c.args.asked.now.items c.loop-path.asked.items c.take_path.new.asked.items c.args.paths.now
+                c.loop-path.path-index c.loop-path-test.true before.1 took.1,
           );
-      gains = gains_then c.args.mirror.now.view c.loop-path.mirror.view c.take_path.new.mirror.view c.loop-path.invariant.gains c.in_ok-take_path.ensures.gains;
+      gains = gains_then c.args.mirror.now.view c.loop-path.mirror.view c.take_path.new.mirror.view
+          c.loop-path.invariant.gains c.in_ok-take_path.ensures.gains;
     }
 
 pub loop-path-init : goal.loop-path-init
@@ -82,7 +91,8 @@ loop-path-init g c =
 
 pub returns-in_err-take_path-clause-gains : goal.returns-in_err-take_path-clause-gains
 returns-in_err-take_path-clause-gains g c =
-    gains_then c.args.mirror.now.view c.loop-path.mirror.view c.take_path.new.mirror.view c.loop-path.invariant.gains c.in_err-take_path.ensures.gains
+    gains_then c.args.mirror.now.view c.loop-path.mirror.view c.take_path.new.mirror.view c.loop-path.invariant.gains
+    c.in_err-take_path.ensures.gains
 
 pub returns-in_err-take_path-clause-honest : goal.returns-in_err-take_path-clause-honest
 returns-in_err-take_path-clause-honest g c =
@@ -91,10 +101,16 @@ returns-in_err-take_path-clause-honest g c =
     rw (p.1, p.2)
     (λ entries size m. c.in_err-take_path.ensures.honest entries size
     (round_next g.H.TreeHash.digest entries size (may c.args.source.now)
-    (may c.loop-path.source) c.args.mirror.now.view c.loop-path.mirror.view c.args.asked.now.items c.loop-path.asked.items c.args.paths.now c.loop-path.path-index c.loop-path.invariant.later c.loop-path-test.true m (c.loop-path.invariant.honest entries size m).1))
+    (may c.loop-path.source) c.args.mirror.now.view c.loop-path.mirror.view c.args.asked.now.items
+    c.loop-path.asked.items c.args.paths.now c.loop-path.path-index c.loop-path.invariant.later
+    c.loop-path-test.true m (c.loop-path.invariant.honest entries size m).1))
 
 pub returns-clause-honest : goal.returns-clause-honest
 returns-clause-honest g c =
     λ entries size m. let h =
-    c.loop-path.invariant.honest entries size m in
-    (h.0, round_whole g.H.TreeHash.digest entries size c.args.mirror.now.view c.loop-path.mirror.view c.args.asked.now.items c.loop-path.asked.items c.args.paths.now c.loop-path.path-index c.loop-path-test.false h.1)
+    c.loop-path.invariant.honest entries size m in (
+      h.0,
+      round_whole g.H.TreeHash.digest entries size c.args.mirror.now.view
+          c.loop-path.mirror.view c.args.asked.now.items c.loop-path.asked.items c.args.paths.now c.loop-path.path-index
+          c.loop-path-test.false h.1,
+    )

@@ -9,5 +9,6 @@ returns-in-Err-clause-none c = λ path is.
     let name = c.in-Some.name.now in
     let after : c.args.target.now ≡ codes "/" ++ name = cases.1.1 ∙ ap (λ (x : List ℕ). codes "/" ++ x) (sym cases.2) in
     let same : is.name ≡ name = cc (after, is.target_is) in
-    let other = path_answer_one name (Err c.in-Err.field-0) (Ok path) c.in-Err.ensures (subst (λ (t : List ℕ). IsPath t path) same is.name_is) in
+    let other = path_answer_one name (Err c.in-Err.field-0) (Ok path) c.in-Err.ensures
+    (subst (λ (t : List ℕ). IsPath t path) same is.name_is) in
     absurd (cc other)

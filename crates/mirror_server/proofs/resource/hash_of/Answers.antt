@@ -4,7 +4,9 @@ use Rattle.mirror_server.proofs.OneResource.{decoded}
 use Rattle.mirror_server.proofs.resource.hash_of.Goals as goal
 
 pub returns-in-Err-clause-none : goal.returns-in-Err-clause-none
-returns-in-Err-clause-none c = λ hash is. let e = sym c.in-Err.is ∙ (c.from_hex.ensures ∙ decoded c.args.digits.now hash is) in absurd (cc e)
+returns-in-Err-clause-none c =
+    λ hash is. let e = sym c.in-Err.is ∙ (c.from_hex.ensures ∙ decoded c.args.digits.now hash is) in
+    absurd (cc e)
 
 pub returns-else-is_spelled-clause-none : goal.returns-else-is_spelled-clause-none
 returns-else-is_spelled-clause-none c = λ hash is.

@@ -4,7 +4,8 @@ use Rattle.mirror_server.proofs.OneResource.{number_lacks_slash}
 use Rattle.mirror_server.proofs.resource.numbers_of.Goals as goal
 
 pub returns-in_default-clause-none : goal.returns-in_default-clause-none
-returns-in_default-clause-none c = λ m n is. c.in_default.ensures.complete is.first is.second (number_lacks_slash is.first m is.first_is) is.parts
+returns-in_default-clause-none c =
+    λ m n is. c.in_default.ensures.complete is.first is.second (number_lacks_slash is.first m is.first_is) is.parts
 
 pub returns-in_default-number_of-clause-none : goal.returns-in_default-number_of-clause-none
 returns-in_default-number_of-clause-none c = λ m n is.

@@ -8,11 +8,17 @@ returns-in_err-pull-clause-fills g c =
     let p = err_from_is_err_and c.from_residual-in_err-pull.result c.from_residual-in_err-pull.ensures.1 in
     let s = c.in_ok-source.source in
     rw (p.1, p.2) (λ has clean.
-    log_fault g.H.TreeHash.digest c.args.origin.now _ _ s.entries s.note _ c.in_ok-mirror.mirror.view c.pull.new.mirror.view c.in_ok-source.ensures.entries c.in_ok-mirror.ensures.view c.in_ok-source.ensures.honest has clean
-    (Some s.asked) (Some c.pull.new.source.asked) c.in_err-pull.field-0.0 c.in_err-pull.ensures.counted c.in_err-pull.ensures.honest)
+    log_fault g.H.TreeHash.digest c.args.origin.now _ _ s.entries s.note
+    _ c.in_ok-mirror.mirror.view c.pull.new.mirror.view c.in_ok-source.ensures.entries c.in_ok-mirror.ensures.view
+    c.in_ok-source.ensures.honest has clean
+    (Some s.asked) (Some c.pull.new.source.asked)
+    c.in_err-pull.field-0.0 c.in_err-pull.ensures.counted c.in_err-pull.ensures.honest)
 
 pub returns-clause-fills : goal.returns-clause-fills
 returns-clause-fills g c = λ has clean.
     let s = c.in_ok-source.source in
-    log_pulled g.H.TreeHash.digest c.args.origin.now _ _ s.entries s.note _ c.in_ok-mirror.mirror.view c.pull.new.mirror.view c.in_ok-source.ensures.entries c.in_ok-mirror.ensures.view c.in_ok-source.ensures.honest has clean
-    (Some s.asked) (Some c.pull.new.source.asked) c.in_ok-pull.field-0 c.in_ok-pull.ensures.outcome c.in_ok-pull.ensures.honest
+    log_pulled g.H.TreeHash.digest c.args.origin.now _ _ s.entries s.note
+    _ c.in_ok-mirror.mirror.view c.pull.new.mirror.view c.in_ok-source.ensures.entries c.in_ok-mirror.ensures.view
+    c.in_ok-source.ensures.honest has clean
+    (Some s.asked) (Some c.pull.new.source.asked) c.in_ok-pull.field-0 c.in_ok-pull.ensures.outcome
+    c.in_ok-pull.ensures.honest

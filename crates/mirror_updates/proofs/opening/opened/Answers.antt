@@ -5,7 +5,8 @@ use Rattle.mirror_updates.proofs.opening.opened.Goals as goal
 pub returns-in_err-mirror-clause-opens : goal.returns-in_err-mirror-clause-opens
 returns-in_err-mirror-clause-opens g c =
     let p = err_from_is_err_and c.from_residual.result c.from_residual.ensures.1 in
-    rw (p.1, p.2) (origin_told g.H.TreeHash.digest c.args.origin.now _ _ c.in_err-mirror.field-0.0 c.in_err-mirror.ensures.judged)
+    rw (p.1, p.2)
+    (origin_told g.H.TreeHash.digest c.args.origin.now _ _ c.in_err-mirror.field-0.0 c.in_err-mirror.ensures.judged)
 
 pub returns-in_err-mirror-clause-judged : goal.returns-in_err-mirror-clause-judged
 returns-in_err-mirror-clause-judged g c =
@@ -20,7 +21,8 @@ returns-in-None-clause-judged g c = c.in_ok-mirror.ensures.judged
 
 pub returns-in-Some-clause-opens : goal.returns-in-Some-clause-opens
 returns-in-Some-clause-opens g c =
-    rw c.in-Some.is (state_told g.H.TreeHash.digest c.args.origin.now _ _ _ c.in_ok-mirror.ensures.judged c.loaded.ensures.loads)
+    rw c.in-Some.is
+    (state_told g.H.TreeHash.digest c.args.origin.now _ _ _ c.in_ok-mirror.ensures.judged c.loaded.ensures.loads)
 
 pub returns-in-Some-clause-judged : goal.returns-in-Some-clause-judged
 returns-in-Some-clause-judged g c = c.loaded.ensures.judged

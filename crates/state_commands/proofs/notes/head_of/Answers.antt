@@ -7,7 +7,14 @@ returns-clause-head c =
     let note = c.in-Ok.note in
     let read = c.in-Ok-read.checkpoint in
     let is : IsCheckpoint note.text read.origin read.size read.root read.extensions =
-    subst (λ (text : List ℕ). IsCheckpoint text read.origin read.size read.root read.extensions) c.text.ensures c.in-Ok-read.ensures.answer in (
+    subst (λ (text : List ℕ). IsCheckpoint text read.origin read.size read.root read.extensions)
+    c.text.ensures c.in-Ok-read.ensures.answer in (
       read.origin,
-      record { text = note.text; lines = note.lines; extensions = read.extensions; is_note = c.in-Ok.ensures.1; is_checkpoint = is },
+      record {
+        text = note.text;
+        lines = note.lines;
+        extensions = read.extensions;
+        is_note = c.in-Ok.ensures.1;
+        is_checkpoint = is;
+      },
     )

@@ -21,10 +21,17 @@ loop-i-preserved g c =
     subst (λ (note : List ℕ). IsNoteAt v i (Some note)) (sym c.in_ok-head.ensures.note) c.in-Some.ensures in
     let named : note_file file ≡ file_after (map head_note heads) (head_note head) =
     c.in_ok-file_of.ensures ∙ ap (λ others. file_after (map head_note others) (head_note head)) c.deref.ensures.value in
-    rw (c.in_ok-push-2.ensures.items, c.in_ok-push.ensures.items, map-append head_note heads (head ∷ []), map-append note_file files (file ∷ []))
-    (meets_more v i (map head_note heads) (map note_file files) (head_note head) (note_file file) c.in_ok-head.ensures.head at named c.loop-i.invariant)
+    rw (
+      c.in_ok-push-2.ensures.items,
+      c.in_ok-push.ensures.items,
+      map-append head_note heads (head ∷ []),
+      map-append note_file files (file ∷ []),
+    )
+    (meets_more v i (map head_note heads) (map note_file files) (head_note head) (note_file file)
+    c.in_ok-head.ensures.head at named c.loop-i.invariant)
 
 pub returns-in_default : goal.returns-in_default
 returns-in_default g c =
-    meets_all c.args.mirror.now.view c.loop-i.i (map head_note c.loop-i.heads.items) (map note_file c.loop-i.files.items) c.in_default.ensures
+    meets_all c.args.mirror.now.view c.loop-i.i (map head_note c.loop-i.heads.items)
+    (map note_file c.loop-i.files.items) c.in_default.ensures
     c.loop-i.invariant

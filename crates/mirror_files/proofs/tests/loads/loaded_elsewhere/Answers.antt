@@ -10,7 +10,8 @@ ey_is_origin = record {
   utf8 = (101 ∷ 121 ∷ [], (refl, refl));
   some = lit< tt;
   most = lit≤ tt;
-  printed = let P : ℕ → Type 0 = λ byte. 32 ≤ byte in All-cons P 101 (121 ∷ []) (lit≤ tt) (All-cons P 121 [] (lit≤ tt) (All-nil P));
+  printed = let P : ℕ → Type 0 = λ byte. 32 ≤ byte in
+      All-cons P 101 (121 ∷ []) (lit≤ tt) (All-cons P 121 [] (lit≤ tt) (All-nil P));
 }
 
 pub load-requires : goal.load-requires

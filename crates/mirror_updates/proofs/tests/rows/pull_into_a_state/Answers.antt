@@ -10,7 +10,8 @@ ex_is_origin = record {
   utf8 = (101 ∷ 120 ∷ [], (refl, refl));
   some = lit< tt;
   most = lit≤ tt;
-  printed = let P : ℕ → Type 0 = λ byte. 32 ≤ byte in All-cons P 101 (120 ∷ []) (lit≤ tt) (All-cons P 120 [] (lit≤ tt) (All-nil P));
+  printed = let P : ℕ → Type 0 = λ byte. 32 ≤ byte in
+      All-cons P 101 (120 ∷ []) (lit≤ tt) (All-cons P 120 [] (lit≤ tt) (All-nil P));
 }
 
 pub new-requires-2-clause-origin : goal.new-requires-2-clause-origin
