@@ -22,7 +22,7 @@ use Rattle.tlog_checkpoint.specs.Lines.{is_newline, ended, text_of}
 use Rattle.tlog_checkpoint.specs.Grammar.{IsFullLine, IsCheckpoint}
 use Rattle.signed_note.specs.Keys.{Key}
 use Rattle.signed_note.specs.Names.{newline, is_note_char, IsNoteText}
-use Rattle.signed_note.specs.Notes.{IsLawfulText, Line, Opens, IsAcceptedBy}
+use Rattle.signed_note.specs.Notes.{IsLawfulText, SignatureParts, Opens, IsAcceptedBy}
 use Rattle.signed_note.proofs.Payloads.{Passing, base64_passes, base64_is_ascii}
 use Rattle.signed_note.proofs.Signed.{text_append, ascii_text, newline_text}
 use Rattle.mirror_model.specs.Origin.{IsOrigin}
@@ -144,7 +144,7 @@ any_one P x h =
     subst P (sym same) h.4
 
 -- what opens under a key opens under any keys that have it
-pub opens_more : (text : List ℕ) (line : Line) (key : Key) (keys : List Key) → Contains keys key →
+pub opens_more : (text : List ℕ) (line : SignatureParts) (key : Key) (keys : List Key) → Contains keys key →
     Opens text (line ∷ []) (key ∷ []) → Opens text (line ∷ []) keys
 unfolding Opens
 opens_more text line key keys has h =

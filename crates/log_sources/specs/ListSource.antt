@@ -12,7 +12,7 @@ use Rattle.mirror_model.specs.Heads.{IsOpenHead}
 use Rattle.log_sources.specs.Honest.{true_bytes, IsHonest}
 
 -- a log of these entries under this note, and what it was asked for, the oldest first
-pub record Log : Type 0 where
+pub record AskedLog : Type 0 where
   pub entries : List (List ℕ)
   pub note : List ℕ
   pub asked : List Path

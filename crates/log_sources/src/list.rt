@@ -41,9 +41,9 @@ pub struct ListSource<H: TreeHash> {
 impl<H: TreeHash> Model for ListSource<H> {
     ghost use Rattle.std.specs.Prelude.{map};
     ghost use Rattle.mirror_model.specs.TrueLaws.{AreShort};
-    ghost use Rattle.log_sources.specs.ListSource.{Log, AreFullRows};
+    ghost use Rattle.log_sources.specs.ListSource.{AskedLog, AreFullRows};
 
-    ghost Value = { Log };
+    ghost Value = { AskedLog };
 
     ghost view = { λ a. record { entries = map (λ e. e.items) a.entries.items; note = a.note.items; asked = a.asked.items } };
 

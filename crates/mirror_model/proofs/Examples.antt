@@ -14,12 +14,12 @@ use Rattle.mirror_model.specs.Front.{InFront, IsPathOf}
 use Rattle.mirror_model.specs.Edge.{edge_levels}
 use Rattle.mirror_model.specs.declared.events.Event.TheVariants.{Take, Merge}
 use Rattle.mirror_model.specs.Events.{OpeningReaches}
-use Rattle.mirror_model.specs.Examples.{IsThree, HasEdges, HasRoots, IsForked, HasParts, IsWay, some_item, three}
+use Rattle.mirror_model.specs.Examples.{TreeOfThree, EdgesOfSizes, RootsOfRows, HashesDoNotTellForks, PartsOfThree, MergesLeadInOrder, some_item, three}
 use Rattle.mirror_model.specs.Examples.{IsFrontOfThree, HasTileOutside}
 use Rattle.mirror_model.proofs.StringSets.{has_empty}
 use Rattle.mirror_model.proofs.Reaching.{open_none, open_itself, open_first, open_by, item_none, item_first, item_by}
 
-pub is_three : IsThree
+pub is_three : TreeOfThree
 unfolding mth fold_of tree_of tree_within pairs_of joins strings split_of power_within sum_digest edge_levels
 is_three =
     record {
@@ -32,18 +32,18 @@ is_three =
       strings_are = refl;
     }
 
-pub has_edges : HasEdges
+pub has_edges : EdgesOfSizes
 unfolding edge_levels
 has_edges = record { none = refl; three = refl; full = refl; more = refl; three_levels = refl; gap = refl }
 
-pub has_roots : HasRoots
+pub has_roots : RootsOfRows
 unfolding fold_of tree_of tree_within pairs_of joins split_of power_within sum_digest
 has_roots = record { none = refl; one = refl; two = refl; bare = refl; joined = refl }
 
-pub has_parts : HasParts
+pub has_parts : PartsOfThree
 has_parts = record { row = refl; bundle = refl }
 
-pub is_forked : IsForked
+pub is_forked : HashesDoNotTellForks
 unfolding mth fold_of tree_of tree_within split_of power_within sum_digest
 is_forked = record {
   small_root = refl;
@@ -63,7 +63,7 @@ merges_on target source from to other h =
       | inr b ↦ (let same : Merge target source ≡ Merge b.target from = b.is in absurd (other (sym (cc same))))
     ]
 
-pub is_way : IsWay
+pub is_way : MergesLeadInOrder
 is_way = record {
   reaches =
       item_by (Merge 1 0 ∷ Merge 2 1 ∷ []) 0 some_item 2

@@ -26,7 +26,7 @@ use Rattle.mirror_model.proofs.TreeLaws.{missing_is_front}
 use Rattle.tlog_shape.proofs.Levels.{level_positive}
 use Rattle.mirror_model.specs.Walk.{NoClashWith}
 use Rattle.mirror_model.proofs.TrueItems.{front_tile}
-use Rattle.mirror_model.specs.FetchLaws.{FullTilesBegin, AnsweredIsNotAgain, MissingIsFrontList, PlusHolds}
+use Rattle.mirror_model.specs.FetchLaws.{FullTileBeginsWithPartial, AnsweredIsNotAgain, MissingIsFrontList, PlusHoldsJustBoth}
 
 -- ---- the first hashes of a tile
 
@@ -48,7 +48,7 @@ begins digest hash b first (suc w) (suc n) es le =
     take_past h (row_text (map (mth digest) (ranges b (first + 1) n es))) (32 * suc w) (32 * w) more
     ∙ ap (λ (l : List ℕ). h ++ l) (begins digest hash b (first + 1) w n es (omega arith))
 
-pub full_tiles_begin : FullTilesBegin
+pub full_tiles_begin : FullTileBeginsWithPartial
 full_tiles_begin digest hash entries level index width le =
     begins digest hash (256 ^ level) (256 * index) width 256 entries le
 
@@ -143,7 +143,7 @@ missing_is_front_list digest hash v entries clash paths m = record {
 
 -- ---- views
 
-pub plus_holds : PlusHolds
+pub plus_holds : PlusHoldsJustBoth
 plus_holds digest v item y = record {
   string = λ h. elim
       (has_cases v.strings (set.from_list (strings_of digest item)) y h) [

@@ -14,7 +14,7 @@ use Rattle.tlog_hash.proofs.Trees.{mth-one}
 use Rattle.std.specs.Prelude.{not, ◌==◌, ◌-◌}
 use Rattle.tlog_shape.specs.Edge.{width_of, edge_index_of}
 use Rattle.mirror_model.specs.Edge.{edge_levels, edge_row, edge_rows, edge_strings, strings_from}
-use Rattle.mirror_model.specs.FetchLaws.{FullBundlesServe}
+use Rattle.mirror_model.specs.FetchLaws.{FullBundleServesPartial}
 
 strings_cases : (digest : List ℕ → List ℕ) (es : List (List ℕ)) (y : List ℕ) → Contains (strings digest es) y →
     Contains (map (λ e. 0 ∷ e) es) y ⊎ Contains (joins digest (map (leaf_hash digest) es)) y
@@ -92,7 +92,7 @@ join_on_edge digest es index width total some partial y c =
     (Contains-append_left (joins digest (edge_row digest es 0))
     (strings_from digest (fold_of digest (edge_row digest es 0)) (map (edge_row digest es) others)) y first)
 
-pub full_bundles_serve : FullBundlesServe
+pub full_bundles_serve : FullBundleServesPartial
 full_bundles_serve digest entries size index width le total some partial full y c =
     let es = take size entries in
     let long : length es ≡ 256 * index + width = omega (arith, length-take size entries) in

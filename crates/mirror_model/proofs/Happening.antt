@@ -11,8 +11,8 @@ use Rattle.mirror_model.specs.declared.events.Event.TheVariants.{Take, Merge}
 use Rattle.mirror_model.specs.Steps.{Answer, Done, Refused, Clashed, Exhausted, Answers, IsBetween, Takes, Merges}
 use Rattle.mirror_model.specs.Steps.{MergesAt}
 use Rattle.mirror_model.specs.UnionLaws.{UnionClashes, UnionIsClean}
-use Rattle.mirror_model.specs.EventLaws.{TakesGrow, MergesGrow, TakesKeepLawful, MergesKeepLawful, IsLeft, TakesLeave}
-use Rattle.mirror_model.specs.EventLaws.{MergesLeave, EventGrows, EventIsOne, EventAgain, MergeWithItself}
+use Rattle.mirror_model.specs.EventLaws.{TakesGrow, MergesGrow, TakesKeepLawful, MergesKeepLawful, IsLeft, RefusedTakeIsBetween}
+use Rattle.mirror_model.specs.EventLaws.{RefusedMergeIsBetween, EventGrows, EventsHaveOneAnswer, RetriedEventIsOneEvent, SelfMergeChangesNothing}
 use Rattle.node_store.proofs.Sets.{decide}
 use Rattle.mirror_model.proofs.StringSets.{has_left, has_right, has_cases, union_itself, clash_contradicts}
 use Rattle.mirror_model.proofs.Views.{within_itself, within_union, within_plus, same_is_one, union_is_lawful}
@@ -58,11 +58,11 @@ left_of digest old Allowed whole new larger (inr h) = record {
   clashing = λ c. absurd (clash_contradicts digest whole.strings h.1 c);
 }
 
-pub takes_leave : TakesLeave
+pub takes_leave : RefusedTakeIsBetween
 takes_leave digest keys old new item h =
     left_of digest old (IsGood digest old.origin keys item) (plus digest old item) new (within_plus digest old item) h
 
-pub merges_leave : MergesLeave
+pub merges_leave : RefusedMergeIsBetween
 merges_leave digest old other new h =
     left_of digest old (old.origin ≡ other.origin) (union old other) new (within_union old other) h
 
@@ -92,7 +92,7 @@ merged_itself digest v new Exhausted (inl e) = e
 merged_itself digest v new Exhausted (inr h) =
     same_is_one new v (subst (IsSubview new) (union_twice v) h.2.within) h.2.grows
 
-pub merge_with_itself : MergeWithItself
+pub merge_with_itself : SelfMergeChangesNothing
 merge_with_itself digest keys old new mirror answer h =
     let same : h.other ≡ h.before = one_of_list old mirror h.other h.before h.found_other h.found in
     let m : Merges digest h.before h.before answer h.after =
@@ -107,7 +107,7 @@ event_grows_each digest keys old new event answer h mirror before after was is =
     let g = event_grows digest keys old new event answer h mirror before was in
     subst (IsSubview before) (one_of_list new mirror g.after after g.is is) g.grows
 
-pub event_is_one : EventIsOne
+pub event_is_one : EventsHaveOneAnswer
 event_is_one digest keys old new other (Take target item) a b p q m n =
     let same : q.before ≡ p.before = one_of_list old target q.before p.before q.found p.found in
     let q' = subst (λ v. Takes digest keys v item b q.after) same q.takes in
@@ -162,7 +162,7 @@ module _ (digest : List ℕ → List ℕ) (keys : List Key) (old between new : L
             }
       ]
 
-pub event_again : EventAgain
+pub event_again : RetriedEventIsOneEvent
 event_again digest keys old between new (Take target item) answer p q =
     let same : q.before ≡ p.after =
     one_of_list between target q.before p.after q.found

@@ -4,11 +4,11 @@ use Rattle.signed_note.proofs.OneReading.{notes_are_read}
 use Rattle.tlog_checkpoint.specs.declared.Checkpoint.{Checkpoint}
 use Rattle.tlog_checkpoint.specs.Grammar.{IsCheckpoint}
 use Rattle.tlog_checkpoint.proofs.Uniqueness.{one_reading}
-use Rattle.mirror_model.specs.HeadLaws.{HeadIsOne}
+use Rattle.mirror_model.specs.HeadLaws.{NoteIsOneHead}
 use Rattle.mirror_model.specs.Item.{HasEdgeRows}
 use Rattle.mirror_model.specs.LawfulLaws.{HeadsHaveEdges}
 
-pub head_once : HeadIsOne
+pub head_once : NoteIsOneHead
 head_once note origin origin' size size' root root' p q =
     let texts = (notes_are_read note p.text q.text p.lines q.lines p.is_note q.is_note).0 in
     let a : Checkpoint = record { origin = origin; size = size; root = root; extensions = p.extensions } in

@@ -13,7 +13,7 @@ use Rattle.mirror_model.specs.Heads.{IsHead}
 use Rattle.mirror_model.specs.Complete.{IsLawful, HasEdge}
 use Rattle.mirror_model.specs.declared.events.Event.TheVariants.{Take, Merge}
 use Rattle.mirror_model.specs.Steps.{Answer, Done, Refused, Clashed, Exhausted, IsBetween, Answers}
-use Rattle.mirror_model.specs.EventLaws.{EventKeepsLawful, NoteIsLast, BetweenIsLawful}
+use Rattle.mirror_model.specs.EventLaws.{EventKeepsLawful, NewNoteMeansWholeItem, BetweenIsLawful}
 use Rattle.mirror_model.specs.RunLaws.{AreLawful, RunIsLawful, RunGrows}
 use Rattle.mirror_model.proofs.StringSets.{has_cases, listed_from_has, held_more, no_clash_within}
 use Rattle.mirror_model.proofs.Views.{within_itself, within_trans, edge_stays, same_is_one, union_is_lawful}
@@ -52,7 +52,7 @@ note_between digest old new item note b has =
       ]
     ]
 
-pub note_is_last : NoteIsLast
+pub note_is_last : NewNoteMeansWholeItem
 note_is_last digest keys old new item note (inl same) has = inl (subst (λ v. Has v.notes note) same has)
 note_is_last digest keys old new item note (inr h) has = note_between digest old new item note h.2 has
 

@@ -11,7 +11,7 @@ use Rattle.tlog_tiles.specs.declared.paths.Path.TheVariants.{Tile}
 use Rattle.mirror_model.specs.Front.{IsFront}
 use Rattle.node_store.specs.Strings.{Strings, Has, HasAll}
 use Rattle.mirror_model.specs.Rounds.{AreRounds, last_held}
-use Rattle.mirror_model.specs.TreeLaws.{FrontIsBelowTop, RoundsComplete}
+use Rattle.mirror_model.specs.TreeLaws.{FrontIsBelowTop, EnoughRoundsComplete}
 use Rattle.mirror_model.proofs.StringSets.{holds_from_held, held_more}
 use Rattle.mirror_model.proofs.Fronts.{power_le}
 use Rattle.mirror_model.proofs.TreeLaws.{round_goes_down, bundles_complete}
@@ -106,7 +106,7 @@ module _ (digest : List ℕ → List ℕ) (entries : List (List ℕ)) (small : l
       (λ l i w g. let lt = low l i w g in omega (arith, lt)) level index width f)
       (omega arith) (omega arith)
 
-pub rounds_complete : RoundsComplete
+pub rounds_complete : EnoughRoundsComplete
 rounds_complete digest held entries top [] small t rounds enough = absurd (omega arith)
 rounds_complete digest held entries top (after ∷ afters) small t rounds enough =
     rounds_from digest entries (omega (arith, small)) top held (after ∷ afters) rounds

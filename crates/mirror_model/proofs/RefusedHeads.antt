@@ -3,7 +3,7 @@ use Rattle.std.proofs.Common.{◌≡◌, ◌≢◌, ◌⊎◌, inl, inr, ℕ, �
 use Rattle.std.specs.Prelude.{Result}
 use Rattle.std.proofs.lemmas.List.{length-map}
 use Rattle.signed_note.specs.Keys.{Key}
-use Rattle.signed_note.specs.Notes.{Line, NoteParts, IsNote, Opens}
+use Rattle.signed_note.specs.Notes.{SignatureParts, NoteParts, IsNote, Opens}
 use Rattle.signed_note.specs.declared.fault.NoteFault.{NoteFault}
 use Rattle.signed_note.proofs.OneReading.{notes_are_read}
 use Rattle.signed_note.proofs.OneReading as note
@@ -27,7 +27,7 @@ use Rattle.mirror_model.proofs.Refusing.{Taken, not_done, not_clashed, not_exhau
 -- ---- notes and checkpoints
 
 -- what is refused as a note is no note
-no_note : (bytes text : List ℕ) (lines : List Line) (fault : NoteFault) → IsNoNote bytes fault →
+no_note : (bytes text : List ℕ) (lines : List SignatureParts) (fault : NoteFault) → IsNoNote bytes fault →
     IsNote bytes text lines → ⊥
 no_note bytes text lines fault refused is =
     let one : Result NoteParts NoteFault = Ok (record { bytes = bytes; text = text; lines = lines }) in
@@ -75,7 +75,7 @@ module _ (bytes origin : List ℕ) (keys : List Key) where
   Read = Result Checkpoint TakeFault
 
   -- the note's text is that checkpoint
-  record AfterText (a : Read) (text : List ℕ) (lines : List Line) : Type 0 where
+  record AfterText (a : Read) (text : List ℕ) (lines : List SignatureParts) : Type 0 where
     checkpoint : Checkpoint
     is_checkpoint : IsCheckpoint text checkpoint.origin checkpoint.size checkpoint.root checkpoint.extensions
     then :
@@ -94,7 +94,7 @@ module _ (bytes origin : List ℕ) (keys : List Key) where
   -- the bytes are a note
   record AfterNote (a : Read) : Type 0 where
     text : List ℕ
-    lines : List Line
+    lines : List SignatureParts
     is_note : IsNote bytes text lines
     then : AtText a text ⊎ AfterText a text lines
 
@@ -162,7 +162,7 @@ module _ (bytes origin : List ℕ) (keys : List Key) where
 
   module _ (a b : Read) where
     -- of one text and its lines
-    same_after_text : (text : List ℕ) (lines : List Line) → AfterText a text lines → AfterText b text lines → a ≡ b
+    same_after_text : (text : List ℕ) (lines : List SignatureParts) → AfterText a text lines → AfterText b text lines → a ≡ b
     same_after_text text lines p q =
         let same : p.checkpoint ≡ q.checkpoint =
         same_checkpoint text p.checkpoint q.checkpoint p.is_checkpoint q.is_checkpoint in
@@ -178,7 +178,7 @@ module _ (bytes origin : List ℕ) (keys : List Key) where
           ]
         ]
 
-    same_text : (text : List ℕ) (lines : List Line) → AtText a text ⊎ AfterText a text lines →
+    same_text : (text : List ℕ) (lines : List SignatureParts) → AtText a text ⊎ AfterText a text lines →
         AtText b text ⊎ AfterText b text lines → a ≡ b
     same_text text lines (inl p) (inl q) =
         p.is ∙ ap (λ f. Err (taking.Checkpoint f))

@@ -18,7 +18,7 @@ use Rattle.mirror_model.specs.Complete.{IsLawful}
 use Rattle.mirror_model.specs.Served.{IsServedList, IsServedBundle}
 use Rattle.mirror_model.specs.TrueLaws.{AreShort}
 use Rattle.mirror_model.specs.Strings.{IsDigest}
-use Rattle.mirror_model.specs.ServedLaws.{IsWidestBundle, AreBundles, BundlesAreAll, BundlesAreServed}
+use Rattle.mirror_model.specs.ServedLaws.{IsWidestBundle, AreBundles, ServedBundlesAreAllEntries, AllEntriesAreInBundles}
 use Rattle.mirror_model.proofs.FullBundles.{strings_leaf}
 use Rattle.mirror_model.proofs.ItemBytes.{bundle_is_one}
 use Rattle.mirror_model.proofs.OneLists.{one_served}
@@ -159,11 +159,11 @@ module _ (digest : List ℕ → List ℕ) (hash : IsDigest digest) (v : View) (l
             record { bundles = es ∷ rest.bundles; are = (first, rest.are) }
       ]
 
-pub bundles_are_all : BundlesAreAll
+pub bundles_are_all : ServedBundlesAreAllEntries
 bundles_are_all digest hash v lawful entries served bundles are =
     from_index digest hash v lawful entries served bundles 0 are
 
-pub bundles_are_served : BundlesAreServed
+pub bundles_are_served : AllEntriesAreInBundles
 bundles_are_served digest hash v lawful entries served =
     let all =
     bundles_from digest hash v lawful entries served (length entries) 0 (omega arith) in (all.bundles, all.are)

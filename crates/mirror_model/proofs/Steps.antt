@@ -8,7 +8,7 @@ use Rattle.mirror_model.specs.Strings.{HasClash}
 use Rattle.mirror_model.specs.declared.items.Item.{Item}
 use Rattle.mirror_model.specs.Item.{IsGood, plus}
 use Rattle.mirror_model.specs.Steps.{Answer, Done, Refused, Clashed, Exhausted, Answers, IsBetween}
-use Rattle.mirror_model.specs.EventLaws.{TakesOnce, MergesOnce, TakesAgain, MergesAgain}
+use Rattle.mirror_model.specs.EventLaws.{TakesHaveOneAnswer, MergesHaveOneAnswer, RetriedTakeIsOneTake, RetriedMergeIsOneMerge}
 use Rattle.mirror_model.proofs.Views.{within_itself, within_trans, within_union, within_plus, same_is_one}
 use Rattle.mirror_model.proofs.StringSets.{has_left, has_right, has_cases, clash_contradicts}
 
@@ -161,7 +161,7 @@ same_origin : (digest : List ℕ → List ℕ) (Allowed : Type 0) (full old betw
 same_origin digest Allowed full old between larger h =
     (answer_grows digest Allowed full old larger Exhausted between h).origin_is
 
-pub takes_again : TakesAgain
+pub takes_again : RetriedTakeIsOneTake
 takes_again digest keys old between new item answer first second =
     let o = same_origin digest (IsGood digest old.origin keys item) (plus digest old item) old between
     (within_plus digest old item) first in
@@ -171,7 +171,7 @@ takes_again digest keys old between new item answer first second =
     (λ e h. subst
     (λ v. Answers digest v (IsGood digest v.origin keys item) (plus digest v item) answer new) e h) first second
 
-pub merges_again : MergesAgain
+pub merges_again : RetriedMergeIsOneMerge
 merges_again digest old other between new answer first second =
     let o = same_origin digest (old.origin ≡ other.origin) (union old other) old between
     (within_union old other) first in
@@ -198,10 +198,10 @@ answers_once digest Allowed full old new other Clashed Clashed p q m n = (refl, 
 answers_once digest Allowed full old new other Exhausted b p q m n = absurd (m refl)
 answers_once digest Allowed full old new other a Exhausted p q m n = absurd (n refl)
 
-pub takes_once : TakesOnce
+pub takes_once : TakesHaveOneAnswer
 takes_once digest keys old new other item a b =
     answers_once digest (IsGood digest old.origin keys item) (plus digest old item) old new other a b
 
-pub merges_once : MergesOnce
+pub merges_once : MergesHaveOneAnswer
 merges_once digest old source new other a b =
     answers_once digest (old.origin ≡ source.origin) (union old source) old new other a b

@@ -7,15 +7,15 @@ use Rattle.std.specs.List.{Contains}
 use Rattle.tlog_hash.specs.Tree.{tree_of, strings}
 use Rattle.tlog_hash.specs.Rows.{part}
 use Rattle.mirror_model.specs.Front.{IsPathOf}
-use Rattle.mirror_model.specs.TreeLaws.{FrontIsEmpty, FullRowJoins, BundleStrings, RoundLeaves, RoundGoesDown}
-use Rattle.mirror_model.specs.TreeLaws.{BundlesComplete, MissingIsFront}
+use Rattle.mirror_model.specs.TreeLaws.{FrontIsEmpty, FullRowJoinsAreNodes, BundleStringsAreNodes, RoundLeavesSmallNodes, RoundGoesDown}
+use Rattle.mirror_model.specs.TreeLaws.{BundleRoundCompletes, MissingIsFront}
 use Rattle.mirror_model.proofs.NodeBlocks.{node_inside}
 use Rattle.mirror_model.proofs.RowLaws.{full_tile, bundle}
 use Rattle.mirror_model.proofs.Fronts.{front_empty, power_le, front_node, front_unheld, after_round, after_bundles}
 use Rattle.mirror_model.proofs.Walks.{walk_is_front}
 use Rattle.mirror_model.proofs.StringSets.{holds_from_held, held_from_holds}
 
-pub full_row_joins : FullRowJoins
+pub full_row_joins : FullRowJoinsAreNodes
 full_row_joins d es level index fits y =
     let law = full_tile d es level index fits y in (
       λ h. let n =
@@ -42,7 +42,7 @@ full_row_joins d es level index fits y =
           }),
     )
 
-pub bundle_strings : BundleStrings
+pub bundle_strings : BundleStringsAreNodes
 bundle_strings d es index fits y =
     let swap : 256 * index ≡ index * 256 = omega arith in
     let len : length (drop (256 * index) es) ≡ length es - 256 * index = length-drop (256 * index) es in
@@ -77,7 +77,7 @@ bundle_strings d es index fits y =
           })),
     )
 
-pub round_leaves : RoundLeaves
+pub round_leaves : RoundLeavesSmallNodes
 round_leaves d held after es small r =
     after_round d held after r.grows es small (holds_from_held held _ r.edge)
     (λ path f. holds_from_held after _ (r.taken path f))
@@ -93,7 +93,7 @@ round_goes_down d held after es small r top asks level index width f =
       | inr le ↦ absurd (let more = power_le top level le in omega (arith, short, f.path_is.tile.above, more))
     ]
 
-pub bundles_complete : BundlesComplete
+pub bundles_complete : BundleRoundCompletes
 bundles_complete d held after es small r alone =
     held_from_holds after _
     (after_bundles d held after r.grows es small (holds_from_held held _ r.edge)

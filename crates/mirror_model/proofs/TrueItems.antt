@@ -25,8 +25,8 @@ use Rattle.mirror_model.specs.Edge.{edge_levels, edge_row, edge_rows, edge_root,
 use Rattle.mirror_model.specs.Front.{IsFront}
 use Rattle.mirror_model.specs.Item.{row_of}
 use Rattle.mirror_model.specs.Strings.{IsDigest}
-use Rattle.mirror_model.specs.TrueLaws.{TilesAreTrue, BundlesAreTrue, EdgesAreTrue, EdgeIsOfPaths, FrontIsWithin}
-use Rattle.mirror_model.specs.TrueLaws.{TrueStringsWithin, FrontIsWidest, PrefixesServeSame}
+use Rattle.mirror_model.specs.TrueLaws.{TrueTilesAreGood, TrueBundlesAreGood, TrueEdgesLeadToRoot, EdgeHasEachPartialTile, FrontIsWithin}
+use Rattle.mirror_model.specs.TrueLaws.{TrueStringsAreOfTree, FrontIsWidest, PrefixesServeSame}
 use Rattle.mirror_model.proofs.StringSets.{HoldsAll, holds_from_held}
 use Rattle.mirror_model.proofs.ItemBytes.{row_is_one, bundle_is_one}
 use Rattle.mirror_model.proofs.EdgeRoots.{edge_rows_wide, edge_root_is}
@@ -42,7 +42,7 @@ use Rattle.node_store.specs.Strings.{Strings}
 row_good : (width : ℕ) (bytes : List ℕ) (row : List (List ℕ)) → IsRow width bytes row → length bytes ≡ 32 * width
 row_good width bytes row r = ap length r.text ∙ length-row_text row r.sizes ∙ ap (λ n. 32 * n) r.count
 
-pub tiles_are_true : TilesAreTrue
+pub tiles_are_true : TrueTilesAreGood
 tiles_are_true digest hash entries short level index width is_width =
     let bytes = tile_bytes digest entries level index width in
     let r = (served_is_read digest hash entries short).tile level index width in
@@ -56,7 +56,7 @@ tiles_are_true digest hash entries short level index width is_width =
           ap (joins digest) (sym (row_is_one width bytes (level_row digest entries level (256 * index) width) r));
     }
 
-pub bundles_are_true : BundlesAreTrue
+pub bundles_are_true : TrueBundlesAreGood
 bundles_are_true digest hash entries short index width within =
     let b = (served_is_read digest hash entries short).bundle index width within in
     record {
@@ -112,7 +112,7 @@ module _ (digest : List ℕ → List ℕ) (hash : IsDigest digest) where
       let row = edge_row digest entries level in
       λ i. length-row_text row (edge_row_is entries level).sizes i ∷ byte_lengths entries levels i
 
-pub edges_are_true : EdgesAreTrue
+pub edges_are_true : TrueEdgesLeadToRoot
 edges_are_true digest hash entries small =
     let back = read_back digest hash entries (edge_levels (length entries)) in
     record {
@@ -150,7 +150,7 @@ module _ (size : ℕ) where
       ∙ sym (map-append path_at (filter has_width (levels_below level)) (filter has_width (level ∷ [])))
       ∙ ap (map path_at) (sym (filter-append has_width (levels_below level) (level ∷ [])))
 
-pub edge_is_of_paths : EdgeIsOfPaths
+pub edge_is_of_paths : EdgeHasEachPartialTile
 unfolding edge_of edge_levels
 edge_is_of_paths size = paths_below size 8
 
@@ -259,7 +259,7 @@ prefixes_serve_same digest entries n within = record {
 
 -- ---- strings of the tree alone
 
-pub true_strings_within : TrueStringsWithin
+pub true_strings_within : TrueStringsAreOfTree
 true_strings_within digest entries Checkpoint within widest y c = absurd widest
 true_strings_within digest entries (Tile level index width) within widest y c =
     let row : Contains (joins digest (level_row digest entries level (256 * index) 256)) y =

@@ -13,8 +13,8 @@ use Rattle.mirror_model.specs.Steps.{Answer, Exhausted, IsBetween, Takes, Merges
 use Rattle.mirror_model.specs.RunLaws.{AreLawful}
 
 -- want of memory apart, a take has one answer and leaves one view
-abbrev pub TakesOnce : Type 0
-TakesOnce =
+abbrev pub TakesHaveOneAnswer : Type 0
+TakesHaveOneAnswer =
     (digest : List ℕ → List ℕ) (keys : List Key) (old new other : View) (item : Item)
     (a b : Answer) →
     Takes digest keys old item a new → Takes digest keys old item b other → a ≢ Exhausted →
@@ -22,30 +22,30 @@ TakesOnce =
     (a ≡ b) × (new ≡ other)
 
 -- want of memory apart, a merge has one answer and leaves one view
-abbrev pub MergesOnce : Type 0
-MergesOnce =
+abbrev pub MergesHaveOneAnswer : Type 0
+MergesHaveOneAnswer =
     (digest : List ℕ → List ℕ) (old source new other : View) (a b : Answer) →
     Merges digest old source a new →
     Merges digest old source b other → a ≢ Exhausted → b ≢ Exhausted → (a ≡ b) × (new ≡ other)
 
 -- a take that ran out of memory and is done again comes to the same as one take
-abbrev pub TakesAgain : Type 0
-TakesAgain =
+abbrev pub RetriedTakeIsOneTake : Type 0
+RetriedTakeIsOneTake =
     (digest : List ℕ → List ℕ) (keys : List Key) (old between new : View) (item : Item)
     (answer : Answer) →
     Takes digest keys old item Exhausted between → Takes digest keys between item answer new →
     Takes digest keys old item answer new
 
 -- a merge that ran out of memory and is done again comes to the same as one merge
-abbrev pub MergesAgain : Type 0
-MergesAgain =
+abbrev pub RetriedMergeIsOneMerge : Type 0
+RetriedMergeIsOneMerge =
     (digest : List ℕ → List ℕ) (old other between new : View) (answer : Answer) →
     Merges digest old other Exhausted between → Merges digest between other answer new →
     Merges digest old other answer new
 
 -- after want of memory in a take a new note stands only if the view is the one with the item
-abbrev pub NoteIsLast : Type 0
-NoteIsLast =
+abbrev pub NewNoteMeansWholeItem : Type 0
+NewNoteMeansWholeItem =
     (digest : List ℕ → List ℕ) (keys : List Key) (old new : View) (item : Item) (note : List ℕ) →
     Takes digest keys old item Exhausted new → Has new.notes note →
     Has old.notes note ⊎ (new ≡ plus digest old item)
@@ -103,16 +103,16 @@ pub record IsLeft (digest : List ℕ → List ℕ) (old : View) (Allowed : Type 
 
 -- what a take for which memory was refused leaves: the old view, or one between it and the view
 -- with the item
-abbrev pub TakesLeave : Type 0
-TakesLeave =
+abbrev pub RefusedTakeIsBetween : Type 0
+RefusedTakeIsBetween =
     (digest : List ℕ → List ℕ) (keys : List Key) (old new : View) (item : Item) →
     Takes digest keys old item Exhausted new →
     IsLeft digest old (IsGood digest old.origin keys item) (plus digest old item) new
 
 -- what a merge for which memory was refused leaves: the old view, or one between it and the union
 -- of the two
-abbrev pub MergesLeave : Type 0
-MergesLeave =
+abbrev pub RefusedMergeIsBetween : Type 0
+RefusedMergeIsBetween =
     (digest : List ℕ → List ℕ) (old other new : View) →
     Merges digest old other Exhausted new →
     IsLeft digest old (old.origin ≡ other.origin) (union old other) new
@@ -142,8 +142,8 @@ EventKeepsLawful =
 
 -- want of memory apart, an event at one mirror of a list has one answer, and leaves one list of
 -- views
-abbrev pub EventIsOne : Type 0
-EventIsOne =
+abbrev pub EventsHaveOneAnswer : Type 0
+EventsHaveOneAnswer =
     (digest : List ℕ → List ℕ) (keys : List Key) (old new other : List View) (event : Event)
     (a b : Answer) →
     Happens digest keys old event a new →
@@ -154,8 +154,8 @@ EventIsOne =
 
 -- an event that ran out of memory and is done again comes to the same as one event, also where it
 -- merges a mirror with itself
-abbrev pub EventAgain : Type 0
-EventAgain =
+abbrev pub RetriedEventIsOneEvent : Type 0
+RetriedEventIsOneEvent =
     (digest : List ℕ → List ℕ) (keys : List Key) (old between new : List View) (event : Event)
     (answer : Answer) →
     Happens digest keys old event Exhausted between →
@@ -163,8 +163,8 @@ EventAgain =
     Happens digest keys old event answer new
 
 -- a merge of a mirror with itself changes nothing
-abbrev pub MergeWithItself : Type 0
-MergeWithItself =
+abbrev pub SelfMergeChangesNothing : Type 0
+SelfMergeChangesNothing =
     (digest : List ℕ → List ℕ) (keys : List Key) (old new : List View) (mirror : ℕ)
     (answer : Answer) →
     Happens digest keys old (Merge mirror mirror) answer new →

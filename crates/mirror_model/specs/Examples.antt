@@ -24,7 +24,7 @@ abbrev pub three : List (List ℕ)
 three = [] ∷ (0 ∷ []) ∷ (16 ∷ []) ∷ []
 
 -- the tree of these entries, and its edge: one row, their leaf hashes
-pub record IsThree : Type 0 where
+pub record TreeOfThree : Type 0 where
   pub root : mth sum_digest three ≡ sum_hash 18
   pub prefix_root : mth sum_digest (take 2 three) ≡ sum_hash 1
   pub rows : edge_rows sum_digest three ≡ (sum_hash 0 ∷ sum_hash 0 ∷ sum_hash 16 ∷ []) ∷ []
@@ -38,7 +38,7 @@ pub record IsThree : Type 0 where
       ∷ (1 ∷ sum_hash 0 ++ sum_hash 0) ∷ (1 ∷ sum_hash 1 ++ sum_hash 16) ∷ []
 
 -- the edges of some sizes
-pub record HasEdges : Type 0 where
+pub record EdgesOfSizes : Type 0 where
   pub none : edge_widths 0 ≡ []
   pub three : edge_widths 3 ≡ 3 ∷ []
   pub full : edge_widths 256 ≡ 1 ∷ []
@@ -48,7 +48,7 @@ pub record HasEdges : Type 0 where
 
 -- no rows give the hash of no bytes, and a row with the value of the row below behind it is folded
 -- with it
-pub record HasRoots : Type 0 where
+pub record RootsOfRows : Type 0 where
   pub none : edge_root sum_digest [] ≡ sum_hash 0
   pub one : edge_root sum_digest ((sum_hash 5 ∷ []) ∷ []) ≡ sum_hash 5
   pub two : edge_root sum_digest ((sum_hash 5 ∷ []) ∷ (sum_hash 7 ∷ []) ∷ []) ≡ sum_hash 13
@@ -68,7 +68,7 @@ large_list = (20 ∷ []) ∷ (30 ∷ []) ∷ (10 ∷ []) ∷ (100 ∷ []) ∷ []
 
 -- the test digest does not tell small_list from the first three of large_list, and yet neither list
 -- is a prefix of the other: forks are told by entries, not by hashes of prefixes
-pub record IsForked : Type 0 where
+pub record HashesDoNotTellForks : Type 0 where
   pub small_root : mth sum_digest small_list ≡ sum_hash 62
   pub large_root : mth sum_digest large_list ≡ sum_hash 163
   pub same_root : mth sum_digest (take 3 large_list) ≡ mth sum_digest small_list
@@ -76,7 +76,7 @@ pub record IsForked : Type 0 where
   pub not_extension : IsPrefix large_list small_list → ⊥
 
 -- the bytes of a row of no hash and of a bundle of the first two of the three entries
-pub record HasParts : Type 0 where
+pub record PartsOfThree : Type 0 where
   pub row : row_of [] ≡ []
   pub bundle : entries_of 2 (0 ∷ 0 ∷ 0 ∷ 1 ∷ 0 ∷ []) ≡ take 2 three
 
@@ -86,7 +86,7 @@ some_item = item.Tile 1 []
 
 -- an item that is taken at mirror 0 reaches mirror 2 over the merges 1 from 0, then 2 from 1; over
 -- the same two in the other order it does not, nor over a merge before the take
-pub record IsWay : Type 0 where
+pub record MergesLeadInOrder : Type 0 where
   pub reaches : Reaches some_item 2 (Take 0 some_item ∷ Merge 1 0 ∷ Merge 2 1 ∷ [])
   pub not_back : Reaches some_item 2 (Take 0 some_item ∷ Merge 2 1 ∷ Merge 1 0 ∷ []) → ⊥
   pub not_before : Reaches some_item 1 (Merge 1 0 ∷ Take 0 some_item ∷ []) → ⊥

@@ -21,8 +21,8 @@ use Rattle.mirror_model.specs.Listed.{ListsMissing, ListsFront}
 use Rattle.mirror_model.specs.Strings.{IsDigest}
 
 -- the first hashes of a full tile are the partial tile of its place
-abbrev pub FullTilesBegin : Type 0
-FullTilesBegin =
+abbrev pub FullTileBeginsWithPartial : Type 0
+FullTileBeginsWithPartial =
     (digest : List ℕ → List ℕ) →
     IsDigest digest →
     (entries : List (List ℕ)) (level index width : ℕ) →
@@ -32,8 +32,8 @@ FullTilesBegin =
 
 -- what the last, partial bundle of the first entries gives is given by the full bundle of all
 -- entries, or by the edge of the first
-abbrev pub FullBundlesServe : Type 0
-FullBundlesServe =
+abbrev pub FullBundleServesPartial : Type 0
+FullBundleServesPartial =
     (digest : List ℕ → List ℕ) (entries : List (List ℕ)) (size index width : ℕ) →
     size ≤ length entries →
     256 * index + width ≡ size →
@@ -92,6 +92,6 @@ pub record IsPlus (digest : List ℕ → List ℕ) (v : View) (item : Item) (y :
   pub note_held : Has v.notes y ⊎ Contains (notes_of item) y → Has (plus digest v item).notes y
 
 -- a view with an item holds just the strings and the notes of the view, and those of the item
-abbrev pub PlusHolds : Type 0
-PlusHolds =
+abbrev pub PlusHoldsJustBoth : Type 0
+PlusHoldsJustBoth =
     (digest : List ℕ → List ℕ) (v : View) (item : Item) (y : List ℕ) → IsPlus digest v item y

@@ -10,8 +10,8 @@ pub record IsSameHead (origin origin' : List ℕ) (size size' : ℕ) (root root'
   pub root_is : root ≡ root'
 
 -- a note is a head of one origin, size and root
-abbrev pub HeadIsOne : Type 0
-HeadIsOne =
+abbrev pub NoteIsOneHead : Type 0
+NoteIsOneHead =
     (note origin origin' : List ℕ) (size size' : ℕ) (root root' : List ℕ) →
     IsHead note origin size root →
     IsHead note origin' size' root' →

@@ -1,6 +1,6 @@
 -- Heads: what a note says of the log (C2SP tlog-checkpoint and signed-note).
 use Rattle.std.specs.Prelude.{ℕ, List}
-use Rattle.signed_note.specs.Notes.{Line, IsNote, Opens}
+use Rattle.signed_note.specs.Notes.{SignatureParts, IsNote, Opens}
 use Rattle.signed_note.specs.Keys.{Key}
 use Rattle.tlog_checkpoint.specs.Grammar.{IsCheckpoint}
 use Rattle.node_store.specs.Strings.{Has}
@@ -9,7 +9,7 @@ use Rattle.mirror_model.specs.View.{View}
 -- the bytes are a note whose text is a checkpoint of that origin, size and root
 pub record IsHead (note origin : List ℕ) (size : ℕ) (root : List ℕ) : Type 0 where
   pub text : List ℕ
-  pub lines : List Line
+  pub lines : List SignatureParts
   pub extensions : List (List ℕ)
   pub is_note : IsNote note text lines
   pub is_checkpoint : IsCheckpoint text origin size root extensions
@@ -18,7 +18,7 @@ pub record IsHead (note origin : List ℕ) (size : ℕ) (root : List ℕ) : Type
 pub record IsOpenHead (note origin : List ℕ) (keys : List Key) (size : ℕ) (root : List ℕ)
     : Type 0 where
   pub text : List ℕ
-  pub lines : List Line
+  pub lines : List SignatureParts
   pub extensions : List (List ℕ)
   pub is_note : IsNote note text lines
   pub is_checkpoint : IsCheckpoint text origin size root extensions

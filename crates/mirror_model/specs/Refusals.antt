@@ -3,7 +3,7 @@
 -- the item is good. An answer other than want of memory is determined by the item.
 use Rattle.std.specs.Prelude.{◌≡◌, ◌≢◌, ℕ, ◌*◌, List, length, map, Result, Ok, Err}
 use Rattle.signed_note.specs.Keys.{Key}
-use Rattle.signed_note.specs.Notes.{Line, IsNote, Opens}
+use Rattle.signed_note.specs.Notes.{SignatureParts, IsNote, Opens}
 use Rattle.signed_note.specs.Reading.{ReadsNote}
 use Rattle.signed_note.specs.declared.fault.NoteFault.{NoteFault}
 use Rattle.signed_note.specs.declared.fault.NoteFault.TheVariants as noting
@@ -21,7 +21,7 @@ use Rattle.mirror_model.specs.declared.fault.TakeFault.TheVariants as taking
 
 -- the bytes are a note whose text is that checkpoint, its extension lines with it
 pub record IsCheckpointNote (bytes : List ℕ) (checkpoint : Checkpoint) (text : List ℕ)
-    (lines : List Line) : Type 0 where
+    (lines : List SignatureParts) : Type 0 where
   pub is_note : IsNote bytes text lines
   pub is_checkpoint :
       IsCheckpoint text checkpoint.origin checkpoint.size checkpoint.root checkpoint.extensions
@@ -30,7 +30,7 @@ pub record IsCheckpointNote (bytes : List ℕ) (checkpoint : Checkpoint) (text :
 pub record IsOpenCheckpoint (bytes origin : List ℕ) (keys : List Key) (checkpoint : Checkpoint)
     : Type 0 where
   pub text : List ℕ
-  pub lines : List Line
+  pub lines : List SignatureParts
   pub is : IsCheckpointNote bytes checkpoint text lines
   pub origin_is : checkpoint.origin ≡ origin
   pub opens : Opens text lines keys
@@ -43,7 +43,7 @@ pub record IsNoNote (bytes : List ℕ) (fault : NoteFault) : Type 0 where
 -- the bytes are a note, and its text is no checkpoint, for that reason
 pub record IsNoCheckpoint (bytes : List ℕ) (fault : CheckpointFault) : Type 0 where
   pub text : List ℕ
-  pub lines : List Line
+  pub lines : List SignatureParts
   pub is_note : IsNote bytes text lines
   pub refused : ReadsCheckpoint text (Err fault)
   pub has_memory : fault ≢ reading.OutOfMemory
@@ -52,7 +52,7 @@ pub record IsNoCheckpoint (bytes : List ℕ) (fault : CheckpointFault) : Type 0 
 pub record HasOtherOrigin (bytes origin : List ℕ) : Type 0 where
   pub checkpoint : Checkpoint
   pub text : List ℕ
-  pub lines : List Line
+  pub lines : List SignatureParts
   pub is : IsCheckpointNote bytes checkpoint text lines
   pub differs : checkpoint.origin ≢ origin
 
@@ -60,7 +60,7 @@ pub record HasOtherOrigin (bytes origin : List ℕ) : Type 0 where
 pub record HasNoSigner (bytes origin : List ℕ) (keys : List Key) : Type 0 where
   pub checkpoint : Checkpoint
   pub text : List ℕ
-  pub lines : List Line
+  pub lines : List SignatureParts
   pub is : IsCheckpointNote bytes checkpoint text lines
   pub origin_is : checkpoint.origin ≡ origin
   pub closed : Opens text lines keys → ⊥

@@ -25,8 +25,8 @@ module _ (digest : List ℕ → List ℕ) (v : View) where
   AreBundles index (entries ∷ more) = IsWidestBundle index entries × AreBundles (index + 1) more
 
 -- the entries of the bundles that are served, in order, are the entries served, and nothing else
-abbrev pub BundlesAreAll : Type 0
-BundlesAreAll =
+abbrev pub ServedBundlesAreAllEntries : Type 0
+ServedBundlesAreAllEntries =
     (digest : List ℕ → List ℕ) →
     IsDigest digest →
     (v : View) →
@@ -38,8 +38,8 @@ BundlesAreAll =
     joined_up bundles ≡ entries
 
 -- the entries served stand in bundles that are served, from index 0 on
-abbrev pub BundlesAreServed : Type 0
-BundlesAreServed =
+abbrev pub AllEntriesAreInBundles : Type 0
+AllEntriesAreInBundles =
     (digest : List ℕ → List ℕ) →
     IsDigest digest →
     (v : View) →

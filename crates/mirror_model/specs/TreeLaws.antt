@@ -29,8 +29,8 @@ EdgeRootIsRoot =
     edge_root digest (edge_rows digest entries) ≡ mth digest entries
 
 -- the strings of the true edge rows are strings of the tree of the entries
-abbrev pub EdgeStringsWithin : Type 0
-EdgeStringsWithin =
+abbrev pub EdgeStringsAreOfTree : Type 0
+EdgeStringsAreOfTree =
     (digest : List ℕ → List ℕ) (entries : List (List ℕ)) (y : List ℕ) →
     Contains (edge_strings digest (edge_rows digest entries)) y →
     Contains (strings digest entries) y
@@ -48,8 +48,8 @@ pub record HasNodeWithin (digest : List ℕ → List ℕ) (entries : List (List 
 
 -- the joins of a true full row of level L are the strings of the tree for the nodes of the row's
 -- range that have more than 256^L entries
-abbrev pub FullRowJoins : Type 0
-FullRowJoins =
+abbrev pub FullRowJoinsAreNodes : Type 0
+FullRowJoinsAreNodes =
     (digest : List ℕ → List ℕ) (entries : List (List ℕ)) (level index : ℕ) →
     (index + 1) * 256 ^ (level + 1) ≤ length entries → (y : List ℕ) →
     Contains (joins digest (level_row digest entries level (256 * index) 256)) y
@@ -57,8 +57,8 @@ FullRowJoins =
 
 -- the strings of a bundle, at the width that the number of entries gives it, are those of the tree
 -- for the nodes of its range
-abbrev pub BundleStrings : Type 0
-BundleStrings =
+abbrev pub BundleStringsAreNodes : Type 0
+BundleStringsAreNodes =
     (digest : List ℕ → List ℕ) (entries : List (List ℕ)) (index : ℕ) →
     256 * index < length entries →
     let width = min 256 (length entries - 256 * index) in (y : List ℕ) →
@@ -74,8 +74,8 @@ FrontIsEmpty =
 
 -- after a round in which no tile above level L was asked for, a node that is not held has at most
 -- 256^L entries
-abbrev pub RoundLeaves : Type 0
-RoundLeaves =
+abbrev pub RoundLeavesSmallNodes : Type 0
+RoundLeavesSmallNodes =
     (digest : List ℕ → List ℕ) (held after : Strings) (entries : List (List ℕ)) →
     length entries ≤ 256 ^ 8 → IsRound digest entries held after → (top : ℕ) →
     AsksUpTo digest entries held top → (x : Node) →
@@ -90,8 +90,8 @@ RoundGoesDown =
     IsFront digest after entries (Tile level index width) → level < top
 
 -- after a round of bundles alone nothing of the tree is unheld
-abbrev pub BundlesComplete : Type 0
-BundlesComplete =
+abbrev pub BundleRoundCompletes : Type 0
+BundleRoundCompletes =
     (digest : List ℕ → List ℕ) (held after : Strings) (entries : List (List ℕ)) →
     length entries ≤ 256 ^ 8 → IsRound digest entries held after →
     AsksBundlesAlone digest entries held →
@@ -108,8 +108,8 @@ FrontIsBelowTop =
 
 -- as many rounds as the greatest level that has a partial tile, and one at least, leave nothing of
 -- the tree unheld
-abbrev pub RoundsComplete : Type 0
-RoundsComplete =
+abbrev pub EnoughRoundsComplete : Type 0
+EnoughRoundsComplete =
     (digest : List ℕ → List ℕ) (held : Strings) (entries : List (List ℕ)) (top : ℕ)
     (afters : List Strings) →
     length entries < 256 ^ 8 → IsTop (length entries) top → AreRounds digest entries held afters →

@@ -30,8 +30,8 @@ pub record IsTrueTile (digest : List ℕ → List ℕ) (entries : List (List ℕ
       ≡ true_strings digest entries (Tile level index width)
 
 -- each tile of a list of entries, as a log serves it, is good and gives the strings of its row
-abbrev pub TilesAreTrue : Type 0
-TilesAreTrue =
+abbrev pub TrueTilesAreGood : Type 0
+TrueTilesAreGood =
     (digest : List ℕ → List ℕ) → IsDigest digest → (entries : List (List ℕ)) → AreShort entries →
     (level index width : ℕ) → IsWidth width → IsTrueTile digest entries level index width
 
@@ -45,8 +45,8 @@ pub record IsTrueBundle (digest : List ℕ → List ℕ) (entries : List (List �
 
 -- each bundle within a list of entries, as a log serves it, is good and gives what the tree hash of
 -- its entries hashes
-abbrev pub BundlesAreTrue : Type 0
-BundlesAreTrue =
+abbrev pub TrueBundlesAreGood : Type 0
+TrueBundlesAreGood =
     (digest : List ℕ → List ℕ) → IsDigest digest → (entries : List (List ℕ)) → AreShort entries →
     (index width : ℕ) →
     IsTileWithin (length entries) 0 index width → IsTrueBundle digest entries index width
@@ -64,15 +64,15 @@ pub record IsTrueEdge (digest : List ℕ → List ℕ) (entries : List (List ℕ
       ≡ edge_strings digest (edge_rows digest entries)
 
 -- the edge rows of a list of entries, as a log serves them, are those of its size and tree hash
-abbrev pub EdgesAreTrue : Type 0
-EdgesAreTrue =
+abbrev pub TrueEdgesLeadToRoot : Type 0
+TrueEdgesLeadToRoot =
     (digest : List ℕ → List ℕ) → IsDigest digest → (entries : List (List ℕ)) →
     length entries < 256 ^ 8 →
     IsTrueEdge digest entries
 
 -- the edge of a size has the partial tile of each of its levels
-abbrev pub EdgeIsOfPaths : Type 0
-EdgeIsOfPaths =
+abbrev pub EdgeHasEachPartialTile : Type 0
+EdgeHasEachPartialTile =
     (size : ℕ) →
     edge_of size
     ≡ map (λ level. Tile level (edge_index_of size level) (width_of size level)) (edge_levels size)
@@ -94,8 +94,8 @@ IsWidest n (Entries index width) = width ≡ min 256 (n - 256 * index)
 
 -- the true bytes of a path within the entries, of the widest of its place, give strings of their
 -- tree alone
-abbrev pub TrueStringsWithin : Type 0
-TrueStringsWithin =
+abbrev pub TrueStringsAreOfTree : Type 0
+TrueStringsAreOfTree =
     (digest : List ℕ → List ℕ) (entries : List (List ℕ)) (path : Path) →
     IsWithin (length entries) path → IsWidest (length entries) path → (y : List ℕ) →
     Contains (true_strings digest entries path) y → Contains (strings digest entries) y

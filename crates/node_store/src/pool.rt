@@ -13,7 +13,7 @@ use tlog_hash::Hash;
 
 // Where an entry lies in the pool.
 #[derive(Clone, Copy)]
-pub(crate) struct Place {
+pub(crate) struct PoolSpan {
     start: usize,
     len: usize,
 }
@@ -21,12 +21,12 @@ pub(crate) struct Place {
 // What is held of a string, beside the pool.
 #[derive(Clone, Copy)]
 pub(crate) enum Held {
-    Entry(Place),
+    Entry(PoolSpan),
     Hashes(Hash, Hash),
 }
 
 // The bytes that lie there.
-pub(crate) fn bytes_at(pool: &[u8], place: Place) -> &[u8]
+pub(crate) fn bytes_at(pool: &[u8], place: PoolSpan) -> &[u8]
     requires { place.start + place.len ≤ length pool.now }
     ensures { result.now ≡ bytes_at pool.now place }
 {
@@ -80,7 +80,7 @@ pub(crate) fn keep(pool: &mut Vec<u8>, string: Tagged) -> Held
                 unreachable!()
             };
             let len = entry.len();
-            Held::Entry(Place { start, len })
+            Held::Entry(PoolSpan { start, len })
         }
         Tagged::Pair(left, right) => held_pair(left, right),
     }

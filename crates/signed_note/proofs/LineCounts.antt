@@ -8,7 +8,7 @@ use Rattle.std.proofs.lemmas.List.Elements.{All-head, All-tail}
 use Rattle.std.proofs.lemmas.List.Sums.{sum_by-append}
 use Rattle.std.proofs.lemmas.Bool.Decides.{Decides-eqb}
 use Rattle.signed_note.specs.Names.{newline}
-use Rattle.signed_note.specs.Notes.{Line, line_body, line_text, IsSignatureLine}
+use Rattle.signed_note.specs.Notes.{SignatureParts, line_body, line_text, IsSignatureLine}
 use Rattle.signed_note.specs.Reading.{line_count}
 use Rattle.signed_note.proofs.Lacking.{Lacks}
 use Rattle.signed_note.proofs.LineTexts.{body_lacks_newline}
@@ -30,12 +30,12 @@ newlines-lacking (x ∷ xs) p =
     let head : newlines (x ∷ []) ≡ 0 = zero-add (one_at x) ∙ none_at x (nat_eq x newline) refl p.0 in
     sum_by-append one_at (x ∷ []) xs ∙ omega (arith, head, newlines-lacking xs p.1)
 
-newlines-line : (line : Line) → IsSignatureLine line → newlines (line_text line) ≡ 1
+newlines-line : (line : SignatureParts) → IsSignatureLine line → newlines (line_text line) ≡ 1
 newlines-line line h =
     sum_by-append one_at (line_body line) (newline ∷ []) ∙
     omega (arith, newlines-lacking (line_body line) (body_lacks_newline line h))
 
-newlines-lines : (lines : List Line) → All IsSignatureLine lines → newlines (flat_map line_text lines) ≡ length lines
+newlines-lines : (lines : List SignatureParts) → All IsSignatureLine lines → newlines (flat_map line_text lines) ≡ length lines
 newlines-lines [] h = refl
 newlines-lines (line ∷ lines) h =
     sum_by-append one_at (line_text line) (flat_map line_text lines)
@@ -46,7 +46,7 @@ newlines-lines (line ∷ lines) h =
     )
 
 -- lines end in a newline
-lines_end : (line : Line) (lines : List Line) →
+lines_end : (line : SignatureParts) (lines : List SignatureParts) →
     (front : List ℕ) × (flat_map line_text (line ∷ lines) ≡ front ++ newline ∷ [])
 lines_end line [] = (line_body line, append-nil (line_text line))
 lines_end line (next ∷ lines) =
@@ -74,7 +74,7 @@ ended_count front =
     (none_open (nat_eq (length xs) 0) (nat_eq (slice_index xs (length xs - 1)) newline) closed) ∙
     add-zero (newlines xs)
 
-pub line_count-lines : (lines : List Line) → All IsSignatureLine lines →
+pub line_count-lines : (lines : List SignatureParts) → All IsSignatureLine lines →
     line_count (flat_map line_text lines) ≡ length lines
 line_count-lines [] h = refl
 line_count-lines (line ∷ lines) h =

@@ -6,7 +6,7 @@ use Rattle.std.proofs.lemmas.List.{append-nil}
 use Rattle.std.proofs.lemmas.List.Elements.{All-head, All-tail}
 use Rattle.std.proofs.lemmas.List.Concat.{flat_map-append}
 use Rattle.signed_note.specs.Names.{newline}
-use Rattle.signed_note.specs.Notes.{Line, line_body, line_text, IsSignatureLine}
+use Rattle.signed_note.specs.Notes.{SignatureParts, line_body, line_text, IsSignatureLine}
 use Rattle.std.specs.Prelude.{Err}
 use Rattle.signed_note.specs.Reading.{AreSignatureLines, ReadsLine, ReadsSignatureLines}
 use Rattle.signed_note.specs.declared.fault.NoteFault.{NoteFault}
@@ -16,9 +16,9 @@ use Rattle.signed_note.proofs.Lacking.{Lacks, cut_once, no_cut}
 use Rattle.signed_note.proofs.LineTexts.{body_lacks_newline}
 
 -- the first line of a part, up to its first newline
-pub next_line : (rest line after : List ℕ) (lines : List Line) → rest ≡ line ++ newline ∷ after → Lacks newline line →
+pub next_line : (rest line after : List ℕ) (lines : List SignatureParts) → rest ≡ line ++ newline ∷ after → Lacks newline line →
     AreSignatureLines rest lines
-    → (first : Line) × (more : List Line) × (line ≡ line_body first) × IsSignatureLine first
+    → (first : SignatureParts) × (more : List SignatureParts) × (line ≡ line_body first) × IsSignatureLine first
     × AreSignatureLines after more
 next_line rest line after [] is lacks h =
     absurd (omega (arith, ap length (sym is ∙ h.whole), length-append line (newline ∷ after)))
@@ -36,7 +36,7 @@ next_line rest line after (first ∷ more) is lacks h =
     )
 
 -- no lines where there is no newline
-pub no_line : (rest : List ℕ) (lines : List Line) → Lacks newline rest → 0 < length rest →
+pub no_line : (rest : List ℕ) (lines : List SignatureParts) → Lacks newline rest → 0 < length rest →
     AreSignatureLines rest lines → ⊥
 no_line rest [] lacks some h = omega (arith, ap length h.whole)
 no_line rest (first ∷ more) lacks some h =
@@ -44,7 +44,7 @@ no_line rest (first ∷ more) lacks some h =
     (h.whole ∙ append_assoc (line_body first) (newline ∷ []) (flat_map line_text more)) lacks
 
 -- one line more is read
-pub one_more : (signed line after : List ℕ) (lines : List Line) (next : Line) →
+pub one_more : (signed line after : List ℕ) (lines : List SignatureParts) (next : SignatureParts) →
     signed ≡ flat_map line_text lines ++ (line ++ newline ∷ after) → line ≡ line_body next →
     signed ≡ flat_map line_text (lines ++ next ∷ []) ++ after
 one_more signed line after lines next is read =
@@ -60,7 +60,7 @@ one_more signed line after lines next is read =
 -- where the next line is refused, so are all
 pub line_refused : (signed rest line after : List ℕ) (fault : NoteFault) → rest ≡ line ++ newline ∷ after →
     Lacks newline line →
-    ((all : List Line) → AreSignatureLines signed all → (more : List Line) × AreSignatureLines rest more)
+    ((all : List SignatureParts) → AreSignatureLines signed all → (more : List SignatureParts) × AreSignatureLines rest more)
     → ReadsLine line (Err fault) → ReadsSignatureLines signed (Err fault)
 line_refused signed rest line after NoteTooLong is lacks goes_on h = h
 line_refused signed rest line after NotText is lacks goes_on h = h

@@ -5,7 +5,7 @@ use Rattle.base64.specs.GeneralPurpose.{IsBytes}
 use Rattle.byteorder.specs.Endian.{big_bytes}
 use Rattle.signed_note.specs.Names.{newline, space, IsKeyName}
 use Rattle.tlog_text.specs.Hash.{base64_of}
-use Rattle.signed_note.specs.Notes.{Line, mark, signed_bytes, line_body, IsSignatureLine}
+use Rattle.signed_note.specs.Notes.{SignatureParts, em_dash, signed_bytes, line_body, IsSignatureLine}
 use Rattle.signed_note.specs.Reading.{ReadsBase64, ReadsLine}
 use Rattle.signed_note.specs.declared.fault.NoteFault.{NoteFault}
 use Rattle.signed_note.specs.declared.fault.NoteFault.TheVariants.{NoteTooLong, NotText, NoSignatures}
@@ -16,18 +16,18 @@ use Rattle.signed_note.proofs.NameBytes.{name_lacks_space, name_lacks_newline}
 use Rattle.tlog_text.proofs.Hashes.{base64_of-same}
 use Rattle.signed_note.proofs.Payloads.{base64_lacks_newline}
 
--- the mark and two words
+-- the em dash and two words
 abbrev pub words : List ℕ → List ℕ → List ℕ
-words name rest = mark ++ space ∷ (name ++ space ∷ rest)
+words name rest = em_dash ++ space ∷ (name ++ space ∷ rest)
 
 words_alike : (name rest other more : List ℕ) → words name rest ≡ words other more → Lacks space name →
     Lacks space other → (name ≡ other) × (rest ≡ more)
 words_alike name rest other more e p q = cut_once space name rest other more (cc) p q
 
-pub signed_bytes_fit : (line : Line) → IsSignatureLine line → IsBytes (signed_bytes line)
+pub signed_bytes_fit : (line : SignatureParts) → IsSignatureLine line → IsBytes (signed_bytes line)
 signed_bytes_fit line h = IsBytes-append (big_bytes 4 line.id) line.signature (four_bytes line.id) h.bytes
 
-pub length-signed_bytes : (line : Line) → length (signed_bytes line) ≡ length line.signature + 4
+pub length-signed_bytes : (line : SignatureParts) → length (signed_bytes line) ≡ length line.signature + 4
 length-signed_bytes line = omega arith
 
 -- a weaker clause of an option
@@ -36,25 +36,25 @@ pub option_weaker : {T P R : Type 0} {Q S : T → Type 0} (o : Option T) → Mat
 option_weaker None h f g = f h
 option_weaker (Some x) h f g = g x h
 
--- where nothing after the mark and a space has a space, there are no two words
-pub no_words : (text rest : List ℕ) → text ≡ mark ++ space ∷ rest →
+-- where nothing after the em dash and a space has a space, there are no two words
+pub no_words : (text rest : List ℕ) → text ≡ em_dash ++ space ∷ rest →
     ((i : ℕ) → i < length rest → get_or rest i 0 ≢ space) → (name more : List ℕ) → text ≢ words name more
 no_words text rest is lacks name more e = no_cut space rest name more (cc) (Lacks-from_reads space rest lacks)
 
 -- the words of a text that is a line's body
-pub line_words : (text name encoded : List ℕ) → text ≡ words name encoded → Lacks space name → (line : Line) →
+pub line_words : (text name encoded : List ℕ) → text ≡ words name encoded → Lacks space name → (line : SignatureParts) →
     IsSignatureLine line → text ≡ line_body line → (name ≡ line.name) × (encoded ≡ base64_of (signed_bytes line))
 line_words text name encoded is lacks line h e =
     words_alike name encoded line.name (base64_of (signed_bytes line)) (sym is ∙ e) lacks
     (name_lacks_space line.name h.name)
 
 pub not_named : (text name encoded : List ℕ) → text ≡ words name encoded → Lacks space name → (IsKeyName name → ⊥) →
-    (line : Line) → IsSignatureLine line → text ≢ line_body line
+    (line : SignatureParts) → IsSignatureLine line → text ≢ line_body line
 not_named text name encoded is lacks bad line h e =
     bad (subst IsKeyName (sym (line_words text name encoded is lacks line h e).0) h.name)
 
 not_encoded : (text name encoded : List ℕ) → text ≡ words name encoded → Lacks space name →
-    ((bytes : List ℕ) → IsBytes bytes → encoded ≢ base64_of bytes) → (line : Line) → IsSignatureLine line →
+    ((bytes : List ℕ) → IsBytes bytes → encoded ≢ base64_of bytes) → (line : SignatureParts) → IsSignatureLine line →
     text ≢ line_body line
 not_encoded text name encoded is lacks bad line h e =
     bad (signed_bytes line) (signed_bytes_fit line h) (line_words text name encoded is lacks line h e).1
@@ -69,7 +69,7 @@ refused text name encoded BadSignatureLine is lacks h = not_encoded text name en
 refused text name encoded OutOfMemory is lacks h = tt
 
 pub too_short : (text name encoded payload : List ℕ) → text ≡ words name encoded → Lacks space name →
-    encoded ≡ base64_of payload → IsBytes payload → length payload < 5 → (line : Line) → IsSignatureLine line →
+    encoded ≡ base64_of payload → IsBytes payload → length payload < 5 → (line : SignatureParts) → IsSignatureLine line →
     text ≢ line_body line
 too_short text name encoded payload is lacks of fit short line h e =
     let same : payload ≡ signed_bytes line =
@@ -78,7 +78,7 @@ too_short text name encoded payload is lacks of fit short line h e =
     let some : 0 < length line.signature = h.some in
     absurd (omega (arith, ap length same, length-signed_bytes line))
 
-pub body_lacks_newline : (line : Line) → IsSignatureLine line → Lacks newline (line_body line)
+pub body_lacks_newline : (line : SignatureParts) → IsSignatureLine line → Lacks newline (line_body line)
 body_lacks_newline line h =
     let rest : Lacks newline (space ∷ base64_of (signed_bytes line)) =
     ((λ e. cc), base64_lacks_newline (signed_bytes line)) in (

@@ -10,10 +10,10 @@ use Rattle.std.proofs.lemmas.List.Elements.{All-head, All-tail}
 use Rattle.byteorder.specs.Endian.{big_bytes, big_number}
 use Rattle.signed_note.specs.Names.{newline, IsNoteText}
 use Rattle.tlog_text.specs.Hash.{base64_of}
-use Rattle.signed_note.specs.Notes.{Line, NoteParts, signed_bytes, line_body, line_text, IsSignatureLine, IsNoteSplit}
+use Rattle.signed_note.specs.Notes.{SignatureParts, NoteParts, signed_bytes, line_body, line_text, IsSignatureLine, IsNoteSplit}
 use Rattle.signed_note.specs.Notes.{IsNote}
 use Rattle.signed_note.specs.Reading.{line_count, ReadsNote}
-use Rattle.signed_note.specs.Laws.{NotesAreRead, OneNoteAnswer}
+use Rattle.signed_note.specs.Laws.{NoteHasOneReading, OneNoteAnswer}
 use Rattle.signed_note.specs.declared.limits.TheConstants.{MAX_LINES, MAX_NOTE_LEN}
 use Rattle.signed_note.specs.declared.fault.NoteFault.{NoteFault}
 use Rattle.signed_note.specs.declared.fault.NoteFault.TheVariants.{NoteTooLong, NotText, NoSignatures}
@@ -26,24 +26,24 @@ use Rattle.signed_note.proofs.LineTexts.{body_lacks_newline, line_words, signed_
 use Rattle.signed_note.proofs.LineCounts.{line_count-lines}
 use Rattle.signed_note.proofs.Splits.{split_once}
 
-Line-same : (x y : Line) → x.name ≡ y.name → x.id ≡ y.id → x.signature ≡ y.signature → x ≡ y
-Line-same x y n i s =
+SignatureParts-same : (x y : SignatureParts) → x.name ≡ y.name → x.id ≡ y.id → x.signature ≡ y.signature → x ≡ y
+SignatureParts-same x y n i s =
     let first : x ≡ record x { name = y.name } = ap (λ (v : List ℕ). record x { name = v }) n in
     let second : record x { name = y.name } ≡ record x { name = y.name; id = y.id } =
     ap (λ (v : ℕ). record x { name = y.name; id = v }) i in
     let third : record x { name = y.name; id = y.id } ≡ y = ap (λ (v : List ℕ). record y { signature = v }) s in
     first ∙ (second ∙ third)
 
-same_body : (x y : Line) → IsSignatureLine x → IsSignatureLine y → line_body x ≡ line_body y → x ≡ y
+same_body : (x y : SignatureParts) → IsSignatureLine x → IsSignatureLine y → line_body x ≡ line_body y → x ≡ y
 same_body x y p q e =
     let words =
     line_words (line_body x) x.name (base64_of (signed_bytes x)) refl (name_lacks_space x.name p.name) y q e in
     let same : signed_bytes x ≡ signed_bytes y =
     base64_of-same (signed_bytes x) (signed_bytes y) (signed_bytes_fit x p) (signed_bytes_fit y q) words.1 in
     let ids : big_bytes 4 x.id ≡ big_bytes 4 y.id = ap (take 4) same in
-    Line-same x y words.0 (sym (bytes_id x.id p.id) ∙ (ap (big_number 4) ids ∙ bytes_id y.id q.id)) (ap (drop 4) same)
+    SignatureParts-same x y words.0 (sym (bytes_id x.id p.id) ∙ (ap (big_number 4) ids ∙ bytes_id y.id q.id)) (ap (drop 4) same)
 
-same_lines : (lines others : List Line) → flat_map line_text lines ≡ flat_map line_text others →
+same_lines : (lines others : List SignatureParts) → flat_map line_text lines ≡ flat_map line_text others →
     All IsSignatureLine lines → All IsSignatureLine others → lines ≡ others
 same_lines [] [] e p q = refl
 same_lines [] (y ∷ ys) e p q = absurd (omega (arith, ap length e))
@@ -57,9 +57,9 @@ same_lines (x ∷ xs) (y ∷ ys) e p q =
     (body_lacks_newline x good) (body_lacks_newline y fine) in
     let head : x ≡ y = same_body x y good fine cut.0 in
     let tail : xs ≡ ys = same_lines xs ys cut.1 (All-tail IsSignatureLine x xs p) (All-tail IsSignatureLine y ys q) in
-    ap (λ (l : Line). l ∷ xs) head ∙ ap (λ (ls : List Line). y ∷ ls) tail
+    ap (λ (l : SignatureParts). l ∷ xs) head ∙ ap (λ (ls : List SignatureParts). y ∷ ls) tail
 
-pub notes_are_read : NotesAreRead
+pub notes_are_read : NoteHasOneReading
 notes_are_read bytes text other lines others p q =
     let split = split_once bytes text (flat_map line_text lines) other (flat_map line_text others) p.split q.split in
     (split.0, same_lines lines others split.1 p.well_formed q.well_formed)
@@ -97,7 +97,7 @@ text_passed bytes (Err TooManySignatures) h lt = h.2.readable.readable
 text_passed bytes (Err BadSignatureLine) h lt = h.2.readable.readable
 text_passed bytes (Err OutOfMemory) h lt = absurd (omega arith)
 
-some_lines : (lines : List Line) → 1 ≤ length lines → flat_map line_text lines ≢ []
+some_lines : (lines : List SignatureParts) → 1 ≤ length lines → flat_map line_text lines ≢ []
 some_lines [] some e = omega arith
 some_lines (line ∷ lines) some e = omega (arith, ap length e)
 
@@ -125,7 +125,7 @@ count_passed bytes (Err BadSignatureLine) h lt = (h.0, h.1, h.2.split, h.3)
 count_passed bytes (Err OutOfMemory) h lt = absurd (omega arith)
 
 lines_passed : (bytes : List ℕ) (a : Result NoteParts NoteFault) → ReadsNote bytes a → 4 < rank a →
-    (text : List ℕ) × (lines : List Line) × IsNote bytes text lines
+    (text : List ℕ) × (lines : List SignatureParts) × IsNote bytes text lines
 lines_passed bytes (Ok parts) h lt = (parts.text, parts.lines, h.1)
 lines_passed bytes (Err NoteTooLong) h lt = absurd (omega arith)
 lines_passed bytes (Err NotText) h lt = absurd (omega arith)
@@ -187,7 +187,7 @@ NoteParts-same x y b t l =
     let first : x ≡ record x { bytes = y.bytes } = ap (λ (v : List ℕ). record x { bytes = v }) b in
     let second : record x { bytes = y.bytes } ≡ record x { bytes = y.bytes; text = y.text } =
     ap (λ (v : List ℕ). record x { bytes = y.bytes; text = v }) t in
-    let third : record x { bytes = y.bytes; text = y.text } ≡ y = ap (λ (v : List Line). record y { lines = v }) l in
+    let third : record x { bytes = y.bytes; text = y.text } ≡ y = ap (λ (v : List SignatureParts). record y { lines = v }) l in
     first ∙ (second ∙ third)
 
 -- two notes are equal exactly where their bytes are

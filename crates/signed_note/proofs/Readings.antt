@@ -6,7 +6,7 @@ use Rattle.std.specs.Str.{IsUtf8, chars}
 use Rattle.std.proofs.lemmas.Bool.Decides.{Decides-eqb}
 use Rattle.std.proofs.lemmas.List.Sums.{AllPass-from_list_all, list_all-from_AllPass}
 use Rattle.signed_note.specs.Names.{is_note_char, IsNoteText}
-use Rattle.signed_note.specs.Notes.{Line, IsNoteSplit, IsNote}
+use Rattle.signed_note.specs.Notes.{SignatureParts, IsNoteSplit, IsNote}
 use Rattle.signed_note.specs.Reading.{line_count, AreSignatureLines, HasPart, ReadsSignatureLines, ReadsNote}
 use Rattle.signed_note.specs.declared.limits.TheConstants.{MAX_LINES}
 use Rattle.signed_note.specs.declared.fault.NoteFault.{NoteFault}
@@ -29,7 +29,7 @@ some_bytes [] h e = cc
 some_bytes (x ∷ xs) h e = cc
 
 -- a readable note whose part is lines is a note
-pub note_from_lines : (bytes text signed : List ℕ) (lines : List Line) → HasPart bytes text signed →
+pub note_from_lines : (bytes text signed : List ℕ) (lines : List SignatureParts) → HasPart bytes text signed →
     line_count signed ≤ MAX_LINES → AreSignatureLines signed lines → IsNote bytes text lines
 note_from_lines bytes text signed [] part few are = absurd (part.some are.whole)
 note_from_lines bytes text signed (line ∷ lines) part few are = record {

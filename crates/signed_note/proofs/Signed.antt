@@ -15,7 +15,7 @@ use Rattle.signed_note.specs.Hmac.{hmac}
 use Rattle.signed_note.specs.Keys.{Key, Secret, secret_key}
 use Rattle.signed_note.specs.Names.{newline, space, is_note_char, IsNoteText, IsOwnName}
 use Rattle.tlog_text.specs.Hash.{base64_of}
-use Rattle.signed_note.specs.Notes.{Line, mark, signed_bytes, line_body, line_text, IsSignatureLine, IsNote}
+use Rattle.signed_note.specs.Notes.{SignatureParts, em_dash, signed_bytes, line_body, line_text, IsSignatureLine, IsNote}
 use Rattle.signed_note.specs.Notes.{IsLawfulText, Opens, is_accepted_by, signed_line}
 use Rattle.signed_note.specs.declared.limits.TheConstants.{MAX_NAME_LEN, MAX_TEXT_LEN}
 use Rattle.signed_note.proofs.Digests.{hmac_fits, length-hmac}
@@ -32,7 +32,7 @@ cut_later c (x ∷ a) b [] e p h = let same : x ≡ c = cc in absurd (p.0 same)
 cut_later c (x ∷ a) b (y ∷ d) e p h = let tails : a ++ (c ∷ b) ≡ d ++ (c ∷ e) = cc in cut_later c a b d e p.1 tails
 
 -- no blank line follows the one before well-formed lines
-pub no_blank_line : (lines : List Line) → All IsSignatureLine lines → (before after : List ℕ) →
+pub no_blank_line : (lines : List SignatureParts) → All IsSignatureLine lines → (before after : List ℕ) →
     newline ∷ flat_map line_text lines ≢ before ++ newline ∷ (newline ∷ after)
 no_blank_line [] h before after e = omega (arith, ap length e, length-append before (newline ∷ (newline ∷ after)))
 no_blank_line (line ∷ lines) h [] after e = cc
@@ -74,7 +74,7 @@ name_text name own = record {
       (λ c h. or_right (nat_eq c newline) (nat_le space c) h) (chars name) own.printed;
 }
 
-mark_text : IsNoteText mark
+mark_text : IsNoteText em_dash
 unfolding chars encode
 mark_text =
     record { utf8 = (8212 ∷ [], (refl, refl)); characters = AllPass-from_list_all is_note_char (8212 ∷ []) refl }
@@ -90,7 +90,7 @@ newline_text =
     record { utf8 = (newline ∷ [], (refl, refl)); characters = AllPass-from_list_all is_note_char (newline ∷ []) refl }
 
 -- a line of such a name may stand in a note
-pub line_is_text : (line : Line) → IsSignatureLine line → IsOwnName line.name → IsNoteText (line_text line)
+pub line_is_text : (line : SignatureParts) → IsSignatureLine line → IsOwnName line.name → IsNoteText (line_text line)
 line_is_text line h own =
     let encoded =
     ascii_text (base64_of (signed_bytes line)) (base64_is_ascii (signed_bytes line))
@@ -98,7 +98,7 @@ line_is_text line h own =
     let rest = text_append (space ∷ []) (base64_of (signed_bytes line)) space_text encoded in
     let named = text_append line.name (space ∷ base64_of (signed_bytes line)) (name_text line.name own) rest in
     let spaced = text_append (space ∷ []) (line.name ++ space ∷ base64_of (signed_bytes line)) space_text named in
-    let body = text_append mark (space ∷ (line.name ++ space ∷ base64_of (signed_bytes line))) mark_text spaced in
+    let body = text_append em_dash (space ∷ (line.name ++ space ∷ base64_of (signed_bytes line))) mark_text spaced in
     text_append (line_body line) (newline ∷ []) body newline_text
 
 signed_line_fits : (text : List ℕ) (k : Secret) → IsOwnName k.name → k.id < 2 ^ 32 →
@@ -113,7 +113,7 @@ signed_line_fits text k own small = record {
 -- the line that a shared key signs with has at most 309 bytes
 length-signed_line : (text : List ℕ) (k : Secret) → IsOwnName k.name → length (line_text (signed_line text k)) ≤ 309
 length-signed_line text k own =
-    let line : Line = signed_line text k in
+    let line : SignatureParts = signed_line text k in
     let name : length k.name ≤ MAX_NAME_LEN = own.short in
     let payload : length (signed_bytes line) ≡ 36 = omega (arith, length-hmac k.secret text) in
     let encoded : length (base64_of (signed_bytes line)) ≡ 48 =
@@ -126,16 +126,16 @@ length-signed_line text k own =
 
 -- the text of the line, its parts to the right
 pub line_text-right : (name encoded : List ℕ) →
-    (mark ++ space ∷ (name ++ space ∷ encoded)) ++ newline ∷ []
-    ≡ mark ++ space ∷ (name ++ space ∷ (encoded ++ newline ∷ []))
+    (em_dash ++ space ∷ (name ++ space ∷ encoded)) ++ newline ∷ []
+    ≡ em_dash ++ space ∷ (name ++ space ∷ (encoded ++ newline ∷ []))
 line_text-right name encoded =
-    ap (λ (x : List ℕ). mark ++ space ∷ x) (append_assoc name (space ∷ encoded) (newline ∷ []))
+    ap (λ (x : List ℕ). em_dash ++ space ∷ x) (append_assoc name (space ∷ encoded) (newline ∷ []))
 
 -- what is signed is a note
 pub signed_is_note : (text : List ℕ) (k : Secret) → IsLawfulText text → IsOwnName k.name → k.id < 2 ^ 32
     → IsNote (text ++ newline ∷ line_text (signed_line text k)) text (signed_line text k ∷ [])
 signed_is_note text k lawful own small =
-    let line : Line = signed_line text k in
+    let line : SignatureParts = signed_line text k in
     let fits : IsSignatureLine line = signed_line_fits text k own small in
     let all : All IsSignatureLine (line ∷ []) = All-cons IsSignatureLine line [] fits (All-nil IsSignatureLine) in
     let one : flat_map line_text (line ∷ []) ≡ line_text line = append-nil (line_text line) in
@@ -158,7 +158,7 @@ signed_is_note text k lawful own small =
 -- a signed text opens under its key
 pub signed_opens : (text : List ℕ) (k : Secret) → Opens text (signed_line text k ∷ []) (secret_key k ∷ [])
 signed_opens text k =
-    let line : Line = signed_line text k in
+    let line : SignatureParts = signed_line text k in
     let same : bytes_eq (hmac k.secret text) (hmac k.secret text) ≡ true =
     (bytes_eq-Decides (hmac k.secret text) (hmac k.secret text)).1 refl in
     let taken : is_accepted_by text line (secret_key k) ≡ true =
@@ -169,10 +169,10 @@ signed_opens text k =
 
 -- what is written is that note
 pub written : (items text name encoded : List ℕ) (k : Secret) →
-    items ≡ text ++ newline ∷ (mark ++ space ∷ (name ++ space ∷ (encoded ++ newline ∷ []))) → name ≡ k.name →
+    items ≡ text ++ newline ∷ (em_dash ++ space ∷ (name ++ space ∷ (encoded ++ newline ∷ []))) → name ≡ k.name →
     encoded ≡ base64_of (signed_bytes (signed_line text k))
     → items ≡ text ++ newline ∷ line_text (signed_line text k)
 written items text name encoded k is named of =
     is ∙ (ap (λ (x : List ℕ). text ++ newline ∷ x) (sym (line_text-right name encoded))
-    ∙ (ap (λ (x : List ℕ). text ++ newline ∷ ((mark ++ space ∷ (x ++ space ∷ encoded)) ++ newline ∷ [])) named
-    ∙ ap (λ (x : List ℕ). text ++ newline ∷ ((mark ++ space ∷ (k.name ++ space ∷ x)) ++ newline ∷ [])) of))
+    ∙ (ap (λ (x : List ℕ). text ++ newline ∷ ((em_dash ++ space ∷ (x ++ space ∷ encoded)) ++ newline ∷ [])) named
+    ∙ ap (λ (x : List ℕ). text ++ newline ∷ ((em_dash ++ space ∷ (k.name ++ space ∷ x)) ++ newline ∷ [])) of))

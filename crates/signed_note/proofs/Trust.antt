@@ -8,14 +8,14 @@ use Rattle.std.proofs.lemmas.List.Folds.{Any-from_list_any, list_any-from_Any}
 use Rattle.std.proofs.lemmas.Slice.Eq.{bytes_eq-Decides}
 use Rattle.std.proofs.lemmas.Bool.Decides.{Decides-eqb}
 use Rattle.signed_note.specs.Keys.{Key}
-use Rattle.signed_note.specs.Notes.{Line, IsAcceptedBy, is_accepted_by, Opens}
+use Rattle.signed_note.specs.Notes.{SignatureParts, IsAcceptedBy, is_accepted_by, Opens}
 
 pub list_any-map : {X Y : Type 0} (f : X → Y) (p : Y → Bool) (xs : List X) →
     list_any p (map f xs) ≡ list_any (λ x. p (f x)) xs
 list_any-map f p [] = refl
 list_any-map f p (x ∷ xs) = ap (λ b. p (f x) || b) (list_any-map f p xs)
 
-pub accepted : (text : List ℕ) (line : Line) (key : Key) → is_accepted_by text line key ≡ true →
+pub accepted : (text : List ℕ) (line : SignatureParts) (key : Key) → is_accepted_by text line key ≡ true →
     IsAcceptedBy text line key
 accepted text line key h =
     let one = and_parts (bytes_eq key.name line.name) (nat_eq key.id line.id && key.accepts text line.signature) h in
@@ -27,7 +27,7 @@ accepted text line key h =
       signature = two.1;
     }
 
-pub accepts : (text : List ℕ) (line : Line) (key : Key) → IsAcceptedBy text line key →
+pub accepts : (text : List ℕ) (line : SignatureParts) (key : Key) → IsAcceptedBy text line key →
     is_accepted_by text line key ≡ true
 accepts text line key h =
     let name = (bytes_eq-Decides key.name line.name).1 h.name in
@@ -41,12 +41,12 @@ list_any_same p q (x ∷ xs) h = ap (λ b. b || list_any p xs) (h x) ∙ ap (λ 
 pub Any-weaker : {X : Type 0} (P Q : X → Type 0) (xs : List X) → ((x : X) → P x → Q x) → Any P xs → Any Q xs
 Any-weaker P Q xs f h = (h.0, h.1, h.2, h.3, f h.1 h.4)
 
-pub opens_is : {X : Type 0} (key_of : X → Key) (text : List ℕ) (lines : List Line) (keys : List X) (r : Bool) →
+pub opens_is : {X : Type 0} (key_of : X → Key) (text : List ℕ) (lines : List SignatureParts) (keys : List X) (r : Bool) →
     r ≡ list_any (λ line. list_any (λ k. is_accepted_by text line (key_of k)) keys) lines
     → (r ≡ true → Opens text lines (map key_of keys)) × (Opens text lines (map key_of keys) → r ≡ true)
 unfolding Opens
 opens_is key_of text lines keys r e =
-    let inner = λ (line : Line). list_any (is_accepted_by text line) (map key_of keys) in
+    let inner = λ (line : SignatureParts). list_any (is_accepted_by text line) (map key_of keys) in
     let seen : list_any inner lines ≡ r =
     list_any_same inner (λ line. list_any (λ k. is_accepted_by text line (key_of k)) keys) lines
     (λ line. list_any-map key_of (is_accepted_by text line) keys) ∙ sym e in (

@@ -12,8 +12,8 @@ use Rattle.signed_note.specs.Hmac.{hmac}
 use Rattle.signed_note.specs.Keys.{Key, Secret}
 use Rattle.signed_note.specs.declared.limits.TheConstants.{MAX_LINES, MAX_NOTE_LEN, MAX_TEXT_LEN}
 
--- a signature line, read
-pub record Line : Type 0 where
+-- a signature line, read: its key's name, its key id, and its signature
+pub record SignatureParts : Type 0 where
   pub name : List ℕ
   pub id : ℕ
   pub signature : List ℕ
@@ -22,26 +22,26 @@ pub record Line : Type 0 where
 pub record NoteParts : Type 0 where
   pub bytes : List ℕ
   pub text : List ℕ
-  pub lines : List Line
+  pub lines : List SignatureParts
 
 -- the em dash (U+2014) that begins a signature line
-abbrev pub mark : List ℕ
-mark = 226 ∷ 128 ∷ 148 ∷ []
+abbrev pub em_dash : List ℕ
+em_dash = 226 ∷ 128 ∷ 148 ∷ []
 
 -- what is signed with: the key id of four bytes, the highest first, and the signature
-abbrev pub signed_bytes : Line → List ℕ
+abbrev pub signed_bytes : SignatureParts → List ℕ
 signed_bytes line = big_bytes 4 line.id ++ line.signature
 
--- a signature line's text: the mark, the key's name and the base64, with a space between each
-abbrev pub line_body : Line → List ℕ
-line_body line = mark ++ space ∷ (line.name ++ space ∷ (base64_of (signed_bytes line)))
+-- a signature line's text: the em dash, the key's name and the base64, with a space between each
+abbrev pub line_body : SignatureParts → List ℕ
+line_body line = em_dash ++ space ∷ (line.name ++ space ∷ (base64_of (signed_bytes line)))
 
 -- a signature line as it stands in a note, with the newline that ends it
-abbrev pub line_text : Line → List ℕ
+abbrev pub line_text : SignatureParts → List ℕ
 line_text line = line_body line ++ newline ∷ []
 
 -- a line has a key's name, an id of 32 bits and a signature that is not empty
-pub record IsSignatureLine (line : Line) : Type 0 where
+pub record IsSignatureLine (line : SignatureParts) : Type 0 where
   pub name : IsKeyName line.name
   pub id : line.id < 2 ^ 32
   pub some : 0 < length line.signature
@@ -61,7 +61,7 @@ pub record IsBlank (bytes : List ℕ) (at : ℕ) : Type 0 where
   pub second : slice_index bytes (at + 1) ≡ newline
 
 -- the bytes are a note of that text and those signature lines
-pub record IsNote (bytes text : List ℕ) (lines : List Line) : Type 0 where
+pub record IsNote (bytes text : List ℕ) (lines : List SignatureParts) : Type 0 where
   pub short : length bytes ≤ MAX_NOTE_LEN
   pub readable : IsNoteText bytes
   pub split : IsNoteSplit bytes text (flat_map line_text lines)
@@ -70,18 +70,18 @@ pub record IsNote (bytes text : List ℕ) (lines : List Line) : Type 0 where
   pub few : length lines ≤ MAX_LINES
 
 -- the key accepts the line's signature over the text
-pub record IsAcceptedBy (text : List ℕ) (line : Line) (key : Key) : Type 0 where
+pub record IsAcceptedBy (text : List ℕ) (line : SignatureParts) (key : Key) : Type 0 where
   pub name : key.name ≡ line.name
   pub id : key.id ≡ line.id
   pub signature : IsTrue (key.accepts text line.signature)
 
 -- a note opens under the keys: some line of it is accepted by some key; lines of other keys, and
 -- lines that their key does not accept, count for nothing
-unfoldable pub Opens : List ℕ → List Line → List Key → Type 0
+unfoldable pub Opens : List ℕ → List SignatureParts → List Key → Type 0
 Opens text lines keys = Any (λ line. Any (λ key. IsAcceptedBy text line key) keys) lines
 
 -- whether the key accepts the line's signature over the text, as a test
-abbrev pub is_accepted_by : List ℕ → Line → Key → Bool
+abbrev pub is_accepted_by : List ℕ → SignatureParts → Key → Bool
 is_accepted_by text line key =
     bytes_eq key.name line.name && (key.id == line.id && key.accepts text line.signature)
 
@@ -92,5 +92,5 @@ pub record IsLawfulText (text : List ℕ) : Type 0 where
   pub short : length text ≤ MAX_TEXT_LEN
 
 -- the line that a shared key signs a text with: its name, its id and its mac of the text
-abbrev pub signed_line : List ℕ → Secret → Line
+abbrev pub signed_line : List ℕ → Secret → SignatureParts
 signed_line text k = record { name = k.name; id = k.id; signature = hmac k.secret text }

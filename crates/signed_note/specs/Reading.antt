@@ -8,7 +8,8 @@ use Rattle.base64.specs.GeneralPurpose.{IsBytes}
 use Rattle.tlog_text.specs.Hash.{base64_of}
 use Rattle.signed_note.specs.Names.{newline, IsNoteText, IsOwnName, IsSecret}
 use Rattle.signed_note.specs.Keys.{Secret, Pins}
-use Rattle.signed_note.specs.Notes.{Line, NoteParts, line_text, line_body, IsSignatureLine}
+use Rattle.signed_note.specs.Notes.{SignatureParts, NoteParts, line_text, line_body}
+use Rattle.signed_note.specs.Notes.{IsSignatureLine}
 use Rattle.signed_note.specs.Notes.{IsNoteSplit, IsNote}
 use Rattle.signed_note.specs.declared.limits.TheConstants.{MAX_LINES, MAX_NOTE_LEN}
 use Rattle.signed_note.specs.declared.fault.NoteFault.{NoteFault}
@@ -24,7 +25,7 @@ line_count signed =
     else if slice_index signed (length signed - 1) == newline then 0 else 1)
 
 -- the part is signature lines, each well formed and ended
-pub record AreSignatureLines (signed : List ℕ) (lines : List Line) : Type 0 where
+pub record AreSignatureLines (signed : List ℕ) (lines : List SignatureParts) : Type 0 where
   pub whole : signed ≡ flat_map line_text lines
   pub well_formed : All IsSignatureLine lines
 
@@ -41,10 +42,10 @@ ReadsBase64 text (Err note.TooManySignatures) = ⊥
 
 -- what each answer of a reader of one signature line says: the text, without its newline, is that
 -- line, or none
-abbrev pub ReadsLine : List ℕ → Result Line NoteFault → Type 0
+abbrev pub ReadsLine : List ℕ → Result SignatureParts NoteFault → Type 0
 ReadsLine text (Ok line) = IsSignatureLine line × (text ≡ line_body line)
 ReadsLine text (Err note.BadSignatureLine) =
-    (line : Line) → IsSignatureLine line → text ≢ line_body line
+    (line : SignatureParts) → IsSignatureLine line → text ≢ line_body line
 ReadsLine text (Err note.OutOfMemory) = Unit {0}
 ReadsLine text (Err note.NoteTooLong) = ⊥
 ReadsLine text (Err note.NotText) = ⊥
@@ -52,10 +53,10 @@ ReadsLine text (Err note.NoSignatures) = ⊥
 ReadsLine text (Err note.TooManySignatures) = ⊥
 
 -- what each answer of a reader of signature parts says: the part is these lines, or none
-abbrev pub ReadsSignatureLines : List ℕ → Result (List Line) NoteFault → Type 0
+abbrev pub ReadsSignatureLines : List ℕ → Result (List SignatureParts) NoteFault → Type 0
 ReadsSignatureLines signed (Ok lines) = AreSignatureLines signed lines
 ReadsSignatureLines signed (Err note.BadSignatureLine) =
-    (lines : List Line) → AreSignatureLines signed lines → ⊥
+    (lines : List SignatureParts) → AreSignatureLines signed lines → ⊥
 ReadsSignatureLines signed (Err note.OutOfMemory) = Unit {0}
 ReadsSignatureLines signed (Err note.NoteTooLong) = ⊥
 ReadsSignatureLines signed (Err note.NotText) = ⊥
@@ -87,7 +88,8 @@ ReadsNote bytes (Err note.TooManySignatures) =
     × (MAX_LINES < line_count signed)
 ReadsNote bytes (Err note.BadSignatureLine) =
     (text : List ℕ) × (signed : List ℕ) × HasPart bytes text signed
-    × (line_count signed ≤ MAX_LINES) × ((lines : List Line) → AreSignatureLines signed lines → ⊥)
+    × (line_count signed ≤ MAX_LINES)
+    × ((lines : List SignatureParts) → AreSignatureLines signed lines → ⊥)
 ReadsNote bytes (Err note.OutOfMemory) = Unit {0}
 
 -- what each answer of a constructor of a shared key says of what it is given

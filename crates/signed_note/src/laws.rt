@@ -1,11 +1,11 @@
 //! What the grammars say, as laws of the definitions that the contracts cite.
 //!
 //! A law is the contract of a function with an empty body: the proof is all that there is of it.
-ghost use Rattle.signed_note.specs.Laws.{NotesAreRead, OneNoteAnswer, OneKeyAnswer};
+ghost use Rattle.signed_note.specs.Laws.{NoteHasOneReading, OneNoteAnswer, OneKeyAnswer};
 
 /// Bytes are a note of one text and one list of signature lines at most.
 pub fn notes_law()
-    ensures { NotesAreRead }
+    ensures { NoteHasOneReading }
 {}
 
 /// Bytes have one answer of `Note::read`, but for want of memory. So it is `Ok` exactly where the bytes

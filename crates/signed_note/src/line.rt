@@ -3,7 +3,7 @@
 ghost use Rattle.std.specs.Prelude.{◌≡◌, ◌≢◌, ℕ, ◌<◌, List, ◌∷◌, ◌++◌, length, IfSome, IfNone, IfOk, OnErr, slice_index};
 ghost use Rattle.tlog_text.specs.Answers.{seen};
 ghost use Rattle.signed_note.specs.Names.{space};
-ghost use Rattle.signed_note.specs.Notes.{mark};
+ghost use Rattle.signed_note.specs.Notes.{em_dash};
 ghost use Rattle.signed_note.specs.Reading.{ReadsBase64, ReadsLine};
 
 use crate::fault::NoteFault;
@@ -25,9 +25,9 @@ pub struct SignatureLine {
 
 impl Model for SignatureLine {
     ghost use Rattle.std.specs.Prelude.{string_bytes};
-    ghost use Rattle.signed_note.specs.Notes.{Line};
+    ghost use Rattle.signed_note.specs.Notes.{SignatureParts};
 
-    ghost Value = { Line };
+    ghost Value = { SignatureParts };
 
     ghost view = { λ l. record { name = string_bytes l.name; id = l.id; signature = l.signature.items } };
 }
@@ -66,11 +66,11 @@ impl SignatureLine {
     }
 }
 
-/// The name and the base64 of a line: what stands round the first space after the mark.
+/// The name and the base64 of a line: what stands round the first space after the em dash.
 fn words_of(line: &str) -> Option<(&str, &str)>
-    ensures found { IfSome result (λ x. line.now ≡ mark ++ space ∷ (x.0.now ++ space ∷ x.1.now)) }
+    ensures found { IfSome result (λ x. line.now ≡ em_dash ++ space ∷ (x.0.now ++ space ∷ x.1.now)) }
     ensures first { IfSome result (λ x. (i : ℕ) → i < length x.0.now → slice_index x.0.now i ≢ space) }
-    ensures none { IfNone result ((name rest : List ℕ) → line.now ≢ mark ++ space ∷ (name ++ space ∷ rest)) }
+    ensures none { IfNone result ((name rest : List ℕ) → line.now ≢ em_dash ++ space ∷ (name ++ space ∷ rest)) }
 {
     line.strip_prefix("\u{2014} ")?.split_once(' ')
 }
@@ -90,7 +90,7 @@ fn decoded_of(alloc: Global, text: &str) -> Result<Vec<u8>, NoteFault>
 ///
 /// # Errors
 ///
-/// `BadSignatureLine` where it is not the mark, a key's name and base64 of at least five bytes, with a
+/// `BadSignatureLine` where it is not an em dash, a key's name and base64 of at least five bytes, with a
 /// space between each; `OutOfMemory`.
 pub fn read_line(alloc: Global, line: &str) -> Result<SignatureLine, NoteFault>
     ensures { ReadsLine line.now result }

@@ -5,7 +5,7 @@ ghost use Rattle.tlog_text.specs.Hash.{base64_of};
 ghost use Rattle.byteorder.specs.Endian.{big_bytes};
 ghost use Rattle.signed_note.specs.Keys.{secret_key};
 ghost use Rattle.signed_note.specs.Names.{newline, space};
-ghost use Rattle.signed_note.specs.Notes.{mark, IsLawfulText, IsNote, Opens, line_text, signed_line};
+ghost use Rattle.signed_note.specs.Notes.{em_dash, IsLawfulText, IsNote, Opens, line_text, signed_line};
 
 use crate::mac_key::HmacKey;
 use crate::verifier::Verifier;
@@ -33,7 +33,7 @@ fn encoded_of(alloc: Global, bytes: &[u8]) -> Result<String, AllocError>
 
 /// A text, a blank line, and the line of a name and a base64.
 fn note_of(alloc: Global, text: &str, name: &str, encoded: &str) -> Result<String, AllocError>
-    ensures { IfOk result (λ t. string_bytes t ≡ text.now ++ (newline ∷ (mark ++ (space ∷ (name.now ++ (space ∷ (encoded.now ++ newline ∷ []))))))) }
+    ensures { IfOk result (λ t. string_bytes t ≡ text.now ++ (newline ∷ (em_dash ++ (space ∷ (name.now ++ (space ∷ (encoded.now ++ newline ∷ []))))))) }
 {
     format!(in alloc; "{text}\n\u{2014} {name} {encoded}\n")
 }

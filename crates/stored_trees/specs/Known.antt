@@ -14,7 +14,7 @@ pub record AreBuilt (digest : List ℕ → List ℕ) (held : Strings) (points : 
   pub built : (size : ℕ) (root : List ℕ) → HasPoint points size root → IsBuilt digest held size root
 
 -- what a sound mirror remembers is held whole
-abbrev pub SoundIsBuilt : Type 0
-SoundIsBuilt =
+abbrev pub RememberedIsHeld : Type 0
+RememberedIsHeld =
     (digest : List ℕ → List ℕ) (state : State) → IsSound digest state →
     AreBuilt digest state.view.strings state.remembered

@@ -1,13 +1,13 @@
 //! Laws of what is remembered, and of prefixes.
 //!
 //! A law is the contract of a function with an empty body: the proof is all that there is of it.
-ghost use Rattle.stored_trees.specs.Known.{SoundIsBuilt};
+ghost use Rattle.stored_trees.specs.Known.{RememberedIsHeld};
 ghost use Rattle.stored_trees.specs.Prefixes.{ForksGoOn, PrefixOfPrefix};
 ghost use Rattle.stored_trees.specs.Slices.{MarksAreSlices, SettledStays};
 
 /// What a sound mirror remembers is held whole.
 pub fn known_law()
-    ensures { SoundIsBuilt }
+    ensures { RememberedIsHeld }
 {}
 
 /// What is no longer than a prefix of a list begins the list exactly where it begins that prefix.

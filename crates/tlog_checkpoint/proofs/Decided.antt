@@ -11,7 +11,7 @@ use Rattle.tlog_checkpoint.specs.declared.fault.CheckpointFault.TheVariants.{Siz
 use Rattle.tlog_checkpoint.specs.Lines.{HasLines}
 use Rattle.tlog_checkpoint.specs.Parts.{ReadsFields}
 use Rattle.tlog_checkpoint.specs.Reading.{ReadsCheckpoint}
-use Rattle.tlog_checkpoint.specs.Laws.{EachAnswered}
+use Rattle.tlog_checkpoint.specs.Laws.{EachTextHasAnswer}
 use Rattle.tlog_checkpoint.proofs.LineLemmas.{lines_of_body, no_lines}
 use Rattle.tlog_text.proofs.Decided.{number_decided, hash_decided}
 use Rattle.tlog_shape.specs.declared.TheConstants.{MAX_SIZE}
@@ -93,7 +93,7 @@ lines_answered text lines h = elim (cases_lt (length lines) 3) [
       ]
 ]
 
-pub each_answered : EachAnswered
+pub each_answered : EachTextHasAnswer
 unfolding Answered EndsInNewline
 each_answered text = elim (end_decided text) [
   | inl end ↦ lines_answered text _ (lines_of_body text end.0 end.1)

@@ -6,7 +6,7 @@ use Rattle.tlog_checkpoint.specs.Lines.{HasLines, text_of, IsLine}
 use Rattle.tlog_text.specs.Number.{IsDecimal}
 use Rattle.tlog_text.specs.Hash.{IsHashText}
 use Rattle.tlog_checkpoint.specs.Grammar.{HasFields, IsFullLine}
-use Rattle.tlog_checkpoint.specs.Laws.{OneReading, OneText, ReadsWritable}
+use Rattle.tlog_checkpoint.specs.Laws.{TextIsOneCheckpoint, CheckpointHasOneText, WhatIsReadIsWritable}
 use Rattle.tlog_checkpoint.proofs.LineLemmas.{one_lines}
 use Rattle.tlog_text.proofs.Decimals.{one_number, decimal_is}
 use Rattle.tlog_text.proofs.Hashes.{one_hash}
@@ -40,7 +40,7 @@ same_checkpoint : (a b : Checkpoint) → a.origin ≡ b.origin → a.size ≡ b.
     a.extensions ≡ b.extensions → a ≡ b
 same_checkpoint a b o s r e i = record { origin = o i; size = s i; root = r i; extensions = e i }
 
-pub one_reading : OneReading
+pub one_reading : TextIsOneCheckpoint
 one_reading text a b p q =
     let same =
     one_fields text a.origin p.size_line p.root_line a.extensions b.origin q.size_line q.root_line b.extensions p.fields q.fields in
@@ -51,7 +51,7 @@ one_reading text a b p q =
     (one_hash q.root_line a.root b.root (subst root same.root p.has_root) q.has_root)
     same.extensions
 
-pub one_text : OneText
+pub one_text : CheckpointHasOneText
 one_text s t origin size root extensions p q =
     let small : size < 2 ^ 64 = omega (arith, p.in_range) in
     let size_lines : p.size_line ≡ q.size_line =
@@ -61,6 +61,6 @@ one_text s t origin size root extensions p q =
     ≡ text_of (origin ∷ q.size_line ∷ q.root_line ∷ extensions) = rw (size_lines, root_lines) refl in
     p.fields.is_text ∙ lines ∙ sym q.fields.is_text
 
-pub reads_writable : ReadsWritable
+pub reads_writable : WhatIsReadIsWritable
 reads_writable text c p =
     record { origin = p.fields.are_full.0; size = p.in_range; extensions = p.fields.are_full.1.1.1 }

@@ -5,7 +5,7 @@ use Rattle.tlog_checkpoint.specs.declared.Checkpoint.{Checkpoint}
 use Rattle.tlog_checkpoint.specs.Lines.{ended, text_of, IsLine}
 use Rattle.tlog_text.specs.Number.{IsDecimal}
 use Rattle.tlog_text.specs.Hash.{base64_of, IsHashText}
-use Rattle.tlog_checkpoint.specs.Laws.{EachWritten}
+use Rattle.tlog_checkpoint.specs.Laws.{EachWritableHasText}
 use Rattle.tlog_text.proofs.Decimals.{decimal_written}
 use Rattle.tlog_text.proofs.Newlines.{digits_lack_newline, base64_lacks_newline}
 use Rattle.tlog_text.proofs.Hashes.{length-hash}
@@ -50,7 +50,7 @@ written text size root c can has_size has_root is = record {
   has_root = has_root;
 }
 
-pub each_written : EachWritten
+pub each_written : EachWritableHasText
 each_written c can hash = (
   text_of (c.origin ∷ decimal c.size ∷ base64_of c.root ∷ c.extensions),
   written _ (decimal c.size) (base64_of c.root) c can (decimal_written c.size (omega (arith, can.size)))

@@ -9,20 +9,20 @@ use Rattle.tlog_checkpoint.specs.Grammar.{IsCheckpoint, IsWritableCheckpoint}
 use Rattle.tlog_checkpoint.specs.Reading.{ReadsCheckpoint}
 
 -- a text is one checkpoint at most
-abbrev pub OneReading : Type 0
-OneReading =
+abbrev pub TextIsOneCheckpoint : Type 0
+TextIsOneCheckpoint =
     (text : List ℕ) (a b : Checkpoint) → IsCheckpoint text a.origin a.size a.root a.extensions →
     IsCheckpoint text b.origin b.size b.root b.extensions → a ≡ b
 
 -- a checkpoint has one text at most
-abbrev pub OneText : Type 0
-OneText =
+abbrev pub CheckpointHasOneText : Type 0
+CheckpointHasOneText =
     (s t origin : List ℕ) (size : ℕ) (root : List ℕ) (extensions : List (List ℕ)) →
     IsCheckpoint s origin size root extensions → IsCheckpoint t origin size root extensions → s ≡ t
 
 -- what a text is can be written
-abbrev pub ReadsWritable : Type 0
-ReadsWritable =
+abbrev pub WhatIsReadIsWritable : Type 0
+WhatIsReadIsWritable =
     (text : List ℕ) (c : Checkpoint) → IsCheckpoint text c.origin c.size c.root c.extensions →
     IsWritableCheckpoint c
 
@@ -31,13 +31,13 @@ abbrev pub OneCheckpointAnswer : Type 0
 OneCheckpointAnswer = HasOneAnswer OutOfMemory ReadsCheckpoint
 
 -- each text has an answer that is no want of memory
-abbrev pub EachAnswered : Type 0
-EachAnswered =
+abbrev pub EachTextHasAnswer : Type 0
+EachTextHasAnswer =
     (text : List ℕ) →
     (a : Result Checkpoint CheckpointFault) × (a ≢ Err OutOfMemory) × ReadsCheckpoint text a
 
 -- what can be written, with a hash of 32 bytes, has a text
-abbrev pub EachWritten : Type 0
-EachWritten =
+abbrev pub EachWritableHasText : Type 0
+EachWritableHasText =
     (c : Checkpoint) → IsWritableCheckpoint c → Is32Bytes c.root →
     (text : List ℕ) × IsCheckpoint text c.origin c.size c.root c.extensions

@@ -1,21 +1,21 @@
 //! What the grammar of checkpoints says, as laws of the definitions that the contracts cite.
 //!
 //! A law is the contract of a function with an empty body: the proof is all that there is of it.
-ghost use Rattle.tlog_checkpoint.specs.Laws.{OneReading, OneText, ReadsWritable, OneCheckpointAnswer, EachAnswered, EachWritten};
+ghost use Rattle.tlog_checkpoint.specs.Laws.{TextIsOneCheckpoint, CheckpointHasOneText, WhatIsReadIsWritable, OneCheckpointAnswer, EachTextHasAnswer, EachWritableHasText};
 
 /// A text is one checkpoint at most, so a text that `write` wrote is read as what was written.
 pub fn one_reading_law()
-    ensures { OneReading }
+    ensures { TextIsOneCheckpoint }
 {}
 
 /// A checkpoint has one text at most, so what was read is written back byte by byte.
 pub fn one_text_law()
-    ensures { OneText }
+    ensures { CheckpointHasOneText }
 {}
 
 /// What a text is read as can be written.
 pub fn writable_law()
-    ensures { ReadsWritable }
+    ensures { WhatIsReadIsWritable }
 {}
 
 /// Two answers to one text are the same, unless memory was wanting: a checkpoint's text is never
@@ -27,10 +27,10 @@ pub fn one_answer_law()
 /// Each text has an answer that is no want of memory: it is a checkpoint, or one of the refusals
 /// applies.
 pub fn each_answered_law()
-    ensures { EachAnswered }
+    ensures { EachTextHasAnswer }
 {}
 
 /// What can be written has a text.
 pub fn written_law()
-    ensures { EachWritten }
+    ensures { EachWritableHasText }
 {}

@@ -4,7 +4,7 @@ use Rattle.std.specs.List.{Contains}
 use Rattle.tlog_shape.specs.Split.{split_of}
 use Rattle.tlog_shape.proofs.Splits.{split_of-below, split_of-positive}
 use Rattle.tlog_hash.specs.Tree.{fold_of, mth, strings}
-use Rattle.tlog_hash.specs.Laws.{IsTreeHash, IsFold, MthIsTreeHash, FoldIsFold, TreeStrings, TreeOfBlocks}
+use Rattle.tlog_hash.specs.Laws.{IsTreeHash, IsFold, MthIsTreeHash, FoldMeetsEquations, StringsFollowSplit, TreeGoesByBlocks}
 use Rattle.tlog_hash.specs.Laws.{NodesAreStrings}
 use Rattle.tlog_hash.proofs.Trees.{induction, mth-none, mth-one, mth-join, fold_of-one, fold_of-join, strings-none}
 use Rattle.tlog_hash.proofs.Trees.{strings-one}
@@ -37,13 +37,13 @@ pub mth_is_tree_hash : MthIsTreeHash
 mth_is_tree_hash digest =
     (record { none = mth-none digest; one = mth-one digest; join = mth-join digest }, only_mth digest)
 
-pub fold_is_fold : FoldIsFold
+pub fold_is_fold : FoldMeetsEquations
 fold_is_fold digest = (record { one = fold_of-one digest; join = fold_of-join digest }, only_fold digest)
 
-pub tree_strings : TreeStrings
+pub tree_strings : StringsFollowSplit
 tree_strings digest = record { none = strings-none digest; one = strings-one digest; join = strings_join digest }
 
-pub tree_of_blocks : TreeOfBlocks
+pub tree_of_blocks : TreeGoesByBlocks
 tree_of_blocks exponent blocks cut = tree_of-blocks exponent blocks cut
 
 pub nodes_are_strings : NodesAreStrings

@@ -30,8 +30,8 @@ MthIsTreeHash =
     hash entries ≡ mth digest entries)
 
 -- fold_of meets the equations for rows, and at rows that are not empty no other function does
-abbrev pub FoldIsFold : Type 0
-FoldIsFold =
+abbrev pub FoldMeetsEquations : Type 0
+FoldMeetsEquations =
     (digest : List ℕ → List ℕ) →
     IsFold digest (fold_of digest)
     × ((hash : List (List ℕ) → List ℕ) → IsFold digest hash → (row : List (List ℕ)) →
@@ -51,13 +51,13 @@ pub record IsTreeStrings (digest : List ℕ → List ℕ) : Type 0 where
       ⊎ (Contains (strings digest right) y ⊎ (y ≡ 1 ∷ mth digest left ++ mth digest right)))
 
 -- the strings of the tree of a list follow its split, whatever the digest
-abbrev pub TreeStrings : Type 0
-TreeStrings = (digest : List ℕ → List ℕ) → IsTreeStrings digest
+abbrev pub StringsFollowSplit : Type 0
+StringsFollowSplit = (digest : List ℕ → List ℕ) → IsTreeStrings digest
 
 -- the tree of a list is that of its blocks of a power of two of items, with each block's tree in
 -- its place
-abbrev pub TreeOfBlocks : Type 0
-TreeOfBlocks =
+abbrev pub TreeGoesByBlocks : Type 0
+TreeGoesByBlocks =
     (exponent : ℕ) (blocks : List (List (List ℕ))) → IsCut (2 ^ exponent) blocks →
     tree_of (joined_up blocks) ≡ graft tree_of (tree_of blocks)
 

@@ -9,5 +9,5 @@ pub record IsSplit (n k : ℕ) : Type 0 where
   pub largest : (other : ℕ) → IsPowerOfTwo other → other < n → other ≤ k
 
 -- the split of two or more is the one that the standard names
-abbrev pub SplitIsSplit : Type 0
-SplitIsSplit = (n : ℕ) → 2 ≤ n → IsSplit n (split_of n)
+abbrev pub SplitIsLargestPower : Type 0
+SplitIsLargestPower = (n : ℕ) → 2 ≤ n → IsSplit n (split_of n)

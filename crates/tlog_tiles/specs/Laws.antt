@@ -42,13 +42,13 @@ abbrev pub EdgeIsPartialTiles : Type 0
 EdgeIsPartialTiles = (n : ℕ) (path : Path) → Contains (edge_of n) path ↔ IsEdgeTile n path
 
 -- the levels of the edge rise
-abbrev pub EdgeRises : Type 0
-EdgeRises = (n : ℕ) → AllPairs (λ lower higher. level_of lower < level_of higher) (edge_of n)
+abbrev pub EdgeLevelsRise : Type 0
+EdgeLevelsRise = (n : ℕ) → AllPairs (λ lower higher. level_of lower < level_of higher) (edge_of n)
 
 -- the hashes of a level, from the one with the number first on, fold to the tree hash of their
 -- entries
-abbrev pub FullLevelsFold : Type 0
-FullLevelsFold =
+abbrev pub LevelsFoldToTreeHash : Type 0
+LevelsFoldToTreeHash =
     (digest : List ℕ → List ℕ) (entries : List (List ℕ)) (level first width : ℕ) →
     1 ≤ width →
     (first + width) * 256 ^ level ≤ length entries →
@@ -67,7 +67,7 @@ pub record IsRead (digest : List ℕ → List ℕ) (entries : List (List ℕ)) :
 
 -- what a log serves of its entries is read: the bytes of a tile are a row, and those of a bundle a
 -- bundle, under a digest of 32 bytes and for entries of at most 65,535 bytes
-abbrev pub ServedIsRead : Type 0
-ServedIsRead =
+abbrev pub TrueBytesAreRead : Type 0
+TrueBytesAreRead =
     (digest : List ℕ → List ℕ) → ((s : List ℕ) → length (digest s) ≡ 32) →
     (entries : List (List ℕ)) → All (λ entry. length entry < 2 ^ 16) entries → IsRead digest entries

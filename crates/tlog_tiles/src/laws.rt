@@ -2,7 +2,7 @@
 //! contracts cite.
 //!
 //! A law is the contract of a function with an empty body: the proof is all that there is of it.
-ghost use Rattle.tlog_tiles.specs.Laws.{BundlesAreShort, EdgeIsPartialTiles, EdgeRises, FullLevelsFold, OneBundleAnswer, OnePathAnswer, OneRowAnswer, PathsAreSpelled, ServedIsRead};
+ghost use Rattle.tlog_tiles.specs.Laws.{BundlesAreShort, EdgeIsPartialTiles, EdgeLevelsRise, LevelsFoldToTreeHash, OneBundleAnswer, OnePathAnswer, OneRowAnswer, PathsAreSpelled, TrueBytesAreRead};
 
 /// Bytes have one answer as a bundle of a width, want of memory apart: the entries are known from
 /// them, and the three outcomes exclude one another.
@@ -39,15 +39,15 @@ pub fn edge_law()
 
 /// The edge of a tree goes up its levels, and names a level once.
 pub fn edge_order_law()
-    ensures { EdgeRises }
+    ensures { EdgeLevelsRise }
 {}
 
 /// A true row folds to the tree hash of the entries below it.
 pub fn row_fold_law()
-    ensures { FullLevelsFold }
+    ensures { LevelsFoldToTreeHash }
 {}
 
 /// The bytes that are served of a list of entries are read as what they were made from.
 pub fn served_law()
-    ensures { ServedIsRead }
+    ensures { TrueBytesAreRead }
 {}

@@ -1,5 +1,5 @@
 //! Laws of the edge of a tree (C2SP tlog-tiles).
-ghost use Rattle.mirror_model.specs.TreeLaws.{EdgeRootIsRoot, EdgeRowsAreWide, EdgeStringsWithin};
+ghost use Rattle.mirror_model.specs.TreeLaws.{EdgeRootIsRoot, EdgeRowsAreWide, EdgeStringsAreOfTree};
 ghost use Rattle.mirror_model.specs.EdgeLaws.{EdgeIsOne, LawfulEdgeIsTrue};
 
 /// The true edge rows of a list of entries have the widths of the edge of its length.
@@ -15,7 +15,7 @@ pub fn edge_root_law()
 
 /// All that is hashed on that way is hashed by the tree hash of the entries too.
 pub fn edge_strings_law()
-    ensures { EdgeStringsWithin }
+    ensures { EdgeStringsAreOfTree }
 {}
 
 /// Rows that lead to one root at one size, and whose strings are held, are one, while what is held does not

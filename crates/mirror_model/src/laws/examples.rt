@@ -1,25 +1,25 @@
 //! Small cases of the definitions, worked out.
-ghost use Rattle.mirror_model.specs.Examples.{HasEdges, HasParts, HasRoots, HasTileOutside, IsForked, IsFrontOfThree, IsThree, IsWay};
+ghost use Rattle.mirror_model.specs.Examples.{EdgesOfSizes, PartsOfThree, RootsOfRows, HasTileOutside, HashesDoNotTellForks, IsFrontOfThree, TreeOfThree, MergesLeadInOrder};
 ghost use Rattle.mirror_model.specs.ViewExamples.{EmptyCountsForNothing, OneEntryIsServed};
 
 /// The tree of three entries, the edges of some sizes, and the roots of some edges, under a digest that
 /// is a sum.
 pub fn trees_example()
-    ensures three { IsThree }
-    ensures edges { HasEdges }
-    ensures roots { HasRoots }
-    ensures parts { HasParts }
+    ensures three { TreeOfThree }
+    ensures edges { EdgesOfSizes }
+    ensures roots { RootsOfRows }
+    ensures parts { PartsOfThree }
 {}
 
 /// Two lists of entries of which neither is a prefix of the other, though the digest does not tell the
 /// first from the beginning of the second.
 pub fn fork_example()
-    ensures { IsForked }
+    ensures { HashesDoNotTellForks }
 {}
 
 /// An item goes over two merges in one order, and not in the other.
 pub fn way_example()
-    ensures { IsWay }
+    ensures { MergesLeadInOrder }
 {}
 
 /// Fronts where nothing is held: of three entries it is their bundle; of 300 it is a tile that their

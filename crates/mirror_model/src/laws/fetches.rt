@@ -1,13 +1,13 @@
 //! Laws of what is fetched of a log, of its files, and of what a view holds with it (C2SP tlog-tiles).
-ghost use Rattle.mirror_model.specs.FetchLaws.{AnsweredIsNotAgain, FullBundlesServe, FullTilesBegin, MissingIsFrontList, MissingIsWithin, PlusHolds};
+ghost use Rattle.mirror_model.specs.FetchLaws.{AnsweredIsNotAgain, FullBundleServesPartial, FullTileBeginsWithPartial, MissingIsFrontList, MissingIsWithin, PlusHoldsJustBoth};
 ghost use Rattle.mirror_model.specs.CompleteLaws.{MissingIsNone};
 
 /// A log may delete a partial file once the full one is there. The first hashes of a full tile are the
 /// partial tile of its place. What the last, partial bundle of the first entries gives is given by the
 /// full bundle of its place, or by the edge of the first entries.
 pub fn full_files_law()
-    ensures tile { FullTilesBegin }
-    ensures bundle { FullBundlesServe }
+    ensures tile { FullTileBeginsWithPartial }
+    ensures bundle { FullBundleServesPartial }
 {}
 
 /// While the strings of the edge are held, a path whose true bytes were taken is in no later front.
@@ -31,5 +31,5 @@ pub fn missing_list_law()
 
 /// A view with an item holds the strings and notes of the view and those of the item, and no others.
 pub fn plus_law()
-    ensures { PlusHolds }
+    ensures { PlusHoldsJustBoth }
 {}

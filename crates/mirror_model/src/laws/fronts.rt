@@ -1,5 +1,5 @@
 //! Laws of what is fetched next.
-ghost use Rattle.mirror_model.specs.TreeLaws.{BundlesComplete, FrontIsBelowTop, FrontIsEmpty, MissingIsFront, MissingIsOfSize, RoundGoesDown, RoundLeaves, RoundsComplete, WalkIsFront};
+ghost use Rattle.mirror_model.specs.TreeLaws.{BundleRoundCompletes, FrontIsBelowTop, FrontIsEmpty, MissingIsFront, MissingIsOfSize, RoundGoesDown, RoundLeavesSmallNodes, EnoughRoundsComplete, WalkIsFront};
 
 /// The front of at most `256^8` entries is empty exactly where all strings of their tree are held.
 pub fn front_law()
@@ -12,11 +12,11 @@ pub fn front_law()
 /// asks for bundles alone the whole tree is held. Of fewer, as many such rounds as the greatest level of the
 /// edge bring the whole tree, and one where that is 0.
 pub fn rounds_law()
-    ensures leaves { RoundLeaves }
+    ensures leaves { RoundLeavesSmallNodes }
     ensures down { RoundGoesDown }
-    ensures complete { BundlesComplete }
+    ensures complete { BundleRoundCompletes }
     ensures first { FrontIsBelowTop }
-    ensures number { RoundsComplete }
+    ensures number { EnoughRoundsComplete }
 {}
 
 /// Where a list of entries has the size and the root, and its tree does not clash with what is held, the walk

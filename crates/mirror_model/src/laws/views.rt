@@ -1,5 +1,5 @@
 //! Laws of views: what a mirror holds, and what follows from it.
-ghost use Rattle.mirror_model.specs.HeadLaws.{HeadIsOne};
+ghost use Rattle.mirror_model.specs.HeadLaws.{NoteIsOneHead};
 ghost use Rattle.mirror_model.specs.UnionLaws.{MutualSubviewsAreEqual, UnionAssociates, UnionClashes, UnionClashesEitherWay, UnionCommutes, UnionIsClean, UnionIsIdempotent};
 ghost use Rattle.mirror_model.specs.CompleteLaws.{CompleteKeepsItsList, CompleteStays, CompleteListHasRoot, CompleteListIsOne};
 ghost use Rattle.mirror_model.specs.ForkLaws.{ForksStay, ForkMeansNoPrefix, ForkIsUnordered};
@@ -70,5 +70,5 @@ pub fn marks_law()
 
 /// A note is a head of one origin, size and root.
 pub fn head_law()
-    ensures { HeadIsOne }
+    ensures { NoteIsOneHead }
 {}

@@ -1,7 +1,7 @@
 use Rattle.std.proofs.Common.{◌≡◌, ◌++◌, ◌∷◌, lit<, sym, ◌∙◌, ap}
 use Rattle.std.proofs.lemmas.Str.Pattern.{split_parts}
 use Rattle.signed_note.specs.Names.{space}
-use Rattle.signed_note.specs.Notes.{mark}
+use Rattle.signed_note.specs.Notes.{em_dash}
 use Rattle.signed_note.proofs.LineTexts.{option_weaker, no_words}
 use Rattle.signed_note.proofs.line.words_of.Goals as goal
 
@@ -13,8 +13,8 @@ returns-clause-first c =
 
 pub returns-clause-none : goal.returns-clause-none
 returns-clause-none c =
-    let after : c.args.line.now ≡ mark ++ space ∷ c.in_ok-strip_prefix.field-0.now =
-    let cases = c.in_ok-strip_prefix.ensures.cases in cases.1.1 ∙ ap (λ xs. mark ++ space ∷ xs) (sym cases.2) in
+    let after : c.args.line.now ≡ em_dash ++ space ∷ c.in_ok-strip_prefix.field-0.now =
+    let cases = c.in_ok-strip_prefix.ensures.cases in cases.1.1 ∙ ap (λ xs. em_dash ++ space ∷ xs) (sym cases.2) in
     option_weaker c.split_once.result
     (split_parts space c.in_ok-strip_prefix.field-0.now c.split_once.result c.split_once.ensures.cases (lit< tt))
     (λ h. no_words c.args.line.now c.in_ok-strip_prefix.field-0.now after h) (λ x h. tt)
