@@ -32,7 +32,7 @@ use Rattle.mirror_model.specs.declared.fault.TakeFault.{TakeFault}
 use Rattle.mirror_model.specs.declared.fault.TakeFault.TheVariants as taking
 use Rattle.tlog_mirror.specs.Restored.{IsOpenNote, KeepsHeld}
 use Rattle.tlog_mirror.specs.declared.fault.HeldFault.{HeldFault}
-use Rattle.tlog_mirror.specs.declared.fault.HeldFault.TheVariants.{BadHead, NoEdge}
+use Rattle.tlog_mirror.specs.declared.fault.HeldFault.TheVariants.{BadHead, UnheldEdge}
 use Rattle.tlog_mirror.proofs.RestoredMirrors.{not_open}
 use Rattle.mirror_files.specs.declared.fault.LoadFault.{LoadFault}
 use Rattle.mirror_files.specs.declared.fault.LoadFault.TheVariants.{StateMagic, StateShort, StateLong, StateDigest, OtherOrigin, StateOrder, StateString, StateHead, Collision, StateEdge, ReadFault, OutOfMemory}
@@ -302,9 +302,9 @@ module _ (digest : List ℕ → List ℕ) (old current new : View) (keys : List 
       let there : KeepsHeld digest current keys note (Err BadHead) new = subst (λ f. KeepsHeld digest current keys note (Err f) new) is h in
       there.0 (subst (λ (v : View). IsOpenNote v.origin keys note) (sym view_is) (All-contains (IsOpenNote old.origin keys) (bytes_of items) note opened (is_item (λ (x : List ℕ). x) items i d lt)))
 
-  pub edge_lacks : (fault : HeldFault) → KeepsHeld digest current keys note (Err fault) new → fault ≡ NoEdge → HasUnheld digest old (bytes_of items)
+  pub edge_lacks : (fault : HeldFault) → KeepsHeld digest current keys note (Err fault) new → fault ≡ UnheldEdge → HasUnheld digest old (bytes_of items)
   edge_lacks fault h is =
-      let there : KeepsHeld digest current keys note (Err NoEdge) new = subst (λ f. KeepsHeld digest current keys note (Err f) new) is h in
+      let there : KeepsHeld digest current keys note (Err UnheldEdge) new = subst (λ f. KeepsHeld digest current keys note (Err f) new) is h in
       record {
         note = note;
         is_listed = is_item (λ (x : List ℕ). x) items i d lt;

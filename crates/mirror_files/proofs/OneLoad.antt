@@ -17,7 +17,7 @@ use Rattle.mirror_files.specs.Reading.{ReadsParts}
 use Rattle.mirror_files.specs.declared.parts.PartsFault.{PartsFault}
 use Rattle.mirror_files.specs.declared.parts.PartsFault.TheVariants as reading
 use Rattle.mirror_files.specs.Loading.{listed_origin, listed_notes, listed_view, AllRise, AllTaggedWell, HasOrigin, HasOrder, HasStrings, HasOpenNotes, HasNoCollision, Loads}
-use Rattle.mirror_files.specs.LoadLaws.{IsOfBytes, LoadsHaveOneAnswer, TextsAreLoaded, SavedIsLoaded, TextIsOne, OldIsSavedAsNew}
+use Rattle.mirror_files.specs.LoadLaws.{IsOfBytes, LoadsHaveOneAnswer, TextsAreLoaded, SavedIsLoaded, ViewHasOneText, OldIsSavedAsNew}
 use Rattle.mirror_files.specs.declared.fault.LoadFault.{LoadFault}
 use Rattle.mirror_files.specs.declared.fault.LoadFault.TheVariants.{StateMagic, StateShort, StateLong, StateDigest, OtherOrigin, StateOrder, StateString, StateHead, Collision, StateEdge, ReadFault, OutOfMemory}
 use Rattle.mirror_files.proofs.Listed.{in_order}
@@ -202,7 +202,7 @@ saved_is_loaded digest keys v bytes lawful opened text a m p =
 abbrev whole : Parts → List ℕ
 whole parts = body_text parts ++ sha256 (body_text parts)
 
-pub text_is_one : TextIsOne
+pub text_is_one : ViewHasOneText
 text_is_one v a b s t =
     let notes : s.notes ≡ t.notes = notes_are_listed_once v s.notes t.notes s.notes_are t.notes_are in
     let pairs : s.pairs ≡ t.pairs = same_lists (slice_cmp nat_cmp) nat_list_cmp_total.antisymm s.pairs t.pairs s.pairs_rise t.pairs_rise (λ z c. (t.pairs_are z).1 ((s.pairs_are z).0 c)) (λ z c. (s.pairs_are z).1 ((t.pairs_are z).0 c)) in

@@ -6,7 +6,7 @@ use Rattle.sha2.proofs.Facts256.{length-sha256}
 use Rattle.mirror_files.specs.declared.parts.PartsFault.TheVariants.{StateMagic, StateShort, StateLong, StateDigest, OutOfMemory}
 use Rattle.mirror_files.specs.StateText.{Parts, body_text, IsText}
 use Rattle.mirror_files.specs.Reading.{HasBody, HasText, IsSpoiled}
-use Rattle.mirror_files.specs.Laws.{TextsHaveOneAnswer, TextsAreOne, NoTextIsCut}
+use Rattle.mirror_files.specs.Laws.{TextsHaveOneAnswer, TextListsOneState, NoTextBeginsAnother}
 use Rattle.mirror_files.proofs.BodyLemmas.{body_one, has_magic}
 
 body_in : (bytes : List ℕ) (p : Parts) → IsText bytes p → HasBody bytes p (sha256 (body_text p))
@@ -15,7 +15,7 @@ body_in bytes p t = record { are_parts = t.are_parts; text = t.text }
 text_in : (bytes : List ℕ) (p : Parts) → IsText bytes p → HasText bytes p (sha256 (body_text p)) []
 text_in bytes p t = record { has_body = record { are_parts = t.are_parts; text = t.text ∙ ap (λ (x : List ℕ). body_text p ++ x) (sym (append-nil (sha256 (body_text p)))) }; digest_len = length-sha256 (body_text p) }
 
-pub text_one : TextsAreOne
+pub text_one : TextListsOneState
 text_one bytes p q s t = (body_one bytes p q _ _ (body_in bytes p s) (body_in bytes q t)).0
 
 -- what follows a body is as long in every reading
@@ -38,7 +38,7 @@ not_spoiled bytes p t s =
     let one = body_one bytes p s.parts (sha256 (body_text p)) (s.digest ++ []) (body_in bytes p t) s.has.has_body in
     s.differs (sym (append-nil s.digest) ∙ (sym one.1 ∙ ap (λ (x : Parts). sha256 (body_text x)) one.0))
 
-pub text_not_cut : NoTextIsCut
+pub text_not_cut : NoTextBeginsAnother
 text_not_cut bytes next rest p q s t =
     let more : HasText (bytes ++ (next ∷ rest)) p (sha256 (body_text p)) (next ∷ rest) = record { has_body = record { are_parts = s.are_parts; text = ap (λ (x : List ℕ). x ++ (next ∷ rest)) s.text ∙ append_assoc (body_text p) (sha256 (body_text p)) (next ∷ rest) }; digest_len = length-sha256 (body_text p) } in
     not_long (bytes ++ (next ∷ rest)) q p (sha256 (body_text q)) (sha256 (body_text p)) next rest (length-sha256 (body_text q)) (body_in _ q t) more

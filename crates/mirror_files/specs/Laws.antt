@@ -10,13 +10,13 @@ abbrev pub TextsHaveOneAnswer : Type 0
 TextsHaveOneAnswer = HasOneAnswer OutOfMemory ReadsParts
 
 -- a state text lists one thing
-abbrev pub TextsAreOne : Type 0
-TextsAreOne =
+abbrev pub TextListsOneState : Type 0
+TextListsOneState =
     (bytes : List ℕ) (first second : Parts) → IsText bytes first → IsText bytes second →
     first ≡ second
 
 -- no state text is a strict prefix of another
-abbrev pub NoTextIsCut : Type 0
-NoTextIsCut =
+abbrev pub NoTextBeginsAnother : Type 0
+NoTextBeginsAnother =
     (bytes : List ℕ) (next : ℕ) (rest : List ℕ) (first second : Parts) → IsText bytes first →
     IsText (bytes ++ (next ∷ rest)) second → ⊥

@@ -39,8 +39,8 @@ SavedIsLoaded =
     (a : Result View LoadFault) → IsOfBytes a → Loads digest v.origin keys bytes a → a ≡ Ok v
 
 -- a view has one text that is written
-abbrev pub TextIsOne : Type 0
-TextIsOne = (v : View) (a b : List ℕ) → StateText v a → StateText v b → a ≡ b
+abbrev pub ViewHasOneText : Type 0
+ViewHasOneText = (v : View) (a b : List ℕ) → StateText v a → StateText v b → a ≡ b
 
 -- what is loaded of version 1 is saved as version 2 of the same view
 abbrev pub OldIsSavedAsNew : Type 0

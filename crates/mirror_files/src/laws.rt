@@ -1,8 +1,8 @@
 //! What holds of state texts, as laws of the definitions that the contracts cite.
 //!
 //! A law is the contract of a function with an empty body: the proof is all that there is of it.
-ghost use Rattle.mirror_files.specs.Laws.{NoTextIsCut, TextsAreOne, TextsHaveOneAnswer};
-ghost use Rattle.mirror_files.specs.LoadLaws.{LoadsHaveOneAnswer, OldIsSavedAsNew, SavedIsLoaded, TextIsOne, TextsAreLoaded};
+ghost use Rattle.mirror_files.specs.Laws.{NoTextBeginsAnother, TextListsOneState, TextsHaveOneAnswer};
+ghost use Rattle.mirror_files.specs.LoadLaws.{LoadsHaveOneAnswer, OldIsSavedAsNew, SavedIsLoaded, ViewHasOneText, TextsAreLoaded};
 
 /// Bytes have one answer as a state text, want of memory apart: what is listed is known from them, and the refusals
 /// exclude one another.
@@ -12,12 +12,12 @@ pub fn one_answer_law()
 
 /// A state text lists one thing.
 pub fn one_text_law()
-    ensures { TextsAreOne }
+    ensures { TextListsOneState }
 {}
 
 /// No state text is a strict prefix of another: a text that is cut off is not read as one.
 pub fn cut_law()
-    ensures { NoTextIsCut }
+    ensures { NoTextBeginsAnother }
 {}
 
 /// All the bytes of a reader have one answer of a loader, but for a read or a request for memory that failed: the
@@ -39,7 +39,7 @@ pub fn saved_law()
 
 /// A view has one text that is written.
 pub fn state_text_law()
-    ensures { TextIsOne }
+    ensures { ViewHasOneText }
 {}
 
 /// What is loaded of version 1 is saved as version 2 of the same view.

@@ -342,7 +342,7 @@ fn keep_notes<H: TreeHash>(
         match mirror.keep_held_head(alloc, keys, note) {
             Ok(()) => {}
             Err(HeldFault::BadHead) => return Err(LoadFault::StateHead),
-            Err(HeldFault::NoEdge) => return Err(LoadFault::StateEdge),
+            Err(HeldFault::UnheldEdge) => return Err(LoadFault::StateEdge),
             Err(HeldFault::OutOfMemory) => return Err(LoadFault::OutOfMemory),
         }
     }

@@ -36,7 +36,7 @@ fn a_head_is_kept_over_its_edge(rt: HostRuntime) -> Result<(), Fail> {
         assert_eq!(rt; mirror.heads(alloc)?.len(), 1);
     }
     let answer = mirror.keep_held_head(alloc, &keys, HEAD_OF_3.as_bytes());
-    assert_eq!(rt; answer, Err(HeldFault::NoEdge));
+    assert_eq!(rt; answer, Err(HeldFault::UnheldEdge));
     assert_eq!(rt; mirror.heads(alloc)?.len(), 1);
     Ok(())
 }

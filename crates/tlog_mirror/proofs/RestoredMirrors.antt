@@ -25,7 +25,7 @@ use Rattle.stored_trees.proofs.EmptySets.{empty_settled}
 use Rattle.tlog_mirror.specs.Kept.{note_bytes, IsKeptWell}
 use Rattle.tlog_mirror.specs.Restored.{IsOpenNote, FindsHeld, held_fault_of}
 use Rattle.tlog_mirror.specs.declared.fault.HeldFault.{HeldFault}
-use Rattle.tlog_mirror.specs.declared.fault.HeldFault.TheVariants.{NoEdge}
+use Rattle.tlog_mirror.specs.declared.fault.HeldFault.TheVariants.{UnheldEdge}
 use Rattle.tlog_mirror.specs.declared.kept.KeptNote.{KeptNote}
 use Rattle.tlog_mirror.proofs.TakenHeads.{open_is_head}
 
@@ -98,7 +98,7 @@ module _ (digest : List ℕ → List ℕ) (v : View) (keys : List Key) (note : L
   module _ (checkpoint : Checkpoint) (opened : IsOpenCheckpoint note v.origin keys checkpoint) where
     -- its edge is not held
     pub found_no_edge : (HasEdgeOf digest v checkpoint.size checkpoint.root → ⊥) →
-        FindsHeld digest v keys note (Err NoEdge)
+        FindsHeld digest v keys note (Err UnheldEdge)
     found_no_edge none = (
       open_note note v.origin keys checkpoint opened,
       λ (e : HasEdge digest v note).
@@ -130,6 +130,6 @@ module _ (digest : List ℕ → List ℕ) (v : View) (keys : List Key) (note ori
     at_view = subst (λ o. IsOpenCheckpoint note o keys checkpoint) same h
 
     pub no_edge_at : (b : Bool) → IsTrue b ↔ HasEdgeOf digest v checkpoint.size checkpoint.root → b ≡ false →
-        FindsHeld digest v keys note (Err NoEdge)
+        FindsHeld digest v keys note (Err UnheldEdge)
     no_edge_at b tells is =
         found_no_edge digest v keys note checkpoint at_view (λ e. let t : b ≡ true = tells.1 e in cc (t, is))

@@ -12,7 +12,7 @@ use Rattle.mirror_model.specs.declared.fault.TakeFault.{TakeFault}
 use Rattle.mirror_model.specs.declared.fault.TakeFault.TheVariants as taking
 use Rattle.tlog_mirror.specs.Adding.{with_note}
 use Rattle.tlog_mirror.specs.declared.fault.HeldFault.{HeldFault}
-use Rattle.tlog_mirror.specs.declared.fault.HeldFault.TheVariants.{BadHead, NoEdge, OutOfMemory}
+use Rattle.tlog_mirror.specs.declared.fault.HeldFault.TheVariants.{BadHead, UnheldEdge, OutOfMemory}
 use Rattle.tlog_mirror.specs.declared.kept.KeptNote.{KeptNote}
 
 -- the view of these strings, and of no note
@@ -32,7 +32,7 @@ module _ (digest : List ℕ → List ℕ) where
   KeepsHeld old keys note (Ok done) new =
       IsOpenNote old.origin keys note × HasEdge digest old note × (new ≡ with_note old note)
   KeepsHeld old keys note (Err BadHead) new = (IsOpenNote old.origin keys note → ⊥) × (new ≡ old)
-  KeepsHeld old keys note (Err NoEdge) new =
+  KeepsHeld old keys note (Err UnheldEdge) new =
       IsOpenNote old.origin keys note × (HasEdge digest old note → ⊥) × (new ≡ old)
   KeepsHeld old keys note (Err OutOfMemory) new = new ≡ old
 
@@ -50,7 +50,8 @@ module _ (digest : List ℕ → List ℕ) where
   abbrev pub FindsHeld : View → List Key → List ℕ → Result KeptNote HeldFault → Type 0
   FindsHeld v keys note (Ok kept) = IsHeldHead v keys note kept
   FindsHeld v keys note (Err BadHead) = IsOpenNote v.origin keys note → ⊥
-  FindsHeld v keys note (Err NoEdge) = IsOpenNote v.origin keys note × (HasEdge digest v note → ⊥)
+  FindsHeld v keys note (Err UnheldEdge) =
+      IsOpenNote v.origin keys note × (HasEdge digest v note → ⊥)
   FindsHeld v keys note (Err OutOfMemory) = Unit {0}
 
 -- which fault of keeping a note a fault of reading it as a head is

@@ -19,8 +19,8 @@ pub enum HeldFault {
     #[error("BadHead")]
     BadHead,
     /// The strings of its edge are not held.
-    #[error("NoEdge")]
-    NoEdge,
+    #[error("UnheldEdge")]
+    UnheldEdge,
     /// Memory was refused.
     #[error("OutOfMemory")]
     OutOfMemory,

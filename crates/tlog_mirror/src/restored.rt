@@ -57,7 +57,7 @@ impl<H: TreeHash> Mirror<H> {
     ///
     /// # Errors
     ///
-    /// The first that applies: `BadHead`, where `check_head` refuses the note; `NoEdge`, where no edge of its size and
+    /// The first that applies: `BadHead`, where `check_head` refuses the note; `UnheldEdge`, where no edge of its size and
     /// root is held. `OutOfMemory` where memory was refused, before any of them or after. The mirror is then as it was.
     pub fn keep_held_head(
         &mut self,
@@ -94,7 +94,7 @@ impl<H: TreeHash> Mirror<H> {
         let size = checkpoint.size;
         let root = checkpoint.root;
         if !self.has_edge(size, &root) {
-            return Err(HeldFault::NoEdge);
+            return Err(HeldFault::UnheldEdge);
         }
         Ok(KeptNote { note, size, root })
     }
