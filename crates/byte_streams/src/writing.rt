@@ -1,7 +1,7 @@
 //! Writing that says how far it came.
 ghost use Rattle.std.specs.Prelude.{◌≡◌, ◌≤◌, length, take, IfErr, IfOk, OnOk, OnErr};
 ghost use Rattle.std.specs.Io.KnownBytes.{Appends, Keeps};
-ghost use Rattle.byte_streams.specs.Streams.{AppendsFront};
+ghost use Rattle.byte_streams.specs.Streams.{AppendsPrefix};
 
 use crate::fault::StreamFault;
 use std::io::{ErrorKind, Write};
@@ -35,7 +35,7 @@ fn write_some<W: Write>(writer: &mut W, bytes: &[u8]) -> Result<usize, StreamFau
 #[tactic(auto, using(crate::proofs::Writes::appends_more))]
 pub fn write_whole<W: Write>(writer: &mut W, bytes: &[u8]) -> Result<(), StreamFault>
     ensures ok { OnOk result (Appends (W.contents writer.old) (W.contents writer.new) bytes.now) }
-    ensures err { OnErr result (AppendsFront (W.contents writer.old) (W.contents writer.new) bytes.now) }
+    ensures err { OnErr result (AppendsPrefix (W.contents writer.old) (W.contents writer.new) bytes.now) }
     ensures fault { IfErr result (λ e. e ≡ StreamFault.WriteFault) }
 {
     let mut at = 0;

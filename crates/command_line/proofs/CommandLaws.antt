@@ -12,7 +12,7 @@ use Rattle.clap.proofs.OnLiterals.{clap_on_literals}
 use Rattle.tlog_text.proofs.Decimals.{decimal_here}
 use Rattle.command_line.specs.App.{mirror_app}
 use Rattle.command_line.specs.Commands.{Asks, Calls, IsNumberIn, Says, faults, name_of}
-use Rattle.command_line.specs.Laws.{IsOneOf, LawfulWordsName, OneAsked, command_names}
+use Rattle.command_line.specs.Laws.{IsOneOf, LawfulWordsName, WordsAskForOneName, command_names}
 use Rattle.command_line.specs.declared.command.Command.{Command}
 use Rattle.command_line.specs.declared.command.Command.TheVariants.{Root, Check}
 
@@ -122,7 +122,7 @@ lawful_one words none =
     (finished app.top.rules (walk app.top.rules (names_of app) nothing_held own).held) has refl refl last) in
     (named.0.0, named.0.1, record { lawful = none; named = named.1 }, answered stop named.0.0 named.0.1 named.1)
 
-pub one_asked : OneAsked
+pub one_asked : WordsAskForOneName
 one_asked words a b p q =
     let same : Some (name_of b, q.0) ≡ Some (name_of a, p.0) = sym q.1.named ∙ p.1.named in
     let names = ap (λ o. let x : Text × List Row = unwrap_or o (name_of a, p.0) in x.0) same in

@@ -23,6 +23,6 @@ LawfulWordsName = (words : List Text) → faults words ≡ []
     → (name : Text) × (options : List Row) × Calls words name options × IsOneOf command_names name
 
 -- the commands that words ask for have one name, and the same options say them
-abbrev pub OneAsked : Type 0
-OneAsked = (words : List Text) (a b : Command) → Asks words a → Asks words b
+abbrev pub WordsAskForOneName : Type 0
+WordsAskForOneName = (words : List Text) (a b : Command) → Asks words a → Asks words b
     → (name_of a ≡ name_of b) × (options : List Row) × Says options a × Says options b

@@ -6,7 +6,7 @@ ghost use Rattle.clap.specs.declared.error.kind.ErrorKind.TheVariants.{
   MissingRequiredArgument,
 };
 ghost use Rattle.command_line.specs.Commands.{Asks, faults};
-ghost use Rattle.command_line.specs.Laws.{LawfulWordsName, OneAsked};
+ghost use Rattle.command_line.specs.Laws.{LawfulWordsName, WordsAskForOneName};
 ghost use Rattle.command_line.specs.declared.command.Command.TheVariants.{Root, Check};
 
 /// Some command lines, and what they ask for.
@@ -22,5 +22,5 @@ pub fn words_example()
 /// options.
 pub fn lawful_law()
     ensures named { LawfulWordsName }
-    ensures one { OneAsked }
+    ensures one { WordsAskForOneName }
 {}

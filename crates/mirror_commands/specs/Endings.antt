@@ -3,7 +3,7 @@
 use Rattle.std.specs.Prelude.{◌≡◌, ◌⊎◌, ℕ, List, [], ◌++◌, Option, Result, Ok, Err, codes}
 use Rattle.std.specs.Prelude.{string_bytes}
 use Rattle.std.specs.Io.KnownBytes.{Appends, Keeps}
-use Rattle.byte_streams.specs.Streams.{AppendsFront}
+use Rattle.byte_streams.specs.Streams.{AppendsPrefix}
 use Rattle.command_line.specs.declared.fault.CommandFault.TheVariants.{Help, Words, BadArgument}
 use Rattle.mirror_commands.specs.declared.fault.RunFault.{RunFault}
 use Rattle.mirror_commands.specs.declared.fault.RunFault.TheVariants.{Command}
@@ -48,10 +48,10 @@ pub record SaysWhole (told : Ending) (status : ℕ) (output output' errors error
   pub status_is : status ≡ told.status
 
 -- the text could not be written whole, which is told on the stream of errors as far as that goes
-pub record SaysFront (told : Ending) (status : ℕ) (output output' errors errors' : Option (List ℕ))
+pub record SaysPrefix (told : Ending) (status : ℕ) (output output' errors errors' : Option (List ℕ))
     : Type 0 where
-  pub front : AppendsFront output output' (said_bytes told.text)
-  pub fault : AppendsFront errors errors' (fault_line (codes "WriteFault"))
+  pub front : AppendsPrefix output output' (said_bytes told.text)
+  pub fault : AppendsPrefix errors errors' (fault_line (codes "WriteFault"))
   pub status_is : status ≡ 1
 
 -- what is written to both streams at an ending, and the exit status
@@ -60,8 +60,8 @@ abbrev pub CarriesOut : Ending → ℕ → Option (List ℕ) → Option (List �
 CarriesOut told status output output' errors errors' = (
     (told.stream ≡ Output)
     × (SaysWhole told status output output' errors errors'
-    ⊎ SaysFront told status output output' errors errors')
+    ⊎ SaysPrefix told status output output' errors errors')
     ) ⊎ (
     (told.stream ≡ Errors) × Keeps output output'
-    × AppendsFront errors errors' (said_bytes told.text) × (status ≡ told.status)
+    × AppendsPrefix errors errors' (said_bytes told.text) × (status ≡ told.status)
     )

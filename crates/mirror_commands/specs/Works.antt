@@ -2,7 +2,7 @@
 use Rattle.std.specs.Prelude.{◌≡◌, ◌⊎◌, ℕ, List, ◌++◌, Option, Result, Ok, Err, codes}
 use Rattle.std.specs.Fmt.{decimal}
 use Rattle.std.specs.Io.KnownBytes.{Appends, Keeps}
-use Rattle.byte_streams.specs.Streams.{AppendsFront}
+use Rattle.byte_streams.specs.Streams.{AppendsPrefix}
 use Rattle.signed_note.specs.Keys.{Key}
 use Rattle.mirror_model.specs.Origin.{IsOrigin}
 use Rattle.mirror_pull.specs.declared.pulling.Pulled.{Pulled}
@@ -50,7 +50,7 @@ module _
 abbrev pub TellsPull : Option (List ℕ) → Option (List ℕ) → Result ℕ TellFault → Type 0
 TellsPull old new (Ok status) =
     (pulled : Pulled) × Appends old new (pulled_lines pulled) × IsPulledStatus pulled status
-TellsPull old new (Err WriteFault) = (pulled : Pulled) × AppendsFront old new (pulled_lines pulled)
+TellsPull old new (Err WriteFault) = (pulled : Pulled) × AppendsPrefix old new (pulled_lines pulled)
 TellsPull old new (Err (Work fault)) = Keeps old new
 
 -- the line that tells where connections are accepted
@@ -61,7 +61,7 @@ listening_text port = codes "listening 127.0.0.1:" ++ (decimal port ++ codes "\n
 abbrev pub TellsPort : {T : Type 0} → ℕ → Option (List ℕ) → Option (List ℕ) → Result T TellFault →
     Type 0
 TellsPort port old new (Ok x) = Appends old new (listening_text port)
-TellsPort port old new (Err fault) = AppendsFront old new (listening_text port)
+TellsPort port old new (Err fault) = AppendsPrefix old new (listening_text port)
 
 -- ---- build
 

@@ -1,6 +1,6 @@
 //! How the program ends: its exit status, and what it says on which stream.
 ghost use Rattle.std.specs.Prelude.{◌≡◌, IfOk, string_bytes};
-ghost use Rattle.byte_streams.specs.Streams.{AppendsFront};
+ghost use Rattle.byte_streams.specs.Streams.{AppendsPrefix};
 ghost use Rattle.mirror_commands.specs.Endings.{CarriesOut, IsFaultLine, TellsRun, said_bytes};
 
 use crate::fault::RunFault;
@@ -94,7 +94,7 @@ pub fn told(alloc: Global, answer: Result<u8, RunFault>) -> Ending
 
 // Writes the text, as far as the stream takes it.
 fn write_front<W: Write>(writer: &mut W, text: &[u8])
-    ensures { AppendsFront (W.contents writer.old) (W.contents writer.new) text.now }
+    ensures { AppendsPrefix (W.contents writer.old) (W.contents writer.new) text.now }
 {
     match write_whole(writer, text) {
         Ok(()) | Err(_) => (),

@@ -5,7 +5,7 @@ use Rattle.std.proofs.lemmas.List.{append-nil}
 use Rattle.std.specs.List.{flat_map}
 use Rattle.std.proofs.Math.Seq.{take-append-add}
 use Rattle.std.specs.Io.KnownBytes.{Appends}
-use Rattle.byte_streams.specs.Streams.{AppendsFront}
+use Rattle.byte_streams.specs.Streams.{AppendsPrefix}
 use Rattle.byte_streams.specs.declared.fault.StreamFault.{StreamFault}
 use Rattle.sha2.specs.Sha256.{sha256}
 use Rattle.std.specs.Prelude.{OnOk, OnErr}
@@ -22,8 +22,8 @@ front_of zero xs ys = (zero, refl)
 front_of (suc n) [] ys = (zero, refl)
 front_of (suc n) (x ∷ xs) ys = let r = front_of n xs ys in (suc r.0, ap (λ (zs : List ℕ). x ∷ zs) r.1)
 
-pub front_longer : (old new : Option (List ℕ)) (xs ys : List ℕ) → AppendsFront old new xs →
-    AppendsFront old new (xs ++ ys)
+pub front_longer : (old new : Option (List ℕ)) (xs ys : List ℕ) → AppendsPrefix old new xs →
+    AppendsPrefix old new (xs ++ ys)
 front_longer old new xs ys (n, h) = let r = front_of n xs ys in (r.0, subst (Appends old new) r.1 h)
 
 appends_two : (a b c : Option (List ℕ)) (xs ys : List ℕ) → Appends a b xs → Appends b c ys → Appends a c (xs ++ ys)
@@ -33,8 +33,8 @@ appends_two (Some s) (Some t) None xs ys p q = absurd q
 appends_two (Some s) (Some t) (Some u) xs ys p q = q ∙ (ap (λ (w : List ℕ). w ++ ys) p ∙ append_assoc s xs ys)
 
 -- what was written, and a prefix of what follows it
-front_behind : (a b c : Option (List ℕ)) (xs ys : List ℕ) → Appends a b xs → AppendsFront b c ys →
-    AppendsFront a c (xs ++ ys)
+front_behind : (a b c : Option (List ℕ)) (xs ys : List ℕ) → Appends a b xs → AppendsPrefix b c ys →
+    AppendsPrefix a c (xs ++ ys)
 front_behind a b c xs ys p (n, q) =
     (length xs + n, subst (Appends a c) (sym (take-append-add xs ys n)) (appends_two a b c xs (take n ys) p q))
 
@@ -49,11 +49,11 @@ module _ (old new : Option (List ℕ)) where
     text_is = append-nil text ∙ (u.text_is ∙ sym (append-nil (u.written ++ held)));
   }
 
-  pub unwritten_held : (held held' piece : List ℕ) (fault : StreamFault) → AppendsFront old new held →
+  pub unwritten_held : (held held' piece : List ℕ) (fault : StreamFault) → AppendsPrefix old new held →
       Writes old new held held' piece (Err fault)
   unwritten_held held held' piece fault p = λ start text u.
       front_longer start new text piece
-      (subst (AppendsFront start new) (sym u.text_is) (front_behind start old new u.written held u.appended p))
+      (subst (AppendsPrefix start new) (sym u.text_is) (front_behind start old new u.written held u.appended p))
 
   -- nothing is, and the piece is written
   pub written_piece : (piece : List ℕ) → Appends old new piece → Writes old new [] [] piece (Ok tt)
@@ -64,10 +64,10 @@ module _ (old new : Option (List ℕ)) where
         ∙ sym (append-nil (u.written ++ piece));
   }
 
-  pub unwritten_piece : (piece : List ℕ) (fault : StreamFault) → AppendsFront old new piece →
+  pub unwritten_piece : (piece : List ℕ) (fault : StreamFault) → AppendsPrefix old new piece →
       Writes old new [] [] piece (Err fault)
   unwritten_piece piece fault p = λ start text u.
-      subst (λ (w : List ℕ). AppendsFront start new (w ++ piece)) (sym (u.text_is ∙ append-nil u.written))
+      subst (λ (w : List ℕ). AppendsPrefix start new (w ++ piece)) (sym (u.text_is ∙ append-nil u.written))
       (front_behind start old new u.written piece u.appended p)
 
 -- the piece is held back too
@@ -85,13 +85,13 @@ module _ (old mid new : Option (List ℕ)) (held held' held'' first second : Lis
       Writes mid new held' held'' second answer → Writes old new held held'' (first ++ second) answer
   writes_then (Ok done) p q = λ start text u. subst (IsUnderWay start new held'') (append_assoc text first second)
       (q start (text ++ first) (p start text u))
-  writes_then (Err fault) p q = λ start text u. subst (AppendsFront start new) (append_assoc text first second)
+  writes_then (Err fault) p q = λ start text u. subst (AppendsPrefix start new) (append_assoc text first second)
       (q start (text ++ first) (p start text u))
 
 pub writes_short : (old new : Option (List ℕ)) (held held' first second : List ℕ) (fault : StreamFault) →
     Writes old new held held' first (Err fault) → Writes old new held held' (first ++ second) (Err fault)
 writes_short old new held held' first second fault p = λ start text u.
-    subst (AppendsFront start new) (append_assoc text first second)
+    subst (AppendsPrefix start new) (append_assoc text first second)
     (front_longer start new (text ++ first) second (p start text u))
 
 pub puts_none : (now : Option (List ℕ)) (page : Page) → Puts now now page page [] (Ok tt)
@@ -141,11 +141,11 @@ ends old new page held digest (Ok done) w e h = λ start text u d.
     ∙ (ap (λ (x : List ℕ). v.written ++ x) (sym e) ∙ (sym v.text_is ∙ ap (λ (x : List ℕ). text ++ x) (h text d))))
     v.appended
 ends old new page held digest (Err fault) w e h =
-    λ start text u d. subst (λ (x : List ℕ). AppendsFront start new (text ++ x)) (h text d) (w start text u)
+    λ start text u d. subst (λ (x : List ℕ). AppendsPrefix start new (text ++ x)) (h text d) (w start text u)
 
 -- the last piece, with nothing held back before it
 pub last_piece : (old new : Option (List ℕ)) (held piece : List ℕ) (answer : Result (Unit {0}) StreamFault) →
-    held ≡ [] → OnOk answer (Appends old new piece) → OnErr answer (AppendsFront old new piece) →
+    held ≡ [] → OnOk answer (Appends old new piece) → OnErr answer (AppendsPrefix old new piece) →
     Writes old new held held piece answer
 last_piece old new held piece (Ok done) e p q =
     subst (λ (h : List ℕ). Writes old new h h piece (Ok tt)) (sym e) (written_piece old new piece p)

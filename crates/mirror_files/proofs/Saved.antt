@@ -9,7 +9,7 @@ use Rattle.std.specs.Io.KnownBytes.{Appends, Keeps}
 use Rattle.std.specs.List.{Contains}
 use Rattle.sha2.specs.Sha256.{sha256}
 use Rattle.sha2.specs.Hashers.{Holds256}
-use Rattle.byte_streams.specs.Streams.{AppendsFront}
+use Rattle.byte_streams.specs.Streams.{AppendsPrefix}
 use Rattle.byte_streams.specs.declared.fault.StreamFault.{StreamFault}
 use Rattle.node_store.specs.Strings.{Has}
 use Rattle.mirror_model.specs.Listed.{ListsNotes}
@@ -42,7 +42,7 @@ nothing_yet : (now : Option (List ℕ)) (held : List ℕ) → held ≡ [] → Is
 nothing_yet now held none = record { written = []; appended = appends_nothing now; text_is = sym none }
 
 pub body_fails : (old new : Option (List ℕ)) (page page' : Page) (body : List ℕ) (fault : StreamFault) →
-    page.held.items ≡ [] → Puts old new page page' body (Err fault) → AppendsFront old new (body ++ sha256 body)
+    page.held.items ≡ [] → Puts old new page page' body (Err fault) → AppendsPrefix old new (body ++ sha256 body)
 body_fails old new page page' body fault none p =
     front_longer old new body (sha256 body) (p.writes old [] (nothing_yet old page.held.items none))
 
@@ -140,4 +140,4 @@ module _ (digest : List ℕ → List ℕ) (state : State) (sound : IsSound diges
 
     pub saved_front : (fault : StreamFault) → WritesText old new (state_text parts) (Err fault) →
         Saves state.view old new (Err WriteFault)
-    saved_front fault w = (state_text own, own_text, subst (λ (p : Parts). AppendsFront old new (state_text p)) is w)
+    saved_front fault w = (state_text own, own_text, subst (λ (p : Parts). AppendsPrefix old new (state_text p)) is w)

@@ -5,7 +5,7 @@ use Rattle.std.specs.Io.KnownBytes.{Appends}
 use Rattle.std.specs.Borrow.{Bor}
 use Rattle.sha2.specs.Sha256.{sha256}
 use Rattle.sha2.specs.Hashers.{Holds256}
-use Rattle.byte_streams.specs.Streams.{AppendsFront}
+use Rattle.byte_streams.specs.Streams.{AppendsPrefix}
 use Rattle.byte_streams.specs.declared.fault.StreamFault.{StreamFault}
 use Rattle.mirror_files.specs.StateText.{Parts, body_text}
 use Rattle.mirror_files.specs.declared.page.Page.{Page}
@@ -38,7 +38,7 @@ Writes old new held held' piece (Ok done) =
     IsUnderWay start new held' (text ++ piece)
 Writes old new held held' piece (Err fault) =
     (start : Option (List ℕ)) (text : List ℕ) → IsUnderWay start old held text →
-    AppendsFront start new (text ++ piece)
+    AppendsPrefix start new (text ++ piece)
 
 -- what a page's writer does with a piece: it goes on with the text, and the page's digest is that
 -- of the text with the piece behind it
@@ -53,7 +53,7 @@ pub record Puts (old new : Option (List ℕ)) (page page' : Page) (piece : List 
 abbrev pub WritesText : Option (List ℕ) → Option (List ℕ) → List ℕ → Result (Unit {0}) StreamFault →
     Type 0
 WritesText old new text (Ok done) = Appends old new text
-WritesText old new text (Err fault) = AppendsFront old new text
+WritesText old new text (Err fault) = AppendsPrefix old new text
 
 -- the text that is under way ends with its digest
 abbrev pub EndsText : Option (List ℕ) → Option (List ℕ) → Page → Result (Unit {0}) StreamFault →

@@ -10,13 +10,13 @@ use Rattle.tlog_mirror.specs.Tops.{Top, IsServedTop, ServesNothing}
 use Rattle.mirror_folders.specs.Shelf.{CountsFailures, Put, TellsHas, TellsNone, TellsSome}
 use Rattle.mirror_folders.specs.Faults.{of_shelf}
 use Rattle.mirror_folders.specs.Files.{file_at, files_at, kind_paths, paths_of, tile_paths, IsServedFiles}
-use Rattle.mirror_folders.specs.Exports.{AddsFront, CountsExport, Exports, PutsFront}
+use Rattle.mirror_folders.specs.Exports.{AddsPrefix, CountsExport, Exports, PutsPrefix}
 use Rattle.mirror_folders.specs.declared.shelf.ShelfError.{ShelfError}
 use Rattle.mirror_folders.specs.declared.shelf.ShelfError.TheVariants.{Failed, OutOfMemory}
 use Rattle.mirror_folders.specs.declared.fault.ExportFault.{ExportFault}
 use Rattle.mirror_folders.specs.declared.fault.ExportFault.TheVariants.{NothingComplete}
 use Rattle.mirror_folders.specs.declared.files.FileKind.TheVariants.{Bundles}
-use Rattle.mirror_folders.proofs.Fronts.{adds_kept, adds_then, front_then}
+use Rattle.mirror_folders.proofs.Prefixes.{adds_kept, adds_then, front_then}
 
 -- ---- what a shelf tells
 
@@ -62,14 +62,14 @@ module _ (digest : List ℕ → List ℕ) (v : View) (top : Top) (is : IsServedT
   pub all_put : {T : Type 0} (old middle new : Option (List Put)) (x : T) → KeepsTold old middle → TellsNone old Checkpoint → AddsTold middle new files → Exports digest v old new (Ok x)
   all_put old middle new x kept free p = record { files = files; are_served = are_served; free = free; told = adds_then old middle new [] files (adds_kept old middle kept) p }
 
-  some_put : (old middle new : Option (List Put)) → KeepsTold old middle → TellsNone old Checkpoint → AddsFront middle new files → PutsFront digest v old new
+  some_put : (old middle new : Option (List Put)) → KeepsTold old middle → TellsNone old Checkpoint → AddsPrefix middle new files → PutsPrefix digest v old new
   some_put old middle new kept free p =
       record { files = files; are_served = are_served; front = front_then old middle new [] files (adds_kept old middle kept) p; free = λ _. free }
 
-  none_put : (old new : Option (List Put)) → KeepsTold old new → PutsFront digest v old new
+  none_put : (old new : Option (List Put)) → KeepsTold old new → PutsPrefix digest v old new
   none_put old new kept = record { files = files; are_served = are_served; front = record { count = 0; short = some; told = adds_kept old new kept }; free = λ lt. absurd (omega arith) }
 
-  pub cut_put : (T : Type 0) (old middle new : Option (List Put)) (e : ShelfError) → KeepsTold old middle → TellsNone old Checkpoint → AddsFront middle new files → Exports digest v old new (answer_of T (of_shelf e))
+  pub cut_put : (T : Type 0) (old middle new : Option (List Put)) (e : ShelfError) → KeepsTold old middle → TellsNone old Checkpoint → AddsPrefix middle new files → Exports digest v old new (answer_of T (of_shelf e))
   cut_put T old middle new Failed kept free p = some_put old middle new kept free p
   cut_put T old middle new OutOfMemory kept free p = some_put old middle new kept free p
 

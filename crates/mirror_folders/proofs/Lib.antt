@@ -1,5 +1,5 @@
 pub mod FilePaths
-pub mod Fronts
+pub mod Prefixes
 pub mod Orders
 pub mod Held
 pub mod Moments

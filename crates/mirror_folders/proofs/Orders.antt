@@ -7,13 +7,13 @@ use Rattle.std.proofs.lemmas.List.FromFn.{take-map-range_with_len, map-range_wit
 use Rattle.tlog_tiles.specs.declared.paths.Path.{Path}
 use Rattle.log_sources.specs.Told.{AddsTold}
 use Rattle.mirror_folders.specs.Shelf.{Put}
-use Rattle.mirror_folders.specs.Exports.{AddsFront}
+use Rattle.mirror_folders.specs.Exports.{AddsPrefix}
 use Rattle.mirror_folders.specs.Files.{kind_paths, tiles_below, tile_paths}
 use Rattle.mirror_folders.specs.declared.files.FileKind.TheVariants.{Tiles}
-use Rattle.mirror_folders.proofs.Fronts.{files_then, files_more, files_front}
+use Rattle.mirror_folders.proofs.Prefixes.{files_then, files_more, files_front}
 
 -- the first list is a prefix of the second
-pub record IsFrontOf (xs ys : List Path) : Type 0 where
+pub record IsPrefixOf (xs ys : List Path) : Type 0 where
   pub rest : List Path
   pub is : ys ≡ xs ++ rest
 
@@ -24,14 +24,14 @@ first_paths at count = map at (range_with_len 0 count)
 first_more : (at : ℕ → Path) (i : ℕ) → first_paths at (i + 1) ≡ first_paths at i ++ at i ∷ []
 first_more at i = map-range_with_len_more at 0 i i (zero-add i)
 
-first_front : (at : ℕ → Path) (low high : ℕ) → low ≤ high → IsFrontOf (first_paths at low) (first_paths at high)
+first_front : (at : ℕ → Path) (low high : ℕ) → low ≤ high → IsPrefixOf (first_paths at low) (first_paths at high)
 first_front at low high le = record {
   rest = drop low (first_paths at high);
   is = sym (take-append-drop low (first_paths at high)) ∙ ap (λ (xs : List Path). xs ++ drop low (first_paths at high)) (take-map-range_with_len at 0 high low le);
 }
 
 -- the tiles of fewer levels are a prefix of those of more
-tiles_front : (n low high : ℕ) → low ≤ high → IsFrontOf (tiles_below n low) (tiles_below n high)
+tiles_front : (n low high : ℕ) → low ≤ high → IsPrefixOf (tiles_below n low) (tiles_below n high)
 tiles_front n low zero le = let none : low ≡ 0 = omega arith in record { rest = []; is = ap (tiles_below n) (sym none) ∙ sym (append-nil (tiles_below n low)) }
 tiles_front n low (suc high) le = elim (cases_lt high low) [
   | inr within ↦ (let before = tiles_front n low high within in record {
@@ -46,29 +46,29 @@ unfolding tile_paths
 tiles_are n = refl
 
 module _ (file : Path → Put) (a b c : Option (List Put)) where
-  extends : (xs ys : List Path) → IsFrontOf xs ys → AddsFront a c (map file xs) → AddsFront a c (map file ys)
-  extends xs ys front f = subst (λ (l : List Path). AddsFront a c (map file l)) (sym front.is) (files_more file a c xs front.rest f)
+  extends : (xs ys : List Path) → IsPrefixOf xs ys → AddsPrefix a c (map file xs) → AddsPrefix a c (map file ys)
+  extends xs ys front f = subst (λ (l : List Path). AddsPrefix a c (map file l)) (sym front.is) (files_more file a c xs front.rest f)
 
   pub first_put : (at : ℕ → Path) (i : ℕ) (path : Path) → path ≡ at i → AddsTold a b (map file (first_paths at i)) → AddsTold b c (file path ∷ []) → AddsTold a c (map file (first_paths at (i + 1)))
   first_put at i path e p q =
       let next : AddsTold b c (map file (at i ∷ [])) = subst (λ (x : Path). AddsTold b c (file x ∷ [])) e q in
       subst (λ (l : List Path). AddsTold a c (map file l)) (sym (first_more at i)) (files_then file a b c (first_paths at i) (at i ∷ []) p next)
 
-  pub first_cut : (at : ℕ → Path) (i count : ℕ) (path : Path) → path ≡ at i → i < count → AddsTold a b (map file (first_paths at i)) → AddsFront b c (file path ∷ []) → AddsFront a c (map file (first_paths at count))
+  pub first_cut : (at : ℕ → Path) (i count : ℕ) (path : Path) → path ≡ at i → i < count → AddsTold a b (map file (first_paths at i)) → AddsPrefix b c (file path ∷ []) → AddsPrefix a c (map file (first_paths at count))
   first_cut at i count path e lt p f =
-      let next : AddsFront b c (map file (at i ∷ [])) = subst (λ (x : Path). AddsFront b c (file x ∷ [])) e f in
+      let next : AddsPrefix b c (map file (at i ∷ [])) = subst (λ (x : Path). AddsPrefix b c (file x ∷ [])) e f in
       let upto : i + 1 ≤ count = omega arith in
       extends (first_paths at (i + 1)) (first_paths at count) (first_front at (i + 1) count upto)
-      (subst (λ (l : List Path). AddsFront a c (map file l)) (sym (first_more at i)) (files_front file a b c (first_paths at i) (at i ∷ []) p next))
+      (subst (λ (l : List Path). AddsPrefix a c (map file l)) (sym (first_more at i)) (files_front file a b c (first_paths at i) (at i ∷ []) p next))
 
   pub level_put : (n level : ℕ) → AddsTold a b (map file (tiles_below n level)) → AddsTold b c (map file (kind_paths n (Tiles level))) → AddsTold a c (map file (tiles_below n (level + 1)))
   level_put n level p q =
       subst (λ k. AddsTold a c (map file (tiles_below n k))) (sym (add-one level)) (files_then file a b c (tiles_below n level) (kind_paths n (Tiles level)) p q)
 
-  pub level_cut : (n level : ℕ) → level < 8 → AddsTold a b (map file (tiles_below n level)) → AddsFront b c (map file (kind_paths n (Tiles level))) → AddsFront a c (map file (tile_paths n))
+  pub level_cut : (n level : ℕ) → level < 8 → AddsTold a b (map file (tiles_below n level)) → AddsPrefix b c (map file (kind_paths n (Tiles level))) → AddsPrefix a c (map file (tile_paths n))
   level_cut n level lt p f =
       let upto : suc level ≤ 8 = omega arith in
-      subst (λ (l : List Path). AddsFront a c (map file l)) (sym (tiles_are n))
+      subst (λ (l : List Path). AddsPrefix a c (map file l)) (sym (tiles_are n))
       (extends (tiles_below n (suc level)) (tiles_below n 8) (tiles_front n (suc level) 8 upto) (files_front file a b c (tiles_below n level) (kind_paths n (Tiles level)) p f))
 
 module _ (file : Path → Put) (a b : Option (List Put)) where

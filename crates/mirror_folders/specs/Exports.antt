@@ -14,7 +14,7 @@ use Rattle.mirror_folders.specs.declared.fault.ExportFault.TheVariants.{NothingC
 use Rattle.mirror_folders.specs.declared.fault.ExportFault.TheVariants.{ShelfFault, OutOfMemory}
 
 -- the first of the files were put, and not all of them
-pub record AddsFront (old new : Option (List Put)) (files : List Put) : Type 0 where
+pub record AddsPrefix (old new : Option (List Put)) (files : List Put) : Type 0 where
   pub count : ℕ
   pub short : count < length files
   pub told : AddsTold old new (take count files)
@@ -23,7 +23,7 @@ pub record AddsFront (old new : Option (List Put)) (files : List Put) : Type 0 w
 abbrev pub AddsFiles : {T E : Type 0} → Option (List Put) → Option (List Put) → List Put →
     Result T E → Type 0
 AddsFiles old new files (Ok x) = AddsTold old new files
-AddsFiles old new files (Err e) = AddsFront old new files
+AddsFiles old new files (Err e) = AddsPrefix old new files
 
 -- at a moment of a call that puts one file after the other, so much was put, and the rest came
 -- later
@@ -43,10 +43,10 @@ module _ (digest : List ℕ → List ℕ) where
 
   -- of the files of what is served the first were put, not all of them, and none where the shelf
   -- had a checkpoint
-  pub record PutsFront (v : View) (old new : Option (List Put)) : Type 0 where
+  pub record PutsPrefix (v : View) (old new : Option (List Put)) : Type 0 where
     pub files : List Put
     pub are_served : IsServedFiles digest v files
-    pub front : AddsFront old new files
+    pub front : AddsPrefix old new files
     pub free : 0 < front.count → TellsNone old Checkpoint
 
   -- what an export puts, by its answer
@@ -55,8 +55,8 @@ module _ (digest : List ℕ → List ℕ) where
   Exports v old new (Ok x) = PutsAll v old new
   Exports v old new (Err NothingComplete) = KeepsTold old new
   Exports v old new (Err ShelfInUse) = KeepsTold old new × TellsSome old Checkpoint
-  Exports v old new (Err ShelfFault) = PutsFront v old new
-  Exports v old new (Err OutOfMemory) = PutsFront v old new
+  Exports v old new (Err ShelfFault) = PutsPrefix v old new
+  Exports v old new (Err OutOfMemory) = PutsPrefix v old new
 
   -- the checkpoint that is served stands on the shelf, and every tile and bundle of it, with true
   -- bytes

@@ -1,6 +1,6 @@
 -- The files of what a mirror serves, in the order in which they are put into a folder (C2SP
 -- tlog-tiles, "Merkle Tree", "Log Entries" and "Checkpoints").
-use Rattle.std.specs.Prelude.{◌≡◌, ℕ, zero, suc, List, [], ◌∷◌, ◌++◌, map, ◌==◌, if◌then◌else◌, ◌⊎◌}
+use Rattle.std.specs.Prelude.{◌≡◌, ℕ, zero, suc, List, [], ◌∷◌, ◌++◌, map, ◌==◌, if◌then◌else◌}
 use Rattle.std.specs.List.{range_with_len}
 use Rattle.tlog_shape.specs.Edge.{width_of, edge_index_of}
 use Rattle.tlog_tiles.specs.declared.paths.Path.{Path}
@@ -8,7 +8,6 @@ use Rattle.tlog_tiles.specs.declared.paths.Path.TheVariants.{Checkpoint, Tile, E
 use Rattle.tlog_tiles.specs.Tiles.{tile_bytes, bundle_bytes}
 use Rattle.mirror_model.specs.View.{View}
 use Rattle.mirror_model.specs.Served.{Served}
-use Rattle.tlog_mirror.specs.Tops.{ServesNothing}
 use Rattle.mirror_folders.specs.Shelf.{Put}
 use Rattle.mirror_folders.specs.declared.files.FileKind.{FileKind}
 use Rattle.mirror_folders.specs.declared.files.FileKind.TheVariants.{Tiles, Bundles}
@@ -74,7 +73,3 @@ module _ (digest : List ℕ → List ℕ) where
     pub entries : List (List ℕ)
     pub served : Served digest v note size root entries
     pub files_are : files ≡ files_at note entries (paths_of size)
-
-  -- the files of a view: those of what is served, and none where nothing is
-  abbrev pub IsFiles : View → List Put → Type 0
-  IsFiles v files = IsServedFiles v files ⊎ (ServesNothing digest v × (files ≡ []))

@@ -3,14 +3,14 @@ use Rattle.std.proofs.Common.{◌≡◌, ℕ, ◌≤◌, List, length, take, Opt
 use Rattle.std.proofs.Common.{arith}
 use Rattle.std.specs.Prelude.{IfSome}
 use Rattle.std.proofs.lemmas.List.{append-nil, length-take, take_all}
-use Rattle.byte_streams.specs.Streams.{AppendsFront}
+use Rattle.byte_streams.specs.Streams.{AppendsPrefix}
 use Rattle.log_sources.specs.declared.source.SourceFault.{SourceFault}
 use Rattle.log_sources.specs.declared.source.SourceFault.TheVariants.{Failed, OutOfMemory}
 use Rattle.mirror_http.specs.Source.{Receives}
 use Rattle.mirror_http.specs.declared.limits.TheConstants.{MOST_TAKEN}
 
 -- nothing is a prefix of the bytes
-pub appends_none : (c : Option (List ℕ)) (bytes : List ℕ) → AppendsFront c c bytes
+pub appends_none : (c : Option (List ℕ)) (bytes : List ℕ) → AppendsPrefix c c bytes
 appends_none None bytes = (0, tt)
 appends_none (Some xs) bytes = (0, sym (append-nil xs))
 

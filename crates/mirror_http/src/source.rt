@@ -1,7 +1,7 @@
 //! A source that asks for each file over a connection of its own.
 ghost use Rattle.std.specs.Prelude.{◌≡◌, ◌≢◌, IfErr, IfOk, IfSome, OnErr, OnOk, option_map};
 ghost use Rattle.std.specs.Io.KnownBytes.{Appends, Keeps};
-ghost use Rattle.byte_streams.specs.Streams.{AppendsFront, TakesAtMost};
+ghost use Rattle.byte_streams.specs.Streams.{AppendsPrefix, TakesAtMost};
 ghost use Rattle.tlog_text.specs.Answers.{seen};
 ghost use Rattle.mirror_http.specs.Request.{request_text};
 ghost use Rattle.mirror_http.specs.Source.{Receives};
@@ -42,7 +42,7 @@ pub fn send_request<W: Write>(
     path: &Path,
 ) -> Result<(), SourceFault>
     ensures ok { OnOk result (Appends (W.contents writer.old) (W.contents writer.new) (request_text site.now path.now)) }
-    ensures err { OnErr result (AppendsFront (W.contents writer.old) (W.contents writer.new) (request_text site.now path.now)) }
+    ensures err { OnErr result (AppendsPrefix (W.contents writer.old) (W.contents writer.new) (request_text site.now path.now)) }
     ensures quiet { IfErr result (λ e. e ≢ SourceFault.Failed → Keeps (W.contents writer.old) (W.contents writer.new)) }
 {
     let Ok(request) = get_request(alloc, site, path) else {

@@ -4,7 +4,7 @@ use Rattle.std.specs.Prelude.{◌≡◌, ℕ, List, ◌++◌, Option, Result, Ok
 use Rattle.std.specs.Fmt.{decimal}
 use Rattle.http.specs.StatusCode.{status_text}
 use Rattle.std.specs.Io.KnownBytes.{Appends, Keeps}
-use Rattle.byte_streams.specs.Streams.{AppendsFront}
+use Rattle.byte_streams.specs.Streams.{AppendsPrefix}
 use Rattle.httparse.specs.Grammar.{RequestHead}
 use Rattle.mirror_model.specs.View.{View}
 use Rattle.mirror_server.specs.Response.{IsReplyTo, Response}
@@ -43,5 +43,5 @@ module _ (digest : List ℕ → List ℕ) (v : View) where
       (reply : List ℕ) × Response digest v bytes reply × Appends old new reply
   AnswersClient bytes old new (Err ReadFault) = Keeps old new
   AnswersClient bytes old new (Err WriteFault) =
-      (reply : List ℕ) × Response digest v bytes reply × AppendsFront old new reply
+      (reply : List ℕ) × Response digest v bytes reply × AppendsPrefix old new reply
   AnswersClient bytes old new (Err OutOfMemory) = Keeps old new

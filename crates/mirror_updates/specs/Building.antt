@@ -13,7 +13,7 @@ use Rattle.log_sources.specs.ListSource.{OpensAnywhere}
 use Rattle.log_sources.specs.Told.{KeepsTold, AddsTold}
 use Rattle.mirror_folders.specs.Shelf.{Put, TellsNone, TellsSome}
 use Rattle.mirror_folders.specs.Files.{paths_of, files_at}
-use Rattle.mirror_folders.specs.Exports.{AddsFront}
+use Rattle.mirror_folders.specs.Exports.{AddsPrefix}
 use Rattle.mirror_folders.specs.declared.fault.ExportFault.TheVariants as export
 use Rattle.mirror_updates.specs.declared.fault.UpdateFault.{UpdateFault}
 use Rattle.mirror_updates.specs.declared.fault.UpdateFault.TheVariants.{BadOrigin, Export}
@@ -66,7 +66,7 @@ module _ (digest : List ℕ → List ℕ) where
     BuildsLog old new (Err (Export export.ShelfInUse)) =
         KeepsTold old new × TellsSome old Checkpoint
     BuildsLog old new (Err (Export export.ShelfFault)) =
-        (files : List Put) × AreLogFiles files × AddsFront old new files
+        (files : List Put) × AreLogFiles files × AddsPrefix old new files
     BuildsLog old new (Err OutOfMemory) =
-        KeepsTold old new ⊎ ((files : List Put) × AreLogFiles files × AddsFront old new files)
+        KeepsTold old new ⊎ ((files : List Put) × AreLogFiles files × AddsPrefix old new files)
     BuildsLog old new (Err fault) = ⊥

@@ -2,7 +2,7 @@
 -- cited by the contracts of private functions alone.
 use Rattle.std.specs.Prelude.{◌≡◌, ℕ, List, Option, Result, Ok, Err}
 use Rattle.std.specs.Io.KnownBytes.{Appends}
-use Rattle.byte_streams.specs.Streams.{AppendsFront}
+use Rattle.byte_streams.specs.Streams.{AppendsPrefix}
 use Rattle.signed_note.specs.Keys.{Key}
 use Rattle.mirror_model.specs.View.{View}
 use Rattle.mirror_files.specs.Loading.{HasState, Loads}
@@ -54,14 +54,14 @@ module _
     pub status_is : status ≡ report.status
 
   -- a prefix of the report was written, as a write that failed leaves it
-  pub record PrintsReportFront (old new : Option (List ℕ)) : Type 0 where
+  pub record PrintsReportPrefix (old new : Option (List ℕ)) : Type 0 where
     pub report : Printout
     pub has : HasReport (Ok report)
-    pub written : AppendsFront old new (printed report)
+    pub written : AppendsPrefix old new (printed report)
 
   -- what each answer of the command says of the state's bytes, and of what was written
   abbrev pub AnswersQuestion : Option (List ℕ) → Option (List ℕ) → Result ℕ AskFault → Type 0
   AnswersQuestion old new (Ok status) = PrintsReport old new status
   AnswersQuestion old new (Err (Load fault)) = Loads digest origin keys bytes (Err fault)
   AnswersQuestion old new (Err (Report fault)) = HasReport (Err fault)
-  AnswersQuestion old new (Err WriteFault) = PrintsReportFront old new
+  AnswersQuestion old new (Err WriteFault) = PrintsReportPrefix old new

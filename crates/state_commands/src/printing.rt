@@ -1,7 +1,7 @@
 //! A report of a saved state, printed.
 ghost use Rattle.std.specs.Prelude.{◌≡◌, ◌≢◌, ◌⊎◌, IfErr, IfOk, IfSome, OnErr, OnOk, map};
 ghost use Rattle.std.specs.Io.KnownBytes.{Appends, Keeps};
-ghost use Rattle.byte_streams.specs.Streams.{AppendsFront};
+ghost use Rattle.byte_streams.specs.Streams.{AppendsPrefix};
 ghost use Rattle.mirror_model.specs.Origin.{IsOrigin};
 ghost use Rattle.mirror_reports.specs.Reports.{printed};
 ghost use Rattle.state_commands.specs.Questions.{AnswersQuestion, MakesReport};
@@ -43,7 +43,7 @@ fn report_of<H: TreeHash, R: Read>(
 // Writes the report's text, or a prefix of it.
 fn write_report<W: Write>(output: &mut W, report: &Report) -> Result<(), StreamFault>
     ensures ok { OnOk result (Appends (W.contents output.old) (W.contents output.new) (printed report.now)) }
-    ensures err { OnErr result (AppendsFront (W.contents output.old) (W.contents output.new) (printed report.now)) }
+    ensures err { OnErr result (AppendsPrefix (W.contents output.old) (W.contents output.new) (printed report.now)) }
 {
     write_whole(output, report.text.as_bytes())
 }

@@ -1,7 +1,7 @@
 -- What the command `check` answers and writes.
 use Rattle.std.specs.Prelude.{ℕ, List, Option, Result, Ok, Err, Bool, true, false, codes}
 use Rattle.std.specs.Io.KnownBytes.{Appends}
-use Rattle.byte_streams.specs.Streams.{AppendsFront}
+use Rattle.byte_streams.specs.Streams.{AppendsPrefix}
 use Rattle.tlog_proof.specs.declared.proof.Proof.{Proof}
 use Rattle.tlog_proof.specs.Made.{Holds}
 use Rattle.tlog_proof.specs.Text.{IsProofText}
@@ -28,7 +28,7 @@ module _ (digest : List ℕ → List ℕ) where
   AnswersCheck input old new (Err BadProofText) = (proof : Proof) → IsProofText input proof → ⊥
   AnswersCheck input old new (Err ReadFault) = Unit {0}
   AnswersCheck input old new (Err WriteFault) =
-      (verdict : Bool) × Verdict input verdict × AppendsFront old new (verdict_text verdict)
+      (verdict : Bool) × Verdict input verdict × AppendsPrefix old new (verdict_text verdict)
   AnswersCheck input old new (Err OutOfMemory) = Unit {0}
 
   -- what each answer of the judge says of the bytes

@@ -3,13 +3,14 @@
 use Rattle.std.specs.Prelude.{◌≡◌, ℕ, List, ◌∷◌, ◌++◌, Option, Result, Ok, Err, codes}
 use Rattle.std.specs.Io.KnownBytes.{Appends}
 use Rattle.std.specs.Fmt.{decimal}
-use Rattle.byte_streams.specs.Streams.{AppendsFront}
+use Rattle.byte_streams.specs.Streams.{AppendsPrefix}
 use Rattle.tlog_text.specs.Hash.{base64_of}
 use Rattle.tlog_hash.specs.Tree.{mth}
 use Rattle.tlog_tiles.specs.Bundle.{IsBundle, HasBundle}
 use Rattle.stream_commands.specs.declared.root.RootFault.{RootFault}
-use Rattle.stream_commands.specs.declared.root.RootFault.TheVariants.{BundleShort, BundleLong, ReadFault}
-use Rattle.stream_commands.specs.declared.root.RootFault.TheVariants.{WriteFault, OutOfMemory}
+use Rattle.stream_commands.specs.declared.root.RootFault.TheVariants.{BundleShort, BundleLong}
+use Rattle.stream_commands.specs.declared.root.RootFault.TheVariants.{ReadFault, WriteFault}
+use Rattle.stream_commands.specs.declared.root.RootFault.TheVariants.{OutOfMemory}
 
 -- the two lines that tell a size and a root, the root in standard base64
 abbrev pub root_text : ℕ → List ℕ → List ℕ
@@ -34,7 +35,7 @@ module _ (digest : List ℕ → List ℕ) where
       (next : ℕ) × (rest : List ℕ) × HasBundle width input (next ∷ rest)
   AnswersRoot width input old new (Err ReadFault) = Unit {0}
   AnswersRoot width input old new (Err WriteFault) =
-      (text : List ℕ) × IsTextOf width input text × AppendsFront old new text
+      (text : List ℕ) × IsTextOf width input text × AppendsPrefix old new text
   AnswersRoot width input old new (Err OutOfMemory) = Unit {0}
 
   -- what each answer of the maker of the text says of the input

@@ -1,6 +1,6 @@
 use Rattle.std.proofs.lemmas.Result.{err_from_is_err_and}
 use Rattle.mirror_folders.specs.Files.{file_at, full_paths, partial_path}
-use Rattle.mirror_folders.proofs.Fronts.{files_more, files_result}
+use Rattle.mirror_folders.proofs.Prefixes.{files_more, files_result}
 use Rattle.mirror_folders.proofs.files.put_kind.Goals as goal
 
 pub returns-in_err-put_full-clause-told : goal.returns-in_err-put_full-clause-told

@@ -2,7 +2,7 @@ use Rattle.std.proofs.Common.{subst, sym, ◌∙◌}
 use Rattle.tlog_tiles.specs.declared.paths.Path.{Path}
 use Rattle.tlog_tiles.specs.Tiles.{IsWithin}
 use Rattle.mirror_folders.proofs.FilePaths.{partial_within, partial_none, partial_some, path_is, width_is}
-use Rattle.mirror_folders.proofs.Fronts.{adds_none}
+use Rattle.mirror_folders.proofs.Prefixes.{adds_none}
 use Rattle.mirror_folders.proofs.files.put_partial.Goals as goal
 
 pub put_file-requires : goal.put_file-requires

@@ -4,7 +4,7 @@ use Rattle.std.proofs.lemmas.Result.{err_from_is_err_and}
 use Rattle.tlog_tiles.specs.declared.paths.Path.TheVariants.{Checkpoint}
 use Rattle.mirror_folders.specs.Files.{file_at, kind_paths, tile_paths}
 use Rattle.mirror_folders.specs.declared.files.FileKind.TheVariants.{Bundles}
-use Rattle.mirror_folders.proofs.Fronts.{file_refused, files_front, files_more, files_then}
+use Rattle.mirror_folders.proofs.Prefixes.{file_refused, files_front, files_more, files_then}
 use Rattle.mirror_folders.proofs.files.put_served.Goals as goal
 
 pub returns-in_err-put_tiles-clause-told : goal.returns-in_err-put_tiles-clause-told

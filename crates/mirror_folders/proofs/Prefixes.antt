@@ -5,7 +5,7 @@ use Rattle.std.proofs.Math.Seq.{take-append-add}
 use Rattle.tlog_tiles.specs.declared.paths.Path.{Path}
 use Rattle.log_sources.specs.Told.{AddsTold, KeepsTold}
 use Rattle.mirror_folders.specs.Shelf.{Put}
-use Rattle.mirror_folders.specs.Exports.{AddsFiles, AddsFront}
+use Rattle.mirror_folders.specs.Exports.{AddsFiles, AddsPrefix}
 
 pub adds_none : (a : Option (List Put)) → AddsTold a a []
 adds_none None = tt
@@ -23,10 +23,10 @@ adds_then (Some us) (Some vs) None xs ys p q = absurd q
 adds_then (Some us) (Some vs) (Some ws) xs ys p q = q ∙ (ap (λ (l : List Put). l ++ ys) p ∙ append_assoc us xs ys)
 
 -- nothing was put yet
-pub front_none : (a b : Option (List Put)) (files : List Put) → 0 < length files → KeepsTold a b → AddsFront a b files
+pub front_none : (a b : Option (List Put)) (files : List Put) → 0 < length files → KeepsTold a b → AddsPrefix a b files
 front_none a b files some kept = record { count = 0; short = some; told = adds_kept a b kept }
 
-pub front_more : (a b : Option (List Put)) (xs ys : List Put) → AddsFront a b xs → AddsFront a b (xs ++ ys)
+pub front_more : (a b : Option (List Put)) (xs ys : List Put) → AddsPrefix a b xs → AddsPrefix a b (xs ++ ys)
 front_more a b xs ys f =
     let short = f.short in
     let upto : f.count ≤ length xs = omega arith in
@@ -36,7 +36,7 @@ front_more a b xs ys f =
       told = subst (λ (l : List Put). AddsTold a b l) (sym (take-append-le f.count xs ys upto)) f.told;
     }
 
-pub front_then : (a b c : Option (List Put)) (xs ys : List Put) → AddsTold a b xs → AddsFront b c ys → AddsFront a c (xs ++ ys)
+pub front_then : (a b c : Option (List Put)) (xs ys : List Put) → AddsTold a b xs → AddsPrefix b c ys → AddsPrefix a c (xs ++ ys)
 front_then a b c xs ys p f =
     let short = f.short in
     record {
@@ -51,11 +51,11 @@ module _ (file : Path → Put) where
   pub files_then : (a b c : Option (List Put)) (xs ys : List Path) → AddsTold a b (map file xs) → AddsTold b c (map file ys) → AddsTold a c (map file (xs ++ ys))
   files_then a b c xs ys p q = subst (λ (l : List Put). AddsTold a c l) (sym (map-append file xs ys)) (adds_then a b c (map file xs) (map file ys) p q)
 
-  pub files_more : (a b : Option (List Put)) (xs ys : List Path) → AddsFront a b (map file xs) → AddsFront a b (map file (xs ++ ys))
-  files_more a b xs ys f = subst (λ (l : List Put). AddsFront a b l) (sym (map-append file xs ys)) (front_more a b (map file xs) (map file ys) f)
+  pub files_more : (a b : Option (List Put)) (xs ys : List Path) → AddsPrefix a b (map file xs) → AddsPrefix a b (map file (xs ++ ys))
+  files_more a b xs ys f = subst (λ (l : List Put). AddsPrefix a b l) (sym (map-append file xs ys)) (front_more a b (map file xs) (map file ys) f)
 
-  pub files_front : (a b c : Option (List Put)) (xs ys : List Path) → AddsTold a b (map file xs) → AddsFront b c (map file ys) → AddsFront a c (map file (xs ++ ys))
-  files_front a b c xs ys p f = subst (λ (l : List Put). AddsFront a c l) (sym (map-append file xs ys)) (front_then a b c (map file xs) (map file ys) p f)
+  pub files_front : (a b c : Option (List Put)) (xs ys : List Path) → AddsTold a b (map file xs) → AddsPrefix b c (map file ys) → AddsPrefix a c (map file (xs ++ ys))
+  files_front a b c xs ys p f = subst (λ (l : List Put). AddsPrefix a c l) (sym (map-append file xs ys)) (front_then a b c (map file xs) (map file ys) p f)
 
   -- a second part, whatever its answer
   pub files_result : {T E : Type 0} (a b c : Option (List Put)) (xs ys : List Path) (r : Result T E) → AddsTold a b (map file xs) → AddsFiles b c (map file ys) r → AddsFiles a c (map file (xs ++ ys)) r
@@ -63,5 +63,5 @@ module _ (file : Path → Put) where
   files_result a b c xs ys (Err e) p q = files_front a b c xs ys p q
 
   -- a file that was not put
-  pub file_refused : (a b : Option (List Put)) (path : Path) → KeepsTold a b → AddsFront a b (map file (path ∷ []))
+  pub file_refused : (a b : Option (List Put)) (path : Path) → KeepsTold a b → AddsPrefix a b (map file (path ∷ []))
   file_refused a b path kept = front_none a b (map file (path ∷ [])) (omega arith) kept
