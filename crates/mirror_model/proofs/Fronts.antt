@@ -159,7 +159,11 @@ module _ (digest : List ℕ → List ℕ) (held : Strings) where
             level_from 7 1 len refl many high in record {
               path = Tile l.level (start / 256 ^ (l.level + 1)) 256;
               is =
-                  record { many = many; tile = record { above = l.above; upto = l.upto; index_is = refl }; width_is = refl };
+                  record {
+                    many = many;
+                    tile = record { above = l.above; upto = l.upto; index_is = refl };
+                    width_is = refl;
+                  };
             }
         | inr few ↦ record {
           path = Entries (start / 256) (min 256 (size - 256 * (start / 256)));

@@ -211,11 +211,13 @@ serves_one digest hash v lawful note other size n root r first second p q =
 pub one_served : (digest : List ℕ → List ℕ) → IsDigest digest → (v : View) → IsLawful digest v →
     (first second : List (List ℕ)) → IsServedList digest v first → IsServedList digest v second → first ≡ second
 one_served digest hash v lawful first second p q =
-    (serves_one digest hash v lawful p.note q.note p.size q.size p.root q.root first second p.served q.served).entries_are
+    (serves_one digest hash v lawful p.note q.note p.size q.size p.root q.root first second p.served
+    q.served).entries_are
 
 pub replies_once : ReplyIsOne
 replies_once digest hash v lawful Checkpoint first second p q =
-    (serves_one digest hash v lawful first second p.size q.size p.root q.root p.entries q.entries p.served q.served).note_is
+    (serves_one digest hash v lawful first second p.size q.size p.root q.root p.entries q.entries p.served
+    q.served).note_is
 replies_once digest hash v lawful (Tile level index width) first second p q =
     p.bytes_are ∙
     ap (λ es. tile_bytes digest es level index width)

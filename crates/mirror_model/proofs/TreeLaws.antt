@@ -72,7 +72,11 @@ bundle_strings d es index fits y =
             is =
                 h.is;
             inside =
-                record { start_in = omega (arith, h.start_in); upto = omega (arith, h.end_in); some = omega (arith, h.long) };
+                record {
+                  start_in = omega (arith, h.start_in);
+                  upto = omega (arith, h.end_in);
+                  some = omega (arith, h.long);
+                };
             string_is = h.string_is;
           })),
     )

@@ -98,7 +98,8 @@ module _ (digest : List ℕ → List ℕ) (held : Strings) where
         IsLost digest held total start 1 root path ↔ IsPathOf total start 1 path
     leaf_lost none = (
       λ m. let s =
-          (subst (λ t. Fails t start root m.at m.many) shape-one m.fails).0 in moved total m.at m.many start 1 path s.at_is s.many_is m.path_is,
+          (subst (λ t. Fails t start root m.at m.many) shape-one m.fails).0 in
+          moved total m.at m.many start 1 path s.at_is s.many_is m.path_is,
       λ p. record {
         at = start;
         many =

@@ -36,7 +36,8 @@ module _ (note origin : List ℕ) (keys : List Key) (checkpoint : Checkpoint)
     (opened : IsOpenCheckpoint note origin keys checkpoint) where
   is_checkpoint : IsCheckpoint opened.text origin checkpoint.size checkpoint.root checkpoint.extensions
   is_checkpoint =
-      subst (λ o. IsCheckpoint opened.text o checkpoint.size checkpoint.root checkpoint.extensions) opened.origin_is opened.is.is_checkpoint
+      subst (λ o. IsCheckpoint opened.text o checkpoint.size checkpoint.root checkpoint.extensions)
+      opened.origin_is opened.is.is_checkpoint
 
   pub open_is_head : IsHead note origin checkpoint.size checkpoint.root
   open_is_head = record {

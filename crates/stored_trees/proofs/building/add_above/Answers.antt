@@ -36,11 +36,13 @@ loop-row-preserved g c =
     let store_is =
     c.in-Ok-add_row.ensures.ok ∙
     ap (λ xs. set.union c.loop-row.store (set.from_list (joins d xs))) c.as_slice.ensures.value in record {
-      root = above_root d c.loop-row.value c.in-Ok-add_row.hash c.in-Some.row.items c.push.new.self.items rest c.in-Ok.ensures.items hash_is
+      root = above_root d c.loop-row.value c.in-Ok-add_row.hash c.in-Some.row.items c.push.new.self.items rest
+          c.in-Ok.ensures.items hash_is
           ∙ ap (λ (rows : List (Vec (List ℕ) Global)). root_from d c.loop-row.value (map (λ row. row.items) rows))
           (sym left) ∙ c.loop-row.invariant.root;
       strings =
-          above_strings d c.loop-row.value c.in-Ok-add_row.hash c.in-Some.row.items c.push.new.self.items rest c.in-Ok.ensures.items c.loop-row.store c.add_row.new.store hash_is store_is
+          above_strings d c.loop-row.value c.in-Ok-add_row.hash c.in-Some.row.items c.push.new.self.items rest
+          c.in-Ok.ensures.items c.loop-row.store c.add_row.new.store hash_is store_is
           ∙ ap (λ (rows : List (Vec (List ℕ) Global)). set.union c.loop-row.store
           (set.from_list (strings_from d c.loop-row.value (map (λ row. row.items) rows)))) (sym left) ∙
           c.loop-row.invariant.strings;
@@ -59,7 +61,8 @@ returns-in-Err-clause-collision g c = λ is.
     (set.from_list (strings_from d c.loop-row.value (map (λ row. row.items) rows)))) (sym left) ∙
     c.loop-row.invariant.strings)
     (above_clash d c.loop-row.value
-    (fold_of d c.push.new.self.items) c.in-Some.row.items c.push.new.self.items rest c.in-Ok.ensures.items c.loop-row.store
+    (fold_of d c.push.new.self.items) c.in-Some.row.items c.push.new.self.items rest c.in-Ok.ensures.items
+    c.loop-row.store
     (subst (λ xs. HasClash d (set.union c.loop-row.store (set.from_list (joins d xs)))) c.as_slice.ensures.value
     (c.in-Err.ensures.collision is)))
 

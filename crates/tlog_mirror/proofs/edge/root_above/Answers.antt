@@ -27,7 +27,8 @@ loop-row-preserved g c =
     c.in-Some.ensures.steps.0 in
     let rest : List (List (List ℕ)) = map (λ row. row.items) (into_iter_items c.next.new.self) in
     let hash_is = c.fold-value.ensures ∙ ap (fold_of d) c.as_slice.ensures.value in record {
-      root = above_root d c.loop-row.value c.fold-value.result c.in-Some.row.items c.push.new.self.items rest c.in_ok-push.ensures.items hash_is
+      root = above_root d c.loop-row.value c.fold-value.result c.in-Some.row.items c.push.new.self.items rest
+          c.in_ok-push.ensures.items hash_is
           ∙ ap (λ (rows : List (Vec (List ℕ) Global)). root_from d c.loop-row.value (map (λ row. row.items) rows))
           (sym left) ∙ c.loop-row.invariant.root;
       count = omega (arith, c.in-Some.ensures.steps.1, ap length left, c.loop-row.invariant.count);

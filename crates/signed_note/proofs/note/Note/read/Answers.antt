@@ -34,7 +34,8 @@ returns-then-is_empty c =
     let empty : c.in-Some.signed.now ≡ [] =
     no_bytes c.in-Some.signed.now (sym c.is_empty.ensures ∙ c.if-is_empty.true) in (
       record { short = omega arith; readable = readable },
-      λ text signed other. (split_once c.args.bytes.now text signed c.in-Some.text.now c.in-Some.signed.now other split).1 ∙ empty,
+      λ text signed other.
+          (split_once c.args.bytes.now text signed c.in-Some.text.now c.in-Some.signed.now other split).1 ∙ empty,
     )
 
 pub returns-in_err-lines : goal.returns-in_err-lines
@@ -57,7 +58,8 @@ returns-in_err-lines c =
     omega (arith, c.count_lines.ensures ∙ ap line_count c.as_bytes.ensures.value) in
     let p = err_from_is_err_and c.from_residual.result c.from_residual.ensures.1 in
     rw (p.1, p.2)
-    (note_refused c.args.bytes.now c.in-Some.text.now c.in-Some.signed.now c.in_err-lines.field-0.0 part few c.in_err-lines.ensures)
+    (note_refused c.args.bytes.now c.in-Some.text.now c.in-Some.signed.now c.in_err-lines.field-0.0 part few
+    c.in_err-lines.ensures)
 
 pub invariant_of-result : goal.invariant_of-result
 invariant_of-result c =
@@ -82,7 +84,8 @@ invariant_of-result c =
       same,
       text_front c.args.bytes.now c.in-Some.text.now c.in-Some.signed.now part.split,
     )
-    (note_from_lines c.args.bytes.now c.in-Some.text.now c.in-Some.signed.now c.in_ok-lines.lines.items part few c.in_ok-lines.ensures)
+    (note_from_lines c.args.bytes.now c.in-Some.text.now c.in-Some.signed.now c.in_ok-lines.lines.items part few
+    c.in_ok-lines.ensures)
 
 pub returns : goal.returns
 returns c =
@@ -108,5 +111,6 @@ returns c =
         same,
         text_front c.args.bytes.now c.in-Some.text.now c.in-Some.signed.now part.split,
       )
-          (note_from_lines c.args.bytes.now c.in-Some.text.now c.in-Some.signed.now c.in_ok-lines.lines.items part few c.in_ok-lines.ensures),
+          (note_from_lines c.args.bytes.now c.in-Some.text.now c.in-Some.signed.now c.in_ok-lines.lines.items part few
+          c.in_ok-lines.ensures),
     )

@@ -51,7 +51,8 @@ returns-in-Ok-add_entries-clause-takes g c = λ keys.
     (gathered c.new-strings.result c.add_entries.new.store _ _ c.new-strings.ensures c.in-Ok-add_entries.ensures.ok
     (ap (λ (es : List (Bor (List ℕ))). strings d (map (λ e. e.now) es)) c.as_slice.ensures.value ∙
     bundle_strings_are d c.args.width c.args.bytes.now
-    (map (λ e. e.now) c.in-Ok.entries.items) c.in-Ok.ensures)) refl c.add_strings.result c.taken.result c.taken.ensures c.add_strings.new.self.view c.add_strings.ensures.adds
+    (map (λ e. e.now) c.in-Ok.entries.items) c.in-Ok.ensures)) refl c.add_strings.result c.taken.result c.taken.ensures
+    c.add_strings.new.self.view c.add_strings.ensures.adds
 
 pub returns-in-Err-Collision-clause-takes : goal.returns-in-Err-Collision-clause-takes
 returns-in-Err-Collision-clause-takes g c = λ keys.
