@@ -9,7 +9,7 @@ use Rattle.std.proofs.lemmas.List.Elements.{Contains-append_cases, Contains-appe
 use Rattle.std.proofs.lemmas.List.Elements.{Contains-push, Contains-push_cases}
 use Rattle.std.proofs.lemmas.List.FromFn.{get_or-map-range_with_len, length-map-range_with_len}
 use Rattle.tlog_shape.specs.Edge.{width_of, edge_index_of}
-use Rattle.tlog_shape.proofs.Levels.{level_positive, shift_level}
+use Rattle.tlog_shape.proofs.Levels.{level_positive}
 use Rattle.tlog_tiles.specs.declared.paths.Path.{Path}
 use Rattle.tlog_tiles.specs.declared.paths.Path.TheVariants.{Checkpoint, Tile, Entries}
 use Rattle.tlog_tiles.specs.Tiles.{IsTileWithin}
@@ -19,12 +19,9 @@ use Rattle.mirror_folders.specs.FileLaws.{FilesAreAll, IsFileOf, IsWidestIn}
 use Rattle.mirror_folders.specs.declared.files.FileKind.{FileKind}
 use Rattle.mirror_folders.specs.declared.files.FileKind.TheVariants.{Tiles, Bundles}
 use Rattle.mirror_folders.proofs.FilePaths.{full_tile, partial_none, partial_some, partial_tile, tile_within}
+use Rattle.tlog_tiles.proofs.EdgeLemmas.{hashes_of, contains_none, contains_one}
 
 -- ---- places
-
--- a level has so many hashes
-hashes_of : (n level : ℕ) → 256 * edge_index_of n level + width_of n level ≡ n / 256 ^ level
-hashes_of n level = omega (arith, shift_level n level)
 
 upto_hashes : (n level index width : ℕ) → IsTileWithin n level index width → 256 * index + width ≤ n / 256 ^ level
 upto_hashes n level index width h = (le-div_iff_mul-le (level_positive level)).1 h.within
@@ -82,13 +79,6 @@ file_by : (n : ℕ) (kind : FileKind) (index width : ℕ) → IsWidestIn n (kind
     IsFileOf n (kind_path kind index width)
 file_by n (Tiles level) index width h = h
 file_by n Bundles index width h = h
-
-contains_none : (path : Path) → Contains [] path → ⊥
-contains_none path h = let none = h.1 in omega arith
-
-contains_one : (x path : Path) → Contains (x ∷ []) path → x ≡ path
-contains_one x path h =
-    elim (Contains-push_cases [] x path h) [ inl none ↦ absurd (contains_none path none) | inr e ↦ e ]
 
 full_is : (n : ℕ) (kind : FileKind) (path : Path) → kind_level kind ≤ 7 → Contains (full_paths n kind) path →
     IsFileOf n path

@@ -116,7 +116,7 @@ complete_is_same digest hash v w a clean size root before after p q =
     only digest w.strings hash clean size root before after (complete_stays digest v w a size root before p).tree q.tree
 
 -- of two lists of one length that begin alike both are the same
-prefix_same : (xs ys : List (List ℕ)) → length xs ≡ length ys → IsPrefix xs ys → xs ≡ ys
+pub prefix_same : (xs ys : List (List ℕ)) → length xs ≡ length ys → IsPrefix xs ys → xs ≡ ys
 prefix_same xs ys len p =
     let none : length p.rest ≡ 0 = omega (arith, length-append xs p.rest, ap length p.is) in
     sym (append-nil xs) ∙ ap (λ zs. xs ++ zs) (sym (nil_from_length p.rest none)) ∙ p.is

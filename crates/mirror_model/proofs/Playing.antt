@@ -24,7 +24,7 @@ use Rattle.mirror_model.proofs.Views.{within_itself, within_union, within_plus}
 use Rattle.mirror_model.proofs.Steps.{get_set_same, get_set_other, one_of_list, same_number, answer_grows}
 use Rattle.mirror_model.proofs.Steps.{answer_within, answer_changes}
 use Rattle.mirror_model.proofs.Reaching.{open_none, open_itself, open_first, open_later, open_by, item_none, item_first}
-use Rattle.mirror_model.proofs.Reaching.{item_later, item_by}
+use Rattle.mirror_model.proofs.Reaching.{item_later, item_by, take_is_no_merge}
 
 -- ---- an event
 
@@ -500,9 +500,6 @@ all_events digest keys old new (e ∷ es) (a ∷ rest) run =
 
 -- ---- events done again
 
-no_merge_by : {X : Type 0} (t : ℕ) (x : Item) (target source : ℕ) → Take t x ≡ Merge target source → X
-no_merge_by t x target source e = absurd (cc e)
-
 open_once : (e : Event) (es : List Event) (opened mirror : ℕ) → OpeningReaches opened mirror (e ∷ e ∷ es) →
     OpeningReaches opened mirror (e ∷ es)
 open_once e es opened mirror h =
@@ -525,7 +522,7 @@ item_once e es item mirror h =
       | inl on ↦ on
       | inr b ↦ elim (open_first e es b.target mirror b.on) [
         | inl on ↦ subst (λ f. Reaches item mirror (f ∷ es)) (sym b.is) (item_by es b.target item mirror on)
-        | inr c ↦ no_merge_by b.target item c.target b.target (sym b.is ∙ c.is)
+        | inr c ↦ take_is_no_merge b.target item c.target b.target (sym b.is ∙ c.is)
       ]
     ]
 

@@ -5,11 +5,10 @@ use Rattle.std.proofs.lemmas.Bool.{false≢true}
 use Rattle.std.proofs.lemmas.Result.{err_from_is_err_and}
 use Rattle.signed_note.specs.Names.{is_note_char, IsNoteText}
 use Rattle.signed_note.specs.Notes.{IsNoteSplit}
-use Rattle.signed_note.specs.Reading.{HasPart, line_count}
+use Rattle.signed_note.specs.Reading.{line_count}
 use Rattle.signed_note.specs.declared.limits.TheConstants.{MAX_LINES}
 use Rattle.signed_note.proofs.Splits.{split_once, text_front}
-use Rattle.signed_note.proofs.Readings.{no_bytes, some_bytes, note_text, passes_from_text, note_from_lines}
-use Rattle.signed_note.proofs.Readings.{note_refused}
+use Rattle.signed_note.proofs.Readings.{no_bytes, note_text, passes_from_text, part_of, note_from_lines, note_refused}
 use Rattle.signed_note.proofs.note.Note.read.Goals as goal
 
 pub returns-then-not-is_note_text : goal.returns-then-not-is_note_text
@@ -41,19 +40,9 @@ returns-then-is_empty c =
 pub returns-in_err-lines : goal.returns-in_err-lines
 returns-in_err-lines c =
     let same = c.in-Ok.ensures.cases.0 in
-    let readable : IsNoteText c.args.bytes.now =
-    note_text c.args.bytes.now c.in-Ok.ensures.cases.1
-    (ap (λ (x : List ℕ). list_all is_note_char (chars x)) (sym same) ∙
-    (sym c.is_note_text.ensures ∙ c.if-not-is_note_text.false)) in
-    let part : HasPart c.args.bytes.now c.in-Some.text.now c.in-Some.signed.now =
-    record {
-      readable =
-          record { short = omega arith; readable = readable };
-      split =
-          rw same at c.in-Some.ensures.found;
-      some =
-          some_bytes c.in-Some.signed.now (sym c.is_empty.ensures ∙ c.if-is_empty.false);
-    } in
+    let part = part_of c.args.bytes.now _ c.in-Some.text.now c.in-Some.signed.now (omega arith) same
+    c.in-Ok.ensures.cases.1 (sym c.is_note_text.ensures ∙ c.if-not-is_note_text.false) c.in-Some.ensures.found
+    (sym c.is_empty.ensures ∙ c.if-is_empty.false) in
     let few : line_count c.in-Some.signed.now ≤ MAX_LINES =
     omega (arith, c.count_lines.ensures ∙ ap line_count c.as_bytes.ensures.value) in
     let p = err_from_is_err_and c.from_residual.result c.from_residual.ensures.1 in
@@ -64,19 +53,9 @@ returns-in_err-lines c =
 pub invariant_of-result : goal.invariant_of-result
 invariant_of-result c =
     let same = c.in-Ok.ensures.cases.0 in
-    let readable : IsNoteText c.args.bytes.now =
-    note_text c.args.bytes.now c.in-Ok.ensures.cases.1
-    (ap (λ (x : List ℕ). list_all is_note_char (chars x)) (sym same) ∙
-    (sym c.is_note_text.ensures ∙ c.if-not-is_note_text.false)) in
-    let part : HasPart c.args.bytes.now c.in-Some.text.now c.in-Some.signed.now =
-    record {
-      readable =
-          record { short = omega arith; readable = readable };
-      split =
-          rw same at c.in-Some.ensures.found;
-      some =
-          some_bytes c.in-Some.signed.now (sym c.is_empty.ensures ∙ c.if-is_empty.false);
-    } in
+    let part = part_of c.args.bytes.now _ c.in-Some.text.now c.in-Some.signed.now (omega arith) same
+    c.in-Ok.ensures.cases.1 (sym c.is_note_text.ensures ∙ c.if-not-is_note_text.false) c.in-Some.ensures.found
+    (sym c.is_empty.ensures ∙ c.if-is_empty.false) in
     let few : line_count c.in-Some.signed.now ≤ MAX_LINES =
     omega (arith, c.count_lines.ensures ∙ ap line_count c.as_bytes.ensures.value) in
     rw (
@@ -90,19 +69,9 @@ invariant_of-result c =
 pub returns : goal.returns
 returns c =
     let same = c.in-Ok.ensures.cases.0 in
-    let readable : IsNoteText c.args.bytes.now =
-    note_text c.args.bytes.now c.in-Ok.ensures.cases.1
-    (ap (λ (x : List ℕ). list_all is_note_char (chars x)) (sym same) ∙
-    (sym c.is_note_text.ensures ∙ c.if-not-is_note_text.false)) in
-    let part : HasPart c.args.bytes.now c.in-Some.text.now c.in-Some.signed.now =
-    record {
-      readable =
-          record { short = omega arith; readable = readable };
-      split =
-          rw same at c.in-Some.ensures.found;
-      some =
-          some_bytes c.in-Some.signed.now (sym c.is_empty.ensures ∙ c.if-is_empty.false);
-    } in
+    let part = part_of c.args.bytes.now _ c.in-Some.text.now c.in-Some.signed.now (omega arith) same
+    c.in-Ok.ensures.cases.1 (sym c.is_note_text.ensures ∙ c.if-not-is_note_text.false) c.in-Some.ensures.found
+    (sym c.is_empty.ensures ∙ c.if-is_empty.false) in
     let few : line_count c.in-Some.signed.now ≤ MAX_LINES =
     omega (arith, c.count_lines.ensures ∙ ap line_count c.as_bytes.ensures.value) in (
       c.in_ok-from_str.ensures.ok ∙ same,

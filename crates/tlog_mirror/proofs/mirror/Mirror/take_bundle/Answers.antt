@@ -4,9 +4,10 @@ use Rattle.tlog_hash.specs.Tree.{strings}
 use Rattle.tlog_tiles.specs.Bundle.{ReadsBundle}
 use Rattle.mirror_model.specs.Item.{IsWidth}
 use Rattle.mirror_model.specs.declared.items.Item.TheVariants.{Bundle}
-use Rattle.tlog_mirror.proofs.TakenItems.{bundle_judged, empty_no_clash, gathered, gathered_short, takes_added}
+use Rattle.tlog_mirror.proofs.TakenItems.{bundle_judged, gathered, gathered_short, takes_added}
 use Rattle.tlog_mirror.proofs.TakenItems.{takes_clashed, bundle_good, bundle_strings_are}
 use Rattle.mirror_model.proofs.Refusing.{bundle_not_short, bundle_not_long}
+use Rattle.stored_trees.proofs.EmptySets.{empty_no_clash}
 use Rattle.tlog_mirror.proofs.mirror.Mirror.take_bundle.Goals as goal
 
 pub returns-in-Err-BundleShort-clause-takes : goal.returns-in-Err-BundleShort-clause-takes

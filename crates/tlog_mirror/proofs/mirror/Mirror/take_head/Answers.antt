@@ -1,6 +1,6 @@
 use Rattle.tlog_mirror.proofs.EdgeRows.{bytes_of}
-use Rattle.tlog_mirror.proofs.TakenItems.{empty_no_clash}
 use Rattle.tlog_mirror.proofs.TakenHeads.{note_takes, edge_takes, edge_short, head_edge, whole_takes}
+use Rattle.stored_trees.proofs.EmptySets.{empty_no_clash}
 use Rattle.tlog_mirror.proofs.mirror.Mirror.take_head.Goals as goal
 
 pub returns-in-Err-clause-takes : goal.returns-in-Err-clause-takes

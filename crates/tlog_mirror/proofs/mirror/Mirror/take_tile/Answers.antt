@@ -2,8 +2,9 @@ use Rattle.std.proofs.Common.{[], refl, ap, ◌∙◌, Err}
 use Rattle.tlog_hash.specs.Tree.{joins}
 use Rattle.mirror_model.specs.Item.{IsWidth}
 use Rattle.mirror_model.specs.declared.items.Item.TheVariants.{Tile}
-use Rattle.tlog_mirror.proofs.TakenItems.{tile_judged, empty_no_clash, gathered, gathered_short, takes_added}
+use Rattle.tlog_mirror.proofs.TakenItems.{tile_judged, gathered, gathered_short, takes_added}
 use Rattle.tlog_mirror.proofs.TakenItems.{takes_clashed, tile_good, tile_joins}
+use Rattle.stored_trees.proofs.EmptySets.{empty_no_clash}
 use Rattle.tlog_mirror.proofs.mirror.Mirror.take_tile.Goals as goal
 
 pub add_row-requires-clause-no_clash : goal.add_row-requires-clause-no_clash
