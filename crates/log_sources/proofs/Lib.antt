@@ -1,4 +1,3 @@
 pub mod FullRows
 pub mod Texts
 pub mod Answering
-pub mod Origins

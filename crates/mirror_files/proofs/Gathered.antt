@@ -6,15 +6,14 @@ use Rattle.std.specs.Borrow.{Bor}
 use Rattle.std.specs.Prelude.{slice_get}
 use Rattle.std.proofs.lemmas.List.{take_more}
 use Rattle.std.proofs.lemmas.Option.{slice_get_cases, slice_get_within, get_or_from_slice_get}
-use Rattle.mirror_model.proofs.Listing.{notes_are_listed_once}
+use Rattle.mirror_model.proofs.Listing.{notes_are_listed_once, head_or, later as cons_later}
 use Rattle.mirror_model.specs.Listed.{ListsNotes}
 use Rattle.mirror_model.specs.View.{View}
 use Rattle.tlog_mirror.specs.NoteLists.{IsNoteAt}
-use Rattle.std.specs.FinMap.{slice_cmp-IsAntisymmetric}
-use Rattle.std.specs.FinSet.{from_list, nat_cmp-IsAntisymmetric}
+use Rattle.std.specs.FinSet.{from_list}
 use Rattle.std.specs.List.{Contains, AllByRecursion, dedup}
 use Rattle.std.specs.List.Sorted.{IsPermutation, IsSorted, IsStrictlySortedBy}
-use Rattle.std.specs.Ordering.{nat_cmp, ordering_then, eq_by_cmp, is_eq}
+use Rattle.std.specs.Ordering.{nat_cmp, ordering_then, eq_by_cmp}
 use Rattle.std.specs.declared.cmp.Ordering.{Ordering}
 use Rattle.std.specs.declared.cmp.Ordering.TheVariants.{Less, Equal, Greater}
 use Rattle.std.specs.Cmp.{IsTotalOrder, IsEquivalence, eq_by_cmp_equiv, unsigned_ties, both_tied, first_so, second_so}
@@ -31,15 +30,9 @@ use Rattle.mirror_files.specs.Listing.{HoldsEach}
 use Rattle.mirror_files.specs.Loading.{Rises}
 use Rattle.mirror_files.specs.Putting.{pair_bytes, IsSizedPair}
 use Rattle.mirror_files.proofs.Listed.{nothing_in, mapped, from_mapped}
+use Rattle.node_store.proofs.Pools.{exact as exact_bytes}
 
 -- ---- what is gathered, string after string
-
-cons_cases : {X : Type 0} (x : X) (xs : List X) (y : X) → Contains (x ∷ xs) y → (x ≡ y) ⊎ Contains xs y
-cons_cases x xs y (zero, lt, is) = inl is
-cons_cases x xs y (suc k, lt, is) = inr (k, omega (arith, lt), is)
-
-cons_later : {X : Type 0} (x : X) (xs : List X) (y : X) → Contains xs y → Contains (x ∷ xs) y
-cons_later x xs y (k, lt, is) = (suc k, omega (arith, lt), is)
 
 cons_here : {X : Type 0} (x y : X) (xs : List X) → x ≡ y → Contains (x ∷ xs) y
 cons_here x y xs is = (zero, omega arith, is)
@@ -79,7 +72,7 @@ module _ (tag : ℕ) (strings : Strings) where
       λ h. elim ((p e).0 h) [
         | inl c ↦ inl (Contains-append_left items (item ∷ []) e c)
         | inr c ↦
-            elim (cons_cases (tag ∷ item) after (tag ∷ e) (subst (λ (l : List (List ℕ)). Contains l (tag ∷ e)) is c)) [
+            elim (head_or (tag ∷ item) after (tag ∷ e) (subst (λ (l : List (List ℕ)). Contains l (tag ∷ e)) is c)) [
               | inl same ↦ inl (Contains-append_right items (item ∷ []) e (cons_here item e [] (ap tail_of same)))
               | inr later ↦ inr later
             ]
@@ -87,7 +80,7 @@ module _ (tag : ℕ) (strings : Strings) where
       λ h. elim h [
         | inl c ↦ elim (Contains-append_cases items (item ∷ []) e c) [
           | inl before ↦ (p e).1 (inl before)
-          | inr one ↦ elim (cons_cases item [] e one) [
+          | inr one ↦ elim (head_or item [] e one) [
             | inl same ↦ (p e).1 (inr (subst (λ (l : List (List ℕ)). Contains l (tag ∷ e)) (sym is)
                 (cons_here (tag ∷ item) (tag ∷ e) after (ap (λ (x : List ℕ). tag ∷ x) same))))
             | inr none ↦ absurd (nothing_in e none)
@@ -104,7 +97,7 @@ module _ (tag : ℕ) (strings : Strings) where
     part_pass other differs is = λ e. (
       λ h. elim ((p e).0 h) [
         | inl c ↦ inl c
-        | inr c ↦ elim (cons_cases other after (tag ∷ e) (subst (λ (l : List (List ℕ)). Contains l (tag ∷ e)) is c)) [
+        | inr c ↦ elim (head_or other after (tag ∷ e) (subst (λ (l : List (List ℕ)). Contains l (tag ∷ e)) is c)) [
           | inl same ↦ absurd (differs e same)
           | inr later ↦ inr later
         ]
@@ -117,16 +110,6 @@ module _ (tag : ℕ) (strings : Strings) where
     )
 
 -- ---- items in order, each once
-
-equal_is : (o : Ordering) → is_eq o ≡ true → o ≡ Equal
-equal_is Less h = absurd (cc h)
-equal_is Equal h = refl
-equal_is Greater h = absurd (cc h)
-
--- lists that the test takes for one are one
-lists_exact : (xs ys : List ℕ) → pointwise nat_eq xs ys ≡ true → xs ≡ ys
-lists_exact xs ys h = slice_cmp-IsAntisymmetric nat_cmp-IsAntisymmetric xs ys
-    (equal_is (slice_cmp nat_cmp xs ys) (sym (lists_ties nat_cmp unsigned_ties xs ys) ∙ h))
 
 module _ {X : Type 0} (bytes : X → List ℕ) {cmp : X → X → Ordering} (total : IsTotalOrder cmp) {same : X → X → Bool}
     (ties : (x y : X) → same x y ≡ eq_by_cmp cmp x y) (exact : (x y : X) → same x y ≡ true → bytes x ≡ bytes y) where
@@ -180,7 +163,7 @@ pub lent_ties : (a b : Bor (List ℕ)) → lent_same a b ≡ eq_by_cmp lent_cmp 
 lent_ties a b = lists_ties nat_cmp unsigned_ties a.now b.now
 
 pub lent_exact : (a b : Bor (List ℕ)) → lent_same a b ≡ true → lent_bytes a ≡ lent_bytes b
-lent_exact a b h = lists_exact a.now b.now h
+lent_exact a b h = exact_bytes a.now b.now h
 
 all_units : {X : Type 0} (xs : List X) → AllByRecursion (λ (x : X). Unit {0}) xs
 all_units [] = tt
@@ -210,9 +193,9 @@ pair_ties a b = both_tied (pointwise nat_eq a.0.now b.0.now)
 
 pub pair_exact : (a b : Pair) → pair_same a b ≡ true → pair_bytes a ≡ pair_bytes b
 pair_exact a b h =
-    let left = lists_exact a.0.now b.0.now
+    let left = exact_bytes a.0.now b.0.now
     (first_so (pointwise nat_eq a.0.now b.0.now) (pointwise nat_eq a.1.now b.1.now) h) in
-    let right = lists_exact a.1.now b.1.now
+    let right = exact_bytes a.1.now b.1.now
     (second_so (pointwise nat_eq a.0.now b.0.now) (pointwise nat_eq a.1.now b.1.now) h) in
     λ i. left i ++ right i
 

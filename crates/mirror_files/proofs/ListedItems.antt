@@ -20,10 +20,9 @@ use Rattle.mirror_model.specs.Complete.{HasEdge}
 use Rattle.mirror_model.specs.Strings.{HasClash}
 use Rattle.mirror_model.specs.View.{View}
 use Rattle.mirror_model.proofs.StringSets.{listed_from_has, has_from_listed, same_strings, has_cases, has_left}
-use Rattle.mirror_model.proofs.StringSets.{has_right, has_empty}
-use Rattle.stored_trees.proofs.BuiltTrees.{added_both, added_one}
+use Rattle.mirror_model.proofs.StringSets.{has_right, has_empty, clash_within}
+use Rattle.stored_trees.proofs.BuiltTrees.{added_both, added_one, added_none}
 use Rattle.tlog_mirror.specs.Adding.{with_note, with_notes}
-use Rattle.tlog_mirror.proofs.TakenItems.{added_none, clash_within}
 use Rattle.mirror_files.specs.Loading.{Rises, HasUnheld}
 use Rattle.mirror_files.proofs.Listed.{mapped}
 use Rattle.mirror_files.specs.LoadSteps.{AddsListed, MakesStore, ChecksNote, ChecksNotes, note_fault_of, tagged_as}
@@ -286,7 +285,7 @@ pub tags_added : (digest : List ℕ → List ℕ) (old new : Strings) (xs : List
     AddsListed digest old xs answer new
 tags_added digest old new xs answer h = subst (λ ys. AddsListed digest old ys answer new) (tags_kept xs) h
 
-union_none : (v : Strings) → set.union set.empty v ≡ v
+pub union_none : (v : Strings) → set.union set.empty v ≡ v
 union_none v = same_strings
     (set.union set.empty v) v (λ q h. elim (has_cases set.empty v q h) [ inl a ↦ absurd (has_empty q a) | inr b ↦ b ])
     (λ q h. has_right set.empty v q h)

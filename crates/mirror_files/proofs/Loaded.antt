@@ -13,8 +13,7 @@ use Rattle.mirror_model.specs.Strings.{HasClash}
 use Rattle.mirror_model.specs.Edge.{edge_strings}
 use Rattle.mirror_model.specs.Heads.{IsHead}
 use Rattle.mirror_model.specs.Item.{row_of}
-use Rattle.mirror_model.proofs.StringSets.{listed_from_has, has_from_listed, same_strings, has_cases, has_right}
-use Rattle.mirror_model.proofs.StringSets.{has_empty}
+use Rattle.mirror_model.proofs.StringSets.{listed_from_has, has_from_listed}
 use Rattle.tlog_mirror.specs.Adding.{with_notes}
 use Rattle.tlog_mirror.specs.Restored.{IsOpenNote, strings_alone}
 use Rattle.mirror_files.specs.Items.{IsItem}
@@ -28,11 +27,7 @@ use Rattle.mirror_files.specs.declared.fault.LoadFault.TheVariants.{StateMagic, 
 use Rattle.mirror_files.specs.declared.fault.LoadFault.TheVariants.{OtherOrigin, StateOrder, StateString, StateHead}
 use Rattle.mirror_files.specs.declared.fault.LoadFault.TheVariants.{Collision, StateEdge, ReadFault, OutOfMemory}
 use Rattle.mirror_files.proofs.Listed.{both, has_entry, has_pair, either, entry_in, pair_in}
-
-union_none : (v : Strings) → set.union set.empty v ≡ v
-union_none v = same_strings
-    (set.union set.empty v) v (λ q h. elim (has_cases set.empty v q h) [ inl a ↦ absurd (has_empty q a) | inr b ↦ b ])
-    (λ q h. has_right set.empty v q h)
+use Rattle.mirror_files.proofs.ListedItems.{union_none}
 
 -- ---- the strings that are listed
 

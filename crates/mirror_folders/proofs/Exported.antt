@@ -1,5 +1,6 @@
 -- What an export puts, by the answers of its parts.
-use Rattle.std.proofs.Common.{◌≡◌, ℕ, ◌-◌, ◌^◌, ◌<◌, List, [], ◌∷◌, ◌++◌, length, Option, Some, None, Result, Ok, Err, true, false, refl, sym, subst, inl, inr, arith, length-append}
+use Rattle.std.proofs.Common.{◌≡◌, ℕ, ◌-◌, ◌^◌, ◌<◌, List, [], ◌∷◌, ◌++◌, length, Option, Some, None, Result, Ok, Err}
+use Rattle.std.proofs.Common.{true, false, refl, sym, subst, inl, inr, arith, length-append}
 use Rattle.std.proofs.lemmas.Bool.{false≢true, cases_lt}
 use Rattle.std.proofs.lemmas.List.{length-map}
 use Rattle.tlog_tiles.specs.declared.paths.Path.{Path}
@@ -37,7 +38,8 @@ same_told (Some puts) = refl
 one_more_rose : (old : ℕ) → Rose old (one_more old)
 one_more_rose old = elim (cases_lt old (2 ^ 64 - 1)) [ inl room ↦ inl (omega arith) | inr full ↦ inr (omega arith) ]
 
-pub count_of : (S T : Type 0) (old new : ℕ) (e : ShelfError) → CountsFailures {T = S} old new (Err e) → CountsExport {T = T} old new (Err (of_shelf e))
+pub count_of : (S T : Type 0) (old new : ℕ) (e : ShelfError) → CountsFailures {T = S} old new (Err e) →
+    CountsExport {T = T} old new (Err (of_shelf e))
 count_of S T old new Failed p = subst (λ n. Rose old n) (sym p) (one_more_rose old)
 count_of S T old new OutOfMemory p = p
 
@@ -51,29 +53,59 @@ module _ (digest : List ℕ → List ℕ) (v : View) (top : Top) (is : IsServedT
   files = files_at digest top.note is.served.entries (paths_of top.size)
 
   are_served : IsServedFiles digest v files
-  are_served = record { note = top.note; size = top.size; root = top.root; entries = is.served.entries; served = is.served.served; files_are = refl }
+  are_served = record {
+    note = top.note;
+    size = top.size;
+    root = top.root;
+    entries = is.served.entries;
+    served = is.served.served;
+    files_are = refl;
+  }
 
   -- there is a checkpoint among the files
   some : 0 < length files
   some =
       let front = tile_paths top.size ++ kind_paths top.size Bundles in
-      omega (arith, length-map (paths_of top.size) (file_at digest top.note is.served.entries), length-append front (Checkpoint ∷ []))
+      omega (
+        arith,
+        length-map (paths_of top.size) (file_at digest top.note is.served.entries),
+        length-append front (Checkpoint ∷ []),
+      )
 
-  pub all_put : {T : Type 0} (old middle new : Option (List Put)) (x : T) → KeepsTold old middle → TellsNone old Checkpoint → AddsTold middle new files → Exports digest v old new (Ok x)
-  all_put old middle new x kept free p = record { files = files; are_served = are_served; free = free; told = adds_then old middle new [] files (adds_kept old middle kept) p }
+  pub all_put : {T : Type 0} (old middle new : Option (List Put)) (x : T) → KeepsTold old middle →
+      TellsNone old Checkpoint → AddsTold middle new files → Exports digest v old new (Ok x)
+  all_put old middle new x kept free p = record {
+    files = files;
+    are_served = are_served;
+    free = free;
+    told = adds_then old middle new [] files (adds_kept old middle kept) p;
+  }
 
-  some_put : (old middle new : Option (List Put)) → KeepsTold old middle → TellsNone old Checkpoint → AddsPrefix middle new files → PutsPrefix digest v old new
+  some_put : (old middle new : Option (List Put)) → KeepsTold old middle → TellsNone old Checkpoint →
+      AddsPrefix middle new files → PutsPrefix digest v old new
   some_put old middle new kept free p =
-      record { files = files; are_served = are_served; front = front_then old middle new [] files (adds_kept old middle kept) p; free = λ _. free }
+      record {
+        files = files;
+        are_served = are_served;
+        front = front_then old middle new [] files (adds_kept old middle kept) p;
+        free = λ _. free;
+      }
 
   none_put : (old new : Option (List Put)) → KeepsTold old new → PutsPrefix digest v old new
-  none_put old new kept = record { files = files; are_served = are_served; front = record { count = 0; short = some; told = adds_kept old new kept }; free = λ lt. absurd (omega arith) }
+  none_put old new kept = record {
+    files = files;
+    are_served = are_served;
+    front = record { count = 0; short = some; told = adds_kept old new kept };
+    free = λ lt. absurd (omega arith);
+  }
 
-  pub cut_put : (T : Type 0) (old middle new : Option (List Put)) (e : ShelfError) → KeepsTold old middle → TellsNone old Checkpoint → AddsPrefix middle new files → Exports digest v old new (answer_of T (of_shelf e))
+  pub cut_put : (T : Type 0) (old middle new : Option (List Put)) (e : ShelfError) → KeepsTold old middle →
+      TellsNone old Checkpoint → AddsPrefix middle new files → Exports digest v old new (answer_of T (of_shelf e))
   cut_put T old middle new Failed kept free p = some_put old middle new kept free p
   cut_put T old middle new OutOfMemory kept free p = some_put old middle new kept free p
 
-  pub not_put : (T : Type 0) (old new : Option (List Put)) (e : ShelfError) → KeepsTold old new → Exports digest v old new (answer_of T (of_shelf e))
+  pub not_put : (T : Type 0) (old new : Option (List Put)) (e : ShelfError) → KeepsTold old new →
+      Exports digest v old new (answer_of T (of_shelf e))
   not_put T old new Failed kept = none_put old new kept
   not_put T old new OutOfMemory kept = none_put old new kept
 

@@ -1,5 +1,6 @@
 -- Files that are put one after the other, all of them or a prefix.
-use Rattle.std.proofs.Common.{◌+◌, ◌<◌, ◌≤◌, List, [], ◌∷◌, ◌++◌, length, map, take, Option, Some, None, Result, Ok, Err, sym, ap, subst, ◌∙◌, append_assoc, length-append, arith}
+use Rattle.std.proofs.Common.{◌+◌, ◌<◌, ◌≤◌, List, [], ◌∷◌, ◌++◌, length, map, take, Option, Some, None, Result, Ok}
+use Rattle.std.proofs.Common.{Err, sym, ap, subst, ◌∙◌, append_assoc, length-append, arith}
 use Rattle.std.proofs.lemmas.List.{append-nil, take-append-le, map-append}
 use Rattle.std.proofs.Math.Seq.{take-append-add}
 use Rattle.tlog_tiles.specs.declared.paths.Path.{Path}
@@ -16,7 +17,8 @@ adds_kept None b k = tt
 adds_kept (Some xs) None k = absurd k
 adds_kept (Some xs) (Some ys) k = k ∙ sym (append-nil xs)
 
-pub adds_then : (a b c : Option (List Put)) (xs ys : List Put) → AddsTold a b xs → AddsTold b c ys → AddsTold a c (xs ++ ys)
+pub adds_then : (a b c : Option (List Put)) (xs ys : List Put) → AddsTold a b xs → AddsTold b c ys →
+    AddsTold a c (xs ++ ys)
 adds_then None b c xs ys p q = tt
 adds_then (Some us) None c xs ys p q = absurd p
 adds_then (Some us) (Some vs) None xs ys p q = absurd q
@@ -36,29 +38,38 @@ front_more a b xs ys f =
       told = subst (λ (l : List Put). AddsTold a b l) (sym (take-append-le f.count xs ys upto)) f.told;
     }
 
-pub front_then : (a b c : Option (List Put)) (xs ys : List Put) → AddsTold a b xs → AddsPrefix b c ys → AddsPrefix a c (xs ++ ys)
+pub front_then : (a b c : Option (List Put)) (xs ys : List Put) → AddsTold a b xs → AddsPrefix b c ys →
+    AddsPrefix a c (xs ++ ys)
 front_then a b c xs ys p f =
     let short = f.short in
     record {
       count = length xs + f.count;
       short = omega (arith, length-append xs ys);
-      told = subst (λ (l : List Put). AddsTold a c l) (sym (take-append-add xs ys f.count)) (adds_then a b c xs (take f.count ys) p f.told);
+      told = subst (λ (l : List Put). AddsTold a c l) (sym (take-append-add xs ys f.count))
+          (adds_then a b c xs (take f.count ys) p f.told);
     }
 
 -- ---- the files of paths
 
 module _ (file : Path → Put) where
-  pub files_then : (a b c : Option (List Put)) (xs ys : List Path) → AddsTold a b (map file xs) → AddsTold b c (map file ys) → AddsTold a c (map file (xs ++ ys))
-  files_then a b c xs ys p q = subst (λ (l : List Put). AddsTold a c l) (sym (map-append file xs ys)) (adds_then a b c (map file xs) (map file ys) p q)
+  pub files_then : (a b c : Option (List Put)) (xs ys : List Path) → AddsTold a b (map file xs) →
+      AddsTold b c (map file ys) → AddsTold a c (map file (xs ++ ys))
+  files_then a b c xs ys p q = subst (λ (l : List Put). AddsTold a c l) (sym (map-append file xs ys))
+      (adds_then a b c (map file xs) (map file ys) p q)
 
-  pub files_more : (a b : Option (List Put)) (xs ys : List Path) → AddsPrefix a b (map file xs) → AddsPrefix a b (map file (xs ++ ys))
-  files_more a b xs ys f = subst (λ (l : List Put). AddsPrefix a b l) (sym (map-append file xs ys)) (front_more a b (map file xs) (map file ys) f)
+  pub files_more : (a b : Option (List Put)) (xs ys : List Path) → AddsPrefix a b (map file xs) →
+      AddsPrefix a b (map file (xs ++ ys))
+  files_more a b xs ys f = subst (λ (l : List Put). AddsPrefix a b l) (sym (map-append file xs ys))
+      (front_more a b (map file xs) (map file ys) f)
 
-  pub files_front : (a b c : Option (List Put)) (xs ys : List Path) → AddsTold a b (map file xs) → AddsPrefix b c (map file ys) → AddsPrefix a c (map file (xs ++ ys))
-  files_front a b c xs ys p f = subst (λ (l : List Put). AddsPrefix a c l) (sym (map-append file xs ys)) (front_then a b c (map file xs) (map file ys) p f)
+  pub files_front : (a b c : Option (List Put)) (xs ys : List Path) → AddsTold a b (map file xs) →
+      AddsPrefix b c (map file ys) → AddsPrefix a c (map file (xs ++ ys))
+  files_front a b c xs ys p f = subst (λ (l : List Put). AddsPrefix a c l) (sym (map-append file xs ys))
+      (front_then a b c (map file xs) (map file ys) p f)
 
   -- a second part, whatever its answer
-  pub files_result : {T E : Type 0} (a b c : Option (List Put)) (xs ys : List Path) (r : Result T E) → AddsTold a b (map file xs) → AddsFiles b c (map file ys) r → AddsFiles a c (map file (xs ++ ys)) r
+  pub files_result : {T E : Type 0} (a b c : Option (List Put)) (xs ys : List Path) (r : Result T E) →
+      AddsTold a b (map file xs) → AddsFiles b c (map file ys) r → AddsFiles a c (map file (xs ++ ys)) r
   files_result a b c xs ys (Ok x) p q = files_then a b c xs ys p q
   files_result a b c xs ys (Err e) p q = files_front a b c xs ys p q
 

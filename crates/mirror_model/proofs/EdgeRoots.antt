@@ -79,6 +79,27 @@ edge_rows-levels digest es = by_levels 8 0
         at true xs rows e = e
         at false xs rows e = ap (λ rows. edge_row digest es level ∷ rows) e
 
+-- the blocks of a level's row and what is behind them: they are a cut, and join to all that the row begins
+pub row_and_rest : {X : Type 0} (es : List X) (level c q p w : ℕ) → IsLevel (length es) (256 ^ level) c q p w →
+    q * 256 ^ level < length es →
+    IsCut (256 ^ level) (ranges (256 ^ level) (256 * p) w es ++ drop (q * 256 ^ level) es ∷ [])
+    × (joined_up (ranges (256 ^ level) (256 * p) w es ++ drop (q * 256 ^ level) es ∷ []) ≡ drop (p * c) es)
+row_and_rest es level c q p w h more =
+    let b = 256 ^ level in
+    let rows = ranges b (256 * p) w es in
+    let rest = drop (q * b) es in
+    let fits : (256 * p + w) * b ≤ length es = rw (← h.sum) h.upto in
+    let len_rest = length-drop (q * b) es in (
+      cut_push b rows rest (all_ranges b (256 * p) w es fits) (omega (arith, len_rest, more))
+          (omega (arith, len_rest, h.above)),
+      joined_push b rows rest
+          ∙ ap (λ xs. xs ++ rest) (joined_ranges b (256 * p) w es)
+          ∙ ap (λ n. take (w * b) (drop ((256 * p) * b) es) ++ drop n es) h.done
+          ∙ ap (λ xs. take (w * b) (drop ((256 * p) * b) es) ++ xs) (sym (drop-drop (w * b) ((256 * p) * b) es))
+          ∙ take-append-drop (w * b) (drop ((256 * p) * b) es)
+          ∙ ap (λ n. drop n es) (sym h.start),
+    )
+
 module _ (digest : List ℕ → List ℕ) (es : List (List ℕ)) where
   pub fold_row_rest : (level c q p w : ℕ) → IsLevel (length es) (256 ^ level) c q p w → q * 256 ^ level < length es →
       fold_of digest (level_row digest es level (256 * p) w ++ mth digest (drop (q * 256 ^ level) es) ∷ [])
@@ -87,20 +108,9 @@ module _ (digest : List ℕ → List ℕ) (es : List (List ℕ)) where
       let b = 256 ^ level in
       let rows = ranges b (256 * p) w es in
       let rest = drop (q * b) es in
-      let fits : (256 * p + w) * b ≤ length es = rw (← h.sum) h.upto in
-      let all = all_ranges b (256 * p) w es fits in
-      let cut : IsCut b (rows ++ rest ∷ []) =
-      cut_push b rows rest all (omega (arith, length-drop (q * b) es))
-      (omega (arith, length-drop (q * b) es, h.above)) in
-      let whole : joined_up (rows ++ rest ∷ []) ≡ drop (p * c) es =
-      joined_push b rows rest
-      ∙ ap (λ xs. xs ++ rest) (joined_ranges b (256 * p) w es)
-      ∙ ap (λ n. take (w * b) (drop ((256 * p) * b) es) ++ drop n es) h.done
-      ∙ ap (λ xs. take (w * b) (drop ((256 * p) * b) es) ++ xs) (sym (drop-drop (w * b) ((256 * p) * b) es))
-      ∙ take-append-drop (w * b) (drop ((256 * p) * b) es)
-      ∙ ap (λ n. drop n es) (sym h.start) in
+      let parts = row_and_rest es level c q p w h more in
       ap (fold_of digest) (sym (map-append (mth digest) rows (rest ∷ []))) ∙
-      sym (mth-level digest level (rows ++ rest ∷ []) cut) ∙ ap (mth digest) whole
+      sym (mth-level digest level (rows ++ rest ∷ []) parts.0) ∙ ap (mth digest) parts.1
 
   pub fold_row : (level c q p w : ℕ) → IsLevel (length es) (256 ^ level) c q p w → length es ≡ q * 256 ^ level → 0 < w →
       fold_of digest (level_row digest es level (256 * p) w) ≡ mth digest (drop (p * c) es)

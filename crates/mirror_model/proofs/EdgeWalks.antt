@@ -3,7 +3,7 @@ use Rattle.std.proofs.Common.{subst, get_or, Bool, true, false, inl, inr, ◌⊎
 use Rattle.std.proofs.Common.{◌<◌, ◌≤◌, List, [], ◌∷◌, ◌++◌, length, take, drop, map, cond, nat_eq, not, sym, refl, ap}
 use Rattle.std.proofs.Common.{◌∙◌, arith, length-append, length-take, length-drop, take-append-drop}
 use Rattle.std.specs.List.{Contains, AllByRecursion, filter}
-use Rattle.std.proofs.lemmas.List.{append-nil, nil_from_length, get_or-append-add, get_or_append_left, drop-drop}
+use Rattle.std.proofs.lemmas.List.{append-nil, nil_from_length, get_or-append-add, get_or_append_left}
 use Rattle.std.proofs.lemmas.List.{take_all}
 use Rattle.std.proofs.lemmas.List.Concat.{flat_map-cons}
 use Rattle.std.proofs.lemmas.List.Elements.{Contains-append_left, Contains-append_right, recursion_from_All}
@@ -18,7 +18,7 @@ use Rattle.tlog_hash.specs.Blocks.{IsCut, joined_up}
 use Rattle.tlog_hash.specs.Nodes.{IsJoin}
 use Rattle.tlog_hash.specs.Rows.{part, ranges}
 use Rattle.tlog_hash.proofs.Cuts.{cut_induction, IsSplit}
-use Rattle.tlog_hash.proofs.Folds.{length-ranges, joined_ranges, all_ranges, cut_push, cut_full, joined_push}
+use Rattle.tlog_hash.proofs.Folds.{length-ranges, joined_ranges, all_ranges, cut_full}
 use Rattle.tlog_hash.proofs.NodeStrings.{size_of-tree, to_joins}
 use Rattle.tlog_hash.proofs.PairStrings.{left_is, right_is}
 use Rattle.tlog_hash.proofs.Trees.{tree_of-none, tree_of-append, fold_of-one, fold_of-join, fold_of-append, all-append}
@@ -27,7 +27,7 @@ use Rattle.node_store.specs.Strings.{Strings, Has, NoClash}
 use Rattle.mirror_model.specs.Edge.{edge_levels, edge_widths, edge_root, root_from, edge_strings, strings_from}
 use Rattle.mirror_model.specs.Item.{row_of}
 use Rattle.mirror_model.specs.Walk.{WalkFails}
-use Rattle.mirror_model.proofs.EdgeRoots.{IsLevel, level_is, levels_from}
+use Rattle.mirror_model.proofs.EdgeRoots.{IsLevel, level_is, levels_from, row_and_rest}
 use Rattle.mirror_model.proofs.ItemBytes.{row_is_row}
 use Rattle.mirror_model.proofs.ItemStrings.{fold_length}
 use Rattle.mirror_model.proofs.MissingPaths.{fails_inside}
@@ -273,18 +273,9 @@ module _ (digest : List ℕ → List ℕ) (hash : (s : List ℕ) → length (dig
         let b = 256 ^ level in
         let bs = ranges b (256 * p) w zs in
         let rest = drop (q * b) zs in
-        let fits : (256 * p + w) * b ≤ length zs = rw (← n.sum) n.upto in
-        let all = all_ranges b (256 * p) w zs fits in
-        let len_rest = length-drop (q * b) zs in
-        let cut : IsCut b (bs ++ rest ∷ []) =
-        cut_push b bs rest all (omega (arith, len_rest, more)) (omega (arith, len_rest, n.above)) in
-        let whole : joined_up (bs ++ rest ∷ []) ≡ drop (p * c) zs =
-        joined_push b bs rest
-        ∙ ap (λ xs. xs ++ rest) (joined_ranges b (256 * p) w zs)
-        ∙ ap (λ m. take (w * b) (drop ((256 * p) * b) zs) ++ drop m zs) n.done
-        ∙ ap (λ xs. take (w * b) (drop ((256 * p) * b) zs) ++ xs) (sym (drop-drop (w * b) ((256 * p) * b) zs))
-        ∙ take-append-drop (w * b) (drop ((256 * p) * b) zs)
-        ∙ ap (λ m. drop m zs) (sym n.start) in
+        let parts = row_and_rest zs level c q p w n more in
+        let cut : IsCut b (bs ++ rest ∷ []) = parts.0 in
+        let whole : joined_up (bs ++ rest ∷ []) ≡ drop (p * c) zs = parts.1 in
         let len_bs : length bs ≡ w = length-ranges b (256 * p) w zs in
         let len : length (row ++ value ∷ []) ≡ length (bs ++ rest ∷ []) =
         omega (arith, length-append row (value ∷ []), length-append bs (rest ∷ []), len_bs, count) in

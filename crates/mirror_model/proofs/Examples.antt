@@ -129,7 +129,11 @@ front_top digest (One e) some =
 front_top digest (Join l r) some =
     record {
       node =
-          record { start = 0; len = size_of l + size_of r; string = 1 ∷ entries_root digest l ++ entries_root digest r };
+          record {
+            start = 0;
+            len = size_of l + size_of r;
+            string = 1 ∷ entries_root digest l ++ entries_root digest r;
+          };
       is =
           inl (record { this = record { start_is = refl; len_is = refl; string_is = refl }; unheld = has_empty _ });
       start_is = refl;

@@ -1,10 +1,9 @@
 -- The laws of specs/FetchLaws.antt.
-use Rattle.std.proofs.Common.{min, zero, suc, ◌≡◌, ◌⊎◌, ℕ, ◌+◌, ◌-◌, ◌*◌, ◌/◌, ◌^◌, ◌<◌, ◌≤◌, List, [], ◌∷◌, ◌++◌}
+use Rattle.std.proofs.Common.{min, zero, suc, ◌≡◌, ◌⊎◌, ℕ, ◌+◌, ◌-◌, ◌*◌, ◌/◌, ◌^◌, ◌≤◌, List, [], ◌∷◌, ◌++◌}
 use Rattle.std.proofs.Common.{length, map, take, drop, length-take, length-drop, refl, sym, ◌∙◌, ap, subst, inl, inr}
 use Rattle.std.proofs.Common.{arith}
 use Rattle.std.specs.Prelude.{Contains}
 use Rattle.std.specs.FinSet as set
-use Rattle.std.proofs.lemmas.Nat.{div-mul-add}
 use Rattle.std.proofs.lemmas.List.{take_min}
 use Rattle.tlog_hash.specs.Tree.{tree_of, mth, strings, joins}
 use Rattle.tlog_hash.specs.Rows.{part, ranges, level_row}
@@ -21,7 +20,7 @@ use Rattle.mirror_model.proofs.StringSets.{holds_from_held}
 use Rattle.mirror_model.proofs.NodeBlocks.{node_inside}
 use Rattle.mirror_model.proofs.RowLaws.{to_block, bundle, full_tile}
 use Rattle.mirror_model.proofs.EdgeStrings.{full_or_edge}
-use Rattle.mirror_model.proofs.Fronts.{front_node, front_unheld}
+use Rattle.mirror_model.proofs.Fronts.{front_node, front_unheld, index_of}
 use Rattle.mirror_model.proofs.TreeLaws.{missing_is_front}
 use Rattle.tlog_shape.proofs.Levels.{level_positive}
 use Rattle.mirror_model.specs.Walk.{NoClashWith}
@@ -53,9 +52,6 @@ full_tiles_begin digest hash entries level index width le =
     begins digest hash (256 ^ level) (256 * index) width 256 entries le
 
 -- ---- a path that was answered
-
-index_of : (i c start len : ℕ) → 0 < c → i * c ≤ start → start + len ≤ i * c + c → 1 ≤ len → start / c ≡ i
-index_of i c start len some low high one = ap (λ m. m / c) (omega arith) ∙ div-mul-add i c (start - i * c) (omega arith)
 
 pub answered_is_not_again : AnsweredIsNotAgain
 answered_is_not_again digest held es small edge Checkpoint all f = f.path_is

@@ -6,7 +6,6 @@ use Rattle.std.proofs.lemmas.Nat.{div-mul-add}
 use Rattle.std.proofs.lemmas.Bool.{cases_lt}
 use Rattle.std.specs.Prelude.{◌↔◌}
 use Rattle.std.specs.List.{Contains}
-use Rattle.std.proofs.Math.Nat.{pow-succ'}
 use Rattle.tlog_hash.specs.Tree.{Tree, Empty, One, Join, tree_of, size_of, joins, strings}
 use Rattle.tlog_hash.specs.Rows.{part, level_row}
 use Rattle.mirror_model.specs.Edge.{edge_rows, edge_strings}
@@ -17,7 +16,7 @@ use Rattle.mirror_model.specs.Front.{IsPathOf, InFront, IsFront}
 use Rattle.node_store.specs.Strings.{Strings, Has}
 use Rattle.mirror_model.specs.Rounds.{true_strings, AsksUpTo, AsksBundlesAlone}
 use Rattle.mirror_model.proofs.StringSets.{HoldsAll, decide_has}
-use Rattle.tlog_shape.proofs.Levels.{level_positive}
+use Rattle.tlog_shape.proofs.Levels.{level_positive, level_mono}
 use Rattle.tlog_hash.proofs.NodeStrings.{string_of_node, node_of_string}
 use Rattle.mirror_model.proofs.NodeBlocks.{node_inside}
 use Rattle.mirror_model.proofs.RowLaws.{full_tile, bundle, to_block}
@@ -28,14 +27,10 @@ pub record IsNodeWithin (x y : Node) : Type 0 where
   pub start_in : y.start ≤ x.start
   pub end_in : x.start + x.len ≤ y.start + y.len
 
-pub power_le : (i k : ℕ) → i ≤ k → 256 ^ i ≤ 256 ^ k
-power_le i k h = let e : i + (k - i) ≡ k = omega arith in subst (λ m. 256 ^ i ≤ 256 ^ m) e (climb (k - i))
-  where
-    climb : (d : ℕ) → 256 ^ i ≤ 256 ^ (i + d)
-    climb zero = let z : i ≡ i + 0 = omega arith in subst (λ m. 256 ^ i ≤ 256 ^ m) z (omega arith)
-    climb (suc d) =
-        let z : suc (i + d) ≡ i + suc d =
-        omega arith in subst (λ m. 256 ^ i ≤ 256 ^ m) z (omega (arith, climb d, pow-succ' 256 (i + d)))
+-- the block of c that a range is in has the number start / c
+pub index_of : (i c start len : ℕ) → 0 < c → i * c ≤ start → start + len ≤ i * c + c → 1 ≤ len → start / c ≡ i
+index_of i c start len some low high one =
+    ap (λ m. m / c) (omega arith) ∙ div-mul-add i c (start - i * c) (omega arith)
 
 module _ (digest : List ℕ → List ℕ) (held : Strings) where
   pub front_node : (t : Tree (List ℕ)) (s : ℕ) (x : Node) → InFront digest held t s x → IsNode digest t s x
@@ -159,7 +154,11 @@ module _ (digest : List ℕ → List ℕ) (held : Strings) where
             level_from 7 1 len refl many high in record {
               path = Tile l.level (start / 256 ^ (l.level + 1)) 256;
               is =
-                  record { many = many; tile = record { above = l.above; upto = l.upto; index_is = refl }; width_is = refl };
+                  record {
+                    many = many;
+                    tile = record { above = l.above; upto = l.upto; index_is = refl };
+                    width_is = refl;
+                  };
             }
         | inr few ↦ record {
           path = Entries (start / 256) (min 256 (size - 256 * (start / 256)));
@@ -182,10 +181,6 @@ module _ (digest : List ℕ → List ℕ) (held : Strings) where
   module _ (after : Strings) (grows : (y : List ℕ) → Has held y → Has after y) (es : List (List ℕ))
       (small : length es ≤ 256 ^ 8) (edge : HoldsAll held (edge_strings digest (edge_rows digest es)))
       (answered : (p : Path) → IsFront digest held es p → HoldsAll after (true_strings digest es p)) where
-    index_of : (i c start len : ℕ) → 0 < c → i * c ≤ start → start + len ≤ i * c + c → 1 ≤ len → start / c ≡ i
-    index_of i c start len some low high one =
-        ap (λ m. m / c) (omega arith) ∙ div-mul-add i c (start - i * c) (omega arith)
-
     -- a node of a bundle that was asked for is held
     in_bundle : (x y : Node) → IsNode digest (tree_of es) 0 x → IsNode digest (tree_of es) 0 y → IsNodeWithin x y →
         InFront digest held (tree_of es) 0 y → y.len ≤ 256 → (Has after x.string → ⊥) → ⊥
@@ -301,7 +296,7 @@ module _ (digest : List ℕ → List ℕ) (held : Strings) where
         (Has after x.string → ⊥) → x.len ≤ 256 ^ top
     after_round top asks x n e =
         let t = below_tile x n e in
-        let le = power_le t.level top (asks t.level t.index 256 t.asked) in
+        let le = level_mono t.level top (asks t.level t.index 256 t.asked) in
         omega (arith, t.short, le)
 
     -- after a round of bundles alone nothing is unheld

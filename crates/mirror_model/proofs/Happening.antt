@@ -14,7 +14,7 @@ use Rattle.mirror_model.specs.UnionLaws.{UnionClashes, UnionIsClean}
 use Rattle.mirror_model.specs.EventLaws.{TakesGrow, MergesGrow, TakesKeepLawful, MergesKeepLawful, IsLeft, RefusedTakeIsBetween}
 use Rattle.mirror_model.specs.EventLaws.{RefusedMergeIsBetween, EventGrows, EventsHaveOneAnswer, RetriedEventIsOneEvent, SelfMergeChangesNothing}
 use Rattle.node_store.proofs.Sets.{decide}
-use Rattle.mirror_model.proofs.StringSets.{has_left, has_right, has_cases, union_itself, clash_contradicts}
+use Rattle.mirror_model.proofs.StringSets.{has_cases, union_itself, clash_contradicts, union_clash}
 use Rattle.mirror_model.proofs.Views.{within_itself, within_union, within_plus, same_is_one, union_is_lawful}
 use Rattle.mirror_model.proofs.ItemStrings.{plus_is_lawful}
 use Rattle.mirror_model.proofs.Steps.{get_set_same, get_set_other, one_of_list, same_number, answer_grows, takes_again}
@@ -210,21 +210,6 @@ module _ (digest : List ℕ → List ℕ) (v w : Strings) (clean : NoClash diges
     ]
   ]
 
-  to_union : ClashesWith digest v w → HasClash digest (set.union v w)
-  to_union c =
-      record {
-        first =
-            c.first;
-        second =
-            c.second;
-        first_held =
-            has_left v w c.first c.first_held;
-        second_held =
-            has_right v w c.second c.second_held;
-        same_digest = c.same_digest;
-        differ = c.differ;
-      }
-
   to_clean : (ClashesWith digest v w → ⊥) → NoClash digest (set.union v w)
   to_clean none = record {
     same = λ x y hx hy e. elim (decide x y) [
@@ -237,11 +222,11 @@ module _ (digest : List ℕ → List ℕ) (v w : Strings) (clean : NoClash diges
 
 pub union_clashes : UnionClashes
 union_clashes digest v w clean clean' =
-    (from_union digest v.strings w.strings clean clean', to_union digest v.strings w.strings clean clean')
+    (from_union digest v.strings w.strings clean clean', union_clash digest v.strings w.strings)
 
 pub union_is_clean : UnionIsClean
 union_is_clean digest v w clean clean' = (
   λ all c. clash_contradicts digest (set.union v.strings w.strings) all
-      (to_union digest v.strings w.strings clean clean' c),
+      (union_clash digest v.strings w.strings c),
   to_clean digest v.strings w.strings clean clean',
 )

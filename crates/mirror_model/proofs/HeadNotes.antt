@@ -1,5 +1,6 @@
 -- A note is one head at most.
-use Rattle.std.proofs.Common.{◌≡◌, sym, ap, subst}
+use Rattle.std.proofs.Common.{◌≡◌, ℕ, List, sym, ap, subst}
+use Rattle.signed_note.specs.Keys.{Key}
 use Rattle.signed_note.proofs.OneReading.{notes_are_read}
 use Rattle.tlog_checkpoint.specs.declared.Checkpoint.{Checkpoint}
 use Rattle.tlog_checkpoint.specs.Grammar.{IsCheckpoint}
@@ -7,6 +8,7 @@ use Rattle.tlog_checkpoint.proofs.Uniqueness.{one_reading}
 use Rattle.mirror_model.specs.HeadLaws.{NoteIsOneHead}
 use Rattle.mirror_model.specs.Item.{HasEdgeRows}
 use Rattle.mirror_model.specs.LawfulLaws.{HeadsHaveEdges}
+use Rattle.mirror_model.specs.Heads.{IsHead, IsOpenHead}
 
 pub head_once : NoteIsOneHead
 head_once note origin origin' size size' root root' p q =
@@ -23,6 +25,17 @@ head_once note origin origin' size size' root root' p q =
           ap (λ (c : Checkpoint). c.size) same;
       root_is = ap (λ (c : Checkpoint). c.root) same;
     }
+
+-- a head that opens is a head
+pub head_of : (note origin : List ℕ) (keys : List Key) (size : ℕ) (root : List ℕ) →
+    IsOpenHead note origin keys size root → IsHead note origin size root
+head_of note origin keys size root h = record {
+  text = h.text;
+  lines = h.lines;
+  extensions = h.extensions;
+  is_note = h.is_note;
+  is_checkpoint = h.is_checkpoint;
+}
 
 pub heads_have_edges : HeadsHaveEdges
 heads_have_edges digest v lawful size root head =

@@ -150,7 +150,8 @@ plays_grow digest hash keys opened final plays lawful p mirror before after foun
     let after_lawful = plays_lawful digest hash keys opened final plays lawful p mirror after is in
     record {
       stays = λ size root entries c. complete_stays digest before after grows size root entries c;
-      same = λ size root entries others c d. complete_is_same digest hash before after grows after_lawful.no_clash size root entries others c d;
+      same = λ size root entries others c d. complete_is_same digest hash before after grows after_lawful.no_clash size
+          root entries others c d;
       forks = λ a b f. forks_stay digest before after grows a b f;
     }
 

@@ -24,6 +24,7 @@ use Rattle.mirror_model.specs.LawfulLaws.{PlusIsLawful}
 use Rattle.mirror_model.proofs.StringSets.{has_right, has_cases, listed_from_has, has_from_listed, held_from_all}
 use Rattle.mirror_model.proofs.Views.{within_plus, edge_stays}
 use Rattle.mirror_model.proofs.ItemBytes.{row_is_row, bundle_is_one}
+use Rattle.mirror_model.proofs.HeadNotes.{head_of}
 
 -- a string of a good item: a pair, or a leaf of an entry of at most 65,535 bytes
 pub record IsShortLeaf (string : List ℕ) : Type 0 where
@@ -174,20 +175,12 @@ module _ (digest : List ℕ → List ℕ) (hash : IsDigest digest) where
       (recursion_from_All (Has (set.union v.strings (set.from_list ss))) ss
       (All-weaker (Contains ss) (Has (set.union v.strings (set.from_list ss)))
       (λ y d. has_right v.strings (set.from_list ss) y (has_from_listed ss y d)) ss (All-contains_itself ss))) in
-      let h = good.is_head in
       record {
         size = good.size;
         root = good.root;
         is_head =
             subst (λ n. IsHead n v.origin good.size good.root) (sym is)
-            (record {
-              text =
-                  h.text;
-              lines = h.lines;
-              extensions = h.extensions;
-              is_note = h.is_note;
-              is_checkpoint = h.is_checkpoint;
-            });
+            (head_of bytes v.origin keys good.size good.root good.is_head);
         edge = record { rows = rows; has_edge = good.has_edge; are_held = held };
       }
   note_edge keys v (Tile width bytes) good note c = absurd (All-contains (λ n. ⊥) [] note (All-nil (λ n. ⊥)) c)
@@ -197,7 +190,7 @@ is_string : (y : List ℕ) → IsItemString y → IsTagged y
 is_string y (inl l) = subst IsTagged (sym l.is) (OfEntry l.entry)
 is_string y (inr p) = subst IsTagged (sym p.is) (OfPair p.left p.right p.left_len p.right_len)
 
-is_short : (e : List ℕ) → IsItemString (0 ∷ e) → length e ≤ 65535
+pub is_short : (e : List ℕ) → IsItemString (0 ∷ e) → length e ≤ 65535
 is_short e (inl l) = let same : e ≡ l.entry = ap (drop 1) l.is in omega (arith, l.short, ap length same)
 is_short e (inr p) = absurd (let zero_one : 0 ≡ 1 = ap (λ xs. get_or xs 0 0) p.is in omega arith)
 

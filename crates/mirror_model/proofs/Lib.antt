@@ -35,3 +35,4 @@ pub mod Fetching
 pub mod Refusing
 pub mod RefusedHeads
 pub mod Reporting
+pub mod Origins

@@ -15,18 +15,24 @@ use Rattle.mirror_model.specs.Front.{path_cmp}
 use Rattle.mirror_model.specs.Listed.{PointPair, pair_cmp, NotesAreListedOnce, HeadsAreListedOnce, ForksAreListedOnce}
 use Rattle.mirror_model.specs.Listed.{MissingIsListedOnce, FrontIsListedOnce}
 
+-- ---- the first of a list and the others
+
+module _ {X : Type 0} where
+  pub head_or : (x : X) (xs : List X) (y : X) → Contains (x ∷ xs) y → (x ≡ y) ⊎ Contains xs y
+  head_or x xs y (zero, lt, is) = inl is
+  head_or x xs y (suc k, lt, is) = inr (k, omega (arith, lt), is)
+
+  pub later : (x : X) (xs : List X) (y : X) → Contains xs y → Contains (x ∷ xs) y
+  later x xs y (k, lt, is) = (suc k, omega (arith, lt), is)
+
+  pub here : (x : X) (xs : List X) → Contains (x ∷ xs) x
+  here x xs = (zero, omega arith, refl)
+
 -- ---- lists in order
 
 module _ {X : Type 0} (cmp : X → X → Ordering) (turns : (x y : X) → cmp x y ≡ ordering_reverse (cmp y x)) where
   never_both : (x y : X) → cmp x y ≡ Less → cmp y x ≡ Less → ⊥
   never_both x y a b = let wrong : Less ≡ Greater = sym a ∙ turns x y ∙ ap ordering_reverse b in cc wrong
-
-  head_or : (x : X) (xs : List X) (y : X) → Contains (x ∷ xs) y → (x ≡ y) ⊎ Contains xs y
-  head_or x xs y (zero, lt, is) = inl is
-  head_or x xs y (suc k, lt, is) = inr (k, omega (arith, lt), is)
-
-  later : (x : X) (xs : List X) (y : X) → Contains xs y → Contains (x ∷ xs) y
-  later x xs y (k, lt, is) = (suc k, omega (arith, lt), is)
 
   above : (x : X) (xs : List X) → AllByRecursion (λ y. cmp x y ≡ Less) xs → (y : X) → Contains xs y → cmp x y ≡ Less
   above x xs all y c = All-contains (λ y. cmp x y ≡ Less) xs y (All-from_recursion (λ y. cmp x y ≡ Less) xs all) c

@@ -1,24 +1,23 @@
 -- Round after round until all is held.
 use Rattle.std.proofs.Common.{zero, suc, ◌≡◌, ℕ, ◌+◌, ◌-◌, ◌*◌, ◌/◌, ◌^◌, ◌<◌, ◌≤◌, List, [], ◌∷◌, length, sym, refl}
 use Rattle.std.proofs.Common.{ap, ◌∙◌, subst, inl, inr, arith}
-use Rattle.std.proofs.lemmas.Nat.{mul-le}
 use Rattle.std.proofs.lemmas.Bool.{cases_lt}
 use Rattle.std.proofs.Math.Nat.{pow-succ', div-mul-le_self, lt-div-mul-add}
 use Rattle.tlog_shape.specs.Edge.{width_of, IsTop}
 use Rattle.tlog_hash.specs.Tree.{strings}
-use Rattle.tlog_shape.proofs.Levels.{level_positive}
+use Rattle.tlog_shape.proofs.Levels.{level_positive, level_mono}
 use Rattle.tlog_tiles.specs.declared.paths.Path.TheVariants.{Tile}
 use Rattle.mirror_model.specs.Front.{IsFront}
 use Rattle.node_store.specs.Strings.{Strings, Has, HasAll}
 use Rattle.mirror_model.specs.Rounds.{AreRounds, last_held}
 use Rattle.mirror_model.specs.TreeLaws.{FrontIsBelowTop, EnoughRoundsComplete}
 use Rattle.mirror_model.proofs.StringSets.{holds_from_held, held_more}
-use Rattle.mirror_model.proofs.Fronts.{power_le}
 use Rattle.mirror_model.proofs.TreeLaws.{round_goes_down, bundles_complete}
 use Rattle.mirror_model.proofs.TrueItems.{front_tile}
+use Rattle.mirror_model.proofs.RowLaws.{from_products}
 
 -- a size below 256^(level + 1) of width 0 at the level is below 256^level
-one_lower : (n level : ℕ) → n < 256 ^ (level + 1) → width_of n level ≡ 0 → n < 256 ^ level
+pub one_lower : (n level : ℕ) → n < 256 ^ (level + 1) → width_of n level ≡ 0 → n < 256 ^ level
 one_lower n level below none =
     let b = 256 ^ level in
     let q = n / b in
@@ -26,18 +25,10 @@ one_lower n level below none =
     let next : 256 ^ (level + 1) ≡ 256 * b = ap (λ m. 256 ^ m) one ∙ pow-succ' 256 level in
     let upto : q * b ≤ n = div-mul-le_self n b in
     let above : n < q * b + b = lt-div-mul-add (level_positive level) in
-    let small : q < 256 = from_product q 256 b (omega (arith, next, upto, below)) in
+    let small : q < 256 = from_products q 256 b (omega (arith, next, upto, below)) in
     let z : q ≡ 0 = omega (arith, small, none) in
     let zb : q * b ≡ 0 = ap (λ m. m * b) z ∙ omega arith in
     omega (arith, above, zb)
-  where
-    from_product : (i k c : ℕ) → i * c < k * c → i < k
-    from_product i k c h =
-        elim (cases_lt i k) [
-          | inl a ↦ a
-          | inr a ↦ absurd
-              (let le : k * c ≤ i * c = mul-le _ _ _ _ a (omega arith) in omega arith)
-        ]
 
 -- so a size has no more entries than its greatest level's next power
 below_top : (n top : ℕ) → n < 256 ^ 8 → IsTop n top → n < 256 ^ (top + 1)
@@ -67,7 +58,7 @@ front_is_below_top digest held entries top small t edge level index width f =
     elim (cases_lt level top) [
       | inl lt ↦ lt
       | inr le ↦ absurd
-          (let more = power_le (top + 1) (level + 1) (omega (arith, le)) in
+          (let more = level_mono (top + 1) (level + 1) (omega (arith, le)) in
           let c = 256 ^ (level + 1) in
           let one : (index + 1) * c ≡ index * c + c = omega arith in
           omega (arith, full, one, more, below))

@@ -1,10 +1,9 @@
 -- The walk from a root fails nowhere exactly where a list of entries is held whole.
 use Rattle.std.proofs.Common.{zero, suc, ◌≡◌, ℕ, ◌+◌, ◌-◌, ◌*◌, ◌≤◌, ◌^◌, List, [], ◌∷◌, ◌++◌, length, map, take, drop}
-use Rattle.std.proofs.Common.{replicate, Bool, true, false, nat_eq, sym, refl, ap, ◌∙◌, subst, ◌⊎◌, inl, inr, arith}
+use Rattle.std.proofs.Common.{replicate, sym, refl, ap, ◌∙◌, subst, ◌⊎◌, inl, inr, arith}
 use Rattle.std.proofs.Common.{length-append, length-take, length-drop, take-append-drop, get_or}
 use Rattle.std.specs.List.{Contains}
 use Rattle.std.specs.FinSet as set
-use Rattle.std.proofs.lemmas.Bool.{eqb-true, eqb-false}
 use Rattle.std.proofs.lemmas.List.{length-replicate}
 use Rattle.std.proofs.lemmas.List.Elements.{All-contains, All-nil}
 use Rattle.tlog_shape.specs.Split.{split_of}
@@ -26,6 +25,7 @@ use Rattle.mirror_model.proofs.StringSets.{HoldsAll, in_items, has_item, all_fro
 use Rattle.mirror_model.proofs.Fronts.{front_empty, path_of}
 use Rattle.mirror_model.proofs.TreeLaws.{missing_is_front}
 use Rattle.mirror_model.proofs.HeadNotes.{head_once}
+use Rattle.mirror_model.proofs.Steps.{same_number}
 
 -- ---- lists that are held
 
@@ -150,13 +150,6 @@ module _ (digest : List ℕ → List ℕ) (hash : List ℕ) where
     | inl e ↦ inl (record { entry = s; is = refl; digest_is = e })
     | inr ne ↦ inr (λ l. ne l.digest_is)
   ]
-
-  same_number : (i j : ℕ) → (i ≡ j) ⊎ (i ≡ j → ⊥)
-  same_number i j = at (nat_eq i j) refl
-    where
-      at : (b : Bool) → nat_eq i j ≡ b → (i ≡ j) ⊎ (i ≡ j → ⊥)
-      at true e = inl (eqb-true i j e)
-      at false e = inr (eqb-false i j e)
 
   pub is_pair : (s : List ℕ) → IsPairOf s ⊎ (IsPairOf s → ⊥)
   unfolding first_of

@@ -9,6 +9,7 @@ use Rattle.tlog_hash.proofs.Shapes.{size_of-shape}
 use Rattle.tlog_hash.proofs.Trees.{tree_of-none, tree_of-one, tree_of-join, induction}
 use Rattle.tlog_shape.specs.Split.{split_of}
 use Rattle.tlog_shape.proofs.Splits.{split_of-below, split_of-positive}
+use Rattle.tlog_shape.proofs.Levels.{level_mono}
 use Rattle.std.proofs.lemmas.List.{length-replicate}
 use Rattle.tlog_tiles.specs.declared.paths.Path.{Path}
 use Rattle.tlog_tiles.specs.declared.paths.Path.TheVariants.{Checkpoint, Tile, Entries}
@@ -16,7 +17,6 @@ use Rattle.mirror_model.specs.Front.{IsPathOf}
 use Rattle.node_store.specs.Strings.{Strings}
 use Rattle.mirror_model.specs.Walk.{WalkFails}
 use Rattle.mirror_model.specs.TreeLaws.{IsOfSize, MissingIsOfSize}
-use Rattle.mirror_model.proofs.Fronts.{power_le}
 
 -- the nodes of a tree
 pub record IsSpan (start len at many : ℕ) : Type 0 where
@@ -123,7 +123,7 @@ missing_is_of_size digest held size root small path m = at path size refl m.path
             elim (cases_lt level 8) [
               | inl a ↦ omega (arith, a)
               | inr a ↦ absurd
-                  (let more = power_le 8 level a in omega (arith, more, lt))
+                  (let more = level_mono 8 level a in omega (arith, more, lt))
             ]
     at (Entries index width) n z p =
         let low : index * 256 ≤ m.at = subst (λ i. i * 256 ≤ m.at) (sym p.index_is) (div-mul-le_self m.at 256) in

@@ -80,7 +80,8 @@ missing_is_within digest hash v lawful size root head path m =
         let edge = heads_have_edges digest v lawful size root head in
         let at = m.at in
         let many = m.many in
-        let h = below_hash digest hash v.strings lawful.no_clash size small root edge.rows edge.has_edge edge.are_held at many m.fails in
+        let h = below_hash digest hash v.strings lawful.no_clash size small root edge.rows edge.has_edge edge.are_held
+        at many m.fails in
         let full = tile_full digest hash v.strings lawful.no_clash size small level at many m.path_is.tile.above h in
         let end : (index + 1) * 256 ^ (level + 1) ≤ size =
         subst (λ i. (i + 1) * 256 ^ (level + 1) ≤ size) (sym m.path_is.tile.index_is) full in (

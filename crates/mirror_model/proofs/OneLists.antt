@@ -116,7 +116,7 @@ complete_is_same digest hash v w a clean size root before after p q =
     only digest w.strings hash clean size root before after (complete_stays digest v w a size root before p).tree q.tree
 
 -- of two lists of one length that begin alike both are the same
-prefix_same : (xs ys : List (List ℕ)) → length xs ≡ length ys → IsPrefix xs ys → xs ≡ ys
+pub prefix_same : (xs ys : List (List ℕ)) → length xs ≡ length ys → IsPrefix xs ys → xs ≡ ys
 prefix_same xs ys len p =
     let none : length p.rest ≡ 0 = omega (arith, length-append xs p.rest, ap length p.is) in
     sym (append-nil xs) ∙ ap (λ zs. xs ++ zs) (sym (nil_from_length p.rest none)) ∙ p.is
@@ -211,11 +211,13 @@ serves_one digest hash v lawful note other size n root r first second p q =
 pub one_served : (digest : List ℕ → List ℕ) → IsDigest digest → (v : View) → IsLawful digest v →
     (first second : List (List ℕ)) → IsServedList digest v first → IsServedList digest v second → first ≡ second
 one_served digest hash v lawful first second p q =
-    (serves_one digest hash v lawful p.note q.note p.size q.size p.root q.root first second p.served q.served).entries_are
+    (serves_one digest hash v lawful p.note q.note p.size q.size p.root q.root first second p.served
+    q.served).entries_are
 
 pub replies_once : ReplyIsOne
 replies_once digest hash v lawful Checkpoint first second p q =
-    (serves_one digest hash v lawful first second p.size q.size p.root q.root p.entries q.entries p.served q.served).note_is
+    (serves_one digest hash v lawful first second p.size q.size p.root q.root p.entries q.entries p.served
+    q.served).note_is
 replies_once digest hash v lawful (Tile level index width) first second p q =
     p.bytes_are ∙
     ap (λ es. tile_bytes digest es level index width)

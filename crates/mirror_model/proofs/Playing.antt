@@ -24,7 +24,7 @@ use Rattle.mirror_model.proofs.Views.{within_itself, within_union, within_plus}
 use Rattle.mirror_model.proofs.Steps.{get_set_same, get_set_other, one_of_list, same_number, answer_grows}
 use Rattle.mirror_model.proofs.Steps.{answer_within, answer_changes}
 use Rattle.mirror_model.proofs.Reaching.{open_none, open_itself, open_first, open_later, open_by, item_none, item_first}
-use Rattle.mirror_model.proofs.Reaching.{item_later, item_by}
+use Rattle.mirror_model.proofs.Reaching.{item_later, item_by, take_is_no_merge}
 
 -- ---- an event
 
@@ -420,7 +420,8 @@ module _ (digest : List ℕ → List ℕ) (origin : List ℕ) (keys : List Key) 
         | inl r' ↦ next r'
         | inr b ↦ let m =
             take_on old run.0 e a of
-            (exact.0 k) run.1 item b.target b.is good q has in run_opens run.0 new es rest of' exact.1 run.2 mirror v found b.target m.0 m.1 q m.2 b.on
+            (exact.0 k) run.1 item b.target b.is good q has in
+            run_opens run.0 new es rest of' exact.1 run.2 mirror v found b.target m.0 m.1 q m.2 b.on
       ])
       (λ k r. next r)
       on
@@ -437,13 +438,16 @@ module _ (digest : List ℕ → List ℕ) (origin : List ℕ) (keys : List Key) 
   has_reached exact mirror v found = record {
     strings = λ q h. elim h [
       | inl o ↦ run_opens digest origin keys (λ w. w.strings) (strings_of digest)
-          (of_strings digest) keep opened final events answers of exact run mirror v found o.number o.view o.is q o.has o.reaches
+          (of_strings digest) keep opened final events answers of exact run mirror v found o.number o.view o.is q
+          o.has o.reaches
       | inr t ↦ run_takes digest origin keys (λ w. w.strings) (strings_of digest)
-          (of_strings digest) keep opened final events answers of exact run mirror v found t.item t.good q t.has t.reaches
+          (of_strings digest) keep opened final events answers of exact run mirror v found t.item t.good q
+          t.has t.reaches
     ];
     notes = λ q h. elim h [
       | inl o ↦ run_opens digest origin keys (λ w. w.notes) notes_of
-          (of_notes digest) keep opened final events answers of exact run mirror v found o.number o.view o.is q o.has o.reaches
+          (of_notes digest) keep opened final events answers of exact run mirror v found o.number o.view o.is q
+          o.has o.reaches
       | inr t ↦ run_takes digest origin keys (λ w. w.notes) notes_of
           (of_notes digest) keep opened final events answers of exact run mirror v found t.item t.good q t.has t.reaches
     ];
@@ -480,7 +484,8 @@ pub run_is_bounded : ForMirrors RunIsBounded
 run_is_bounded digest origin keys opened final events answers r mirror v found = record {
   lower = has_reached digest origin keys opened final events answers r.of_origin r.run is_done
       (done_exact answers) mirror v found;
-  upper = reached_only digest origin keys opened final events answers r.of_origin r.run may_change skips_none mirror v found;
+  upper = reached_only digest origin keys opened final events answers r.of_origin r.run may_change skips_none
+      mirror v found;
 }
 
 abbrev all_of : Answer → Bool
@@ -494,9 +499,6 @@ all_events digest keys old new (e ∷ es) (a ∷ rest) run =
     ap (λ fs. e ∷ fs) (all_events digest keys run.0 new es rest run.2)
 
 -- ---- events done again
-
-no_merge_by : {X : Type 0} (t : ℕ) (x : Item) (target source : ℕ) → Take t x ≡ Merge target source → X
-no_merge_by t x target source e = absurd (cc e)
 
 open_once : (e : Event) (es : List Event) (opened mirror : ℕ) → OpeningReaches opened mirror (e ∷ e ∷ es) →
     OpeningReaches opened mirror (e ∷ es)
@@ -520,7 +522,7 @@ item_once e es item mirror h =
       | inl on ↦ on
       | inr b ↦ elim (open_first e es b.target mirror b.on) [
         | inl on ↦ subst (λ f. Reaches item mirror (f ∷ es)) (sym b.is) (item_by es b.target item mirror on)
-        | inr c ↦ no_merge_by b.target item c.target b.target (sym b.is ∙ c.is)
+        | inr c ↦ take_is_no_merge b.target item c.target b.target (sym b.is ∙ c.is)
       ]
     ]
 

@@ -126,7 +126,7 @@ item_by es target item mirror h =
 
 -- ---- by the last event
 
-take_is_no_merge : {X : Type 0} (t : ℕ) (x : Item) (target source : ℕ) → Take t x ≡ Merge target source → X
+pub take_is_no_merge : {X : Type 0} (t : ℕ) (x : Item) (target source : ℕ) → Take t x ≡ Merge target source → X
 take_is_no_merge t x target source e = absurd (cc e)
 
 open_take_to : (es : List Event) (t : ℕ) (x : Item) (opened mirror : ℕ) →

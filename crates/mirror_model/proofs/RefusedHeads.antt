@@ -134,7 +134,11 @@ module _ (bytes origin : List ℕ) (keys : List Key) where
         is_note =
             h.is.is_note;
         then =
-            inr (record { checkpoint = h.checkpoint; is_checkpoint = h.is.is_checkpoint; then = inl (refl, h.differs) });
+            inr (record {
+              checkpoint = h.checkpoint;
+              is_checkpoint = h.is.is_checkpoint;
+              then = inl (refl, h.differs);
+            });
       })
   steps (Err taking.NoTrustedSignature) h m =
       inr (record {

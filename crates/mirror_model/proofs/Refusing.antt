@@ -138,7 +138,8 @@ unfolding short_or_long
 bundles_are_judged width bytes = record {
   refused =
       λ a h e good. elim
-      (bundle_refused width bytes a h e) [ inl p ↦ bundle_not_short width bytes p.1 good | inr p ↦ bundle_not_long width bytes p.1 good ];
+      (bundle_refused width bytes a h e)
+      [ inl p ↦ bundle_not_short width bytes p.1 good | inr p ↦ bundle_not_long width bytes p.1 good ];
   taken = bundle_taken width bytes;
   once = λ a b p q e f.
       elim (bundle_refused width bytes a p e) [

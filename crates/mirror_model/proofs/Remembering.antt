@@ -28,7 +28,11 @@ top_of digest (One e) some =
 top_of digest (Join l r) some =
     record {
       node =
-          record { start = 0; len = size_of l + size_of r; string = 1 ∷ entries_root digest l ++ entries_root digest r };
+          record {
+            start = 0;
+            len = size_of l + size_of r;
+            string = 1 ∷ entries_root digest l ++ entries_root digest r;
+          };
       is =
           inl (record { start_is = refl; len_is = refl; string_is = refl });
       start_is = refl;

@@ -11,9 +11,8 @@ use Rattle.tlog_hash.specs.Blocks.{IsCut, joined_up}
 use Rattle.tlog_hash.specs.Rows.{part, ranges, level_row}
 use Rattle.tlog_hash.specs.Nodes.{Node, IsNode}
 use Rattle.tlog_hash.proofs.Folds.{joined_ranges, length-ranges}
-use Rattle.tlog_shape.proofs.Levels.{level_power, level_positive}
+use Rattle.tlog_shape.proofs.Levels.{level_power, level_positive, level_next}
 use Rattle.std.specs.Prelude.{◌↔◌}
-use Rattle.std.proofs.Math.Nat.{pow-succ'}
 use Rattle.tlog_hash.proofs.NodeStrings.{from_joins, to_joins, node_of_string, string_of_node}
 use Rattle.mirror_model.proofs.NodeBlocks.{node_inside, node_of_blocks, block_node, upper_node, IsInside, IsInBlock}
 
@@ -251,16 +250,13 @@ module _ (digest : List ℕ → List ℕ) (es : List (List ℕ)) where
         from_tile_node (8 * level) (8 * (level + 1)) p w row y,
       )))
 
-  next_level : (level : ℕ) → 256 ^ (level + 1) ≡ 256 * 256 ^ level
-  next_level level = let e : level + 1 ≡ suc level = omega arith in ap (λ m. 256 ^ m) e ∙ pow-succ' 256 level
-
   full_row : (level p : ℕ) → (p + 1) * 256 ^ (level + 1) ≤ length es →
       IsWholeRow (256 ^ level) (256 ^ (level + 1)) p 256
   full_row level p h =
       let b = 256 ^ level in
       let c = 256 ^ (level + 1) in
       let some : 0 < b = level_positive level in
-      let next : c ≡ 256 * b = next_level level in
+      let next : c ≡ 256 * b = level_next level in
       let pc : p * c ≡ (256 * p) * b = ap (λ m. p * m) next ∙ omega arith in
       let pc1 : (p + 1) * c ≡ p * c + c = omega arith in
       let end : (256 * p + 256) * b ≡ (256 * p) * b + 256 * b = omega arith in

@@ -133,10 +133,12 @@ union_again old between other grows within = same_is_one (union between other) (
       origin_is = within.origin_is;
       notes_are =
           λ q h. elim
-          (has_cases between.notes other.notes q h) [ inl a ↦ within.notes_are q a | inr b ↦ has_right old.notes other.notes q b ];
+          (has_cases between.notes other.notes q h)
+          [ inl a ↦ within.notes_are q a | inr b ↦ has_right old.notes other.notes q b ];
       strings_are =
           λ q h. elim
-          (has_cases between.strings other.strings q h) [ inl a ↦ within.strings_are q a | inr b ↦ has_right old.strings other.strings q b ];
+          (has_cases between.strings other.strings q h)
+          [ inl a ↦ within.strings_are q a | inr b ↦ has_right old.strings other.strings q b ];
     })
     (record {
       origin_is = grows.origin_is;

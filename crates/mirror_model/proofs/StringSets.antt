@@ -6,14 +6,16 @@ use Rattle.std.specs.Cmp.{tied_itself}
 use Rattle.std.specs.Cmp.Lexicographic.{slice_cmp, nat_list_cmp_total}
 use Rattle.std.specs.List.{Contains, AllByRecursion, list_any}
 use Rattle.std.specs.FinSet as set
-use Rattle.std.specs.FinSet.{contains, contains-union, contains-empty, contains-insert, contains-from_list}
-use Rattle.std.specs.FinSet.{contains-items, same_set, slice_cmp-IsAntisymmetric, nat_cmp-IsAntisymmetric}
+use Rattle.std.specs.FinSet.{contains, contains-insert, contains-from_list}
+use Rattle.std.specs.FinSet.{contains-items}
 use Rattle.std.proofs.lemmas.List.Elements.{All-contains, All-from_recursion, recursion_from_All, All-weaker}
-use Rattle.std.proofs.lemmas.List.Elements.{All-contains_itself}
+use Rattle.std.proofs.lemmas.List.Elements.{All-contains_itself, All-nil, All-cons}
 use Rattle.std.proofs.lemmas.Map.Lookups.{exact_bytes}
 use Rattle.std.proofs.lemmas.Map.Views.{tells_apart, Contains-from_any}
-use Rattle.node_store.proofs.Sets.{or_left, or_right, or_either, tied, decide}
-use Rattle.node_store.specs.Strings.{Strings, Has, HasAll, NoClash}
+use Rattle.node_store.proofs.Sets.{or_left, or_right, tied, decide}
+pub use Rattle.node_store.proofs.Sets.{Has-union_cases as has_cases, Has-empty as has_empty, same_strings}
+pub use Rattle.node_store.proofs.Sets.{Has-union_left as has_left, Has-union_right as has_right}
+use Rattle.node_store.specs.Strings.{Strings, Has, HasAll, NoClash, ClashesWith}
 use Rattle.mirror_model.specs.Strings.{HasClash}
 
 -- a set has a string or not
@@ -29,29 +31,6 @@ abbrev pub HoldsAll : Strings → List (List ℕ) → Type 0
 HoldsAll held wanted = (string : List ℕ) → Contains wanted string → Has held string
 
 -- ---- unions
-
-pub has_left : (v w : Strings) (q : List ℕ) → Has v q → Has (set.union v w) q
-has_left v w q h = contains-union nat_list_cmp_total v w q ∙ or_left _ _ h
-
-pub has_right : (v w : Strings) (q : List ℕ) → Has w q → Has (set.union v w) q
-has_right v w q h = contains-union nat_list_cmp_total v w q ∙ or_right _ _ h
-
-pub has_cases : (v w : Strings) (q : List ℕ) → Has (set.union v w) q → Has v q ⊎ Has w q
-has_cases v w q h = or_either _ _ (sym (contains-union nat_list_cmp_total v w q) ∙ h)
-
-pub has_empty : (q : List ℕ) → Has set.empty q → ⊥
-has_empty q h = let e = contains-empty (slice_cmp nat_cmp) q in cc (e, h)
-
--- two sets with the same strings are one
-pub same_strings : (s t : Strings) → ((q : List ℕ) → Has s q → Has t q) → ((q : List ℕ) → Has t q → Has s q) → s ≡ t
-same_strings s t to from =
-    same_set nat_list_cmp_total (slice_cmp-IsAntisymmetric nat_cmp-IsAntisymmetric) s t
-    (λ q. same_bool _ _ (to q) (from q))
-  where
-    same_bool : (a b : Bool) → (a ≡ true → b ≡ true) → (b ≡ true → a ≡ true) → a ≡ b
-    same_bool true b f g = sym (f refl)
-    same_bool false true f g = g refl
-    same_bool false false f g = refl
 
 pub union_comm : (v w : Strings) → set.union v w ≡ set.union w v
 union_comm v w = same_strings _ _ (half v w) (half w v)
@@ -106,6 +85,12 @@ has_from_listed ss q c =
       each ss all (λ x h. more x (contains-insert nat_list_cmp_total (set.from_list ss) s x ∙ or_right _ _ h)),
     )
 
+-- the one string of a list is that string
+pub only_listed : (x y : List ℕ) → Has (set.from_list (x ∷ [])) y → y ≡ x
+only_listed x y h =
+    All-contains (λ z. z ≡ x) (x ∷ []) y (All-cons (λ z. z ≡ x) x [] refl (All-nil (λ z. z ≡ x)))
+    (listed_from_has (x ∷ []) y h)
+
 -- the strings of a set, in order
 pub in_items : (s : Strings) (q : List ℕ) → Has s q → Contains (set.items s) q
 in_items s q h = Contains-from_any (tells_apart exact_bytes) q (set.items s) (sym (contains-items s q) ∙ h)
@@ -146,6 +131,30 @@ held_more v w (s ∷ ss) more h = (more s h.0, held_more v w ss more h.1)
 pub no_clash_within : (digest : List ℕ → List ℕ) (v w : Strings) → ((q : List ℕ) → Has v q → Has w q) →
     NoClash digest w → NoClash digest v
 no_clash_within digest v w more clean = record { same = λ x y hx hy e. clean.same x y (more x hx) (more y hy) e }
+
+-- what clashes within a set clashes within a larger one
+pub clash_within : (digest : List ℕ → List ℕ) (v w : Strings) → ((q : List ℕ) → Has v q → Has w q) →
+    HasClash digest v → HasClash digest w
+clash_within digest v w more c = record {
+  first = c.first;
+  second = c.second;
+  first_held = more c.first c.first_held;
+  second_held = more c.second c.second_held;
+  same_digest = c.same_digest;
+  differ = c.differ;
+}
+
+-- two sets that clash with each other do so within their union
+pub union_clash : (digest : List ℕ → List ℕ) (v w : Strings) → ClashesWith digest v w →
+    HasClash digest (set.union v w)
+union_clash digest v w c = record {
+  first = c.first;
+  second = c.second;
+  first_held = has_left v w c.first c.first_held;
+  second_held = has_right v w c.second c.second_held;
+  same_digest = c.same_digest;
+  differ = c.differ;
+}
 
 pub clash_contradicts : (digest : List ℕ → List ℕ) (v : Strings) → NoClash digest v → HasClash digest v → ⊥
 clash_contradicts digest v clean c = c.differ (clean.same c.first c.second c.first_held c.second_held c.same_digest)

@@ -11,9 +11,10 @@ use Rattle.mirror_model.specs.TreeLaws.{FrontIsEmpty, FullRowJoinsAreNodes, Bund
 use Rattle.mirror_model.specs.TreeLaws.{BundleRoundCompletes, MissingIsFront}
 use Rattle.mirror_model.proofs.NodeBlocks.{node_inside}
 use Rattle.mirror_model.proofs.RowLaws.{full_tile, bundle}
-use Rattle.mirror_model.proofs.Fronts.{front_empty, power_le, front_node, front_unheld, after_round, after_bundles}
+use Rattle.mirror_model.proofs.Fronts.{front_empty, front_node, front_unheld, after_round, after_bundles}
 use Rattle.mirror_model.proofs.Walks.{walk_is_front}
 use Rattle.mirror_model.proofs.StringSets.{holds_from_held, held_from_holds}
+use Rattle.tlog_shape.proofs.Levels.{level_mono}
 
 pub full_row_joins : FullRowJoinsAreNodes
 full_row_joins d es level index fits y =
@@ -72,7 +73,11 @@ bundle_strings d es index fits y =
             is =
                 h.is;
             inside =
-                record { start_in = omega (arith, h.start_in); upto = omega (arith, h.end_in); some = omega (arith, h.long) };
+                record {
+                  start_in = omega (arith, h.start_in);
+                  upto = omega (arith, h.end_in);
+                  some = omega (arith, h.long);
+                };
             string_is = h.string_is;
           })),
     )
@@ -90,7 +95,7 @@ round_goes_down d held after es small r top asks level index width f =
     (front_unheld d after (tree_of es) 0 n f.is) in
     elim (cases_lt level top) [
       | inl lt ↦ lt
-      | inr le ↦ absurd (let more = power_le top level le in omega (arith, short, f.path_is.tile.above, more))
+      | inr le ↦ absurd (let more = level_mono top level le in omega (arith, short, f.path_is.tile.above, more))
     ]
 
 pub bundles_complete : BundleRoundCompletes

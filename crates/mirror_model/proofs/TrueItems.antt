@@ -34,8 +34,9 @@ use Rattle.mirror_model.proofs.EdgeStrings.{full_or_edge}
 use Rattle.mirror_model.proofs.NodeBlocks.{node_inside}
 use Rattle.tlog_hash.proofs.NodeStrings.{string_of_node}
 use Rattle.mirror_model.proofs.TreeLaws.{full_row_joins, bundle_strings}
-use Rattle.mirror_model.proofs.Fronts.{front_node, front_unheld, power_le}
+use Rattle.mirror_model.proofs.Fronts.{front_node, front_unheld}
 use Rattle.node_store.specs.Strings.{Strings}
+use Rattle.tlog_shape.proofs.Levels.{level_mono}
 
 -- ---- tiles and bundles
 
@@ -175,7 +176,7 @@ module _ (digest : List ℕ → List ℕ) (held : Strings) (entries : List (List
       let inside = node_inside digest entries 0 x n in
       let low : level ≤ 7 = elim (cases_lt level 8) [
         | inl lt ↦ omega (arith, lt)
-        | inr le ↦ absurd (let more = power_le 8 level le in omega (arith, more, t.tile.above, inside.upto, small))
+        | inr le ↦ absurd (let more = level_mono 8 level le in omega (arith, more, t.tile.above, inside.upto, small))
       ] in
       elim (full_or_edge digest entries level x (omega (arith, low)) t.tile.above t.tile.upto n) [
         | inr on_edge ↦ absurd (front_unheld digest held (tree_of entries) 0 x f.is (edge x.string on_edge))

@@ -1,6 +1,6 @@
 -- Small views and plays.
 use Rattle.std.proofs.Common.{◌≡◌, ℕ, List, [], ◌∷◌, length, sym, refl, ap, ◌∙◌, subst, inl, inr, arith}
-use Rattle.std.specs.Prelude.{Some, slice_get, slice_index_or, replicate, ◌<◌, zero, suc, map}
+use Rattle.std.specs.Prelude.{Some, slice_get, replicate, map}
 use Rattle.std.specs.FinSet as set
 use Rattle.std.specs.List.{Contains}
 use Rattle.std.specs.Ordering.{is_le}
@@ -22,7 +22,7 @@ use Rattle.mirror_model.specs.Events.{Reaches, OpeningReaches}
 use Rattle.mirror_model.specs.Reached.{OpensWith}
 use Rattle.mirror_model.specs.ViewExamples.{EmptyCountsForNothing, OneEntryIsServed, one_entry}
 use Rattle.mirror_model.proofs.Reaching.{open_none, open_itself, open_first, open_by, item_none, item_first}
-use Rattle.mirror_model.proofs.StringSets.{has_empty, listed_from_has, has_from_listed}
+use Rattle.mirror_model.proofs.StringSets.{has_empty, has_from_listed, only_listed}
 use Rattle.mirror_model.specs.HeadLaws.{IsSameHead}
 use Rattle.mirror_model.proofs.HeadNotes.{head_once}
 
@@ -90,13 +90,6 @@ empty_counts_for_nothing digest origin keys v = record {
 
 -- ---- a view that serves one entry
 
-same_listed : (x y : List ℕ) → Has (set.from_list (x ∷ [])) y → y ≡ x
-same_listed x y h = let c = listed_from_has (x ∷ []) y h in at c.0 c.1 c.2
-  where
-    at : (k : ℕ) → k < length (x ∷ []) → slice_index_or (x ∷ []) k y ≡ y → y ≡ x
-    at zero lt e = sym e
-    at (suc k) lt e = absurd (omega (arith, lt))
-
 first_listed : (x : List ℕ) → Contains (x ∷ []) x
 first_listed x = (0, omega arith, refl)
 
@@ -123,15 +116,15 @@ pub one_entry_is_served : OneEntryIsServed
 one_entry_is_served note origin head = record {
   view = the_view note origin;
   lawful = record {
-    no_clash = record { same = λ x y hx hy e. same_listed _ x hx ∙ sym (same_listed _ y hy) };
-    are_strings = λ s h. subst IsTagged (sym (same_listed _ s h)) (OfEntry (1 ∷ []));
+    no_clash = record { same = λ x y hx hy e. only_listed _ x hx ∙ sym (only_listed _ y hy) };
+    are_strings = λ s h. subst IsTagged (sym (only_listed _ s h)) (OfEntry (1 ∷ []));
     leaves_short =
         λ e h. let is : 0 ∷ e ≡ 0 ∷ 1 ∷ [] =
-        same_listed _ (0 ∷ e) h in let len : length (0 ∷ e) ≡ 2 = ap length is in omega (arith, len);
+        only_listed _ (0 ∷ e) h in let len : length (0 ∷ e) ≡ 2 = ap length is in omega (arith, len);
     edges = λ other h. record {
       size = 1;
       root = mth sum_digest one_entry;
-      is_head = subst (λ n. IsHead n origin 1 (mth sum_digest one_entry)) (sym (same_listed note other h)) head;
+      is_head = subst (λ n. IsHead n origin 1 (mth sum_digest one_entry)) (sym (only_listed note other h)) head;
       edge = record {
         rows = (1 ∷ replicate 31 0) ∷ [];
         has_edge =
@@ -148,7 +141,7 @@ one_entry_is_served note origin head = record {
     least_root =
         λ other r c. let s =
         once other 1 r c in subst (IsAtMost (mth sum_digest one_entry)) (s.root_is) (itself (mth sum_digest one_entry));
-    least_note = λ other c. subst (IsAtMost note) (sym (same_listed note other c.holds.is_held)) (itself note);
+    least_note = λ other c. subst (IsAtMost note) (sym (only_listed note other c.holds.is_held)) (itself note);
   };
 }
   where
@@ -156,4 +149,4 @@ one_entry_is_served note origin head = record {
         IsSameHead origin origin 1 n (mth sum_digest one_entry) r
     once other n r c =
         head_once note origin origin 1 n (mth sum_digest one_entry) r head
-        (subst (λ k. IsHead k origin n r) (same_listed note other c.holds.is_held) c.holds.is_head)
+        (subst (λ k. IsHead k origin n r) (only_listed note other c.holds.is_held) c.holds.is_head)

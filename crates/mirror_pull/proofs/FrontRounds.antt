@@ -31,6 +31,7 @@ use Rattle.mirror_pull.specs.Honest.{AreFrontRounds, true_item, with_true}
 use Rattle.mirror_pull.specs.PullLaws.{HonestRoundIsRound, HonestRoundsAreFew}
 use Rattle.mirror_model.proofs.FullBundles.{full_bundles_serve}
 use Rattle.mirror_model.proofs.Fetching.{plus_holds}
+use Rattle.tlog_tiles.proofs.EdgeLemmas.{contains_none}
 
 -- ---- where bytes were found
 
@@ -45,13 +46,10 @@ first_or_later : (x : Path) (xs : List Path) (y : Path) (k : ℕ) → k < length
 first_or_later x xs y zero lt e = inl e
 first_or_later x xs y (suc k) lt e = inr (k, omega (arith, lt), e)
 
-none_in : (y : Path) → Contains [] y → ⊥
-none_in y c = omega (arith, c.1)
-
 -- the bytes of each path were found at the path or, where its file may be gone, at the full path
 gets_each : (n : ℕ) (list gets founds : List Path) → Gets n list gets founds → (path : Path) → Contains list path →
     Contains founds path ⊎ (IsGone n path × Contains founds (full_of path))
-gets_each n list gets founds GetsNone path c = absurd (none_in path c)
+gets_each n list gets founds GetsNone path c = absurd (contains_none path c)
 gets_each n list gets founds (GetsFound p {paths = ps} {gets = gs} {founds = fs} g) path c =
     elim (first_or_later p ps path c.0 c.1 c.2) [
       | inl same ↦ inl (subst (λ q. Contains (p ∷ fs) q) same (at_first p fs))
@@ -88,7 +86,7 @@ module _ (digest : List ℕ → List ℕ) (entries : List (List ℕ)) where
 
   true_held : (founds : List Path) (v : View) (path : Path) → Contains founds path → (y : List ℕ) →
       Contains (strings_of digest (true_item digest entries path)) y → Has (with_true digest entries v founds).strings y
-  true_held [] v path c y h = absurd (none_in path c)
+  true_held [] v path c y h = absurd (contains_none path c)
   true_held (p ∷ ps) v path c y h =
       let next = plus digest v (true_item digest entries p) in
       elim (first_or_later p ps path c.0 c.1 c.2) [

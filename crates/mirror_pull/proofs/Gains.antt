@@ -17,6 +17,7 @@ use Rattle.std.proofs.lemmas.List.{get_or_default, take_more, take-map, map-appe
 use Rattle.mirror_model.specs.Steps.{Takes, Exhausted}
 use Rattle.mirror_model.proofs.Views.{within_itself, within_trans, within_plus}
 use Rattle.mirror_model.proofs.StringSets.{has_right, has_cases, has_empty, listed_from_has, has_from_listed}
+use Rattle.mirror_model.proofs.HeadNotes.{head_of}
 use Rattle.mirror_pull.specs.Taking.{GainsStrings, Grows, PullsTo, TakesItem, TakesHead, IsTakeable, item_at, IsEarly}
 use Rattle.mirror_pull.specs.Taking.{IsLate}
 use Rattle.mirror_pull.specs.Answering.{of_take, refused_of, refused_of_fault}
@@ -288,17 +289,6 @@ has_head digest keys v w x taken note rows size root same is opened within =
       note = note;
       holds = record {
         is_held = subst (λ n. Has x.notes n) same (within.notes_are taken held_w);
-        is_head =
-            subst (λ o. IsHead note o size root) origin
-            (record {
-              text =
-                  opened.text;
-              lines =
-                  opened.lines;
-              extensions =
-                  opened.extensions;
-              is_note = opened.is_note;
-              is_checkpoint = opened.is_checkpoint;
-            });
+        is_head = subst (λ o. IsHead note o size root) origin (head_of note v.origin keys size root opened);
       };
     }

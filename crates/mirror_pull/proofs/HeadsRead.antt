@@ -10,7 +10,7 @@ use Rattle.mirror_model.specs.Heads.{IsOpenHead}
 use Rattle.mirror_model.specs.Refusals.{IsOpenCheckpoint, ReadsHead}
 use Rattle.mirror_model.specs.declared.fault.TakeFault.{TakeFault}
 use Rattle.mirror_model.specs.declared.fault.TakeFault.TheVariants as fault
-use Rattle.mirror_model.proofs.HeadNotes.{head_once}
+use Rattle.mirror_model.proofs.HeadNotes.{head_once, head_of}
 use Rattle.mirror_model.proofs.RefusedHeads.{open_heads_are_read, head_notes_are_read_once}
 
 -- the checkpoint that is read from a note is a head of its size and root
@@ -52,22 +52,7 @@ module _ (note origin : List ℕ) (keys : List Key) (size : ℕ) (root : List �
   read_size checkpoint is =
       let a = opened_head note origin keys checkpoint is in
       let s = head_once note origin origin checkpoint.size size checkpoint.root root
-      (record {
-        text =
-            a.text;
-        lines = a.lines;
-        extensions = a.extensions;
-        is_note = a.is_note;
-        is_checkpoint = a.is_checkpoint;
-      })
-      (record {
-        text =
-            h.text;
-        lines = h.lines;
-        extensions = h.extensions;
-        is_note = h.is_note;
-        is_checkpoint = h.is_checkpoint;
-      }) in
+      (head_of note origin keys checkpoint.size checkpoint.root a) (head_of note origin keys size root h) in
       (s.size_is, s.root_is)
 
 -- so it is where the source is honest for that note

@@ -1,23 +1,21 @@
 -- Lists of paths in the order of what is missing, and greatest levels.
-use Rattle.std.proofs.Common.{nat_eq, true, false, ◌≡◌, ◌≢◌, ℕ, zero, suc, ◌+◌, ◌*◌, ◌/◌, ◌%◌, ◌^◌, ◌<◌, ◌≤◌, List, []}
+use Rattle.std.proofs.Common.{nat_eq, true, false, ◌≡◌, ◌≢◌, ℕ, zero, suc, ◌+◌, ◌%◌, ◌^◌, ◌<◌, ◌≤◌, List, []}
 use Rattle.std.proofs.Common.{◌∷◌, length, get_or, arith, AllPairs, Contains, refl, sym, ◌∙◌, ap, subst, inl, inr}
 use Rattle.std.specs.Ordering.{nat_cmp, ordering_then}
 use Rattle.std.specs.Cmp.{nat_cmp_is}
 use Rattle.std.specs.declared.cmp.Ordering.{Ordering}
 use Rattle.std.specs.declared.cmp.Ordering.TheVariants.{Less, Equal, Greater}
 use Rattle.std.specs.List.Sorted.{IsStrictlySortedBy}
-use Rattle.std.proofs.Math.Nat.{le-div_iff_mul-le}
-use Rattle.std.proofs.lemmas.Bool.{cases_lt}
 use Rattle.std.proofs.lemmas.Bool.Decides.{eqb_tells}
 use Rattle.std.proofs.lemmas.List.Elements.{All-from_recursion}
 use Rattle.tlog_shape.specs.Edge.{width_of, IsTop}
 use Rattle.tlog_shape.proofs.Edges.{top_found, top_lowest}
-use Rattle.tlog_shape.proofs.Levels.{level_positive, level_next}
 use Rattle.tlog_tiles.specs.declared.paths.Path.{Path}
 use Rattle.tlog_tiles.specs.declared.paths.Path.TheVariants.{Checkpoint, Tile, Entries}
 use Rattle.mirror_model.specs.Front.{path_cmp}
 use Rattle.mirror_model.specs.TrueLaws.{IsWidest}
 use Rattle.log_sources.specs.Files.{full_of}
+use Rattle.mirror_model.proofs.ManyRounds.{one_lower}
 
 nat_same : (n : ℕ) → nat_cmp n n ≡ Equal
 nat_same n = sym (nat_cmp_is n n Equal refl)
@@ -80,28 +78,12 @@ pub record HasTop (n : ℕ) : Type 0 where
   pub top : ℕ
   pub is : IsTop n top
 
-lower_level : (n level : ℕ) → n < 256 ^ (level + 1) → width_of n level ≡ 0 → n < 256 ^ level
-lower_level n level below none = elim (cases_lt n (256 ^ level)) [
-  | inl less ↦ less
-  | inr more ↦
-      let positive = level_positive level in
-      let step = level_next level in
-      let one : 1 * 256 ^ level ≤ n = omega (arith, more) in
-      let some : 1 ≤ n / 256 ^ level = (le-div_iff_mul-le positive).1 one in
-      let few : n / 256 ^ level < 256 = elim (cases_lt (n / 256 ^ level) 256) [
-        | inl lt ↦ lt
-        | inr ge ↦ absurd
-            (let over : 256 * 256 ^ level ≤ n = (le-div_iff_mul-le positive).0 ge in omega (arith, over, below, step))
-      ] in
-      absurd (omega (arith, some, few, none))
-]
-
 top_from : (n level : ℕ) → level ≤ 7 → n < 256 ^ (level + 1) → HasTop n
 top_from n zero le below = record { top = 0; is = top_lowest n below }
 top_from n (suc level) le below = elim (eqb_tells (width_of n (suc level)) 0) [
   | inl none ↦
       (let less : n < 256 ^ (suc level) =
-      lower_level n (suc level) below none.1 in let same : 256 ^ suc level ≡ 256 ^ (level + 1) =
+      one_lower n (suc level) below none.1 in let same : 256 ^ suc level ≡ 256 ^ (level + 1) =
       ap (λ (k : ℕ). 256 ^ k) (omega arith) in top_from n level (omega (arith, le)) (omega (arith, less, same)))
   | inr some ↦ (let apart = some.1 in record { top = suc level; is = top_found n (suc level) le below (omega arith) })
 ]

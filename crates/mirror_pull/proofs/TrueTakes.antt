@@ -36,6 +36,7 @@ use Rattle.mirror_pull.specs.declared.fault.PullFault.TheVariants.{OutOfMemory}
 use Rattle.mirror_pull.proofs.Freshness.{cases_first, contains_take, gone_partial, fresh_next, take_one, gets_then}
 use Rattle.mirror_pull.proofs.Freshness.{gets_each_asked}
 use Rattle.mirror_pull.proofs.TrueRows.{source_stays, full_fresh, two_more, is_gone, full_answers}
+use Rattle.tlog_tiles.proofs.EdgeLemmas.{contains_one}
 
 pub within_more : (m n : ℕ) → m ≤ n → (path : Path) → IsWithin m path → IsWithin n path
 within_more m n le Checkpoint h = h
@@ -300,9 +301,10 @@ module _ (digest : List ℕ → List ℕ) (entries : List (List ℕ)) (size : �
         within = m.within;
         clean = clean_gained digest entries size v w
             (paths_only may v w before mid ps (take i ps) m (λ q c. contains_take i ps q c) t) m.clean;
-        paths_are = λ q c. subst (λ (r : Path). IsWithin size r × IsWidest size r) (the_one p q c) (m.paths_are p has);
+        paths_are = λ q c. subst (λ (r : Path). IsWithin size r × IsWidest size r) (contains_one p q c)
+            (m.paths_are p has);
         fresh = record {
-          fresh = λ q c. subst (IsFresh mid) (the_one p q c)
+          fresh = λ q c. subst (IsFresh mid) (contains_one p q c)
               (fresh_next before mid ps i lt m.fresh
               (record {
                 gets =
@@ -313,9 +315,6 @@ module _ (digest : List ℕ → List ℕ) (entries : List (List ℕ)) (size : �
           apart = λ a b d l within. absurd (omega (arith, l, within));
         };
       }
-    where
-      the_one : (p q : Path) → Contains (p ∷ []) q → p ≡ q
-      the_one p q c = elim (cases_first p [] q c) [ inl e ↦ e | inr none ↦ absurd (omega (arith, none.1)) ]
 
   pub round_step :
       (v x w : View) (before mid after ps : List Path) (i : ℕ) → i < length ps →

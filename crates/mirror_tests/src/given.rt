@@ -7,8 +7,8 @@ use signed_note::Verifier;
 use std::alloc::{AllocError, Global};
 use std::process::Abort;
 use std::test::Fail;
-use tlog_hash::{Hash, Sha256Tree, TreeHash};
-use tlog_mirror::Mirror;
+use tlog_hash::{Hash, TreeHash};
+use tlog_mirror::{Mirror, TakeFault};
 
 // A key that accepts the signature 05 over every text.
 #[derive(Drop)]
@@ -30,6 +30,29 @@ impl Verifier for Five {
     }
 }
 
+// What a mirror answers to that note and these rows, under the key of these tests.
+pub(crate) fn answer_to_head<H: TreeHash>(
+    alloc: Global,
+    mirror: &mut Mirror<H>,
+    note: &[u8],
+    edge: &[&[u8]],
+) -> Result<Result<(), TakeFault>, AllocError> {
+    let mut keys: Vec<Box<dyn Verifier>> = Vec::new(alloc);
+    keys.push(Box::new(alloc, Five)?)?;
+    Ok(mirror.take_head(alloc, &keys, note, edge))
+}
+
+// Takes that note over these rows.
+pub(crate) fn take_note<H: TreeHash>(
+    alloc: Global,
+    mirror: &mut Mirror<H>,
+    note: &[u8],
+    edge: &[&[u8]],
+) -> Result<(), Fail> {
+    answer_to_head(alloc, mirror, note, edge)??;
+    Ok(())
+}
+
 // Takes the head of that size and root, over these rows of its edge.
 pub(crate) fn take_head<H: TreeHash>(
     alloc: Global,
@@ -37,11 +60,8 @@ pub(crate) fn take_head<H: TreeHash>(
     head: &str,
     edge: &[&[u8]],
 ) -> Result<(), Fail> {
-    let mut keys: Vec<Box<dyn Verifier>> = Vec::new(alloc);
-    keys.push(Box::new(alloc, Five)?)?;
     let note = format!(in alloc; "ex\n{head}\n\n\u{2014} good AQIDBAU=\n")?;
-    mirror.take_head(alloc, &keys, note.as_bytes(), edge)?;
-    Ok(())
+    take_note(alloc, mirror, note.as_bytes(), edge)
 }
 
 // The bytes of a row of the leaf hashes of entries of one byte each.
@@ -96,10 +116,10 @@ pub(crate) fn zeros(alloc: Global, count: usize) -> Result<Vec<u8>, AllocError> 
 }
 
 // The tree hash of 2 to that power of entries of no bytes.
-pub(crate) fn doubled(times: u32) -> Hash {
-    let mut hash = Sha256Tree::leaf(b"");
+pub(crate) fn doubled<H: TreeHash>(times: u32) -> Hash {
+    let mut hash = H::leaf(b"");
     for _ in 0..times {
-        hash = Sha256Tree::node(&hash, &hash);
+        hash = H::node(&hash, &hash);
     }
     hash
 }
@@ -114,12 +134,12 @@ pub(crate) fn equal_row(alloc: Global, hash: &Hash, count: u32) -> Result<Vec<u8
 }
 
 // Takes a bundle of 256 entries of no bytes, and the tile above 256 such bundles.
-pub(crate) fn take_equal(
+pub(crate) fn take_equal<H: TreeHash>(
     alloc: Global,
-    mirror: &mut Mirror<Sha256Tree>,
+    mirror: &mut Mirror<H>,
     bytes: usize,
 ) -> Result<(), Fail> {
-    let row = equal_row(alloc, &doubled(8), 256)?;
+    let row = equal_row(alloc, &doubled::<H>(8), 256)?;
     mirror.take_tile(alloc, 256, &row)?;
     let bundle = zeros(alloc, bytes)?;
     mirror.take_bundle(alloc, 256, &bundle)?;

@@ -1,10 +1,9 @@
 //! What the tests give to mirrors, and what they ask of them.
-use crate::given::Five;
+use crate::given::take_note;
 use mirror_files::{SaveFault, save};
-use signed_note::Verifier;
 use std::alloc::{AllocError, Global};
 use std::test::Fail;
-use tlog_hash::{Hash, Sha256Tree, TreeHash, fold};
+use tlog_hash::{Hash, TreeHash, fold};
 use tlog_mirror::Mirror;
 use tlog_text::{push_hash, read_hash};
 
@@ -34,19 +33,26 @@ pub(crate) fn numbered(alloc: Global, first: u16, count: u16) -> Result<Vec<u8>,
 }
 
 // The leaf hashes of such entries.
-pub(crate) fn leaves(alloc: Global, first: u16, count: u16) -> Result<Vec<Hash>, AllocError> {
+pub(crate) fn leaves<H: TreeHash>(
+    alloc: Global,
+    first: u16,
+    count: u16,
+) -> Result<Vec<Hash>, AllocError> {
     let mut row = Vec::new(alloc);
     for i in 0..count {
-        row.push(Sha256Tree::leaf(&first.wrapping_add(i).to_be_bytes()))?;
+        row.push(H::leaf(&first.wrapping_add(i).to_be_bytes()))?;
     }
     Ok(row)
 }
 
 // The leaf hashes of entries of one byte.
-pub(crate) fn letter_leaves(alloc: Global, letters: &[u8]) -> Result<Vec<Hash>, AllocError> {
+pub(crate) fn letter_leaves<H: TreeHash>(
+    alloc: Global,
+    letters: &[u8],
+) -> Result<Vec<Hash>, AllocError> {
     let mut row = Vec::new(alloc);
     for letter in letters {
-        row.push(Sha256Tree::leaf(&[*letter]))?;
+        row.push(H::leaf(&[*letter]))?;
     }
     Ok(row)
 }
@@ -61,33 +67,30 @@ pub(crate) fn joined(alloc: Global, row: &[Hash]) -> Result<Vec<u8>, AllocError>
 }
 
 // The root of a row.
-pub(crate) fn root_of(row: &[Hash]) -> Result<Hash, Fail> {
+pub(crate) fn root_of<H: TreeHash>(row: &[Hash]) -> Result<Hash, Fail> {
     if row.is_empty() {
         return Err("an empty row".into());
     }
-    Ok(fold::<Sha256Tree>(row))
+    Ok(fold::<H>(row))
 }
 
 // The mirror takes that note, under the key of these tests, and these rows.
-pub(crate) fn give_head(
+pub(crate) fn give_head<H: TreeHash>(
     alloc: Global,
-    mirror: &mut Mirror<Sha256Tree>,
+    mirror: &mut Mirror<H>,
     note: &str,
     edge: &[&[u8]],
 ) -> Result<(), Fail> {
-    let mut keys: Vec<Box<dyn Verifier>> = Vec::new(alloc);
-    keys.push(Box::new(alloc, Five)?)?;
-    mirror.take_head(alloc, &keys, note.as_bytes(), edge)?;
-    Ok(())
+    take_note(alloc, mirror, note.as_bytes(), edge)
 }
 
 // The mirror takes the head of at most 256 entries of these leaf hashes.
-pub(crate) fn give_row_head(
+pub(crate) fn give_row_head<H: TreeHash>(
     alloc: Global,
-    mirror: &mut Mirror<Sha256Tree>,
+    mirror: &mut Mirror<H>,
     row: &[Hash],
 ) -> Result<(), Fail> {
-    let root = root_of(row)?;
+    let root = root_of::<H>(row)?;
     let note = note_of(alloc, row.len() as u64, &root, "")?;
     if row.len() == 256 {
         return give_head(alloc, mirror, &note, &[root.as_slice()]);
@@ -97,24 +100,24 @@ pub(crate) fn give_row_head(
 }
 
 // The mirror takes the head of the entries of a full row and one entry more, of that number. Its root.
-pub(crate) fn give_head_over(
+pub(crate) fn give_head_over<H: TreeHash>(
     alloc: Global,
-    mirror: &mut Mirror<Sha256Tree>,
+    mirror: &mut Mirror<H>,
     row: &[Hash],
     number: u16,
 ) -> Result<Hash, Fail> {
-    let first = root_of(row)?;
-    let last = Sha256Tree::leaf(&number.to_be_bytes());
-    let root = Sha256Tree::node(&first, &last);
+    let first = root_of::<H>(row)?;
+    let last = H::leaf(&number.to_be_bytes());
+    let root = H::node(&first, &last);
     let note = note_of(alloc, u64::from(number).wrapping_add(1), &root, "")?;
     give_head(alloc, mirror, &note, &[last.as_slice(), first.as_slice()])?;
     Ok(root)
 }
 
 // The mirror takes that tile.
-pub(crate) fn give_tile(
+pub(crate) fn give_tile<H: TreeHash>(
     alloc: Global,
-    mirror: &mut Mirror<Sha256Tree>,
+    mirror: &mut Mirror<H>,
     row: &[Hash],
 ) -> Result<(), Fail> {
     if row.is_empty() || row.len() > 256 {
@@ -125,9 +128,9 @@ pub(crate) fn give_tile(
 }
 
 // The mirror takes that bundle.
-pub(crate) fn give_bundle(
+pub(crate) fn give_bundle<H: TreeHash>(
     alloc: Global,
-    mirror: &mut Mirror<Sha256Tree>,
+    mirror: &mut Mirror<H>,
     width: u16,
     bytes: &[u8],
 ) -> Result<(), Fail> {
@@ -138,10 +141,20 @@ pub(crate) fn give_bundle(
     Ok(())
 }
 
-// Whether those are the lines of what is missing.
-pub(crate) fn misses(
+// The mirror takes the bundle of so many numbered entries.
+pub(crate) fn give_numbers<H: TreeHash>(
     alloc: Global,
-    mirror: &Mirror<Sha256Tree>,
+    mirror: &mut Mirror<H>,
+    first: u16,
+    count: u16,
+) -> Result<(), Fail> {
+    give_bundle(alloc, mirror, count, &numbered(alloc, first, count)?)
+}
+
+// Whether those are the lines of what is missing.
+pub(crate) fn misses<H: TreeHash>(
+    alloc: Global,
+    mirror: &Mirror<H>,
     size: u64,
     root: &Hash,
     lines: &str,
@@ -151,16 +164,16 @@ pub(crate) fn misses(
 }
 
 // The text that is saved of a mirror.
-pub(crate) fn saved(alloc: Global, mirror: &Mirror<Sha256Tree>) -> Result<Vec<u8>, SaveFault> {
+pub(crate) fn saved<H: TreeHash>(alloc: Global, mirror: &Mirror<H>) -> Result<Vec<u8>, SaveFault> {
     let mut text = Vec::new(alloc);
     save(alloc, mirror, &mut text)?;
     Ok(text)
 }
 
 // Whether a mirror is saved as the text that ends with that digest, which is of all that precedes it.
-pub(crate) fn is_saved_as(
+pub(crate) fn is_saved_as<H: TreeHash>(
     alloc: Global,
-    mirror: &Mirror<Sha256Tree>,
+    mirror: &Mirror<H>,
     digest: &str,
 ) -> Result<bool, Fail> {
     let end = read_hash(digest).ok_or("no digest")?;
@@ -170,7 +183,7 @@ pub(crate) fn is_saved_as(
 
 // What a mirror tells: the text that is saved of it, its heads and what is served, and tiles and bundles of the served
 // entries.
-pub(crate) fn told(alloc: Global, mirror: &Mirror<Sha256Tree>) -> Result<Vec<u8>, Fail> {
+pub(crate) fn told<H: TreeHash>(alloc: Global, mirror: &Mirror<H>) -> Result<Vec<u8>, Fail> {
     let mut all = saved(alloc, mirror)?;
     let status = mirror.status_text(alloc)?;
     all.extend_from_slice(status.as_bytes())?;
@@ -180,10 +193,19 @@ pub(crate) fn told(alloc: Global, mirror: &Mirror<Sha256Tree>) -> Result<Vec<u8>
     Ok(all)
 }
 
-// Tiles and bundles of that index, where they are served.
-fn push_served(
+// Whether that is all that a mirror tells.
+pub(crate) fn tells<H: TreeHash>(
     alloc: Global,
-    mirror: &Mirror<Sha256Tree>,
+    mirror: &Mirror<H>,
+    all: &[u8],
+) -> Result<bool, Fail> {
+    Ok(told(alloc, mirror)?.as_slice() == all)
+}
+
+// Tiles and bundles of that index, where they are served.
+fn push_served<H: TreeHash>(
+    alloc: Global,
+    mirror: &Mirror<H>,
     index: u64,
     all: &mut Vec<u8>,
 ) -> Result<(), AllocError> {

@@ -2,14 +2,13 @@
 //! `rt try --test --fail-alloc N`: where a take, a merge or a play is refused, a part of it may stand and no more, and
 //! the same once more completes it.
 use crate::given::Five;
-use crate::logs::joined;
 use crate::plays::{are_done, are_merged, three_events, two_mirrors};
-use crate::whole::{BUNDLE_OF_3, ROOT_OF_3, row_of_3};
+use crate::whole::{BUNDLE_OF_3, ROOT_OF_3, tile_of_3};
 use signed_note::Verifier;
 use std::alloc::{AllocError, Global};
 use std::process::Abort;
 use std::test::Fail;
-use tlog_hash::Sha256Tree;
+use tlog_hash::{Sha256Tree, TreeHash};
 use tlog_mirror::{Event, MergeFault, Mirror, TakeFault, fits, play};
 use tlog_text::read_hash;
 
@@ -18,17 +17,21 @@ const HEAD_OF_3: &str =
 
 #[test]
 fn takes_again_after_want_of_memory(rt: HostRuntime) -> Result<(), Fail> {
-    let alloc = rt.alloc();
-    let row = joined(alloc, &row_of_3(alloc)?)?;
-    let mut mirror = Mirror::<Sha256Tree>::new(alloc, "ex")?;
-    take_tile_at_last(&rt, alloc, &mut mirror, &row);
-    take_bundle_at_last(&rt, alloc, &mut mirror);
-    let mut other = Mirror::<Sha256Tree>::new(alloc, "ex")?;
-    take_head_at_last(&rt, alloc, &mut other, &row)
+    let row = tile_of_3::<Sha256Tree>(rt.alloc())?;
+    let mut mirror = Mirror::<Sha256Tree>::new(rt.alloc(), "ex")?;
+    take_tile_at_last(&rt, rt.alloc(), &mut mirror, &row);
+    take_bundle_at_last(&rt, rt.alloc(), &mut mirror);
+    let mut other = Mirror::<Sha256Tree>::new(rt.alloc(), "ex")?;
+    take_head_at_last(&rt, rt.alloc(), &mut other, &row)
 }
 
 // Takes the tile of the three entries, whose row has two joins.
-fn take_tile_at_last(rt: &impl Abort, alloc: Global, mirror: &mut Mirror<Sha256Tree>, row: &[u8]) {
+fn take_tile_at_last<H: TreeHash>(
+    rt: &impl Abort,
+    alloc: Global,
+    mirror: &mut Mirror<H>,
+    row: &[u8],
+) {
     let mut answer = mirror.take_tile(alloc, 3, row);
     if answer == Err(TakeFault::OutOfMemory) {
         assert!(rt; mirror.strings().len() < 2);
@@ -39,7 +42,7 @@ fn take_tile_at_last(rt: &impl Abort, alloc: Global, mirror: &mut Mirror<Sha256T
 }
 
 // Takes their bundle over that, which has three strings more.
-fn take_bundle_at_last(rt: &impl Abort, alloc: Global, mirror: &mut Mirror<Sha256Tree>) {
+fn take_bundle_at_last<H: TreeHash>(rt: &impl Abort, alloc: Global, mirror: &mut Mirror<H>) {
     let mut answer = mirror.take_bundle(alloc, 3, BUNDLE_OF_3);
     if answer == Err(TakeFault::OutOfMemory) {
         assert!(rt; mirror.strings().len() < 5);
@@ -50,45 +53,60 @@ fn take_bundle_at_last(rt: &impl Abort, alloc: Global, mirror: &mut Mirror<Sha25
 }
 
 // Takes their head over nothing: two joins, and the note last.
-fn take_head_at_last(
+fn take_head_at_last<H: TreeHash>(
     rt: &impl Abort,
     alloc: Global,
-    mirror: &mut Mirror<Sha256Tree>,
+    mirror: &mut Mirror<H>,
     row: &[u8],
 ) -> Result<(), Fail> {
     let mut keys: Vec<Box<dyn Verifier>> = Vec::new(alloc);
     keys.push(Box::new(alloc, Five)?)?;
-    let mut answer = mirror.take_head(alloc, &keys, HEAD_OF_3.as_bytes(), &[row]);
+    take_head_under(rt, alloc, mirror, &keys, row);
+    Ok(())
+}
+
+// Takes it under those keys.
+fn take_head_under<H: TreeHash>(
+    rt: &impl Abort,
+    alloc: Global,
+    mirror: &mut Mirror<H>,
+    keys: &[Box<dyn Verifier>],
+    row: &[u8],
+) {
+    let mut answer = mirror.take_head(alloc, keys, HEAD_OF_3.as_bytes(), &[row]);
     if answer == Err(TakeFault::OutOfMemory) {
         assert!(rt; mirror.note_at(0).is_none());
-        answer = mirror.take_head(alloc, &keys, HEAD_OF_3.as_bytes(), &[row]);
+        answer = mirror.take_head(alloc, keys, HEAD_OF_3.as_bytes(), &[row]);
     }
     assert_eq!(rt; answer, Ok(()));
     assert!(rt; mirror.note_at(0) == Some(HEAD_OF_3.as_bytes()));
     assert_eq!(rt; mirror.strings().len(), 2);
-    Ok(())
 }
 
 #[test]
 fn merges_again_after_want_of_memory(rt: HostRuntime) -> Result<(), Fail> {
-    let alloc = rt.alloc();
-    let row = joined(alloc, &row_of_3(alloc)?)?;
-    let mut other = Mirror::<Sha256Tree>::new(alloc, "ex")?;
-    take_head_at_last(&rt, alloc, &mut other, &row)?;
-    take_bundle_at_last(&rt, alloc, &mut other);
-    let mut mirror = Mirror::<Sha256Tree>::new(alloc, "ex")?;
-    merge_at_last(&rt, alloc, &mut mirror, &other);
-    let root = read_hash(ROOT_OF_3).ok_or("no hash")?;
-    assert!(rt; mirror.is_complete(3, &root) && other.is_complete(3, &root));
+    let row = tile_of_3::<Sha256Tree>(rt.alloc())?;
+    let mut other = Mirror::<Sha256Tree>::new(rt.alloc(), "ex")?;
+    take_head_at_last(&rt, rt.alloc(), &mut other, &row)?;
+    take_bundle_at_last(&rt, rt.alloc(), &mut other);
+    let mut mirror = Mirror::<Sha256Tree>::new(rt.alloc(), "ex")?;
+    merge_at_last(&rt, rt.alloc(), &mut mirror, &other);
+    assert!(rt; has_3(&mirror)? && has_3(&other)?);
     Ok(())
 }
 
+// Whether the three entries are complete.
+fn has_3<H: TreeHash>(mirror: &Mirror<H>) -> Result<bool, Fail> {
+    let root = read_hash(ROOT_OF_3).ok_or("no hash")?;
+    Ok(mirror.is_complete(3, &root))
+}
+
 // Merges a mirror that is empty with one of five strings and a note, which comes last.
-fn merge_at_last(
+fn merge_at_last<H: TreeHash>(
     rt: &impl Abort,
     alloc: Global,
-    mirror: &mut Mirror<Sha256Tree>,
-    other: &Mirror<Sha256Tree>,
+    mirror: &mut Mirror<H>,
+    other: &Mirror<H>,
 ) {
     let mut answer = mirror.merge(alloc, other);
     if answer == Err(MergeFault::OutOfMemory) {
@@ -101,32 +119,42 @@ fn merge_at_last(
 
 #[test]
 fn plays_again_after_want_of_memory(rt: HostRuntime) -> Result<(), Fail> {
-    let alloc = rt.alloc();
-    let events = three_events(alloc)?;
-    let mut world = two_mirrors(alloc)?;
-    play_at_last(&rt, alloc, &mut world, &events)?;
+    let events = three_events::<Sha256Tree>(rt.alloc())?;
+    let mut world = two_mirrors::<Sha256Tree>(rt.alloc())?;
+    play_at_last(&rt, rt.alloc(), &mut world, &events)?;
     assert!(rt; are_merged(&world));
     Ok(())
 }
 
 // Plays the three events. A play that is refused as a whole leaves all as it was, an event that is refused answers so.
-fn play_at_last(
+fn play_at_last<H: TreeHash>(
     rt: &impl Abort,
     alloc: Global,
-    world: &mut [Mirror<Sha256Tree>],
+    world: &mut [Mirror<H>],
     events: &[Event],
 ) -> Result<(), Fail> {
     let mut keys: Vec<Box<dyn Verifier>> = Vec::new(alloc);
     keys.push(Box::new(alloc, Five)?)?;
+    play_under(rt, alloc, world, &keys, events)
+}
+
+// Plays them under those keys.
+fn play_under<H: TreeHash>(
+    rt: &impl Abort,
+    alloc: Global,
+    world: &mut [Mirror<H>],
+    keys: &[Box<dyn Verifier>],
+    events: &[Event],
+) -> Result<(), Fail> {
     if !fits(events, world.len()) {
         return Err("events that do not fit".into());
     }
-    match play(alloc, world, &keys, events) {
+    match play(alloc, world, keys, events) {
         Ok(answers) if are_done(&answers, 3) => return Ok(()),
         Ok(answers) => assert!(rt; are_done_but_one(&answers)),
         Err(AllocError) => assert!(rt; world.iter().all(|mirror| holds_nothing(mirror))),
     }
-    let answers = play(alloc, world, &keys, events)?;
+    let answers = play(alloc, world, keys, events)?;
     assert!(rt; are_done(&answers, 3));
     Ok(())
 }
@@ -139,6 +167,6 @@ fn are_done_but_one(answers: &[Result<(), TakeFault>]) -> bool {
 }
 
 // Whether a mirror holds neither a string nor a note.
-fn holds_nothing(mirror: &Mirror<Sha256Tree>) -> bool {
+fn holds_nothing<H: TreeHash>(mirror: &Mirror<H>) -> bool {
     mirror.strings().len() == 0 && mirror.note_at(0).is_none()
 }

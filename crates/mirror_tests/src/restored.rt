@@ -3,8 +3,9 @@ use crate::given::Five;
 use node_store::Store;
 use signed_note::Verifier;
 use std::alloc::Global;
+use std::process::Abort;
 use std::test::Fail;
-use tlog_hash::Sha256Tree;
+use tlog_hash::{Sha256Tree, TreeHash};
 use tlog_mirror::{HeldFault, Mirror, NewFault};
 
 // The head of the log of one entry of no bytes, the edge of which has no strings.
@@ -22,22 +23,55 @@ fn made_again(alloc: Global, origin: &str) -> Result<Mirror<Sha256Tree>, NewFaul
 
 #[test]
 fn a_head_is_kept_over_its_edge(rt: HostRuntime) -> Result<(), Fail> {
-    let alloc = rt.alloc();
+    let mut mirror = made_again(rt.alloc(), "ex")?;
+    assert_eq!(rt; mirror.origin(), "ex");
+    answers(
+        &rt,
+        rt.alloc(),
+        &mut mirror,
+        &[],
+        HEAD_OF_1,
+        Err(HeldFault::BadHead),
+        0,
+    )?;
+    answers_under_a_key(&rt, rt.alloc(), &mut mirror)
+}
+
+// Under the key of these tests the first head is kept, once and again, and the second is not.
+fn answers_under_a_key<H: TreeHash>(
+    rt: &impl Abort,
+    alloc: Global,
+    mirror: &mut Mirror<H>,
+) -> Result<(), Fail> {
     let mut keys: Vec<Box<dyn Verifier>> = Vec::new(alloc);
     keys.push(Box::new(alloc, Five)?)?;
-    let mut mirror = made_again(alloc, "ex")?;
-    assert_eq!(rt; mirror.origin(), "ex");
-    let answer = mirror.keep_held_head(alloc, &[], HEAD_OF_1.as_bytes());
-    assert_eq!(rt; answer, Err(HeldFault::BadHead));
-    assert_eq!(rt; mirror.heads(alloc)?.len(), 0);
     for _ in 0..2 {
-        let answer = mirror.keep_held_head(alloc, &keys, HEAD_OF_1.as_bytes());
-        assert_eq!(rt; answer, Ok(()));
-        assert_eq!(rt; mirror.heads(alloc)?.len(), 1);
+        answers(rt, alloc, mirror, &keys, HEAD_OF_1, Ok(()), 1)?;
     }
-    let answer = mirror.keep_held_head(alloc, &keys, HEAD_OF_3.as_bytes());
-    assert_eq!(rt; answer, Err(HeldFault::UnheldEdge));
-    assert_eq!(rt; mirror.heads(alloc)?.len(), 1);
+    answers(
+        rt,
+        alloc,
+        mirror,
+        &keys,
+        HEAD_OF_3,
+        Err(HeldFault::UnheldEdge),
+        1,
+    )
+}
+
+// A mirror answers so to a head over what it holds, and then has so many heads.
+fn answers<H: TreeHash>(
+    rt: &impl Abort,
+    alloc: Global,
+    mirror: &mut Mirror<H>,
+    keys: &[Box<dyn Verifier>],
+    note: &str,
+    want: Result<(), HeldFault>,
+    count: usize,
+) -> Result<(), Fail> {
+    let answer = mirror.keep_held_head(alloc, keys, note.as_bytes());
+    assert_eq!(rt; answer, want);
+    assert_eq!(rt; mirror.heads(alloc)?.len(), count);
     Ok(())
 }
 

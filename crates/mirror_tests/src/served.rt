@@ -1,4 +1,6 @@
 //! What a mirror lists and serves.
+use std::alloc::{AllocError, Global};
+use std::process::Abort;
 use std::test::Fail;
 use tlog_hash::{Sha256Tree, TreeHash};
 use tlog_mirror::Mirror;
@@ -6,9 +8,18 @@ use tlog_mirror::Mirror;
 #[test]
 fn a_new_mirror_lists_nothing(rt: HostRuntime) -> Result<(), Fail> {
     let mirror = Mirror::<Sha256Tree>::new(rt.alloc(), "ex")?;
-    assert!(rt; !mirror.is_complete(0, &Sha256Tree::empty()));
-    assert_eq!(rt; mirror.heads(rt.alloc())?.len(), 0);
-    let status = mirror.status_text(rt.alloc())?;
+    lists_nothing(&rt, rt.alloc(), &mirror)?;
+    Ok(())
+}
+
+fn lists_nothing<H: TreeHash>(
+    rt: &impl Abort,
+    alloc: Global,
+    mirror: &Mirror<H>,
+) -> Result<(), AllocError> {
+    assert!(rt; !mirror.is_complete(0, &H::empty()));
+    assert_eq!(rt; mirror.heads(alloc)?.len(), 0);
+    let status = mirror.status_text(alloc)?;
     assert!(rt; status.as_str() == "origin ex\nserved none\n");
     Ok(())
 }
@@ -16,19 +27,37 @@ fn a_new_mirror_lists_nothing(rt: HostRuntime) -> Result<(), Fail> {
 #[test]
 fn a_new_mirror_serves_nothing(rt: HostRuntime) -> Result<(), Fail> {
     let mirror = Mirror::<Sha256Tree>::new(rt.alloc(), "ex")?;
+    serves_nothing(&rt, rt.alloc(), &mirror)?;
+    Ok(())
+}
+
+fn serves_nothing<H: TreeHash>(
+    rt: &impl Abort,
+    alloc: Global,
+    mirror: &Mirror<H>,
+) -> Result<(), AllocError> {
     assert!(rt; mirror.top().is_none());
     assert!(rt; mirror.top_ranges().is_none());
     assert!(rt; mirror.range_hash(0, 0).is_none());
-    assert!(rt; mirror.tile(rt.alloc(), 0, 0, 1)?.is_none());
-    assert!(rt; mirror.bundle(rt.alloc(), 0, 1)?.is_none());
+    assert!(rt; mirror.tile(alloc, 0, 0, 1)?.is_none());
+    assert!(rt; mirror.bundle(alloc, 0, 1)?.is_none());
     Ok(())
 }
 
 #[test]
 fn a_new_mirror_misses_nothing(rt: HostRuntime) -> Result<(), Fail> {
     let mirror = Mirror::<Sha256Tree>::new(rt.alloc(), "ex")?;
-    let root = Sha256Tree::empty();
-    assert!(rt; mirror.missing(rt.alloc(), 0, &root)?.is_none());
-    assert!(rt; mirror.missing_text(rt.alloc(), 0, &root)?.is_none());
+    misses_nothing(&rt, rt.alloc(), &mirror)?;
+    Ok(())
+}
+
+fn misses_nothing<H: TreeHash>(
+    rt: &impl Abort,
+    alloc: Global,
+    mirror: &Mirror<H>,
+) -> Result<(), AllocError> {
+    let root = H::empty();
+    assert!(rt; mirror.missing(alloc, 0, &root)?.is_none());
+    assert!(rt; mirror.missing_text(alloc, 0, &root)?.is_none());
     Ok(())
 }

@@ -1,7 +1,7 @@
 //! What is complete, missing and served of what was taken.
 use crate::logs::{
-    give_bundle, give_head, give_head_over, give_row_head, give_tile, joined, leaves, misses,
-    numbered, root_of,
+    give_bundle, give_head, give_head_over, give_numbers, give_row_head, give_tile, joined, leaves,
+    misses, root_of,
 };
 use std::alloc::{AllocError, Global};
 use std::process::Abort;
@@ -21,67 +21,113 @@ const STATUS_OF_3: &str =
     "origin ex\nhead 3 rra8/idLcKFPsGel5VeCZNsPqbUa9eC6FZFY8yngbnc= complete\nserved 3 rra8/idLcKFPsGel5VeCZNsPqbUa9eC6FZFY8yngbnc=\n";
 
 // The leaf hashes of those entries.
-pub(crate) fn row_of_3(alloc: Global) -> Result<Vec<Hash>, AllocError> {
+fn row_of_3<H: TreeHash>(alloc: Global) -> Result<Vec<Hash>, AllocError> {
     let mut row = Vec::new(alloc);
-    row.push(Sha256Tree::leaf(b""))?;
-    row.push(Sha256Tree::leaf(b"\x00"))?;
-    row.push(Sha256Tree::leaf(b"\x10"))?;
+    row.push(H::leaf(b""))?;
+    row.push(H::leaf(b"\x00"))?;
+    row.push(H::leaf(b"\x10"))?;
     Ok(row)
+}
+
+// Their tile.
+pub(crate) fn tile_of_3<H: TreeHash>(alloc: Global) -> Result<Vec<u8>, AllocError> {
+    joined(alloc, &row_of_3::<H>(alloc)?)
 }
 
 #[test]
 fn small_trees(rt: HostRuntime) -> Result<(), Fail> {
-    let alloc = rt.alloc();
-    let root = read_hash(ROOT_OF_3).ok_or("no hash")?;
-    let row = row_of_3(alloc)?;
-    let mut mirror = Mirror::<Sha256Tree>::new(alloc, "ex")?;
-    give_row_head(alloc, &mut mirror, &row)?;
-    assert!(rt; !mirror.is_complete(3, &root));
-    give_bundle(alloc, &mut mirror, 3, BUNDLE_OF_3)?;
-    assert!(rt; mirror.is_complete(3, &root));
-    assert!(rt; serves_3(alloc, &mirror, &joined(alloc, &row)?)?);
+    let row = row_of_3::<Sha256Tree>(rt.alloc())?;
+    let mut mirror = Mirror::<Sha256Tree>::new(rt.alloc(), "ex")?;
+    completes_3(&rt, rt.alloc(), &mut mirror, &row)?;
+    assert!(rt; serves_3(rt.alloc(), &mirror)?);
     Ok(())
 }
 
-// Whether the mirror tells and serves the three entries, of which that is the tile.
-fn serves_3(alloc: Global, mirror: &Mirror<Sha256Tree>, row: &[u8]) -> Result<bool, Fail> {
-    let tile = mirror.tile(alloc, 0, 0, 3)?.ok_or("no tile")?;
-    let bundle = mirror.bundle(alloc, 0, 2)?.ok_or("no bundle")?;
-    let status = mirror.status_text(alloc)?;
+// The mirror takes the head of the three entries, of which that is the row, and is complete with their bundle.
+fn completes_3<H: TreeHash>(
+    rt: &impl Abort,
+    alloc: Global,
+    mirror: &mut Mirror<H>,
+    row: &[Hash],
+) -> Result<(), Fail> {
+    let root = read_hash(ROOT_OF_3).ok_or("no hash")?;
+    give_row_head(alloc, mirror, row)?;
+    assert!(rt; !mirror.is_complete(3, &root));
+    give_bundle(alloc, mirror, 3, BUNDLE_OF_3)?;
+    assert!(rt; mirror.is_complete(3, &root));
+    Ok(())
+}
+
+// Whether the mirror tells and serves the three entries.
+fn serves_3<H: TreeHash>(alloc: Global, mirror: &Mirror<H>) -> Result<bool, Fail> {
     Ok(
-        tile.as_slice() == row
-            && bundle.as_slice() == b"\x00\x00\x00\x01\x00".as_slice()
-            && mirror.bundle(alloc, 0, 4)?.is_none()
-            && status.as_str() == STATUS_OF_3,
+        serves_tile_of_3(alloc, mirror)?
+            && serves_bundle_of_3(alloc, mirror)?
+            && tells_3(alloc, mirror)?,
     )
+}
+
+// Whether it serves their tile.
+fn serves_tile_of_3<H: TreeHash>(alloc: Global, mirror: &Mirror<H>) -> Result<bool, Fail> {
+    let tile = mirror.tile(alloc, 0, 0, 3)?.ok_or("no tile")?;
+    let row = tile_of_3::<H>(alloc)?;
+    Ok(tile.as_slice() == row.as_slice())
+}
+
+// Whether it serves the bundle of two of them, and none of four.
+fn serves_bundle_of_3<H: TreeHash>(alloc: Global, mirror: &Mirror<H>) -> Result<bool, Fail> {
+    let bundle = mirror.bundle(alloc, 0, 2)?.ok_or("no bundle")?;
+    let longer = mirror.bundle(alloc, 0, 4)?;
+    Ok(bundle.as_slice() == b"\x00\x00\x00\x01\x00".as_slice() && longer.is_none())
+}
+
+// Whether it tells of them.
+fn tells_3<H: TreeHash>(alloc: Global, mirror: &Mirror<H>) -> Result<bool, AllocError> {
+    Ok(mirror.status_text(alloc)?.as_str() == STATUS_OF_3)
 }
 
 // The second part of the row of small trees too: of the head and the tile nothing is complete, with the bundle it is.
 #[test]
 fn missing_256(rt: HostRuntime) -> Result<(), Fail> {
-    missing_full(&rt, rt.alloc(), 256)
+    let row = leaves::<Sha256Tree>(rt.alloc(), 0, 256)?;
+    let mut mirror = Mirror::<Sha256Tree>::new(rt.alloc(), "ex")?;
+    missing_of_head_and_tile(&rt, rt.alloc(), &mut mirror, &row)?;
+    missing_full(&rt, rt.alloc(), &mut mirror, 256, &row)
 }
 
-// What is missing of the head of a full bundle of that width.
-fn missing_full(rt: &impl Abort, alloc: Global, width: u16) -> Result<(), Fail> {
-    let row = leaves(alloc, 0, width)?;
-    let mut mirror = Mirror::<Sha256Tree>::new(alloc, "ex")?;
-    give_row_head(alloc, &mut mirror, &row)?;
-    misses_bundle(rt, alloc, &mirror, &row)?;
-    give_tile(alloc, &mut mirror, &row)?;
-    misses_bundle(rt, alloc, &mirror, &row)?;
-    give_bundle(alloc, &mut mirror, width, &numbered(alloc, 0, width)?)?;
-    misses_nothing(rt, alloc, &mirror, u64::from(width), &root_of(&row)?)
+// What is missing of the head of a full row, and of the head and the tile.
+fn missing_of_head_and_tile<H: TreeHash>(
+    rt: &impl Abort,
+    alloc: Global,
+    mirror: &mut Mirror<H>,
+    row: &[Hash],
+) -> Result<(), Fail> {
+    give_row_head(alloc, mirror, row)?;
+    misses_bundle(rt, alloc, mirror, row)?;
+    give_tile(alloc, mirror, row)?;
+    misses_bundle(rt, alloc, mirror, row)
+}
+
+// With the full bundle of that width, nothing is missing of the head of its row.
+fn missing_full<H: TreeHash>(
+    rt: &impl Abort,
+    alloc: Global,
+    mirror: &mut Mirror<H>,
+    width: u16,
+    row: &[Hash],
+) -> Result<(), Fail> {
+    give_numbers(alloc, mirror, 0, width)?;
+    misses_nothing(rt, alloc, mirror, u64::from(width), &root_of::<H>(row)?)
 }
 
 // Of the head of that row the one bundle is missing.
-fn misses_bundle(
+fn misses_bundle<H: TreeHash>(
     rt: &impl Abort,
     alloc: Global,
-    mirror: &Mirror<Sha256Tree>,
+    mirror: &Mirror<H>,
     row: &[Hash],
 ) -> Result<(), Fail> {
-    let root = root_of(row)?;
+    let root = root_of::<H>(row)?;
     let size = row.len() as u64;
     assert!(rt; !mirror.is_complete(size, &root));
     assert!(rt; misses(alloc, mirror, size, &root, "tile/entries/000\n")?);
@@ -89,10 +135,10 @@ fn misses_bundle(
 }
 
 // Nothing is missing of that head.
-fn misses_nothing(
+fn misses_nothing<H: TreeHash>(
     rt: &impl Abort,
     alloc: Global,
-    mirror: &Mirror<Sha256Tree>,
+    mirror: &Mirror<H>,
     size: u64,
     root: &Hash,
 ) -> Result<(), Fail> {
@@ -103,20 +149,26 @@ fn misses_nothing(
 
 #[test]
 fn missing_257(rt: HostRuntime) -> Result<(), Fail> {
-    missing_one_more(&rt, rt.alloc(), 256)
+    let row = leaves::<Sha256Tree>(rt.alloc(), 0, 256)?;
+    let mut mirror = Mirror::<Sha256Tree>::new(rt.alloc(), "ex")?;
+    missing_one_more(&rt, rt.alloc(), &mut mirror, 256, &row)
 }
 
 // What is missing of the head of a full bundle of that width and one entry.
-fn missing_one_more(rt: &impl Abort, alloc: Global, width: u16) -> Result<(), Fail> {
-    let row = leaves(alloc, 0, width)?;
-    let mut mirror = Mirror::<Sha256Tree>::new(alloc, "ex")?;
-    let root = give_head_over(alloc, &mut mirror, &row, width)?;
+fn missing_one_more<H: TreeHash>(
+    rt: &impl Abort,
+    alloc: Global,
+    mirror: &mut Mirror<H>,
+    width: u16,
+    row: &[Hash],
+) -> Result<(), Fail> {
+    let root = give_head_over(alloc, mirror, row, width)?;
     let size = u64::from(width).wrapping_add(1);
     let lines = "tile/entries/000\ntile/entries/001.p/1\n";
-    assert!(rt; misses(alloc, &mirror, size, &root, lines)?);
-    give_bundle(alloc, &mut mirror, width, &numbered(alloc, 0, width)?)?;
-    give_bundle(alloc, &mut mirror, 1, &numbered(alloc, width, 1)?)?;
-    misses_nothing(rt, alloc, &mirror, size, &root)
+    assert!(rt; misses(alloc, mirror, size, &root, lines)?);
+    give_numbers(alloc, mirror, 0, width)?;
+    give_numbers(alloc, mirror, width, 1)?;
+    misses_nothing(rt, alloc, mirror, size, &root)
 }
 
 // Two notes of the head of one entry of no bytes, under different extension lines.
@@ -129,16 +181,16 @@ const GREATER: &str =
 // Two notes of one size and root are one head, and the lesser note is served.
 #[test]
 fn extension_lines(rt: HostRuntime) -> Result<(), Fail> {
-    let mirror = of_two_notes(rt.alloc())?;
+    let mirror = of_two_notes::<Sha256Tree>(rt.alloc())?;
     assert_eq!(rt; mirror.heads(rt.alloc())?.len(), 1);
     assert!(rt; serves_lesser(&mirror));
     Ok(())
 }
 
 // A mirror that took the entry, and both notes.
-fn of_two_notes(alloc: Global) -> Result<Mirror<Sha256Tree>, Fail> {
-    let root = Sha256Tree::leaf(b"");
-    let mut mirror = Mirror::<Sha256Tree>::new(alloc, "ex")?;
+fn of_two_notes<H: TreeHash>(alloc: Global) -> Result<Mirror<H>, Fail> {
+    let root = H::leaf(b"");
+    let mut mirror = Mirror::<H>::new(alloc, "ex")?;
     give_bundle(alloc, &mut mirror, 1, b"\x00\x00")?;
     give_head(alloc, &mut mirror, GREATER, &[root.as_slice()])?;
     give_head(alloc, &mut mirror, LESSER, &[root.as_slice()])?;
@@ -146,7 +198,7 @@ fn of_two_notes(alloc: Global) -> Result<Mirror<Sha256Tree>, Fail> {
 }
 
 // Whether the mirror holds both notes, and serves the lesser.
-fn serves_lesser(mirror: &Mirror<Sha256Tree>) -> bool {
+fn serves_lesser<H: TreeHash>(mirror: &Mirror<H>) -> bool {
     let Some(note) = mirror.top() else {
         return false;
     };

@@ -16,7 +16,7 @@ use Rattle.mirror_model.specs.Heads.{IsHead, IsOpenHead, HoldsHead}
 use Rattle.mirror_model.specs.HeadLaws.{IsSameHead}
 use Rattle.mirror_model.specs.Complete.{IsTreeOf, IsComplete}
 use Rattle.mirror_model.specs.Served.{IsAtMost}
-use Rattle.mirror_model.proofs.HeadNotes.{head_once}
+use Rattle.mirror_model.proofs.HeadNotes.{head_once, head_of}
 use Rattle.mirror_model.proofs.OneLists.{only}
 use Rattle.mirror_model.proofs.StringSets.{has_empty, has_cases, has_from_listed, held_from_holds, held_more}
 use Rattle.mirror_model.proofs.StringSets.{no_clash_within}
@@ -37,17 +37,6 @@ use Rattle.mirror_updates.specs.Faults.{of_pull}
 -- by bytes a text is at most itself
 at_most_itself : (text : List ℕ) → IsAtMost text text
 at_most_itself text = ap is_le (tied_itself nat_list_cmp_total text)
-
--- a head that opens is a head
-head_of : (note origin : List ℕ) (keys : List Key) (size : ℕ) (root : List ℕ) → IsOpenHead note origin keys size root →
-    IsHead note origin size root
-head_of note origin keys size root h = record {
-  text = h.text;
-  lines = h.lines;
-  extensions = h.extensions;
-  is_note = h.is_note;
-  is_checkpoint = h.is_checkpoint;
-}
 
 module _ (digest : List ℕ → List ℕ) (hash : IsDigest digest) (origin : List ℕ) (key : Key)
     (entries : List (List ℕ)) where

@@ -64,16 +64,17 @@ Has-union_right v w q h = contains-union nat_list_cmp_total v w q ∙ or_right _
 pub Has-union_cases : (v w : Strings) (q : List ℕ) → Has (union v w) q → Has v q ⊎ Has w q
 Has-union_cases v w q h = or_either _ _ (sym (contains-union nat_list_cmp_total v w q) ∙ h)
 
+-- two truth values that imply each other are one
+pub same_bool : (a b : Bool) → (a ≡ true → b ≡ true) → (b ≡ true → a ≡ true) → a ≡ b
+same_bool true b f g = sym (f refl)
+same_bool false true f g = g refl
+same_bool false false f g = refl
+
 -- two sets with the same strings are one
 pub same_strings : (s t : Strings) → ((q : List ℕ) → Has s q → Has t q) → ((q : List ℕ) → Has t q → Has s q) → s ≡ t
 same_strings s t to from =
     same_set nat_list_cmp_total (slice_cmp-IsAntisymmetric nat_cmp-IsAntisymmetric) s t
     (λ q. same_bool _ _ (to q) (from q))
-  where
-    same_bool : (a b : Bool) → (a ≡ true → b ≡ true) → (b ≡ true → a ≡ true) → a ≡ b
-    same_bool true b f g = sym (f refl)
-    same_bool false true f g = g refl
-    same_bool false false f g = refl
 
 -- to insert what is held changes nothing
 pub insert_held : (v : Strings) (k : List ℕ) → Has v k → insert v k ≡ v

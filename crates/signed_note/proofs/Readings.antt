@@ -1,5 +1,6 @@
 -- What the steps of reading a note come to.
-use Rattle.std.proofs.Common.{◌≡◌, ◌≢◌, ℕ, ◌≤◌, true, false, nat_eq, List, [], ◌∷◌, length, refl, ap, subst, arith}
+use Rattle.std.proofs.Common.{◌≡◌, ◌≢◌, ℕ, ◌≤◌, true, false, nat_eq, List, [], ◌∷◌, length, refl, sym, ap, subst, ◌∙◌}
+use Rattle.std.proofs.Common.{arith}
 use Rattle.std.specs.Prelude.{Err}
 use Rattle.std.specs.List.{list_all}
 use Rattle.std.specs.Str.{IsUtf8, chars}
@@ -8,7 +9,7 @@ use Rattle.std.proofs.lemmas.List.Sums.{AllPass-from_list_all, list_all-from_All
 use Rattle.signed_note.specs.Names.{is_note_char, IsNoteText}
 use Rattle.signed_note.specs.Notes.{SignatureParts, IsNoteSplit, IsNote}
 use Rattle.signed_note.specs.Reading.{line_count, AreSignatureLines, HasPart, ReadsSignatureLines, ReadsNote}
-use Rattle.signed_note.specs.declared.limits.TheConstants.{MAX_LINES}
+use Rattle.signed_note.specs.declared.limits.TheConstants.{MAX_LINES, MAX_NOTE_LEN}
 use Rattle.signed_note.specs.declared.fault.NoteFault.{NoteFault}
 use Rattle.signed_note.specs.declared.fault.NoteFault.TheVariants.{NoteTooLong, NotText, NoSignatures}
 use Rattle.signed_note.specs.declared.fault.NoteFault.TheVariants.{TooManySignatures, BadSignatureLine, OutOfMemory}
@@ -27,6 +28,19 @@ no_bytes (x ∷ xs) h = let none : length (x ∷ xs) ≡ 0 = (Decides-eqb (lengt
 pub some_bytes : (xs : List ℕ) → nat_eq (length xs) 0 ≡ false → xs ≢ []
 some_bytes [] h e = cc
 some_bytes (x ∷ xs) h e = cc
+
+-- what was read as a text, cut at a blank line and is not empty behind it is the note's part
+pub part_of : (bytes read text signed : List ℕ) → length bytes ≤ MAX_NOTE_LEN → read ≡ bytes → IsUtf8 bytes →
+    list_all is_note_char (chars read) ≡ true → IsNoteSplit read text signed → nat_eq (length signed) 0 ≡ false →
+    HasPart bytes text signed
+part_of bytes read text signed short same utf8 pass split some = record {
+  readable = record {
+    short = short;
+    readable = note_text bytes utf8 (ap (λ (x : List ℕ). list_all is_note_char (chars x)) (sym same) ∙ pass);
+  };
+  split = subst (λ (x : List ℕ). IsNoteSplit x text signed) same split;
+  some = some_bytes signed some;
+}
 
 -- a readable note whose part is lines is a note
 pub note_from_lines : (bytes text signed : List ℕ) (lines : List SignatureParts) → HasPart bytes text signed →

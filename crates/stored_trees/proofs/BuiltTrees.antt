@@ -17,7 +17,7 @@ use Rattle.mirror_model.specs.Edge.{root_from, strings_from}
 use Rattle.mirror_model.specs.Strings.{HasClash}
 use Rattle.node_store.proofs.Sets.{Has-empty, Has-insert, Has-insert_same, Has-insert_other, Has-union_left}
 use Rattle.node_store.proofs.Sets.{Has-union_right, Has-union_cases, same_strings}
-use Rattle.mirror_model.proofs.StringSets.{listed_from_has, has_from_listed}
+use Rattle.mirror_model.proofs.StringSets.{listed_from_has, has_from_listed, clash_within}
 
 -- the list has what the two others have, and one string more
 abbrev pub IsBoth : (left right all : List (List ℕ)) (last : List ℕ) → Type 0
@@ -90,21 +90,6 @@ added_one v s = same_strings _ _
 -- ---- clashes
 
 module _ (digest : List ℕ → List ℕ) where
-  pub clash_within : (v w : Strings) → ((q : List ℕ) → Has v q → Has w q) → HasClash digest v → HasClash digest w
-  clash_within v w more c =
-      record {
-        first =
-            c.first;
-        second =
-            c.second;
-        first_held =
-            more c.first c.first_held;
-        second_held =
-            more c.second c.second_held;
-        same_digest = c.same_digest;
-        differ = c.differ;
-      }
-
   pub clash_inserted : (v : Strings) (s : List ℕ) → Clashes digest v s → HasClash digest (set.insert v s)
   clash_inserted v s c =
       record {
@@ -127,7 +112,7 @@ module _ (digest : List ℕ → List ℕ) where
         let u = set.union v (set.from_list left) in
         let w = set.union u (set.from_list right) in
         subst (HasClash digest) (added_parts v left right all last both)
-        (clash_within u (set.insert w last)
+        (clash_within digest u (set.insert w last)
         (λ q h. Has-insert_other w last q (Has-union_left u (set.from_list right) q h)) c)
 
     pub clash_right : (u : Strings) → u ≡ set.union v (set.from_list left) →
@@ -135,7 +120,7 @@ module _ (digest : List ℕ → List ℕ) where
     clash_right u u_is c =
         let w = set.union (set.union v (set.from_list left)) (set.from_list right) in
         subst (HasClash digest) (added_parts v left right all last both)
-        (clash_within w (set.insert w last) (λ q h. Has-insert_other w last q h)
+        (clash_within digest w (set.insert w last) (λ q h. Has-insert_other w last q h)
         (subst (λ x. HasClash digest (set.union x (set.from_list right))) u_is c))
 
     pub clash_last : (u w : Strings) → u ≡ set.union v (set.from_list left) → w ≡ set.union u (set.from_list right) →

@@ -5,6 +5,7 @@ use Rattle.std.specs.Prelude.{◌↔◌}
 use Rattle.std.proofs.lemmas.Bool.{cases_lt}
 use Rattle.tlog_shape.specs.Split.{split_of}
 use Rattle.tlog_shape.proofs.Splits.{split_of-below}
+use Rattle.tlog_shape.proofs.Levels.{level_mono}
 use Rattle.tlog_hash.specs.Tree.{Tree, Join, mth, size_of}
 use Rattle.tlog_hash.specs.Shape.{shape}
 use Rattle.tlog_hash.proofs.Shapes.{shape-one, shape-join, size_of-shape}
@@ -16,7 +17,6 @@ use Rattle.tlog_tiles.specs.declared.paths.Path.TheVariants.{Checkpoint, Tile, E
 use Rattle.mirror_model.specs.Complete.{IsTreeOf, IsBuilt}
 use Rattle.mirror_model.specs.Front.{IsPathOf}
 use Rattle.mirror_model.specs.Walk.{WalkFails, IsPairHeld, IsMissing}
-use Rattle.mirror_model.proofs.Fronts.{power_le}
 use Rattle.stored_trees.specs.Lost.{IsLost}
 use Rattle.stored_trees.proofs.Descents.{tree-one, tree-join, left-tree, right-tree}
 
@@ -98,7 +98,8 @@ module _ (digest : List ℕ → List ℕ) (held : Strings) where
         IsLost digest held total start 1 root path ↔ IsPathOf total start 1 path
     leaf_lost none = (
       λ m. let s =
-          (subst (λ t. Fails t start root m.at m.many) shape-one m.fails).0 in moved total m.at m.many start 1 path s.at_is s.many_is m.path_is,
+          (subst (λ t. Fails t start root m.at m.many) shape-one m.fails).0 in
+          moved total m.at m.many start 1 path s.at_is s.many_is m.path_is,
       λ p. record {
         at = start;
         many =
@@ -227,9 +228,9 @@ module _ (digest : List ℕ → List ℕ) (held : Strings) where
 
 level_once : (a b n : ℕ) → 256 ^ a < n → n ≤ 256 ^ (a + 1) → 256 ^ b < n → n ≤ 256 ^ (b + 1) → a ≡ b
 level_once a b n al au bl bu = elim (cases_lt a b) [
-  | inl lt ↦ absurd (let more = power_le (a + 1) b (omega (arith, lt)) in omega (arith, more, au, bl))
+  | inl lt ↦ absurd (let more = level_mono (a + 1) b (omega (arith, lt)) in omega (arith, more, au, bl))
   | inr le ↦ elim (cases_lt b a) [
-    | inl lt ↦ absurd (let more = power_le (b + 1) a (omega (arith, lt)) in omega (arith, more, bu, al))
+    | inl lt ↦ absurd (let more = level_mono (b + 1) a (omega (arith, lt)) in omega (arith, more, bu, al))
     | inr ge ↦ omega (arith, le, ge)
   ]
 ]

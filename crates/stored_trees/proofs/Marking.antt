@@ -2,9 +2,7 @@
 use Rattle.std.proofs.Common.{◌≡◌, ℕ, List, [], ◌∷◌, Bool, true, false, map, length, ◌+◌, arith, nat_eq, sym, refl, ap}
 use Rattle.std.proofs.Common.{◌∙◌}
 use Rattle.std.specs.Prelude.{◌&&◌, ◌||◌, cond}
-use Rattle.std.specs.Ordering.{nat_cmp, ordering_then, eq_by_cmp}
-use Rattle.std.specs.declared.cmp.Ordering.{Ordering}
-use Rattle.std.specs.declared.cmp.Ordering.TheVariants.{Less, Equal, Greater}
+use Rattle.std.specs.Ordering.{nat_cmp, eq_by_cmp}
 use Rattle.std.specs.Cmp.{IsTotalOrder, nat_cmp_total, on_total, then_total, unsigned_ties, both_tied, eq_by_cmp_equiv}
 use Rattle.std.specs.Cmp.Lexicographic.{slice_cmp, pointwise, nat_list_cmp_total, lists_ties}
 use Rattle.std.specs.FinSet.{len, len-empty, len-insert, contains, insert, contains-from_list, contains-insert}
@@ -13,21 +11,17 @@ use Rattle.std.specs.List.{list_any, AllByRecursion, IsDistinct}
 use Rattle.std.proofs.lemmas.Map.Keys.{IsDistinct-head, IsDistinct-tail}
 use Rattle.mirror_model.specs.Forks.{Point, point_cmp}
 use Rattle.stored_trees.specs.Marked.{point_of, points_of}
+use Rattle.stored_trees.proofs.Orders.{then_equal}
 
 pub point_total : IsTotalOrder point_cmp
 point_total = then_total (on_total (λ p. p.size) nat_cmp_total) (on_total (λ p. p.root) nat_list_cmp_total)
 
 pub point_same : IsAntisymmetric point_cmp
 point_same a b h =
-    let two = both (nat_cmp a.size b.size) (slice_cmp nat_cmp a.root b.root) h in
+    let two = then_equal (nat_cmp a.size b.size) (slice_cmp nat_cmp a.root b.root) h in
     let s = nat_cmp-IsAntisymmetric a.size b.size two.0 in
     let r = slice_cmp-IsAntisymmetric nat_cmp-IsAntisymmetric a.root b.root two.1 in
     λ i. record { size = s i; root = r i }
-  where
-    both : (a b : Ordering) → ordering_then a b ≡ Equal → (a ≡ Equal) × (b ≡ Equal)
-    both Less b h = absurd (cc h)
-    both Equal b h = (refl, h)
-    both Greater b h = absurd (cc h)
 
 -- the test of the hash set
 abbrev pub same_key : ℕ × List ℕ → ℕ × List ℕ → Bool

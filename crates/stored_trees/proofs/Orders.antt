@@ -11,6 +11,7 @@ use Rattle.std.specs.FinSet.{nat_cmp-IsAntisymmetric}
 use Rattle.tlog_tiles.specs.declared.paths.Path.{Path}
 use Rattle.tlog_tiles.specs.declared.paths.Path.TheVariants.{Checkpoint, Tile, Entries}
 use Rattle.mirror_model.specs.Front.{path_cmp}
+use Rattle.node_store.proofs.Sets.{same_bool}
 
 kind_of : Path → ℕ
 kind_of (Tile level index width) = 0
@@ -59,7 +60,7 @@ pub path_total : IsTotalOrder path_cmp
 path_total = subst IsTotalOrder (λ i a b. same_order a b i) by_numbers_total
 
 -- paths that tie are one
-then_equal : (a b : Ordering) → ordering_then a b ≡ Equal → (a ≡ Equal) × (b ≡ Equal)
+pub then_equal : (a b : Ordering) → ordering_then a b ≡ Equal → (a ≡ Equal) × (b ≡ Equal)
 then_equal Less b h = absurd (cc h)
 then_equal Equal b h = (refl, h)
 then_equal Greater b h = absurd (cc h)
@@ -99,15 +100,10 @@ both_true : (a b : Bool) → a ≡ true → b ≡ true → (a && b) ≡ true
 both_true true b p q = q
 both_true false b p q = absurd (cc p)
 
-equal_is : (o : Ordering) → is_eq o ≡ true → o ≡ Equal
+pub equal_is : (o : Ordering) → is_eq o ≡ true → o ≡ Equal
 equal_is Less h = absurd (cc h)
 equal_is Equal h = refl
 equal_is Greater h = absurd (cc h)
-
-same_bool : (a b : Bool) → (a ≡ true → b ≡ true) → (b ≡ true → a ≡ true) → a ≡ b
-same_bool true b f g = sym (f refl)
-same_bool false true f g = g refl
-same_bool false false f g = refl
 
 pub record IsDerived (E : Path → Path → Bool) : Type 0 where
   pub tiles : (l i w k j v : ℕ) → E (Tile l i w) (Tile k j v) ≡ (nat_eq l k && (nat_eq i j && nat_eq w v))

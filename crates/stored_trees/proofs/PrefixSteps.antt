@@ -5,7 +5,7 @@ use Rattle.std.specs.Prelude.{IsTrue, ◌↔◌, ◌≢◌}
 use Rattle.std.specs.Cmp.Lexicographic.{pointwise}
 use Rattle.std.proofs.lemmas.Slice.Eq.{slice_eq-Decides}
 use Rattle.std.proofs.lemmas.Bool.Decides.{Decides-eqb}
-use Rattle.std.proofs.lemmas.List.{append-nil, nil_from_length, take-append-le, drop-append-le}
+use Rattle.std.proofs.lemmas.List.{append-nil, take-append-le, drop-append-le}
 use Rattle.std.proofs.Math.Seq.{take-append_seam, take-append-add}
 use Rattle.tlog_shape.specs.Split.{split_of, IsPowerOfTwo}
 use Rattle.tlog_shape.proofs.Splits.{split_of-unique, split_of-power, split_of-half, split_of-positive}
@@ -15,7 +15,7 @@ use Rattle.mirror_model.specs.View.{View}
 use Rattle.mirror_model.specs.Complete.{IsTreeOf, Complete, IsLawful}
 use Rattle.mirror_model.specs.Forks.{IsPrefix, Point, IsFork}
 use Rattle.mirror_model.specs.Strings.{IsDigest}
-use Rattle.mirror_model.proofs.OneLists.{only, one_list, forks_tell}
+use Rattle.mirror_model.proofs.OneLists.{only, one_list, forks_tell, prefix_same}
 use Rattle.stored_trees.specs.Prefixes.{PrefixOfPrefix, ForksGoOn}
 use Rattle.stored_trees.proofs.Descents.{left-tree, right-tree}
 
@@ -37,11 +37,6 @@ prefix_take k zs = record { rest = drop k zs; is = take-append-drop k zs }
 begins_none : (xs ys : List (List ℕ)) → length xs ≡ 0 → IsPrefix xs ys
 begins_none [] ys none = record { rest = ys; is = refl }
 begins_none (x ∷ xs) ys none = absurd (omega arith)
-
-same_list : (xs ys : List (List ℕ)) → length xs ≡ length ys → IsPrefix xs ys → xs ≡ ys
-same_list xs ys len p =
-    let none : length p.rest ≡ 0 = omega (arith, length-append xs p.rest, ap length p.is) in
-    sym (append-nil xs) ∙ ap (λ zs. xs ++ zs) (sym (nil_from_length p.rest none)) ∙ p.is
 
 -- at k, within the first list
 cut_prefix : (k : ℕ) (xs ys : List (List ℕ)) → k ≤ length xs →
@@ -98,7 +93,7 @@ module _ (digest : List ℕ → List ℕ) (held : Strings) (m n : ℕ) (small la
               (record { size_is = t.size_is ∙ equal; root_is = t.root_is ∙ root_is; are_held = t.are_held }) u in
               record { rest = []; is = append-nil xs ∙ one },
           λ p. decides.1
-              (sym t.root_is ∙ ap (mth digest) (same_list xs ys (t.size_is ∙ equal ∙ sym u.size_is) p) ∙ u.root_is),
+              (sym t.root_is ∙ ap (mth digest) (prefix_same xs ys (t.size_is ∙ equal ∙ sym u.size_is) p) ∙ u.root_is),
         )
 
     module _ (k : ℕ) (l r : List ℕ) (two : 2 ≤ n) (k_is : k ≡ split_of n) (len : length l ≡ 32)
@@ -167,7 +162,7 @@ apart_short xs ys short not = (
   not,
   λ p.
       let long = length_prefix ys xs p in
-      let same : ys ≡ xs = same_list ys xs (omega arith) p in
+      let same : ys ≡ xs = prefix_same ys xs (omega arith) p in
       not (record { rest = []; is = append-nil xs ∙ sym same }),
 )
 

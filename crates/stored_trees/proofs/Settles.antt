@@ -1,10 +1,8 @@
 -- What is remembered of a tree, step by step.
-use Rattle.std.proofs.Common.{◌≡◌, ℕ, ◌+◌, ◌-◌, ◌≤◌, List, [], ◌∷◌, ◌++◌, length, sym, refl, ap, ◌∙◌, subst, arith, ◌⊎◌}
-use Rattle.std.proofs.Common.{inl, inr, Bool, true, false, Result, Ok, Err}
+use Rattle.std.proofs.Common.{◌≡◌, ℕ, ◌+◌, ◌-◌, ◌≤◌, List, [], ◌∷◌, ◌++◌, length, sym, ap, ◌∙◌, subst, arith, ◌⊎◌}
+use Rattle.std.proofs.Common.{inl, inr, Bool, false, Result, Ok, Err}
 use Rattle.std.specs.Prelude.{◌||◌, OnOk, OnErr}
 use Rattle.std.specs.Ordering.{eq_by_cmp, is_eq}
-use Rattle.std.specs.declared.cmp.Ordering.{Ordering}
-use Rattle.std.specs.declared.cmp.Ordering.TheVariants.{Less, Equal, Greater}
 use Rattle.std.specs.Cmp.{tied_itself}
 use Rattle.std.specs.FinSet as set
 use Rattle.std.specs.FinSet.{contains-insert}
@@ -19,13 +17,9 @@ use Rattle.stored_trees.specs.Slices.{HasMark, IsSliceOf, HasSlices, AreSettled,
 use Rattle.stored_trees.proofs.Marking.{point_total, point_same}
 use Rattle.stored_trees.proofs.SliceSteps.{point_at, no_slice, one_slice, whole_slice, left_slice, right_slice}
 use Rattle.stored_trees.proofs.SliceSteps.{parts_slice, slice_stays}
+use Rattle.stored_trees.proofs.Orders.{equal_is}
 
 -- ---- a set with one point more
-
-tie : (o : Ordering) → is_eq o ≡ true → o ≡ Equal
-tie Less h = absurd (cc h)
-tie Equal h = refl
-tie Greater h = absurd (cc h)
 
 pub mark_added : (v : Points) (p : Point) → HasMark (set.insert v p) p
 mark_added v p = contains-insert point_total v p p ∙ or_left _ _ (ap is_eq (tied_itself point_total p))
@@ -36,7 +30,7 @@ mark_kept v p q h = contains-insert point_total v p q ∙ or_right _ _ h
 pub mark_cases : (v : Points) (p q : Point) → HasMark (set.insert v p) q → (q ≡ p) ⊎ HasMark v q
 mark_cases v p q h =
     elim (or_either _ _ (sym (contains-insert point_total v p q) ∙ h)) [
-      | inl t ↦ inl (point_same q p (tie (point_cmp q p) t))
+      | inl t ↦ inl (point_same q p (equal_is (point_cmp q p) t))
       | inr m ↦ inr m
     ]
 

@@ -43,7 +43,8 @@ same_checkpoint a b o s r e i = record { origin = o i; size = s i; root = r i; e
 pub one_reading : TextIsOneCheckpoint
 one_reading text a b p q =
     let same =
-    one_fields text a.origin p.size_line p.root_line a.extensions b.origin q.size_line q.root_line b.extensions p.fields q.fields in
+    one_fields text a.origin p.size_line p.root_line a.extensions b.origin q.size_line q.root_line b.extensions
+    p.fields q.fields in
     let line = λ (x : List ℕ). IsDecimal x a.size in
     let root = λ (x : List ℕ). IsHashText x a.root in
     same_checkpoint a b same.origin

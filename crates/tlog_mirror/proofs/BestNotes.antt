@@ -7,7 +7,6 @@ use Rattle.std.specs.declared.cmp.Ordering.{Ordering}
 use Rattle.std.specs.declared.cmp.Ordering.TheVariants.{Less, Equal, Greater}
 use Rattle.std.specs.Cmp.{IsTotalOrder, nat_cmp_total, on_total, then_total, back_total}
 use Rattle.std.specs.Cmp.Lexicographic.{slice_cmp, nat_list_cmp_total, pointwise}
-use Rattle.std.specs.List.{Contains}
 use Rattle.std.proofs.lemmas.Cmp.{upto, tied_itself}
 use Rattle.std.proofs.lemmas.List.{drop_more}
 use Rattle.std.proofs.lemmas.Bool.{cases_lt}
@@ -19,6 +18,7 @@ use Rattle.mirror_model.specs.Forks.{Point}
 use Rattle.tlog_mirror.specs.Best.{served_cmp, pair_point, kept_point, IsAhead, HasKept, IsBuiltAt, IsBest, IsBestOf}
 use Rattle.tlog_mirror.specs.Best.{IsFirstWith}
 use Rattle.tlog_mirror.specs.declared.kept.KeptNote.{KeptNote}
+use Rattle.mirror_model.proofs.Listing.{head_or, later, here}
 
 pub served_total : IsTotalOrder served_cmp
 served_total =
@@ -26,16 +26,6 @@ served_total =
     (on_total (λ (p : Point). p.root) nat_list_cmp_total)
 
 module _ {X : Type 0} where
-  pub head_or : (x : X) (xs : List X) (y : X) → Contains (x ∷ xs) y → (x ≡ y) ⊎ Contains xs y
-  head_or x xs y (zero, lt, is) = inl is
-  head_or x xs y (suc k, lt, is) = inr (k, omega (arith, lt), is)
-
-  pub later : (x : X) (xs : List X) (y : X) → Contains xs y → Contains (x ∷ xs) y
-  later x xs y (k, lt, is) = (suc k, omega (arith, lt), is)
-
-  pub here : (x : X) (xs : List X) → Contains (x ∷ xs) x
-  here x xs = (0, omega arith, refl)
-
   -- within a list the default is not read
   pub any_default : (xs : List X) (k : ℕ) (d e : X) → k < length xs → get_or xs k d ≡ get_or xs k e
   any_default [] k d e lt = absurd (omega (arith, lt))

@@ -17,9 +17,9 @@ use Rattle.node_store.specs.Strings.{Strings}
 use Rattle.mirror_model.specs.declared.reports.Fork.{Fork}
 use Rattle.tlog_mirror.specs.Best.{by_point}
 use Rattle.tlog_mirror.specs.Branches.{IsPairOf, IsTwin, IsTwinOf, Departs, IsDeparture}
-use Rattle.tlog_mirror.proofs.BestNotes.{head_or, later, here}
 use Rattle.tlog_mirror.proofs.HeadLists.{pairs_total}
 use Rattle.tlog_mirror.proofs.ServedNotes.{size_at_most}
+use Rattle.mirror_model.proofs.Listing.{head_or, later, here}
 
 -- ---- the order of heads
 

@@ -19,10 +19,11 @@ use Rattle.stored_trees.proofs.PrefixSteps.{prefix_of_prefix}
 use Rattle.tlog_mirror.specs.Best.{by_point}
 use Rattle.tlog_mirror.specs.Branches.{Departs, IsDeparture, IsBranch, AreBranches, told_of}
 use Rattle.tlog_mirror.specs.declared.forks.Branch.{Branch}
-use Rattle.tlog_mirror.proofs.BestNotes.{head_or, later, here, any_default}
+use Rattle.tlog_mirror.proofs.BestNotes.{any_default}
 use Rattle.tlog_mirror.proofs.HeadLists.{mapped, source_of}
 use Rattle.tlog_mirror.proofs.BranchSteps.{less_size, sorted_upto, sorted_later, drop_before, cut_before}
 use Rattle.tlog_mirror.proofs.BranchSteps.{departure_more}
+use Rattle.mirror_model.proofs.Listing.{head_or, later, here}
 
 abbrev pub head_of : Branch → ℕ × List ℕ
 head_of branch = branch.head

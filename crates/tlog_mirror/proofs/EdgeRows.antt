@@ -22,8 +22,7 @@ use Rattle.mirror_model.specs.Item.{row_of}
 use Rattle.mirror_model.specs.Strings.{HasClash}
 use Rattle.stored_trees.proofs.BuiltTrees.{added_both}
 use Rattle.tlog_mirror.specs.Edges.{HaveWidths}
-use Rattle.tlog_mirror.proofs.TakenItems.{clash_within}
-use Rattle.mirror_model.proofs.StringSets.{has_left}
+use Rattle.mirror_model.proofs.StringSets.{has_left, clash_within}
 
 -- ---- widths
 

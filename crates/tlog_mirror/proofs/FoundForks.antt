@@ -27,10 +27,10 @@ use Rattle.tlog_mirror.specs.Best.{HasKept, by_point, pair_point, IsBuiltFlag}
 use Rattle.tlog_mirror.specs.Branches.{head_pair, IsTwin, IsDeparture}
 use Rattle.tlog_mirror.specs.Kept.{state_of, IsKeptWell}
 use Rattle.tlog_mirror.specs.declared.kept.KeptNote.{KeptNote}
-use Rattle.tlog_mirror.proofs.BestNotes.{head_or, later, here}
 use Rattle.tlog_mirror.proofs.BranchSteps.{not_both, less_size}
 use Rattle.tlog_mirror.proofs.HeadLists.{pairs_tie, pairs_exact, mapped, source_of, through, sorted_out, sorted_in}
 use Rattle.tlog_mirror.proofs.ServedNotes.{head_from_kept, kept_head}
+use Rattle.mirror_model.proofs.Listing.{head_or, later, here}
 
 -- ---- the order of forks
 

@@ -1,10 +1,10 @@
 -- The list of the heads that are held, in order.
 use Rattle.std.proofs.Common.{◌≡◌, ℕ, zero, suc, ◌<◌, List, [], ◌∷◌, ◌++◌, length, map, get_or, Bool, true, false, sym}
-use Rattle.std.proofs.Common.{refl, ap, subst, ◌∙◌, arith, nat_eq}
+use Rattle.std.proofs.Common.{ap, subst, ◌∙◌, arith, nat_eq}
 use Rattle.std.specs.Prelude.{IsTrue, All, ◌↔◌, ◌&&◌, Result, Ok, Err, IfOk}
-use Rattle.std.specs.Ordering.{nat_cmp, eq_by_cmp, is_eq, on}
+use Rattle.std.specs.Ordering.{nat_cmp, eq_by_cmp, on}
 use Rattle.std.specs.declared.cmp.Ordering.{Ordering}
-use Rattle.std.specs.declared.cmp.Ordering.TheVariants.{Less, Equal, Greater}
+use Rattle.std.specs.declared.cmp.Ordering.TheVariants.{Less}
 use Rattle.std.specs.Cmp.{IsTotalOrder, IsEquivalence, on_total, unsigned_ties, both_tied, eq_by_cmp_equiv}
 use Rattle.std.specs.Cmp.Lexicographic.{slice_cmp, pointwise, lists_ties}
 use Rattle.std.specs.List.{Contains, AllByRecursion}
@@ -21,6 +21,7 @@ use Rattle.mirror_model.specs.Marks.{Points, State}
 use Rattle.mirror_model.specs.Reports.{ReportsHeads, head_point, IsFlagged}
 use Rattle.mirror_model.specs.declared.reports.Head.{Head}
 use Rattle.stored_trees.proofs.Marking.{point_total, point_same, same_key}
+use Rattle.stored_trees.proofs.Orders.{equal_is}
 use Rattle.tlog_mirror.specs.Kept.{state_of, IsKeptWell}
 use Rattle.tlog_mirror.specs.Best.{HasKept, by_point, pair_point, kept_point, IsBuiltFlag}
 use Rattle.tlog_mirror.specs.declared.kept.KeptNote.{KeptNote}
@@ -38,11 +39,6 @@ pairs_tie a b =
 
 pub pairs_equivalence : IsEquivalence same_key
 pairs_equivalence = subst IsEquivalence (λ i a b. sym (pairs_tie a b) i) (eq_by_cmp_equiv pairs_total)
-
-equal_is : (o : Ordering) → is_eq o ≡ true → o ≡ Equal
-equal_is Less h = absurd (cc h)
-equal_is Equal h = refl
-equal_is Greater h = absurd (cc h)
 
 pub pairs_exact : (a b : ℕ × List ℕ) → same_key a b ≡ true → a ≡ b
 pairs_exact a b h =

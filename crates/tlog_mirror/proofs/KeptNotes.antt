@@ -15,7 +15,7 @@ use Rattle.std.proofs.lemmas.Bool.{cases_lt}
 use Rattle.std.proofs.lemmas.List.{length-map}
 use Rattle.std.proofs.lemmas.List as lists
 use Rattle.std.proofs.lemmas.List.Edits.{length-insert, get_or-insert_below, get_or-insert_at, get_or-insert_above}
-use Rattle.std.proofs.lemmas.List.Elements.{All-nil, All-cons, All-contains, Contains-append_cases}
+use Rattle.std.proofs.lemmas.List.Elements.{All-cons, Contains-append_cases}
 use Rattle.std.proofs.lemmas.List.Elements.{Contains-append_left, Contains-append_right}
 use Rattle.std.proofs.lemmas.List.Sorted.{searchable_from_sorted, IsPermutation-insert, IsPermutation-map}
 use Rattle.std.proofs.lemmas.List.Sorted.{IsPermutation-sym, Contains-permutation, All-permutation}
@@ -25,7 +25,7 @@ use Rattle.mirror_model.specs.View.{View, IsSubview}
 use Rattle.mirror_model.specs.Complete.{HasEdge}
 use Rattle.mirror_model.specs.Heads.{IsHead}
 use Rattle.mirror_model.specs.Marks.{Points}
-use Rattle.mirror_model.proofs.StringSets.{has_left, has_right, has_cases, same_strings, listed_from_has}
+use Rattle.mirror_model.proofs.StringSets.{has_left, has_right, has_cases, same_strings, listed_from_has, only_listed}
 use Rattle.mirror_model.proofs.StringSets.{has_from_listed}
 use Rattle.mirror_model.proofs.Views.{edge_stays, marks_stay}
 use Rattle.tlog_mirror.specs.Adding.{with_note}
@@ -150,12 +150,6 @@ module _ (kept : List KeptNote) (at : ℕ) (k : KeptNote) where
             (listed_from_has (note_bytes k ∷ []) q b)
       ])))
 
--- the one note of a list is that note
-only_note : (note q : List ℕ) → Has (set.from_list (note ∷ [])) q → q ≡ note
-only_note note q h =
-    All-contains (λ y. y ≡ note) (note ∷ []) q (All-cons (λ y. y ≡ note) note [] refl (All-nil (λ y. y ≡ note)))
-    (listed_from_has (note ∷ []) q h)
-
 -- a note that is kept changes nothing
 pub kept_already : (notes : Strings) (note : List ℕ) → Has notes note →
     notes ≡ set.union notes (set.from_list (note ∷ []))
@@ -165,7 +159,7 @@ kept_already notes note held = same_strings _ _
     (has_cases notes (set.from_list (note ∷ [])) q h) [
       | inl a ↦ a
       | inr b ↦ subst (Has notes)
-          (sym (only_note note q b)) held
+          (sym (only_listed note q b)) held
     ])
 
 module _ (digest : List ℕ → List ℕ) (origin : List ℕ) (kept : List KeptNote) (strings : Strings) (remembered : Points)
@@ -200,7 +194,7 @@ module _ (digest : List ℕ → List ℕ) (origin : List ℕ) (kept : List KeptN
             (elim (has_cases before.notes (set.from_list (note_bytes k ∷ [])) note
             (subst (λ s. Has s note) (notes_inserted kept at k) h)) [
               | inl a ↦ ok.sound.lawful.edges note a
-              | inr b ↦ subst (HasEdge digest before) (sym (only_note (note_bytes k) note b)) edge
+              | inr b ↦ subst (HasEdge digest before) (sym (only_listed (note_bytes k) note b)) edge
             ]);
       };
       marks = λ point h. marks_stay digest before after more_notes point (ok.sound.marks point h);

@@ -12,11 +12,10 @@ use Rattle.mirror_model.specs.Heads.{IsHead}
 use Rattle.mirror_model.specs.Marks.{Points}
 use Rattle.mirror_model.specs.Steps.{Exhausted, Answers, IsBetween}
 use Rattle.mirror_model.proofs.StringSets.{has_left, has_right, has_cases, has_from_listed, listed_from_has, held_more}
-use Rattle.stored_trees.proofs.BuiltTrees.{added_both}
+use Rattle.stored_trees.proofs.BuiltTrees.{added_both, added_none}
 use Rattle.tlog_mirror.specs.Adding.{with_note, with_notes, with_strings}
 use Rattle.tlog_mirror.specs.Kept.{state_of, note_bytes, IsKeptWell}
 use Rattle.tlog_mirror.specs.declared.kept.KeptNote.{KeptNote}
-use Rattle.tlog_mirror.proofs.TakenItems.{added_none}
 
 -- the bytes of the first notes
 abbrev pub first_notes : ℕ → List KeptNote → List (List ℕ)

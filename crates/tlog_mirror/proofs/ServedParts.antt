@@ -200,7 +200,8 @@ top_has_served digest hash v lawful top is es = (
   },
   λ q.
       let same =
-      serves_one digest hash v lawful top.note q.note top.size q.size top.root q.root is.served.entries es is.served.served q.served in
+      serves_one digest hash v lawful top.note q.note top.size q.size top.root q.root is.served.entries es
+      is.served.served q.served in
       subst (λ (s : Strings). IsTreeOf digest s top.size top.root es) (sym is.strings_are)
       (subst (IsTreeOf digest v.strings top.size top.root) same.entries_are is.served.served.tree),
 )

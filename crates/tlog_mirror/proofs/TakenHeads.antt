@@ -22,12 +22,12 @@ use Rattle.mirror_model.specs.declared.fault.TakeFault.TheVariants as taking
 use Rattle.mirror_model.specs.declared.items.Item.{Item}
 use Rattle.mirror_model.specs.declared.items.Item.TheVariants.{Head}
 use Rattle.mirror_model.proofs.RefusedHeads.{heads_are_judged}
-use Rattle.mirror_model.proofs.StringSets.{has_left, has_right, has_from_listed, held_from_all}
+use Rattle.mirror_model.proofs.StringSets.{has_left, has_right, has_from_listed, held_from_all, clash_within}
 use Rattle.std.specs.List.{AllByRecursion, Contains}
 use Rattle.std.proofs.lemmas.List.Elements.{recursion_from_All, All-contains_itself, All-weaker}
 use Rattle.tlog_mirror.specs.Adding.{added, taken_of, with_note, with_strings}
 use Rattle.tlog_mirror.specs.Edges.{JudgesEdge}
-use Rattle.tlog_mirror.proofs.TakenItems.{allowed, clash_within, same_kind, gathered, gathered_short}
+use Rattle.tlog_mirror.proofs.TakenItems.{allowed, same_kind, gathered, gathered_short}
 use Rattle.mirror_model.specs.Strings.{IsDigest}
 
 -- ---- the note
@@ -36,7 +36,8 @@ module _ (note origin : List ℕ) (keys : List Key) (checkpoint : Checkpoint)
     (opened : IsOpenCheckpoint note origin keys checkpoint) where
   is_checkpoint : IsCheckpoint opened.text origin checkpoint.size checkpoint.root checkpoint.extensions
   is_checkpoint =
-      subst (λ o. IsCheckpoint opened.text o checkpoint.size checkpoint.root checkpoint.extensions) opened.origin_is opened.is.is_checkpoint
+      subst (λ o. IsCheckpoint opened.text o checkpoint.size checkpoint.root checkpoint.extensions)
+      opened.origin_is opened.is.is_checkpoint
 
   pub open_is_head : IsHead note origin checkpoint.size checkpoint.root
   open_is_head = record {

@@ -1,5 +1,5 @@
 -- What adding the strings of an item to a mirror's makes of its state, and which answer that is.
-use Rattle.std.proofs.Common.{drop, get_or, arith, ◌≡◌, ℕ, ◌*◌, ◌≤◌, List, [], ◌∷◌, length, sym, refl, ap, subst, ◌∙◌}
+use Rattle.std.proofs.Common.{◌≡◌, ℕ, ◌*◌, ◌≤◌, List, [], ◌∷◌, length, sym, refl, ap, subst, ◌∙◌}
 use Rattle.std.proofs.Common.{inl, inr, Ok, Err}
 use Rattle.std.specs.Prelude.{Result}
 use Rattle.std.specs.FinSet as set
@@ -26,37 +26,15 @@ use Rattle.tlog_mirror.specs.Adding.{with_strings, added, taken_of}
 use Rattle.mirror_model.specs.Strings.{IsDigest}
 use Rattle.tlog_mirror.specs.declared.kept.KeptNote.{KeptNote}
 use Rattle.node_store.proofs.Sets.{decide}
-use Rattle.mirror_model.proofs.StringSets.{has_left, has_right, has_cases, has_empty, same_strings, listed_from_has}
+use Rattle.mirror_model.proofs.StringSets.{has_right, has_cases, has_empty, same_strings, listed_from_has}
 use Rattle.mirror_model.proofs.Views.{edge_stays, marks_stay}
 use Rattle.mirror_model.proofs.ItemBytes.{row_is_one, bundle_is_one}
-use Rattle.mirror_model.proofs.ItemStrings.{IsItemString, item_strings}
+use Rattle.mirror_model.proofs.ItemStrings.{item_strings, is_short}
+use Rattle.mirror_model.proofs.StringSets.{clash_within, union_clash}
 use Rattle.stored_trees.proofs.Settles.{settled_stays}
+use Rattle.stored_trees.proofs.BuiltTrees.{added_none}
 
 -- ---- two sets together
-
--- what clashes within a set clashes within a larger one
-pub clash_within :
-    (digest : List ℕ → List ℕ) (v w : Strings) → ((q : List ℕ) → Has v q → Has w q) → HasClash digest v →
-    HasClash digest w
-clash_within digest v w more c = record {
-  first = c.first;
-  second = c.second;
-  first_held = more c.first c.first_held;
-  second_held = more c.second c.second_held;
-  same_digest = c.same_digest;
-  differ = c.differ;
-}
-
--- nothing is added
-pub added_none : (v : Strings) → v ≡ set.union v (set.from_list [])
-added_none v = same_strings _ _
-    (λ q h. has_left v (set.from_list []) q h)
-    (λ q h. elim (has_cases v (set.from_list []) q h) [ inl m ↦ m | inr m ↦ absurd (has_empty q m) ])
-
--- an entry among an item's strings has at most 65,535 bytes
-is_short : (e : List ℕ) → IsItemString (0 ∷ e) → length e ≤ 65535
-is_short e (inl l) = let same : e ≡ l.entry = ap (drop 1) l.is in omega (arith, l.short, ap length same)
-is_short e (inr p) = absurd (let zero_one : 0 ≡ 1 = ap (λ xs. get_or xs 0 0) p.is in omega arith)
 
 module _ (digest : List ℕ → List ℕ) (v w : Strings) where
   pub union_no_clash : NoClash digest v → NoClash digest w → (ClashesWith digest v w → ⊥) →
@@ -86,26 +64,6 @@ module _ (digest : List ℕ → List ℕ) (v w : Strings) where
           ]
         ];
   }
-
-  pub union_clash : ClashesWith digest v w → HasClash digest (set.union v w)
-  union_clash c =
-      record {
-        first =
-            c.first;
-        second =
-            c.second;
-        first_held =
-            has_left v w c.first c.first_held;
-        second_held =
-            has_right v w c.second c.second_held;
-        same_digest = c.same_digest;
-        differ = c.differ;
-      }
-
--- no string clashes with none
-pub empty_no_clash : (digest : List ℕ → List ℕ) (v : Strings) → v ≡ set.empty → NoClash digest v
-empty_no_clash digest v none =
-    subst (NoClash digest) (sym none) (record { same = λ x y hx hy e. absurd (has_empty x hx) })
 
 -- ---- a mirror to whose strings more are added
 

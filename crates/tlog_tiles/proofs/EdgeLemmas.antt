@@ -16,7 +16,7 @@ use Rattle.tlog_tiles.specs.Edge.{edge_at, edge_below, edge_of, level_of}
 use Rattle.tlog_tiles.specs.Tiles.{IsEdgeTile, IsPartialIn}
 
 -- the numbers of the partial tile of a level: as many hashes as the level has
-hashes_of : (n level : ℕ) → 256 * edge_index_of n level + width_of n level ≡ n / 256 ^ level
+pub hashes_of : (n level : ℕ) → 256 * edge_index_of n level + width_of n level ≡ n / 256 ^ level
 hashes_of n level = omega (arith, shift_level n level)
 
 -- a tile within a tree has hashes of the tree
@@ -84,10 +84,10 @@ edge_at-some : (n level : ℕ) → nat_eq (width_of n level) 0 ≡ false →
 edge_at-some n level e =
     ap (λ (b : Bool). if b then [] else Tile level (edge_index_of n level) (width_of n level) ∷ []) e
 
-contains_none : (path : Path) → Contains [] path → ⊥
+pub contains_none : (path : Path) → Contains [] path → ⊥
 contains_none path h = let none = h.1 in omega arith
 
-contains_one : (x path : Path) → Contains (x ∷ []) path → x ≡ path
+pub contains_one : (x path : Path) → Contains (x ∷ []) path → x ≡ path
 contains_one x path h =
     elim (Contains-push_cases [] x path h) [ inl none ↦ absurd (contains_none path none) | inr e ↦ e ]
 

@@ -275,7 +275,8 @@ path_index text path p q = elim (path_kind text path p) [
   | inr f ↦
       (let s = f.is_served in q.bad f.index s.index_fits
       (subst (λ (x : List ℕ). IsIndex x f.index)
-      (parts_one text f.second s.tail q.second q.tail s.index_text q.index_text s.width_text q.width_text s.below q.below s.parts q.parts).0 s.index_is))
+      (parts_one text f.second s.tail q.second q.tail s.index_text q.index_text s.width_text q.width_text s.below
+      q.below s.parts q.parts).0 s.index_is))
 ]
 
 path_width : (text : List ℕ) (path : Path) → IsPath text path → HasBadWidth text → ⊥
@@ -284,7 +285,8 @@ path_width text path p q = elim (path_kind text path p) [
   | inr f ↦
       (let s = f.is_served in q.bad f.width
       (subst (λ (x : Option (List ℕ)). IsWidthOf x f.width)
-      (parts_one text f.second s.tail q.second q.tail s.index_text q.index_text s.width_text q.width_text s.below q.below s.parts q.parts).1 s.width_is))
+      (parts_one text f.second s.tail q.second q.tail s.index_text q.index_text s.width_text q.width_text s.below
+      q.below s.parts q.parts).1 s.width_is))
 ]
 
 level_index : (text : List ℕ) → HasBadLevel text → HasBadIndex text → ⊥
@@ -297,7 +299,8 @@ index_width : (text : List ℕ) → HasBadIndex text → HasBadWidth text → �
 index_width text p q =
     p.bad q.index q.index_fits
     (subst (λ (x : List ℕ). IsIndex x q.index)
-    (parts_one text q.second q.tail p.second p.tail q.index_text p.index_text q.width_text p.width_text q.below p.below q.parts p.parts).0 q.index_is)
+    (parts_one text q.second q.tail p.second p.tail q.index_text p.index_text q.width_text p.width_text q.below p.below
+    q.parts p.parts).0 q.index_is)
 
 pub path_answer_one : (text : List ℕ) (a b : Result Path PathFault) → ReadsPath text a → ReadsPath text b → a ≡ b
 path_answer_one text (Ok a) (Ok b) p q = ap (λ (x : Path). Ok x) (path_one text a b p q)

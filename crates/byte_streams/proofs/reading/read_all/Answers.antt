@@ -12,8 +12,19 @@ returns-in_err-extend_from_slice-in-Ok-clause-limit g c =
     let given = take c.in-Ok.n c.read.new.buf in
     record {
       taken = had ++ given;
-      within = omega (arith, length-append had given, c.in-Ok.ensures.bound.0, c.in-Ok.ensures.bound.1, c.read.auto.buf, length-take c.min-room.result c.loop.chunk, c.min-room.ensures, c.len.ensures, c.loop.invariant.within);
-      consumes = Consumes-trans (told c.args.reader.now) (told c.loop.reader) (told c.read.new.self) had given c.loop.invariant.taken c.in-Ok.ensures.bytes.0;
+      within = omega (
+        arith,
+        length-append had given,
+        c.in-Ok.ensures.bound.0,
+        c.in-Ok.ensures.bound.1,
+        c.read.auto.buf,
+        length-take c.min-room.result c.loop.chunk,
+        c.min-room.ensures,
+        c.len.ensures,
+        c.loop.invariant.within,
+      );
+      consumes = Consumes-trans (told c.args.reader.now) (told c.loop.reader) (told c.read.new.self)
+          had given c.loop.invariant.taken c.in-Ok.ensures.bytes.0;
     }
 
 pub loop-preserved : goal.loop-preserved
@@ -25,18 +36,34 @@ loop-preserved g c =
           let rest = drop c.min-room.result c.loop.chunk in
           let front = ap length (take-append-le w.in-Ok.n c.read.new.buf rest w.in-Ok.ensures.bound.0) in
           record {
-            within = omega (arith, ap vec_len w.all-is, w.in_ok-extend_from_slice-in-Ok.ensures.len, front, w.in-Ok.ensures.bound.0, w.in-Ok.ensures.bound.1, c.read.auto.buf, length-take c.min-room.result c.loop.chunk, c.min-room.ensures, c.len.ensures, c.loop.invariant.within);
-            taken = consumes_more (told c.args.reader.now) (told c.loop.reader) (told c.read.new.self) had _ c.read.new.buf rest w.in-Ok.n c.loop.invariant.taken w.in-Ok.ensures.bound.0 w.in-Ok.ensures.bytes.0 (ap (λ v. v.items) w.all-is ∙ w.in_ok-extend_from_slice-in-Ok.ensures.items);
+            within = omega (
+              arith,
+              ap vec_len w.all-is,
+              w.in_ok-extend_from_slice-in-Ok.ensures.len,
+              front,
+              w.in-Ok.ensures.bound.0,
+              w.in-Ok.ensures.bound.1,
+              c.read.auto.buf,
+              length-take c.min-room.result c.loop.chunk,
+              c.min-room.ensures,
+              c.len.ensures,
+              c.loop.invariant.within,
+            );
+            taken = consumes_more (told c.args.reader.now) (told c.loop.reader) (told c.read.new.self) had
+                _ c.read.new.buf rest w.in-Ok.n c.loop.invariant.taken w.in-Ok.ensures.bound.0 w.in-Ok.ensures.bytes.0
+                (ap (λ v. v.items) w.all-is ∙ w.in_ok-extend_from_slice-in-Ok.ensures.items);
           }
       | in-Err+else-ne w ↦
           record {
             within = rw w.all-is c.loop.invariant.within;
-            taken = rw w.all-is (Consumes-kept (told c.args.reader.now) (told c.loop.reader) (told c.read.new.self) had c.loop.invariant.taken w.in-Err.ensures.bytes);
+            taken = rw w.all-is (Consumes-kept (told c.args.reader.now) (told c.loop.reader) (told c.read.new.self)
+                had c.loop.invariant.taken w.in-Err.ensures.bytes);
           }
     ]
 
 pub returns-in-Ok-eq0-clause-limit : goal.returns-in-Ok-eq0-clause-limit
-returns-in-Ok-eq0-clause-limit g c = record { taken = c.loop.all.items; within = omega (arith, c.loop.invariant.within); consumes = search rules }
+returns-in-Ok-eq0-clause-limit g c =
+    record { taken = c.loop.all.items; within = omega (arith, c.loop.invariant.within); consumes = search rules }
 
 pub returns-then-ne-clause-limit : goal.returns-then-ne-clause-limit
 returns-then-ne-clause-limit g c =
@@ -44,5 +71,6 @@ returns-then-ne-clause-limit g c =
     record {
       taken = c.loop.all.items;
       within = omega (arith, c.loop.invariant.within);
-      consumes = Consumes-kept (told c.args.reader.now) (told c.loop.reader) (told c.read.new.self) c.loop.all.items c.loop.invariant.taken c.in-Err.ensures.bytes;
+      consumes = Consumes-kept (told c.args.reader.now) (told c.loop.reader) (told c.read.new.self)
+          c.loop.all.items c.loop.invariant.taken c.in-Err.ensures.bytes;
     }

@@ -1,5 +1,5 @@
-use Rattle.tlog_mirror.proofs.TakenItems.{empty_no_clash}
 use Rattle.mirror_files.proofs.ListedItems.{store_made, store_refused}
+use Rattle.stored_trees.proofs.EmptySets.{empty_no_clash}
 use Rattle.mirror_files.proofs.loading.store_of.Goals as goal
 
 pub add_lists-requires-clause-no_clash : goal.add_lists-requires-clause-no_clash

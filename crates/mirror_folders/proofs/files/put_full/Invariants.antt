@@ -7,6 +7,8 @@ use Rattle.mirror_folders.proofs.files.put_full.Given as goal
 
 abbrev pub invariant-loop-index : goal.invariant-loop-index
 invariant-loop-index g l = record {
-  told : (entries : List (List ℕ)) → IsListOf g.H.TreeHash.digest l.top entries → AddsTold (g.S.Shelf.puts l.fn.shelf) (g.S.Shelf.puts l.shelf) (files_at g.H.TreeHash.digest l.top.note entries (map (λ index. kind_path l.kind index 256) (range_with_len 0 l.index)));
+  told : (entries : List (List ℕ)) → IsListOf g.H.TreeHash.digest l.top entries →
+      AddsTold (g.S.Shelf.puts l.fn.shelf) (g.S.Shelf.puts l.shelf) (files_at g.H.TreeHash.digest l.top.note entries
+      (map (λ index. kind_path l.kind index 256) (range_with_len 0 l.index)));
   counted : g.S.Shelf.failed l.shelf ≡ g.S.Shelf.failed l.fn.shelf;
 }

@@ -11,9 +11,12 @@ put_file-requires g c =
     let kind = c.args.kind in
     let level = c.level_at-level.result in
     let width = c.edge_width-width.result in
-    let at = path_is n c.args.size kind level c.edge_index.result width c.path_at.result c.requires.size c.level_at-level.ensures c.edge_index.ensures c.edge_width-width.ensures c.path_at.ensures in
-    let same = width_is n c.args.size kind level width c.requires.size c.level_at-level.ensures c.edge_width-width.ensures in
-    subst (λ (path : Path). IsWithin n path) (sym at) (partial_within n kind c.requires.level (λ none. c.if-width-eq0.false (same ∙ none)))
+    let at = path_is n c.args.size kind level c.edge_index.result width c.path_at.result c.requires.size
+    c.level_at-level.ensures c.edge_index.ensures c.edge_width-width.ensures c.path_at.ensures in
+    let same = width_is n c.args.size kind level width c.requires.size c.level_at-level.ensures
+    c.edge_width-width.ensures in
+    subst (λ (path : Path). IsWithin n path) (sym at)
+    (partial_within n kind c.requires.level (λ none. c.if-width-eq0.false (same ∙ none)))
 
 pub returns-clause-told : goal.returns-clause-told
 returns-clause-told g c =
@@ -22,12 +25,17 @@ returns-clause-told g c =
     let kind = c.args.kind in
     let level = c.level_at-level.result in
     let width = c.edge_width-width.result in
-    let at = path_is n c.args.size kind level c.edge_index.result width c.path_at.result c.requires.size c.level_at-level.ensures c.edge_index.ensures c.edge_width-width.ensures c.path_at.ensures in
-    let same = width_is n c.args.size kind level width c.requires.size c.level_at-level.ensures c.edge_width-width.ensures in
-    λ entries is. rw (partial_some n kind (λ none. c.if-width-eq0.false (same ∙ none))) (rw at at (c.put_file.ensures.told entries is))
+    let at = path_is n c.args.size kind level c.edge_index.result width c.path_at.result c.requires.size
+    c.level_at-level.ensures c.edge_index.ensures c.edge_width-width.ensures c.path_at.ensures in
+    let same = width_is n c.args.size kind level width c.requires.size c.level_at-level.ensures
+    c.edge_width-width.ensures in
+    λ entries is. rw (partial_some n kind (λ none. c.if-width-eq0.false (same ∙ none)))
+    (rw at at (c.put_file.ensures.told entries is))
 
 pub returns-then-width-eq0-clause-told : goal.returns-then-width-eq0-clause-told
 returns-then-width-eq0-clause-told g c =
     let puts = g.S.Shelf.puts in
-    let same = width_is c.args.top.now.size c.args.size c.args.kind c.level_at-level.result c.edge_width-width.result c.requires.size c.level_at-level.ensures c.edge_width-width.ensures in
-    λ entries is. rw (partial_none c.args.top.now.size c.args.kind (sym same ∙ c.if-width-eq0.true)) (adds_none (puts c.args.shelf.now))
+    let same = width_is c.args.top.now.size c.args.size c.args.kind c.level_at-level.result c.edge_width-width.result
+    c.requires.size c.level_at-level.ensures c.edge_width-width.ensures in
+    λ entries is. rw (partial_none c.args.top.now.size c.args.kind (sym same ∙ c.if-width-eq0.true))
+    (adds_none (puts c.args.shelf.now))

@@ -6,6 +6,7 @@ use Rattle.mirror_folders.proofs.files.put_tiles.Given as goal
 
 abbrev pub invariant-loop-level : goal.invariant-loop-level
 invariant-loop-level g l = record {
-  told : (entries : List (List ℕ)) → IsListOf g.H.TreeHash.digest l.top entries → AddsTold (g.S.Shelf.puts l.fn.shelf) (g.S.Shelf.puts l.shelf) (files_at g.H.TreeHash.digest l.top.note entries (tiles_below l.top.size l.level));
+  told : (entries : List (List ℕ)) → IsListOf g.H.TreeHash.digest l.top entries → AddsTold (g.S.Shelf.puts l.fn.shelf)
+      (g.S.Shelf.puts l.shelf) (files_at g.H.TreeHash.digest l.top.note entries (tiles_below l.top.size l.level));
   counted : g.S.Shelf.failed l.shelf ≡ g.S.Shelf.failed l.fn.shelf;
 }

@@ -1,4 +1,4 @@
-use Rattle.log_sources.proofs.Origins.{ex_is_origin}
+use Rattle.mirror_model.proofs.Origins.{ex_is_origin}
 use Rattle.mirror_pull.proofs.tests.list_of.Goals as goal
 
 pub new-requires-clause-origin : goal.new-requires-clause-origin

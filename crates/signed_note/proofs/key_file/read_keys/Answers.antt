@@ -9,7 +9,8 @@ pub returns-in_err-key_of : goal.returns-in_err-key_of
 returns-in_err-key_of c =
     let p = err_from_is_err_and c.from_residual.result c.from_residual.ensures.1 in
     rw (p.1, p.2)
-    (key_refused c.args.bytes.now c.loop-rest.invariant.0 c.loop-rest.rest.now c.in-Some.line.now c.in-Some.after.now c.loop-rest.keys.items _ c.in_err-key_of.field-0.0
+    (key_refused c.args.bytes.now c.loop-rest.invariant.0 c.loop-rest.rest.now c.in-Some.line.now c.in-Some.after.now
+    c.loop-rest.keys.items _ c.in_err-key_of.field-0.0
     c.loop-rest.invariant.1 c.loop-rest.invariant.2 c.in-Some.ensures.found
     (Lacks-from_reads newline c.in-Some.line.now c.in-Some.ensures.first)
     (omega (arith, c.len-number.ensures, c.loop-rest.keys.ok)) c.in_err-key_of.ensures)
@@ -26,5 +27,6 @@ loop-rest-preserved c =
       front ++ (line ++ newline ∷ []),
       whole,
       rw c.in_ok-push.ensures.items
-          (file_more front line c.loop-rest.keys.items c.in_ok-key_of.field-0 c.loop-rest.invariant.2 c.in_ok-key_of.ensures),
+          (file_more front line c.loop-rest.keys.items c.in_ok-key_of.field-0 c.loop-rest.invariant.2
+          c.in_ok-key_of.ensures),
     )

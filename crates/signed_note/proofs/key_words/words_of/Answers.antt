@@ -33,7 +33,8 @@ returns-in_err-id-clause-none c =
     split_parts space c.in_ok-name.rest.now
     (Some (c.in_ok-id_digits.id_digits, c.in_ok-id_digits.digits)) c.in_ok-id_digits.ensures.cases (lit< tt) in
     rw c.from_residual-in_err-id.ensures (λ name digits id own w.
-    no_id c.args.text.now c.in_ok-name.name.now c.in_ok-id_digits.id_digits.now c.in_ok-id_digits.digits.now name digits id (rw second.0 at first.0)
+    no_id c.args.text.now c.in_ok-name.name.now c.in_ok-id_digits.id_digits.now c.in_ok-id_digits.digits.now name digits
+    id (rw second.0 at first.0)
     (Lacks-from_reads space c.in_ok-name.name.now first.1)
     (Lacks-from_reads space c.in_ok-id_digits.id_digits.now second.1) c.in_err-id.ensures.none own w)
 

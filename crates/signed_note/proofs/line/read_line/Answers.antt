@@ -15,9 +15,11 @@ pub returns-in_err-payload : goal.returns-in_err-payload
 returns-in_err-payload c =
     let p = err_from_is_err_and c.from_residual.result c.from_residual.ensures.1 in
     rw (p.1, p.2)
-    (refused c.args.line.now c.in-Some.name.now c.in-Some.encoded.now c.in_err-payload.field-0.0 c.in-Some.ensures.found (Lacks-from_reads space c.in-Some.name.now c.in-Some.ensures.first) c.in_err-payload.ensures)
+    (refused c.args.line.now c.in-Some.name.now c.in-Some.encoded.now c.in_err-payload.field-0.0 c.in-Some.ensures.found
+    (Lacks-from_reads space c.in-Some.name.now c.in-Some.ensures.first) c.in_err-payload.ensures)
 
 pub returns-then-len-lt5 : goal.returns-then-len-lt5
 returns-then-len-lt5 c =
-    too_short c.args.line.now c.in-Some.name.now c.in-Some.encoded.now c.in_ok-payload.payload.items c.in-Some.ensures.found (Lacks-from_reads space c.in-Some.name.now c.in-Some.ensures.first)
+    too_short c.args.line.now c.in-Some.name.now c.in-Some.encoded.now c.in_ok-payload.payload.items
+    c.in-Some.ensures.found (Lacks-from_reads space c.in-Some.name.now c.in-Some.ensures.first)
     c.in_ok-payload.ensures.1 c.in_ok-payload.ensures.0 (omega arith)

@@ -25,7 +25,9 @@ returns-in_err-read_line c =
     (lit< tt) in
     let p = err_from_is_err_and c.from_residual.result c.from_residual.ensures.1 in
     rw (p.1, p.2)
-    (line_refused c.args.signed.now c.loop-rest.rest.now c.in-Some.line.now c.in-Some.after.now c.in_err-read_line.field-0.0 parts.0 (Lacks-from_reads newline c.in-Some.line.now parts.1) c.loop-rest.invariant.goes_on c.in_err-read_line.ensures)
+    (line_refused c.args.signed.now c.loop-rest.rest.now c.in-Some.line.now
+    c.in-Some.after.now c.in_err-read_line.field-0.0 parts.0 (Lacks-from_reads newline c.in-Some.line.now parts.1)
+    c.loop-rest.invariant.goes_on c.in_err-read_line.ensures)
 
 pub loop-rest-preserved : goal.loop-rest-preserved
 loop-rest-preserved c =
@@ -35,10 +37,12 @@ loop-rest-preserved c =
     record {
       text = search rules;
       so_far = rw c.in_ok-push.ensures.items
-          (one_more c.args.signed.now c.in-Some.line.now c.in-Some.after.now c.loop-rest.lines.items c.in_ok-read_line.field-0 (rw parts.0 at c.loop-rest.invariant.so_far) c.in_ok-read_line.ensures.1);
+          (one_more c.args.signed.now c.in-Some.line.now c.in-Some.after.now c.loop-rest.lines.items
+          c.in_ok-read_line.field-0 (rw parts.0 at c.loop-rest.invariant.so_far) c.in_ok-read_line.ensures.1);
       well_formed =
           rw c.in_ok-push.ensures.items
-          (All-push IsSignatureLine c.loop-rest.lines.items c.in_ok-read_line.field-0 c.loop-rest.invariant.well_formed c.in_ok-read_line.ensures.0);
+          (All-push IsSignatureLine c.loop-rest.lines.items c.in_ok-read_line.field-0 c.loop-rest.invariant.well_formed
+          c.in_ok-read_line.ensures.0);
       goes_on = λ all are.
           let more = c.loop-rest.invariant.goes_on all are in
           let next =

@@ -15,7 +15,8 @@ text = 120 ∷ 10 ∷ 10 ∷ 10 ∷ 121 ∷ 10 ∷ []
 
 ascii : IsAscii text
 ascii =
-    IsAscii-cons 120 (10 ∷ 10 ∷ 10 ∷ 121 ∷ 10 ∷ []) (omega arith) (IsAscii-cons 10 (10 ∷ 10 ∷ 121 ∷ 10 ∷ []) (omega arith)
+    IsAscii-cons 120 (10 ∷ 10 ∷ 10 ∷ 121 ∷ 10 ∷ []) (omega arith)
+    (IsAscii-cons 10 (10 ∷ 10 ∷ 121 ∷ 10 ∷ []) (omega arith)
     (IsAscii-cons 10 (10 ∷ 121 ∷ 10 ∷ []) (omega arith) (IsAscii-cons 10 (121 ∷ 10 ∷ []) (omega arith)
     (IsAscii-cons 121 (10 ∷ []) (omega arith) (IsAscii-cons 10 [] (omega arith) IsAscii-nil)))))
 
@@ -23,7 +24,8 @@ lawful : IsLawfulText text
 lawful = record {
   readable = record {
     utf8 = IsUtf8-from_ascii text ascii;
-    characters = subst (AllPass is_note_char) (sym (chars-IsAscii text ascii)) (AllPass-from_list_all is_note_char text refl);
+    characters =
+        subst (AllPass is_note_char) (sym (chars-IsAscii text ascii)) (AllPass-from_list_all is_note_char text refl);
   };
   ended = (120 ∷ 10 ∷ 10 ∷ 10 ∷ 121 ∷ [], refl);
   short = omega arith;

@@ -54,7 +54,8 @@ returns-in_err-left-in_default-clause-collision g t c = λ is.
     let k = c.split-k.result in
     clash_left d c.args.store.now (strings d (bytes_of (take k es))) (strings d (bytes_of (rest_after d es k)))
     (strings d (bytes_of es)) (entries_last d es k) (entries_parts d es k (omega arith) c.split-k.ensures.value)
-    (let p = err_from_is_err_and c.from_residual.result c.from_residual.ensures.1 in c.in_err-left-in_default.ensures.collision (cc (p.1, p.2, is)))
+    (let p = err_from_is_err_and c.from_residual.result c.from_residual.ensures.1 in
+    c.in_err-left-in_default.ensures.collision (cc (p.1, p.2, is)))
 
 pub returns-in_err-right-in_default-clause-collision : goal.returns-in_err-right-in_default-clause-collision
 returns-in_err-right-in_default-clause-collision g t c = λ is.
@@ -64,7 +65,9 @@ returns-in_err-right-in_default-clause-collision g t c = λ is.
     clash_right d c.args.store.now (strings d (bytes_of (take k es))) (strings d (bytes_of (rest_after d es k)))
     (strings d (bytes_of es)) (entries_last d es k) (entries_parts d es k (omega arith) c.split-k.ensures.value)
     c.add_entries.new.store c.in_ok-left-in_default.ensures.ok
-    (let p = err_from_is_err_and c.from_residual-in_err-right-in_default.result c.from_residual-in_err-right-in_default.ensures.1 in c.in_err-right-in_default.ensures.collision (cc (p.1, p.2, is)))
+    (let p = err_from_is_err_and
+    c.from_residual-in_err-right-in_default.result c.from_residual-in_err-right-in_default.ensures.1 in
+    c.in_err-right-in_default.ensures.collision (cc (p.1, p.2, is)))
 
 pub returns-in_ok-right-in_default-clause-hash : goal.returns-in_ok-right-in_default-clause-hash
 returns-in_ok-right-in_default-clause-hash g t c =
@@ -87,7 +90,8 @@ returns-in_ok-right-in_default-clause-ok g t c =
     added_last d c.args.store.now (strings d (bytes_of (take k es))) (strings d (bytes_of (rest_after d es k)))
     (strings d (bytes_of es)) (entries_last d es k)
     (entries_parts d es k
-    (omega arith) c.split-k.ensures.value) c.add_entries.new.store c.add_entries-in_default.new.store c.in_ok-left-in_default.ensures.ok c.in_ok-right-in_default.ensures.ok in
+    (omega arith) c.split-k.ensures.value) c.add_entries.new.store c.add_entries-in_default.new.store
+    c.in_ok-left-in_default.ensures.ok c.in_ok-right-in_default.ensures.ok in
     subst (λ x. OnOk c.insert-in_default.result (c.insert-in_default.new.self ≡ x))
     (ap (set.insert c.add_entries-in_default.new.store) last ∙ all) c.insert-in_default.ensures.ok
 
@@ -100,5 +104,6 @@ returns-in_ok-right-in_default-clause-collision g t c = λ is.
     λ i. 1 ∷ c.in_ok-left-in_default.ensures.hash i ++ c.in_ok-right-in_default.ensures.hash i in
     clash_last d c.args.store.now (strings d (bytes_of (take k es))) (strings d (bytes_of (rest_after d es k)))
     (strings d (bytes_of es)) (entries_last d es k) (entries_parts d es k (omega arith) c.split-k.ensures.value)
-    c.add_entries.new.store c.add_entries-in_default.new.store c.in_ok-left-in_default.ensures.ok c.in_ok-right-in_default.ensures.ok
+    c.add_entries.new.store c.add_entries-in_default.new.store c.in_ok-left-in_default.ensures.ok
+    c.in_ok-right-in_default.ensures.ok
     (subst (Clashes d c.add_entries-in_default.new.store) last (c.insert-in_default.ensures.collision.0 is))

@@ -35,7 +35,8 @@ returns-in_err-right-clause-collision g t c = λ is.
     clash_right d c.args.store.now (joins d (take k row)) (joins d (after d row k)) (joins d row) (row_last d row k)
     (row_parts d row k (omega arith) c.split-k.ensures.value)
     c.add_row.new.store c.in_ok-left.ensures.ok
-    (let p = err_from_is_err_and c.from_residual-in_err-right.result c.from_residual-in_err-right.ensures.1 in c.in_err-right.ensures.collision (cc (p.1, p.2, is)))
+    (let p = err_from_is_err_and c.from_residual-in_err-right.result c.from_residual-in_err-right.ensures.1 in
+    c.in_err-right.ensures.collision (cc (p.1, p.2, is)))
 
 pub returns-clause-hash : goal.returns-clause-hash
 returns-clause-hash g t c =
@@ -57,7 +58,8 @@ returns-clause-ok g t c =
     let all =
     added_last d c.args.store.now (joins d (take k row)) (joins d (after d row k)) (joins d row) (row_last d row k)
     (row_parts d row k
-    (omega arith) c.split-k.ensures.value) c.add_row.new.store c.add_row-2.new.store c.in_ok-left.ensures.ok c.in_ok-right.ensures.ok in
+    (omega arith) c.split-k.ensures.value) c.add_row.new.store c.add_row-2.new.store c.in_ok-left.ensures.ok
+    c.in_ok-right.ensures.ok in
     subst (λ x. OnOk c.insert.result (c.insert.new.self ≡ x))
     (ap (set.insert c.add_row-2.new.store) last ∙ all) c.insert.ensures.ok
 

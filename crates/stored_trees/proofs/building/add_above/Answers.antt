@@ -1,5 +1,6 @@
-use Rattle.std.proofs.Common.{◌≡◌, List, ℕ, [], ◌∷◌, ◌+◌, length, Vec, Global, map, sym, refl, ap, ◌∙◌, subst, Err}
+use Rattle.std.proofs.Common.{◌≡◌, List, ℕ, ◌∷◌, ◌+◌, length, Vec, Global, map, sym, ap, ◌∙◌, subst, Err}
 use Rattle.std.proofs.Common.{arith}
+use Rattle.std.proofs.lemmas.List.{nil_from_length}
 use Rattle.std.specs.FinSet as set
 use Rattle.std.specs.Vec.Iter.{into_iter_items, into_iter_len}
 use Rattle.tlog_hash.specs.Tree.{fold_of, joins}
@@ -7,10 +8,6 @@ use Rattle.mirror_model.specs.Edge.{root_from, strings_from}
 use Rattle.mirror_model.specs.Strings.{HasClash}
 use Rattle.stored_trees.proofs.BuiltTrees.{above_root, above_strings, above_clash, added_none}
 use Rattle.stored_trees.proofs.building.add_above.Goals as goal
-
-no_rows : (rows : List (Vec (List ℕ) Global)) → 0 ≡ length rows → rows ≡ []
-no_rows [] h = refl
-no_rows (x ∷ xs) h = absurd (omega arith)
 
 pub loop-row-init : goal.loop-row-init
 loop-row-init g c =
@@ -36,11 +33,13 @@ loop-row-preserved g c =
     let store_is =
     c.in-Ok-add_row.ensures.ok ∙
     ap (λ xs. set.union c.loop-row.store (set.from_list (joins d xs))) c.as_slice.ensures.value in record {
-      root = above_root d c.loop-row.value c.in-Ok-add_row.hash c.in-Some.row.items c.push.new.self.items rest c.in-Ok.ensures.items hash_is
+      root = above_root d c.loop-row.value c.in-Ok-add_row.hash c.in-Some.row.items c.push.new.self.items rest
+          c.in-Ok.ensures.items hash_is
           ∙ ap (λ (rows : List (Vec (List ℕ) Global)). root_from d c.loop-row.value (map (λ row. row.items) rows))
           (sym left) ∙ c.loop-row.invariant.root;
       strings =
-          above_strings d c.loop-row.value c.in-Ok-add_row.hash c.in-Some.row.items c.push.new.self.items rest c.in-Ok.ensures.items c.loop-row.store c.add_row.new.store hash_is store_is
+          above_strings d c.loop-row.value c.in-Ok-add_row.hash c.in-Some.row.items c.push.new.self.items rest
+          c.in-Ok.ensures.items c.loop-row.store c.add_row.new.store hash_is store_is
           ∙ ap (λ (rows : List (Vec (List ℕ) Global)). set.union c.loop-row.store
           (set.from_list (strings_from d c.loop-row.value (map (λ row. row.items) rows)))) (sym left) ∙
           c.loop-row.invariant.strings;
@@ -59,7 +58,8 @@ returns-in-Err-clause-collision g c = λ is.
     (set.from_list (strings_from d c.loop-row.value (map (λ row. row.items) rows)))) (sym left) ∙
     c.loop-row.invariant.strings)
     (above_clash d c.loop-row.value
-    (fold_of d c.push.new.self.items) c.in-Some.row.items c.push.new.self.items rest c.in-Ok.ensures.items c.loop-row.store
+    (fold_of d c.push.new.self.items) c.in-Some.row.items c.push.new.self.items rest c.in-Ok.ensures.items
+    c.loop-row.store
     (subst (λ xs. HasClash d (set.union c.loop-row.store (set.from_list (joins d xs)))) c.as_slice.ensures.value
     (c.in-Err.ensures.collision is)))
 
@@ -67,8 +67,8 @@ pub returns-clause-hash : goal.returns-clause-hash
 returns-clause-hash g c =
     let d = g.H.TreeHash.digest in
     let none =
-    no_rows (into_iter_items c.loop-row.row-iterator)
-    (sym c.in-None.ensures.steps.0 ∙ c.loop-row.invariant.count) in
+    nil_from_length (into_iter_items c.loop-row.row-iterator)
+    (sym c.loop-row.invariant.count ∙ c.in-None.ensures.steps.0) in
     sym (ap (λ (rows : List (Vec (List ℕ) Global)). root_from d c.loop-row.value (map (λ row. row.items) rows)) none) ∙
     c.loop-row.invariant.root
 
@@ -76,8 +76,8 @@ pub returns-clause-ok : goal.returns-clause-ok
 returns-clause-ok g c =
     let d = g.H.TreeHash.digest in
     let none =
-    no_rows (into_iter_items c.loop-row.row-iterator)
-    (sym c.in-None.ensures.steps.0 ∙ c.loop-row.invariant.count) in
+    nil_from_length (into_iter_items c.loop-row.row-iterator)
+    (sym c.loop-row.invariant.count ∙ c.in-None.ensures.steps.0) in
     added_none c.loop-row.store
     ∙ sym (ap
     (λ (rows : List (Vec (List ℕ) Global)). set.union c.loop-row.store

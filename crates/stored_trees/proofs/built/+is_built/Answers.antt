@@ -10,7 +10,8 @@ returns-then-size-eq0 g t c =
 
 pub returns-then-size-eq1 : goal.returns-then-size-eq1
 returns-then-size-eq1 g t c =
-    tells_one g.H.TreeHash.digest c.args.store.now c.args.size c.args.root.now c.entry_of.result c.is_some.result c.if-size-eq1.true c.is_some.ensures c.entry_of.ensures.some c.entry_of.ensures.none
+    tells_one g.H.TreeHash.digest c.args.store.now c.args.size c.args.root.now c.entry_of.result c.is_some.result
+    c.if-size-eq1.true c.is_some.ensures c.entry_of.ensures.some c.entry_of.ensures.none
 
 pub returns-in_default : goal.returns-in_default
 returns-in_default g t c =
@@ -20,13 +21,17 @@ returns-in_default g t c =
 pub returns-then-is_built : goal.returns-then-is_built
 returns-then-is_built g t c =
     let len : length c.in-Some.pair.0 ≡ 32 = search rules in
-    tells_both g.H.TreeHash.digest c.args.store.now g.met.H.TreeHash.digest_length c.in-Some.ensures.no_clash c.args.size c.split-k.result c.args.root.now c.in-Some.pair.0 c.in-Some.pair.1 _ (omega arith) c.split-k.ensures.value len c.in-Some.ensures.some
+    tells_both g.H.TreeHash.digest c.args.store.now g.met.H.TreeHash.digest_length c.in-Some.ensures.no_clash
+    c.args.size c.split-k.result c.args.root.now c.in-Some.pair.0 c.in-Some.pair.1 _ (omega arith)
+    c.split-k.ensures.value len c.in-Some.ensures.some
     (c.is_built.ensures.0 c.if-is_built.true) c.is_built-then-is_built.ensures
 
 pub returns-else-is_built : goal.returns-else-is_built
 returns-else-is_built g t c =
     let len : length c.in-Some.pair.0 ≡ 32 = search rules in
-    tells_left g.H.TreeHash.digest c.args.store.now g.met.H.TreeHash.digest_length c.in-Some.ensures.no_clash c.args.size c.split-k.result c.args.root.now c.in-Some.pair.0 c.in-Some.pair.1 _ (omega arith) c.split-k.ensures.value len c.in-Some.ensures.some
+    tells_left g.H.TreeHash.digest c.args.store.now g.met.H.TreeHash.digest_length c.in-Some.ensures.no_clash
+    c.args.size c.split-k.result c.args.root.now c.in-Some.pair.0 c.in-Some.pair.1 _ (omega arith)
+    c.split-k.ensures.value len c.in-Some.ensures.some
     c.if-is_built.false c.is_built.ensures
 
 pub returns-then-contains : goal.returns-then-contains

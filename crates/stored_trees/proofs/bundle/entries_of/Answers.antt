@@ -5,7 +5,8 @@ use Rattle.stored_trees.proofs.bundle.entries_of.Goals as goal
 
 pub returns-in_default-clause-none : goal.returns-in_default-clause-none
 returns-in_default-clause-none g c = λ entries h.
-    leaves_none g.H.TreeHash.digest c.args.store.now c.args.row.now entries c.loop-hash.hash-index _ c.loop-hash-test.true c.in_default.ensures.none h
+    leaves_none g.H.TreeHash.digest c.args.store.now c.args.row.now entries c.loop-hash.hash-index _
+    c.loop-hash-test.true c.in_default.ensures.none h
 
 pub loop-hash-preserved : goal.loop-hash-preserved
 loop-hash-preserved g c =

@@ -14,20 +14,25 @@ returns-then-count-eq1-clause-only g t c =
 
 pub returns-in_default-clause-none : goal.returns-in_default-clause-none
 returns-in_default-clause-none g t c = λ last row.
-    no_row g.H.TreeHash.digest g.met.H.TreeHash.digest_length c.args.store.now c.requires.clean c.args.count c.args.hash.now last (omega arith) c.in_default.ensures.none row
+    no_row g.H.TreeHash.digest g.met.H.TreeHash.digest_length c.args.store.now c.requires.clean c.args.count
+    c.args.hash.now last (omega arith) c.in_default.ensures.none row
 
 pub returns-in_default-last_of_row-clause-none : goal.returns-in_default-last_of_row-clause-none
 returns-in_default-last_of_row-clause-none g t c = λ last row.
     let len : length c.in-Some.pair.0 ≡ 32 = search rules in
     let parts =
-    parts_of_row g.H.TreeHash.digest g.met.H.TreeHash.digest_length c.args.store.now c.requires.clean c.args.count c.split-k.result c.args.hash.now c.in-Some.pair.0 c.in-Some.pair.1 last (omega arith) c.split-k.ensures.value len c.in-Some.ensures.some row in
+    parts_of_row g.H.TreeHash.digest g.met.H.TreeHash.digest_length c.args.store.now c.requires.clean
+    c.args.count c.split-k.result c.args.hash.now c.in-Some.pair.0 c.in-Some.pair.1 last (omega arith)
+    c.split-k.ensures.value len c.in-Some.ensures.some row in
     c.in_default-last_of_row.ensures.none parts.left_last parts.left
 
 pub returns-clause-found : goal.returns-clause-found
 returns-clause-found g t c =
     some_from _
     (λ last. HasRow g.H.TreeHash.digest c.args.store.now c.args.count c.args.hash.now last) c.last_of_row-2.result
-    (λ last row. rows_join g.H.TreeHash.digest c.args.store.now c.args.count c.split-k.result c.args.hash.now c.in-Some.pair.0 c.in-Some.pair.1 _ last (omega arith) c.split-k.ensures.value c.in-Some.ensures.some c.in-Some-last_of_row.ensures.found row)
+    (λ last row. rows_join g.H.TreeHash.digest c.args.store.now
+    c.args.count c.split-k.result c.args.hash.now c.in-Some.pair.0 c.in-Some.pair.1 _ last (omega arith)
+    c.split-k.ensures.value c.in-Some.ensures.some c.in-Some-last_of_row.ensures.found row)
     c.last_of_row-2.ensures.found
 
 pub returns-clause-only : goal.returns-clause-only
@@ -37,7 +42,9 @@ returns-clause-only g t c =
     (λ last. (other : List ℕ) → HasRow g.H.TreeHash.digest c.args.store.now c.args.count c.args.hash.now other →
     other ≡ last) c.last_of_row-2.result
     (λ last only other row. only other
-    (parts_of_row g.H.TreeHash.digest g.met.H.TreeHash.digest_length c.args.store.now c.requires.clean c.args.count c.split-k.result c.args.hash.now c.in-Some.pair.0 c.in-Some.pair.1 other (omega arith) c.split-k.ensures.value len c.in-Some.ensures.some row).right)
+    (parts_of_row g.H.TreeHash.digest g.met.H.TreeHash.digest_length c.args.store.now c.requires.clean c.args.count
+    c.split-k.result c.args.hash.now c.in-Some.pair.0 c.in-Some.pair.1 other (omega arith)
+    c.split-k.ensures.value len c.in-Some.ensures.some row).right)
     c.last_of_row-2.ensures.only
 
 pub returns-clause-none : goal.returns-clause-none
@@ -47,5 +54,7 @@ returns-clause-none g t c =
     ((last : List ℕ) → HasRow g.H.TreeHash.digest c.args.store.now c.args.count c.args.hash.now last →
     ⊥) c.last_of_row-2.result
     (λ none last row. none last
-    (parts_of_row g.H.TreeHash.digest g.met.H.TreeHash.digest_length c.args.store.now c.requires.clean c.args.count c.split-k.result c.args.hash.now c.in-Some.pair.0 c.in-Some.pair.1 last (omega arith) c.split-k.ensures.value len c.in-Some.ensures.some row).right)
+    (parts_of_row g.H.TreeHash.digest g.met.H.TreeHash.digest_length c.args.store.now c.requires.clean
+    c.args.count c.split-k.result c.args.hash.now c.in-Some.pair.0 c.in-Some.pair.1 last (omega arith)
+    c.split-k.ensures.value len c.in-Some.ensures.some row).right)
     c.last_of_row-2.ensures.none

@@ -11,12 +11,14 @@ returns-then-level-eq8-clause-found g t c =
 
 pub returns-then-level-eq8-clause-only : goal.returns-then-level-eq8-clause-only
 returns-then-level-eq8-clause-only g t c =
-    λ other up. value_top g.H.TreeHash.digest c.args.store.now c.args.size c.args.level c.args.root.now other c.if-level-eq8.true up
+    λ other up. value_top g.H.TreeHash.digest c.args.store.now c.args.size c.args.level c.args.root.now other
+    c.if-level-eq8.true up
 
 pub returns-in_default-clause-none : goal.returns-in_default-clause-none
 returns-in_default-clause-none g t c = λ other up.
     let above =
-    leads_on g.H.TreeHash.digest c.args.store.now c.args.size c.args.level c.args.root.now g.met.H.TreeHash.digest_length c.requires.clean (omega arith) other up in
+    leads_on g.H.TreeHash.digest c.args.store.now c.args.size c.args.level c.args.root.now
+    g.met.H.TreeHash.digest_length c.requires.clean (omega arith) other up in
     c.in_default.ensures.none above.0 above.1
 
 pub returns-then-width-eq0-clause-found : goal.returns-then-width-eq0-clause-found
@@ -27,12 +29,15 @@ returns-then-width-eq0-clause-found g t c =
 pub returns-then-width-eq0-clause-only : goal.returns-then-width-eq0-clause-only
 returns-then-width-eq0-clause-only g t c = λ other up.
     c.in-Some.ensures.only other
-    (skipped g.H.TreeHash.digest c.args.store.now c.args.size c.args.level c.args.root.now g.met.H.TreeHash.digest_length c.requires.clean (omega arith) other (sym c.edge_width-width.ensures ∙ c.if-width-eq0.true) up)
+    (skipped g.H.TreeHash.digest c.args.store.now
+    c.args.size c.args.level c.args.root.now g.met.H.TreeHash.digest_length c.requires.clean (omega arith) other
+    (sym c.edge_width-width.ensures ∙ c.if-width-eq0.true) up)
 
 pub returns-clause-found : goal.returns-clause-found
 returns-clause-found g t c =
     some_from _
-    (λ value. LeadsUp g.H.TreeHash.digest c.args.store.now c.args.size c.args.level c.args.root.now value) c.last_of_row.result
+    (λ value. LeadsUp g.H.TreeHash.digest c.args.store.now c.args.size c.args.level c.args.root.now value)
+    c.last_of_row.result
     (λ value row. add_level g.H.TreeHash.digest c.args.store.now c.args.size c.args.level c.args.root.now
     (omega arith) c.edge_width-width.result c.in-Some.value value c.edge_width-width.ensures
     (omega arith) c.in-Some.ensures.found row)
@@ -46,7 +51,9 @@ returns-clause-only g t c =
     other ≡ value) c.last_of_row.result
     (λ value only other up.
     let level =
-    level_of g.H.TreeHash.digest c.args.store.now c.args.size c.args.level c.args.root.now g.met.H.TreeHash.digest_length c.requires.clean (omega arith) c.edge_width-width.result other c.edge_width-width.ensures (omega arith) up in
+    level_of g.H.TreeHash.digest c.args.store.now c.args.size c.args.level
+    c.args.root.now g.met.H.TreeHash.digest_length c.requires.clean (omega arith) c.edge_width-width.result other
+    c.edge_width-width.ensures (omega arith) up in
     only other
     (subst (λ v. HasRow g.H.TreeHash.digest c.args.store.now (c.edge_width-width.result + 1) v other)
     (c.in-Some.ensures.only level.above level.up) level.row))
@@ -60,7 +67,9 @@ returns-clause-none g t c =
     ⊥) c.last_of_row.result
     (λ none other up.
     let level =
-    level_of g.H.TreeHash.digest c.args.store.now c.args.size c.args.level c.args.root.now g.met.H.TreeHash.digest_length c.requires.clean (omega arith) c.edge_width-width.result other c.edge_width-width.ensures (omega arith) up in
+    level_of g.H.TreeHash.digest c.args.store.now c.args.size c.args.level
+    c.args.root.now g.met.H.TreeHash.digest_length c.requires.clean (omega arith) c.edge_width-width.result other
+    c.edge_width-width.ensures (omega arith) up in
     none other
     (subst (λ v. HasRow g.H.TreeHash.digest c.args.store.now (c.edge_width-width.result + 1) v other)
     (c.in-Some.ensures.only level.above level.up) level.row))

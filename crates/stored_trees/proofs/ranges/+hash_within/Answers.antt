@@ -21,28 +21,40 @@ pub returns-then-start-len-clause-some : goal.returns-then-start-len-clause-some
 returns-then-start-len-clause-some g t c =
     let len : length c.in-Some.pair.0 ≡ 32 = search rules in
     some_from c.hash_within.result _ _
-    (range_left g.H.TreeHash.digest c.args.store.now g.met.H.TreeHash.digest_length c.in-Some.ensures.no_clash c.args.size c.split-k.result c.args.root.now c.in-Some.pair.0 c.in-Some.pair.1 (omega arith) c.split-k.ensures.value len c.in-Some.ensures.some c.args.start c.args.len c.if-start-len.true) c.hash_within.ensures.some
+    (range_left g.H.TreeHash.digest c.args.store.now g.met.H.TreeHash.digest_length c.in-Some.ensures.no_clash
+    c.args.size c.split-k.result c.args.root.now c.in-Some.pair.0 c.in-Some.pair.1
+    (omega arith) c.split-k.ensures.value len c.in-Some.ensures.some c.args.start c.args.len c.if-start-len.true)
+    c.hash_within.ensures.some
 
 pub returns-then-start-len-clause-none : goal.returns-then-start-len-clause-none
 returns-then-start-len-clause-none g t c =
     let len : length c.in-Some.pair.0 ≡ 32 = search rules in
     none_from c.hash_within.result _ _
-    (none_left g.H.TreeHash.digest c.args.store.now g.met.H.TreeHash.digest_length c.in-Some.ensures.no_clash c.args.size c.split-k.result c.args.root.now c.in-Some.pair.0 c.in-Some.pair.1 (omega arith) c.split-k.ensures.value len c.in-Some.ensures.some) c.hash_within.ensures.none
+    (none_left g.H.TreeHash.digest c.args.store.now g.met.H.TreeHash.digest_length c.in-Some.ensures.no_clash
+    c.args.size c.split-k.result c.args.root.now c.in-Some.pair.0 c.in-Some.pair.1 (omega arith)
+    c.split-k.ensures.value len c.in-Some.ensures.some) c.hash_within.ensures.none
 
 pub returns-then-k-start-clause-some : goal.returns-then-k-start-clause-some
 returns-then-k-start-clause-some g t c =
     let len : length c.in-Some.pair.0 ≡ 32 = search rules in
     some_from c.hash_within-then-k-start.result _ _
-    (range_right g.H.TreeHash.digest c.args.store.now g.met.H.TreeHash.digest_length c.in-Some.ensures.no_clash c.args.size c.split-k.result c.args.root.now c.in-Some.pair.0 c.in-Some.pair.1 (omega arith) c.split-k.ensures.value len c.in-Some.ensures.some c.args.start c.args.len c.if-k-start.true) c.hash_within-then-k-start.ensures.some
+    (range_right g.H.TreeHash.digest c.args.store.now g.met.H.TreeHash.digest_length
+    c.in-Some.ensures.no_clash c.args.size c.split-k.result c.args.root.now c.in-Some.pair.0 c.in-Some.pair.1
+    (omega arith) c.split-k.ensures.value len c.in-Some.ensures.some c.args.start c.args.len c.if-k-start.true)
+    c.hash_within-then-k-start.ensures.some
 
 pub returns-then-k-start-clause-none : goal.returns-then-k-start-clause-none
 returns-then-k-start-clause-none g t c =
     let len : length c.in-Some.pair.0 ≡ 32 = search rules in
     none_from c.hash_within-then-k-start.result _ _
-    (none_right g.H.TreeHash.digest c.args.store.now g.met.H.TreeHash.digest_length c.in-Some.ensures.no_clash c.args.size c.split-k.result c.args.root.now c.in-Some.pair.0 c.in-Some.pair.1 (omega arith) c.split-k.ensures.value len c.in-Some.ensures.some) c.hash_within-then-k-start.ensures.none
+    (none_right g.H.TreeHash.digest c.args.store.now g.met.H.TreeHash.digest_length c.in-Some.ensures.no_clash
+    c.args.size c.split-k.result c.args.root.now c.in-Some.pair.0 c.in-Some.pair.1 (omega arith)
+    c.split-k.ensures.value len c.in-Some.ensures.some) c.hash_within-then-k-start.ensures.none
 
 pub returns-clause-some : goal.returns-clause-some
 returns-clause-some g t c = λ es tree.
     c.node.ensures ∙
-    mth-straddle g.H.TreeHash.digest es c.args.start c.args.len c.split-j.result c.in-Some-hash_within.a c.in-Some-hash_within-2.b (omega arith) (omega (arith, tree.size_is)) c.split-j.ensures.value c.split-j.ensures.below
+    mth-straddle g.H.TreeHash.digest es c.args.start c.args.len
+    c.split-j.result c.in-Some-hash_within.a c.in-Some-hash_within-2.b (omega arith) (omega (arith, tree.size_is))
+    c.split-j.ensures.value c.split-j.ensures.below
     (c.in-Some-hash_within.ensures.some es tree) (c.in-Some-hash_within-2.ensures.some es tree)

@@ -66,7 +66,9 @@ remember-requires g t c κs within =
     record {
       entries =
           _;
-      is = left-tree d c.args.store.now g.met.H.TreeHash.digest_length c.requires.clean c.args.size c.split-k.result c.args.root.now c.in-Some.pair.0 c.in-Some.pair.1 two c.split-k.ensures.value len c.in-Some.ensures.some b.entries b.is;
+      is = left-tree d c.args.store.now g.met.H.TreeHash.digest_length c.requires.clean c.args.size c.split-k.result
+          c.args.root.now c.in-Some.pair.0 c.in-Some.pair.1 two c.split-k.ensures.value len c.in-Some.ensures.some
+          b.entries b.is;
     } in
     (search rules, (search rules, (c.requires.clean, (built, c.requires.settled))))
 
@@ -74,7 +76,9 @@ pub returns-in_err-remember-clause-gains : goal.returns-in_err-remember-clause-g
 returns-in_err-remember-clause-gains g t c =
     let two : 2 ≤ c.args.size = omega (arith, c.if-size-eq0.false, c.if-size-eq1.false) in
     let len : length c.in-Some.pair.0 ≡ 32 = search rules in
-    gains_left g.H.TreeHash.digest c.args.store.now g.met.H.TreeHash.digest_length c.requires.clean c.args.size c.split-k.result c.args.root.now c.in-Some.pair.0 c.in-Some.pair.1 two c.split-k.ensures.value len c.in-Some.ensures.some c.requires.built c.args.marks.now c.remember.new.marks c.in_err-remember.ensures.gains
+    gains_left g.H.TreeHash.digest c.args.store.now g.met.H.TreeHash.digest_length c.requires.clean
+    c.args.size c.split-k.result c.args.root.now c.in-Some.pair.0 c.in-Some.pair.1 two c.split-k.ensures.value len
+    c.in-Some.ensures.some c.requires.built c.args.marks.now c.remember.new.marks c.in_err-remember.ensures.gains
 
 pub remember-requires-2 : goal.remember-requires-2
 remember-requires-2 g t c κs within =
@@ -86,7 +90,9 @@ remember-requires-2 g t c κs within =
     record {
       entries =
           _;
-      is = right-tree d c.args.store.now g.met.H.TreeHash.digest_length c.requires.clean c.args.size c.split-k.result c.args.root.now c.in-Some.pair.0 c.in-Some.pair.1 two c.split-k.ensures.value len c.in-Some.ensures.some b.entries b.is;
+      is = right-tree d c.args.store.now g.met.H.TreeHash.digest_length c.requires.clean c.args.size c.split-k.result
+          c.args.root.now c.in-Some.pair.0 c.in-Some.pair.1 two c.split-k.ensures.value len c.in-Some.ensures.some
+          b.entries b.is;
     } in
     (search rules, (search rules, (c.requires.clean, (built, c.in_ok-remember.ensures.gains.settled))))
 
@@ -94,7 +100,10 @@ pub returns-in_err-remember-2-clause-gains : goal.returns-in_err-remember-2-clau
 returns-in_err-remember-2-clause-gains g t c =
     let two : 2 ≤ c.args.size = omega (arith, c.if-size-eq0.false, c.if-size-eq1.false) in
     let len : length c.in-Some.pair.0 ≡ 32 = search rules in
-    gains_right g.H.TreeHash.digest c.args.store.now g.met.H.TreeHash.digest_length c.requires.clean c.args.size c.split-k.result c.args.root.now c.in-Some.pair.0 c.in-Some.pair.1 two c.split-k.ensures.value len c.in-Some.ensures.some c.requires.built c.args.marks.now c.remember.new.marks c.remember-2.new.marks c.in_ok-remember.ensures.gains c.in_err-remember-2.ensures.gains
+    gains_right g.H.TreeHash.digest c.args.store.now g.met.H.TreeHash.digest_length c.requires.clean
+    c.args.size c.split-k.result c.args.root.now c.in-Some.pair.0 c.in-Some.pair.1 two c.split-k.ensures.value len
+    c.in-Some.ensures.some c.requires.built c.args.marks.now c.remember.new.marks c.remember-2.new.marks
+    c.in_ok-remember.ensures.gains c.in_err-remember-2.ensures.gains
 
 pub returns-clause-done : goal.returns-clause-done
 returns-clause-done g t c =
@@ -107,7 +116,9 @@ returns-clause-done g t c =
     let w = c.remember-2.new.marks in
     added_done d held n root c.add-2.result w c.add-2.new.self (point_at n root) c.add-2.ensures.ok
     (whole_done d held n root (omega arith) c.requires.built w
-    (both_parts d held g.met.H.TreeHash.digest_length c.requires.clean n c.split-k.result root c.in-Some.pair.0 c.in-Some.pair.1 two c.split-k.ensures.value len c.in-Some.ensures.some c.requires.built c.remember.new.marks w c.in_ok-remember.ensures.done c.in_ok-remember-2.ensures.gains c.in_ok-remember-2.ensures.done))
+    (both_parts d held g.met.H.TreeHash.digest_length c.requires.clean n c.split-k.result root c.in-Some.pair.0
+    c.in-Some.pair.1 two c.split-k.ensures.value len c.in-Some.ensures.some c.requires.built c.remember.new.marks w
+    c.in_ok-remember.ensures.done c.in_ok-remember-2.ensures.gains c.in_ok-remember-2.ensures.done))
 
 pub returns-clause-gains : goal.returns-clause-gains
 returns-clause-gains g t c =
@@ -118,8 +129,13 @@ returns-clause-gains g t c =
     let two : 2 ≤ c.args.size = omega (arith, c.if-size-eq0.false, c.if-size-eq1.false) in
     let len : length c.in-Some.pair.0 ≡ 32 = search rules in
     let w = c.remember-2.new.marks in
-    let f = gains_right d held g.met.H.TreeHash.digest_length c.requires.clean n c.split-k.result root c.in-Some.pair.0 c.in-Some.pair.1 two c.split-k.ensures.value len c.in-Some.ensures.some c.requires.built c.args.marks.now c.remember.new.marks w c.in_ok-remember.ensures.gains c.in_ok-remember-2.ensures.gains in
+    let f = gains_right d held g.met.H.TreeHash.digest_length c.requires.clean n c.split-k.result root c.in-Some.pair.0
+    c.in-Some.pair.1 two c.split-k.ensures.value len c.in-Some.ensures.some c.requires.built c.args.marks.now
+    c.remember.new.marks w c.in_ok-remember.ensures.gains c.in_ok-remember-2.ensures.gains in
     added_gains d held n root c.add-2.result c.args.marks.now w c.add-2.new.self
     (point_at n root) c.add-2.ensures.ok c.add-2.ensures.err f
     (gains_whole d held n root (omega arith) c.requires.built w
-    (both_parts d held g.met.H.TreeHash.digest_length c.requires.clean n c.split-k.result root c.in-Some.pair.0 c.in-Some.pair.1 two c.split-k.ensures.value len c.in-Some.ensures.some c.requires.built c.remember.new.marks w c.in_ok-remember.ensures.done c.in_ok-remember-2.ensures.gains c.in_ok-remember-2.ensures.done) c.args.marks.now f)
+    (both_parts d held g.met.H.TreeHash.digest_length c.requires.clean n c.split-k.result root c.in-Some.pair.0
+    c.in-Some.pair.1 two c.split-k.ensures.value len c.in-Some.ensures.some c.requires.built c.remember.new.marks
+    w c.in_ok-remember.ensures.done c.in_ok-remember-2.ensures.gains c.in_ok-remember-2.ensures.done)
+    c.args.marks.now f)

@@ -14,5 +14,7 @@ returns c =
     let rest = rw c.as_slice.ensures at c.in_ok-add_lines.ensures in
     let text =
     joined_lines _ _ _
-    (string_bytes c.add_lines.new.text) c.args.checkpoint.now.origin size root c.args.checkpoint.now.extensions first c.in_ok-add_size.ensures.ok c.in_ok-add_root.ensures.ok rest in
-    written (string_bytes c.add_lines.new.text) size root c.args.checkpoint.now c.requires c.in_ok-add_size.ensures.spelled c.in_ok-add_root.ensures.spelled text
+    (string_bytes c.add_lines.new.text) c.args.checkpoint.now.origin size root c.args.checkpoint.now.extensions first
+    c.in_ok-add_size.ensures.ok c.in_ok-add_root.ensures.ok rest in
+    written (string_bytes c.add_lines.new.text) size root c.args.checkpoint.now c.requires
+    c.in_ok-add_size.ensures.spelled c.in_ok-add_root.ensures.spelled text

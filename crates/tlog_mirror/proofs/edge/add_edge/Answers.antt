@@ -1,23 +1,20 @@
-use Rattle.std.proofs.Common.{◌≡◌, ◌<◌, List, ℕ, [], ◌∷◌, refl, length, map, Vec, Global, Err, OnOk, sym, ap, subst}
+use Rattle.std.proofs.Common.{◌≡◌, ◌<◌, List, ℕ, [], ◌∷◌, length, map, Vec, Global, Err, OnOk, sym, ap, subst}
 use Rattle.std.proofs.Common.{◌∙◌, arith}
 use Rattle.std.specs.FinSet as set
 use Rattle.std.proofs.lemmas.Bool.Decides.{nat_tests}
+use Rattle.std.proofs.lemmas.List.{nil_from_length}
 use Rattle.std.specs.List.{remove}
 use Rattle.tlog_hash.specs.Tree.{fold_of, joins}
 use Rattle.mirror_model.specs.Edge.{edge_root, edge_strings, root_from, strings_from}
 use Rattle.mirror_model.specs.Strings.{HasClash}
-use Rattle.tlog_mirror.proofs.TakenItems.{added_none}
 use Rattle.tlog_mirror.proofs.EdgeRows.{items_of, split_rows, edge_strings_are, edge_clash}
+use Rattle.stored_trees.proofs.BuiltTrees.{added_none}
 use Rattle.tlog_mirror.proofs.edge.add_edge.Goals as goal
-
-no_rows : (rows : List (Vec (List ℕ) Global)) → length rows ≡ 0 → rows ≡ []
-no_rows [] h = refl
-no_rows (x ∷ xs) h = absurd (omega arith)
 
 pub returns-then-is_empty-clause-ok : goal.returns-then-is_empty-clause-ok
 returns-then-is_empty-clause-ok g c =
     let d = g.H.TreeHash.digest in
-    let none : c.args.rows.items ≡ [] = no_rows c.args.rows.items (grind (arith, nat_tests, c.args.rows.ok)) in
+    let none : c.args.rows.items ≡ [] = nil_from_length c.args.rows.items (grind (arith, nat_tests, c.args.rows.ok)) in
     added_none c.args.store.now ∙
     ap (λ (rows : List (Vec (List ℕ) Global)). set.union c.args.store.now
     (set.from_list (edge_strings d (items_of rows)))) (sym none)

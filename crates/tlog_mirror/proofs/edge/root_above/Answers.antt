@@ -1,13 +1,10 @@
-use Rattle.std.proofs.Common.{◌≡◌, List, ℕ, [], ◌∷◌, length, Vec, Global, map, sym, refl, ap, ◌∙◌, arith}
+use Rattle.std.proofs.Common.{◌≡◌, List, ℕ, ◌∷◌, length, Vec, Global, map, sym, ap, ◌∙◌, arith}
+use Rattle.std.proofs.lemmas.List.{nil_from_length}
 use Rattle.std.specs.Vec.Iter.{into_iter_items, into_iter_len}
 use Rattle.tlog_hash.specs.Tree.{fold_of}
 use Rattle.mirror_model.specs.Edge.{root_from}
 use Rattle.stored_trees.proofs.BuiltTrees.{above_root}
 use Rattle.tlog_mirror.proofs.edge.root_above.Goals as goal
-
-no_rows : (rows : List (Vec (List ℕ) Global)) → 0 ≡ length rows → rows ≡ []
-no_rows [] h = refl
-no_rows (x ∷ xs) h = absurd (omega arith)
 
 pub loop-row-init : goal.loop-row-init
 loop-row-init g c =
@@ -27,7 +24,8 @@ loop-row-preserved g c =
     c.in-Some.ensures.steps.0 in
     let rest : List (List (List ℕ)) = map (λ row. row.items) (into_iter_items c.next.new.self) in
     let hash_is = c.fold-value.ensures ∙ ap (fold_of d) c.as_slice.ensures.value in record {
-      root = above_root d c.loop-row.value c.fold-value.result c.in-Some.row.items c.push.new.self.items rest c.in_ok-push.ensures.items hash_is
+      root = above_root d c.loop-row.value c.fold-value.result c.in-Some.row.items c.push.new.self.items rest
+          c.in_ok-push.ensures.items hash_is
           ∙ ap (λ (rows : List (Vec (List ℕ) Global)). root_from d c.loop-row.value (map (λ row. row.items) rows))
           (sym left) ∙ c.loop-row.invariant.root;
       count = omega (arith, c.in-Some.ensures.steps.1, ap length left, c.loop-row.invariant.count);
@@ -36,7 +34,7 @@ loop-row-preserved g c =
 pub returns : goal.returns
 returns g c =
     let none =
-    no_rows (into_iter_items c.loop-row.row-iterator)
-    (sym c.in-None.ensures.steps.0 ∙ c.loop-row.invariant.count) in
+    nil_from_length (into_iter_items c.loop-row.row-iterator)
+    (sym c.loop-row.invariant.count ∙ c.in-None.ensures.steps.0) in
     sym (ap (λ (rows : List (Vec (List ℕ) Global)). root_from g.H.TreeHash.digest c.loop-row.value
     (map (λ row. row.items) rows)) none) ∙ c.loop-row.invariant.root

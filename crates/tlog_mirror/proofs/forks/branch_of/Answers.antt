@@ -4,17 +4,22 @@ use Rattle.tlog_mirror.proofs.forks.branch_of.Goals as goal
 
 pub returns-then-is_prefix-clause-branch : goal.returns-then-is_prefix-clause-branch
 returns-then-is_prefix-clause-branch g c =
-    begun g.H.TreeHash.digest c.args.store.now c.args.before.now c.requires.branches c.args.head c.requires.built c.loop-at.at c.loop-at-test.true c.loop-at.auto.at c.index-before-at.result c.index-before-at.is
-    c.is_prefix.result c.is_prefix.ensures c.loop-at.apart.items c.loop-at.invariant c.if-is_prefix.true c.requires.later
+    begun g.H.TreeHash.digest c.args.store.now c.args.before.now c.requires.branches c.args.head c.requires.built
+    c.loop-at.at c.loop-at-test.true c.loop-at.auto.at c.index-before-at.result c.index-before-at.is
+    c.is_prefix.result c.is_prefix.ensures c.loop-at.apart.items c.loop-at.invariant c.if-is_prefix.true
+    c.requires.later
     (record { head = c.args.head; apart = c.extend_from_slice.new.self }) (λ i. c.args.head)
     (c.in_ok-extend_from_slice.ensures.items ∙ ap (λ xs. c.loop-at.apart.items ++ xs) c.as_slice.ensures.value)
 
 pub loop-at-preserved : goal.loop-at-preserved
 loop-at-preserved g c =
-    not_begun g.H.TreeHash.digest c.args.store.now c.args.before.now c.requires.branches c.args.head c.requires.built c.loop-at.at c.loop-at-test.true c.loop-at.auto.at c.index-before-at.result c.index-before-at.is
-    c.is_prefix.result c.is_prefix.ensures c.loop-at.apart.items c.loop-at.invariant c.if-is_prefix.false c.push.new.self.items c.in_ok-push.ensures.items
+    not_begun g.H.TreeHash.digest c.args.store.now c.args.before.now c.requires.branches c.args.head c.requires.built
+    c.loop-at.at c.loop-at-test.true c.loop-at.auto.at c.index-before-at.result c.index-before-at.is
+    c.is_prefix.result c.is_prefix.ensures c.loop-at.apart.items c.loop-at.invariant c.if-is_prefix.false
+    c.push.new.self.items c.in_ok-push.ensures.items
 
 pub returns-clause-branch : goal.returns-clause-branch
 returns-clause-branch g c =
-    all_gone g.H.TreeHash.digest c.args.store.now c.args.before.now c.requires.branches c.args.head c.requires.built c.loop-at.at c.loop-at-test.false c.requires.later
+    all_gone g.H.TreeHash.digest c.args.store.now c.args.before.now c.requires.branches c.args.head c.requires.built
+    c.loop-at.at c.loop-at-test.false c.requires.later
     (record { head = c.args.head; apart = c.loop-at.apart }) (λ i. c.args.head) c.loop-at.invariant

@@ -13,9 +13,11 @@ branch_of-requires-clause-later g c =
 pub loop-head-preserved : goal.loop-head-preserved
 loop-head-preserved g c = record {
   heads = heads_more g.H.TreeHash.digest c.args.store.now c.args.heads.now c.requires.rising c.loop-head.head-index
-      (0, []) c.loop-head-test.true c.loop-head.branches.items c.loop-head.invariant.heads c.in_ok-branch.branch c.push.new.self.items c.in_ok-push.ensures.items c.in_ok-branch.ensures.head;
+      (0, []) c.loop-head-test.true c.loop-head.branches.items c.loop-head.invariant.heads c.in_ok-branch.branch
+      c.push.new.self.items c.in_ok-push.ensures.items c.in_ok-branch.ensures.head;
   each = branches_more g.H.TreeHash.digest c.args.store.now c.args.heads.now c.requires.rising c.loop-head.head-index
-      (0, []) c.loop-head-test.true c.loop-head.branches.items c.loop-head.invariant.heads c.in_ok-branch.branch c.push.new.self.items c.in_ok-push.ensures.items c.loop-head.invariant.each
+      (0, []) c.loop-head-test.true c.loop-head.branches.items c.loop-head.invariant.heads c.in_ok-branch.branch
+      c.push.new.self.items c.in_ok-push.ensures.items c.loop-head.invariant.each
       (subst (λ (bs : List Branch). IsBranch g.H.TreeHash.digest c.args.store.now
       (map head_of bs) c.in_ok-branch.branch) c.as_slice.ensures.value c.in_ok-branch.ensures.branch);
 }

@@ -12,4 +12,5 @@ loop-at-preserved c =
 
 pub returns : goal.returns
 returns c =
-    all_twins c.args.points.now c.loop-at.at c.loop-at-test.false c.args.forks.now.items c.loop-at.forks.items c.loop-at.invariant
+    all_twins c.args.points.now c.loop-at.at c.loop-at-test.false c.args.forks.now.items c.loop-at.forks.items
+    c.loop-at.invariant

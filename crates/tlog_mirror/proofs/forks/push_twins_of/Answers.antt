@@ -10,8 +10,10 @@ returns-then-small-head c =
 pub loop-at-preserved : goal.loop-at-preserved
 loop-at-preserved c =
     twin_step c.args.before.now c.args.head c.requires c.loop-at.at c.loop-at-test.true c.loop-at.auto.at
-    (0, []) c.if-small-head.false c.args.forks.now.items c.loop-at.forks.items c.push.new.self.items c.loop-at.invariant c.in_ok-push.ensures.items
+    (0, []) c.if-small-head.false c.args.forks.now.items c.loop-at.forks.items c.push.new.self.items c.loop-at.invariant
+    c.in_ok-push.ensures.items
 
 pub returns : goal.returns
 returns c =
-    twins_gone c.args.before.now c.args.head c.loop-at.at c.loop-at-test.false c.args.forks.now.items c.loop-at.forks.items c.loop-at.invariant
+    twins_gone c.args.before.now c.args.head c.loop-at.at c.loop-at-test.false c.args.forks.now.items
+    c.loop-at.forks.items c.loop-at.invariant

@@ -11,7 +11,8 @@ use Rattle.tlog_mirror.proofs.plays.merge_at.Goals as goal
 
 pub returns-then-target-source-clause-merges : goal.returns-then-target-source-clause-merges
 returns-then-target-source-clause-merges g c = λ keys.
-    merged_itself c.args.world.now c.args.target c.index-world-target.result c.requires.target g.H.TreeHash.digest keys c.args.source c.if-target-source.true (answer_of c.merge_itself.result)
+    merged_itself c.args.world.now c.args.target c.index-world-target.result c.requires.target g.H.TreeHash.digest keys
+    c.args.source c.if-target-source.true (answer_of c.merge_itself.result)
     c.merge_itself.ensures.merges
 
 pub returns-then-target-source-2-clause-merges : goal.returns-then-target-source-2-clause-merges

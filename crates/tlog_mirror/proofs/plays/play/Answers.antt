@@ -11,12 +11,17 @@ loop-event-preserved g c = record {
       (map (λ b. (goal.Verifier-dyn g (
         b.vtable,
         b.value,
-      )).key b.value) c.args.keys.now) answer_of c.args.events.now c.loop-event.event-index c.event-item.result c.loop-event-test.true c.event-item.is
+      )).key b.value) c.args.keys.now) answer_of c.args.events.now c.loop-event.event-index c.event-item.result
+      c.loop-event-test.true c.event-item.is
       (views_of c.args.world.now) (views_of c.loop-event.world)
-      (views_of c.happen-answer.new.world) c.loop-event.answers.items c.push.new.self.items c.happen-answer.result c.in-Ok.ensures.items c.loop-event.invariant.run c.happen-answer.ensures.happens;
+      (views_of c.happen-answer.new.world) c.loop-event.answers.items c.push.new.self.items c.happen-answer.result
+      c.in-Ok.ensures.items c.loop-event.invariant.run c.happen-answer.ensures.happens;
   judged = judged_more g.H.TreeHash.digest
       (map (λ b. (goal.Verifier-dyn g (b.vtable, b.value)).key b.value) c.args.keys.now)
-      (origins_of c.args.world.now) c.args.events.now c.loop-event.event-index c.event-item.result c.loop-event-test.true c.event-item.is c.loop-event.answers.items c.push.new.self.items c.happen-answer.result c.in-Ok.ensures.items c.loop-event.invariant.judged (rw c.loop-event.invariant.origins at c.happen-answer.ensures.judged);
+      (origins_of c.args.world.now) c.args.events.now
+      c.loop-event.event-index c.event-item.result c.loop-event-test.true c.event-item.is c.loop-event.answers.items
+      c.push.new.self.items c.happen-answer.result c.in-Ok.ensures.items c.loop-event.invariant.judged
+      (rw c.loop-event.invariant.origins at c.happen-answer.ensures.judged);
   origins = c.happen-answer.ensures.origins ∙ c.loop-event.invariant.origins;
   remembered = c.happen-answer.ensures.remembered ∙ c.loop-event.invariant.remembered;
   fits = rw c.happen-answer.auto.world c.loop-event.invariant.fits;

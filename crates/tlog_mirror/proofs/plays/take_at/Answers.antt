@@ -12,7 +12,8 @@ returns-clause-takes g c =
 
 pub returns-clause-remembered : goal.returns-clause-remembered
 returns-clause-remembered g c =
-    remembers c.args.world.now c.args.target c.index-world-target.result c.requires.target c.take.new.self c.take.ensures.remembered
+    remembers c.args.world.now c.args.target c.index-world-target.result c.requires.target c.take.new.self
+    c.take.ensures.remembered
 
 pub returns-clause-judged : goal.returns-clause-judged
 returns-clause-judged g c =
@@ -20,7 +21,8 @@ returns-clause-judged g c =
     (map (λ b. (goal.Verifier-dyn g (
       b.vtable,
       b.value,
-    )).key b.value) c.args.keys.now) c.args.world.now c.args.target c.index-world-target.result c.requires.target c.args.item.now c.take.result c.take.ensures.judged
+    )).key b.value) c.args.keys.now) c.args.world.now c.args.target c.index-world-target.result c.requires.target
+    c.args.item.now c.take.result c.take.ensures.judged
 
 pub returns-clause-origins : goal.returns-clause-origins
 returns-clause-origins g c =
@@ -28,4 +30,5 @@ returns-clause-origins g c =
     (map (λ b. (goal.Verifier-dyn g (
       b.vtable,
       b.value,
-    )).key b.value) c.args.keys.now) c.args.world.now c.args.target c.index-world-target.result c.requires.target c.args.item.now (answer_of c.take.result) c.take.new.self c.take.ensures.takes
+    )).key b.value) c.args.keys.now) c.args.world.now c.args.target c.index-world-target.result c.requires.target
+    c.args.item.now (answer_of c.take.result) c.take.new.self c.take.ensures.takes

@@ -46,7 +46,9 @@ loop-beside-preserved g c =
             within = omega arith;
             same = (λ j. incl_in d (shape (w.end-is j / 2 + 1)) (w.node-is j / 2) (w.hash-is j) (reverse rest)) ∙
                 left_joins (hash_right d)
-                (hash_left d) c.loop-beside.node c.loop-beside.end u.result.0 u.result.1 c.loop-beside.hash p w.node-hash.result rest u.ensures.odd u.ensures.within (u.ensures.same d) w.node-hash.ensures ∙ front ∙ c.loop-beside.invariant.same;
+                (hash_left d) c.loop-beside.node c.loop-beside.end u.result.0 u.result.1 c.loop-beside.hash
+                p w.node-hash.result rest u.ensures.odd u.ensures.within (u.ensures.same d) w.node-hash.ensures
+                ∙ front ∙ c.loop-beside.invariant.same;
           }
       | else-node-end w ↦
           let even : c.loop-beside.node % 2 ≡ 0 = omega (arith, w.if-node-end.false) in
@@ -55,7 +57,8 @@ loop-beside-preserved g c =
             within = omega arith;
             same = (λ j. incl_in d (shape (w.end-is j / 2 + 1)) (w.node-is j / 2) (w.hash-is j) (reverse rest)) ∙
                 right_joins (hash_right d)
-                (hash_left d) c.loop-beside.node c.loop-beside.end c.loop-beside.hash p w.node-hash-else-node-end.result rest even below w.node-hash-else-node-end.ensures ∙ front ∙ c.loop-beside.invariant.same;
+                (hash_left d) c.loop-beside.node c.loop-beside.end c.loop-beside.hash p w.node-hash-else-node-end.result
+                rest even below w.node-hash-else-node-end.ensures ∙ front ∙ c.loop-beside.invariant.same;
           }
     ]
 

@@ -8,7 +8,8 @@ use Rattle.tlog_proof.proofs.check.grows.Goals as goal
 pub returns-then-path-eq0 : goal.returns-then-path-eq0
 returns-then-path-eq0 g c =
     refused _ (c.args.first_root.now, c.args.second_root.now) false refl
-    (empty_path g.H.TreeHash.digest c.args.second c.args.first c.args.first_root.now c.args.path.now c.requires.some c.requires.more (nil_from_length c.args.path.now c.if-path-eq0.true))
+    (empty_path g.H.TreeHash.digest c.args.second c.args.first c.args.first_root.now c.args.path.now c.requires.some
+    c.requires.more (nil_from_length c.args.path.now c.if-path-eq0.true))
 
 pub returns-then-at-eq0 : goal.returns-then-at-eq0
 returns-then-at-eq0 g c =
@@ -20,7 +21,9 @@ returns-then-at-eq0 g c =
     let blocks : HasBlocks c.args.second c.args.first f s =
     (subst (λ x. HasBlocks x c.args.first f s) n
     (subst (λ x. HasBlocks (c.args.second - 1 + 1) x f s) m c.to_block-at.ensures.blocks)) in
-    let is = climbs d c.args.second c.args.first f s c.to_block-at.ensures.even blocks c.requires.more c.args.first_root.now c.args.first_root.now c.args.path.now c.args.path.now (inl (c.if-at-eq0.true, refl, refl)) in
+    let is = climbs d c.args.second c.args.first f s c.to_block-at.ensures.even
+    blocks c.requires.more c.args.first_root.now c.args.first_root.now c.args.path.now c.args.path.now
+    (inl (c.if-at-eq0.true, refl, refl)) in
     subst (λ o. IsTrue c.leads_to.result ↔ (o ≡ Some (c.args.first_root.now, c.args.second_root.now)))
     (sym is) c.leads_to.ensures
 
@@ -36,7 +39,8 @@ returns-else-at-eq0 g c =
     let blocks : HasBlocks c.args.second c.args.first f s =
     (subst (λ x. HasBlocks x c.args.first f s) n
     (subst (λ x. HasBlocks (c.args.second - 1 + 1) x f s) m c.to_block-at.ensures.blocks)) in
-    let is = climbs d c.args.second c.args.first f s c.to_block-at.ensures.even blocks c.requires.more c.args.first_root.now (get_or path 0 []) rest path (inr (omega arith, drop_more path 0 [] (omega arith))) in
+    let is = climbs d c.args.second c.args.first f s c.to_block-at.ensures.even blocks c.requires.more
+    c.args.first_root.now (get_or path 0 []) rest path (inr (omega arith, drop_more path 0 [] (omega arith))) in
     let told = rw (take_rest path 1) at c.leads_to-else-at-eq0.ensures in
     subst (λ o. IsTrue c.leads_to-else-at-eq0.result ↔ (o ≡ Some (c.args.first_root.now, c.args.second_root.now)))
     (sym is) told

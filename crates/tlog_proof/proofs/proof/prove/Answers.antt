@@ -25,11 +25,14 @@ returns-in_ok-leaf-in-Inclusion-clause-answer g c = λ es listed.
 pub returns-in_ok-leaf-in-Inclusion-clause-writable : goal.returns-in_ok-leaf-in-Inclusion-clause-writable
 returns-in_ok-leaf-in-Inclusion-clause-writable g c = λ es listed small.
     let fit =
-    path_writable g.R.Ranges.digest es c.in-Inclusion.size c.in-Inclusion.index c.in_ok-path-in-Inclusion.path.items small (c.in_ok-path-in-Inclusion.ensures es listed) in
+    path_writable g.R.Ranges.digest es c.in-Inclusion.size c.in-Inclusion.index c.in_ok-path-in-Inclusion.path.items
+    small (c.in_ok-path-in-Inclusion.ensures es listed) in
     (fit.0, fit.1, omega (arith, fit.2, ap length c.new.ensures))
 
-pub returns-in_ok-second_root-in-Consistency-clause-writable : goal.returns-in_ok-second_root-in-Consistency-clause-writable
+pub returns-in_ok-second_root-in-Consistency-clause-writable :
+    goal.returns-in_ok-second_root-in-Consistency-clause-writable
 returns-in_ok-second_root-in-Consistency-clause-writable g c = λ es listed small.
     let fit =
-    proof_writable g.R.Ranges.digest es c.in-Consistency.first c.in-Consistency.second c.in_ok-path-in-Consistency.path.items small (c.in_ok-path-in-Consistency.ensures es listed) in
+    proof_writable g.R.Ranges.digest es c.in-Consistency.first c.in-Consistency.second
+    c.in_ok-path-in-Consistency.path.items small (c.in_ok-path-in-Consistency.ensures es listed) in
     (fit.0, fit.1, omega (arith, fit.2, ap length c.new-in-Consistency.ensures))

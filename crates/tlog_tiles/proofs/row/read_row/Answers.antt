@@ -15,5 +15,6 @@ loop-i-preserved c =
           (All-push
           (λ (h : List ℕ). length h ≡ 32) c.loop-i.row.items c.copy_from_slice.new.self c.loop-i.invariant.sizes size);
       text = rw items
-          (row_push c.args.bytes.now c.loop-i.i c.loop-i.row.items c.copy_from_slice.new.self c.loop-i.invariant.text c.copy_from_slice.ensures.after);
+          (row_push c.args.bytes.now c.loop-i.i c.loop-i.row.items c.copy_from_slice.new.self c.loop-i.invariant.text
+          c.copy_from_slice.ensures.after);
     }

@@ -5,11 +5,10 @@ use Rattle.std.proofs.lemmas.Bool.{false≢true}
 use Rattle.std.proofs.lemmas.Result.{err_from_is_err_and}
 use Rattle.signed_note.specs.Names.{is_note_char, IsNoteText}
 use Rattle.signed_note.specs.Notes.{IsNoteSplit}
-use Rattle.signed_note.specs.Reading.{HasPart, line_count}
+use Rattle.signed_note.specs.Reading.{line_count}
 use Rattle.signed_note.specs.declared.limits.TheConstants.{MAX_LINES}
 use Rattle.signed_note.proofs.Splits.{split_once, text_front}
-use Rattle.signed_note.proofs.Readings.{no_bytes, some_bytes, note_text, passes_from_text, note_from_lines}
-use Rattle.signed_note.proofs.Readings.{note_refused}
+use Rattle.signed_note.proofs.Readings.{no_bytes, note_text, passes_from_text, part_of, note_from_lines, note_refused}
 use Rattle.signed_note.proofs.note.Note.read.Goals as goal
 
 pub returns-then-not-is_note_text : goal.returns-then-not-is_note_text
@@ -34,47 +33,29 @@ returns-then-is_empty c =
     let empty : c.in-Some.signed.now ≡ [] =
     no_bytes c.in-Some.signed.now (sym c.is_empty.ensures ∙ c.if-is_empty.true) in (
       record { short = omega arith; readable = readable },
-      λ text signed other. (split_once c.args.bytes.now text signed c.in-Some.text.now c.in-Some.signed.now other split).1 ∙ empty,
+      λ text signed other.
+          (split_once c.args.bytes.now text signed c.in-Some.text.now c.in-Some.signed.now other split).1 ∙ empty,
     )
 
 pub returns-in_err-lines : goal.returns-in_err-lines
 returns-in_err-lines c =
     let same = c.in-Ok.ensures.cases.0 in
-    let readable : IsNoteText c.args.bytes.now =
-    note_text c.args.bytes.now c.in-Ok.ensures.cases.1
-    (ap (λ (x : List ℕ). list_all is_note_char (chars x)) (sym same) ∙
-    (sym c.is_note_text.ensures ∙ c.if-not-is_note_text.false)) in
-    let part : HasPart c.args.bytes.now c.in-Some.text.now c.in-Some.signed.now =
-    record {
-      readable =
-          record { short = omega arith; readable = readable };
-      split =
-          rw same at c.in-Some.ensures.found;
-      some =
-          some_bytes c.in-Some.signed.now (sym c.is_empty.ensures ∙ c.if-is_empty.false);
-    } in
+    let part = part_of c.args.bytes.now _ c.in-Some.text.now c.in-Some.signed.now (omega arith) same
+    c.in-Ok.ensures.cases.1 (sym c.is_note_text.ensures ∙ c.if-not-is_note_text.false) c.in-Some.ensures.found
+    (sym c.is_empty.ensures ∙ c.if-is_empty.false) in
     let few : line_count c.in-Some.signed.now ≤ MAX_LINES =
     omega (arith, c.count_lines.ensures ∙ ap line_count c.as_bytes.ensures.value) in
     let p = err_from_is_err_and c.from_residual.result c.from_residual.ensures.1 in
     rw (p.1, p.2)
-    (note_refused c.args.bytes.now c.in-Some.text.now c.in-Some.signed.now c.in_err-lines.field-0.0 part few c.in_err-lines.ensures)
+    (note_refused c.args.bytes.now c.in-Some.text.now c.in-Some.signed.now c.in_err-lines.field-0.0 part few
+    c.in_err-lines.ensures)
 
 pub invariant_of-result : goal.invariant_of-result
 invariant_of-result c =
     let same = c.in-Ok.ensures.cases.0 in
-    let readable : IsNoteText c.args.bytes.now =
-    note_text c.args.bytes.now c.in-Ok.ensures.cases.1
-    (ap (λ (x : List ℕ). list_all is_note_char (chars x)) (sym same) ∙
-    (sym c.is_note_text.ensures ∙ c.if-not-is_note_text.false)) in
-    let part : HasPart c.args.bytes.now c.in-Some.text.now c.in-Some.signed.now =
-    record {
-      readable =
-          record { short = omega arith; readable = readable };
-      split =
-          rw same at c.in-Some.ensures.found;
-      some =
-          some_bytes c.in-Some.signed.now (sym c.is_empty.ensures ∙ c.if-is_empty.false);
-    } in
+    let part = part_of c.args.bytes.now _ c.in-Some.text.now c.in-Some.signed.now (omega arith) same
+    c.in-Ok.ensures.cases.1 (sym c.is_note_text.ensures ∙ c.if-not-is_note_text.false) c.in-Some.ensures.found
+    (sym c.is_empty.ensures ∙ c.if-is_empty.false) in
     let few : line_count c.in-Some.signed.now ≤ MAX_LINES =
     omega (arith, c.count_lines.ensures ∙ ap line_count c.as_bytes.ensures.value) in
     rw (
@@ -82,24 +63,15 @@ invariant_of-result c =
       same,
       text_front c.args.bytes.now c.in-Some.text.now c.in-Some.signed.now part.split,
     )
-    (note_from_lines c.args.bytes.now c.in-Some.text.now c.in-Some.signed.now c.in_ok-lines.lines.items part few c.in_ok-lines.ensures)
+    (note_from_lines c.args.bytes.now c.in-Some.text.now c.in-Some.signed.now c.in_ok-lines.lines.items part few
+    c.in_ok-lines.ensures)
 
 pub returns : goal.returns
 returns c =
     let same = c.in-Ok.ensures.cases.0 in
-    let readable : IsNoteText c.args.bytes.now =
-    note_text c.args.bytes.now c.in-Ok.ensures.cases.1
-    (ap (λ (x : List ℕ). list_all is_note_char (chars x)) (sym same) ∙
-    (sym c.is_note_text.ensures ∙ c.if-not-is_note_text.false)) in
-    let part : HasPart c.args.bytes.now c.in-Some.text.now c.in-Some.signed.now =
-    record {
-      readable =
-          record { short = omega arith; readable = readable };
-      split =
-          rw same at c.in-Some.ensures.found;
-      some =
-          some_bytes c.in-Some.signed.now (sym c.is_empty.ensures ∙ c.if-is_empty.false);
-    } in
+    let part = part_of c.args.bytes.now _ c.in-Some.text.now c.in-Some.signed.now (omega arith) same
+    c.in-Ok.ensures.cases.1 (sym c.is_note_text.ensures ∙ c.if-not-is_note_text.false) c.in-Some.ensures.found
+    (sym c.is_empty.ensures ∙ c.if-is_empty.false) in
     let few : line_count c.in-Some.signed.now ≤ MAX_LINES =
     omega (arith, c.count_lines.ensures ∙ ap line_count c.as_bytes.ensures.value) in (
       c.in_ok-from_str.ensures.ok ∙ same,
@@ -108,5 +80,6 @@ returns c =
         same,
         text_front c.args.bytes.now c.in-Some.text.now c.in-Some.signed.now part.split,
       )
-          (note_from_lines c.args.bytes.now c.in-Some.text.now c.in-Some.signed.now c.in_ok-lines.lines.items part few c.in_ok-lines.ensures),
+          (note_from_lines c.args.bytes.now c.in-Some.text.now c.in-Some.signed.now c.in_ok-lines.lines.items part few
+          c.in_ok-lines.ensures),
     )

@@ -1,4 +1,5 @@
-use Rattle.std.proofs.Common.{◌≡◌, [], ◌∷◌, ◌++◌, List, ℕ, length, string_bytes, refl, ap, ◌∙◌, arith, lit<, length-append}
+use Rattle.std.proofs.Common.{◌≡◌, [], ◌∷◌, ◌++◌, List, ℕ, length, string_bytes, refl, ap, ◌∙◌, arith, lit<}
+use Rattle.std.proofs.Common.{length-append}
 use lib.Utf8.{encode}
 use Rattle.std.specs.Str.{chars}
 use Rattle.std.proofs.lemmas.Str.Ascii.{IsAscii-nil}
@@ -12,12 +13,16 @@ unfolding chars encode
 letter = record { utf8 = (97 ∷ [], (refl, refl)); characters = AllPass-from_list_all is_note_char (97 ∷ []) refl }
 
 pub loop-init : goal.loop-init
-loop-init c = record { readable = rw c.new-text.ensures.bytes (ascii_text [] IsAscii-nil tt); size = ap length c.new-text.ensures.bytes }
+loop-init c = record {
+  readable = rw c.new-text.ensures.bytes (ascii_text [] IsAscii-nil tt);
+  size = ap length c.new-text.ensures.bytes;
+}
 
 pub loop-preserved : goal.loop-preserved
 loop-preserved c =
     let old : List ℕ = string_bytes c.loop.text in
-    let step : string_bytes c.push.new.self ≡ old ++ 97 ∷ [] = c.in_ok-push.ensures.bytes ∙ ap (λ (x : List ℕ). old ++ x) (c.in_ok-push.ensures.ascii (lit< tt)) in
+    let step : string_bytes c.push.new.self ≡ old ++ 97 ∷ [] = c.in_ok-push.ensures.bytes
+    ∙ ap (λ (x : List ℕ). old ++ x) (c.in_ok-push.ensures.ascii (lit< tt)) in
     record {
       readable = rw step (text_append old (97 ∷ []) c.loop.invariant.readable letter);
       size = omega (arith, ap length step, length-append old (97 ∷ []), c.loop.invariant.size);
@@ -26,7 +31,8 @@ loop-preserved c =
 pub returns : goal.returns
 returns c =
     let old : List ℕ = string_bytes c.loop.text in
-    let step : string_bytes c.push-2.new.self ≡ old ++ newline ∷ [] = c.in_ok-push-2.ensures.bytes ∙ ap (λ (x : List ℕ). old ++ x) (c.in_ok-push-2.ensures.ascii (lit< tt)) in
+    let step : string_bytes c.push-2.new.self ≡ old ++ newline ∷ [] = c.in_ok-push-2.ensures.bytes
+    ∙ ap (λ (x : List ℕ). old ++ x) (c.in_ok-push-2.ensures.ascii (lit< tt)) in
     record {
       readable = rw step (text_append old (newline ∷ []) c.loop.invariant.readable newline_text);
       ended = (old, step);

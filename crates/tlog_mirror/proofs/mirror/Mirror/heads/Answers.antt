@@ -16,6 +16,7 @@ returns g c =
     subst (λ kept. (p : ℕ × List ℕ) →
     Contains points p ↔ HasKept kept (pair_point p)) c.as_slice.ensures.value c.in_ok-points.ensures.exact in
     reported g.H.TreeHash.digest
-    (string_bytes c.self.inside.origin) c.self.inside.kept.items c.self.inside.strings c.self.inside.remembered c.self.invariant c.args.self.now c.self.view_is
+    (string_bytes c.self.inside.origin) c.self.inside.kept.items c.self.inside.strings c.self.inside.remembered
+    c.self.invariant c.args.self.now c.self.view_is
     points c.in_ok-points.ensures.sorted exact (λ heads. heads.items) c.flagged.result
     (rw c.as_slice-2.ensures.value at c.flagged.ensures.points) c.flagged.ensures.flags

@@ -10,13 +10,15 @@ is_built-requires g c = sound_is_built g.H.TreeHash.digest _ c.self.invariant.so
 pub returns-then-is_some : goal.returns-then-is_some
 returns-then-is_some g c =
     found_complete g.H.TreeHash.digest
-    (string_bytes c.self.inside.origin) c.self.inside.kept.items c.self.inside.strings c.self.inside.remembered c.self.invariant c.args.self.now c.self.view_is c.args.size c.args.root.now
+    (string_bytes c.self.inside.origin) c.self.inside.kept.items c.self.inside.strings c.self.inside.remembered
+    c.self.invariant c.args.self.now c.self.view_is c.args.size c.args.root.now
     c.first_with.result c.is_built.result (sym c.is_some.ensures ∙ c.if-is_some.true)
     (rw c.as_slice.ensures.value at c.first_with.ensures.some) c.is_built.ensures
 
 pub returns-else-is_some : goal.returns-else-is_some
 returns-else-is_some g c =
     no_head g.H.TreeHash.digest
-    (string_bytes c.self.inside.origin) c.self.inside.kept.items c.self.inside.strings c.self.inside.remembered c.self.invariant c.args.self.now c.self.view_is c.args.size c.args.root.now
+    (string_bytes c.self.inside.origin) c.self.inside.kept.items c.self.inside.strings c.self.inside.remembered
+    c.self.invariant c.args.self.now c.self.view_is c.args.size c.args.root.now
     c.first_with.result c.is_some.result c.is_some.ensures c.if-is_some.false
     (rw c.as_slice.ensures.value at c.first_with.ensures.none)

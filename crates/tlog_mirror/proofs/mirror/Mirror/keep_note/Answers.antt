@@ -33,7 +33,8 @@ invariant_of-self-in-Err g c =
     subst (λ (s : State). HasEdge d s.view (note_bytes k)) (sym c.self.view_is) c.requires.edge in
     subst (λ (xs : List KeptNote). IsKeptWell d origin xs c.self.inside.strings c.self.inside.remembered)
     (sym c.in_ok-insert-in-Err.ensures.items)
-    (inserted_well d origin kept c.self.inside.strings c.self.inside.remembered c.self.invariant k at within gap said edge)
+    (inserted_well d origin kept c.self.inside.strings c.self.inside.remembered c.self.invariant k
+    at within gap said edge)
 
 pub returns-in-Ok-clause-ok : goal.returns-in-Ok-clause-ok
 returns-in-Ok-clause-ok g c =
@@ -56,6 +57,7 @@ returns-in_ok-insert-in-Err-clause-ok g c =
     let origin = string_bytes c.self.inside.origin in
     let kept = c.self.inside.kept.items in
     let k = c.args.kept in
-    ap (λ (xs : List KeptNote). (state_of origin xs c.self.inside.strings c.self.inside.remembered).view) c.in_ok-insert-in-Err.ensures.items
+    ap (λ (xs : List KeptNote). (state_of origin xs c.self.inside.strings c.self.inside.remembered).view)
+    c.in_ok-insert-in-Err.ensures.items
     ∙ inserted_view d origin kept c.self.inside.strings c.self.inside.remembered c.self.invariant k c.in-Err.at
     ∙ ap (λ (s : State). with_note s.view (note_bytes k)) c.self.view_is

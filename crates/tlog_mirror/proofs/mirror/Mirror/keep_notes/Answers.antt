@@ -17,7 +17,9 @@ loop-kept-preserved g c =
     c.in_ok-copy.ensures ∙ c.kept-item.is ∙
     get_or_default c.args.notes.now c.loop-kept.kept-index c.kept-item.result c.in_ok-copy.copy c.loop-kept-test.true in
     record {
-      view = noted_more c.args.self.now.view c.args.notes.now c.loop-kept.kept-index c.in_ok-copy.copy c.loop-kept-test.true at c.loop-kept.self.view c.keep_note.new.self.view c.loop-kept.invariant.view c.in_ok-keep_note.ensures.ok;
+      view = noted_more c.args.self.now.view c.args.notes.now c.loop-kept.kept-index c.in_ok-copy.copy
+          c.loop-kept-test.true at c.loop-kept.self.view c.keep_note.new.self.view c.loop-kept.invariant.view
+          c.in_ok-keep_note.ensures.ok;
       remembered = c.in_ok-keep_note.ensures.remembered ∙ c.loop-kept.invariant.remembered;
       said = c.loop-kept.invariant.said;
       edges = c.loop-kept.invariant.edges;

@@ -6,7 +6,8 @@ use Rattle.tlog_mirror.proofs.mirror.Mirror.missing.Goals as goal
 pub returns-then-is_none-clause-none : goal.returns-then-is_none-clause-none
 returns-then-is_none-clause-none g c =
     no_head_held g.H.TreeHash.digest
-    (string_bytes c.self.inside.origin) c.self.inside.kept.items c.self.inside.strings c.self.inside.remembered c.self.invariant c.args.self.now c.self.view_is c.args.size c.args.root.now
+    (string_bytes c.self.inside.origin) c.self.inside.kept.items c.self.inside.strings c.self.inside.remembered
+    c.self.invariant c.args.self.now c.self.view_is c.args.size c.args.root.now
     c.first_with.result c.is_none.result c.is_none.ensures c.if-is_none.true
     (rw c.as_slice.ensures.value at c.first_with.ensures.none)
 
@@ -16,12 +17,14 @@ missing_of-requires-clause-known g c = sound_is_built g.H.TreeHash.digest _ c.se
 pub returns-clause-head : goal.returns-clause-head
 returns-clause-head g c =
     head_held g.H.TreeHash.digest
-    (string_bytes c.self.inside.origin) c.self.inside.kept.items c.self.inside.strings c.self.inside.remembered c.self.invariant c.args.self.now c.self.view_is c.args.size c.args.root.now
+    (string_bytes c.self.inside.origin) c.self.inside.kept.items c.self.inside.strings c.self.inside.remembered
+    c.self.invariant c.args.self.now c.self.view_is c.args.size c.args.root.now
     c.first_with.result c.is_none.result c.is_none.ensures c.if-is_none.false
     (rw c.as_slice.ensures.value at c.first_with.ensures.some)
 
 pub returns-clause-some : goal.returns-clause-some
 returns-clause-some g c =
     lists_missing g.H.TreeHash.digest
-    (string_bytes c.self.inside.origin) c.self.inside.kept.items c.self.inside.strings c.self.inside.remembered c.self.invariant c.args.self.now c.self.view_is c.args.size c.args.root.now
+    (string_bytes c.self.inside.origin) c.self.inside.kept.items c.self.inside.strings c.self.inside.remembered
+    c.self.invariant c.args.self.now c.self.view_is c.args.size c.args.root.now
     c.in_ok-paths.paths.items c.in_ok-paths.ensures.sorted c.in_ok-paths.ensures.exact

@@ -9,4 +9,5 @@ invariant_of-result g c =
     let is : IsOrigin c.args.origin.now = c.is_origin.ensures.0 c.if-not-is_origin.false in
     let same : string_bytes c.in-Ok.origin ≡ c.args.origin.now = grind (arith) in
     restored_well g.H.TreeHash.digest (string_bytes c.in-Ok.origin) c.args.strings (subst IsOrigin (sym same) is)
-    c.iter-all.ensures.no_clash c.iter-all.ensures.tagged c.requires.short c.new.result.items c.new-2.result c.new.ensures.items c.new-2.ensures
+    c.iter-all.ensures.no_clash c.iter-all.ensures.tagged c.requires.short c.new.result.items c.new-2.result
+    c.new.ensures.items c.new-2.ensures

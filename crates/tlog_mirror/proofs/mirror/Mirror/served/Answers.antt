@@ -11,13 +11,16 @@ best_of-requires g c = sound_is_built g.H.TreeHash.digest _ c.self.invariant.sou
 pub returns-in_default-clause-none : goal.returns-in_default-clause-none
 returns-in_default-clause-none g c =
     none_served g.H.TreeHash.digest
-    (string_bytes c.self.inside.origin) c.self.inside.kept.items c.self.inside.strings c.self.inside.remembered c.self.invariant c.args.self.now c.self.view_is
-    (subst (λ kept. IsBestOf g.H.TreeHash.digest c.self.inside.strings kept None) c.as_slice.ensures.value c.in_default.ensures)
+    (string_bytes c.self.inside.origin) c.self.inside.kept.items c.self.inside.strings c.self.inside.remembered
+    c.self.invariant c.args.self.now c.self.view_is
+    (subst (λ kept. IsBestOf g.H.TreeHash.digest c.self.inside.strings kept None)
+    c.as_slice.ensures.value c.in_default.ensures)
 
 pub returns-clause-some : goal.returns-clause-some
 returns-clause-some g c =
     first_served g.H.TreeHash.digest
-    (string_bytes c.self.inside.origin) c.self.inside.kept.items c.self.inside.strings c.self.inside.remembered c.self.invariant c.args.self.now c.self.view_is
+    (string_bytes c.self.inside.origin) c.self.inside.kept.items c.self.inside.strings c.self.inside.remembered
+    c.self.invariant c.args.self.now c.self.view_is
     c.in-Some.best c.first_with.result
     (subst (λ kept. IsBestOf g.H.TreeHash.digest c.self.inside.strings kept
     (Some c.in-Some.best)) c.as_slice.ensures.value c.in-Some.ensures)

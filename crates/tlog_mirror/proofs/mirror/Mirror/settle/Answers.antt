@@ -14,7 +14,8 @@ invariant_of-self g c =
     Contains c.in_ok-heads.heads.items p
     ↔ HasKept kept (pair_point p)) c.as_slice.ensures.value c.in_ok-heads.ensures.exact) in
     settled_well g.H.TreeHash.digest
-    (string_bytes c.self.inside.origin) c.self.inside.kept.items c.self.inside.strings c.self.inside.remembered c.settle_all.new.marks c.self.invariant c.as_slice-2.result.now exact c.settle_all.ensures.gains
+    (string_bytes c.self.inside.origin) c.self.inside.kept.items c.self.inside.strings c.self.inside.remembered
+    c.settle_all.new.marks c.self.invariant c.as_slice-2.result.now exact c.settle_all.ensures.gains
 
 pub returns-clause-done : goal.returns-clause-done
 returns-clause-done g c =
@@ -25,7 +26,9 @@ returns-clause-done g c =
     Contains c.in_ok-heads.heads.items p
     ↔ HasKept kept (pair_point p)) c.as_slice.ensures.value c.in_ok-heads.ensures.exact) in
     marked g.H.TreeHash.digest
-    (string_bytes c.self.inside.origin) c.self.inside.kept.items c.self.inside.strings c.self.inside.remembered c.settle_all.new.marks c.self.invariant c.as_slice-2.result.now exact c.settle_all.ensures.gains c.settle_all.result c.settle_all.ensures.done
+    (string_bytes c.self.inside.origin) c.self.inside.kept.items c.self.inside.strings c.self.inside.remembered
+    c.settle_all.new.marks c.self.invariant c.as_slice-2.result.now exact c.settle_all.ensures.gains
+    c.settle_all.result c.settle_all.ensures.done
 
 pub returns-clause-within : goal.returns-clause-within
 returns-clause-within g c =
@@ -36,4 +39,5 @@ returns-clause-within g c =
     Contains c.in_ok-heads.heads.items p
     ↔ HasKept kept (pair_point p)) c.as_slice.ensures.value c.in_ok-heads.ensures.exact) in
     marks_now g.H.TreeHash.digest
-    (string_bytes c.self.inside.origin) c.self.inside.kept.items c.self.inside.strings c.self.inside.remembered c.settle_all.new.marks c.self.invariant c.as_slice-2.result.now exact c.settle_all.ensures.gains
+    (string_bytes c.self.inside.origin) c.self.inside.kept.items c.self.inside.strings c.self.inside.remembered
+    c.settle_all.new.marks c.self.invariant c.as_slice-2.result.now exact c.settle_all.ensures.gains

@@ -4,9 +4,10 @@ use Rattle.tlog_hash.specs.Tree.{strings}
 use Rattle.tlog_tiles.specs.Bundle.{ReadsBundle}
 use Rattle.mirror_model.specs.Item.{IsWidth}
 use Rattle.mirror_model.specs.declared.items.Item.TheVariants.{Bundle}
-use Rattle.tlog_mirror.proofs.TakenItems.{bundle_judged, empty_no_clash, gathered, gathered_short, takes_added}
+use Rattle.tlog_mirror.proofs.TakenItems.{bundle_judged, gathered, gathered_short, takes_added}
 use Rattle.tlog_mirror.proofs.TakenItems.{takes_clashed, bundle_good, bundle_strings_are}
 use Rattle.mirror_model.proofs.Refusing.{bundle_not_short, bundle_not_long}
+use Rattle.stored_trees.proofs.EmptySets.{empty_no_clash}
 use Rattle.tlog_mirror.proofs.mirror.Mirror.take_bundle.Goals as goal
 
 pub returns-in-Err-BundleShort-clause-takes : goal.returns-in-Err-BundleShort-clause-takes
@@ -51,7 +52,8 @@ returns-in-Ok-add_entries-clause-takes g c = λ keys.
     (gathered c.new-strings.result c.add_entries.new.store _ _ c.new-strings.ensures c.in-Ok-add_entries.ensures.ok
     (ap (λ (es : List (Bor (List ℕ))). strings d (map (λ e. e.now) es)) c.as_slice.ensures.value ∙
     bundle_strings_are d c.args.width c.args.bytes.now
-    (map (λ e. e.now) c.in-Ok.entries.items) c.in-Ok.ensures)) refl c.add_strings.result c.taken.result c.taken.ensures c.add_strings.new.self.view c.add_strings.ensures.adds
+    (map (λ e. e.now) c.in-Ok.entries.items) c.in-Ok.ensures)) refl c.add_strings.result c.taken.result c.taken.ensures
+    c.add_strings.new.self.view c.add_strings.ensures.adds
 
 pub returns-in-Err-Collision-clause-takes : goal.returns-in-Err-Collision-clause-takes
 returns-in-Err-Collision-clause-takes g c = λ keys.

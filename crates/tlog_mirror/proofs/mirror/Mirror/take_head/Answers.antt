@@ -1,6 +1,6 @@
 use Rattle.tlog_mirror.proofs.EdgeRows.{bytes_of}
-use Rattle.tlog_mirror.proofs.TakenItems.{empty_no_clash}
 use Rattle.tlog_mirror.proofs.TakenHeads.{note_takes, edge_takes, edge_short, head_edge, whole_takes}
+use Rattle.stored_trees.proofs.EmptySets.{empty_no_clash}
 use Rattle.tlog_mirror.proofs.mirror.Mirror.take_head.Goals as goal
 
 pub returns-in-Err-clause-takes : goal.returns-in-Err-clause-takes
@@ -15,23 +15,27 @@ pub returns-in-Err-take_edge-clause-takes : goal.returns-in-Err-take_edge-clause
 returns-in-Err-take_edge-clause-takes g c =
     edge_takes g.H.TreeHash.digest _ c.args.self.now.view c.args.note.now
     (bytes_of c.args.edge.now) c.origin.result.now c.origin.ensures c.in-Ok.head.1 c.in-Ok.ensures.reads
-    c.in-Err-take_edge.fault c.in-Err-take_edge.ensures.judged c.new-strings.result c.new-strings.ensures c.in-Err-take_edge.ensures.collision
+    c.in-Err-take_edge.fault c.in-Err-take_edge.ensures.judged c.new-strings.result c.new-strings.ensures
+    c.in-Err-take_edge.ensures.collision
 
 pub keep_head-requires-clause-short : goal.keep_head-requires-clause-short
 keep_head-requires-clause-short g c =
     edge_short g.H.TreeHash.digest _ c.args.self.now.view c.args.note.now
     (bytes_of c.args.edge.now) c.origin.result.now c.origin.ensures c.in-Ok.head.1 c.in-Ok.ensures.reads
-    c.in-Ok-take_edge.ensures.judged c.new-strings.result c.take_edge.new.store c.new-strings.ensures c.in-Ok-take_edge.ensures.ok g.met.H.TreeHash.digest_length
+    c.in-Ok-take_edge.ensures.judged c.new-strings.result c.take_edge.new.store c.new-strings.ensures
+    c.in-Ok-take_edge.ensures.ok g.met.H.TreeHash.digest_length
 
 pub keep_head-requires-clause-edge : goal.keep_head-requires-clause-edge
 keep_head-requires-clause-edge g c =
     head_edge g.H.TreeHash.digest _ c.args.self.now.view c.args.note.now
     (bytes_of c.args.edge.now) c.origin.result.now c.origin.ensures c.in-Ok.head.1 c.in-Ok.ensures.reads
-    c.in-Ok-take_edge.ensures.judged c.new-strings.result c.take_edge.new.store c.new-strings.ensures c.in-Ok-take_edge.ensures.ok c.in-Ok.head.0.bytes c.in-Ok.ensures.note
+    c.in-Ok-take_edge.ensures.judged c.new-strings.result c.take_edge.new.store c.new-strings.ensures
+    c.in-Ok-take_edge.ensures.ok c.in-Ok.head.0.bytes c.in-Ok.ensures.note
 
 pub returns-clause-takes : goal.returns-clause-takes
 returns-clause-takes g c =
     whole_takes g.H.TreeHash.digest _ c.args.self.now.view c.args.note.now
     (bytes_of c.args.edge.now) c.origin.result.now c.origin.ensures c.in-Ok.head.1 c.in-Ok.ensures.reads
-    c.in-Ok-take_edge.ensures.judged c.new-strings.result c.take_edge.new.store c.new-strings.ensures c.in-Ok-take_edge.ensures.ok c.in-Ok.head.0.bytes c.in-Ok.ensures.note
+    c.in-Ok-take_edge.ensures.judged c.new-strings.result c.take_edge.new.store c.new-strings.ensures
+    c.in-Ok-take_edge.ensures.ok c.in-Ok.head.0.bytes c.in-Ok.ensures.note
     c.keep_head.result c.taken.result c.taken.ensures c.keep_head.new.self.view c.keep_head.ensures.adds

@@ -2,8 +2,9 @@ use Rattle.std.proofs.Common.{[], refl, ap, ◌∙◌, Err}
 use Rattle.tlog_hash.specs.Tree.{joins}
 use Rattle.mirror_model.specs.Item.{IsWidth}
 use Rattle.mirror_model.specs.declared.items.Item.TheVariants.{Tile}
-use Rattle.tlog_mirror.proofs.TakenItems.{tile_judged, empty_no_clash, gathered, gathered_short, takes_added}
+use Rattle.tlog_mirror.proofs.TakenItems.{tile_judged, gathered, gathered_short, takes_added}
 use Rattle.tlog_mirror.proofs.TakenItems.{takes_clashed, tile_good, tile_joins}
+use Rattle.stored_trees.proofs.EmptySets.{empty_no_clash}
 use Rattle.tlog_mirror.proofs.mirror.Mirror.take_tile.Goals as goal
 
 pub add_row-requires-clause-no_clash : goal.add_row-requires-clause-no_clash
@@ -29,7 +30,8 @@ returns-in-Ok-add_row-clause-takes g c = λ keys.
     (tile_good c.args.width c.args.bytes.now w c.in-Ok.row.items c.in-Ok.ensures) c.add_row.new.store
     (gathered c.new-strings.result c.add_row.new.store _ _ c.new-strings.ensures c.in-Ok-add_row.ensures.ok
     (ap (joins d) c.as_slice.ensures.value ∙
-    tile_joins c.args.width c.args.bytes.now w d c.in-Ok.row.items c.in-Ok.ensures)) refl c.add_strings.result c.taken.result c.taken.ensures c.add_strings.new.self.view c.add_strings.ensures.adds
+    tile_joins c.args.width c.args.bytes.now w d c.in-Ok.row.items c.in-Ok.ensures)) refl c.add_strings.result
+    c.taken.result c.taken.ensures c.add_strings.new.self.view c.add_strings.ensures.adds
 
 pub returns-in-Err-Collision-clause-takes : goal.returns-in-Err-Collision-clause-takes
 returns-in-Err-Collision-clause-takes g c = λ keys.
@@ -37,14 +39,17 @@ returns-in-Err-Collision-clause-takes g c = λ keys.
     let w : IsWidth c.args.width = record { some = c.requires.some; most = c.requires.most } in
     let item = Tile c.args.width c.args.bytes.now in
     takes_clashed d item keys c.args.self.now.view
-    (tile_good c.args.width c.args.bytes.now w c.in-Ok.row.items c.in-Ok.ensures) c.new-strings.result _ c.new-strings.ensures (ap (joins d) c.as_slice.ensures.value ∙ tile_joins c.args.width c.args.bytes.now w d c.in-Ok.row.items c.in-Ok.ensures)
+    (tile_good c.args.width c.args.bytes.now w c.in-Ok.row.items c.in-Ok.ensures)
+    c.new-strings.result _ c.new-strings.ensures (ap (joins d) c.as_slice.ensures.value
+    ∙ tile_joins c.args.width c.args.bytes.now w d c.in-Ok.row.items c.in-Ok.ensures)
     (c.in-Err-Collision.ensures.collision (ap Err c.in-Err-Collision.field-0-is))
 
 pub returns-in-Ok-add_row-clause-judged : goal.returns-in-Ok-add_row-clause-judged
 returns-in-Ok-add_row-clause-judged g c =
     let w : IsWidth c.args.width = record { some = c.requires.some; most = c.requires.most } in
     tile_judged c.args.width c.args.bytes.now
-    (tile_good c.args.width c.args.bytes.now w c.in-Ok.row.items c.in-Ok.ensures) c.add_strings.result c.taken.result c.taken.ensures
+    (tile_good c.args.width c.args.bytes.now w c.in-Ok.row.items c.in-Ok.ensures) c.add_strings.result c.taken.result
+    c.taken.ensures
 
 pub returns-in-Err-Collision-clause-judged : goal.returns-in-Err-Collision-clause-judged
 returns-in-Err-Collision-clause-judged g c =

@@ -19,5 +19,6 @@ returns-clause-some g c = λ entries e.
     let listed = e ∙ sym c.self.view_is in (
       omega (arith, ap length listed, length-map c.self.inside.entries.now (λ x. x.now)),
       mth_slice _
-          (λ x. x.now) c.self.inside.entries.now c.args.start c.args.len c.tree_hash.result entries c.tree_hash.ensures listed,
+          (λ x. x.now) c.self.inside.entries.now c.args.start c.args.len c.tree_hash.result entries
+          c.tree_hash.ensures listed,
     )

@@ -8,13 +8,15 @@ use Rattle.tlog_tiles.proofs.paths.reading.index_of.Goals as goal
 
 pub returns-in_err-index-clause-none : goal.returns-in_err-index-clause-none
 returns-in_err-index-clause-none c = if_none _ c.from_residual.result (λ n upto h.
-    let at = IsIndexAfter-group c.loop-group.index c.in-Some.group n c.in-Some.after.now c.in-Some.ensures.found.0 c.loop-group.rest.now c.in-Some.ensures.found.1 (c.loop-group.invariant.others n h) in
+    let at = IsIndexAfter-group c.loop-group.index c.in-Some.group n c.in-Some.after.now c.in-Some.ensures.found.0
+    c.loop-group.rest.now c.in-Some.ensures.found.1 (c.loop-group.invariant.others n h) in
     let most = at.upto in
     c.in_err-index.ensures (omega arith))
 
 pub returns-then-index-eq0-clause-none : goal.returns-then-index-eq0-clause-none
 returns-then-index-eq0-clause-none c = λ n upto h.
-    let at = IsIndexAfter-group c.loop-group.index c.in-Some.group n c.in-Some.after.now c.in-Some.ensures.found.0 c.loop-group.rest.now c.in-Some.ensures.found.1 (c.loop-group.invariant.others n h) in
+    let at = IsIndexAfter-group c.loop-group.index c.in-Some.group n c.in-Some.after.now c.in-Some.ensures.found.0
+    c.loop-group.rest.now c.in-Some.ensures.found.1 (c.loop-group.invariant.others n h) in
     let some = at.some in
     omega (arith, c.in_ok-index.ensures.1)
 
@@ -28,9 +30,11 @@ loop-group-preserved c =
     record {
       fits = omega (arith, c.in_ok-index.ensures.0);
       found = λ n h. c.loop-group.invariant.found n
-          (IsIndexAfter-cons index group n c.in-Some.after.now c.in-Some.ensures.found.0 c.loop-group.rest.now c.in-Some.ensures.found.1 some (subst (λ k. IsIndexAfter k c.in-Some.after.now n) next h));
+          (IsIndexAfter-cons index group n c.in-Some.after.now c.in-Some.ensures.found.0 c.loop-group.rest.now
+          c.in-Some.ensures.found.1 some (subst (λ k. IsIndexAfter k c.in-Some.after.now n) next h));
       others = λ n h. subst (λ k. IsIndexAfter k c.in-Some.after.now n) (sym next)
-          (IsIndexAfter-group index group n c.in-Some.after.now c.in-Some.ensures.found.0 c.loop-group.rest.now c.in-Some.ensures.found.1 (c.loop-group.invariant.others n h)).after;
+          (IsIndexAfter-group index group n c.in-Some.after.now c.in-Some.ensures.found.0 c.loop-group.rest.now
+          c.in-Some.ensures.found.1 (c.loop-group.invariant.others n h)).after;
     }
 
 pub returns-in_err-group-clause-none : goal.returns-in_err-group-clause-none
@@ -46,7 +50,8 @@ returns-then-not-is_empty-clause-none c = λ n upto h.
     IsIndexAfter-end c.loop-group.index n c.loop-group.rest.now c.in_default.ensures.none
     (c.loop-group.invariant.others n h) in
     let one =
-    end_one c.loop-group.index n c.in_ok-group.group c.loop-group.rest.now c.in_ok-group.after.now c.in_ok-group.ensures.found.0 c.in_ok-group.ensures.found.1 end in
+    end_one c.loop-group.index n c.in_ok-group.group c.loop-group.rest.now c.in_ok-group.after.now
+    c.in_ok-group.ensures.found.0 c.in_ok-group.ensures.found.1 end in
     not_empty c.in_ok-group.after.now (sym c.is_empty.ensures ∙ c.if-not-is_empty.true) one.1
 
 pub returns-clause-found : goal.returns-clause-found
@@ -59,7 +64,8 @@ returns-clause-found c =
     some_iff_found _ _ _ c.with_group-2.result c.with_group-2.ensures
     (λ upto. (
       c.loop-group.invariant.found (c.loop-group.index * 1000 + c.in_ok-group.group)
-          (IsIndexAfter-digits c.loop-group.index c.in_ok-group.group c.loop-group.rest.now c.in_ok-group.ensures.found.0 text),
+          (IsIndexAfter-digits c.loop-group.index c.in_ok-group.group c.loop-group.rest.now
+          c.in_ok-group.ensures.found.0 text),
       upto,
     ))
 
@@ -69,6 +75,7 @@ returns-clause-none c = some_iff_none _ _ _ c.with_group-2.result c.with_group-2
     IsIndexAfter-end c.loop-group.index n c.loop-group.rest.now c.in_default.ensures.none
     (c.loop-group.invariant.others n h) in
     let one =
-    end_one c.loop-group.index n c.in_ok-group.group c.loop-group.rest.now c.in_ok-group.after.now c.in_ok-group.ensures.found.0 c.in_ok-group.ensures.found.1 end in
+    end_one c.loop-group.index n c.in_ok-group.group c.loop-group.rest.now c.in_ok-group.after.now
+    c.in_ok-group.ensures.found.0 c.in_ok-group.ensures.found.1 end in
     let same = one.0 in
     over (omega arith))

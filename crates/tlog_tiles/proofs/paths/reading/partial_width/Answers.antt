@@ -25,4 +25,5 @@ returns-else-width-eq0-clause-found c =
     let apart = c.if-width-eq0.false in
     let some : 1 ≤ c.in-Ok-read_number.width = omega arith in
     rw (← c.in-Ok.ensures.cases.0)
-    (partial_width_is c.in-Ok.text.now c.in-Ok-read_number.width c.in-Ok-read_number.ensures.0 c.in-Ok-read_number.ensures.1 some)
+    (partial_width_is c.in-Ok.text.now c.in-Ok-read_number.width c.in-Ok-read_number.ensures.0
+    c.in-Ok-read_number.ensures.1 some)

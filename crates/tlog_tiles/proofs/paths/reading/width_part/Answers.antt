@@ -8,7 +8,8 @@ pub returns : goal.returns
 returns c = (
   refl,
   elim c.match-cut_last.branch [
-    | in-Some+in_default-ahead_of w ↦ no_width c.args.tail.now w.in-Some.front.now w.in-Some.digits.now w.in-Some.ensures.found.1 w.in-Some.ensures.found.0 w.in_default-ahead_of.ensures.none
+    | in-Some+in_default-ahead_of w ↦ no_width c.args.tail.now w.in-Some.front.now w.in-Some.digits.now
+        w.in-Some.ensures.found.1 w.in-Some.ensures.found.0 w.in_default-ahead_of.ensures.none
     | in_default w ↦ λ front last none h. some_slash (front ++ codes ".p") last
         (subst HasNoSlash (h ∙ width_cut front last) w.in_default.ensures.none)
   ],
