@@ -1,5 +1,5 @@
 //! A log built, mirrored, asked and given back, each step by its command.
-use crate::tests::endings::{assert_run, run_of};
+use crate::tests::runs::{assert_fault, assert_run, assert_runs};
 use crate::tests::{INCLUSION, OTHER_INDEX};
 use std::fs::Files;
 use std::io::ErrorKind;
@@ -17,10 +17,6 @@ pub const PULLED: &str =
 // The text of the proof that the first two are a prefix of all three.
 const CONSISTENCY: &str =
     "consistency\nfirst 2\nroot +sVCA+fMaWzw38tCySodnbr3CtnmIfS9jZhmLwDjwSU=\nsecond 3\nroot rra8/idLcKFPsGel5VeCZNsPqbUa9eC6FZFY8yngbnc=\npath ApjRIpBtz8EIkstTpzmS/FufST6kybrbJ7eRtBJ6f+c=\n";
-
-// What is told of a mirror that has them.
-const STATUS: &str =
-    "origin ex\nhead 3 rra8/idLcKFPsGel5VeCZNsPqbUa9eC6FZFY8yngbnc= complete\nserved 3 rra8/idLcKFPsGel5VeCZNsPqbUa9eC6FZFY8yngbnc=\n";
 
 // A folder of that path, with nothing in it but a file of keys: the key `ex`, id 1, secret 00.
 pub fn fresh<R: Files + Alloc>(rt: &R, folder: &str, keys: &str) -> io::Result<()> {
@@ -56,94 +52,64 @@ pub const STATE: &[u8] =
 #[test]
 fn program_e3(rt: HostRuntime) -> Result<(), Fail> {
     fresh(&rt, "program-e3", "program-e3/keys")?;
-    for (line, input, status, output, errors) in [
-        (
-            "build --origin ex --keys program-e3/keys --dir program-e3/log",
-            ENTRIES,
-            0,
-            "",
-            "",
-        ),
-        (
-            "pull --origin ex --keys program-e3/keys --out program-e3/state dir program-e3/log",
-            b"",
-            0,
-            PULLED,
-            "",
-        ),
-        (
-            "status --origin ex --keys program-e3/keys --state program-e3/state",
-            b"",
-            0,
-            STATUS,
-            "",
-        ),
-        (
-            "prove --origin ex --keys program-e3/keys --state program-e3/state inclusion 3 2",
-            b"",
-            0,
-            INCLUSION,
-            "",
-        ),
-        ("check", INCLUSION.as_bytes(), 0, "yes\n", ""),
-        ("check", OTHER_INDEX.as_bytes(), 3, "no\n", ""),
-        (
-            "check",
-            INCLUSION.trim_end().as_bytes(),
-            1,
-            "",
-            "tlogmirror: BadProofText\n",
-        ),
-    ] {
-        assert_run(&rt, &rt, line, input, status, output, errors)?;
-    }
-    Ok(())
+    let runs = "\
+$ 0 build --origin ex --keys program-e3/keys --dir program-e3/log
+$ 0 pull --origin ex --keys program-e3/keys --out program-e3/state dir program-e3/log
+pulled 3 rra8/idLcKFPsGel5VeCZNsPqbUa9eC6FZFY8yngbnc= rounds 1 refused 0
+complete
+$ 0 status --origin ex --keys program-e3/keys --state program-e3/state
+origin ex
+head 3 rra8/idLcKFPsGel5VeCZNsPqbUa9eC6FZFY8yngbnc= complete
+served 3 rra8/idLcKFPsGel5VeCZNsPqbUa9eC6FZFY8yngbnc=
+";
+    assert_runs(&rt, &rt, ENTRIES, runs)?;
+    let prove = "prove --origin ex --keys program-e3/keys --state program-e3/state inclusion 3 2";
+    assert_run(&rt, &rt, prove, b"", 0, INCLUSION, "")?;
+    assert_checks(&rt, &rt)
+}
+
+// What `check` says of the proof's text, of the same with another index, and without its last newline.
+fn assert_checks(rt: &HostRuntime, abort: &impl Abort) -> Result<(), Fail> {
+    assert_run(rt, abort, "check", INCLUSION.as_bytes(), 0, "yes\n", "")?;
+    assert_run(rt, abort, "check", OTHER_INDEX.as_bytes(), 3, "no\n", "")?;
+    let cut = INCLUSION.trim_end().as_bytes();
+    assert_run(rt, abort, "check", cut, 1, "", "tlogmirror: BadProofText\n")
 }
 
 #[test]
 fn files_of_three_entries(rt: HostRuntime) -> Result<(), Fail> {
     fresh(&rt, "three", "three/keys")?;
-    for (line, input, output) in [
-        (
-            "build --origin ex --keys three/keys --dir three/log",
-            ENTRIES,
-            "",
-        ),
-        (
-            "pull --origin ex --keys three/keys --out three/state dir three/log",
-            b"",
-            PULLED,
-        ),
-        (
-            "export --origin ex --keys three/keys --state three/state --dir three/copy",
-            b"",
-            "",
-        ),
-        (
-            "merge --origin ex --keys three/keys --out three/merged three/state three/state",
-            b"",
-            "",
-        ),
-        // The state that is written may be the one that was read.
-        (
-            "pull --origin ex --keys three/keys --out three/state --state three/state dir three/copy",
-            b"",
-            "pulled 3 rra8/idLcKFPsGel5VeCZNsPqbUa9eC6FZFY8yngbnc= rounds 0 refused 0\ncomplete\n",
-        ),
-    ] {
-        assert_run(&rt, &rt, line, input, 0, output, "")?;
+    // The state that is written may be the one that was read.
+    let runs = "\
+$ 0 build --origin ex --keys three/keys --dir three/log
+$ 0 pull --origin ex --keys three/keys --out three/state dir three/log
+pulled 3 rra8/idLcKFPsGel5VeCZNsPqbUa9eC6FZFY8yngbnc= rounds 1 refused 0
+complete
+$ 0 export --origin ex --keys three/keys --state three/state --dir three/copy
+$ 0 merge --origin ex --keys three/keys --out three/merged three/state three/state
+$ 0 pull --origin ex --keys three/keys --out three/state --state three/state dir three/copy
+pulled 3 rra8/idLcKFPsGel5VeCZNsPqbUa9eC6FZFY8yngbnc= rounds 0 refused 0
+complete
+";
+    assert_runs(&rt, &rt, ENTRIES, runs)?;
+    for log in ["three/log", "three/copy"] {
+        assert_log(&rt, &rt, log)?;
     }
-    for (name, bytes) in [
-        ("three/log/checkpoint", NOTE.as_bytes()),
-        ("three/log/tile/0/000.p/3", ROW),
-        ("three/log/tile/entries/000.p/3", ENTRIES),
-        ("three/copy/checkpoint", NOTE.as_bytes()),
-        ("three/copy/tile/0/000.p/3", ROW),
-        ("three/copy/tile/entries/000.p/3", ENTRIES),
-        ("three/state", STATE),
-        ("three/merged", STATE),
+    for state in ["three/state", "three/merged"] {
+        assert_file(&rt, &rt, state, STATE)?;
+    }
+    Ok(())
+}
+
+// The folder has the files of the log of three entries.
+fn assert_log(rt: &HostRuntime, abort: &impl Abort, folder: &str) -> Result<(), Fail> {
+    for (path, bytes) in [
+        ("checkpoint", NOTE.as_bytes()),
+        ("tile/0/000.p/3", ROW),
+        ("tile/entries/000.p/3", ENTRIES),
     ] {
-        assert_file(&rt, &rt, name, bytes)?;
+        let name = format!(in rt.alloc(); "{folder}/{path}")?;
+        assert_file(rt, abort, &name, bytes)?;
     }
     Ok(())
 }
@@ -152,11 +118,11 @@ fn files_of_three_entries(rt: HostRuntime) -> Result<(), Fail> {
 fn nothing_to_tell(rt: HostRuntime) -> Result<(), Fail> {
     fresh(&rt, "told", "told/keys")?;
     fs::write(&rt, "told/state", STATE)?;
-    let forks = "forks --origin ex --keys told/keys --state told/state";
-    assert_run(&rt, &rt, forks, b"", 0, "", "")?;
-    let missing =
-        "missing --origin ex --keys told/keys --state told/state --size 3 --root rra8/idLcKFPsGel5VeCZNsPqbUa9eC6FZFY8yngbnc=";
-    assert_run(&rt, &rt, missing, b"", 0, "", "")?;
+    let runs = "\
+$ 0 forks --origin ex --keys told/keys --state told/state
+$ 0 missing --origin ex --keys told/keys --state told/state --size 3 --root rra8/idLcKFPsGel5VeCZNsPqbUa9eC6FZFY8yngbnc=
+";
+    assert_runs(&rt, &rt, b"", runs)?;
     let consistency = "prove --origin ex --keys told/keys --state told/state consistency 2 3";
     assert_run(&rt, &rt, consistency, b"", 0, CONSISTENCY, "")?;
     assert_run(&rt, &rt, "check", CONSISTENCY.as_bytes(), 0, "yes\n", "")
@@ -166,141 +132,76 @@ fn nothing_to_tell(rt: HostRuntime) -> Result<(), Fail> {
 #[test]
 fn a_fork(rt: HostRuntime) -> Result<(), Fail> {
     fresh(&rt, "fork", "fork/keys")?;
-    for (line, input, status, output) in [
-        (
-            "build --origin ex --keys fork/keys --dir fork/c",
-            b"\0\x01a\0\x01b\0\x01c".as_slice(),
-            0,
-            "",
-        ),
-        (
-            "build --origin ex --keys fork/keys --dir fork/d",
-            b"\0\x01a\0\x01b\0\x01d",
-            0,
-            "",
-        ),
-        (
-            "pull --origin ex --keys fork/keys --out fork/state dir fork/c",
-            b"",
-            0,
-            "pulled 3 NmQuc8JUCrEh46a/lUWwokmCzYMOsT080Z3jzmwCHsE= rounds 1 refused 0\ncomplete\n",
-        ),
-        (
-            "pull --origin ex --keys fork/keys --out fork/state --state fork/state dir fork/d",
-            b"",
-            0,
-            "pulled 3 C4kxtRHEvzrnzlYfnBJ0b0YF9C7sdRiNFrjauiUwSIQ= rounds 1 refused 0\ncomplete\n",
-        ),
-        (
-            "forks --origin ex --keys fork/keys --state fork/state",
-            b"",
-            3,
-            "fork 3 C4kxtRHEvzrnzlYfnBJ0b0YF9C7sdRiNFrjauiUwSIQ= 3 NmQuc8JUCrEh46a/lUWwokmCzYMOsT080Z3jzmwCHsE=\n",
-        ),
-        (
-            "notes --origin ex --keys fork/keys --state fork/state --dir fork/notes",
-            b"",
-            0,
-            "",
-        ),
-    ] {
-        assert_run(&rt, &rt, line, input, status, output, "")?;
-    }
-    for (name, text) in [
-        (
-            "fork/notes/3-36642e73c2540ab121e3a6bf9545b0a24982cd830eb13d3cd19de3ce6c021ec1-0.note",
-            "ex\n3\nNmQuc8JUCrEh46a/lUWwokmCzYMOsT080Z3jzmwCHsE=\n\n\u{2014} ex AAAAAWY1TA+4VSNG3USegq0uY5piEmiVYcsfnDxgu8EdSblB\n",
-        ),
-        (
-            "fork/notes/3-0b8931b511c4bf3ae7ce561f9c12746f4605f42eec75188d16b8daba25304884-0.note",
-            "ex\n3\nC4kxtRHEvzrnzlYfnBJ0b0YF9C7sdRiNFrjauiUwSIQ=\n\n\u{2014} ex AAAAAeFoTFReMU31Q0aSynWCUGmTh0nIylh/326mmjm7mUQJ\n",
-        ),
-    ] {
-        assert_file(&rt, &rt, name, text.as_bytes())?;
-    }
-    Ok(())
+    let first = "\
+$ 0 build --origin ex --keys fork/keys --dir fork/c
+$ 0 pull --origin ex --keys fork/keys --out fork/state dir fork/c
+pulled 3 NmQuc8JUCrEh46a/lUWwokmCzYMOsT080Z3jzmwCHsE= rounds 1 refused 0
+complete
+";
+    assert_runs(&rt, &rt, b"\0\x01a\0\x01b\0\x01c", first)?;
+    let second = "\
+$ 0 build --origin ex --keys fork/keys --dir fork/d
+$ 0 pull --origin ex --keys fork/keys --out fork/state --state fork/state dir fork/d
+pulled 3 C4kxtRHEvzrnzlYfnBJ0b0YF9C7sdRiNFrjauiUwSIQ= rounds 1 refused 0
+complete
+$ 3 forks --origin ex --keys fork/keys --state fork/state
+fork 3 C4kxtRHEvzrnzlYfnBJ0b0YF9C7sdRiNFrjauiUwSIQ= 3 NmQuc8JUCrEh46a/lUWwokmCzYMOsT080Z3jzmwCHsE=
+$ 0 notes --origin ex --keys fork/keys --state fork/state --dir fork/notes
+";
+    assert_runs(&rt, &rt, b"\0\x01a\0\x01b\0\x01d", second)?;
+    let c = "fork/notes/3-36642e73c2540ab121e3a6bf9545b0a24982cd830eb13d3cd19de3ce6c021ec1-0.note";
+    assert_file(&rt, &rt, c, NOTE_C.as_bytes())?;
+    let d = "fork/notes/3-0b8931b511c4bf3ae7ce561f9c12746f4605f42eec75188d16b8daba25304884-0.note";
+    assert_file(&rt, &rt, d, NOTE_D.as_bytes())
 }
+
+// The checkpoints of the two, as the key signs them.
+const NOTE_C: &str =
+    "ex\n3\nNmQuc8JUCrEh46a/lUWwokmCzYMOsT080Z3jzmwCHsE=\n\n\u{2014} ex AAAAAWY1TA+4VSNG3USegq0uY5piEmiVYcsfnDxgu8EdSblB\n";
+
+const NOTE_D: &str =
+    "ex\n3\nC4kxtRHEvzrnzlYfnBJ0b0YF9C7sdRiNFrjauiUwSIQ=\n\n\u{2014} ex AAAAAeFoTFReMU31Q0aSynWCUGmTh0nIylh/326mmjm7mUQJ\n";
 
 #[test]
 fn taken_by_hand(rt: HostRuntime) -> Result<(), Fail> {
     fresh(&rt, "by-hand", "by-hand/keys")?;
-    for (line, input, status, output, errors) in [
-        (
-            "build --origin ex --keys by-hand/keys --dir by-hand/log",
-            ENTRIES,
-            0,
-            "",
-            "",
-        ),
-        (
-            "take --origin ex --keys by-hand/keys --out by-hand/a head by-hand/log/checkpoint by-hand/log/tile/0/000.p/3",
-            b"",
-            0,
-            "",
-            "",
-        ),
-        (
-            "status --origin ex --keys by-hand/keys --state by-hand/a",
-            b"",
-            3,
-            "origin ex\nhead 3 rra8/idLcKFPsGel5VeCZNsPqbUa9eC6FZFY8yngbnc= partial\nserved none\n",
-            "",
-        ),
-        (
-            "missing --origin ex --keys by-hand/keys --state by-hand/a --size 3 --root rra8/idLcKFPsGel5VeCZNsPqbUa9eC6FZFY8yngbnc=",
-            b"",
-            3,
-            "tile/entries/000.p/3\n",
-            "",
-        ),
-        (
-            "take --origin ex --keys by-hand/keys --out by-hand/b bundle by-hand/log/tile/entries/000.p/3 --width 3",
-            b"",
-            0,
-            "",
-            "",
-        ),
-        (
-            "take --origin ex --keys by-hand/keys --out by-hand/c --state by-hand/a tile by-hand/log/tile/0/000.p/3 --width 3",
-            b"",
-            0,
-            "",
-            "",
-        ),
-        (
-            "merge --origin ex --keys by-hand/keys --out by-hand/a by-hand/b by-hand/a",
-            b"",
-            0,
-            "",
-            "",
-        ),
-        (
-            "status --origin ex --keys by-hand/keys --state by-hand/a",
-            b"",
-            0,
-            STATUS,
-            "",
-        ),
-    ] {
-        assert_run(&rt, &rt, line, input, status, output, errors)?;
-    }
     // The tile of a tree has no entries.
-    let status = "status --origin ex --keys by-hand/keys --state by-hand/c";
-    let partial =
-        "origin ex\nhead 3 rra8/idLcKFPsGel5VeCZNsPqbUa9eC6FZFY8yngbnc= partial\nserved none\n";
-    assert_run(&rt, &rt, status, b"", 3, partial, "")
+    let runs = "\
+$ 0 build --origin ex --keys by-hand/keys --dir by-hand/log
+$ 0 take --origin ex --keys by-hand/keys --out by-hand/a head by-hand/log/checkpoint by-hand/log/tile/0/000.p/3
+$ 3 status --origin ex --keys by-hand/keys --state by-hand/a
+origin ex
+head 3 rra8/idLcKFPsGel5VeCZNsPqbUa9eC6FZFY8yngbnc= partial
+served none
+$ 3 missing --origin ex --keys by-hand/keys --state by-hand/a --size 3 --root rra8/idLcKFPsGel5VeCZNsPqbUa9eC6FZFY8yngbnc=
+tile/entries/000.p/3
+$ 0 take --origin ex --keys by-hand/keys --out by-hand/b bundle by-hand/log/tile/entries/000.p/3 --width 3
+$ 0 take --origin ex --keys by-hand/keys --out by-hand/c --state by-hand/a tile by-hand/log/tile/0/000.p/3 --width 3
+$ 0 merge --origin ex --keys by-hand/keys --out by-hand/a by-hand/b by-hand/a
+$ 0 status --origin ex --keys by-hand/keys --state by-hand/a
+origin ex
+head 3 rra8/idLcKFPsGel5VeCZNsPqbUa9eC6FZFY8yngbnc= complete
+served 3 rra8/idLcKFPsGel5VeCZNsPqbUa9eC6FZFY8yngbnc=
+$ 3 status --origin ex --keys by-hand/keys --state by-hand/c
+origin ex
+head 3 rra8/idLcKFPsGel5VeCZNsPqbUa9eC6FZFY8yngbnc= partial
+served none
+";
+    assert_runs(&rt, &rt, ENTRIES, runs)
 }
 
 #[test]
 fn partial_pull(rt: HostRuntime) -> Result<(), Fail> {
     fresh(&rt, "partial", "partial/keys")?;
-    let pull = "pull --origin ex --keys partial/keys --out partial/state dir partial/log";
     let build = "build --origin ex --keys partial/keys --dir partial/log";
     assert_run(&rt, &rt, build, ENTRIES, 0, "", "")?;
     fs::rename(&rt, "partial/log/tile/entries", "partial/log/tile/aside")?;
-    let partial =
-        "pulled 3 rra8/idLcKFPsGel5VeCZNsPqbUa9eC6FZFY8yngbnc= rounds 1 refused 0\npartial\n";
-    assert_run(&rt, &rt, pull, b"", 3, partial, "")?;
+    let without = "\
+$ 3 pull --origin ex --keys partial/keys --out partial/state dir partial/log
+pulled 3 rra8/idLcKFPsGel5VeCZNsPqbUa9eC6FZFY8yngbnc= rounds 1 refused 0
+partial
+";
+    assert_runs(&rt, &rt, b"", without)?;
     // A later pull goes on from what was held.
     fs::rename(&rt, "partial/log/tile/aside", "partial/log/tile/entries")?;
     let again =
@@ -311,55 +212,52 @@ fn partial_pull(rt: HostRuntime) -> Result<(), Fail> {
 #[test]
 fn notes_as_files(rt: HostRuntime) -> Result<(), Fail> {
     fresh(&rt, "notes", "notes/keys")?;
+    // Once more changes nothing.
+    let runs = "\
+$ 0 build --origin ex --keys notes/keys --dir notes/log
+$ 0 pull --origin ex --keys notes/keys --out notes/state dir notes/log
+pulled 3 rra8/idLcKFPsGel5VeCZNsPqbUa9eC6FZFY8yngbnc= rounds 1 refused 0
+complete
+$ 0 notes --origin ex --keys notes/keys --state notes/state --dir notes/out
+";
+    let again = "notes --origin ex --keys notes/keys --state notes/state --dir notes/out";
     let name =
         "notes/out/3-aeb6bcfe274b70a14fb067a5e5578264db0fa9b51af5e0ba159158f329e06e77-0.note";
-    for (line, input, output) in [
-        (
-            "build --origin ex --keys notes/keys --dir notes/log",
-            ENTRIES,
-            "",
-        ),
-        (
-            "pull --origin ex --keys notes/keys --out notes/state dir notes/log",
-            b"",
-            PULLED,
-        ),
-        (
-            "notes --origin ex --keys notes/keys --state notes/state --dir notes/out",
-            b"",
-            "",
-        ),
-    ] {
-        assert_run(&rt, &rt, line, input, 0, output, "")?;
-    }
+    assert_runs(&rt, &rt, ENTRIES, runs)?;
     assert_file(&rt, &rt, name, NOTE.as_bytes())?;
-    // Once more changes nothing. A file of that name with other bytes is left as it is.
-    let notes = "notes --origin ex --keys notes/keys --state notes/state --dir notes/out";
-    assert_run(&rt, &rt, notes, b"", 0, "", "")?;
-    fs::write(&rt, name, "other")?;
-    assert_run(&rt, &rt, notes, b"", 1, "", "tlogmirror: FileFault\n")?;
-    assert_file(&rt, &rt, name, b"other")
+    assert_run(&rt, &rt, again, b"", 0, "", "")?;
+    assert_other_note(&rt, &rt, again, name)
 }
 
+// A file of that name with other bytes is left as it is.
+fn assert_other_note(
+    rt: &HostRuntime,
+    abort: &impl Abort,
+    notes: &str,
+    name: &str,
+) -> Result<(), Fail> {
+    fs::write(rt, name, "other")?;
+    assert_fault(rt, abort, 1, notes, "FileFault")?;
+    assert_file(rt, abort, name, b"other")
+}
+
+// A device is written to as it is, and what cannot be written is told after the work, before the printing.
 #[test]
 fn places_of_the_output(rt: HostRuntime) -> Result<(), Fail> {
     fresh(&rt, "places", "places/keys")?;
-    let build = "build --origin ex --keys places/keys --dir places/log";
-    assert_run(&rt, &rt, build, ENTRIES, 0, "", "")?;
-    // A device is written to as it is, and what cannot be written is told after the work, before the printing.
-    let (status, output, _) = run_of(
-        &rt,
-        "pull --origin ex --keys places/keys --out /dev/null dir places/log",
-        b"",
-    )?;
-    assert_eq!(rt; status, 0);
-    assert_eq!(rt; output.as_slice(), PULLED.as_bytes());
+    let runs = "\
+$ 0 build --origin ex --keys places/keys --dir places/log
+$ 0 pull --origin ex --keys places/keys --out /dev/null dir places/log
+pulled 3 rra8/idLcKFPsGel5VeCZNsPqbUa9eC6FZFY8yngbnc= rounds 1 refused 0
+complete
+";
+    assert_runs(&rt, &rt, ENTRIES, runs)?;
     assert!(rt; !fs::metadata(&rt, "/dev/null")?.is_file());
     for out in ["places", "places/none/state", "places/keys/state"] {
         let line = format!(in rt.alloc();
             "pull --origin ex --keys places/keys --out {out} dir places/log"
         )?;
-        assert_run(&rt, &rt, &line, b"", 1, "", "tlogmirror: FileFault\n")?;
+        assert_fault(&rt, &rt, 1, &line, "FileFault")?;
     }
     Ok(())
 }

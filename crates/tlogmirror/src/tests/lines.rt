@@ -1,7 +1,7 @@
 //! The command line: each command with an option left out, given twice, misspelt or without its value, and with
 //! words that are none. The texts are those of `clap`, and nothing is done.
 use crate::tests::commands::fresh;
-use crate::tests::endings::{assert_run, run_of};
+use crate::tests::runs::{assert_faults, run_of};
 use std::alloc::{AllocError, Global};
 use std::fs;
 use std::process::Abort;
@@ -159,134 +159,132 @@ fn options_of_what_gives(rt: HostRuntime) -> Result<(), Fail> {
     assert_options(&rt, &rt, "serve", &serve, 5, "")
 }
 
-// Each of the lines ends with status 2, and the text beside it, which begins what standard error is given.
-fn assert_all_words(
-    rt: &HostRuntime,
-    abort: &impl Abort,
-    lines: &[(&str, &str)],
-) -> Result<(), Fail> {
-    for (line, error) in lines {
-        assert_words(rt, abort, line, error)?;
+// Each of the lines, behind `$ `, ends with status 2, and the text below it begins what standard error is given.
+fn assert_all_words(rt: &HostRuntime, abort: &impl Abort, lines: &str) -> Result<(), Fail> {
+    for run in lines.split("$ ") {
+        if !run.is_empty() {
+            let (line, error) = run.split_once('\n').ok_or("a line without a text")?;
+            assert_words(rt, abort, line, error)?;
+        }
     }
     Ok(())
 }
 
 #[test]
 fn no_command(rt: HostRuntime) -> Result<(), Fail> {
-    assert_all_words(
-        &rt,
-        &rt,
-        &[
-            (
-                "",
-                "error: 'tlogmirror' requires a subcommand but one was not provided\n",
-            ),
-            (
-                "roots",
-                "error: unrecognized subcommand 'roots'\n\n  tip: some similar subcommands exist: 'notes', 'root'\n\n",
-            ),
-            ("help", "error: unrecognized subcommand 'help'\n"),
-            (
-                "--width 1 root",
-                "error: unexpected argument '--width' found\n\n",
-            ),
-        ],
-    )
+    let none = "error: 'tlogmirror' requires a subcommand but one was not provided\n";
+    assert_words(&rt, &rt, "", none)?;
+    let lines = "\
+$ roots
+error: unrecognized subcommand 'roots'
+
+  tip: some similar subcommands exist: 'notes', 'root'
+
+$ help
+error: unrecognized subcommand 'help'
+$ --width 1 root
+error: unexpected argument '--width' found
+
+";
+    assert_all_words(&rt, &rt, lines)
 }
 
 #[test]
 fn words_alone(rt: HostRuntime) -> Result<(), Fail> {
-    assert_all_words(
-        &rt,
-        &rt,
-        &[
-            (
-                "take --origin O --keys K --out T",
-                "error: the following required arguments were not provided:\n  <KIND>\n\n",
-            ),
-            (
-                "merge --origin O --keys K --out T",
-                "error: the following required arguments were not provided:\n  <A>\n  <B>\n\n",
-            ),
-            (
-                "merge --origin O --keys K --out T A",
-                "error: the following required arguments were not provided:\n  <B>\n\n",
-            ),
-            (
-                "pull --origin O --keys K --out T",
-                "error: the following required arguments were not provided:\n  <KIND>\n  <PLACE>\n\n",
-            ),
-            (
-                "pull --origin O --keys K --out T dir",
-                "error: the following required arguments were not provided:\n  <PLACE>\n\n",
-            ),
-            (
-                "prove --origin O --keys K --state S",
-                "error: the following required arguments were not provided:\n  <KIND>\n  <A>\n  <B>\n\n",
-            ),
-            (
-                "prove --origin O --keys K --state S inclusion 3",
-                "error: the following required arguments were not provided:\n  <B>\n\n",
-            ),
-        ],
-    )
+    let lines = "\
+$ take --origin O --keys K --out T
+error: the following required arguments were not provided:
+  <KIND>
+
+$ merge --origin O --keys K --out T
+error: the following required arguments were not provided:
+  <A>
+  <B>
+
+$ merge --origin O --keys K --out T A
+error: the following required arguments were not provided:
+  <B>
+
+$ pull --origin O --keys K --out T
+error: the following required arguments were not provided:
+  <KIND>
+  <PLACE>
+
+$ pull --origin O --keys K --out T dir
+error: the following required arguments were not provided:
+  <PLACE>
+
+$ prove --origin O --keys K --state S
+error: the following required arguments were not provided:
+  <KIND>
+  <A>
+  <B>
+
+$ prove --origin O --keys K --state S inclusion 3
+error: the following required arguments were not provided:
+  <B>
+
+";
+    assert_all_words(&rt, &rt, lines)
 }
+
+// Lines that lack nothing.
+const WHOLE: &str = "\
+root --width 1
+check
+build --origin O --keys K --dir D
+merge --origin O --keys K --out T A B
+pull --origin O --keys K --out T dir D
+status --origin O --keys K --state S
+missing --origin O --keys K --state S --size 3 --root R
+forks --origin O --keys K --state S
+prove --origin O --keys K --state S inclusion 3 2
+export --origin O --keys K --state S --dir D
+notes --origin O --keys K --state S --dir D
+serve --origin O --keys K --state S --port 1 --requests 1
+";
 
 #[test]
 fn words_too_many(rt: HostRuntime) -> Result<(), Fail> {
-    for line in [
-        "root --width 1",
-        "check",
-        "build --origin O --keys K --dir D",
-        "merge --origin O --keys K --out T A B",
-        "pull --origin O --keys K --out T dir D",
-        "status --origin O --keys K --state S",
-        "missing --origin O --keys K --state S --size 3 --root R",
-        "forks --origin O --keys K --state S",
-        "prove --origin O --keys K --state S inclusion 3 2",
-        "export --origin O --keys K --state S --dir D",
-        "notes --origin O --keys K --state S --dir D",
-        "serve --origin O --keys K --state S --port 1 --requests 1",
-    ] {
+    for line in WHOLE.lines() {
         let line = format!(in rt.alloc(); "{line} more")?;
-        assert_words(
-            &rt,
-            &rt,
-            &line,
-            "error: unexpected argument 'more' found\n\n",
-        )?;
+        let error = "error: unexpected argument 'more' found\n\n";
+        assert_words(&rt, &rt, &line, error)?;
     }
     Ok(())
 }
 
 #[test]
 fn values_that_are_not_there(rt: HostRuntime) -> Result<(), Fail> {
-    assert_all_words(
-        &rt,
-        &rt,
-        &[
-            (
-                "root --width",
-                "error: a value is required for '--width <W>' but none was supplied\n\n",
-            ),
-            (
-                "build --origin O --keys K --dir",
-                "error: a value is required for '--dir <D>' but none was supplied\n\n",
-            ),
-            (
-                "take --origin O --keys K --out T tile F --state",
-                "error: a value is required for '--state <S>' but none was supplied\n\n",
-            ),
-            (
-                "serve --origin O --keys K --state S --port 1 --requests",
-                "error: a value is required for '--requests <N>' but none was supplied\n\n",
-            ),
-            (
-                "root --width -1",
-                "error: unexpected argument '-1' found\n\n",
-            ),
-        ],
-    )
+    let lines = "\
+$ root --width
+error: a value is required for '--width <W>' but none was supplied
+
+$ build --origin O --keys K --dir
+error: a value is required for '--dir <D>' but none was supplied
+
+$ take --origin O --keys K --out T tile F --state
+error: a value is required for '--state <S>' but none was supplied
+
+$ serve --origin O --keys K --state S --port 1 --requests
+error: a value is required for '--requests <N>' but none was supplied
+
+$ root --width -1
+error: unexpected argument '-1' found
+
+";
+    assert_all_words(&rt, &rt, lines)
+}
+
+// The command's help is printed, and names its usage.
+fn assert_help(rt: &HostRuntime, abort: &impl Abort, command: &str) -> Result<(), Fail> {
+    let line = format!(in rt.alloc(); "{command} --help")?;
+    let usage = format!(in rt.alloc(); "\nUsage: tlogmirror {command}")?;
+    let (status, output, errors) = run_of(rt, &line, b"")?;
+    assert!(abort; str::from_utf8(&output)?.contains(usage.as_str()), "{line}");
+    assert_eq!(abort; errors.len(), 0, "{line}");
+    assert_eq!(abort; status, 0, "{line}");
+    Ok(())
 }
 
 #[test]
@@ -295,140 +293,89 @@ fn help(rt: HostRuntime) -> Result<(), Fail> {
         "root", "build", "take", "merge", "pull", "status", "missing", "forks", "prove", "check",
         "export", "serve", "notes",
     ] {
-        let line = format!(in rt.alloc(); "{command} --help")?;
-        let usage = format!(in rt.alloc(); "\nUsage: tlogmirror {command}")?;
-        let (status, output, errors) = run_of(&rt, &line, b"")?;
-        assert!(&rt; str::from_utf8(&output)?.contains(usage.as_str()), "{line}");
-        assert_eq!(&rt; errors.len(), 0, "{line}");
-        assert_eq!(&rt; status, 0, "{line}");
+        assert_help(&rt, &rt, command)?;
     }
     Ok(())
 }
 
-// Each of the lines ends with status 2, and this is all that is said.
-fn assert_bad(rt: &HostRuntime, abort: &impl Abort, lines: &[&str]) -> Result<(), Fail> {
-    for line in lines {
-        assert_run(rt, abort, line, b"", 2, "", "tlogmirror: BadArgument\n")?;
-    }
-    Ok(())
-}
+// Lines that `clap` takes, each behind the fault of a value in it.
+const WIDTHS: &str = "\
+BadArgument root --width 257
+BadArgument root --width 08
+BadArgument root --width +8
+BadArgument root --width x
+BadArgument root --width 0x1
+BadArgument root --width 4294967297
+BadArgument root --width 99999999999999999999
+BadArgument root --width=
+";
 
-fn bad_widths(rt: &HostRuntime, abort: &impl Abort) -> Result<(), Fail> {
-    assert_bad(
-        rt,
-        abort,
-        &[
-            "root --width 257",
-            "root --width 08",
-            "root --width +8",
-            "root --width x",
-            "root --width 0x1",
-            "root --width 4294967297",
-            "root --width 99999999999999999999",
-            "root --width=",
-        ],
-    )
-}
+const TAKES: &str = "\
+BadArgument take --origin ex --keys lines/keys --out lines/out row lines/keys
+BadArgument take --origin ex --keys lines/keys --out lines/out Tile lines/keys
+BadArgument take --origin ex --keys lines/keys --out lines/out head
+BadArgument take --origin ex --keys lines/keys --out lines/out tile
+BadArgument take --origin ex --keys lines/keys --out lines/out bundle
+BadArgument take --origin ex --keys lines/keys --out lines/out tile lines/keys lines/keys
+BadArgument take --origin ex --keys lines/keys --out lines/out bundle lines/keys lines/keys
+BadArgument take --origin ex --keys lines/keys --out lines/out tile lines/keys --width 0
+BadArgument take --origin ex --keys lines/keys --out lines/out bundle lines/keys --width 257
+BadArgument take --origin ex --keys lines/keys --out lines/out head lines/keys --width 0
+BadArgument take --origin ex --keys lines/keys --out lines/out tile lines/keys --width 08
+";
 
-fn bad_takes(rt: &HostRuntime, abort: &impl Abort) -> Result<(), Fail> {
-    assert_bad(
-        rt,
-        abort,
-        &[
-            "take --origin ex --keys lines/keys --out lines/out row lines/keys",
-            "take --origin ex --keys lines/keys --out lines/out Tile lines/keys",
-            "take --origin ex --keys lines/keys --out lines/out head",
-            "take --origin ex --keys lines/keys --out lines/out tile",
-            "take --origin ex --keys lines/keys --out lines/out bundle",
-            "take --origin ex --keys lines/keys --out lines/out tile lines/keys lines/keys",
-            "take --origin ex --keys lines/keys --out lines/out bundle lines/keys lines/keys",
-            "take --origin ex --keys lines/keys --out lines/out tile lines/keys --width 0",
-            "take --origin ex --keys lines/keys --out lines/out bundle lines/keys --width 257",
-            "take --origin ex --keys lines/keys --out lines/out head lines/keys --width 0",
-            "take --origin ex --keys lines/keys --out lines/out tile lines/keys --width 08",
-        ],
-    )
-}
+const PULLS: &str = "\
+BadArgument pull --origin ex --keys lines/keys --out lines/out ftp lines
+BadArgument pull --origin ex --keys lines/keys --out lines/out DIR lines
+BadArgument pull --origin ex --keys lines/keys --out lines/out http localhost
+BadArgument pull --origin ex --keys lines/keys --out lines/out http localhost:0
+BadArgument pull --origin ex --keys lines/keys --out lines/out http localhost:65536
+BadArgument pull --origin ex --keys lines/keys --out lines/out http localhost:080
+BadArgument pull --origin ex --keys lines/keys --out lines/out http localhost:x
+BadArgument pull --origin ex --keys lines/keys --out lines/out http localhost:
+BadArgument pull --origin ex --keys lines/keys --out lines/out http localhost:80/
+BadArgument pull --origin ex --keys lines/keys --out lines/out http localhost:80/a/
+BadArgument pull --origin ex --keys lines/keys --out lines/out http /a
+";
 
-fn bad_pulls(rt: &HostRuntime, abort: &impl Abort) -> Result<(), Fail> {
-    assert_bad(
-        rt,
-        abort,
-        &[
-            "pull --origin ex --keys lines/keys --out lines/out ftp lines",
-            "pull --origin ex --keys lines/keys --out lines/out DIR lines",
-            "pull --origin ex --keys lines/keys --out lines/out http localhost",
-            "pull --origin ex --keys lines/keys --out lines/out http localhost:0",
-            "pull --origin ex --keys lines/keys --out lines/out http localhost:65536",
-            "pull --origin ex --keys lines/keys --out lines/out http localhost:080",
-            "pull --origin ex --keys lines/keys --out lines/out http localhost:x",
-            "pull --origin ex --keys lines/keys --out lines/out http localhost:",
-            "pull --origin ex --keys lines/keys --out lines/out http localhost:80/",
-            "pull --origin ex --keys lines/keys --out lines/out http localhost:80/a/",
-            "pull --origin ex --keys lines/keys --out lines/out http /a",
-        ],
-    )
-}
+const HEADS: &str = "\
+BadArgument missing --origin ex --keys lines/keys --state lines/none --size x --root rra8/idLcKFPsGel5VeCZNsPqbUa9eC6FZFY8yngbnc=
+BadArgument missing --origin ex --keys lines/keys --state lines/none --size 03 --root rra8/idLcKFPsGel5VeCZNsPqbUa9eC6FZFY8yngbnc=
+BadArgument missing --origin ex --keys lines/keys --state lines/none --size 9223372036854775808 --root rra8/idLcKFPsGel5VeCZNsPqbUa9eC6FZFY8yngbnc=
+BadArgument missing --origin ex --keys lines/keys --state lines/none --size 3 --root x
+BadArgument missing --origin ex --keys lines/keys --state lines/none --size 3 --root rra8/idLcKFPsGel5VeCZNsPqbUa9eC6FZFY8yngbg==
+BadArgument missing --origin ex --keys lines/keys --state lines/none --size 3 --root rra8/idLcKFPsGel5VeCZNsPqbUa9eC6FZFY8yngbnd=
+BadArgument missing --origin ex --keys lines/keys --state lines/none --size 3 --root rra8/idLcKFPsGel5VeCZNsPqbUa9eC6FZFY8yngbnc
+";
 
-fn bad_heads(rt: &HostRuntime, abort: &impl Abort) -> Result<(), Fail> {
-    assert_bad(
-        rt,
-        abort,
-        &[
-            "missing --origin ex --keys lines/keys --state lines/none --size x --root rra8/idLcKFPsGel5VeCZNsPqbUa9eC6FZFY8yngbnc=",
-            "missing --origin ex --keys lines/keys --state lines/none --size 03 --root rra8/idLcKFPsGel5VeCZNsPqbUa9eC6FZFY8yngbnc=",
-            "missing --origin ex --keys lines/keys --state lines/none --size 9223372036854775808 --root rra8/idLcKFPsGel5VeCZNsPqbUa9eC6FZFY8yngbnc=",
-            "missing --origin ex --keys lines/keys --state lines/none --size 3 --root x",
-            "missing --origin ex --keys lines/keys --state lines/none --size 3 --root rra8/idLcKFPsGel5VeCZNsPqbUa9eC6FZFY8yngbg==",
-            "missing --origin ex --keys lines/keys --state lines/none --size 3 --root rra8/idLcKFPsGel5VeCZNsPqbUa9eC6FZFY8yngbnd=",
-            "missing --origin ex --keys lines/keys --state lines/none --size 3 --root rra8/idLcKFPsGel5VeCZNsPqbUa9eC6FZFY8yngbnc",
-        ],
-    )
-}
+const PROOFS: &str = "\
+BadArgument prove --origin ex --keys lines/keys --state lines/none both 3 2
+BadArgument prove --origin ex --keys lines/keys --state lines/none inclusion x 2
+BadArgument prove --origin ex --keys lines/keys --state lines/none inclusion 3 02
+BadArgument prove --origin ex --keys lines/keys --state lines/none inclusion 9223372036854775808 2
+BadArgument prove --origin ex --keys lines/keys --state lines/none consistency 2 x
+BadArgument prove --origin ex --keys lines/keys --state lines/none consistency 03 3
+BadArgument prove --origin ex --keys lines/keys --state lines/none consistency 2 9223372036854775808
+";
 
-fn bad_proofs(rt: &HostRuntime, abort: &impl Abort) -> Result<(), Fail> {
-    assert_bad(
-        rt,
-        abort,
-        &[
-            "prove --origin ex --keys lines/keys --state lines/none both 3 2",
-            "prove --origin ex --keys lines/keys --state lines/none inclusion x 2",
-            "prove --origin ex --keys lines/keys --state lines/none inclusion 3 02",
-            "prove --origin ex --keys lines/keys --state lines/none inclusion 9223372036854775808 2",
-            "prove --origin ex --keys lines/keys --state lines/none consistency 2 x",
-            "prove --origin ex --keys lines/keys --state lines/none consistency 03 3",
-            "prove --origin ex --keys lines/keys --state lines/none consistency 2 9223372036854775808",
-        ],
-    )
-}
-
-fn bad_numbers(rt: &HostRuntime, abort: &impl Abort) -> Result<(), Fail> {
-    assert_bad(
-        rt,
-        abort,
-        &[
-            "serve --origin ex --keys lines/keys --state lines/none --port 0 --requests 1",
-            "serve --origin ex --keys lines/keys --state lines/none --port 65536 --requests 1",
-            "serve --origin ex --keys lines/keys --state lines/none --port 080 --requests 1",
-            "serve --origin ex --keys lines/keys --state lines/none --port x --requests 1",
-            "serve --origin ex --keys lines/keys --state lines/none --port 1 --requests x",
-            "serve --origin ex --keys lines/keys --state lines/none --port 1 --requests 01",
-            "serve --origin ex --keys lines/keys --state lines/none --port 1 --requests -",
-            "serve --origin ex --keys lines/keys --state lines/none --port 1 --requests 9223372036854775808",
-        ],
-    )
-}
+const NUMBERS: &str = "\
+BadArgument serve --origin ex --keys lines/keys --state lines/none --port 0 --requests 1
+BadArgument serve --origin ex --keys lines/keys --state lines/none --port 65536 --requests 1
+BadArgument serve --origin ex --keys lines/keys --state lines/none --port 080 --requests 1
+BadArgument serve --origin ex --keys lines/keys --state lines/none --port x --requests 1
+BadArgument serve --origin ex --keys lines/keys --state lines/none --port 1 --requests x
+BadArgument serve --origin ex --keys lines/keys --state lines/none --port 1 --requests 01
+BadArgument serve --origin ex --keys lines/keys --state lines/none --port 1 --requests -
+BadArgument serve --origin ex --keys lines/keys --state lines/none --port 1 --requests 9223372036854775808
+";
 
 // The key file is there, and is read before; no state is, since none is read.
 #[test]
 fn bad_values(rt: HostRuntime) -> Result<(), Fail> {
     fresh(&rt, "lines", "lines/keys")?;
-    bad_widths(&rt, &rt)?;
-    bad_takes(&rt, &rt)?;
-    bad_pulls(&rt, &rt)?;
-    bad_heads(&rt, &rt)?;
-    bad_proofs(&rt, &rt)?;
-    bad_numbers(&rt, &rt)?;
+    for rows in [WIDTHS, TAKES, PULLS, HEADS, PROOFS, NUMBERS] {
+        assert_faults(&rt, &rt, 2, rows)?;
+    }
     assert!(&rt; !fs::exists(&rt, "lines/out")?);
     Ok(())
 }

@@ -1,0 +1,3 @@
+mod NamedLemmas
+mod Leaving
+mod Putting
