@@ -1,14 +1,14 @@
 use Rattle.std.proofs.Common.{sym, subst}
 use Rattle.std.proofs.lemmas.Simd.{map-map}
 use Rattle.state_commands.specs.NoteFiles.{note_file}
-use Rattle.file_commands.specs.Notes.{IsTold, PutsEach, PutsFront, in_folder}
+use Rattle.file_commands.specs.Notes.{IsTold, PutsEach, PutsPrefix, in_folder}
 use Rattle.file_commands.proofs.Putting.{puts_all, puts_front, puts_more}
 use Rattle.file_commands.proofs.notes.put_notes.Goals as goal
 
 pub returns-in-Err : goal.returns-in-Err
 returns-in-Err g c =
     let puts = g.F.NamedFiles.puts in
-    subst (λ files. PutsFront files (puts c.args.files.now) (puts c.put_note.new.files) c.in-Err.fault)
+    subst (λ files. PutsPrefix files (puts c.args.files.now) (puts c.put_note.new.files) c.in-Err.fault)
     (sym (map-map (in_folder c.args.folder.now) note_file c.args.notes.now))
     (puts_front
     (λ note. in_folder c.args.folder.now
