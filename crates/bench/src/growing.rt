@@ -41,7 +41,7 @@ pub struct Log {
 
 impl Log {
     /// The log of no entries.
-    pub fn new(alloc: Global) -> Result<Log, AllocError> {
+    pub(crate) fn new(alloc: Global) -> Result<Log, AllocError> {
         let mut rows = Vec::new(alloc);
         for _ in 0..LEVELS {
             rows.push(Vec::new(alloc))?;
@@ -50,7 +50,7 @@ impl Log {
     }
 
     /// Adds an entry.
-    pub fn add(&mut self, entry: &[u8]) -> Result<(), AllocError> {
+    pub(crate) fn add(&mut self, entry: &[u8]) -> Result<(), AllocError> {
         self.size = self.size.wrapping_add(1);
         let mut value = Sha256Tree::leaf(entry);
         for row in self.rows.iter_mut() {
@@ -65,7 +65,7 @@ impl Log {
     }
 
     /// A mirror takes its head.
-    pub fn sign_to(
+    pub(crate) fn sign_to(
         &self,
         alloc: Global,
         keys: &[Box<dyn Verifier>],

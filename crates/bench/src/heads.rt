@@ -17,7 +17,7 @@ const MOST_WALKED: u32 = 2000;
 
 /// Lets a mirror take so many heads, each of one entry more, and their entries; then tells heads and forks, if they are not
 /// too many, settles, and tells them again.
-pub fn measure_heads<R: AllocGlobal + CpuClock + Print + Eprint>(
+pub(crate) fn measure_heads<R: AllocGlobal + CpuClock + Print + Eprint>(
     rt: &R,
     count: u32,
 ) -> anyhow::Result<()> {
@@ -175,7 +175,7 @@ fn take_entries(alloc: Global, mirror: &mut Mirror<Sha256Tree>, count: u32) -> a
 }
 
 /// A mirror takes a bundle of that width.
-pub fn take_bundle<H: TreeHash>(
+pub(crate) fn take_bundle<H: TreeHash>(
     alloc: Global,
     mirror: &mut Mirror<H>,
     width: u32,

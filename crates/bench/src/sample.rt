@@ -14,7 +14,7 @@ pub enum Kind {
 
 impl Kind {
     /// What strings of the kind are called.
-    pub fn name(self) -> &'static str {
+    pub(crate) fn name(self) -> &'static str {
         match self {
             Kind::Pair => "pairs",
             Kind::Entry => "entries",
@@ -32,7 +32,7 @@ pub struct Sample {
 
 impl Sample {
     /// The first sample.
-    pub fn new() -> Self {
+    pub(crate) fn new() -> Self {
         Sample {
             left: [0; 32],
             right: [1; 32],
@@ -41,7 +41,7 @@ impl Sample {
     }
 
     /// Makes it the sample of that number.
-    pub fn set(&mut self, number: u32) {
+    pub(crate) fn set(&mut self, number: u32) {
         let bytes = number.to_be_bytes();
         for i in 0..4usize {
             self.left[i] = bytes[i];
@@ -50,7 +50,7 @@ impl Sample {
     }
 
     /// The string of that kind.
-    pub fn string(&self, kind: Kind) -> Tagged<'_> {
+    pub(crate) fn string(&self, kind: Kind) -> Tagged<'_> {
         match kind {
             Kind::Pair => Tagged::Pair(&self.left, &self.right),
             Kind::Entry => Tagged::Leaf(&self.entry),
@@ -59,7 +59,7 @@ impl Sample {
 }
 
 /// The digest of the string, which is what adding it has to find too.
-pub fn digest_of<H: TreeHash>(string: Tagged) -> Hash
+pub(crate) fn digest_of<H: TreeHash>(string: Tagged) -> Hash
     ensures { result ≡ H.digest (string_of string.entry) }
 {
     match string {

@@ -11,7 +11,7 @@ use std::time::CpuClock;
 use tlog_hash::{Sha256Tree, TreeHash};
 
 /// Hashes so many strings of each kind, and adds them to a store.
-pub fn measure_store<R: AllocGlobal + CpuClock + Files + Print + Eprint>(
+pub(crate) fn measure_store<R: AllocGlobal + CpuClock + Files + Print + Eprint>(
     rt: &R,
     count: u32,
 ) -> io::Result<()> {

@@ -13,7 +13,7 @@ use tlog_tiles::Path;
 const WIDTH: u32 = 256;
 
 /// Lets a mirror take all full bundles of a log of so many entries, each twice.
-pub fn measure_takes<R: AllocGlobal + CpuClock + Print + Eprint>(
+pub(crate) fn measure_takes<R: AllocGlobal + CpuClock + Print + Eprint>(
     rt: &R,
     count: u32,
 ) -> anyhow::Result<()> {

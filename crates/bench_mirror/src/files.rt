@@ -14,7 +14,7 @@ use tlog_hash::{Sha256Tree, TreeHash};
 use tlog_mirror::Mirror;
 
 /// Saves a mirror of so many entries to memory and loads it again, and exports it, settled, onto a shelf in memory.
-pub fn measure_files<R: AllocGlobal + CpuClock + Print + Eprint>(
+pub(crate) fn measure_files<R: AllocGlobal + CpuClock + Print + Eprint>(
     rt: &R,
     count: u32,
 ) -> anyhow::Result<()> {

@@ -17,7 +17,7 @@ use tlog_mirror::{Mirror, NewFault};
 const GROWTH: u32 = 256;
 
 /// Pulls a log of so many entries, walks it and settles it; then the same of the log some entries later.
-pub fn measure_pulls<R: AllocGlobal + CpuClock + Files + Print + Eprint>(
+pub(crate) fn measure_pulls<R: AllocGlobal + CpuClock + Files + Print + Eprint>(
     rt: &R,
     count: u32,
 ) -> anyhow::Result<()> {
@@ -27,7 +27,7 @@ pub fn measure_pulls<R: AllocGlobal + CpuClock + Files + Print + Eprint>(
 }
 
 /// A mirror that holds nothing.
-pub fn empty(alloc: Global) -> Result<Mirror<Sha256Tree>, NewFault> {
+pub(crate) fn empty(alloc: Global) -> Result<Mirror<Sha256Tree>, NewFault> {
     Mirror::new(alloc, ORIGIN)
 }
 
@@ -43,7 +43,7 @@ fn source_told<R: AllocGlobal + CpuClock + Eprint>(
 }
 
 /// The time that hashing the tree of the entries takes, which it tells, and the tree's root.
-pub fn hash_told<R: AllocGlobal + CpuClock + Eprint>(
+pub(crate) fn hash_told<R: AllocGlobal + CpuClock + Eprint>(
     rt: &R,
     entries: &[Vec<u8>],
 ) -> anyhow::Result<(u128, Hash)> {
@@ -168,7 +168,7 @@ fn walk_told<R: AllocGlobal + CpuClock + Print + Eprint>(
 }
 
 /// Whether the head is complete.
-pub fn is_complete<H: TreeHash>(mirror: &Mirror<H>, size: u64, root: &Hash) -> bool {
+pub(crate) fn is_complete<H: TreeHash>(mirror: &Mirror<H>, size: u64, root: &Hash) -> bool {
     mirror.is_complete(size, root)
 }
 
@@ -199,7 +199,7 @@ fn settle_told<R: AllocGlobal + CpuClock + Print + Eprint>(
 }
 
 /// Settles the heads, and answers how much is remembered.
-pub fn settle<H: TreeHash>(alloc: Global, mirror: &mut Mirror<H>) -> Result<usize, AllocError> {
+pub(crate) fn settle<H: TreeHash>(alloc: Global, mirror: &mut Mirror<H>) -> Result<usize, AllocError> {
     mirror.settle(alloc)?;
     Ok(mirror.remembered())
 }
@@ -212,7 +212,7 @@ fn string_bytes(count: u32) -> u64
 }
 
 /// Pulls all that the source has.
-pub fn pull_all(
+pub(crate) fn pull_all(
     alloc: Global,
     mirror: &mut Mirror<Sha256Tree>,
     source: &mut ListSource<Sha256Tree>,
@@ -233,7 +233,7 @@ fn pull_under<H: TreeHash>(
 }
 
 /// Lets an empty mirror pull the first entries, as many as that, and answers its head's root.
-pub fn fill(alloc: Global, mirror: &mut Mirror<Sha256Tree>, count: u32) -> anyhow::Result<Hash> {
+pub(crate) fn fill(alloc: Global, mirror: &mut Mirror<Sha256Tree>, count: u32) -> anyhow::Result<Hash> {
     let mut source = source_of(alloc, entries_of(alloc, count)?)?;
     Ok(pull_all(alloc, mirror, &mut source)?.root)
 }

@@ -34,7 +34,7 @@ enum Part {
 }
 
 /// Asks a settled mirror of so many entries for its parts, and then for the replies that carry them.
-pub fn measure_served<R: AllocGlobal + CpuClock + Print + Eprint>(
+pub(crate) fn measure_served<R: AllocGlobal + CpuClock + Print + Eprint>(
     rt: &R,
     count: u32,
 ) -> anyhow::Result<()> {

@@ -19,7 +19,7 @@ const CONSISTENCY: &str =
     "consistency\nfirst 2\nroot +sVCA+fMaWzw38tCySodnbr3CtnmIfS9jZhmLwDjwSU=\nsecond 3\nroot rra8/idLcKFPsGel5VeCZNsPqbUa9eC6FZFY8yngbnc=\npath ApjRIpBtz8EIkstTpzmS/FufST6kybrbJ7eRtBJ6f+c=\n";
 
 // A folder of that path, with nothing in it but a file of keys: the key `ex`, id 1, secret 00.
-pub fn fresh<R: Files + Alloc>(rt: &R, folder: &str, keys: &str) -> io::Result<()> {
+pub(crate) fn fresh<R: Files + Alloc>(rt: &R, folder: &str, keys: &str) -> io::Result<()> {
     match fs::remove_dir_all(rt, folder) {
         Ok(()) => {}
         Err(e) => {

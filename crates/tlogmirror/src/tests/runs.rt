@@ -6,7 +6,7 @@ use std::process::Abort;
 use std::test::Fail;
 
 // The words of a line.
-pub fn words_of(alloc: Global, line: &str) -> Result<Vec<String>, AllocError> {
+pub(crate) fn words_of(alloc: Global, line: &str) -> Result<Vec<String>, AllocError> {
     let mut words = Vec::new(alloc);
     for word in line.split_whitespace() {
         words.push(String::from_str(alloc, word)?)?;
@@ -16,7 +16,7 @@ pub fn words_of(alloc: Global, line: &str) -> Result<Vec<String>, AllocError> {
 
 // Does what the words ask for over these streams, as `main` does, and answers the exit status. It alone calls `run`, and it ensures
 // nothing: what `run` ensures is long, of no use to a test, and dear to check wherever it is known.
-pub fn ended<I: Read, O: Write>(
+pub(crate) fn ended<I: Read, O: Write>(
     rt: &HostRuntime,
     words: &[String],
     input: &mut I,
@@ -29,7 +29,7 @@ pub fn ended<I: Read, O: Write>(
 }
 
 // A run of that line on this input: the status, and what both streams were given.
-pub fn run_of(rt: &HostRuntime, line: &str, input: &[u8]) -> Result<(u8, Vec<u8>, Vec<u8>), Fail> {
+pub(crate) fn run_of(rt: &HostRuntime, line: &str, input: &[u8]) -> Result<(u8, Vec<u8>, Vec<u8>), Fail> {
     let alloc = rt.alloc();
     let words = words_of(alloc, line)?;
     let mut input = input;
@@ -40,7 +40,7 @@ pub fn run_of(rt: &HostRuntime, line: &str, input: &[u8]) -> Result<(u8, Vec<u8>
 }
 
 // The run of that line on this input ends with that status, and writes these texts.
-pub fn assert_run(
+pub(crate) fn assert_run(
     rt: &HostRuntime,
     abort: &impl Abort,
     line: &str,
@@ -57,7 +57,7 @@ pub fn assert_run(
 }
 
 // The run of that line without input ends with that status, and the fault of that name is told alone.
-pub fn assert_fault(
+pub(crate) fn assert_fault(
     rt: &HostRuntime,
     abort: &impl Abort,
     status: u8,
@@ -69,7 +69,7 @@ pub fn assert_fault(
 }
 
 // Each row is the name of a fault, and a line whose run ends with that status and tells that fault alone.
-pub fn assert_faults(
+pub(crate) fn assert_faults(
     rt: &HostRuntime,
     abort: &impl Abort,
     status: u8,
@@ -84,7 +84,7 @@ pub fn assert_faults(
 
 // Runs one after another, all on this input: each is `$ `, the status and the words, and in the lines below all that is written, on
 // standard output where the status is 0 or 3, otherwise on standard error.
-pub fn assert_runs(
+pub(crate) fn assert_runs(
     rt: &HostRuntime,
     abort: &impl Abort,
     input: &[u8],
