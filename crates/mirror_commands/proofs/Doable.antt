@@ -1,18 +1,26 @@
 -- What words that ask for a command say of its numbers.
-use Rattle.std.proofs.Common.{◌≡◌, ℕ, ◌≤◌, List, Option, Some, None, arith}
-use Rattle.command_line.specs.Commands.{Asks, IsTakeWidth}
+use Rattle.std.proofs.Common.{◌≡◌, ℕ, ◌≤◌, List, length, Option, Some, None, arith}
+use Rattle.command_line.specs.Commands.{Asks, IsCount, IsTakeWidth}
 use Rattle.command_line.specs.declared.command.Command.{Command as Order}
 use Rattle.command_line.specs.declared.command.Command.TheVariants as order
+use Rattle.command_line.specs.declared.command.Kind.{Kind}
+use Rattle.command_line.specs.declared.command.Kind.TheVariants as kind
 use Rattle.mirror_commands.specs.Done.{IsDoable}
 
 take_width : (word : Option (List ℕ)) (width : ℕ) → IsTakeWidth word width → (1 ≤ width) × (width ≤ 256)
 take_width None width h = (omega (arith, h), omega (arith, h))
 take_width (Some word) width h = (h.least_is, h.most_is)
 
+some_file : (kind : Kind) (count : ℕ) → IsCount kind count → 1 ≤ count
+some_file kind.Head count h = h
+some_file kind.Tile count h = omega (arith, h)
+some_file kind.Bundle count h = omega (arith, h)
+
 pub asked_doable : (words : List (List ℕ)) (c : Order) → Asks words c → IsDoable c
 asked_doable words (order.Root c) h = h.2.is_such.most_is
 asked_doable words (order.Take c) h =
-    take_width _ c.width h.2.width
+    let width = take_width _ c.width h.2.width in
+    (width.0, width.1, some_file c.kind (length c.files.items) h.2.count)
 asked_doable words order.Check h = tt
 asked_doable words (order.Build c) h = tt
 asked_doable words (order.Merge c) h = tt

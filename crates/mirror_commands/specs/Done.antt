@@ -1,11 +1,21 @@
 -- What each answer of a command says of the input, and of what was written to standard output.
-use Rattle.std.specs.Prelude.{◌≡◌, ◌≤◌, ℕ, List, Option, Result, Ok, Err, Bool, true, false}
-use Rattle.std.specs.Prelude.{IfSome}
+use Rattle.std.specs.Prelude.{◌≡◌, ◌≤◌, ℕ, List, length, Option, None, Result, Ok, Err, Bool, true}
+use Rattle.std.specs.Prelude.{false, IfSome}
 use Rattle.std.specs.Io.KnownBytes.{Keeps}
 use Rattle.signed_note.specs.Keys.{Key}
 use Rattle.command_line.specs.declared.command.Command.{Command as Order}
 use Rattle.command_line.specs.declared.command.Command.TheVariants as order
+use Rattle.command_line.specs.declared.command.Merge.{Merge as MergeWords}
+use Rattle.command_line.specs.declared.command.Export.{Export as FolderWords}
+use Rattle.state_commands.specs.NoteFiles.{NamedFile}
 use Rattle.state_commands.specs.declared.question.Question.TheVariants as question
+use Rattle.file_commands.specs.Exported.{ExportsFile}
+use Rattle.file_commands.specs.Merges.{LeavesMerged}
+use Rattle.file_commands.specs.Notes.{WritesNotes}
+use Rattle.file_commands.specs.declared.fault.TakeFilesFault.{TakeFilesFault}
+use Rattle.file_commands.specs.declared.fault.MergeFilesFault.{MergeFilesFault}
+use Rattle.file_commands.specs.declared.fault.ExportFileFault.{ExportFileFault}
+use Rattle.file_commands.specs.declared.fault.NotesFault.{NotesFault}
 use Rattle.mirror_commands.specs.declared.fault.RunFault.{RunFault}
 use Rattle.mirror_commands.specs.declared.fault.RunFault.TheVariants.{Root, Check, Build, Take}
 use Rattle.mirror_commands.specs.declared.fault.RunFault.TheVariants.{Merge, Pull, Status, Missing}
@@ -19,6 +29,7 @@ use Rattle.mirror_commands.specs.declared.fault.TellFault.{TellFault}
 use Rattle.mirror_commands.specs.declared.fault.TellFault.TheVariants as tell
 use Rattle.stream_commands.specs.Root.{AnswersRoot}
 use Rattle.stream_commands.specs.Check.{AnswersCheck}
+use Rattle.mirror_commands.specs.Named.{TakesWords}
 use Rattle.mirror_commands.specs.Works.{AsksState, BuildsFrom, IsWriting, TellsPort, TellsPull}
 
 -- the exit status of a verdict: 3 for a no
@@ -39,10 +50,12 @@ IsWriteFault (Prove fault) = IsWriting fault
 IsWriteFault (Serve fault) = Unit {0}
 IsWriteFault other = ⊥
 
--- what words that ask for a command say of it besides: numbers are in their ranges
+-- what words that ask for a command say of it besides: numbers are in their ranges, and an item has
+-- a file
 abbrev pub IsDoable : Order → Type 0
 IsDoable (order.Root c) = c.width ≤ 256
-IsDoable (order.Take c) = (1 ≤ c.width) × (c.width ≤ 256)
+IsDoable (order.Take c) =
+    (1 ≤ c.width) × (c.width ≤ 256) × (1 ≤ length c.files.items)
 IsDoable other = Unit {0}
 
 -- the answer of `root` that is done
@@ -53,13 +66,38 @@ root_done = Ok tt
 abbrev pub root_failed : RootFault → Result (Unit {0}) RootFault
 root_failed fault = Err fault
 
--- the answer of a command that writes files alone, and did
+-- the answer of `build` that is done
 abbrev pub work_done : Result (Unit {0}) WorkFault
 work_done = Ok tt
 
--- the answer of a command that writes files alone, and failed
+-- the answer of `build` that failed
 abbrev pub work_failed : WorkFault → Result (Unit {0}) WorkFault
 work_failed fault = Err fault
+
+-- the answers of `take`, `merge`, `export` and `notes`: done, or failed for that reason
+abbrev pub take_done : Result (Unit {0}) TakeFilesFault
+take_done = Ok tt
+
+abbrev pub take_failed : TakeFilesFault → Result (Unit {0}) TakeFilesFault
+take_failed fault = Err fault
+
+abbrev pub merge_done : Result (Unit {0}) MergeFilesFault
+merge_done = Ok tt
+
+abbrev pub merge_failed : MergeFilesFault → Result (Unit {0}) MergeFilesFault
+merge_failed fault = Err fault
+
+abbrev pub export_done : Result (Unit {0}) ExportFileFault
+export_done = Ok tt
+
+abbrev pub export_failed : ExportFileFault → Result (Unit {0}) ExportFileFault
+export_failed fault = Err fault
+
+abbrev pub notes_done : Result (Unit {0}) NotesFault
+notes_done = Ok tt
+
+abbrev pub notes_failed : NotesFault → Result (Unit {0}) NotesFault
+notes_failed fault = Err fault
 
 -- the answer of a command that asks something of a state, with its exit status
 abbrev pub asked_status : ℕ → Result ℕ WorkFault
@@ -85,8 +123,24 @@ served_done = Ok tt
 abbrev pub served_failed : TellFault → Result (Unit {0}) TellFault
 served_failed fault = Err fault
 
-module _ (digest : List ℕ → List ℕ) (keys : List Key) where
-  -- what each answer of a command says of the input, where that is known, and of what was written
+module _ (digest : List ℕ → List ℕ) (keys : List Key)
+    (told left : Option (List NamedFile)) where
+  -- the four commands that leave named files or a folder, which is not told
+  abbrev pub MergesTwo : MergeWords → Result (Unit {0}) MergeFilesFault → Type 0
+  MergesTwo c answer =
+      LeavesMerged digest c.made.log.origin.now keys told c.first.now c.second.now c.made.out.now
+      left answer
+
+  abbrev pub ExportsOne : FolderWords → Result (Unit {0}) ExportFileFault → Type 0
+  ExportsOne c answer =
+      ExportsFile digest c.held.log.origin.now keys told c.held.state.now None None answer
+
+  abbrev pub WritesInto : FolderWords → Result (Unit {0}) NotesFault → Type 0
+  WritesInto c answer =
+      WritesNotes digest c.held.log.origin.now keys told c.held.state.now c.folder.now left answer
+
+  -- what each answer of a command says of the input and of named files, where they are known, and
+  -- of what was written
   abbrev pub Does : Order → Option (List ℕ) → Option (List ℕ) → Option (List ℕ) →
       Result ℕ RunFault → Type 0
   Does (order.Root c) input old new (Ok status) =
@@ -102,35 +156,48 @@ module _ (digest : List ℕ → List ℕ) (keys : List Key) where
       IfSome input (λ bytes. BuildsFrom bytes work_done) × Keeps old new × (status ≡ 0)
   Does (order.Build c) input old new (Err (Build fault)) =
       IfSome input (λ bytes. BuildsFrom bytes (work_failed fault)) × Keeps old new
-  Does (order.Take c) input old new (Ok status) = Keeps old new × (status ≡ 0)
-  Does (order.Take c) input old new (Err (Take fault)) = Keeps old new
-  Does (order.Merge c) input old new (Ok status) = Keeps old new × (status ≡ 0)
-  Does (order.Merge c) input old new (Err (Merge fault)) = Keeps old new
+  Does (order.Take c) input old new (Ok status) =
+      TakesWords digest keys c told left take_done × Keeps old new × (status ≡ 0)
+  Does (order.Take c) input old new (Err (Take fault)) =
+      TakesWords digest keys c told left (take_failed fault) × Keeps old new
+  Does (order.Merge c) input old new (Ok status) =
+      MergesTwo c merge_done × Keeps old new × (status ≡ 0)
+  Does (order.Merge c) input old new (Err (Merge fault)) =
+      MergesTwo c (merge_failed fault) × Keeps old new
   Does (order.Pull c) input old new (Ok status) = TellsPull old new (told_status status)
   Does (order.Pull c) input old new (Err (Pull fault)) = TellsPull old new (told_fault fault)
   Does (order.Status c) input old new (Ok status) =
-      AsksState digest keys c.log.origin.now question.Status old new (asked_status status)
+      AsksState digest keys told c.state.now c.log.origin.now question.Status old new
+      (asked_status status)
   Does (order.Status c) input old new (Err (Status fault)) =
-      AsksState digest keys c.log.origin.now question.Status old new (asked_fault fault)
-  Does (order.Missing c) input old new (Ok status) =
-      AsksState digest keys c.held.log.origin.now (question.Missing c.size c.root) old new
-      (asked_status status)
-  Does (order.Missing c) input old new (Err (Missing fault)) =
-      AsksState digest keys c.held.log.origin.now (question.Missing c.size c.root) old new
+      AsksState digest keys told c.state.now c.log.origin.now question.Status old new
       (asked_fault fault)
+  Does (order.Missing c) input old new (Ok status) =
+      AsksState digest keys told c.held.state.now c.held.log.origin.now
+      (question.Missing c.size c.root) old new (asked_status status)
+  Does (order.Missing c) input old new (Err (Missing fault)) =
+      AsksState digest keys told c.held.state.now c.held.log.origin.now
+      (question.Missing c.size c.root) old new (asked_fault fault)
   Does (order.Forks c) input old new (Ok status) =
-      AsksState digest keys c.log.origin.now question.Forks old new (asked_status status)
-  Does (order.Forks c) input old new (Err (Forks fault)) =
-      AsksState digest keys c.log.origin.now question.Forks old new (asked_fault fault)
-  Does (order.Prove c) input old new (Ok status) =
-      AsksState digest keys c.held.log.origin.now (question.Proof c.ask) old new
+      AsksState digest keys told c.state.now c.log.origin.now question.Forks old new
       (asked_status status)
+  Does (order.Forks c) input old new (Err (Forks fault)) =
+      AsksState digest keys told c.state.now c.log.origin.now question.Forks old new
+      (asked_fault fault)
+  Does (order.Prove c) input old new (Ok status) =
+      AsksState digest keys told c.held.state.now c.held.log.origin.now (question.Proof c.ask)
+      old new (asked_status status)
   Does (order.Prove c) input old new (Err (Prove fault)) =
-      AsksState digest keys c.held.log.origin.now (question.Proof c.ask) old new (asked_fault fault)
-  Does (order.Export c) input old new (Ok status) = Keeps old new × (status ≡ 0)
-  Does (order.Export c) input old new (Err (Export fault)) = Keeps old new
-  Does (order.Notes c) input old new (Ok status) = Keeps old new × (status ≡ 0)
-  Does (order.Notes c) input old new (Err (Notes fault)) = Keeps old new
+      AsksState digest keys told c.held.state.now c.held.log.origin.now (question.Proof c.ask)
+      old new (asked_fault fault)
+  Does (order.Export c) input old new (Ok status) =
+      ExportsOne c export_done × Keeps old new × (status ≡ 0)
+  Does (order.Export c) input old new (Err (Export fault)) =
+      ExportsOne c (export_failed fault) × Keeps old new
+  Does (order.Notes c) input old new (Ok status) =
+      WritesInto c notes_done × Keeps old new × (status ≡ 0)
+  Does (order.Notes c) input old new (Err (Notes fault)) =
+      WritesInto c (notes_failed fault) × Keeps old new
   Does (order.Serve c) input old new (Ok status) =
       TellsPort c.port old new served_done × (status ≡ 0)
   Does (order.Serve c) input old new (Err (Serve fault)) =

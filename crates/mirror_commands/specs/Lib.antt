@@ -2,4 +2,4 @@ pub mod Works
 pub mod Done
 pub mod Runs
 pub mod Endings
-pub mod States
+pub mod Named

@@ -1,8 +1,9 @@
 -- What a run of the program answers and writes. `FindsKeys` is cited by the contracts of private
 -- functions alone.
-use Rattle.std.specs.Prelude.{◌≡◌, ◌⊎◌, ℕ, List, Option, Result, Ok, Err}
+use Rattle.std.specs.Prelude.{◌≡◌, ◌⊎◌, ℕ, List, Option, None, Result, Ok, Err}
 use Rattle.std.specs.Io.KnownBytes.{Keeps}
 use Rattle.signed_note.specs.Keys.{Key}
+use Rattle.state_commands.specs.NoteFiles.{NamedFile}
 use Rattle.command_line.specs.declared.command.Command.{Command as Order}
 use Rattle.command_line.specs.declared.fault.CommandFault.{CommandFault}
 use Rattle.command_line.specs.Commands.{Asks}
@@ -11,13 +12,13 @@ use Rattle.mirror_commands.specs.declared.fault.RunFault.{RunFault}
 use Rattle.mirror_commands.specs.declared.fault.RunFault.TheVariants.{Command, KeyFile, KeyLines}
 use Rattle.mirror_commands.specs.Done.{Does}
 
-module _ (digest : List ℕ → List ℕ) (keys : List Key) where
+module _ (digest : List ℕ → List ℕ) (keys : List Key) (told left : Option (List NamedFile)) where
   -- the words ask for a command, and this is its answer
   pub record Obeys (words : List (List ℕ)) (input old new : Option (List ℕ))
       (answer : Result ℕ RunFault) : Type 0 where
     pub command : Order
     pub asked : Asks words command
-    pub done : Does digest keys command input old new answer
+    pub done : Does digest keys told left command input old new answer
 
   -- the words ask for no command: this is the answer, and nothing was written
   pub record Refuses (words : List (List ℕ)) (old new : Option (List ℕ))
@@ -57,9 +58,9 @@ pub record LacksKeys
   pub quiet : Keeps old new
 
 -- what the answer of a run that begins with the file of keys says: no keys were found, or the run
--- is one under these keys
+-- is one under these keys, over the files of the system, which are not told
 abbrev pub RunsKeyed : (List ℕ → List ℕ) → List (List ℕ) → Option (List ℕ) → Option (List ℕ) →
     Option (List ℕ) → Result ℕ RunFault → Type 0
 RunsKeyed digest words input old new answer =
     LacksKeys words old new answer
-    ⊎ ((keys : List Key) × Runs digest keys words input old new answer)
+    ⊎ ((keys : List Key) × Runs digest keys None None words input old new answer)

@@ -8,10 +8,12 @@ use Rattle.mirror_model.specs.Origin.{IsOrigin}
 use Rattle.mirror_pull.specs.declared.pulling.Pulled.{Pulled}
 use Rattle.mirror_updates.specs.Pulling.{IsPulledStatus, pulled_lines}
 use Rattle.tlog_mirror.specs.declared.fault.NewFault.TheVariants as made
+use Rattle.state_commands.specs.NoteFiles.{NamedFile}
 use Rattle.state_commands.specs.Questions.{AnswersQuestion}
 use Rattle.state_commands.specs.declared.question.Question.{Question}
 use Rattle.state_commands.specs.declared.fault.AskFault.{AskFault}
 use Rattle.state_commands.specs.declared.fault.AskFault.TheVariants as ask
+use Rattle.file_commands.specs.Named.{ReadsFile, TellsFile}
 use Rattle.stream_commands.specs.Entries.{ReadsEntries}
 use Rattle.stream_commands.specs.declared.entries.EntriesFault.{EntriesFault}
 use Rattle.mirror_commands.specs.declared.fault.WorkFault.{WorkFault}
@@ -31,17 +33,19 @@ IsWriting other = ⊥
 -- ---- status, missing, forks, prove
 
 module _
-    (digest : List ℕ → List ℕ) (keys : List Key) (origin : List ℕ) (question : Question)
-    (old new : Option (List ℕ)) where
-  -- the state file had some bytes, and what was answered and written is what they answer
+    (digest : List ℕ → List ℕ) (keys : List Key) (told : Option (List NamedFile)) (name : List ℕ)
+    (origin : List ℕ) (question : Question) (old new : Option (List ℕ)) where
+  -- some bytes, which the state file has, answer what was answered and written
   abbrev pub AsksState : Result ℕ WorkFault → Type 0
   AsksState (Ok status) =
-      (state : List ℕ) × AnswersQuestion digest origin keys question state old new (Ok status)
+      (state : List ℕ) × TellsFile told name state ×
+      AnswersQuestion digest origin keys question state old new (Ok status)
   AsksState (Err (Ask fault)) =
-      (state : List ℕ) × AnswersQuestion digest origin keys question state old new (Err fault)
+      (state : List ℕ) × TellsFile told name state ×
+      AnswersQuestion digest origin keys question state old new (Err fault)
   AsksState (Err (Origin made.BadOrigin)) = IsOrigin origin → ⊥
   AsksState (Err (Origin made.OutOfMemory)) = Unit {0}
-  AsksState (Err (Named fault)) = Unit {0}
+  AsksState (Err (Named fault)) = ReadsFile told name (Err fault)
   AsksState (Err other) = ⊥
 
 -- ---- pull, serve

@@ -5,12 +5,11 @@ ghost use Rattle.sha2.specs.Sha256.{sha256};
 ghost use Rattle.mirror_commands.specs.Works.{AsksState, IsStatus, IsWriting};
 
 use crate::fault::WorkFault;
-use crate::files::read_state;
 use command_line::Held;
+use file_commands::NamedFiles;
 use signed_note::Verifier;
 use state_commands::{Question, check_origin, print_report};
 use std::alloc::Global;
-use std::fs::Files;
 use std::io::Write;
 use tlog_hash::Sha256Tree;
 
@@ -20,15 +19,15 @@ use tlog_hash::Sha256Tree;
 ///
 /// In this order: `BadOrigin`, those of the state file, and those of `print_report`. Nothing was written but at a
 /// `WriteFault`.
-pub(crate) fn run_ask<R: Files, W: Write>(
-    rt: &R,
+pub(crate) fn run_ask<F: NamedFiles, W: Write>(
+    files: &F,
     alloc: Global,
     held: &Held<'_>,
     keys: &[Box<dyn Verifier>],
     question: &Question,
     output: &mut W,
 ) -> Result<u8, WorkFault>
-    ensures answer { AsksState sha256 (map (λ k. key k) keys.now) held.now.log.origin.now question.now (W.contents output.old) (W.contents output.new) result }
+    ensures answer { AsksState sha256 (map (λ k. key k) keys.now) (F.puts files.now) held.now.state.now held.now.log.origin.now question.now (W.contents output.old) (W.contents output.new) result }
     ensures status { IfOk result IsStatus }
     ensures quiet { IfErr result (λ fault. (IsWriting fault → ⊥) → Keeps (W.contents output.old) (W.contents output.new)) }
 {
@@ -37,7 +36,7 @@ pub(crate) fn run_ask<R: Files, W: Write>(
         Ok(()) => {}
         Err(fault) => return Err(WorkFault::Origin(fault)),
     }
-    let state = match read_state(rt, alloc, held.state) {
+    let state = match files.read_state(held.state) {
         Ok(state) => state,
         Err(fault) => return Err(WorkFault::Named(fault)),
     };

@@ -2,16 +2,17 @@
 ghost use Rattle.std.specs.Prelude.{◌≡◌};
 ghost use Rattle.mirror_commands.specs.declared.fault.WorkFault.TheVariants as work;
 
-use crate::files::NamedFault;
 use command_line::CommandFault;
-use mirror_files::LoadFault;
+use file_commands::{
+    ExportFileFault, MergeFilesFault, NamedFault, NotesFault, StateFault, TakeFilesFault,
+};
 use mirror_updates::UpdateFault;
 use signed_note::KeyFileFault;
-use state_commands::{AskFault, ExportStateFault};
+use state_commands::AskFault;
 use std::alloc::{AllocError, AllocFailed};
 use stream_commands::{CheckFault, EntriesFault, RootFault};
 use thiserror::Error;
-use tlog_mirror::{MergeFault, NewFault, TakeFault};
+use tlog_mirror::NewFault;
 
 /// Why a command was not done. It prints the name of the innermost variant.
 #[derive(Debug, Drop, Error)]
@@ -36,10 +37,10 @@ pub enum RunFault {
     Build(WorkFault),
     /// `take` wrote no state.
     #[error(transparent)]
-    Take(WorkFault),
+    Take(TakeFilesFault),
     /// `merge` wrote no state.
     #[error(transparent)]
-    Merge(WorkFault),
+    Merge(MergeFilesFault),
     /// `pull` wrote no state, or did not tell of it.
     #[error(transparent)]
     Pull(TellFault),
@@ -57,10 +58,10 @@ pub enum RunFault {
     Prove(WorkFault),
     /// Not all was exported.
     #[error(transparent)]
-    Export(WorkFault),
+    Export(ExportFileFault),
     /// Not all notes were written.
     #[error(transparent)]
-    Notes(WorkFault),
+    Notes(NotesFault),
     /// Not as many connections were answered as were asked for.
     #[error(transparent)]
     Serve(TellFault),
@@ -78,24 +79,15 @@ pub enum WorkFault {
     /// The origin is none.
     #[error(transparent)]
     Origin(NewFault),
-    /// A state was not loaded.
+    /// There is no mirror of a state file.
     #[error(transparent)]
-    Load(LoadFault),
+    State(StateFault),
     /// Standard input has no entries.
     #[error(transparent)]
     Entries(EntriesFault),
     /// Nothing was reported of a state.
     #[error(transparent)]
     Ask(AskFault),
-    /// A state was not exported.
-    #[error(transparent)]
-    Export(ExportStateFault),
-    /// An item was refused.
-    #[error(transparent)]
-    Take(TakeFault),
-    /// A second mirror was refused.
-    #[error(transparent)]
-    Merge(MergeFault),
     /// Nothing was pulled, or no log was made.
     #[error(transparent)]
     Update(UpdateFault),
@@ -134,11 +126,11 @@ impl From<NewFault> for WorkFault {
     }
 }
 
-impl From<LoadFault> for WorkFault {
-    ghost from_gives = { λ f e. e ≡ work.Load f };
+impl From<StateFault> for WorkFault {
+    ghost from_gives = { λ f e. e ≡ work.State f };
 
-    fn from(fault: LoadFault) -> WorkFault {
-        WorkFault::Load(fault)
+    fn from(fault: StateFault) -> WorkFault {
+        WorkFault::State(fault)
     }
 }
 
@@ -155,30 +147,6 @@ impl From<AskFault> for WorkFault {
 
     fn from(fault: AskFault) -> WorkFault {
         WorkFault::Ask(fault)
-    }
-}
-
-impl From<ExportStateFault> for WorkFault {
-    ghost from_gives = { λ f e. e ≡ work.Export f };
-
-    fn from(fault: ExportStateFault) -> WorkFault {
-        WorkFault::Export(fault)
-    }
-}
-
-impl From<TakeFault> for WorkFault {
-    ghost from_gives = { λ f e. e ≡ work.Take f };
-
-    fn from(fault: TakeFault) -> WorkFault {
-        WorkFault::Take(fault)
-    }
-}
-
-impl From<MergeFault> for WorkFault {
-    ghost from_gives = { λ f e. e ≡ work.Merge f };
-
-    fn from(fault: MergeFault) -> WorkFault {
-        WorkFault::Merge(fault)
     }
 }
 

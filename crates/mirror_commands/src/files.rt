@@ -1,158 +1,140 @@
-//! The files that the words name.
-ghost use Rattle.std.specs.Prelude.{◌≤◌, IfOk, vec_len};
+//! The commands over named files, as the words give them: `take`, `merge`, `export` and `notes`.
+ghost use Rattle.std.specs.Prelude.{◌≤◌, ◌∷◌, None, length, map};
+ghost use Rattle.sha2.specs.Sha256.{sha256};
+ghost use Rattle.file_commands.specs.Exported.{ExportsFile};
+ghost use Rattle.file_commands.specs.Merges.{LeavesMerged};
+ghost use Rattle.file_commands.specs.Notes.{WritesNotes};
+ghost use Rattle.file_commands.specs.Takes.{HasWidth};
+ghost use Rattle.mirror_commands.specs.Named.{AsksItem, TakesWords};
 
-use byte_streams::{StreamFault, read_all};
-use mirror_folders::replace_file;
+use command_line::{Export, Kind, Merge, Take};
+use file_commands::{
+    ExportFileFault, ItemFiles, MergeFilesFault, NamedFault, NamedFiles, NotesFault,
+    TakeFilesFault, run_export, run_merge, run_notes, run_take,
+};
+use mirror_folders::DirShelf;
+use signed_note::Verifier;
 use std::alloc::Global;
-use std::fs::{Files, OpenOptions};
-use std::io::{ErrorKind, Read, Write};
-use std::{fs, io};
-use thiserror::Error;
+use std::fs::Files;
+use tlog_hash::Sha256Tree;
 
-/// How many bytes a named file may have, a state apart: as many as the longest lawful bundle, which is 256 entries
-/// of 65,535 bytes, each after its length of two bytes.
-pub const MOST_BYTES: usize = 16_777_472;
-
-// How often the file of a state is read at most, for at most 65,536 bytes each time.
-const MOST_READS: u64 = 16_777_216;
-
-/// Why a named file was not read, or not written.
-#[derive(Debug, Drop, PartialEq, Eq, Clone, Copy, Error)]
-pub enum NamedFault {
-    /// It cannot be read or written, or has too many bytes.
-    #[error("FileFault")]
-    FileFault,
-    /// Memory was refused.
-    #[error("OutOfMemory")]
-    OutOfMemory,
-}
-
-// What an error of the system is, at a named file.
-fn named_fault(e: &io::Error) -> NamedFault {
-    if e.kind() == ErrorKind::OutOfMemory {
-        NamedFault::OutOfMemory
-    } else {
-        NamedFault::FileFault
-    }
-}
-
-/// The bytes of the file of that name.
+/// Takes the item into the mirror in the state file, or into one that holds nothing, and writes its state.
 ///
 /// # Errors
 ///
-/// `FileFault` where it cannot be opened or read (as a folder cannot), or has more than 16,777,472 bytes, of which no
-/// more than that and one are read. `OutOfMemory` where memory was refused.
-pub(crate) fn read_named<R: Files>(
-    files: &R,
+/// Those of `run_take`.
+pub(crate) fn take_words<F: NamedFiles>(
+    files: &mut F,
     alloc: Global,
-    name: &str,
-) -> Result<Vec<u8>, NamedFault>
-    ensures { IfOk result (λ bytes. vec_len bytes ≤ MOST_BYTES) }
+    take: &Take<'_>,
+    keys: &[Box<dyn Verifier>],
+) -> Result<(), TakeFilesFault>
+    requires least { 1 ≤ take.now.width }
+    requires most { take.now.width ≤ 256 }
+    requires some { 1 ≤ length take.now.files.items }
+    ensures { TakesWords sha256 (map (λ k. key k) keys.now) take.now (F.puts files.old) (F.puts files.new) result }
 {
-    match fs::open(files, name) {
-        Ok(mut file) => read_short(alloc, &mut file),
-        Err(e) => Err(named_fault(&e)),
-    }
-}
-
-// All the bytes of a file that is not too long.
-fn read_short<F: Read>(alloc: Global, file: &mut F) -> Result<Vec<u8>, NamedFault>
-    ensures { IfOk result (λ bytes. vec_len bytes ≤ MOST_BYTES) }
-{
-    match read_all(alloc, file, MOST_BYTES + 1, u64::MAX) {
-        Ok(bytes) => {
-            if bytes.len() > MOST_BYTES {
-                return Err(NamedFault::FileFault);
-            }
-            Ok(bytes)
-        }
-        Err(StreamFault::OutOfMemory) => Err(NamedFault::OutOfMemory),
-        Err(_) => Err(NamedFault::FileFault),
-    }
-}
-
-/// The bytes of the file of a state, of which there may be any number.
-///
-/// # Errors
-///
-/// `FileFault` where it cannot be opened or read (as a folder cannot), or does not end; `OutOfMemory` where memory was
-/// refused.
-pub(crate) fn read_state<R: Files>(
-    files: &R,
-    alloc: Global,
-    name: &str,
-) -> Result<Vec<u8>, NamedFault> {
-    match fs::open(files, name) {
-        Ok(mut file) => read_long(alloc, &mut file),
-        Err(e) => Err(named_fault(&e)),
-    }
-}
-
-// All the bytes of a file that ends.
-fn read_long<F: Read>(alloc: Global, file: &mut F) -> Result<Vec<u8>, NamedFault> {
-    match read_all(alloc, file, usize::MAX, MOST_READS) {
-        Ok(bytes) => Ok(bytes),
-        Err(StreamFault::OutOfMemory) => Err(NamedFault::OutOfMemory),
-        Err(_) => Err(NamedFault::FileFault),
-    }
-}
-
-/// Replaces the file of that name whole, as `replace_file` does. What is there and is no plain file, as a device, is
-/// written to as it is.
-///
-/// # Errors
-///
-/// `FileFault` where it cannot be written (as a folder cannot), `OutOfMemory` where memory was refused. A plain file
-/// is then as it was.
-pub(crate) fn write_named<R: Files>(
-    files: &R,
-    alloc: Global,
-    name: &str,
-    bytes: &[u8],
-) -> Result<(), NamedFault> {
-    let written = if is_special(files, name) {
-        write_in_place(files, name, bytes)
-    } else {
-        replace_file(files, alloc, name, bytes)
+    // The words name a file at least.
+    let Some((first, rest)) = take.files.split_first() else {
+        return Err(TakeFilesFault::Item(NamedFault::FileFault));
     };
-    match written {
-        Ok(()) => Ok(()),
-        Err(e) => Err(named_fault(&e)),
+    let item = item_of(take.kind, take.width, first, rest);
+    run_take::<Sha256Tree, F>(
+        files,
+        alloc,
+        take.made.log.origin,
+        keys,
+        take.state,
+        item,
+        take.made.out,
+    )
+}
+
+// The files of the item: the first of them, and for a head the rows behind it.
+fn item_of<'a>(kind: Kind, width: u32, first: &'a str, rest: &'a [&'a str]) -> ItemFiles<'a>
+    requires least { 1 ≤ width }
+    requires most { width ≤ 256 }
+    ensures within { HasWidth result }
+    ensures item { AsksItem kind width (first.entry.now ∷ map (λ name. name.now) rest.entry.now) result }
+{
+    match kind {
+        Kind::Head => ItemFiles::Head {
+            note: first,
+            rows: rest,
+        },
+        Kind::Tile => ItemFiles::Tile { width, file: first },
+        Kind::Bundle => ItemFiles::Bundle { width, file: first },
     }
 }
 
-// Whether something is there that is no plain file.
-fn is_special<R: Files>(files: &R, name: &str) -> bool {
-    match fs::metadata(files, name) {
-        Ok(about) => !about.is_file(),
-        Err(_) => false,
-    }
-}
-
-fn write_in_place<R: Files>(files: &R, name: &str, bytes: &[u8]) -> io::Result<()> {
-    let mut file = OpenOptions::new().write(true).open(files, name)?;
-    file.write_all(bytes)?;
-    file.flush()
-}
-
-/// Writes a file that is not there yet. One that is there with these bytes is left as it is.
+/// Merges the mirrors in both state files, and writes the state of what comes of it.
 ///
 /// # Errors
 ///
-/// `FileFault` where it cannot be read or written, or has other bytes; `OutOfMemory` where memory was refused.
-pub(crate) fn put_once<R: Files>(
-    files: &R,
+/// Those of `run_merge`.
+pub(crate) fn merge_words<F: NamedFiles>(
+    files: &mut F,
     alloc: Global,
-    name: &str,
-    bytes: &[u8],
-) -> Result<(), NamedFault> {
-    if fs::metadata(files, name).is_err() {
-        return write_named(files, alloc, name, bytes);
-    }
-    let there = read_named(files, alloc, name)?;
-    if there.as_slice() == bytes {
-        Ok(())
-    } else {
-        Err(NamedFault::FileFault)
-    }
+    merge: &Merge<'_>,
+    keys: &[Box<dyn Verifier>],
+) -> Result<(), MergeFilesFault>
+    ensures { LeavesMerged sha256 merge.now.made.log.origin.now (map (λ k. key k) keys.now) (F.puts files.old) merge.now.first.now merge.now.second.now merge.now.made.out.now (F.puts files.new) result }
+{
+    run_merge::<Sha256Tree, F>(
+        files,
+        alloc,
+        merge.made.log.origin,
+        keys,
+        merge.first,
+        merge.second,
+        merge.made.out,
+    )
+}
+
+/// Writes all tiles, then all bundles, then the checkpoint, into the folder.
+///
+/// # Errors
+///
+/// Those of `run_export`.
+pub(crate) fn export_words<R: Files, F: NamedFiles>(
+    rt: &R,
+    files: &F,
+    alloc: Global,
+    export: &Export<'_>,
+    keys: &[Box<dyn Verifier>],
+) -> Result<(), ExportFileFault>
+    ensures { ExportsFile sha256 export.now.held.log.origin.now (map (λ k. key k) keys.now) (F.puts files.now) export.now.held.state.now None None result }
+{
+    let mut shelf = DirShelf::new(rt, alloc, export.folder);
+    run_export::<Sha256Tree, F, DirShelf<'_, R>>(
+        files,
+        alloc,
+        export.held.log.origin,
+        keys,
+        export.held.state,
+        &mut shelf,
+    )
+}
+
+/// Writes the notes into the folder, which is made where it is missing.
+///
+/// # Errors
+///
+/// Those of `run_notes`.
+pub(crate) fn notes_words<F: NamedFiles>(
+    files: &mut F,
+    alloc: Global,
+    notes: &Export<'_>,
+    keys: &[Box<dyn Verifier>],
+) -> Result<(), NotesFault>
+    ensures { WritesNotes sha256 notes.now.held.log.origin.now (map (λ k. key k) keys.now) (F.puts files.old) notes.now.held.state.now notes.now.folder.now (F.puts files.new) result }
+{
+    run_notes::<Sha256Tree, F>(
+        files,
+        alloc,
+        notes.held.log.origin,
+        keys,
+        notes.held.state,
+        notes.folder,
+    )
 }

@@ -3,25 +3,24 @@ ghost use Rattle.std.specs.Prelude.{map, string_bytes};
 ghost use Rattle.mirror_commands.specs.Runs.{FindsKeys};
 
 use crate::fault::RunFault;
-use crate::files::read_named;
 use command_line::key_file;
+use file_commands::NamedFiles;
 use std::alloc::Global;
-use std::fs::Files;
 
 /// The bytes of the key file that the words name; none where the command has no keys.
 ///
 /// # Errors
 ///
 /// `Command` as `key_file` says; `KeyFile` where the file cannot be read.
-pub(crate) fn key_bytes<R: Files>(
-    rt: &R,
+pub(crate) fn key_bytes<F: NamedFiles>(
+    files: &F,
     alloc: Global,
     words: &[String],
 ) -> Result<Vec<u8>, RunFault>
     ensures { FindsKeys (map string_bytes words.now) result }
 {
     match key_file(alloc, words) {
-        Ok(Some(name)) => match read_named(rt, alloc, name) {
+        Ok(Some(name)) => match files.read(name) {
             Ok(bytes) => Ok(bytes),
             Err(fault) => Err(RunFault::KeyFile(fault)),
         },

@@ -4,10 +4,9 @@ ghost use Rattle.std.specs.Io.KnownBytes.{Keeps};
 ghost use Rattle.mirror_commands.specs.Works.{IsStatus, TellsPull};
 
 use crate::fault::{TellFault, WorkFault};
-use crate::files::read_state;
-use crate::state::write_state;
 use byte_streams::write_whole;
 use command_line::{Place, Pull};
+use file_commands::{NamedFiles, write_state};
 use log_sources::Source;
 use mirror_folders::DirSource;
 use mirror_http::{HttpSource, Site, TcpDial};
@@ -30,8 +29,9 @@ use tlog_mirror::Mirror;
 ///
 /// In this order: `BadOrigin`, those of the state file, those of the pull, `FileFault` at the file that is written,
 /// and `WriteFault`.
-pub(crate) fn run_pull<R: Files + Clock + Net<Stream = TcpStream>, W: Write>(
+pub(crate) fn run_pull<R: Files + Clock + Net<Stream = TcpStream>, F: NamedFiles, W: Write>(
     rt: &R,
+    files: &mut F,
     alloc: Global,
     words: &Pull<'_>,
     keys: &[Box<dyn Verifier>],
@@ -42,13 +42,13 @@ pub(crate) fn run_pull<R: Files + Clock + Net<Stream = TcpStream>, W: Write>(
     ensures quiet { IfErr result (λ fault. fault ≢ TellFault.WriteFault → Keeps (W.contents output.old) (W.contents output.new)) }
 {
     let made = &words.made;
-    let (mirror, pulled) = match pulled_from(rt, alloc, words, keys) {
+    let (mirror, pulled) = match pulled_from(rt, files, alloc, words, keys) {
         Ok(done) => done,
         Err(fault) => return Err(TellFault::Work(fault)),
     };
-    match write_state(rt, alloc, made.out, &mirror) {
+    match write_state(files, alloc, made.out, &mirror) {
         Ok(()) => {}
-        Err(fault) => return Err(TellFault::Work(fault)),
+        Err(fault) => return Err(TellFault::Work(WorkFault::Named(fault))),
     }
     let Ok(text) = pulled_text(alloc, &pulled) else {
         return Err(TellFault::Work(WorkFault::OutOfMemory));
@@ -60,8 +60,9 @@ pub(crate) fn run_pull<R: Files + Clock + Net<Stream = TcpStream>, W: Write>(
 }
 
 // The mirror that is begun with, and what the pull into it came to.
-fn pulled_from<R: Files + Clock + Net<Stream = TcpStream>>(
+fn pulled_from<R: Files + Clock + Net<Stream = TcpStream>, F: NamedFiles>(
     rt: &R,
+    files: &F,
     alloc: Global,
     words: &Pull<'_>,
     keys: &[Box<dyn Verifier>],
@@ -70,7 +71,7 @@ fn pulled_from<R: Files + Clock + Net<Stream = TcpStream>>(
     check_origin(alloc, origin)?;
     match words.state {
         Some(name) => {
-            let state = read_state(rt, alloc, name)?;
+            let state = files.read_state(name)?;
             let mut input = state.as_slice();
             from_place(rt, alloc, origin, keys, Some(&mut input), &words.place)
         }

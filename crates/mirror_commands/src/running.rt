@@ -10,6 +10,7 @@ use crate::fault::RunFault;
 use crate::keys::key_bytes;
 use crate::work::run_command;
 use command_line::read_words;
+use file_commands::{NamedFiles, SystemFiles};
 use signed_note::{KeyFileFault, KeyLine, Verifier, read_keys};
 use std::alloc::Global;
 use std::fs::Files;
@@ -38,7 +39,8 @@ where
     ensures status { IfOk result IsStatus }
     ensures quiet { IfErr result (λ fault. (IsWriteFault fault → ⊥) → Keeps (O.contents output.old) (O.contents output.new)) }
 {
-    let bytes = match key_bytes(rt, alloc, words) {
+    let mut files = SystemFiles::new(rt, alloc);
+    let bytes = match key_bytes(&files, alloc, words) {
         Ok(bytes) => bytes,
         Err(fault) => return Err(fault),
     };
@@ -62,7 +64,9 @@ where
             return Err(RunFault::KeyLines(KeyFileFault::OutOfMemory));
         }
     }
-    run_words(rt, alloc, words, &bytes, &keys, input, output, errors)
+    run_words(
+        rt, &mut files, alloc, words, &bytes, &keys, input, output, errors,
+    )
 }
 
 /// Does what the words ask for, with keys in hand: the bytes of the key file, and its keys. Both are empty where the
@@ -72,8 +76,9 @@ where
 ///
 /// `Command` where the words ask for no command; the others are those of the command's own call.
 #[allow(clippy::too_many_arguments)]
-pub fn run_words<R, I: Read, O: Write, E: Write>(
+pub fn run_words<R, F: NamedFiles, I: Read, O: Write, E: Write>(
     rt: &R,
+    files: &mut F,
     alloc: Global,
     words: &[String],
     key_bytes: &[u8],
@@ -84,12 +89,14 @@ pub fn run_words<R, I: Read, O: Write, E: Write>(
 ) -> Result<u8, RunFault>
 where
     R: Files + Clock + Net<Stream = TcpStream, Listener = TcpListener>,
-    ensures answer { Runs sha256 (map (λ k. key k) keys.now) (map string_bytes words.now) (I.remaining input.old) (O.contents output.old) (O.contents output.new) result }
+    ensures answer { Runs sha256 (map (λ k. key k) keys.now) (F.puts files.old) (F.puts files.new) (map string_bytes words.now) (I.remaining input.old) (O.contents output.old) (O.contents output.new) result }
     ensures status { IfOk result IsStatus }
     ensures quiet { IfErr result (λ fault. (IsWriteFault fault → ⊥) → Keeps (O.contents output.old) (O.contents output.new)) }
 {
     match read_words(alloc, words) {
-        Ok(command) => run_command(rt, alloc, &command, key_bytes, keys, input, output, errors),
+        Ok(command) => run_command(
+            rt, files, alloc, &command, key_bytes, keys, input, output, errors,
+        ),
         Err(fault) => Err(RunFault::Command(fault)),
     }
 }

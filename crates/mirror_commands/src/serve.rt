@@ -3,13 +3,12 @@ ghost use Rattle.std.specs.Prelude.{◌≡◌, IfOk, string_bytes};
 ghost use Rattle.mirror_commands.specs.Works.{TellsPort, listening_text};
 
 use crate::fault::{TellFault, WorkFault};
-use crate::state::loaded;
 use byte_streams::{TimedStream, write_whole};
 use command_line::{Held, Serve};
+use file_commands::{NamedFiles, loaded};
 use mirror_server::{HttpFault, answer};
 use signed_note::Verifier;
 use std::alloc::{AllocError, Global};
-use std::fs::Files;
 use std::io::Write;
 use std::net::{Ipv4Addr, Net, TcpListener, TcpStream};
 use std::rt::Clock;
@@ -30,8 +29,9 @@ const ALL_SECONDS: u64 = 70;
 ///
 /// In this order: `BadOrigin`, those of the state file, `PortFault` where the port cannot be had, `WriteFault` where the
 /// line that tells of it cannot be written, and `PortFault` where a connection cannot be accepted.
-pub(crate) fn run_serve<R, O: Write, E: Write>(
+pub(crate) fn run_serve<R, F: NamedFiles, O: Write, E: Write>(
     rt: &R,
+    files: &F,
     alloc: Global,
     serve: &Serve<'_>,
     keys: &[Box<dyn Verifier>],
@@ -39,10 +39,10 @@ pub(crate) fn run_serve<R, O: Write, E: Write>(
     errors: &mut E,
 ) -> Result<(), TellFault>
 where
-    R: Files + Clock + Net<Stream = TcpStream, Listener = TcpListener>,
+    R: Clock + Net<Stream = TcpStream, Listener = TcpListener>,
     ensures line { TellsPort serve.now.port (O.contents output.old) (O.contents output.new) result }
 {
-    let mirror = match settled(rt, alloc, &serve.held, keys) {
+    let mirror = match settled(files, alloc, &serve.held, keys) {
         Ok(mirror) => mirror,
         Err(fault) => return Err(TellFault::Work(fault)),
     };
@@ -63,13 +63,13 @@ where
 }
 
 // The mirror in the state file, which remembers what is complete.
-fn settled<R: Files>(
-    rt: &R,
+fn settled<F: NamedFiles>(
+    files: &F,
     alloc: Global,
     held: &Held<'_>,
     keys: &[Box<dyn Verifier>],
 ) -> Result<Mirror<Sha256Tree>, WorkFault> {
-    let mut mirror = loaded(rt, alloc, held.log.origin, keys, held.state)?;
+    let mut mirror = loaded::<Sha256Tree, F>(files, alloc, held.log.origin, keys, held.state)?;
     mirror.settle(alloc)?;
     Ok(mirror)
 }

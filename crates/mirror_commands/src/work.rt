@@ -7,14 +7,12 @@ ghost use Rattle.mirror_commands.specs.Works.{IsStatus};
 
 use crate::ask::run_ask;
 use crate::build::run_build;
-use crate::export::run_export;
 use crate::fault::RunFault;
-use crate::merge::run_merge;
-use crate::notes::run_notes;
+use crate::files::{export_words, merge_words, notes_words, take_words};
 use crate::pull::run_pull;
 use crate::serve::run_serve;
-use crate::take::run_take;
 use command_line::Command;
+use file_commands::NamedFiles;
 use signed_note::Verifier;
 use state_commands::Question;
 use std::alloc::Global;
@@ -31,8 +29,9 @@ use tlog_hash::Sha256Tree;
 ///
 /// Those of the command's own call, under its name.
 #[allow(clippy::too_many_arguments)]
-pub fn run_command<R, I: Read, O: Write, E: Write>(
+pub fn run_command<R, F: NamedFiles, I: Read, O: Write, E: Write>(
     rt: &R,
+    files: &mut F,
     alloc: Global,
     command: &Command<'_>,
     key_bytes: &[u8],
@@ -44,7 +43,7 @@ pub fn run_command<R, I: Read, O: Write, E: Write>(
 where
     R: Files + Clock + Net<Stream = TcpStream, Listener = TcpListener>,
     requires { IsDoable command.now }
-    ensures answer { Does sha256 (map (λ k. key k) keys.now) command.now (I.remaining input.old) (O.contents output.old) (O.contents output.new) result }
+    ensures answer { Does sha256 (map (λ k. key k) keys.now) (F.puts files.old) (F.puts files.new) command.now (I.remaining input.old) (O.contents output.old) (O.contents output.new) result }
     ensures status { IfOk result IsStatus }
     ensures quiet { IfErr result (λ fault. (IsWriteFault fault → ⊥) → Keeps (O.contents output.old) (O.contents output.new)) }
 {
@@ -64,20 +63,20 @@ where
             Ok(()) => Ok(0),
             Err(fault) => Err(RunFault::Build(fault)),
         },
-        Command::Take(take) => match run_take(rt, alloc, take, keys) {
+        Command::Take(take) => match take_words(files, alloc, take, keys) {
             Ok(()) => Ok(0),
             Err(fault) => Err(RunFault::Take(fault)),
         },
-        Command::Merge(merge) => match run_merge(rt, alloc, merge, keys) {
+        Command::Merge(merge) => match merge_words(files, alloc, merge, keys) {
             Ok(()) => Ok(0),
             Err(fault) => Err(RunFault::Merge(fault)),
         },
-        Command::Pull(pull) => match run_pull(rt, alloc, pull, keys, output) {
+        Command::Pull(pull) => match run_pull(rt, files, alloc, pull, keys, output) {
             Ok(status) => Ok(status),
             Err(fault) => Err(RunFault::Pull(fault)),
         },
         Command::Status(held) => {
-            match run_ask(rt, alloc, held, keys, &Question::Status, output) {
+            match run_ask(files, alloc, held, keys, &Question::Status, output) {
                 Ok(status) => Ok(status),
                 Err(fault) => Err(RunFault::Status(fault)),
             }
@@ -87,31 +86,31 @@ where
                 size: missing.size,
                 root: missing.root,
             };
-            match run_ask(rt, alloc, &missing.held, keys, &question, output) {
+            match run_ask(files, alloc, &missing.held, keys, &question, output) {
                 Ok(status) => Ok(status),
                 Err(fault) => Err(RunFault::Missing(fault)),
             }
         }
-        Command::Forks(held) => match run_ask(rt, alloc, held, keys, &Question::Forks, output) {
+        Command::Forks(held) => match run_ask(files, alloc, held, keys, &Question::Forks, output) {
             Ok(status) => Ok(status),
             Err(fault) => Err(RunFault::Forks(fault)),
         },
         Command::Prove(prove) => {
             let question = Question::Proof(prove.ask);
-            match run_ask(rt, alloc, &prove.held, keys, &question, output) {
+            match run_ask(files, alloc, &prove.held, keys, &question, output) {
                 Ok(status) => Ok(status),
                 Err(fault) => Err(RunFault::Prove(fault)),
             }
         }
-        Command::Export(export) => match run_export(rt, alloc, export, keys) {
+        Command::Export(export) => match export_words(rt, files, alloc, export, keys) {
             Ok(()) => Ok(0),
             Err(fault) => Err(RunFault::Export(fault)),
         },
-        Command::Notes(notes) => match run_notes(rt, alloc, notes, keys) {
+        Command::Notes(notes) => match notes_words(files, alloc, notes, keys) {
             Ok(()) => Ok(0),
             Err(fault) => Err(RunFault::Notes(fault)),
         },
-        Command::Serve(serve) => match run_serve(rt, alloc, serve, keys, output, errors) {
+        Command::Serve(serve) => match run_serve(rt, files, alloc, serve, keys, output, errors) {
             Ok(()) => Ok(0),
             Err(fault) => Err(RunFault::Serve(fault)),
         },
