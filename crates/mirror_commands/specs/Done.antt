@@ -1,4 +1,5 @@
--- What each answer of a command says of the input, and of what was written to standard output.
+-- What each answer of a command says of the input, of named files, and of what was written to
+-- standard output.
 use Rattle.std.specs.Prelude.{◌≡◌, ◌≤◌, ℕ, List, length, Option, None, Result, Ok, Err, Bool, true}
 use Rattle.std.specs.Prelude.{false, IfSome}
 use Rattle.std.specs.Io.KnownBytes.{Keeps}
@@ -125,16 +126,18 @@ served_failed fault = Err fault
 
 module _ (digest : List ℕ → List ℕ) (keys : List Key)
     (told left : Option (List NamedFile)) where
-  -- the four commands that leave named files or a folder, which is not told
+  -- what an answer of `merge` says of the files that its words name
   abbrev pub MergesTwo : MergeWords → Result (Unit {0}) MergeFilesFault → Type 0
   MergesTwo c answer =
       LeavesMerged digest c.made.log.origin.now keys told c.first.now c.second.now c.made.out.now
       left answer
 
+  -- what an answer of `export` says of its state file; its folder is not told
   abbrev pub ExportsOne : FolderWords → Result (Unit {0}) ExportFileFault → Type 0
   ExportsOne c answer =
       ExportsFile digest c.held.log.origin.now keys told c.held.state.now None None answer
 
+  -- what an answer of `notes` says of its state file, and of the files in its folder
   abbrev pub WritesInto : FolderWords → Result (Unit {0}) NotesFault → Type 0
   WritesInto c answer =
       WritesNotes digest c.held.log.origin.now keys told c.held.state.now c.folder.now left answer
