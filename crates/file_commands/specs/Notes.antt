@@ -17,12 +17,14 @@ use Rattle.file_commands.specs.declared.fault.NotesFault.TheVariants.{Note}
 abbrev pub note_place : List ℕ → List ℕ → List ℕ
 note_place folder name = folder ++ (codes "/" ++ name)
 
+-- the file, in a folder
 abbrev pub in_folder : List ℕ → NamedFile → NamedFile
 in_folder folder file = (note_place folder file.0, file.1)
 
 -- ---- files that are told
 
--- a file that stands with these bytes is left, and one that is not there is put; no other is written
+-- a file that stands with these bytes is left, and one that is not there is put; no other is
+-- written
 abbrev pub PutsOnce : NamedFile → List NamedFile → List NamedFile → Type 0
 PutsOnce file old new =
     ((standing old file.0 ≡ Some file.1) × (new ≡ old))

@@ -2,6 +2,7 @@
 use crate::tests::commands::{ENTRIES, fresh};
 use crate::tests::endings::assert_told;
 use crate::tests::runs::{assert_faults, assert_run, assert_runs};
+use file_commands::{ExportFileFault, MergeFilesFault, NotesFault, StateFault, TakeFilesFault};
 use mirror_commands::{RunFault, TellFault, WorkFault};
 use mirror_files::LoadFault;
 use mirror_pull::PullFault;
@@ -150,14 +151,16 @@ fn assert_collision(abort: &impl Abort, alloc: Global, fault: RunFault) {
 #[test]
 fn collisions_of_a_load(rt: HostRuntime) {
     let alloc = rt.alloc();
-    let loaded = || WorkFault::Load(LoadFault::Collision);
-    assert_collision(&rt, alloc, RunFault::Take(loaded()));
-    assert_collision(&rt, alloc, RunFault::Merge(loaded()));
-    assert_collision(&rt, alloc, RunFault::Notes(loaded()));
-    assert_collision(&rt, alloc, RunFault::Serve(TellFault::Work(loaded())));
+    let loaded = StateFault::Load(LoadFault::Collision);
+    assert_collision(&rt, alloc, RunFault::Take(TakeFilesFault::State(loaded)));
+    assert_collision(&rt, alloc, RunFault::Merge(MergeFilesFault::First(loaded)));
+    assert_collision(&rt, alloc, RunFault::Merge(MergeFilesFault::Second(loaded)));
+    assert_collision(&rt, alloc, RunFault::Notes(NotesFault::State(loaded)));
+    let served = TellFault::Work(WorkFault::State(loaded));
+    assert_collision(&rt, alloc, RunFault::Serve(served));
     let updated = WorkFault::Update(UpdateFault::Load(LoadFault::Collision));
     assert_collision(&rt, alloc, RunFault::Pull(TellFault::Work(updated)));
-    let exported = WorkFault::Export(ExportStateFault::Load(LoadFault::Collision));
+    let exported = ExportFileFault::Export(ExportStateFault::Load(LoadFault::Collision));
     assert_collision(&rt, alloc, RunFault::Export(exported));
 }
 
@@ -176,9 +179,9 @@ fn collisions_of_a_question(rt: HostRuntime) {
 #[test]
 fn collisions_of_the_work(rt: HostRuntime) {
     let alloc = rt.alloc();
-    let taken = WorkFault::Take(TakeFault::Collision);
+    let taken = TakeFilesFault::Take(TakeFault::Collision);
     assert_collision(&rt, alloc, RunFault::Take(taken));
-    let merged = WorkFault::Merge(MergeFault::Collision);
+    let merged = MergeFilesFault::Merge(MergeFault::Collision);
     assert_collision(&rt, alloc, RunFault::Merge(merged));
     let pulled = || WorkFault::Update(UpdateFault::Pull(PullFault::Collision));
     assert_collision(&rt, alloc, RunFault::Pull(TellFault::Work(pulled())));
