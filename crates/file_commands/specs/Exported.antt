@@ -13,10 +13,11 @@ use Rattle.file_commands.specs.Named.{ReadsFile, TellsFile}
 use Rattle.file_commands.specs.declared.fault.ExportFileFault.{ExportFileFault}
 use Rattle.file_commands.specs.declared.fault.ExportFileFault.TheVariants.{Origin, File, Export}
 
--- the answers of an export of the state's bytes
+-- the answer of an export of the state's bytes that is done
 abbrev pub state_exported : Result (Unit {0}) ExportStateFault
 state_exported = Ok tt
 
+-- an answer of an export of the state's bytes that failed
 abbrev pub state_failed : ExportStateFault → Result (Unit {0}) ExportStateFault
 state_failed fault = Err fault
 

@@ -43,6 +43,7 @@ pub record HasOther (puts : List NamedFile) (file : NamedFile) : Type 0 where
 
 -- ---- as far as it is told
 
+-- the puts before and after are so, where they are told
 abbrev pub IsTold : (List NamedFile → List NamedFile → Type 0) → Option (List NamedFile) →
     Option (List NamedFile) → Type 0
 IsTold Holds None new = Unit {0}
@@ -95,10 +96,11 @@ abbrev pub PutsNotes : {T : Type 0} → List ℕ → List NamedFile → Option (
 PutsNotes folder notes old new (Ok x) = IsTold (PutsEach (map (in_folder folder) notes)) old new
 PutsNotes folder notes old new (Err fault) = PutsPrefix (map (in_folder folder) notes) old new fault
 
--- the answers of a call that puts the notes
+-- the answer of a call that put the notes
 abbrev pub notes_put : Result (Unit {0}) NamedFault
 notes_put = Ok tt
 
+-- an answer of a call that stopped at a note
 abbrev pub notes_stopped : NamedFault → Result (Unit {0}) NamedFault
 notes_stopped fault = Err fault
 
@@ -116,6 +118,7 @@ module _ (digest : List ℕ → List ℕ) (origin : List ℕ) (keys : List Key)
     pub listed : ListsNoteFiles view notes
     pub puts : PutsNotes folder notes told new answer
 
+  -- what each answer of `notes` says of its state file, and of what it put into the folder
   abbrev pub WritesNotes : {T : Type 0} → Result T NotesFault → Type 0
   WritesNotes (Ok x) = WritesThese notes_put
   WritesNotes (Err (State fault)) =
