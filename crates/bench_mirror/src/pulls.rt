@@ -199,7 +199,10 @@ fn settle_told<R: AllocGlobal + CpuClock + Print + Eprint>(
 }
 
 /// Settles the heads, and answers how much is remembered.
-pub(crate) fn settle<H: TreeHash>(alloc: Global, mirror: &mut Mirror<H>) -> Result<usize, AllocError> {
+pub(crate) fn settle<H: TreeHash>(
+    alloc: Global,
+    mirror: &mut Mirror<H>,
+) -> Result<usize, AllocError> {
     mirror.settle(alloc)?;
     Ok(mirror.remembered())
 }
@@ -233,7 +236,11 @@ fn pull_under<H: TreeHash>(
 }
 
 /// Lets an empty mirror pull the first entries, as many as that, and answers its head's root.
-pub(crate) fn fill(alloc: Global, mirror: &mut Mirror<Sha256Tree>, count: u32) -> anyhow::Result<Hash> {
+pub(crate) fn fill(
+    alloc: Global,
+    mirror: &mut Mirror<Sha256Tree>,
+    count: u32,
+) -> anyhow::Result<Hash> {
     let mut source = source_of(alloc, entries_of(alloc, count)?)?;
     Ok(pull_all(alloc, mirror, &mut source)?.root)
 }

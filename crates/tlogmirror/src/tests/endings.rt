@@ -75,7 +75,13 @@ fn assert_refused(rt: &HostRuntime, abort: &impl Abort, line: &str) -> Result<()
 }
 
 // A run that ends by that fault has that status, and this is all that is said.
-pub(crate) fn assert_told(abort: &impl Abort, alloc: Global, fault: RunFault, status: u8, line: &str) {
+pub(crate) fn assert_told(
+    abort: &impl Abort,
+    alloc: Global,
+    fault: RunFault,
+    status: u8,
+    line: &str,
+) {
     let mut output = Vec::new(alloc);
     let mut errors = Vec::new(alloc);
     let found = carry_out(&told(alloc, Err(fault)), &mut output, &mut errors);

@@ -29,7 +29,11 @@ pub(crate) fn ended<I: Read, O: Write>(
 }
 
 // A run of that line on this input: the status, and what both streams were given.
-pub(crate) fn run_of(rt: &HostRuntime, line: &str, input: &[u8]) -> Result<(u8, Vec<u8>, Vec<u8>), Fail> {
+pub(crate) fn run_of(
+    rt: &HostRuntime,
+    line: &str,
+    input: &[u8],
+) -> Result<(u8, Vec<u8>, Vec<u8>), Fail> {
     let alloc = rt.alloc();
     let words = words_of(alloc, line)?;
     let mut input = input;
