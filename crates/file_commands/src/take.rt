@@ -137,7 +137,7 @@ fn take_tile<H: TreeHash, F: NamedFiles>(
     }
 }
 
-// Takes a bundle, likewise.
+// Takes a bundle, to which keys say nothing.
 fn take_bundle<H: TreeHash, F: NamedFiles>(
     files: &F,
     alloc: Global,
