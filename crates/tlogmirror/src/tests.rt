@@ -1,19 +1,15 @@
-//! Whole runs of the program, over memory and folders, and over streams that fail.
+//! Commands over streams that are slow, cut or fail, and how a run ends. The whole runs of the program are transcripts (`tests/` at the
+//! top of the repository), which `scripts/program-runs` compares with what the built program does.
 ghost use Rattle.std.specs.Prelude.{◌≤◌};
 
 mod broken;
-mod commands;
+mod collisions;
 mod endings;
-mod faults;
-mod heads;
-mod lines;
 mod reading;
 mod runs;
 mod serving;
-mod states;
 mod streams;
 
-use crate::tests::runs::assert_run;
 use crate::tests::streams::{ByteByByte, FailingReader, FailingWriter};
 use std::alloc::Global;
 use std::io::{Read, Write};
@@ -22,30 +18,8 @@ use std::test::Fail;
 use stream_commands::{CheckFault, RootFault, run_check, run_root};
 use tlog_hash::Sha256Tree;
 
-#[test]
-fn root_empty(rt: HostRuntime) -> Result<(), Fail> {
-    let text = "size 0\nroot 47DEQpj8HBSa+/TImW+5JCeuQeRkm5NMpJWZG3hSuFU=\n";
-    assert_run(&rt, &rt, "root --width 0", &[], 0, text, "")
-}
-
 // What is told of one entry of no bytes.
 const ROOT_1: &str = "size 1\nroot bjQLnP+zepicpUTmu3gKLHiQHT+zNzh2hRGjBhevoB0=\n";
-
-#[test]
-fn root_one_entry(rt: HostRuntime) -> Result<(), Fail> {
-    assert_run(&rt, &rt, "root --width 1", &[0, 0], 0, ROOT_1, "")
-}
-
-// The first two and three of the entries (no bytes), `00` and `10`.
-#[test]
-fn root_e3(rt: HostRuntime) -> Result<(), Fail> {
-    let two = "size 2\nroot +sVCA+fMaWzw38tCySodnbr3CtnmIfS9jZhmLwDjwSU=\n";
-    let input = &[0, 0, 0, 1, 0];
-    assert_run(&rt, &rt, "root --width 2", input, 0, two, "")?;
-    let three = "size 3\nroot rra8/idLcKFPsGel5VeCZNsPqbUa9eC6FZFY8yngbnc=\n";
-    let input = &[0, 0, 0, 1, 0, 0, 1, 0x10];
-    assert_run(&rt, &rt, "root --width 3", input, 0, three, "")
-}
 
 // The answer of `root`. What `run_root` ensures is of no use to a test, and dear to check wherever it is known.
 fn root_of<I: Read, O: Write>(
@@ -115,18 +89,8 @@ fn failing_writer(rt: HostRuntime) {
 }
 
 // The inclusion of the third of the entries (no bytes), `00` and `10`.
-pub const INCLUSION: &str =
+const INCLUSION: &str =
     "inclusion\nsize 3\nindex 2\nroot rra8/idLcKFPsGel5VeCZNsPqbUa9eC6FZFY8yngbnc=\nleaf ApjRIpBtz8EIkstTpzmS/FufST6kybrbJ7eRtBJ6f+c=\npath +sVCA+fMaWzw38tCySodnbr3CtnmIfS9jZhmLwDjwSU=\n";
-
-// That proof, said of the second of the entries.
-pub const OTHER_INDEX: &str =
-    "inclusion\nsize 3\nindex 1\nroot rra8/idLcKFPsGel5VeCZNsPqbUa9eC6FZFY8yngbnc=\nleaf ApjRIpBtz8EIkstTpzmS/FufST6kybrbJ7eRtBJ6f+c=\npath +sVCA+fMaWzw38tCySodnbr3CtnmIfS9jZhmLwDjwSU=\n";
-
-#[test]
-fn check_text(rt: HostRuntime) -> Result<(), Fail> {
-    assert_run(&rt, &rt, "check", INCLUSION.as_bytes(), 0, "yes\n", "")?;
-    assert_run(&rt, &rt, "check", OTHER_INDEX.as_bytes(), 3, "no\n", "")
-}
 
 // The answer of `check`, of which the same holds.
 fn verdict_of<I: Read, O: Write>(

@@ -1,34 +1,53 @@
-//! Commands over an input that cannot be read, and an output that cannot be written.
-use crate::tests::commands::{ENTRIES, STATE, fresh};
-use crate::tests::runs::{assert_run, ended, words_of};
+//! Commands over an input that fails, and over an output that takes some bytes and then fails.
+use crate::tests::runs::run_over;
 use crate::tests::streams::{FailingReader, FailingWriter};
-use std::fs;
+use std::fs::Files;
+use std::io::ErrorKind;
 use std::process::Abort;
 use std::test::Fail;
+use std::{fs, io};
 
-// A run of that line over an output that takes so many bytes: the status, how many were taken, and what was told.
-fn cut_run(rt: &HostRuntime, line: &str, room: usize) -> Result<(u8, usize, Vec<u8>), Fail> {
-    let alloc = rt.alloc();
-    let words = words_of(alloc, line)?;
+// The entries (no bytes), `00` and `10`, each after its length.
+const ENTRIES: &[u8] = &[0, 0, 0, 1, 0, 0, 1, 0x10];
+
+// A folder of that path, with nothing in it but a file of keys: the key `ex`, id 1, secret 00.
+fn fresh<R: Files + Alloc>(rt: &R, folder: &str, keys: &str) -> io::Result<()> {
+    match fs::remove_dir_all(rt, folder) {
+        Ok(()) => {}
+        Err(e) => {
+            if e.kind() != ErrorKind::NotFound {
+                return Err(e);
+            }
+        }
+    }
+    fs::create_dir(rt, folder)?;
+    fs::write(rt, keys, "hmac ex 00000001 00\n")
+}
+
+// The run of that line on these bytes is done, and nothing is said of a fault.
+fn assert_done(rt: &HostRuntime, abort: &impl Abort, line: &str, input: &[u8]) -> Result<(), Fail> {
+    let mut input = input;
+    let mut output = Vec::new(rt.alloc());
+    let (status, errors) = run_over(rt, line, &mut input, &mut output)?;
+    assert_eq!(abort; str::from_utf8(&errors)?, "", "{line}");
+    assert_eq!(abort; status, 0, "{line}");
+    Ok(())
+}
+
+// The run of that line, over an output that takes so many bytes, ends with a `WriteFault`.
+fn assert_cut(rt: &HostRuntime, abort: &impl Abort, line: &str, room: usize) -> Result<(), Fail> {
     let mut input: &[u8] = b"";
     let mut output = FailingWriter {
         room,
-        taken: Vec::new(alloc),
+        taken: Vec::new(rt.alloc()),
     };
-    let mut errors = Vec::new(alloc);
-    let status = ended(rt, &words, &mut input, &mut output, &mut errors);
-    Ok((status, output.taken.len(), errors))
-}
-
-// Such a run ends with a `WriteFault`.
-fn assert_cut(rt: &HostRuntime, abort: &impl Abort, line: &str, room: usize) -> Result<(), Fail> {
-    let (status, taken, errors) = cut_run(rt, line, room)?;
+    let (status, errors) = run_over(rt, line, &mut input, &mut output)?;
     assert_eq!(abort;
         str::from_utf8(&errors)?,
         "tlogmirror: WriteFault\n",
         "{line}"
     );
-    assert_eq!(abort; taken, room, "{line}");
+    assert_eq!(abort; output.taken.len(), room, "{line}");
     assert_eq!(abort; status, 1, "{line}");
     Ok(())
 }
@@ -44,7 +63,10 @@ prove --origin ex --keys cut-output/keys --state cut-output/state consistency 2 
 #[test]
 fn outputs_that_are_cut(rt: HostRuntime) -> Result<(), Fail> {
     fresh(&rt, "cut-output", "cut-output/keys")?;
-    fs::write(&rt, "cut-output/state", STATE)?;
+    let build = "build --origin ex --keys cut-output/keys --dir cut-output/log";
+    assert_done(&rt, &rt, build, ENTRIES)?;
+    let pull = "pull --origin ex --keys cut-output/keys --out cut-output/state dir cut-output/log";
+    assert_done(&rt, &rt, pull, b"")?;
     for line in PRINTING.lines() {
         assert_cut(&rt, &rt, line, 0)?;
         assert_cut(&rt, &rt, line, 7)?;
@@ -52,37 +74,14 @@ fn outputs_that_are_cut(rt: HostRuntime) -> Result<(), Fail> {
     Ok(())
 }
 
-// What a pull has made is written before it is told.
-#[test]
-fn a_pull_that_is_not_told(rt: HostRuntime) -> Result<(), Fail> {
-    fresh(&rt, "untold", "untold/keys")?;
-    let build = "build --origin ex --keys untold/keys --dir untold/log";
-    assert_run(&rt, &rt, build, ENTRIES, 0, "", "")?;
-    let pull = "pull --origin ex --keys untold/keys --out untold/state dir untold/log";
-    assert_cut(&rt, &rt, pull, 0)?;
-    assert_eq!(&rt; fs::read(&rt, "untold/state")?.as_slice(), STATE);
-    Ok(())
-}
-
-// A run of that line over an input that fails behind the three entries: the status, and what both streams were given.
-fn unread_run(rt: &HostRuntime, line: &str) -> Result<(u8, Vec<u8>, Vec<u8>), Fail> {
-    let alloc = rt.alloc();
-    let words = words_of(alloc, line)?;
-    let mut input = FailingReader(ENTRIES);
-    let mut output = Vec::new(alloc);
-    let mut errors = Vec::new(alloc);
-    let status = ended(rt, &words, &mut input, &mut output, &mut errors);
-    Ok((status, output, errors))
-}
-
 // Nothing is built of an input that fails, though whole entries came before.
 #[test]
 fn a_build_that_is_not_read(rt: HostRuntime) -> Result<(), Fail> {
     fresh(&rt, "unread", "unread/keys")?;
-    let (status, output, errors) = unread_run(
-        &rt,
-        "build --origin ex --keys unread/keys --dir unread/log",
-    )?;
+    let mut input = FailingReader(ENTRIES);
+    let mut output = Vec::new(rt.alloc());
+    let build = "build --origin ex --keys unread/keys --dir unread/log";
+    let (status, errors) = run_over(&rt, build, &mut input, &mut output)?;
     assert_eq!(&rt; str::from_utf8(&errors)?, "tlogmirror: ReadFault\n");
     assert_eq!(&rt; output.len(), 0);
     assert_eq!(&rt; status, 1);

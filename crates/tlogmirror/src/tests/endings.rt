@@ -1,78 +1,11 @@
 //! How the program ends: its status, and what it says on which stream.
-use crate::tests::runs::{assert_run, assert_runs, run_of};
 use crate::tests::streams::FailingWriter;
-use crate::tests::{INCLUSION, OTHER_INDEX};
 use command_line::CommandFault;
 use mirror_commands::{RunFault, carry_out, told};
 use std::alloc::Global;
 use std::process::Abort;
 use std::test::Fail;
 use stream_commands::{CheckFault, RootFault};
-
-#[test]
-fn whole_runs(rt: HostRuntime) -> Result<(), Fail> {
-    assert_runs(
-        &rt,
-        &rt,
-        b"",
-        "\
-$ 0 root --width 0
-size 0
-root 47DEQpj8HBSa+/TImW+5JCeuQeRkm5NMpJWZG3hSuFU=
-$ 1 root --width 1
-tlogmirror: BundleShort
-$ 2 root --width 257
-tlogmirror: BadArgument
-$ 0 --version
-tlogmirror 0.1.0
-",
-    )?;
-    assert_run(
-        &rt,
-        &rt,
-        "root --width 0",
-        b"x",
-        1,
-        "",
-        "tlogmirror: BundleLong\n",
-    )
-}
-
-#[test]
-fn whole_checks(rt: HostRuntime) -> Result<(), Fail> {
-    assert_run(
-        &rt,
-        &rt,
-        "check",
-        b"inclusion\n",
-        1,
-        "",
-        "tlogmirror: BadProofText\n",
-    )?;
-    assert_run(&rt, &rt, "check", INCLUSION.as_bytes(), 0, "yes\n", "")?;
-    assert_run(&rt, &rt, "check", OTHER_INDEX.as_bytes(), 3, "no\n", "")
-}
-
-#[test]
-fn texts_of_the_command_line(rt: HostRuntime) -> Result<(), Fail> {
-    let (status, output, errors) = run_of(&rt, "root --help", &[])?;
-    assert_eq!(rt; status, 0);
-    assert!(rt; str::from_utf8(&output)?.contains("Usage: tlogmirror root --width <W>"));
-    assert_eq!(rt; errors.len(), 0);
-    for line in ["", "roots", "root", "root --width"] {
-        assert_refused(&rt, &rt, line)?;
-    }
-    Ok(())
-}
-
-// The line is refused by `clap`.
-fn assert_refused(rt: &HostRuntime, abort: &impl Abort, line: &str) -> Result<(), Fail> {
-    let (status, output, errors) = run_of(rt, line, &[])?;
-    assert_eq!(abort; status, 2, "{line}");
-    assert_eq!(abort; output.len(), 0, "{line}");
-    assert!(abort; str::from_utf8(&errors)?.starts_with("error: "), "{line}");
-    Ok(())
-}
 
 // A run that ends by that fault has that status, and this is all that is said.
 pub(crate) fn assert_told(

@@ -1,6 +1,4 @@
-//! Connections over loopback.
-use crate::tests::commands::{ENTRIES, fresh};
-use crate::tests::runs::assert_run;
+//! A connection over loopback.
 use mirror_commands::answer_one;
 use std::alloc::Global;
 use std::io::{Read, Write};
@@ -8,26 +6,6 @@ use std::net::{Ipv4Addr, TcpListener, TcpStream};
 use std::rt::Clock;
 use std::test::Fail;
 use tlog_mirror::Mirror;
-
-#[test]
-fn ports(rt: HostRuntime) -> Result<(), Fail> {
-    fresh(&rt, "ports", "ports/keys")?;
-    let build = "build --origin ex --keys ports/keys --dir ports/log";
-    assert_run(&rt, &rt, build, ENTRIES, 0, "", "")?;
-    let take =
-        "take --origin ex --keys ports/keys --out ports/state bundle ports/log/tile/entries/000.p/3 --width 3";
-    assert_run(&rt, &rt, take, b"", 0, "", "")?;
-    // A port that the system chose, held by another.
-    let listener = TcpListener::bind(&rt, (Ipv4Addr::LOCALHOST, 0))?;
-    let port = listener.local_addr()?.port();
-    let line = format!(in rt.alloc();
-        "serve --origin ex --keys ports/keys --state ports/state --port {port} --requests 0"
-    )?;
-    assert_run(&rt, &rt, &line, b"", 1, "", "tlogmirror: PortFault\n")?;
-    drop(listener);
-    let listening = format!(in rt.alloc(); "listening 127.0.0.1:{port}\n")?;
-    assert_run(&rt, &rt, &line, b"", 0, &listening, "")
-}
 
 // A client that has connected to the listener and sent its request.
 fn client_of(rt: &HostRuntime, listener: &TcpListener) -> Result<TcpStream, Fail> {
