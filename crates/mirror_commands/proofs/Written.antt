@@ -1,7 +1,7 @@
 -- What was written, whether or not the writer took all.
-use Rattle.std.proofs.Common.{ℕ, List, length, Option, Result, Ok, Err, sym, subst, arith}
+use Rattle.std.proofs.Common.{ℕ, List, length, Option, Some, None, Result, Ok, Err, refl, sym, subst, arith}
 use Rattle.std.specs.Prelude.{OnOk, OnErr}
-use Rattle.std.specs.Io.KnownBytes.{Appends}
+use Rattle.std.specs.Io.KnownBytes.{Appends, Keeps}
 use Rattle.std.proofs.lemmas.List.{take_all}
 use Rattle.byte_streams.specs.Streams.{AppendsPrefix}
 
@@ -14,3 +14,7 @@ front_written (Err e) old new bytes ok err = err
 pub front_of_whole : (old new : Option (List ℕ)) (bytes : List ℕ) → Appends old new bytes → AppendsPrefix old new bytes
 front_of_whole old new bytes h =
     (length bytes, subst (Appends old new) (sym (take_all (length bytes) bytes (omega arith))) h)
+
+pub keeps_itself : (now : Option (List ℕ)) → Keeps now now
+keeps_itself None = tt
+keeps_itself (Some bytes) = refl

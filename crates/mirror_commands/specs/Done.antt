@@ -1,13 +1,14 @@
 -- What each answer of a command says of the input, of named files, and of what was written to
 -- standard output.
 use Rattle.std.specs.Prelude.{◌≡◌, ◌≤◌, ℕ, List, length, Option, None, Result, Ok, Err, Bool, true}
-use Rattle.std.specs.Prelude.{false, IfSome}
+use Rattle.std.specs.Prelude.{false, IfSome, option_map}
 use Rattle.std.specs.Io.KnownBytes.{Keeps}
 use Rattle.signed_note.specs.Keys.{Key}
 use Rattle.command_line.specs.declared.command.Command.{Command as Order}
 use Rattle.command_line.specs.declared.command.Command.TheVariants as order
 use Rattle.command_line.specs.declared.command.Merge.{Merge as MergeWords}
 use Rattle.command_line.specs.declared.command.Export.{Export as FolderWords}
+use Rattle.command_line.specs.declared.command.Pull.{Pull as PullWords}
 use Rattle.state_commands.specs.NoteFiles.{NamedFile}
 use Rattle.state_commands.specs.declared.question.Question.TheVariants as question
 use Rattle.file_commands.specs.Exported.{ExportsFile}
@@ -31,7 +32,16 @@ use Rattle.mirror_commands.specs.declared.fault.TellFault.TheVariants as tell
 use Rattle.stream_commands.specs.Root.{AnswersRoot}
 use Rattle.stream_commands.specs.Check.{AnswersCheck}
 use Rattle.mirror_commands.specs.Named.{TakesWords}
-use Rattle.mirror_commands.specs.Works.{AsksState, BuildsFrom, IsWriting, TellsPort, TellsPull}
+use Rattle.mirror_commands.specs.Pulls.{TellsPull}
+use Rattle.mirror_commands.specs.Works.{AsksState, BuildsFrom, IsWriting, TellsPort}
+
+-- the files that a command reads alone are left as they are; what the others leave is said by `Does`
+abbrev pub LeavesFiles : Order → Option (List NamedFile) → Option (List NamedFile) → Type 0
+LeavesFiles (order.Take c) told left = Unit {0}
+LeavesFiles (order.Merge c) told left = Unit {0}
+LeavesFiles (order.Pull c) told left = Unit {0}
+LeavesFiles (order.Notes c) told left = Unit {0}
+LeavesFiles other told left = left ≡ told
 
 -- the exit status of a verdict: 3 for a no
 abbrev pub verdict_status : Bool → ℕ
@@ -142,6 +152,12 @@ module _ (digest : List ℕ → List ℕ) (keys : List Key)
   WritesInto c answer =
       WritesNotes digest c.held.log.origin.now keys told c.held.state.now c.folder.now left answer
 
+  -- what an answer of `pull` says of the files that its words name, and of what was written
+  abbrev pub PullsWords : PullWords → Option (List ℕ) → Option (List ℕ) → Result ℕ TellFault → Type 0
+  PullsWords c old new answer =
+      TellsPull digest c.made.log.origin.now keys (option_map (λ name. name.now) c.state)
+      c.made.out.now told left old new answer
+
   -- what each answer of a command says of the input and of named files, where they are known, and
   -- of what was written
   abbrev pub Does : Order → Option (List ℕ) → Option (List ℕ) → Option (List ℕ) →
@@ -167,8 +183,8 @@ module _ (digest : List ℕ → List ℕ) (keys : List Key)
       MergesTwo c merge_done × Keeps old new × (status ≡ 0)
   Does (order.Merge c) input old new (Err (Merge fault)) =
       MergesTwo c (merge_failed fault) × Keeps old new
-  Does (order.Pull c) input old new (Ok status) = TellsPull old new (told_status status)
-  Does (order.Pull c) input old new (Err (Pull fault)) = TellsPull old new (told_fault fault)
+  Does (order.Pull c) input old new (Ok status) = PullsWords c old new (told_status status)
+  Does (order.Pull c) input old new (Err (Pull fault)) = PullsWords c old new (told_fault fault)
   Does (order.Status c) input old new (Ok status) =
       AsksState digest keys told c.state.now c.log.origin.now question.Status old new
       (asked_status status)

@@ -1,4 +1,5 @@
 pub mod Works
+pub mod Pulls
 pub mod Done
 pub mod Runs
 pub mod Endings

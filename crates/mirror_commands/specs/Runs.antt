@@ -10,7 +10,7 @@ use Rattle.command_line.specs.Commands.{Asks}
 use Rattle.command_line.specs.Readings.{HasKeys, Reads}
 use Rattle.mirror_commands.specs.declared.fault.RunFault.{RunFault}
 use Rattle.mirror_commands.specs.declared.fault.RunFault.TheVariants.{Command, KeyFile, KeyLines}
-use Rattle.mirror_commands.specs.Done.{Does}
+use Rattle.mirror_commands.specs.Done.{Does, LeavesFiles}
 
 module _ (digest : List ℕ → List ℕ) (keys : List Key) (told left : Option (List NamedFile)) where
   -- the words ask for a command, and this is its answer
@@ -19,14 +19,16 @@ module _ (digest : List ℕ → List ℕ) (keys : List Key) (told left : Option 
     pub command : Order
     pub asked : Asks words command
     pub done : Does digest keys told left command input old new answer
+    pub files : LeavesFiles command told left
 
-  -- the words ask for no command: this is the answer, and nothing was written
+  -- the words ask for no command: this is the answer, and nothing was written, nor any file changed
   pub record Refuses (words : List (List ℕ)) (old new : Option (List ℕ))
       (answer : Result ℕ RunFault) : Type 0 where
     pub fault : CommandFault
     pub answer_is : answer ≡ Err (Command fault)
     pub reads : Reads words (Err fault)
     pub quiet : Keeps old new
+    pub files : left ≡ told
 
   -- what the answer of a run says of the words, of the input, and of what was written
   abbrev pub Runs : List (List ℕ) → Option (List ℕ) → Option (List ℕ) → Option (List ℕ) →

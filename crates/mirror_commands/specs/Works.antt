@@ -1,12 +1,10 @@
 -- What each answer of a command over files says of what was written to standard output.
 use Rattle.std.specs.Prelude.{◌≡◌, ◌⊎◌, ℕ, List, ◌++◌, Option, Result, Ok, Err, codes}
 use Rattle.std.specs.Fmt.{decimal}
-use Rattle.std.specs.Io.KnownBytes.{Appends, Keeps}
+use Rattle.std.specs.Io.KnownBytes.{Appends}
 use Rattle.byte_streams.specs.Streams.{AppendsPrefix}
 use Rattle.signed_note.specs.Keys.{Key}
 use Rattle.mirror_model.specs.Origin.{IsOrigin}
-use Rattle.mirror_pull.specs.declared.pulling.Pulled.{Pulled}
-use Rattle.mirror_updates.specs.Pulling.{IsPulledStatus, pulled_lines}
 use Rattle.tlog_mirror.specs.declared.fault.NewFault.TheVariants as made
 use Rattle.state_commands.specs.NoteFiles.{NamedFile}
 use Rattle.state_commands.specs.Questions.{AnswersQuestion}
@@ -19,7 +17,6 @@ use Rattle.stream_commands.specs.declared.entries.EntriesFault.{EntriesFault}
 use Rattle.mirror_commands.specs.declared.fault.WorkFault.{WorkFault}
 use Rattle.mirror_commands.specs.declared.fault.WorkFault.TheVariants.{Named, Origin, Ask, Entries}
 use Rattle.mirror_commands.specs.declared.fault.TellFault.{TellFault}
-use Rattle.mirror_commands.specs.declared.fault.TellFault.TheVariants.{Work, WriteFault}
 
 -- the exit status is one of a command that was done: 0, or 3 for a no
 abbrev pub IsStatus : ℕ → Type 0
@@ -48,14 +45,7 @@ module _
   AsksState (Err (Named fault)) = ReadsFile told name (Err fault)
   AsksState (Err other) = ⊥
 
--- ---- pull, serve
-
--- the two lines of a pull were written, after its state
-abbrev pub TellsPull : Option (List ℕ) → Option (List ℕ) → Result ℕ TellFault → Type 0
-TellsPull old new (Ok status) =
-    (pulled : Pulled) × Appends old new (pulled_lines pulled) × IsPulledStatus pulled status
-TellsPull old new (Err WriteFault) = (pulled : Pulled) × AppendsPrefix old new (pulled_lines pulled)
-TellsPull old new (Err (Work fault)) = Keeps old new
+-- ---- serve
 
 -- the line that tells where connections are accepted
 abbrev pub listening_text : ℕ → List ℕ

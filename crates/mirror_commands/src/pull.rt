@@ -1,7 +1,9 @@
 //! The command `pull`: what is missing is fetched.
-ghost use Rattle.std.specs.Prelude.{◌≢◌, IfErr, IfOk};
+ghost use Rattle.std.specs.Prelude.{◌≢◌, IfErr, IfOk, Some, map, option_map};
 ghost use Rattle.std.specs.Io.KnownBytes.{Keeps};
-ghost use Rattle.mirror_commands.specs.Works.{IsStatus, TellsPull};
+ghost use Rattle.sha2.specs.Sha256.{sha256};
+ghost use Rattle.mirror_commands.specs.Pulls.{PullsFromFile, PullsFromState, TellsPull};
+ghost use Rattle.mirror_commands.specs.Works.{IsStatus};
 
 use crate::fault::{TellFault, WorkFault};
 use byte_streams::write_whole;
@@ -37,7 +39,7 @@ pub(crate) fn run_pull<R: Files + Clock + Net<Stream = TcpStream>, F: NamedFiles
     keys: &[Box<dyn Verifier>],
     output: &mut W,
 ) -> Result<u8, TellFault>
-    ensures answer { TellsPull (W.contents output.old) (W.contents output.new) result }
+    ensures answer { TellsPull sha256 words.now.made.log.origin.now (map (λ k. key k) keys.now) (option_map (λ name. name.now) words.now.state) words.now.made.out.now (F.puts files.old) (F.puts files.new) (W.contents output.old) (W.contents output.new) result }
     ensures status { IfOk result IsStatus }
     ensures quiet { IfErr result (λ fault. fault ≢ TellFault.WriteFault → Keeps (W.contents output.old) (W.contents output.new)) }
 {
@@ -66,7 +68,9 @@ fn pulled_from<R: Files + Clock + Net<Stream = TcpStream>, F: NamedFiles>(
     alloc: Global,
     words: &Pull<'_>,
     keys: &[Box<dyn Verifier>],
-) -> Result<(Mirror<Sha256Tree>, Pulled), WorkFault> {
+) -> Result<(Mirror<Sha256Tree>, Pulled), WorkFault>
+    ensures { IfOk result (λ x. PullsFromFile sha256 words.now.made.log.origin.now (map (λ k. key k) keys.now) (F.puts files.now) (option_map (λ name. name.now) words.now.state) x.0.view x.1) }
+{
     let origin = words.made.log.origin;
     check_origin(alloc, origin)?;
     match words.state {
@@ -87,7 +91,9 @@ fn from_place<'a, R: Files + Clock + Net<Stream = TcpStream>>(
     keys: &[Box<dyn Verifier>],
     state: Option<&mut &[u8]>,
     place: &'a Place<'a>,
-) -> Result<(Mirror<Sha256Tree>, Pulled), WorkFault> {
+) -> Result<(Mirror<Sha256Tree>, Pulled), WorkFault>
+    ensures { IfOk result (λ x. PullsFromState sha256 origin.now (map (λ k. key k) keys.now) (option_map (λ r. r.now.now) state.entry) x.0.view x.1) }
+{
     match place {
         Place::Folder(folder) => {
             let mut source = DirSource::new(rt, alloc, folder);
@@ -119,7 +125,9 @@ fn from_server<N: Net<Stream = TcpStream> + Clock + Clone + Drop>(
     net: N,
     host: &str,
     port: u16,
-) -> Result<(Mirror<Sha256Tree>, Pulled), WorkFault> {
+) -> Result<(Mirror<Sha256Tree>, Pulled), WorkFault>
+    ensures { IfOk result (λ x. PullsFromState sha256 origin.now (map (λ k. key k) keys.now) (option_map (λ r. r.now.now) state.entry) x.0.view x.1) }
+{
     let dial = TcpDial::new(alloc, net, host, port)?;
     let mut source = HttpSource::new(alloc, site, dial);
     from_source(alloc, origin, keys, state, &mut source)
@@ -132,6 +140,8 @@ fn from_source<S: Source>(
     keys: &[Box<dyn Verifier>],
     state: Option<&mut &[u8]>,
     source: &mut S,
-) -> Result<(Mirror<Sha256Tree>, Pulled), WorkFault> {
+) -> Result<(Mirror<Sha256Tree>, Pulled), WorkFault>
+    ensures { IfOk result (λ x. PullsFromState sha256 origin.now (map (λ k. key k) keys.now) (option_map (λ r. r.now.now) state.entry) x.0.view x.1) }
+{
     Ok(pull_into::<Sha256Tree, &[u8], S>(alloc, origin, keys, state, source)?)
 }

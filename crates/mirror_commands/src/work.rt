@@ -2,7 +2,7 @@
 ghost use Rattle.std.specs.Prelude.{IfErr, IfOk, map};
 ghost use Rattle.std.specs.Io.KnownBytes.{Keeps};
 ghost use Rattle.sha2.specs.Sha256.{sha256};
-ghost use Rattle.mirror_commands.specs.Done.{Does, IsDoable, IsWriteFault};
+ghost use Rattle.mirror_commands.specs.Done.{Does, IsDoable, IsWriteFault, LeavesFiles};
 ghost use Rattle.mirror_commands.specs.Works.{IsStatus};
 
 use crate::ask::run_ask;
@@ -44,6 +44,7 @@ where
     R: Files + Clock + Net<Stream = TcpStream, Listener = TcpListener>,
     requires { IsDoable command.now }
     ensures answer { Does sha256 (map (λ k. key k) keys.now) (F.puts files.old) (F.puts files.new) command.now (I.remaining input.old) (O.contents output.old) (O.contents output.new) result }
+    ensures files { LeavesFiles command.now (F.puts files.old) (F.puts files.new) }
     ensures status { IfOk result IsStatus }
     ensures quiet { IfErr result (λ fault. (IsWriteFault fault → ⊥) → Keeps (O.contents output.old) (O.contents output.new)) }
 {
