@@ -1,12 +1,13 @@
 //! The texts of proofs (`tlog_proof`), and proofs as they are asked for.
 
+ghost use Rattle.std.specs.Prelude.{IfOk};
+ghost use Rattle.tlog_proof.specs.Text.{IsWritableProof};
+
 use crate::given::{LEAF_OF_NO_BYTES, ROOT_OF_THREE, ROOT_OF_TWO};
 use std::alloc::{AllocError, Global};
 use std::test::Fail;
 use tlog_hash::Sha256Tree;
-use tlog_proof::{
-    Ask, Listed, Proof, ProofFault, Ranges, TextFault, holds, prove, read_text, write_text,
-};
+use tlog_proof::{Ask, Listed, Proof, ProofFault, TextFault, holds, prove, read_text, write_text};
 
 // The proof that the third of three entries is in their tree, as text.
 const THIRD: &str =
@@ -16,12 +17,16 @@ const THIRD: &str =
 const TWO_OF_THREE: &str =
     "consistency\nfirst 2\nroot +sVCA+fMaWzw38tCySodnbr3CtnmIfS9jZhmLwDjwSU=\nsecond 3\nroot rra8/idLcKFPsGel5VeCZNsPqbUa9eC6FZFY8yngbnc=\npath ApjRIpBtz8EIkstTpzmS/FufST6kybrbJ7eRtBJ6f+c=\n";
 
-// The calls on proofs: the tests need no clause of them.
-fn proof_of(alloc: Global, text: &str) -> Result<Proof, TextFault> {
+// The calls on proofs: the tests need no more clauses of them.
+fn proof_of(alloc: Global, text: &str) -> Result<Proof, TextFault>
+    ensures { IfOk result IsWritableProof }
+{
     read_text(alloc, text)
 }
 
-fn text_of(alloc: Global, proof: &Proof) -> Result<String, AllocError> {
+fn text_of(alloc: Global, proof: &Proof) -> Result<String, AllocError>
+    requires { IsWritableProof proof.now }
+{
     write_text(alloc, proof)
 }
 
@@ -29,8 +34,12 @@ fn is_held(proof: &Proof) -> bool {
     holds::<Sha256Tree>(proof)
 }
 
-fn proved<R: Ranges>(alloc: Global, ranges: &R, ask: Ask) -> Result<Proof, ProofFault> {
-    prove(alloc, ranges, ask)
+// What is asked for, of the list of no bytes, `00` and `10`.
+fn proved(alloc: Global, ask: Ask) -> Result<Proof, ProofFault>
+    ensures { IfOk result IsWritableProof }
+{
+    let e3 = Listed::<Sha256Tree>::new(&[b"", b"\x00", b"\x10"]);
+    prove(alloc, &e3, ask)
 }
 
 #[test]
@@ -130,7 +139,6 @@ fn longest_texts(rt: HostRuntime) -> Result<(), Fail> {
 
 #[test]
 fn proofs_asked_for(rt: HostRuntime) -> Result<(), Fail> {
-    let e3 = Listed::<Sha256Tree>::new(&[b"", b"\x00", b"\x10"]);
     for (ask, text) in [
         (Ask::Inclusion { size: 3, index: 2 }, THIRD),
         (
@@ -141,7 +149,7 @@ fn proofs_asked_for(rt: HostRuntime) -> Result<(), Fail> {
             TWO_OF_THREE,
         ),
     ] {
-        let proof = proved(rt.alloc(), &e3, ask)?;
+        let proof = proved(rt.alloc(), ask)?;
         assert!(rt; is_held(&proof));
         assert_eq!(rt; text_of(rt.alloc(), &proof)?.as_str(), text);
         assert!(rt; proof == proof_of(rt.alloc(), text)?);
@@ -174,7 +182,7 @@ fn proofs_asked_for(rt: HostRuntime) -> Result<(), Fail> {
             ProofFault::Backwards,
         ),
     ] {
-        assert_eq!(rt; proved(rt.alloc(), &e3, ask).err(), Some(fault));
+        assert_eq!(rt; proved(rt.alloc(), ask).err(), Some(fault));
     }
     Ok(())
 }
