@@ -15,8 +15,6 @@ mod levels;
 mod list;
 mod part;
 mod source;
-#[cfg(test)]
-mod tests;
 
 pub use list::ListSource;
 pub use source::{Source, SourceFault};

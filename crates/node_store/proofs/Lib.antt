@@ -1,4 +1,3 @@
 pub mod Sets
 pub mod Pools
 pub mod Partway
-pub mod Scans

@@ -1,3 +1,2 @@
 pub mod Strings
 pub mod Held
-pub mod Scanned

@@ -45,6 +45,3 @@ pub use opening::open_note;
 pub use pinned::PinnedTexts;
 pub use signing::sign;
 pub use verifier::Verifier;
-
-#[cfg(test)]
-mod tests;

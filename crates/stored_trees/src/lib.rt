@@ -25,8 +25,6 @@ mod prefix;
 mod ranges;
 mod rows;
 mod settling;
-#[cfg(test)]
-mod tests;
 
 pub use building::{add_above, add_entries, add_row};
 pub use built::is_built;

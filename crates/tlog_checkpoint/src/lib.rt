@@ -47,6 +47,3 @@ pub struct Checkpoint {
     /// The lines after the root, without their newlines, in the text's order.
     pub extensions: Lines,
 }
-
-#[cfg(test)]
-mod tests;

@@ -15,8 +15,6 @@
 mod laws;
 mod sha256;
 mod sum;
-#[cfg(test)]
-mod tests;
 mod tree;
 
 ghost use Rattle.std.specs.Prelude.{◌≡◌, ℕ, List, [], ◌∷◌, ◌++◌, length};

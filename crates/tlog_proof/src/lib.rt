@@ -28,8 +28,6 @@ mod path;
 mod proof;
 mod ranges;
 mod read;
-#[cfg(test)]
-mod tests;
 mod write;
 
 /// The most hashes that a path of a proof's text has.

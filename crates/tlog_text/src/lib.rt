@@ -18,8 +18,6 @@
 mod hash;
 mod laws;
 mod number;
-#[cfg(test)]
-mod tests;
 
 pub use hash::{push_hash, read_hash};
 pub use laws::{hash_spelling_law, number_answer_law, number_spelling_law};

@@ -29,6 +29,3 @@ pub use laws::{
 };
 pub use paths::{MAX_INDEX, Path, PathFault, print};
 pub use row::{RowFault, read_row, write_row};
-
-#[cfg(test)]
-mod tests;

@@ -1,5 +1,0 @@
-use Rattle.stored_trees.proofs.EmptySets.{empty_no_clash}
-use Rattle.stored_trees.proofs.tests.empty_store.Goals as goal
-
-pub returns : goal.returns
-returns g c = empty_no_clash g.H.TreeHash.digest c.new.result c.new.ensures

@@ -1,5 +1,0 @@
-use Rattle.stored_trees.proofs.EmptySets.{empty_known}
-use Rattle.stored_trees.proofs.tests.is_held.Goals as goal
-
-pub is_built-requires : goal.is_built-requires
-is_built-requires g c = empty_known g.H.TreeHash.digest c.args.store.now c.new.result c.new.ensures

@@ -1,0 +1,47 @@
+//! Hashes that were computed elsewhere, and lists of entries, that tests of more than one crate use.
+
+use std::alloc::{AllocError, Global};
+use std::process::Abort;
+use tlog_hash::Hash;
+use tlog_text::read_hash;
+
+// The tree hash of no entries, which is SHA-256 of no bytes.
+pub(crate) const ROOT_OF_NONE: &str = "47DEQpj8HBSa+/TImW+5JCeuQeRkm5NMpJWZG3hSuFU=";
+
+// The leaf hashes of the entries of no bytes, of `00` and of `10`. The first is the tree hash of that entry alone too.
+pub(crate) const LEAF_OF_NO_BYTES: &str = "bjQLnP+zepicpUTmu3gKLHiQHT+zNzh2hRGjBhevoB0=";
+
+pub(crate) const LEAF_OF_00: &str = "lqKW0iTyhcZ77pPDD4owkVfw2qNdxbh+QQt4YwoJz8c=";
+
+pub(crate) const LEAF_OF_10: &str = "ApjRIpBtz8EIkstTpzmS/FufST6kybrbJ7eRtBJ6f+c=";
+
+// The tree hashes of the first two and of all three of these entries.
+pub(crate) const ROOT_OF_TWO: &str = "+sVCA+fMaWzw38tCySodnbr3CtnmIfS9jZhmLwDjwSU=";
+
+pub(crate) const ROOT_OF_THREE: &str = "rra8/idLcKFPsGel5VeCZNsPqbUa9eC6FZFY8yngbnc=";
+
+// The hash that a text of base64 spells.
+pub(crate) fn hash(rt: &impl Abort, text: &str) -> Hash {
+    let Some(hash) = read_hash(text) else {
+        panic!(rt; "no hash: {text}");
+    };
+    hash
+}
+
+// The numbers from the first up to the last, which is left out, each in two bytes, big-endian.
+pub(crate) fn numbers(alloc: Global, first: u16, last: u16) -> Result<Vec<[u8; 2]>, AllocError> {
+    let mut entries = Vec::new(alloc);
+    for number in first..last {
+        entries.push(number.to_be_bytes())?;
+    }
+    Ok(entries)
+}
+
+// The entries, lent.
+pub(crate) fn lent(alloc: Global, entries: &[[u8; 2]]) -> Result<Vec<&[u8]>, AllocError> {
+    let mut all = Vec::new(alloc);
+    for entry in entries {
+        all.push(entry.as_slice())?;
+    }
+    Ok(all)
+}

@@ -1,0 +1,128 @@
+//! What the tests of `stored_trees` share. `C(n)` is the list of the numbers from 0 on, n of them, each in two bytes,
+//! big-endian. The hashes were computed by a program of another language.
+
+ghost use Rattle.std.specs.Prelude.{◌≡◌, IfOk};
+ghost use Rattle.node_store.specs.Strings.{NoClash};
+ghost use Rattle.stored_trees.specs.Slices.{AreSettled};
+
+use node_store::{AddFault, Store};
+use std::alloc::{AllocError, Global};
+use std::process::Abort;
+use stored_trees::{Marks, add_above, add_entries, add_row, is_built, missing_of, settle};
+use tlog_hash::{Hash, TreeHash};
+use tlog_tiles::Path;
+
+// The tree hash of the log of 256 numbers.
+pub(crate) const ROOT_OF_256: &str = "FihFMiQfUio/unoK4IY8tFatOBIZF2wtQkUWrCMOMRA=";
+
+// The tree hash of the log of 257 numbers.
+pub(crate) const ROOT_OF_257: &str = "Vtr95bs6bTEAwKWkpA8ePu37C9grbzipJ/t/5Cf4fos=";
+
+// The leaf hash of the last entry of the log of 257 numbers.
+pub(crate) const LEAF_256: &str = "+u6TV2METxJNdSZ1WlBYoz+UAqWVmU1Z7d1L6FRv8gE=";
+
+// A store that holds nothing.
+pub(crate) fn empty_store<H: TreeHash>(alloc: Global) -> Store<H>
+    ensures { NoClash H.digest result }
+{
+    Store::new(alloc)
+}
+
+// A store that holds the tree of the entries, and the tree's hash.
+pub(crate) fn stored<H: TreeHash>(
+    alloc: Global,
+    entries: &[&[u8]],
+) -> Result<(Store<H>, Hash), AddFault>
+    ensures { IfOk result (λ held. NoClash H.digest held.0) }
+{
+    let mut store = empty_store(alloc);
+    match put_entries(&mut store, entries) {
+        Ok(root) => Ok((store, root)),
+        Err(fault) => Err(fault),
+    }
+}
+
+// The hash of the entries, of which the tree is added: the tests need no more clauses of it, nor of the two that follow.
+pub(crate) fn put_entries<H: TreeHash>(
+    store: &mut Store<H>,
+    entries: &[&[u8]],
+) -> Result<Hash, AddFault>
+    requires { NoClash H.digest store.old }
+    ensures { NoClash H.digest store.new }
+{
+    add_entries(store, entries)
+}
+
+// The hash over a row, which is to have one, and whose joins are added.
+pub(crate) fn put_row<H: TreeHash>(
+    rt: &impl Abort,
+    store: &mut Store<H>,
+    row: &[Hash],
+) -> Result<Hash, AddFault>
+    requires { NoClash H.digest store.old }
+    ensures { NoClash H.digest store.new }
+{
+    assert!(rt; !row.is_empty());
+    add_row(store, row)
+}
+
+// The root above a hash, from rows of its edge.
+pub(crate) fn put_above<H: TreeHash>(
+    store: &mut Store<H>,
+    start: Hash,
+    rows: Vec<Vec<Hash>>,
+) -> Result<Hash, AddFault>
+    requires { NoClash H.digest store.old }
+    ensures { NoClash H.digest store.new }
+{
+    add_above(store, start, rows)
+}
+
+// Whether a tree is held, where nothing is remembered.
+pub(crate) fn is_held<H: TreeHash>(
+    alloc: Global,
+    store: &Store<H>,
+    size: u64,
+    root: &Hash,
+) -> bool {
+    is_built(store, &Marks::new(alloc), size, root)
+}
+
+// What is missing of a tree, where nothing is remembered.
+pub(crate) fn missing<H: TreeHash>(
+    alloc: Global,
+    store: &Store<H>,
+    size: u64,
+    root: &Hash,
+) -> Result<Vec<Path>, AllocError>
+    requires { NoClash H.digest store.now }
+{
+    missing_of(alloc, store, &Marks::new(alloc), size, root)
+}
+
+// What is remembered of these trees, those of which all is held.
+pub(crate) fn remembered<H: TreeHash>(
+    alloc: Global,
+    store: &Store<H>,
+    trees: &[(u64, Hash)],
+) -> Result<Marks, AllocError>
+    requires { NoClash H.digest store.now }
+    ensures { IfOk result (λ marks. AreSettled H.digest store.now marks) }
+{
+    let mut marks = Marks::new(alloc);
+    for tree in trees {
+        settle(store, &mut marks, tree.0, &tree.1)?;
+    }
+    Ok(marks)
+}
+
+// So many entries of no bytes.
+pub(crate) fn empty_entries<'a>(alloc: Global, count: usize) -> Result<Vec<&'a [u8]>, AllocError> {
+    let none: &[u8] = &[];
+    vec![in alloc; none; count]
+}
+
+// A row of equal hashes.
+pub(crate) fn equal_row(alloc: Global, hash: Hash, count: usize) -> Result<Vec<Hash>, AllocError> {
+    vec![in alloc; hash; count]
+}
