@@ -1,0 +1,163 @@
+//! Readers and writers that give a byte a call, that are interrupted, and that fail.
+use crate::served::{BAD_REQUEST, BUNDLE_REPLY, BUNDLE_REQUEST, answered, mirror_of_3};
+use mirror_server::HttpFault;
+use std::alloc::{AllocError, Global};
+use std::io;
+use std::io::{ErrorKind, Read, Write};
+use std::process::Abort;
+use std::test::Fail;
+use tlog_hash::{Sha256Tree, TreeHash};
+use tlog_mirror::Mirror;
+
+// Gives its bytes, at most so many a read, each read after an interruption if there are any left; then it
+// ends, or fails.
+#[derive(Drop)]
+struct Pieces<'a> {
+    rest: &'a [u8],
+    most: usize,
+    interruptions: usize,
+    fails: bool,
+}
+
+impl Read for Pieces<'_> {
+    fn read(&mut self, buf: &mut [u8]) -> io::Result<usize> {
+        if self.interruptions > 0 {
+            self.interruptions -= 1;
+            return Err(io::Error::from(ErrorKind::Interrupted));
+        }
+        let count = self.most.min(self.rest.len()).min(buf.len());
+        if count == 0 && self.fails {
+            return Err(io::Error::from(ErrorKind::Other));
+        }
+        buf[..count].copy_from_slice(&self.rest[..count]);
+        self.rest = &self.rest[count..];
+        Ok(count)
+    }
+}
+
+// Takes so many bytes, a byte a call, and fails from then on.
+#[derive(Drop)]
+struct Narrow {
+    taken: Vec<u8>,
+    most: usize,
+}
+
+impl Write for Narrow {
+    fn write(&mut self, buf: &[u8]) -> io::Result<usize> {
+        match buf.first() {
+            Some(byte) if self.taken.len() < self.most => {
+                self.taken.push(*byte)?;
+                Ok(1)
+            }
+            _ => Err(io::Error::from(ErrorKind::Other)),
+        }
+    }
+
+    fn flush(&mut self) -> io::Result<()> {
+        Ok(())
+    }
+}
+
+// What is written for these pieces, and whether it is answered.
+fn assert_answers<H: TreeHash>(
+    rt: &impl Abort,
+    alloc: Global,
+    mirror: &Mirror<H>,
+    mut reader: Pieces,
+    want: Result<(), HttpFault>,
+    written: &[u8],
+) {
+    let mut reply = Vec::new(alloc);
+    assert_eq!(rt; answered(alloc, mirror, &mut reader, &mut reply), want);
+    assert_eq!(rt; reply.as_slice(), written);
+}
+
+#[test]
+fn one_byte_reads(rt: HostRuntime) -> Result<(), Fail> {
+    let mirror = mirror_of_3::<Sha256Tree>(rt.alloc())?;
+    let reader = Pieces {
+        rest: BUNDLE_REQUEST,
+        most: 1,
+        interruptions: 3,
+        fails: false,
+    };
+    assert_answers(&rt, rt.alloc(), &mirror, reader, Ok(()), BUNDLE_REPLY);
+    Ok(())
+}
+
+#[test]
+fn no_read_after_head(rt: HostRuntime) -> Result<(), Fail> {
+    let mirror = mirror_of_3::<Sha256Tree>(rt.alloc())?;
+    for most in [1, 7, 10_000] {
+        let reader = Pieces {
+            rest: BUNDLE_REQUEST,
+            most,
+            interruptions: 0,
+            fails: true,
+        };
+        assert_answers(&rt, rt.alloc(), &mirror, reader, Ok(()), BUNDLE_REPLY);
+    }
+    Ok(())
+}
+
+#[test]
+fn endless_reader(rt: HostRuntime) -> Result<(), Fail> {
+    let mirror = mirror_of_3::<Sha256Tree>(rt.alloc())?;
+    for len in [0, 1, 20] {
+        let reader = Pieces {
+            rest: &BUNDLE_REQUEST[..len],
+            most: 1,
+            interruptions: 0,
+            fails: true,
+        };
+        let fault = Err(HttpFault::ReadFault);
+        assert_answers(&rt, rt.alloc(), &mirror, reader, fault, b"");
+    }
+    Ok(())
+}
+
+// So many letters.
+fn letters_of(alloc: Global, count: usize) -> Result<Vec<u8>, AllocError> {
+    vec![in alloc; b'a'; count]
+}
+
+#[test]
+fn bytes_without_a_head(rt: HostRuntime) -> Result<(), Fail> {
+    let letters = letters_of(rt.alloc(), 9_000)?;
+    let mirror = mirror_of_3::<Sha256Tree>(rt.alloc())?;
+    let mut reader = Pieces {
+        rest: &letters,
+        most: 1,
+        interruptions: 0,
+        fails: true,
+    };
+    let mut reply = Vec::new(rt.alloc());
+    assert_eq!(rt;
+        answered(rt.alloc(), &mirror, &mut reader, &mut reply),
+        Ok(())
+    );
+    assert_eq!(rt; reply.as_slice(), BAD_REQUEST.as_bytes());
+    assert_eq!(rt; reader.rest.len(), 9_000 - 8_192);
+    Ok(())
+}
+
+// A writer that takes so many bytes of the reply has just these.
+fn assert_written<H: TreeHash>(rt: &impl Abort, alloc: Global, mirror: &Mirror<H>, front: &[u8]) {
+    let mut writer = Narrow {
+        taken: Vec::new(alloc),
+        most: front.len(),
+    };
+    let mut reader = BUNDLE_REQUEST;
+    let fault = answered(alloc, mirror, &mut reader, &mut writer);
+    assert_eq!(rt; fault, Err(HttpFault::WriteFault));
+    assert_eq!(rt; writer.taken.as_slice(), front);
+}
+
+#[test]
+fn failing_writer(rt: HostRuntime) -> Result<(), Fail> {
+    let mirror = mirror_of_3::<Sha256Tree>(rt.alloc())?;
+    for most in 0..BUNDLE_REPLY.len() {
+        assert_written(&rt, rt.alloc(), &mirror, &BUNDLE_REPLY[..most]);
+    }
+    Ok(())
+}
