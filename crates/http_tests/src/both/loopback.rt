@@ -43,14 +43,24 @@ fn answer_next<H: TreeHash>(
     Ok(())
 }
 
+// The reply that a client gets of the mirror.
+fn reply_over_loopback<H: TreeHash>(rt: &HostRuntime, mirror: &Mirror<H>) -> Result<Vec<u8>, Fail> {
+    let listener = TcpListener::bind(rt, "127.0.0.1:0")?;
+    let mut client = asked(rt, listener.local_addr()?.port())?;
+    // The client leaves its side open: the server reads no further than the head.
+    answer_next(rt, &listener, mirror)?;
+    Ok(read_all(rt.alloc(), &mut client, 1_000, u64::MAX)?)
+}
+
+// The reply that a client gets of a mirror of the log of 3 numbers.
+fn reply_of_3<H: TreeHash>(rt: &HostRuntime) -> Result<Vec<u8>, Fail> {
+    let mirror = mirror_of::<H>(rt.alloc(), 3)?;
+    reply_over_loopback(rt, &mirror)
+}
+
 #[test]
 fn tcp_loopback(rt: HostRuntime) -> Result<(), Fail> {
-    let mirror = mirror_of::<Sha256Tree>(rt.alloc(), 3)?;
-    let listener = TcpListener::bind(&rt, "127.0.0.1:0")?;
-    let mut client = asked(&rt, listener.local_addr()?.port())?;
-    // The client leaves its side open: the server reads no further than the head.
-    answer_next(&rt, &listener, &mirror)?;
-    let reply = read_all(rt.alloc(), &mut client, 1_000, u64::MAX)?;
+    let reply = reply_of_3::<Sha256Tree>(&rt)?;
     assert_eq!(rt; reply.as_slice(), NOT_FOUND.as_bytes());
     Ok(())
 }

@@ -3,12 +3,13 @@ use mirror_http::{Dial, HttpSource, Site};
 use std::alloc::Global;
 use std::io;
 use std::io::{ErrorKind, Read, Write};
+use std::rc::Rc;
 use std::test::Fail;
 
 // Takes all bytes, and gives the reply from that place on, once or with letters behind it without end.
 #[derive(Drop)]
 pub(crate) struct Canned {
-    reply: &'static [u8],
+    reply: Rc<Vec<u8>>,
     at: usize,
     ends: bool,
 }
@@ -42,9 +43,9 @@ impl Read for Canned {
 // Makes such connections, or none.
 #[derive(Drop)]
 pub(crate) struct CannedDial {
-    pub reply: &'static str,
-    pub ends: bool,
-    pub works: bool,
+    reply: Rc<Vec<u8>>,
+    ends: bool,
+    works: bool,
 }
 
 impl Dial for CannedDial {
@@ -55,15 +56,27 @@ impl Dial for CannedDial {
             return Err(io::Error::from(ErrorKind::Other));
         }
         Ok(Canned {
-            reply: self.reply.as_bytes(),
+            reply: self.reply.clone()?,
             at: 0,
             ends: self.ends,
         })
     }
 }
 
+// A dial of such connections, which takes no memory.
+fn dial_of(alloc: Global, reply: &str, ends: bool, works: bool) -> Result<CannedDial, Fail> {
+    let reply = Rc::new(alloc, Vec::from_slice(alloc, reply.as_bytes())?)?;
+    Ok(CannedDial { reply, ends, works })
+}
+
 // A source over such connections.
-pub(crate) fn source_of(alloc: Global, dial: CannedDial) -> Result<HttpSource<CannedDial>, Fail> {
+pub(crate) fn source_of(
+    alloc: Global,
+    reply: &str,
+    ends: bool,
+    works: bool,
+) -> Result<HttpSource<CannedDial>, Fail> {
+    let dial = dial_of(alloc, reply, ends, works)?;
     let site = Site::new(alloc, "log.example", "/2026")?;
     Ok(HttpSource::new(alloc, site, dial))
 }

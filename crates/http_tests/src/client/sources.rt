@@ -10,12 +10,8 @@ use std::test::Fail;
 use tlog_tiles::Path;
 
 fn source(alloc: Global, works: bool) -> Result<HttpSource<CannedDial>, Fail> {
-    let dial = CannedDial {
-        reply: "HTTP/1.1 200 OK\r\nContent-Length: 3\r\n\r\nabc",
-        ends: true,
-        works,
-    };
-    source_of(alloc, dial)
+    let reply = "HTTP/1.1 200 OK\r\nContent-Length: 3\r\n\r\nabc";
+    source_of(alloc, reply, true, works)
 }
 
 // The answer is those three bytes.

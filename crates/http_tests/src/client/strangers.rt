@@ -1,5 +1,5 @@
 //! Replies that a source gets of a server that it does not know.
-use crate::client::canned::{CannedDial, source_of};
+use crate::client::canned::source_of;
 use log_sources::{Source, SourceFault};
 use std::alloc::Global;
 use std::process::Abort;
@@ -7,18 +7,8 @@ use std::test::Fail;
 use tlog_tiles::Path;
 
 // The reply is a failure, that is counted once.
-fn assert_failed(
-    rt: &impl Abort,
-    alloc: Global,
-    reply: &'static str,
-    ends: bool,
-) -> Result<(), Fail> {
-    let dial = CannedDial {
-        reply,
-        ends,
-        works: true,
-    };
-    let mut source = source_of(alloc, dial)?;
+fn assert_failed(rt: &impl Abort, alloc: Global, reply: &str, ends: bool) -> Result<(), Fail> {
+    let mut source = source_of(alloc, reply, ends, true)?;
     let got = source.get(&Path::Checkpoint);
     assert!(rt; matches!(got, Err(SourceFault::Failed)), "{reply}");
     assert_eq!(rt; source.failures(), 1, "{reply}");
@@ -29,15 +19,10 @@ fn assert_failed(
 fn assert_found(
     rt: &impl Abort,
     alloc: Global,
-    reply: &'static str,
+    reply: &str,
     want: Option<&[u8]>,
 ) -> Result<(), Fail> {
-    let dial = CannedDial {
-        reply,
-        ends: true,
-        works: true,
-    };
-    let mut source = source_of(alloc, dial)?;
+    let mut source = source_of(alloc, reply, true, true)?;
     let got = source.get(&Path::Checkpoint)?;
     match &got {
         Some(body) => assert_eq!(rt; Some(body.as_slice()), want, "{reply}"),

@@ -110,14 +110,22 @@ fn tile_bytes(rt: HostRuntime) -> Result<(), Fail> {
 
 #[test]
 fn what_is_not_served(rt: HostRuntime) -> Result<(), Fail> {
-    let empty = Mirror::<Sha256Tree>::new(rt.alloc(), "ex")?;
+    serves_nothing::<Sha256Tree>(&rt, rt.alloc())?;
+    serves_no_more::<Sha256Tree>(&rt, rt.alloc())
+}
+
+fn serves_nothing<H: TreeHash>(rt: &impl Abort, alloc: Global) -> Result<(), Fail> {
+    let empty = Mirror::<H>::new(alloc, "ex")?;
     let files = [
         "GET /checkpoint HTTP/1.1\r\n\r\n",
         "GET /tile/0/000.p/1 HTTP/1.1\r\n\r\n",
         "GET /mirror/inclusion/3/2 HTTP/1.1\r\n\r\n",
     ];
-    assert_replies(&rt, rt.alloc(), &empty, &files, NOT_FOUND)?;
-    let mirror = mirror_of_3::<Sha256Tree>(rt.alloc())?;
+    assert_replies(rt, alloc, &empty, &files, NOT_FOUND)
+}
+
+fn serves_no_more<H: TreeHash>(rt: &impl Abort, alloc: Global) -> Result<(), Fail> {
+    let mirror = mirror_of_3::<H>(alloc)?;
     let others = [
         "GET /mirror/inclusion/3/3 HTTP/1.1\r\n\r\n",
         "GET /mirror/inclusion/4/0 HTTP/1.1\r\n\r\n",
@@ -125,7 +133,7 @@ fn what_is_not_served(rt: HostRuntime) -> Result<(), Fail> {
         "GET /mirror/consistency/3/2 HTTP/1.1\r\n\r\n",
         "GET /mirror/missing/2/aeb6bcfe274b70a14fb067a5e5578264db0fa9b51af5e0ba159158f329e06e77 HTTP/1.1\r\n\r\n",
     ];
-    assert_replies(&rt, rt.alloc(), &mirror, &others, NOT_FOUND)
+    assert_replies(rt, alloc, &mirror, &others, NOT_FOUND)
 }
 
 #[test]

@@ -142,9 +142,8 @@ fn assert_long<H: TreeHash>(
 }
 
 // The request line has 28 bytes, a field 4 and its letters, and the empty line 2.
-#[test]
-fn longest_heads(rt: HostRuntime) -> Result<(), Fail> {
-    let mirror = mirror_of::<Sha256Tree>(rt.alloc(), 3)?;
+fn answers_long_heads<H: TreeHash>(rt: &impl Abort, alloc: Global) -> Result<(), Fail> {
+    let mirror = mirror_of::<H>(alloc, 3)?;
     for (fields, letters, behind, len, want) in [
         (64, 0, 0, 286, NOTHING),
         (65, 0, 0, 290, BAD_REQUEST),
@@ -152,8 +151,13 @@ fn longest_heads(rt: HostRuntime) -> Result<(), Fail> {
         (1, 8_158, 9_000, 17_192, NOTHING),
         (1, 8_159, 0, 8_193, BAD_REQUEST),
     ] {
-        let request = request_of(rt.alloc(), fields, letters, behind)?;
-        assert_long(&rt, rt.alloc(), &mirror, &request, len, want)?;
+        let request = request_of(alloc, fields, letters, behind)?;
+        assert_long(rt, alloc, &mirror, &request, len, want)?;
     }
     Ok(())
+}
+
+#[test]
+fn longest_heads(rt: HostRuntime) -> Result<(), Fail> {
+    answers_long_heads::<Sha256Tree>(&rt, rt.alloc())
 }
