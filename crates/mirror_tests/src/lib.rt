@@ -1,8 +1,8 @@
 //! The worked rows of the mirror, in a crate of their own, since a crate's tests are checked together with the crate
 //! again.
 //!
-//! It holds tests of `tlog_mirror` and `mirror_pull` and nothing else: logs whose roots and lines were computed elsewhere,
-//! taken, pulled, merged, listed, served, played and saved through public calls.
+//! It holds tests of `tlog_mirror` and nothing else: logs whose roots and lines were computed elsewhere, taken, merged,
+//! listed, served, played and saved through public calls.
 #![tactic(auto)]
 
 #[cfg(test)]
@@ -27,8 +27,6 @@ mod new;
 mod orders;
 #[cfg(test)]
 mod plays;
-#[cfg(test)]
-mod pulls;
 #[cfg(test)]
 mod restored;
 #[cfg(test)]
