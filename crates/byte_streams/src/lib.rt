@@ -13,8 +13,6 @@
 
 mod fault;
 mod reading;
-#[cfg(test)]
-mod tests;
 mod timed;
 mod writing;
 

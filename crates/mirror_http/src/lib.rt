@@ -30,8 +30,3 @@ pub use request::get_request;
 pub use site::Site;
 pub use source::{Dial, HttpSource, receive_reply, send_request};
 pub use tcp::TcpDial;
-
-#[cfg(test)]
-mod source_tests;
-#[cfg(test)]
-mod tests;

@@ -17,8 +17,6 @@ mod laws;
 mod limits;
 mod resource;
 mod serve;
-#[cfg(test)]
-mod tests;
 
 pub use fault::HttpFault;
 pub use laws::{one_resource_law, one_response_law};

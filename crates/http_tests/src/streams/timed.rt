@@ -1,5 +1,5 @@
 //! Streams with a deadline: in memory, under a clock of their own, and over loopback, under the system's.
-use crate::{BoundsWaits, StreamFault, TimedStream, read_all, write_whole};
+use byte_streams::{BoundsWaits, StreamFault, TimedStream, read_all, write_whole};
 use std::cell::Cell;
 use std::io;
 use std::io::{ErrorKind, Read, Write};

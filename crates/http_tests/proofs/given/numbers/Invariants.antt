@@ -1,6 +1,6 @@
 use Rattle.std.proofs.Common.{map}
 use Rattle.mirror_model.specs.TrueLaws.{AreShort}
-use Rattle.mirror_over_http.proofs.tests.numbers.Given as goal
+use Rattle.http_tests.proofs.given.numbers.Given as goal
 
 -- each number so far has two bytes
 abbrev pub invariant-loop-i : goal.invariant-loop-i

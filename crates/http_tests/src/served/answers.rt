@@ -1,7 +1,7 @@
 //! Each kind of target, asked of mirrors of the log of 300 numbers.
-use super::{key, list, mirror_of};
+use crate::given::{key, list, mirror_of};
+use crate::served::{get_of, reply_of};
 use log_sources::Source;
-use mirror_server::answer;
 use signed_note::Verifier;
 use std::alloc::Global;
 use std::process::Abort;
@@ -66,25 +66,24 @@ const SERVED_OF_A_HEAD: &str = "\
 ";
 
 // The digest of the reply 404.
-const NOT_FOUND: &str = "68107bf01a2a380499e7af15598602b84302eafb8e82aca6733d0e1a7953a22d";
+const NOT_FOUND_DIGEST: &str = "68107bf01a2a380499e7af15598602b84302eafb8e82aca6733d0e1a7953a22d";
 
 // The digest of the reply, in hexadecimal.
-fn digest_of_reply(
+fn digest_of_reply<H: TreeHash>(
     alloc: Global,
-    mirror: &Mirror<Sha256Tree>,
+    mirror: &Mirror<H>,
     target: &str,
 ) -> Result<String, Fail> {
-    let request = format!(in alloc; "GET {target} HTTP/1.1\r\n\r\n")?;
-    let mut reply = Vec::new(alloc);
-    answer(alloc, mirror, &mut request.as_bytes(), &mut reply)?;
-    Ok(hex::encode(alloc, Sha256Tree::leaf(&reply))?)
+    let request = get_of(alloc, target)?;
+    let reply = reply_of(alloc, mirror, request.as_bytes())?;
+    Ok(hex::encode(alloc, H::leaf(&reply))?)
 }
 
 // The target has the reply of that digest.
-fn assert_reply(
+fn assert_digest<H: TreeHash>(
     rt: &impl Abort,
     alloc: Global,
-    mirror: &Mirror<Sha256Tree>,
+    mirror: &Mirror<H>,
     target: &str,
     digest: &str,
 ) -> Result<(), Fail> {
@@ -94,34 +93,24 @@ fn assert_reply(
 }
 
 // Each line's target has the reply of that line's digest, or where it has none, the reply 404.
-fn assert_replies(
+fn assert_digests<H: TreeHash>(
     rt: &impl Abort,
     alloc: Global,
-    mirror: &Mirror<Sha256Tree>,
+    mirror: &Mirror<H>,
     replies: &str,
 ) -> Result<(), Fail> {
     for line in replies.lines() {
-        match line.split_once(' ') {
-            Some((target, digest)) => assert_reply(rt, alloc, mirror, target, digest)?,
-            None => assert_reply(rt, alloc, mirror, line, NOT_FOUND)?,
-        }
+        let (target, digest) = line.split_once(' ').unwrap_or((line, NOT_FOUND_DIGEST));
+        assert_digest(rt, alloc, mirror, target, digest)?;
     }
     Ok(())
 }
 
-// A mirror that is complete at the log of 300 numbers.
-fn mirror_of_300(alloc: Global) -> Result<Mirror<Sha256Tree>, Fail> {
-    let mut keys: Vec<Box<dyn Verifier>> = Vec::new(alloc);
-    keys.push(Box::new(alloc, key(alloc)?)?)?;
-    mirror_of(alloc, &keys, 300)
-}
-
 #[test]
 fn http_answers_of_300(rt: HostRuntime) -> Result<(), Fail> {
-    let alloc = rt.alloc();
-    let mirror = mirror_of_300(alloc)?;
-    assert_replies(&rt, alloc, &mirror, SERVED)?;
-    assert_replies(&rt, alloc, &mirror, NOT_SERVED)
+    let mirror = mirror_of::<Sha256Tree>(rt.alloc(), 300)?;
+    assert_digests(&rt, rt.alloc(), &mirror, SERVED)?;
+    assert_digests(&rt, rt.alloc(), &mirror, NOT_SERVED)
 }
 
 // The file of a list at a path that it has.
@@ -132,15 +121,6 @@ fn file_of<S: Source>(source: &mut S, path: &Path) -> Result<Vec<u8>, Fail> {
     }
 }
 
-// The head of the log of 300 numbers and the rows of its edge.
-fn head_and_rows(alloc: Global) -> Result<(Vec<u8>, Vec<u8>, Vec<u8>), Fail> {
-    let mut source = list(alloc, 300)?;
-    let note = file_of(&mut source, &Path::Checkpoint)?;
-    let low = file_of(&mut source, &tile_path(0, 1, 44))?;
-    let high = file_of(&mut source, &tile_path(1, 0, 1))?;
-    Ok((note, low, high))
-}
-
 fn tile_path(level: u32, index: u64, width: u32) -> Path {
     Path::Tile {
         level,
@@ -149,19 +129,41 @@ fn tile_path(level: u32, index: u64, width: u32) -> Path {
     }
 }
 
-// A mirror that has the head of the log of 300 numbers alone.
-fn head_of_300(alloc: Global) -> Result<Mirror<Sha256Tree>, Fail> {
+// The mirror takes the head of the log of 300 numbers that the source has, under the key of these logs.
+fn take_head_of_300<H: TreeHash, S: Source>(
+    alloc: Global,
+    mirror: &mut Mirror<H>,
+    source: &mut S,
+) -> Result<(), Fail> {
+    let note = file_of(source, &Path::Checkpoint)?;
+    let low = file_of(source, &tile_path(0, 1, 44))?;
+    let high = file_of(source, &tile_path(1, 0, 1))?;
+    take_head(alloc, mirror, &note, &[low.as_slice(), high.as_slice()])
+}
+
+// The mirror takes that head.
+fn take_head<H: TreeHash>(
+    alloc: Global,
+    mirror: &mut Mirror<H>,
+    note: &[u8],
+    edge: &[&[u8]],
+) -> Result<(), Fail> {
     let mut keys: Vec<Box<dyn Verifier>> = Vec::new(alloc);
     keys.push(Box::new(alloc, key(alloc)?)?)?;
-    let (note, low, high) = head_and_rows(alloc)?;
-    let mut mirror = Mirror::<Sha256Tree>::new(alloc, "ex")?;
-    mirror.take_head(alloc, &keys, &note, &[low.as_slice(), high.as_slice()])?;
+    mirror.take_head(alloc, &keys, note, edge)?;
+    Ok(())
+}
+
+// A mirror that has the head of the log of 300 numbers alone.
+fn head_of_300<H: TreeHash>(alloc: Global) -> Result<Mirror<H>, Fail> {
+    let mut source = list::<H>(alloc, 300)?;
+    let mut mirror = Mirror::<H>::new(alloc, "ex")?;
+    take_head_of_300(alloc, &mut mirror, &mut source)?;
     Ok(mirror)
 }
 
 #[test]
 fn http_answers_of_a_head(rt: HostRuntime) -> Result<(), Fail> {
-    let alloc = rt.alloc();
-    let mirror = head_of_300(alloc)?;
-    assert_replies(&rt, alloc, &mirror, SERVED_OF_A_HEAD)
+    let mirror = head_of_300::<Sha256Tree>(rt.alloc())?;
+    assert_digests(&rt, rt.alloc(), &mirror, SERVED_OF_A_HEAD)
 }

@@ -1,70 +1,30 @@
 //! A source over connections that give one reply.
-use super::*;
+use crate::client::canned::{CannedDial, source_of};
 use log_sources::{Source, SourceFault};
+use mirror_http::{HttpSource, receive_reply};
 use std::alloc::Global;
 use std::io;
-use std::io::{ErrorKind, Read, Write};
+use std::io::Read;
+use std::process::Abort;
 use std::test::Fail;
 use tlog_tiles::Path;
 
-const REPLY: &[u8] = b"HTTP/1.1 200 OK\r\nContent-Length: 3\r\n\r\nabc";
-
-// Takes all bytes, and gives the reply, from that place on.
-#[derive(Drop)]
-struct Canned {
-    at: usize,
-}
-
-impl Write for Canned {
-    fn write(&mut self, buf: &[u8]) -> io::Result<usize> {
-        Ok(buf.len())
-    }
-
-    fn flush(&mut self) -> io::Result<()> {
-        Ok(())
-    }
-}
-
-impl Read for Canned {
-    fn read(&mut self, buf: &mut [u8]) -> io::Result<usize> {
-        let Some(rest) = REPLY.get(self.at..) else {
-            return Ok(0);
-        };
-        let count = rest.len().min(buf.len());
-        buf[..count].copy_from_slice(&rest[..count]);
-        self.at += count;
-        Ok(count)
-    }
-}
-
-// Makes such connections, or none.
-#[derive(Drop)]
-struct CannedDial {
-    works: bool,
-}
-
-impl Dial for CannedDial {
-    type Stream = Canned;
-
-    fn dial(&mut self) -> io::Result<Canned> {
-        if self.works {
-            Ok(Canned { at: 0 })
-        } else {
-            Err(io::Error::from(ErrorKind::Other))
-        }
-    }
-}
-
 fn source(alloc: Global, works: bool) -> Result<HttpSource<CannedDial>, Fail> {
-    let site = Site::new(alloc, "log.example", "/2026")?;
-    Ok(HttpSource::new(alloc, site, CannedDial { works }))
+    let reply = "HTTP/1.1 200 OK\r\nContent-Length: 3\r\n\r\nabc";
+    source_of(alloc, reply, true, works)
+}
+
+// The answer is those three bytes.
+fn assert_abc(rt: &impl Abort, answer: Result<Option<Vec<u8>>, SourceFault>) -> Result<(), Fail> {
+    let body = answer?.ok_or("not found")?;
+    assert_eq!(rt; body.as_slice(), b"abc".as_slice());
+    Ok(())
 }
 
 #[test]
 fn a_file_of_a_source(rt: HostRuntime) -> Result<(), Fail> {
     let mut source = source(rt.alloc(), true)?;
-    let body = source.get(&Path::Checkpoint)?.ok_or("not found")?;
-    assert_eq!(rt; body.as_slice(), b"abc".as_slice());
+    assert_abc(&rt, source.get(&Path::Checkpoint))?;
     assert_eq!(rt; source.failures(), 0);
     Ok(())
 }
@@ -79,8 +39,7 @@ fn get_again_after_want_of_memory(rt: HostRuntime) -> Result<(), Fail> {
         assert_eq!(rt; source.failures(), 0);
         answer = source.get(&Path::Checkpoint);
     }
-    let body = answer?.ok_or("not found")?;
-    assert_eq!(rt; body.as_slice(), b"abc".as_slice());
+    assert_abc(&rt, answer)?;
     assert_eq!(rt; source.failures(), 0);
     Ok(())
 }

@@ -1,36 +1,33 @@
 //! A mirror that is pulled from another, over connections in memory.
-use super::mirror_of;
+use crate::given::{mirror_of, pulled};
+use crate::served::answered;
 use log_sources::Source;
 use mirror_http::{Dial, HttpSource, Site};
-use mirror_pull::pull;
-use mirror_server::answer;
-use signed_note::Verifier;
 use std::alloc::Global;
 use std::io;
 use std::io::{ErrorKind, Read, Write};
+use std::process::Abort;
 use std::rc::Rc;
 use std::test::Fail;
-use tlog_hash::{Hash, Sha256Tree};
+use tlog_hash::{Sha256Tree, TreeHash};
 use tlog_mirror::Mirror;
+use tlog_text::read_hash;
 
 // The tree hash of the log of 257 numbers, which was computed by a program of another language.
-const ROOT_OF_257: Hash = [
-    0x56, 0xda, 0xfd, 0xe5, 0xbb, 0x3a, 0x6d, 0x31, 0x00, 0xc0, 0xa5, 0xa4, 0xa4, 0x0f, 0x1e, 0x3e,
-    0xed, 0xfb, 0x0b, 0xd8, 0x2b, 0x6f, 0x38, 0xa9, 0x27, 0xfb, 0x7f, 0xe4, 0x27, 0xf8, 0x7e, 0x8b,
-];
+const ROOT_OF_257: &str = "Vtr95bs6bTEAwKWkpA8ePu37C9grbzipJ/t/5Cf4fos=";
 
 // A connection to a mirror: it gives the answer to what was written.
 #[derive(Drop)]
-struct Exchange {
+struct Exchange<H: TreeHash> {
     alloc: Global,
-    mirror: Rc<Mirror<Sha256Tree>>,
+    mirror: Rc<Mirror<H>>,
     request: Vec<u8>,
     answered: bool,
     reply: Vec<u8>,
     at: usize,
 }
 
-impl Write for Exchange {
+impl<H: TreeHash> Write for Exchange<H> {
     fn write(&mut self, buf: &[u8]) -> io::Result<usize> {
         self.request.extend_from_slice(buf)?;
         Ok(buf.len())
@@ -41,11 +38,11 @@ impl Write for Exchange {
     }
 }
 
-impl Read for Exchange {
+impl<H: TreeHash> Read for Exchange<H> {
     fn read(&mut self, buf: &mut [u8]) -> io::Result<usize> {
         if !self.answered {
             let mut request = self.request.as_slice();
-            if answer(self.alloc, &*self.mirror, &mut request, &mut self.reply).is_err() {
+            if answered(self.alloc, &*self.mirror, &mut request, &mut self.reply).is_err() {
                 return Err(io::Error::from(ErrorKind::Other));
             }
             self.answered = true;
@@ -62,15 +59,15 @@ impl Read for Exchange {
 
 // Makes such connections.
 #[derive(Drop)]
-struct MemoryDial {
+struct MemoryDial<H: TreeHash> {
     alloc: Global,
-    mirror: Rc<Mirror<Sha256Tree>>,
+    mirror: Rc<Mirror<H>>,
 }
 
-impl Dial for MemoryDial {
-    type Stream = Exchange;
+impl<H: TreeHash> Dial for MemoryDial<H> {
+    type Stream = Exchange<H>;
 
-    fn dial(&mut self) -> io::Result<Exchange> {
+    fn dial(&mut self) -> io::Result<Exchange<H>> {
         Ok(Exchange {
             alloc: self.alloc,
             mirror: self.mirror.clone()?,
@@ -83,7 +80,7 @@ impl Dial for MemoryDial {
 }
 
 // Whether both hold one note, the same, and the same strings.
-fn are_equal(one: &Mirror<Sha256Tree>, other: &Mirror<Sha256Tree>) -> bool {
+fn are_equal<H: TreeHash>(one: &Mirror<H>, other: &Mirror<H>) -> bool {
     one.note_at(0).is_some()
         && one.note_at(0) == other.note_at(0)
         && one.note_at(1).is_none()
@@ -95,23 +92,47 @@ fn are_equal(one: &Mirror<Sha256Tree>, other: &Mirror<Sha256Tree>) -> bool {
             .all(|string| other.strings().holds(string))
 }
 
-#[test]
-fn pull_over_http(rt: HostRuntime) -> Result<(), Fail> {
-    let alloc = rt.alloc();
-    let mut keys: Vec<Box<dyn Verifier>> = Vec::new(alloc);
-    keys.push(Box::new(alloc, super::key(alloc)?)?)?;
-    let served = Rc::new(alloc, mirror_of(alloc, &keys, 257)?)?;
-    let dial = MemoryDial {
-        alloc,
-        mirror: served.clone()?,
-    };
-    let mut source = HttpSource::new(alloc, Site::new(alloc, "log.example", "")?, dial);
-    let mut mirror = Mirror::<Sha256Tree>::new(alloc, "ex")?;
-    let pulled = pull(alloc, &mut mirror, &keys, &mut source)?;
-    assert_eq!(rt; (pulled.size, pulled.root), (257, ROOT_OF_257));
-    assert_eq!(rt; (pulled.rounds, pulled.refused), (1, 0));
-    assert!(rt; pulled.complete);
+// A source over such connections.
+fn source_of<H: TreeHash>(
+    alloc: Global,
+    mirror: Rc<Mirror<H>>,
+) -> Result<HttpSource<MemoryDial<H>>, Fail> {
+    let site = Site::new(alloc, "log.example", "")?;
+    Ok(HttpSource::new(alloc, site, MemoryDial { alloc, mirror }))
+}
+
+// The mirror pulls the log of 257 numbers from the source, in one round.
+fn pulls_257<H: TreeHash, S: Source>(
+    rt: &impl Abort,
+    alloc: Global,
+    mirror: &mut Mirror<H>,
+    source: &mut S,
+) -> Result<(), Fail> {
+    let done = pulled(alloc, mirror, source)?;
+    let root = done.root;
+    let want = read_hash(ROOT_OF_257).ok_or("no hash")?;
+    assert_eq!(rt; (done.size, root), (257, want));
+    assert_eq!(rt; (done.rounds, done.refused), (1, 0));
+    assert!(rt; done.complete);
     assert_eq!(rt; source.failures(), 0);
+    Ok(())
+}
+
+// A new mirror pulls the log of 257 numbers from that one, and is equal to it then.
+fn pulls_from<H: TreeHash>(
+    rt: &impl Abort,
+    alloc: Global,
+    served: Rc<Mirror<H>>,
+) -> Result<(), Fail> {
+    let mut source = source_of(alloc, served.clone()?)?;
+    let mut mirror = Mirror::<H>::new(alloc, "ex")?;
+    pulls_257(rt, alloc, &mut mirror, &mut source)?;
     assert!(rt; are_equal(&mirror, &*served));
     Ok(())
+}
+
+#[test]
+fn pull_over_http(rt: HostRuntime) -> Result<(), Fail> {
+    let served = Rc::new(rt.alloc(), mirror_of::<Sha256Tree>(rt.alloc(), 257)?)?;
+    pulls_from(&rt, rt.alloc(), served)
 }

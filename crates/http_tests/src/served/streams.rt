@@ -1,7 +1,13 @@
 //! Readers and writers that give a byte a call, that are interrupted, and that fail.
-use super::*;
+use crate::served::{BAD_REQUEST, BUNDLE_REPLY, BUNDLE_REQUEST, answered, mirror_of_3};
+use mirror_server::HttpFault;
+use std::alloc::{AllocError, Global};
 use std::io;
 use std::io::{ErrorKind, Read, Write};
+use std::process::Abort;
+use std::test::Fail;
+use tlog_hash::{Sha256Tree, TreeHash};
+use tlog_mirror::Mirror;
 
 // Gives its bytes, at most so many a read, each read after an interruption if there are any left; then it
 // ends, or fails.
@@ -53,33 +59,35 @@ impl Write for Narrow {
 }
 
 // What is written for these pieces, and whether it is answered.
-fn assert_answers(
+fn assert_answers<H: TreeHash>(
     rt: &impl Abort,
     alloc: Global,
+    mirror: &Mirror<H>,
     mut reader: Pieces,
     want: Result<(), HttpFault>,
     written: &[u8],
-) -> Result<(), Fail> {
-    let mirror = mirror_of_3(alloc)?;
+) {
     let mut reply = Vec::new(alloc);
-    assert_eq!(rt; answer(alloc, &mirror, &mut reader, &mut reply), want);
+    assert_eq!(rt; answered(alloc, mirror, &mut reader, &mut reply), want);
     assert_eq!(rt; reply.as_slice(), written);
-    Ok(())
 }
 
 #[test]
 fn one_byte_reads(rt: HostRuntime) -> Result<(), Fail> {
+    let mirror = mirror_of_3::<Sha256Tree>(rt.alloc())?;
     let reader = Pieces {
         rest: BUNDLE_REQUEST,
         most: 1,
         interruptions: 3,
         fails: false,
     };
-    assert_answers(&rt, rt.alloc(), reader, Ok(()), BUNDLE_REPLY)
+    assert_answers(&rt, rt.alloc(), &mirror, reader, Ok(()), BUNDLE_REPLY);
+    Ok(())
 }
 
 #[test]
 fn no_read_after_head(rt: HostRuntime) -> Result<(), Fail> {
+    let mirror = mirror_of_3::<Sha256Tree>(rt.alloc())?;
     for most in [1, 7, 10_000] {
         let reader = Pieces {
             rest: BUNDLE_REQUEST,
@@ -87,14 +95,14 @@ fn no_read_after_head(rt: HostRuntime) -> Result<(), Fail> {
             interruptions: 0,
             fails: true,
         };
-        assert_answers(&rt, rt.alloc(), reader, Ok(()), BUNDLE_REPLY)?;
+        assert_answers(&rt, rt.alloc(), &mirror, reader, Ok(()), BUNDLE_REPLY);
     }
     Ok(())
 }
 
 #[test]
 fn endless_reader(rt: HostRuntime) -> Result<(), Fail> {
-    let fault = Err(HttpFault::ReadFault);
+    let mirror = mirror_of_3::<Sha256Tree>(rt.alloc())?;
     for len in [0, 1, 20] {
         let reader = Pieces {
             rest: &BUNDLE_REQUEST[..len],
@@ -102,45 +110,54 @@ fn endless_reader(rt: HostRuntime) -> Result<(), Fail> {
             interruptions: 0,
             fails: true,
         };
-        assert_answers(&rt, rt.alloc(), reader, fault, b"")?;
+        let fault = Err(HttpFault::ReadFault);
+        assert_answers(&rt, rt.alloc(), &mirror, reader, fault, b"");
     }
     Ok(())
 }
 
+// So many letters.
+fn letters_of(alloc: Global, count: usize) -> Result<Vec<u8>, AllocError> {
+    vec![in alloc; b'a'; count]
+}
+
 #[test]
 fn bytes_without_a_head(rt: HostRuntime) -> Result<(), Fail> {
-    let alloc = rt.alloc();
-    let mut letters = Vec::new(alloc);
-    for _ in 0..9_000 {
-        letters.push(b'a')?;
-    }
-    let mirror = mirror_of_3(alloc)?;
+    let letters = letters_of(rt.alloc(), 9_000)?;
+    let mirror = mirror_of_3::<Sha256Tree>(rt.alloc())?;
     let mut reader = Pieces {
         rest: &letters,
         most: 1,
         interruptions: 0,
         fails: true,
     };
-    let mut reply = Vec::new(alloc);
-    assert_eq!(rt; answer(alloc, &mirror, &mut reader, &mut reply), Ok(()));
+    let mut reply = Vec::new(rt.alloc());
+    assert_eq!(rt;
+        answered(rt.alloc(), &mirror, &mut reader, &mut reply),
+        Ok(())
+    );
     assert_eq!(rt; reply.as_slice(), BAD_REQUEST.as_bytes());
     assert_eq!(rt; reader.rest.len(), 9_000 - 8_192);
     Ok(())
 }
 
+// A writer that takes so many bytes of the reply has just these.
+fn assert_written<H: TreeHash>(rt: &impl Abort, alloc: Global, mirror: &Mirror<H>, front: &[u8]) {
+    let mut writer = Narrow {
+        taken: Vec::new(alloc),
+        most: front.len(),
+    };
+    let mut reader = BUNDLE_REQUEST;
+    let fault = answered(alloc, mirror, &mut reader, &mut writer);
+    assert_eq!(rt; fault, Err(HttpFault::WriteFault));
+    assert_eq!(rt; writer.taken.as_slice(), front);
+}
+
 #[test]
 fn failing_writer(rt: HostRuntime) -> Result<(), Fail> {
-    let alloc = rt.alloc();
-    let mirror = mirror_of_3(alloc)?;
+    let mirror = mirror_of_3::<Sha256Tree>(rt.alloc())?;
     for most in 0..BUNDLE_REPLY.len() {
-        let mut writer = Narrow {
-            taken: Vec::new(alloc),
-            most,
-        };
-        let mut reader = BUNDLE_REQUEST;
-        let answered = answer(alloc, &mirror, &mut reader, &mut writer);
-        assert_eq!(rt; answered, Err(HttpFault::WriteFault));
-        assert_eq!(rt; writer.taken.as_slice(), &BUNDLE_REPLY[..most]);
+        assert_written(&rt, rt.alloc(), &mirror, &BUNDLE_REPLY[..most]);
     }
     Ok(())
 }

@@ -1,24 +1,13 @@
 //! Requests that are close to others, each with its whole reply.
-use super::{key, mirror_of};
-use mirror_server::answer;
-use signed_note::Verifier;
+use crate::given::{long_head, mirror_of, push_times};
+use crate::served::{
+    BAD_REQUEST, NOT_ALLOWED, NOT_FOUND, NOTHING, assert_replies, assert_reply, assert_targets,
+};
 use std::alloc::Global;
 use std::process::Abort;
 use std::test::Fail;
-use tlog_hash::Sha256Tree;
+use tlog_hash::{Sha256Tree, TreeHash};
 use tlog_mirror::Mirror;
-
-// The reply that tells of no fork, or that nothing is missing.
-const NOTHING: &str =
-    "HTTP/1.1 200 OK\r\nContent-Type: text/plain; charset=utf-8\r\nContent-Length: 0\r\nConnection: close\r\n\r\n";
-
-const BAD_REQUEST: &str =
-    "HTTP/1.1 400 Bad Request\r\nContent-Length: 0\r\nConnection: close\r\n\r\n";
-
-const NOT_FOUND: &str = "HTTP/1.1 404 Not Found\r\nContent-Length: 0\r\nConnection: close\r\n\r\n";
-
-const NOT_ALLOWED: &str =
-    "HTTP/1.1 405 Method Not Allowed\r\nAllow: GET\r\nContent-Length: 0\r\nConnection: close\r\n\r\n";
 
 // Targets for which a mirror of the log of 3 numbers has that reply.
 const TARGETS: &str = "\
@@ -107,102 +96,54 @@ const OTHER_METHODS: [&str; 6] = [
     "post /none HTTP/1.0\n\n",
 ];
 
-// The request has that reply.
-fn assert_reply(
-    rt: &impl Abort,
-    alloc: Global,
-    mirror: &Mirror<Sha256Tree>,
-    request: &str,
-    want: &str,
-) -> Result<(), Fail> {
-    let mut reply = Vec::new(alloc);
-    answer(alloc, mirror, &mut request.as_bytes(), &mut reply)?;
-    assert_eq!(rt; reply.as_slice(), want.as_bytes(), "{request}");
-    Ok(())
-}
-
-// Each line's target has that reply.
-fn assert_targets(
-    rt: &impl Abort,
-    alloc: Global,
-    mirror: &Mirror<Sha256Tree>,
-    targets: &str,
-    want: &str,
-) -> Result<(), Fail> {
-    for target in targets.lines() {
-        let request = format!(in alloc; "GET {target} HTTP/1.1\r\n\r\n")?;
-        assert_reply(rt, alloc, mirror, &request, want)?;
-    }
-    Ok(())
-}
-
-// A mirror that is complete at the log of 3 numbers.
-fn mirror_of_3(alloc: Global) -> Result<Mirror<Sha256Tree>, Fail> {
-    let mut keys: Vec<Box<dyn Verifier>> = Vec::new(alloc);
-    keys.push(Box::new(alloc, key(alloc)?)?)?;
-    mirror_of(alloc, &keys, 3)
-}
-
 #[test]
 fn targets_in_other_spellings(rt: HostRuntime) -> Result<(), Fail> {
-    let alloc = rt.alloc();
-    let mirror = mirror_of_3(alloc)?;
-    assert_targets(&rt, alloc, &mirror, TARGETS, NOTHING)?;
-    assert_targets(&rt, alloc, &mirror, OTHER_TARGETS, NOT_FOUND)
+    let mirror = mirror_of::<Sha256Tree>(rt.alloc(), 3)?;
+    assert_targets(&rt, rt.alloc(), &mirror, TARGETS, NOTHING)?;
+    assert_targets(&rt, rt.alloc(), &mirror, OTHER_TARGETS, NOT_FOUND)
 }
 
 #[test]
 fn heads_in_other_spellings(rt: HostRuntime) -> Result<(), Fail> {
-    let alloc = rt.alloc();
-    let mirror = mirror_of_3(alloc)?;
-    for request in HEADS {
-        assert_reply(&rt, alloc, &mirror, request, NOTHING)?;
-    }
-    Ok(())
+    let mirror = mirror_of::<Sha256Tree>(rt.alloc(), 3)?;
+    assert_replies(&rt, rt.alloc(), &mirror, &HEADS, NOTHING)
 }
 
 #[test]
 fn what_is_no_head(rt: HostRuntime) -> Result<(), Fail> {
-    let alloc = rt.alloc();
-    let mirror = mirror_of_3(alloc)?;
-    for request in NO_HEADS {
-        assert_reply(&rt, alloc, &mirror, request, BAD_REQUEST)?;
-    }
-    Ok(())
+    let mirror = mirror_of::<Sha256Tree>(rt.alloc(), 3)?;
+    assert_replies(&rt, rt.alloc(), &mirror, &NO_HEADS, BAD_REQUEST)
 }
 
 #[test]
 fn other_methods(rt: HostRuntime) -> Result<(), Fail> {
-    let alloc = rt.alloc();
-    let mirror = mirror_of_3(alloc)?;
-    for request in OTHER_METHODS {
-        assert_reply(&rt, alloc, &mirror, request, NOT_ALLOWED)?;
-    }
-    Ok(())
+    let mirror = mirror_of::<Sha256Tree>(rt.alloc(), 3)?;
+    assert_replies(&rt, rt.alloc(), &mirror, &OTHER_METHODS, NOT_ALLOWED)
 }
 
 // A request of so many fields, whose last has a value of so many letters, and so many bytes behind its head.
 fn request_of(alloc: Global, fields: usize, letters: usize, behind: usize) -> Result<String, Fail> {
-    let mut request = String::from_str(alloc, "GET /mirror/forks HTTP/1.1\r\n")?;
-    for _ in 1..fields {
-        request.push_str("A:\r\n")?;
-    }
-    request.push_str("A:")?;
-    for _ in 0..letters {
-        request.push('a')?;
-    }
-    request.push_str("\r\n\r\n")?;
-    for _ in 0..behind {
-        request.push('b')?;
-    }
+    let mut request = long_head(alloc, "GET /mirror/forks HTTP/1.1", fields, letters)?;
+    push_times(&mut request, "b", behind)?;
     Ok(request)
 }
 
+// The request has so many bytes, and that reply.
+fn assert_long<H: TreeHash>(
+    rt: &impl Abort,
+    alloc: Global,
+    mirror: &Mirror<H>,
+    request: &str,
+    len: usize,
+    want: &str,
+) -> Result<(), Fail> {
+    assert_eq!(rt; request.len(), len);
+    assert_reply(rt, alloc, mirror, request, want)
+}
+
 // The request line has 28 bytes, a field 4 and its letters, and the empty line 2.
-#[test]
-fn longest_heads(rt: HostRuntime) -> Result<(), Fail> {
-    let alloc = rt.alloc();
-    let mirror = mirror_of_3(alloc)?;
+fn answers_long_heads<H: TreeHash>(rt: &impl Abort, alloc: Global) -> Result<(), Fail> {
+    let mirror = mirror_of::<H>(alloc, 3)?;
     for (fields, letters, behind, len, want) in [
         (64, 0, 0, 286, NOTHING),
         (65, 0, 0, 290, BAD_REQUEST),
@@ -211,8 +152,12 @@ fn longest_heads(rt: HostRuntime) -> Result<(), Fail> {
         (1, 8_159, 0, 8_193, BAD_REQUEST),
     ] {
         let request = request_of(alloc, fields, letters, behind)?;
-        assert_eq!(rt; request.len(), len);
-        assert_reply(&rt, alloc, &mirror, &request, want)?;
+        assert_long(rt, alloc, &mirror, &request, len, want)?;
     }
     Ok(())
+}
+
+#[test]
+fn longest_heads(rt: HostRuntime) -> Result<(), Fail> {
+    answers_long_heads::<Sha256Tree>(&rt, rt.alloc())
 }

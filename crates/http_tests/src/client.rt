@@ -1,0 +1,6 @@
+//! The client: its requests, the replies that it reads, and its source over connections that give one reply.
+mod canned;
+mod replies;
+mod sites;
+mod sources;
+mod strangers;

@@ -1,0 +1,156 @@
+//! Mirrors that are asked over HTTP.
+mod answers;
+mod memory;
+mod replies;
+mod requests;
+mod spellings;
+mod streams;
+
+ghost use Rattle.std.specs.Prelude.{codes, ◌∷◌, []};
+ghost use Rattle.std.specs.Str.{bytes_eq};
+
+use mirror_server::{HttpFault, answer};
+use signed_note::Verifier;
+use std::alloc::{AllocError, Global};
+use std::io::{Read, Write};
+use std::process::Abort;
+use std::test::Fail;
+use tlog_hash::TreeHash;
+use tlog_mirror::Mirror;
+
+// The head of the log of three entries: no bytes, 00 and 10 in hexadecimal.
+const NOTE: &str =
+    "ex\n3\nrra8/idLcKFPsGel5VeCZNsPqbUa9eC6FZFY8yngbnc=\n\n\u{2014} good AQIDBAU=\n";
+
+// The reply that tells of no fork, or that nothing is missing.
+const NOTHING: &str =
+    "HTTP/1.1 200 OK\r\nContent-Type: text/plain; charset=utf-8\r\nContent-Length: 0\r\nConnection: close\r\n\r\n";
+
+const BAD_REQUEST: &str =
+    "HTTP/1.1 400 Bad Request\r\nContent-Length: 0\r\nConnection: close\r\n\r\n";
+
+pub(crate) const NOT_FOUND: &str =
+    "HTTP/1.1 404 Not Found\r\nContent-Length: 0\r\nConnection: close\r\n\r\n";
+
+const NOT_ALLOWED: &str =
+    "HTTP/1.1 405 Method Not Allowed\r\nAllow: GET\r\nContent-Length: 0\r\nConnection: close\r\n\r\n";
+
+// The request for a bundle of two entries, and its reply.
+const BUNDLE_REQUEST: &[u8] = b"GET /tile/entries/000.p/2 HTTP/1.1\r\n\r\n";
+
+const BUNDLE_REPLY: &[u8] =
+    b"HTTP/1.1 200 OK\r\nContent-Type: application/octet-stream\r\nContent-Length: 5\r\nConnection: close\r\n\r\n\x00\x00\x00\x01\x00";
+
+// A key that accepts the signature 05 over every text.
+#[derive(Drop)]
+struct Five;
+
+impl Verifier for Five {
+    ghost key = { λ k. record { name = codes "good"; id = 16909060; accepts = λ text signature. bytes_eq signature (5 ∷ []) } };
+
+    fn name(&self) -> &str {
+        "good"
+    }
+
+    fn id(&self) -> u32 {
+        16_909_060
+    }
+
+    fn accepts(&self, _text: &[u8], signature: &[u8]) -> bool {
+        signature == [5].as_slice()
+    }
+}
+
+// The leaf hashes of the three entries.
+fn row_of_3<H: TreeHash>(alloc: Global) -> Result<Vec<u8>, AllocError> {
+    let mut row = Vec::new(alloc);
+    row.extend_from_slice(H::leaf(b"").as_slice())?;
+    row.extend_from_slice(H::leaf(b"\x00").as_slice())?;
+    row.extend_from_slice(H::leaf(b"\x10").as_slice())?;
+    Ok(row)
+}
+
+// The mirror takes the head of the three entries.
+fn take_head_of_3<H: TreeHash>(alloc: Global, mirror: &mut Mirror<H>) -> Result<(), Fail> {
+    let mut keys: Vec<Box<dyn Verifier>> = Vec::new(alloc);
+    keys.push(Box::new(alloc, Five)?)?;
+    let row = row_of_3::<H>(alloc)?;
+    mirror.take_head(alloc, &keys, NOTE.as_bytes(), &[row.as_slice()])?;
+    Ok(())
+}
+
+// A mirror that is complete at the three entries.
+fn mirror_of_3<H: TreeHash>(alloc: Global) -> Result<Mirror<H>, Fail> {
+    let mut mirror = Mirror::<H>::new(alloc, "ex")?;
+    take_head_of_3(alloc, &mut mirror)?;
+    mirror.take_bundle(alloc, 3, b"\x00\x00\x00\x01\x00\x00\x01\x10")?;
+    Ok(mirror)
+}
+
+// Answers a client. It ensures nothing, so that its callers are cheap to check.
+pub(crate) fn answered<H: TreeHash, R: Read, W: Write>(
+    alloc: Global,
+    mirror: &Mirror<H>,
+    reader: &mut R,
+    writer: &mut W,
+) -> Result<(), HttpFault> {
+    answer(alloc, mirror, reader, writer)
+}
+
+// The whole reply to these bytes.
+fn reply_of<H: TreeHash>(
+    alloc: Global,
+    mirror: &Mirror<H>,
+    mut request: &[u8],
+) -> Result<Vec<u8>, HttpFault> {
+    let mut reply = Vec::new(alloc);
+    answered(alloc, mirror, &mut request, &mut reply)?;
+    Ok(reply)
+}
+
+// The request has that reply.
+fn assert_reply<H: TreeHash>(
+    rt: &impl Abort,
+    alloc: Global,
+    mirror: &Mirror<H>,
+    request: &str,
+    want: &str,
+) -> Result<(), Fail> {
+    let reply = reply_of(alloc, mirror, request.as_bytes())?;
+    assert_eq!(rt; reply.as_slice(), want.as_bytes(), "{request}");
+    Ok(())
+}
+
+// Each request has that reply.
+fn assert_replies<H: TreeHash>(
+    rt: &impl Abort,
+    alloc: Global,
+    mirror: &Mirror<H>,
+    requests: &[&str],
+    want: &str,
+) -> Result<(), Fail> {
+    for request in requests {
+        assert_reply(rt, alloc, mirror, request, want)?;
+    }
+    Ok(())
+}
+
+// A get of the target.
+fn get_of(alloc: Global, target: &str) -> Result<String, AllocError> {
+    format!(in alloc; "GET {target} HTTP/1.1\r\n\r\n")
+}
+
+// Each line's target has that reply.
+fn assert_targets<H: TreeHash>(
+    rt: &impl Abort,
+    alloc: Global,
+    mirror: &Mirror<H>,
+    targets: &str,
+    want: &str,
+) -> Result<(), Fail> {
+    for target in targets.lines() {
+        let request = get_of(alloc, target)?;
+        assert_reply(rt, alloc, mirror, &request, want)?;
+    }
+    Ok(())
+}

@@ -1,0 +1,53 @@
+//! Requests for memory that are refused, as by `rt try --test --fail-alloc N`: where an answer was refused
+//! one, nothing was written, and the next answer is right.
+use crate::served::{answered, mirror_of_3, reply_of};
+use mirror_server::HttpFault;
+use std::alloc::Global;
+use std::process::Abort;
+use std::test::Fail;
+use tlog_hash::{Sha256Tree, TreeHash};
+use tlog_mirror::Mirror;
+
+// Answers into so much space, and again where memory was refused.
+fn answers_again<H: TreeHash>(
+    rt: &impl Abort,
+    alloc: Global,
+    mirror: &Mirror<H>,
+    request: &str,
+) -> Result<(), Fail> {
+    let want = reply_of(alloc, mirror, request.as_bytes())?;
+    let mut space = [0u8; 1_024];
+    let mut writer = space.as_mut_slice();
+    let mut done = answered(alloc, mirror, &mut request.as_bytes(), &mut writer);
+    if done == Err(HttpFault::OutOfMemory) {
+        assert_eq!(rt; writer.len(), 1_024);
+        done = answered(alloc, mirror, &mut request.as_bytes(), &mut writer);
+    }
+    assert_eq!(rt; done, Ok(()), "{request}");
+    let written = 1_024usize.saturating_sub(writer.len());
+    assert_eq!(rt; space.get(..written), Some(want.as_slice()), "{request}");
+    Ok(())
+}
+
+const REQUESTS: [&str; 11] = [
+    "GET /checkpoint HTTP/1.1\r\n\r\n",
+    "GET /tile/0/000.p/3 HTTP/1.1\r\n\r\n",
+    "GET /tile/entries/000.p/3 HTTP/1.1\r\n\r\n",
+    "GET /mirror/status HTTP/1.1\r\n\r\n",
+    "GET /mirror/forks HTTP/1.1\r\n\r\n",
+    "GET /mirror/missing/3/aeb6bcfe274b70a14fb067a5e5578264db0fa9b51af5e0ba159158f329e06e77 HTTP/1.1\r\n\r\n",
+    "GET /mirror/inclusion/3/2 HTTP/1.1\r\n\r\n",
+    "GET /mirror/consistency/2/3 HTTP/1.1\r\n\r\n",
+    "GET /none HTTP/1.1\r\n\r\n",
+    "PUT /none HTTP/1.1\r\n\r\n",
+    "none\r\n\r\n",
+];
+
+#[test]
+fn answer_again_after_want_of_memory(rt: HostRuntime) -> Result<(), Fail> {
+    let mirror = mirror_of_3::<Sha256Tree>(rt.alloc())?;
+    for request in REQUESTS {
+        answers_again(&rt, rt.alloc(), &mirror, request)?;
+    }
+    Ok(())
+}
