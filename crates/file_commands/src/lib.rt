@@ -19,8 +19,6 @@ mod notes;
 mod state;
 mod system;
 mod take;
-#[cfg(test)]
-mod tests;
 
 pub use export::run_export;
 pub use fault::{

@@ -17,8 +17,6 @@ mod page;
 mod parts;
 mod put;
 mod saving;
-#[cfg(test)]
-mod tests;
 
 pub use fault::{LoadFault, SaveFault};
 pub use laws::{

@@ -19,8 +19,6 @@ mod memory;
 mod place;
 mod replace;
 mod shelf;
-#[cfg(test)]
-mod tests;
 
 pub use dir_shelf::DirShelf;
 pub use dir_source::{DirSource, MOST_BYTES};

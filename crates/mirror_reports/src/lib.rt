@@ -9,8 +9,6 @@
 
 mod fault;
 mod reports;
-#[cfg(test)]
-mod tests;
 
 pub use fault::ReportFault;
 pub use reports::{Report, forks_report, missing_report, proof_report, status_report};

@@ -15,8 +15,6 @@ mod opening;
 mod pulling;
 mod signing;
 mod taking;
-#[cfg(test)]
-mod tests;
 
 pub use building::build_log;
 pub use fault::UpdateFault;

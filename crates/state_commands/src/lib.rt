@@ -13,8 +13,6 @@ mod notes;
 mod origin;
 mod printing;
 mod question;
-#[cfg(test)]
-mod tests;
 
 pub use exports::export_state;
 pub use fault::{AskFault, ExportStateFault};

@@ -1,0 +1,13 @@
+//! States, loaded and saved.
+mod changes;
+mod loads;
+mod memory;
+mod parts;
+mod saves;
+
+// The state of an empty mirror of origin `ex`, up to its digest, in both versions.
+const EMPTY: &[u8] =
+    b"TLMIRR02\x00\x02ex\x00\x00\x00\x00\x00\x00\x00\x00\x00\x00\x00\x00\x00\x00\x00\x00\x00\x00\x00\x00\x00\x00\x00\x00";
+
+const OLD_EMPTY: &[u8] =
+    b"TLMIRR01\x00\x02ex\x00\x00\x00\x00\x00\x00\x00\x00\x00\x00\x00\x00\x00\x00\x00\x00";

@@ -1,0 +1,71 @@
+//! Streams that fail.
+use std::alloc::Global;
+use std::io;
+use std::io::{ErrorKind, Read, Write};
+
+// Gives these bytes, one a read, and fails from then on.
+#[derive(Drop)]
+pub(crate) struct FailingReader<'a>(pub(crate) &'a [u8]);
+
+impl Read for FailingReader<'_> {
+    fn read(&mut self, buf: &mut [u8]) -> io::Result<usize> {
+        match (self.0.split_first(), buf.first_mut()) {
+            (Some((first, rest)), Some(cell)) => {
+                *cell = *first;
+                self.0 = rest;
+                Ok(1)
+            }
+            _ => Err(io::Error::from(ErrorKind::Other)),
+        }
+    }
+}
+
+// Gives one byte a read without end.
+#[derive(Drop)]
+pub(crate) struct Endless;
+
+impl Read for Endless {
+    fn read(&mut self, buf: &mut [u8]) -> io::Result<usize> {
+        match buf.first_mut() {
+            Some(cell) => {
+                *cell = b'a';
+                Ok(1)
+            }
+            None => Ok(0),
+        }
+    }
+}
+
+// Takes as many bytes as it has room for, one a write, and fails from then on.
+#[derive(Drop)]
+pub(crate) struct FailingWriter {
+    pub(crate) room: usize,
+    pub(crate) taken: Vec<u8>,
+}
+
+impl FailingWriter {
+    // It took nothing yet.
+    pub(crate) fn new(alloc: Global, room: usize) -> FailingWriter {
+        FailingWriter {
+            room,
+            taken: Vec::new(alloc),
+        }
+    }
+}
+
+impl Write for FailingWriter {
+    fn write(&mut self, buf: &[u8]) -> io::Result<usize> {
+        let Some(first) = buf.first() else {
+            return Ok(0);
+        };
+        if self.taken.len() >= self.room {
+            return Err(io::Error::from(ErrorKind::Other));
+        }
+        self.taken.push(*first)?;
+        Ok(1)
+    }
+
+    fn flush(&mut self) -> io::Result<()> {
+        Ok(())
+    }
+}
