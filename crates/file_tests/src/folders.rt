@@ -3,7 +3,7 @@ mod exports;
 mod memory;
 mod on_disk;
 
-ghost use Rattle.std.specs.Prelude.{◌≡◌, ◌≤◌, min, ◌+◌, ◌^◌};
+ghost use Rattle.std.specs.Prelude.{◌≡◌, ◌≤◌, min, ◌+◌, ◌-◌, ◌^◌};
 
 use crate::given::{key, keys};
 use crate::numbers::numbers;
