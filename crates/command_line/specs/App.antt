@@ -89,14 +89,20 @@ serve_app =
 
 -- ---- the program
 
--- the program, which has a version, and wants a command
+-- the program, which has a version
+abbrev pub named_app : App
+named_app = record {
+  top = record (new_shape (codes "tlogmirror")) { has_version = true };
+  subs = [];
+}
+
+-- the same: its words begin behind its name, and one of them is a command
 abbrev pub program_app : App
 program_app = record {
-  top = record (new_shape (codes "tlogmirror")) {
+  top = record (named_app.top) {
     no_binary_name = true;
     disable_help_subcommand = true;
     subcommand_required = true;
-    has_version = true;
   };
   subs = [];
 }

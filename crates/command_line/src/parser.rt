@@ -2,7 +2,7 @@
 ghost use Rattle.std.specs.Prelude.{◌≡◌, IfOk, codes, false};
 ghost use Rattle.clap.specs.Words.{rule_of};
 ghost use Rattle.command_line.specs.App.{build_app, check_app, choice_rule, folder_app, held_app, list_rule, log_app, made_app};
-ghost use Rattle.command_line.specs.App.{making_app, merge_app, mirror_app, missing_app, option_rule, place_rule, program_app, prove_app, pull_app};
+ghost use Rattle.command_line.specs.App.{making_app, merge_app, mirror_app, missing_app, named_app, option_rule, place_rule, program_app, prove_app, pull_app};
 ghost use Rattle.command_line.specs.App.{root_app, serve_app, take_app};
 ghost use Rattle.command_line.specs.Commands.{IsParserOf};
 
@@ -306,14 +306,21 @@ fn serve_parser<'a>(alloc: Global) -> Result<clap::Command<'a>, AllocError>
     .arg(requests)
 }
 
+// The program by its name, what it is for, and its version.
+fn named_parser<'a>(alloc: Global) -> Result<clap::Command<'a>, AllocError>
+    ensures { IfOk result (IsParserOf named_app) }
+{
+    clap::Command::new(alloc, "tlogmirror")
+        .about("A mirror for one append-only transparency log")
+        .version("0.1.0")
+        .bin_name("tlogmirror")
+}
+
 // The program, with no command yet.
 fn program_parser<'a>(alloc: Global) -> Result<clap::Command<'a>, AllocError>
     ensures { IfOk result (IsParserOf program_app) }
 {
-    let program = clap::Command::new(alloc, "tlogmirror")
-        .about("A mirror for one append-only transparency log")
-        .version("0.1.0")
-        .bin_name("tlogmirror")?
+    let program = named_parser(alloc)?
         .no_binary_name(true)
         .subcommand_required(true)
         .disable_help_subcommand(true);
