@@ -1,5 +1,6 @@
 //! A log of numbered entries.
-ghost use Rattle.std.specs.Prelude.{◌≡◌, length, map, IfOk};
+ghost use Rattle.std.specs.Prelude.{◌≡◌, [], ◌∷◌, codes, length, map, IfOk};
+ghost use Rattle.signed_note.specs.Reading.{MakesSecret};
 ghost use Rattle.mirror_model.specs.Origin.{IsOrigin};
 ghost use Rattle.mirror_model.specs.TrueLaws.{AreShort};
 
@@ -14,8 +15,10 @@ use tlog_mirror::Mirror;
 /// The origin of the log.
 pub const ORIGIN: &str = "bench";
 
-/// The key that the log signs with.
-pub fn key(alloc: Global) -> Result<HmacKey, KeyFault> {
+/// The key that the log signs with: of its origin's name, id 1, the secret `00`.
+pub fn key(alloc: Global) -> Result<HmacKey, KeyFault>
+    ensures { MakesSecret (codes "bench") 1 (0 ∷ []) result }
+{
     HmacKey::new(alloc, ORIGIN, 1, &[0])
 }
 
