@@ -13,8 +13,6 @@ mod fault;
 mod laws;
 mod pulling;
 mod rounds;
-#[cfg(test)]
-mod tests;
 
 pub use fault::PullFault;
 pub use laws::{front_round_law, front_rounds_law, pull_growth_law};

@@ -1,8 +1,8 @@
-//! The worked rows of the mirror, in a crate of their own, since a crate's tests are checked together with the crate
+//! Tests of the mirror and of pulls, in a crate of their own, since a crate's tests are checked together with the crate
 //! again.
 //!
-//! It holds tests of `tlog_mirror` and nothing else: logs whose roots and lines were computed elsewhere, taken, merged,
-//! listed, served, played and saved through public calls.
+//! It holds tests of `tlog_mirror` and `mirror_pull` and nothing else: what the program cannot show of them. What it can
+//! stands in the transcripts of `tests/`.
 #![tactic(auto)]
 
 #[cfg(test)]
@@ -10,17 +10,9 @@ mod forks;
 #[cfg(test)]
 mod given;
 #[cfg(test)]
-mod heads;
-#[cfg(test)]
-mod huge;
-#[cfg(test)]
 mod items;
 #[cfg(test)]
-mod logs;
-#[cfg(test)]
 mod memory;
-#[cfg(test)]
-mod merges;
 #[cfg(test)]
 mod new;
 #[cfg(test)]
@@ -28,10 +20,10 @@ mod orders;
 #[cfg(test)]
 mod plays;
 #[cfg(test)]
+mod pulls;
+#[cfg(test)]
 mod restored;
 #[cfg(test)]
 mod served;
 #[cfg(test)]
 mod settle;
-#[cfg(test)]
-mod whole;

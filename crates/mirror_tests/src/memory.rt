@@ -1,9 +1,8 @@
 //! Requests for memory that are refused. Each test is run once for each of its requests, with that one refused, as by
 //! `rt try --test --fail-alloc N`: where a take, a merge or a play is refused, a part of it may stand and no more, and
 //! the same once more completes it.
-use crate::given::Five;
+use crate::given::{BUNDLE_OF_3, Five, tile_of_3};
 use crate::plays::{are_done, are_merged, three_events, two_mirrors};
-use crate::whole::{BUNDLE_OF_3, ROOT_OF_3, tile_of_3};
 use signed_note::Verifier;
 use std::alloc::{AllocError, Global};
 use std::process::Abort;
@@ -61,26 +60,15 @@ fn take_head_at_last<H: TreeHash>(
 ) -> Result<(), Fail> {
     let mut keys: Vec<Box<dyn Verifier>> = Vec::new(alloc);
     keys.push(Box::new(alloc, Five)?)?;
-    take_head_under(rt, alloc, mirror, &keys, row);
-    Ok(())
-}
-
-// Takes it under those keys.
-fn take_head_under<H: TreeHash>(
-    rt: &impl Abort,
-    alloc: Global,
-    mirror: &mut Mirror<H>,
-    keys: &[Box<dyn Verifier>],
-    row: &[u8],
-) {
-    let mut answer = mirror.take_head(alloc, keys, HEAD_OF_3.as_bytes(), &[row]);
+    let mut answer = mirror.take_head(alloc, &keys, HEAD_OF_3.as_bytes(), &[row]);
     if answer == Err(TakeFault::OutOfMemory) {
         assert!(rt; mirror.note_at(0).is_none());
-        answer = mirror.take_head(alloc, keys, HEAD_OF_3.as_bytes(), &[row]);
+        answer = mirror.take_head(alloc, &keys, HEAD_OF_3.as_bytes(), &[row]);
     }
     assert_eq!(rt; answer, Ok(()));
     assert!(rt; mirror.note_at(0) == Some(HEAD_OF_3.as_bytes()));
     assert_eq!(rt; mirror.strings().len(), 2);
+    Ok(())
 }
 
 #[test]
@@ -90,24 +78,16 @@ fn merges_again_after_want_of_memory(rt: HostRuntime) -> Result<(), Fail> {
     take_head_at_last(&rt, rt.alloc(), &mut other, &row)?;
     take_bundle_at_last(&rt, rt.alloc(), &mut other);
     let mut mirror = Mirror::<Sha256Tree>::new(rt.alloc(), "ex")?;
-    merge_at_last(&rt, rt.alloc(), &mut mirror, &other);
-    assert!(rt; has_3(&mirror)? && has_3(&other)?);
-    Ok(())
+    merge_at_last(&rt, rt.alloc(), &mut mirror, &other)
 }
 
-// Whether the three entries are complete.
-fn has_3<H: TreeHash>(mirror: &Mirror<H>) -> Result<bool, Fail> {
-    let root = read_hash(ROOT_OF_3).ok_or("no hash")?;
-    Ok(mirror.is_complete(3, &root))
-}
-
-// Merges a mirror that is empty with one of five strings and a note, which comes last.
+// Merges a mirror that is empty with one of five strings and a note, which comes last. Both are complete then.
 fn merge_at_last<H: TreeHash>(
     rt: &impl Abort,
     alloc: Global,
     mirror: &mut Mirror<H>,
     other: &Mirror<H>,
-) {
+) -> Result<(), Fail> {
     let mut answer = mirror.merge(alloc, other);
     if answer == Err(MergeFault::OutOfMemory) {
         assert!(rt; mirror.note_at(0).is_none());
@@ -115,6 +95,9 @@ fn merge_at_last<H: TreeHash>(
     }
     assert_eq!(rt; answer, Ok(()));
     assert_eq!(rt; mirror.strings().len(), 5);
+    let root = read_hash("rra8/idLcKFPsGel5VeCZNsPqbUa9eC6FZFY8yngbnc=").ok_or("no hash")?;
+    assert!(rt; mirror.is_complete(3, &root) && other.is_complete(3, &root));
+    Ok(())
 }
 
 #[test]
@@ -135,26 +118,15 @@ fn play_at_last<H: TreeHash>(
 ) -> Result<(), Fail> {
     let mut keys: Vec<Box<dyn Verifier>> = Vec::new(alloc);
     keys.push(Box::new(alloc, Five)?)?;
-    play_under(rt, alloc, world, &keys, events)
-}
-
-// Plays them under those keys.
-fn play_under<H: TreeHash>(
-    rt: &impl Abort,
-    alloc: Global,
-    world: &mut [Mirror<H>],
-    keys: &[Box<dyn Verifier>],
-    events: &[Event],
-) -> Result<(), Fail> {
     if !fits(events, world.len()) {
         return Err("events that do not fit".into());
     }
-    match play(alloc, world, keys, events) {
+    match play(alloc, world, &keys, events) {
         Ok(answers) if are_done(&answers, 3) => return Ok(()),
         Ok(answers) => assert!(rt; are_done_but_one(&answers)),
         Err(AllocError) => assert!(rt; world.iter().all(|mirror| holds_nothing(mirror))),
     }
-    let answers = play(alloc, world, keys, events)?;
+    let answers = play(alloc, world, &keys, events)?;
     assert!(rt; are_done(&answers, 3));
     Ok(())
 }

@@ -1,38 +1,47 @@
-//! Which mirrors are made.
-use tlog_hash::Sha256Tree;
-use tlog_mirror::{Mirror, NewFault};
+//! A mirror that holds nothing, and one of another origin.
+use std::alloc::Global;
+use std::process::Abort;
+use std::test::Fail;
+use tlog_hash::{Sha256Tree, TreeHash};
+use tlog_mirror::{MergeFault, Mirror};
 
 #[test]
-fn a_new_mirror_holds_nothing(rt: HostRuntime) {
-    let Ok(mirror) = Mirror::<Sha256Tree>::new(rt.alloc(), "ex") else {
-        assert!(rt; false);
-        return;
-    };
-    assert!(rt; mirror.origin() == "ex");
-    assert_eq!(rt; mirror.strings().len(), 0);
-}
-
-#[test]
-fn origins_are_refused(rt: HostRuntime) {
-    for origin in ["", "a\nb", "\u{1f}"] {
-        let refused = matches!(
-            Mirror::<Sha256Tree>::new(rt.alloc(), origin),
-            Err(NewFault::BadOrigin)
-        );
-        assert!(rt; refused);
-    }
-}
-
-#[test]
-fn an_origin_has_at_most_65_535_bytes(rt: HostRuntime) -> Result<(), std::alloc::AllocError> {
-    let longest = "x".repeat(rt.alloc(), 65_535)?;
-    let longer = "x".repeat(rt.alloc(), 65_536)?;
-    let made = Mirror::<Sha256Tree>::new(rt.alloc(), longest.as_str());
-    assert!(rt; made.is_ok());
-    let refused = matches!(
-        Mirror::<Sha256Tree>::new(rt.alloc(), longer.as_str()),
-        Err(NewFault::BadOrigin)
-    );
-    assert!(rt; refused);
+fn a_new_mirror_holds_nothing(rt: HostRuntime) -> Result<(), Fail> {
+    let mut mirror = Mirror::<Sha256Tree>::new(rt.alloc(), "ex")?;
+    holds_nothing(&rt, &mirror);
+    tells_nothing(&rt, rt.alloc(), &mirror)?;
+    let other = Mirror::<Sha256Tree>::new(rt.alloc(), "ey")?;
+    refuses_merge(&rt, rt.alloc(), &mut mirror, &other);
     Ok(())
+}
+
+fn holds_nothing<H: TreeHash>(rt: &impl Abort, mirror: &Mirror<H>) {
+    assert_eq!(rt; mirror.origin(), "ex");
+    assert_eq!(rt; mirror.strings().len(), 0);
+    assert!(rt; !mirror.is_complete(0, &H::empty()));
+    assert!(rt; mirror.top().is_none() && mirror.top_ranges().is_none());
+    assert!(rt; mirror.range_hash(0, 0).is_none());
+}
+
+fn tells_nothing<H: TreeHash>(
+    rt: &impl Abort,
+    alloc: Global,
+    mirror: &Mirror<H>,
+) -> Result<(), Fail> {
+    assert_eq!(rt; mirror.heads(alloc)?.len(), 0);
+    assert!(rt; mirror.tile(alloc, 0, 0, 1)?.is_none());
+    assert!(rt; mirror.bundle(alloc, 0, 1)?.is_none());
+    assert!(rt; mirror.missing(alloc, 0, &H::empty())?.is_none());
+    Ok(())
+}
+
+// Of the row merge-completes: a mirror of another origin is refused, and nothing changes.
+fn refuses_merge<H: TreeHash>(
+    rt: &impl Abort,
+    alloc: Global,
+    mirror: &mut Mirror<H>,
+    other: &Mirror<H>,
+) {
+    assert_eq!(rt; mirror.merge(alloc, other), Err(MergeFault::OtherOrigin));
+    holds_nothing(rt, mirror);
 }

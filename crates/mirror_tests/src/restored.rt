@@ -21,42 +21,43 @@ fn made_again(alloc: Global, origin: &str) -> Result<Mirror<Sha256Tree>, NewFaul
     Mirror::of_strings(alloc, origin, Store::new(alloc))
 }
 
+// It is made of no bad origin, and keeps a head over its edge alone.
 #[test]
 fn a_head_is_kept_over_its_edge(rt: HostRuntime) -> Result<(), Fail> {
+    for origin in ["", "e\nx"] {
+        let refused = matches!(made_again(rt.alloc(), origin), Err(NewFault::BadOrigin));
+        assert!(rt; refused);
+    }
     let mut mirror = made_again(rt.alloc(), "ex")?;
     assert_eq!(rt; mirror.origin(), "ex");
-    answers(
-        &rt,
-        rt.alloc(),
-        &mut mirror,
-        &[],
-        HEAD_OF_1,
-        Err(HeldFault::BadHead),
-        0,
-    )?;
-    answers_under_a_key(&rt, rt.alloc(), &mut mirror)
+    keeps_heads(&rt, rt.alloc(), &mut mirror)
 }
 
-// Under the key of these tests the first head is kept, once and again, and the second is not.
-fn answers_under_a_key<H: TreeHash>(
+// Under no key no head is kept. Under the key of these tests the first is, once and again, and the second is not.
+fn keeps_heads<H: TreeHash>(
     rt: &impl Abort,
     alloc: Global,
     mirror: &mut Mirror<H>,
 ) -> Result<(), Fail> {
     let mut keys: Vec<Box<dyn Verifier>> = Vec::new(alloc);
-    keys.push(Box::new(alloc, Five)?)?;
-    for _ in 0..2 {
-        answers(rt, alloc, mirror, &keys, HEAD_OF_1, Ok(()), 1)?;
-    }
     answers(
         rt,
         alloc,
         mirror,
         &keys,
-        HEAD_OF_3,
-        Err(HeldFault::UnheldEdge),
-        1,
-    )
+        HEAD_OF_1,
+        Err(HeldFault::BadHead),
+        0,
+    )?;
+    keys.push(Box::new(alloc, Five)?)?;
+    for (note, want) in [
+        (HEAD_OF_1, Ok(())),
+        (HEAD_OF_1, Ok(())),
+        (HEAD_OF_3, Err(HeldFault::UnheldEdge)),
+    ] {
+        answers(rt, alloc, mirror, &keys, note, want, 1)?;
+    }
+    Ok(())
 }
 
 // A mirror answers so to a head over what it holds, and then has so many heads.
@@ -72,16 +73,5 @@ fn answers<H: TreeHash>(
     let answer = mirror.keep_held_head(alloc, keys, note.as_bytes());
     assert_eq!(rt; answer, want);
     assert_eq!(rt; mirror.heads(alloc)?.len(), count);
-    Ok(())
-}
-
-#[test]
-fn strings_of_a_bad_origin(rt: HostRuntime) -> Result<(), Fail> {
-    for origin in ["", "e\nx"] {
-        match made_again(rt.alloc(), origin) {
-            Ok(_) => return Err(Fail::from("a mirror")),
-            Err(fault) => assert_eq!(rt; fault, NewFault::BadOrigin),
-        }
-    }
     Ok(())
 }

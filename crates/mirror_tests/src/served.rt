@@ -1,63 +1,31 @@
-//! What a mirror lists and serves.
-use std::alloc::{AllocError, Global};
+//! What a mirror serves of a part of its entries.
+use crate::given::{BUNDLE_OF_3, HEAD_OF_3, take_head, tile_of_3};
+use std::alloc::Global;
 use std::process::Abort;
 use std::test::Fail;
 use tlog_hash::{Sha256Tree, TreeHash};
 use tlog_mirror::Mirror;
 
 #[test]
-fn a_new_mirror_lists_nothing(rt: HostRuntime) -> Result<(), Fail> {
-    let mirror = Mirror::<Sha256Tree>::new(rt.alloc(), "ex")?;
-    lists_nothing(&rt, rt.alloc(), &mirror)?;
-    Ok(())
+fn small_trees(rt: HostRuntime) -> Result<(), Fail> {
+    let row = tile_of_3::<Sha256Tree>(rt.alloc())?;
+    let mut mirror = Mirror::<Sha256Tree>::new(rt.alloc(), "ex")?;
+    take_head(rt.alloc(), &mut mirror, HEAD_OF_3, &[row.as_slice()])?;
+    mirror.take_bundle(rt.alloc(), 3, BUNDLE_OF_3)?;
+    serves_3(&rt, rt.alloc(), &mirror, &row)
 }
 
-fn lists_nothing<H: TreeHash>(
+// Served are the row of the three entries, and a bundle of two of them, but none of four.
+fn serves_3<H: TreeHash>(
     rt: &impl Abort,
     alloc: Global,
     mirror: &Mirror<H>,
-) -> Result<(), AllocError> {
-    assert!(rt; !mirror.is_complete(0, &H::empty()));
-    assert_eq!(rt; mirror.heads(alloc)?.len(), 0);
-    let status = mirror.status_text(alloc)?;
-    assert!(rt; status.as_str() == "origin ex\nserved none\n");
-    Ok(())
-}
-
-#[test]
-fn a_new_mirror_serves_nothing(rt: HostRuntime) -> Result<(), Fail> {
-    let mirror = Mirror::<Sha256Tree>::new(rt.alloc(), "ex")?;
-    serves_nothing(&rt, rt.alloc(), &mirror)?;
-    Ok(())
-}
-
-fn serves_nothing<H: TreeHash>(
-    rt: &impl Abort,
-    alloc: Global,
-    mirror: &Mirror<H>,
-) -> Result<(), AllocError> {
-    assert!(rt; mirror.top().is_none());
-    assert!(rt; mirror.top_ranges().is_none());
-    assert!(rt; mirror.range_hash(0, 0).is_none());
-    assert!(rt; mirror.tile(alloc, 0, 0, 1)?.is_none());
-    assert!(rt; mirror.bundle(alloc, 0, 1)?.is_none());
-    Ok(())
-}
-
-#[test]
-fn a_new_mirror_misses_nothing(rt: HostRuntime) -> Result<(), Fail> {
-    let mirror = Mirror::<Sha256Tree>::new(rt.alloc(), "ex")?;
-    misses_nothing(&rt, rt.alloc(), &mirror)?;
-    Ok(())
-}
-
-fn misses_nothing<H: TreeHash>(
-    rt: &impl Abort,
-    alloc: Global,
-    mirror: &Mirror<H>,
-) -> Result<(), AllocError> {
-    let root = H::empty();
-    assert!(rt; mirror.missing(alloc, 0, &root)?.is_none());
-    assert!(rt; mirror.missing_text(alloc, 0, &root)?.is_none());
+    row: &[u8],
+) -> Result<(), Fail> {
+    let tile = mirror.tile(alloc, 0, 0, 3)?.ok_or("no tile")?;
+    assert!(rt; tile.as_slice() == row);
+    let bundle = mirror.bundle(alloc, 0, 2)?.ok_or("no bundle")?;
+    assert!(rt; bundle.as_slice() == b"\x00\x00\x00\x01\x00".as_slice());
+    assert!(rt; mirror.bundle(alloc, 0, 4)?.is_none());
     Ok(())
 }

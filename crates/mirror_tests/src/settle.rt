@@ -1,9 +1,9 @@
 //! How much is remembered of complete heads. Roots were computed by a program of another language.
-use crate::given::{doubled, take_equal, take_head};
+use crate::given::take_head;
 use std::alloc::{AllocError, Global};
 use std::process::Abort;
 use std::test::Fail;
-use tlog_hash::{Sha256Tree, TreeHash};
+use tlog_hash::{Hash, Sha256Tree, TreeHash};
 use tlog_mirror::Mirror;
 
 // Settles a mirror, which then remembers so many. Where memory is refused, as by `rt try --test --fail-alloc N`, no
@@ -23,32 +23,22 @@ fn settles<H: TreeHash>(
     Ok(())
 }
 
-#[test]
-fn settle_empty(rt: HostRuntime) -> Result<(), Fail> {
-    let mut mirror = Mirror::<Sha256Tree>::new(rt.alloc(), "ex")?;
-    settles(&rt, rt.alloc(), &mut mirror, 0)
-}
-
-// The leaf hashes of the numbers 0 to 2, each in two bytes.
-fn number_row<H: TreeHash>(alloc: Global) -> Result<Vec<u8>, AllocError> {
-    let mut row = Vec::new(alloc);
-    for number in 0..3u16 {
-        row.extend_from_slice(H::leaf(&number.to_be_bytes()).as_slice())?;
-    }
-    Ok(row)
-}
-
+// And settle-empty, at the same mirror before it takes anything.
 #[test]
 fn settle_e3(rt: HostRuntime) -> Result<(), Fail> {
     let mut mirror = Mirror::<Sha256Tree>::new(rt.alloc(), "ex")?;
+    settles(&rt, rt.alloc(), &mut mirror, 0)?;
     take_number_head(rt.alloc(), &mut mirror)?;
     settles(&rt, rt.alloc(), &mut mirror, 0)?;
     settles_numbers(&rt, rt.alloc(), &mut mirror)
 }
 
-// Takes the head of those numbers.
+// Takes the head of the numbers 0 to 2, each in two bytes.
 fn take_number_head<H: TreeHash>(alloc: Global, mirror: &mut Mirror<H>) -> Result<(), Fail> {
-    let row = number_row::<H>(alloc)?;
+    let mut row = Vec::new(alloc);
+    for number in 0..3u16 {
+        row.extend_from_slice(H::leaf(&number.to_be_bytes()).as_slice())?;
+    }
     let head = "3\n8bnxZGS31f08aQe6Fx0eVantFhgeChNfXlXJNMPL5Ao=";
     take_head(alloc, mirror, head, &[row.as_slice()])
 }
@@ -61,32 +51,43 @@ fn settles_numbers<H: TreeHash>(
 ) -> Result<(), Fail> {
     mirror.take_bundle(alloc, 3, &[0, 2, 0, 0, 0, 2, 0, 1, 0, 2, 0, 2])?;
     assert_eq!(rt; mirror.remembered(), 0);
-    settles(rt, alloc, mirror, 5)?;
-    settles(rt, alloc, mirror, 5)
+    for _ in 0..2u32 {
+        settles(rt, alloc, mirror, 5)?;
+    }
+    Ok(())
 }
 
-// A mirror that holds the tree of 65,536 entries of no bytes.
-fn equal_log<H: TreeHash>(alloc: Global) -> Result<Mirror<H>, Fail> {
-    let mut mirror = Mirror::<H>::new(alloc, "ex")?;
-    let edge = doubled::<H>(16);
-    let head = "65536\n2DOJrJogf7fb3Ekvu1a5SC8ZFwaZ4iS+ZGlMyIWjoqI=";
-    take_head(alloc, &mut mirror, head, &[edge.as_slice()])?;
-    take_equal(alloc, &mut mirror, 512)?;
-    Ok(mirror)
-}
-
-#[test]
-fn settle_65536(rt: HostRuntime) -> Result<(), Fail> {
-    let mut mirror = equal_log::<Sha256Tree>(rt.alloc())?;
-    settles(&rt, rt.alloc(), &mut mirror, 17)
-}
-
-// Of the second head only the whole list is new.
+// And settle-65536, of the first head. Of the second head only the whole list is new.
 #[test]
 fn settle_two(rt: HostRuntime) -> Result<(), Fail> {
-    let mut mirror = equal_log::<Sha256Tree>(rt.alloc())?;
+    let mut mirror = Mirror::<Sha256Tree>::new(rt.alloc(), "ex")?;
+    take_equal_log(rt.alloc(), &mut mirror)?;
+    settles(&rt, rt.alloc(), &mut mirror, 17)?;
     take_second_head(rt.alloc(), &mut mirror)?;
     settles(&rt, rt.alloc(), &mut mirror, 18)
+}
+
+// The tree hash of 2 to that power of entries of no bytes.
+fn doubled<H: TreeHash>(times: u32) -> Hash {
+    let mut hash = H::leaf(b"");
+    for _ in 0..times {
+        hash = H::node(&hash, &hash);
+    }
+    hash
+}
+
+// Takes the head of 65,536 entries of no bytes, the tile above 256 bundles of them, and one such bundle.
+fn take_equal_log<H: TreeHash>(alloc: Global, mirror: &mut Mirror<H>) -> Result<(), Fail> {
+    let edge = doubled::<H>(16);
+    let head = "65536\n2DOJrJogf7fb3Ekvu1a5SC8ZFwaZ4iS+ZGlMyIWjoqI=";
+    take_head(alloc, mirror, head, &[edge.as_slice()])?;
+    let mut row = Vec::new(alloc);
+    for _ in 0..256u32 {
+        row.extend_from_slice(doubled::<H>(8).as_slice())?;
+    }
+    mirror.take_tile(alloc, 256, &row)?;
+    mirror.take_bundle(alloc, 256, &[0; 512])?;
+    Ok(())
 }
 
 // Takes the head of the first 257 of those entries.

@@ -1,5 +1,5 @@
 use Rattle.mirror_model.proofs.Origins.{ex_is_origin}
-use Rattle.mirror_pull.proofs.tests.list_of.Goals as goal
+use Rattle.mirror_tests.proofs.pulls.list.Goals as goal
 
 pub new-requires-clause-origin : goal.new-requires-clause-origin
-new-requires-clause-origin c = ex_is_origin
+new-requires-clause-origin c d = ex_is_origin

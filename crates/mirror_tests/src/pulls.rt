@@ -1,0 +1,142 @@
+//! Pulls from sources that fail, and how often others are asked. What is pulled from a folder stands in
+//! `tests/pulls.runs`.
+//!
+//! C(n) is the log of the numbers from 0 on, n of them, each in two bytes, big-endian.
+mod lying;
+
+ghost use Rattle.std.specs.Prelude.{◌≡◌, map, IfOk};
+ghost use Rattle.mirror_model.specs.TrueLaws.{AreShort};
+
+use log_sources::{ListSource, Source};
+use lying::{Liar, Lie, lying_log};
+use mirror_pull::{PullFault, Pulled, pull};
+use signed_note::{HmacKey, KeyFault, Verifier};
+use std::alloc::{AllocError, Global};
+use std::process::Abort;
+use std::test::Fail;
+use tlog_hash::{Sha256Tree, TreeHash};
+use tlog_mirror::Mirror;
+
+// The numbers from that one on, so many of them.
+fn numbers(alloc: Global, from: u16, count: u16) -> Result<Vec<Vec<u8>>, AllocError>
+    ensures { IfOk result (λ entries. AreShort (map (λ e. e.items) entries.items)) }
+{
+    let mut entries = Vec::new(alloc);
+    for i in 0..count {
+        let number = from.wrapping_add(i);
+        entries.push(Vec::from_slice(alloc, &number.to_be_bytes())?)?;
+    }
+    Ok(entries)
+}
+
+// The key `ex`, id 1, secret 00, of these logs.
+fn key(alloc: Global) -> Result<HmacKey, KeyFault> {
+    HmacKey::new(alloc, "ex", 1, &[0])
+}
+
+// A source over the numbers from that one on, so many of them.
+fn list<H: TreeHash>(alloc: Global, from: u16, count: u16) -> Result<ListSource<H>, Fail> {
+    let entries = numbers(alloc, from, count)?;
+    Ok(ListSource::new(alloc, "ex", entries, key(alloc)?)?)
+}
+
+// How a pull ends, under the key of these logs. It ensures nothing, so that its callers are cheap to check.
+fn end_of_pull<H: TreeHash, S: Source>(
+    alloc: Global,
+    mirror: &mut Mirror<H>,
+    source: &mut S,
+) -> Result<Result<Pulled, PullFault>, Fail> {
+    let mut keys: Vec<Box<dyn Verifier>> = Vec::new(alloc);
+    keys.push(Box::new(alloc, key(alloc)?)?)?;
+    Ok(pull(alloc, mirror, &keys, source))
+}
+
+#[test]
+fn failing_source(rt: HostRuntime) -> Result<(), Fail> {
+    for passes in 0..5u64 {
+        fails_after::<Sha256Tree>(&rt, rt.alloc(), passes)?;
+    }
+    just_passes::<Sha256Tree>(&rt, rt.alloc())
+}
+
+// A pull of C(257) that fails after so many gets, and then one that does not.
+fn fails_after<H: TreeHash>(rt: &impl Abort, alloc: Global, passes: u64) -> Result<(), Fail> {
+    let mut mirror = Mirror::<H>::new(alloc, "ex")?;
+    let mut source = lying_log::<H>(alloc, Lie::Nothing, 0, 0)?;
+    source.passes = passes;
+    let end = end_of_pull(alloc, &mut mirror, &mut source)?;
+    assert_eq!(rt; end, Err(PullFault::Source), "{passes}");
+    assert_eq!(rt; source.failures, 1);
+    assert_eq!(rt; mirror.heads(alloc)?.len() == 1, passes >= 3, "{passes}");
+    source.passes = u64::MAX;
+    let again = end_of_pull(alloc, &mut mirror, &mut source)??;
+    assert_eq!(rt; (again.size, again.refused, again.complete), (257, 0, true));
+    Ok(())
+}
+
+// A pull of C(257) from a source that would fail after the last get.
+fn just_passes<H: TreeHash>(rt: &impl Abort, alloc: Global) -> Result<(), Fail> {
+    let mut mirror = Mirror::<H>::new(alloc, "ex")?;
+    let mut source = lying_log::<H>(alloc, Lie::Nothing, 0, 0)?;
+    source.passes = 5;
+    let pulled = end_of_pull(alloc, &mut mirror, &mut source)??;
+    assert_eq!(rt; (pulled.size, pulled.rounds, pulled.refused), (257, 1, 0));
+    assert_eq!(rt;
+        (pulled.complete, source.gets, source.failures),
+        (true, 5, 0)
+    );
+    Ok(())
+}
+
+// How often a pull of C(257) asks: of the rows pull-257, false-bundle and partials-gone, and where nothing is given, or
+// the checkpoint alone.
+#[test]
+fn gets_of_a_pull(rt: HostRuntime) -> Result<(), Fail> {
+    for (lie, from, count, gets, end) in [
+        (Lie::Nothing, 0, 0, 5, Ok(true)),
+        (Lie::FalseBundle, 1000, 256, 5, Ok(false)),
+        (Lie::PartialsGone, 0, 512, 7, Ok(true)),
+        (Lie::Silence, 0, 0, 1, Err(PullFault::NoCheckpoint)),
+        (Lie::NoFiles, 0, 0, 3, Err(PullFault::NoEdge)),
+    ] {
+        let mut source = lying_log::<Sha256Tree>(rt.alloc(), lie, from, count)?;
+        asks(&rt, rt.alloc(), &mut source, gets, end)?;
+    }
+    Ok(())
+}
+
+// A new mirror's pull from that source asks so often, and ends so: with a head that is complete or not, or by a fault.
+fn asks<H: TreeHash>(
+    rt: &impl Abort,
+    alloc: Global,
+    source: &mut Liar<H>,
+    gets: u64,
+    want: Result<bool, PullFault>,
+) -> Result<(), Fail> {
+    let mut mirror = Mirror::<H>::new(alloc, "ex")?;
+    let end = end_of_pull(alloc, &mut mirror, source)?;
+    assert_eq!(rt; end.map(|pulled| pulled.complete), want);
+    assert_eq!(rt; source.gets, gets);
+    Ok(())
+}
+
+// A pull of 300 entries, and a second one where the first was refused memory, as by `rt try --test --fail-alloc N`.
+#[test]
+fn pull_again_after_want_of_memory(rt: HostRuntime) -> Result<(), Fail> {
+    pulls_at_last::<Sha256Tree>(&rt, rt.alloc())
+}
+
+fn pulls_at_last<H: TreeHash>(rt: &impl Abort, alloc: Global) -> Result<(), Fail> {
+    let mut mirror = Mirror::<H>::new(alloc, "ex")?;
+    let mut source = list::<H>(alloc, 0, 300)?;
+    let mut end = end_of_pull(alloc, &mut mirror, &mut source)?;
+    if end == Err(PullFault::OutOfMemory) {
+        end = end_of_pull(alloc, &mut mirror, &mut source)?;
+    }
+    let pulled = end?;
+    assert_eq!(rt;
+        (pulled.size, pulled.refused, pulled.complete),
+        (300, 0, true)
+    );
+    Ok(())
+}
