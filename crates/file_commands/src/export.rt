@@ -4,9 +4,9 @@ ghost use Rattle.file_commands.specs.Exported.{CountsFileExport, ExportsFile};
 
 use crate::fault::ExportFileFault;
 use crate::named::NamedFiles;
-use mirror_folders::Shelf;
+use crate::state::loaded;
+use mirror_folders::{Shelf, export};
 use signed_note::Verifier;
-use state_commands::{check_origin, export_state};
 use std::alloc::Global;
 use tlog_hash::TreeHash;
 
@@ -19,8 +19,8 @@ use tlog_hash::TreeHash;
 ///
 /// # Errors
 ///
-/// In this order: `Origin`, as of `Mirror::new`; `File`, where the state file is not read; `Export`, those of
-/// `export_state`. What was put before a fault stays.
+/// In this order: `State`, those of `loaded`, and nothing is put then; `Export`, those of `mirror_folders::export`. What
+/// was put before a fault stays.
 pub fn run_export<H: TreeHash, F: NamedFiles, S: Shelf>(
     files: &F,
     alloc: Global,
@@ -32,16 +32,11 @@ pub fn run_export<H: TreeHash, F: NamedFiles, S: Shelf>(
     ensures answer { ExportsFile H.digest origin.now (map (λ k. key k) keys.now) (F.puts files.now) state.now (S.puts shelf.old) (S.puts shelf.new) result }
     ensures blamed { CountsFileExport (S.failed shelf.old) (S.failed shelf.new) result }
 {
-    match check_origin(alloc, origin) {
-        Ok(()) => {}
-        Err(fault) => return Err(ExportFileFault::Origin(fault)),
-    }
-    let bytes = match files.read_state(state) {
-        Ok(bytes) => bytes,
-        Err(fault) => return Err(ExportFileFault::File(fault)),
+    let mirror = match loaded::<H, F>(files, alloc, origin, keys, state) {
+        Ok(mirror) => mirror,
+        Err(fault) => return Err(ExportFileFault::State(fault)),
     };
-    let mut input = bytes.as_slice();
-    match export_state::<H, &[u8], S>(alloc, origin, keys, &mut input, shelf) {
+    match export(alloc, &mirror, shelf) {
         Ok(()) => Ok(()),
         Err(fault) => Err(ExportFileFault::Export(fault)),
     }

@@ -1,6 +1,6 @@
 //! Why a command over named files is not done.
 use mirror_files::LoadFault;
-use state_commands::ExportStateFault;
+use mirror_folders::ExportFault;
 use thiserror::Error;
 use tlog_mirror::{MergeFault, NewFault, TakeFault};
 
@@ -66,15 +66,12 @@ pub enum MergeFilesFault {
 /// Why a state file was not exported, in the order in which they are found. It prints the name of the innermost variant.
 #[derive(Debug, Drop, PartialEq, Eq, Clone, Copy, Error)]
 pub enum ExportFileFault {
-    /// No mirror may be of that origin.
+    /// There is no mirror of the file.
     #[error(transparent)]
-    Origin(NewFault),
-    /// The file was not read.
+    State(StateFault),
+    /// Nothing is served, or not all of it was put.
     #[error(transparent)]
-    File(NamedFault),
-    /// Its bytes are not loaded, or not all that is served was put.
-    #[error(transparent)]
-    Export(ExportStateFault),
+    Export(ExportFault),
 }
 
 /// Why not all notes were written, in the order in which they are found. It prints the name of the innermost variant.

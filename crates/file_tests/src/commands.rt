@@ -1,19 +1,17 @@
 //! Commands over files in memory, questions over streams that fail, and two different entries of one digest.
-use crate::given::keys;
+use crate::given::mirror_of;
 use crate::states::{COMPLETE, EMPTY, FIRST_SUM, SECOND_SUM};
-use crate::streams::{FailingWriter, Strange};
+use crate::streams::FailingWriter;
 use file_commands::{
     ItemFiles, MemoryFiles, MergeFilesFault, NamedFault, NamedFiles, TakeFilesFault, run_merge,
     run_take,
 };
-use mirror_files::LoadFault;
-use signed_note::Verifier;
-use state_commands::{AskFault, Question, check_origin, print_report};
+use state_commands::{AskFault, Question, print_report};
 use std::alloc::Global;
-use std::io::{Read, Write};
+use std::io::Write;
 use std::test::Fail;
 use tlog_hash::{Sha256Tree, SumTree, TreeHash};
-use tlog_mirror::MergeFault;
+use tlog_mirror::{MergeFault, Mirror};
 use tlog_proof::Ask;
 
 // Each of these calls a public function, and tells nothing of it: what is known of a call makes the rest of a test dear.
@@ -56,25 +54,20 @@ fn colliding_files(rt: HostRuntime) -> Result<(), Fail> {
     Ok(())
 }
 
-// What the question is answered with.
-fn answer_of<H: TreeHash, R: Read, W: Write>(
+// What the question about a mirror is answered with.
+fn answer_of<H: TreeHash, W: Write>(
     alloc: Global,
-    keys: &[Box<dyn Verifier>],
+    mirror: &mut Mirror<H>,
     question: &Question,
-    state: &mut R,
     output: &mut W,
 ) -> Result<u8, AskFault> {
-    match check_origin(alloc, "ex") {
-        Ok(()) => print_report::<H, R, W>(alloc, "ex", keys, question, state, output),
-        Err(_) => Err(AskFault::Load(LoadFault::OutOfMemory)),
-    }
+    print_report::<H, W>(alloc, mirror, question, output)
 }
 
 // A writer gets as many bytes of the text as it has room for, and a fault.
 #[test]
 fn failing_writer(rt: HostRuntime) -> Result<(), Fail> {
     let alloc = rt.alloc();
-    let keys = keys(alloc)?;
     let inclusion = Question::Proof(Ask::Inclusion { size: 3, index: 2 });
     let consistency = Question::Proof(Ask::Consistency {
         first: 2,
@@ -87,34 +80,11 @@ fn failing_writer(rt: HostRuntime) -> Result<(), Fail> {
         (inclusion, COMPLETE, "inclusi"),
         (consistency, COMPLETE, "consist"),
     ] {
+        let mut mirror = mirror_of::<Sha256Tree>(alloc, state)?;
         let mut writer = FailingWriter::new(alloc, front.len());
-        let mut state = state;
-        let answer = answer_of::<Sha256Tree, _, _>(
-            alloc,
-            &keys,
-            &question,
-            &mut state,
-            &mut writer,
-        );
+        let answer = answer_of(alloc, &mut mirror, &question, &mut writer);
         assert_eq!(rt; answer, Err(AskFault::WriteFault));
         assert_eq!(rt; writer.taken.as_slice(), front.as_bytes());
     }
     Ok(())
-}
-
-// A state that cannot be read: nothing is written.
-#[test]
-fn failing_reader(rt: HostRuntime) {
-    let alloc = rt.alloc();
-    let mut state = Strange { is_endless: false };
-    let mut output = Vec::new(alloc);
-    let answer = answer_of::<Sha256Tree, _, _>(
-        alloc,
-        &[],
-        &Question::Status,
-        &mut state,
-        &mut output,
-    );
-    assert_eq!(rt; answer, Err(AskFault::Load(LoadFault::ReadFault)));
-    assert_eq!(rt; output.len(), 0);
 }

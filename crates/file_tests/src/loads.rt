@@ -4,7 +4,6 @@ use crate::states::COMPLETE;
 use crate::streams::{FailingWriter, Strange};
 use mirror_files::{LoadFault, PartsFault, SaveFault, save};
 use signed_note::Verifier;
-use state_commands::AskFault;
 use std::alloc::Global;
 use std::io::Read;
 use std::process::Abort;
@@ -88,7 +87,5 @@ fn faults_print_their_names(rt: HostRuntime) -> Result<(), Fail> {
     ] {
         assert_eq!(rt; fault.to_string(alloc)?.as_str(), name);
     }
-    let refused = AskFault::Load(LoadFault::OutOfMemory);
-    assert_eq!(rt; refused.to_string(alloc)?.as_str(), "OutOfMemory");
     Ok(())
 }

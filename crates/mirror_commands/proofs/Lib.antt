@@ -1,4 +1,3 @@
 mod Written
 mod Built
 mod Doable
-mod Pulled

@@ -1,6 +1,6 @@
 -- What the command `pull` makes of a state file, what it leaves in the file that it writes, and what
 -- it prints.
-use Rattle.std.specs.Prelude.{◌⊎◌, ℕ, List, Option, Some, None, Result, Ok, Err}
+use Rattle.std.specs.Prelude.{◌⊎◌, ℕ, List, Option, Result, Ok, Err}
 use Rattle.std.specs.Io.KnownBytes.{Appends, Keeps}
 use Rattle.byte_streams.specs.Streams.{AppendsPrefix}
 use Rattle.log_sources.specs.Told.{KeepsTold}
@@ -8,28 +8,20 @@ use Rattle.signed_note.specs.Keys.{Key}
 use Rattle.mirror_model.specs.View.{View}
 use Rattle.mirror_pull.specs.Taking.{PullsTo}
 use Rattle.mirror_pull.specs.declared.pulling.Pulled.{Pulled}
-use Rattle.mirror_updates.specs.Opening.{OpensMirror}
 use Rattle.mirror_updates.specs.Pulling.{IsPulledStatus, pulled_lines}
 use Rattle.state_commands.specs.NoteFiles.{NamedFile}
-use Rattle.file_commands.specs.Named.{TellsFile}
-use Rattle.file_commands.specs.States.{WritesState}
+use Rattle.file_commands.specs.States.{BeginsWith, WritesState}
 use Rattle.mirror_commands.specs.declared.fault.TellFault.{TellFault}
 use Rattle.mirror_commands.specs.declared.fault.TellFault.TheVariants.{Work, WriteFault}
 use Rattle.mirror_commands.specs.declared.fault.WorkFault.TheVariants.{OutOfMemory}
 
 module _ (digest : List ℕ → List ℕ) (origin : List ℕ) (keys : List Key) where
-  -- a mirror was opened, of a state's bytes or without any, and a pull into it from some source came to
-  -- this view
-  abbrev pub PullsFromState : Option (List ℕ) → View → Pulled → Type 0
-  PullsFromState state v pulled =
-      (start : View) × OpensMirror digest origin keys state (Ok start)
-      × PullsTo digest keys start v (Ok pulled)
-
-  -- the same, of the bytes of a file, where one is named
+  -- a pull from some source came to this view, and began with the mirror of the file that is named, or
+  -- where none is with one that holds nothing
   abbrev pub PullsFromFile : Option (List NamedFile) → Option (List ℕ) → View → Pulled → Type 0
-  PullsFromFile told (Some name) v pulled =
-      (bytes : List ℕ) × TellsFile told name bytes × PullsFromState (Some bytes) v pulled
-  PullsFromFile told None v pulled = PullsFromState None v pulled
+  PullsFromFile told state v pulled =
+      (start : View) × BeginsWith digest origin keys told state (Ok start)
+      × PullsTo digest keys start v (Ok pulled)
 
   module _ (state : Option (List ℕ)) (out : List ℕ) (told left : Option (List NamedFile)) where
     -- what the pull came to was written to the file `out`, and nothing else was

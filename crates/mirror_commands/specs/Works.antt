@@ -4,18 +4,17 @@ use Rattle.std.specs.Fmt.{decimal}
 use Rattle.std.specs.Io.KnownBytes.{Appends}
 use Rattle.byte_streams.specs.Streams.{AppendsPrefix}
 use Rattle.signed_note.specs.Keys.{Key}
-use Rattle.mirror_model.specs.Origin.{IsOrigin}
-use Rattle.tlog_mirror.specs.declared.fault.NewFault.TheVariants as made
+use Rattle.mirror_model.specs.View.{View}
 use Rattle.state_commands.specs.NoteFiles.{NamedFile}
 use Rattle.state_commands.specs.Questions.{AnswersQuestion}
 use Rattle.state_commands.specs.declared.question.Question.{Question}
 use Rattle.state_commands.specs.declared.fault.AskFault.{AskFault}
 use Rattle.state_commands.specs.declared.fault.AskFault.TheVariants as ask
-use Rattle.file_commands.specs.Named.{ReadsFile, TellsFile}
+use Rattle.file_commands.specs.States.{OpensFile}
 use Rattle.stream_commands.specs.Entries.{ReadsEntries}
 use Rattle.stream_commands.specs.declared.entries.EntriesFault.{EntriesFault}
 use Rattle.mirror_commands.specs.declared.fault.WorkFault.{WorkFault}
-use Rattle.mirror_commands.specs.declared.fault.WorkFault.TheVariants.{Named, Origin, Ask, Entries}
+use Rattle.mirror_commands.specs.declared.fault.WorkFault.TheVariants.{State, Ask, Entries}
 use Rattle.mirror_commands.specs.declared.fault.TellFault.{TellFault}
 
 -- the exit status is one of a command that was done: 0, or 3 for a no
@@ -32,17 +31,15 @@ IsWriting other = ⊥
 module _
     (digest : List ℕ → List ℕ) (keys : List Key) (told : Option (List NamedFile)) (name : List ℕ)
     (origin : List ℕ) (question : Question) (old new : Option (List ℕ)) where
-  -- some bytes, which the state file has, answer what was answered and written
+  -- a mirror was opened of the state file, and it answers what was answered and written
   abbrev pub AsksState : Result ℕ WorkFault → Type 0
   AsksState (Ok status) =
-      (state : List ℕ) × TellsFile told name state ×
-      AnswersQuestion digest origin keys question state old new (Ok status)
+      (v : View) × OpensFile digest origin keys told name (Ok v) ×
+      AnswersQuestion digest question v old new (Ok status)
+  AsksState (Err (State fault)) = OpensFile digest origin keys told name (Err fault)
   AsksState (Err (Ask fault)) =
-      (state : List ℕ) × TellsFile told name state ×
-      AnswersQuestion digest origin keys question state old new (Err fault)
-  AsksState (Err (Origin made.BadOrigin)) = IsOrigin origin → ⊥
-  AsksState (Err (Origin made.OutOfMemory)) = Unit {0}
-  AsksState (Err (Named fault)) = ReadsFile told name (Err fault)
+      (v : View) × OpensFile digest origin keys told name (Ok v) ×
+      AnswersQuestion digest question v old new (Err fault)
   AsksState (Err other) = ⊥
 
 -- ---- serve

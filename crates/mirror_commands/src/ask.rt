@@ -6,9 +6,9 @@ ghost use Rattle.mirror_commands.specs.Works.{AsksState, IsStatus, IsWriting};
 
 use crate::fault::WorkFault;
 use command_line::Held;
-use file_commands::NamedFiles;
+use file_commands::{NamedFiles, loaded};
 use signed_note::Verifier;
-use state_commands::{Question, check_origin, print_report};
+use state_commands::{Question, print_report};
 use std::alloc::Global;
 use std::io::Write;
 use tlog_hash::Sha256Tree;
@@ -17,7 +17,7 @@ use tlog_hash::Sha256Tree;
 ///
 /// # Errors
 ///
-/// In this order: `BadOrigin`, those of the state file, and those of `print_report`. Nothing was written but at a
+/// In this order: those of `loaded`, and those of `print_report`. Nothing was written but at a
 /// `WriteFault`.
 pub(crate) fn run_ask<F: NamedFiles, W: Write>(
     files: &F,
@@ -31,17 +31,11 @@ pub(crate) fn run_ask<F: NamedFiles, W: Write>(
     ensures status { IfOk result IsStatus }
     ensures quiet { IfErr result (λ fault. (IsWriting fault → ⊥) → Keeps (W.contents output.old) (W.contents output.new)) }
 {
-    let origin = held.log.origin;
-    match check_origin(alloc, origin) {
-        Ok(()) => {}
-        Err(fault) => return Err(WorkFault::Origin(fault)),
-    }
-    let state = match files.read_state(held.state) {
-        Ok(state) => state,
-        Err(fault) => return Err(WorkFault::Named(fault)),
+    let mut mirror = match loaded::<Sha256Tree, F>(files, alloc, held.log.origin, keys, held.state) {
+        Ok(mirror) => mirror,
+        Err(fault) => return Err(WorkFault::State(fault)),
     };
-    let mut input = state.as_slice();
-    match print_report::<Sha256Tree, &[u8], W>(alloc, origin, keys, question, &mut input, output) {
+    match print_report::<Sha256Tree, W>(alloc, &mut mirror, question, output) {
         Ok(status) => Ok(status),
         Err(fault) => Err(WorkFault::Ask(fault)),
     }

@@ -49,6 +49,6 @@ pub(crate) fn run_build<R: Files, I: Read>(
     let mut shelf = DirShelf::new(rt, alloc, build.folder);
     match build_log::<Sha256Tree, DirShelf<'_, R>>(alloc, origin, keys, key, entries, &mut shelf) {
         Ok(()) => Ok(()),
-        Err(fault) => Err(WorkFault::Update(fault)),
+        Err(fault) => Err(WorkFault::Build(fault)),
     }
 }

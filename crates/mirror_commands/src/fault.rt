@@ -6,7 +6,8 @@ use command_line::CommandFault;
 use file_commands::{
     ExportFileFault, MergeFilesFault, NamedFault, NotesFault, StateFault, TakeFilesFault,
 };
-use mirror_updates::UpdateFault;
+use mirror_pull::PullFault;
+use mirror_updates::BuildFault;
 use signed_note::KeyFileFault;
 use state_commands::AskFault;
 use std::alloc::{AllocError, AllocFailed};
@@ -88,9 +89,12 @@ pub enum WorkFault {
     /// Nothing was reported of a state.
     #[error(transparent)]
     Ask(AskFault),
-    /// Nothing was pulled, or no log was made.
+    /// A pull ended early.
     #[error(transparent)]
-    Update(UpdateFault),
+    Pull(PullFault),
+    /// No log was made.
+    #[error(transparent)]
+    Build(BuildFault),
     /// The port cannot be had, or a connection cannot be accepted.
     #[error("PortFault")]
     PortFault,
@@ -150,11 +154,11 @@ impl From<AskFault> for WorkFault {
     }
 }
 
-impl From<UpdateFault> for WorkFault {
-    ghost from_gives = { λ f e. e ≡ work.Update f };
+impl From<PullFault> for WorkFault {
+    ghost from_gives = { λ f e. e ≡ work.Pull f };
 
-    fn from(fault: UpdateFault) -> WorkFault {
-        WorkFault::Update(fault)
+    fn from(fault: PullFault) -> WorkFault {
+        WorkFault::Pull(fault)
     }
 }
 

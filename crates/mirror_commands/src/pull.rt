@@ -1,21 +1,21 @@
 //! The command `pull`: what is missing is fetched.
-ghost use Rattle.std.specs.Prelude.{◌≢◌, IfErr, IfOk, Some, map, option_map};
+ghost use Rattle.std.specs.Prelude.{◌≢◌, IfErr, IfOk, Ok, map, option_map};
 ghost use Rattle.std.specs.Io.KnownBytes.{Keeps};
 ghost use Rattle.sha2.specs.Sha256.{sha256};
-ghost use Rattle.mirror_commands.specs.Pulls.{PullsFromFile, PullsFromState, TellsPull};
+ghost use Rattle.mirror_pull.specs.Taking.{PullsTo};
+ghost use Rattle.mirror_commands.specs.Pulls.{PullsFromFile, TellsPull};
 ghost use Rattle.mirror_commands.specs.Works.{IsStatus};
 
 use crate::fault::{TellFault, WorkFault};
 use byte_streams::write_whole;
 use command_line::{Place, Pull};
-use file_commands::{NamedFiles, write_state};
+use file_commands::{NamedFiles, begun, write_state};
 use log_sources::Source;
 use mirror_folders::DirSource;
 use mirror_http::{HttpSource, Site, TcpDial};
-use mirror_pull::Pulled;
-use mirror_updates::{pull_into, pulled_status, pulled_text};
+use mirror_pull::{Pulled, pull};
+use mirror_updates::{pulled_status, pulled_text};
 use signed_note::Verifier;
-use state_commands::check_origin;
 use std::alloc::Global;
 use std::fs::Files;
 use std::io::Write;
@@ -72,32 +72,25 @@ fn pulled_from<R: Files + Clock + Net<Stream = TcpStream>, F: NamedFiles>(
     ensures { IfOk result (λ x. PullsFromFile sha256 words.now.made.log.origin.now (map (λ k. key k) keys.now) (F.puts files.now) (option_map (λ name. name.now) words.now.state) x.0.view x.1) }
 {
     let origin = words.made.log.origin;
-    check_origin(alloc, origin)?;
-    match words.state {
-        Some(name) => {
-            let state = files.read_state(name)?;
-            let mut input = state.as_slice();
-            from_place(rt, alloc, origin, keys, Some(&mut input), &words.place)
-        }
-        None => from_place(rt, alloc, origin, keys, None, &words.place),
-    }
+    let mut mirror = begun::<Sha256Tree, F>(files, alloc, origin, keys, words.state)?;
+    let pulled = from_place(rt, alloc, &mut mirror, keys, &words.place)?;
+    Ok((mirror, pulled))
 }
 
-// The mirror of the state's bytes, and what the pull from a place into it came to.
+// Pulls from a place into the mirror.
 fn from_place<'a, R: Files + Clock + Net<Stream = TcpStream>>(
     rt: &'a R,
     alloc: Global,
-    origin: &str,
+    mirror: &mut Mirror<Sha256Tree>,
     keys: &[Box<dyn Verifier>],
-    state: Option<&mut &[u8]>,
     place: &'a Place<'a>,
-) -> Result<(Mirror<Sha256Tree>, Pulled), WorkFault>
-    ensures { IfOk result (λ x. PullsFromState sha256 origin.now (map (λ k. key k) keys.now) (option_map (λ r. r.now.now) state.entry) x.0.view x.1) }
+) -> Result<Pulled, WorkFault>
+    ensures { IfOk result (λ pulled. PullsTo sha256 (map (λ k. key k) keys.now) mirror.old.view mirror.new.view (Ok pulled)) }
 {
     match place {
         Place::Folder(folder) => {
             let mut source = DirSource::new(rt, alloc, folder);
-            from_source(alloc, origin, keys, state, &mut source)
+            from_source(alloc, mirror, keys, &mut source)
         }
         Place::Server {
             host,
@@ -109,39 +102,20 @@ fn from_place<'a, R: Files + Clock + Net<Stream = TcpStream>>(
             let Ok(site) = Site::new(alloc, host, prefix) else {
                 return Err(WorkFault::OutOfMemory);
             };
-            from_server(alloc, origin, keys, state, site, rt, dialled, *port)
+            let dial = TcpDial::new(alloc, rt, dialled, *port)?;
+            from_source(alloc, mirror, keys, &mut HttpSource::new(alloc, site, dial))
         }
     }
 }
 
-// The mirror of the state's bytes, and what the pull from a site, over connections to a host and port, came to.
-#[allow(clippy::too_many_arguments)]
-fn from_server<N: Net<Stream = TcpStream> + Clock + Clone + Drop>(
-    alloc: Global,
-    origin: &str,
-    keys: &[Box<dyn Verifier>],
-    state: Option<&mut &[u8]>,
-    site: Site,
-    net: N,
-    host: &str,
-    port: u16,
-) -> Result<(Mirror<Sha256Tree>, Pulled), WorkFault>
-    ensures { IfOk result (λ x. PullsFromState sha256 origin.now (map (λ k. key k) keys.now) (option_map (λ r. r.now.now) state.entry) x.0.view x.1) }
-{
-    let dial = TcpDial::new(alloc, net, host, port)?;
-    let mut source = HttpSource::new(alloc, site, dial);
-    from_source(alloc, origin, keys, state, &mut source)
-}
-
-// The mirror of the state's bytes, and what the pull from a source into it came to.
+// Pulls from a source into the mirror.
 fn from_source<S: Source>(
     alloc: Global,
-    origin: &str,
+    mirror: &mut Mirror<Sha256Tree>,
     keys: &[Box<dyn Verifier>],
-    state: Option<&mut &[u8]>,
     source: &mut S,
-) -> Result<(Mirror<Sha256Tree>, Pulled), WorkFault>
-    ensures { IfOk result (λ x. PullsFromState sha256 origin.now (map (λ k. key k) keys.now) (option_map (λ r. r.now.now) state.entry) x.0.view x.1) }
+) -> Result<Pulled, WorkFault>
+    ensures { IfOk result (λ pulled. PullsTo sha256 (map (λ k. key k) keys.now) mirror.old.view mirror.new.view (Ok pulled)) }
 {
-    Ok(pull_into::<Sha256Tree, &[u8], S>(alloc, origin, keys, state, source)?)
+    Ok(pull(alloc, mirror, keys, source)?)
 }

@@ -1,4 +1,2 @@
-pub mod Openings
 pub mod Logs
-pub mod Told
 pub mod Shelved

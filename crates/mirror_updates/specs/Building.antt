@@ -1,5 +1,5 @@
--- A log built of entries (C2SP tlog-tiles). `IsUnexported` is cited by the contracts of private
--- functions alone.
+-- A log built of entries (C2SP tlog-tiles). `ChecksOrigin` and `IsUnexported` are cited by the
+-- contracts of private functions alone.
 use Rattle.std.specs.Prelude.{◌≡◌, ◌⊎◌, ℕ, List, length, Option, Result, Ok, Err}
 use Rattle.std.specs.FinSet as set
 use Rattle.signed_note.specs.Keys.{Key}
@@ -15,12 +15,19 @@ use Rattle.mirror_folders.specs.Shelf.{Put, TellsNone, TellsSome}
 use Rattle.mirror_folders.specs.Files.{paths_of, files_at}
 use Rattle.mirror_folders.specs.Exports.{AddsPrefix}
 use Rattle.mirror_folders.specs.declared.fault.ExportFault.TheVariants as export
-use Rattle.mirror_updates.specs.declared.fault.UpdateFault.{UpdateFault}
-use Rattle.mirror_updates.specs.declared.fault.UpdateFault.TheVariants.{BadOrigin, Export}
-use Rattle.mirror_updates.specs.declared.fault.UpdateFault.TheVariants.{OutOfMemory}
+use Rattle.mirror_updates.specs.declared.fault.BuildFault.{BuildFault}
+use Rattle.mirror_updates.specs.declared.fault.BuildFault.TheVariants.{BadOrigin, Export}
+use Rattle.mirror_updates.specs.declared.fault.BuildFault.TheVariants.{OutOfMemory}
+
+-- what each answer of judging an origin says: a mirror may be of it, or not
+abbrev pub ChecksOrigin : {T : Type 0} → List ℕ → Result T BuildFault → Type 0
+ChecksOrigin origin (Ok x) = IsOrigin origin
+ChecksOrigin origin (Err BadOrigin) = IsOrigin origin → ⊥
+ChecksOrigin origin (Err OutOfMemory) = Unit {0}
+ChecksOrigin origin (Err fault) = ⊥
 
 -- the answer comes from before the export: no shelf was asked for anything
-abbrev pub IsUnexported : {T : Type 0} → Result T UpdateFault → Type 0
+abbrev pub IsUnexported : {T : Type 0} → Result T BuildFault → Type 0
 IsUnexported (Ok x) = Unit {0}
 IsUnexported (Err (Export fault)) = ⊥
 IsUnexported (Err fault) = Unit {0}
@@ -51,7 +58,7 @@ module _ (digest : List ℕ → List ℕ) where
       pub complete : IsComplete digest v (length entries) (mth digest entries)
 
     -- what each answer of making a view of the log says
-    abbrev pub FillsMirror : Result View UpdateFault → Type 0
+    abbrev pub FillsMirror : Result View BuildFault → Type 0
     FillsMirror (Ok v) = IsLogView v
     FillsMirror (Err BadOrigin) = IsOrigin origin → ⊥
     FillsMirror (Err OutOfMemory) = Unit {0}
@@ -59,7 +66,7 @@ module _ (digest : List ℕ → List ℕ) where
 
     -- what building the log puts onto a shelf: at Ok all its files, onto one that had no checkpoint
     abbrev pub BuildsLog : {T : Type 0} → Option (List Put) → Option (List Put) →
-        Result T UpdateFault → Type 0
+        Result T BuildFault → Type 0
     BuildsLog old new (Ok x) =
         (files : List Put) × AreLogFiles files × TellsNone old Checkpoint × AddsTold old new files
     BuildsLog old new (Err BadOrigin) = (IsOrigin origin → ⊥) × KeepsTold old new

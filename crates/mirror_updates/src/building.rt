@@ -1,15 +1,15 @@
 //! A log built of entries.
-ghost use Rattle.std.specs.Prelude.{◌≡◌, map};
+ghost use Rattle.std.specs.Prelude.{◌≡◌, IfOk, map};
 ghost use Rattle.log_sources.specs.Told.{Rose};
 ghost use Rattle.mirror_model.specs.Origin.{IsOrigin};
 ghost use Rattle.mirror_model.specs.TrueLaws.{AreShort};
+ghost use Rattle.mirror_model.specs.View.{nothing};
 ghost use Rattle.signed_note.specs.Keys.{secret_key};
 ghost use Rattle.std.specs.Prelude.{Contains};
 ghost use Rattle.tlog_text.specs.Answers.{seen};
-ghost use Rattle.mirror_updates.specs.Building.{BuildsLog, FillsMirror, HasNoClashing, IsUnexported};
+ghost use Rattle.mirror_updates.specs.Building.{BuildsLog, ChecksOrigin, FillsMirror, HasNoClashing, IsUnexported};
 
-use crate::fault::UpdateFault;
-use crate::opening::empty;
+use crate::fault::BuildFault;
 use log_sources::ListSource;
 use mirror_folders::{ExportFault, Shelf, export};
 use mirror_pull::pull;
@@ -41,11 +41,11 @@ pub fn build_log<H: TreeHash, S: Shelf>(
     signer: HmacKey,
     entries: Vec<Vec<u8>>,
     shelf: &mut S,
-) -> Result<(), UpdateFault>
+) -> Result<(), BuildFault>
     requires short { AreShort (map (λ e. e.items) entries.items) }
     ensures builds { Contains (map (λ k. key k) keys.now) (secret_key signer) → HasNoClashing H.digest (map (λ e. e.items) entries.items) → BuildsLog H.digest origin.now (secret_key signer) (map (λ e. e.items) entries.items) (S.puts shelf.old) (S.puts shelf.new) result }
-    ensures bad_origin { result ≡ Err UpdateFault.BadOrigin → IsOrigin origin.now → ⊥ }
-    ensures blamed { result ≡ Err (UpdateFault.Export ExportFault.ShelfFault) → Rose (S.failed shelf.old) (S.failed shelf.new) }
+    ensures bad_origin { result ≡ Err BuildFault.BadOrigin → IsOrigin origin.now → ⊥ }
+    ensures blamed { result ≡ Err (BuildFault.Export ExportFault.ShelfFault) → Rose (S.failed shelf.old) (S.failed shelf.new) }
 {
     let mirror = filled::<H>(alloc, origin, keys, signer, entries)?;
     export(alloc, &mirror, shelf)?;
@@ -59,14 +59,23 @@ fn filled<H: TreeHash>(
     keys: &[Box<dyn Verifier>],
     signer: HmacKey,
     entries: Vec<Vec<u8>>,
-) -> Result<Mirror<H>, UpdateFault>
+) -> Result<Mirror<H>, BuildFault>
     requires short { AreShort (map (λ e. e.items) entries.items) }
     ensures fills { Contains (map (λ k. key k) keys.now) (secret_key signer) → HasNoClashing H.digest (map (λ e. e.items) entries.items) → FillsMirror H.digest origin.now (secret_key signer) (map (λ e. e.items) entries.items) (seen (λ mirror. mirror.view) result) }
-    ensures bad_origin { result ≡ Err UpdateFault.BadOrigin → IsOrigin origin.now → ⊥ }
+    ensures bad_origin { result ≡ Err BuildFault.BadOrigin → IsOrigin origin.now → ⊥ }
     ensures unexported { IsUnexported result }
 {
     let mut mirror = empty::<H>(alloc, origin)?;
     let mut source: ListSource<H> = ListSource::new(alloc, origin, entries, signer)?;
     pull(alloc, &mut mirror, keys, &mut source)?;
+    Ok(mirror)
+}
+
+// A mirror that holds nothing.
+fn empty<H: TreeHash>(alloc: Global, origin: &str) -> Result<Mirror<H>, BuildFault>
+    ensures judged { ChecksOrigin origin.now result }
+    ensures view { IfOk result (λ mirror. mirror.view ≡ nothing origin.now) }
+{
+    let mirror = Mirror::new(alloc, origin)?;
     Ok(mirror)
 }

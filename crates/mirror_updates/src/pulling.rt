@@ -1,51 +1,11 @@
-//! What is missing fetched into a mirror, and what is told of it.
-ghost use Rattle.std.specs.Prelude.{◌≡◌, [], IfOk, map, option_map, string_bytes};
-ghost use Rattle.log_sources.specs.Source.{StaysWithin};
-ghost use Rattle.log_sources.specs.Told.{Rose};
-ghost use Rattle.mirror_pull.specs.Asking.{AddsSome, AsksInParts};
-ghost use Rattle.tlog_text.specs.Answers.{seen};
-ghost use Rattle.mirror_updates.specs.Pulling.{IsPulledStatus, PullsInto, counts_text, head_text, pulled_lines};
+//! What is told of a pull.
+ghost use Rattle.std.specs.Prelude.{◌≡◌, IfOk, string_bytes};
+ghost use Rattle.mirror_updates.specs.Pulling.{IsPulledStatus, counts_text, head_text, pulled_lines};
 
-use crate::fault::UpdateFault;
-use crate::opening::opened;
-use log_sources::Source;
-use mirror_pull::{PullFault, Pulled, pull};
-use signed_note::Verifier;
+use mirror_pull::Pulled;
 use std::alloc::{AllocError, Global};
-use std::io::Read;
-use tlog_hash::{Hash, TreeHash};
-use tlog_mirror::Mirror;
+use tlog_hash::Hash;
 use tlog_text::push_hash;
-
-/// Opens a mirror, as `opened` does, and pulls into it what a source has of its newest head, as `mirror_pull::pull` does.
-/// A pull that is not complete is Ok too, and its `complete` tells.
-///
-/// ```text
-/// let (mirror, pulled) = pull_into(alloc, "example.com/log", &keys, None::<&mut File>, &mut source)?;
-/// ```
-///
-/// # Errors
-///
-/// The first that applies: those of `opened`, and the source is asked for nothing then; `Pull`, with what `pull` answers,
-/// `Source` only where the source's count of failures rose or stands at its last value. `OutOfMemory` where memory was
-/// refused, before any of them or after.
-pub fn pull_into<H: TreeHash, R: Read, S: Source>(
-    alloc: Global,
-    origin: &str,
-    keys: &[Box<dyn Verifier>],
-    state: Option<&mut R>,
-    source: &mut S,
-) -> Result<(Mirror<H>, Pulled), UpdateFault>
-    ensures outcome { PullsInto H.digest origin.now (map (λ k. key k) keys.now) (option_map (λ r. R.remaining r.now) state.entry) (S.may_answer source.old) (S.asked source.old) (S.asked source.new) (seen (λ x. (x.0.view, x.1)) result) }
-    ensures once { AddsSome [] (S.asked source.old) (S.asked source.new) }
-    ensures blamed { result ≡ Err (UpdateFault.Pull PullFault.Source) → Rose (S.failed source.old) (S.failed source.new) }
-    ensures later { StaysWithin (S.may_answer source.old) (S.may_answer source.new) }
-    ensures asks { IfOk result (λ x. AsksInParts (S.asked source.old) (S.asked source.new) x.1.size x.1.rounds) }
-{
-    let mut mirror = opened::<H, R>(alloc, origin, keys, state)?;
-    let pulled = pull(alloc, &mut mirror, keys, source)?;
-    Ok((mirror, pulled))
-}
 
 /// What a pull came to, as the two lines `pulled SIZE ROOT rounds N refused N` and `complete` or `partial`, the root in
 /// standard base64.

@@ -1,3 +1,2 @@
 pub mod Questions
-pub mod Exported
 pub mod NoteFiles

@@ -1,18 +1,15 @@
 use Rattle.std.proofs.Common.{refl}
-use Rattle.std.proofs.lemmas.Option.{IfSome_then}
 use Rattle.state_commands.proofs.printing.print_report.Goals as goal
 
 pub returns-in-Ok-write_report-clause-answer : goal.returns-in-Ok-write_report-clause-answer
 returns-in-Ok-write_report-clause-answer g c =
-    IfSome_then (g.R.Read.remaining c.args.state.now) c.in-Ok.ensures.answer
-    (λ bytes has. record {
+    record {
       report = c.in-Ok.report;
-      has = has;
+      reports = c.in-Ok.ensures;
       written = c.in-Ok-write_report.ensures.ok;
       status_is = refl;
-    })
+    }
 
 pub returns-clause-answer : goal.returns-clause-answer
 returns-clause-answer g c =
-    IfSome_then (g.R.Read.remaining c.args.state.now) c.in-Ok.ensures.answer
-    (λ bytes has. record { report = c.in-Ok.report; has = has; written = c.in-Err-write_report.ensures.err })
+    record { report = c.in-Ok.report; reports = c.in-Ok.ensures; written = c.in-Err-write_report.ensures.err }
