@@ -1,17 +1,18 @@
-//! The commands over files in memory, and over files that cannot be written: what they leave, and each fault.
-mod faults;
-mod refusing;
-mod rows;
-
+//! Commands over files in memory, questions over streams that fail, and two different entries of one digest.
+use crate::given::mirror_of;
+use crate::states::{COMPLETE, EMPTY, FIRST_SUM, SECOND_SUM};
+use crate::streams::FailingWriter;
 use file_commands::{
-    ExportFileFault, ItemFiles, MemoryFiles, MergeFilesFault, NamedFault, NamedFiles, NotesFault,
-    TakeFilesFault, run_export, run_merge, run_notes, run_take,
+    ItemFiles, MemoryFiles, MergeFilesFault, NamedFault, NamedFiles, TakeFilesFault, run_merge,
+    run_take,
 };
-use mirror_folders::MemShelf;
-use signed_note::Verifier;
+use state_commands::{AskFault, Question, print_report};
 use std::alloc::Global;
+use std::io::Write;
 use std::test::Fail;
-use tlog_hash::TreeHash;
+use tlog_hash::{Sha256Tree, SumTree, TreeHash};
+use tlog_mirror::{MergeFault, Mirror};
+use tlog_proof::Ask;
 
 // Each of these calls a public function, and tells nothing of it: what is known of a call makes the rest of a test dear.
 
@@ -20,82 +21,70 @@ fn put(files: &mut MemoryFiles, name: &str, bytes: &[u8]) -> Result<(), NamedFau
     files.replace(name, bytes)
 }
 
-// How many files were put, and the last of them.
-fn last_put(files: &MemoryFiles) -> Result<(usize, &str, &[u8]), Fail> {
+// Takes a bundle of one entry, into a state of its own.
+fn take<H: TreeHash>(files: &mut MemoryFiles, alloc: Global) -> Result<(), TakeFilesFault> {
+    let item = ItemFiles::Bundle {
+        width: 1,
+        file: "bundle",
+    };
+    run_take::<H, MemoryFiles>(files, alloc, "ex", &[], None, item, "first")
+}
+
+// Merges a second state into it.
+fn merge<H: TreeHash>(files: &mut MemoryFiles, alloc: Global) -> Result<(), MergeFilesFault> {
+    run_merge::<H, MemoryFiles>(files, alloc, "ex", &[], "first", "second", "first")
+}
+
+// A bundle is taken as its state; another state, of an entry with the same sum, is not merged into it, and nothing is
+// put.
+#[test]
+fn colliding_files(rt: HostRuntime) -> Result<(), Fail> {
+    let alloc = rt.alloc();
+    let mut files = MemoryFiles::new(alloc);
+    put(&mut files, "bundle", &[0, 2, 1, 2])?;
+    put(&mut files, "second", SECOND_SUM)?;
+    take::<SumTree>(&mut files, alloc)?;
+    let collision = MergeFilesFault::Merge(MergeFault::Collision);
+    assert_eq!(rt; merge::<SumTree>(&mut files, alloc), Err(collision));
     let puts = files.puts();
+    assert_eq!(rt; puts.len(), 3);
     let (name, bytes) = puts.last().ok_or("nothing put")?;
-    Ok((puts.len(), name.as_str(), bytes.as_slice()))
+    assert_eq!(rt; name.as_str(), "first");
+    assert_eq!(rt; bytes.as_slice(), FIRST_SUM);
+    Ok(())
 }
 
-// The answer to a take of the head of that note and that row.
-fn take_head<H: TreeHash, F: NamedFiles>(
-    files: &mut F,
+// What the question about a mirror is answered with.
+fn answer_of<H: TreeHash, W: Write>(
     alloc: Global,
-    keys: &[Box<dyn Verifier>],
-    state: Option<&str>,
-    note: &str,
-    row: &str,
-) -> Result<(), TakeFilesFault> {
-    let item = ItemFiles::Head { note, rows: &[row] };
-    run_take::<H, F>(files, alloc, "ex", keys, state, item, "out")
+    mirror: &mut Mirror<H>,
+    question: &Question,
+    output: &mut W,
+) -> Result<u8, AskFault> {
+    print_report::<H, W>(alloc, mirror, question, output)
 }
 
-// The answer to a take of the tile of three hashes in that file.
-fn take_tile<H: TreeHash, F: NamedFiles>(
-    files: &mut F,
-    alloc: Global,
-    keys: &[Box<dyn Verifier>],
-    file: &str,
-) -> Result<(), TakeFilesFault> {
-    let item = ItemFiles::Tile { width: 3, file };
-    run_take::<H, F>(files, alloc, "ex", keys, None, item, "out")
-}
-
-// The answer to a take of the bundle of three entries in that file.
-fn take_bundle<H: TreeHash, F: NamedFiles>(
-    files: &mut F,
-    alloc: Global,
-    origin: &str,
-    keys: &[Box<dyn Verifier>],
-    state: Option<&str>,
-    file: &str,
-) -> Result<(), TakeFilesFault> {
-    let item = ItemFiles::Bundle { width: 3, file };
-    run_take::<H, F>(files, alloc, origin, keys, state, item, "out")
-}
-
-// The answer to a merge of these states into that file.
-fn merge<H: TreeHash, F: NamedFiles>(
-    files: &mut F,
-    alloc: Global,
-    origin: &str,
-    keys: &[Box<dyn Verifier>],
-    first: &str,
-    second: &str,
-    out: &str,
-) -> Result<(), MergeFilesFault> {
-    run_merge::<H, F>(files, alloc, origin, keys, first, second, out)
-}
-
-// The answer to an export of that state onto the shelf.
-fn export<H: TreeHash>(
-    files: &MemoryFiles,
-    alloc: Global,
-    origin: &str,
-    keys: &[Box<dyn Verifier>],
-    state: &str,
-    shelf: &mut MemShelf,
-) -> Result<(), ExportFileFault> {
-    run_export::<H, MemoryFiles, MemShelf>(files, alloc, origin, keys, state, shelf)
-}
-
-// The answer to putting the notes of that state.
-fn notes<H: TreeHash, F: NamedFiles>(
-    files: &mut F,
-    alloc: Global,
-    origin: &str,
-    keys: &[Box<dyn Verifier>],
-    state: &str,
-) -> Result<(), NotesFault> {
-    run_notes::<H, F>(files, alloc, origin, keys, state, "notes")
+// A writer gets as many bytes of the text as it has room for, and a fault.
+#[test]
+fn failing_writer(rt: HostRuntime) -> Result<(), Fail> {
+    let alloc = rt.alloc();
+    let inclusion = Question::Proof(Ask::Inclusion { size: 3, index: 2 });
+    let consistency = Question::Proof(Ask::Consistency {
+        first: 2,
+        second: 3,
+    });
+    for (question, state, front) in [
+        (Question::Status, EMPTY, ""),
+        (Question::Status, EMPTY, "o"),
+        (Question::Status, EMPTY, "origin ex\nserved none"),
+        (inclusion, COMPLETE, "inclusi"),
+        (consistency, COMPLETE, "consist"),
+    ] {
+        let mut mirror = mirror_of::<Sha256Tree>(alloc, state)?;
+        let mut writer = FailingWriter::new(alloc, front.len());
+        let answer = answer_of(alloc, &mut mirror, &question, &mut writer);
+        assert_eq!(rt; answer, Err(AskFault::WriteFault));
+        assert_eq!(rt; writer.taken.as_slice(), front.as_bytes());
+    }
+    Ok(())
 }

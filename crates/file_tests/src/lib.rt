@@ -1,28 +1,23 @@
 //! The tests of the crates that save, load, export, update and ask, in a crate of their own, since a crate's tests are
 //! checked together with the crate again.
 //!
-//! It holds tests of `mirror_files`, `mirror_folders`, `mirror_updates`, `mirror_reports`, `state_commands` and
-//! `file_commands`, and nothing else: the states, notes and files of small logs, which programs of another language made.
+//! It holds what no run of the program can show of `mirror_files`, `mirror_folders`, `mirror_updates`, `state_commands` and
+//! `file_commands`: readers, writers and shelves that fail, refused memory, colliding digests, files in memory, and each
+//! byte of a state changed. All else is shown by transcripts (`tests/` at the top of the repository).
 #![tactic(auto)]
 
 #[cfg(test)]
+mod changes;
+#[cfg(test)]
 mod commands;
 #[cfg(test)]
-mod files;
-#[cfg(test)]
-mod folders;
+mod exports;
 #[cfg(test)]
 mod given;
 #[cfg(test)]
-mod log_of_3;
+mod loads;
 #[cfg(test)]
-mod numbers;
-#[cfg(test)]
-mod questions;
-#[cfg(test)]
-mod reports;
-#[cfg(test)]
-mod shelves;
+mod memory;
 #[cfg(test)]
 mod states;
 #[cfg(test)]

@@ -1,110 +1,61 @@
-//! Texts of states of origin `ex`, made of what they list.
-use crate::given::push_hashes;
+//! The files and the state of the log of the entries `00 00`, `00 01` and `00 02` under origin `ex`,
+//! and states of two entries whose bytes have one sum. Hashes, the signature and the digests were
+//! computed by a program of another language.
 use sha2::{Digest, Sha256};
 use std::alloc::{AllocError, Global};
-use std::test::Fail;
 
-// A count of items, in eight bytes.
-fn push_count(text: &mut Vec<u8>, count: usize) -> Result<(), AllocError> {
-    text.extend_from_slice(&(count as u64).to_be_bytes())
-}
+// The head of the log, signed by the key `ex` of id 1 and secret 00.
+pub(crate) const NOTE: &[u8] = b"\
+ex\n3\n8bnxZGS31f08aQe6Fx0eVantFhgeChNfXlXJNMPL5Ao=\n\n\xe2\x80\x94 ex AAAAAbdZ36CCmDRZGzBhcbjkg\
+Y91WLYpHnpdSA8T2EJ/425O\n";
 
-// A list of notes.
-fn push_notes(text: &mut Vec<u8>, notes: &[&str]) -> Result<(), Fail> {
-    push_count(text, notes.len())?;
-    for note in notes {
-        text.extend_from_slice(&u32::try_from(note.len())?.to_be_bytes())?;
-        text.extend_from_slice(note.as_bytes())?;
-    }
-    Ok(())
-}
+// Its leaf hashes.
+pub(crate) const ROW: &[u8] = b"\
+p\x9e\x80\xc8\x84\x87\xa2A\x1e\x1e\xe4\xdf\xb9\xf2*\x86\x14\x92\xd2\x0cGe\x15\x0c\x0cyJ\xbdp\xf8\
+\x14|\xcfv\x05\xed\x1b\xc75\xf6\xc8%UATbtg\xe1\xca\xc9\xdfT\xce\xe8i\x92\x18\xedCF\x03\xc5he\xd2\
+zH\xdf\xef@m\xb8\xf5\xf47B;\xfa_\x9c\x83\xd7{\xfc\x12\xf8\xa1K\x8c\xe3\xed\xe5\x89/\xb5";
 
-// A list of pairs, each of two hashes in base64.
-fn push_pairs(text: &mut Vec<u8>, pairs: &[&str]) -> Result<(), Fail> {
-    push_count(text, pairs.len())?;
-    for pair in pairs {
-        push_hashes(text, pair)?;
-    }
-    Ok(())
-}
+// Its entries, each behind its length.
+pub(crate) const BUNDLE: &[u8] = b"\
+\x00\x02\x00\x00\x00\x02\x00\x01\x00\x02\x00\x02";
 
-// A list of entries.
-fn push_entries(text: &mut Vec<u8>, entries: &[&[u8]]) -> Result<(), Fail> {
-    push_count(text, entries.len())?;
-    for entry in entries {
-        text.extend_from_slice(&u16::try_from(entry.len())?.to_be_bytes())?;
-        text.extend_from_slice(entry)?;
-    }
-    Ok(())
-}
+// The state of a mirror that is complete at it: the note, the two pairs of its tree, its entries,
+// and the digest.
+pub(crate) const COMPLETE: &[u8] = b"\
+TLMIRR02\x00\x02ex\
+\x00\x00\x00\x00\x00\x00\x00\x01\x00\x00\x00k\
+ex\n3\n8bnxZGS31f08aQe6Fx0eVantFhgeChNfXlXJNMPL5Ao=\n\n\xe2\x80\x94 ex AAAAAbdZ36CCmDRZGzBhcbjkg\
+Y91WLYpHnpdSA8T2EJ/425O\n\
+\x00\x00\x00\x00\x00\x00\x00\x02\
+1\x9d\xd2T\x00'jx\xb45\xa7\xc0\xf8z\xfb\xdc)\xb3\xa8\x02\x99\x15\xa3\x85\xb6\xb3\x02\xc922\x1e1e\
+\xd2zH\xdf\xef@m\xb8\xf5\xf47B;\xfa_\x9c\x83\xd7{\xfc\x12\xf8\xa1K\x8c\xe3\xed\xe5\x89/\xb5\
+p\x9e\x80\xc8\x84\x87\xa2A\x1e\x1e\xe4\xdf\xb9\xf2*\x86\x14\x92\xd2\x0cGe\x15\x0c\x0cyJ\xbdp\xf8\
+\x14|\xcfv\x05\xed\x1b\xc75\xf6\xc8%UATbtg\xe1\xca\xc9\xdfT\xce\xe8i\x92\x18\xedCF\x03\xc5h\
+\x00\x00\x00\x00\x00\x00\x00\x03\x00\x02\x00\x00\x00\x02\x00\x01\x00\x02\x00\x02\
+h!\x1c~\xb2\xcfNL\xeez\xcd\x9f\x9d\xbc\x84\xa4\xb3\xbd\x00\x99\xebT7\xf4\x0eO@Y\x96\x09\xf7\xee";
 
-// The state of version 2 that lists these notes, pairs and entries as they stand, up to its digest.
-pub(crate) fn body_of(
-    alloc: Global,
-    notes: &[&str],
-    pairs: &[&str],
-    entries: &[&[u8]],
-) -> Result<Vec<u8>, Fail> {
-    let mut text = Vec::from_slice(alloc, b"TLMIRR02\x00\x02ex")?;
-    push_notes(&mut text, notes)?;
-    push_pairs(&mut text, pairs)?;
-    push_entries(&mut text, entries)?;
-    Ok(text)
-}
+// The state of a mirror that holds nothing.
+pub(crate) const EMPTY: &[u8] = b"\
+TLMIRR02\x00\x02ex\x00\x00\x00\x00\x00\x00\x00\x00\x00\x00\x00\x00\x00\x00\x00\x00\
+\x00\x00\x00\x00\x00\x00\x00\x00\
+GTQ\x92\x85We\xac[_\"\x97,\\z\xd2\x0c\xa2\xdb=\xdf\xec\xaal\xa1pAO\xd3\x93\xcc:";
 
-// The state of version 1 of two pairs behind the entries of no bytes, `00` and `10`, up to its digest, with that tag
-// before the second pair.
-pub(crate) fn old_body_of(alloc: Global, pairs: &[&str; 2], tag: u8) -> Result<Vec<u8>, Fail> {
-    let mut text = Vec::from_slice(alloc, b"TLMIRR01\x00\x02ex")?;
-    push_count(&mut text, 0)?;
-    push_count(&mut text, 5)?;
-    text.extend_from_slice(
-        b"\x00\x00\x00\x01\x00\x00\x00\x00\x02\x00\x00\x00\x00\x00\x02\x00\x10",
-    )?;
-    push_tagged(&mut text, 1, pairs[0])?;
-    push_tagged(&mut text, tag, pairs[1])?;
-    Ok(text)
-}
+// The state that holds the entry `01 02`.
+pub(crate) const FIRST_SUM: &[u8] = b"\
+TLMIRR02\x00\x02ex\x00\x00\x00\x00\x00\x00\x00\x00\x00\x00\x00\x00\x00\x00\x00\x00\
+\x00\x00\x00\x00\x00\x00\x00\x01\x00\x02\x01\x02\
+\xaak\xf0\xd9RpS\x88\xc3\xea\xfc\x944!i\x93?`\xef\xe4\xf2\x9f\xf8\x89\xed\x04\x0c\xac=\x8b\xf9\
+\xf7";
 
-// A string of a pair behind that tag.
-fn push_tagged(text: &mut Vec<u8>, tag: u8, pair: &str) -> Result<(), Fail> {
-    text.extend_from_slice(&[0, 0, 0, 65, tag])?;
-    push_hashes(text, pair)
-}
+// The state that holds the entry `02 01`, whose bytes have the same sum.
+pub(crate) const SECOND_SUM: &[u8] = b"\
+TLMIRR02\x00\x02ex\x00\x00\x00\x00\x00\x00\x00\x00\x00\x00\x00\x00\x00\x00\x00\x00\
+\x00\x00\x00\x00\x00\x00\x00\x01\x00\x02\x02\x01\
+8\xed+\xd50\xdf\xb37qb\xce\x1a\xf9\x9f\xb8\x9d_\x02R\xefAB\xc0c:\xc9\x8d\n\xc5\x94\xb2\x18";
 
-// The body with its digest.
+// The body of a state with its digest.
 pub(crate) fn sealed(alloc: Global, body: &[u8]) -> Result<Vec<u8>, AllocError> {
     let mut text = Vec::from_slice(alloc, body)?;
     text.extend_from_slice(&Sha256::digest(body))?;
     Ok(text)
-}
-
-// The body with that digest, in base64.
-pub(crate) fn with_digest(alloc: Global, body: &[u8], digest: &str) -> Result<Vec<u8>, Fail> {
-    let mut text = Vec::from_slice(alloc, body)?;
-    push_hashes(&mut text, digest)?;
-    Ok(text)
-}
-
-// The state that lists these notes, pairs and entries as they stand, and ends with that digest.
-pub(crate) fn state_of(
-    alloc: Global,
-    notes: &[&str],
-    pairs: &[&str],
-    entries: &[&[u8]],
-    digest: &str,
-) -> Result<Vec<u8>, Fail> {
-    let body = body_of(alloc, notes, pairs, entries)?;
-    with_digest(alloc, &body, digest)
-}
-
-// The same, with its own digest.
-pub(crate) fn sealed_state(
-    alloc: Global,
-    notes: &[&str],
-    pairs: &[&str],
-    entries: &[&[u8]],
-) -> Result<Vec<u8>, Fail> {
-    let body = body_of(alloc, notes, pairs, entries)?;
-    Ok(sealed(alloc, &body)?)
 }

@@ -3,29 +3,17 @@ use std::alloc::Global;
 use std::io;
 use std::io::{ErrorKind, Read, Write};
 
-// Gives these bytes, one a read, and fails from then on.
+// Fails at its first read, or gives one byte a read without end.
 #[derive(Drop)]
-pub(crate) struct FailingReader<'a>(pub(crate) &'a [u8]);
-
-impl Read for FailingReader<'_> {
-    fn read(&mut self, buf: &mut [u8]) -> io::Result<usize> {
-        match (self.0.split_first(), buf.first_mut()) {
-            (Some((first, rest)), Some(cell)) => {
-                *cell = *first;
-                self.0 = rest;
-                Ok(1)
-            }
-            _ => Err(io::Error::from(ErrorKind::Other)),
-        }
-    }
+pub(crate) struct Strange {
+    pub(crate) is_endless: bool,
 }
 
-// Gives one byte a read without end.
-#[derive(Drop)]
-pub(crate) struct Endless;
-
-impl Read for Endless {
+impl Read for Strange {
     fn read(&mut self, buf: &mut [u8]) -> io::Result<usize> {
+        if !self.is_endless {
+            return Err(io::Error::from(ErrorKind::Other));
+        }
         match buf.first_mut() {
             Some(cell) => {
                 *cell = b'a';

@@ -1,3 +1,31 @@
-//! The log of the entries of no bytes, `00` and `10`: built, pulled, taken and merged; and each fault.
-mod faults;
-mod rows;
+//! A log that its own keys do not open.
+use crate::given::key;
+use mirror_folders::MemShelf;
+use mirror_model::TakeFault;
+use mirror_pull::PullFault;
+use mirror_updates::{BuildFault, build_log};
+use signed_note::HmacKey;
+use std::alloc::Global;
+use std::test::Fail;
+use tlog_hash::{Sha256Tree, TreeHash};
+
+// Why a log of no entries is not built, under no key.
+fn building_fault<H: TreeHash>(
+    alloc: Global,
+    signer: HmacKey,
+    shelf: &mut MemShelf,
+) -> Option<BuildFault> {
+    build_log::<H, MemShelf>(alloc, "ex", &[], signer, Vec::new(alloc), shelf).err()
+}
+
+// The signing key is not among the keys.
+#[test]
+fn logs_are_not_built(rt: HostRuntime) -> Result<(), Fail> {
+    let alloc = rt.alloc();
+    let mut shelf = MemShelf::new(alloc);
+    let fault = building_fault::<Sha256Tree>(alloc, key(alloc)?, &mut shelf);
+    let closed = BuildFault::Pull(PullFault::Head(TakeFault::NoTrustedSignature));
+    assert_eq!(rt; fault, Some(closed));
+    assert_eq!(rt; shelf.puts().len(), 0);
+    Ok(())
+}

@@ -1,0 +1,91 @@
+//! States that are cut, readers and writers that fail, and the names of faults that no run prints.
+use crate::given::{keys, loaded, mirror_of};
+use crate::states::COMPLETE;
+use crate::streams::{FailingWriter, Strange};
+use mirror_files::{LoadFault, PartsFault, SaveFault, save};
+use signed_note::Verifier;
+use std::alloc::Global;
+use std::io::Read;
+use std::process::Abort;
+use std::test::Fail;
+use tlog_hash::{Sha256Tree, TreeHash};
+use tlog_mirror::Mirror;
+
+// Why what the reader gives is refused.
+fn fault_of<H: TreeHash, R: Read>(
+    alloc: Global,
+    keys: &[Box<dyn Verifier>],
+    reader: &mut R,
+) -> Option<LoadFault> {
+    loaded::<H, R>(alloc, keys, reader).err()
+}
+
+#[test]
+fn state_cuts(rt: HostRuntime) -> Result<(), Fail> {
+    let keys = keys(rt.alloc())?;
+    for len in 0..COMPLETE.len() {
+        let mut text = COMPLETE.get(..len).ok_or("no text")?;
+        let fault = if len < 8 {
+            LoadFault::StateMagic
+        } else {
+            LoadFault::StateShort
+        };
+        let found = fault_of::<Sha256Tree, _>(rt.alloc(), &keys, &mut text);
+        assert_eq!(rt; found, Some(fault));
+    }
+    Ok(())
+}
+
+// One that fails at its first read, and one that never ends.
+#[test]
+fn endless_reader(rt: HostRuntime) {
+    for is_endless in [false, true] {
+        let mut reader = Strange { is_endless };
+        let fault = fault_of::<Sha256Tree, _>(rt.alloc(), &[], &mut reader);
+        assert_eq!(rt; fault, Some(LoadFault::ReadFault));
+    }
+}
+
+#[test]
+fn failing_writer(rt: HostRuntime) -> Result<(), Fail> {
+    let mirror = mirror_of::<Sha256Tree>(rt.alloc(), COMPLETE)?;
+    for room in 0..COMPLETE.len() {
+        assert_front(&rt, rt.alloc(), &mirror, room, Err(SaveFault::WriteFault));
+    }
+    assert_front(&rt, rt.alloc(), &mirror, COMPLETE.len(), Ok(()));
+    Ok(())
+}
+
+// A writer of so many bytes gets those of the text.
+fn assert_front<H: TreeHash>(
+    rt: &impl Abort,
+    alloc: Global,
+    mirror: &Mirror<H>,
+    room: usize,
+    answer: Result<(), SaveFault>,
+) {
+    let mut writer = FailingWriter::new(alloc, room);
+    assert_eq!(rt; save(alloc, mirror, &mut writer), answer);
+    assert!(rt; COMPLETE.get(..room) == Some(writer.taken.as_slice()));
+}
+
+#[test]
+fn faults_print_their_names(rt: HostRuntime) -> Result<(), Fail> {
+    let alloc = rt.alloc();
+    for (fault, name) in [
+        (PartsFault::StateMagic, "StateMagic"),
+        (PartsFault::StateShort, "StateShort"),
+        (PartsFault::StateLong, "StateLong"),
+        (PartsFault::StateDigest, "StateDigest"),
+        (PartsFault::OutOfMemory, "OutOfMemory"),
+    ] {
+        assert_eq!(rt; fault.to_string(alloc)?.as_str(), name);
+    }
+    for (fault, name) in [
+        (SaveFault::WriteFault, "WriteFault"),
+        (SaveFault::OutOfMemory, "OutOfMemory"),
+    ] {
+        assert_eq!(rt; fault.to_string(alloc)?.as_str(), name);
+    }
+    Ok(())
+}

@@ -1,0 +1,119 @@
+//! Requests for memory that are refused, as by `rt try --test --fail-alloc N`: where a call was refused one, it did
+//! nothing, or what it put is no checkpoint; and the next call is right.
+use crate::exports::assert_files;
+use crate::given::{keys, loaded, mirror_of, saved};
+use crate::states::{COMPLETE, NOTE};
+use log_sources::{Source, SourceFault};
+use mirror_files::{LoadFault, SaveFault, save};
+use mirror_folders::{DirShelf, DirSource, ExportFault, MemShelf, Shelf, export};
+use signed_note::Verifier;
+use std::alloc::Global;
+use std::fs;
+use std::process::Abort;
+use std::test::Fail;
+use tlog_hash::{Sha256Tree, TreeHash};
+use tlog_mirror::Mirror;
+use tlog_tiles::Path;
+
+#[test]
+fn save_again_after_want_of_memory(rt: HostRuntime) -> Result<(), Fail> {
+    let mirror = mirror_of::<Sha256Tree>(rt.alloc(), COMPLETE)?;
+    save_at_last(&rt, rt.alloc(), &mirror);
+    Ok(())
+}
+
+// Saves the mirror. The space of the writer takes no memory.
+fn save_at_last<H: TreeHash>(rt: &impl Abort, alloc: Global, mirror: &Mirror<H>) {
+    let mut space = [0u8; 1_024];
+    let mut writer = space.as_mut_slice();
+    let mut answer = save(alloc, mirror, &mut writer);
+    if answer == Err(SaveFault::OutOfMemory) {
+        assert_eq!(rt; writer.len(), 1_024);
+        answer = save(alloc, mirror, &mut writer);
+    }
+    assert_eq!(rt; answer, Ok(()));
+    let written = 1_024usize.saturating_sub(writer.len());
+    assert_eq!(rt; space.get(..written), Some(COMPLETE));
+}
+
+#[test]
+fn load_again_after_want_of_memory(rt: HostRuntime) -> Result<(), Fail> {
+    let keys = keys(rt.alloc())?;
+    let mirror = loaded_at_last::<Sha256Tree>(rt.alloc(), &keys)?;
+    assert_eq!(rt; saved(rt.alloc(), &mirror)?.as_slice(), COMPLETE);
+    Ok(())
+}
+
+// The mirror of the state, which is loaded once more where memory was refused.
+fn loaded_at_last<H: TreeHash>(
+    alloc: Global,
+    keys: &[Box<dyn Verifier>],
+) -> Result<Mirror<H>, LoadFault> {
+    let mut reader = COMPLETE;
+    match loaded(alloc, keys, &mut reader) {
+        Err(LoadFault::OutOfMemory) => {
+            let mut reader = COMPLETE;
+            loaded(alloc, keys, &mut reader)
+        }
+        answer => answer,
+    }
+}
+
+// Exports the mirror of three entries, once more where memory was refused.
+fn export_at_last<H: TreeHash, S: Shelf>(
+    rt: &impl Abort,
+    alloc: Global,
+    mirror: &Mirror<H>,
+    shelf: &mut S,
+) {
+    let mut answer = export(alloc, mirror, shelf);
+    if answer == Err(ExportFault::OutOfMemory) {
+        let found = shelf.has(&Path::Checkpoint);
+        assert_eq!(rt; found, Ok(false));
+        answer = export(alloc, mirror, shelf);
+    }
+    assert_eq!(rt; answer, Ok(()));
+    assert_eq!(rt; shelf.failures(), 0);
+}
+
+#[test]
+fn export_again_after_want_of_memory(rt: HostRuntime) -> Result<(), Fail> {
+    let mirror = mirror_of::<Sha256Tree>(rt.alloc(), COMPLETE)?;
+    let mut shelf = MemShelf::new(rt.alloc());
+    export_at_last(&rt, rt.alloc(), &mirror, &mut shelf);
+    // What the last of two exports put stands behind what the first did.
+    let first = shelf.puts().len().saturating_sub(3);
+    assert_files(
+        &rt,
+        rt.alloc(),
+        shelf.puts().get(first..).ok_or("fewer puts")?,
+    )
+}
+
+// Want of memory, and then ample memory, onto a folder, and of a file read from it.
+#[test]
+fn folder_again_after_want_of_memory(rt: HostRuntime) -> Result<(), Fail> {
+    let folder = "want-of-memory";
+    let _left = fs::remove_dir_all(&rt, folder);
+    let mirror = mirror_of::<Sha256Tree>(rt.alloc(), COMPLETE)?;
+    export_at_last(
+        &rt,
+        rt.alloc(),
+        &mirror,
+        &mut DirShelf::new(&rt, rt.alloc(), folder),
+    );
+    read_at_last(&rt, &mut DirSource::new(&rt, rt.alloc(), folder))?;
+    fs::remove_dir_all(&rt, folder)?;
+    Ok(())
+}
+
+// Reads the checkpoint from it.
+fn read_at_last<S: Source>(rt: &impl Abort, source: &mut S) -> Result<(), SourceFault> {
+    let mut note = source.get(&Path::Checkpoint);
+    if matches!(note, Err(SourceFault::OutOfMemory)) {
+        note = source.get(&Path::Checkpoint);
+    }
+    assert!(rt; note?.as_deref() == Some(NOTE));
+    assert_eq!(rt; source.failures(), 0);
+    Ok(())
+}
