@@ -1,40 +1,6 @@
-//! Streams that give one byte a call, and streams that fail.
+//! A stream that fails.
 use std::io;
-use std::io::{ErrorKind, Read, Write};
-
-/// Gives these bytes, one a read.
-#[derive(Drop)]
-pub struct ByteByByte<'a>(pub &'a [u8]);
-
-impl Read for ByteByByte<'_> {
-    fn read(&mut self, buf: &mut [u8]) -> io::Result<usize> {
-        match (self.0.split_first(), buf.first_mut()) {
-            (Some((first, rest)), Some(cell)) => {
-                *cell = *first;
-                self.0 = rest;
-                Ok(1)
-            }
-            _ => Ok(0),
-        }
-    }
-}
-
-/// Gives these bytes, one a read, and fails from then on.
-#[derive(Drop)]
-pub struct FailingReader<'a>(pub &'a [u8]);
-
-impl Read for FailingReader<'_> {
-    fn read(&mut self, buf: &mut [u8]) -> io::Result<usize> {
-        match (self.0.split_first(), buf.first_mut()) {
-            (Some((first, rest)), Some(cell)) => {
-                *cell = *first;
-                self.0 = rest;
-                Ok(1)
-            }
-            _ => Err(io::Error::from(ErrorKind::Other)),
-        }
-    }
-}
+use std::io::{ErrorKind, Write};
 
 /// Takes as many bytes as it has room for, one a write, and fails from then on.
 #[derive(Drop)]
