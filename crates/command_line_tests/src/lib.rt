@@ -1,6 +1,7 @@
-//! What the words of a pull over HTTP ask for, and commands over streams that are slow or fail. All else of the command line is shown by transcripts (`tests/` at the top of the repository).
+//! What the words of a pull over HTTP ask for, commands over streams that are slow or fail, and how a run ends by a fault
+//! that no run comes to. All else of the command line is shown by transcripts (`tests/` at the top of the repository).
 //!
-//! The tests of `command_line` and `stream_commands` stand in a crate of their own: a crate with tests
+//! The tests of `command_line`, `stream_commands` and `mirror_commands` stand in a crate of their own: a crate with tests
 //! is checked a second time with them, and what stands on `clap` is dear to check.
 //!
 //! ```text
@@ -8,6 +9,8 @@
 //! ```
 #![tactic(auto)]
 
+#[cfg(test)]
+mod endings;
 #[cfg(test)]
 mod fakes;
 #[cfg(test)]
