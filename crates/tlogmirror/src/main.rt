@@ -4,9 +4,6 @@
 //! 1 a fault, 2 a command line that asks for nothing that can be done, 3 a no.
 #![tactic(auto)]
 
-#[cfg(test)]
-mod tests;
-
 use command_line::CommandFault;
 use mirror_commands::{RunFault, carry_out, run, told};
 use std::io::ErrorKind;

@@ -1,0 +1,53 @@
+//! Streams that give or take one byte a call, and streams that fail.
+use std::io;
+use std::io::{ErrorKind, Read, Write};
+
+// Gives these bytes, one a read, and then ends, or fails where it is to.
+#[derive(Drop)]
+pub(crate) struct Slow<'a> {
+    pub(crate) bytes: &'a [u8],
+    pub(crate) fails: bool,
+}
+
+impl Read for Slow<'_> {
+    fn read(&mut self, buf: &mut [u8]) -> io::Result<usize> {
+        match (self.bytes.split_first(), buf.first_mut()) {
+            (Some((first, rest)), Some(cell)) => {
+                *cell = *first;
+                self.bytes = rest;
+                Ok(1)
+            }
+            _ => {
+                if self.fails {
+                    Err(io::Error::from(ErrorKind::Other))
+                } else {
+                    Ok(0)
+                }
+            }
+        }
+    }
+}
+
+// Takes as many bytes as it has room for, one a write, and fails from then on.
+#[derive(Drop)]
+pub(crate) struct Cut {
+    pub(crate) room: usize,
+    pub(crate) taken: Vec<u8>,
+}
+
+impl Write for Cut {
+    fn write(&mut self, buf: &[u8]) -> io::Result<usize> {
+        let Some(first) = buf.first() else {
+            return Ok(0);
+        };
+        if self.taken.len() >= self.room {
+            return Err(io::Error::from(ErrorKind::Other));
+        }
+        self.taken.push(*first)?;
+        Ok(1)
+    }
+
+    fn flush(&mut self) -> io::Result<()> {
+        Ok(())
+    }
+}

@@ -1,0 +1,96 @@
+//! `root`, `check` and the entries of `build` over streams that are slow or fail.
+use crate::fakes::{Cut, Slow};
+use std::alloc::Global;
+use std::io::Write;
+use std::test::Fail;
+use stream_commands::{CheckFault, EntriesFault, RootFault, read_entries, run_check, run_root};
+use tlog_hash::Sha256Tree;
+
+// What is told of one entry of no bytes.
+const ROOT_1: &[u8] = b"size 1\nroot bjQLnP+zepicpUTmu3gKLHiQHT+zNzh2hRGjBhevoB0=\n";
+
+// The inclusion of the third of the entries (no bytes), `00` and `10`.
+const INCLUSION: &[u8] =
+    b"inclusion\nsize 3\nindex 2\nroot rra8/idLcKFPsGel5VeCZNsPqbUa9eC6FZFY8yngbnc=\nleaf ApjRIpBtz8EIkstTpzmS/FufST6kybrbJ7eRtBJ6f+c=\npath +sVCA+fMaWzw38tCySodnbr3CtnmIfS9jZhmLwDjwSU=\n";
+
+// Each of these calls a public function, and tells nothing of it: what is known of a call makes the rest of a test dear.
+
+// The answer of `root --width 1` to these bytes.
+fn root_of<O: Write>(
+    alloc: Global,
+    bytes: &[u8],
+    fails: bool,
+    output: &mut O,
+) -> Result<(), RootFault> {
+    run_root::<Sha256Tree, Slow, O>(alloc, 1, &mut Slow { bytes, fails }, output)
+}
+
+// The answer of `check` to these bytes.
+fn verdict_of<O: Write>(
+    alloc: Global,
+    bytes: &[u8],
+    fails: bool,
+    output: &mut O,
+) -> Result<bool, CheckFault> {
+    run_check(alloc, &mut Slow { bytes, fails }, output)
+}
+
+// How many entries these bytes are.
+fn count_of(alloc: Global, bytes: &[u8], fails: bool) -> Result<usize, EntriesFault> {
+    let entries = read_entries(alloc, &mut Slow { bytes, fails })?;
+    Ok(entries.len())
+}
+
+#[test]
+fn one_byte_reads(rt: HostRuntime) -> Result<(), Fail> {
+    let alloc = rt.alloc();
+    let mut output = Vec::new(alloc);
+    assert_eq!(rt; root_of(alloc, &[0, 0], false, &mut output), Ok(()));
+    assert_eq!(rt; output.as_slice(), ROOT_1);
+    let mut output = Vec::new(alloc);
+    assert_eq!(rt; verdict_of(alloc, INCLUSION, false, &mut output), Ok(true));
+    assert_eq!(rt; output.as_slice(), b"yes\n".as_slice());
+    assert_eq!(rt; count_of(alloc, &[0, 1, b'a', 0, 0], false), Ok(2));
+    Ok(())
+}
+
+// Whether the bytes before the fault are a bundle, entries or a proof, too few or too many: the fault comes first, and
+// nothing is written.
+#[test]
+fn failing_reader(rt: HostRuntime) {
+    let alloc = rt.alloc();
+    let mut output = Vec::new(alloc);
+    for bytes in [[].as_slice(), &[0, 0], &[0, 1], &[0, 0, 0, 0, 0], INCLUSION] {
+        let root = root_of(alloc, bytes, true, &mut output);
+        assert_eq!(rt; root, Err(RootFault::ReadFault));
+        let verdict = verdict_of(alloc, bytes, true, &mut output);
+        assert_eq!(rt; verdict, Err(CheckFault::ReadFault));
+        let count = count_of(alloc, bytes, true);
+        assert_eq!(rt; count, Err(EntriesFault::ReadFault));
+    }
+    assert_eq!(rt; output.len(), 0);
+}
+
+// Over an output that takes so many bytes a command fails, and that front of its text is written.
+#[test]
+fn failing_writer(rt: HostRuntime) {
+    let alloc = rt.alloc();
+    for room in [0, 1, 3, 6, 50] {
+        let mut writer = Cut {
+            room,
+            taken: Vec::new(alloc),
+        };
+        let root = root_of(alloc, &[0, 0], false, &mut writer);
+        assert_eq!(rt; root, Err(RootFault::WriteFault));
+        assert_eq!(rt; Some(writer.taken.as_slice()), ROOT_1.get(..room));
+    }
+    for room in [0, 1, 3] {
+        let mut writer = Cut {
+            room,
+            taken: Vec::new(alloc),
+        };
+        let verdict = verdict_of(alloc, INCLUSION, false, &mut writer);
+        assert_eq!(rt; verdict, Err(CheckFault::WriteFault));
+        assert_eq!(rt; Some(writer.taken.as_slice()), b"yes\n".get(..room));
+    }
+}
