@@ -29,7 +29,8 @@ CountsFileExport old new (Err (Export fault)) = CountsExport old new (export_fai
 
 module _ (digest : List ℕ → List ℕ) (origin : List ℕ) (keys : List Key)
     (told : Option (List NamedFile)) (name : List ℕ) (old new : Option (List Put)) where
-  -- a mirror was opened of the file, and what it serves was put as an export with that answer puts it
+  -- a mirror was opened of the file, and what it serves was put as an export with that answer
+  -- puts it
   pub record ExportsOpened (answer : Result (Unit {0}) ExportFault) : Type 0 where
     pub view : View
     pub opened : OpensFile digest origin keys told name (Ok view)
@@ -37,7 +38,8 @@ module _ (digest : List ℕ → List ℕ) (origin : List ℕ) (keys : List Key)
     pub nothing : (answer ≡ Err NothingComplete) ↔ ServesNothing digest view
     pub last : CheckpointIsLast digest view old new
 
-  -- what each answer of the command says: the file is opened first, and nothing is put where it is not
+  -- what each answer of the command says: the file is opened first, and nothing is put where it is
+  -- not
   abbrev pub ExportsFile : {T : Type 0} → Result T ExportFileFault → Type 0
   ExportsFile (Ok x) = ExportsOpened export_done
   ExportsFile (Err (State fault)) =

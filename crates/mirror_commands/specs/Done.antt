@@ -35,7 +35,8 @@ use Rattle.mirror_commands.specs.Named.{TakesWords}
 use Rattle.mirror_commands.specs.Pulls.{TellsPull}
 use Rattle.mirror_commands.specs.Works.{AsksState, BuildsFrom, IsWriting, TellsPort}
 
--- the files that a command reads alone are left as they are; what the others leave is said by `Does`
+-- the files that a command reads alone are left as they are; what the others leave is said by
+-- `Does`
 abbrev pub LeavesFiles : Order → Option (List NamedFile) → Option (List NamedFile) → Type 0
 LeavesFiles (order.Take c) told left = Unit {0}
 LeavesFiles (order.Merge c) told left = Unit {0}
@@ -153,7 +154,8 @@ module _ (digest : List ℕ → List ℕ) (keys : List Key)
       WritesNotes digest c.held.log.origin.now keys told c.held.state.now c.folder.now left answer
 
   -- what an answer of `pull` says of the files that its words name, and of what was written
-  abbrev pub PullsWords : PullWords → Option (List ℕ) → Option (List ℕ) → Result ℕ TellFault → Type 0
+  abbrev pub PullsWords : PullWords → Option (List ℕ) → Option (List ℕ) → Result ℕ TellFault →
+      Type 0
   PullsWords c old new answer =
       TellsPull digest c.made.log.origin.now keys (option_map (λ name. name.now) c.state)
       c.made.out.now told left old new answer

@@ -1,5 +1,5 @@
--- What the command `pull` makes of a state file, what it leaves in the file that it writes, and what
--- it prints.
+-- What the command `pull` makes of a state file, what it leaves in the file that it writes, and
+-- what it prints.
 use Rattle.std.specs.Prelude.{◌⊎◌, ℕ, List, Option, Result, Ok, Err}
 use Rattle.std.specs.Io.KnownBytes.{Appends, Keeps}
 use Rattle.byte_streams.specs.Streams.{AppendsPrefix}
@@ -16,8 +16,8 @@ use Rattle.mirror_commands.specs.declared.fault.TellFault.TheVariants.{Work, Wri
 use Rattle.mirror_commands.specs.declared.fault.WorkFault.TheVariants.{OutOfMemory}
 
 module _ (digest : List ℕ → List ℕ) (origin : List ℕ) (keys : List Key) where
-  -- a pull from some source came to this view, and began with the mirror of the file that is named, or
-  -- where none is with one that holds nothing
+  -- a pull from some source came to this view, and began with the mirror of the file that is named,
+  -- or where none is with one that holds nothing
   abbrev pub PullsFromFile : Option (List NamedFile) → Option (List ℕ) → View → Pulled → Type 0
   PullsFromFile told state v pulled =
       (start : View) × BeginsWith digest origin keys told state (Ok start)
@@ -29,8 +29,8 @@ module _ (digest : List ℕ → List ℕ) (origin : List ℕ) (keys : List Key) 
     LeavesPulled pulled =
         (v : View) × PullsFromFile told state v pulled × WritesState v out told left
 
-    -- what each answer of `pull` says: its state was written, and then its two lines; or it failed, and
-    -- all files are as they were, but where memory was refused for the lines
+    -- what each answer of `pull` says: its state was written, and then its two lines; or it failed,
+    -- and all files are as they were, but where memory was refused for the lines
     abbrev pub TellsPull : Option (List ℕ) → Option (List ℕ) → Result ℕ TellFault → Type 0
     TellsPull old new (Ok status) =
         (pulled : Pulled) × LeavesPulled pulled × Appends old new (pulled_lines pulled)

@@ -14,7 +14,8 @@ use Rattle.mirror_model.specs.Front.{InFront, IsPathOf}
 use Rattle.mirror_model.specs.Edge.{edge_levels}
 use Rattle.mirror_model.specs.declared.events.Event.TheVariants.{Take, Merge}
 use Rattle.mirror_model.specs.Events.{OpeningReaches}
-use Rattle.mirror_model.specs.Examples.{TreeOfThree, EdgesOfSizes, RootsOfRows, HashesDoNotTellForks, PartsOfThree, MergesLeadInOrder, some_item, three}
+use Rattle.mirror_model.specs.Examples.{TreeOfThree, EdgesOfSizes, RootsOfRows, HashesDoNotTellForks, PartsOfThree}
+use Rattle.mirror_model.specs.Examples.{MergesLeadInOrder, some_item, three}
 use Rattle.mirror_model.specs.Examples.{IsFrontOfThree, HasTileOutside}
 use Rattle.mirror_model.proofs.StringSets.{has_empty}
 use Rattle.mirror_model.proofs.Reaching.{open_none, open_itself, open_first, open_by, item_none, item_first, item_by}

@@ -25,7 +25,8 @@ use Rattle.mirror_model.proofs.TreeLaws.{missing_is_front}
 use Rattle.tlog_shape.proofs.Levels.{level_positive}
 use Rattle.mirror_model.specs.Walk.{NoClashWith}
 use Rattle.mirror_model.proofs.TrueItems.{front_tile}
-use Rattle.mirror_model.specs.FetchLaws.{FullTileBeginsWithPartial, AnsweredIsNotAgain, MissingIsFrontList, PlusHoldsJustBoth}
+use Rattle.mirror_model.specs.FetchLaws.{FullTileBeginsWithPartial, AnsweredIsNotAgain, MissingIsFrontList}
+use Rattle.mirror_model.specs.FetchLaws.{PlusHoldsJustBoth}
 
 -- ---- the first hashes of a tile
 

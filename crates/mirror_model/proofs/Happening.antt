@@ -11,8 +11,10 @@ use Rattle.mirror_model.specs.declared.events.Event.TheVariants.{Take, Merge}
 use Rattle.mirror_model.specs.Steps.{Answer, Done, Refused, Clashed, Exhausted, Answers, IsBetween, Takes, Merges}
 use Rattle.mirror_model.specs.Steps.{MergesAt}
 use Rattle.mirror_model.specs.UnionLaws.{UnionClashes, UnionIsClean}
-use Rattle.mirror_model.specs.EventLaws.{TakesGrow, MergesGrow, TakesKeepLawful, MergesKeepLawful, IsLeft, RefusedTakeIsBetween}
-use Rattle.mirror_model.specs.EventLaws.{RefusedMergeIsBetween, EventGrows, EventsHaveOneAnswer, RetriedEventIsOneEvent, SelfMergeChangesNothing}
+use Rattle.mirror_model.specs.EventLaws.{TakesGrow, MergesGrow, TakesKeepLawful, MergesKeepLawful, IsLeft}
+use Rattle.mirror_model.specs.EventLaws.{RefusedTakeIsBetween}
+use Rattle.mirror_model.specs.EventLaws.{RefusedMergeIsBetween, EventGrows, EventsHaveOneAnswer, RetriedEventIsOneEvent}
+use Rattle.mirror_model.specs.EventLaws.{SelfMergeChangesNothing}
 use Rattle.node_store.proofs.Sets.{decide}
 use Rattle.mirror_model.proofs.StringSets.{has_cases, union_itself, clash_contradicts, union_clash}
 use Rattle.mirror_model.proofs.Views.{within_itself, within_union, within_plus, same_is_one, union_is_lawful}

@@ -166,7 +166,8 @@ module _ (bytes origin : List ℕ) (keys : List Key) where
 
   module _ (a b : Read) where
     -- of one text and its lines
-    same_after_text : (text : List ℕ) (lines : List SignatureParts) → AfterText a text lines → AfterText b text lines → a ≡ b
+    same_after_text : (text : List ℕ) (lines : List SignatureParts) → AfterText a text lines → AfterText b text lines →
+        a ≡ b
     same_after_text text lines p q =
         let same : p.checkpoint ≡ q.checkpoint =
         same_checkpoint text p.checkpoint q.checkpoint p.is_checkpoint q.is_checkpoint in

@@ -18,7 +18,8 @@ use Rattle.mirror_model.specs.Complete.{IsLawful}
 use Rattle.mirror_model.specs.Served.{IsServedList, IsServedBundle}
 use Rattle.mirror_model.specs.TrueLaws.{AreShort}
 use Rattle.mirror_model.specs.Strings.{IsDigest}
-use Rattle.mirror_model.specs.ServedLaws.{IsWidestBundle, AreBundles, ServedBundlesAreAllEntries, AllEntriesAreInBundles}
+use Rattle.mirror_model.specs.ServedLaws.{IsWidestBundle, AreBundles, ServedBundlesAreAllEntries}
+use Rattle.mirror_model.specs.ServedLaws.{AllEntriesAreInBundles}
 use Rattle.mirror_model.proofs.FullBundles.{strings_leaf}
 use Rattle.mirror_model.proofs.ItemBytes.{bundle_is_one}
 use Rattle.mirror_model.proofs.OneLists.{one_served}

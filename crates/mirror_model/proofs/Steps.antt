@@ -8,7 +8,8 @@ use Rattle.mirror_model.specs.Strings.{HasClash}
 use Rattle.mirror_model.specs.declared.items.Item.{Item}
 use Rattle.mirror_model.specs.Item.{IsGood, plus}
 use Rattle.mirror_model.specs.Steps.{Answer, Done, Refused, Clashed, Exhausted, Answers, IsBetween}
-use Rattle.mirror_model.specs.EventLaws.{TakesHaveOneAnswer, MergesHaveOneAnswer, RetriedTakeIsOneTake, RetriedMergeIsOneMerge}
+use Rattle.mirror_model.specs.EventLaws.{TakesHaveOneAnswer, MergesHaveOneAnswer, RetriedTakeIsOneTake}
+use Rattle.mirror_model.specs.EventLaws.{RetriedMergeIsOneMerge}
 use Rattle.mirror_model.proofs.Views.{within_itself, within_trans, within_union, within_plus, same_is_one}
 use Rattle.mirror_model.proofs.StringSets.{has_left, has_right, has_cases, clash_contradicts}
 

@@ -7,7 +7,8 @@ use Rattle.std.specs.List.{Contains}
 use Rattle.tlog_hash.specs.Tree.{tree_of, strings}
 use Rattle.tlog_hash.specs.Rows.{part}
 use Rattle.mirror_model.specs.Front.{IsPathOf}
-use Rattle.mirror_model.specs.TreeLaws.{FrontIsEmpty, FullRowJoinsAreNodes, BundleStringsAreNodes, RoundLeavesSmallNodes, RoundGoesDown}
+use Rattle.mirror_model.specs.TreeLaws.{FrontIsEmpty, FullRowJoinsAreNodes, BundleStringsAreNodes}
+use Rattle.mirror_model.specs.TreeLaws.{RoundLeavesSmallNodes, RoundGoesDown}
 use Rattle.mirror_model.specs.TreeLaws.{BundleRoundCompletes, MissingIsFront}
 use Rattle.mirror_model.proofs.NodeBlocks.{node_inside}
 use Rattle.mirror_model.proofs.RowLaws.{full_tile, bundle}

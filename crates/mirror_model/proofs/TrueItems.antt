@@ -25,7 +25,8 @@ use Rattle.mirror_model.specs.Edge.{edge_levels, edge_row, edge_rows, edge_root,
 use Rattle.mirror_model.specs.Front.{IsFront}
 use Rattle.mirror_model.specs.Item.{row_of}
 use Rattle.mirror_model.specs.Strings.{IsDigest}
-use Rattle.mirror_model.specs.TrueLaws.{TrueTilesAreGood, TrueBundlesAreGood, TrueEdgesLeadToRoot, EdgeHasEachPartialTile, FrontIsWithin}
+use Rattle.mirror_model.specs.TrueLaws.{TrueTilesAreGood, TrueBundlesAreGood, TrueEdgesLeadToRoot}
+use Rattle.mirror_model.specs.TrueLaws.{EdgeHasEachPartialTile, FrontIsWithin}
 use Rattle.mirror_model.specs.TrueLaws.{TrueStringsAreOfTree, FrontIsWidest, PrefixesServeSame}
 use Rattle.mirror_model.proofs.StringSets.{HoldsAll, holds_from_held}
 use Rattle.mirror_model.proofs.ItemBytes.{row_is_one, bundle_is_one}

@@ -35,7 +35,8 @@ newlines-line line h =
     sum_by-append one_at (line_body line) (newline ∷ []) ∙
     omega (arith, newlines-lacking (line_body line) (body_lacks_newline line h))
 
-newlines-lines : (lines : List SignatureParts) → All IsSignatureLine lines → newlines (flat_map line_text lines) ≡ length lines
+newlines-lines : (lines : List SignatureParts) → All IsSignatureLine lines → newlines (flat_map line_text lines) ≡
+    length lines
 newlines-lines [] h = refl
 newlines-lines (line ∷ lines) h =
     sum_by-append one_at (line_text line) (flat_map line_text lines)

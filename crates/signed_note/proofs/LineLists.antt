@@ -16,7 +16,8 @@ use Rattle.signed_note.proofs.Lacking.{Lacks, cut_once, no_cut}
 use Rattle.signed_note.proofs.LineTexts.{body_lacks_newline}
 
 -- the first line of a part, up to its first newline
-pub next_line : (rest line after : List ℕ) (lines : List SignatureParts) → rest ≡ line ++ newline ∷ after → Lacks newline line →
+pub next_line : (rest line after : List ℕ) (lines : List SignatureParts) → rest ≡ line ++ newline ∷ after →
+    Lacks newline line →
     AreSignatureLines rest lines
     → (first : SignatureParts) × (more : List SignatureParts) × (line ≡ line_body first) × IsSignatureLine first
     × AreSignatureLines after more
@@ -60,7 +61,8 @@ one_more signed line after lines next is read =
 -- where the next line is refused, so are all
 pub line_refused : (signed rest line after : List ℕ) (fault : NoteFault) → rest ≡ line ++ newline ∷ after →
     Lacks newline line →
-    ((all : List SignatureParts) → AreSignatureLines signed all → (more : List SignatureParts) × AreSignatureLines rest more)
+    ((all : List SignatureParts) → AreSignatureLines signed all →
+    (more : List SignatureParts) × AreSignatureLines rest more)
     → ReadsLine line (Err fault) → ReadsSignatureLines signed (Err fault)
 line_refused signed rest line after NoteTooLong is lacks goes_on h = h
 line_refused signed rest line after NotText is lacks goes_on h = h

@@ -69,7 +69,8 @@ refused text name encoded BadSignatureLine is lacks h = not_encoded text name en
 refused text name encoded OutOfMemory is lacks h = tt
 
 pub too_short : (text name encoded payload : List ℕ) → text ≡ words name encoded → Lacks space name →
-    encoded ≡ base64_of payload → IsBytes payload → length payload < 5 → (line : SignatureParts) → IsSignatureLine line →
+    encoded ≡ base64_of payload → IsBytes payload → length payload < 5 → (line : SignatureParts) →
+    IsSignatureLine line →
     text ≢ line_body line
 too_short text name encoded payload is lacks of fit short line h e =
     let same : payload ≡ signed_bytes line =

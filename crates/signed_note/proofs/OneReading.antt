@@ -10,7 +10,8 @@ use Rattle.std.proofs.lemmas.List.Elements.{All-head, All-tail}
 use Rattle.byteorder.specs.Endian.{big_bytes, big_number}
 use Rattle.signed_note.specs.Names.{newline, IsNoteText}
 use Rattle.tlog_text.specs.Hash.{base64_of}
-use Rattle.signed_note.specs.Notes.{SignatureParts, NoteParts, signed_bytes, line_body, line_text, IsSignatureLine, IsNoteSplit}
+use Rattle.signed_note.specs.Notes.{SignatureParts, NoteParts, signed_bytes, line_body, line_text, IsSignatureLine}
+use Rattle.signed_note.specs.Notes.{IsNoteSplit}
 use Rattle.signed_note.specs.Notes.{IsNote}
 use Rattle.signed_note.specs.Reading.{line_count, ReadsNote}
 use Rattle.signed_note.specs.Laws.{NoteHasOneReading, OneNoteAnswer}
@@ -41,7 +42,8 @@ same_body x y p q e =
     let same : signed_bytes x ≡ signed_bytes y =
     base64_of-same (signed_bytes x) (signed_bytes y) (signed_bytes_fit x p) (signed_bytes_fit y q) words.1 in
     let ids : big_bytes 4 x.id ≡ big_bytes 4 y.id = ap (take 4) same in
-    SignatureParts-same x y words.0 (sym (bytes_id x.id p.id) ∙ (ap (big_number 4) ids ∙ bytes_id y.id q.id)) (ap (drop 4) same)
+    SignatureParts-same x y words.0 (sym (bytes_id x.id p.id) ∙ (ap (big_number 4) ids ∙ bytes_id y.id q.id))
+    (ap (drop 4) same)
 
 same_lines : (lines others : List SignatureParts) → flat_map line_text lines ≡ flat_map line_text others →
     All IsSignatureLine lines → All IsSignatureLine others → lines ≡ others
@@ -187,7 +189,8 @@ NoteParts-same x y b t l =
     let first : x ≡ record x { bytes = y.bytes } = ap (λ (v : List ℕ). record x { bytes = v }) b in
     let second : record x { bytes = y.bytes } ≡ record x { bytes = y.bytes; text = y.text } =
     ap (λ (v : List ℕ). record x { bytes = y.bytes; text = v }) t in
-    let third : record x { bytes = y.bytes; text = y.text } ≡ y = ap (λ (v : List SignatureParts). record y { lines = v }) l in
+    let third : record x { bytes = y.bytes; text = y.text } ≡ y =
+    ap (λ (v : List SignatureParts). record y { lines = v }) l in
     first ∙ (second ∙ third)
 
 -- two notes are equal exactly where their bytes are

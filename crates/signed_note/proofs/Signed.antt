@@ -15,7 +15,8 @@ use Rattle.signed_note.specs.Hmac.{hmac}
 use Rattle.signed_note.specs.Keys.{Key, Secret, secret_key}
 use Rattle.signed_note.specs.Names.{newline, space, is_note_char, IsNoteText, IsOwnName}
 use Rattle.tlog_text.specs.Hash.{base64_of}
-use Rattle.signed_note.specs.Notes.{SignatureParts, em_dash, signed_bytes, line_body, line_text, IsSignatureLine, IsNote}
+use Rattle.signed_note.specs.Notes.{SignatureParts, em_dash, signed_bytes, line_body, line_text, IsSignatureLine}
+use Rattle.signed_note.specs.Notes.{IsNote}
 use Rattle.signed_note.specs.Notes.{IsLawfulText, Opens, is_accepted_by, signed_line}
 use Rattle.signed_note.specs.declared.limits.TheConstants.{MAX_NAME_LEN, MAX_TEXT_LEN}
 use Rattle.signed_note.proofs.Digests.{hmac_fits, length-hmac}

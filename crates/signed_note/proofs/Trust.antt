@@ -41,7 +41,8 @@ list_any_same p q (x ∷ xs) h = ap (λ b. b || list_any p xs) (h x) ∙ ap (λ 
 pub Any-weaker : {X : Type 0} (P Q : X → Type 0) (xs : List X) → ((x : X) → P x → Q x) → Any P xs → Any Q xs
 Any-weaker P Q xs f h = (h.0, h.1, h.2, h.3, f h.1 h.4)
 
-pub opens_is : {X : Type 0} (key_of : X → Key) (text : List ℕ) (lines : List SignatureParts) (keys : List X) (r : Bool) →
+pub opens_is : {X : Type 0} (key_of : X → Key) (text : List ℕ) (lines : List SignatureParts) (keys : List X)
+    (r : Bool) →
     r ≡ list_any (λ line. list_any (λ k. is_accepted_by text line (key_of k)) keys) lines
     → (r ≡ true → Opens text lines (map key_of keys)) × (Opens text lines (map key_of keys) → r ≡ true)
 unfolding Opens

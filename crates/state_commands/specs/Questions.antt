@@ -26,7 +26,8 @@ ReportsOn digest Forks v (Err OutOfMemory) = Unit {0}
 ReportsOn digest Forks v (Err fault) = ⊥
 ReportsOn digest (Proof ask) v answer = ReportsProof digest v ask answer
 
-module _ (digest : List ℕ → List ℕ) (question : Question) (v : View) (old new : Option (List ℕ)) where
+module _ (digest : List ℕ → List ℕ) (question : Question) (v : View)
+    (old new : Option (List ℕ)) where
   -- the report was written whole, and the exit status is the report's
   pub record PrintsReport (status : ℕ) : Type 0 where
     pub report : Printout

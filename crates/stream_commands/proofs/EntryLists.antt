@@ -1,5 +1,6 @@
 -- Entries one after the other, of which some are left.
-use Rattle.std.proofs.Common.{◌≡◌, ℕ, zero, suc, false, nat_eq, ◌^◌, ◌<◌, List, [], ◌∷◌, ◌++◌, ◌≤◌, length, take, All, Option, Some, None, Result, refl, sym, ap, subst, ◌∙◌, arith}
+use Rattle.std.proofs.Common.{◌≡◌, ℕ, zero, suc, false, nat_eq, ◌^◌, ◌<◌, List, [], ◌∷◌, ◌++◌, ◌≤◌, length, take, All}
+use Rattle.std.proofs.Common.{Option, Some, None, Result, refl, sym, ap, subst, ◌∙◌, arith}
 use Rattle.std.specs.Prelude.{IfSome}
 use Rattle.std.specs.List.{flat_map}
 use Rattle.std.proofs.lemmas.List.{append-nil, length-take, take_all}
@@ -9,21 +10,25 @@ use Rattle.stream_commands.specs.Entries.{AreEntries, ReadsEntries}
 use Rattle.stream_commands.specs.declared.entries.EntriesFault.{EntriesFault}
 
 -- no entries are no bytes
-none_left : (bytes front : List ℕ) (es : List (List ℕ)) → nat_eq (length bytes) 0 ≡ false → bytes ≡ front ++ [] → IsBundle 0 front es → ⊥
+none_left : (bytes front : List ℕ) (es : List (List ℕ)) → nat_eq (length bytes) 0 ≡ false → bytes ≡ front ++ [] →
+    IsBundle 0 front es → ⊥
 none_left bytes front [] some parts b =
     let empty : bytes ≡ [] = parts ∙ (append-nil front ∙ b.text) in
     cc
 none_left bytes front (e ∷ es) some parts b = let bad : suc (length es) ≡ 0 = b.count in absurd (omega arith)
 
 -- where bytes are left there is an entry at the start
-pub first_left : (j : ℕ) (bytes : List ℕ) → nat_eq (length bytes) 0 ≡ false → HasBundle j bytes [] → (e : List ℕ) × (after : List ℕ) × (length e < 2 ^ 16) × (bytes ≡ entry_text e ++ after)
+pub first_left : (j : ℕ) (bytes : List ℕ) → nat_eq (length bytes) 0 ≡ false → HasBundle j bytes [] →
+    (e : List ℕ) × (after : List ℕ) × (length e < 2 ^ 16) × (bytes ≡ entry_text e ++ after)
 first_left zero bytes some h = absurd (none_left bytes h.front h.entries some h.parts h.is_bundle)
 first_left (suc k) bytes some h = HasBundle-first k bytes [] h
 
 -- behind an entry stand the others
-pub others_left : (j : ℕ) (bytes e after : List ℕ) → nat_eq (length bytes) 0 ≡ false → length e < 2 ^ 16 → bytes ≡ entry_text e ++ after → HasBundle j bytes [] → (k : ℕ) × HasBundle k after []
+pub others_left : (j : ℕ) (bytes e after : List ℕ) → nat_eq (length bytes) 0 ≡ false → length e < 2 ^ 16 → bytes ≡
+    entry_text e ++ after → HasBundle j bytes [] → (k : ℕ) × HasBundle k after []
 others_left zero bytes e after some fits parts h = absurd (none_left bytes h.front h.entries some h.parts h.is_bundle)
-others_left (suc k) bytes e after some fits parts h = (k, HasBundle-rest k e after [] fits (subst (λ b. HasBundle (suc k) b []) parts h))
+others_left (suc k) bytes e after some fits parts h =
+    (k, HasBundle-rest k e after [] fits (subst (λ b. HasBundle (suc k) b []) parts h))
 
 -- entries are a bundle of their number
 pub bundle_of : (bytes : List ℕ) (es : List (List ℕ)) → AreEntries bytes es → HasBundle (length es) bytes []
@@ -35,7 +40,8 @@ bundle_of bytes es a = record {
 }
 
 -- bytes of which a part was read that is not full were read whole
-pub whole_read : (known : Option (List ℕ)) (most : ℕ) (bytes : List ℕ) (r : Result (List (List ℕ)) EntriesFault) → IfSome known (λ input. bytes ≡ take most input) → length bytes < most → ReadsEntries bytes r
+pub whole_read : (known : Option (List ℕ)) (most : ℕ) (bytes : List ℕ) (r : Result (List (List ℕ)) EntriesFault) →
+    IfSome known (λ input. bytes ≡ take most input) → length bytes < most → ReadsEntries bytes r
     → IfSome known (λ input. ReadsEntries input r)
 whole_read None most bytes r part short reads = tt
 whole_read (Some input) most bytes r part short reads =

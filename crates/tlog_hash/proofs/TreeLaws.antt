@@ -4,7 +4,8 @@ use Rattle.std.specs.List.{Contains}
 use Rattle.tlog_shape.specs.Split.{split_of}
 use Rattle.tlog_shape.proofs.Splits.{split_of-below, split_of-positive}
 use Rattle.tlog_hash.specs.Tree.{fold_of, mth, strings}
-use Rattle.tlog_hash.specs.Laws.{IsTreeHash, IsFold, MthIsTreeHash, FoldMeetsEquations, StringsFollowSplit, TreeGoesByBlocks}
+use Rattle.tlog_hash.specs.Laws.{IsTreeHash, IsFold, MthIsTreeHash, FoldMeetsEquations, StringsFollowSplit}
+use Rattle.tlog_hash.specs.Laws.{TreeGoesByBlocks}
 use Rattle.tlog_hash.specs.Laws.{NodesAreStrings}
 use Rattle.tlog_hash.proofs.Trees.{induction, mth-none, mth-one, mth-join, fold_of-one, fold_of-join, strings-none}
 use Rattle.tlog_hash.proofs.Trees.{strings-one}

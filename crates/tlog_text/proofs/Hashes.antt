@@ -75,7 +75,8 @@ module _ (text : List ℕ) (bytes : (i : ℕ) → slice_index text i < 256) (sym
       (decode_of standard text ≡ Ok (decoded_bytes_of standard text)) × (length (decoded_bytes_of standard text) ≡ n)
   decoded_len r n value ok =
       let room =
-      slice_result_room standard.decode_table text standard.padding.value standard.config.decode_allow_trailing_bits standard.config.decode_padding_mode 33 (omega (arith, symbols_44)) in
+      slice_result_room standard.decode_table text standard.padding.value standard.config.decode_allow_trailing_bits
+      standard.config.decode_padding_mode 33 (omega (arith, symbols_44)) in
       let parts = or_error_ok _ _ n (sym room ∙ sym value ∙ ok) in
       (ap (λ e. decode_outcome e (decoded_bytes_of standard text)) parts.0, parts.1)
 
@@ -105,9 +106,13 @@ module _ (text : List ℕ) (bytes : (i : ℕ) → slice_index text i < 256) (sym
       (hash : List ℕ) → IsHashText text hash → ⊥
   refused (Ok n) value none hash h = none n refl
   refused (Err OutputSliceTooSmall) value none hash h =
-      conservative_small standard.decode_table text standard.padding.value standard.config.decode_allow_trailing_bits standard.config.decode_padding_mode 33 (Err OutputSliceTooSmall) OutputSliceTooSmall (omega (arith, symbols_44)) value refl refl
+      conservative_small standard.decode_table text standard.padding.value standard.config.decode_allow_trailing_bits
+      standard.config.decode_padding_mode 33 (Err OutputSliceTooSmall) OutputSliceTooSmall
+      (omega (arith, symbols_44)) value refl refl
   refused (Err (DecodeFailed e)) value none hash h =
       let failed : decode_of standard text ≡ Err e =
-      conservative_err standard.decode_table text standard.padding.value standard.config.decode_allow_trailing_bits standard.config.decode_padding_mode 33 (Err (DecodeFailed e)) (DecodeFailed e) e (omega (arith, symbols_44)) value refl refl in
+      conservative_err standard.decode_table text standard.padding.value standard.config.decode_allow_trailing_bits
+      standard.config.decode_padding_mode 33 (Err (DecodeFailed e)) (DecodeFailed e) e
+      (omega (arith, symbols_44)) value refl refl in
       let same = sym failed ∙ is_decoded hash h in
       cc same

@@ -12,4 +12,5 @@ pub loop-name-preserved : goal.loop-name-preserved
 loop-name-preserved g c =
     tells_more (g.F.NamedFiles.puts c.args.files.now) (λ bytes. bytes.items)
     (λ name. name.now) c.loop-name.held.items c.push.new.self.items c.in-Ok.bytes c.args.names.now
-    c.loop-name.name-index _ c.in-Ok-push.ensures.items c.in-Ok.ensures.bytes c.loop-name-test.true c.loop-name.invariant
+    c.loop-name.name-index _ c.in-Ok-push.ensures.items c.in-Ok.ensures.bytes c.loop-name-test.true
+    c.loop-name.invariant

@@ -15,7 +15,8 @@ pub returns-in-Ok-write_whole-clause-answer : goal.returns-in-Ok-write_whole-cla
 returns-in-Ok-write_whole-clause-answer g c =
     let old = g.W.Write.contents c.args.output.now in
     let new = g.W.Write.contents c.write_whole.new.writer in
-    let text : c.as_bytes.result.now ≡ pulled_lines c.in-Ok.done.1 = c.as_bytes.ensures.value ∙ c.in-Ok-pulled_text.ensures in (
+    let text : c.as_bytes.result.now ≡ pulled_lines c.in-Ok.done.1 = c.as_bytes.ensures.value ∙
+    c.in-Ok-pulled_text.ensures in (
       c.in-Ok.done.1,
       (c.in-Ok.done.0.view, c.in-Ok.ensures, c.in-Ok-write_state.ensures),
       subst (λ (b : List ℕ). Appends old new b) text c.in-Ok-write_whole.ensures.ok,
@@ -26,7 +27,8 @@ pub returns-clause-answer : goal.returns-clause-answer
 returns-clause-answer g c =
     let old = g.W.Write.contents c.args.output.now in
     let new = g.W.Write.contents c.write_whole.new.writer in
-    let text : c.as_bytes.result.now ≡ pulled_lines c.in-Ok.done.1 = c.as_bytes.ensures.value ∙ c.in-Ok-pulled_text.ensures in (
+    let text : c.as_bytes.result.now ≡ pulled_lines c.in-Ok.done.1 = c.as_bytes.ensures.value ∙
+    c.in-Ok-pulled_text.ensures in (
       c.in-Ok.done.1,
       (c.in-Ok.done.0.view, c.in-Ok.ensures, c.in-Ok-write_state.ensures),
       subst (λ (b : List ℕ). AppendsPrefix old new b) text c.in-Err-write_whole.ensures.err,

@@ -22,7 +22,8 @@ pub returns-in-Err-UnheldEdge-clause-keeps : goal.returns-in-Err-UnheldEdge-clau
 returns-in-Err-UnheldEdge-clause-keeps g c =
     edge_lacks g.H.TreeHash.digest c.args.mirror.now.view c.loop-note.mirror.view c.keep_held_head.new.self.view _
     c.args.notes.now c.loop-note.note-index _ c.loop-note-test.true
-    c.loop-note.invariant.view c.in-Err-UnheldEdge.field-0 c.in-Err-UnheldEdge.ensures.keeps c.in-Err-UnheldEdge.field-0-is
+    c.loop-note.invariant.view c.in-Err-UnheldEdge.field-0 c.in-Err-UnheldEdge.ensures.keeps
+    c.in-Err-UnheldEdge.field-0-is
 
 pub loop-note-preserved : goal.loop-note-preserved
 loop-note-preserved g c = record {

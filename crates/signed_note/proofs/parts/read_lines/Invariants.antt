@@ -13,7 +13,8 @@ invariant-loop-rest l = record {
   text : shadow (Utf8 l.rest);
   so_far : l.signed ≡ flat_map line_text l.lines.items ++ l.rest;
   well_formed : All IsSignatureLine l.lines.items;
-  goes_on : (all : List SignatureParts) → AreSignatureLines l.signed all → (more : List SignatureParts) × AreSignatureLines l.rest more;
+  goes_on : (all : List SignatureParts) → AreSignatureLines l.signed all →
+      (more : List SignatureParts) × AreSignatureLines l.rest more;
 }
 
 abbrev pub decreases-loop-rest : goal.decreases-loop-rest

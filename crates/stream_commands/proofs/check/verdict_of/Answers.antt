@@ -6,4 +6,5 @@ use Rattle.stream_commands.proofs.check.verdict_of.Goals as goal
 
 pub returns-clause-verdict : goal.returns-clause-verdict
 returns-clause-verdict g c =
-    judges_whole sha256 (g.R.Read.remaining c.args.reader.now) c.in_ok-bytes.bytes.items c.judged.result c.in_ok-bytes.ensures.bytes (subst (λ b. Judges sha256 b c.judged.result) c.deref.ensures.value c.judged.ensures)
+    judges_whole sha256 (g.R.Read.remaining c.args.reader.now) c.in_ok-bytes.bytes.items c.judged.result
+    c.in_ok-bytes.ensures.bytes (subst (λ b. Judges sha256 b c.judged.result) c.deref.ensures.value c.judged.ensures)

@@ -48,4 +48,5 @@ returns-clause-range c =
     let upto =
     spans_node c.args.size c.loop-rest.level c.loop-rest.rest c.requires c.loop-rest.invariant.rest_is
     (omega (arith, c.loop-rest-test.false)) in
-    λ power aligned. range_has c.args.start c.args.size c.loop-rest.level _ c.requires upto c.blocks-2.ensures power aligned
+    λ power aligned. range_has c.args.start c.args.size c.loop-rest.level _ c.requires upto c.blocks-2.ensures power
+    aligned

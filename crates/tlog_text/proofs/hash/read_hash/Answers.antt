@@ -21,7 +21,8 @@ pub returns-then-len-ne32-clause-none : goal.returns-then-len-ne32-clause-none
 returns-then-len-ne32-clause-none c =
     let bytes : (i : ℕ) → slice_index c.args.text.now i < 256 = λ i. let f = c.type_inv.text i in omega arith in
     let value = c.decode_slice.ensures.value ∙ ap (λ s. decode_slice_of standard s 33) c.as_bytes.ensures.value in
-    other_len c.args.text.now bytes c.if-text-ne-SYMBOLS.false c.decode_slice.result c.in-Ok.len value c.in-Ok.is c.if-len-ne32.true
+    other_len c.args.text.now bytes c.if-text-ne-SYMBOLS.false c.decode_slice.result c.in-Ok.len value c.in-Ok.is
+    c.if-len-ne32.true
 
 pub returns-clause-some : goal.returns-clause-some
 returns-clause-some c =
@@ -34,4 +35,5 @@ returns-clause-some c =
     let are = subst (λ s. IsBytes (decoded_bytes_of standard s)) c.as_bytes.ensures.value c.in-Ok.ensures.bytes in
     subst (IsHashText text) (sym c.front.ensures)
     (found text bytes c.if-text-ne-SYMBOLS.false
-    (replicate 33 0) c.decode_slice.new.output c.decode_slice.result c.in-Ok.len value c.in-Ok.is c.if-len-ne32.false written are)
+    (replicate 33 0) c.decode_slice.new.output c.decode_slice.result c.in-Ok.len value c.in-Ok.is c.if-len-ne32.false
+    written are)

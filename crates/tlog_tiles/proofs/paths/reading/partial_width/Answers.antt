@@ -1,4 +1,4 @@
-use Rattle.std.proofs.Common.{ℕ, ◌≤◌, arith}
+use Rattle.std.proofs.Common.{◌≤◌, arith}
 use Rattle.tlog_tiles.proofs.WidthLemmas.{no_number, no_text, number_width, partial_width_is}
 use Rattle.tlog_tiles.proofs.paths.reading.partial_width.Goals as goal
 
