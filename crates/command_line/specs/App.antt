@@ -6,9 +6,13 @@ use Rattle.clap.specs.declared.builder.action.ArgAction.TheVariants.{Append, Set
 
 -- ---- options
 
+-- an argument of one value
+abbrev pub argument_rule : Text → Rule
+argument_rule name = record (new_rule name) { value_names = 1 }
+
 -- `[--NAME VALUE]`, which may be left out
 abbrev pub choice_rule : Text → Rule
-choice_rule name = record (new_rule name) { long = Some name; action = Some Set; value_names = 1 }
+choice_rule name = record (argument_rule name) { long = Some name; action = Some Set }
 
 -- `--NAME VALUE`, which has to be there
 abbrev pub option_rule : Text → Rule
@@ -16,11 +20,11 @@ option_rule name = record (choice_rule name) { required = true }
 
 -- `VALUE`, a word alone, which has to be there
 abbrev pub place_rule : Text → Rule
-place_rule name = record (new_rule name) { action = Some Set; value_names = 1; required = true }
+place_rule name = record (argument_rule name) { action = Some Set; required = true }
 
 -- `VALUE...`, any number of words alone
 abbrev pub list_rule : Text → Rule
-list_rule name = record (new_rule name) { action = Some Append; value_names = 1 }
+list_rule name = record (argument_rule name) { action = Some Append }
 
 -- ---- commands
 

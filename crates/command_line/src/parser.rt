@@ -1,7 +1,7 @@
 //! The parser of the command line, command by command.
 ghost use Rattle.std.specs.Prelude.{◌≡◌, IfOk, codes, false};
 ghost use Rattle.clap.specs.Words.{rule_of};
-ghost use Rattle.command_line.specs.App.{build_app, check_app, choice_rule, folder_app, held_app, list_rule, log_app, made_app};
+ghost use Rattle.command_line.specs.App.{argument_rule, build_app, check_app, choice_rule, folder_app, held_app, list_rule, log_app, made_app};
 ghost use Rattle.command_line.specs.App.{making_app, merge_app, mirror_app, missing_app, named_app, option_rule, place_rule, program_app, prove_app, pull_app};
 ghost use Rattle.command_line.specs.App.{root_app, serve_app, take_app};
 ghost use Rattle.command_line.specs.Commands.{IsParserOf};
@@ -10,16 +10,22 @@ use crate::help;
 use clap::{Arg, ArgAction};
 use std::alloc::{AllocError, Global};
 
+// An argument of one value, with its help.
+fn argument<'a>(alloc: Global, name: &'a str, value: &'a str, help: &'a str) -> Arg<'a>
+    ensures rule { rule_of result ≡ argument_rule name.entry.now }
+    ensures local { result.global ≡ false }
+{
+    Arg::new(alloc, name).value_name(value).help(help)
+}
+
 // `[--NAME VALUE]`, which may be left out.
 fn choice<'a>(alloc: Global, name: &'a str, value: &'a str, help: &'a str) -> Arg<'a>
     ensures rule { rule_of result ≡ choice_rule name.entry.now }
     ensures local { result.global ≡ false }
 {
-    Arg::new(alloc, name)
+    argument(alloc, name, value, help)
         .long(name)
-        .value_name(value)
         .action(ArgAction::Set)
-        .help(help)
 }
 
 // `--NAME VALUE`, which has to be there.
@@ -27,12 +33,7 @@ fn option<'a>(alloc: Global, name: &'a str, value: &'a str, help: &'a str) -> Ar
     ensures rule { rule_of result ≡ option_rule name.entry.now }
     ensures local { result.global ≡ false }
 {
-    Arg::new(alloc, name)
-        .long(name)
-        .value_name(value)
-        .required(true)
-        .action(ArgAction::Set)
-        .help(help)
+    choice(alloc, name, value, help).required(true)
 }
 
 // `VALUE`, a word alone, which has to be there.
@@ -40,11 +41,9 @@ fn place<'a>(alloc: Global, name: &'a str, value: &'a str, help: &'a str) -> Arg
     ensures rule { rule_of result ≡ place_rule name.entry.now }
     ensures local { result.global ≡ false }
 {
-    Arg::new(alloc, name)
-        .value_name(value)
+    argument(alloc, name, value, help)
         .required(true)
         .action(ArgAction::Set)
-        .help(help)
 }
 
 // `VALUE...`, any number of words alone.
@@ -52,10 +51,7 @@ fn list<'a>(alloc: Global, name: &'a str, value: &'a str, help: &'a str) -> Arg<
     ensures rule { rule_of result ≡ list_rule name.entry.now }
     ensures local { result.global ≡ false }
 {
-    Arg::new(alloc, name)
-        .value_name(value)
-        .action(ArgAction::Append)
-        .help(help)
+    argument(alloc, name, value, help).action(ArgAction::Append)
 }
 
 // A command over a log: its origin and its keys.

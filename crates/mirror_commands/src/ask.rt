@@ -31,7 +31,13 @@ pub(crate) fn run_ask<F: NamedFiles, W: Write>(
     ensures status { IfOk result IsStatus }
     ensures quiet { IfErr result (λ fault. (IsWriting fault → ⊥) → Keeps (W.contents output.old) (W.contents output.new)) }
 {
-    let mut mirror = match loaded::<Sha256Tree, F>(files, alloc, held.log.origin, keys, held.state) {
+    let mut mirror = match loaded::<Sha256Tree, F>(
+        files,
+        alloc,
+        held.log.origin,
+        keys,
+        held.state,
+    ) {
         Ok(mirror) => mirror,
         Err(fault) => return Err(WorkFault::State(fault)),
     };

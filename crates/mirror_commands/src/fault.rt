@@ -10,7 +10,7 @@ use mirror_pull::PullFault;
 use mirror_updates::BuildFault;
 use signed_note::KeyFileFault;
 use state_commands::AskFault;
-use std::alloc::{AllocError, AllocFailed};
+use std::alloc::AllocError;
 use stream_commands::{CheckFault, EntriesFault, RootFault};
 use thiserror::Error;
 use tlog_mirror::NewFault;
@@ -114,22 +114,6 @@ pub enum TellFault {
     WriteFault,
 }
 
-impl From<NamedFault> for WorkFault {
-    ghost from_gives = { λ f e. e ≡ work.Named f };
-
-    fn from(fault: NamedFault) -> WorkFault {
-        WorkFault::Named(fault)
-    }
-}
-
-impl From<NewFault> for WorkFault {
-    ghost from_gives = { λ f e. e ≡ work.Origin f };
-
-    fn from(fault: NewFault) -> WorkFault {
-        WorkFault::Origin(fault)
-    }
-}
-
 impl From<StateFault> for WorkFault {
     ghost from_gives = { λ f e. e ≡ work.State f };
 
@@ -138,35 +122,11 @@ impl From<StateFault> for WorkFault {
     }
 }
 
-impl From<EntriesFault> for WorkFault {
-    ghost from_gives = { λ f e. e ≡ work.Entries f };
-
-    fn from(fault: EntriesFault) -> WorkFault {
-        WorkFault::Entries(fault)
-    }
-}
-
-impl From<AskFault> for WorkFault {
-    ghost from_gives = { λ f e. e ≡ work.Ask f };
-
-    fn from(fault: AskFault) -> WorkFault {
-        WorkFault::Ask(fault)
-    }
-}
-
 impl From<PullFault> for WorkFault {
     ghost from_gives = { λ f e. e ≡ work.Pull f };
 
     fn from(fault: PullFault) -> WorkFault {
         WorkFault::Pull(fault)
-    }
-}
-
-impl<T: Drop> From<AllocFailed<T>> for WorkFault {
-    ghost from_gives = { λ _ e. e ≡ work.OutOfMemory };
-
-    fn from(_e: AllocFailed<T>) -> WorkFault {
-        WorkFault::OutOfMemory
     }
 }
 

@@ -102,10 +102,26 @@ fn from_place<'a, R: Files + Clock + Net<Stream = TcpStream>>(
             let Ok(site) = Site::new(alloc, host, prefix) else {
                 return Err(WorkFault::OutOfMemory);
             };
-            let dial = TcpDial::new(alloc, rt, dialled, *port)?;
-            from_source(alloc, mirror, keys, &mut HttpSource::new(alloc, site, dial))
+            from_server(alloc, mirror, keys, site, rt, dialled, *port)
         }
     }
+}
+
+// Pulls from a site, over connections to a host and port, into the mirror.
+fn from_server<N: Net<Stream = TcpStream> + Clock + Clone + Drop>(
+    alloc: Global,
+    mirror: &mut Mirror<Sha256Tree>,
+    keys: &[Box<dyn Verifier>],
+    site: Site,
+    net: N,
+    host: &str,
+    port: u16,
+) -> Result<Pulled, WorkFault>
+    ensures { IfOk result (λ pulled. PullsTo sha256 (map (λ k. key k) keys.now) mirror.old.view mirror.new.view (Ok pulled)) }
+{
+    let dial = TcpDial::new(alloc, net, host, port)?;
+    let mut source = HttpSource::new(alloc, site, dial);
+    from_source(alloc, mirror, keys, &mut source)
 }
 
 // Pulls from a source into the mirror.

@@ -13,7 +13,7 @@ use std::io::Write;
 use std::net::{Ipv4Addr, Net, TcpListener, TcpStream};
 use std::rt::Clock;
 use std::time::Duration;
-use tlog_hash::Sha256Tree;
+use tlog_hash::{Sha256Tree, TreeHash};
 use tlog_mirror::Mirror;
 
 // A client has so many seconds to send the head of its request.
@@ -42,7 +42,7 @@ where
     R: Clock + Net<Stream = TcpStream, Listener = TcpListener>,
     ensures line { TellsPort serve.now.port (O.contents output.old) (O.contents output.new) result }
 {
-    let mirror = match settled(files, alloc, &serve.held, keys) {
+    let mirror = match settled::<Sha256Tree, F>(files, alloc, &serve.held, keys) {
         Ok(mirror) => mirror,
         Err(fault) => return Err(TellFault::Work(fault)),
     };
@@ -63,13 +63,13 @@ where
 }
 
 // The mirror in the state file, which remembers what is complete.
-fn settled<F: NamedFiles>(
+fn settled<H: TreeHash, F: NamedFiles>(
     files: &F,
     alloc: Global,
     held: &Held<'_>,
     keys: &[Box<dyn Verifier>],
-) -> Result<Mirror<Sha256Tree>, WorkFault> {
-    let mut mirror = loaded::<Sha256Tree, F>(files, alloc, held.log.origin, keys, held.state)?;
+) -> Result<Mirror<H>, WorkFault> {
+    let mut mirror = loaded::<H, F>(files, alloc, held.log.origin, keys, held.state)?;
     mirror.settle(alloc)?;
     Ok(mirror)
 }
@@ -82,10 +82,10 @@ fn listening_line(alloc: Global, port: u16) -> Result<String, AllocError>
 }
 
 // Answers so many connections, one after the other.
-fn serve_all<C: Clock, E: Write>(
+fn serve_all<H: TreeHash, C: Clock, E: Write>(
     clock: &C,
     alloc: Global,
-    mirror: &Mirror<Sha256Tree>,
+    mirror: &Mirror<H>,
     listener: &TcpListener,
     requests: u64,
     errors: &mut E,
@@ -107,10 +107,10 @@ fn serve_all<C: Clock, E: Write>(
 /// # Errors
 ///
 /// Those of `answer`. `ReadFault` also where there is no clock.
-pub fn answer_one<C: Clock>(
+pub fn answer_one<H: TreeHash, C: Clock>(
     clock: &C,
     alloc: Global,
-    mirror: &Mirror<Sha256Tree>,
+    mirror: &Mirror<H>,
     stream: &TcpStream,
 ) -> Result<(), HttpFault> {
     let Ok(mut reader) = TimedStream::new(stream, clock, Duration::from_secs(HEAD_SECONDS)) else {
