@@ -21,7 +21,7 @@ use std::fs::Files;
 use std::io::Write;
 use std::net::{Net, TcpStream};
 use std::rt::Clock;
-use tlog_hash::Sha256Tree;
+use tlog_hash::{Sha256Tree, TreeHash};
 use tlog_mirror::Mirror;
 
 /// Fetches what is missing into the mirror in the state file, or into one that holds nothing, writes its state, and
@@ -44,7 +44,7 @@ pub(crate) fn run_pull<R: Files + Clock + Net<Stream = TcpStream>, F: NamedFiles
     ensures quiet { IfErr result (λ fault. fault ≢ TellFault.WriteFault → Keeps (W.contents output.old) (W.contents output.new)) }
 {
     let made = &words.made;
-    let (mirror, pulled) = match pulled_from(rt, files, alloc, words, keys) {
+    let (mirror, pulled) = match pulled_from::<Sha256Tree, R, F>(rt, files, alloc, words, keys) {
         Ok(done) => done,
         Err(fault) => return Err(TellFault::Work(fault)),
     };
@@ -62,30 +62,30 @@ pub(crate) fn run_pull<R: Files + Clock + Net<Stream = TcpStream>, F: NamedFiles
 }
 
 // The mirror that is begun with, and what the pull into it came to.
-fn pulled_from<R: Files + Clock + Net<Stream = TcpStream>, F: NamedFiles>(
+fn pulled_from<H: TreeHash, R: Files + Clock + Net<Stream = TcpStream>, F: NamedFiles>(
     rt: &R,
     files: &F,
     alloc: Global,
     words: &Pull<'_>,
     keys: &[Box<dyn Verifier>],
-) -> Result<(Mirror<Sha256Tree>, Pulled), WorkFault>
-    ensures { IfOk result (λ x. PullsFromFile sha256 words.now.made.log.origin.now (map (λ k. key k) keys.now) (F.puts files.now) (option_map (λ name. name.now) words.now.state) x.0.view x.1) }
+) -> Result<(Mirror<H>, Pulled), WorkFault>
+    ensures { IfOk result (λ x. PullsFromFile H.digest words.now.made.log.origin.now (map (λ k. key k) keys.now) (F.puts files.now) (option_map (λ name. name.now) words.now.state) x.0.view x.1) }
 {
     let origin = words.made.log.origin;
-    let mut mirror = begun::<Sha256Tree, F>(files, alloc, origin, keys, words.state)?;
+    let mut mirror = begun::<H, F>(files, alloc, origin, keys, words.state)?;
     let pulled = from_place(rt, alloc, &mut mirror, keys, &words.place)?;
     Ok((mirror, pulled))
 }
 
 // Pulls from a place into the mirror.
-fn from_place<'a, R: Files + Clock + Net<Stream = TcpStream>>(
+fn from_place<'a, H: TreeHash, R: Files + Clock + Net<Stream = TcpStream>>(
     rt: &'a R,
     alloc: Global,
-    mirror: &mut Mirror<Sha256Tree>,
+    mirror: &mut Mirror<H>,
     keys: &[Box<dyn Verifier>],
     place: &'a Place<'a>,
 ) -> Result<Pulled, WorkFault>
-    ensures { IfOk result (λ pulled. PullsTo sha256 (map (λ k. key k) keys.now) mirror.old.view mirror.new.view (Ok pulled)) }
+    ensures { IfOk result (λ pulled. PullsTo H.digest (map (λ k. key k) keys.now) mirror.old.view mirror.new.view (Ok pulled)) }
 {
     match place {
         Place::Folder(folder) => {
@@ -108,16 +108,16 @@ fn from_place<'a, R: Files + Clock + Net<Stream = TcpStream>>(
 }
 
 // Pulls from a site, over connections to a host and port, into the mirror.
-fn from_server<N: Net<Stream = TcpStream> + Clock + Clone + Drop>(
+fn from_server<H: TreeHash, N: Net<Stream = TcpStream> + Clock + Clone + Drop>(
     alloc: Global,
-    mirror: &mut Mirror<Sha256Tree>,
+    mirror: &mut Mirror<H>,
     keys: &[Box<dyn Verifier>],
     site: Site,
     net: N,
     host: &str,
     port: u16,
 ) -> Result<Pulled, WorkFault>
-    ensures { IfOk result (λ pulled. PullsTo sha256 (map (λ k. key k) keys.now) mirror.old.view mirror.new.view (Ok pulled)) }
+    ensures { IfOk result (λ pulled. PullsTo H.digest (map (λ k. key k) keys.now) mirror.old.view mirror.new.view (Ok pulled)) }
 {
     let dial = TcpDial::new(alloc, net, host, port)?;
     let mut source = HttpSource::new(alloc, site, dial);
@@ -125,13 +125,13 @@ fn from_server<N: Net<Stream = TcpStream> + Clock + Clone + Drop>(
 }
 
 // Pulls from a source into the mirror.
-fn from_source<S: Source>(
+fn from_source<H: TreeHash, S: Source>(
     alloc: Global,
-    mirror: &mut Mirror<Sha256Tree>,
+    mirror: &mut Mirror<H>,
     keys: &[Box<dyn Verifier>],
     source: &mut S,
 ) -> Result<Pulled, WorkFault>
-    ensures { IfOk result (λ pulled. PullsTo sha256 (map (λ k. key k) keys.now) mirror.old.view mirror.new.view (Ok pulled)) }
+    ensures { IfOk result (λ pulled. PullsTo H.digest (map (λ k. key k) keys.now) mirror.old.view mirror.new.view (Ok pulled)) }
 {
     Ok(pull(alloc, mirror, keys, source)?)
 }
