@@ -71,27 +71,55 @@ fn made_by_hand(rt: HostRuntime) -> Result<(), Fail> {
     Ok(())
 }
 
-// Each text is read, and written again. The first alone has the parts of the first.
+#[test]
+fn pinned_ed25519(rt: HostRuntime) -> Result<(), Fail> {
+    let alloc = rt.alloc();
+    for (text, extensions) in [
+        ("ex\n3\nrra8/idLcKFPsGel5VeCZNsPqbUa9eC6FZFY8yngbnc=\n", 0),
+        (
+            "ex\n3\nrra8/idLcKFPsGel5VeCZNsPqbUa9eC6FZFY8yngbnc=\none\n\u{2014} two\r\n",
+            2,
+        ),
+    ] {
+        let checkpoint = checkpoint_of(alloc, text)?;
+        assert_eq!(rt; checkpoint.origin.as_str(), "ex");
+        assert_eq!(rt; checkpoint.size, 3);
+        assert_eq!(rt; checkpoint.root, hash(&rt, ROOT_OF_THREE));
+        assert_eq!(rt; checkpoint.extensions.as_slice().len(), extensions);
+        assert_eq!(rt; text_of(alloc, &checkpoint)?.as_str(), text);
+    }
+    Ok(())
+}
+
 #[test]
 fn read_is_what_was_written(rt: HostRuntime) -> Result<(), Fail> {
-    let first = "ex\n3\nrra8/idLcKFPsGel5VeCZNsPqbUa9eC6FZFY8yngbnc=\none\n\u{2014} two\r\n";
-    let checkpoint = checkpoint_of(rt.alloc(), first)?;
-    assert_eq!(rt; checkpoint.origin.as_str(), "ex");
-    assert_eq!(rt;
-        (checkpoint.size, checkpoint.root),
-        (3, hash(&rt, ROOT_OF_THREE))
-    );
-    assert_eq!(rt; checkpoint.extensions.as_slice().len(), 2);
-    for text in [
-        first,
-        "ey\n3\nrra8/idLcKFPsGel5VeCZNsPqbUa9eC6FZFY8yngbnc=\none\n\u{2014} two\r\n",
-        "ex\n4\nrra8/idLcKFPsGel5VeCZNsPqbUa9eC6FZFY8yngbnc=\none\n\u{2014} two\r\n",
-        "ex\n3\nbjQLnP+zepicpUTmu3gKLHiQHT+zNzh2hRGjBhevoB0=\none\n\u{2014} two\r\n",
-        "ex\n3\nrra8/idLcKFPsGel5VeCZNsPqbUa9eC6FZFY8yngbnc=\n",
+    let alloc = rt.alloc();
+    let text = "ex\n3\nrra8/idLcKFPsGel5VeCZNsPqbUa9eC6FZFY8yngbnc=\none\n";
+    let checkpoint = checkpoint_of(alloc, text)?;
+    for (other, same) in [
+        (text, true),
+        (
+            "ey\n3\nrra8/idLcKFPsGel5VeCZNsPqbUa9eC6FZFY8yngbnc=\none\n",
+            false,
+        ),
+        (
+            "ex\n4\nrra8/idLcKFPsGel5VeCZNsPqbUa9eC6FZFY8yngbnc=\none\n",
+            false,
+        ),
+        (
+            "ex\n3\nbjQLnP+zepicpUTmu3gKLHiQHT+zNzh2hRGjBhevoB0=\none\n",
+            false,
+        ),
+        (
+            "ex\n3\nrra8/idLcKFPsGel5VeCZNsPqbUa9eC6FZFY8yngbnc=\n",
+            false,
+        ),
     ] {
-        let read = checkpoint_of(rt.alloc(), text)?;
-        assert_eq!(rt; text_of(rt.alloc(), &read)?.as_str(), text);
-        assert_eq!(rt; read == checkpoint, text == first, "at {text}");
+        assert_eq!(rt;
+            checkpoint_of(alloc, other)? == checkpoint,
+            same,
+            "at {other}"
+        );
     }
     Ok(())
 }
