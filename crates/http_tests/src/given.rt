@@ -7,8 +7,6 @@ use log_sources::{ListSource, Source};
 use mirror_pull::{Pulled, pull};
 use signed_note::{HmacKey, KeyFault, Verifier};
 use std::alloc::{AllocError, Global};
-use std::fmt::Display;
-use std::process::Abort;
 use std::test::Fail;
 use tlog_hash::TreeHash;
 use tlog_mirror::Mirror;
@@ -76,16 +74,4 @@ pub(crate) fn long_head(
     push_times(&mut head, "a", letters)?;
     head.push_str("\r\n\r\n")?;
     Ok(head)
-}
-
-// The fault is printed by that name.
-pub(crate) fn assert_printed<T: Display + Drop>(
-    rt: &impl Abort,
-    alloc: Global,
-    fault: T,
-    name: &str,
-) -> Result<(), Fail> {
-    let printed = fault.to_string(alloc)?;
-    assert_eq!(rt; printed.as_str(), name);
-    Ok(())
 }

@@ -10,6 +10,8 @@ mod both;
 #[cfg(test)]
 mod client;
 #[cfg(test)]
+mod faults;
+#[cfg(test)]
 mod given;
 #[cfg(test)]
 mod served;

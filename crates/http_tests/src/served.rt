@@ -1,9 +1,6 @@
 //! Mirrors that are asked over HTTP.
-mod answers;
+mod heads;
 mod memory;
-mod replies;
-mod requests;
-mod spellings;
 mod streams;
 
 ghost use Rattle.std.specs.Prelude.{codes, ◌∷◌, []};
@@ -13,7 +10,6 @@ use mirror_server::{HttpFault, answer};
 use signed_note::Verifier;
 use std::alloc::{AllocError, Global};
 use std::io::{Read, Write};
-use std::process::Abort;
 use std::test::Fail;
 use tlog_hash::TreeHash;
 use tlog_mirror::Mirror;
@@ -21,10 +17,6 @@ use tlog_mirror::Mirror;
 // The head of the log of three entries: no bytes, 00 and 10 in hexadecimal.
 const NOTE: &str =
     "ex\n3\nrra8/idLcKFPsGel5VeCZNsPqbUa9eC6FZFY8yngbnc=\n\n\u{2014} good AQIDBAU=\n";
-
-// The reply that tells of no fork, or that nothing is missing.
-const NOTHING: &str =
-    "HTTP/1.1 200 OK\r\nContent-Type: text/plain; charset=utf-8\r\nContent-Length: 0\r\nConnection: close\r\n\r\n";
 
 const BAD_REQUEST: &str =
     "HTTP/1.1 400 Bad Request\r\nContent-Length: 0\r\nConnection: close\r\n\r\n";
@@ -106,51 +98,4 @@ fn reply_of<H: TreeHash>(
     let mut reply = Vec::new(alloc);
     answered(alloc, mirror, &mut request, &mut reply)?;
     Ok(reply)
-}
-
-// The request has that reply.
-fn assert_reply<H: TreeHash>(
-    rt: &impl Abort,
-    alloc: Global,
-    mirror: &Mirror<H>,
-    request: &str,
-    want: &str,
-) -> Result<(), Fail> {
-    let reply = reply_of(alloc, mirror, request.as_bytes())?;
-    assert_eq!(rt; reply.as_slice(), want.as_bytes(), "{request}");
-    Ok(())
-}
-
-// Each request has that reply.
-fn assert_replies<H: TreeHash>(
-    rt: &impl Abort,
-    alloc: Global,
-    mirror: &Mirror<H>,
-    requests: &[&str],
-    want: &str,
-) -> Result<(), Fail> {
-    for request in requests {
-        assert_reply(rt, alloc, mirror, request, want)?;
-    }
-    Ok(())
-}
-
-// A get of the target.
-fn get_of(alloc: Global, target: &str) -> Result<String, AllocError> {
-    format!(in alloc; "GET {target} HTTP/1.1\r\n\r\n")
-}
-
-// Each line's target has that reply.
-fn assert_targets<H: TreeHash>(
-    rt: &impl Abort,
-    alloc: Global,
-    mirror: &Mirror<H>,
-    targets: &str,
-    want: &str,
-) -> Result<(), Fail> {
-    for target in targets.lines() {
-        let request = get_of(alloc, target)?;
-        assert_reply(rt, alloc, mirror, &request, want)?;
-    }
-    Ok(())
 }

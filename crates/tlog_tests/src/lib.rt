@@ -8,11 +8,11 @@
 #[cfg(test)]
 mod built;
 #[cfg(test)]
-mod bundles;
-#[cfg(test)]
 mod checkpoints;
 #[cfg(test)]
 mod climbs;
+#[cfg(test)]
+mod faults;
 #[cfg(test)]
 mod given;
 #[cfg(test)]
@@ -37,8 +37,6 @@ mod prefixes;
 mod proof_texts;
 #[cfg(test)]
 mod recursion;
-#[cfg(test)]
-mod scanned;
 #[cfg(test)]
 mod settled;
 #[cfg(test)]

@@ -1,7 +1,7 @@
 //! HMAC-SHA-256 by the vectors of RFC 4231, and which keys are made (`signed_note`).
 
-use crate::keys::{key_of, pins_of};
-use signed_note::{KeyFault, Verifier};
+use crate::keys::key_of;
+use signed_note::KeyFault;
 use std::alloc::Global;
 use std::test::Fail;
 
@@ -47,11 +47,6 @@ fn hmac_vector(rt: HostRuntime) -> Result<(), Fail> {
     Ok(())
 }
 
-// What is wrong with a key of that name and secret, if anything.
-fn fault_of(alloc: Global, name: &str, secret: &[u8]) -> Option<KeyFault> {
-    key_of(alloc, name, 1, secret).err()
-}
-
 #[test]
 fn key_faults(rt: HostRuntime) {
     for (name, secret, fault) in [
@@ -71,39 +66,9 @@ fn key_faults(rt: HostRuntime) {
         ("\u{feff}é\u{7f}", &[0], None),
         ("log.example/2026", &[0], None),
     ] {
-        assert_eq!(rt; fault_of(rt.alloc(), name, secret), fault, "{name}");
+        let found = key_of(rt.alloc(), name, 1, secret).err();
+        assert_eq!(rt; found, fault, "{name}");
     }
-}
-
-#[test]
-fn longest_name(rt: HostRuntime) -> Result<(), Fail> {
-    let bytes = [b'a'; 256];
-    let name = str::from_utf8(&bytes)?;
-    let shorter = str::from_utf8(&bytes[1..])?;
-    assert_eq!(rt; fault_of(rt.alloc(), shorter, &[0]), None);
-    assert_eq!(rt; fault_of(rt.alloc(), name, &[0]), Some(KeyFault::BadName));
-    let pins = pins_of(rt.alloc(), name, 1, Vec::new(rt.alloc()));
-    assert_eq!(rt; pins.err(), Some(KeyFault::BadName));
-    Ok(())
-}
-
-// Whether a verifier has that name and id and accepts the signature of the text.
-fn accepts<V: Verifier>(one: &V, name: &str, id: u32, text: &[u8], signature: &[u8]) -> bool {
-    one.name() == name && one.id() == id && one.accepts(text, signature)
-}
-
-#[test]
-fn verifiers(rt: HostRuntime) -> Result<(), Fail> {
-    let key = key_of(rt.alloc(), "ex", 7, b"Jefe")?;
-    let mac = key.mac(b"x\n");
-    assert!(rt; accepts(&key, "ex", 7, b"x\n", &mac));
-    assert!(rt; !accepts(&key, "ex", 7, b"x\n", b""));
-    assert!(rt; !accepts(&key, "ex", 7, b"y\n", &mac));
-    let mut digests = Vec::new(rt.alloc());
-    digests.push([0; 32])?;
-    let pins = pins_of(rt.alloc(), "pin", 8, digests)?;
-    assert!(rt; !accepts(&pins, "pin", 8, b"x\n", &mac));
-    Ok(())
 }
 
 #[test]

@@ -3,7 +3,7 @@
 use std::alloc::{AllocError, Global};
 use std::collections::HashSet;
 use std::test::Fail;
-use tlog_tiles::{BundleFault, Path, PathFault, RowFault, edge_paths, print};
+use tlog_tiles::{Path, PathFault, edge_paths, print};
 
 // What a text is read as, and a path printed as: the tests need no clause of it.
 fn parsed(text: &str) -> Result<Path, PathFault> {
@@ -14,43 +14,28 @@ fn printed(alloc: Global, path: &Path) -> Result<String, AllocError> {
     print(alloc, path)
 }
 
-#[test]
-fn index_spelling(rt: HostRuntime) -> Result<(), Fail> {
-    let alloc = rt.alloc();
-    let spellings = [
-        (0, "tile/0/000"),
-        (999, "tile/0/999"),
-        (1000, "tile/0/x001/000"),
-        (1234067, "tile/0/x001/x234/067"),
-        (36028797018963967, "tile/0/x036/x028/x797/x018/x963/967"),
-    ];
-    for (index, text) in spellings {
-        let path = Path::Tile {
-            level: 0,
-            index,
-            width: 256,
-        };
-        assert_eq!(rt; printed(alloc, &path)?.as_str(), text);
-        assert_eq!(rt; parsed(text), Ok(path));
+fn tile(level: u32, index: u64, width: u32) -> Path {
+    Path::Tile {
+        level,
+        index,
+        width,
     }
-    let over = parsed("tile/0/x036/x028/x797/x018/x963/968");
-    assert_eq!(rt; over, Err(PathFault::BadIndex));
-    Ok(())
 }
 
+// Each path is printed as that text, which is read as that path.
 #[test]
-fn path_kinds(rt: HostRuntime) -> Result<(), Fail> {
-    let alloc = rt.alloc();
-    let paths = [
-        (Path::Checkpoint, "checkpoint"),
+fn index_spelling(rt: HostRuntime) -> Result<(), Fail> {
+    for (path, text) in [
+        (tile(0, 0, 256), "tile/0/000"),
+        (tile(0, 999, 256), "tile/0/999"),
+        (tile(0, 1000, 256), "tile/0/x001/000"),
+        (tile(0, 1234067, 256), "tile/0/x001/x234/067"),
         (
-            Path::Tile {
-                level: 7,
-                index: 0,
-                width: 255,
-            },
-            "tile/7/000.p/255",
+            tile(0, 36028797018963967, 256),
+            "tile/0/x036/x028/x797/x018/x963/967",
         ),
+        (tile(7, 0, 255), "tile/7/000.p/255"),
+        (Path::Checkpoint, "checkpoint"),
         (
             Path::Entries {
                 index: 67,
@@ -65,28 +50,40 @@ fn path_kinds(rt: HostRuntime) -> Result<(), Fail> {
             },
             "tile/entries/x001/000.p/5",
         ),
-    ];
-    for (path, text) in paths {
-        assert_eq!(rt; printed(alloc, &path)?.as_str(), text);
-        assert_eq!(rt; path.text(alloc)?.as_str(), text);
-        assert_eq!(rt; format!(in alloc; "{path}")?.as_str(), text);
+    ] {
+        assert_eq!(rt; printed(rt.alloc(), &path)?.as_str(), text);
         assert_eq!(rt; parsed(text), Ok(path));
-        assert_eq!(rt; text.parse::<Path>(), Ok(path));
     }
-    let unlawful = Path::Tile {
-        level: 12,
-        index: 36028797018963968,
-        width: 300,
+    Ok(())
+}
+
+// The other calls that print and read a path; one that no log has is printed by the same rule.
+#[test]
+fn path_kinds(rt: HostRuntime) -> Result<(), Fail> {
+    let text = "tile/entries/x001/000.p/5";
+    let path = Path::Entries {
+        index: 1000,
+        width: 5,
     };
-    let text = printed(alloc, &unlawful)?;
-    assert_eq!(rt; text.as_str(), "tile/12/x036/x028/x797/x018/x963/968.p/300");
-    assert_eq!(rt; parsed(&text), Err(PathFault::BadLevel));
+    assert_eq!(rt; path.text(rt.alloc())?.as_str(), text);
+    assert_eq!(rt; format!(in rt.alloc(); "{path}")?.as_str(), text);
+    assert_eq!(rt; text.parse::<Path>(), Ok(path));
+    let unlawful = printed(rt.alloc(), &tile(12, 36028797018963968, 300))?;
+    assert_eq!(rt;
+        unlawful.as_str(),
+        "tile/12/x036/x028/x797/x018/x963/968.p/300"
+    );
     Ok(())
 }
 
 #[test]
 fn path_refusals(rt: HostRuntime) {
     let refusals = [
+        ("tile/0/x036/x028/x797/x018/x963/968", PathFault::BadIndex),
+        (
+            "tile/12/x036/x028/x797/x018/x963/968.p/300",
+            PathFault::BadLevel,
+        ),
         ("tile/0/x000/001", PathFault::BadIndex),
         ("tile/0/001.p/0", PathFault::BadWidth),
         ("tile/0/001.p/256", PathFault::BadWidth),
@@ -103,6 +100,17 @@ fn path_refusals(rt: HostRuntime) {
     }
 }
 
+const GREATEST_EDGE: &str = "\
+tile/0/x036/x028/x797/x018/x963/967.p/255
+tile/1/x140/x737/x488/x355/327.p/255
+tile/2/x549/x755/x813/887.p/255
+tile/3/x002/x147/x483/647.p/255
+tile/4/x008/x388/607.p/255
+tile/5/x032/767.p/255
+tile/6/127.p/255
+tile/7/000.p/127
+";
+
 // The edge of a tree of that size, one path a line.
 fn edge_text(alloc: Global, size: u64) -> Result<String, AllocError> {
     let mut text = String::new(alloc);
@@ -113,107 +121,41 @@ fn edge_text(alloc: Global, size: u64) -> Result<String, AllocError> {
     Ok(text)
 }
 
+// The edges of trees of these sizes, edge-70000 and edge-gaps among them.
 #[test]
-fn edge_70000(rt: HostRuntime) -> Result<(), Fail> {
-    let edge = edge_text(rt.alloc(), 70000)?;
-    assert_eq!(rt;
-        edge.as_str(),
-        "tile/0/273.p/112\ntile/1/001.p/17\ntile/2/000.p/1\n"
-    );
-    Ok(())
-}
-
-#[test]
-fn edge_gaps(rt: HostRuntime) -> Result<(), Fail> {
-    let alloc = rt.alloc();
-    let edges = [
+fn edge_70000_and_edge_gaps(rt: HostRuntime) -> Result<(), Fail> {
+    for (size, text) in [
+        (70000, "tile/0/273.p/112\ntile/1/001.p/17\ntile/2/000.p/1\n"),
         (131077, "tile/0/512.p/5\ntile/2/000.p/2\n"),
         (773, "tile/0/003.p/5\ntile/1/000.p/3\n"),
         (256, "tile/1/000.p/1\n"),
         (0, ""),
-    ];
-    for (size, text) in edges {
-        assert_eq!(rt; edge_text(alloc, size)?.as_str(), text);
+        (tlog_shape::MAX_SIZE, GREATEST_EDGE),
+    ] {
+        assert_eq!(rt; edge_text(rt.alloc(), size)?.as_str(), text);
     }
-    Ok(())
-}
-
-#[test]
-fn edge_of_the_greatest_tree(rt: HostRuntime) -> Result<(), Fail> {
-    let edge = edge_text(rt.alloc(), tlog_shape::MAX_SIZE)?;
-    assert_eq!(rt;
-        edge.as_str(),
-        "tile/0/x036/x028/x797/x018/x963/967.p/255\n\
-        tile/1/x140/x737/x488/x355/327.p/255\n\
-        tile/2/x549/x755/x813/887.p/255\n\
-        tile/3/x002/x147/x483/647.p/255\n\
-        tile/4/x008/x388/607.p/255\n\
-        tile/5/x032/767.p/255\n\
-        tile/6/127.p/255\n\
-        tile/7/000.p/127\n"
-    );
     Ok(())
 }
 
 // Each path before the next.
-const RISING: [Path; 6] = [
-    Path::Checkpoint,
-    Path::Tile {
-        level: 0,
-        index: 2,
-        width: 1,
-    },
-    Path::Tile {
-        level: 1,
-        index: 0,
-        width: 256,
-    },
-    Path::Tile {
-        level: 1,
-        index: 1,
-        width: 5,
-    },
-    Path::Entries { index: 0, width: 3 },
-    Path::Entries { index: 0, width: 4 },
-];
-
 #[test]
 fn paths_are_ordered(rt: HostRuntime) -> Result<(), Fail> {
+    let rising = [
+        Path::Checkpoint,
+        tile(0, 2, 1),
+        tile(1, 0, 256),
+        tile(1, 1, 5),
+        Path::Entries { index: 0, width: 3 },
+        Path::Entries { index: 0, width: 4 },
+    ];
     let mut paths = HashSet::new(rt.alloc());
-    for (i, path) in RISING.iter().enumerate() {
+    for (i, path) in rising.iter().enumerate() {
         assert!(rt; paths.insert(*path)?);
         assert!(rt; paths.contains(path));
-        for other in &RISING[i + 1..] {
+        for other in &rising[i + 1..] {
             assert!(rt; path < other);
             assert!(rt; !paths.contains(other));
         }
-    }
-    Ok(())
-}
-
-#[test]
-fn fault_names(rt: HostRuntime) -> Result<(), Fail> {
-    let alloc = rt.alloc();
-    for (fault, name) in [
-        (PathFault::Unknown, "Unknown"),
-        (PathFault::BadLevel, "BadLevel"),
-        (PathFault::BadIndex, "BadIndex"),
-        (PathFault::BadWidth, "BadWidth"),
-    ] {
-        assert_eq!(rt; fault.to_string(alloc)?.as_str(), name);
-    }
-    for (fault, name) in [
-        (BundleFault::BundleShort, "BundleShort"),
-        (BundleFault::BundleLong, "BundleLong"),
-        (BundleFault::OutOfMemory, "OutOfMemory"),
-    ] {
-        assert_eq!(rt; fault.to_string(alloc)?.as_str(), name);
-    }
-    for (fault, name) in [
-        (RowFault::RowLength, "RowLength"),
-        (RowFault::OutOfMemory, "OutOfMemory"),
-    ] {
-        assert_eq!(rt; fault.to_string(alloc)?.as_str(), name);
     }
     Ok(())
 }

@@ -1,7 +1,6 @@
 //! The loops that check proofs (`tlog_proof`) against the recursion of the standard.
 
-use std::alloc::Global;
-use std::test::Fail;
+use std::process::Abort;
 use tlog_hash::{Hash, Sha256Tree, TreeHash};
 use tlog_proof::{check_consistency, check_inclusion};
 use tlog_shape::split;
@@ -99,60 +98,45 @@ fn is_same_consistency(root: &Hash, first: u64, second: u64, path: &[Hash]) -> b
         && !is_grown(first, &roots.0, second, &other, path)
 }
 
-// As many different hashes as a path can have, and one.
-fn hashes(alloc: Global) -> Result<Vec<Hash>, Fail> {
-    let mut hashes = Vec::new(alloc);
-    for i in 0..65u8 {
-        hashes.push(Sha256Tree::leaf(&[i]))?;
+// The loops against the recursion, for a path of each length up to the most.
+fn compare(rt: &impl Abort, hashes: &[Hash; 65], index: u64, size: u64, most: usize) {
+    let leaf = &hashes[64];
+    for len in 0..=most.min(64) {
+        let path = &hashes[..len];
+        let same = is_same_inclusion(leaf, index, size, path)
+            && is_same_consistency(leaf, index, size, path);
+        assert!(rt; same, "{index} of {size}, {len}");
     }
-    Ok(hashes)
+}
+
+// As many different hashes as a path can have, and one.
+fn hashes() -> [Hash; 65] {
+    let mut hashes = [[0; 32]; 65];
+    for (i, hash) in hashes.iter_mut().enumerate() {
+        *hash = Sha256Tree::leaf(&[i as u8]);
+    }
+    hashes
 }
 
 #[test]
-fn loops_are_the_recursion(rt: HostRuntime) -> Result<(), Fail> {
-    let hashes = hashes(rt.alloc())?;
-    let leaf = Sha256Tree::leaf(b"leaf");
-    assert_eq!(rt; hashes.len(), 65);
+fn loops_are_the_recursion(rt: HostRuntime) {
+    let hashes = hashes();
     for size in 0..=70u64 {
         for index in 0..=size {
-            for len in 0..=8usize {
-                let path = &hashes[..len];
-                assert!(rt;
-                    is_same_inclusion(&leaf, index, size, path),
-                    "{index} of {size}, {len}"
-                );
-                assert!(rt;
-                    is_same_consistency(&leaf, index, size, path),
-                    "{index} to {size}, {len}"
-                );
-            }
+            compare(&rt, &hashes, index, size, 8);
         }
     }
-    Ok(())
 }
 
 #[test]
-fn loops_are_the_recursion_at_large_sizes(rt: HostRuntime) -> Result<(), Fail> {
-    let hashes = hashes(rt.alloc())?;
-    let leaf = Sha256Tree::leaf(b"leaf");
-    assert_eq!(rt; hashes.len(), 65);
+fn loops_are_the_recursion_at_large_sizes(rt: HostRuntime) {
+    let hashes = hashes();
     for exponent in [8u32, 32, 63] {
         let power = 1u64 << exponent;
         for size in [power - 1, power, power + 1] {
             for index in [1, power / 2, size / 3, size - 1] {
-                for len in 0..=64usize {
-                    let path = &hashes[..len];
-                    assert!(rt;
-                        is_same_inclusion(&leaf, index, size, path),
-                        "{index} of {size}, {len}"
-                    );
-                    assert!(rt;
-                        is_same_consistency(&leaf, index, size, path),
-                        "{index} to {size}, {len}"
-                    );
-                }
+                compare(&rt, &hashes, index, size, 64);
             }
         }
     }
-    Ok(())
 }

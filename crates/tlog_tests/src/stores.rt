@@ -1,9 +1,8 @@
-//! The store of hashed strings (`node_store`), by hashes that were computed elsewhere and beside a list that is scanned.
+//! The store of hashed strings (`node_store`), by hashes that were computed elsewhere, and beside a list that is scanned.
 
 use crate::given::{LEAF_OF_10, LEAF_OF_NO_BYTES, ROOT_OF_THREE, ROOT_OF_TWO, hash};
-use crate::scanned::{ScannedStore, digest_of};
 use node_store::{AddFault, Store, Tagged};
-use std::alloc::Global;
+use std::alloc::{AllocError, Global};
 use std::process::Abort;
 use std::test::Fail;
 use tlog_hash::{Hash, Sha256Tree, SumTree, TreeHash};
@@ -41,90 +40,55 @@ fn entry_of<'a, H: TreeHash>(store: &'a Store<H>, digest: &Hash) -> Option<&'a [
     store.entry_of(digest)
 }
 
-// Adds a string that does not clash, and is held then.
-fn expect_added<H: TreeHash>(rt: &impl Abort, store: &mut Store<H>, string: Tagged) {
-    assert_eq!(rt; clashes(store, string), false);
-    assert_eq!(rt; add(store, string), Ok(()));
-    assert_eq!(rt; holds(store, string), true);
+// Adds a string that does not clash, has that digest, and is held then.
+fn expect_inserted<H: TreeHash>(
+    rt: &impl Abort,
+    store: &mut Store<H>,
+    string: Tagged,
+    digest: Hash,
+) {
+    assert!(rt; !clashes(store, string));
+    assert_eq!(rt; insert(store, string), Ok(digest));
+    assert!(rt; holds(store, string));
 }
 
+// The leaves of the entries of no bytes and `10`, and the pair above them, of known hashes.
 #[test]
-fn holds_what_was_added(rt: HostRuntime) -> Result<(), Fail> {
+fn insert_gives_the_digest(rt: HostRuntime) {
     let (two, ten) = (hash(&rt, ROOT_OF_TWO), hash(&rt, LEAF_OF_10));
+    let (none, three) = (hash(&rt, LEAF_OF_NO_BYTES), hash(&rt, ROOT_OF_THREE));
     let mut store: Store<Sha256Tree> = empty(rt.alloc());
     let pair = Tagged::Pair(&two, &ten);
-    expect_added(&rt, &mut store, Tagged::Leaf(&[]));
-    expect_added(&rt, &mut store, Tagged::Leaf(&[0x10]));
-    expect_added(&rt, &mut store, pair);
-    expect_added(&rt, &mut store, pair);
+    expect_inserted(&rt, &mut store, Tagged::Leaf(&[]), none);
+    expect_inserted(&rt, &mut store, Tagged::Leaf(&[0x10]), ten);
+    expect_inserted(&rt, &mut store, pair, three);
+    expect_inserted(&rt, &mut store, pair, three);
     assert_eq!(rt; store.len(), 3);
-    assert_eq!(rt; holds(&store, Tagged::Leaf(&[0])), false);
-    Ok(())
+    assert!(rt; !holds(&store, Tagged::Leaf(&[0])));
+    for (digest, entry, pair) in [
+        (none, Some(b"".as_slice()), None),
+        (ten, Some(b"\x10"), None),
+        (three, None, Some((two, ten))),
+        (two, None, None),
+    ] {
+        assert_eq!(rt; entry_of(&store, &digest), entry);
+        assert_eq!(rt; pair_of(&store, &digest), pair);
+    }
 }
 
 // Under the digest that sums, the entries `01 02` and `02 01` collide.
 #[test]
-fn colliding_leaves(rt: HostRuntime) -> Result<(), Fail> {
+fn colliding_leaves(rt: HostRuntime) {
+    let (first, second) = (Tagged::Leaf(&[1, 2]), Tagged::Leaf(&[2, 1]));
+    let digest = SumTree::leaf(&[2, 1]);
     let mut store: Store<SumTree> = empty(rt.alloc());
-    let first = Tagged::Leaf(&[1, 2]);
-    let second = Tagged::Leaf(&[2, 1]);
-    assert_eq!(rt; add(&mut store, first), Ok(()));
-    assert_eq!(rt; clashes(&store, second), true);
+    assert_eq!(rt; insert(&mut store, first), Ok(digest));
+    assert!(rt; clashes(&store, second));
     assert_eq!(rt; add(&mut store, second), Err(AddFault::Collision));
+    assert_eq!(rt; insert(&mut store, second), Err(AddFault::Collision));
     assert_eq!(rt; store.len(), 1);
-    assert_eq!(rt; holds(&store, first), true);
-    assert_eq!(rt; holds(&store, second), false);
-    let digest = SumTree::leaf(&[2, 1]);
-    assert_eq!(rt;
-        entry_of(&store, &digest).ok_or("no entry")?,
-        [1, 2].as_slice()
-    );
-    Ok(())
-}
-
-#[test]
-fn finds_by_digest(rt: HostRuntime) -> Result<(), Fail> {
-    let (two, ten) = (hash(&rt, ROOT_OF_TWO), hash(&rt, LEAF_OF_10));
-    let (none, three) = (hash(&rt, LEAF_OF_NO_BYTES), hash(&rt, ROOT_OF_THREE));
-    let mut store: Store<Sha256Tree> = empty(rt.alloc());
-    add(&mut store, Tagged::Leaf(&[]))?;
-    add(&mut store, Tagged::Leaf(&[0x10]))?;
-    add(&mut store, Tagged::Pair(&two, &ten))?;
-    assert_eq!(rt; entry_of(&store, &none).ok_or("no entry")?, [].as_slice());
-    assert_eq!(rt;
-        entry_of(&store, &ten).ok_or("no entry")?,
-        [0x10].as_slice()
-    );
-    assert_eq!(rt; pair_of(&store, &three), Some((two, ten)));
-    assert!(rt; entry_of(&store, &three).is_none());
-    assert!(rt; entry_of(&store, &two).is_none());
-    assert_eq!(rt; pair_of(&store, &two), None);
-    assert_eq!(rt; pair_of(&store, &ten), None);
-    Ok(())
-}
-
-// The leaves of the entries of no bytes and `10`, and the pairs above them, of known hashes.
-#[test]
-fn insert_gives_the_digest(rt: HostRuntime) -> Result<(), Fail> {
-    let (two, ten) = (hash(&rt, ROOT_OF_TWO), hash(&rt, LEAF_OF_10));
-    let (none, three) = (hash(&rt, LEAF_OF_NO_BYTES), hash(&rt, ROOT_OF_THREE));
-    let mut store: Store<Sha256Tree> = empty(rt.alloc());
-    let pair = Tagged::Pair(&two, &ten);
-    assert_eq!(rt; insert(&mut store, Tagged::Leaf(&[])), Ok(none));
-    assert_eq!(rt; insert(&mut store, Tagged::Leaf(&[0x10])), Ok(ten));
-    assert_eq!(rt; insert(&mut store, pair), Ok(three));
-    assert_eq!(rt; insert(&mut store, pair), Ok(three));
-    assert_eq!(rt; store.len(), 3);
-    assert_eq!(rt; pair_of(&store, &three), Some((two, ten)));
-    let mut sums: Store<SumTree> = empty(rt.alloc());
-    let digest = SumTree::leaf(&[2, 1]);
-    assert_eq!(rt; insert(&mut sums, Tagged::Leaf(&[1, 2])), Ok(digest));
-    assert_eq!(rt;
-        insert(&mut sums, Tagged::Leaf(&[2, 1])),
-        Err(AddFault::Collision)
-    );
-    assert_eq!(rt; sums.len(), 1);
-    Ok(())
+    assert!(rt; holds(&store, first) && !holds(&store, second));
+    assert_eq!(rt; entry_of(&store, &digest), Some([1, 2].as_slice()));
 }
 
 #[test]
@@ -178,60 +142,6 @@ fn adds_all(rt: HostRuntime) -> Result<(), Fail> {
     Ok(())
 }
 
-// The longest entry of a bundle, 65,535 bytes, with memory for it.
-#[test]
-fn holds_the_longest_entry(rt: HostRuntime) -> Result<(), Fail> {
-    let entry = vec![in rt.alloc(); 7u8; 65535]?;
-    let digest = Sha256Tree::leaf(entry.as_slice());
-    let mut first: Store<Sha256Tree> = empty(rt.alloc());
-    assert_eq!(rt; add(&mut first, Tagged::Leaf(entry.as_slice())), Ok(()));
-    let mut second: Store<Sha256Tree> = empty(rt.alloc());
-    assert_eq!(rt;
-        insert(&mut second, Tagged::Leaf(entry.as_slice())),
-        Ok(digest)
-    );
-    let mut third: Store<Sha256Tree> = empty(rt.alloc());
-    assert_eq!(rt; add_all(&mut third, &first), Ok(()));
-    for store in [&first, &second, &third] {
-        assert_eq!(rt;
-            entry_of(store, &digest).ok_or("no entry")?,
-            entry.as_slice()
-        );
-    }
-    Ok(())
-}
-
-// 6,000 strings, with memory for them, added in each of the three ways.
-#[test]
-fn holds_thousands(rt: HostRuntime) {
-    let ten = hash(&rt, LEAF_OF_10);
-    let mut first: Store<Sha256Tree> = empty(rt.alloc());
-    let mut second: Store<Sha256Tree> = empty(rt.alloc());
-    for number in 0..3000u32 {
-        let entry = number.to_be_bytes();
-        let leaf = Sha256Tree::leaf(&entry);
-        let pair = Tagged::Pair(&leaf, &ten);
-        assert_eq!(rt; add(&mut first, Tagged::Leaf(&entry)), Ok(()));
-        assert_eq!(rt; add(&mut first, pair), Ok(()));
-        assert_eq!(rt; insert(&mut second, Tagged::Leaf(&entry)), Ok(leaf));
-        assert_eq!(rt; insert(&mut second, pair).is_ok(), true);
-    }
-    assert_eq!(rt; (first.len(), second.len()), (6000, 6000));
-    let mut third: Store<Sha256Tree> = empty(rt.alloc());
-    assert_eq!(rt; add_all(&mut third, &first), Ok(()));
-    assert_eq!(rt; add_all(&mut third, &second), Ok(()));
-    assert_eq!(rt; third.len(), 6000);
-}
-
-#[test]
-fn faults_print_their_names(rt: HostRuntime) -> Result<(), Fail> {
-    let collision = format!(in rt.alloc(); "{}", AddFault::Collision)?;
-    assert_eq!(rt; collision.as_str(), "Collision");
-    let memory = format!(in rt.alloc(); "{}", AddFault::OutOfMemory)?;
-    assert_eq!(rt; memory.as_str(), "OutOfMemory");
-    Ok(())
-}
-
 // Adds a string that is new. Where a growth is refused, as by `rt try --test --fail-alloc N`, nothing
 // has changed, and the same call adds the string once there is memory.
 fn add_at_last<H: TreeHash>(rt: &impl Abort, store: &mut Store<H>, string: Tagged) {
@@ -270,63 +180,78 @@ fn refused_growth_changes_nothing(rt: HostRuntime) {
     assert_eq!(rt; copy.len(), 20);
 }
 
-// The next of a fixed sequence of numbers that look random (Knuth's MMIX generator).
+// The next of a fixed sequence of numbers that look random (Knuth's MMIX generator), below 16.
 fn next_random(state: &mut u64) -> u8 {
     *state = state
         .wrapping_mul(6364136223846793005)
         .wrapping_add(1442695040888963407);
-    (*state >> 56) as u8
+    (*state >> 56) as u8 % 16
 }
 
-// Adds 600 strings to both stores, of few kinds so that many come again.
-fn run_both<H: TreeHash>(rt: &impl Abort, alloc: Global) {
-    let mut store: Store<H> = empty(alloc);
-    let mut scanned: ScannedStore<H> = ScannedStore::new(alloc);
-    let mut state = 7u64;
-    for _ in 0..600u32 {
-        let a = next_random(&mut state) % 16;
-        let b = next_random(&mut state) % 16;
-        if next_random(&mut state) % 2 == 0 {
-            add_to_both(rt, &mut store, &mut scanned, Tagged::Leaf(&[a, b]));
-        } else {
-            let pair = Tagged::Pair(&[a; 32], &[b; 32]);
-            add_to_both(rt, &mut store, &mut scanned, pair);
-        }
+// What a store finds by the digest is that string, or none: whether it is a pair, and of which two bytes.
+fn expect_found<H: TreeHash>(
+    rt: &impl Abort,
+    store: &Store<H>,
+    digest: &Hash,
+    held: Option<(bool, u8, u8)>,
+) {
+    let (mut pair, mut entry) = (None, None);
+    match held {
+        Some((true, a, b)) => pair = Some(([a; 32], [b; 32])),
+        Some((false, a, b)) => entry = Some([a, b]),
+        None => (),
+    }
+    assert_eq!(rt; pair_of(store, digest), pair);
+    match (entry_of(store, digest), entry) {
+        (Some(found), Some(bytes)) => assert_eq!(rt; found, bytes.as_slice()),
+        (found, bytes) => assert!(rt; found.is_none() && bytes.is_none()),
     }
 }
 
-// Adds a string to both stores, and compares what they answer before, then and after.
+// Adds a string to a store and to a list, in which each string is behind its digest, and compares what the store
+// answers with what a scan of the list finds.
 fn add_to_both<H: TreeHash>(
     rt: &impl Abort,
     store: &mut Store<H>,
-    scanned: &mut ScannedStore<H>,
-    string: Tagged,
-) {
-    compare_at(rt, store, scanned, string);
-    assert_eq!(rt; add(store, string), scanned.add(string));
-    compare_at(rt, store, scanned, string);
-    assert_eq!(rt; store.len(), scanned.len());
+    list: &mut Vec<(Hash, (bool, u8, u8))>,
+    item: (bool, u8, u8),
+) -> Result<(), AllocError> {
+    let (left, right, entry) = ([item.1; 32], [item.2; 32], [item.1, item.2]);
+    let (string, digest) = if item.0 {
+        (Tagged::Pair(&left, &right), H::node(&left, &right))
+    } else {
+        (Tagged::Leaf(&entry), H::leaf(&entry))
+    };
+    let held = list.iter().find(|held| held.0 == digest).map(|held| held.1);
+    let clash = held.is_some() && held != Some(item);
+    expect_found(rt, store, &digest, held);
+    assert_eq!(rt; holds(store, string), held == Some(item));
+    assert_eq!(rt; clashes(store, string), clash);
+    assert_eq!(rt; add(store, string) == Err(AddFault::Collision), clash);
+    assert_eq!(rt; holds(store, string), !clash);
+    if held.is_none() {
+        list.push((digest, item))?;
+    }
+    assert_eq!(rt; store.len(), list.len());
+    expect_found(rt, store, &digest, Some(held.unwrap_or(item)));
+    Ok(())
 }
 
-// What both stores answer of a string and of its digest.
-fn compare_at<H: TreeHash>(
-    rt: &impl Abort,
-    store: &Store<H>,
-    scanned: &ScannedStore<H>,
-    string: Tagged,
-) {
-    let digest = digest_of::<H>(string);
-    assert_eq!(rt; holds(store, string), scanned.holds(string));
-    assert_eq!(rt; clashes(store, string), scanned.clashes(string));
-    assert_eq!(rt; pair_of(store, &digest), scanned.pair_of(&digest));
-    match (entry_of(store, &digest), scanned.entry_of(&digest)) {
-        (Some(entry), Some(other)) => assert_eq!(rt; entry, other),
-        (entry, other) => assert!(rt; entry.is_none() && other.is_none()),
+// Adds 600 strings, of few kinds so that many come again.
+fn run_both<H: TreeHash>(rt: &impl Abort, alloc: Global) -> Result<(), AllocError> {
+    let mut store: Store<H> = empty(alloc);
+    let mut list = Vec::new(alloc);
+    let mut state = 7u64;
+    for _ in 0..600u32 {
+        let (a, b) = (next_random(&mut state), next_random(&mut state));
+        let is_pair = next_random(&mut state) % 2 == 1;
+        add_to_both(rt, &mut store, &mut list, (is_pair, a, b))?;
     }
+    Ok(())
 }
 
 #[test]
-fn answers_as_a_list_does(rt: HostRuntime) {
-    run_both::<Sha256Tree>(&rt, rt.alloc());
-    run_both::<SumTree>(&rt, rt.alloc());
+fn answers_as_a_list_does(rt: HostRuntime) -> Result<(), AllocError> {
+    run_both::<Sha256Tree>(&rt, rt.alloc())?;
+    run_both::<SumTree>(&rt, rt.alloc())
 }

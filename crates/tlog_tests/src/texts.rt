@@ -80,14 +80,3 @@ fn written(rt: HostRuntime) -> Result<(), Fail> {
     );
     Ok(())
 }
-
-#[test]
-fn faults_print_their_names(rt: HostRuntime) -> Result<(), Fail> {
-    for (fault, name) in [
-        (NumberFault::NotANumber, "NotANumber"),
-        (NumberFault::TooLarge, "TooLarge"),
-    ] {
-        assert_eq!(rt; fault.to_string(rt.alloc())?.as_str(), name);
-    }
-    Ok(())
-}

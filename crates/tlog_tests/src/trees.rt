@@ -1,5 +1,4 @@
-//! What the tests of `stored_trees` share. `C(n)` is the list of the numbers from 0 on, n of them, each in two bytes,
-//! big-endian. The hashes were computed by a program of another language.
+//! What the tests of `stored_trees` share.
 
 ghost use Rattle.std.specs.Prelude.{◌≡◌, IfOk};
 ghost use Rattle.node_store.specs.Strings.{NoClash};
@@ -8,18 +7,9 @@ ghost use Rattle.stored_trees.specs.Slices.{AreSettled};
 use node_store::{AddFault, Store};
 use std::alloc::{AllocError, Global};
 use std::process::Abort;
-use stored_trees::{Marks, add_above, add_entries, add_row, is_built, missing_of, settle};
+use stored_trees::{Marks, add_entries, add_row, is_built, missing_of, settle};
 use tlog_hash::{Hash, TreeHash};
 use tlog_tiles::Path;
-
-// The tree hash of the log of 256 numbers.
-pub(crate) const ROOT_OF_256: &str = "FihFMiQfUio/unoK4IY8tFatOBIZF2wtQkUWrCMOMRA=";
-
-// The tree hash of the log of 257 numbers.
-pub(crate) const ROOT_OF_257: &str = "Vtr95bs6bTEAwKWkpA8ePu37C9grbzipJ/t/5Cf4fos=";
-
-// The leaf hash of the last entry of the log of 257 numbers.
-pub(crate) const LEAF_256: &str = "+u6TV2METxJNdSZ1WlBYoz+UAqWVmU1Z7d1L6FRv8gE=";
 
 // A store that holds nothing.
 pub(crate) fn empty_store<H: TreeHash>(alloc: Global) -> Store<H>
@@ -42,7 +32,7 @@ pub(crate) fn stored<H: TreeHash>(
     }
 }
 
-// The hash of the entries, of which the tree is added: the tests need no more clauses of it, nor of the two that follow.
+// The hash of the entries, of which the tree is added: the tests need no more clauses of it, nor of the one that follows.
 pub(crate) fn put_entries<H: TreeHash>(
     store: &mut Store<H>,
     entries: &[&[u8]],
@@ -64,18 +54,6 @@ pub(crate) fn put_row<H: TreeHash>(
 {
     assert!(rt; !row.is_empty());
     add_row(store, row)
-}
-
-// The root above a hash, from rows of its edge.
-pub(crate) fn put_above<H: TreeHash>(
-    store: &mut Store<H>,
-    start: Hash,
-    rows: Vec<Vec<Hash>>,
-) -> Result<Hash, AddFault>
-    requires { NoClash H.digest store.old }
-    ensures { NoClash H.digest store.new }
-{
-    add_above(store, start, rows)
 }
 
 // Whether a tree is held, where nothing is remembered.
@@ -120,9 +98,4 @@ pub(crate) fn remembered<H: TreeHash>(
 pub(crate) fn empty_entries<'a>(alloc: Global, count: usize) -> Result<Vec<&'a [u8]>, AllocError> {
     let none: &[u8] = &[];
     vec![in alloc; none; count]
-}
-
-// A row of equal hashes.
-pub(crate) fn equal_row(alloc: Global, hash: Hash, count: usize) -> Result<Vec<Hash>, AllocError> {
-    vec![in alloc; hash; count]
 }

@@ -3,9 +3,9 @@
 ghost use Rattle.node_store.specs.Strings.{NoClash};
 
 use crate::given::{hash, lent, numbers};
-use crate::trees::{empty_entries, is_held, missing, remembered, stored};
+use crate::trees::{empty_entries, is_held, stored};
 use node_store::Store;
-use std::process::Abort;
+use std::alloc::{AllocError, Global};
 use std::test::Fail;
 use stored_trees::{entries_at, range_hash, row_at};
 use tlog_hash::{Hash, Sha256Tree, SumTree, TreeHash, tree_hash};
@@ -19,151 +19,99 @@ const HASH_OF_TILE: &str = "ZbQfwOzIQ5KbbNx70peNnpOtsm6Y4bgJexC5LregjdQ=";
 // The hash of the entries 77 to 4999 of the log of 6000 numbers.
 const HASH_OF_RANGE: &str = "GiHJQWW5sB/xBibBeja7IPqhSipSFrXgqp30IyFCdQQ=";
 
-// A row of the tree, which is to be within it.
+// What is held of a tree: the tests need no clause of it.
 fn row<H: TreeHash>(
-    rt: &(impl Abort + AllocGlobal),
+    alloc: Global,
     store: &Store<H>,
     tree: &(u64, Hash),
-    level: u32,
-    index: u64,
-    width: u32,
-) -> Result<Vec<Hash>, Fail> {
-    let Some(row) = row_at(rt.alloc(), store, tree.0, &tree.1, level, index, width)? else {
-        panic!(rt; "no row {level} {index} {width}");
-    };
-    assert_eq!(rt; row.len(), width as usize);
-    Ok(row)
+    place: (u32, u64, u32),
+) -> Result<Option<Vec<Hash>>, AllocError> {
+    row_at(alloc, store, tree.0, &tree.1, place.0, place.1, place.2)
 }
 
+fn entries<'a, H: TreeHash>(
+    alloc: Global,
+    store: &'a Store<H>,
+    tree: &(u64, Hash),
+    index: u64,
+    width: u32,
+) -> Result<Option<Vec<&'a [u8]>>, AllocError>
+    requires { NoClash H.digest store.now }
+{
+    entries_at(alloc, store, tree.0, &tree.1, index, width)
+}
+
+fn range<H: TreeHash>(store: &Store<H>, tree: &(u64, Hash), start: u64, len: u64) -> Option<Hash> {
+    range_hash(store, tree.0, &tree.1, start, len)
+}
+
+// Rows and bundles that the tree of three entries does not have.
 #[test]
-fn rows_of_6000(rt: HostRuntime) -> Result<(), Fail> {
-    let entries = numbers(rt.alloc(), 0, 6000)?;
-    let all = lent(rt.alloc(), entries.as_slice())?;
-    let (store, root) = stored::<Sha256Tree>(rt.alloc(), all.as_slice())?;
-    assert_eq!(rt; root, hash(&rt, ROOT_OF_6000));
-    let tree = (6000, root);
-    let lowest = row(&rt, &store, &tree, 0, 3, 256)?;
-    for (hash, entry) in lowest.iter().zip(all.iter().skip(768)) {
-        assert_eq!(rt; *hash, Sha256Tree::leaf(entry));
-    }
-    let last = row(&rt, &store, &tree, 0, 23, 112)?;
-    assert_eq!(rt;
-        last.last().copied(),
-        Some(Sha256Tree::leaf(&5999u16.to_be_bytes()))
-    );
-    let above = row(&rt, &store, &tree, 1, 0, 23)?;
-    assert_eq!(rt; above.last().copied(), Some(hash(&rt, HASH_OF_TILE)));
+fn places_outside_a_tree(rt: HostRuntime) -> Result<(), Fail> {
+    let (store, root) = stored::<Sha256Tree>(rt.alloc(), &[b"a", b"b", b"c"])?;
+    let tree = (3, root);
     for (level, index, width) in [
-        (0, 23, 113),
-        (0, 24, 1),
-        (1, 0, 24),
-        (2, 0, 1),
+        (0, 0, 4),
+        (0, 1, 1),
+        (1, 0, 1),
         (0, 0, 0),
         (0, 0, 257),
         (8, 0, 1),
         (0, u64::MAX, 256),
         (7, u64::MAX, 256),
     ] {
-        let none = row_at(rt.alloc(), &store, 6000, &root, level, index, width)?;
-        assert!(rt; none.is_none(), "{level} {index} {width}");
+        let found = row(rt.alloc(), &store, &tree, (level, index, width))?;
+        assert!(rt; found.is_none(), "{level} {index} {width}");
+    }
+    for (index, width) in [(0, 4), (1, 1), (0, 0), (0, 257), (u64::MAX, 1)] {
+        let found = entries(rt.alloc(), &store, &tree, index, width)?;
+        assert!(rt; found.is_none(), "{index} {width}");
     }
     Ok(())
-}
-
-// Whether a bundle of the tree, which is to be within it, has those entries of all.
-fn expect_entries<H: TreeHash>(
-    rt: &(impl Abort + AllocGlobal),
-    store: &Store<H>,
-    tree: &(u64, Hash),
-    path: (usize, u32),
-    all: &[&[u8]],
-) -> Result<(), Fail>
-    requires { NoClash H.digest store.now }
-{
-    let (index, width) = path;
-    let Some(found) = entries_at(rt.alloc(), store, tree.0, &tree.1, index as u64, width)? else {
-        panic!(rt; "no entries {index} {width}");
-    };
-    assert_eq!(rt; found.len(), width as usize);
-    let first = index.wrapping_mul(256);
-    for (entry, want) in found.iter().zip(all.iter().skip(first)) {
-        assert_eq!(rt; *entry, *want, "{index} {width}");
-    }
-    Ok(())
-}
-
-// Whether there is no such bundle of the tree.
-fn expect_no_entries<H: TreeHash>(
-    rt: &(impl Abort + AllocGlobal),
-    store: &Store<H>,
-    tree: &(u64, Hash),
-    index: u64,
-    width: u32,
-) -> Result<(), Fail>
-    requires { NoClash H.digest store.now }
-{
-    let none = entries_at(rt.alloc(), store, tree.0, &tree.1, index, width)?;
-    assert!(rt; none.is_none(), "{index} {width}");
-    Ok(())
-}
-
-#[test]
-fn entries_of_6000(rt: HostRuntime) -> Result<(), Fail> {
-    let entries = numbers(rt.alloc(), 0, 6000)?;
-    let all = lent(rt.alloc(), entries.as_slice())?;
-    let (store, root) = stored::<Sha256Tree>(rt.alloc(), all.as_slice())?;
-    let tree = (6000, root);
-    expect_entries(&rt, &store, &tree, (0, 256), all.as_slice())?;
-    expect_entries(&rt, &store, &tree, (7, 256), all.as_slice())?;
-    expect_entries(&rt, &store, &tree, (23, 112), all.as_slice())?;
-    expect_entries(&rt, &store, &tree, (23, 5), all.as_slice())?;
-    expect_no_entries(&rt, &store, &tree, 23, 113)?;
-    expect_no_entries(&rt, &store, &tree, 24, 1)?;
-    expect_no_entries(&rt, &store, &tree, 0, 0)?;
-    expect_no_entries(&rt, &store, &tree, 0, 257)?;
-    expect_no_entries(&rt, &store, &tree, u64::MAX, 1)
 }
 
 #[test]
 fn ranges_of_6000(rt: HostRuntime) -> Result<(), Fail> {
-    let entries = numbers(rt.alloc(), 0, 6000)?;
-    let all = lent(rt.alloc(), entries.as_slice())?;
-    let (store, root) = stored::<Sha256Tree>(rt.alloc(), all.as_slice())?;
-    let (tile, range) = (hash(&rt, HASH_OF_TILE), hash(&rt, HASH_OF_RANGE));
-    let whole = hash(&rt, ROOT_OF_6000);
-    let hash = |start, len| range_hash(&store, 6000, &root, start, len);
-    assert_eq!(rt; hash(0, 6000), Some(whole));
-    assert_eq!(rt; hash(77, 4923), Some(range));
-    assert_eq!(rt; hash(5632, 256), Some(tile));
-    let last = Sha256Tree::leaf(&5999u16.to_be_bytes());
-    assert_eq!(rt; hash(5999, 1), Some(last));
-    assert_eq!(rt; hash(6000, 0), Some(Sha256Tree::empty()));
-    assert_eq!(rt; hash(6001, 0), None);
-    assert_eq!(rt; hash(77, 5924), None);
-    assert_eq!(rt; hash(1, u64::MAX), None);
+    let numbers = numbers(rt.alloc(), 0, 6000)?;
+    let (store, root) = stored::<Sha256Tree>(rt.alloc(), &lent(rt.alloc(), &numbers)?)?;
+    let tree = (6000, root);
+    for (start, len, text) in [
+        (0, 6000, ROOT_OF_6000),
+        (77, 4923, HASH_OF_RANGE),
+        (5632, 256, HASH_OF_TILE),
+    ] {
+        let found = range(&store, &tree, start, len);
+        assert_eq!(rt; found, Some(hash(&rt, text)), "{start} {len}");
+    }
+    for (start, len, found) in [
+        (5999, 1, Some(Sha256Tree::leaf(&5999u16.to_be_bytes()))),
+        (6000, 0, Some(Sha256Tree::empty())),
+        (6001, 0, None),
+        (77, 5924, None),
+        (1, u64::MAX, None),
+    ] {
+        assert_eq!(rt; range(&store, &tree, start, len), found, "{start} {len}");
+    }
     Ok(())
 }
 
 // Under the digest that sums, a list of n equal entries of no bytes has the hash of n - 1 joins.
 #[test]
 fn equal_entries_under_sums(rt: HostRuntime) -> Result<(), Fail> {
-    let none: &[u8] = &[];
     let all = empty_entries(rt.alloc(), 200)?;
-    let (store, root) = stored::<SumTree>(rt.alloc(), all.as_slice())?;
+    let (store, root) = stored::<SumTree>(rt.alloc(), &all)?;
     assert_eq!(rt; root[0], 199);
-    assert!(rt; is_held(rt.alloc(), &store, 200, &root));
-    assert!(rt; !is_held(rt.alloc(), &store, 199, &root));
-    assert!(rt; missing(rt.alloc(), &store, 200, &root)?.is_empty());
-    let lowest = row(&rt, &store, &(200, root), 0, 0, 200)?;
-    for hash in &lowest {
-        assert_eq!(rt; *hash, SumTree::leaf(none));
+    for (size, held) in [(200, true), (199, false)] {
+        assert_eq!(rt; is_held(rt.alloc(), &store, size, &root), held);
     }
-    expect_entries(&rt, &store, &(200, root), (0, 200), all.as_slice())?;
+    let tree = (200, root);
+    let lowest = row(rt.alloc(), &store, &tree, (0, 0, 200))?.ok_or("no row")?;
+    assert_eq!(rt; lowest.as_slice(), [SumTree::leaf(b""); 200].as_slice());
+    let bundle = entries(rt.alloc(), &store, &tree, 0, 200)?.ok_or("no bundle")?;
+    assert_eq!(rt; bundle.len(), 200);
+    assert!(rt; bundle.iter().all(|entry| entry.is_empty()));
     let equal = empty_entries(rt.alloc(), 150)?;
-    assert_eq!(rt;
-        range_hash(&store, 200, &root, 20, 150),
-        Some(tree_hash::<SumTree>(equal.as_slice()))
-    );
-    assert_eq!(rt; remembered(rt.alloc(), &store, &[(200, root)])?.len(), 10);
+    let part = Some(tree_hash::<SumTree>(equal.as_slice()));
+    assert_eq!(rt; range(&store, &tree, 20, 150), part);
     Ok(())
 }

@@ -1,8 +1,6 @@
 //! Replies that are read, and those that are not, with values worked out by hand.
 use crate::given::long_head;
 use mirror_http::{ReplyFault, read_reply};
-use std::alloc::Global;
-use std::process::Abort;
 use std::test::Fail;
 
 // What the bytes are read as. It ensures nothing, so that its callers are cheap to check.
@@ -10,140 +8,144 @@ fn read(bytes: &[u8]) -> Result<Option<&[u8]>, ReplyFault> {
     read_reply(bytes)
 }
 
-// Each reply brings that body.
-fn assert_bodies(rt: &impl Abort, replies: &[&str], body: &str) {
-    for reply in replies {
-        assert_eq!(rt;
-            read(reply.as_bytes()),
-            Ok(Some(body.as_bytes())),
-            "{reply}"
-        );
-    }
-}
-
-// Each reply says that there is no such file.
-fn assert_none(rt: &impl Abort, replies: &[&str]) {
-    for reply in replies {
-        assert_eq!(rt; read(reply.as_bytes()), Ok(None), "{reply}");
-    }
-}
-
-// Each reply has that fault.
-fn assert_faults(rt: &impl Abort, replies: &[&str], fault: ReplyFault) {
-    for reply in replies {
-        assert_eq!(rt; read(reply.as_bytes()), Err(fault), "{reply}");
-    }
-}
-
-// Each reply has that other status.
-fn assert_statuses(rt: &impl Abort, replies: &[(&str, u16)]) {
-    for (reply, status) in replies {
-        assert_faults(rt, &[*reply], ReplyFault::OtherStatus(*status));
-    }
-}
-
 #[test]
 fn client_replies(rt: HostRuntime) {
-    assert_faults(
-        &rt,
-        &["HTTP/1.1 200 OK\r\nContent-Length: 3\r\n\r\nab"],
-        ReplyFault::BodyShort,
-    );
-    assert_bodies(
-        &rt,
-        &["HTTP/1.1 200 OK\r\nContent-Length: 3\r\n\r\nabc"],
-        "abc",
-    );
-    assert_faults(
-        &rt,
-        &["HTTP/1.1 200 OK\r\nContent-Length: 3\r\n\r\nabcd"],
-        ReplyFault::BodyLong,
-    );
-    assert_faults(
-        &rt,
-        &["HTTP/1.1 200 OK\r\nTransfer-Encoding: chunked\r\n\r\nabc"],
-        ReplyFault::CodedReply,
-    );
-    assert_none(&rt, &["HTTP/1.1 404 Not Found\r\n\r\n"]);
-    assert_statuses(&rt, &[("HTTP/1.1 503 Service Unavailable\r\n\r\n", 503)]);
-    assert_faults(&rt, &[""], ReplyFault::BadReply);
+    for (reply, want) in [
+        (
+            "HTTP/1.1 200 OK\r\nContent-Length: 3\r\n\r\nab",
+            Err(ReplyFault::BodyShort),
+        ),
+        (
+            "HTTP/1.1 200 OK\r\nContent-Length: 3\r\n\r\nabc",
+            Ok(Some(b"abc".as_slice())),
+        ),
+        (
+            "HTTP/1.1 200 OK\r\nContent-Length: 3\r\n\r\nabcd",
+            Err(ReplyFault::BodyLong),
+        ),
+        (
+            "HTTP/1.1 200 OK\r\nTransfer-Encoding: chunked\r\n\r\nabc",
+            Err(ReplyFault::CodedReply),
+        ),
+        ("HTTP/1.1 404 Not Found\r\n\r\n", Ok(None)),
+        (
+            "HTTP/1.1 503 Service Unavailable\r\n\r\n",
+            Err(ReplyFault::OtherStatus(503)),
+        ),
+        ("", Err(ReplyFault::BadReply)),
+    ] {
+        assert_eq!(rt; read(reply.as_bytes()), want, "{reply}");
+    }
 }
-
-const BODIES: [&str; 5] = [
-    "HTTP/1.1 200 OK\r\n\r\nabc",
-    "HTTP/1.0 200 OK\n\nabc",
-    "HTTP/1.1 200 OK\r\nCONTENT-length:\t 0003 \r\n\r\nabc",
-    "HTTP/1.1 200 OK\r\nContent-Length: 3\r\nContent-Length: 03\r\n\r\nabc",
-    "HTTP/1.1 200 OK\r\nContent-Encoding: IDENTITY\r\n\r\nabc",
-];
-
-const NO_FILES: [&str; 2] = [
-    "HTTP/1.1 410 Gone\r\nContent-Length: x\r\n\r\n",
-    "HTTP/1.1 404 Not Found\r\nTransfer-Encoding: chunked\r\n\r\n",
-];
-
-const BAD_REPLIES: [&str; 9] = [
-    "HTTP/1.1 200 OK\r\nContent-Length: 3\r\nContent-Length: 4\r\n\r\nabc",
-    "HTTP/1.1 200 OK\r\nContent-Length: 3, 3\r\n\r\nabc",
-    "HTTP/1.1 200 OK\r\nContent-Length: -3\r\n\r\nabc",
-    "HTTP/1.1 200 OK\r\nContent-Length: +3\r\n\r\nabc",
-    "HTTP/1.1 200 OK\r\nContent-Length:\r\n\r\nabc",
-    "HTTP/1.1 200 OK\r\nContent-Length: 18446744073709551616\r\n\r\nabc",
-    "HTTP/1.1 200 OK\r\n",
-    "HTTP/2.0 200 OK\r\n\r\n",
-    "HTTP/1.1 20 OK\r\n\r\n",
-];
-
-const CODED_REPLIES: [&str; 4] = [
-    "HTTP/1.1 200 OK\r\nTransfer-Encoding: chunked\r\nContent-Length: x\r\n\r\n",
-    "HTTP/1.1 200 OK\r\ncontent-encoding: gzip\r\n\r\nabc",
-    "HTTP/1.1 200 OK\r\nContent-Encoding: identity, identity\r\n\r\nabc",
-    "HTTP/1.1 200 OK\r\nTransfer-Encoding:\r\n\r\nabc",
-];
-
-const OTHER_STATUSES: [(&str, u16); 5] = [
-    (
-        "HTTP/1.1 503 Service Unavailable\r\nContent-Length: x\r\n\r\n",
-        503,
-    ),
-    ("HTTP/1.1 100 Continue\r\n\r\n", 100),
-    ("HTTP/1.1 206 Partial Content\r\n\r\n", 206),
-    ("HTTP/1.1 301 Moved Permanently\r\n\r\n", 301),
-    ("HTTP/1.1 429 Too Many Requests\r\n\r\n", 429),
-];
 
 #[test]
 fn unlikely_replies(rt: HostRuntime) {
-    assert_bodies(&rt, &BODIES, "abc");
-    assert_bodies(&rt, &["HTTP/1.1 200\r\n\r\n"], "");
-    assert_none(&rt, &NO_FILES);
-    assert_faults(&rt, &BAD_REPLIES, ReplyFault::BadReply);
-    assert_faults(
-        &rt,
-        &["HTTP/1.1 200 OK\r\nContent-Length: 18446744073709551615\r\n\r\nabc"],
-        ReplyFault::BodyShort,
-    );
-    assert_faults(&rt, &CODED_REPLIES, ReplyFault::CodedReply);
-    assert_statuses(&rt, &OTHER_STATUSES);
+    for (reply, want) in [
+        ("HTTP/1.1 200 OK\r\n\r\nabc", Ok(Some(b"abc".as_slice()))),
+        ("HTTP/1.0 200 OK\n\nabc", Ok(Some(b"abc".as_slice()))),
+        (
+            "HTTP/1.1 200 OK\r\nCONTENT-length:\t 0003 \r\n\r\nabc",
+            Ok(Some(b"abc".as_slice())),
+        ),
+        (
+            "HTTP/1.1 200 OK\r\nContent-Length: 3\r\nContent-Length: 03\r\n\r\nabc",
+            Ok(Some(b"abc".as_slice())),
+        ),
+        (
+            "HTTP/1.1 200 OK\r\nContent-Encoding: IDENTITY\r\n\r\nabc",
+            Ok(Some(b"abc".as_slice())),
+        ),
+        ("HTTP/1.1 200\r\n\r\n", Ok(Some(b""))),
+        ("HTTP/1.1 410 Gone\r\nContent-Length: x\r\n\r\n", Ok(None)),
+        (
+            "HTTP/1.1 404 Not Found\r\nTransfer-Encoding: chunked\r\n\r\n",
+            Ok(None),
+        ),
+        (
+            "HTTP/1.1 200 OK\r\nContent-Length: 3\r\nContent-Length: 4\r\n\r\nabc",
+            Err(ReplyFault::BadReply),
+        ),
+        (
+            "HTTP/1.1 200 OK\r\nContent-Length: 3, 3\r\n\r\nabc",
+            Err(ReplyFault::BadReply),
+        ),
+        (
+            "HTTP/1.1 200 OK\r\nContent-Length: -3\r\n\r\nabc",
+            Err(ReplyFault::BadReply),
+        ),
+        (
+            "HTTP/1.1 200 OK\r\nContent-Length: +3\r\n\r\nabc",
+            Err(ReplyFault::BadReply),
+        ),
+        (
+            "HTTP/1.1 200 OK\r\nContent-Length:\r\n\r\nabc",
+            Err(ReplyFault::BadReply),
+        ),
+        (
+            "HTTP/1.1 200 OK\r\nContent-Length: 18446744073709551616\r\n\r\nabc",
+            Err(ReplyFault::BadReply),
+        ),
+        ("HTTP/1.1 200 OK\r\n", Err(ReplyFault::BadReply)),
+        ("HTTP/2.0 200 OK\r\n\r\n", Err(ReplyFault::BadReply)),
+        ("HTTP/1.1 20 OK\r\n\r\n", Err(ReplyFault::BadReply)),
+        (
+            "HTTP/1.1 200 OK\r\nContent-Length: 18446744073709551615\r\n\r\nabc",
+            Err(ReplyFault::BodyShort),
+        ),
+        (
+            "HTTP/1.1 200 OK\r\nTransfer-Encoding: chunked\r\nContent-Length: x\r\n\r\n",
+            Err(ReplyFault::CodedReply),
+        ),
+        (
+            "HTTP/1.1 200 OK\r\ncontent-encoding: gzip\r\n\r\nabc",
+            Err(ReplyFault::CodedReply),
+        ),
+        (
+            "HTTP/1.1 200 OK\r\nContent-Encoding: identity, identity\r\n\r\nabc",
+            Err(ReplyFault::CodedReply),
+        ),
+        (
+            "HTTP/1.1 200 OK\r\nTransfer-Encoding:\r\n\r\nabc",
+            Err(ReplyFault::CodedReply),
+        ),
+        (
+            "HTTP/1.1 503 Service Unavailable\r\nContent-Length: x\r\n\r\n",
+            Err(ReplyFault::OtherStatus(503)),
+        ),
+        (
+            "HTTP/1.1 100 Continue\r\n\r\n",
+            Err(ReplyFault::OtherStatus(100)),
+        ),
+        (
+            "HTTP/1.1 206 Partial Content\r\n\r\n",
+            Err(ReplyFault::OtherStatus(206)),
+        ),
+        (
+            "HTTP/1.1 301 Moved Permanently\r\n\r\n",
+            Err(ReplyFault::OtherStatus(301)),
+        ),
+        (
+            "HTTP/1.1 429 Too Many Requests\r\n\r\n",
+            Err(ReplyFault::OtherStatus(429)),
+        ),
+    ] {
+        assert_eq!(rt; read(reply.as_bytes()), want, "{reply}");
+    }
 }
 
-// A reply of so many fields, whose last has a value of so many letters.
-fn reply_of(alloc: Global, fields: usize, letters: usize) -> Result<String, Fail> {
-    let mut reply = long_head(alloc, "HTTP/1.1 200 OK", fields, letters)?;
-    reply.push_str("abc")?;
-    Ok(reply)
-}
-
+// A reply of so many fields, whose last has a value of so many letters. The head is 17 bytes, a field 4 and its letters,
+// and the empty line 2.
 #[test]
 fn long_heads(rt: HostRuntime) -> Result<(), Fail> {
-    assert_bodies(&rt, &[reply_of(rt.alloc(), 64, 0)?.as_str()], "abc");
-    let many = reply_of(rt.alloc(), 65, 0)?;
-    assert_faults(&rt, &[many.as_str()], ReplyFault::BadReply);
-    // The head is 17 bytes, the field's 4 and the letters, and 2.
-    let longest = reply_of(rt.alloc(), 1, 8_192 - 23)?;
-    assert_eq!(rt; longest.len(), 8_192 + 3);
-    assert_bodies(&rt, &[longest.as_str()], "abc");
-    let over = reply_of(rt.alloc(), 1, 8_192 - 22)?;
-    assert_faults(&rt, &[over.as_str()], ReplyFault::BadReply);
+    for (fields, letters, want) in [
+        (64, 0, Ok(Some(b"abc".as_slice()))),
+        (65, 0, Err(ReplyFault::BadReply)),
+        (1, 8_192 - 23, Ok(Some(b"abc"))),
+        (1, 8_192 - 22, Err(ReplyFault::BadReply)),
+    ] {
+        let mut reply = long_head(rt.alloc(), "HTTP/1.1 200 OK", fields, letters)?;
+        reply.push_str("abc")?;
+        assert_eq!(rt; read(reply.as_bytes()), want, "{fields} {letters}");
+    }
     Ok(())
 }

@@ -1,6 +1,6 @@
 //! Requests, with values worked out by hand, and sites that are refused.
-use crate::given::{assert_printed, push_times};
-use mirror_http::{ReplyFault, Site, SiteFault, get_request};
+use crate::given::push_times;
+use mirror_http::{Site, SiteFault, get_request};
 use std::alloc::Global;
 use std::process::Abort;
 use std::test::Fail;
@@ -54,77 +54,46 @@ fn fault_of(alloc: Global, host: &str, prefix: &str) -> Option<SiteFault> {
     }
 }
 
-// Each site, a host and a prefix, has that fault, or none.
-fn assert_sites(rt: &impl Abort, alloc: Global, sites: &[(&str, &str)], want: Option<SiteFault>) {
-    for (host, prefix) in sites {
-        assert_eq!(rt; fault_of(alloc, host, prefix), want, "{host} {prefix}");
+#[test]
+fn site_refusals(rt: HostRuntime) {
+    for (host, prefix, want) in [
+        ("", "", Some(SiteFault::BadHost)),
+        ("", "a", Some(SiteFault::BadHost)),
+        ("a b", "", Some(SiteFault::BadHost)),
+        ("a\r\n", "", Some(SiteFault::BadHost)),
+        ("a\u{7f}", "", Some(SiteFault::BadHost)),
+        ("é", "", Some(SiteFault::BadHost)),
+        ("a", "a", Some(SiteFault::BadPrefix)),
+        ("a", "/", Some(SiteFault::BadPrefix)),
+        ("a", "/a/", Some(SiteFault::BadPrefix)),
+        ("a", "/a b", Some(SiteFault::BadPrefix)),
+        ("a", "/a\n", Some(SiteFault::BadPrefix)),
+        ("a", "/é", Some(SiteFault::BadPrefix)),
+        ("!~", "", None),
+        ("a", "//a", None),
+        ("a", "/a?b=/c", None),
+    ] {
+        assert_eq!(rt; fault_of(rt.alloc(), host, prefix), want, "{host} {prefix}");
     }
 }
 
-const BAD_HOSTS: [(&str, &str); 6] = [
-    ("", ""),
-    ("", "a"),
-    ("a b", ""),
-    ("a\r\n", ""),
-    ("a\u{7f}", ""),
-    ("é", ""),
-];
-
-const BAD_PREFIXES: [(&str, &str); 6] = [
-    ("a", "a"),
-    ("a", "/"),
-    ("a", "/a/"),
-    ("a", "/a b"),
-    ("a", "/a\n"),
-    ("a", "/é"),
-];
-
-const GOOD_SITES: [(&str, &str); 3] = [("!~", ""), ("a", "//a"), ("a", "/a?b=/c")];
-
+// Sites whose host has so many letters, and whose prefix so many behind the slash.
 #[test]
-fn site_refusals(rt: HostRuntime) -> Result<(), Fail> {
-    assert_sites(&rt, rt.alloc(), &BAD_HOSTS, Some(SiteFault::BadHost));
-    assert_sites(&rt, rt.alloc(), &BAD_PREFIXES, Some(SiteFault::BadPrefix));
-    assert_sites(&rt, rt.alloc(), &GOOD_SITES, None);
-    assert_long_site(&rt, rt.alloc(), 255, 999, None)?;
-    assert_long_site(&rt, rt.alloc(), 256, 0, Some(SiteFault::BadHost))?;
-    assert_long_site(&rt, rt.alloc(), 1, 1_000, Some(SiteFault::BadPrefix))
-}
-
-// The site whose host has so many letters, and its prefix so many behind the slash, or no byte: its fault, or none.
-fn assert_long_site(
-    rt: &impl Abort,
-    alloc: Global,
-    host: usize,
-    prefix: usize,
-    want: Option<SiteFault>,
-) -> Result<(), Fail> {
-    let host = longer(alloc, "", host)?;
-    let slash = if prefix == 0 { "" } else { "/" };
-    let prefix = longer(alloc, slash, prefix)?;
-    assert_eq!(rt; fault_of(alloc, &host, &prefix), want);
+fn long_sites(rt: HostRuntime) -> Result<(), Fail> {
+    for (letters, more, want) in [
+        (255, 999, None),
+        (256, 1, Some(SiteFault::BadHost)),
+        (1, 1_000, Some(SiteFault::BadPrefix)),
+    ] {
+        let (mut host, mut prefix) = (String::new(rt.alloc()), String::new(rt.alloc()));
+        push_times(&mut host, "a", letters)?;
+        prefix.push('/')?;
+        push_times(&mut prefix, "a", more)?;
+        assert_eq!(rt;
+            fault_of(rt.alloc(), &host, &prefix),
+            want,
+            "{letters} {more}"
+        );
+    }
     Ok(())
-}
-
-// So many letters behind the text.
-fn longer(alloc: Global, front: &str, letters: usize) -> Result<String, Fail> {
-    let mut text = String::from_str(alloc, front)?;
-    push_times(&mut text, "a", letters)?;
-    Ok(text)
-}
-
-#[test]
-fn faults_print_their_names(rt: HostRuntime) -> Result<(), Fail> {
-    assert_printed(&rt, rt.alloc(), SiteFault::BadHost, "BadHost")?;
-    assert_printed(&rt, rt.alloc(), SiteFault::BadPrefix, "BadPrefix")?;
-    assert_printed(&rt, rt.alloc(), SiteFault::OutOfMemory, "OutOfMemory")?;
-    replies_print_their_names(&rt, rt.alloc())
-}
-
-fn replies_print_their_names(rt: &impl Abort, alloc: Global) -> Result<(), Fail> {
-    assert_printed(rt, alloc, ReplyFault::BadReply, "BadReply")?;
-    assert_printed(rt, alloc, ReplyFault::OtherStatus(503), "OtherStatus")?;
-    assert_printed(rt, alloc, ReplyFault::CodedReply, "CodedReply")?;
-    assert_printed(rt, alloc, ReplyFault::BodyShort, "BodyShort")?;
-    assert_printed(rt, alloc, ReplyFault::BodyLong, "BodyLong")
 }

@@ -21,14 +21,6 @@ fn assert_abc(rt: &impl Abort, answer: Result<Option<Vec<u8>>, SourceFault>) -> 
     Ok(())
 }
 
-#[test]
-fn a_file_of_a_source(rt: HostRuntime) -> Result<(), Fail> {
-    let mut source = source(rt.alloc(), true)?;
-    assert_abc(&rt, source.get(&Path::Checkpoint))?;
-    assert_eq!(rt; source.failures(), 0);
-    Ok(())
-}
-
 // Where a request for memory is refused, as by `rt try --test --fail-alloc N`, that is no failure of the
 // source, and the next get is right.
 #[test]

@@ -1,34 +1,27 @@
 //! Replies that a source gets of a server that it does not know.
 use crate::client::canned::source_of;
 use log_sources::{Source, SourceFault};
-use std::alloc::Global;
 use std::process::Abort;
 use std::test::Fail;
 use tlog_tiles::Path;
 
-// The reply is a failure, that is counted once.
-fn assert_failed(rt: &impl Abort, alloc: Global, reply: &str, ends: bool) -> Result<(), Fail> {
-    let mut source = source_of(alloc, reply, ends, true)?;
-    let got = source.get(&Path::Checkpoint);
-    assert!(rt; matches!(got, Err(SourceFault::Failed)), "{reply}");
-    assert_eq!(rt; source.failures(), 1, "{reply}");
-    Ok(())
-}
-
-// The reply brings these bytes, or says that there is no such file, which is no failure.
-fn assert_found(
-    rt: &impl Abort,
-    alloc: Global,
+// The reply, whole or with letters behind it without end, brings these bytes, or says that there is no such file. Else it
+// is a failure, that is counted once.
+fn expect_got(
+    rt: &(impl Abort + AllocGlobal),
     reply: &str,
-    want: Option<&[u8]>,
+    ends: bool,
+    want: Result<Option<&[u8]>, SourceFault>,
 ) -> Result<(), Fail> {
-    let mut source = source_of(alloc, reply, true, true)?;
-    let got = source.get(&Path::Checkpoint)?;
-    match &got {
-        Some(body) => assert_eq!(rt; Some(body.as_slice()), want, "{reply}"),
-        None => assert!(rt; want.is_none(), "{reply}"),
-    }
-    assert_eq!(rt; source.failures(), 0, "{reply}");
+    let mut source = source_of(rt.alloc(), reply, ends, true)?;
+    let got = source.get(&Path::Checkpoint);
+    let found = match &got {
+        Ok(Some(body)) => Ok(Some(body.as_slice())),
+        Ok(None) => Ok(None),
+        Err(fault) => Err(*fault),
+    };
+    assert_eq!(rt; found, want, "{reply}");
+    assert_eq!(rt; source.failures(), u64::from(want.is_err()), "{reply}");
     Ok(())
 }
 
@@ -58,37 +51,34 @@ const FAILURES: [&str; 20] = [
 #[test]
 fn replies_that_fail(rt: HostRuntime) -> Result<(), Fail> {
     for reply in FAILURES {
-        assert_failed(&rt, rt.alloc(), reply, true)?;
+        expect_got(&rt, reply, true, Err(SourceFault::Failed))?;
     }
-    Ok(())
-}
-
-#[test]
-fn replies_without_end(rt: HostRuntime) -> Result<(), Fail> {
     for reply in [
         "",
         "HTTP/1.1 200 OK\r\n\r\n",
         "HTTP/1.1 404 Not Found\r\n\r\n",
     ] {
-        assert_failed(&rt, rt.alloc(), reply, false)?;
+        expect_got(&rt, reply, false, Err(SourceFault::Failed))?;
     }
     Ok(())
 }
 
 #[test]
 fn replies_that_are_read(rt: HostRuntime) -> Result<(), Fail> {
-    for reply in [
-        "HTTP/1.1 404 Not Found\r\n\r\n",
-        "HTTP/1.1 410 Gone\r\nTransfer-Encoding: chunked\r\n\r\n",
+    for (reply, want) in [
+        ("HTTP/1.1 404 Not Found\r\n\r\n", None),
+        (
+            "HTTP/1.1 410 Gone\r\nTransfer-Encoding: chunked\r\n\r\n",
+            None,
+        ),
+        ("HTTP/1.1 200\r\n\r\n", Some(b"".as_slice())),
+        ("HTTP/1.0 200 OK\n\nabc", Some(b"abc")),
+        (
+            "HTTP/1.1 200 OK\r\nContent-Length: 3\r\ncontent-length: 03\r\n\r\nabc",
+            Some(b"abc"),
+        ),
     ] {
-        assert_found(&rt, rt.alloc(), reply, None)?;
-    }
-    assert_found(&rt, rt.alloc(), "HTTP/1.1 200\r\n\r\n", Some(b""))?;
-    for reply in [
-        "HTTP/1.0 200 OK\n\nabc",
-        "HTTP/1.1 200 OK\r\nContent-Length: 3\r\ncontent-length: 03\r\n\r\nabc",
-    ] {
-        assert_found(&rt, rt.alloc(), reply, Some(b"abc"))?;
+        expect_got(&rt, reply, true, Ok(want))?;
     }
     Ok(())
 }
