@@ -7,7 +7,7 @@ use signed_note::Verifier;
 use std::alloc::{AllocError, Global};
 use std::test::Fail;
 use tlog_hash::TreeHash;
-use tlog_mirror::Mirror;
+use tlog_mirror::{Mirror, TakeFault};
 
 // A key that accepts the signature 05 over every text.
 #[derive(Drop)]
@@ -29,6 +29,19 @@ impl Verifier for Five {
     }
 }
 
+// What a mirror answers to that note and these rows, under the key of these tests. As other helpers it ensures nothing, so
+// that its callers are cheap to check.
+pub(crate) fn answer_to_head<H: TreeHash>(
+    alloc: Global,
+    mirror: &mut Mirror<H>,
+    note: &[u8],
+    edge: &[&[u8]],
+) -> Result<Result<(), TakeFault>, AllocError> {
+    let mut keys: Vec<Box<dyn Verifier>> = Vec::new(alloc);
+    keys.push(Box::new(alloc, Five)?)?;
+    Ok(mirror.take_head(alloc, &keys, note, edge))
+}
+
 // Takes the head of that size and root, over these rows of its edge.
 pub(crate) fn take_head<H: TreeHash>(
     alloc: Global,
@@ -37,9 +50,7 @@ pub(crate) fn take_head<H: TreeHash>(
     edge: &[&[u8]],
 ) -> Result<(), Fail> {
     let note = format!(in alloc; "ex\n{head}\n\n\u{2014} good AQIDBAU=\n")?;
-    let mut keys: Vec<Box<dyn Verifier>> = Vec::new(alloc);
-    keys.push(Box::new(alloc, Five)?)?;
-    mirror.take_head(alloc, &keys, note.as_bytes(), edge)?;
+    answer_to_head(alloc, mirror, note.as_bytes(), edge)??;
     Ok(())
 }
 
@@ -75,8 +86,9 @@ pub(crate) fn take_letters<H: TreeHash>(
     Ok(())
 }
 
-// The head of the log of the entries of no bytes, `00` and `10`.
-pub(crate) const HEAD_OF_3: &str = "3\nrra8/idLcKFPsGel5VeCZNsPqbUa9eC6FZFY8yngbnc=";
+// The note of the head of the log of the entries of no bytes, `00` and `10`.
+pub(crate) const HEAD_OF_3: &str =
+    "ex\n3\nrra8/idLcKFPsGel5VeCZNsPqbUa9eC6FZFY8yngbnc=\n\n\u{2014} good AQIDBAU=\n";
 
 // Their bundle.
 pub(crate) const BUNDLE_OF_3: &[u8] = b"\x00\x00\x00\x01\x00\x00\x01\x10";
@@ -88,4 +100,12 @@ pub(crate) fn tile_of_3<H: TreeHash>(alloc: Global) -> Result<Vec<u8>, AllocErro
         row.extend_from_slice(H::leaf(entry).as_slice())?;
     }
     Ok(row)
+}
+
+// How many heads a mirror lists.
+pub(crate) fn count_of_heads<H: TreeHash>(
+    alloc: Global,
+    mirror: &Mirror<H>,
+) -> Result<usize, AllocError> {
+    Ok(mirror.heads(alloc)?.len())
 }

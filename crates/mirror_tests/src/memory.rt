@@ -1,7 +1,7 @@
 //! Requests for memory that are refused. Each test is run once for each of its requests, with that one refused, as by
 //! `rt try --test --fail-alloc N`: where a take, a merge or a play is refused, a part of it may stand and no more, and
 //! the same once more completes it.
-use crate::given::{BUNDLE_OF_3, Five, tile_of_3};
+use crate::given::{BUNDLE_OF_3, Five, HEAD_OF_3, answer_to_head, tile_of_3};
 use crate::plays::{are_done, are_merged, three_events, two_mirrors};
 use signed_note::Verifier;
 use std::alloc::{AllocError, Global};
@@ -10,9 +10,6 @@ use std::test::Fail;
 use tlog_hash::{Sha256Tree, TreeHash};
 use tlog_mirror::{Event, MergeFault, Mirror, TakeFault, fits, play};
 use tlog_text::read_hash;
-
-const HEAD_OF_3: &str =
-    "ex\n3\nrra8/idLcKFPsGel5VeCZNsPqbUa9eC6FZFY8yngbnc=\n\n\u{2014} good AQIDBAU=\n";
 
 #[test]
 fn takes_again_after_want_of_memory(rt: HostRuntime) -> Result<(), Fail> {
@@ -58,15 +55,14 @@ fn take_head_at_last<H: TreeHash>(
     mirror: &mut Mirror<H>,
     row: &[u8],
 ) -> Result<(), Fail> {
-    let mut keys: Vec<Box<dyn Verifier>> = Vec::new(alloc);
-    keys.push(Box::new(alloc, Five)?)?;
-    let mut answer = mirror.take_head(alloc, &keys, HEAD_OF_3.as_bytes(), &[row]);
+    let note = HEAD_OF_3.as_bytes();
+    let mut answer = answer_to_head(alloc, mirror, note, &[row])?;
     if answer == Err(TakeFault::OutOfMemory) {
         assert!(rt; mirror.note_at(0).is_none());
-        answer = mirror.take_head(alloc, &keys, HEAD_OF_3.as_bytes(), &[row]);
+        answer = answer_to_head(alloc, mirror, note, &[row])?;
     }
     assert_eq!(rt; answer, Ok(()));
-    assert!(rt; mirror.note_at(0) == Some(HEAD_OF_3.as_bytes()));
+    assert!(rt; mirror.note_at(0) == Some(note));
     assert_eq!(rt; mirror.strings().len(), 2);
     Ok(())
 }

@@ -1,4 +1,5 @@
 //! A mirror that holds nothing, and one of another origin.
+use crate::given::count_of_heads;
 use std::alloc::Global;
 use std::process::Abort;
 use std::test::Fail;
@@ -9,6 +10,7 @@ use tlog_mirror::{MergeFault, Mirror};
 fn a_new_mirror_holds_nothing(rt: HostRuntime) -> Result<(), Fail> {
     let mut mirror = Mirror::<Sha256Tree>::new(rt.alloc(), "ex")?;
     holds_nothing(&rt, &mirror);
+    serves_nothing(&rt, &mirror);
     tells_nothing(&rt, rt.alloc(), &mirror)?;
     let other = Mirror::<Sha256Tree>::new(rt.alloc(), "ey")?;
     refuses_merge(&rt, rt.alloc(), &mut mirror, &other);
@@ -19,7 +21,11 @@ fn holds_nothing<H: TreeHash>(rt: &impl Abort, mirror: &Mirror<H>) {
     assert_eq!(rt; mirror.origin(), "ex");
     assert_eq!(rt; mirror.strings().len(), 0);
     assert!(rt; !mirror.is_complete(0, &H::empty()));
-    assert!(rt; mirror.top().is_none() && mirror.top_ranges().is_none());
+}
+
+fn serves_nothing<H: TreeHash>(rt: &impl Abort, mirror: &Mirror<H>) {
+    assert!(rt; mirror.top().is_none());
+    assert!(rt; mirror.top_ranges().is_none());
     assert!(rt; mirror.range_hash(0, 0).is_none());
 }
 
@@ -28,7 +34,7 @@ fn tells_nothing<H: TreeHash>(
     alloc: Global,
     mirror: &Mirror<H>,
 ) -> Result<(), Fail> {
-    assert_eq!(rt; mirror.heads(alloc)?.len(), 0);
+    assert_eq!(rt; count_of_heads(alloc, mirror)?, 0);
     assert!(rt; mirror.tile(alloc, 0, 0, 1)?.is_none());
     assert!(rt; mirror.bundle(alloc, 0, 1)?.is_none());
     assert!(rt; mirror.missing(alloc, 0, &H::empty())?.is_none());

@@ -7,6 +7,7 @@ mod lying;
 ghost use Rattle.std.specs.Prelude.{◌≡◌, map, IfOk};
 ghost use Rattle.mirror_model.specs.TrueLaws.{AreShort};
 
+use crate::given::count_of_heads;
 use log_sources::{ListSource, Source};
 use lying::{Liar, Lie, lying_log};
 use mirror_pull::{PullFault, Pulled, pull};
@@ -56,40 +57,31 @@ fn failing_source(rt: HostRuntime) -> Result<(), Fail> {
     for passes in 0..5u64 {
         fails_after::<Sha256Tree>(&rt, rt.alloc(), passes)?;
     }
-    just_passes::<Sha256Tree>(&rt, rt.alloc())
+    Ok(())
 }
 
 // A pull of C(257) that fails after so many gets, and then one that does not.
 fn fails_after<H: TreeHash>(rt: &impl Abort, alloc: Global, passes: u64) -> Result<(), Fail> {
     let mut mirror = Mirror::<H>::new(alloc, "ex")?;
-    let mut source = lying_log::<H>(alloc, Lie::Nothing, 0, 0)?;
-    source.passes = passes;
+    let mut source = lying_log::<H>(alloc, Lie::Nothing, 0, 0, passes)?;
     let end = end_of_pull(alloc, &mut mirror, &mut source)?;
-    assert_eq!(rt; end, Err(PullFault::Source), "{passes}");
-    assert_eq!(rt; source.failures, 1);
-    assert_eq!(rt; mirror.heads(alloc)?.len() == 1, passes >= 3, "{passes}");
+    assert!(rt;
+        end == Err(PullFault::Source) && source.failures == 1,
+        "{passes}"
+    );
+    let heads = count_of_heads(alloc, &mirror)?;
+    assert!(rt; (heads == 1) == (passes >= 3), "{passes}");
     source.passes = u64::MAX;
     let again = end_of_pull(alloc, &mut mirror, &mut source)??;
-    assert_eq!(rt; (again.size, again.refused, again.complete), (257, 0, true));
-    Ok(())
-}
-
-// A pull of C(257) from a source that would fail after the last get.
-fn just_passes<H: TreeHash>(rt: &impl Abort, alloc: Global) -> Result<(), Fail> {
-    let mut mirror = Mirror::<H>::new(alloc, "ex")?;
-    let mut source = lying_log::<H>(alloc, Lie::Nothing, 0, 0)?;
-    source.passes = 5;
-    let pulled = end_of_pull(alloc, &mut mirror, &mut source)??;
-    assert_eq!(rt; (pulled.size, pulled.rounds, pulled.refused), (257, 1, 0));
-    assert_eq!(rt;
-        (pulled.complete, source.gets, source.failures),
-        (true, 5, 0)
+    assert!(rt;
+        again.size == 257 && again.refused == 0 && again.complete,
+        "{passes}"
     );
     Ok(())
 }
 
-// How often a pull of C(257) asks: of the rows pull-257, false-bundle and partials-gone, and where nothing is given, or
-// the checkpoint alone.
+// How often a pull of C(257) asks, and how it ends: of the rows pull-257, at a source that would fail then, false-bundle and
+// partials-gone, and where nothing is given, or the checkpoint alone.
 #[test]
 fn gets_of_a_pull(rt: HostRuntime) -> Result<(), Fail> {
     for (lie, from, count, gets, end) in [
@@ -99,7 +91,7 @@ fn gets_of_a_pull(rt: HostRuntime) -> Result<(), Fail> {
         (Lie::Silence, 0, 0, 1, Err(PullFault::NoCheckpoint)),
         (Lie::NoFiles, 0, 0, 3, Err(PullFault::NoEdge)),
     ] {
-        let mut source = lying_log::<Sha256Tree>(rt.alloc(), lie, from, count)?;
+        let mut source = lying_log::<Sha256Tree>(rt.alloc(), lie, from, count, gets)?;
         asks(&rt, rt.alloc(), &mut source, gets, end)?;
     }
     Ok(())
@@ -115,8 +107,14 @@ fn asks<H: TreeHash>(
 ) -> Result<(), Fail> {
     let mut mirror = Mirror::<H>::new(alloc, "ex")?;
     let end = end_of_pull(alloc, &mut mirror, source)?;
-    assert_eq!(rt; end.map(|pulled| pulled.complete), want);
-    assert_eq!(rt; source.gets, gets);
+    assert!(rt; source.gets == gets && source.failures == 0, "{gets}");
+    match end {
+        Ok(pulled) => {
+            assert!(rt; want == Ok(pulled.complete), "{gets}");
+            assert!(rt; pulled.size == 257 && pulled.rounds == 1 && pulled.refused == 0);
+        }
+        Err(fault) => assert!(rt; want == Err(fault), "{gets}"),
+    }
     Ok(())
 }
 
@@ -129,14 +127,10 @@ fn pull_again_after_want_of_memory(rt: HostRuntime) -> Result<(), Fail> {
 fn pulls_at_last<H: TreeHash>(rt: &impl Abort, alloc: Global) -> Result<(), Fail> {
     let mut mirror = Mirror::<H>::new(alloc, "ex")?;
     let mut source = list::<H>(alloc, 0, 300)?;
-    let mut end = end_of_pull(alloc, &mut mirror, &mut source)?;
-    if end == Err(PullFault::OutOfMemory) {
-        end = end_of_pull(alloc, &mut mirror, &mut source)?;
-    }
-    let pulled = end?;
-    assert_eq!(rt;
-        (pulled.size, pulled.refused, pulled.complete),
-        (300, 0, true)
-    );
+    let pulled = match end_of_pull(alloc, &mut mirror, &mut source)? {
+        Err(PullFault::OutOfMemory) => end_of_pull(alloc, &mut mirror, &mut source)??,
+        end => end?,
+    };
+    assert!(rt; pulled.size == 300 && pulled.refused == 0 && pulled.complete);
     Ok(())
 }

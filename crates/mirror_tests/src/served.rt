@@ -1,5 +1,5 @@
 //! What a mirror serves of a part of its entries.
-use crate::given::{BUNDLE_OF_3, HEAD_OF_3, take_head, tile_of_3};
+use crate::given::{BUNDLE_OF_3, HEAD_OF_3, answer_to_head, tile_of_3};
 use std::alloc::Global;
 use std::process::Abort;
 use std::test::Fail;
@@ -9,10 +9,16 @@ use tlog_mirror::Mirror;
 #[test]
 fn small_trees(rt: HostRuntime) -> Result<(), Fail> {
     let row = tile_of_3::<Sha256Tree>(rt.alloc())?;
-    let mut mirror = Mirror::<Sha256Tree>::new(rt.alloc(), "ex")?;
-    take_head(rt.alloc(), &mut mirror, HEAD_OF_3, &[row.as_slice()])?;
-    mirror.take_bundle(rt.alloc(), 3, BUNDLE_OF_3)?;
+    let mirror = mirror_of_3::<Sha256Tree>(rt.alloc(), &row)?;
     serves_3(&rt, rt.alloc(), &mirror, &row)
+}
+
+// A mirror that took the head of the three entries, whose leaf hashes are that row, and then their bundle.
+fn mirror_of_3<H: TreeHash>(alloc: Global, row: &[u8]) -> Result<Mirror<H>, Fail> {
+    let mut mirror = Mirror::<H>::new(alloc, "ex")?;
+    answer_to_head(alloc, &mut mirror, HEAD_OF_3.as_bytes(), &[row])??;
+    mirror.take_bundle(alloc, 3, BUNDLE_OF_3)?;
+    Ok(mirror)
 }
 
 // Served are the row of the three entries, and a bundle of two of them, but none of four.

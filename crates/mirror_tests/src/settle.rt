@@ -15,12 +15,17 @@ fn settles<H: TreeHash>(
     count: usize,
 ) -> Result<(), Fail> {
     let before = mirror.remembered();
-    if mirror.settle(alloc).is_err() {
+    if settle(alloc, mirror).is_err() {
         assert!(rt; before <= mirror.remembered());
-        mirror.settle(alloc)?;
+        settle(alloc, mirror)?;
     }
     assert_eq!(rt; mirror.remembered(), count);
     Ok(())
+}
+
+// It ensures nothing, so that its caller is cheap to check.
+fn settle<H: TreeHash>(alloc: Global, mirror: &mut Mirror<H>) -> Result<(), AllocError> {
+    mirror.settle(alloc)
 }
 
 // And settle-empty, at the same mirror before it takes anything.
@@ -76,17 +81,24 @@ fn doubled<H: TreeHash>(times: u32) -> Hash {
     hash
 }
 
-// Takes the head of 65,536 entries of no bytes, the tile above 256 bundles of them, and one such bundle.
+// Takes the head of 65,536 entries of no bytes, and 256 bundles of them.
 fn take_equal_log<H: TreeHash>(alloc: Global, mirror: &mut Mirror<H>) -> Result<(), Fail> {
     let edge = doubled::<H>(16);
     let head = "65536\n2DOJrJogf7fb3Ekvu1a5SC8ZFwaZ4iS+ZGlMyIWjoqI=";
     take_head(alloc, mirror, head, &[edge.as_slice()])?;
+    take_equal(alloc, mirror)
+}
+
+// Takes a bundle of 256 entries of no bytes, and the tile above 256 such bundles.
+fn take_equal<H: TreeHash>(alloc: Global, mirror: &mut Mirror<H>) -> Result<(), Fail> {
+    let hash = doubled::<H>(8);
     let mut row = Vec::new(alloc);
     for _ in 0..256u32 {
-        row.extend_from_slice(doubled::<H>(8).as_slice())?;
+        row.extend_from_slice(hash.as_slice())?;
     }
     mirror.take_tile(alloc, 256, &row)?;
-    mirror.take_bundle(alloc, 256, &[0; 512])?;
+    let bundle = vec![in alloc; 0u8; 512]?;
+    mirror.take_bundle(alloc, 256, &bundle)?;
     Ok(())
 }
 

@@ -32,18 +32,19 @@ pub(crate) struct Liar<H: TreeHash> {
     pub failures: u64,
 }
 
-// A source over C(257) that lies by another list, of so many numbers from that one on, and does not fail.
+// A source over C(257) that lies by another list, of so many numbers from that one on, and fails after so many gets.
 pub(crate) fn lying_log<H: TreeHash>(
     alloc: Global,
     lie: Lie,
     from: u16,
     count: u16,
+    passes: u64,
 ) -> Result<Liar<H>, Fail> {
     Ok(Liar {
         log: list(alloc, 0, 257)?,
         other: list(alloc, from, count)?,
         lie,
-        passes: u64::MAX,
+        passes,
         gets: 0,
         failures: 0,
     })
