@@ -6,8 +6,7 @@ use file_commands::{ExportFileFault, MergeFilesFault, NotesFault, StateFault, Ta
 use mirror_commands::{RunFault, TellFault, WorkFault, carry_out, told};
 use mirror_files::LoadFault;
 use mirror_pull::PullFault;
-use mirror_updates::UpdateFault;
-use state_commands::{AskFault, ExportStateFault};
+use mirror_updates::BuildFault;
 use std::alloc::Global;
 use std::io::Write;
 use std::process::Abort;
@@ -32,23 +31,20 @@ fn assert_told(rt: &impl Abort, alloc: Global, fault: RunFault, line: &str) {
 // Two different strings of one digest, met where a state is loaded. No two such strings are known of SHA-256.
 #[test]
 fn collisions_of_a_load(rt: HostRuntime) {
-    let fault = LoadFault::Collision;
-    let state = StateFault::Load(fault);
-    let asked = || WorkFault::Ask(AskFault::Load(fault));
-    let pulled = WorkFault::Update(UpdateFault::Load(fault));
-    let exported = ExportFileFault::Export(ExportStateFault::Load(fault));
+    let state = StateFault::Load(LoadFault::Collision);
+    let work = || WorkFault::State(state);
     for fault in [
         RunFault::Take(TakeFilesFault::State(state)),
         RunFault::Merge(MergeFilesFault::First(state)),
         RunFault::Merge(MergeFilesFault::Second(state)),
         RunFault::Notes(NotesFault::State(state)),
-        RunFault::Serve(TellFault::Work(WorkFault::State(state))),
-        RunFault::Pull(TellFault::Work(pulled)),
-        RunFault::Export(exported),
-        RunFault::Status(asked()),
-        RunFault::Missing(asked()),
-        RunFault::Forks(asked()),
-        RunFault::Prove(asked()),
+        RunFault::Serve(TellFault::Work(work())),
+        RunFault::Pull(TellFault::Work(work())),
+        RunFault::Export(ExportFileFault::State(state)),
+        RunFault::Status(work()),
+        RunFault::Missing(work()),
+        RunFault::Forks(work()),
+        RunFault::Prove(work()),
     ] {
         assert_told(&rt, rt.alloc(), fault, "tlogmirror: Collision\n");
     }
@@ -57,7 +53,9 @@ fn collisions_of_a_load(rt: HostRuntime) {
 // The same met by the work itself, and want of memory.
 #[test]
 fn collisions_of_the_work(rt: HostRuntime) {
-    let work = || WorkFault::Update(UpdateFault::Pull(PullFault::Collision));
+    let fault = PullFault::Collision;
+    let pulled = WorkFault::Pull(fault);
+    let built = WorkFault::Build(BuildFault::Pull(fault));
     let taken = TakeFilesFault::Take(TakeFault::Collision);
     let merged = MergeFilesFault::Merge(MergeFault::Collision);
     let no_memory = "tlogmirror: OutOfMemory\n";
@@ -65,8 +63,8 @@ fn collisions_of_the_work(rt: HostRuntime) {
     for (fault, line) in [
         (RunFault::Take(taken), collision),
         (RunFault::Merge(merged), collision),
-        (RunFault::Pull(TellFault::Work(work())), collision),
-        (RunFault::Build(work()), collision),
+        (RunFault::Pull(TellFault::Work(pulled)), collision),
+        (RunFault::Build(built), collision),
         (RunFault::Root(RootFault::OutOfMemory), no_memory),
         (RunFault::Check(CheckFault::OutOfMemory), no_memory),
         (RunFault::Command(CommandFault::OutOfMemory), no_memory),
