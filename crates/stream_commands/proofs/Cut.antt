@@ -38,9 +38,11 @@ IsBundle-length width bytes es le b =
 front_of_part : (input front rest : List ℕ) (n : ℕ) → length front ≤ n → input ≡ front ++ rest →
     (others : List ℕ) × (take n input ≡ front ++ others)
 front_of_part input front rest n le e =
-    let k : n ≡ length front + (n - length front) = omega arith in
-    (take (n - length front) rest, ap (λ i. take i input) k ∙
-    (ap (λ (x : List ℕ). take (length front + (n - length front)) x) e ∙ take-append-add front rest (n - length front)))
+    let k : n ≡ length front + (n - length front) = omega arith in (
+      take (n - length front) rest,
+      ap (λ i. take i input) k ∙
+          (ap (λ (x : List ℕ). take (length front + (n - length front)) x) e ∙ take-append-add front rest (n - length front)),
+    )
 
 pub short_of_part : (width : ℕ) (input rest : List ℕ) → width ≤ 256 → HasBundle width input rest →
     (others : List ℕ) × HasBundle width (take MOST_BYTES input) others
@@ -61,8 +63,8 @@ made_fault_of digest width input bundle.BundleLong le h =
         front = b.front;
         entries = b.entries;
         parts = sym (take-append-drop MOST_BYTES input) ∙
-        (ap (λ (x : List ℕ). x ++ drop MOST_BYTES input) b.parts ∙
-        append_assoc b.front (h.0 ∷ h.1) (drop MOST_BYTES input));
+            (ap (λ (x : List ℕ). x ++ drop MOST_BYTES input) b.parts ∙
+            append_assoc b.front (h.0 ∷ h.1) (drop MOST_BYTES input));
         is_bundle = b.is_bundle;
       },
     )

@@ -10,5 +10,7 @@ returns g c =
     let new = g.O.Write.contents c.write_whole.new.writer in
     let text : c.as_bytes.result.now ≡ listening_text c.args.serve.now.port = c.as_bytes.ensures.value ∙
     c.in-Ok-listening_line.ensures in
-    record { line = subst (λ (b : List ℕ). AppendsPrefix old new b) text
-    (front_of_whole old new c.as_bytes.result.now c.in-Ok-write_whole.ensures.ok) }
+    record {
+      line = subst (λ (b : List ℕ). AppendsPrefix old new b) text
+          (front_of_whole old new c.as_bytes.result.now c.in-Ok-write_whole.ensures.ok);
+    }

@@ -21,10 +21,10 @@ loop-rest-preserved c =
     (ap (λ e. map (λ x. x.items) c.loop-rest.entries.items ++ e ∷ []) pushed) in
     record {
       fits = All-same (λ e. length e < 2 ^ 16) _ _ items
-      (All-push (λ e. length e < 2 ^ 16)
-      (map (λ x. x.items) c.loop-rest.entries.items) c.in-Some.entry.now c.loop-rest.invariant.fits found.0);
+          (All-push (λ e. length e < 2 ^ 16)
+          (map (λ x. x.items) c.loop-rest.entries.items) c.in-Some.entry.now c.loop-rest.invariant.fits found.0);
       text = rw items (joined_push c.args.bytes.now c.loop-rest.rest.now c.in-Some.after.now c.in-Some.entry.now
-      (map (λ x. x.items) c.loop-rest.entries.items) c.loop-rest.invariant.text found.1);
+          (map (λ x. x.items) c.loop-rest.entries.items) c.loop-rest.invariant.text found.1);
       others = λ k h.
           let left = c.loop-rest.invariant.others k h in
           others_left left.0 c.loop-rest.rest.now c.in-Some.entry.now c.in-Some.after.now
