@@ -1,9 +1,12 @@
-//! The tests of what reads and writes streams: `byte_streams`, the client `mirror_http` and the server `mirror_server`.
+//! The tests of what reads and writes streams: `byte_streams`, the client `mirror_http`, the server `mirror_server`, and
+//! both at once.
 //!
 //! They stand in a crate of their own, since a crate's tests are checked together with the crate again. There is no other
 //! code.
 #![tactic(auto)]
 
+#[cfg(test)]
+mod both;
 #[cfg(test)]
 mod client;
 #[cfg(test)]

@@ -32,6 +32,8 @@ mod opening;
 #[cfg(test)]
 mod paths;
 #[cfg(test)]
+mod prefixes;
+#[cfg(test)]
 mod proof_texts;
 #[cfg(test)]
 mod recursion;
