@@ -63,23 +63,21 @@ fn log_parser<'a>(
 ) -> Result<clap::Command<'a>, AllocError>
     ensures { IfOk result (IsParserOf (log_app name.entry.now)) }
 {
-    let origin = option(
-        alloc,
-        "origin",
-        "O",
-        "The origin line of the log's checkpoints",
-    );
-    let keys = option(
-        alloc,
-        "keys",
-        "K",
-        "The file of the keys that its checkpoints are opened with",
-    );
     clap::Command::new(alloc, name)
         .about(about)
         .after_help(after)
-        .arg(origin)?
-        .arg(keys)
+        .arg(option(
+            alloc,
+            "origin",
+            "O",
+            "The origin line of the log's checkpoints",
+        ))?
+        .arg(option(
+            alloc,
+            "keys",
+            "K",
+            "The file of the keys that its checkpoints are opened with",
+        ))
 }
 
 // A command over a mirror that is kept in a file.
@@ -91,8 +89,12 @@ fn held_parser<'a>(
 ) -> Result<clap::Command<'a>, AllocError>
     ensures { IfOk result (IsParserOf (held_app name.entry.now)) }
 {
-    let state = option(alloc, "state", "S", "The file of the mirror's state");
-    log_parser(alloc, name, about, after)?.arg(state)
+    log_parser(alloc, name, about, after)?.arg(option(
+        alloc,
+        "state",
+        "S",
+        "The file of the mirror's state",
+    ))
 }
 
 // A command that writes a mirror to a file.
@@ -104,13 +106,12 @@ fn made_parser<'a>(
 ) -> Result<clap::Command<'a>, AllocError>
     ensures { IfOk result (IsParserOf (made_app name.entry.now)) }
 {
-    let out = option(
+    log_parser(alloc, name, about, after)?.arg(option(
         alloc,
         "out",
         "T",
         "The file that the mirror's state is written to, whole or not at all",
-    );
-    log_parser(alloc, name, about, after)?.arg(out)
+    ))
 }
 
 // A command that writes files of a mirror to a folder.
@@ -122,23 +123,26 @@ fn folder_parser<'a>(
 ) -> Result<clap::Command<'a>, AllocError>
     ensures { IfOk result (IsParserOf (folder_app name.entry.now)) }
 {
-    let folder = option(alloc, "dir", "D", "The folder that is written");
-    held_parser(alloc, name, about, after)?.arg(folder)
+    held_parser(alloc, name, about, after)?.arg(option(
+        alloc,
+        "dir",
+        "D",
+        "The folder that is written",
+    ))
 }
 
 fn root_parser<'a>(alloc: Global) -> Result<clap::Command<'a>, AllocError>
     ensures { IfOk result (IsParserOf root_app) }
 {
-    let width = option(
-        alloc,
-        "width",
-        "W",
-        "How many entries the bundle has, 0 to 256",
-    );
     clap::Command::new(alloc, "root")
         .about("Reads an entry bundle from standard input, and prints its size and its tree hash")
         .after_help(help::ROOT)
-        .arg(width)
+        .arg(option(
+            alloc,
+            "width",
+            "W",
+            "How many entries the bundle has, 0 to 256",
+        ))
 }
 
 fn check_parser<'a>(alloc: Global) -> clap::Command<'a>
@@ -154,152 +158,135 @@ fn check_parser<'a>(alloc: Global) -> clap::Command<'a>
 fn build_parser<'a>(alloc: Global) -> Result<clap::Command<'a>, AllocError>
     ensures { IfOk result (IsParserOf build_app) }
 {
-    let folder = option(alloc, "dir", "D", "The folder that the log is written to");
     log_parser(
         alloc,
         "build",
         "Makes a log of the entries on standard input, and writes its files to a folder",
         help::BUILD,
     )?
-    .arg(folder)
+    .arg(option(alloc, "dir", "D", "The folder that the log is written to"))
 }
 
 fn take_parser<'a>(alloc: Global) -> Result<clap::Command<'a>, AllocError>
     ensures { IfOk result (IsParserOf take_app) }
 {
-    let state = choice(
-        alloc,
-        "state",
-        "S",
-        "The file of the state to begin with; nothing where it is left out",
-    );
-    let width = choice(
-        alloc,
-        "width",
-        "W",
-        "How many hashes or entries the file has, 1 to 256; 256 where it is left out",
-    );
-    let kind = place(
-        alloc,
-        "kind",
-        "KIND",
-        "What the files hold: head, tile or bundle",
-    );
-    let files = list(
-        alloc,
-        "file",
-        "FILE",
-        "The files: one; for a head the note, then the edge rows",
-    );
     made_parser(
         alloc,
         "take",
         "Takes what files hold into a mirror, and writes the mirror's state",
         help::TAKE,
     )?
-    .arg(state)?
-    .arg(width)?
-    .arg(kind)?
-    .arg(files)
+    .arg(choice(
+        alloc,
+        "state",
+        "S",
+        "The file of the state to begin with; nothing where it is left out",
+    ))?
+    .arg(choice(
+        alloc,
+        "width",
+        "W",
+        "How many hashes or entries the file has, 1 to 256; 256 where it is left out",
+    ))?
+    .arg(place(
+        alloc,
+        "kind",
+        "KIND",
+        "What the files hold: head, tile or bundle",
+    ))?
+    .arg(list(
+        alloc,
+        "file",
+        "FILE",
+        "The files: one; for a head the note, then the edge rows",
+    ))
 }
 
 fn merge_parser<'a>(alloc: Global) -> Result<clap::Command<'a>, AllocError>
     ensures { IfOk result (IsParserOf merge_app) }
 {
-    let first = place(alloc, "a", "A", "The file of the first state");
-    let second = place(
-        alloc,
-        "b",
-        "B",
-        "The file of the state that is taken into it",
-    );
     made_parser(
         alloc,
         "merge",
         "Makes one mirror of two, and writes its state",
         help::MERGE,
     )?
-    .arg(first)?
-    .arg(second)
+    .arg(place(alloc, "a", "A", "The file of the first state"))?
+    .arg(place(
+        alloc,
+        "b",
+        "B",
+        "The file of the state that is taken into it",
+    ))
 }
 
 fn pull_parser<'a>(alloc: Global) -> Result<clap::Command<'a>, AllocError>
     ensures { IfOk result (IsParserOf pull_app) }
 {
-    let state = choice(
-        alloc,
-        "state",
-        "S",
-        "The file of the state to begin with; nothing where it is left out",
-    );
-    let kind = place(alloc, "kind", "KIND", "Where from: dir or http");
-    let from = place(
-        alloc,
-        "place",
-        "PLACE",
-        "The folder, or host:port with an optional /prefix",
-    );
     made_parser(
         alloc,
         "pull",
         "Fetches what a log's newest checkpoint lacks, and writes the mirror's state",
         help::PULL,
     )?
-    .arg(state)?
-    .arg(kind)?
-    .arg(from)
+    .arg(choice(
+        alloc,
+        "state",
+        "S",
+        "The file of the state to begin with; nothing where it is left out",
+    ))?
+    .arg(place(alloc, "kind", "KIND", "Where from: dir or http"))?
+    .arg(place(
+        alloc,
+        "place",
+        "PLACE",
+        "The folder, or host:port with an optional /prefix",
+    ))
 }
 
 fn missing_parser<'a>(alloc: Global) -> Result<clap::Command<'a>, AllocError>
     ensures { IfOk result (IsParserOf missing_app) }
 {
-    let size = option(alloc, "size", "N", "The checkpoint's size");
-    let root = option(alloc, "root", "ROOT", "The checkpoint's root, in base64");
     held_parser(
         alloc,
         "missing",
         "Prints the paths that a checkpoint's tree lacks",
         help::MISSING,
     )?
-    .arg(size)?
-    .arg(root)
+    .arg(option(alloc, "size", "N", "The checkpoint's size"))?
+    .arg(option(alloc, "root", "ROOT", "The checkpoint's root, in base64"))
 }
 
 fn prove_parser<'a>(alloc: Global) -> Result<clap::Command<'a>, AllocError>
     ensures { IfOk result (IsParserOf prove_app) }
 {
-    let kind = place(
-        alloc,
-        "kind",
-        "KIND",
-        "What is proved: inclusion or consistency",
-    );
-    let first = place(alloc, "a", "A", "The tree's size, or the smaller size");
-    let second = place(alloc, "b", "B", "The entry's index, or the greater size");
     held_parser(
         alloc,
         "prove",
         "Prints a proof that an entry is in a tree, or that a tree is the front of another",
         help::PROVE,
     )?
-    .arg(kind)?
-    .arg(first)?
-    .arg(second)
+    .arg(place(
+        alloc,
+        "kind",
+        "KIND",
+        "What is proved: inclusion or consistency",
+    ))?
+    .arg(place(alloc, "a", "A", "The tree's size, or the smaller size"))?
+    .arg(place(alloc, "b", "B", "The entry's index, or the greater size"))
 }
 
 fn serve_parser<'a>(alloc: Global) -> Result<clap::Command<'a>, AllocError>
     ensures { IfOk result (IsParserOf serve_app) }
 {
-    let port = option(alloc, "port", "P", "The port on 127.0.0.1, 1 to 65535");
-    let requests = option(alloc, "requests", "N", "How many connections are answered");
     held_parser(
         alloc,
         "serve",
         "Answers over HTTP what the mirror serves",
         help::SERVE,
     )?
-    .arg(port)?
-    .arg(requests)
+    .arg(option(alloc, "port", "P", "The port on 127.0.0.1, 1 to 65535"))?
+    .arg(option(alloc, "requests", "N", "How many connections are answered"))
 }
 
 // The program by its name, what it is for, and its version.

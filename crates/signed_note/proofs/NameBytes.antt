@@ -1,5 +1,5 @@
 -- The bytes of a key's name: as its characters, none is white space in ASCII.
-use Rattle.std.proofs.Common.{◌≡◌, ℕ, ◌<◌, Bool, true, false, not, ◌||◌, nat_eq, ◌&&◌, List, [], ◌∷◌, get_or, refl, ap}
+use Rattle.std.proofs.Common.{◌≡◌, ℕ, ◌<◌, Bool, true, false, not, ◌||◌, nat_eq, List, [], ◌∷◌, get_or, refl, ap}
 use Rattle.std.proofs.Common.{arith, lit<}
 use Rattle.std.specs.List.{list_all}
 use Rattle.std.specs.Char.{is_whitespace}

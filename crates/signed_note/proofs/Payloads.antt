@@ -1,17 +1,15 @@
 -- What a signature line encodes: its base64 and its id.
 use Rattle.std.proofs.Common.{◌≡◌, ◌≢◌, ℕ, zero, suc, ◌+◌, ◌*◌, ◌/◌, ◌%◌, ◌<◌, ◌^◌, Bool, true, List, [], ◌∷◌, ◌++◌}
-use Rattle.std.proofs.Common.{length, replicate, refl, sym, ap, ◌∙◌, arith, length-append}
-use Rattle.std.proofs.lemmas.List.{length-replicate}
+use Rattle.std.proofs.Common.{length, replicate, refl, ◌∙◌, arith}
 use Rattle.std.specs.Prelude.{slice_index}
 use Rattle.std.specs.Int.{w32, from_be_bytes}
 use Rattle.std.proofs.lemmas.Nat.{be_bytes_4, from_be_bytes-to_be_bytes_4}
 use Rattle.std.specs.Str.{IsAscii}
 use Rattle.std.proofs.lemmas.List.Sums.{AllPass-from_list_all}
-use Rattle.base64.specs.Rfc4648.{encode_symbols, padding_len, encode_group, unpadded_len}
+use Rattle.base64.specs.Rfc4648.{encode_symbols, padding_len, encode_group}
 use Rattle.base64.specs.Engines.{standard}
-use Rattle.base64.specs.GeneralPurpose.{engine_symbols, encode_of, decode_of, IsBytes}
-use Rattle.base64.proofs.EngineFacts.{decode_of-encode_of, IsAscii-encode_of}
-use Rattle.base64.proofs.RoundTrip.{length-encode_symbols}
+use Rattle.base64.specs.GeneralPurpose.{engine_symbols, IsBytes}
+use Rattle.base64.proofs.EngineFacts.{IsAscii-encode_of}
 use Rattle.byteorder.specs.Endian.{big_bytes, big_number}
 use Rattle.signed_note.specs.Names.{newline, is_note_char}
 use Rattle.tlog_text.specs.Hash.{base64_of}

@@ -1,7 +1,8 @@
 //! A mirror for one append-only transparency log in the C2SP tlog-tiles layout: the program.
 //!
-//! `main` reads the words of the command line, does the command over the standard streams (`run`), and ends as `told` says: a fault by its name on standard error, and by the exit status: 0 done,
-//! 1 a fault, 2 a command line that asks for nothing that can be done, 3 a no.
+//! `main` reads the words of the command line, does the command over the standard streams (`run`), and ends as `told` says: a
+//! fault by its name on standard error, and by the exit status: 0 done, 1 a fault, 2 a command line that asks for nothing
+//! that can be done, 3 a no.
 #![tactic(auto)]
 
 use command_line::CommandFault;
