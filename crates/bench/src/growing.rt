@@ -1,10 +1,9 @@
 //! A log that grows by one entry at a time, and the heads that it signs.
-ghost use Rattle.std.specs.Prelude.{◌≡◌, [], ◌∷◌, ◌++◌, IfNone, IfOk, IfSome, Some, codes, true};
-ghost use Rattle.tlog_hash.specs.Tree.{fold_of};
+ghost use Rattle.std.specs.Prelude.{codes, true};
 
 use signed_note::Verifier;
 use std::alloc::{AllocError, Global};
-use tlog_hash::{Hash, Sha256Tree, TreeHash, fold};
+use tlog_hash::{Hash, TreeHash, fold};
 use tlog_mirror::{Mirror, TakeFault};
 use tlog_text::{push_hash, push_number};
 use tlog_tiles::write_row;
@@ -50,55 +49,71 @@ impl Log {
     }
 
     /// Adds an entry.
-    pub(crate) fn add(&mut self, entry: &[u8]) -> Result<(), AllocError> {
+    pub(crate) fn add<H: TreeHash>(&mut self, entry: &[u8]) -> Result<(), AllocError> {
         self.size = self.size.wrapping_add(1);
-        let mut value = Sha256Tree::leaf(entry);
+        let mut value = H::leaf(entry);
         for row in self.rows.iter_mut() {
             row.push(value)?;
             if row.len() < 256 {
                 return Ok(());
             }
-            value = fold::<Sha256Tree>(row.as_slice());
+            value = fold::<H>(row.as_slice());
             row.clear();
         }
         Ok(())
     }
 
     /// A mirror takes its head.
-    pub(crate) fn sign_to(
+    pub(crate) fn sign_to<H: TreeHash>(
         &self,
         alloc: Global,
         keys: &[Box<dyn Verifier>],
-        mirror: &mut Mirror<Sha256Tree>,
+        mirror: &mut Mirror<H>,
     ) -> anyhow::Result<()> {
-        let note = self.note(alloc)?;
         let edge = self.edge(alloc)?;
         let mut lent = Vec::new(alloc);
         for row in &edge {
             lent.push(row.as_slice())?;
         }
-        take(alloc, keys, mirror, note.as_bytes(), lent.as_slice())?;
-        Ok(())
+        self.sign_rows(alloc, keys, mirror, lent.as_slice())
+    }
+
+    // A mirror takes its head with those rows.
+    fn sign_rows<H: TreeHash>(
+        &self,
+        alloc: Global,
+        keys: &[Box<dyn Verifier>],
+        mirror: &mut Mirror<H>,
+        rows: &[&[u8]],
+    ) -> anyhow::Result<()> {
+        let note = self.note::<H>(alloc)?;
+        Ok(take(alloc, keys, mirror, note.as_bytes(), rows)?)
     }
 
     // The tree hash of its entries.
-    fn root(&self, alloc: Global) -> Result<Hash, AllocError> {
+    fn root<H: TreeHash>(&self, alloc: Global) -> Result<Hash, AllocError> {
         let mut found = None;
         for row in &self.rows {
-            found = joined::<Sha256Tree>(alloc, row.as_slice(), found)?;
+            found = joined::<H>(alloc, row.as_slice(), found)?;
         }
-        Ok(found.unwrap_or(Sha256Tree::empty()))
+        Ok(found.unwrap_or(H::empty()))
     }
 
     // Its checkpoint's note.
-    fn note(&self, alloc: Global) -> Result<String, AllocError> {
-        let root = self.root(alloc)?;
-        let mut text = String::from_str(alloc, "bench\n")?;
-        push_number(&mut text, self.size)?;
-        text.push_str("\n")?;
-        push_hash(&mut text, &root)?;
-        text.push_str("\n\n\u{2014} b AAAAAQU=\n")?;
+    fn note<H: TreeHash>(&self, alloc: Global) -> Result<String, AllocError> {
+        let root = self.root::<H>(alloc)?;
+        let mut text = String::new(alloc);
+        self.write_note(&mut text, &root)?;
         Ok(text)
+    }
+
+    // Writes its checkpoint's note behind the text.
+    fn write_note(&self, text: &mut String, root: &Hash) -> Result<(), AllocError> {
+        text.push_str("bench\n")?;
+        push_number(text, self.size)?;
+        text.push_str("\n")?;
+        push_hash(text, root)?;
+        text.push_str("\n\n\u{2014} b AAAAAQU=\n")
     }
 
     // The rows of its edge that are not empty, in bytes.
@@ -129,10 +144,7 @@ fn joined<H: TreeHash>(
     alloc: Global,
     row: &[Hash],
     behind: Option<Hash>,
-) -> Result<Option<Hash>, AllocError>
-    ensures alone { IfNone behind (IfOk result (λ found. IfSome found (λ hash. hash ≡ fold_of H.digest row.now))) }
-    ensures more { IfSome behind (λ last. IfOk result (λ found. found ≡ Some (fold_of H.digest (row.now ++ last ∷ [])))) }
-{
+) -> Result<Option<Hash>, AllocError> {
     let mut hashes = Vec::from_slice(alloc, row)?;
     if let Some(hash) = behind {
         hashes.push(hash)?;

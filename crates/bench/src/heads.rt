@@ -1,12 +1,14 @@
 //! The heads of one log that grows, and their forks.
 ghost use Rattle.std.specs.Prelude.{◌≡◌, ◌<◌, ◌≤◌, ◌*◌, count_by, length, IfOk};
 
+use crate::clock::{now, since, tell_since};
 use crate::growing::{AnyKey, Log};
-use bench_base::{now, since, tell};
+use crate::list::empty;
+use crate::pulls::settle_told;
 use signed_note::Verifier;
 use std::alloc::{AllocError, Global};
 use std::time::CpuClock;
-use tlog_hash::{Sha256Tree, TreeHash};
+use tlog_hash::TreeHash;
 use tlog_mirror::{Head, Mirror, TakeFault};
 
 // How many entries a full bundle has.
@@ -15,20 +17,29 @@ const WIDTH: u32 = 256;
 // How many heads are walked at most. Before they are settled each is walked whole, so that the time rises by the square.
 const MOST_WALKED: u32 = 2000;
 
-/// Lets a mirror take so many heads, each of one entry more, and their entries; then tells heads and forks, if they are not
-/// too many, settles, and tells them again.
-pub(crate) fn measure_heads<R: AllocGlobal + CpuClock + Print + Eprint>(
+/// Lets a mirror take a tenth of so many heads, and another so many.
+pub(crate) fn measure_heads<H: TreeHash, R: AllocGlobal + CpuClock + Print + Eprint>(
     rt: &R,
     count: u32,
 ) -> anyhow::Result<()> {
-    let mut mirror = Mirror::<Sha256Tree>::new(rt.alloc(), "bench")?;
+    measure_empty::<H, R>(rt, count / 10)?;
+    measure_empty::<H, R>(rt, count)
+}
+
+// Lets a mirror take so many heads, each of one entry more, and their entries; then tells heads and forks, if they are not
+// too many, settles, and tells them again.
+fn measure_empty<H: TreeHash, R: AllocGlobal + CpuClock + Print + Eprint>(
+    rt: &R,
+    count: u32,
+) -> anyhow::Result<()> {
+    let mut mirror = empty::<H>(rt.alloc())?;
     measure(rt, &mut mirror, count)
 }
 
 // Lets a mirror that holds nothing take so many heads and their entries, and tells what that costs.
-fn measure<R: AllocGlobal + CpuClock + Print + Eprint>(
+fn measure<H: TreeHash, R: AllocGlobal + CpuClock + Print + Eprint>(
     rt: &R,
-    mirror: &mut Mirror<Sha256Tree>,
+    mirror: &mut Mirror<H>,
     count: u32,
 ) -> anyhow::Result<()> {
     let taking = take_told(rt, mirror, count)?;
@@ -41,9 +52,9 @@ fn measure<R: AllocGlobal + CpuClock + Print + Eprint>(
 }
 
 // Takes so many heads, tells the time that it took, and answers it.
-fn take_told<R: AllocGlobal + CpuClock + Eprint>(
+fn take_told<H: TreeHash, R: AllocGlobal + CpuClock + Eprint>(
     rt: &R,
-    mirror: &mut Mirror<Sha256Tree>,
+    mirror: &mut Mirror<H>,
     count: u32,
 ) -> anyhow::Result<u128> {
     let start = now(rt)?;
@@ -53,23 +64,10 @@ fn take_told<R: AllocGlobal + CpuClock + Eprint>(
     Ok(taking)
 }
 
-// Settles the heads, and tells how much is remembered.
-fn settle_told<R: AllocGlobal + CpuClock + Print + Eprint>(
-    rt: &R,
-    mirror: &mut Mirror<Sha256Tree>,
-    taking: u128,
-) -> anyhow::Result<()> {
-    let start = now(rt)?;
-    let remembered = settle(rt.alloc(), mirror)?;
-    tell(rt, "  settling, ns", since(rt, start)?, taking)?;
-    println!(rt; "{remembered} remembered")?;
-    Ok(())
-}
-
 // Tells whether anything is served, the heads, and the forks.
-fn tell_all<R: AllocGlobal + CpuClock + Print + Eprint>(
+fn tell_all<H: TreeHash, R: AllocGlobal + CpuClock + Print + Eprint>(
     rt: &R,
-    mirror: &Mirror<Sha256Tree>,
+    mirror: &Mirror<H>,
     taking: u128,
 ) -> anyhow::Result<()> {
     tell_top(rt, mirror, taking)?;
@@ -78,47 +76,42 @@ fn tell_all<R: AllocGlobal + CpuClock + Print + Eprint>(
 }
 
 // Tells whether anything is served.
-fn tell_top<R: CpuClock + Print + Eprint>(
+fn tell_top<H: TreeHash, R: CpuClock + Print + Eprint>(
     rt: &R,
-    mirror: &Mirror<Sha256Tree>,
+    mirror: &Mirror<H>,
     taking: u128,
 ) -> anyhow::Result<()> {
     let start = now(rt)?;
-    let served = is_served(mirror);
-    tell(rt, "  what is served, ns", since(rt, start)?, taking)?;
+    let served = mirror.top().is_some();
+    tell_since(rt, "  what is served, ns", start, taking)?;
     println!(rt; "served {served}")?;
     Ok(())
 }
 
 // Tells how many heads there are, and how many of them are complete.
-fn tell_heads<R: AllocGlobal + CpuClock + Print + Eprint>(
+fn tell_heads<H: TreeHash, R: AllocGlobal + CpuClock + Print + Eprint>(
     rt: &R,
-    mirror: &Mirror<Sha256Tree>,
+    mirror: &Mirror<H>,
     taking: u128,
 ) -> anyhow::Result<()> {
     let start = now(rt)?;
     let (heads, complete) = head_counts(rt.alloc(), mirror)?;
-    tell(rt, "  heads, ns", since(rt, start)?, taking)?;
+    tell_since(rt, "  heads, ns", start, taking)?;
     println!(rt; "{heads} heads, {complete} complete")?;
     Ok(())
 }
 
 // Tells how many forks there are.
-fn tell_forks<R: AllocGlobal + CpuClock + Print + Eprint>(
+fn tell_forks<H: TreeHash, R: AllocGlobal + CpuClock + Print + Eprint>(
     rt: &R,
-    mirror: &Mirror<Sha256Tree>,
+    mirror: &Mirror<H>,
     taking: u128,
 ) -> anyhow::Result<()> {
     let start = now(rt)?;
-    let forks = fork_count(rt.alloc(), mirror)?;
-    tell(rt, "  forks, ns", since(rt, start)?, taking)?;
+    let forks = mirror.forks(rt.alloc())?.len();
+    tell_since(rt, "  forks, ns", start, taking)?;
     println!(rt; "{forks} forks")?;
     Ok(())
-}
-
-// Whether anything is served.
-fn is_served<H: TreeHash>(mirror: &Mirror<H>) -> bool {
-    mirror.top().is_some()
 }
 
 // How many heads there are, and how many of them are complete.
@@ -137,31 +130,38 @@ fn count_complete(heads: &[Head]) -> usize
     heads.iter().filter(|head| head.complete).count()
 }
 
-// How many forks there are.
-fn fork_count<H: TreeHash>(alloc: Global, mirror: &Mirror<H>) -> Result<usize, AllocError> {
-    Ok(mirror.forks(alloc)?.len())
-}
-
-// Settles the heads, and answers how much is remembered.
-fn settle<H: TreeHash>(alloc: Global, mirror: &mut Mirror<H>) -> Result<usize, AllocError> {
-    mirror.settle(alloc)?;
-    Ok(mirror.remembered())
-}
-
 // Takes the heads of a log of so many entries.
-fn take_heads(alloc: Global, mirror: &mut Mirror<Sha256Tree>, count: u32) -> anyhow::Result<()> {
+fn take_heads<H: TreeHash>(
+    alloc: Global,
+    mirror: &mut Mirror<H>,
+    count: u32,
+) -> anyhow::Result<()> {
     let mut keys: Vec<Box<dyn Verifier>> = Vec::new(alloc);
     keys.push(Box::new(alloc, AnyKey)?)?;
+    take_under(alloc, mirror, keys.as_slice(), count)
+}
+
+// Takes the heads of a log of so many entries, under those keys.
+fn take_under<H: TreeHash>(
+    alloc: Global,
+    mirror: &mut Mirror<H>,
+    keys: &[Box<dyn Verifier>],
+    count: u32,
+) -> anyhow::Result<()> {
     let mut log = Log::new(alloc)?;
     for number in 0..count {
-        log.add(&number.to_be_bytes())?;
-        log.sign_to(alloc, keys.as_slice(), mirror)?;
+        log.add::<H>(&number.to_be_bytes())?;
+        log.sign_to(alloc, keys, mirror)?;
     }
     Ok(())
 }
 
 // Takes so many entries, in bundles.
-fn take_entries(alloc: Global, mirror: &mut Mirror<Sha256Tree>, count: u32) -> anyhow::Result<()> {
+fn take_entries<H: TreeHash>(
+    alloc: Global,
+    mirror: &mut Mirror<H>,
+    count: u32,
+) -> anyhow::Result<()> {
     for index in 0..count / WIDTH {
         let bundle = bundle_of(alloc, index.wrapping_mul(WIDTH), WIDTH)?;
         take_bundle(alloc, mirror, WIDTH, bundle.as_slice())?;

@@ -1,50 +1,55 @@
 //! What it costs to hold strings in a store.
-ghost use Rattle.std.specs.Prelude.{◌≡◌, ◌/◌, ◌<◌, ◌≤◌};
+ghost use Rattle.std.specs.Prelude.{◌≡◌, ◌/◌, ◌<◌};
 
+use crate::clock::{now, ratio, resident_bytes, since, tell_since};
 use crate::sample::{Kind, Sample, digest_of};
-use bench_base::{now, ratio, resident_bytes, since, tell};
 use node_store::Store;
 use std::alloc::Global;
 use std::io;
 use std::rt::Files;
 use std::time::CpuClock;
-use tlog_hash::{Sha256Tree, TreeHash};
+use tlog_hash::TreeHash;
 
 /// Hashes so many strings of each kind, and adds them to a store.
-pub(crate) fn measure_store<R: AllocGlobal + CpuClock + Files + Print + Eprint>(
+pub(crate) fn measure_store<H: TreeHash, R: AllocGlobal + CpuClock + Files + Print + Eprint>(
     rt: &R,
     count: u32,
-) -> io::Result<()> {
-    measure_kind(rt, Kind::Pair, count)?;
-    measure_kind(rt, Kind::Entry, count)
+) -> anyhow::Result<()> {
+    measure_kind::<H, R>(rt, Kind::Pair, count)?;
+    measure_kind::<H, R>(rt, Kind::Entry, count)?;
+    Ok(())
 }
 
 // Hashes so many strings of a kind, adds them to a store, and adds all of that store to another.
-fn measure_kind<R: AllocGlobal + CpuClock + Files + Print + Eprint>(
+fn measure_kind<H: TreeHash, R: AllocGlobal + CpuClock + Files + Print + Eprint>(
     rt: &R,
     kind: Kind,
     count: u32,
 ) -> io::Result<()> {
-    let hashing = hash_told(rt, kind, count)?;
-    let mut store = Store::<Sha256Tree>::new(rt.alloc());
+    let hashing = hash_told::<H, R>(rt, kind, count)?;
+    let mut store = Store::<H>::new(rt.alloc());
     add_told(rt, &mut store, kind, count, hashing)?;
     copy_told(rt, &store, hashing)
 }
 
 // Hashes so many strings, tells the time that it took, and answers it.
-fn hash_told<R: CpuClock + Eprint>(rt: &R, kind: Kind, count: u32) -> io::Result<u128> {
+fn hash_told<H: TreeHash, R: CpuClock + Eprint>(
+    rt: &R,
+    kind: Kind,
+    count: u32,
+) -> io::Result<u128> {
     let name = kind.name();
     let start = now(rt)?;
-    let mark = hash_each(kind, count);
+    let mark = hash_each::<H>(kind, count);
     let hashing = since(rt, start)?;
     eprintln!(rt; "{count} {name}: hashing takes {hashing} ns ({mark}), and of it")?;
     Ok(hashing)
 }
 
 // Adds so many strings, and tells the time that it took and the memory that they take.
-fn add_told<R: AllocGlobal + CpuClock + Files + Print + Eprint>(
+fn add_told<H: TreeHash, R: AllocGlobal + CpuClock + Files + Print + Eprint>(
     rt: &R,
-    store: &mut Store<Sha256Tree>,
+    store: &mut Store<H>,
     kind: Kind,
     count: u32,
     hashing: u128,
@@ -53,11 +58,15 @@ fn add_told<R: AllocGlobal + CpuClock + Files + Print + Eprint>(
     let before = resident_bytes(rt);
     let start = now(rt)?;
     let added = add_each(store, kind, count);
-    tell(rt, "  adding, ns", since(rt, start)?, hashing)?;
-    let memory = resident_bytes(rt).saturating_sub(before);
-    let each = share_of(memory, count);
-    eprintln!(rt; "  {memory} bytes, {each} for each")?;
+    tell_since(rt, "  adding, ns", start, hashing)?;
+    tell_memory(rt, resident_bytes(rt).saturating_sub(before), count)?;
     println!(rt; "{added} {name} added, {} held", store.len())
+}
+
+// Tells how much memory so many strings take.
+fn tell_memory(rt: &impl Eprint, memory: u64, count: u32) -> io::Result<()> {
+    let each = share_of(memory, count);
+    eprintln!(rt; "  {memory} bytes, {each} for each")
 }
 
 // How many of the bytes fall to each of so many.
@@ -68,19 +77,14 @@ fn share_of(bytes: u64, count: u32) -> u128
 }
 
 // Adds all of a store to another, and tells the time that it took.
-fn copy_told<R: AllocGlobal + CpuClock + Print + Eprint>(
+fn copy_told<H: TreeHash, R: AllocGlobal + CpuClock + Print + Eprint>(
     rt: &R,
-    store: &Store<Sha256Tree>,
+    store: &Store<H>,
     hashing: u128,
 ) -> io::Result<()> {
     let start = now(rt)?;
     let held = copied_count(rt.alloc(), store);
-    tell(
-        rt,
-        "  adding all to another store, ns",
-        since(rt, start)?,
-        hashing,
-    )?;
+    tell_since(rt, "  adding all to another store, ns", start, hashing)?;
     println!(rt; "{held} in another store")
 }
 
@@ -92,20 +96,18 @@ fn copied_count<H: TreeHash>(alloc: Global, store: &Store<H>) -> usize {
 }
 
 // Hashes so many strings. The result keeps the work from being left out.
-fn hash_each(kind: Kind, count: u32) -> u8 {
+fn hash_each<H: TreeHash>(kind: Kind, count: u32) -> u8 {
     let mut sample = Sample::new();
     let mut mark = 0u8;
     for number in 0..count {
         sample.set(number);
-        mark ^= digest_of::<Sha256Tree>(sample.string(kind))[0];
+        mark ^= digest_of::<H>(sample.string(kind))[0];
     }
     mark
 }
 
 // Adds so many strings, and answers how many times that was Ok.
-fn add_each(store: &mut Store<Sha256Tree>, kind: Kind, count: u32) -> u32
-    ensures { result ≤ count }
-{
+fn add_each<H: TreeHash>(store: &mut Store<H>, kind: Kind, count: u32) -> u32 {
     let mut sample = Sample::new();
     let mut added = 0u32;
     for number in 0..count {

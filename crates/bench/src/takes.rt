@@ -1,35 +1,34 @@
 //! Takes of bundles.
 ghost use Rattle.std.specs.Prelude.{◌≡◌, ◌/◌};
 
+use crate::clock::{now, since, tell};
 use crate::heads::take_bundle;
-use bench_base::{begin, entries_of, hash_tree, now, since, tell};
+use crate::pulls::source_told;
 use log_sources::{ListSource, Source, SourceFault};
 use std::time::CpuClock;
-use tlog_hash::Sha256Tree;
+use tlog_hash::TreeHash;
 use tlog_mirror::Mirror;
 use tlog_tiles::Path;
 
 // How many entries a full bundle has.
 const WIDTH: u32 = 256;
 
-/// Lets a mirror take all full bundles of a log of so many entries, each twice.
-pub(crate) fn measure_takes<R: AllocGlobal + CpuClock + Print + Eprint>(
+/// Lets an empty mirror take all full bundles of a log of so many entries, each twice.
+pub(crate) fn measure_takes<H: TreeHash, R: AllocGlobal + CpuClock + Print + Eprint>(
     rt: &R,
+    mirror: &mut Mirror<H>,
     count: u32,
 ) -> anyhow::Result<()> {
     let bundles = full_bundles(count);
-    let entries = entries_of(rt.alloc(), bundles * WIDTH)?;
-    let (hashing, _root) = hash_tree(rt, entries.as_slice())?;
-    eprintln!(rt; "{bundles} bundles: hashing their tree takes {hashing} ns, and of it")?;
-    let (mut mirror, mut source) = begin(rt.alloc(), entries)?;
-    take_all(rt, &mut mirror, &mut source, bundles, hashing)
+    let (mut source, hashing, _root) = source_told::<H, R>(rt, bundles * WIDTH)?;
+    take_all(rt, mirror, &mut source, bundles, hashing)
 }
 
 // Takes so many bundles of the source, each twice, and tells the time that it took.
-fn take_all<R: AllocGlobal + CpuClock + Print + Eprint>(
+fn take_all<H: TreeHash, R: AllocGlobal + CpuClock + Print + Eprint>(
     rt: &R,
-    mirror: &mut Mirror<Sha256Tree>,
-    source: &mut ListSource<Sha256Tree>,
+    mirror: &mut Mirror<H>,
+    source: &mut ListSource<H>,
     bundles: u32,
     hashing: u128,
 ) -> anyhow::Result<()> {
@@ -41,10 +40,10 @@ fn take_all<R: AllocGlobal + CpuClock + Print + Eprint>(
 }
 
 // Takes so many bundles of the source, each twice, and answers the time of the first takes and that of the second.
-fn take_each<R: AllocGlobal + CpuClock>(
+fn take_each<H: TreeHash, R: AllocGlobal + CpuClock>(
     rt: &R,
-    mirror: &mut Mirror<Sha256Tree>,
-    source: &mut ListSource<Sha256Tree>,
+    mirror: &mut Mirror<H>,
+    source: &mut ListSource<H>,
     bundles: u32,
 ) -> anyhow::Result<(u128, u128)> {
     let mut taking = 0u128;
@@ -79,9 +78,9 @@ fn bundle_path(index: u32) -> Path {
 }
 
 // Takes a bundle, and answers the time that it took.
-fn take<R: AllocGlobal + CpuClock>(
+fn take<H: TreeHash, R: AllocGlobal + CpuClock>(
     rt: &R,
-    mirror: &mut Mirror<Sha256Tree>,
+    mirror: &mut Mirror<H>,
     bundle: &[u8],
 ) -> anyhow::Result<u128> {
     let start = now(rt)?;

@@ -1,6 +1,6 @@
 use Rattle.std.proofs.Common.{◌≡◌, length, map}
 use Rattle.mirror_model.specs.TrueLaws.{AreShort}
-use Rattle.bench_base.proofs.list.entries_of.Given as goal
+use Rattle.bench.proofs.list.entries_of.Given as goal
 
 -- so many entries so far, and each has 100 bytes
 abbrev pub invariant-loop-number : goal.invariant-loop-number

@@ -9,17 +9,17 @@ use std::{fs, io};
 const PAGE: u64 = 4096;
 
 /// The processor time of this process, in nanoseconds. Other programs count little in it.
-pub fn now(rt: &impl CpuClock) -> io::Result<u128> {
+pub(crate) fn now(rt: &impl CpuClock) -> io::Result<u128> {
     Ok(rt.process_cpu_time()?.as_nanos())
 }
 
 /// The processor time since then.
-pub fn since(rt: &impl CpuClock, start: u128) -> io::Result<u128> {
+pub(crate) fn since(rt: &impl CpuClock, start: u128) -> io::Result<u128> {
     Ok(now(rt)?.saturating_sub(start))
 }
 
 /// The quotient, 0 where it has none.
-pub fn ratio(above: u128, below: u128) -> u128
+pub(crate) fn ratio(above: u128, below: u128) -> u128
     ensures some { below ≢ 0 → result ≡ above / below }
     ensures none { below ≡ 0 → result ≡ 0 }
 {
@@ -27,7 +27,7 @@ pub fn ratio(above: u128, below: u128) -> u128
 }
 
 /// Tells on standard error how much that is, and how many times the unit.
-pub fn tell(rt: &impl Eprint, name: &str, amount: u128, unit: u128) -> io::Result<()> {
+pub(crate) fn tell(rt: &impl Eprint, name: &str, amount: u128, unit: u128) -> io::Result<()> {
     let hundredths = ratio(amount.saturating_mul(100), unit);
     eprintln!(rt;
         "{name}: {amount}, {}.{:02} times",
@@ -36,11 +36,21 @@ pub fn tell(rt: &impl Eprint, name: &str, amount: u128, unit: u128) -> io::Resul
     )
 }
 
+/// Tells on standard error how much time went since then, and how many times the unit.
+pub(crate) fn tell_since<R: CpuClock + Eprint>(
+    rt: &R,
+    name: &str,
+    start: u128,
+    unit: u128,
+) -> io::Result<()> {
+    tell(rt, name, since(rt, start)?, unit)
+}
+
 /// The memory of this process that is resident: the second number of Linux's statm, in pages. It is 0
 /// where there is none.
 ///
 /// What a growth took on the way and gave back is not in it, nor is room that was reserved and not touched.
-pub fn resident_bytes<R: AllocGlobal + Files>(rt: &R) -> u64 {
+pub(crate) fn resident_bytes<R: AllocGlobal + Files>(rt: &R) -> u64 {
     let Ok(text) = fs::read_to_string(rt, "/proc/self/statm") else {
         return 0;
     };

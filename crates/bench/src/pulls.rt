@@ -2,96 +2,74 @@
 ghost use Rattle.std.specs.Prelude.{◌≡◌, ◌+◌, ◌-◌, ◌*◌, map};
 ghost use Rattle.mirror_model.specs.TrueLaws.{AreShort};
 
-use bench_base::{ORIGIN, begin, entries_of, hash_tree, key, now, resident_bytes, since, tell};
+use crate::clock::{now, resident_bytes, tell, tell_since};
+use crate::list::{entries_of, hash_tree, keys_of, source_of};
 use log_sources::ListSource;
 use mirror_pull::{PullFault, Pulled, pull};
 use signed_note::Verifier;
 use std::alloc::{AllocError, Global};
-use std::io;
 use std::rt::Files;
 use std::time::CpuClock;
-use tlog_hash::{Hash, Sha256Tree, TreeHash};
-use tlog_mirror::{Mirror, NewFault};
+use tlog_hash::{Hash, TreeHash};
+use tlog_mirror::Mirror;
 
 // How many entries the log grows by.
 const GROWTH: u32 = 256;
 
-/// Pulls a log of so many entries, walks it and settles it; then the same of the log some entries later.
-pub(crate) fn measure_pulls<R: AllocGlobal + CpuClock + Files + Print + Eprint>(
+/// Lets an empty mirror pull a log of so many entries, walks it and settles it; then the same of the log some entries
+/// later.
+pub(crate) fn measure_pulls<H: TreeHash, R: AllocGlobal + CpuClock + Files + Print + Eprint>(
     rt: &R,
+    mirror: &mut Mirror<H>,
     count: u32,
 ) -> anyhow::Result<()> {
-    let mut mirror = empty(rt.alloc())?;
-    pull_first(rt, &mut mirror, count)?;
-    grow(rt, &mut mirror, count.saturating_add(GROWTH))
+    pull_first(rt, mirror, count)?;
+    grow(rt, mirror, count.saturating_add(GROWTH))
 }
 
-/// A mirror that holds nothing.
-pub(crate) fn empty(alloc: Global) -> Result<Mirror<Sha256Tree>, NewFault> {
-    Mirror::new(alloc, ORIGIN)
-}
-
-// A source over that many entries, the time that hashing their tree takes, and its root.
-fn source_told<R: AllocGlobal + CpuClock + Eprint>(
+/// A source over that many entries, the time that hashing their tree takes, and its root.
+pub(crate) fn source_told<H: TreeHash, R: AllocGlobal + CpuClock + Eprint>(
     rt: &R,
     count: u32,
-) -> anyhow::Result<(ListSource<Sha256Tree>, u128, Hash)> {
+) -> anyhow::Result<(ListSource<H>, u128, Hash)> {
     let entries = entries_of(rt.alloc(), count)?;
-    let (hashing, root) = hash_told(rt, entries.as_slice())?;
-    let source = made_told(rt, entries, hashing)?;
+    let (hashing, root) = hash_told::<H, R>(rt, entries.as_slice())?;
+    let source = made_told::<H, R>(rt, entries, hashing)?;
     Ok((source, hashing, root))
 }
 
 /// The time that hashing the tree of the entries takes, which it tells, and the tree's root.
-pub(crate) fn hash_told<R: AllocGlobal + CpuClock + Eprint>(
+pub(crate) fn hash_told<H: TreeHash, R: AllocGlobal + CpuClock + Eprint>(
     rt: &R,
     entries: &[Vec<u8>],
 ) -> anyhow::Result<(u128, Hash)> {
-    let (hashing, root) = hash_tree(rt, entries)?;
+    let (hashing, root) = hash_tree::<H, R>(rt, entries)?;
     let count = entries.len();
     eprintln!(rt; "{count} entries: hashing their tree takes {hashing} ns, and of it")?;
     Ok((hashing, root))
 }
 
 // A source over the entries, and how long it took to make it.
-fn made_told<R: AllocGlobal + CpuClock + Eprint>(
+fn made_told<H: TreeHash, R: AllocGlobal + CpuClock + Eprint>(
     rt: &R,
     entries: Vec<Vec<u8>>,
     hashing: u128,
-) -> anyhow::Result<ListSource<Sha256Tree>>
+) -> anyhow::Result<ListSource<H>>
     requires { AreShort (map (λ e. e.items) entries.items) }
 {
     let start = now(rt)?;
-    let source = source_of(rt.alloc(), entries)?;
+    let source = source_of::<H>(rt.alloc(), entries)?;
     tell_since(rt, "  a source over them, ns", start, hashing)?;
     Ok(source)
 }
 
-// A source over the entries.
-fn source_of(alloc: Global, entries: Vec<Vec<u8>>) -> anyhow::Result<ListSource<Sha256Tree>>
-    requires { AreShort (map (λ e. e.items) entries.items) }
-{
-    let (_empty, source) = begin(alloc, entries)?;
-    Ok(source)
-}
-
-// Tells how much time went since then.
-fn tell_since<R: CpuClock + Eprint>(
-    rt: &R,
-    name: &str,
-    start: u128,
-    hashing: u128,
-) -> io::Result<()> {
-    tell(rt, name, since(rt, start)?, hashing)
-}
-
 // Pulls a log of so many entries, walks it and settles it, and tells what memory it takes.
-fn pull_first<R: AllocGlobal + CpuClock + Files + Print + Eprint>(
+fn pull_first<H: TreeHash, R: AllocGlobal + CpuClock + Files + Print + Eprint>(
     rt: &R,
-    mirror: &mut Mirror<Sha256Tree>,
+    mirror: &mut Mirror<H>,
     count: u32,
 ) -> anyhow::Result<()> {
-    let (mut source, hashing, root) = source_told(rt, count)?;
+    let (mut source, hashing, root) = source_told::<H, R>(rt, count)?;
     let before = resident_bytes(rt);
     pull_told(rt, mirror, &mut source, hashing)?;
     let pulled = resident_bytes(rt).saturating_sub(before);
@@ -122,21 +100,21 @@ fn tell_memory<R: Eprint>(rt: &R, count: u32, pulled: u64, settled: u64) -> anyh
 }
 
 // Pulls a larger head of the log, and settles it.
-fn grow<R: AllocGlobal + CpuClock + Print + Eprint>(
+fn grow<H: TreeHash, R: AllocGlobal + CpuClock + Print + Eprint>(
     rt: &R,
-    mirror: &mut Mirror<Sha256Tree>,
+    mirror: &mut Mirror<H>,
     count: u32,
 ) -> anyhow::Result<()> {
-    let (mut source, hashing, _root) = source_told(rt, count)?;
+    let (mut source, hashing, _root) = source_told::<H, R>(rt, count)?;
     pull_told(rt, mirror, &mut source, hashing)?;
     settle_told(rt, mirror, hashing)
 }
 
 // Pulls all that the source has, and tells what it came to.
-fn pull_told<R: AllocGlobal + CpuClock + Print + Eprint>(
+fn pull_told<H: TreeHash, R: AllocGlobal + CpuClock + Print + Eprint>(
     rt: &R,
-    mirror: &mut Mirror<Sha256Tree>,
-    source: &mut ListSource<Sha256Tree>,
+    mirror: &mut Mirror<H>,
+    source: &mut ListSource<H>,
     hashing: u128,
 ) -> anyhow::Result<()> {
     let start = now(rt)?;
@@ -150,26 +128,21 @@ fn pull_told<R: AllocGlobal + CpuClock + Print + Eprint>(
 }
 
 // Walks through the tree of a head, twice: whether it is held, and what is missing of it.
-fn walk_told<R: AllocGlobal + CpuClock + Print + Eprint>(
+fn walk_told<H: TreeHash, R: AllocGlobal + CpuClock + Print + Eprint>(
     rt: &R,
-    mirror: &Mirror<Sha256Tree>,
+    mirror: &Mirror<H>,
     size: u64,
     root: &Hash,
     hashing: u128,
 ) -> anyhow::Result<()> {
     let start = now(rt)?;
-    let complete = is_complete(mirror, size, root);
+    let complete = mirror.is_complete(size, root);
     tell_since(rt, "  is it complete, ns", start, hashing)?;
     let start = now(rt)?;
     let missing = missing_count(rt.alloc(), mirror, size, root)?;
     tell_since(rt, "  what is missing, ns", start, hashing)?;
     println!(rt; "complete {complete}, {missing} missing")?;
     Ok(())
-}
-
-/// Whether the head is complete.
-pub(crate) fn is_complete<H: TreeHash>(mirror: &Mirror<H>, size: u64, root: &Hash) -> bool {
-    mirror.is_complete(size, root)
 }
 
 // How many paths are missing of a head, and no such number where the mirror does not have it.
@@ -185,15 +158,15 @@ fn missing_count<H: TreeHash>(
     }
 }
 
-// Settles the heads, and tells how much is remembered.
-fn settle_told<R: AllocGlobal + CpuClock + Print + Eprint>(
+/// Settles the heads, and tells how much is remembered.
+pub(crate) fn settle_told<H: TreeHash, R: AllocGlobal + CpuClock + Print + Eprint>(
     rt: &R,
-    mirror: &mut Mirror<Sha256Tree>,
-    hashing: u128,
+    mirror: &mut Mirror<H>,
+    unit: u128,
 ) -> anyhow::Result<()> {
     let start = now(rt)?;
     let remembered = settle(rt.alloc(), mirror)?;
-    tell_since(rt, "  settling, ns", start, hashing)?;
+    tell_since(rt, "  settling, ns", start, unit)?;
     println!(rt; "{remembered} remembered")?;
     Ok(())
 }
@@ -214,14 +187,13 @@ fn string_bytes(count: u32) -> u64
     101 * u64::from(count) + 65 * u64::from(count).saturating_sub(1)
 }
 
-/// Pulls all that the source has.
-pub(crate) fn pull_all(
+// Pulls all that the source has.
+fn pull_all<H: TreeHash>(
     alloc: Global,
-    mirror: &mut Mirror<Sha256Tree>,
-    source: &mut ListSource<Sha256Tree>,
+    mirror: &mut Mirror<H>,
+    source: &mut ListSource<H>,
 ) -> anyhow::Result<Pulled> {
-    let mut keys: Vec<Box<dyn Verifier>> = Vec::new(alloc);
-    keys.push(Box::new(alloc, key(alloc)?)?)?;
+    let keys = keys_of(alloc)?;
     Ok(pull_under(alloc, mirror, keys.as_slice(), source)?)
 }
 
@@ -236,11 +208,11 @@ fn pull_under<H: TreeHash>(
 }
 
 /// Lets an empty mirror pull the first entries, as many as that, and answers its head's root.
-pub(crate) fn fill(
+pub(crate) fn fill<H: TreeHash>(
     alloc: Global,
-    mirror: &mut Mirror<Sha256Tree>,
+    mirror: &mut Mirror<H>,
     count: u32,
 ) -> anyhow::Result<Hash> {
-    let mut source = source_of(alloc, entries_of(alloc, count)?)?;
+    let mut source = source_of::<H>(alloc, entries_of(alloc, count)?)?;
     Ok(pull_all(alloc, mirror, &mut source)?.root)
 }

@@ -1,12 +1,12 @@
 //! What is served: tiles, bundles, proofs and the checkpoint, and the replies that carry them.
 ghost use Rattle.std.specs.Prelude.{◌≡◌, ◌<◌};
 
-use crate::pulls::{empty, fill, is_complete, settle};
-use bench_base::{now, ratio, since, tell};
+use crate::clock::{now, ratio, since, tell_since};
+use crate::pulls::{fill, settle};
 use mirror_server::{HttpFault, answer};
 use std::alloc::{AllocError, Global};
 use std::time::CpuClock;
-use tlog_hash::{Hash, Sha256Tree, TreeHash};
+use tlog_hash::{Hash, TreeHash};
 use tlog_mirror::Mirror;
 use tlog_proof::{Ask, prove};
 use tlog_tiles::Path;
@@ -33,27 +33,28 @@ enum Part {
     Proof { size: u64, index: u64 },
 }
 
-/// Asks a settled mirror of so many entries for its parts, and then for the replies that carry them.
-pub(crate) fn measure_served<R: AllocGlobal + CpuClock + Print + Eprint>(
+/// Lets an empty mirror pull so many entries, and asks it, settled, for its parts, and then for the replies that carry
+/// them.
+pub(crate) fn measure_served<H: TreeHash, R: AllocGlobal + CpuClock + Print + Eprint>(
     rt: &R,
+    mirror: &mut Mirror<H>,
     count: u32,
 ) -> anyhow::Result<()> {
-    let mut mirror = empty(rt.alloc())?;
-    let root = fill(rt.alloc(), &mut mirror, count)?;
-    let look_ups = walk_told(rt, &mirror, count, &root)?;
-    let _remembered = settle(rt.alloc(), &mut mirror)?;
-    measure_kinds(rt, &mirror, count, look_ups)
+    let root = fill(rt.alloc(), mirror, count)?;
+    let look_ups = walk_told(rt, mirror, count, &root)?;
+    let _remembered = settle(rt.alloc(), mirror)?;
+    measure_kinds(rt, mirror, count, look_ups)
 }
 
 // Walks through the tree of the head, and answers the time of so many look-ups as parts are asked for.
-fn walk_told<R: CpuClock + Print + Eprint>(
+fn walk_told<H: TreeHash, R: CpuClock + Print + Eprint>(
     rt: &R,
-    mirror: &Mirror<Sha256Tree>,
+    mirror: &Mirror<H>,
     count: u32,
     root: &Hash,
 ) -> anyhow::Result<u128> {
     let start = now(rt)?;
-    let complete = is_complete(mirror, u64::from(count), root);
+    let complete = mirror.is_complete(u64::from(count), root);
     let look_ups = look_ups_of(since(rt, start)?, count);
     println!(rt; "{count} entries, complete {complete}")?;
     eprintln!(rt; "{count} entries: {TIMES} look-ups take {look_ups} ns, and of it {TIMES} times")?;
@@ -61,9 +62,9 @@ fn walk_told<R: CpuClock + Print + Eprint>(
 }
 
 // Asks for the parts of each kind.
-fn measure_kinds<R: AllocGlobal + CpuClock + Print + Eprint>(
+fn measure_kinds<H: TreeHash, R: AllocGlobal + CpuClock + Print + Eprint>(
     rt: &R,
-    mirror: &Mirror<Sha256Tree>,
+    mirror: &Mirror<H>,
     count: u32,
     look_ups: u128,
 ) -> anyhow::Result<()> {
@@ -82,39 +83,53 @@ fn look_ups_of(walking: u128, count: u32) -> u128 {
 }
 
 // Asks for the parts of one kind, and for the replies that carry them.
-fn measure_kind<R: AllocGlobal + CpuClock + Print + Eprint>(
+fn measure_kind<H: TreeHash, R: AllocGlobal + CpuClock + Print + Eprint>(
     rt: &R,
-    mirror: &Mirror<Sha256Tree>,
+    mirror: &Mirror<H>,
     kind: Kind,
     count: u32,
     look_ups: u128,
 ) -> anyhow::Result<()> {
     let name = name_of(kind);
     eprintln!(rt; "  {name}:")?;
-    let start = now(rt)?;
-    let given = count_given(rt.alloc(), mirror, kind, count)?;
-    tell(
-        rt,
-        "    asked of the mirror, ns",
-        since(rt, start)?,
-        look_ups,
-    )?;
-    let start = now(rt)?;
-    let answered = count_answered(rt.alloc(), mirror, kind, count)?;
-    tell(
-        rt,
-        "    answered to a client, ns",
-        since(rt, start)?,
-        look_ups,
-    )?;
+    let given = given_told(rt, mirror, kind, count, look_ups)?;
+    let answered = answered_told(rt, mirror, kind, count, look_ups)?;
     println!(rt; "{name}: {given} given, {answered} answered")?;
     Ok(())
 }
 
+// Asks for the parts of a kind, tells the time that it took, and answers how many are given.
+fn given_told<H: TreeHash, R: AllocGlobal + CpuClock + Eprint>(
+    rt: &R,
+    mirror: &Mirror<H>,
+    kind: Kind,
+    count: u32,
+    look_ups: u128,
+) -> anyhow::Result<u32> {
+    let start = now(rt)?;
+    let given = count_given(rt.alloc(), mirror, kind, count)?;
+    tell_since(rt, "    asked of the mirror, ns", start, look_ups)?;
+    Ok(given)
+}
+
+// Answers requests for the parts of a kind, tells the time that it took, and answers how many are given.
+fn answered_told<H: TreeHash, R: AllocGlobal + CpuClock + Eprint>(
+    rt: &R,
+    mirror: &Mirror<H>,
+    kind: Kind,
+    count: u32,
+    look_ups: u128,
+) -> anyhow::Result<u32> {
+    let start = now(rt)?;
+    let answered = count_answered(rt.alloc(), mirror, kind, count)?;
+    tell_since(rt, "    answered to a client, ns", start, look_ups)?;
+    Ok(answered)
+}
+
 // Asks for the parts of a kind, and counts those that are given.
-fn count_given(
+fn count_given<H: TreeHash>(
     alloc: Global,
-    mirror: &Mirror<Sha256Tree>,
+    mirror: &Mirror<H>,
     kind: Kind,
     count: u32,
 ) -> Result<u32, AllocError> {
@@ -128,9 +143,9 @@ fn count_given(
 }
 
 // Answers requests for the parts of a kind, and counts those that are given.
-fn count_answered(
+fn count_answered<H: TreeHash>(
     alloc: Global,
-    mirror: &Mirror<Sha256Tree>,
+    mirror: &Mirror<H>,
     kind: Kind,
     count: u32,
 ) -> anyhow::Result<u32> {
@@ -185,7 +200,11 @@ fn place(number: u32, places: u32) -> u32
 }
 
 // Whether the mirror gives it.
-fn is_given(alloc: Global, mirror: &Mirror<Sha256Tree>, part: Part) -> Result<bool, AllocError> {
+fn is_given<H: TreeHash>(
+    alloc: Global,
+    mirror: &Mirror<H>,
+    part: Part,
+) -> Result<bool, AllocError> {
     match part {
         Part::File(path) => is_file_given(alloc, mirror, path),
         Part::Proof { size, index } => Ok(is_proof_given(alloc, mirror, size, index)),
@@ -218,7 +237,7 @@ fn is_proof_given<H: TreeHash>(alloc: Global, mirror: &Mirror<H>, size: u64, ind
 }
 
 // Whether a client that asks for it gets it.
-fn is_answered(alloc: Global, mirror: &Mirror<Sha256Tree>, part: Part) -> anyhow::Result<bool> {
+fn is_answered<H: TreeHash>(alloc: Global, mirror: &Mirror<H>, part: Part) -> anyhow::Result<bool> {
     let request = request_of(alloc, part)?;
     let reply = reply_to(alloc, mirror, request.as_bytes())?;
     Ok(is_found(reply.as_slice()))

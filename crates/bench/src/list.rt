@@ -1,25 +1,31 @@
 //! A log of numbered entries.
 ghost use Rattle.std.specs.Prelude.{◌≡◌, [], ◌∷◌, codes, length, map, IfOk};
 ghost use Rattle.signed_note.specs.Reading.{MakesSecret};
-ghost use Rattle.mirror_model.specs.Origin.{IsOrigin};
 ghost use Rattle.mirror_model.specs.TrueLaws.{AreShort};
 
 use crate::clock::{now, since};
 use log_sources::ListSource;
-use signed_note::{HmacKey, KeyFault};
+use signed_note::{HmacKey, KeyFault, Verifier};
 use std::alloc::{AllocError, Global};
 use std::time::CpuClock;
-use tlog_hash::{Hash, Sha256Tree, tree_hash};
-use tlog_mirror::Mirror;
+use tlog_hash::{Hash, TreeHash, tree_hash};
+use tlog_mirror::{Mirror, NewFault};
 
 /// The origin of the log.
-pub const ORIGIN: &str = "bench";
+pub(crate) const ORIGIN: &str = "bench";
 
-/// The key that the log signs with: of its origin's name, id 1, the secret `00`.
-pub fn key(alloc: Global) -> Result<HmacKey, KeyFault>
+// The key that the log signs with: of its origin's name, id 1, the secret `00`.
+fn key(alloc: Global) -> Result<HmacKey, KeyFault>
     ensures { MakesSecret (codes "bench") 1 (0 ∷ []) result }
 {
     HmacKey::new(alloc, ORIGIN, 1, &[0])
+}
+
+/// That key alone.
+pub(crate) fn keys_of(alloc: Global) -> anyhow::Result<Vec<Box<dyn Verifier>>> {
+    let mut keys: Vec<Box<dyn Verifier>> = Vec::new(alloc);
+    keys.push(Box::new(alloc, key(alloc)?)?)?;
+    Ok(keys)
 }
 
 // The entry of that number: 100 bytes, the number in four of them and then twos.
@@ -33,7 +39,7 @@ fn entry_of(number: u32) -> [u8; 100] {
 }
 
 /// The first entries, as many as that.
-pub fn entries_of(alloc: Global, count: u32) -> Result<Vec<Vec<u8>>, AllocError>
+pub(crate) fn entries_of(alloc: Global, count: u32) -> Result<Vec<Vec<u8>>, AllocError>
     ensures short { IfOk result (λ entries. AreShort (map (λ e. e.items) entries.items)) }
     ensures count { IfOk result (λ entries. length entries.items ≡ count) }
 {
@@ -45,7 +51,7 @@ pub fn entries_of(alloc: Global, count: u32) -> Result<Vec<Vec<u8>>, AllocError>
 }
 
 /// The tree hash of the entries, and the time that it took.
-pub fn hash_tree<R: AllocGlobal + CpuClock>(
+pub(crate) fn hash_tree<H: TreeHash, R: AllocGlobal + CpuClock>(
     rt: &R,
     entries: &[Vec<u8>],
 ) -> anyhow::Result<(u128, Hash)> {
@@ -54,21 +60,21 @@ pub fn hash_tree<R: AllocGlobal + CpuClock>(
         lent.push(entry.as_slice())?;
     }
     let start = now(rt)?;
-    let root = tree_hash::<Sha256Tree>(lent.as_slice());
+    let root = tree_hash::<H>(lent.as_slice());
     Ok((since(rt, start)?, root))
 }
 
-/// A mirror that holds nothing, and a source over the entries.
-pub fn begin(
+/// A mirror that holds nothing.
+pub(crate) fn empty<H: TreeHash>(alloc: Global) -> Result<Mirror<H>, NewFault> {
+    Mirror::new(alloc, ORIGIN)
+}
+
+/// A source over the entries.
+pub(crate) fn source_of<H: TreeHash>(
     alloc: Global,
     entries: Vec<Vec<u8>>,
-) -> anyhow::Result<(Mirror<Sha256Tree>, ListSource<Sha256Tree>)>
+) -> anyhow::Result<ListSource<H>>
     requires { AreShort (map (λ e. e.items) entries.items) }
-    ensures origin { IfOk result (λ made. IsOrigin made.0.view.origin) }
-    ensures entries { IfOk result (λ made. made.1.entries ≡ map (λ e. e.items) entries.items) }
 {
-    // That the mirror is made shows that the origin is lawful.
-    let mirror = Mirror::new(alloc, ORIGIN)?;
-    let source = ListSource::new(alloc, ORIGIN, entries, key(alloc)?)?;
-    Ok((mirror, source))
+    Ok(ListSource::new(alloc, ORIGIN, entries, key(alloc)?)?)
 }
