@@ -1,16 +1,11 @@
-//! The tests of what reads and writes streams: `byte_streams`, the client `mirror_http`, the server `mirror_server`, and
-//! both at once.
+//! The tests of what reads and writes streams: `byte_streams`, the client `mirror_http` and the server `mirror_server`.
 //!
 //! They stand in a crate of their own, since a crate's tests are checked together with the crate again. There is no other
 //! code.
 #![tactic(auto)]
 
 #[cfg(test)]
-mod both;
-#[cfg(test)]
 mod client;
-#[cfg(test)]
-mod faults;
 #[cfg(test)]
 mod given;
 #[cfg(test)]

@@ -21,8 +21,7 @@ const NOTE: &str =
 const BAD_REQUEST: &str =
     "HTTP/1.1 400 Bad Request\r\nContent-Length: 0\r\nConnection: close\r\n\r\n";
 
-pub(crate) const NOT_FOUND: &str =
-    "HTTP/1.1 404 Not Found\r\nContent-Length: 0\r\nConnection: close\r\n\r\n";
+const NOT_FOUND: &str = "HTTP/1.1 404 Not Found\r\nContent-Length: 0\r\nConnection: close\r\n\r\n";
 
 const NOT_ALLOWED: &str =
     "HTTP/1.1 405 Method Not Allowed\r\nAllow: GET\r\nContent-Length: 0\r\nConnection: close\r\n\r\n";
@@ -80,7 +79,7 @@ fn mirror_of_3<H: TreeHash>(alloc: Global) -> Result<Mirror<H>, Fail> {
 }
 
 // Answers a client. It ensures nothing, so that its callers are cheap to check.
-pub(crate) fn answered<H: TreeHash, R: Read, W: Write>(
+fn answered<H: TreeHash, R: Read, W: Write>(
     alloc: Global,
     mirror: &Mirror<H>,
     reader: &mut R,

@@ -90,36 +90,3 @@ fn pinned_ed25519(rt: HostRuntime) -> Result<(), Fail> {
     }
     Ok(())
 }
-
-#[test]
-fn read_is_what_was_written(rt: HostRuntime) -> Result<(), Fail> {
-    let alloc = rt.alloc();
-    let text = "ex\n3\nrra8/idLcKFPsGel5VeCZNsPqbUa9eC6FZFY8yngbnc=\none\n";
-    let checkpoint = checkpoint_of(alloc, text)?;
-    for (other, same) in [
-        (text, true),
-        (
-            "ey\n3\nrra8/idLcKFPsGel5VeCZNsPqbUa9eC6FZFY8yngbnc=\none\n",
-            false,
-        ),
-        (
-            "ex\n4\nrra8/idLcKFPsGel5VeCZNsPqbUa9eC6FZFY8yngbnc=\none\n",
-            false,
-        ),
-        (
-            "ex\n3\nbjQLnP+zepicpUTmu3gKLHiQHT+zNzh2hRGjBhevoB0=\none\n",
-            false,
-        ),
-        (
-            "ex\n3\nrra8/idLcKFPsGel5VeCZNsPqbUa9eC6FZFY8yngbnc=\n",
-            false,
-        ),
-    ] {
-        assert_eq!(rt;
-            checkpoint_of(alloc, other)? == checkpoint,
-            same,
-            "at {other}"
-        );
-    }
-    Ok(())
-}

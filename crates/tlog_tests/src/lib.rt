@@ -12,8 +12,6 @@ mod checkpoints;
 #[cfg(test)]
 mod climbs;
 #[cfg(test)]
-mod faults;
-#[cfg(test)]
 mod given;
 #[cfg(test)]
 mod hashes;
@@ -31,8 +29,6 @@ mod notes;
 mod opening;
 #[cfg(test)]
 mod paths;
-#[cfg(test)]
-mod prefixes;
 #[cfg(test)]
 mod proof_texts;
 #[cfg(test)]

@@ -4,22 +4,7 @@ use crate::given::{lent, numbers};
 use crate::trees::{empty_store, put_entries, put_row, remembered};
 use node_store::Store;
 use std::test::Fail;
-use stored_trees::Marks;
 use tlog_hash::{Sha256Tree, TreeHash};
-
-#[test]
-fn marks_are_a_set(rt: HostRuntime) -> Result<(), Fail> {
-    let mut marks = Marks::new(rt.alloc());
-    assert_eq!(rt; (marks.len(), marks.contains(1, &[1; 32])), (0, false));
-    for (size, byte) in [(1, 1), (257, 2), (1, 1)] {
-        marks.add(size, &[byte; 32])?;
-    }
-    assert_eq!(rt; marks.len(), 2);
-    for (size, byte, held) in [(1, 1, true), (257, 2, true), (2, 1, false), (1, 2, false)] {
-        assert_eq!(rt; marks.contains(size, &[byte; 32]), held, "{size} {byte}");
-    }
-    Ok(())
-}
 
 // Nothing is remembered of a tree of which one entry is not held, nor of one of no entries.
 #[test]

@@ -93,9 +93,3 @@ pub(crate) fn remembered<H: TreeHash>(
     }
     Ok(marks)
 }
-
-// So many entries of no bytes.
-pub(crate) fn empty_entries<'a>(alloc: Global, count: usize) -> Result<Vec<&'a [u8]>, AllocError> {
-    let none: &[u8] = &[];
-    vec![in alloc; none; count]
-}

@@ -1,5 +1,5 @@
 //! `root`, `check` and the entries of `build` over streams that are slow or fail.
-use crate::fakes::{Cut, Slow};
+use crate::streams::{FailingWriter, Slow};
 use std::alloc::Global;
 use std::io::Write;
 use std::test::Fail;
@@ -76,19 +76,13 @@ fn failing_reader(rt: HostRuntime) {
 fn failing_writer(rt: HostRuntime) {
     let alloc = rt.alloc();
     for room in [0, 1, 3, 6, 50] {
-        let mut writer = Cut {
-            room,
-            taken: Vec::new(alloc),
-        };
+        let mut writer = FailingWriter::new(alloc, room);
         let root = root_of(alloc, &[0, 0], false, &mut writer);
         assert_eq!(rt; root, Err(RootFault::WriteFault));
         assert_eq!(rt; Some(writer.taken.as_slice()), ROOT_1.get(..room));
     }
     for room in [0, 1, 3] {
-        let mut writer = Cut {
-            room,
-            taken: Vec::new(alloc),
-        };
+        let mut writer = FailingWriter::new(alloc, room);
         let verdict = verdict_of(alloc, INCLUSION, false, &mut writer);
         assert_eq!(rt; verdict, Err(CheckFault::WriteFault));
         assert_eq!(rt; Some(writer.taken.as_slice()), b"yes\n".get(..room));

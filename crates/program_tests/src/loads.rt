@@ -1,8 +1,8 @@
-//! States that are cut, readers and writers that fail, and the names of faults that no run prints.
+//! States that are cut, and readers and writers that fail.
 use crate::given::{keys, loaded, mirror_of};
 use crate::states::COMPLETE;
 use crate::streams::{FailingWriter, Strange};
-use mirror_files::{LoadFault, PartsFault, SaveFault, save};
+use mirror_files::{LoadFault, SaveFault, save};
 use signed_note::Verifier;
 use std::alloc::Global;
 use std::io::Read;
@@ -67,25 +67,4 @@ fn assert_front<H: TreeHash>(
     let mut writer = FailingWriter::new(alloc, room);
     assert_eq!(rt; save(alloc, mirror, &mut writer), answer);
     assert!(rt; COMPLETE.get(..room) == Some(writer.taken.as_slice()));
-}
-
-#[test]
-fn faults_print_their_names(rt: HostRuntime) -> Result<(), Fail> {
-    let alloc = rt.alloc();
-    for (fault, name) in [
-        (PartsFault::StateMagic, "StateMagic"),
-        (PartsFault::StateShort, "StateShort"),
-        (PartsFault::StateLong, "StateLong"),
-        (PartsFault::StateDigest, "StateDigest"),
-        (PartsFault::OutOfMemory, "OutOfMemory"),
-    ] {
-        assert_eq!(rt; fault.to_string(alloc)?.as_str(), name);
-    }
-    for (fault, name) in [
-        (SaveFault::WriteFault, "WriteFault"),
-        (SaveFault::OutOfMemory, "OutOfMemory"),
-    ] {
-        assert_eq!(rt; fault.to_string(alloc)?.as_str(), name);
-    }
-    Ok(())
 }

@@ -1,6 +1,6 @@
 //! How a run ends by a fault that no run comes to, or over a stream that fails in mid-text: its status, and what it says on
 //! which stream.
-use crate::fakes::Cut;
+use crate::streams::FailingWriter;
 use command_line::CommandFault;
 use file_commands::{ExportFileFault, MergeFilesFault, NotesFault, StateFault, TakeFilesFault};
 use mirror_commands::{RunFault, TellFault, WorkFault, carry_out, told};
@@ -78,10 +78,7 @@ fn collisions_of_the_work(rt: HostRuntime) {
 fn help_that_is_cut(rt: HostRuntime) -> Result<(), Fail> {
     let alloc = rt.alloc();
     let help = RunFault::Command(CommandFault::Help(String::from_str(alloc, "help")?));
-    let mut full = Cut {
-        room: 2,
-        taken: Vec::new(alloc),
-    };
+    let mut full = FailingWriter::new(alloc, 2);
     let mut errors = Vec::new(alloc);
     assert_eq!(rt; ended(alloc, help, &mut full, &mut errors), 1);
     assert_eq!(rt; full.taken.as_slice(), b"he".as_slice());

@@ -1,6 +1,28 @@
 //! Streams that give or take one byte a call, and streams that fail.
+use std::alloc::Global;
 use std::io;
 use std::io::{ErrorKind, Read, Write};
+
+// Fails at its first read, or gives one byte a read without end.
+#[derive(Drop)]
+pub(crate) struct Strange {
+    pub(crate) is_endless: bool,
+}
+
+impl Read for Strange {
+    fn read(&mut self, buf: &mut [u8]) -> io::Result<usize> {
+        if !self.is_endless {
+            return Err(io::Error::from(ErrorKind::Other));
+        }
+        match buf.first_mut() {
+            Some(cell) => {
+                *cell = b'a';
+                Ok(1)
+            }
+            None => Ok(0),
+        }
+    }
+}
 
 // Gives these bytes, one a read, and then ends, or fails where it is to.
 #[derive(Drop)]
@@ -30,12 +52,22 @@ impl Read for Slow<'_> {
 
 // Takes as many bytes as it has room for, one a write, and fails from then on.
 #[derive(Drop)]
-pub(crate) struct Cut {
+pub(crate) struct FailingWriter {
     pub(crate) room: usize,
     pub(crate) taken: Vec<u8>,
 }
 
-impl Write for Cut {
+impl FailingWriter {
+    // It took nothing yet.
+    pub(crate) fn new(alloc: Global, room: usize) -> FailingWriter {
+        FailingWriter {
+            room,
+            taken: Vec::new(alloc),
+        }
+    }
+}
+
+impl Write for FailingWriter {
     fn write(&mut self, buf: &[u8]) -> io::Result<usize> {
         let Some(first) = buf.first() else {
             return Ok(0);
