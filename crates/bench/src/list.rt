@@ -5,7 +5,7 @@ ghost use Rattle.mirror_model.specs.TrueLaws.{AreShort};
 
 use crate::clock::{now, since};
 use log_sources::ListSource;
-use signed_note::{HmacKey, KeyFault, Verifier};
+use signed_note::{HmacKey, KeyFault};
 use std::alloc::{AllocError, Global};
 use std::time::CpuClock;
 use tlog_hash::{Hash, TreeHash, tree_hash};
@@ -14,18 +14,11 @@ use tlog_mirror::{Mirror, NewFault};
 /// The origin of the log.
 pub(crate) const ORIGIN: &str = "bench";
 
-// The key that the log signs with: of its origin's name, id 1, the secret `00`.
-fn key(alloc: Global) -> Result<HmacKey, KeyFault>
+/// The key that the log signs with: of its origin's name, id 1, the secret `00`.
+pub(crate) fn key(alloc: Global) -> Result<HmacKey, KeyFault>
     ensures { MakesSecret (codes "bench") 1 (0 ∷ []) result }
 {
     HmacKey::new(alloc, ORIGIN, 1, &[0])
-}
-
-/// That key alone.
-pub(crate) fn keys_of(alloc: Global) -> anyhow::Result<Vec<Box<dyn Verifier>>> {
-    let mut keys: Vec<Box<dyn Verifier>> = Vec::new(alloc);
-    keys.push(Box::new(alloc, key(alloc)?)?)?;
-    Ok(keys)
 }
 
 // The entry of that number: 100 bytes, the number in four of them and then twos.

@@ -3,7 +3,7 @@ ghost use Rattle.std.specs.Prelude.{◌≡◌, ◌+◌, ◌-◌, ◌*◌, map};
 ghost use Rattle.mirror_model.specs.TrueLaws.{AreShort};
 
 use crate::clock::{now, resident_bytes, tell, tell_since};
-use crate::list::{entries_of, hash_tree, keys_of, source_of};
+use crate::list::{entries_of, hash_tree, key, source_of};
 use log_sources::ListSource;
 use mirror_pull::{PullFault, Pulled, pull};
 use signed_note::Verifier;
@@ -193,7 +193,8 @@ fn pull_all<H: TreeHash>(
     mirror: &mut Mirror<H>,
     source: &mut ListSource<H>,
 ) -> anyhow::Result<Pulled> {
-    let keys = keys_of(alloc)?;
+    let mut keys: Vec<Box<dyn Verifier>> = Vec::new(alloc);
+    keys.push(Box::new(alloc, key(alloc)?)?)?;
     Ok(pull_under(alloc, mirror, keys.as_slice(), source)?)
 }
 
