@@ -9,23 +9,16 @@ use Rattle.mirror_folders.specs.Exports.{CheckpointIsLast, CountsExport, Exports
 use Rattle.mirror_folders.specs.declared.fault.ExportFault.{ExportFault}
 use Rattle.mirror_folders.specs.declared.fault.ExportFault.TheVariants.{NothingComplete}
 use Rattle.state_commands.specs.NoteFiles.{NamedFile}
+use Rattle.file_commands.specs.Answers.{done, failed}
 use Rattle.file_commands.specs.States.{OpensFile}
 use Rattle.file_commands.specs.declared.fault.ExportFileFault.{ExportFileFault}
 use Rattle.file_commands.specs.declared.fault.ExportFileFault.TheVariants.{State, Export}
 
--- the answer of an export that is done
-abbrev pub export_done : Result (Unit {0}) ExportFault
-export_done = Ok tt
-
--- the answer of an export that failed
-abbrev pub export_failed : ExportFault → Result (Unit {0}) ExportFault
-export_failed fault = Err fault
-
 -- the shelf's count of failures, as an export counts them
 abbrev pub CountsFileExport : {T : Type 0} → ℕ → ℕ → Result T ExportFileFault → Type 0
-CountsFileExport old new (Ok x) = CountsExport old new export_done
+CountsFileExport old new (Ok x) = CountsExport old new done
 CountsFileExport old new (Err (State fault)) = new ≡ old
-CountsFileExport old new (Err (Export fault)) = CountsExport old new (export_failed fault)
+CountsFileExport old new (Err (Export fault)) = CountsExport old new (failed fault)
 
 module _ (digest : List ℕ → List ℕ) (origin : List ℕ) (keys : List Key)
     (told : Option (List NamedFile)) (name : List ℕ) (old new : Option (List Put)) where
@@ -41,7 +34,7 @@ module _ (digest : List ℕ → List ℕ) (origin : List ℕ) (keys : List Key)
   -- what each answer of the command says: the file is opened first, and nothing is put where it is
   -- not
   abbrev pub ExportsFile : {T : Type 0} → Result T ExportFileFault → Type 0
-  ExportsFile (Ok x) = ExportsOpened export_done
+  ExportsFile (Ok x) = ExportsOpened done
   ExportsFile (Err (State fault)) =
       OpensFile digest origin keys told name (Err fault) × KeepsTold old new
-  ExportsFile (Err (Export fault)) = ExportsOpened (export_failed fault)
+  ExportsFile (Err (Export fault)) = ExportsOpened (failed fault)

@@ -1,3 +1,4 @@
+pub mod Answers
 pub mod Named
 pub mod States
 pub mod Takes

@@ -7,15 +7,12 @@ use Rattle.mirror_model.specs.Steps.{Answer, Done, Merges}
 use Rattle.mirror_model.specs.View.{View}
 use Rattle.mirror_model.specs.declared.fault.MergeFault.{MergeFault}
 use Rattle.state_commands.specs.NoteFiles.{NamedFile}
+use Rattle.file_commands.specs.Answers.{failed}
 use Rattle.file_commands.specs.Named.{FailsToPut}
 use Rattle.file_commands.specs.States.{OpensFile, WritesState}
 use Rattle.file_commands.specs.declared.fault.MergeFilesFault.{MergeFilesFault}
 use Rattle.file_commands.specs.declared.fault.MergeFilesFault.TheVariants.{First, Second, Merge}
 use Rattle.file_commands.specs.declared.fault.MergeFilesFault.TheVariants.{Out}
-
--- the answer of a merge that is refused
-abbrev pub merge_failed : MergeFault → Result (Unit {0}) MergeFault
-merge_failed fault = Err fault
 
 module _ (digest : List ℕ → List ℕ) (origin : List ℕ) (keys : List Key)
     (told : Option (List NamedFile)) (first second : List ℕ) where
@@ -38,7 +35,7 @@ module _ (digest : List ℕ → List ℕ) (origin : List ℕ) (keys : List Key)
   MakesMerged (Err (Second fault)) =
       OpensFirst × OpensFile digest origin keys told second (Err fault)
   MakesMerged (Err (Merge fault)) =
-      (after : View) × MergesFiles (merge_answer_of (merge_failed fault)) after
+      (after : View) × MergesFiles (merge_answer_of (failed fault)) after
   MakesMerged (Err (Out fault)) = ⊥
 
   -- the new state was written to the file of that name; at a fault nothing was

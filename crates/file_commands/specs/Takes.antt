@@ -9,6 +9,7 @@ use Rattle.mirror_model.specs.declared.items.Item.{Item}
 use Rattle.mirror_model.specs.declared.items.Item.TheVariants as item
 use Rattle.mirror_model.specs.declared.fault.TakeFault.{TakeFault}
 use Rattle.state_commands.specs.NoteFiles.{NamedFile}
+use Rattle.file_commands.specs.Answers.{failed}
 use Rattle.file_commands.specs.Named.{FailsToPut, FailsToRead, TellsFile, TellsFiles}
 use Rattle.file_commands.specs.States.{BeginsWith, WritesState}
 use Rattle.file_commands.specs.declared.item.ItemFiles.{ItemFiles}
@@ -39,10 +40,6 @@ HoldItem told (Bundle width file) (item.Bundle size bytes) =
     (size ≡ width) × TellsFile told file.now bytes
 HoldItem told files other = ⊥
 
--- the answer of a take that is refused
-abbrev pub take_failed : TakeFault → Result (Unit {0}) TakeFault
-take_failed fault = Err fault
-
 module _ (digest : List ℕ → List ℕ) (keys : List Key) (told : Option (List NamedFile)) where
   -- the item that the files hold was taken so
   pub record TakesOf (before : View) (files : ItemFiles) (answer : Answer) (after : View)
@@ -56,7 +53,7 @@ module _ (digest : List ℕ → List ℕ) (keys : List Key) (told : Option (List
   TakesHeld before files after (Ok x) = TakesOf before files Done after
   TakesHeld before files after (Err (Unread fault)) = FailsToRead told (item_names files) fault
   TakesHeld before files after (Err (Take fault)) =
-      TakesOf before files (answer_of (take_failed fault)) after
+      TakesOf before files (answer_of (failed fault)) after
   TakesHeld before files after (Err other) = ⊥
 
 module _ (digest : List ℕ → List ℕ) (origin : List ℕ) (keys : List Key)
@@ -77,7 +74,7 @@ module _ (digest : List ℕ → List ℕ) (origin : List ℕ) (keys : List Key)
   MakesTaken (Err (State fault)) = BeginsWith digest origin keys told state (Err fault)
   MakesTaken (Err (Unread fault)) = Begins × FailsToRead told (item_names files) fault
   MakesTaken (Err (Take fault)) =
-      (after : View) × TakesBegun (answer_of (take_failed fault)) after
+      (after : View) × TakesBegun (answer_of (failed fault)) after
   MakesTaken (Err (Out fault)) = ⊥
 
   -- the new state was written to the file of that name; at a fault nothing was

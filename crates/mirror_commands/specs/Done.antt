@@ -11,10 +11,10 @@ use Rattle.command_line.specs.declared.command.Export.{Export as FolderWords}
 use Rattle.command_line.specs.declared.command.Pull.{Pull as PullWords}
 use Rattle.state_commands.specs.NoteFiles.{NamedFile}
 use Rattle.state_commands.specs.declared.question.Question.TheVariants as question
+use Rattle.file_commands.specs.Answers.{done, failed}
 use Rattle.file_commands.specs.Exported.{ExportsFile}
 use Rattle.file_commands.specs.Merges.{LeavesMerged}
 use Rattle.file_commands.specs.Notes.{WritesNotes}
-use Rattle.file_commands.specs.declared.fault.TakeFilesFault.{TakeFilesFault}
 use Rattle.file_commands.specs.declared.fault.MergeFilesFault.{MergeFilesFault}
 use Rattle.file_commands.specs.declared.fault.ExportFileFault.{ExportFileFault}
 use Rattle.file_commands.specs.declared.fault.NotesFault.{NotesFault}
@@ -23,10 +23,8 @@ use Rattle.mirror_commands.specs.declared.fault.RunFault.TheVariants.{Root, Chec
 use Rattle.mirror_commands.specs.declared.fault.RunFault.TheVariants.{Merge, Pull, Status, Missing}
 use Rattle.mirror_commands.specs.declared.fault.RunFault.TheVariants.{Forks, Prove, Export, Notes}
 use Rattle.mirror_commands.specs.declared.fault.RunFault.TheVariants.{Serve}
-use Rattle.stream_commands.specs.declared.root.RootFault.{RootFault}
 use Rattle.stream_commands.specs.declared.root.RootFault.TheVariants as root
 use Rattle.stream_commands.specs.declared.check.CheckFault.TheVariants as check
-use Rattle.mirror_commands.specs.declared.fault.WorkFault.{WorkFault}
 use Rattle.mirror_commands.specs.declared.fault.TellFault.{TellFault}
 use Rattle.mirror_commands.specs.declared.fault.TellFault.TheVariants as tell
 use Rattle.stream_commands.specs.Root.{AnswersRoot}
@@ -70,71 +68,6 @@ IsDoable (order.Take c) =
     (1 ≤ c.width) × (c.width ≤ 256) × (1 ≤ length c.files.items)
 IsDoable other = Unit {0}
 
--- the answer of `root` that is done
-abbrev pub root_done : Result (Unit {0}) RootFault
-root_done = Ok tt
-
--- an answer of `root` that failed
-abbrev pub root_failed : RootFault → Result (Unit {0}) RootFault
-root_failed fault = Err fault
-
--- the answer of `build` that is done
-abbrev pub work_done : Result (Unit {0}) WorkFault
-work_done = Ok tt
-
--- the answer of `build` that failed
-abbrev pub work_failed : WorkFault → Result (Unit {0}) WorkFault
-work_failed fault = Err fault
-
--- the answers of `take`, `merge`, `export` and `notes`: done, or failed for that reason
-abbrev pub take_done : Result (Unit {0}) TakeFilesFault
-take_done = Ok tt
-
-abbrev pub take_failed : TakeFilesFault → Result (Unit {0}) TakeFilesFault
-take_failed fault = Err fault
-
-abbrev pub merge_done : Result (Unit {0}) MergeFilesFault
-merge_done = Ok tt
-
-abbrev pub merge_failed : MergeFilesFault → Result (Unit {0}) MergeFilesFault
-merge_failed fault = Err fault
-
-abbrev pub export_done : Result (Unit {0}) ExportFileFault
-export_done = Ok tt
-
-abbrev pub export_failed : ExportFileFault → Result (Unit {0}) ExportFileFault
-export_failed fault = Err fault
-
-abbrev pub notes_done : Result (Unit {0}) NotesFault
-notes_done = Ok tt
-
-abbrev pub notes_failed : NotesFault → Result (Unit {0}) NotesFault
-notes_failed fault = Err fault
-
--- the answer of a command that asks something of a state, with its exit status
-abbrev pub asked_status : ℕ → Result ℕ WorkFault
-asked_status status = Ok status
-
--- the answer of a command that asks something of a state, and failed
-abbrev pub asked_fault : WorkFault → Result ℕ WorkFault
-asked_fault fault = Err fault
-
--- the answer of a command that tells what it did, with its exit status
-abbrev pub told_status : ℕ → Result ℕ TellFault
-told_status status = Ok status
-
--- the answer of a command that tells what it did, and failed
-abbrev pub told_fault : TellFault → Result ℕ TellFault
-told_fault fault = Err fault
-
--- the answer of `serve` that has ended
-abbrev pub served_done : Result (Unit {0}) TellFault
-served_done = Ok tt
-
--- the answer of `serve` that failed
-abbrev pub served_failed : TellFault → Result (Unit {0}) TellFault
-served_failed fault = Err fault
-
 module _ (digest : List ℕ → List ℕ) (keys : List Key)
     (told left : Option (List NamedFile)) where
   -- what an answer of `merge` says of the files that its words name
@@ -165,62 +98,62 @@ module _ (digest : List ℕ → List ℕ) (keys : List Key)
   abbrev pub Does : Order → Option (List ℕ) → Option (List ℕ) → Option (List ℕ) →
       Result ℕ RunFault → Type 0
   Does (order.Root c) input old new (Ok status) =
-      IfSome input (λ bytes. AnswersRoot digest c.width bytes old new root_done) × (status ≡ 0)
+      IfSome input (λ bytes. AnswersRoot digest c.width bytes old new done) × (status ≡ 0)
   Does (order.Root c) input old new (Err (Root fault)) =
-      IfSome input (λ bytes. AnswersRoot digest c.width bytes old new (root_failed fault))
+      IfSome input (λ bytes. AnswersRoot digest c.width bytes old new (failed fault))
   Does order.Check input old new (Ok status) =
       (verdict : Bool) × IfSome input (λ bytes. AnswersCheck digest bytes old new (Ok verdict))
       × (status ≡ verdict_status verdict)
   Does order.Check input old new (Err (Check fault)) =
       IfSome input (λ bytes. AnswersCheck digest bytes old new (Err fault))
   Does (order.Build c) input old new (Ok status) =
-      IfSome input (λ bytes. BuildsFrom bytes work_done) × Keeps old new × (status ≡ 0)
+      IfSome input (λ bytes. BuildsFrom bytes done) × Keeps old new × (status ≡ 0)
   Does (order.Build c) input old new (Err (Build fault)) =
-      IfSome input (λ bytes. BuildsFrom bytes (work_failed fault)) × Keeps old new
+      IfSome input (λ bytes. BuildsFrom bytes (failed fault)) × Keeps old new
   Does (order.Take c) input old new (Ok status) =
-      TakesWords digest keys c told left take_done × Keeps old new × (status ≡ 0)
+      TakesWords digest keys c told left done × Keeps old new × (status ≡ 0)
   Does (order.Take c) input old new (Err (Take fault)) =
-      TakesWords digest keys c told left (take_failed fault) × Keeps old new
+      TakesWords digest keys c told left (failed fault) × Keeps old new
   Does (order.Merge c) input old new (Ok status) =
-      MergesTwo c merge_done × Keeps old new × (status ≡ 0)
+      MergesTwo c done × Keeps old new × (status ≡ 0)
   Does (order.Merge c) input old new (Err (Merge fault)) =
-      MergesTwo c (merge_failed fault) × Keeps old new
-  Does (order.Pull c) input old new (Ok status) = PullsWords c old new (told_status status)
-  Does (order.Pull c) input old new (Err (Pull fault)) = PullsWords c old new (told_fault fault)
+      MergesTwo c (failed fault) × Keeps old new
+  Does (order.Pull c) input old new (Ok status) = PullsWords c old new (Ok status)
+  Does (order.Pull c) input old new (Err (Pull fault)) = PullsWords c old new (Err fault)
   Does (order.Status c) input old new (Ok status) =
       AsksState digest keys told c.state.now c.log.origin.now question.Status old new
-      (asked_status status)
+      (Ok status)
   Does (order.Status c) input old new (Err (Status fault)) =
       AsksState digest keys told c.state.now c.log.origin.now question.Status old new
-      (asked_fault fault)
+      (Err fault)
   Does (order.Missing c) input old new (Ok status) =
       AsksState digest keys told c.held.state.now c.held.log.origin.now
-      (question.Missing c.size c.root) old new (asked_status status)
+      (question.Missing c.size c.root) old new (Ok status)
   Does (order.Missing c) input old new (Err (Missing fault)) =
       AsksState digest keys told c.held.state.now c.held.log.origin.now
-      (question.Missing c.size c.root) old new (asked_fault fault)
+      (question.Missing c.size c.root) old new (Err fault)
   Does (order.Forks c) input old new (Ok status) =
       AsksState digest keys told c.state.now c.log.origin.now question.Forks old new
-      (asked_status status)
+      (Ok status)
   Does (order.Forks c) input old new (Err (Forks fault)) =
       AsksState digest keys told c.state.now c.log.origin.now question.Forks old new
-      (asked_fault fault)
+      (Err fault)
   Does (order.Prove c) input old new (Ok status) =
       AsksState digest keys told c.held.state.now c.held.log.origin.now (question.Proof c.ask)
-      old new (asked_status status)
+      old new (Ok status)
   Does (order.Prove c) input old new (Err (Prove fault)) =
       AsksState digest keys told c.held.state.now c.held.log.origin.now (question.Proof c.ask)
-      old new (asked_fault fault)
+      old new (Err fault)
   Does (order.Export c) input old new (Ok status) =
-      ExportsOne c export_done × Keeps old new × (status ≡ 0)
+      ExportsOne c done × Keeps old new × (status ≡ 0)
   Does (order.Export c) input old new (Err (Export fault)) =
-      ExportsOne c (export_failed fault) × Keeps old new
+      ExportsOne c (failed fault) × Keeps old new
   Does (order.Notes c) input old new (Ok status) =
-      WritesInto c notes_done × Keeps old new × (status ≡ 0)
+      WritesInto c done × Keeps old new × (status ≡ 0)
   Does (order.Notes c) input old new (Err (Notes fault)) =
-      WritesInto c (notes_failed fault) × Keeps old new
+      WritesInto c (failed fault) × Keeps old new
   Does (order.Serve c) input old new (Ok status) =
-      TellsPort c.port old new served_done × (status ≡ 0)
+      TellsPort c.port old new done × (status ≡ 0)
   Does (order.Serve c) input old new (Err (Serve fault)) =
-      TellsPort c.port old new (served_failed fault)
+      TellsPort c.port old new (failed fault)
   Does other input old new answer = ⊥

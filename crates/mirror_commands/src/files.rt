@@ -9,8 +9,8 @@ ghost use Rattle.mirror_commands.specs.Named.{AsksItem, TakesWords};
 
 use command_line::{Export, Kind, Merge, Take};
 use file_commands::{
-    ExportFileFault, ItemFiles, MergeFilesFault, NamedFault, NamedFiles, NotesFault,
-    TakeFilesFault, run_export, run_merge, run_notes, run_take,
+    ExportFileFault, ItemFiles, MergeFilesFault, NamedFiles, NotesFault, TakeFilesFault,
+    run_export, run_merge, run_notes, run_take,
 };
 use mirror_folders::DirShelf;
 use signed_note::Verifier;
@@ -35,10 +35,8 @@ pub(crate) fn take_words<F: NamedFiles>(
     ensures { TakesWords sha256 (map (λ k. key k) keys.now) take.now (F.puts files.old) (F.puts files.new) result }
 {
     // The words name a file at least.
-    let Some((first, rest)) = take.files.split_first() else {
-        return Err(TakeFilesFault::Item(NamedFault::FileFault));
-    };
-    let item = item_of(take.kind, take.width, first, rest);
+    let names = take.files.as_slice();
+    let item = item_of(take.kind, take.width, names[0], &names[1..]);
     run_take::<Sha256Tree, F>(
         files,
         alloc,
