@@ -4,7 +4,7 @@ use Rattle.signed_note.specs.Keys.{Key}
 use Rattle.signed_note.proofs.OneReading.{notes_are_read}
 use Rattle.tlog_checkpoint.specs.declared.Checkpoint.{Checkpoint}
 use Rattle.tlog_checkpoint.specs.Grammar.{IsCheckpoint}
-use Rattle.tlog_checkpoint.proofs.Uniqueness.{one_reading}
+use Rattle.tlog_checkpoint.proofs.OneAnswer.{one_reading}
 use Rattle.mirror_model.specs.HeadLaws.{NoteIsOneHead}
 use Rattle.mirror_model.specs.Item.{HasEdgeRows}
 use Rattle.mirror_model.specs.LawfulLaws.{HeadsHaveEdges}

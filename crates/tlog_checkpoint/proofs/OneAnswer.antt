@@ -1,6 +1,6 @@
 -- One text has one answer: no two of the ways to answer it fit together.
 use Rattle.std.proofs.Common.{◌≡◌, ◌≢◌, ℕ, zero, suc, ◌<◌, ◌≤◌, List, [], ◌∷◌, length, Result, IfOk, get_or, Ok, Err}
-use Rattle.std.proofs.Common.{refl, sym, ap, subst, arith}
+use Rattle.std.proofs.Common.{refl, sym, ◌∙◌, subst, arith, ◌⊎◌, inl, inr}
 use Rattle.std.specs.List.{AllByRecursion, Contains}
 use Rattle.tlog_checkpoint.specs.declared.Checkpoint.{Checkpoint}
 use Rattle.tlog_checkpoint.specs.declared.fault.CheckpointFault.{CheckpointFault}
@@ -10,12 +10,12 @@ use Rattle.tlog_shape.specs.declared.TheConstants.{MAX_SIZE}
 use Rattle.tlog_text.specs.Number.{IsDecimal}
 use Rattle.tlog_text.specs.Hash.{IsHashText}
 use Rattle.tlog_text.proofs.Decimals.{one_number}
+use Rattle.tlog_text.proofs.Hashes.{one_hash}
 use Rattle.tlog_checkpoint.specs.Grammar.{IsWritableCheckpoint, HasFields, IsFullLine, IsCheckpoint}
-use Rattle.tlog_checkpoint.specs.Reading.{ReadsCheckpoint, HasTooFewLines, HasEmptyLine, HasBadSize, HasLargeSize}
-use Rattle.tlog_checkpoint.specs.Reading.{HasBadRoot}
-use Rattle.tlog_checkpoint.specs.Laws.{OneCheckpointAnswer}
+use Rattle.tlog_checkpoint.specs.Reading.{ReadsCheckpoint, HasTooFewLines, HasEmptyLine}
+use Rattle.tlog_checkpoint.specs.Laws.{OneCheckpointAnswer, TextIsOneCheckpoint}
 use Rattle.tlog_checkpoint.proofs.LineLemmas.{one_lines}
-use Rattle.tlog_checkpoint.proofs.Uniqueness.{reads_writable, lines_from_fields, one_fields, one_reading}
+use Rattle.tlog_checkpoint.proofs.Uniqueness.{reads_writable, lines_from_fields, one_fields}
 
 -- among full lines is no empty one
 none_empty : (lines : List (List ℕ)) → AllByRecursion IsFullLine lines → (k : ℕ) → k < length lines →
@@ -24,114 +24,110 @@ none_empty [] h k lt is = omega arith
 none_empty (line ∷ lines) h zero lt is = h.0.not_empty is
 none_empty (line ∷ lines) h (suc k) lt is = none_empty lines h.1 k (omega arith) is
 
-few_empty : (text : List ℕ) → HasTooFewLines text → HasEmptyLine text → ⊥
-few_empty text p q = omega (arith, p q.lines q.has_lines, q.enough)
+-- an answer behind a test: the refusal where it fails, or one of those where it holds
+abbrev Behind : {Y : Type 0} → Y → Type 0 → (Y → Type 0) → Y → Type 0
+Behind refusal Fails Holds a = ((a ≡ refusal) × Fails) ⊎ Holds a
 
-module _ (text o s r : List ℕ) (e : List (List ℕ)) (fields : HasFields text o s r e) where
-  few_fields : HasTooFewLines text → ⊥
-  few_fields p = omega (arith, p (o ∷ s ∷ r ∷ e) (lines_from_fields text o s r e fields))
+-- answers behind a test are the same where those are for which it holds
+one_behind : {Y : Type 0} (refusal : Y) (Fails : Type 0) (Holds : Y → Type 0) →
+    ((c : Y) → Fails → Holds c → ⊥) → (a b : Y) → (Holds a → Holds b → a ≡ b) → Behind refusal Fails Holds a →
+    Behind refusal Fails Holds b → a ≡ b
+one_behind refusal Fails Holds apart a b next (inl p) (inl q) = p.0 ∙ sym q.0
+one_behind refusal Fails Holds apart a b next (inl p) (inr q) = absurd (apart b p.1 q)
+one_behind refusal Fails Holds apart a b next (inr p) (inl q) = absurd (apart a q.1 p)
+one_behind refusal Fails Holds apart a b next (inr p) (inr q) = next p q
 
-  empty_fields : HasEmptyLine text → ⊥
-  empty_fields p =
+abbrev Reading : Type 0
+Reading = Result Checkpoint CheckpointFault
+
+-- what the lines of the fields answer: by a test of the size, one of its range, and one of the root
+module _ (o s r : List ℕ) (e : List (List ℕ)) where
+  abbrev Rooted : ℕ → Reading → Type 0
+  Rooted n a =
+      (root : List ℕ) × IsHashText r root × (a ≡ Ok (record { origin = o; size = n; root = root; extensions = e }))
+
+  abbrev Ranged : ℕ → Reading → Type 0
+  Ranged n a = (n ≤ MAX_SIZE) × Behind (Err BadRoot) ((root : List ℕ) → IsHashText r root → ⊥) (Rooted n) a
+
+  abbrev Sized : Reading → Type 0
+  Sized a = (n : ℕ) × IsDecimal s n × Behind (Err SizeTooLarge) (MAX_SIZE < n) (Ranged n) a
+
+  abbrev OfFields : Reading → Type 0
+  OfFields a = Behind (Err BadSize) ((n : ℕ) → IsDecimal s n → ⊥) Sized a
+
+  one_root : (n : ℕ) (a b : Reading) → Rooted n a → Rooted n b → a ≡ b
+  one_root n a b p q =
+      let same : q.0 ≡ p.0 = one_hash r q.0 p.0 q.1 p.1 in p.2 ∙ sym (rw same at q.2)
+
+  one_range : (n : ℕ) (a b : Reading) → Ranged n a → Ranged n b → a ≡ b
+  one_range n a b p q =
+      one_behind (Err BadRoot) _ (Rooted n) (λ c none is. none is.0 is.1) a b (one_root n a b) p.1 q.1
+
+  one_size : (a b : Reading) → Sized a → Sized b → a ≡ b
+  one_size a b p q =
+      let same : q.0 ≡ p.0 = one_number s q.0 p.0 q.1 p.1 in
+      one_behind (Err SizeTooLarge) _ (Ranged p.0) (λ c large is. omega (arith, large, is.0)) a b
+      (one_range p.0 a b) p.2 (rw same at q.2)
+
+module _ (text : List ℕ) where
+  -- the text has fields, and the answer is theirs
+  abbrev Full : Reading → Type 0
+  Full a =
+      (o : List ℕ) × (s : List ℕ) × (r : List ℕ) × (e : List (List ℕ)) × HasFields text o s r e × OfFields o s r e a
+
+  abbrev Enough : Reading → Type 0
+  Enough a = Behind (Err EmptyLine) (HasEmptyLine text) Full a
+
+  abbrev Tested : Reading → Type 0
+  Tested a = Behind (Err TooFewLines) (HasTooFewLines text) Enough a
+
+  full : (a : Reading) (o s r : List ℕ) (e : List (List ℕ)) → HasFields text o s r e → OfFields o s r e a → Tested a
+  full a o s r e fields is = inr (inr (o, s, r, e, fields, is))
+
+  -- each answer comes from the tests
+  tested : (a : Reading) → a ≢ Err OutOfMemory → ReadsCheckpoint text a → Tested a
+  tested (Ok c) no_a p =
+      full (Ok c) c.origin p.size_line p.root_line c.extensions p.fields
+      (inr (c.size, p.has_size, inr (p.in_range, inr (c.root, p.has_root, refl))))
+  tested (Err TooFewLines) no_a p = inl (refl, p)
+  tested (Err EmptyLine) no_a p = inr (inl (refl, p))
+  tested (Err BadSize) no_a p =
+      full (Err BadSize) p.origin p.size_line p.root_line p.extensions p.fields (inl (refl, p.no_size))
+  tested (Err SizeTooLarge) no_a p =
+      full (Err SizeTooLarge) p.origin p.size_line p.root_line p.extensions p.fields
+      (inr (p.size, p.has_size, inl (refl, p.too_large)))
+  tested (Err BadRoot) no_a p =
+      full (Err BadRoot) p.origin p.size_line p.root_line p.extensions p.fields
+      (inr (p.size, p.has_size, inr (p.in_range, inl (refl, p.no_root))))
+  tested (Err OutOfMemory) no_a p = absurd (no_a refl)
+
+  few_apart : (a : Reading) → HasTooFewLines text → Enough a → ⊥
+  few_apart a few (inl p) = omega (arith, few p.1.lines p.1.has_lines, p.1.enough)
+  few_apart a few (inr (o, s, r, e, fields, is)) =
+      omega (arith, few (o ∷ s ∷ r ∷ e) (lines_from_fields text o s r e fields))
+
+  empty_apart : (a : Reading) → HasEmptyLine text → Full a → ⊥
+  empty_apart a p (o, s, r, e, fields, is) =
       let same : p.lines ≡ o ∷ s ∷ r ∷ e =
       one_lines text p.lines (o ∷ s ∷ r ∷ e) p.has_lines (lines_from_fields text o s r e fields) in
       let found = subst (λ (lines : List (List ℕ)). Contains lines []) same p.has_empty in
       none_empty (o ∷ s ∷ r ∷ e) fields.are_full found.0 found.1 found.2
 
-  bad_size : HasBadSize text → (n : ℕ) → IsDecimal s n → ⊥
-  bad_size p n is =
-      let same = one_fields text p.origin p.size_line p.root_line p.extensions o s r e p.fields fields in
-      p.no_size n (subst (λ (line : List ℕ). IsDecimal line n) (sym same.size) is)
-
-  large_size : HasLargeSize text → (n : ℕ) → IsDecimal s n → n ≤ MAX_SIZE → ⊥
-  large_size p n is lt =
-      let same = one_fields text p.origin p.size_line p.root_line p.extensions o s r e p.fields fields in
-      let here : IsDecimal s p.size = subst (λ (line : List ℕ). IsDecimal line p.size) same.size p.has_size in
-      omega (arith, one_number s p.size n here is, p.too_large, lt)
-
-  bad_root : HasBadRoot text → (root : List ℕ) → IsHashText r root → ⊥
-  bad_root p root is =
-      let same = one_fields text p.origin p.size_line p.root_line p.extensions o s r e p.fields fields in
-      p.no_root root (subst (λ (line : List ℕ). IsHashText line root) (sym same.root) is)
+  one_full : (a b : Reading) → Full a → Full b → a ≡ b
+  one_full a b (o, s, r, e, fields, is) (o', s', r', e', fields', is') =
+      let same = one_fields text o' s' r' e' o s r e fields' fields in
+      one_behind (Err BadSize) _ (Sized o s r e) (λ c none some. none some.0 some.1) a b (one_size o s r e a b) is
+      (rw (← same.origin, ← same.size, ← same.root, ← same.extensions) is')
 
 pub one_answer : OneCheckpointAnswer
-one_answer text (Err TooFewLines) (Err TooFewLines) no_a no_b p q = refl
-one_answer text (Err TooFewLines) (Err EmptyLine) no_a no_b p q = absurd (few_empty text p q)
-one_answer text (Err TooFewLines) (Err BadSize) no_a no_b p q =
-    absurd (few_fields text q.origin q.size_line q.root_line q.extensions q.fields p)
-one_answer text (Err TooFewLines) (Err SizeTooLarge) no_a no_b p q =
-    absurd (few_fields text q.origin q.size_line q.root_line q.extensions q.fields p)
-one_answer text (Err TooFewLines) (Err BadRoot) no_a no_b p q =
-    absurd (few_fields text q.origin q.size_line q.root_line q.extensions q.fields p)
-one_answer text (Err TooFewLines) (Ok b) no_a no_b p q =
-    absurd (few_fields text b.origin q.size_line q.root_line b.extensions q.fields p)
-one_answer text (Err TooFewLines) (Err OutOfMemory) no_a no_b p q = absurd (no_b refl)
-one_answer text (Err EmptyLine) (Err TooFewLines) no_a no_b p q = absurd (few_empty text q p)
-one_answer text (Err EmptyLine) (Err EmptyLine) no_a no_b p q = refl
-one_answer text (Err EmptyLine) (Err BadSize) no_a no_b p q =
-    absurd (empty_fields text q.origin q.size_line q.root_line q.extensions q.fields p)
-one_answer text (Err EmptyLine) (Err SizeTooLarge) no_a no_b p q =
-    absurd (empty_fields text q.origin q.size_line q.root_line q.extensions q.fields p)
-one_answer text (Err EmptyLine) (Err BadRoot) no_a no_b p q =
-    absurd (empty_fields text q.origin q.size_line q.root_line q.extensions q.fields p)
-one_answer text (Err EmptyLine) (Ok b) no_a no_b p q =
-    absurd (empty_fields text b.origin q.size_line q.root_line b.extensions q.fields p)
-one_answer text (Err EmptyLine) (Err OutOfMemory) no_a no_b p q = absurd (no_b refl)
-one_answer text (Err BadSize) (Err TooFewLines) no_a no_b p q =
-    absurd (few_fields text p.origin p.size_line p.root_line p.extensions p.fields q)
-one_answer text (Err BadSize) (Err EmptyLine) no_a no_b p q =
-    absurd (empty_fields text p.origin p.size_line p.root_line p.extensions p.fields q)
-one_answer text (Err BadSize) (Err BadSize) no_a no_b p q = refl
-one_answer text (Err BadSize) (Err SizeTooLarge) no_a no_b p q =
-    absurd (bad_size text q.origin q.size_line q.root_line q.extensions q.fields p q.size q.has_size)
-one_answer text (Err BadSize) (Err BadRoot) no_a no_b p q =
-    absurd (bad_size text q.origin q.size_line q.root_line q.extensions q.fields p q.size q.has_size)
-one_answer text (Err BadSize) (Ok b) no_a no_b p q =
-    absurd (bad_size text b.origin q.size_line q.root_line b.extensions q.fields p b.size q.has_size)
-one_answer text (Err BadSize) (Err OutOfMemory) no_a no_b p q = absurd (no_b refl)
-one_answer text (Err SizeTooLarge) (Err TooFewLines) no_a no_b p q =
-    absurd (few_fields text p.origin p.size_line p.root_line p.extensions p.fields q)
-one_answer text (Err SizeTooLarge) (Err EmptyLine) no_a no_b p q =
-    absurd (empty_fields text p.origin p.size_line p.root_line p.extensions p.fields q)
-one_answer text (Err SizeTooLarge) (Err BadSize) no_a no_b p q =
-    absurd (bad_size text p.origin p.size_line p.root_line p.extensions p.fields q p.size p.has_size)
-one_answer text (Err SizeTooLarge) (Err SizeTooLarge) no_a no_b p q = refl
-one_answer text (Err SizeTooLarge) (Err BadRoot) no_a no_b p q =
-    absurd (large_size text q.origin q.size_line q.root_line q.extensions q.fields p q.size q.has_size q.in_range)
-one_answer text (Err SizeTooLarge) (Ok b) no_a no_b p q =
-    absurd (large_size text b.origin q.size_line q.root_line b.extensions q.fields p b.size q.has_size q.in_range)
-one_answer text (Err SizeTooLarge) (Err OutOfMemory) no_a no_b p q = absurd (no_b refl)
-one_answer text (Err BadRoot) (Err TooFewLines) no_a no_b p q =
-    absurd (few_fields text p.origin p.size_line p.root_line p.extensions p.fields q)
-one_answer text (Err BadRoot) (Err EmptyLine) no_a no_b p q =
-    absurd (empty_fields text p.origin p.size_line p.root_line p.extensions p.fields q)
-one_answer text (Err BadRoot) (Err BadSize) no_a no_b p q =
-    absurd (bad_size text p.origin p.size_line p.root_line p.extensions p.fields q p.size p.has_size)
-one_answer text (Err BadRoot) (Err SizeTooLarge) no_a no_b p q =
-    absurd (large_size text p.origin p.size_line p.root_line p.extensions p.fields q p.size p.has_size p.in_range)
-one_answer text (Err BadRoot) (Err BadRoot) no_a no_b p q = refl
-one_answer text (Err BadRoot) (Ok b) no_a no_b p q =
-    absurd (bad_root text b.origin q.size_line q.root_line b.extensions q.fields p b.root q.has_root)
-one_answer text (Err BadRoot) (Err OutOfMemory) no_a no_b p q = absurd (no_b refl)
-one_answer text (Ok a) (Err TooFewLines) no_a no_b p q =
-    absurd (few_fields text a.origin p.size_line p.root_line a.extensions p.fields q)
-one_answer text (Ok a) (Err EmptyLine) no_a no_b p q =
-    absurd (empty_fields text a.origin p.size_line p.root_line a.extensions p.fields q)
-one_answer text (Ok a) (Err BadSize) no_a no_b p q =
-    absurd (bad_size text a.origin p.size_line p.root_line a.extensions p.fields q a.size p.has_size)
-one_answer text (Ok a) (Err SizeTooLarge) no_a no_b p q =
-    absurd (large_size text a.origin p.size_line p.root_line a.extensions p.fields q a.size p.has_size p.in_range)
-one_answer text (Ok a) (Err BadRoot) no_a no_b p q =
-    absurd (bad_root text a.origin p.size_line p.root_line a.extensions p.fields q a.root p.has_root)
-one_answer text (Ok a) (Ok b) no_a no_b p q = ap Ok (one_reading text a b p q)
-one_answer text (Ok a) (Err OutOfMemory) no_a no_b p q = absurd (no_b refl)
-one_answer text (Err OutOfMemory) b no_a no_b p q = absurd (no_a refl)
+one_answer text a b no_a no_b p q =
+    one_behind (Err TooFewLines) _ (Enough text) (few_apart text) a b
+    (one_behind (Err EmptyLine) _ (Full text) (empty_apart text) a b (one_full text a b))
+    (tested text a no_a p) (tested text b no_b q)
 
--- a text that is refused is no checkpoint
-pub refused : (text : List ℕ) (c : Checkpoint) (e : CheckpointFault) → e ≢ OutOfMemory → ReadsCheckpoint text (Err e) →
-    IsCheckpoint text c.origin c.size c.root c.extensions → ⊥
-refused text c e other p q =
-    let same : Err e ≡ Ok c = one_answer text (Err e) (Ok c) (λ is. other (cc is)) (λ is. cc is) p q in
+pub one_reading : TextIsOneCheckpoint
+one_reading text a b p q =
+    let same : Ok a ≡ Ok b = one_answer text (Ok a) (Ok b) (λ is. cc is) (λ is. cc is) p q in
     cc same
 
 -- a checkpoint's text is read as that checkpoint

@@ -1,15 +1,11 @@
 -- One text, one checkpoint: the grammar's laws.
-use Rattle.std.proofs.Common.{◌≡◌, ℕ, ◌<◌, ◌^◌, arith, List, [], ◌∷◌, refl, sym, ◌∙◌, subst}
+use Rattle.std.proofs.Common.{◌≡◌, ℕ, ◌<◌, ◌^◌, arith, List, [], ◌∷◌, refl, sym, ◌∙◌}
 use Rattle.std.specs.List.{AllByRecursion}
-use Rattle.tlog_checkpoint.specs.declared.Checkpoint.{Checkpoint}
 use Rattle.tlog_checkpoint.specs.Lines.{HasLines, text_of, IsLine}
-use Rattle.tlog_text.specs.Number.{IsDecimal}
-use Rattle.tlog_text.specs.Hash.{IsHashText}
 use Rattle.tlog_checkpoint.specs.Grammar.{HasFields, IsFullLine}
-use Rattle.tlog_checkpoint.specs.Laws.{TextIsOneCheckpoint, CheckpointHasOneText, WhatIsReadIsWritable}
+use Rattle.tlog_checkpoint.specs.Laws.{CheckpointHasOneText, WhatIsReadIsWritable}
 use Rattle.tlog_checkpoint.proofs.LineLemmas.{one_lines}
-use Rattle.tlog_text.proofs.Decimals.{one_number, decimal_is}
-use Rattle.tlog_text.proofs.Hashes.{one_hash}
+use Rattle.tlog_text.proofs.Decimals.{decimal_is}
 
 are_lines : (lines : List (List ℕ)) → AllByRecursion IsFullLine lines → AllByRecursion IsLine lines
 are_lines [] h = tt
@@ -34,23 +30,6 @@ one_fields text o s r e o' s' r' e' p q =
     one_lines text (o ∷ s ∷ r ∷ e) (o' ∷ s' ∷ r' ∷ e') (lines_from_fields text o s r e p)
     (lines_from_fields text o' s' r' e' q) in
     record { origin = cc same; size = cc same; root = cc same; extensions = cc same }
-
--- equal fields make equal checkpoints
-same_checkpoint : (a b : Checkpoint) → a.origin ≡ b.origin → a.size ≡ b.size → a.root ≡ b.root →
-    a.extensions ≡ b.extensions → a ≡ b
-same_checkpoint a b o s r e i = record { origin = o i; size = s i; root = r i; extensions = e i }
-
-pub one_reading : TextIsOneCheckpoint
-one_reading text a b p q =
-    let same =
-    one_fields text a.origin p.size_line p.root_line a.extensions b.origin q.size_line q.root_line b.extensions
-    p.fields q.fields in
-    let line = λ (x : List ℕ). IsDecimal x a.size in
-    let root = λ (x : List ℕ). IsHashText x a.root in
-    same_checkpoint a b same.origin
-    (one_number q.size_line a.size b.size (subst line same.size p.has_size) q.has_size)
-    (one_hash q.root_line a.root b.root (subst root same.root p.has_root) q.has_root)
-    same.extensions
 
 pub one_text : CheckpointHasOneText
 one_text s t origin size root extensions p q =
