@@ -6,6 +6,7 @@ pub mod ListedNotes
 pub mod MergedMirrors
 pub mod PlayedEvents
 pub mod JudgedEvents
+pub mod PlayedMerges
 pub mod TakenHeads
 pub mod BestNotes
 pub mod ServedNotes
