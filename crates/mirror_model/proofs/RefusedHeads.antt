@@ -61,13 +61,6 @@ same_text_fault text f g p q no_f no_g =
     let same : one ≡ other = checkpoint.one_answer text one other (λ e. no_f (cc e)) (λ e. no_g (cc e)) p q in
     cc same
 
-same_checkpoint : (text : List ℕ) (c d : Checkpoint) → ReadsCheckpoint text (Ok c) → ReadsCheckpoint text (Ok d) → c ≡ d
-same_checkpoint text c d p q =
-    let one : Result Checkpoint CheckpointFault = Ok c in
-    let other : Result Checkpoint CheckpointFault = Ok d in
-    let same : one ≡ other = checkpoint.one_answer text one other (λ e. cc e) (λ e. cc e) p q in
-    cc same
-
 -- ---- how far reading a head's note goes
 
 module _ (bytes origin : List ℕ) (keys : List Key) where
@@ -170,7 +163,7 @@ module _ (bytes origin : List ℕ) (keys : List Key) where
         a ≡ b
     same_after_text text lines p q =
         let same : p.checkpoint ≡ q.checkpoint =
-        same_checkpoint text p.checkpoint q.checkpoint p.is_checkpoint q.is_checkpoint in
+        checkpoint.one_reading text p.checkpoint q.checkpoint p.is_checkpoint q.is_checkpoint in
         let origins : p.checkpoint.origin ≡ q.checkpoint.origin = ap (λ (c : Checkpoint). c.origin) same in
         elim p.then [
           | inl x ↦ elim q.then [ inl y ↦ x.0 ∙ sym y.0 | inr y ↦ absurd (x.1 (origins ∙ y.0)) ]
