@@ -100,30 +100,31 @@ puts_none now page = record {
   hashes = λ text h. subst (Holds256 page.digest) (sym (append-nil text)) h;
 }
 
-module _ (old mid new : Option (List ℕ)) (page page' page'' : Page) (first second whole : List ℕ)
-    (is : first ++ second ≡ whole) where
-  pub puts_then : (answer : Result (Unit {0}) StreamFault) → Puts old mid page page' first (Ok tt) →
-      Puts mid new page' page'' second answer → Puts old new page page'' whole answer
-  puts_then (Ok done) p q = subst (λ (w : List ℕ). Puts old new page page'' w (Ok tt)) is (record {
-    writes = writes_then old mid new page.held.items page'.held.items page''.held.items first second (Ok done)
-        p.writes q.writes;
-    hashes = λ text h. subst (Holds256 page''.digest) (append_assoc text first second)
-        (q.hashes (text ++ first) (p.hashes text h));
-  })
-  puts_then (Err fault) p q = subst (λ (w : List ℕ). Puts old new page page'' w (Err fault)) is (record {
-    writes = writes_then old mid new page.held.items page'.held.items page''.held.items first second (Err fault)
-        p.writes q.writes;
-    hashes = tt;
-  })
+-- a piece is put, and then another
+pub puts_then :
+    {old mid new : Option (List ℕ)} {page page' page'' : Page} {first second : List ℕ}
+    {answer : Result (Unit {0}) StreamFault} → Puts old mid page page' first (Ok tt) →
+    Puts mid new page' page'' second answer → Puts old new page page'' (first ++ second) answer
+puts_then {old} {mid} {new} {page} {page'} {page''} {first} {second} {answer = Ok done} p q = record {
+  writes = writes_then old mid new page.held.items page'.held.items page''.held.items first second (Ok done)
+      p.writes q.writes;
+  hashes = λ text h. subst (Holds256 page''.digest) (append_assoc text first second)
+      (q.hashes (text ++ first) (p.hashes text h));
+}
+puts_then {old} {mid} {new} {page} {page'} {page''} {first} {second} {answer = Err fault} p q = record {
+  writes = writes_then old mid new page.held.items page'.held.items page''.held.items first second (Err fault)
+      p.writes q.writes;
+  hashes = tt;
+}
 
 -- a piece fails, and what would have followed it is not put
-pub puts_short : (old new : Option (List ℕ)) (page page' : Page) (first rest whole : List ℕ) → first ++ rest ≡ whole →
-    (fault : StreamFault) → Puts old new page page' first (Err fault) → Puts old new page page' whole (Err fault)
-puts_short old new page page' first rest whole is fault p =
-    subst (λ (w : List ℕ). Puts old new page page' w (Err fault)) is (record {
-      writes = writes_short old new page.held.items page'.held.items first rest fault p.writes;
-      hashes = tt;
-    })
+pub puts_short :
+    {old new : Option (List ℕ)} {page page' : Page} {first : List ℕ} {fault : StreamFault} (rest : List ℕ) →
+    Puts old new page page' first (Err fault) → Puts old new page page' (first ++ rest) (Err fault)
+puts_short {old} {new} {page} {page'} {first} {fault} rest p = record {
+  writes = writes_short old new page.held.items page'.held.items first rest fault p.writes;
+  hashes = tt;
+}
 
 pub with_digest : {A : Type 0} (old new : Sha256) (piece : List ℕ) (answer : Result A StreamFault) →
     ((text : List ℕ) → Holds256 old text → Holds256 new (text ++ piece)) →
@@ -173,17 +174,20 @@ module _ {X : Type 0} (f : List ℕ → List ℕ) (g : X → List ℕ) where
   text_split (x ∷ xs) (suc i) = append_assoc (f (g x)) (flat_map f (map g (take i xs))) (flat_map f (map g (drop i xs)))
       ∙ ap (λ (w : List ℕ). f (g x) ++ w) (text_split xs i)
 
-  module _ (old mid new : Option (List ℕ)) (page page' page'' : Page) (xs : List X) (i : ℕ) (d : X) (lt : i < length xs)
-      (before : Puts old mid page page' (flat_map f (map g (take i xs))) (Ok tt)) where
-    pub puts_next : Puts mid new page' page'' (f (g (get_or xs i d))) (Ok tt) →
-        Puts old new page page'' (flat_map f (map g (take (i + 1) xs))) (Ok tt)
-    puts_next p = puts_then old mid new page page' page'' (flat_map f (map g (take i xs))) (f (g (get_or xs i d)))
-        (flat_map f (map g (take (i + 1) xs))) (text_more xs i d lt) (Ok tt) before p
+  -- the next item is put behind those before it
+  pub puts_next :
+      {old mid new : Option (List ℕ)} {page page' page'' : Page} (xs : List X) (i : ℕ) (d : X) → i < length xs →
+      Puts old mid page page' (flat_map f (map g (take i xs))) (Ok tt) →
+      Puts mid new page' page'' (f (g (get_or xs i d))) (Ok tt) →
+      Puts old new page page'' (flat_map f (map g (take (i + 1) xs))) (Ok tt)
+  puts_next xs i d lt before p = rw (← text_more xs i d lt) (puts_then before p)
 
-    pub puts_last : (fault : StreamFault) → Puts mid new page' page'' (f (g (get_or xs i d))) (Err fault) →
-        Puts old new page page'' (flat_map f (map g xs)) (Err fault)
-    puts_last fault p =
-        puts_short old new page page'' (flat_map f (map g (take (i + 1) xs))) (flat_map f (map g (drop (i + 1) xs)))
-        (flat_map f (map g xs)) (text_split xs (i + 1)) fault
-        (puts_then old mid new page page' page'' (flat_map f (map g (take i xs))) (f (g (get_or xs i d)))
-        (flat_map f (map g (take (i + 1) xs))) (text_more xs i d lt) (Err fault) before p)
+  -- the next item fails, and those behind it are not put
+  pub puts_last :
+      {old mid new : Option (List ℕ)} {page page' page'' : Page} {fault : StreamFault} (xs : List X) (i : ℕ) (d : X) →
+      i < length xs → Puts old mid page page' (flat_map f (map g (take i xs))) (Ok tt) →
+      Puts mid new page' page'' (f (g (get_or xs i d))) (Err fault) →
+      Puts old new page page'' (flat_map f (map g xs)) (Err fault)
+  puts_last xs i d lt before p =
+      rw (← text_split xs (i + 1), ← text_more xs i d lt)
+      (puts_short (flat_map f (map g (drop (i + 1) xs))) (puts_then before p))

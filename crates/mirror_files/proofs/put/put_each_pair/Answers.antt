@@ -6,17 +6,13 @@ use Rattle.mirror_files.proofs.put.put_each_pair.Goals as goal
 
 pub returns-in-Err : goal.returns-in-Err
 returns-in-Err g c =
-    puts_last (item_text Hashes) pair_bytes (g.W.Write.contents c.args.writer.now)
-    (g.W.Write.contents c.loop-left.writer) (g.W.Write.contents c.put_pair.new.writer)
-    c.args.page.now c.loop-left.page c.put_pair.new.page c.args.pairs.now c.loop-left.left-index _
-    c.loop-left-test.true c.loop-left.invariant c.in-Err.fault c.in-Err.ensures
+    puts_last (item_text Hashes) pair_bytes c.args.pairs.now c.loop-left.left-index _ c.loop-left-test.true
+    c.loop-left.invariant c.in-Err.ensures
 
 pub loop-left-init : goal.loop-left-init
 loop-left-init g c = puts_none (g.W.Write.contents c.args.writer.now) c.args.page.now
 
 pub loop-left-preserved : goal.loop-left-preserved
 loop-left-preserved g c =
-    puts_next (item_text Hashes) pair_bytes (g.W.Write.contents c.args.writer.now)
-    (g.W.Write.contents c.loop-left.writer) (g.W.Write.contents c.put_pair.new.writer)
-    c.args.page.now c.loop-left.page c.put_pair.new.page c.args.pairs.now c.loop-left.left-index _
-    c.loop-left-test.true c.loop-left.invariant c.in-Ok.ensures
+    puts_next (item_text Hashes) pair_bytes c.args.pairs.now c.loop-left.left-index _ c.loop-left-test.true
+    c.loop-left.invariant c.in-Ok.ensures

@@ -14,17 +14,13 @@ put_item-requires g c = subst (IsItem c.args.form) (get_or-map (λ (i : Bor (Lis
 
 pub returns-in-Err : goal.returns-in-Err
 returns-in-Err g c =
-    puts_last (item_text c.args.form) (λ (i : Bor (List ℕ)). i.now) (g.W.Write.contents c.args.writer.now)
-    (g.W.Write.contents c.loop-item.writer) (g.W.Write.contents c.put_item.new.writer)
-    c.args.page.now c.loop-item.page c.put_item.new.page c.args.items.now c.loop-item.item-index _
-    c.loop-item-test.true c.loop-item.invariant c.in-Err.fault c.in-Err.ensures
+    puts_last (item_text c.args.form) (λ (i : Bor (List ℕ)). i.now) c.args.items.now c.loop-item.item-index _
+    c.loop-item-test.true c.loop-item.invariant c.in-Err.ensures
 
 pub loop-item-init : goal.loop-item-init
 loop-item-init g c = puts_none (g.W.Write.contents c.args.writer.now) c.args.page.now
 
 pub loop-item-preserved : goal.loop-item-preserved
 loop-item-preserved g c =
-    puts_next (item_text c.args.form) (λ (i : Bor (List ℕ)). i.now) (g.W.Write.contents c.args.writer.now)
-    (g.W.Write.contents c.loop-item.writer) (g.W.Write.contents c.put_item.new.writer)
-    c.args.page.now c.loop-item.page c.put_item.new.page c.args.items.now c.loop-item.item-index _
+    puts_next (item_text c.args.form) (λ (i : Bor (List ℕ)). i.now) c.args.items.now c.loop-item.item-index _
     c.loop-item-test.true c.loop-item.invariant c.in-Ok.ensures

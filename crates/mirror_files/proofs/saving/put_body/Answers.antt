@@ -1,5 +1,4 @@
-use Rattle.std.proofs.Common.{◌≡◌, ◌++◌, ℕ, List, map, Err, refl, ap}
-use Rattle.std.specs.Prelude.{codes}
+use Rattle.std.proofs.Common.{◌++◌, ℕ, List, map}
 use Rattle.std.specs.Borrow.{Bor}
 use Rattle.mirror_files.specs.declared.items.Form.TheVariants.{Short, Long, Hashes}
 use Rattle.mirror_files.specs.Items.{item_text, list_text}
@@ -7,95 +6,45 @@ use Rattle.mirror_files.specs.Putting.{pair_bytes}
 use Rattle.mirror_files.proofs.Putting.{puts_short, puts_then}
 use Rattle.mirror_files.proofs.saving.put_body.Goals as goal
 
+-- what stands behind the pairs, behind the notes, and behind the origin
+abbrev items_in : List (Bor (List ℕ)) → List (List ℕ)
+items_in items = map (λ (i : Bor (List ℕ)). i.now) items
+
+abbrev entries_text : List (Bor (List ℕ)) → List ℕ
+entries_text entries = list_text Short (items_in entries)
+
+abbrev pairs_text : List (Bor (List ℕ) × Bor (List ℕ)) → List (Bor (List ℕ)) → List ℕ
+pairs_text pairs entries = list_text Hashes (map pair_bytes pairs) ++ entries_text entries
+
+abbrev notes_text : List (Bor (List ℕ)) → List (Bor (List ℕ) × Bor (List ℕ)) → List (Bor (List ℕ)) → List ℕ
+notes_text notes pairs entries = list_text Long (items_in notes) ++ pairs_text pairs entries
+
 pub returns-in-Err : goal.returns-in-Err
 returns-in-Err g c =
-    let origin = item_text Short c.args.origin.now in
-    let notes = list_text Long (map (λ (n : Bor (List ℕ)). n.now) c.args.notes.now) in
-    let pairs = list_text Hashes (map pair_bytes c.args.pairs.now) in
-    let entries = list_text Short (map (λ (e : Bor (List ℕ)). e.now) c.args.entries.now) in
-    let magic : c.as_slice.result.now ++ (origin ++ (notes ++ (pairs ++ entries)))
-    ≡ codes "TLMIRR02" ++ (origin ++ (notes ++ (pairs ++ entries))) =
-    ap (λ (w : List ℕ). w ++ (origin ++ (notes ++ (pairs ++ entries)))) c.as_slice.ensures in
-    (puts_short (g.W.Write.contents c.args.writer.now) (g.W.Write.contents c.put.new.writer)
-    c.args.page.now c.put.new.page c.as_slice.result.now (origin ++ (notes ++ (pairs ++ entries)))
-    _ magic c.in-Err.fault c.in-Err.ensures)
+    puts_short
+    (item_text Short c.args.origin.now ++ notes_text c.args.notes.now c.args.pairs.now c.args.entries.now)
+    (rw c.as_slice.ensures at c.in-Err.ensures)
 
 pub returns-in-Err-put_short : goal.returns-in-Err-put_short
 returns-in-Err-put_short g c =
-    let origin = item_text Short c.args.origin.now in
-    let notes = list_text Long (map (λ (n : Bor (List ℕ)). n.now) c.args.notes.now) in
-    let pairs = list_text Hashes (map pair_bytes c.args.pairs.now) in
-    let entries = list_text Short (map (λ (e : Bor (List ℕ)). e.now) c.args.entries.now) in
-    let magic : c.as_slice.result.now ++ (origin ++ (notes ++ (pairs ++ entries)))
-    ≡ codes "TLMIRR02" ++ (origin ++ (notes ++ (pairs ++ entries))) =
-    ap (λ (w : List ℕ). w ++ (origin ++ (notes ++ (pairs ++ entries)))) c.as_slice.ensures in
-    (puts_then (g.W.Write.contents c.args.writer.now) (g.W.Write.contents c.put.new.writer)
-    (g.W.Write.contents c.put_short.new.writer) c.args.page.now c.put.new.page c.put_short.new.page
-    c.as_slice.result.now (origin ++ (notes ++ (pairs ++ entries))) _ magic (Err c.in-Err-put_short.fault)
-    c.in-Ok.ensures (puts_short (g.W.Write.contents c.put.new.writer) (g.W.Write.contents c.put_short.new.writer)
-    c.put.new.page c.put_short.new.page origin (notes ++ (pairs ++ entries))
-    (origin ++ (notes ++ (pairs ++ entries))) refl c.in-Err-put_short.fault c.in-Err-put_short.ensures))
+    puts_then (rw c.as_slice.ensures at c.in-Ok.ensures)
+    (puts_short (notes_text c.args.notes.now c.args.pairs.now c.args.entries.now) c.in-Err-put_short.ensures)
 
 pub returns-in-Err-put_list : goal.returns-in-Err-put_list
 returns-in-Err-put_list g c =
-    let origin = item_text Short c.args.origin.now in
-    let notes = list_text Long (map (λ (n : Bor (List ℕ)). n.now) c.args.notes.now) in
-    let pairs = list_text Hashes (map pair_bytes c.args.pairs.now) in
-    let entries = list_text Short (map (λ (e : Bor (List ℕ)). e.now) c.args.entries.now) in
-    let magic : c.as_slice.result.now ++ (origin ++ (notes ++ (pairs ++ entries)))
-    ≡ codes "TLMIRR02" ++ (origin ++ (notes ++ (pairs ++ entries))) =
-    ap (λ (w : List ℕ). w ++ (origin ++ (notes ++ (pairs ++ entries)))) c.as_slice.ensures in
-    (puts_then (g.W.Write.contents c.args.writer.now) (g.W.Write.contents c.put.new.writer)
-    (g.W.Write.contents c.put_list.new.writer) c.args.page.now c.put.new.page c.put_list.new.page
-    c.as_slice.result.now (origin ++ (notes ++ (pairs ++ entries))) _ magic (Err c.in-Err-put_list.fault)
-    c.in-Ok.ensures (puts_then (g.W.Write.contents c.put.new.writer) (g.W.Write.contents c.put_short.new.writer)
-    (g.W.Write.contents c.put_list.new.writer) c.put.new.page c.put_short.new.page c.put_list.new.page origin
-    (notes ++ (pairs ++ entries)) (origin ++ (notes ++ (pairs ++ entries))) refl
-    (Err c.in-Err-put_list.fault) c.in-Ok-put_short.ensures (puts_short (g.W.Write.contents c.put_short.new.writer)
-    (g.W.Write.contents c.put_list.new.writer) c.put_short.new.page c.put_list.new.page notes (pairs ++ entries)
-    (notes ++ (pairs ++ entries)) refl c.in-Err-put_list.fault c.in-Err-put_list.ensures)))
+    puts_then (rw c.as_slice.ensures at c.in-Ok.ensures)
+    (puts_then c.in-Ok-put_short.ensures
+    (puts_short (pairs_text c.args.pairs.now c.args.entries.now) c.in-Err-put_list.ensures))
 
 pub returns-in-Err-put_pairs : goal.returns-in-Err-put_pairs
 returns-in-Err-put_pairs g c =
-    let origin = item_text Short c.args.origin.now in
-    let notes = list_text Long (map (λ (n : Bor (List ℕ)). n.now) c.args.notes.now) in
-    let pairs = list_text Hashes (map pair_bytes c.args.pairs.now) in
-    let entries = list_text Short (map (λ (e : Bor (List ℕ)). e.now) c.args.entries.now) in
-    let magic : c.as_slice.result.now ++ (origin ++ (notes ++ (pairs ++ entries)))
-    ≡ codes "TLMIRR02" ++ (origin ++ (notes ++ (pairs ++ entries))) =
-    ap (λ (w : List ℕ). w ++ (origin ++ (notes ++ (pairs ++ entries)))) c.as_slice.ensures in
-    (puts_then (g.W.Write.contents c.args.writer.now) (g.W.Write.contents c.put.new.writer)
-    (g.W.Write.contents c.put_pairs.new.writer) c.args.page.now c.put.new.page c.put_pairs.new.page
-    c.as_slice.result.now (origin ++ (notes ++ (pairs ++ entries))) _ magic (Err c.in-Err-put_pairs.fault)
-    c.in-Ok.ensures (puts_then (g.W.Write.contents c.put.new.writer) (g.W.Write.contents c.put_short.new.writer)
-    (g.W.Write.contents c.put_pairs.new.writer) c.put.new.page c.put_short.new.page c.put_pairs.new.page origin
-    (notes ++ (pairs ++ entries)) (origin ++ (notes ++ (pairs ++ entries))) refl (Err c.in-Err-put_pairs.fault)
-    c.in-Ok-put_short.ensures (puts_then (g.W.Write.contents c.put_short.new.writer)
-    (g.W.Write.contents c.put_list.new.writer) (g.W.Write.contents c.put_pairs.new.writer) c.put_short.new.page
-    c.put_list.new.page c.put_pairs.new.page notes (pairs ++ entries) (notes ++ (pairs ++ entries)) refl
-    (Err c.in-Err-put_pairs.fault) c.in-Ok-put_list.ensures (puts_short (g.W.Write.contents c.put_list.new.writer)
-    (g.W.Write.contents c.put_pairs.new.writer) c.put_list.new.page c.put_pairs.new.page pairs entries
-    (pairs ++ entries) refl c.in-Err-put_pairs.fault c.in-Err-put_pairs.ensures))))
+    puts_then (rw c.as_slice.ensures at c.in-Ok.ensures)
+    (puts_then c.in-Ok-put_short.ensures
+    (puts_then c.in-Ok-put_list.ensures
+    (puts_short (entries_text c.args.entries.now) c.in-Err-put_pairs.ensures)))
 
 pub returns : goal.returns
 returns g c =
-    let origin = item_text Short c.args.origin.now in
-    let notes = list_text Long (map (λ (n : Bor (List ℕ)). n.now) c.args.notes.now) in
-    let pairs = list_text Hashes (map pair_bytes c.args.pairs.now) in
-    let entries = list_text Short (map (λ (e : Bor (List ℕ)). e.now) c.args.entries.now) in
-    let magic : c.as_slice.result.now ++ (origin ++ (notes ++ (pairs ++ entries)))
-    ≡ codes "TLMIRR02" ++ (origin ++ (notes ++ (pairs ++ entries))) =
-    ap (λ (w : List ℕ). w ++ (origin ++ (notes ++ (pairs ++ entries)))) c.as_slice.ensures in
-    (puts_then (g.W.Write.contents c.args.writer.now) (g.W.Write.contents c.put.new.writer)
-    (g.W.Write.contents c.put_list-2.new.writer) c.args.page.now c.put.new.page c.put_list-2.new.page
-    c.as_slice.result.now (origin ++ (notes ++ (pairs ++ entries))) _ magic c.put_list-2.result c.in-Ok.ensures
-    (puts_then (g.W.Write.contents c.put.new.writer) (g.W.Write.contents c.put_short.new.writer)
-    (g.W.Write.contents c.put_list-2.new.writer) c.put.new.page c.put_short.new.page c.put_list-2.new.page origin
-    (notes ++ (pairs ++ entries)) (origin ++ (notes ++ (pairs ++ entries)))
-    refl c.put_list-2.result c.in-Ok-put_short.ensures
-    (puts_then (g.W.Write.contents c.put_short.new.writer) (g.W.Write.contents c.put_list.new.writer)
-    (g.W.Write.contents c.put_list-2.new.writer) c.put_short.new.page c.put_list.new.page c.put_list-2.new.page
-    notes (pairs ++ entries) (notes ++ (pairs ++ entries)) refl c.put_list-2.result c.in-Ok-put_list.ensures
-    (puts_then (g.W.Write.contents c.put_list.new.writer) (g.W.Write.contents c.put_pairs.new.writer)
-    (g.W.Write.contents c.put_list-2.new.writer) c.put_list.new.page c.put_pairs.new.page c.put_list-2.new.page
-    pairs entries (pairs ++ entries) refl c.put_list-2.result c.in-Ok-put_pairs.ensures c.put_list-2.ensures))))
+    puts_then (rw c.as_slice.ensures at c.in-Ok.ensures)
+    (puts_then c.in-Ok-put_short.ensures
+    (puts_then c.in-Ok-put_list.ensures (puts_then c.in-Ok-put_pairs.ensures c.put_list-2.ensures)))
