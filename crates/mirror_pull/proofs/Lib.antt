@@ -8,4 +8,5 @@ pub mod TrueTakes
 pub mod Orders
 pub mod TrueWork
 pub mod TruePulls
+pub mod BegunPulls
 pub mod Growth

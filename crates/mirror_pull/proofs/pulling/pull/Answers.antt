@@ -1,16 +1,15 @@
 use Rattle.std.proofs.Common.{◌≡◌, ◌∙◌, ◌<◌, ◌^◌, Some, None, refl, sym, ap, subst, map, take, inl, arith}
 use Rattle.tlog_tiles.specs.declared.paths.Path.TheVariants.{Checkpoint}
-use Rattle.mirror_model.proofs.Views.{within_itself, head_stays}
+use Rattle.mirror_model.proofs.Views.{head_stays}
 use Rattle.mirror_pull.specs.Answering.{of_take}
-use Rattle.mirror_pull.proofs.TrueRows.{source_stays}
-use Rattle.mirror_pull.proofs.TruePulls.{none_asked, first_asked, parts_asked, some_same, never_none, read_honestly}
-use Rattle.mirror_pull.proofs.TruePulls.{read_small, pull_source, edge_fresh, rows_of_edge, head_fault, head_done}
-use Rattle.mirror_pull.proofs.TruePulls.{rounds_may, worked_complete, worked_gets, worked_few, worked_none, worked_note}
-use Rattle.mirror_pull.proofs.TruePulls.{worked_notes, worked_strings, outcome_read}
+use Rattle.mirror_pull.proofs.BegunPulls.{is_begun, may_go_on, rows_are_edge}
+use Rattle.mirror_pull.proofs.TruePulls.{none_asked, first_asked, parts_asked, some_same, never_none, edge_fresh}
+use Rattle.mirror_pull.proofs.TruePulls.{head_fault, worked_complete, worked_gets, worked_few, worked_none}
+use Rattle.mirror_pull.proofs.TruePulls.{worked_note, worked_notes, worked_strings, outcome_read}
 use Rattle.std.proofs.lemmas.Result.{err_from_is_err_and}
 use Rattle.mirror_pull.proofs.Askings.{adds_some_then, adds_to_then, some_of, from_none}
-use Rattle.mirror_pull.proofs.Gains.{outcome_head, outcome_late, grows_head, grows_then, has_head, stays_then}
-use Rattle.mirror_pull.proofs.HeadsRead.{opened_head, honest_size, honest_fault}
+use Rattle.mirror_pull.proofs.Gains.{outcome_head, outcome_late, grows_head, grows_then, has_head}
+use Rattle.mirror_pull.proofs.HeadsRead.{opened_head, honest_fault}
 use Rattle.mirror_pull.proofs.pulling.pull.Goals as goal
 
 pub returns-in_err-rows-clause-once : goal.returns-in_err-rows-clause-once
@@ -109,231 +108,122 @@ returns-clause-asks g c =
 pub returns-in_default-clause-honest : goal.returns-in_default-clause-honest
 returns-in_default-clause-honest g c =
     λ entries note size is clean.
-    let digest = g.H.TreeHash.digest in
-    let may = g.S.Source.may_answer in
-    let v = c.args.mirror.now.view in
-    let none = c.new-asked.result.items in
-    let unasked = none_asked none Checkpoint c.new-asked.ensures.items in
+    let unasked = none_asked c.new-asked.result.items Checkpoint c.new-asked.ensures.items in
     absurd (never_none note (is.checkpoint None (rw c.in_default.is at (c.in_ok-note.ensures.answer unasked))))
 
 pub returns-in_err-checkpoint-clause-honest : goal.returns-in_err-checkpoint-clause-honest
 returns-in_err-checkpoint-clause-honest g c =
     let p = err_from_is_err_and c.from_residual-in_err-checkpoint.result c.from_residual-in_err-checkpoint.ensures.1 in
     rw (p.1, p.2) (λ entries note size is clean.
-    let digest = g.H.TreeHash.digest in
     let may = g.S.Source.may_answer in
-    let v = c.args.mirror.now.view in
-    let none = c.new-asked.result.items in
-    let unasked = none_asked none Checkpoint c.new-asked.ensures.items in
-    let begun = first_asked none c.ask.new.asked.items c.new-asked.ensures.items (c.in_ok-note.ensures.grown unasked) in
+    let unasked = none_asked c.new-asked.result.items Checkpoint c.new-asked.ensures.items in
     let answer : may c.args.source.now Checkpoint (Some c.in-Some.note.items) =
     rw c.in-Some.is at (c.in_ok-note.ensures.answer unasked) in
     let same : c.deref.result.now ≡ note =
     c.deref.ensures.value ∙
     some_same c.in-Some.note.items note (is.checkpoint (Some c.in-Some.note.items) answer) in
     inl (ap of_take
-    (honest_fault digest entries _ v note c.deref.result.now size
+    (honest_fault g.H.TreeHash.digest entries _ c.args.mirror.now.view note c.deref.result.now size
     (may c.args.source.now) is same c.in_err-checkpoint.field-0.0 c.in_err-checkpoint.ensures)))
 
 pub returns-in_err-rows-clause-honest : goal.returns-in_err-rows-clause-honest
 returns-in_err-rows-clause-honest g c =
     let p = err_from_is_err_and c.from_residual-in_err-rows.result c.from_residual-in_err-rows.ensures.1 in
     rw (p.1, p.2) (λ entries note size is clean.
-    let digest = g.H.TreeHash.digest in
-    let may = g.S.Source.may_answer in
-    let v = c.args.mirror.now.view in
-    let none = c.new-asked.result.items in
-    let unasked = none_asked none Checkpoint c.new-asked.ensures.items in
-    let begun = first_asked none c.ask.new.asked.items c.new-asked.ensures.items (c.in_ok-note.ensures.grown unasked) in
-    let answer : may c.args.source.now Checkpoint (Some c.in-Some.note.items) =
-    rw c.in-Some.is at (c.in_ok-note.ensures.answer unasked) in
-    let same : c.deref.result.now ≡ note =
-    c.deref.ensures.value ∙
-    some_same c.in-Some.note.items note (is.checkpoint (Some c.in-Some.note.items) answer) in
-    let at = c.in_ok-checkpoint.checkpoint.size in
-    let root = c.in_ok-checkpoint.checkpoint.root in
-    let size_root =
-    honest_size digest entries _ v note c.deref.result.now size
-    (may c.args.source.now) is same c.in_ok-checkpoint.checkpoint c.in_ok-checkpoint.ensures in
-    let read =
-    read_honestly digest entries _ v note c.deref.result.now size at root
-    (may c.args.source.now) is clean same size_root.0 size_root.1 in
-    let source =
-    source_stays digest entries (may c.args.source.now) (may c.ask.new.source) c.in_ok-note.ensures.later
-    (pull_source digest g.met.H.TreeHash.digest_length _ entries v c.deref.result.now at
-    (may c.args.source.now) read.honest read.clean) in
-    let fresh = edge_fresh at c.ask.new.asked.items begun in
-    c.in_err-rows.ensures.honest digest entries source read.honest.within fresh)
+    let b =
+    is_begun g.met.H.TreeHash.digest_length c.args.mirror.now.view is clean c.in_ok-note.ensures.later
+    c.new-asked.ensures.items c.in_ok-note.ensures.grown c.deref.ensures.value
+    (rw c.in-Some.is at c.in_ok-note.ensures.answer) c.in_ok-checkpoint.ensures in
+    c.in_err-rows.ensures.honest _ entries b.source b.honestly.honest.within b.fresh)
 
 pub returns-in_err-take_rows-clause-honest : goal.returns-in_err-take_rows-clause-honest
 returns-in_err-take_rows-clause-honest g c =
     let p = err_from_is_err_and c.from_residual-in_err-take_rows.result c.from_residual-in_err-take_rows.ensures.1 in
     rw (p.1, p.2) (λ entries note size is clean.
-    let digest = g.H.TreeHash.digest in
-    let may = g.S.Source.may_answer in
-    let v = c.args.mirror.now.view in
-    let none = c.new-asked.result.items in
-    let unasked = none_asked none Checkpoint c.new-asked.ensures.items in
-    let begun = first_asked none c.ask.new.asked.items c.new-asked.ensures.items (c.in_ok-note.ensures.grown unasked) in
-    let answer : may c.args.source.now Checkpoint (Some c.in-Some.note.items) =
-    rw c.in-Some.is at (c.in_ok-note.ensures.answer unasked) in
-    let same : c.deref.result.now ≡ note =
-    c.deref.ensures.value ∙
-    some_same c.in-Some.note.items note (is.checkpoint (Some c.in-Some.note.items) answer) in
-    let at = c.in_ok-checkpoint.checkpoint.size in
-    let root = c.in_ok-checkpoint.checkpoint.root in
-    let size_root =
-    honest_size digest entries _ v note c.deref.result.now size
-    (may c.args.source.now) is same c.in_ok-checkpoint.checkpoint c.in_ok-checkpoint.ensures in
-    let read =
-    read_honestly digest entries _ v note c.deref.result.now size at root
-    (may c.args.source.now) is clean same size_root.0 size_root.1 in
-    let source =
-    source_stays digest entries (may c.args.source.now) (may c.ask.new.source) c.in_ok-note.ensures.later
-    (pull_source digest g.met.H.TreeHash.digest_length _ entries v c.deref.result.now at
-    (may c.args.source.now) read.honest read.clean) in
-    let fresh = edge_fresh at c.ask.new.asked.items begun in
-    let rows = c.in_ok-rows.ensures.honest digest entries source read.honest.within fresh in
-    let are =
-    ap (map (λ row. row.items)) c.deref-3.ensures.value ∙
-    (rows.rows_are ∙ rows_of_edge digest entries at read.honest.within) in
-    let note_is : c.deref-2.result.now ≡ c.deref.result.now = c.deref-2.ensures.value ∙ sym c.deref.ensures.value in
-    let small = read_small digest entries v.origin _ c.deref.result.now at (may c.args.source.now) read.honest in
-    head_fault digest g.met.H.TreeHash.digest_length _ entries v c.deref.result.now at
-    (may c.args.source.now) read.honest read.clean small c.take_rows.new.mirror.view c.deref-2.result.now _
-    c.in_err-take_rows.field-0.0 note_is are c.in_err-take_rows.ensures)
+    let b =
+    is_begun g.met.H.TreeHash.digest_length c.args.mirror.now.view is clean c.in_ok-note.ensures.later
+    c.new-asked.ensures.items c.in_ok-note.ensures.grown c.deref.ensures.value
+    (rw c.in-Some.is at c.in_ok-note.ensures.answer) c.in_ok-checkpoint.ensures in
+    let got = c.in_ok-rows.ensures.honest _ entries b.source b.honestly.honest.within b.fresh in
+    let note_is = c.deref-2.ensures.value ∙ sym c.deref.ensures.value in
+    let rows_are = ap (map (λ row. row.items)) c.deref-3.ensures.value in
+    head_fault _ b.hash _ entries _ c.deref.result.now c.in_ok-checkpoint.checkpoint.size _ b.honestly.honest
+    b.honestly.clean b.small c.take_rows.new.mirror.view _ _ c.in_err-take_rows.field-0.0 note_is
+    (rows_are_edge b got rows_are) c.in_err-take_rows.ensures)
 
 pub returns-in_err-rounds-clause-honest : goal.returns-in_err-rounds-clause-honest
 returns-in_err-rounds-clause-honest g c =
     let p = err_from_is_err_and c.from_residual-in_err-rounds.result c.from_residual-in_err-rounds.ensures.1 in
     rw (p.1, p.2) (λ entries note size is clean.
-    let digest = g.H.TreeHash.digest in
-    let may = g.S.Source.may_answer in
-    let v = c.args.mirror.now.view in
-    let none = c.new-asked.result.items in
-    let unasked = none_asked none Checkpoint c.new-asked.ensures.items in
-    let begun = first_asked none c.ask.new.asked.items c.new-asked.ensures.items (c.in_ok-note.ensures.grown unasked) in
-    let answer : may c.args.source.now Checkpoint (Some c.in-Some.note.items) =
-    rw c.in-Some.is at (c.in_ok-note.ensures.answer unasked) in
-    let same : c.deref.result.now ≡ note =
-    c.deref.ensures.value ∙
-    some_same c.in-Some.note.items note (is.checkpoint (Some c.in-Some.note.items) answer) in
-    let at = c.in_ok-checkpoint.checkpoint.size in
-    let root = c.in_ok-checkpoint.checkpoint.root in
-    let size_root =
-    honest_size digest entries _ v note c.deref.result.now size
-    (may c.args.source.now) is same c.in_ok-checkpoint.checkpoint c.in_ok-checkpoint.ensures in
-    let read =
-    read_honestly digest entries _ v note c.deref.result.now size at root
-    (may c.args.source.now) is clean same size_root.0 size_root.1 in
-    let source =
-    source_stays digest entries (may c.args.source.now) (may c.ask.new.source) c.in_ok-note.ensures.later
-    (pull_source digest g.met.H.TreeHash.digest_length _ entries v c.deref.result.now at
-    (may c.args.source.now) read.honest read.clean) in
-    let fresh = edge_fresh at c.ask.new.asked.items begun in
-    let rows = c.in_ok-rows.ensures.honest digest entries source read.honest.within fresh in
-    let are =
-    ap (map (λ row. row.items)) c.deref-3.ensures.value ∙
-    (rows.rows_are ∙ rows_of_edge digest entries at read.honest.within) in
-    let note_is : c.deref-2.result.now ≡ c.deref.result.now = c.deref-2.ensures.value ∙ sym c.deref.ensures.value in
-    let small = read_small digest entries v.origin _ c.deref.result.now at (may c.args.source.now) read.honest in
-    let w = c.take_rows.new.mirror.view in
-    let taken =
-    head_done digest entries v w c.deref.result.now c.deref-2.result.now at _ note_is are c.in_ok-take_rows.ensures.2 in
-    let head =
-    has_head digest _ v w w c.deref-2.result.now c.deref.result.now _ at root note_is c.in_ok-take_rows.ensures.2
-    (opened_head _ _ _ c.in_ok-checkpoint.checkpoint c.in_ok-checkpoint.ensures) (within_itself w) in
-    let later =
-    stays_then (may c.args.source.now) (may c.ask.new.source)
-    (may c.edge_rows.new.source) c.in_ok-note.ensures.later c.in_ok-rows.ensures.later in
-    let m = rounds_may digest g.met.H.TreeHash.digest_length _ entries v c.deref.result.now at
-    (may c.args.source.now) read.honest read.clean small
-    (may c.edge_rows.new.source) w root c.ask.new.asked.items c.edge_rows.new.asked.items later taken read.root_is head
-    begun rows.gets in
-    c.in_err-rounds.ensures.honest entries m)
+    let b =
+    is_begun g.met.H.TreeHash.digest_length c.args.mirror.now.view is clean c.in_ok-note.ensures.later
+    c.new-asked.ensures.items c.in_ok-note.ensures.grown c.deref.ensures.value
+    (rw c.in-Some.is at c.in_ok-note.ensures.answer) c.in_ok-checkpoint.ensures in
+    let got = c.in_ok-rows.ensures.honest _ entries b.source b.honestly.honest.within b.fresh in
+    let note_is = c.deref-2.ensures.value ∙ sym c.deref.ensures.value in
+    let rows_are = ap (map (λ row. row.items)) c.deref-3.ensures.value in
+    let on = may_go_on b got rows_are c.in_ok-rows.ensures.later note_is c.in_ok-take_rows.ensures.2 in
+    c.in_err-rounds.ensures.honest entries on.may_work)
 
 pub returns-clause-honest : goal.returns-clause-honest
 returns-clause-honest g c =
     λ entries note size is clean.
     let digest = g.H.TreeHash.digest in
-    let may = g.S.Source.may_answer in
+    let hash = g.met.H.TreeHash.digest_length in
     let v = c.args.mirror.now.view in
-    let none = c.new-asked.result.items in
-    let unasked = none_asked none Checkpoint c.new-asked.ensures.items in
-    let begun = first_asked none c.ask.new.asked.items c.new-asked.ensures.items (c.in_ok-note.ensures.grown unasked) in
-    let answer : may c.args.source.now Checkpoint (Some c.in-Some.note.items) =
-    rw c.in-Some.is at (c.in_ok-note.ensures.answer unasked) in
-    let same : c.deref.result.now ≡ note =
-    c.deref.ensures.value ∙
-    some_same c.in-Some.note.items note (is.checkpoint (Some c.in-Some.note.items) answer) in
+    let taken = c.deref.result.now in
     let at = c.in_ok-checkpoint.checkpoint.size in
     let root = c.in_ok-checkpoint.checkpoint.root in
-    let size_root =
-    honest_size digest entries _ v note c.deref.result.now size
-    (may c.args.source.now) is same c.in_ok-checkpoint.checkpoint c.in_ok-checkpoint.ensures in
-    let read =
-    read_honestly digest entries _ v note c.deref.result.now size at root
-    (may c.args.source.now) is clean same size_root.0 size_root.1 in
-    let source =
-    source_stays digest entries (may c.args.source.now) (may c.ask.new.source) c.in_ok-note.ensures.later
-    (pull_source digest g.met.H.TreeHash.digest_length _ entries v c.deref.result.now at
-    (may c.args.source.now) read.honest read.clean) in
-    let fresh = edge_fresh at c.ask.new.asked.items begun in
-    let rows = c.in_ok-rows.ensures.honest digest entries source read.honest.within fresh in
-    let are =
-    ap (map (λ row. row.items)) c.deref-3.ensures.value ∙
-    (rows.rows_are ∙ rows_of_edge digest entries at read.honest.within) in
-    let note_is : c.deref-2.result.now ≡ c.deref.result.now = c.deref-2.ensures.value ∙ sym c.deref.ensures.value in
-    let small = read_small digest entries v.origin _ c.deref.result.now at (may c.args.source.now) read.honest in
+    let none = c.new-asked.result.items in
+    let b =
+    is_begun hash v is clean c.in_ok-note.ensures.later
+    c.new-asked.ensures.items c.in_ok-note.ensures.grown c.deref.ensures.value
+    (rw c.in-Some.is at c.in_ok-note.ensures.answer) c.in_ok-checkpoint.ensures in
+    let got = c.in_ok-rows.ensures.honest _ entries b.source b.honestly.honest.within b.fresh in
+    let note_is = c.deref-2.ensures.value ∙ sym c.deref.ensures.value in
+    let rows_are = ap (map (λ row. row.items)) c.deref-3.ensures.value in
+    let on = may_go_on b got rows_are c.in_ok-rows.ensures.later note_is c.in_ok-take_rows.ensures.2 in
     let w = c.take_rows.new.mirror.view in
-    let taken =
-    head_done digest entries v w c.deref.result.now c.deref-2.result.now at _ note_is are c.in_ok-take_rows.ensures.2 in
-    let head =
-    has_head digest _ v w w c.deref-2.result.now c.deref.result.now _ at root note_is c.in_ok-take_rows.ensures.2
-    (opened_head _ _ _ c.in_ok-checkpoint.checkpoint c.in_ok-checkpoint.ensures) (within_itself w) in
-    let later =
-    stays_then (may c.args.source.now) (may c.ask.new.source)
-    (may c.edge_rows.new.source) c.in_ok-note.ensures.later c.in_ok-rows.ensures.later in
-    let m = rounds_may digest g.met.H.TreeHash.digest_length _ entries v c.deref.result.now at
-    (may c.args.source.now) read.honest read.clean small
-    (may c.edge_rows.new.source) w root c.ask.new.asked.items c.edge_rows.new.asked.items later taken read.root_is head
-    begun rows.gets in
     let asked = g.S.Source.asked in
+    let edge_asked = c.edge_rows.new.asked.items in
+    let all_asked = c.work.new.asked.items in
     let told =
-    adds_to_then none c.edge_rows.new.asked.items c.work.new.asked.items (asked c.args.source.now)
-    (asked c.edge_rows.new.source) (asked c.work.new.source)
-    (adds_to_then none c.ask.new.asked.items c.edge_rows.new.asked.items (asked c.args.source.now)
-    (asked c.ask.new.source)
+    adds_to_then none edge_asked all_asked (asked c.args.source.now) (asked c.edge_rows.new.source)
+    (asked c.work.new.source)
+    (adds_to_then none c.ask.new.asked.items edge_asked (asked c.args.source.now) (asked c.ask.new.source)
     (asked c.edge_rows.new.source) c.in_ok-note.ensures.told c.in_ok-rows.ensures.told) c.in_ok-rounds.ensures.told in
-    let done = c.in_ok-rounds.ensures.honest entries m in
+    let done = c.in_ok-rounds.ensures.honest entries on.may_work in
     let x = c.work.new.mirror.view in
     let gains = c.in_ok-rounds.ensures.gains in
-    let hash = g.met.H.TreeHash.digest_length in
-    let before = may c.args.source.now in
-    outcome_read digest entries note c.deref.result.now size at v x (asked c.args.source.now)
-    (asked c.work.new.source) _ same read.size_is (record {
+    let before = g.S.Source.may_answer c.args.source.now in
+    let honest = b.honestly.honest in
+    let no_clash = b.honestly.clean in
+    outcome_read digest entries note taken size at v x (asked c.args.source.now) (asked c.work.new.source) _ b.same
+    b.honestly.size_is (record {
       size_is = refl;
-      root_is = read.root_is;
+      root_is = b.honestly.root_is;
       none_refused = done.0;
       complete =
           c.is_complete.ensures.1
-          (worked_complete digest hash _ entries v c.deref.result.now
-          at before read.honest read.clean small w x _ c.edge_rows.new.asked.items c.work.new.asked.items taken
-          done.1 root read.root_is (head_stays w x gains.grows at root head));
-      gets = worked_gets digest hash _ entries v c.deref.result.now at before read.honest read.clean
-          small w x _ c.edge_rows.new.asked.items c.work.new.asked.items taken done.1 none c.ask.new.asked.items
-          (asked c.args.source.now) (asked c.work.new.source) c.new-asked.ensures.items begun rows.gets told;
+          (worked_complete digest hash _ entries v taken at before honest no_clash b.small w x _ edge_asked all_asked
+          on.taken_is done.1 root b.honestly.root_is (head_stays w x gains.grows at root on.head));
+      gets =
+          worked_gets digest hash _ entries v taken at before honest no_clash b.small w x _ edge_asked all_asked
+          on.taken_is done.1 none c.ask.new.asked.items (asked c.args.source.now) (asked c.work.new.source)
+          c.new-asked.ensures.items b.begun got.gets told;
       at_most =
-          worked_few digest hash _ entries v c.deref.result.now at before read.honest read.clean small w x _
-          c.edge_rows.new.asked.items c.work.new.asked.items taken done.1;
-      none = worked_none digest hash _ entries v c.deref.result.now
-          at before read.honest read.clean small w x _ c.edge_rows.new.asked.items c.work.new.asked.items taken done.1;
+          worked_few digest hash _ entries v taken at before honest no_clash b.small w x _ edge_asked all_asked
+          on.taken_is done.1;
+      none =
+          worked_none digest hash _ entries v taken at before honest no_clash b.small w x _ edge_asked all_asked
+          on.taken_is done.1;
       has_note =
-          worked_note digest hash _ entries v c.deref.result.now at before read.honest read.clean small w x _
-          c.edge_rows.new.asked.items c.work.new.asked.items taken done.1 gains;
-      notes = worked_notes digest hash _ entries v c.deref.result.now at before read.honest read.clean small w x _
-          c.edge_rows.new.asked.items c.work.new.asked.items taken done.1 gains;
+          worked_note digest hash _ entries v taken at before honest no_clash b.small w x _ edge_asked all_asked
+          on.taken_is done.1 gains;
+      notes =
+          worked_notes digest hash _ entries v taken at before honest no_clash b.small w x _ edge_asked all_asked
+          on.taken_is done.1 gains;
       strings =
-          worked_strings digest hash _ entries v c.deref.result.now at before read.honest read.clean small w x _
-          c.edge_rows.new.asked.items c.work.new.asked.items taken done.1;
+          worked_strings digest hash _ entries v taken at before honest no_clash b.small w x _ edge_asked all_asked
+          on.taken_is done.1;
     })
