@@ -55,9 +55,9 @@ impl Verifier for Five {
 // The leaf hashes of the three entries.
 fn row_of_3<H: TreeHash>(alloc: Global) -> Result<Vec<u8>, AllocError> {
     let mut row = Vec::new(alloc);
-    row.extend_from_slice(H::leaf(b"").as_slice())?;
-    row.extend_from_slice(H::leaf(b"\x00").as_slice())?;
-    row.extend_from_slice(H::leaf(b"\x10").as_slice())?;
+    for entry in [b"".as_slice(), b"\x00", b"\x10"] {
+        row.extend_from_slice(H::leaf(entry).as_slice())?;
+    }
     Ok(row)
 }
 

@@ -52,8 +52,8 @@ fn reads_by_turns(rt: HostRuntime) {
             turns,
         };
         match taken(rt.alloc(), &mut reader, 100, u64::MAX) {
-            Ok(bytes) => assert_eq!(rt; Ok(bytes.as_slice()), want),
-            Err(fault) => assert_eq!(rt; Err(fault), want),
+            Ok(bytes) => assert!(rt; Ok(bytes.as_slice()) == want),
+            Err(fault) => assert!(rt; Err(fault) == want),
         }
     }
 }
@@ -68,9 +68,9 @@ fn assert_front(
 ) -> Result<(), Fail> {
     let mut reader = input;
     let bytes = taken(alloc, &mut reader, most, u64::MAX)?;
-    assert_eq!(rt; bytes.len(), len);
+    assert!(rt; bytes.len() == len);
     assert!(rt; input.starts_with(bytes.as_slice()));
-    assert_eq!(rt; reader.len().saturating_add(len), input.len());
+    assert!(rt; reader.len().saturating_add(len) == input.len());
     Ok(())
 }
 
@@ -94,9 +94,9 @@ fn a_limit_of_reads(rt: HostRuntime) {
         most_asked: 0,
     };
     let fault = fault_of(rt.alloc(), &mut endless, usize::MAX, 1_000);
-    assert_eq!(rt; fault, Some(StreamFault::ReadFault));
-    assert_eq!(rt; endless.calls, 1_000);
-    assert_eq!(rt; endless.most_asked, CHUNK);
+    assert!(rt; fault == Some(StreamFault::ReadFault));
+    assert!(rt; endless.calls == 1_000);
+    assert!(rt; endless.most_asked == CHUNK);
     // Six reads of a byte are no end, and a seventh finds it. Where six bytes are wanted, six do.
     let fault = Some(StreamFault::ReadFault);
     assert_ends(&rt, rt.alloc(), 100, 6, fault);
@@ -112,7 +112,7 @@ fn assert_ends(rt: &impl Abort, alloc: Global, most: usize, reads: u64, want: Op
         rest: b"abcdef",
         turns: &[Pass(1); 6],
     };
-    assert_eq!(rt; fault_of(alloc, &mut reader, most, reads), want);
+    assert!(rt; fault_of(alloc, &mut reader, most, reads) == want);
 }
 
 // What is written of six bytes by these turns: a byte a write, interrupted, failing, and taking nothing.
@@ -136,7 +136,7 @@ fn writes_by_turns(rt: HostRuntime) {
             taken: Vec::new(rt.alloc()),
             turns,
         };
-        assert_eq!(rt; write_whole(&mut writer, b"abcdef"), want);
-        assert_eq!(rt; writer.taken.as_slice(), front);
+        assert!(rt; write_whole(&mut writer, b"abcdef") == want);
+        assert!(rt; writer.taken.as_slice() == front);
     }
 }

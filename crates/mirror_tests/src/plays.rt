@@ -65,7 +65,12 @@ pub(crate) fn are_merged<H: TreeHash>(world: &[Mirror<H>]) -> bool {
 
 // Whether so many events were answered by Ok.
 pub(crate) fn are_done(answers: &[Result<(), TakeFault>], count: usize) -> bool {
-    answers.len() == count && answers.iter().all(|answer| answer.is_ok())
+    for answer in answers {
+        if answer.is_err() {
+            return false;
+        }
+    }
+    answers.len() == count
 }
 
 // The three events happen to two mirrors, each tried as often as that, or once by `play`.

@@ -127,10 +127,20 @@ fn pull_again_after_want_of_memory(rt: HostRuntime) -> Result<(), Fail> {
 fn pulls_at_last<H: TreeHash>(rt: &impl Abort, alloc: Global) -> Result<(), Fail> {
     let mut mirror = Mirror::<H>::new(alloc, "ex")?;
     let mut source = list::<H>(alloc, 0, 300)?;
-    let pulled = match end_of_pull(alloc, &mut mirror, &mut source)? {
-        Err(PullFault::OutOfMemory) => end_of_pull(alloc, &mut mirror, &mut source)??,
-        end => end?,
-    };
+    pulls_from(rt, alloc, &mut mirror, &mut source)
+}
+
+fn pulls_from<H: TreeHash, S: Source>(
+    rt: &impl Abort,
+    alloc: Global,
+    mirror: &mut Mirror<H>,
+    source: &mut S,
+) -> Result<(), Fail> {
+    let mut end = end_of_pull(alloc, mirror, source)?;
+    if end == Err(PullFault::OutOfMemory) {
+        end = end_of_pull(alloc, mirror, source)?;
+    }
+    let pulled = end?;
     assert!(rt; pulled.size == 300 && pulled.refused == 0 && pulled.complete);
     Ok(())
 }

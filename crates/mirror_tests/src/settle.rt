@@ -19,7 +19,7 @@ fn settles<H: TreeHash>(
         assert!(rt; before <= mirror.remembered());
         settle(alloc, mirror)?;
     }
-    assert_eq!(rt; mirror.remembered(), count);
+    assert!(rt; mirror.remembered() == count);
     Ok(())
 }
 
@@ -55,7 +55,7 @@ fn settles_numbers<H: TreeHash>(
     mirror: &mut Mirror<H>,
 ) -> Result<(), Fail> {
     mirror.take_bundle(alloc, 3, &[0, 2, 0, 0, 0, 2, 0, 1, 0, 2, 0, 2])?;
-    assert_eq!(rt; mirror.remembered(), 0);
+    assert!(rt; mirror.remembered() == 0);
     for _ in 0..2u32 {
         settles(rt, alloc, mirror, 5)?;
     }

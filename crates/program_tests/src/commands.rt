@@ -45,12 +45,12 @@ fn colliding_files(rt: HostRuntime) -> Result<(), Fail> {
     put(&mut files, "second", SECOND_SUM)?;
     take::<SumTree>(&mut files, alloc)?;
     let collision = MergeFilesFault::Merge(MergeFault::Collision);
-    assert_eq!(rt; merge::<SumTree>(&mut files, alloc), Err(collision));
+    assert!(rt; merge::<SumTree>(&mut files, alloc) == Err(collision));
     let puts = files.puts();
-    assert_eq!(rt; puts.len(), 3);
+    assert!(rt; puts.len() == 3);
     let (name, bytes) = puts.last().ok_or("nothing put")?;
-    assert_eq!(rt; name.as_str(), "first");
-    assert_eq!(rt; bytes.as_slice(), FIRST_SUM);
+    assert!(rt; name.as_str() == "first");
+    assert!(rt; bytes.as_slice() == FIRST_SUM);
     Ok(())
 }
 
@@ -83,8 +83,8 @@ fn failing_writer(rt: HostRuntime) -> Result<(), Fail> {
         let mut mirror = mirror_of::<Sha256Tree>(alloc, state)?;
         let mut writer = FailingWriter::new(alloc, front.len());
         let answer = answer_of(alloc, &mut mirror, &question, &mut writer);
-        assert_eq!(rt; answer, Err(AskFault::WriteFault));
-        assert_eq!(rt; writer.taken.as_slice(), front.as_bytes());
+        assert!(rt; answer == Err(AskFault::WriteFault));
+        assert!(rt; writer.taken.as_slice() == front.as_bytes());
     }
     Ok(())
 }

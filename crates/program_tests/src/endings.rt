@@ -23,9 +23,12 @@ fn ended<O: Write, E: Write>(alloc: Global, fault: RunFault, output: &mut O, err
 fn assert_told(rt: &impl Abort, alloc: Global, fault: RunFault, line: &str) {
     let mut output = Vec::new(alloc);
     let mut errors = Vec::new(alloc);
-    assert_eq!(rt; ended(alloc, fault, &mut output, &mut errors), 1, "{line}");
-    assert_eq!(rt; output.len(), 0, "{line}");
-    assert_eq!(rt; errors.as_slice(), line.as_bytes());
+    assert!(rt;
+        ended(alloc, fault, &mut output, &mut errors) == 1,
+        "{line}"
+    );
+    assert!(rt; output.len() == 0, "{line}");
+    assert!(rt; errors.as_slice() == line.as_bytes());
 }
 
 // Two different strings of one digest, met where a state is loaded. No two such strings are known of SHA-256.
@@ -80,8 +83,8 @@ fn help_that_is_cut(rt: HostRuntime) -> Result<(), Fail> {
     let help = RunFault::Command(CommandFault::Help(String::from_str(alloc, "help")?));
     let mut full = FailingWriter::new(alloc, 2);
     let mut errors = Vec::new(alloc);
-    assert_eq!(rt; ended(alloc, help, &mut full, &mut errors), 1);
-    assert_eq!(rt; full.taken.as_slice(), b"he".as_slice());
-    assert_eq!(rt; errors.as_slice(), b"tlogmirror: WriteFault\n".as_slice());
+    assert!(rt; ended(alloc, help, &mut full, &mut errors) == 1);
+    assert!(rt; full.taken.as_slice() == b"he".as_slice());
+    assert!(rt; errors.as_slice() == b"tlogmirror: WriteFault\n".as_slice());
     Ok(())
 }

@@ -84,10 +84,10 @@ fn assert_exported<H: TreeHash>(
         has_checkpoint: false,
         failures: 0,
     };
-    assert_eq!(rt; export(alloc, mirror, &mut shelf), answer);
-    assert_eq!(rt; shelf.files, files);
-    assert_eq!(rt; shelf.has_checkpoint, answer.is_ok());
-    assert_eq!(rt; shelf.failures == 0, answer.is_ok());
+    assert!(rt; export(alloc, mirror, &mut shelf) == answer);
+    assert!(rt; shelf.files == files);
+    assert!(rt; shelf.has_checkpoint == answer.is_ok());
+    assert!(rt; (shelf.failures == 0) == answer.is_ok());
 }
 
 // The first call asks for the checkpoint, and the j-th put is the call after j others.
@@ -113,7 +113,7 @@ fn export_e3(rt: HostRuntime) -> Result<(), Fail> {
     let mirror = mirror_of::<Sha256Tree>(rt.alloc(), COMPLETE)?;
     let mut shelf = MemShelf::new(rt.alloc());
     for answer in [Ok(()), Err(ExportFault::ShelfInUse)] {
-        assert_eq!(rt; put_onto(rt.alloc(), &mirror, &mut shelf), answer);
+        assert!(rt; put_onto(rt.alloc(), &mirror, &mut shelf) == answer);
         assert_files(&rt, rt.alloc(), shelf.puts())?;
     }
     Ok(())
@@ -134,14 +134,14 @@ pub(crate) fn assert_files(
     alloc: Global,
     puts: &[(Path, Vec<u8>)],
 ) -> Result<(), Fail> {
-    assert_eq!(rt; puts.len(), 3);
+    assert!(rt; puts.len() == 3);
     let files = [
         ("tile/0/000.p/3", ROW),
         ("tile/entries/000.p/3", BUNDLE),
         ("checkpoint", NOTE),
     ];
     for ((path, bytes), (name, want)) in puts.iter().zip(files) {
-        assert_eq!(rt; path.text(alloc)?.as_str(), name);
+        assert!(rt; path.text(alloc)?.as_str() == name);
         assert!(rt; bytes.as_slice() == want, "{name}");
     }
     Ok(())

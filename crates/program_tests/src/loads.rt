@@ -31,7 +31,7 @@ fn state_cuts(rt: HostRuntime) -> Result<(), Fail> {
             LoadFault::StateShort
         };
         let found = fault_of::<Sha256Tree, _>(rt.alloc(), &keys, &mut text);
-        assert_eq!(rt; found, Some(fault));
+        assert!(rt; found == Some(fault));
     }
     Ok(())
 }
@@ -42,7 +42,7 @@ fn endless_reader(rt: HostRuntime) {
     for is_endless in [false, true] {
         let mut reader = Strange { is_endless };
         let fault = fault_of::<Sha256Tree, _>(rt.alloc(), &[], &mut reader);
-        assert_eq!(rt; fault, Some(LoadFault::ReadFault));
+        assert!(rt; fault == Some(LoadFault::ReadFault));
     }
 }
 
@@ -65,6 +65,6 @@ fn assert_front<H: TreeHash>(
     answer: Result<(), SaveFault>,
 ) {
     let mut writer = FailingWriter::new(alloc, room);
-    assert_eq!(rt; save(alloc, mirror, &mut writer), answer);
+    assert!(rt; save(alloc, mirror, &mut writer) == answer);
     assert!(rt; COMPLETE.get(..room) == Some(writer.taken.as_slice()));
 }

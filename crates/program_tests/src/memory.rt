@@ -28,19 +28,19 @@ fn save_at_last<H: TreeHash>(rt: &impl Abort, alloc: Global, mirror: &Mirror<H>)
     let mut writer = space.as_mut_slice();
     let mut answer = save(alloc, mirror, &mut writer);
     if answer == Err(SaveFault::OutOfMemory) {
-        assert_eq!(rt; writer.len(), 1_024);
+        assert!(rt; writer.len() == 1_024);
         answer = save(alloc, mirror, &mut writer);
     }
-    assert_eq!(rt; answer, Ok(()));
+    assert!(rt; answer == Ok(()));
     let written = 1_024usize.saturating_sub(writer.len());
-    assert_eq!(rt; space.get(..written), Some(COMPLETE));
+    assert!(rt; space.get(..written) == Some(COMPLETE));
 }
 
 #[test]
 fn load_again_after_want_of_memory(rt: HostRuntime) -> Result<(), Fail> {
     let keys = keys(rt.alloc())?;
     let mirror = loaded_at_last::<Sha256Tree>(rt.alloc(), &keys)?;
-    assert_eq!(rt; saved(rt.alloc(), &mirror)?.as_slice(), COMPLETE);
+    assert!(rt; saved(rt.alloc(), &mirror)?.as_slice() == COMPLETE);
     Ok(())
 }
 
@@ -69,11 +69,11 @@ fn export_at_last<H: TreeHash, S: Shelf>(
     let mut answer = export(alloc, mirror, shelf);
     if answer == Err(ExportFault::OutOfMemory) {
         let found = shelf.has(&Path::Checkpoint);
-        assert_eq!(rt; found, Ok(false));
+        assert!(rt; found == Ok(false));
         answer = export(alloc, mirror, shelf);
     }
-    assert_eq!(rt; answer, Ok(()));
-    assert_eq!(rt; shelf.failures(), 0);
+    assert!(rt; answer == Ok(()));
+    assert!(rt; shelf.failures() == 0);
 }
 
 #[test]
@@ -114,6 +114,6 @@ fn read_at_last<S: Source>(rt: &impl Abort, source: &mut S) -> Result<(), Source
         note = source.get(&Path::Checkpoint);
     }
     assert!(rt; note?.as_deref() == Some(NOTE));
-    assert_eq!(rt; source.failures(), 0);
+    assert!(rt; source.failures() == 0);
     Ok(())
 }

@@ -45,12 +45,12 @@ fn count_of(alloc: Global, bytes: &[u8], fails: bool) -> Result<usize, EntriesFa
 fn one_byte_reads(rt: HostRuntime) -> Result<(), Fail> {
     let alloc = rt.alloc();
     let mut output = Vec::new(alloc);
-    assert_eq!(rt; root_of(alloc, &[0, 0], false, &mut output), Ok(()));
-    assert_eq!(rt; output.as_slice(), ROOT_1);
+    assert!(rt; root_of(alloc, &[0, 0], false, &mut output) == Ok(()));
+    assert!(rt; output.as_slice() == ROOT_1);
     let mut output = Vec::new(alloc);
-    assert_eq!(rt; verdict_of(alloc, INCLUSION, false, &mut output), Ok(true));
-    assert_eq!(rt; output.as_slice(), b"yes\n".as_slice());
-    assert_eq!(rt; count_of(alloc, &[0, 1, b'a', 0, 0], false), Ok(2));
+    assert!(rt; verdict_of(alloc, INCLUSION, false, &mut output) == Ok(true));
+    assert!(rt; output.as_slice() == b"yes\n".as_slice());
+    assert!(rt; count_of(alloc, &[0, 1, b'a', 0, 0], false) == Ok(2));
     Ok(())
 }
 
@@ -62,13 +62,13 @@ fn failing_reader(rt: HostRuntime) {
     let mut output = Vec::new(alloc);
     for bytes in [[].as_slice(), &[0, 0], &[0, 1], &[0, 0, 0, 0, 0], INCLUSION] {
         let root = root_of(alloc, bytes, true, &mut output);
-        assert_eq!(rt; root, Err(RootFault::ReadFault));
+        assert!(rt; root == Err(RootFault::ReadFault));
         let verdict = verdict_of(alloc, bytes, true, &mut output);
-        assert_eq!(rt; verdict, Err(CheckFault::ReadFault));
+        assert!(rt; verdict == Err(CheckFault::ReadFault));
         let count = count_of(alloc, bytes, true);
-        assert_eq!(rt; count, Err(EntriesFault::ReadFault));
+        assert!(rt; count == Err(EntriesFault::ReadFault));
     }
-    assert_eq!(rt; output.len(), 0);
+    assert!(rt; output.len() == 0);
 }
 
 // Over an output that takes so many bytes a command fails, and that front of its text is written.
@@ -78,13 +78,13 @@ fn failing_writer(rt: HostRuntime) {
     for room in [0, 1, 3, 6, 50] {
         let mut writer = FailingWriter::new(alloc, room);
         let root = root_of(alloc, &[0, 0], false, &mut writer);
-        assert_eq!(rt; root, Err(RootFault::WriteFault));
-        assert_eq!(rt; Some(writer.taken.as_slice()), ROOT_1.get(..room));
+        assert!(rt; root == Err(RootFault::WriteFault));
+        assert!(rt; Some(writer.taken.as_slice()) == ROOT_1.get(..room));
     }
     for room in [0, 1, 3] {
         let mut writer = FailingWriter::new(alloc, room);
         let verdict = verdict_of(alloc, INCLUSION, false, &mut writer);
-        assert_eq!(rt; verdict, Err(CheckFault::WriteFault));
-        assert_eq!(rt; Some(writer.taken.as_slice()), b"yes\n".get(..room));
+        assert!(rt; verdict == Err(CheckFault::WriteFault));
+        assert!(rt; Some(writer.taken.as_slice()) == b"yes\n".get(..room));
     }
 }

@@ -25,7 +25,7 @@ fn logs_are_not_built(rt: HostRuntime) -> Result<(), Fail> {
     let mut shelf = MemShelf::new(alloc);
     let fault = building_fault::<Sha256Tree>(alloc, key(alloc)?, &mut shelf);
     let closed = BuildFault::Pull(PullFault::Head(TakeFault::NoTrustedSignature));
-    assert_eq!(rt; fault, Some(closed));
-    assert_eq!(rt; shelf.puts().len(), 0);
+    assert!(rt; fault == Some(closed));
+    assert!(rt; shelf.puts().len() == 0);
     Ok(())
 }

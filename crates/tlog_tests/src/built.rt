@@ -12,12 +12,12 @@ fn row_is_added(rt: HostRuntime) -> Result<(), Fail> {
     let (none, zero) = (hash(&rt, LEAF_OF_NO_BYTES), hash(&rt, LEAF_OF_00));
     let (ten, three) = (hash(&rt, LEAF_OF_10), hash(&rt, ROOT_OF_THREE));
     let mut store: Store<Sha256Tree> = empty_store(rt.alloc());
-    assert_eq!(rt; put_entries(&mut store, &[])?, Sha256Tree::empty());
-    assert_eq!(rt; store.len(), 0);
+    assert!(rt; put_entries(&mut store, &[])? == Sha256Tree::empty());
+    assert!(rt; store.len() == 0);
     let row = [none, zero, ten];
-    assert_eq!(rt; put_row(&rt, &mut store, &row)?, three);
-    assert_eq!(rt; put_row(&rt, &mut store, &[ten])?, ten);
-    assert_eq!(rt; store.len(), 2);
+    assert!(rt; put_row(&rt, &mut store, &row)? == three);
+    assert!(rt; put_row(&rt, &mut store, &[ten])? == ten);
+    assert!(rt; store.len() == 2);
     Ok(())
 }
 
@@ -30,18 +30,12 @@ fn collisions_are_found(rt: HostRuntime) -> Result<(), Fail> {
         &[b"\x02\x01", b"\x01\x02"],
     ] {
         let fault = stored::<SumTree>(rt.alloc(), entries).err();
-        assert_eq!(rt; fault, Some(AddFault::Collision));
+        assert!(rt; fault == Some(AddFault::Collision));
     }
     let (one, two) = (SumTree::leaf(&[1]), SumTree::leaf(&[2]));
     let three = SumTree::leaf(&[3]);
     let mut store: Store<SumTree> = empty_store(rt.alloc());
-    assert_eq!(rt;
-        put_row(&rt, &mut store, &[one, three, two])?,
-        SumTree::leaf(&[8])
-    );
-    assert_eq!(rt;
-        put_row(&rt, &mut store, &[three, one]),
-        Err(AddFault::Collision)
-    );
+    assert!(rt; put_row(&rt, &mut store, &[one, three, two])? == SumTree::leaf(&[8]));
+    assert!(rt; put_row(&rt, &mut store, &[three, one]) == Err(AddFault::Collision));
     Ok(())
 }

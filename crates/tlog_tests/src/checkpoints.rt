@@ -40,7 +40,7 @@ fn checkpoint_refusals(rt: HostRuntime) {
         ("", CheckpointFault::TooFewLines),
     ] {
         let found = checkpoint_of(rt.alloc(), text).err();
-        assert_eq!(rt; found, Some(fault), "at {text}");
+        assert!(rt; found == Some(fault), "at {text}");
     }
 }
 
@@ -55,19 +55,19 @@ fn made_by_hand(rt: HostRuntime) -> Result<(), Fail> {
         root: hash(&rt, ROOT_OF_THREE),
         extensions: Lines::new(lines),
     };
-    assert_eq!(rt;
-        text_of(alloc, &checkpoint)?.as_str(),
-        "ex\n3\nrra8/idLcKFPsGel5VeCZNsPqbUa9eC6FZFY8yngbnc=\nmore\n"
+    assert!(rt;
+        text_of(alloc, &checkpoint)?.as_str()
+            == "ex\n3\nrra8/idLcKFPsGel5VeCZNsPqbUa9eC6FZFY8yngbnc=\nmore\n"
     );
     let Checkpoint {
         origin,
         extensions,
         ..
     } = checkpoint;
-    assert_eq!(rt; origin.into_string().as_str(), "ex");
+    assert!(rt; origin.into_string().as_str() == "ex");
     let lines = extensions.into_vec();
-    assert_eq!(rt; lines.len(), 1);
-    assert_eq!(rt; lines[0].as_str(), "more");
+    assert!(rt; lines.len() == 1);
+    assert!(rt; lines[0].as_str() == "more");
     Ok(())
 }
 
@@ -82,11 +82,11 @@ fn pinned_ed25519(rt: HostRuntime) -> Result<(), Fail> {
         ),
     ] {
         let checkpoint = checkpoint_of(alloc, text)?;
-        assert_eq!(rt; checkpoint.origin.as_str(), "ex");
-        assert_eq!(rt; checkpoint.size, 3);
-        assert_eq!(rt; checkpoint.root, hash(&rt, ROOT_OF_THREE));
-        assert_eq!(rt; checkpoint.extensions.as_slice().len(), extensions);
-        assert_eq!(rt; text_of(alloc, &checkpoint)?.as_str(), text);
+        assert!(rt; checkpoint.origin.as_str() == "ex");
+        assert!(rt; checkpoint.size == 3);
+        assert!(rt; checkpoint.root == hash(&rt, ROOT_OF_THREE));
+        assert!(rt; checkpoint.extensions.as_slice().len() == extensions);
+        assert!(rt; text_of(alloc, &checkpoint)?.as_str() == text);
     }
     Ok(())
 }

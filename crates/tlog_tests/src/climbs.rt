@@ -47,14 +47,13 @@ fn rows(rt: HostRuntime) -> Result<(), Fail> {
     let e3 = Listed::<Sha256Tree>::new(&[b"", b"\x00", b"\x10"]);
     let row = row_in(rt.alloc(), &e3, 0, 0, 3)?;
     let leaves = [LEAF_OF_NO_BYTES, LEAF_OF_00, LEAF_OF_10];
-    assert_eq!(rt; row.len(), 3);
+    assert!(rt; row.len() == 3);
     for (found, leaf) in row.iter().zip(leaves) {
-        assert_eq!(rt; *found, hash(&rt, leaf));
+        assert!(rt; *found == hash(&rt, leaf));
     }
     for (level, index, width) in [(0, 0, 4), (0, 1, 1), (1, 0, 1), (7, u64::MAX, 256)] {
-        assert_eq!(rt;
-            row_in(rt.alloc(), &e3, level, index, width).err(),
-            Some(ProofFault::NoSuchSize)
+        assert!(rt;
+            row_in(rt.alloc(), &e3, level, index, width).err() == Some(ProofFault::NoSuchSize)
         );
     }
     Ok(())
@@ -82,15 +81,12 @@ impl Ranges for Same {
 #[test]
 fn large_lists(rt: HostRuntime) -> Result<(), Fail> {
     for (index, len) in [(0, 63), (MAX_SIZE - 1, 62)] {
-        assert_eq!(rt; included(rt.alloc(), &Same, MAX_SIZE, index)?.len(), len);
+        assert!(rt; included(rt.alloc(), &Same, MAX_SIZE, index)?.len() == len);
     }
-    assert_eq!(rt;
-        grown(rt.alloc(), &Same, (1 << 62) + 1, MAX_SIZE)?.len(),
-        64
-    );
+    assert!(rt; grown(rt.alloc(), &Same, (1 << 62) + 1, MAX_SIZE)?.len() == 64);
     for (level, index, width) in [(7, 0, 127), (0, 36028797018963966, 256)] {
         let row = row_in(rt.alloc(), &Same, level, index, width)?;
-        assert_eq!(rt; row.len(), width as usize);
+        assert!(rt; row.len() == width as usize);
     }
     Ok(())
 }

@@ -9,9 +9,9 @@ fn fold_and_pairs_of_leaf_hashes(rt: HostRuntime) -> Result<(), Fail> {
     let (none, zero) = (hash(&rt, LEAF_OF_NO_BYTES), hash(&rt, LEAF_OF_00));
     let (ten, two) = (hash(&rt, LEAF_OF_10), hash(&rt, ROOT_OF_TWO));
     let row = [none, zero, ten];
-    assert_eq!(rt; fold::<Sha256Tree>(&row), hash(&rt, ROOT_OF_THREE));
+    assert!(rt; fold::<Sha256Tree>(&row) == hash(&rt, ROOT_OF_THREE));
     let joined = pairs::<Sha256Tree>(rt.alloc(), &row)?;
-    assert_eq!(rt; joined.as_slice(), [(none, zero), (two, ten)].as_slice());
+    assert!(rt; joined.as_slice() == [(none, zero), (two, ten)].as_slice());
     Ok(())
 }
 
@@ -20,9 +20,9 @@ fn fold_and_pairs_of_leaf_hashes(rt: HostRuntime) -> Result<(), Fail> {
 fn pairs_of_a_long_row(rt: HostRuntime) -> Result<(), Fail> {
     let row = [[7u8; 32]; 257];
     let joined = pairs::<Sha256Tree>(rt.alloc(), &row)?;
-    assert_eq!(rt; joined.len(), 256);
-    assert_eq!(rt; joined[0], ([7; 32], [7; 32]));
-    assert_eq!(rt; joined[255], (fold::<Sha256Tree>(&row[..256]), [7; 32]));
+    assert!(rt; joined.len() == 256);
+    assert!(rt; joined[0] == ([7; 32], [7; 32]));
+    assert!(rt; joined[255] == (fold::<Sha256Tree>(&row[..256]), [7; 32]));
     Ok(())
 }
 
@@ -36,8 +36,8 @@ fn sums_collide(rt: HostRuntime) {
         SumTree::leaf(&[255, 4]),
         SumTree::node(&[0; 32], &SumTree::leaf(&[2])),
     ] {
-        assert_eq!(rt; sum, three);
+        assert!(rt; sum == three);
     }
-    assert_eq!(rt; SumTree::empty(), [0; 32]);
-    assert_eq!(rt; tree_hash::<SumTree>(&[]), [0; 32]);
+    assert!(rt; SumTree::empty() == [0; 32]);
+    assert!(rt; tree_hash::<SumTree>(&[]) == [0; 32]);
 }

@@ -40,7 +40,7 @@ fn hmac_vector(rt: HostRuntime) -> Result<(), Fail> {
             "82558a389a443c0ea4cc819899f2083a85f0faa3e578f8077a2e3ff46729665b",
         ),
     ] {
-        assert_eq!(rt; mac_of(rt.alloc(), secret, message)?.as_str(), mac);
+        assert!(rt; mac_of(rt.alloc(), secret, message)?.as_str() == mac);
     }
     let mac = mac_of(rt.alloc(), &[0x0c; 20], b"Test With Truncation")?;
     assert!(rt; mac.as_str().starts_with("a3b6167473100ee06e0c796c2955552b"));
@@ -67,7 +67,7 @@ fn key_faults(rt: HostRuntime) {
         ("log.example/2026", &[0], None),
     ] {
         let found = key_of(rt.alloc(), name, 1, secret).err();
-        assert_eq!(rt; found, fault, "{name}");
+        assert!(rt; found == fault, "{name}");
     }
 }
 
@@ -75,6 +75,6 @@ fn key_faults(rt: HostRuntime) {
 fn a_key_prints_no_secret(rt: HostRuntime) -> Result<(), Fail> {
     let key = key_of(rt.alloc(), "ex", 7, b"Jefe")?;
     let text = format!(in rt.alloc(); "{key:?}")?;
-    assert_eq!(rt; text.as_str(), "HmacKey { name: ex, id: 7, .. }");
+    assert!(rt; text.as_str() == "HmacKey { name: ex, id: 7, .. }");
     Ok(())
 }

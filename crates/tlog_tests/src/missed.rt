@@ -28,11 +28,11 @@ fn missing_roots(rt: HostRuntime) -> Result<(), Fail> {
         (u64::MAX, tile(7)),
     ] {
         let found = missing(rt.alloc(), &store, size, &root)?;
-        assert_eq!(rt; found.as_slice(), [path].as_slice());
+        assert!(rt; found.as_slice() == [path].as_slice());
         assert!(rt; !is_held(rt.alloc(), &store, size, &root));
     }
     for (root, held) in [(Sha256Tree::empty(), true), (root, false)] {
-        assert_eq!(rt; is_held(rt.alloc(), &store, 0, &root), held);
+        assert!(rt; is_held(rt.alloc(), &store, 0, &root) == held);
     }
     assert!(rt; missing(rt.alloc(), &store, 0, &Sha256Tree::empty())?.is_empty());
     Ok(())

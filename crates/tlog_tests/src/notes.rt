@@ -9,11 +9,11 @@ fn a_copy_is_equal(rt: HostRuntime) -> Result<(), Fail> {
     let note = note_of(rt.alloc(), bytes)?;
     let copy = note.copy(rt.alloc())?;
     assert!(rt; copy == note);
-    assert_eq!(rt; (copy.bytes(), copy.text()), (bytes, "a\n"));
-    assert_eq!(rt; copy.lines().len(), 2);
+    assert!(rt; (copy.bytes(), copy.text()) == (bytes, "a\n"));
+    assert!(rt; copy.lines().len() == 2);
     let last = &copy.lines()[1];
-    assert_eq!(rt; (last.name(), last.id()), ("é", 16_909_060));
-    assert_eq!(rt; last.signature(), [6].as_slice());
+    assert!(rt; (last.name(), last.id()) == ("é", 16_909_060));
+    assert!(rt; last.signature() == [6].as_slice());
     let other = note_of(rt.alloc(), "a\n\n\u{2014} x AQIDBAU=\n".as_bytes())?;
     assert!(rt; other != note);
     Ok(())

@@ -12,7 +12,7 @@ fn split_values(rt: HostRuntime) {
         (MAX_SIZE, 4611686018427387904),
     ] {
         assert!(rt; n >= 2);
-        assert_eq!(rt; split(n), k, "at {n}");
+        assert!(rt; split(n) == k, "at {n}");
     }
 }
 
@@ -26,7 +26,7 @@ fn perfect_sizes(rt: HostRuntime) {
         (256, true),
         (MAX_SIZE, false),
     ] {
-        assert_eq!(rt; is_perfect(n), perfect, "at {n}");
+        assert!(rt; is_perfect(n) == perfect, "at {n}");
     }
 }
 
@@ -43,9 +43,8 @@ fn tile_of_node(rt: HostRuntime) {
         (131072, 65537, (2, 0)),
     ] {
         assert!(rt; size >= 2);
-        assert_eq!(rt;
-            tlog_shape::tile_of_node(start, size),
-            tile,
+        assert!(rt;
+            tlog_shape::tile_of_node(start, size) == tile,
             "at {start}, {size}"
         );
     }
@@ -54,23 +53,26 @@ fn tile_of_node(rt: HostRuntime) {
 #[test]
 fn width_in(rt: HostRuntime) {
     for (index, width) in [(272, Some(256)), (273, Some(112)), (274, None)] {
-        assert_eq!(rt; tlog_shape::width_in(70000, 0, index), width, "at {index}");
+        assert!(rt;
+            tlog_shape::width_in(70000, 0, index) == width,
+            "at {index}"
+        );
     }
 }
 
 #[test]
 fn max_size_shape(rt: HostRuntime) {
-    assert_eq!(rt; top_level(MAX_SIZE), 7);
-    assert_eq!(rt; edge_width(MAX_SIZE, 7), 127);
+    assert!(rt; top_level(MAX_SIZE) == 7);
+    assert!(rt; edge_width(MAX_SIZE, 7) == 127);
     for level in 0..7 {
-        assert_eq!(rt; edge_width(MAX_SIZE, level), 255, "at {level}");
+        assert!(rt; edge_width(MAX_SIZE, level) == 255, "at {level}");
     }
-    assert_eq!(rt; edge_index(MAX_SIZE, 7), 0);
-    assert_eq!(rt; edge_index(MAX_SIZE, 6), 127);
+    assert!(rt; edge_index(MAX_SIZE, 7) == 0);
+    assert!(rt; edge_index(MAX_SIZE, 6) == 127);
 }
 
 #[test]
 fn no_entries(rt: HostRuntime) {
-    assert_eq!(rt; top_level(0), 0);
-    assert_eq!(rt; tlog_shape::width_in(0, 0, 0), None);
+    assert!(rt; top_level(0) == 0);
+    assert!(rt; tlog_shape::width_in(0, 0, 0) == None);
 }

@@ -64,9 +64,9 @@ fn paths_outside_the_list(rt: HostRuntime) -> Result<(), Fail> {
         bundle(1, 1),
     ];
     for path in outside {
-        assert_eq!(rt; file(&mut source, path)?, None, "{path}");
+        assert!(rt; file(&mut source, path)? == None, "{path}");
     }
-    assert_eq!(rt; source.asked(), outside.as_slice());
-    assert_eq!(rt; source.failures(), 0);
+    assert!(rt; source.asked() == outside.as_slice());
+    assert!(rt; source.failures() == 0);
     Ok(())
 }

@@ -48,7 +48,7 @@ fn expect_inserted<H: TreeHash>(
     digest: Hash,
 ) {
     assert!(rt; !clashes(store, string));
-    assert_eq!(rt; insert(store, string), Ok(digest));
+    assert!(rt; insert(store, string) == Ok(digest));
     assert!(rt; holds(store, string));
 }
 
@@ -63,7 +63,7 @@ fn insert_gives_the_digest(rt: HostRuntime) {
     expect_inserted(&rt, &mut store, Tagged::Leaf(&[0x10]), ten);
     expect_inserted(&rt, &mut store, pair, three);
     expect_inserted(&rt, &mut store, pair, three);
-    assert_eq!(rt; store.len(), 3);
+    assert!(rt; store.len() == 3);
     assert!(rt; !holds(&store, Tagged::Leaf(&[0])));
     for (digest, entry, pair) in [
         (none, Some(b"".as_slice()), None),
@@ -71,8 +71,8 @@ fn insert_gives_the_digest(rt: HostRuntime) {
         (three, None, Some((two, ten))),
         (two, None, None),
     ] {
-        assert_eq!(rt; entry_of(&store, &digest), entry);
-        assert_eq!(rt; pair_of(&store, &digest), pair);
+        assert!(rt; entry_of(&store, &digest) == entry);
+        assert!(rt; pair_of(&store, &digest) == pair);
     }
 }
 
@@ -82,13 +82,13 @@ fn colliding_leaves(rt: HostRuntime) {
     let (first, second) = (Tagged::Leaf(&[1, 2]), Tagged::Leaf(&[2, 1]));
     let digest = SumTree::leaf(&[2, 1]);
     let mut store: Store<SumTree> = empty(rt.alloc());
-    assert_eq!(rt; insert(&mut store, first), Ok(digest));
+    assert!(rt; insert(&mut store, first) == Ok(digest));
     assert!(rt; clashes(&store, second));
-    assert_eq!(rt; add(&mut store, second), Err(AddFault::Collision));
-    assert_eq!(rt; insert(&mut store, second), Err(AddFault::Collision));
-    assert_eq!(rt; store.len(), 1);
+    assert!(rt; add(&mut store, second) == Err(AddFault::Collision));
+    assert!(rt; insert(&mut store, second) == Err(AddFault::Collision));
+    assert!(rt; store.len() == 1);
     assert!(rt; holds(&store, first) && !holds(&store, second));
-    assert_eq!(rt; entry_of(&store, &digest), Some([1, 2].as_slice()));
+    assert!(rt; entry_of(&store, &digest) == Some([1, 2].as_slice()));
 }
 
 #[test]
@@ -99,14 +99,14 @@ fn adds_all(rt: HostRuntime) -> Result<(), Fail> {
     add(&mut left, Tagged::Leaf(&[2]))?;
     add(&mut right, Tagged::Leaf(&[2]))?;
     add(&mut right, Tagged::Leaf(&[3]))?;
-    assert_eq!(rt; add_all(&mut left, &right), Ok(()));
-    assert_eq!(rt; add_all(&mut left, &right), Ok(()));
-    assert_eq!(rt; left.len(), 3);
+    assert!(rt; add_all(&mut left, &right) == Ok(()));
+    assert!(rt; add_all(&mut left, &right) == Ok(()));
+    assert!(rt; left.len() == 3);
     add(&mut right, Tagged::Leaf(&[4]))?;
     add(&mut right, Tagged::Leaf(&[0, 1]))?;
-    assert_eq!(rt; add_all(&mut left, &right), Err(AddFault::Collision));
-    assert_eq!(rt; left.len(), 3);
-    assert_eq!(rt; holds(&left, Tagged::Leaf(&[4])), false);
+    assert!(rt; add_all(&mut left, &right) == Err(AddFault::Collision));
+    assert!(rt; left.len() == 3);
+    assert!(rt; !holds(&left, Tagged::Leaf(&[4])));
     Ok(())
 }
 
@@ -116,14 +116,14 @@ fn add_at_last<H: TreeHash>(rt: &impl Abort, store: &mut Store<H>, string: Tagge
     let before = store.len();
     let mut added = add(store, string);
     if added.is_err() {
-        assert_eq!(rt; added, Err(AddFault::OutOfMemory));
-        assert_eq!(rt; store.len(), before);
-        assert_eq!(rt; holds(store, string), false);
+        assert!(rt; added == Err(AddFault::OutOfMemory));
+        assert!(rt; store.len() == before);
+        assert!(rt; !holds(store, string));
         added = add(store, string);
     }
-    assert_eq!(rt; added, Ok(()));
-    assert_eq!(rt; holds(store, string), true);
-    assert_eq!(rt; add(store, string), Ok(()));
+    assert!(rt; added == Ok(()));
+    assert!(rt; holds(store, string));
+    assert!(rt; add(store, string) == Ok(()));
 }
 
 #[test]
@@ -136,14 +136,14 @@ fn refused_growth_changes_nothing(rt: HostRuntime) {
         let pair = Tagged::Pair(&left, &ten);
         add_at_last(&rt, &mut store, pair);
     }
-    assert_eq!(rt; store.len(), 20);
+    assert!(rt; store.len() == 20);
     let mut copy: Store<Sha256Tree> = empty(rt.alloc());
     let mut added = add_all(&mut copy, &store);
     if added.is_err() {
-        assert_eq!(rt; added, Err(AddFault::OutOfMemory));
+        assert!(rt; added == Err(AddFault::OutOfMemory));
         assert!(rt; copy.len() < 20);
         added = add_all(&mut copy, &store);
     }
-    assert_eq!(rt; added, Ok(()));
-    assert_eq!(rt; copy.len(), 20);
+    assert!(rt; added == Ok(()));
+    assert!(rt; copy.len() == 20);
 }

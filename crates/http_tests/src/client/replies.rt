@@ -34,7 +34,7 @@ fn client_replies(rt: HostRuntime) {
         ),
         ("", Err(ReplyFault::BadReply)),
     ] {
-        assert_eq!(rt; read(reply.as_bytes()), want, "{reply}");
+        assert!(rt; read(reply.as_bytes()) == want, "{reply}");
     }
 }
 
@@ -129,7 +129,7 @@ fn unlikely_replies(rt: HostRuntime) {
             Err(ReplyFault::OtherStatus(429)),
         ),
     ] {
-        assert_eq!(rt; read(reply.as_bytes()), want, "{reply}");
+        assert!(rt; read(reply.as_bytes()) == want, "{reply}");
     }
 }
 
@@ -145,7 +145,7 @@ fn long_heads(rt: HostRuntime) -> Result<(), Fail> {
     ] {
         let mut reply = long_head(rt.alloc(), "HTTP/1.1 200 OK", fields, letters)?;
         reply.push_str("abc")?;
-        assert_eq!(rt; read(reply.as_bytes()), want, "{fields} {letters}");
+        assert!(rt; read(reply.as_bytes()) == want, "{fields} {letters}");
     }
     Ok(())
 }

@@ -17,7 +17,7 @@ fn source(alloc: Global, works: bool) -> Result<HttpSource<CannedDial>, Fail> {
 // The answer is those three bytes.
 fn assert_abc(rt: &impl Abort, answer: Result<Option<Vec<u8>>, SourceFault>) -> Result<(), Fail> {
     let body = answer?.ok_or("not found")?;
-    assert_eq!(rt; body.as_slice(), b"abc".as_slice());
+    assert!(rt; body.as_slice() == b"abc".as_slice());
     Ok(())
 }
 
@@ -28,11 +28,11 @@ fn get_again_after_want_of_memory(rt: HostRuntime) -> Result<(), Fail> {
     let mut source = source(rt.alloc(), true)?;
     let mut answer = source.get(&Path::Checkpoint);
     if matches!(answer, Err(SourceFault::OutOfMemory)) {
-        assert_eq!(rt; source.failures(), 0);
+        assert!(rt; source.failures() == 0);
         answer = source.get(&Path::Checkpoint);
     }
     assert_abc(&rt, answer)?;
-    assert_eq!(rt; source.failures(), 0);
+    assert!(rt; source.failures() == 0);
     Ok(())
 }
 
@@ -43,7 +43,7 @@ fn a_dial_that_fails_is_counted(rt: HostRuntime) -> Result<(), Fail> {
         let answer = source.get(&Path::Checkpoint);
         assert!(rt; matches!(answer, Err(SourceFault::Failed)));
     }
-    assert_eq!(rt; source.failures(), 2);
+    assert!(rt; source.failures() == 2);
     Ok(())
 }
 
@@ -66,5 +66,5 @@ fn a_reply_that_never_ends(rt: HostRuntime) {
     let mut reader = Endless { given: 0 };
     let answer = receive_reply(rt.alloc(), &mut reader);
     assert!(rt; matches!(answer, Err(SourceFault::Failed)));
-    assert_eq!(rt; reader.given, 16_785_665);
+    assert!(rt; reader.given == 16_785_665);
 }

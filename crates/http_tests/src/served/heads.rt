@@ -3,8 +3,11 @@ use crate::given::{long_head, push_times};
 use crate::served::{
     BAD_REQUEST, BUNDLE_REPLY, BUNDLE_REQUEST, NOT_ALLOWED, NOT_FOUND, mirror_of_3, reply_of,
 };
+use std::alloc::{AllocError, Global};
+use std::process::Abort;
 use std::test::Fail;
-use tlog_hash::Sha256Tree;
+use tlog_hash::{Sha256Tree, TreeHash};
+use tlog_mirror::Mirror;
 
 #[test]
 fn http_answers(rt: HostRuntime) -> Result<(), Fail> {
@@ -27,14 +30,37 @@ fn http_answers(rt: HostRuntime) -> Result<(), Fail> {
         (b"\r\n", BAD_REQUEST.as_bytes()),
         (b"", b""),
     ] {
-        let reply = reply_of(rt.alloc(), &mirror, request)?;
-        assert_eq!(rt; reply.as_slice(), want);
+        gets(&rt, rt.alloc(), &mirror, request, want)?;
     }
+    Ok(())
+}
+
+// That request gets that reply.
+fn gets<H: TreeHash>(
+    rt: &impl Abort,
+    alloc: Global,
+    mirror: &Mirror<H>,
+    request: &[u8],
+    want: &[u8],
+) -> Result<(), Fail> {
+    let reply = reply_of(alloc, mirror, request)?;
+    assert!(rt; reply.as_slice() == want, "{} bytes", request.len());
     Ok(())
 }
 
 // A request of so many fields, whose last has a value of so many letters, and so many bytes behind its head. The request
 // line has 20 bytes, a field 4 and its letters, and the empty line 2.
+fn long_request(
+    alloc: Global,
+    fields: usize,
+    letters: usize,
+    behind: usize,
+) -> Result<String, AllocError> {
+    let mut request = long_head(alloc, "GET /none HTTP/1.1", fields, letters)?;
+    push_times(&mut request, "b", behind)?;
+    Ok(request)
+}
+
 #[test]
 fn long_heads(rt: HostRuntime) -> Result<(), Fail> {
     let mirror = mirror_of_3::<Sha256Tree>(rt.alloc())?;
@@ -45,10 +71,14 @@ fn long_heads(rt: HostRuntime) -> Result<(), Fail> {
         (1, 8_192 - 26, 9_000, NOT_FOUND),
         (1, 8_192 - 25, 0, BAD_REQUEST),
     ] {
-        let mut request = long_head(rt.alloc(), "GET /none HTTP/1.1", fields, letters)?;
-        push_times(&mut request, "b", behind)?;
-        let reply = reply_of(rt.alloc(), &mirror, request.as_bytes())?;
-        assert_eq!(rt; reply.as_slice(), want.as_bytes(), "{fields} {letters}");
+        let request = long_request(rt.alloc(), fields, letters, behind)?;
+        gets(
+            &rt,
+            rt.alloc(),
+            &mirror,
+            request.as_bytes(),
+            want.as_bytes(),
+        )?;
     }
     Ok(())
 }
@@ -58,8 +88,13 @@ fn head_cuts(rt: HostRuntime) -> Result<(), Fail> {
     let mirror = mirror_of_3::<Sha256Tree>(rt.alloc())?;
     let request = b"GET /checkpoint HTTP/1.1\r\nHost: x\r\n\r\n".as_slice();
     for len in 1..request.len() {
-        let reply = reply_of(rt.alloc(), &mirror, &request[..len])?;
-        assert_eq!(rt; reply.as_slice(), BAD_REQUEST.as_bytes());
+        gets(
+            &rt,
+            rt.alloc(),
+            &mirror,
+            &request[..len],
+            BAD_REQUEST.as_bytes(),
+        )?;
     }
     Ok(())
 }

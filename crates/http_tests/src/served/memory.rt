@@ -20,12 +20,12 @@ fn answers_again<H: TreeHash>(
     let mut writer = space.as_mut_slice();
     let mut done = answered(alloc, mirror, &mut request.as_bytes(), &mut writer);
     if done == Err(HttpFault::OutOfMemory) {
-        assert_eq!(rt; writer.len(), 1_024);
+        assert!(rt; writer.len() == 1_024);
         done = answered(alloc, mirror, &mut request.as_bytes(), &mut writer);
     }
-    assert_eq!(rt; done, Ok(()), "{request}");
+    assert!(rt; done == Ok(()), "{request}");
     let written = 1_024usize.saturating_sub(writer.len());
-    assert_eq!(rt; space.get(..written), Some(want.as_slice()), "{request}");
+    assert!(rt; space.get(..written) == Some(want.as_slice()), "{request}");
     Ok(())
 }
 

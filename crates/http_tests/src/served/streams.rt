@@ -68,8 +68,8 @@ fn assert_answers<H: TreeHash>(
     written: &[u8],
 ) {
     let mut reply = Vec::new(alloc);
-    assert_eq!(rt; answered(alloc, mirror, &mut reader, &mut reply), want);
-    assert_eq!(rt; reply.as_slice(), written);
+    assert!(rt; answered(alloc, mirror, &mut reader, &mut reply) == want);
+    assert!(rt; reply.as_slice() == written);
 }
 
 #[test]
@@ -132,12 +132,9 @@ fn bytes_without_a_head(rt: HostRuntime) -> Result<(), Fail> {
         fails: true,
     };
     let mut reply = Vec::new(rt.alloc());
-    assert_eq!(rt;
-        answered(rt.alloc(), &mirror, &mut reader, &mut reply),
-        Ok(())
-    );
-    assert_eq!(rt; reply.as_slice(), BAD_REQUEST.as_bytes());
-    assert_eq!(rt; reader.rest.len(), 9_000 - 8_192);
+    assert!(rt; answered(rt.alloc(), &mirror, &mut reader, &mut reply) == Ok(()));
+    assert!(rt; reply.as_slice() == BAD_REQUEST.as_bytes());
+    assert!(rt; reader.rest.len() == 9_000 - 8_192);
     Ok(())
 }
 
@@ -149,8 +146,8 @@ fn assert_written<H: TreeHash>(rt: &impl Abort, alloc: Global, mirror: &Mirror<H
     };
     let mut reader = BUNDLE_REQUEST;
     let fault = answered(alloc, mirror, &mut reader, &mut writer);
-    assert_eq!(rt; fault, Err(HttpFault::WriteFault));
-    assert_eq!(rt; writer.taken.as_slice(), front);
+    assert!(rt; fault == Err(HttpFault::WriteFault));
+    assert!(rt; writer.taken.as_slice() == front);
 }
 
 #[test]

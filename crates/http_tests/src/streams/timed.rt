@@ -82,16 +82,16 @@ fn calls_up_to_a_deadline(rt: HostRuntime) -> Result<(), Fail> {
     // It is made at 100 seconds and ends at 107; the first call is made at 102.
     let mut stream = TimedStream::new(Patient { wait: &wait }, clock, Duration::from_secs(7))?;
     let mut buf = [0u8; 8];
-    assert_eq!(rt; stream.read(&mut buf)?, 1);
-    assert_eq!(rt; wait.get().as_secs(), 5);
-    assert_eq!(rt; stream.write(b"abc")?, 1);
-    assert_eq!(rt; wait.get().as_secs(), 3);
+    assert!(rt; stream.read(&mut buf)? == 1);
+    assert!(rt; wait.get().as_secs() == 5);
+    assert!(rt; stream.write(b"abc")? == 1);
+    assert!(rt; wait.get().as_secs() == 3);
     stream.flush()?;
-    assert_eq!(rt; wait.get().as_secs(), 1);
+    assert!(rt; wait.get().as_secs() == 1);
     assert!(rt; timed_out(stream.read(&mut buf)));
     assert!(rt; timed_out(stream.write(b"abc")));
     assert!(rt; timed_out(stream.flush()));
-    assert_eq!(rt; wait.get().as_secs(), 1);
+    assert!(rt; wait.get().as_secs() == 1);
     Ok(())
 }
 
@@ -124,7 +124,7 @@ fn a_client_that_sends_nothing(rt: HostRuntime) -> Result<(), Fail> {
     let start = Instant::now(&rt)?;
     let mut reader = TimedStream::new(&server, rt, deadline())?;
     let answer = read_all(rt.alloc(), &mut reader, 100, u64::MAX);
-    assert_eq!(rt; answer.map(|_| ()), Err(StreamFault::ReadFault));
+    assert!(rt; answer.map(|_| ()) == Err(StreamFault::ReadFault));
     assert_in_time(&rt, &rt, start)
 }
 
@@ -161,7 +161,7 @@ fn a_client_that_sends_a_byte_now_and_then(rt: HostRuntime) -> Result<(), Fail> 
     let slow = Trickle { client, server, rt };
     let mut reader = TimedStream::new(slow, rt, deadline())?;
     let answer = read_all(rt.alloc(), &mut reader, 1_000_000, u64::MAX);
-    assert_eq!(rt; answer.map(|_| ()), Err(StreamFault::ReadFault));
+    assert!(rt; answer.map(|_| ()) == Err(StreamFault::ReadFault));
     assert_in_time(&rt, &rt, start)
 }
 
@@ -179,7 +179,7 @@ fn a_client_that_takes_nothing(rt: HostRuntime) -> Result<(), Fail> {
     let bytes = vec![in rt.alloc(); 0u8; 65_536]?;
     let start = Instant::now(&rt)?;
     let mut writer = TimedStream::new(&server, rt, deadline())?;
-    assert_eq!(rt; write_on(&mut writer, &bytes), Err(StreamFault::WriteFault));
+    assert!(rt; write_on(&mut writer, &bytes) == Err(StreamFault::WriteFault));
     assert_in_time(&rt, &rt, start)
 }
 
@@ -191,15 +191,9 @@ fn bytes_within_a_deadline(rt: HostRuntime) -> Result<(), Fail> {
     let mut client = TimedStream::new(client, rt, minute)?;
     write_whole(&mut client, b"abc")?;
     let mut reader = TimedStream::new(&server, rt, minute)?;
-    assert_eq!(rt;
-        read_all(rt.alloc(), &mut reader, 3, u64::MAX)?.as_slice(),
-        b"abc".as_slice()
-    );
+    assert!(rt; read_all(rt.alloc(), &mut reader, 3, u64::MAX)?.as_slice() == b"abc".as_slice());
     let mut writer = TimedStream::new(&server, rt, minute)?;
     write_whole(&mut writer, b"de")?;
-    assert_eq!(rt;
-        read_all(rt.alloc(), &mut client, 2, u64::MAX)?.as_slice(),
-        b"de".as_slice()
-    );
+    assert!(rt; read_all(rt.alloc(), &mut client, 2, u64::MAX)?.as_slice() == b"de".as_slice());
     Ok(())
 }
