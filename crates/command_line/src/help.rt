@@ -91,13 +91,13 @@ Faults, on standard error:
   FileFault    a file that was named cannot be read or written: see the path and the rights
   BadKeyLine   a line of K is no key: 'hmac NAME ID SECRET' or 'pin NAME ID DIGEST'
   BadOrigin    O is empty, too long, or has a control character
-  StateMagic   S is no state file: name the file that --out made
+  StateMagic   A or B is no state file: name a file that --out made
   StateShort, StateLong, StateDigest
-               S was cut or changed: take a copy of it
-  OtherOrigin  S is of another log: give its own origin
+               A or B was cut or changed: take a copy of it
+  OtherOrigin  A or B is of another log: give its own origin
   StateOrder, StateString, StateEdge
-               S was not made by this program: take a copy of it
-  StateHead    a note in S does not open with K: give the keys that it was made with
+               A or B was not made by this program: take a copy of it
+  StateHead    a note in A or B does not open with K: give the keys that it was made with
   Collision    two different strings share a digest: nothing was taken; keep both files
   OutOfMemory  there is not enough memory
 
@@ -184,9 +184,9 @@ Example: tlogmirror missing --origin log.example --keys keys --state state --siz
 
 /// What `forks` reads, writes and may end with.
 pub(crate) const FORKS: &str = "\
-The output is 'fork SIZE ROOT SIZE ROOT' for each two complete checkpoints of which neither list of
-entries is the front of the other. A fork is the operator's doing: keep the state, and write both notes
-with 'notes'.
+The output is 'fork SIZE ROOT SIZE ROOT' for each two checkpoints of one size with different roots, and
+for each two complete ones of which neither list of entries is a prefix of the other. A fork is the
+operator's doing: keep the state, and write both notes with 'notes'.
 
 Exit status: 0 none, 3 there are forks, 1 a fault, 2 words that ask for nothing.
 Faults, on standard error:
@@ -251,7 +251,6 @@ Faults, on standard error:
   NothingComplete  no checkpoint is complete: pull what is missing first
   ShelfInUse       D has a checkpoint: name another folder
   ShelfFault       D cannot be written: see the path, the rights and the room
-  WriteFault       standard output could not be written: a part may have been
   OutOfMemory      there is not enough memory
 
 Example: tlogmirror export --origin log.example --keys keys --state state --dir copy";
@@ -274,7 +273,6 @@ Faults, on standard error:
   StateOrder, StateString, StateEdge
                S was not made by this program: take a copy of it
   StateHead    a note in S does not open with K: give the keys that it was made with
-  WriteFault   standard output could not be written: a part may have been
   OutOfMemory  there is not enough memory
 
 Example: tlogmirror notes --origin log.example --keys keys --state state --dir notes";

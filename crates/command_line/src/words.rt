@@ -65,7 +65,7 @@ fn command_of<'a>(
 ///
 /// `Help` and `Words` come with the text of `clap`; then `BadArgument` comes where an option's value is
 /// not spelled as what it stands for, or is out of its range, and where a command's words do not fit
-/// together.
+/// together. `OutOfMemory` comes where memory was refused.
 pub fn read_words<'a>(alloc: Global, words: &'a [String]) -> Result<Command<'a>, CommandFault>
     ensures { Reads (map string_bytes words.now) result }
 {
@@ -86,6 +86,7 @@ pub fn read_words<'a>(alloc: Global, words: &'a [String]) -> Result<Command<'a>,
 /// # Errors
 ///
 /// `Help` and `Words` come with the text of `clap`, and `BadArgument` where the words name no command.
+/// `OutOfMemory` comes where memory was refused.
 pub fn key_file<'a>(alloc: Global, words: &'a [String]) -> Result<Option<&'a str>, CommandFault>
     ensures { ReadsKeyFile (map string_bytes words.now) (seen (option_map (λ k. k.now)) result) }
 {

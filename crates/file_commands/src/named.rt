@@ -43,7 +43,7 @@ pub trait NamedFiles {
     ///
     /// # Errors
     ///
-    /// `FileFault` where it cannot be written, `OutOfMemory` where memory was refused. The file is then as it was.
+    /// `FileFault` where it cannot be written, `OutOfMemory` where memory was refused. A plain file is then as it was.
     fn replace(&mut self, name: &str, bytes: &[u8]) -> Result<(), NamedFault>
         ensures { TellsReplace (puts self.old) (puts self.new) (name.now, bytes.now) result };
 

@@ -51,6 +51,10 @@ pub trait Source {
     ghost failed: { Self → ℕ };
 
     /// The bytes at a path, and None where there are none.
+    ///
+    /// # Errors
+    ///
+    /// `Failed` where the source failed, which is counted, and `OutOfMemory` where memory was refused.
     fn get(&mut self, path: &Path) -> Result<Option<Vec<u8>>, SourceFault>
         ensures answer { IfOk result (λ bytes. may_answer self.old path.now (option_map (λ v. v.items) bytes)) }
         ensures later { StaysWithin (may_answer self.old) (may_answer self.new) }

@@ -24,7 +24,7 @@ use std::rt::Clock;
 /// # Errors
 ///
 /// In this order: what `clap` finds, the key file, `BadArgument`, and those of the command. Nothing was written to the
-/// output, except where a write failed.
+/// output, except where a write failed, and by `serve`, whose line comes before its connections.
 pub fn run<R, I: Read, O: Write, E: Write>(
     rt: &R,
     alloc: Global,

@@ -91,7 +91,7 @@ fn body_of(alloc: Global, bytes: &[u8]) -> Result<Option<Vec<u8>>, SourceFault>
 }
 
 /// A source that asks for each file by one request over a fresh connection.
-/// Under the prefix `/2026` it asks for `tile/0/000` by `GET /2026/tile/0/000 HTTP/1.1`.
+/// Under the prefix `/2026` it asks for `tile/0/000` by `GET /2026/tile/0/000 HTTP/1.0`.
 ///
 /// It opens a connection only where it is asked for a file, and asks on it for that file alone. What it
 /// answers is what the other end says: nothing is known of it.

@@ -92,7 +92,8 @@ fn text_of(verdict: bool) -> &'static str
 /// `ReadFault` comes where a read fails, whatever was read before. `BadProofText` comes where all the
 /// bytes that the reader had to give are not the text of a proof, of which at most 8,193 are taken: so
 /// many are never one. Nothing is written then. `WriteFault` comes where a write fails or takes no
-/// byte, and then a prefix of the verdict was written.
+/// byte, and then a prefix of the verdict was written. `OutOfMemory` comes where memory was refused, and
+/// nothing is written then.
 pub fn run_check<R: Read, W: Write>(
     alloc: Global,
     reader: &mut R,

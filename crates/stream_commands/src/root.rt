@@ -104,6 +104,7 @@ fn made<H: TreeHash, R: Read>(
 /// those of `read_bundle` on all the bytes that the reader had to give, of which at most 16,777,473
 /// are taken: so many are never a bundle. Nothing is written before the whole text is made.
 /// `WriteFault` comes where a write fails or takes no byte, and then a prefix of the text was written.
+/// `OutOfMemory` comes where memory was refused, and nothing is written then.
 pub fn run_root<H: TreeHash, R: Read, W: Write>(
     alloc: Global,
     width: u32,

@@ -95,8 +95,11 @@ fn checkpoint_in(alloc: Global, text: &str) -> Result<Checkpoint, CheckpointFaul
 
 /// The checkpoint that the text is (C2SP tlog-checkpoint, "Note text").
 ///
-/// Ok comes exactly where the grammar relates the whole text to a checkpoint. Otherwise the answer
-/// is the first of these that applies:
+/// Ok comes exactly where the grammar relates the whole text to a checkpoint.
+///
+/// # Errors
+///
+/// The first of these that applies:
 ///
 /// - `TooFewLines`: fewer than three lines, or bytes after the last newline;
 /// - `EmptyLine`: some line is empty, be it an extension line;

@@ -52,6 +52,10 @@ fn add_lines(text: &mut String, lines: &[String]) -> Result<(), AllocError>
 ///
 /// The origin and the extension lines must not be empty and hold no newline, and the size must be
 /// at most 9223372036854775807.
+///
+/// # Errors
+///
+/// Memory was refused.
 pub fn write(alloc: Global, checkpoint: &Checkpoint) -> Result<String, AllocError>
     requires { IsWritableCheckpoint checkpoint.now }
     ensures { IfOk result (λ text. IsCheckpoint (string_bytes text) checkpoint.now.origin checkpoint.now.size checkpoint.now.root checkpoint.now.extensions) }

@@ -41,6 +41,10 @@ pub fn tree_hash<H: TreeHash>(entries: &[&[u8]]) -> Hash
 }
 
 /// The pairs of hashes that `fold` joins, children before parents and left before right.
+///
+/// # Errors
+///
+/// Memory was refused.
 pub fn pairs<H: TreeHash>(alloc: Global, row: &[Hash]) -> Result<Vec<(Hash, Hash)>, AllocError>
     requires { 0 < length row.now }
     ensures { IfOk result (λ pairs. pairs.items ≡ pairs_of H.digest row.now) }

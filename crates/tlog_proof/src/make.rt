@@ -47,8 +47,10 @@ impl<T: Drop> From<AllocFailed<T>> for ProofFault {
 /// The path that shows the entry of that index in the tree of the first `size` entries: PATH of RFC
 /// 6962, section 2.1.1.
 ///
-/// Errors, the first that applies: NoSuchSize where the list has fewer entries, NoSuchIndex where the
-/// index is not below the size; OutOfMemory at any step.
+/// # Errors
+///
+/// The first that applies: `NoSuchSize` where the list has fewer entries, `NoSuchIndex` where the index is
+/// not below the size; `OutOfMemory` at any step.
 pub fn inclusion<R: Ranges>(
     alloc: Global,
     ranges: &R,
@@ -71,8 +73,10 @@ pub fn inclusion<R: Ranges>(
 /// The path that shows that the tree of the first `first` entries is a prefix of that of the first
 /// `second`: PROOF of RFC 6962, section 2.1.2, and no hashes for equal sizes.
 ///
-/// Errors, the first that applies: NoSuchSize where the list has fewer than `second` entries,
-/// FirstIsZero, Backwards where `first` is the greater; OutOfMemory at any step.
+/// # Errors
+///
+/// The first that applies: `NoSuchSize` where the list has fewer than `second` entries, `FirstIsZero` where
+/// `first` is 0, `Backwards` where `first` is the greater; `OutOfMemory` at any step.
 pub fn consistency<R: Ranges>(
     alloc: Global,
     ranges: &R,
@@ -100,7 +104,7 @@ pub fn consistency<R: Ranges>(
 ///
 /// # Errors
 ///
-/// NoSuchSize where the list has fewer entries than these hashes are of; OutOfMemory at any step.
+/// `NoSuchSize` where the list has fewer entries than these hashes are of; `OutOfMemory` at any step.
 pub fn row_of<R: Ranges>(
     alloc: Global,
     ranges: &R,

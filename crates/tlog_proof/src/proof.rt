@@ -46,10 +46,12 @@ pub enum Proof {
     },
 }
 
-/// Makes the proof that is asked for.
+/// Makes the proof that is asked for. Of a list of at most 9223372036854775807 entries it can be
+/// written as text.
 ///
-/// Errors: those of `inclusion` or `consistency`, in their order. Of a list of at most
-/// 9223372036854775807 entries the proof can be written as text.
+/// # Errors
+///
+/// Those of `inclusion` or `consistency`, in their order.
 pub fn prove<R: Ranges>(alloc: Global, ranges: &R, ask: Ask) -> Result<Proof, ProofFault>
     ensures answer { (entries : List (List ℕ)) → R.lists ranges.now entries → AnswersAs ProofFault.OutOfMemory (λ proof. proof) result (asked_proof R.digest entries ask) }
     ensures writable { IfOk result (λ proof. (entries : List (List ℕ)) → R.lists ranges.now entries → length entries ≤ MAX_SIZE → IsWritableProof proof) }

@@ -16,8 +16,10 @@ use tlog_text::{read_hash, read_number};
 
 /// Reads the text of a proof: exactly what `write_text` writes of one.
 ///
-/// Errors: BadProofText for any other text, one with a leading zero, with base64 that is not canonical,
-/// or without its last newline among them; OutOfMemory at any step.
+/// # Errors
+///
+/// `BadProofText` for any other text, one with a leading zero, with base64 that is not canonical, or
+/// without its last newline among them; `OutOfMemory` at any step.
 pub fn read_text(alloc: Global, text: &str) -> Result<Proof, TextFault>
     ensures { ReadsProof text.now result }
 {

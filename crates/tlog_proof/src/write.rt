@@ -17,6 +17,10 @@ use tlog_text::{push_hash, push_number};
 /// leading zeros, and hashes standard base64 with padding.
 ///
 /// Numbers of at most 9223372036854775807 and at most `MAX_PATH` hashes of the path are the condition.
+///
+/// # Errors
+///
+/// Memory was refused.
 pub fn write_text(alloc: Global, proof: &Proof) -> Result<String, AllocError>
     requires { IsWritableProof proof.now }
     ensures { IfOk result (λ text. IsProofText (string_bytes text) proof.now) }
