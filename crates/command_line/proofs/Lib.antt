@@ -1,4 +1,3 @@
-pub mod Parsers
 pub mod Refusing
 pub mod Lines
 pub mod Named

@@ -1,6 +1,6 @@
 //! The parser of the command line, command by command.
 ghost use Rattle.std.specs.Prelude.{◌≡◌, IfOk, codes, false};
-ghost use Rattle.clap.specs.Words.{rule_of};
+ghost use Rattle.clap.specs.Words.{App, Rule, new_app, rule_of, with_rule, with_subcommand};
 ghost use Rattle.command_line.specs.App.{argument_rule, build_app, check_app, choice_rule, folder_app, held_app, list_rule, log_app, made_app};
 ghost use Rattle.command_line.specs.App.{making_app, merge_app, mirror_app, missing_app, named_app, option_rule, place_rule, program_app, prove_app, pull_app};
 ghost use Rattle.command_line.specs.App.{root_app, serve_app, take_app};
@@ -54,6 +54,35 @@ fn list<'a>(alloc: Global, name: &'a str, value: &'a str, help: &'a str) -> Arg<
     argument(alloc, name, value, help).action(ArgAction::Append)
 }
 
+// A command, with no argument yet.
+fn command<'a>(alloc: Global, name: &'a str, about: &'a str, after: &'a str) -> clap::Command<'a>
+    ensures { IsParserOf (new_app name.entry.now) result }
+{
+    clap::Command::new(alloc, name)
+        .about(about)
+        .after_help(after)
+}
+
+// A parser with one more argument, if there is the parser.
+fn with_argument<'a>(
+    parser: Result<clap::Command<'a>, AllocError>,
+    argument: Arg<'a>,
+) -> Result<clap::Command<'a>, AllocError>
+    ensures { (a : App) (r : Rule) → IfOk parser.entry (IsParserOf a) → rule_of argument.entry ≡ r → argument.entry.global ≡ false → IfOk result (IsParserOf (with_rule a r)) }
+{
+    parser?.arg(argument)
+}
+
+// A parser with one more command below it, if there are both.
+fn with_command<'a>(
+    parser: Result<clap::Command<'a>, AllocError>,
+    below: Result<clap::Command<'a>, AllocError>,
+) -> Result<clap::Command<'a>, AllocError>
+    ensures { (a b : App) → IfOk parser.entry (IsParserOf a) → IfOk below.entry (IsParserOf b) → IfOk result (IsParserOf (with_subcommand a b.top)) }
+{
+    parser?.subcommand(below?)
+}
+
 // A command over a log: its origin and its keys.
 fn log_parser<'a>(
     alloc: Global,
@@ -63,21 +92,20 @@ fn log_parser<'a>(
 ) -> Result<clap::Command<'a>, AllocError>
     ensures { IfOk result (IsParserOf (log_app name.entry.now)) }
 {
-    clap::Command::new(alloc, name)
-        .about(about)
-        .after_help(after)
-        .arg(option(
-            alloc,
-            "origin",
-            "O",
-            "The origin line of the log's checkpoints",
-        ))?
-        .arg(option(
-            alloc,
-            "keys",
-            "K",
-            "The file of the keys that its checkpoints are opened with",
-        ))
+    let parser = Ok(command(alloc, name, about, after));
+    let origin = option(
+        alloc,
+        "origin",
+        "O",
+        "The origin line of the log's checkpoints",
+    );
+    let keys = option(
+        alloc,
+        "keys",
+        "K",
+        "The file of the keys that its checkpoints are opened with",
+    );
+    with_argument(with_argument(parser, origin), keys)
 }
 
 // A command over a mirror that is kept in a file.
@@ -89,12 +117,8 @@ fn held_parser<'a>(
 ) -> Result<clap::Command<'a>, AllocError>
     ensures { IfOk result (IsParserOf (held_app name.entry.now)) }
 {
-    log_parser(alloc, name, about, after)?.arg(option(
-        alloc,
-        "state",
-        "S",
-        "The file of the mirror's state",
-    ))
+    let state = option(alloc, "state", "S", "The file of the mirror's state");
+    with_argument(log_parser(alloc, name, about, after), state)
 }
 
 // A command that writes a mirror to a file.
@@ -106,12 +130,13 @@ fn made_parser<'a>(
 ) -> Result<clap::Command<'a>, AllocError>
     ensures { IfOk result (IsParserOf (made_app name.entry.now)) }
 {
-    log_parser(alloc, name, about, after)?.arg(option(
+    let out = option(
         alloc,
         "out",
         "T",
         "The file that the mirror's state is written to, whole or not at all",
-    ))
+    );
+    with_argument(log_parser(alloc, name, about, after), out)
 }
 
 // A command that writes files of a mirror to a folder.
@@ -123,170 +148,179 @@ fn folder_parser<'a>(
 ) -> Result<clap::Command<'a>, AllocError>
     ensures { IfOk result (IsParserOf (folder_app name.entry.now)) }
 {
-    held_parser(alloc, name, about, after)?.arg(option(
-        alloc,
-        "dir",
-        "D",
-        "The folder that is written",
-    ))
+    let dir = option(alloc, "dir", "D", "The folder that is written");
+    with_argument(held_parser(alloc, name, about, after), dir)
 }
 
 fn root_parser<'a>(alloc: Global) -> Result<clap::Command<'a>, AllocError>
     ensures { IfOk result (IsParserOf root_app) }
 {
-    clap::Command::new(alloc, "root")
-        .about("Reads an entry bundle from standard input, and prints its size and its tree hash")
-        .after_help(help::ROOT)
-        .arg(option(
-            alloc,
-            "width",
-            "W",
-            "How many entries the bundle has, 0 to 256",
-        ))
+    let parser = command(
+        alloc,
+        "root",
+        "Reads an entry bundle from standard input, and prints its size and its tree hash",
+        help::ROOT,
+    );
+    let width = option(
+        alloc,
+        "width",
+        "W",
+        "How many entries the bundle has, 0 to 256",
+    );
+    with_argument(Ok(parser), width)
 }
 
 fn check_parser<'a>(alloc: Global) -> clap::Command<'a>
     ensures { IsParserOf check_app result }
 {
-    clap::Command::new(alloc, "check")
-        .about(
-            "Reads the text of a proof from standard input, and prints whether it holds: yes or no",
-        )
-        .after_help(help::CHECK)
+    command(
+        alloc,
+        "check",
+        "Reads the text of a proof from standard input, and prints whether it holds: yes or no",
+        help::CHECK,
+    )
 }
 
 fn build_parser<'a>(alloc: Global) -> Result<clap::Command<'a>, AllocError>
     ensures { IfOk result (IsParserOf build_app) }
 {
-    log_parser(
+    let parser = log_parser(
         alloc,
         "build",
         "Makes a log of the entries on standard input, and writes its files to a folder",
         help::BUILD,
-    )?
-    .arg(option(alloc, "dir", "D", "The folder that the log is written to"))
+    );
+    let dir = option(alloc, "dir", "D", "The folder that the log is written to");
+    with_argument(parser, dir)
 }
 
 fn take_parser<'a>(alloc: Global) -> Result<clap::Command<'a>, AllocError>
     ensures { IfOk result (IsParserOf take_app) }
 {
-    made_parser(
+    let parser = made_parser(
         alloc,
         "take",
         "Takes what files hold into a mirror, and writes the mirror's state",
         help::TAKE,
-    )?
-    .arg(choice(
+    );
+    let state = choice(
         alloc,
         "state",
         "S",
         "The file of the state to begin with; nothing where it is left out",
-    ))?
-    .arg(choice(
+    );
+    let width = choice(
         alloc,
         "width",
         "W",
         "How many hashes or entries the file has, 1 to 256; 256 where it is left out",
-    ))?
-    .arg(place(
+    );
+    let kind = place(
         alloc,
         "kind",
         "KIND",
         "What the files hold: head, tile or bundle",
-    ))?
-    .arg(list(
+    );
+    let files = list(
         alloc,
         "file",
         "FILE",
         "The files: one; for a head the note, then the edge rows",
-    ))
+    );
+    let parser = with_argument(with_argument(parser, state), width);
+    with_argument(with_argument(parser, kind), files)
 }
 
 fn merge_parser<'a>(alloc: Global) -> Result<clap::Command<'a>, AllocError>
     ensures { IfOk result (IsParserOf merge_app) }
 {
-    made_parser(
+    let parser = made_parser(
         alloc,
         "merge",
         "Makes one mirror of two, and writes its state",
         help::MERGE,
-    )?
-    .arg(place(alloc, "a", "A", "The file of the first state"))?
-    .arg(place(
+    );
+    let a = place(alloc, "a", "A", "The file of the first state");
+    let b = place(
         alloc,
         "b",
         "B",
         "The file of the state that is taken into it",
-    ))
+    );
+    with_argument(with_argument(parser, a), b)
 }
 
 fn pull_parser<'a>(alloc: Global) -> Result<clap::Command<'a>, AllocError>
     ensures { IfOk result (IsParserOf pull_app) }
 {
-    made_parser(
+    let parser = made_parser(
         alloc,
         "pull",
         "Fetches what a log's newest checkpoint lacks, and writes the mirror's state",
         help::PULL,
-    )?
-    .arg(choice(
+    );
+    let state = choice(
         alloc,
         "state",
         "S",
         "The file of the state to begin with; nothing where it is left out",
-    ))?
-    .arg(place(alloc, "kind", "KIND", "Where from: dir or http"))?
-    .arg(place(
+    );
+    let kind = place(alloc, "kind", "KIND", "Where from: dir or http");
+    let from = place(
         alloc,
         "place",
         "PLACE",
         "The folder, or host:port with an optional /prefix",
-    ))
+    );
+    with_argument(with_argument(with_argument(parser, state), kind), from)
 }
 
 fn missing_parser<'a>(alloc: Global) -> Result<clap::Command<'a>, AllocError>
     ensures { IfOk result (IsParserOf missing_app) }
 {
-    held_parser(
+    let parser = held_parser(
         alloc,
         "missing",
         "Prints the paths that a checkpoint's tree lacks",
         help::MISSING,
-    )?
-    .arg(option(alloc, "size", "N", "The checkpoint's size"))?
-    .arg(option(alloc, "root", "ROOT", "The checkpoint's root, in base64"))
+    );
+    let size = option(alloc, "size", "N", "The checkpoint's size");
+    let root = option(alloc, "root", "ROOT", "The checkpoint's root, in base64");
+    with_argument(with_argument(parser, size), root)
 }
 
 fn prove_parser<'a>(alloc: Global) -> Result<clap::Command<'a>, AllocError>
     ensures { IfOk result (IsParserOf prove_app) }
 {
-    held_parser(
+    let parser = held_parser(
         alloc,
         "prove",
         "Prints a proof that an entry is in a tree, or that a tree is the front of another",
         help::PROVE,
-    )?
-    .arg(place(
+    );
+    let kind = place(
         alloc,
         "kind",
         "KIND",
         "What is proved: inclusion or consistency",
-    ))?
-    .arg(place(alloc, "a", "A", "The tree's size, or the smaller size"))?
-    .arg(place(alloc, "b", "B", "The entry's index, or the greater size"))
+    );
+    let a = place(alloc, "a", "A", "The tree's size, or the smaller size");
+    let b = place(alloc, "b", "B", "The entry's index, or the greater size");
+    with_argument(with_argument(with_argument(parser, kind), a), b)
 }
 
 fn serve_parser<'a>(alloc: Global) -> Result<clap::Command<'a>, AllocError>
     ensures { IfOk result (IsParserOf serve_app) }
 {
-    held_parser(
+    let parser = held_parser(
         alloc,
         "serve",
         "Answers over HTTP what the mirror serves",
         help::SERVE,
-    )?
-    .arg(option(alloc, "port", "P", "The port on 127.0.0.1, 1 to 65535"))?
-    .arg(option(alloc, "requests", "N", "How many connections are answered"))
+    );
+    let port = option(alloc, "port", "P", "The port on 127.0.0.1, 1 to 65535");
+    let requests = option(alloc, "requests", "N", "How many connections are answered");
+    with_argument(with_argument(parser, port), requests)
 }
 
 // The program by its name, what it is for, and its version.
@@ -314,13 +348,12 @@ fn program_parser<'a>(alloc: Global) -> Result<clap::Command<'a>, AllocError>
 fn making_parser<'a>(alloc: Global) -> Result<clap::Command<'a>, AllocError>
     ensures { IfOk result (IsParserOf making_app) }
 {
-    program_parser(alloc)?
-        .subcommand(root_parser(alloc)?)?
-        .subcommand(check_parser(alloc))?
-        .subcommand(build_parser(alloc)?)?
-        .subcommand(take_parser(alloc)?)?
-        .subcommand(merge_parser(alloc)?)?
-        .subcommand(pull_parser(alloc)?)
+    let parser = with_command(program_parser(alloc), root_parser(alloc));
+    let parser = with_command(parser, Ok(check_parser(alloc)));
+    let parser = with_command(parser, build_parser(alloc));
+    let parser = with_command(parser, take_parser(alloc));
+    let parser = with_command(parser, merge_parser(alloc));
+    with_command(parser, pull_parser(alloc))
 }
 
 fn status_parser<'a>(alloc: Global) -> Result<clap::Command<'a>, AllocError>
@@ -371,12 +404,11 @@ fn notes_parser<'a>(alloc: Global) -> Result<clap::Command<'a>, AllocError>
 pub(crate) fn parser<'a>(alloc: Global) -> Result<clap::Command<'a>, AllocError>
     ensures { IfOk result (IsParserOf mirror_app) }
 {
-    making_parser(alloc)?
-        .subcommand(status_parser(alloc)?)?
-        .subcommand(missing_parser(alloc)?)?
-        .subcommand(forks_parser(alloc)?)?
-        .subcommand(prove_parser(alloc)?)?
-        .subcommand(export_parser(alloc)?)?
-        .subcommand(notes_parser(alloc)?)?
-        .subcommand(serve_parser(alloc)?)
+    let parser = with_command(making_parser(alloc), status_parser(alloc));
+    let parser = with_command(parser, missing_parser(alloc));
+    let parser = with_command(parser, forks_parser(alloc));
+    let parser = with_command(parser, prove_parser(alloc));
+    let parser = with_command(parser, export_parser(alloc));
+    let parser = with_command(parser, notes_parser(alloc));
+    with_command(parser, serve_parser(alloc))
 }
