@@ -1,5 +1,5 @@
 -- What words that ask for a command say of its numbers.
-use Rattle.std.proofs.Common.{◌≡◌, ℕ, ◌≤◌, List, length, Option, Some, None, arith}
+use Rattle.std.proofs.Common.{ℕ, ◌≤◌, List, length, Option, Some, None, arith}
 use Rattle.command_line.specs.Commands.{Asks, IsCount, IsTakeWidth}
 use Rattle.command_line.specs.declared.command.Command.{Command as Order}
 use Rattle.command_line.specs.declared.command.Command.TheVariants as order

@@ -1,3 +1,4 @@
 mod Written
 mod Built
 mod Doable
+mod Pulled

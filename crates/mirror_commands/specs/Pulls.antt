@@ -15,6 +15,19 @@ use Rattle.mirror_commands.specs.declared.fault.TellFault.{TellFault}
 use Rattle.mirror_commands.specs.declared.fault.TellFault.TheVariants.{Work, WriteFault}
 use Rattle.mirror_commands.specs.declared.fault.WorkFault.TheVariants.{OutOfMemory}
 
+-- what each answer says of a mirror of this view that pulled this: its state was written to the file
+-- `out`, and then its two lines; or it failed. Cited by the contract of a private function alone.
+module _ (v : View) (pulled : Pulled) (out : List ℕ) (told left : Option (List NamedFile)) where
+  abbrev pub TellsPulled : Option (List ℕ) → Option (List ℕ) → Result ℕ TellFault → Type 0
+  TellsPulled old new (Ok status) =
+      WritesState v out told left × Appends old new (pulled_lines pulled)
+      × IsPulledStatus pulled status
+  TellsPulled old new (Err WriteFault) =
+      WritesState v out told left × AppendsPrefix old new (pulled_lines pulled)
+  TellsPulled old new (Err (Work OutOfMemory)) =
+      (KeepsTold told left ⊎ WritesState v out told left) × Keeps old new
+  TellsPulled old new (Err (Work fault)) = KeepsTold told left × Keeps old new
+
 module _ (digest : List ℕ → List ℕ) (origin : List ℕ) (keys : List Key) where
   -- a pull from some source came to this view, and began with the mirror of the file that is named,
   -- or where none is with one that holds nothing

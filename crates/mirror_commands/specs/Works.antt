@@ -8,7 +8,6 @@ use Rattle.mirror_model.specs.View.{View}
 use Rattle.state_commands.specs.NoteFiles.{NamedFile}
 use Rattle.state_commands.specs.Questions.{AnswersQuestion}
 use Rattle.state_commands.specs.declared.question.Question.{Question}
-use Rattle.state_commands.specs.declared.fault.AskFault.{AskFault}
 use Rattle.state_commands.specs.declared.fault.AskFault.TheVariants as ask
 use Rattle.file_commands.specs.States.{OpensFile}
 use Rattle.stream_commands.specs.Entries.{ReadsEntries}

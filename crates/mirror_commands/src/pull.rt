@@ -3,7 +3,7 @@ ghost use Rattle.std.specs.Prelude.{◌≢◌, IfErr, IfOk, Ok, map, option_map}
 ghost use Rattle.std.specs.Io.KnownBytes.{Keeps};
 ghost use Rattle.sha2.specs.Sha256.{sha256};
 ghost use Rattle.mirror_pull.specs.Taking.{PullsTo};
-ghost use Rattle.mirror_commands.specs.Pulls.{PullsFromFile, TellsPull};
+ghost use Rattle.mirror_commands.specs.Pulls.{PullsFromFile, TellsPull, TellsPulled};
 ghost use Rattle.mirror_commands.specs.Works.{IsStatus};
 
 use crate::fault::{TellFault, WorkFault};
@@ -31,6 +31,7 @@ use tlog_mirror::Mirror;
 ///
 /// In this order: `BadOrigin`, those of the state file, those of the pull, `FileFault` at the file that is written,
 /// and `WriteFault`.
+#[tactic(auto, using(crate::proofs::Pulled::tells_pull))]
 pub(crate) fn run_pull<R: Files + Clock + Net<Stream = TcpStream>, F: NamedFiles, W: Write>(
     rt: &R,
     files: &mut F,
@@ -43,20 +44,36 @@ pub(crate) fn run_pull<R: Files + Clock + Net<Stream = TcpStream>, F: NamedFiles
     ensures status { IfOk result IsStatus }
     ensures quiet { IfErr result (λ fault. fault ≢ TellFault.WriteFault → Keeps (W.contents output.old) (W.contents output.new)) }
 {
-    let made = &words.made;
-    let (mirror, pulled) = match pulled_from::<Sha256Tree, R, F>(rt, files, alloc, words, keys) {
-        Ok(done) => done,
-        Err(fault) => return Err(TellFault::Work(fault)),
-    };
-    match write_state(files, alloc, made.out, &mirror) {
+    match pulled_from::<Sha256Tree, R, F>(rt, files, alloc, words, keys) {
+        Ok((mirror, pulled)) => {
+            tell_pulled(files, alloc, words.made.out, &mirror, &pulled, output)
+        }
+        Err(fault) => Err(TellFault::Work(fault)),
+    }
+}
+
+// Writes the state of a mirror that has pulled, and then prints what the pull came to.
+fn tell_pulled<H: TreeHash, F: NamedFiles, W: Write>(
+    files: &mut F,
+    alloc: Global,
+    out: &str,
+    mirror: &Mirror<H>,
+    pulled: &Pulled,
+    output: &mut W,
+) -> Result<u8, TellFault>
+    ensures answer { TellsPulled mirror.now.view pulled.now out.now (F.puts files.old) (F.puts files.new) (W.contents output.old) (W.contents output.new) result }
+    ensures status { IfOk result IsStatus }
+    ensures quiet { IfErr result (λ fault. fault ≢ TellFault.WriteFault → Keeps (W.contents output.old) (W.contents output.new)) }
+{
+    match write_state(files, alloc, out, mirror) {
         Ok(()) => {}
         Err(fault) => return Err(TellFault::Work(WorkFault::Named(fault))),
     }
-    let Ok(text) = pulled_text(alloc, &pulled) else {
+    let Ok(text) = pulled_text(alloc, pulled) else {
         return Err(TellFault::Work(WorkFault::OutOfMemory));
     };
     match write_whole(output, text.as_bytes()) {
-        Ok(()) => Ok(pulled_status(&pulled)),
+        Ok(()) => Ok(pulled_status(pulled)),
         Err(_) => Err(TellFault::WriteFault),
     }
 }

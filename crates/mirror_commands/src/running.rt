@@ -40,11 +40,31 @@ where
     ensures quiet { IfErr result (λ fault. (IsWriteFault fault → ⊥) → Keeps (O.contents output.old) (O.contents output.new)) }
 {
     let mut files = SystemFiles::new(rt, alloc);
-    let bytes = match key_bytes(&files, alloc, words) {
-        Ok(bytes) => bytes,
-        Err(fault) => return Err(fault),
-    };
-    let lines = match read_keys(alloc, &bytes) {
+    match key_bytes(&files, alloc, words) {
+        Ok(bytes) => run_keyed(rt, &mut files, alloc, words, &bytes, input, output, errors),
+        Err(fault) => Err(fault),
+    }
+}
+
+// Does the same with the bytes of the key file in hand.
+#[allow(clippy::too_many_arguments)]
+fn run_keyed<R, I: Read, O: Write, E: Write>(
+    rt: &R,
+    files: &mut SystemFiles<'_, R>,
+    alloc: Global,
+    words: &[String],
+    key_bytes: &[u8],
+    input: &mut I,
+    output: &mut O,
+    errors: &mut E,
+) -> Result<u8, RunFault>
+where
+    R: Files + Clock + Net<Stream = TcpStream, Listener = TcpListener>,
+    ensures answer { RunsKeyed sha256 (map string_bytes words.now) (I.remaining input.old) (O.contents output.old) (O.contents output.new) result }
+    ensures status { IfOk result IsStatus }
+    ensures quiet { IfErr result (λ fault. (IsWriteFault fault → ⊥) → Keeps (O.contents output.old) (O.contents output.new)) }
+{
+    let lines = match read_keys(alloc, key_bytes) {
         Ok(lines) => lines,
         Err(fault) => return Err(RunFault::KeyLines(fault)),
     };
@@ -65,7 +85,7 @@ where
         }
     }
     run_words(
-        rt, &mut files, alloc, words, &bytes, &keys, input, output, errors,
+        rt, files, alloc, words, key_bytes, &keys, input, output, errors,
     )
 }
 
@@ -75,6 +95,7 @@ where
 /// # Errors
 ///
 /// `Command` where the words ask for no command; the others are those of the command's own call.
+#[tactic(auto, using(crate::proofs::Doable::asked_doable))]
 #[allow(clippy::too_many_arguments)]
 pub fn run_words<R, F: NamedFiles, I: Read, O: Write, E: Write>(
     rt: &R,

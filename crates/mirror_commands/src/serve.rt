@@ -42,23 +42,49 @@ where
     R: Clock + Net<Stream = TcpStream, Listener = TcpListener>,
     ensures line { TellsPort serve.now.port (O.contents output.old) (O.contents output.new) result }
 {
-    let mirror = match settled::<Sha256Tree, F>(files, alloc, &serve.held, keys) {
-        Ok(mirror) => mirror,
-        Err(fault) => return Err(TellFault::Work(fault)),
-    };
+    match settled::<Sha256Tree, F>(files, alloc, &serve.held, keys) {
+        Ok(mirror) => serve_mirror(rt, alloc, &mirror, serve, output, errors),
+        Err(fault) => Err(TellFault::Work(fault)),
+    }
+}
+
+// Listens at the port, tells of it, and answers as many connections as are asked for.
+#[tactic(auto, using(crate::proofs::Written::front_of_whole))]
+fn serve_mirror<H: TreeHash, R, O: Write, E: Write>(
+    rt: &R,
+    alloc: Global,
+    mirror: &Mirror<H>,
+    serve: &Serve<'_>,
+    output: &mut O,
+    errors: &mut E,
+) -> Result<(), TellFault>
+where
+    R: Clock + Net<Stream = TcpStream, Listener = TcpListener>,
+    ensures line { TellsPort serve.now.port (O.contents output.old) (O.contents output.new) result }
+{
     let Ok(listener) = TcpListener::bind(rt, (Ipv4Addr::LOCALHOST, serve.port)) else {
         return Err(TellFault::Work(WorkFault::PortFault));
     };
-    let Ok(line) = listening_line(alloc, serve.port) else {
+    match tell_port(alloc, serve.port, output) {
+        Ok(()) => {}
+        Err(fault) => return Err(fault),
+    }
+    match serve_all(rt, alloc, mirror, &listener, serve.requests, errors) {
+        Ok(()) => Ok(()),
+        Err(fault) => Err(TellFault::Work(fault)),
+    }
+}
+
+// Writes the line that tells where connections are accepted.
+fn tell_port<O: Write>(alloc: Global, port: u16, output: &mut O) -> Result<(), TellFault>
+    ensures line { TellsPort port (O.contents output.old) (O.contents output.new) result }
+{
+    let Ok(line) = listening_line(alloc, port) else {
         return Err(TellFault::Work(WorkFault::OutOfMemory));
     };
     match write_whole(output, line.as_bytes()) {
-        Ok(()) => {}
-        Err(_) => return Err(TellFault::WriteFault),
-    }
-    match serve_all(rt, alloc, &mirror, &listener, serve.requests, errors) {
         Ok(()) => Ok(()),
-        Err(fault) => Err(TellFault::Work(fault)),
+        Err(_) => Err(TellFault::WriteFault),
     }
 }
 
