@@ -13,15 +13,21 @@ const FORK: &str =
 #[test]
 fn fork_under_collisions(rt: HostRuntime) -> Result<(), Fail> {
     let mut mirror = Mirror::<SumTree>::new(rt.alloc(), "ex")?;
+    take_logs(rt.alloc(), &mut mirror)?;
+    tells_fork(&rt, rt.alloc(), &mirror)
+}
+
+// Takes both logs.
+fn take_logs<H: TreeHash>(alloc: Global, mirror: &mut Mirror<H>) -> Result<(), Fail> {
     let small = "3\nPgAAAAAAAAAAAAAAAAAAAAAAAAAAAAAAAAAAAAAAAAA=";
     let large = "4\nowAAAAAAAAAAAAAAAAAAAAAAAAAAAAAAAAAAAAAAAAA=";
     let first: &[u8] = &[1, 2, 0x39];
     let second: &[u8] = &[0x14, 0x1e, 0x0a, 0x64];
     for (head, letters) in [(small, first), (large, second)] {
-        take_log(rt.alloc(), &mut mirror, head, letters)?;
-        take_letters(rt.alloc(), &mut mirror, letters)?;
+        take_log(alloc, mirror, head, letters)?;
+        take_letters(alloc, mirror, letters)?;
     }
-    tells_fork(&rt, rt.alloc(), &mirror)
+    Ok(())
 }
 
 // The mirror has two complete heads, and tells that fork.

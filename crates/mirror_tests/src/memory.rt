@@ -8,17 +8,34 @@ use std::alloc::{AllocError, Global};
 use std::process::Abort;
 use std::test::Fail;
 use tlog_hash::{Sha256Tree, TreeHash};
-use tlog_mirror::{Event, MergeFault, Mirror, TakeFault, fits, play};
+use tlog_mirror::{Event, MergeFault, Mirror, NewFault, TakeFault, fits, play};
 use tlog_text::read_hash;
 
 #[test]
 fn takes_again_after_want_of_memory(rt: HostRuntime) -> Result<(), Fail> {
     let row = tile_of_3::<Sha256Tree>(rt.alloc())?;
-    let mut mirror = Mirror::<Sha256Tree>::new(rt.alloc(), "ex")?;
-    take_tile_at_last(&rt, rt.alloc(), &mut mirror, &row);
-    take_bundle_at_last(&rt, rt.alloc(), &mut mirror);
-    let mut other = Mirror::<Sha256Tree>::new(rt.alloc(), "ex")?;
-    take_head_at_last(&rt, rt.alloc(), &mut other, &row)
+    takes_at_last::<Sha256Tree>(&rt, rt.alloc(), &row)?;
+    head_at_last::<Sha256Tree>(&rt, rt.alloc(), &row)?;
+    Ok(())
+}
+
+// A new mirror takes the tile and the bundle of the three entries, whose leaf hashes are that row.
+fn takes_at_last<H: TreeHash>(rt: &impl Abort, alloc: Global, row: &[u8]) -> Result<(), NewFault> {
+    let mut mirror = Mirror::<H>::new(alloc, "ex")?;
+    take_tile_at_last(rt, alloc, &mut mirror, row);
+    take_bundle_at_last(rt, alloc, &mut mirror);
+    Ok(())
+}
+
+// A new mirror that took the head of them.
+fn head_at_last<H: TreeHash>(
+    rt: &impl Abort,
+    alloc: Global,
+    row: &[u8],
+) -> Result<Mirror<H>, Fail> {
+    let mut mirror = Mirror::<H>::new(alloc, "ex")?;
+    take_head_at_last(rt, alloc, &mut mirror, row)?;
+    Ok(mirror)
 }
 
 // Takes the tile of the three entries, whose row has two joins.
@@ -70,11 +87,19 @@ fn take_head_at_last<H: TreeHash>(
 #[test]
 fn merges_again_after_want_of_memory(rt: HostRuntime) -> Result<(), Fail> {
     let row = tile_of_3::<Sha256Tree>(rt.alloc())?;
-    let mut other = Mirror::<Sha256Tree>::new(rt.alloc(), "ex")?;
-    take_head_at_last(&rt, rt.alloc(), &mut other, &row)?;
+    let mut other = head_at_last::<Sha256Tree>(&rt, rt.alloc(), &row)?;
     take_bundle_at_last(&rt, rt.alloc(), &mut other);
-    let mut mirror = Mirror::<Sha256Tree>::new(rt.alloc(), "ex")?;
-    merge_at_last(&rt, rt.alloc(), &mut mirror, &other)
+    merges_at_last(&rt, rt.alloc(), &other)
+}
+
+// A new mirror is merged with that one.
+fn merges_at_last<H: TreeHash>(
+    rt: &impl Abort,
+    alloc: Global,
+    other: &Mirror<H>,
+) -> Result<(), Fail> {
+    let mut mirror = Mirror::<H>::new(alloc, "ex")?;
+    merge_at_last(rt, alloc, &mut mirror, other)
 }
 
 // Merges a mirror that is empty with one of five strings and a note, which comes last. Both are complete then.
@@ -105,7 +130,7 @@ fn plays_again_after_want_of_memory(rt: HostRuntime) -> Result<(), Fail> {
     Ok(())
 }
 
-// Plays the three events. A play that is refused as a whole leaves all as it was, an event that is refused answers so.
+// Plays the three events under the key of these tests.
 fn play_at_last<H: TreeHash>(
     rt: &impl Abort,
     alloc: Global,
@@ -114,10 +139,21 @@ fn play_at_last<H: TreeHash>(
 ) -> Result<(), Fail> {
     let mut keys: Vec<Box<dyn Verifier>> = Vec::new(alloc);
     keys.push(Box::new(alloc, Five)?)?;
+    play_under(rt, alloc, world, &keys, events)
+}
+
+// Plays the three events. A play that is refused as a whole leaves all as it was, an event that is refused answers so.
+fn play_under<H: TreeHash>(
+    rt: &impl Abort,
+    alloc: Global,
+    world: &mut [Mirror<H>],
+    keys: &[Box<dyn Verifier>],
+    events: &[Event],
+) -> Result<(), Fail> {
     if !fits(events, world.len()) {
         return Err("events that do not fit".into());
     }
-    match play(alloc, world, &keys, events) {
+    match play(alloc, world, keys, events) {
         Ok(answers) if are_done(&answers, 3) => return Ok(()),
         Ok(answers) => assert!(rt; are_done_but_one(&answers)),
         Err(AllocError) => {
@@ -126,7 +162,7 @@ fn play_at_last<H: TreeHash>(
             }
         }
     }
-    let answers = play(alloc, world, &keys, events)?;
+    let answers = play(alloc, world, keys, events)?;
     assert!(rt; are_done(&answers, 3));
     Ok(())
 }

@@ -9,11 +9,16 @@ use tlog_mirror::{MergeFault, Mirror};
 #[test]
 fn a_new_mirror_holds_nothing(rt: HostRuntime) -> Result<(), Fail> {
     let mut mirror = Mirror::<Sha256Tree>::new(rt.alloc(), "ex")?;
-    holds_nothing(&rt, &mirror);
-    serves_nothing(&rt, &mirror);
-    tells_nothing(&rt, rt.alloc(), &mirror)?;
-    let other = Mirror::<Sha256Tree>::new(rt.alloc(), "ey")?;
-    refuses_merge(&rt, rt.alloc(), &mut mirror, &other);
+    is_new(&rt, rt.alloc(), &mut mirror)
+}
+
+// The mirror holds nothing, and takes nothing of one of another origin.
+fn is_new<H: TreeHash>(rt: &impl Abort, alloc: Global, mirror: &mut Mirror<H>) -> Result<(), Fail> {
+    holds_nothing(rt, mirror);
+    serves_nothing(rt, mirror);
+    tells_nothing(rt, alloc, mirror)?;
+    let other = Mirror::<H>::new(alloc, "ey")?;
+    refuses_merge(rt, alloc, mirror, &other);
     Ok(())
 }
 

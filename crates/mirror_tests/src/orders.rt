@@ -2,6 +2,7 @@
 use crate::given::{take_letters, take_log};
 use mirror_files::save;
 use std::alloc::Global;
+use std::process::Abort;
 use std::test::Fail;
 use tlog_hash::{Sha256Tree, TreeHash};
 use tlog_mirror::Mirror;
@@ -23,26 +24,53 @@ fn all_orders(rt: HostRuntime) -> Result<(), Fail> {
     let end = read_hash(STATE_OF_5).ok_or("no digest")?;
     let text = saved_in_order::<Sha256Tree>(rt.alloc(), "0123")?;
     assert!(rt; text.ends_with(end.as_slice()));
+    all_save::<Sha256Tree>(&rt, rt.alloc(), &text)
+}
+
+// In each order the text that is saved is this one, at two mirrors.
+fn all_save<H: TreeHash>(rt: &impl Abort, alloc: Global, text: &[u8]) -> Result<(), Fail> {
     for order in ORDERS_OF_4 {
         for _ in 0..2u32 {
-            let other = saved_in_order::<Sha256Tree>(rt.alloc(), order)?;
-            assert!(rt; other.as_slice() == text.as_slice(), "{order}");
+            saves::<H>(rt, alloc, order, text)?;
         }
     }
+    Ok(())
+}
+
+// The text that is saved in that order is this one.
+fn saves<H: TreeHash>(
+    rt: &impl Abort,
+    alloc: Global,
+    order: &str,
+    text: &[u8],
+) -> Result<(), Fail> {
+    let other = saved_in_order::<H>(alloc, order)?;
+    assert!(rt; other.as_slice() == text, "{order}");
     Ok(())
 }
 
 // The text that is saved of a mirror which took the four items in that order, and then all of them again.
 fn saved_in_order<H: TreeHash>(alloc: Global, order: &str) -> Result<Vec<u8>, Fail> {
     let mut mirror = Mirror::<H>::new(alloc, "ex")?;
+    give_twice(alloc, &mut mirror, order)?;
+    saved(alloc, &mirror)
+}
+
+// The text that is saved of a mirror.
+fn saved<H: TreeHash>(alloc: Global, mirror: &Mirror<H>) -> Result<Vec<u8>, Fail> {
+    let mut text = Vec::new(alloc);
+    save(alloc, mirror, &mut text)?;
+    Ok(text)
+}
+
+// The mirror takes the four items in that order, and then all of them again.
+fn give_twice<H: TreeHash>(alloc: Global, mirror: &mut Mirror<H>, order: &str) -> Result<(), Fail> {
     for _ in 0..2u32 {
         for number in order.as_bytes() {
-            give_item(alloc, &mut mirror, *number)?;
+            give_item(alloc, mirror, *number)?;
         }
     }
-    let mut text = Vec::new(alloc);
-    save(alloc, &mirror, &mut text)?;
-    Ok(text)
+    Ok(())
 }
 
 // The mirror takes the item of that number.

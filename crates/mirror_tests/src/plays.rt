@@ -16,26 +16,34 @@ fn root_of_1<H: TreeHash>() -> Hash {
     H::leaf(&[0, 0])
 }
 
-// Its head is taken by mirror 0, its bundle by mirror 1, and mirror 1 is merged into 0.
-pub(crate) fn three_events<H: TreeHash>(alloc: Global) -> Result<Vec<Event>, Fail> {
+// Its head, over its edge.
+fn head_of_1<H: TreeHash>(alloc: Global) -> Result<Item, AllocError> {
     let mut rows = Vec::new(alloc);
     rows.push(Vec::from_slice(alloc, root_of_1::<H>().as_slice())?)?;
-    let head = Item::Head {
+    Ok(Item::Head {
         note: Bytes::new(Vec::from_slice(alloc, HEAD_OF_1.as_bytes())?),
         edge: Rows::new(rows),
-    };
-    let bundle = Item::Bundle {
+    })
+}
+
+// Its bundle.
+fn bundle_of_1(alloc: Global) -> Result<Item, AllocError> {
+    Ok(Item::Bundle {
         width: 1,
         bytes: Bytes::new(Vec::from_slice(alloc, &[0, 2, 0, 0])?),
-    };
+    })
+}
+
+// Its head is taken by mirror 0, its bundle by mirror 1, and mirror 1 is merged into 0.
+pub(crate) fn three_events<H: TreeHash>(alloc: Global) -> Result<Vec<Event>, Fail> {
     let mut events = Vec::new(alloc);
     events.push(Event::Take {
         target: 0,
-        item: head,
+        item: head_of_1::<H>(alloc)?,
     })?;
     events.push(Event::Take {
         target: 1,
-        item: bundle,
+        item: bundle_of_1(alloc)?,
     })?;
     events.push(Event::Merge {
         target: 0,

@@ -64,15 +64,26 @@ fn failing_source(rt: HostRuntime) -> Result<(), Fail> {
 fn fails_after<H: TreeHash>(rt: &impl Abort, alloc: Global, passes: u64) -> Result<(), Fail> {
     let mut mirror = Mirror::<H>::new(alloc, "ex")?;
     let mut source = lying_log::<H>(alloc, Lie::Nothing, 0, 0, passes)?;
-    let end = end_of_pull(alloc, &mut mirror, &mut source)?;
+    fails_once(rt, alloc, &mut mirror, &mut source, passes)
+}
+
+// The mirror's pull from that source fails, after so many gets, and then one does not.
+fn fails_once<H: TreeHash>(
+    rt: &impl Abort,
+    alloc: Global,
+    mirror: &mut Mirror<H>,
+    source: &mut Liar<H>,
+    passes: u64,
+) -> Result<(), Fail> {
+    let end = end_of_pull(alloc, mirror, source)?;
     assert!(rt;
         end == Err(PullFault::Source) && source.failures == 1,
         "{passes}"
     );
-    let heads = count_of_heads(alloc, &mirror)?;
+    let heads = count_of_heads(alloc, mirror)?;
     assert!(rt; (heads == 1) == (passes >= 3), "{passes}");
     source.passes = u64::MAX;
-    let again = end_of_pull(alloc, &mut mirror, &mut source)??;
+    let again = end_of_pull(alloc, mirror, source)??;
     assert!(rt;
         again.size == 257 && again.refused == 0 && again.complete,
         "{passes}"

@@ -20,13 +20,18 @@ fn made_again(alloc: Global, origin: &str) -> Result<Mirror<Sha256Tree>, NewFaul
 // It is made of no bad origin, and keeps a head over its edge alone.
 #[test]
 fn a_head_is_kept_over_its_edge(rt: HostRuntime) -> Result<(), Fail> {
-    for origin in ["", "e\nx"] {
-        let refused = matches!(made_again(rt.alloc(), origin), Err(NewFault::BadOrigin));
-        assert!(rt; refused);
-    }
+    refuses_origins(&rt, rt.alloc());
     let mut mirror = made_again(rt.alloc(), "ex")?;
     assert!(rt; mirror.origin() == "ex");
     keeps_heads(&rt, rt.alloc(), &mut mirror)
+}
+
+// No mirror is made of a bad origin.
+fn refuses_origins(rt: &impl Abort, alloc: Global) {
+    for origin in ["", "e\nx"] {
+        let refused = matches!(made_again(alloc, origin), Err(NewFault::BadOrigin));
+        assert!(rt; refused);
+    }
 }
 
 // Under no key no head is kept. Under the key of these tests the first is, once and again, and that of three entries is not, since

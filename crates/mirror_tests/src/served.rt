@@ -16,9 +16,15 @@ fn small_trees(rt: HostRuntime) -> Result<(), Fail> {
 // A mirror that took the head of the three entries, whose leaf hashes are that row, and then their bundle.
 fn mirror_of_3<H: TreeHash>(alloc: Global, row: &[u8]) -> Result<Mirror<H>, Fail> {
     let mut mirror = Mirror::<H>::new(alloc, "ex")?;
-    answer_to_head(alloc, &mut mirror, HEAD_OF_3.as_bytes(), &[row])??;
-    mirror.take_bundle(alloc, 3, BUNDLE_OF_3)?;
+    take_3(alloc, &mut mirror, row)?;
     Ok(mirror)
+}
+
+// Takes that head, and then the bundle.
+fn take_3<H: TreeHash>(alloc: Global, mirror: &mut Mirror<H>, row: &[u8]) -> Result<(), Fail> {
+    answer_to_head(alloc, mirror, HEAD_OF_3.as_bytes(), &[row])??;
+    mirror.take_bundle(alloc, 3, BUNDLE_OF_3)?;
+    Ok(())
 }
 
 // Served are the row of the three entries, and a bundle of two of them, but none of four.

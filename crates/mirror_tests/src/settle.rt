@@ -32,10 +32,19 @@ fn settle<H: TreeHash>(alloc: Global, mirror: &mut Mirror<H>) -> Result<(), Allo
 #[test]
 fn settle_e3(rt: HostRuntime) -> Result<(), Fail> {
     let mut mirror = Mirror::<Sha256Tree>::new(rt.alloc(), "ex")?;
-    settles(&rt, rt.alloc(), &mut mirror, 0)?;
-    take_number_head(rt.alloc(), &mut mirror)?;
-    settles(&rt, rt.alloc(), &mut mirror, 0)?;
-    settles_numbers(&rt, rt.alloc(), &mut mirror)
+    settles_e3(&rt, rt.alloc(), &mut mirror)
+}
+
+// Settles a mirror that holds nothing, and then one of three numbers.
+fn settles_e3<H: TreeHash>(
+    rt: &impl Abort,
+    alloc: Global,
+    mirror: &mut Mirror<H>,
+) -> Result<(), Fail> {
+    settles(rt, alloc, mirror, 0)?;
+    take_number_head(alloc, mirror)?;
+    settles(rt, alloc, mirror, 0)?;
+    settles_numbers(rt, alloc, mirror)
 }
 
 // Takes the head of the numbers 0 to 2, each in two bytes.
@@ -66,10 +75,19 @@ fn settles_numbers<H: TreeHash>(
 #[test]
 fn settle_two(rt: HostRuntime) -> Result<(), Fail> {
     let mut mirror = Mirror::<Sha256Tree>::new(rt.alloc(), "ex")?;
-    take_equal_log(rt.alloc(), &mut mirror)?;
-    settles(&rt, rt.alloc(), &mut mirror, 17)?;
-    take_second_head(rt.alloc(), &mut mirror)?;
-    settles(&rt, rt.alloc(), &mut mirror, 18)
+    settles_two(&rt, rt.alloc(), &mut mirror)
+}
+
+// Settles a mirror of a long log, and then of two heads of it.
+fn settles_two<H: TreeHash>(
+    rt: &impl Abort,
+    alloc: Global,
+    mirror: &mut Mirror<H>,
+) -> Result<(), Fail> {
+    take_equal_log(alloc, mirror)?;
+    settles(rt, alloc, mirror, 17)?;
+    take_second_head(alloc, mirror)?;
+    settles(rt, alloc, mirror, 18)
 }
 
 // The tree hash of 2 to that power of entries of no bytes.
