@@ -70,3 +70,38 @@ returns-then-len-eq-MAX_HEAD_LEN-clause-seen g c =
     old new c.loop.invariant.taken on in
     let unended = subst (λ (b : List ℕ). LooksLike b Open) c.deref.ensures.value c.in-Open.ensures in
     sees_full (told c.args.reader.now) (told c.read_more.new.reader) new new (omega arith) taken unended
+
+pub returns-then-is_empty-clause-limit : goal.returns-then-is_empty-clause-limit
+returns-then-is_empty-clause-limit g c =
+    let told = g.R.Read.remaining in
+    taken_within (told c.args.reader.now) (told c.loop.reader) (told c.read_more.new.reader)
+    c.loop.received.items c.read_more.new.received.items (vec_len c.loop.received) (omega arith)
+    c.loop.invariant.room c.loop.invariant.taken c.read_more.ensures.limit
+
+pub returns-in-End-clause-limit : goal.returns-in-End-clause-limit
+returns-in-End-clause-limit g c =
+    let told = g.R.Read.remaining in
+    taken_within (told c.args.reader.now) (told c.loop.reader) (told c.read_more.new.reader)
+    c.loop.received.items c.read_more.new.received.items (vec_len c.loop.received) (omega arith)
+    c.loop.invariant.room c.loop.invariant.taken c.read_more.ensures.limit
+
+pub returns-in-Whole-clause-limit : goal.returns-in-Whole-clause-limit
+returns-in-Whole-clause-limit g c =
+    let told = g.R.Read.remaining in
+    taken_within (told c.args.reader.now) (told c.loop.reader) (told c.read_more.new.reader)
+    c.loop.received.items c.read_more.new.received.items (vec_len c.loop.received) (omega arith)
+    c.loop.invariant.room c.loop.invariant.taken c.read_more.ensures.limit
+
+pub returns-in-Bad-clause-limit : goal.returns-in-Bad-clause-limit
+returns-in-Bad-clause-limit g c =
+    let told = g.R.Read.remaining in
+    taken_within (told c.args.reader.now) (told c.loop.reader) (told c.read_more.new.reader)
+    c.loop.received.items c.read_more.new.received.items (vec_len c.loop.received) (omega arith)
+    c.loop.invariant.room c.loop.invariant.taken c.read_more.ensures.limit
+
+pub returns-then-len-eq-MAX_HEAD_LEN-clause-limit : goal.returns-then-len-eq-MAX_HEAD_LEN-clause-limit
+returns-then-len-eq-MAX_HEAD_LEN-clause-limit g c =
+    let told = g.R.Read.remaining in
+    taken_within (told c.args.reader.now) (told c.loop.reader) (told c.read_more.new.reader)
+    c.loop.received.items c.read_more.new.received.items (vec_len c.loop.received) (omega arith)
+    c.loop.invariant.room c.loop.invariant.taken c.read_more.ensures.limit
