@@ -26,6 +26,7 @@ use Rattle.mirror_model.specs.declared.fault.TakeFault.{TakeFault}
 use Rattle.mirror_model.specs.declared.fault.TakeFault.TheVariants as take
 use Rattle.log_sources.specs.Source.{StaysWithin}
 use Rattle.mirror_pull.specs.Asking.{Counts}
+use Rattle.mirror_pull.specs.Parts.{IsOutside}
 use Rattle.mirror_pull.specs.Faults.{of_source}
 use Rattle.log_sources.specs.declared.source.SourceFault.{SourceFault}
 use Rattle.log_sources.specs.declared.source.SourceFault.TheVariants as source
@@ -123,6 +124,39 @@ stays_itself may = record { stays = λ path answer a. a }
 
 pub stays_then : (a b c : Path → Option (List ℕ) → Type 0) → StaysWithin a b → StaysWithin b c → StaysWithin a c
 stays_then a b c p q = record { stays = λ path answer h. p.stays path answer (q.stays path answer h) }
+
+-- a fault that may come before the head and after it comes from outside
+pub outside : (e : PullFault) → IsEarly {T = Bool} (Err e) → IsLate {T = Bool} (Err e) → IsOutside e
+outside NoCheckpoint early late = absurd early
+outside NoEdge early late = absurd late
+outside (Head f) early late = absurd early
+outside Source early late = inr refl
+outside Collision early late = absurd early
+outside OutOfMemory early late = inl refl
+
+-- what a take answers may come after the head
+pub late_item : (digest : List ℕ → List ℕ) (v w : View) (path : Path) (bytes : List ℕ) (r : Result Bool PullFault) →
+    TakesItem digest v (item_at path bytes) r w → IsLate r
+late_item digest v w path bytes (Ok true) t = tt
+late_item digest v w path bytes (Ok false) t = tt
+late_item digest v w path bytes (Err Collision) t = tt
+late_item digest v w path bytes (Err OutOfMemory) t = tt
+late_item digest v w path bytes (Err NoCheckpoint) t = absurd t
+late_item digest v w path bytes (Err NoEdge) t = absurd t
+late_item digest v w path bytes (Err (Head f)) t = absurd t
+late_item digest v w path bytes (Err Source) t = absurd t
+
+-- a take blames no source
+pub counts_item : (digest : List ℕ → List ℕ) (v w : View) (path : Path) (bytes : List ℕ) (a b : ℕ)
+    (r : Result Bool PullFault) → b ≡ a → TakesItem digest v (item_at path bytes) r w → Counts a b r
+counts_item digest v w path bytes a b (Ok true) same t = same
+counts_item digest v w path bytes a b (Ok false) same t = same
+counts_item digest v w path bytes a b (Err Collision) same t = same
+counts_item digest v w path bytes a b (Err OutOfMemory) same t = same
+counts_item digest v w path bytes a b (Err NoCheckpoint) same t = absurd t
+counts_item digest v w path bytes a b (Err NoEdge) same t = absurd t
+counts_item digest v w path bytes a b (Err (Head f)) same t = absurd t
+counts_item digest v w path bytes a b (Err Source) same t = absurd t
 
 pub counts_err : (a b c : ℕ) (e : PullFault) → b ≡ a → Counts {T = Bool} b c (Err e) → Counts {T = Bool} a c (Err e)
 counts_err a b c e same h = subst (λ m. Counts {T = Bool} m c (Err e)) same h
@@ -261,6 +295,15 @@ outcome_head digest keys v w note rows (Head f) t = (t.0, t.2)
 outcome_head digest keys v w note rows Source t = absurd t
 outcome_head digest keys v w note rows Collision t = grows_same keys v w t.1
 outcome_head digest keys v w note rows OutOfMemory t = t
+
+pub outcome_early : (digest : List ℕ → List ℕ) (keys : List Key) (v : View) (e : PullFault) →
+    IsEarly {T = Bool} (Err e) → PullsTo digest keys v v (Err e)
+outcome_early digest keys v NoCheckpoint early = absurd early
+outcome_early digest keys v NoEdge early = refl
+outcome_early digest keys v (Head f) early = absurd early
+outcome_early digest keys v Source early = grows_itself keys v
+outcome_early digest keys v Collision early = absurd early
+outcome_early digest keys v OutOfMemory early = grows_itself keys v
 
 pub outcome_late : (digest : List ℕ → List ℕ) (keys : List Key) (v w : View) (e : PullFault) →
     IsLate {T = Bool} (Err e) → Grows keys v w → PullsTo digest keys v w (Err e)

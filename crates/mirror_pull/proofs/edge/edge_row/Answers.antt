@@ -4,6 +4,7 @@ use Rattle.log_sources.specs.Files.{full_of}
 use Rattle.std.proofs.lemmas.Result.{err_from_is_err_and}
 use Rattle.mirror_pull.proofs.Askings.{adds_some_then, adds_to_then, some_of}
 use Rattle.mirror_pull.proofs.Freshness.{fresh_unasked, gone_partial}
+use Rattle.mirror_pull.proofs.Gains.{outside}
 use Rattle.mirror_pull.proofs.TrueRows.{source_stays, adds_one_each, adds_two_each, full_fresh, row_found, row_full}
 use Rattle.mirror_pull.proofs.TrueRows.{is_gone, full_answers, full_length, gets_full, tile_within}
 use Rattle.mirror_pull.proofs.edge.edge_row.Goals as goal
@@ -138,3 +139,17 @@ returns-then-len-ne-FULL_TILE-clause-honest g c =
     let long : length c.in-Some-2.bytes.items ≡ 8192 =
     full_length digest entries may next c.args.path c.in-Some-2.bytes.items tile gone there in
     absurd (c.if-len-ne-FULL_TILE.true (c.len.ensures ∙ (c.in-Some-2.bytes.ok.0 ∙ long)))
+
+pub returns-in_err-bytes-clause-honest : goal.returns-in_err-bytes-clause-honest
+returns-in_err-bytes-clause-honest g c =
+    let p = err_from_is_err_and c.from_residual.result c.from_residual.ensures.1 in
+    rw (p.1, p.2)
+    (λ digest entries is tile fresh. outside c.in_err-bytes.field-0.0
+    c.in_err-bytes.ensures.early c.in_err-bytes.ensures.late)
+
+pub returns-in_err-bytes-2-clause-honest : goal.returns-in_err-bytes-2-clause-honest
+returns-in_err-bytes-2-clause-honest g c =
+    let p = err_from_is_err_and c.from_residual-in_err-bytes-2.result c.from_residual-in_err-bytes-2.ensures.1 in
+    rw (p.1, p.2)
+    (λ digest entries is tile fresh. outside c.in_err-bytes-2.field-0.0
+    c.in_err-bytes-2.ensures.early c.in_err-bytes-2.ensures.late)

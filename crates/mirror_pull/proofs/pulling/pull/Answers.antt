@@ -8,7 +8,8 @@ use Rattle.mirror_pull.proofs.TruePulls.{head_fault, worked_complete, worked_get
 use Rattle.mirror_pull.proofs.TruePulls.{worked_note, worked_notes, worked_strings, outcome_read}
 use Rattle.std.proofs.lemmas.Result.{err_from_is_err_and}
 use Rattle.mirror_pull.proofs.Askings.{adds_some_then, adds_to_then, some_of, from_none}
-use Rattle.mirror_pull.proofs.Gains.{outcome_head, outcome_late, grows_head, grows_then, has_head}
+use Rattle.mirror_pull.proofs.Gains.{outcome_early, outcome_head, outcome_late, grows_head, grows_then, has_head}
+use Rattle.mirror_pull.proofs.Gains.{counts_err, outside}
 use Rattle.mirror_pull.proofs.HeadsRead.{opened_head, honest_fault}
 use Rattle.mirror_pull.proofs.pulling.pull.Goals as goal
 
@@ -227,3 +228,39 @@ returns-clause-honest g c =
           worked_strings digest hash _ entries v taken at before honest no_clash b.small w x _ edge_asked all_asked
           on.taken_is done.1;
     })
+
+pub returns-in_err-note-clause-outcome : goal.returns-in_err-note-clause-outcome
+returns-in_err-note-clause-outcome g c =
+    let p = err_from_is_err_and c.from_residual.result c.from_residual.ensures.1 in
+    rw (p.1, p.2)
+    (outcome_early g.H.TreeHash.digest _ c.args.mirror.now.view c.in_err-note.field-0.0 c.in_err-note.ensures.early)
+
+pub returns-in_err-rows-clause-outcome : goal.returns-in_err-rows-clause-outcome
+returns-in_err-rows-clause-outcome g c =
+    let p = err_from_is_err_and c.from_residual-in_err-rows.result c.from_residual-in_err-rows.ensures.1 in
+    rw (p.1, p.2)
+    (outcome_early g.H.TreeHash.digest _ c.args.mirror.now.view c.in_err-rows.field-0.0 c.in_err-rows.ensures.early)
+
+pub returns-in_err-note-clause-honest : goal.returns-in_err-note-clause-honest
+returns-in_err-note-clause-honest g c =
+    let p = err_from_is_err_and c.from_residual.result c.from_residual.ensures.1 in
+    rw (p.1, p.2)
+    (λ entries note size is clean.
+    outside c.in_err-note.field-0.0 c.in_err-note.ensures.early c.in_err-note.ensures.late)
+
+pub returns-in_err-rows-clause-counted : goal.returns-in_err-rows-clause-counted
+returns-in_err-rows-clause-counted g c =
+    let failed = g.S.Source.failed in
+    let p = err_from_is_err_and c.from_residual-in_err-rows.result c.from_residual-in_err-rows.ensures.1 in
+    rw (p.1, p.2)
+    (counts_err (failed c.args.source.now) (failed c.ask.new.source) (failed c.edge_rows.new.source)
+    c.in_err-rows.field-0.0 c.in_ok-note.ensures.counted c.in_err-rows.ensures.counted)
+
+pub returns-in_err-rounds-clause-counted : goal.returns-in_err-rounds-clause-counted
+returns-in_err-rounds-clause-counted g c =
+    let failed = g.S.Source.failed in
+    let p = err_from_is_err_and c.from_residual-in_err-rounds.result c.from_residual-in_err-rounds.ensures.1 in
+    rw (p.1, p.2)
+    (counts_err (failed c.args.source.now) (failed c.edge_rows.new.source) (failed c.work.new.source)
+    c.in_err-rounds.field-0.0 (c.in_ok-rows.ensures.counted ∙ c.in_ok-note.ensures.counted)
+    c.in_err-rounds.ensures.counted)

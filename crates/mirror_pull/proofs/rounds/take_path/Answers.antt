@@ -1,7 +1,7 @@
-use Rattle.std.proofs.Common.{Some, None}
+use Rattle.std.proofs.Common.{Some, None, ◌∙◌}
 use Rattle.std.proofs.lemmas.Result.{err_from_is_err_and}
 use Rattle.mirror_pull.proofs.Askings.{adds_some_then, adds_to_then, asks_late}
-use Rattle.mirror_pull.proofs.Gains.{gains_item}
+use Rattle.mirror_pull.proofs.Gains.{gains_item, late_item, counts_item, outside}
 use Rattle.mirror_pull.proofs.Freshness.{fresh_unasked}
 use Rattle.mirror_pull.proofs.TrueTakes.{path_fresh, path_found, path_full_fresh, path_full, path_neither}
 use Rattle.mirror_pull.proofs.rounds.take_path.Goals as goal
@@ -100,3 +100,35 @@ returns-in-None-clause-honest g c =
     let answer : later c.full_path-full.result None = rw c.in-None.is at (c.in_ok-bytes-2.ensures.answer full) in
     absurd (path_neither digest entries size may v c.args.path before m later c.full_path-full.result
     c.in_ok-bytes.ensures.later none answer c.full_path-full.ensures)
+
+pub returns-in_err-bytes-clause-honest : goal.returns-in_err-bytes-clause-honest
+returns-in_err-bytes-clause-honest g c =
+    let p = err_from_is_err_and c.from_residual.result c.from_residual.ensures.1 in
+    rw (p.1, p.2)
+    (λ entries size m. outside c.in_err-bytes.field-0.0 c.in_err-bytes.ensures.early c.in_err-bytes.ensures.late)
+
+pub returns-in_err-bytes-2-clause-honest : goal.returns-in_err-bytes-2-clause-honest
+returns-in_err-bytes-2-clause-honest g c =
+    let p = err_from_is_err_and c.from_residual-in_err-bytes-2.result c.from_residual-in_err-bytes-2.ensures.1 in
+    rw (p.1, p.2)
+    (λ entries size m.
+    outside c.in_err-bytes-2.field-0.0 c.in_err-bytes-2.ensures.early c.in_err-bytes-2.ensures.late)
+
+pub returns-in-Some-clause-late : goal.returns-in-Some-clause-late
+returns-in-Some-clause-late g c =
+    late_item g.H.TreeHash.digest _ _ c.args.path c.deref.result.now _ c.take_found.ensures
+
+pub returns-in-Some-2-clause-late : goal.returns-in-Some-2-clause-late
+returns-in-Some-2-clause-late g c =
+    late_item g.H.TreeHash.digest _ _ c.full_path-full.result c.deref-in-Some-2.result.now _
+    c.take_found-in-Some-2.ensures
+
+pub returns-in-Some-clause-counted : goal.returns-in-Some-clause-counted
+returns-in-Some-clause-counted g c =
+    counts_item g.H.TreeHash.digest _ _ c.args.path c.deref.result.now _ _ _ c.in_ok-bytes.ensures.counted
+    c.take_found.ensures
+
+pub returns-in-Some-2-clause-counted : goal.returns-in-Some-2-clause-counted
+returns-in-Some-2-clause-counted g c =
+    counts_item g.H.TreeHash.digest _ _ c.full_path-full.result c.deref-in-Some-2.result.now _ _ _
+    (c.in_ok-bytes-2.ensures.counted ∙ c.in_ok-bytes.ensures.counted) c.take_found-in-Some-2.ensures
