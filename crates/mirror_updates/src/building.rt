@@ -47,28 +47,51 @@ pub fn build_log<H: TreeHash, S: Shelf>(
     ensures bad_origin { result ≡ Err BuildFault.BadOrigin → IsOrigin origin.now → ⊥ }
     ensures blamed { result ≡ Err (BuildFault.Export ExportFault.ShelfFault) → Rose (S.failed shelf.old) (S.failed shelf.new) }
 {
-    let mirror = filled::<H>(alloc, origin, keys, signer, entries)?;
-    export(alloc, &mirror, shelf)?;
-    Ok(())
+    let mut mirror = empty::<H>(alloc, origin)?;
+    put_log(alloc, origin, keys, signer, entries, &mut mirror, shelf)
 }
 
-// A mirror of the whole log of the entries.
-fn filled<H: TreeHash>(
+// Puts the whole log of the entries onto the shelf, by way of a mirror that holds nothing.
+fn put_log<H: TreeHash, S: Shelf>(
     alloc: Global,
     origin: &str,
     keys: &[Box<dyn Verifier>],
     signer: HmacKey,
     entries: Vec<Vec<u8>>,
-) -> Result<Mirror<H>, BuildFault>
+    mirror: &mut Mirror<H>,
+    shelf: &mut S,
+) -> Result<(), BuildFault>
+    requires origin { IsOrigin origin.now }
     requires short { AreShort (map (λ e. e.items) entries.items) }
-    ensures fills { Contains (map (λ k. key k) keys.now) (secret_key signer) → HasNoClashing H.digest (map (λ e. e.items) entries.items) → FillsMirror H.digest origin.now (secret_key signer) (map (λ e. e.items) entries.items) (seen (λ mirror. mirror.view) result) }
-    ensures bad_origin { result ≡ Err BuildFault.BadOrigin → IsOrigin origin.now → ⊥ }
+    requires empty { mirror.old.view ≡ nothing origin.now }
+    ensures builds { Contains (map (λ k. key k) keys.now) (secret_key signer) → HasNoClashing H.digest (map (λ e. e.items) entries.items) → BuildsLog H.digest origin.now (secret_key signer) (map (λ e. e.items) entries.items) (S.puts shelf.old) (S.puts shelf.new) result }
+    ensures bad_origin { result ≡ Err BuildFault.BadOrigin → ⊥ }
+    ensures blamed { result ≡ Err (BuildFault.Export ExportFault.ShelfFault) → Rose (S.failed shelf.old) (S.failed shelf.new) }
+{
+    fill(alloc, origin, keys, signer, entries, mirror)?;
+    export(alloc, mirror, shelf)?;
+    Ok(())
+}
+
+// Pulls the whole log of the entries into a mirror that holds nothing.
+fn fill<H: TreeHash>(
+    alloc: Global,
+    origin: &str,
+    keys: &[Box<dyn Verifier>],
+    signer: HmacKey,
+    entries: Vec<Vec<u8>>,
+    mirror: &mut Mirror<H>,
+) -> Result<(), BuildFault>
+    requires origin { IsOrigin origin.now }
+    requires short { AreShort (map (λ e. e.items) entries.items) }
+    requires empty { mirror.old.view ≡ nothing origin.now }
+    ensures fills { Contains (map (λ k. key k) keys.now) (secret_key signer) → HasNoClashing H.digest (map (λ e. e.items) entries.items) → FillsMirror H.digest origin.now (secret_key signer) (map (λ e. e.items) entries.items) (seen (λ _. mirror.new.view) result) }
+    ensures bad_origin { result ≡ Err BuildFault.BadOrigin → ⊥ }
     ensures unexported { IsUnexported result }
 {
-    let mut mirror = empty::<H>(alloc, origin)?;
     let mut source: ListSource<H> = ListSource::new(alloc, origin, entries, signer)?;
-    pull(alloc, &mut mirror, keys, &mut source)?;
-    Ok(mirror)
+    pull(alloc, mirror, keys, &mut source)?;
+    Ok(())
 }
 
 // A mirror that holds nothing.
