@@ -1,7 +1,8 @@
 //! The command `merge`: what a second mirror holds is taken into a first.
-ghost use Rattle.std.specs.Prelude.{map};
+ghost use Rattle.std.specs.Prelude.{ℕ, List, map};
 ghost use Rattle.tlog_text.specs.Answers.{seen};
 ghost use Rattle.file_commands.specs.Merges.{LeavesMerged, MakesMerged};
+ghost use Rattle.file_commands.specs.States.{OpensFile};
 
 use crate::fault::MergeFilesFault;
 use crate::named::NamedFiles;
@@ -59,12 +60,29 @@ fn merged<H: TreeHash, F: NamedFiles>(
         Ok(mirror) => mirror,
         Err(fault) => return Err(MergeFilesFault::First(fault)),
     };
+    match merge_file(files, alloc, &mut mirror, origin, keys, second) {
+        Ok(()) => Ok(mirror),
+        Err(fault) => Err(fault),
+    }
+}
+
+// Merges the mirror of the second file into that of a first.
+fn merge_file<H: TreeHash, F: NamedFiles>(
+    files: &F,
+    alloc: Global,
+    mirror: &mut Mirror<H>,
+    origin: &str,
+    keys: &[Box<dyn Verifier>],
+    second: &str,
+) -> Result<(), MergeFilesFault>
+    ensures { (first : List ℕ) → OpensFile H.digest origin.now (map (λ k. key k) keys.now) (F.puts files.now) first (Ok mirror.old.view) → MakesMerged H.digest origin.now (map (λ k. key k) keys.now) (F.puts files.now) first second.now (seen (λ _. mirror.new.view) result) }
+{
     let other = match loaded::<H, F>(files, alloc, origin, keys, second) {
         Ok(other) => other,
         Err(fault) => return Err(MergeFilesFault::Second(fault)),
     };
     match mirror.merge(alloc, &other) {
-        Ok(()) => Ok(mirror),
+        Ok(()) => Ok(()),
         Err(fault) => Err(MergeFilesFault::Merge(fault)),
     }
 }

@@ -1,7 +1,9 @@
 //! The command `notes`: each note of the mirror in a state file, as a file of its own.
-ghost use Rattle.std.specs.Prelude.{◌≡◌, IfOk, map, string_bytes};
+ghost use Rattle.std.specs.Prelude.{◌≡◌, ℕ, IfOk, List, map, string_bytes};
+ghost use Rattle.signed_note.specs.Keys.{Key};
 ghost use Rattle.state_commands.specs.NoteFiles.{note_file};
 ghost use Rattle.file_commands.specs.Notes.{HasSame, PutsNotes, PutsOne, WritesNotes, in_folder, note_place};
+ghost use Rattle.file_commands.specs.States.{OpensFile};
 
 use crate::fault::{NamedFault, NotesFault};
 use crate::named::NamedFiles;
@@ -10,6 +12,7 @@ use signed_note::Verifier;
 use state_commands::{NoteFile, note_files};
 use std::alloc::{AllocError, Global};
 use tlog_hash::TreeHash;
+use tlog_mirror::Mirror;
 
 /// Writes each note of the mirror in the state file into the folder, which is made where it is missing: as the file of
 /// the name that `note_files` gives it. One that is there with these bytes is left as it is.
@@ -33,11 +36,22 @@ pub fn run_notes<H: TreeHash, F: NamedFiles>(
 ) -> Result<(), NotesFault>
     ensures { WritesNotes H.digest origin.now (map (λ k. key k) keys.now) (F.puts files.old) state.now folder.now (F.puts files.new) result }
 {
-    let mirror = match loaded::<H, F>(files, alloc, origin, keys, state) {
-        Ok(mirror) => mirror,
-        Err(fault) => return Err(NotesFault::State(fault)),
-    };
-    let Ok(notes) = note_files(alloc, &mirror) else {
+    match loaded::<H, F>(files, alloc, origin, keys, state) {
+        Ok(mirror) => write_notes(files, alloc, &mirror, folder),
+        Err(fault) => Err(NotesFault::State(fault)),
+    }
+}
+
+// Writes each note of the mirror of a state file into the folder.
+fn write_notes<H: TreeHash, F: NamedFiles>(
+    files: &mut F,
+    alloc: Global,
+    mirror: &Mirror<H>,
+    folder: &str,
+) -> Result<(), NotesFault>
+    ensures { (origin : List ℕ) (keys : List Key) (state : List ℕ) → OpensFile H.digest origin keys (F.puts files.old) state (Ok mirror.now.view) → WritesNotes H.digest origin keys (F.puts files.old) state folder.now (F.puts files.new) result }
+{
+    let Ok(notes) = note_files(alloc, mirror) else {
         return Err(NotesFault::OutOfMemory);
     };
     match files.make_folder(folder) {
