@@ -4,7 +4,8 @@ use Rattle.std.specs.Bool.{MatchBool}
 use Rattle.std.specs.Str.{bytes_eq}
 use Rattle.std.proofs.lemmas.Slice.Eq.{bytes_eq-Decides}
 use Rattle.clap.specs.Words.{Row, Text}
-use Rattle.command_line.specs.Commands.{IsBuild, IsExport, IsHeld, IsMerge, IsMissingAsk, IsProve, IsPull, IsRoot, IsServe, IsTake}
+use Rattle.command_line.specs.Commands.{IsBuild, IsExport, IsHeld, IsMerge, IsMissingAsk}
+use Rattle.command_line.specs.Commands.{IsProve, IsPull, IsRoot, IsServe, IsTake}
 use Rattle.command_line.specs.Readings.{Decides, IsSaid}
 use Rattle.command_line.specs.declared.command.Build.{Build}
 use Rattle.command_line.specs.declared.command.Command.{Command}
