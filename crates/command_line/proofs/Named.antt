@@ -1,66 +1,66 @@
--- A name that says one command.
-use Rattle.std.proofs.Common.{◌≡◌, ◌∙◌, sym, false, true≢false, refl, codes, List}
+-- What the options say of a command whose name is known.
+use Rattle.std.proofs.Common.{◌≡◌, ◌∙◌, sym, subst, false, true≢false, codes, List, Result, Err}
+use Rattle.std.specs.Bool.{MatchBool}
 use Rattle.std.specs.Str.{bytes_eq}
 use Rattle.std.proofs.lemmas.Slice.Eq.{bytes_eq-Decides}
 use Rattle.clap.specs.Words.{Row, Text}
-use Rattle.command_line.specs.Commands.{IsMissingAsk, IsProve, IsServe}
-use Rattle.command_line.specs.Readings.{IsSaid}
+use Rattle.command_line.specs.Commands.{IsBuild, IsExport, IsHeld, IsMerge, IsMissingAsk}
+use Rattle.command_line.specs.Commands.{IsProve, IsPull, IsRoot, IsServe, IsTake}
+use Rattle.command_line.specs.Readings.{Decides, IsSaid}
+use Rattle.command_line.specs.declared.command.Build.{Build}
 use Rattle.command_line.specs.declared.command.Command.{Command}
 use Rattle.command_line.specs.declared.command.Command.TheVariants as order
+use Rattle.command_line.specs.declared.command.Export.{Export}
+use Rattle.command_line.specs.declared.command.Held.{Held}
+use Rattle.command_line.specs.declared.command.Merge.{Merge}
 use Rattle.command_line.specs.declared.command.Missing.{Missing}
 use Rattle.command_line.specs.declared.command.Prove.{Prove}
+use Rattle.command_line.specs.declared.command.Pull.{Pull}
+use Rattle.command_line.specs.declared.command.Root.{Root}
 use Rattle.command_line.specs.declared.command.Serve.{Serve}
+use Rattle.command_line.specs.declared.command.Take.{Take}
+use Rattle.command_line.specs.declared.fault.CommandFault.{CommandFault}
+use Rattle.command_line.proofs.Refusing.{refused_from}
 
 -- two texts that a test tells apart
 pub apart : (name a b : Text) → name ≡ a → name ≡ b → bytes_eq a b ≡ false → ⊥
 apart name a b p q e = true≢false (sym ((bytes_eq-Decides a b).1 (sym p ∙ q)) ∙ e)
 
-pub missing_said : (name : Text) (options : List Row) → name ≡ codes "missing" → (command : Command) →
-    IsSaid name options command → (c : Missing) × IsMissingAsk options c
-missing_said name options is (order.Root c) said = absurd (apart name (codes "missing") (codes "root") is said.0 refl)
-missing_said name options is order.Check said = absurd (apart name (codes "missing") (codes "check") is said.0 refl)
-missing_said name options is (order.Build c) said = absurd (apart name (codes "missing") (codes "build") is said.0 refl)
-missing_said name options is (order.Take c) said = absurd (apart name (codes "missing") (codes "take") is said.0 refl)
-missing_said name options is (order.Merge c) said = absurd (apart name (codes "missing") (codes "merge") is said.0 refl)
-missing_said name options is (order.Pull c) said = absurd (apart name (codes "missing") (codes "pull") is said.0 refl)
-missing_said name options is (order.Status c) said =
-    absurd (apart name (codes "missing") (codes "status") is said.0 refl)
-missing_said name options is (order.Missing c) said = (c, said.1)
-missing_said name options is (order.Forks c) said = absurd (apart name (codes "missing") (codes "forks") is said.0 refl)
-missing_said name options is (order.Prove c) said = absurd (apart name (codes "missing") (codes "prove") is said.0 refl)
-missing_said name options is (order.Export c) said =
-    absurd (apart name (codes "missing") (codes "export") is said.0 refl)
-missing_said name options is (order.Notes c) said = absurd (apart name (codes "missing") (codes "notes") is said.0 refl)
-missing_said name options is (order.Serve c) said = absurd (apart name (codes "missing") (codes "serve") is said.0 refl)
+-- what the options say of a command of this name
+abbrev pub SaidOf : Text → List Row → Type 0
+SaidOf name options =
+    MatchBool (bytes_eq name (codes "root")) ((c : Root) × IsRoot options c) (
+    MatchBool (bytes_eq name (codes "build")) ((c : Build) × IsBuild options c) (
+    MatchBool (bytes_eq name (codes "take")) ((c : Take) × IsTake options c) (
+    MatchBool (bytes_eq name (codes "merge")) ((c : Merge) × IsMerge options c) (
+    MatchBool (bytes_eq name (codes "pull")) ((c : Pull) × IsPull options c) (
+    MatchBool (bytes_eq name (codes "status")) ((c : Held) × IsHeld options c) (
+    MatchBool (bytes_eq name (codes "missing")) ((c : Missing) × IsMissingAsk options c) (
+    MatchBool (bytes_eq name (codes "forks")) ((c : Held) × IsHeld options c) (
+    MatchBool (bytes_eq name (codes "prove")) ((c : Prove) × IsProve options c) (
+    MatchBool (bytes_eq name (codes "export")) ((c : Export) × IsExport options c) (
+    MatchBool (bytes_eq name (codes "notes")) ((c : Export) × IsExport options c) (
+    MatchBool (bytes_eq name (codes "serve")) ((c : Serve) × IsServe options c) Unit)))))))))))
 
-pub prove_said : (name : Text) (options : List Row) → name ≡ codes "prove" → (command : Command) →
-    IsSaid name options command → (c : Prove) × IsProve options c
-prove_said name options is (order.Root c) said = absurd (apart name (codes "prove") (codes "root") is said.0 refl)
-prove_said name options is order.Check said = absurd (apart name (codes "prove") (codes "check") is said.0 refl)
-prove_said name options is (order.Build c) said = absurd (apart name (codes "prove") (codes "build") is said.0 refl)
-prove_said name options is (order.Take c) said = absurd (apart name (codes "prove") (codes "take") is said.0 refl)
-prove_said name options is (order.Merge c) said = absurd (apart name (codes "prove") (codes "merge") is said.0 refl)
-prove_said name options is (order.Pull c) said = absurd (apart name (codes "prove") (codes "pull") is said.0 refl)
-prove_said name options is (order.Status c) said = absurd (apart name (codes "prove") (codes "status") is said.0 refl)
-prove_said name options is (order.Missing c) said = absurd (apart name (codes "prove") (codes "missing") is said.0 refl)
-prove_said name options is (order.Forks c) said = absurd (apart name (codes "prove") (codes "forks") is said.0 refl)
-prove_said name options is (order.Prove c) said = (c, said.1)
-prove_said name options is (order.Export c) said = absurd (apart name (codes "prove") (codes "export") is said.0 refl)
-prove_said name options is (order.Notes c) said = absurd (apart name (codes "prove") (codes "notes") is said.0 refl)
-prove_said name options is (order.Serve c) said = absurd (apart name (codes "prove") (codes "serve") is said.0 refl)
+pub said_of : (name : Text) (options : List Row) (command : Command) → IsSaid name options command → SaidOf name options
+said_of name options (order.Root c) said = subst (λ n. SaidOf n options) (sym said.0) (c, said.1)
+said_of name options order.Check said = subst (λ n. SaidOf n options) (sym said.0) tt
+said_of name options (order.Build c) said = subst (λ n. SaidOf n options) (sym said.0) (c, said.1)
+said_of name options (order.Take c) said = subst (λ n. SaidOf n options) (sym said.0) (c, said.1)
+said_of name options (order.Merge c) said = subst (λ n. SaidOf n options) (sym said.0) (c, said.1)
+said_of name options (order.Pull c) said = subst (λ n. SaidOf n options) (sym said.0) (c, said.1)
+said_of name options (order.Status c) said = subst (λ n. SaidOf n options) (sym said.0) (c, said.1)
+said_of name options (order.Missing c) said = subst (λ n. SaidOf n options) (sym said.0) (c, said.1)
+said_of name options (order.Forks c) said = subst (λ n. SaidOf n options) (sym said.0) (c, said.1)
+said_of name options (order.Prove c) said = subst (λ n. SaidOf n options) (sym said.0) (c, said.1)
+said_of name options (order.Export c) said = subst (λ n. SaidOf n options) (sym said.0) (c, said.1)
+said_of name options (order.Notes c) said = subst (λ n. SaidOf n options) (sym said.0) (c, said.1)
+said_of name options (order.Serve c) said = subst (λ n. SaidOf n options) (sym said.0) (c, said.1)
 
-pub serve_said : (name : Text) (options : List Row) → name ≡ codes "serve" → (command : Command) →
-    IsSaid name options command → (c : Serve) × IsServe options c
-serve_said name options is (order.Root c) said = absurd (apart name (codes "serve") (codes "root") is said.0 refl)
-serve_said name options is order.Check said = absurd (apart name (codes "serve") (codes "check") is said.0 refl)
-serve_said name options is (order.Build c) said = absurd (apart name (codes "serve") (codes "build") is said.0 refl)
-serve_said name options is (order.Take c) said = absurd (apart name (codes "serve") (codes "take") is said.0 refl)
-serve_said name options is (order.Merge c) said = absurd (apart name (codes "serve") (codes "merge") is said.0 refl)
-serve_said name options is (order.Pull c) said = absurd (apart name (codes "serve") (codes "pull") is said.0 refl)
-serve_said name options is (order.Status c) said = absurd (apart name (codes "serve") (codes "status") is said.0 refl)
-serve_said name options is (order.Missing c) said = absurd (apart name (codes "serve") (codes "missing") is said.0 refl)
-serve_said name options is (order.Forks c) said = absurd (apart name (codes "serve") (codes "forks") is said.0 refl)
-serve_said name options is (order.Prove c) said = absurd (apart name (codes "serve") (codes "prove") is said.0 refl)
-serve_said name options is (order.Export c) said = absurd (apart name (codes "serve") (codes "export") is said.0 refl)
-serve_said name options is (order.Notes c) said = absurd (apart name (codes "serve") (codes "notes") is said.0 refl)
-serve_said name options is (order.Serve c) said = (c, said.1)
+-- a command is refused where what its name asks for is
+pub refused_of : {X : Type 0} → (IsSuch : X → Type 0) (name text : Text) (options : List Row)
+    (r : Result Command CommandFault) (e : CommandFault) → (SaidOf text options → (x : X) × IsSuch x) → name ≡ text
+    → (x : CommandFault) × (r ≡ Err x) × (x ≡ e) → Decides IsSuch (Err e) → Decides (IsSaid name options) r
+refused_of IsSuch name text options r e part is fault none =
+    refused_from IsSuch (IsSaid name options) r e fault none
+    (λ command said. part (subst (λ n. SaidOf n options) is (said_of name options command said)))
