@@ -4,7 +4,7 @@ use Rattle.log_sources.specs.Files.{full_of}
 use Rattle.std.proofs.lemmas.Result.{err_from_is_err_and}
 use Rattle.mirror_pull.proofs.Askings.{adds_some_then, adds_to_then, some_of}
 use Rattle.mirror_pull.proofs.Freshness.{fresh_unasked, gone_partial}
-use Rattle.mirror_pull.proofs.Gains.{outside}
+use Rattle.mirror_pull.proofs.Gains.{counts_err, outside, stays_then}
 use Rattle.mirror_pull.proofs.TrueRows.{source_stays, adds_one_each, adds_two_each, full_fresh, row_found, row_full}
 use Rattle.mirror_pull.proofs.TrueRows.{is_gone, full_answers, full_length, gets_full, tile_within}
 use Rattle.mirror_pull.proofs.edge.edge_row.Goals as goal
@@ -153,3 +153,94 @@ returns-in_err-bytes-2-clause-honest g c =
     rw (p.1, p.2)
     (λ digest entries is tile fresh. outside c.in_err-bytes-2.field-0.0
     c.in_err-bytes-2.ensures.early c.in_err-bytes-2.ensures.late)
+
+pub returns-clause-counted : goal.returns-clause-counted
+returns-clause-counted g c = c.in_ok-bytes-2.ensures.counted ∙ c.in_ok-bytes.ensures.counted
+
+pub returns-clause-early : goal.returns-clause-early
+returns-clause-early g c = tt
+
+pub returns-clause-later : goal.returns-clause-later
+returns-clause-later g c =
+    let may = g.S.Source.may_answer in
+    stays_then (may c.args.source.now) (may c.ask.new.source) (may c.ask-2.new.source) c.in_ok-bytes.ensures.later
+    c.in_ok-bytes-2.ensures.later
+
+pub returns-in_default-2-clause-counted : goal.returns-in_default-2-clause-counted
+returns-in_default-2-clause-counted g c = c.in_ok-bytes-2.ensures.counted ∙ c.in_ok-bytes.ensures.counted
+
+pub returns-in_default-2-clause-early : goal.returns-in_default-2-clause-early
+returns-in_default-2-clause-early g c = tt
+
+pub returns-in_default-2-clause-later : goal.returns-in_default-2-clause-later
+returns-in_default-2-clause-later g c =
+    let may = g.S.Source.may_answer in
+    stays_then (may c.args.source.now) (may c.ask.new.source) (may c.ask-2.new.source) c.in_ok-bytes.ensures.later
+    c.in_ok-bytes-2.ensures.later
+
+pub returns-in_default-2-clause-each : goal.returns-in_default-2-clause-each
+returns-in_default-2-clause-each g c = tt
+
+pub returns-then-len-ne-FULL_TILE-clause-counted : goal.returns-then-len-ne-FULL_TILE-clause-counted
+returns-then-len-ne-FULL_TILE-clause-counted g c = c.in_ok-bytes-2.ensures.counted ∙ c.in_ok-bytes.ensures.counted
+
+pub returns-then-len-ne-FULL_TILE-clause-early : goal.returns-then-len-ne-FULL_TILE-clause-early
+returns-then-len-ne-FULL_TILE-clause-early g c = tt
+
+pub returns-then-len-ne-FULL_TILE-clause-later : goal.returns-then-len-ne-FULL_TILE-clause-later
+returns-then-len-ne-FULL_TILE-clause-later g c =
+    let may = g.S.Source.may_answer in
+    stays_then (may c.args.source.now) (may c.ask.new.source) (may c.ask-2.new.source) c.in_ok-bytes.ensures.later
+    c.in_ok-bytes-2.ensures.later
+
+pub returns-then-len-ne-FULL_TILE-clause-each : goal.returns-then-len-ne-FULL_TILE-clause-each
+returns-then-len-ne-FULL_TILE-clause-each g c = tt
+
+pub returns-in-Some-clause-counted : goal.returns-in-Some-clause-counted
+returns-in-Some-clause-counted g c = c.in_ok-bytes.ensures.counted
+
+pub returns-in-Some-clause-early : goal.returns-in-Some-clause-early
+returns-in-Some-clause-early g c = tt
+
+pub returns-in-Some-clause-later : goal.returns-in-Some-clause-later
+returns-in-Some-clause-later g c = c.in_ok-bytes.ensures.later
+
+pub returns-in-Some-clause-told : goal.returns-in-Some-clause-told
+returns-in-Some-clause-told g c = c.in_ok-bytes.ensures.told
+
+pub returns-in_err-bytes-2-clause-counted : goal.returns-in_err-bytes-2-clause-counted
+returns-in_err-bytes-2-clause-counted g c =
+    let failed = g.S.Source.failed in
+    let p = err_from_is_err_and c.from_residual-in_err-bytes-2.result c.from_residual-in_err-bytes-2.ensures.1 in
+    rw (p.1, p.2)
+    (counts_err (failed c.args.source.now) (failed c.ask.new.source) (failed c.ask-2.new.source)
+    c.in_err-bytes-2.field-0.0 c.in_ok-bytes.ensures.counted c.in_err-bytes-2.ensures.counted)
+
+pub returns-in_err-bytes-2-clause-each : goal.returns-in_err-bytes-2-clause-each
+returns-in_err-bytes-2-clause-each g c =
+    let p = err_from_is_err_and c.from_residual-in_err-bytes-2.result c.from_residual-in_err-bytes-2.ensures.1 in
+    rw p.1 tt
+
+pub returns-in_err-bytes-2-clause-later : goal.returns-in_err-bytes-2-clause-later
+returns-in_err-bytes-2-clause-later g c =
+    let may = g.S.Source.may_answer in
+    stays_then (may c.args.source.now) (may c.ask.new.source) (may c.ask-2.new.source) c.in_ok-bytes.ensures.later
+    c.in_err-bytes-2.ensures.later
+
+pub returns-in_err-bytes-clause-counted : goal.returns-in_err-bytes-clause-counted
+returns-in_err-bytes-clause-counted g c =
+    let p = err_from_is_err_and c.from_residual.result c.from_residual.ensures.1 in
+    rw (p.1, p.2) c.in_err-bytes.ensures.counted
+
+pub returns-in_err-bytes-clause-each : goal.returns-in_err-bytes-clause-each
+returns-in_err-bytes-clause-each g c =
+    let p = err_from_is_err_and c.from_residual.result c.from_residual.ensures.1 in
+    rw p.1 tt
+
+pub returns-in_err-bytes-clause-later : goal.returns-in_err-bytes-clause-later
+returns-in_err-bytes-clause-later g c = c.in_err-bytes.ensures.later
+
+pub returns-in_err-bytes-clause-told : goal.returns-in_err-bytes-clause-told
+returns-in_err-bytes-clause-told g c =
+    let p = err_from_is_err_and c.from_residual.result c.from_residual.ensures.1 in
+    rw p.1 c.in_err-bytes.ensures.told

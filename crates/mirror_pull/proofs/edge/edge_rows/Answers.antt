@@ -101,3 +101,59 @@ returns-clause-honest g c =
     (edge_of c.args.size) c.args.asked.now.items c.loop-path.asked.items c.loop-path.path-index _
     (omega (arith, ap length e, c.loop-path-test.false))
     (c.loop-path.invariant.honest digest entries is within fresh)
+
+pub returns-clause-counted : goal.returns-clause-counted
+returns-clause-counted g c = c.loop-path.invariant.counted
+
+pub returns-clause-later : goal.returns-clause-later
+returns-clause-later g c = c.loop-path.invariant.later
+
+pub returns-clause-told : goal.returns-clause-told
+returns-clause-told g c = c.loop-path.invariant.told
+
+pub returns-clause-early : goal.returns-clause-early
+returns-clause-early g c = tt
+
+pub returns-in_err-push-clause-counted : goal.returns-in_err-push-clause-counted
+returns-in_err-push-clause-counted g c =
+    let p = err_from_is_err_and c.from_residual-in_err-push.result c.from_residual-in_err-push.ensures.1 in
+    rw (p.1, p.2) (c.in_ok-row.ensures.counted ∙ c.loop-path.invariant.counted)
+
+pub returns-in_err-push-clause-each : goal.returns-in_err-push-clause-each
+returns-in_err-push-clause-each g c =
+    let p = err_from_is_err_and c.from_residual-in_err-push.result c.from_residual-in_err-push.ensures.1 in
+    rw p.1 tt
+
+pub returns-in_err-push-clause-early : goal.returns-in_err-push-clause-early
+returns-in_err-push-clause-early g c =
+    let p = err_from_is_err_and c.from_residual-in_err-push.result c.from_residual-in_err-push.ensures.1 in
+    rw (p.1, p.2) tt
+
+pub returns-in_err-push-clause-later : goal.returns-in_err-push-clause-later
+returns-in_err-push-clause-later g c =
+    let may = g.S.Source.may_answer in
+    stays_then (may c.args.source.now) (may c.loop-path.source) (may c.edge_row.new.source) c.loop-path.invariant.later
+    c.in_ok-row.ensures.later
+
+pub returns-in_err-row-clause-each : goal.returns-in_err-row-clause-each
+returns-in_err-row-clause-each g c =
+    let p = err_from_is_err_and c.from_residual-in_err-row.result c.from_residual-in_err-row.ensures.1 in
+    rw p.1 tt
+
+pub returns-in_err-paths-clause-counted : goal.returns-in_err-paths-clause-counted
+returns-in_err-paths-clause-counted g c =
+    let p = err_from_is_err_and c.from_residual.result c.from_residual.ensures.1 in
+    rw (p.1, p.2) refl
+
+pub returns-in_err-paths-clause-each : goal.returns-in_err-paths-clause-each
+returns-in_err-paths-clause-each g c =
+    let p = err_from_is_err_and c.from_residual.result c.from_residual.ensures.1 in
+    rw p.1 tt
+
+pub returns-in_err-paths-clause-early : goal.returns-in_err-paths-clause-early
+returns-in_err-paths-clause-early g c =
+    let p = err_from_is_err_and c.from_residual.result c.from_residual.ensures.1 in
+    rw (p.1, p.2) tt
+
+pub returns-in_err-paths-clause-later : goal.returns-in_err-paths-clause-later
+returns-in_err-paths-clause-later g c = stays_itself (g.S.Source.may_answer c.args.source.now)

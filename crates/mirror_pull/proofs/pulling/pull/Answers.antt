@@ -9,7 +9,7 @@ use Rattle.mirror_pull.proofs.TruePulls.{worked_note, worked_notes, worked_strin
 use Rattle.std.proofs.lemmas.Result.{err_from_is_err_and}
 use Rattle.mirror_pull.proofs.Askings.{adds_some_then, adds_to_then, some_of, from_none}
 use Rattle.mirror_pull.proofs.Gains.{outcome_early, outcome_head, outcome_late, grows_head, grows_then, has_head}
-use Rattle.mirror_pull.proofs.Gains.{counts_err, outside}
+use Rattle.mirror_pull.proofs.Gains.{counts_err, outside, stays_then}
 use Rattle.mirror_pull.proofs.HeadsRead.{opened_head, honest_fault}
 use Rattle.mirror_pull.proofs.pulling.pull.Goals as goal
 
@@ -264,3 +264,98 @@ returns-in_err-rounds-clause-counted g c =
     (counts_err (failed c.args.source.now) (failed c.edge_rows.new.source) (failed c.work.new.source)
     c.in_err-rounds.field-0.0 (c.in_ok-rows.ensures.counted ∙ c.in_ok-note.ensures.counted)
     c.in_err-rounds.ensures.counted)
+
+pub returns-clause-counted : goal.returns-clause-counted
+returns-clause-counted g c =
+    c.in_ok-rounds.ensures.counted ∙ (c.in_ok-rows.ensures.counted ∙ c.in_ok-note.ensures.counted)
+
+pub returns-clause-later : goal.returns-clause-later
+returns-clause-later g c =
+    let may = g.S.Source.may_answer in
+    stays_then (may c.args.source.now) (may c.edge_rows.new.source) (may c.work.new.source)
+    (stays_then (may c.args.source.now) (may c.ask.new.source) (may c.edge_rows.new.source) c.in_ok-note.ensures.later
+    c.in_ok-rows.ensures.later) c.in_ok-rounds.ensures.later
+
+pub returns-in_err-rounds-clause-later : goal.returns-in_err-rounds-clause-later
+returns-in_err-rounds-clause-later g c =
+    let may = g.S.Source.may_answer in
+    stays_then (may c.args.source.now) (may c.edge_rows.new.source) (may c.work.new.source)
+    (stays_then (may c.args.source.now) (may c.ask.new.source) (may c.edge_rows.new.source) c.in_ok-note.ensures.later
+    c.in_ok-rows.ensures.later) c.in_err-rounds.ensures.later
+
+pub returns-in_err-rows-clause-later : goal.returns-in_err-rows-clause-later
+returns-in_err-rows-clause-later g c =
+    let may = g.S.Source.may_answer in
+    stays_then (may c.args.source.now) (may c.ask.new.source) (may c.edge_rows.new.source) c.in_ok-note.ensures.later
+    c.in_err-rows.ensures.later
+
+pub returns-in_err-take_rows-clause-later : goal.returns-in_err-take_rows-clause-later
+returns-in_err-take_rows-clause-later g c =
+    let may = g.S.Source.may_answer in
+    stays_then (may c.args.source.now) (may c.ask.new.source) (may c.edge_rows.new.source) c.in_ok-note.ensures.later
+    c.in_ok-rows.ensures.later
+
+pub returns-in_default-clause-later : goal.returns-in_default-clause-later
+returns-in_default-clause-later g c = c.in_ok-note.ensures.later
+
+pub returns-in_err-checkpoint-clause-later : goal.returns-in_err-checkpoint-clause-later
+returns-in_err-checkpoint-clause-later g c = c.in_ok-note.ensures.later
+
+pub returns-in_err-note-clause-later : goal.returns-in_err-note-clause-later
+returns-in_err-note-clause-later g c = c.in_err-note.ensures.later
+
+pub returns-in_default-clause-outcome : goal.returns-in_default-clause-outcome
+returns-in_default-clause-outcome g c = refl
+
+pub returns-in_default-clause-counted : goal.returns-in_default-clause-counted
+returns-in_default-clause-counted g c = c.in_ok-note.ensures.counted
+
+pub returns-in_err-note-clause-counted : goal.returns-in_err-note-clause-counted
+returns-in_err-note-clause-counted g c =
+    let p = err_from_is_err_and c.from_residual.result c.from_residual.ensures.1 in
+    rw (p.1, p.2) c.in_err-note.ensures.counted
+
+pub returns-in_err-note-clause-asks : goal.returns-in_err-note-clause-asks
+returns-in_err-note-clause-asks g c =
+    let p = err_from_is_err_and c.from_residual.result c.from_residual.ensures.1 in
+    rw p.1 tt
+
+pub returns-in_err-checkpoint-clause-asks : goal.returns-in_err-checkpoint-clause-asks
+returns-in_err-checkpoint-clause-asks g c =
+    let p = err_from_is_err_and c.from_residual-in_err-checkpoint.result c.from_residual-in_err-checkpoint.ensures.1 in
+    rw p.1 tt
+
+pub returns-in_err-rows-clause-asks : goal.returns-in_err-rows-clause-asks
+returns-in_err-rows-clause-asks g c =
+    let p = err_from_is_err_and c.from_residual-in_err-rows.result c.from_residual-in_err-rows.ensures.1 in
+    rw p.1 tt
+
+pub returns-in_err-take_rows-clause-asks : goal.returns-in_err-take_rows-clause-asks
+returns-in_err-take_rows-clause-asks g c =
+    let p = err_from_is_err_and c.from_residual-in_err-take_rows.result c.from_residual-in_err-take_rows.ensures.1 in
+    rw p.1 tt
+
+pub returns-in_err-rounds-clause-asks : goal.returns-in_err-rounds-clause-asks
+returns-in_err-rounds-clause-asks g c =
+    let p = err_from_is_err_and c.from_residual-in_err-rounds.result c.from_residual-in_err-rounds.ensures.1 in
+    rw p.1 tt
+
+pub returns-in_err-note-clause-once : goal.returns-in_err-note-clause-once
+returns-in_err-note-clause-once g c =
+    let asked = g.S.Source.asked in
+    from_none c.new-asked.result.items (asked c.args.source.now) (asked c.ask.new.source) c.new-asked.ensures.items
+    c.in_err-note.ensures.told
+
+pub returns-in_default-clause-once : goal.returns-in_default-clause-once
+returns-in_default-clause-once g c =
+    let asked = g.S.Source.asked in
+    from_none c.new-asked.result.items (asked c.args.source.now) (asked c.ask.new.source) c.new-asked.ensures.items
+    (some_of c.new-asked.result.items c.ask.new.asked.items (asked c.args.source.now) (asked c.ask.new.source)
+    c.in_ok-note.ensures.told)
+
+pub returns-in_err-checkpoint-clause-once : goal.returns-in_err-checkpoint-clause-once
+returns-in_err-checkpoint-clause-once g c =
+    let asked = g.S.Source.asked in
+    from_none c.new-asked.result.items (asked c.args.source.now) (asked c.ask.new.source) c.new-asked.ensures.items
+    (some_of c.new-asked.result.items c.ask.new.asked.items (asked c.args.source.now) (asked c.ask.new.source)
+    c.in_ok-note.ensures.told)

@@ -1,7 +1,7 @@
 use Rattle.std.proofs.Common.{Some, None, ◌∙◌}
 use Rattle.std.proofs.lemmas.Result.{err_from_is_err_and}
 use Rattle.mirror_pull.proofs.Askings.{adds_some_then, adds_to_then, asks_late}
-use Rattle.mirror_pull.proofs.Gains.{gains_item, late_item, counts_item, outside}
+use Rattle.mirror_pull.proofs.Gains.{gains_item, gains_itself, late_item, counts_item, counts_err, stays_then, outside}
 use Rattle.mirror_pull.proofs.Freshness.{fresh_unasked}
 use Rattle.mirror_pull.proofs.TrueTakes.{path_fresh, path_found, path_full_fresh, path_full, path_neither}
 use Rattle.mirror_pull.proofs.rounds.take_path.Goals as goal
@@ -132,3 +132,77 @@ pub returns-in-Some-2-clause-counted : goal.returns-in-Some-2-clause-counted
 returns-in-Some-2-clause-counted g c =
     counts_item g.H.TreeHash.digest _ _ c.full_path-full.result c.deref-in-Some-2.result.now _ _ _
     (c.in_ok-bytes-2.ensures.counted ∙ c.in_ok-bytes.ensures.counted) c.take_found-in-Some-2.ensures
+
+pub returns-in_err-bytes-clause-told : goal.returns-in_err-bytes-clause-told
+returns-in_err-bytes-clause-told g c =
+    let p = err_from_is_err_and c.from_residual.result c.from_residual.ensures.1 in
+    rw p.1 c.in_err-bytes.ensures.told
+
+pub returns-in_err-bytes-clause-counted : goal.returns-in_err-bytes-clause-counted
+returns-in_err-bytes-clause-counted g c =
+    let p = err_from_is_err_and c.from_residual.result c.from_residual.ensures.1 in
+    rw (p.1, p.2) c.in_err-bytes.ensures.counted
+
+pub returns-in_err-bytes-2-clause-counted : goal.returns-in_err-bytes-2-clause-counted
+returns-in_err-bytes-2-clause-counted g c =
+    let p = err_from_is_err_and c.from_residual-in_err-bytes-2.result c.from_residual-in_err-bytes-2.ensures.1 in
+    rw (p.1, p.2)
+    (counts_err (g.S.Source.failed c.args.source.now) (g.S.Source.failed c.ask.new.source)
+    (g.S.Source.failed c.ask-2.new.source) c.in_err-bytes-2.field-0.0 c.in_ok-bytes.ensures.counted
+    c.in_err-bytes-2.ensures.counted)
+
+pub returns-in_err-bytes-clause-asks : goal.returns-in_err-bytes-clause-asks
+returns-in_err-bytes-clause-asks g c =
+    let p = err_from_is_err_and c.from_residual.result c.from_residual.ensures.1 in
+    rw p.1 tt
+
+pub returns-in_err-bytes-2-clause-asks : goal.returns-in_err-bytes-2-clause-asks
+returns-in_err-bytes-2-clause-asks g c =
+    let p = err_from_is_err_and c.from_residual-in_err-bytes-2.result c.from_residual-in_err-bytes-2.ensures.1 in
+    rw p.1 tt
+
+pub returns-in_err-bytes-clause-gains : goal.returns-in_err-bytes-clause-gains
+returns-in_err-bytes-clause-gains g c =
+    gains_itself c.args.mirror.now.view
+
+pub returns-in_err-bytes-2-clause-gains : goal.returns-in_err-bytes-2-clause-gains
+returns-in_err-bytes-2-clause-gains g c =
+    gains_itself c.args.mirror.now.view
+
+pub returns-in-None-clause-gains : goal.returns-in-None-clause-gains
+returns-in-None-clause-gains g c =
+    gains_itself c.args.mirror.now.view
+
+pub returns-in_err-bytes-clause-later : goal.returns-in_err-bytes-clause-later
+returns-in_err-bytes-clause-later g c =
+    c.in_err-bytes.ensures.later
+
+pub returns-in-Some-clause-later : goal.returns-in-Some-clause-later
+returns-in-Some-clause-later g c =
+    c.in_ok-bytes.ensures.later
+
+pub returns-in_err-bytes-2-clause-later : goal.returns-in_err-bytes-2-clause-later
+returns-in_err-bytes-2-clause-later g c =
+    let may = g.S.Source.may_answer in
+    stays_then (may c.args.source.now) (may c.ask.new.source) (may c.ask-2.new.source) c.in_ok-bytes.ensures.later
+    c.in_err-bytes-2.ensures.later
+
+pub returns-in-Some-2-clause-later : goal.returns-in-Some-2-clause-later
+returns-in-Some-2-clause-later g c =
+    let may = g.S.Source.may_answer in
+    stays_then (may c.args.source.now) (may c.ask.new.source) (may c.ask-2.new.source) c.in_ok-bytes.ensures.later
+    c.in_ok-bytes-2.ensures.later
+
+pub returns-in-None-clause-later : goal.returns-in-None-clause-later
+returns-in-None-clause-later g c =
+    let may = g.S.Source.may_answer in
+    stays_then (may c.args.source.now) (may c.ask.new.source) (may c.ask-2.new.source) c.in_ok-bytes.ensures.later
+    c.in_ok-bytes-2.ensures.later
+
+pub returns-in-None-clause-late : goal.returns-in-None-clause-late
+returns-in-None-clause-late g c =
+    tt
+
+pub returns-in-None-clause-counted : goal.returns-in-None-clause-counted
+returns-in-None-clause-counted g c =
+    c.in_ok-bytes-2.ensures.counted ∙ c.in_ok-bytes.ensures.counted
