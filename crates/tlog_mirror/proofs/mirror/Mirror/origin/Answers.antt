@@ -1,4 +1,5 @@
+use Rattle.std.proofs.Common.{rules}
 use Rattle.tlog_mirror.proofs.mirror.Mirror.origin.Goals as goal
 
 pub returns : goal.returns
-returns g c = rw (← c.self.view_is) (cc)
+returns g c = search rules

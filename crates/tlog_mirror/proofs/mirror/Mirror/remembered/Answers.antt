@@ -1,5 +1,5 @@
-use Rattle.std.proofs.Common.{arith}
+use Rattle.std.proofs.Common.{rules}
 use Rattle.tlog_mirror.proofs.mirror.Mirror.remembered.Goals as goal
 
 pub returns : goal.returns
-returns g c = rw (← c.self.view_is) (omega arith)
+returns g c = search rules
