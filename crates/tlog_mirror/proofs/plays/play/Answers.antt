@@ -1,4 +1,5 @@
 use Rattle.std.proofs.Common.{map, ◌∙◌, arith}
+use Rattle.std.proofs.lemmas.List.{take_all}
 use Rattle.mirror_model.specs.Answered.{answer_of}
 use Rattle.tlog_mirror.specs.Plays.{origins_of, views_of}
 use Rattle.tlog_mirror.proofs.PlayedEvents.{run_more}
@@ -28,3 +29,19 @@ loop-event-preserved g c = record {
   count = omega (arith, c.in-Ok.ensures.len);
   room = omega arith;
 }
+
+pub returns-clause-run : goal.returns-clause-run
+returns-clause-run g c =
+    rw (take_all c.loop-event.event-index c.args.events.now (omega arith)) at c.loop-event.invariant.run
+
+pub returns-clause-judged : goal.returns-clause-judged
+returns-clause-judged g c =
+    rw (take_all c.loop-event.event-index c.args.events.now (omega arith)) at c.loop-event.invariant.judged
+
+pub returns-clause-remembered : goal.returns-clause-remembered
+returns-clause-remembered g c = c.loop-event.invariant.remembered
+
+pub happen-answer-requires : goal.happen-answer-requires
+happen-answer-requires g c =
+    rw c.event-item.is
+    (c.loop-event.invariant.fits c.loop-event.event-index c.event-item.result c.loop-event-test.true)

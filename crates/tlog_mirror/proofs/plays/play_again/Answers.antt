@@ -40,3 +40,19 @@ returns-clause-run g c =
     (map answer_of c.loop-event.answers.items)
     (subst (λ xs. RunsWithin g.H.TreeHash.digest keys c.args.tries (views_of c.args.world.now) xs
     (map answer_of c.loop-event.answers.items) (views_of c.loop-event.world)) whole c.loop-event.invariant.run)
+
+pub returns-clause-tried : goal.returns-clause-tried
+returns-clause-tried g c =
+    rw (take_all c.loop-event.event-index c.args.events.now (omega arith)) at c.loop-event.invariant.run
+
+pub returns-clause-judged : goal.returns-clause-judged
+returns-clause-judged g c =
+    rw (take_all c.loop-event.event-index c.args.events.now (omega arith)) at c.loop-event.invariant.judged
+
+pub returns-clause-remembered : goal.returns-clause-remembered
+returns-clause-remembered g c = c.loop-event.invariant.remembered
+
+pub happen_again-answer-requires-clause-fits : goal.happen_again-answer-requires-clause-fits
+happen_again-answer-requires-clause-fits g c =
+    rw c.event-item.is
+    (c.loop-event.invariant.fits c.loop-event.event-index c.event-item.result c.loop-event-test.true)
