@@ -1,4 +1,5 @@
-use Rattle.std.proofs.Common.{◌≡◌, ℕ, ◌+◌, ◌<◌, List, [], ◌∷◌, ◌++◌, length, map, take, get_or, append_assoc, ap, sym, ◌∙◌}
+use Rattle.std.proofs.Common.{◌≡◌, ◌∙◌, ℕ, ◌+◌, ◌<◌, List, [], ◌∷◌, ◌++◌, length, map, take, get_or, append_assoc}
+use Rattle.std.proofs.Common.{ap, sym}
 use Rattle.std.proofs.lemmas.List.{map-append, take_more}
 use Rattle.tlog_mirror.proofs.forks.push_apart.Goals as goal
 
@@ -6,8 +7,9 @@ use Rattle.tlog_mirror.proofs.forks.push_apart.Goals as goal
 pushed : {X Y : Type 0} (f : X → Y) (xs : List X) (i : ℕ) (d : X) (base old new : List Y) → i < length xs →
     new ≡ old ++ f (get_or xs i d) ∷ [] → old ≡ base ++ map f (take i xs) → new ≡ base ++ map f (take (i + 1) xs)
 pushed f xs i d base old new within is was =
-    is ∙ (ap (λ ys. ys ++ f (get_or xs i d) ∷ []) was ∙ (append_assoc base (map f (take i xs)) (f (get_or xs i d) ∷ []) ∙
-    sym (ap (λ ys. base ++ ys) (ap (map f) (take_more xs i d within) ∙ map-append f (take i xs) (get_or xs i d ∷ [])))))
+    let last = f (get_or xs i d) ∷ [] in
+    is ∙ (ap (λ ys. ys ++ last) was ∙ (append_assoc base (map f (take i xs)) last ∙ sym (ap (λ ys. base ++ ys)
+    (ap (map f) (take_more xs i d within) ∙ map-append f (take i xs) (get_or xs i d ∷ [])))))
 
 pub loop-small-preserved : goal.loop-small-preserved
 loop-small-preserved c =

@@ -19,5 +19,6 @@ loop-point-preserved g c = record {
       c.push.new.self.items c.head_of.result c.loop-point-test.true c.in_ok-push.ensures.items
       c.loop-point.invariant.points c.head_of.ensures.point;
   flags = All-same (IsBuiltFlag g.H.TreeHash.digest c.args.store.now) _ _ c.in_ok-push.ensures.items
-      (All-push (IsBuiltFlag g.H.TreeHash.digest c.args.store.now) _ _ c.loop-point.invariant.flags c.head_of.ensures.flag);
+      (All-push (IsBuiltFlag g.H.TreeHash.digest c.args.store.now) _ _ c.loop-point.invariant.flags
+      c.head_of.ensures.flag);
 }

@@ -1,4 +1,5 @@
-use Rattle.std.proofs.Common.{◌≡◌, ℕ, List, ◌++◌, Result, Ok, Err, OnOk, is_ok, if◌then◌else◌, append_assoc, string_bytes, ◌∙◌}
+use Rattle.std.proofs.Common.{◌≡◌, ◌∙◌, ℕ, List, ◌++◌, Result, Ok, Err, OnOk, is_ok, if◌then◌else◌}
+use Rattle.std.proofs.Common.{append_assoc, string_bytes}
 use Rattle.mirror_model.specs.Texts.{point_text}
 use Rattle.tlog_mirror.proofs.texts.push_fork.Goals as goal
 
