@@ -85,7 +85,8 @@ returns-in_err-missing_of-in-missing c =
     let options = rows_of (found_of c.args.found.now) in
     let fault = err_from_is_err_and c.from_residual-in_err-missing_of-in-missing.result
     c.from_residual-in_err-missing_of-in-missing.ensures.1 in
-    refused_of (IsMissingAsk options) c.args.name.now (codes "missing") options c.from_residual-in_err-missing_of-in-missing.result
+    refused_of (IsMissingAsk options) c.args.name.now (codes "missing") options
+    c.from_residual-in_err-missing_of-in-missing.result
     c.in_err-missing_of-in-missing.field-0.0 (λ p. p) c.in-missing.is fault
     c.in_err-missing_of-in-missing.ensures
 
@@ -121,7 +122,8 @@ returns-in_err-export_of-in-export c =
     let options = rows_of (found_of c.args.found.now) in
     let fault = err_from_is_err_and c.from_residual-in_err-export_of-in-export.result
     c.from_residual-in_err-export_of-in-export.ensures.1 in
-    refused_of (IsExport options) c.args.name.now (codes "export") options c.from_residual-in_err-export_of-in-export.result
+    refused_of (IsExport options) c.args.name.now (codes "export") options
+    c.from_residual-in_err-export_of-in-export.result
     c.in_err-export_of-in-export.field-0.0 (λ p. p) c.in-export.is fault
     c.in_err-export_of-in-export.ensures
 
@@ -133,7 +135,8 @@ returns-in_err-export_of-in-notes c =
     let options = rows_of (found_of c.args.found.now) in
     let fault = err_from_is_err_and c.from_residual-in_err-export_of-in-notes.result
     c.from_residual-in_err-export_of-in-notes.ensures.1 in
-    refused_of (IsExport options) c.args.name.now (codes "notes") options c.from_residual-in_err-export_of-in-notes.result
+    refused_of (IsExport options) c.args.name.now (codes "notes") options
+    c.from_residual-in_err-export_of-in-notes.result
     c.in_err-export_of-in-notes.field-0.0 (λ p. p) c.in-notes.is fault
     c.in_err-export_of-in-notes.ensures
 
