@@ -1,3 +1,4 @@
 mod NamedLemmas
 mod Leaving
 mod Putting
+mod FolderLemmas

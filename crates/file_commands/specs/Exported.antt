@@ -1,6 +1,5 @@
--- What the command `export` makes of a state file, and what it puts onto the shelf.
+-- What the command `export` makes of a state file, and what it puts into the folder.
 use Rattle.std.specs.Prelude.{◌≡◌, ◌↔◌, ℕ, List, Option, Result, Ok, Err}
-use Rattle.log_sources.specs.Told.{KeepsTold}
 use Rattle.signed_note.specs.Keys.{Key}
 use Rattle.mirror_model.specs.View.{View}
 use Rattle.tlog_mirror.specs.Tops.{ServesNothing}
@@ -12,29 +11,32 @@ use Rattle.state_commands.specs.NoteFiles.{NamedFile}
 use Rattle.file_commands.specs.Answers.{done, failed}
 use Rattle.file_commands.specs.States.{OpensFile}
 use Rattle.file_commands.specs.declared.fault.ExportFileFault.{ExportFileFault}
-use Rattle.file_commands.specs.declared.fault.ExportFileFault.TheVariants.{State, Export}
+use Rattle.file_commands.specs.declared.fault.ExportFileFault.TheVariants.{State, OutOfMemory}
+use Rattle.file_commands.specs.declared.fault.ExportFileFault.TheVariants.{Export}
 
 -- the shelf's count of failures, as an export counts them
 abbrev pub CountsFileExport : {T : Type 0} → ℕ → ℕ → Result T ExportFileFault → Type 0
 CountsFileExport old new (Ok x) = CountsExport old new done
 CountsFileExport old new (Err (State fault)) = new ≡ old
+CountsFileExport old new (Err OutOfMemory) = new ≡ old
 CountsFileExport old new (Err (Export fault)) = CountsExport old new (failed fault)
 
 module _ (digest : List ℕ → List ℕ) (origin : List ℕ) (keys : List Key)
-    (told : Option (List NamedFile)) (name : List ℕ) (old new : Option (List Put)) where
-  -- a mirror was opened of the file, and what it serves was put as an export with that answer
-  -- puts it
+    (told : Option (List NamedFile)) (name : List ℕ) (held before put : Option (List Put)) where
+  -- a mirror was opened of the file, and what it serves was put, over what the folder held, as an
+  -- export with that answer puts it
   pub record ExportsOpened (answer : Result (Unit {0}) ExportFault) : Type 0 where
     pub view : View
     pub opened : OpensFile digest origin keys told name (Ok view)
-    pub puts : Exports digest view old new answer
+    pub puts : Exports digest view held put answer
     pub nothing : (answer ≡ Err NothingComplete) ↔ ServesNothing digest view
-    pub last : CheckpointIsLast digest view old new
+    pub last : CheckpointIsLast digest view held put
 
-  -- what each answer of the command says: the file is opened first, and nothing is put where it is
-  -- not
+  -- what each answer of the command says: the file is opened first, and then the folder; nothing is
+  -- put where either is not
   abbrev pub ExportsFile : {T : Type 0} → Result T ExportFileFault → Type 0
   ExportsFile (Ok x) = ExportsOpened done
   ExportsFile (Err (State fault)) =
-      OpensFile digest origin keys told name (Err fault) × KeepsTold old new
+      OpensFile digest origin keys told name (Err fault) × (put ≡ before)
+  ExportsFile (Err OutOfMemory) = put ≡ before
   ExportsFile (Err (Export fault)) = ExportsOpened (failed fault)

@@ -1,5 +1,6 @@
 pub mod Answers
 pub mod Named
+pub mod Folders
 pub mod States
 pub mod Takes
 pub mod Merges

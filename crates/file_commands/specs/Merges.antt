@@ -5,7 +5,6 @@ use Rattle.signed_note.specs.Keys.{Key}
 use Rattle.mirror_model.specs.Answered.{merge_answer_of}
 use Rattle.mirror_model.specs.Steps.{Answer, Done, Merges}
 use Rattle.mirror_model.specs.View.{View}
-use Rattle.mirror_model.specs.declared.fault.MergeFault.{MergeFault}
 use Rattle.state_commands.specs.NoteFiles.{NamedFile}
 use Rattle.file_commands.specs.Answers.{failed}
 use Rattle.file_commands.specs.Named.{FailsToPut}

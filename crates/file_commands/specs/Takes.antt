@@ -7,7 +7,6 @@ use Rattle.mirror_model.specs.Steps.{Answer, Done, Takes}
 use Rattle.mirror_model.specs.View.{View}
 use Rattle.mirror_model.specs.declared.items.Item.{Item}
 use Rattle.mirror_model.specs.declared.items.Item.TheVariants as item
-use Rattle.mirror_model.specs.declared.fault.TakeFault.{TakeFault}
 use Rattle.state_commands.specs.NoteFiles.{NamedFile}
 use Rattle.file_commands.specs.Answers.{failed}
 use Rattle.file_commands.specs.Named.{FailsToPut, FailsToRead, TellsFile, TellsFiles}

@@ -69,6 +69,9 @@ pub enum ExportFileFault {
     /// There is no mirror of the file.
     #[error(transparent)]
     State(StateFault),
+    /// Memory for the folder's name was refused.
+    #[error("OutOfMemory")]
+    OutOfMemory,
     /// Nothing is served, or not all of it was put.
     #[error(transparent)]
     Export(ExportFault),

@@ -10,26 +10,32 @@
 
 mod export;
 mod fault;
+mod folders;
 mod item;
 mod laws;
 mod memory;
+mod memory_folders;
 mod merge;
 mod named;
 mod notes;
 mod state;
 mod system;
+mod system_folders;
 mod take;
 
 pub use export::run_export;
 pub use fault::{
     ExportFileFault, MergeFilesFault, NamedFault, NotesFault, StateFault, TakeFilesFault,
 };
+pub use folders::NamedFolders;
 pub use item::ItemFiles;
 pub use laws::{kept_files_law, standing_notes_law};
 pub use memory::MemoryFiles;
+pub use memory_folders::MemoryFolders;
 pub use merge::run_merge;
 pub use named::{MOST_BYTES, NamedFiles};
 pub use notes::run_notes;
 pub use state::{begun, loaded, write_state};
 pub use system::SystemFiles;
+pub use system_folders::SystemFolders;
 pub use take::run_take;

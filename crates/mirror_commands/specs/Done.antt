@@ -1,14 +1,16 @@
--- What each answer of a command says of the input, of named files, and of what was written to
--- standard output.
-use Rattle.std.specs.Prelude.{◌≡◌, ◌≤◌, ℕ, List, length, Option, None, Result, Ok, Err, Bool, true}
+-- What each answer of a command says of the input, of named files and folders, and of what was
+-- written to standard output.
+use Rattle.std.specs.Prelude.{◌≡◌, ◌≤◌, ℕ, List, length, Option, Result, Ok, Err, Bool, true}
 use Rattle.std.specs.Prelude.{false, IfSome, option_map}
 use Rattle.std.specs.Io.KnownBytes.{Keeps}
 use Rattle.signed_note.specs.Keys.{Key}
 use Rattle.command_line.specs.declared.command.Command.{Command as Order}
 use Rattle.command_line.specs.declared.command.Command.TheVariants as order
+use Rattle.command_line.specs.declared.command.Build.{Build as BuildWords}
 use Rattle.command_line.specs.declared.command.Merge.{Merge as MergeWords}
 use Rattle.command_line.specs.declared.command.Export.{Export as FolderWords}
 use Rattle.command_line.specs.declared.command.Pull.{Pull as PullWords}
+use Rattle.mirror_folders.specs.Shelf.{Put}
 use Rattle.state_commands.specs.NoteFiles.{NamedFile}
 use Rattle.state_commands.specs.declared.question.Question.TheVariants as question
 use Rattle.file_commands.specs.Answers.{done, failed}
@@ -26,12 +28,14 @@ use Rattle.mirror_commands.specs.declared.fault.RunFault.TheVariants.{Serve}
 use Rattle.stream_commands.specs.declared.root.RootFault.TheVariants as root
 use Rattle.stream_commands.specs.declared.check.CheckFault.TheVariants as check
 use Rattle.mirror_commands.specs.declared.fault.TellFault.{TellFault}
+use Rattle.mirror_commands.specs.declared.fault.WorkFault.{WorkFault}
 use Rattle.mirror_commands.specs.declared.fault.TellFault.TheVariants as tell
 use Rattle.stream_commands.specs.Root.{AnswersRoot}
 use Rattle.stream_commands.specs.Check.{AnswersCheck}
+use Rattle.mirror_commands.specs.Builds.{BuildsFrom}
 use Rattle.mirror_commands.specs.Named.{TakesWords}
 use Rattle.mirror_commands.specs.Pulls.{TellsPull}
-use Rattle.mirror_commands.specs.Works.{AsksState, BuildsFrom, IsWriting, TellsPort}
+use Rattle.mirror_commands.specs.Works.{AsksState, IsWriting, TellsPort}
 
 -- the files that a command reads alone are left as they are; what the others leave is said by
 -- `Does`
@@ -41,6 +45,13 @@ LeavesFiles (order.Merge c) told left = Unit {0}
 LeavesFiles (order.Pull c) told left = Unit {0}
 LeavesFiles (order.Notes c) told left = Unit {0}
 LeavesFiles other told left = left ≡ told
+
+-- the commands that put nothing into a folder leave what was put as it was; what the others put is
+-- said by `Does`
+abbrev pub LeavesFolders : Order → Option (List Put) → Option (List Put) → Type 0
+LeavesFolders (order.Build c) before put = Unit {0}
+LeavesFolders (order.Export c) before put = Unit {0}
+LeavesFolders other before put = put ≡ before
 
 -- the exit status of a verdict: 3 for a no
 abbrev pub verdict_status : Bool → ℕ
@@ -68,18 +79,27 @@ IsDoable (order.Take c) =
     (1 ≤ c.width) × (c.width ≤ 256) × (1 ≤ length c.files.items)
 IsDoable other = Unit {0}
 
-module _ (digest : List ℕ → List ℕ) (keys : List Key)
-    (told left : Option (List NamedFile)) where
+module _ (digest : List ℕ → List ℕ) (keys : List Key) (key_bytes : List ℕ)
+    (told left : Option (List NamedFile)) (held : List ℕ → Option (List Put))
+    (before put : Option (List Put)) where
+  -- what an answer of `build` says of the key file's bytes, of the input, and of the folder that
+  -- its words name
+  abbrev pub BuildsOne : BuildWords → Option (List ℕ) → Result (Unit {0}) WorkFault → Type 0
+  BuildsOne c input answer =
+      BuildsFrom digest c.log.origin.now keys key_bytes (held c.folder.now) before put input
+      answer
+
   -- what an answer of `merge` says of the files that its words name
   abbrev pub MergesTwo : MergeWords → Result (Unit {0}) MergeFilesFault → Type 0
   MergesTwo c answer =
       LeavesMerged digest c.made.log.origin.now keys told c.first.now c.second.now c.made.out.now
       left answer
 
-  -- what an answer of `export` says of its state file; its folder is not told
+  -- what an answer of `export` says of its state file, and of the folder that its words name
   abbrev pub ExportsOne : FolderWords → Result (Unit {0}) ExportFileFault → Type 0
   ExportsOne c answer =
-      ExportsFile digest c.held.log.origin.now keys told c.held.state.now None None answer
+      ExportsFile digest c.held.log.origin.now keys told c.held.state.now (held c.folder.now) before
+      put answer
 
   -- what an answer of `notes` says of its state file, and of the files in its folder
   abbrev pub WritesInto : FolderWords → Result (Unit {0}) NotesFault → Type 0
@@ -93,8 +113,8 @@ module _ (digest : List ℕ → List ℕ) (keys : List Key)
       TellsPull digest c.made.log.origin.now keys (option_map (λ name. name.now) c.state)
       c.made.out.now told left old new answer
 
-  -- what each answer of a command says of the input and of named files, where they are known, and
-  -- of what was written
+  -- what each answer of a command says of the input and of named files and folders, where they are
+  -- known, and of what was written
   abbrev pub Does : Order → Option (List ℕ) → Option (List ℕ) → Option (List ℕ) →
       Result ℕ RunFault → Type 0
   Does (order.Root c) input old new (Ok status) =
@@ -107,9 +127,9 @@ module _ (digest : List ℕ → List ℕ) (keys : List Key)
   Does order.Check input old new (Err (Check fault)) =
       IfSome input (λ bytes. AnswersCheck digest bytes old new (Err fault))
   Does (order.Build c) input old new (Ok status) =
-      IfSome input (λ bytes. BuildsFrom bytes done) × Keeps old new × (status ≡ 0)
+      BuildsOne c input done × Keeps old new × (status ≡ 0)
   Does (order.Build c) input old new (Err (Build fault)) =
-      IfSome input (λ bytes. BuildsFrom bytes (failed fault)) × Keeps old new
+      BuildsOne c input (failed fault) × Keeps old new
   Does (order.Take c) input old new (Ok status) =
       TakesWords digest keys c told left done × Keeps old new × (status ≡ 0)
   Does (order.Take c) input old new (Err (Take fault)) =

@@ -1,27 +1,37 @@
 -- What a run of the program answers and writes. `FindsKeys` is cited by the contracts of private
 -- functions alone.
-use Rattle.std.specs.Prelude.{◌≡◌, ◌⊎◌, ℕ, List, Option, None, Result, Ok, Err}
+use Rattle.std.specs.Prelude.{◌≡◌, ◌⊎◌, ℕ, List, [], Option, Result, Ok, Err, map}
 use Rattle.std.specs.Io.KnownBytes.{Keeps}
-use Rattle.signed_note.specs.Keys.{Key}
+use Rattle.signed_note.specs.Keys.{Key, secret_key, pinned_key}
+use Rattle.signed_note.specs.KeyFiles.{IsKeyFile, ReadsKeys}
+use Rattle.signed_note.specs.declared.fault.KeyFileFault.{KeyFileFault}
+use Rattle.signed_note.specs.declared.key_line.KeyLine.{KeyLine}
+use Rattle.signed_note.specs.declared.key_line.KeyLine.TheVariants.{Hmac, Pin}
+use Rattle.mirror_folders.specs.Shelf.{Put}
 use Rattle.state_commands.specs.NoteFiles.{NamedFile}
+use Rattle.file_commands.specs.Named.{ReadsShort, TellsFile}
+use Rattle.file_commands.specs.declared.fault.NamedFault.{NamedFault}
 use Rattle.command_line.specs.declared.command.Command.{Command as Order}
 use Rattle.command_line.specs.declared.fault.CommandFault.{CommandFault}
 use Rattle.command_line.specs.Commands.{Asks}
-use Rattle.command_line.specs.Readings.{HasKeys, Reads}
+use Rattle.command_line.specs.Readings.{HasKeys, HasNoKeys, Reads}
 use Rattle.mirror_commands.specs.declared.fault.RunFault.{RunFault}
 use Rattle.mirror_commands.specs.declared.fault.RunFault.TheVariants.{Command, KeyFile, KeyLines}
-use Rattle.mirror_commands.specs.Done.{Does, LeavesFiles}
+use Rattle.mirror_commands.specs.Done.{Does, LeavesFiles, LeavesFolders}
 
-module _ (digest : List ℕ → List ℕ) (keys : List Key) (told left : Option (List NamedFile)) where
+module _ (digest : List ℕ → List ℕ) (keys : List Key) (key_bytes : List ℕ)
+    (told left : Option (List NamedFile)) (held : List ℕ → Option (List Put))
+    (before put : Option (List Put)) where
   -- the words ask for a command, and this is its answer
   pub record Obeys (words : List (List ℕ)) (input old new : Option (List ℕ))
       (answer : Result ℕ RunFault) : Type 0 where
     pub command : Order
     pub asked : Asks words command
-    pub done : Does digest keys told left command input old new answer
+    pub done : Does digest keys key_bytes told left held before put command input old new answer
     pub files : LeavesFiles command told left
+    pub folders : LeavesFolders command before put
 
-  -- the words ask for no command: this is the answer, and nothing was written, nor any file changed
+  -- the words ask for no command: this is the answer, nothing was written, and no file was changed
   pub record Refuses (words : List (List ℕ)) (old new : Option (List ℕ))
       (answer : Result ℕ RunFault) : Type 0 where
     pub fault : CommandFault
@@ -29,40 +39,85 @@ module _ (digest : List ℕ → List ℕ) (keys : List Key) (told left : Option 
     pub reads : Reads words (Err fault)
     pub quiet : Keeps old new
     pub files : left ≡ told
+    pub folders : put ≡ before
 
   -- what the answer of a run says of the words, of the input, and of what was written
   abbrev pub Runs : List (List ℕ) → Option (List ℕ) → Option (List ℕ) → Option (List ℕ) →
       Result ℕ RunFault → Type 0
   Runs words input old new answer = Refuses words old new answer ⊎ Obeys words input old new answer
 
--- the command that the words name has a file of keys
-abbrev pub NamesKeys : List (List ℕ) → Type 0
-NamesKeys words = (name : List ℕ) × HasKeys words name
+-- ---- the key file
 
--- what a fault at the keys says of the words
-abbrev pub FailsAtKeys : List (List ℕ) → RunFault → Type 0
-FailsAtKeys words (Command fault) = Reads words (Err fault)
-FailsAtKeys words (KeyFile fault) = NamesKeys words
-FailsAtKeys words (KeyLines fault) = Unit {0}
-FailsAtKeys words other = ⊥
+-- the key of a line of a key file
+abbrev pub key_of : KeyLine → Key
+key_of (Hmac key) = secret_key key
+key_of (Pin texts) = pinned_key texts
 
--- what each answer of the finder of the keys says of the words
-abbrev pub FindsKeys : {T : Type 0} → List (List ℕ) → Result T RunFault → Type 0
-FindsKeys words (Ok x) = Unit {0}
-FindsKeys words (Err fault) = FailsAtKeys words fault
+-- the keys of a reader of key files that failed
+abbrev pub no_lines : KeyFileFault → Result (List KeyLine) KeyFileFault
+no_lines fault = Err fault
 
--- no keys were found: this is the answer, and nothing was written
-pub record LacksKeys
-    (words : List (List ℕ)) (old new : Option (List ℕ)) (answer : Result ℕ RunFault) : Type 0 where
-  pub fault : RunFault
-  pub answer_is : answer ≡ Err fault
-  pub finds : FailsAtKeys words fault
-  pub quiet : Keeps old new
+-- the bytes of a file that was not read
+abbrev pub no_bytes : NamedFault → Result (List ℕ) NamedFault
+no_bytes fault = Err fault
 
--- what the answer of a run that begins with the file of keys says: no keys were found, or the run
--- is one under these keys, over the files of the system, which are not told
-abbrev pub RunsKeyed : (List ℕ → List ℕ) → List (List ℕ) → Option (List ℕ) → Option (List ℕ) →
-    Option (List ℕ) → Result ℕ RunFault → Type 0
-RunsKeyed digest words input old new answer =
-    LacksKeys words old new answer
-    ⊎ ((keys : List Key) × Runs digest keys None None words input old new answer)
+module _ (told : Option (List NamedFile)) (words : List (List ℕ)) where
+  -- the command that the words name has a key file, which has these bytes as far as files are told
+  pub record NamesKeys (bytes : List ℕ) : Type 0 where
+    pub name : List ℕ
+    pub has : HasKeys words name
+    pub tells : TellsFile told name bytes
+
+  -- the command that the words name has a key file, which is not read, as the fault says
+  pub record LacksKeyFile (fault : NamedFault) : Type 0 where
+    pub name : List ℕ
+    pub has : HasKeys words name
+    pub reads : ReadsShort told name (no_bytes fault)
+
+  -- the bytes of the key file that the words name, or none where the command has no keys
+  abbrev pub AreKeyBytes : List ℕ → Type 0
+  AreKeyBytes bytes = NamesKeys bytes ⊎ (HasNoKeys words × (bytes ≡ []))
+
+  -- the bytes of the key file are no lines of keys, as the fault says
+  pub record LacksKeyLines (fault : KeyFileFault) : Type 0 where
+    pub bytes : List ℕ
+    pub are_bytes : AreKeyBytes bytes
+    pub reads : ReadsKeys bytes (no_lines fault)
+
+  -- what a fault at the keys says of the words, and of their key file
+  abbrev pub FailsAtKeys : RunFault → Type 0
+  FailsAtKeys (Command fault) = Reads words (Err fault)
+  FailsAtKeys (KeyFile fault) = LacksKeyFile fault
+  FailsAtKeys (KeyLines fault) = LacksKeyLines fault
+  FailsAtKeys other = ⊥
+
+  -- what each answer of the finder of the keys' bytes says
+  abbrev pub FindsKeys : Result (List ℕ) RunFault → Type 0
+  FindsKeys (Ok bytes) = AreKeyBytes bytes
+  FindsKeys (Err fault) = FailsAtKeys fault
+
+module _ (digest : List ℕ → List ℕ) (told left : Option (List NamedFile))
+    (held : List ℕ → Option (List Put)) (before put : Option (List Put)) (words : List (List ℕ))
+    (input old new : Option (List ℕ)) (answer : Result ℕ RunFault) where
+  -- no keys were found: this is the answer, nothing was written, and no file was changed
+  pub record LacksKeys : Type 0 where
+    pub fault : RunFault
+    pub answer_is : answer ≡ Err fault
+    pub finds : FailsAtKeys told words fault
+    pub quiet : Keeps old new
+    pub files : left ≡ told
+    pub folders : put ≡ before
+
+  -- the run is one under the keys of the key file's lines, in their order
+  pub record RunsUnder : Type 0 where
+    pub bytes : List ℕ
+    pub lines : List KeyLine
+    pub are_bytes : AreKeyBytes told words bytes
+    pub are_lines : IsKeyFile bytes lines
+    pub runs :
+        Runs digest (map key_of lines) bytes told left held before put words input old new answer
+
+  -- what the answer of a run that begins with the key file says: no keys were found, or the run is
+  -- one under its keys
+  abbrev pub RunsKeyed : Type 0
+  RunsKeyed = LacksKeys ⊎ RunsUnder

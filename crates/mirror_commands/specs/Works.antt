@@ -10,10 +10,8 @@ use Rattle.state_commands.specs.Questions.{AnswersQuestion}
 use Rattle.state_commands.specs.declared.question.Question.{Question}
 use Rattle.state_commands.specs.declared.fault.AskFault.TheVariants as ask
 use Rattle.file_commands.specs.States.{OpensFile}
-use Rattle.stream_commands.specs.Entries.{ReadsEntries}
-use Rattle.stream_commands.specs.declared.entries.EntriesFault.{EntriesFault}
 use Rattle.mirror_commands.specs.declared.fault.WorkFault.{WorkFault}
-use Rattle.mirror_commands.specs.declared.fault.WorkFault.TheVariants.{State, Ask, Entries}
+use Rattle.mirror_commands.specs.declared.fault.WorkFault.TheVariants.{State, Ask}
 use Rattle.mirror_commands.specs.declared.fault.TellFault.{TellFault}
 
 -- the exit status is one of a command that was done: 0, or 3 for a no
@@ -52,16 +50,3 @@ abbrev pub TellsPort : {T : Type 0} → ℕ → Option (List ℕ) → Option (Li
     Type 0
 TellsPort port old new (Ok x) = Appends old new (listening_text port)
 TellsPort port old new (Err fault) = AppendsPrefix old new (listening_text port)
-
--- ---- build
-
--- the answer of a reader of entries that failed
-abbrev pub no_entries : EntriesFault → Result (List (List ℕ)) EntriesFault
-no_entries fault = Err fault
-
--- what each answer of `build` says of its input: it was read as entries; or it was not, and why; or
--- the log could not be built for another reason
-abbrev pub BuildsFrom : {T : Type 0} → List ℕ → Result T WorkFault → Type 0
-BuildsFrom input (Ok x) = (entries : List (List ℕ)) × ReadsEntries input (Ok entries)
-BuildsFrom input (Err (Entries fault)) = ReadsEntries input (no_entries fault)
-BuildsFrom input (Err other) = Unit {0}

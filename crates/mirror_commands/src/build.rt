@@ -1,15 +1,15 @@
 //! The command `build`: a log of the entries on standard input.
-ghost use Rattle.std.specs.Prelude.{IfSome};
-ghost use Rattle.mirror_commands.specs.Works.{BuildsFrom};
+ghost use Rattle.std.specs.Prelude.{map};
+ghost use Rattle.sha2.specs.Sha256.{sha256};
+ghost use Rattle.mirror_commands.specs.Builds.{BuildsFrom};
 
 use crate::fault::WorkFault;
 use command_line::Build;
-use mirror_folders::DirShelf;
+use file_commands::NamedFolders;
 use mirror_updates::{build_log, signing_key};
 use signed_note::{Verifier, read_keys};
 use state_commands::check_origin;
 use std::alloc::Global;
-use std::fs::Files;
 use std::io::Read;
 use stream_commands::read_entries;
 use tlog_hash::Sha256Tree;
@@ -20,15 +20,15 @@ use tlog_hash::Sha256Tree;
 /// # Errors
 ///
 /// In this order: `NoSigningKey`, `BadOrigin`, those of `read_entries`, and those of the folder.
-pub(crate) fn run_build<R: Files, I: Read>(
-    rt: &R,
+pub(crate) fn run_build<D: NamedFolders, I: Read>(
+    folders: &mut D,
     alloc: Global,
     build: &Build<'_>,
     key_bytes: &[u8],
     keys: &[Box<dyn Verifier>],
     input: &mut I,
 ) -> Result<(), WorkFault>
-    ensures { IfSome (I.remaining input.old) (λ bytes. BuildsFrom bytes result) }
+    ensures { BuildsFrom sha256 build.now.log.origin.now (map (λ k. key k) keys.now) key_bytes.now (D.held folders.old build.now.folder.now) (D.puts folders.old) (D.puts folders.new) (I.remaining input.old) result }
 {
     // The lines of keys were read before, so memory alone can be wanting.
     let Ok(lines) = read_keys(alloc, key_bytes) else {
@@ -46,8 +46,11 @@ pub(crate) fn run_build<R: Files, I: Read>(
         Ok(entries) => entries,
         Err(fault) => return Err(WorkFault::Entries(fault)),
     };
-    let mut shelf = DirShelf::new(rt, alloc, build.folder);
-    match build_log::<Sha256Tree, DirShelf<'_, R>>(alloc, origin, keys, key, entries, &mut shelf) {
+    match folders.open(build.folder) {
+        Ok(()) => {}
+        Err(_) => return Err(WorkFault::OutOfMemory),
+    }
+    match build_log::<Sha256Tree, D>(alloc, origin, keys, key, entries, folders) {
         Ok(()) => Ok(()),
         Err(fault) => Err(WorkFault::Build(fault)),
     }

@@ -1,5 +1,5 @@
 //! The commands over named files, as the words give them: `take`, `merge`, `export` and `notes`.
-ghost use Rattle.std.specs.Prelude.{◌≤◌, ◌∷◌, None, length, map};
+ghost use Rattle.std.specs.Prelude.{◌≤◌, ◌∷◌, length, map};
 ghost use Rattle.sha2.specs.Sha256.{sha256};
 ghost use Rattle.file_commands.specs.Exported.{ExportsFile};
 ghost use Rattle.file_commands.specs.Merges.{LeavesMerged};
@@ -9,13 +9,11 @@ ghost use Rattle.mirror_commands.specs.Named.{AsksItem, TakesWords};
 
 use command_line::{Export, Kind, Merge, Take};
 use file_commands::{
-    ExportFileFault, ItemFiles, MergeFilesFault, NamedFiles, NotesFault, TakeFilesFault,
-    run_export, run_merge, run_notes, run_take,
+    ExportFileFault, ItemFiles, MergeFilesFault, NamedFiles, NamedFolders, NotesFault,
+    TakeFilesFault, run_export, run_merge, run_notes, run_take,
 };
-use mirror_folders::DirShelf;
 use signed_note::Verifier;
 use std::alloc::Global;
-use std::fs::Files;
 use tlog_hash::Sha256Tree;
 
 /// Takes the item into the mirror in the state file, or into one that holds nothing, and writes its state.
@@ -94,23 +92,23 @@ pub(crate) fn merge_words<F: NamedFiles>(
 /// # Errors
 ///
 /// Those of `run_export`.
-pub(crate) fn export_words<R: Files, F: NamedFiles>(
-    rt: &R,
+pub(crate) fn export_words<F: NamedFiles, D: NamedFolders>(
     files: &F,
+    folders: &mut D,
     alloc: Global,
     export: &Export<'_>,
     keys: &[Box<dyn Verifier>],
 ) -> Result<(), ExportFileFault>
-    ensures { ExportsFile sha256 export.now.held.log.origin.now (map (λ k. key k) keys.now) (F.puts files.now) export.now.held.state.now None None result }
+    ensures { ExportsFile sha256 export.now.held.log.origin.now (map (λ k. key k) keys.now) (F.puts files.now) export.now.held.state.now (D.held folders.old export.now.folder.now) (D.puts folders.old) (D.puts folders.new) result }
 {
-    let mut shelf = DirShelf::new(rt, alloc, export.folder);
-    run_export::<Sha256Tree, F, DirShelf<'_, R>>(
+    run_export::<Sha256Tree, F, D>(
         files,
+        folders,
         alloc,
         export.held.log.origin,
         keys,
         export.held.state,
-        &mut shelf,
+        export.folder,
     )
 }
 

@@ -1,5 +1,6 @@
 //! The key file that the words name.
 ghost use Rattle.std.specs.Prelude.{map, string_bytes};
+ghost use Rattle.tlog_text.specs.Answers.{seen};
 ghost use Rattle.mirror_commands.specs.Runs.{FindsKeys};
 
 use crate::fault::RunFault;
@@ -17,7 +18,7 @@ pub(crate) fn key_bytes<F: NamedFiles>(
     alloc: Global,
     words: &[String],
 ) -> Result<Vec<u8>, RunFault>
-    ensures { FindsKeys (map string_bytes words.now) result }
+    ensures { FindsKeys (F.puts files.now) (map string_bytes words.now) (seen (λ bytes. bytes.items) result) }
 {
     match key_file(alloc, words) {
         Ok(Some(name)) => match files.read(name) {

@@ -1,7 +1,10 @@
-//! The work of each command of `tlogmirror`, over standard input and output, and over the files that it is given by name.
+//! The work of each command of `tlogmirror`, over standard input and output, and over the files and folders that it is
+//! given by name.
 //!
 //! ```text
-//! run_command(&rt, &mut files, alloc, &command, &key_bytes, &keys, &mut input, &mut output, &mut errors)? // 0, or 3 for a no
+//! let mut files = SystemFiles::new(&rt, alloc);
+//! let mut folders = SystemFolders::new(&rt, alloc);
+//! run_named(&rt, &mut files, &mut folders, alloc, &words, &mut input, &mut output, &mut errors)? // 0, or 3 for a no
 //! ```
 #![tactic(auto)]
 
@@ -11,6 +14,7 @@ mod ending;
 mod fault;
 mod files;
 mod keys;
+mod laws;
 mod pull;
 mod running;
 mod serve;
@@ -18,6 +22,7 @@ mod work;
 
 pub use ending::{Ending, Said, Stream, carry_out, told};
 pub use fault::{RunFault, TellFault, WorkFault};
-pub use running::{run, run_words};
+pub use laws::signing_key_law;
+pub use running::{run, run_named, run_words};
 pub use serve::answer_one;
 pub use work::run_command;

@@ -1,16 +1,16 @@
 //! One run: the key file, the words, and the command that they ask for.
-ghost use Rattle.std.specs.Prelude.{IfErr, IfOk, map, string_bytes};
+ghost use Rattle.std.specs.Prelude.{IfErr, IfOk, None, map, string_bytes};
 ghost use Rattle.std.specs.Io.KnownBytes.{Keeps};
 ghost use Rattle.sha2.specs.Sha256.{sha256};
 ghost use Rattle.mirror_commands.specs.Done.{IsWriteFault};
 ghost use Rattle.mirror_commands.specs.Works.{IsStatus};
-ghost use Rattle.mirror_commands.specs.Runs.{Runs, RunsKeyed};
+ghost use Rattle.mirror_commands.specs.Runs.{AreKeyBytes, Runs, RunsKeyed};
 
 use crate::fault::RunFault;
 use crate::keys::key_bytes;
 use crate::work::run_command;
 use command_line::read_words;
-use file_commands::{NamedFiles, SystemFiles};
+use file_commands::{NamedFiles, NamedFolders, SystemFiles, SystemFolders};
 use signed_note::{KeyFileFault, KeyLine, Verifier, read_keys};
 use std::alloc::Global;
 use std::fs::Files;
@@ -19,7 +19,7 @@ use std::net::{Net, TcpListener, TcpStream};
 use std::rt::Clock;
 
 /// Does the command that the words ask for, with the keys of the key file that they name, and answers the exit status:
-/// 0 where it is done, 3 where its answer is the other one.
+/// 0 where it is done, 3 where its answer is the other one. The files and folders are those of the system.
 ///
 /// # Errors
 ///
@@ -35,22 +35,61 @@ pub fn run<R, I: Read, O: Write, E: Write>(
 ) -> Result<u8, RunFault>
 where
     R: Files + Clock + Net<Stream = TcpStream, Listener = TcpListener>,
-    ensures answer { RunsKeyed sha256 (map string_bytes words.now) (I.remaining input.old) (O.contents output.old) (O.contents output.new) result }
+    ensures answer { RunsKeyed sha256 None None (λ _. None) None None (map string_bytes words.now) (I.remaining input.old) (O.contents output.old) (O.contents output.new) result }
     ensures status { IfOk result IsStatus }
     ensures quiet { IfErr result (λ fault. (IsWriteFault fault → ⊥) → Keeps (O.contents output.old) (O.contents output.new)) }
 {
     let mut files = SystemFiles::new(rt, alloc);
-    match key_bytes(&files, alloc, words) {
-        Ok(bytes) => run_keyed(rt, &mut files, alloc, words, &bytes, input, output, errors),
+    let mut folders = SystemFolders::new(rt, alloc);
+    run_named(
+        rt,
+        &mut files,
+        &mut folders,
+        alloc,
+        words,
+        input,
+        output,
+        errors,
+    )
+}
+
+/// Does the same over any files and folders that have names; the key file is one of the files.
+///
+/// # Errors
+///
+/// Those of `run`.
+#[allow(clippy::too_many_arguments)]
+pub fn run_named<R, F: NamedFiles, D: NamedFolders, I: Read, O: Write, E: Write>(
+    rt: &R,
+    files: &mut F,
+    folders: &mut D,
+    alloc: Global,
+    words: &[String],
+    input: &mut I,
+    output: &mut O,
+    errors: &mut E,
+) -> Result<u8, RunFault>
+where
+    R: Files + Clock + Net<Stream = TcpStream, Listener = TcpListener>,
+    ensures answer { RunsKeyed sha256 (F.puts files.old) (F.puts files.new) (D.held folders.old) (D.puts folders.old) (D.puts folders.new) (map string_bytes words.now) (I.remaining input.old) (O.contents output.old) (O.contents output.new) result }
+    ensures status { IfOk result IsStatus }
+    ensures quiet { IfErr result (λ fault. (IsWriteFault fault → ⊥) → Keeps (O.contents output.old) (O.contents output.new)) }
+{
+    match key_bytes(files, alloc, words) {
+        Ok(bytes) => run_keyed(
+            rt, files, folders, alloc, words, &bytes, input, output, errors,
+        ),
         Err(fault) => Err(fault),
     }
 }
 
 // Does the same with the bytes of the key file in hand.
+#[tactic(auto, using(crate::proofs::Keyed::lines_lack))]
 #[allow(clippy::too_many_arguments)]
-fn run_keyed<R, I: Read, O: Write, E: Write>(
+fn run_keyed<R, F: NamedFiles, D: NamedFolders, I: Read, O: Write, E: Write>(
     rt: &R,
-    files: &mut SystemFiles<'_, R>,
+    files: &mut F,
+    folders: &mut D,
     alloc: Global,
     words: &[String],
     key_bytes: &[u8],
@@ -60,7 +99,8 @@ fn run_keyed<R, I: Read, O: Write, E: Write>(
 ) -> Result<u8, RunFault>
 where
     R: Files + Clock + Net<Stream = TcpStream, Listener = TcpListener>,
-    ensures answer { RunsKeyed sha256 (map string_bytes words.now) (I.remaining input.old) (O.contents output.old) (O.contents output.new) result }
+    requires { AreKeyBytes (F.puts files.old) (map string_bytes words.now) key_bytes.now }
+    ensures answer { RunsKeyed sha256 (F.puts files.old) (F.puts files.new) (D.held folders.old) (D.puts folders.old) (D.puts folders.new) (map string_bytes words.now) (I.remaining input.old) (O.contents output.old) (O.contents output.new) result }
     ensures status { IfOk result IsStatus }
     ensures quiet { IfErr result (λ fault. (IsWriteFault fault → ⊥) → Keeps (O.contents output.old) (O.contents output.new)) }
 {
@@ -70,22 +110,27 @@ where
     };
     let mut keys: Vec<Box<dyn Verifier>> = Vec::new(alloc);
     for line in lines {
-        let pushed = match line {
-            KeyLine::Hmac(key) => match Box::new(alloc, key) {
-                Ok(key) => keys.push(key).is_ok(),
-                Err(_) => false,
-            },
-            KeyLine::Pin(pins) => match Box::new(alloc, pins) {
-                Ok(pins) => keys.push(pins).is_ok(),
-                Err(_) => false,
-            },
-        };
-        if !pushed {
-            return Err(RunFault::KeyLines(KeyFileFault::OutOfMemory));
+        match line {
+            KeyLine::Hmac(key) => {
+                let Ok(key) = Box::new(alloc, key) else {
+                    return Err(RunFault::KeyLines(KeyFileFault::OutOfMemory));
+                };
+                let Ok(()) = keys.push(key) else {
+                    return Err(RunFault::KeyLines(KeyFileFault::OutOfMemory));
+                };
+            }
+            KeyLine::Pin(texts) => {
+                let Ok(texts) = Box::new(alloc, texts) else {
+                    return Err(RunFault::KeyLines(KeyFileFault::OutOfMemory));
+                };
+                let Ok(()) = keys.push(texts) else {
+                    return Err(RunFault::KeyLines(KeyFileFault::OutOfMemory));
+                };
+            }
         }
     }
     run_words(
-        rt, files, alloc, words, key_bytes, &keys, input, output, errors,
+        rt, files, folders, alloc, words, key_bytes, &keys, input, output, errors,
     )
 }
 
@@ -97,9 +142,10 @@ where
 /// `Command` where the words ask for no command; the others are those of the command's own call.
 #[tactic(auto, using(crate::proofs::Doable::asked_doable))]
 #[allow(clippy::too_many_arguments)]
-pub fn run_words<R, F: NamedFiles, I: Read, O: Write, E: Write>(
+pub fn run_words<R, F: NamedFiles, D: NamedFolders, I: Read, O: Write, E: Write>(
     rt: &R,
     files: &mut F,
+    folders: &mut D,
     alloc: Global,
     words: &[String],
     key_bytes: &[u8],
@@ -110,13 +156,13 @@ pub fn run_words<R, F: NamedFiles, I: Read, O: Write, E: Write>(
 ) -> Result<u8, RunFault>
 where
     R: Files + Clock + Net<Stream = TcpStream, Listener = TcpListener>,
-    ensures answer { Runs sha256 (map (λ k. key k) keys.now) (F.puts files.old) (F.puts files.new) (map string_bytes words.now) (I.remaining input.old) (O.contents output.old) (O.contents output.new) result }
+    ensures answer { Runs sha256 (map (λ k. key k) keys.now) key_bytes.now (F.puts files.old) (F.puts files.new) (D.held folders.old) (D.puts folders.old) (D.puts folders.new) (map string_bytes words.now) (I.remaining input.old) (O.contents output.old) (O.contents output.new) result }
     ensures status { IfOk result IsStatus }
     ensures quiet { IfErr result (λ fault. (IsWriteFault fault → ⊥) → Keeps (O.contents output.old) (O.contents output.new)) }
 {
     match read_words(alloc, words) {
         Ok(command) => run_command(
-            rt, files, alloc, &command, key_bytes, keys, input, output, errors,
+            rt, files, folders, alloc, &command, key_bytes, keys, input, output, errors,
         ),
         Err(fault) => Err(RunFault::Command(fault)),
     }

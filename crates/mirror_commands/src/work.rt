@@ -2,7 +2,7 @@
 ghost use Rattle.std.specs.Prelude.{IfErr, IfOk, map};
 ghost use Rattle.std.specs.Io.KnownBytes.{Keeps};
 ghost use Rattle.sha2.specs.Sha256.{sha256};
-ghost use Rattle.mirror_commands.specs.Done.{Does, IsDoable, IsWriteFault, LeavesFiles};
+ghost use Rattle.mirror_commands.specs.Done.{Does, IsDoable, IsWriteFault, LeavesFiles, LeavesFolders};
 ghost use Rattle.mirror_commands.specs.Works.{IsStatus};
 
 use crate::ask::run_ask;
@@ -12,7 +12,7 @@ use crate::files::{export_words, merge_words, notes_words, take_words};
 use crate::pull::run_pull;
 use crate::serve::run_serve;
 use command_line::Command;
-use file_commands::NamedFiles;
+use file_commands::{NamedFiles, NamedFolders};
 use signed_note::Verifier;
 use state_commands::Question;
 use std::alloc::Global;
@@ -29,9 +29,10 @@ use tlog_hash::Sha256Tree;
 ///
 /// Those of the command's own call, under its name.
 #[allow(clippy::too_many_arguments)]
-pub fn run_command<R, F: NamedFiles, I: Read, O: Write, E: Write>(
+pub fn run_command<R, F: NamedFiles, D: NamedFolders, I: Read, O: Write, E: Write>(
     rt: &R,
     files: &mut F,
+    folders: &mut D,
     alloc: Global,
     command: &Command<'_>,
     key_bytes: &[u8],
@@ -43,8 +44,9 @@ pub fn run_command<R, F: NamedFiles, I: Read, O: Write, E: Write>(
 where
     R: Files + Clock + Net<Stream = TcpStream, Listener = TcpListener>,
     requires { IsDoable command.now }
-    ensures answer { Does sha256 (map (λ k. key k) keys.now) (F.puts files.old) (F.puts files.new) command.now (I.remaining input.old) (O.contents output.old) (O.contents output.new) result }
+    ensures answer { Does sha256 (map (λ k. key k) keys.now) key_bytes.now (F.puts files.old) (F.puts files.new) (D.held folders.old) (D.puts folders.old) (D.puts folders.new) command.now (I.remaining input.old) (O.contents output.old) (O.contents output.new) result }
     ensures files { LeavesFiles command.now (F.puts files.old) (F.puts files.new) }
+    ensures folders { LeavesFolders command.now (D.puts folders.old) (D.puts folders.new) }
     ensures status { IfOk result IsStatus }
     ensures quiet { IfErr result (λ fault. (IsWriteFault fault → ⊥) → Keeps (O.contents output.old) (O.contents output.new)) }
 {
@@ -60,7 +62,7 @@ where
             Ok(false) => Ok(3),
             Err(fault) => Err(RunFault::Check(fault)),
         },
-        Command::Build(build) => match run_build(rt, alloc, build, key_bytes, keys, input) {
+        Command::Build(build) => match run_build(folders, alloc, build, key_bytes, keys, input) {
             Ok(()) => Ok(0),
             Err(fault) => Err(RunFault::Build(fault)),
         },
@@ -103,7 +105,7 @@ where
                 Err(fault) => Err(RunFault::Prove(fault)),
             }
         }
-        Command::Export(export) => match export_words(rt, files, alloc, export, keys) {
+        Command::Export(export) => match export_words(files, folders, alloc, export, keys) {
             Ok(()) => Ok(0),
             Err(fault) => Err(RunFault::Export(fault)),
         },

@@ -3,7 +3,7 @@ use Rattle.file_commands.proofs.export.run_export.Goals as goal
 pub returns-in-Ok-export-clause-answer : goal.returns-in-Ok-export-clause-answer
 returns-in-Ok-export-clause-answer g c =
     let done = c.in-Ok-export.ensures in
-    record {
+    rw (← c.in-Ok-open.ensures.opened) record {
       view = c.in-Ok.mirror.view;
       opened = c.in-Ok.ensures;
       puts = done.puts;
@@ -14,7 +14,7 @@ returns-in-Ok-export-clause-answer g c =
 pub returns-clause-answer : goal.returns-clause-answer
 returns-clause-answer g c =
     let failed = c.in-Err-export.ensures in
-    record {
+    rw (← c.in-Ok-open.ensures.opened) record {
       view = c.in-Ok.mirror.view;
       opened = c.in-Ok.ensures;
       puts = failed.puts;
