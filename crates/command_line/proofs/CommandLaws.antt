@@ -1,6 +1,6 @@
 -- What the command line says of some words, and of all.
 use Rattle.std.proofs.Common.{◌≡◌, ◌∙◌, Bool, true, false, cond, ap, sym, subst, inl, inr, refl, ℕ, List, [], ◌∷◌, map}
-use Rattle.std.proofs.Common.{Option, Some, None, is_some, codes, lit<, lit≤, arith, option_map, unwrap_or, true≢false}
+use Rattle.std.proofs.Common.{Option, Some, None, is_some, codes, lit<, lit≤, option_map, unwrap_or, true≢false}
 use Rattle.std.specs.Prelude.{find}
 use Rattle.clap.specs.Words.{Kinds, Row, Shape, Text, subcommand_of}
 use Rattle.clap.specs.Kinds.{or_else}
@@ -11,9 +11,8 @@ use Rattle.clap.specs.declared.error.kind.ErrorKind.TheVariants as kind
 use Rattle.clap.proofs.OnLiterals.{clap_on_literals}
 use Rattle.tlog_text.proofs.Decimals.{decimal_here}
 use Rattle.command_line.specs.App.{mirror_app}
-use Rattle.command_line.specs.Commands.{Asks, Calls, IsNumberIn, Says, faults, name_of}
+use Rattle.command_line.specs.Commands.{Asks, IsNumberIn, Says, faults, name_of}
 use Rattle.command_line.specs.Laws.{IsOneOf, LawfulWordsName, WordsAskForOneName, command_names}
-use Rattle.command_line.specs.declared.command.Command.{Command}
 use Rattle.command_line.specs.declared.command.Command.TheVariants.{Root, Check}
 
 abbrev pub root_words : Text → List Text

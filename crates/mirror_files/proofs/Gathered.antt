@@ -1,5 +1,5 @@
 -- The strings of a store that have one tag, gathered and put in order.
-use Rattle.std.proofs.Common.{◌≡◌, ◌⊎◌, inl, inr, ℕ, zero, suc, ◌+◌, ◌<◌, ◌≤◌, take, get_or, Option, Some, None, List}
+use Rattle.std.proofs.Common.{◌≡◌, ◌⊎◌, inl, inr, ℕ, zero, suc, ◌+◌, ◌≤◌, take, get_or, Some, None, List}
 use Rattle.std.proofs.Common.{[], ◌∷◌, ◌++◌, length, map, All, Bool, true, refl, sym, ap, subst, ◌∙◌, arith, nat_eq}
 use Rattle.std.specs.Prelude.{◌↔◌, ◌&&◌}
 use Rattle.std.specs.Borrow.{Bor}
@@ -12,7 +12,7 @@ use Rattle.mirror_model.specs.View.{View}
 use Rattle.tlog_mirror.specs.NoteLists.{IsNoteAt}
 use Rattle.std.specs.FinSet.{from_list}
 use Rattle.std.specs.List.{Contains, AllByRecursion, dedup}
-use Rattle.std.specs.List.Sorted.{IsPermutation, IsSorted, IsStrictlySortedBy}
+use Rattle.std.specs.List.Sorted.{IsPermutation, IsStrictlySortedBy}
 use Rattle.std.specs.Ordering.{nat_cmp, ordering_then, eq_by_cmp}
 use Rattle.std.specs.declared.cmp.Ordering.{Ordering}
 use Rattle.std.specs.declared.cmp.Ordering.TheVariants.{Less, Equal, Greater}
@@ -20,9 +20,8 @@ use Rattle.std.specs.Cmp.{IsTotalOrder, IsEquivalence, eq_by_cmp_equiv, unsigned
 use Rattle.std.specs.Cmp.{then_total}
 use Rattle.std.specs.Cmp.Lexicographic.{slice_cmp, pointwise, lists_ties, on_texts}
 use Rattle.std.proofs.lemmas.List.Elements.{Contains-append_left, Contains-append_right, Contains-append_cases}
-use Rattle.std.proofs.lemmas.List.Elements.{All-from_recursion, recursion_from_All}
-use Rattle.std.proofs.lemmas.List.Filters.{All-dedup}
-use Rattle.std.proofs.lemmas.List.Kept.{IsStrictlySortedBy-dedup, Any-dedup, Contains-from_dedup}
+use Rattle.std.proofs.lemmas.List.Elements.{recursion_from_All}
+use Rattle.std.proofs.lemmas.List.Kept.{Any-dedup, Contains-from_dedup}
 use Rattle.std.proofs.lemmas.List.Sorted.{Contains-permutation, IsPermutation-sym}
 use Rattle.node_store.specs.Strings.{Strings, Has}
 use Rattle.mirror_model.proofs.StringSets.{listed_from_has, has_from_listed}

@@ -7,7 +7,7 @@ use Rattle.std.proofs.lemmas.List.{length-map, get_or-map}
 use Rattle.std.proofs.lemmas.List.Elements.{All-contains, All-nil, All-contains_itself, All-weaker}
 use Rattle.std.proofs.lemmas.List.Elements.{Contains-append_left, Contains-append_right, Contains-append_cases}
 use Rattle.signed_note.specs.Keys.{Key}
-use Rattle.node_store.specs.Strings.{Strings, Has, AllTagged, NoClash, IsTagged}
+use Rattle.node_store.specs.Strings.{Has, AllTagged, NoClash, IsTagged}
 use Rattle.node_store.specs.Strings as string
 use Rattle.mirror_model.specs.View.{View}
 use Rattle.mirror_model.specs.Complete.{HasEdge}

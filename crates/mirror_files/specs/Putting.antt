@@ -1,6 +1,6 @@
 -- How a text is put together on its way to a writer. The contracts of private functions cite these
 -- words; what a saver answers needs none of them.
-use Rattle.std.specs.Prelude.{◌≡◌, ℕ, List, ◌++◌, length, Option, Result, Ok, Err, OnOk, OnErr}
+use Rattle.std.specs.Prelude.{◌≡◌, ℕ, List, ◌++◌, length, Option, Result, Ok, Err, OnOk}
 use Rattle.std.specs.Io.KnownBytes.{Appends}
 use Rattle.std.specs.Borrow.{Bor}
 use Rattle.sha2.specs.Sha256.{sha256}

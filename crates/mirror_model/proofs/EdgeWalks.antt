@@ -21,7 +21,7 @@ use Rattle.tlog_hash.proofs.Cuts.{cut_induction, IsSplit}
 use Rattle.tlog_hash.proofs.Folds.{length-ranges, joined_ranges, all_ranges, cut_full}
 use Rattle.tlog_hash.proofs.NodeStrings.{size_of-tree, to_joins}
 use Rattle.tlog_hash.proofs.PairStrings.{left_is, right_is}
-use Rattle.tlog_hash.proofs.Trees.{tree_of-none, tree_of-append, fold_of-one, fold_of-join, fold_of-append, all-append}
+use Rattle.tlog_hash.proofs.Trees.{tree_of-none, tree_of-append, fold_of-one, fold_of-append, all-append}
 use Rattle.tlog_hash.proofs.Trees.{all-left, all-right}
 use Rattle.node_store.specs.Strings.{Strings, Has, NoClash}
 use Rattle.mirror_model.specs.Edge.{edge_levels, edge_widths, edge_root, root_from, edge_strings, strings_from}

@@ -10,7 +10,7 @@ use Rattle.tlog_shape.specs.Split.{split_of}
 use Rattle.tlog_shape.proofs.Splits.{split_of-below}
 use Rattle.tlog_hash.specs.Tree.{Join, tree_of, root, fold_of, joins, strings}
 use Rattle.tlog_hash.specs.Nodes.{IsJoin}
-use Rattle.tlog_hash.proofs.Trees.{tree_of-none, tree_of-append, induction, fold_of-one, fold_of-join, fold_of-append}
+use Rattle.tlog_hash.proofs.Trees.{tree_of-append, induction, fold_of-one, fold_of-append}
 use Rattle.tlog_hash.proofs.Trees.{all-append, all-left, all-right}
 use Rattle.tlog_hash.proofs.NodeStrings.{to_joins}
 use Rattle.tlog_hash.proofs.PairStrings.{left_is, right_is}

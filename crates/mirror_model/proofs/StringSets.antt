@@ -1,8 +1,6 @@
 -- Sets of strings: what they have, and when two are one.
-use Rattle.std.proofs.Common.{◌≡◌, ℕ, List, [], ◌∷◌, Bool, true, false, sym, refl, ap, ◌∙◌, ◌⊎◌, inl, inr}
-use Rattle.std.specs.Prelude.{◌||◌, ◌≢◌}
-use Rattle.std.specs.Ordering.{nat_cmp, eq_by_cmp, is_eq}
-use Rattle.std.specs.Cmp.{tied_itself}
+use Rattle.std.proofs.Common.{◌≡◌, ℕ, List, [], ◌∷◌, Bool, true, false, sym, refl, ◌∙◌, ◌⊎◌, inl, inr}
+use Rattle.std.specs.Ordering.{nat_cmp, eq_by_cmp}
 use Rattle.std.specs.Cmp.Lexicographic.{slice_cmp, nat_list_cmp_total}
 use Rattle.std.specs.List.{Contains, AllByRecursion, list_any}
 use Rattle.std.specs.FinSet as set
@@ -12,7 +10,7 @@ use Rattle.std.proofs.lemmas.List.Elements.{All-contains, All-from_recursion, re
 use Rattle.std.proofs.lemmas.List.Elements.{All-contains_itself, All-nil, All-cons}
 use Rattle.std.proofs.lemmas.Map.Lookups.{exact_bytes}
 use Rattle.std.proofs.lemmas.Map.Views.{tells_apart, Contains-from_any}
-use Rattle.node_store.proofs.Sets.{or_left, or_right, tied, decide}
+use Rattle.node_store.proofs.Sets.{or_left, or_right, tied}
 pub use Rattle.node_store.proofs.Sets.{Has-union_cases as has_cases, Has-empty as has_empty, same_strings}
 pub use Rattle.node_store.proofs.Sets.{Has-union_left as has_left, Has-union_right as has_right}
 use Rattle.node_store.specs.Strings.{Strings, Has, HasAll, NoClash, ClashesWith}

@@ -1,8 +1,7 @@
 -- A pull from an honest source up to its rounds: the note that is read is the log's, and so are its head and its edge.
-use Rattle.std.proofs.Common.{◌≡◌, ℕ, ◌<◌, ◌^◌, List, [], ◌∷◌, ◌++◌, length, take, Option, Some, Contains, ◌∙◌}
+use Rattle.std.proofs.Common.{◌≡◌, ℕ, ◌<◌, ◌^◌, List, [], ◌∷◌, ◌++◌, take, Option, Some, Contains, ◌∙◌}
 use Rattle.signed_note.specs.Keys.{Key}
 use Rattle.tlog_checkpoint.specs.declared.Checkpoint.{Checkpoint}
-use Rattle.tlog_hash.specs.Tree.{mth}
 use Rattle.tlog_tiles.specs.declared.paths.Path.{Path}
 use Rattle.tlog_tiles.specs.declared.paths.Path.TheVariants.{Checkpoint as Root}
 use Rattle.tlog_tiles.specs.Edge.{edge_of}

@@ -1,15 +1,14 @@
 -- A pull from an honest source, from its checkpoint to its outcome.
-use Rattle.std.proofs.Common.{◌≡◌, ◌≢◌, ◌⊎◌, ℕ, zero, suc, ◌+◌, ◌*◌, ◌^◌, ◌<◌, ◌≤◌, List, [], ◌∷◌, ◌++◌, length, get_or}
-use Rattle.std.proofs.Common.{map, take, arith, length-take, length-append, append_assoc, ◌↔◌, Contains, AllPairs}
-use Rattle.std.proofs.Common.{Option, Some, None, Result, Ok, Err, Bool, true, false, IsTrue, refl, sym, ◌∙◌, ap, subst}
+use Rattle.std.proofs.Common.{◌≡◌, ◌≢◌, ◌⊎◌, ℕ, zero, suc, ◌*◌, ◌^◌, ◌<◌, ◌≤◌, List, [], ◌∷◌, ◌++◌, length, get_or}
+use Rattle.std.proofs.Common.{map, take, arith, length-take, length-append, ◌↔◌, Contains}
+use Rattle.std.proofs.Common.{Option, Some, None, Err, Bool, refl, sym, ◌∙◌, ap, subst}
 use Rattle.std.proofs.Common.{inl, inr}
-use Rattle.std.specs.Prelude.{max, MatchResult}
-use Rattle.std.specs.FinSet as set
+use Rattle.std.specs.Prelude.{max}
 use Rattle.std.proofs.lemmas.List.{append-nil}
 use Rattle.std.proofs.lemmas.List.Elements.{Contains-get_or, Contains-append_cases}
 use Rattle.signed_note.specs.Keys.{Key}
 use Rattle.tlog_shape.specs.Edge.{width_of, edge_index_of, IsTop}
-use Rattle.tlog_hash.specs.Tree.{mth, strings, tree_of, tree_within}
+use Rattle.tlog_hash.specs.Tree.{mth, tree_of, tree_within}
 use Rattle.tlog_hash.specs.Nodes.{Node}
 use Rattle.tlog_tiles.specs.declared.paths.Path.{Path}
 use Rattle.tlog_tiles.specs.declared.paths.Path.TheVariants.{Checkpoint, Tile, Entries}
@@ -17,17 +16,16 @@ use Rattle.tlog_tiles.specs.Edge.{edge_of}
 use Rattle.tlog_tiles.specs.Row.{row_text}
 use Rattle.tlog_tiles.specs.Tiles.{IsWithin, IsEdgeTile}
 use Rattle.tlog_tiles.proofs.EdgeLemmas.{edge_is}
-use Rattle.node_store.specs.Strings.{Strings, Has, HasAll, NoClash}
-use Rattle.mirror_model.specs.View.{View, IsSubview}
+use Rattle.node_store.specs.Strings.{Strings, Has, HasAll}
+use Rattle.mirror_model.specs.View.{View}
 use Rattle.mirror_model.specs.Strings.{IsDigest}
 use Rattle.mirror_model.specs.Edge.{edge_levels, edge_row, edge_rows, edge_strings}
 use Rattle.mirror_model.specs.Front.{InFront}
-use Rattle.mirror_model.specs.Heads.{IsHead, IsOpenHead, HasHead}
-use Rattle.mirror_model.specs.Rounds.{true_strings}
+use Rattle.mirror_model.specs.Heads.{HasHead}
 use Rattle.mirror_model.specs.TrueLaws.{IsWidest, edge_bytes}
 use Rattle.mirror_model.specs.Complete.{IsComplete}
 use Rattle.mirror_model.specs.declared.items.Item.TheVariants as item
-use Rattle.mirror_model.specs.Item.{row_of, strings_of, plus, IsGoodHead}
+use Rattle.mirror_model.specs.Item.{strings_of, plus, IsGoodHead}
 use Rattle.mirror_model.proofs.StringSets.{clash_contradicts, held_from_holds}
 use Rattle.mirror_model.proofs.TrueItems.{edges_are_true, edge_is_of_paths, prefixes_serve_same}
 use Rattle.mirror_model.proofs.EdgeStrings.{edge_strings_within}
@@ -35,12 +33,12 @@ use Rattle.mirror_model.proofs.Fetching.{plus_holds}
 use Rattle.log_sources.specs.Files.{full_of}
 use Rattle.log_sources.specs.Source.{StaysWithin}
 use Rattle.log_sources.specs.Told.{AddsTold}
-use Rattle.log_sources.specs.Honest.{IsHonest, Gets, true_bytes}
-use Rattle.mirror_pull.specs.Asking.{IsFresh, AreFresh, AddsTo, AddsEach, AsksInParts}
+use Rattle.log_sources.specs.Honest.{IsHonest, true_bytes}
+use Rattle.mirror_pull.specs.Asking.{AreFresh, AddsTo, AddsEach, AsksInParts}
 use Rattle.mirror_pull.specs.Taking.{TakesHead, GainsStrings}
 use Rattle.mirror_pull.specs.Honest.{NoClashAmong, AreFrontRounds, with_head, HonestGets, HonestOutcome}
 use Rattle.mirror_pull.specs.declared.pulling.Pulled.{Pulled}
-use Rattle.mirror_pull.specs.Parts.{IsTrueSource, AreTrueRows, MayWork, HasWorked, GetsAll, IsOutside}
+use Rattle.mirror_pull.specs.Parts.{IsTrueSource, MayWork, HasWorked, GetsAll, IsOutside}
 use Rattle.mirror_pull.specs.declared.fault.PullFault.{PullFault}
 use Rattle.mirror_pull.specs.declared.fault.PullFault.TheVariants.{NoCheckpoint, NoEdge, Head, Source, Collision}
 use Rattle.mirror_pull.specs.declared.fault.PullFault.TheVariants.{OutOfMemory}

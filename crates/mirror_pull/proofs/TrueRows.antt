@@ -1,8 +1,6 @@
 -- The rows of an edge, from an honest source.
 use Rattle.std.proofs.Common.{◌≡◌, ◌≢◌, ℕ, ◌+◌, ◌*◌, ◌≤◌, List, [], ◌∷◌, ◌++◌, length, map, take, arith, Contains}
 use Rattle.std.proofs.Common.{Option, Some, None, refl, sym, ◌∙◌, ap, subst, append_assoc}
-use Rattle.std.specs.Prelude.{option_map}
-use Rattle.std.proofs.Common.{Vec, Global}
 use Rattle.tlog_tiles.specs.declared.paths.Path.{Path}
 use Rattle.tlog_tiles.specs.declared.paths.Path.TheVariants.{Checkpoint, Tile, Entries}
 use Rattle.tlog_tiles.specs.Edge.{edge_of}
@@ -15,8 +13,8 @@ use Rattle.mirror_model.proofs.TrueItems.{tiles_are_true}
 use Rattle.mirror_model.proofs.Fetching.{full_tiles_begin}
 use Rattle.log_sources.specs.Files.{full_of, width_named}
 use Rattle.log_sources.specs.Source.{StaysWithin}
-use Rattle.log_sources.specs.Honest.{IsGone, Gets, GetsNone, GetsFound, GetsFull, true_bytes}
-use Rattle.mirror_pull.specs.Asking.{IsFresh, AreFresh, AsksEach, AsksNone, AsksOne, AsksTwo, AddsEach}
+use Rattle.log_sources.specs.Honest.{IsGone, GetsNone, GetsFound, GetsFull, true_bytes}
+use Rattle.mirror_pull.specs.Asking.{IsFresh, AreFresh, AsksNone, AsksOne, AsksTwo, AddsEach}
 use Rattle.mirror_pull.specs.Parts.{GetsAll, IsTilePath, IsTrueSource, IsTrueRow, AreTrueRows}
 use Rattle.mirror_pull.proofs.Freshness.{full_unasked, fresh_next, take_one, adds_of_gets, gets_none, gets_all_then}
 

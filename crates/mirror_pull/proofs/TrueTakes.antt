@@ -1,5 +1,5 @@
 -- Tiles and bundles from an honest source, taken.
-use Rattle.std.proofs.Common.{◌≡◌, ◌⊎◌, ℕ, zero, suc, ◌+◌, ◌-◌, ◌*◌, ◌^◌, ◌<◌, ◌≤◌, min, List, [], ◌∷◌, ◌++◌, length}
+use Rattle.std.proofs.Common.{◌≡◌, ◌⊎◌, ℕ, suc, ◌+◌, ◌-◌, ◌*◌, ◌^◌, ◌<◌, ◌≤◌, min, List, [], ◌∷◌, ◌++◌, length}
 use Rattle.std.proofs.Common.{take, arith, length-take, Contains, Option, Some, None, Result, Ok, Err, Bool, true}
 use Rattle.std.proofs.Common.{false, refl, sym, ◌∙◌, ap, subst, inl, inr}
 use Rattle.std.specs.Prelude.{MatchResult}
@@ -11,15 +11,14 @@ use Rattle.tlog_hash.specs.Tree.{strings}
 use Rattle.tlog_tiles.specs.declared.paths.Path.{Path}
 use Rattle.tlog_tiles.specs.declared.paths.Path.TheVariants.{Checkpoint, Tile, Entries}
 use Rattle.tlog_tiles.specs.Tiles.{tile_bytes, bundle_bytes, IsWithin}
-use Rattle.node_store.specs.Strings.{Strings, Has, NoClash}
+use Rattle.node_store.specs.Strings.{Has, NoClash}
 use Rattle.mirror_model.specs.View.{View}
 use Rattle.mirror_model.specs.Strings.{IsDigest}
-use Rattle.mirror_model.specs.Rounds.{true_strings}
 use Rattle.mirror_model.specs.TrueLaws.{AreShort, IsWidest}
 use Rattle.mirror_model.specs.declared.items.Item.{Item}
 use Rattle.mirror_model.specs.declared.items.Item.TheVariants as item
 use Rattle.mirror_model.specs.Item.{IsGood, strings_of, plus}
-use Rattle.mirror_model.proofs.StringSets.{has_left, has_right, has_cases, has_from_listed, listed_from_has}
+use Rattle.mirror_model.proofs.StringSets.{has_left, has_right, has_cases, has_from_listed}
 use Rattle.mirror_model.proofs.StringSets.{no_clash_within, clash_contradicts}
 use Rattle.mirror_model.proofs.TrueItems.{prefixes_serve_same, tiles_are_true, bundles_are_true, true_strings_within}
 use Rattle.mirror_model.proofs.Fetching.{plus_holds}

@@ -1,14 +1,12 @@
 -- The rounds of a pull from an honest source.
-use Rattle.std.proofs.Common.{◌≡◌, ◌≢◌, ◌⊎◌, ℕ, zero, suc, ◌+◌, ◌^◌, ◌<◌, ◌≤◌, List, [], ◌∷◌, ◌++◌, length, get_or}
+use Rattle.std.proofs.Common.{◌≡◌, ◌⊎◌, ℕ, ◌+◌, ◌^◌, ◌<◌, ◌≤◌, List, [], ◌∷◌, ◌++◌, length, get_or}
 use Rattle.std.proofs.Common.{take, arith, length-take, length-append, append_assoc, Contains, Option, refl, sym, ◌∙◌}
 use Rattle.std.proofs.Common.{ap, subst, inl, inr}
-use Rattle.std.specs.Prelude.{max}
 use Rattle.std.specs.FinSet as set
 use Rattle.std.proofs.lemmas.List.{append-nil}
 use Rattle.std.proofs.lemmas.List.Elements.{Contains-get_or, Contains-append_cases}
 use Rattle.tlog_hash.specs.Tree.{mth, strings}
 use Rattle.tlog_tiles.specs.declared.paths.Path.{Path}
-use Rattle.tlog_tiles.specs.declared.paths.Path.TheVariants.{Checkpoint}
 use Rattle.tlog_tiles.specs.Tiles.{IsWithin}
 use Rattle.node_store.specs.Strings.{Has, HasAll, NoClash}
 use Rattle.mirror_model.specs.View.{View, IsSubview}
@@ -17,16 +15,15 @@ use Rattle.mirror_model.specs.Front.{IsFront}
 use Rattle.mirror_model.specs.Rounds.{true_strings}
 use Rattle.mirror_model.specs.TrueLaws.{IsWidest}
 use Rattle.mirror_model.specs.Listed.{ListsMissing, ListsFront}
-use Rattle.mirror_model.proofs.StringSets.{has_left, has_right, has_cases, holds_from_held, held_from_holds, held_more}
+use Rattle.mirror_model.proofs.StringSets.{has_left, has_right, has_cases, held_from_holds, held_more}
 use Rattle.mirror_model.proofs.StringSets.{no_clash_within}
 use Rattle.mirror_model.proofs.Views.{head_stays}
 use Rattle.mirror_model.proofs.TrueItems.{front_is_within, front_is_widest}
 use Rattle.mirror_model.proofs.Fetching.{missing_is_front_list, answered_is_not_again}
 use Rattle.mirror_model.proofs.Fronts.{front_empty}
-use Rattle.log_sources.specs.Files.{full_of}
 use Rattle.log_sources.specs.Source.{StaysWithin}
 use Rattle.mirror_pull.specs.Asking.{IsFresh}
-use Rattle.mirror_pull.specs.Honest.{NoClashAmong, IsFrontRound, AreFrontRounds}
+use Rattle.mirror_pull.specs.Honest.{IsFrontRound, AreFrontRounds}
 use Rattle.mirror_pull.specs.Parts.{IsWanted, MayTake, MayWork, TakesTrue, HasWorked}
 use Rattle.mirror_pull.proofs.Freshness.{each_place, gets_each_asked}
 use Rattle.mirror_pull.proofs.TrueRows.{source_stays}

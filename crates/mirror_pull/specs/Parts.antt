@@ -1,11 +1,10 @@
 -- What the parts of a pull from an honest source come to. The contracts of private functions alone
 -- cite these words.
-use Rattle.std.specs.Prelude.{◌≡◌, ◌≢◌, ◌⊎◌, ℕ, ◌≤◌, ◌<◌, ◌^◌, List, [], ◌∷◌, ◌++◌, length, map}
+use Rattle.std.specs.Prelude.{◌≡◌, ◌⊎◌, ℕ, ◌≤◌, ◌<◌, ◌^◌, List, [], ◌∷◌, ◌++◌, length, map}
 use Rattle.std.specs.Prelude.{take, Option, Contains}
 use Rattle.tlog_hash.specs.Tree.{mth, strings}
 use Rattle.tlog_tiles.specs.declared.paths.Path.{Path}
 use Rattle.tlog_tiles.specs.declared.paths.Path.TheVariants.{Checkpoint, Tile, Entries}
-use Rattle.tlog_tiles.specs.Edge.{edge_of}
 use Rattle.tlog_tiles.specs.Tiles.{IsWithin}
 use Rattle.node_store.specs.Strings.{Has, HasAll}
 use Rattle.mirror_model.specs.View.{View}
@@ -17,7 +16,7 @@ use Rattle.mirror_model.specs.TrueLaws.{AreShort, IsWidest}
 use Rattle.mirror_model.specs.Listed.{ListsMissing}
 use Rattle.log_sources.specs.Files.{full_of}
 use Rattle.log_sources.specs.Honest.{Gets, true_bytes, IsTrueAnswer}
-use Rattle.mirror_pull.specs.Asking.{IsFresh, AreFresh}
+use Rattle.mirror_pull.specs.Asking.{AreFresh}
 use Rattle.mirror_pull.specs.Honest.{NoClashAmong, AreFrontRounds, with_true}
 use Rattle.mirror_pull.specs.declared.fault.PullFault.{PullFault}
 use Rattle.mirror_pull.specs.declared.fault.PullFault.TheVariants.{Source, OutOfMemory}

@@ -1,5 +1,5 @@
 -- What a command that asks something of a mirror prints, and with which exit status it ends.
-use Rattle.std.specs.Prelude.{◌≡◌, ◌≢◌, ◌⊎◌, ℕ, List, [], Option, Some, None, Result, Ok, Err}
+use Rattle.std.specs.Prelude.{◌≡◌, ◌≢◌, ◌⊎◌, ℕ, List, [], Some, None, Result, Ok, Err}
 use Rattle.std.specs.Prelude.{string_bytes}
 use Rattle.tlog_proof.specs.Made.{asked_proof}
 use Rattle.tlog_proof.specs.Text.{IsProofText}

@@ -1,5 +1,5 @@
 -- Sets to which the strings of a tree are added, part by part.
-use Rattle.std.proofs.Common.{get_or, ◌≡◌, ℕ, ◌+◌, ◌-◌, ◌<◌, ◌≤◌, List, [], ◌∷◌, ◌++◌, length, take, drop, map, sym}
+use Rattle.std.proofs.Common.{get_or, ◌≡◌, ℕ, ◌-◌, ◌<◌, ◌≤◌, List, [], ◌∷◌, ◌++◌, length, take, drop, map, sym}
 use Rattle.std.proofs.Common.{refl, ap, subst, ◌∙◌, ◌⊎◌, inl, inr, arith}
 use Rattle.std.specs.Prelude.{◌↔◌}
 use Rattle.std.specs.List.{Contains}
@@ -7,11 +7,11 @@ use Rattle.std.specs.FinSet as set
 use Rattle.std.proofs.lemmas.List.{take-map, drop-map, length-map}
 use denote.Bor.{Bor}
 use Rattle.tlog_shape.specs.Split.{split_of}
-use Rattle.tlog_hash.specs.Tree.{tree_of, fold_of, mth, joined, pairs_of, joins, strings}
+use Rattle.tlog_hash.specs.Tree.{fold_of, mth, joined, pairs_of, joins, strings}
 use Rattle.tlog_hash.specs.Nodes.{IsJoin}
 use Rattle.tlog_hash.proofs.Trees.{tree_of-join, pairs_of-one, mth-join, rest_of, row_of_one}
 use Rattle.tlog_hash.proofs.NodeStrings.{from_joins, to_joins, strings_join}
-use Rattle.node_store.specs.Strings.{Strings, Has, NoClash, Clashes}
+use Rattle.node_store.specs.Strings.{Strings, Has, Clashes}
 use Rattle.std.proofs.lemmas.List.Elements.{Contains-append_left, Contains-append_right, Contains-append_cases}
 use Rattle.mirror_model.specs.Edge.{root_from, strings_from}
 use Rattle.mirror_model.specs.Strings.{HasClash}

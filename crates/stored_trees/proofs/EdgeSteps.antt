@@ -1,9 +1,9 @@
 -- Rows and edges that are held, read off the hash over them.
-use Rattle.std.proofs.Common.{◌≡◌, ◌⊎◌, inl, inr, ℕ, zero, suc, ◌+◌, ◌-◌, ◌<◌, ◌≤◌, List, [], ◌∷◌, ◌++◌, length, take}
+use Rattle.std.proofs.Common.{◌≡◌, inl, inr, ℕ, zero, suc, ◌+◌, ◌-◌, ◌<◌, ◌≤◌, List, [], ◌∷◌, ◌++◌, length, take}
 use Rattle.std.proofs.Common.{drop, get_or, map, refl, sym, ap, subst, ◌∙◌, append_assoc, arith, length-append}
 use Rattle.std.proofs.Common.{length-take, length-drop, take-append-drop}
 use Rattle.std.specs.List.{AllByRecursion}
-use Rattle.std.proofs.lemmas.List.{append-nil, nil_from_length, map-append, take_more, take_all}
+use Rattle.std.proofs.lemmas.List.{nil_from_length, map-append, take_more, take_all}
 use Rattle.tlog_shape.specs.Split.{split_of}
 use Rattle.tlog_shape.proofs.Splits.{split_of-below, split_of-positive}
 use Rattle.tlog_hash.specs.Tree.{fold_of, joins, joined, pairs_of}

@@ -1,21 +1,21 @@
 -- What is remembered of a tree, step by step.
-use Rattle.std.proofs.Common.{◌≡◌, ℕ, ◌+◌, ◌-◌, ◌≤◌, List, [], ◌∷◌, ◌++◌, length, sym, ap, ◌∙◌, subst, arith, ◌⊎◌}
-use Rattle.std.proofs.Common.{inl, inr, Bool, false, Result, Ok, Err}
-use Rattle.std.specs.Prelude.{◌||◌, OnOk, OnErr}
-use Rattle.std.specs.Ordering.{eq_by_cmp, is_eq}
+use Rattle.std.proofs.Common.{◌≡◌, ℕ, ◌-◌, ◌≤◌, List, [], ◌∷◌, ◌++◌, length, sym, ap, ◌∙◌, subst, ◌⊎◌}
+use Rattle.std.proofs.Common.{inl, inr, Result, Ok, Err}
+use Rattle.std.specs.Prelude.{OnOk, OnErr}
+use Rattle.std.specs.Ordering.{is_eq}
 use Rattle.std.specs.Cmp.{tied_itself}
 use Rattle.std.specs.FinSet as set
 use Rattle.std.specs.FinSet.{contains-insert}
 use Rattle.tlog_shape.specs.Split.{split_of}
 use Rattle.node_store.proofs.Sets.{or_left, or_right, or_either}
-use Rattle.node_store.specs.Strings.{Strings, Has, IsHeldAt, NoClash}
+use Rattle.node_store.specs.Strings.{Strings, IsHeldAt, NoClash}
 use Rattle.mirror_model.specs.Complete.{IsBuilt}
 use Rattle.mirror_model.specs.Forks.{Point, point_cmp}
 use Rattle.mirror_model.specs.Marks.{Points}
 use Rattle.mirror_model.proofs.StringSets.{held_more}
 use Rattle.stored_trees.specs.Slices.{HasMark, IsSliceOf, HasSlices, AreSettled, Gains, SettledStays, MarksAreSlices}
 use Rattle.stored_trees.proofs.Marking.{point_total, point_same}
-use Rattle.stored_trees.proofs.SliceSteps.{point_at, no_slice, one_slice, whole_slice, left_slice, right_slice}
+use Rattle.stored_trees.proofs.SliceSteps.{point_at, one_slice, whole_slice, left_slice, right_slice}
 use Rattle.stored_trees.proofs.SliceSteps.{parts_slice, slice_stays}
 use Rattle.stored_trees.proofs.Orders.{equal_is}
 

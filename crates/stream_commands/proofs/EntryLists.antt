@@ -1,8 +1,7 @@
 -- Entries one after the other, of which some are left.
-use Rattle.std.proofs.Common.{◌≡◌, ℕ, zero, suc, false, nat_eq, ◌^◌, ◌<◌, List, [], ◌∷◌, ◌++◌, ◌≤◌, length, take, All}
+use Rattle.std.proofs.Common.{◌≡◌, ℕ, zero, suc, false, nat_eq, ◌^◌, ◌<◌, List, [], ◌∷◌, ◌++◌, length, take}
 use Rattle.std.proofs.Common.{Option, Some, None, Result, refl, sym, ap, subst, ◌∙◌, arith}
 use Rattle.std.specs.Prelude.{IfSome}
-use Rattle.std.specs.List.{flat_map}
 use Rattle.std.proofs.lemmas.List.{append-nil, length-take, take_all}
 use Rattle.tlog_tiles.specs.Bundle.{entry_text, HasBundle, IsBundle}
 use Rattle.tlog_tiles.proofs.BundleLemmas.{HasBundle-first, HasBundle-rest}

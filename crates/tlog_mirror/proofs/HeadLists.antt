@@ -1,8 +1,8 @@
 -- The list of the heads that are held, in order.
-use Rattle.std.proofs.Common.{◌≡◌, ℕ, zero, suc, ◌<◌, List, [], ◌∷◌, ◌++◌, length, map, get_or, Bool, true, false, sym}
-use Rattle.std.proofs.Common.{ap, subst, ◌∙◌, arith, nat_eq}
-use Rattle.std.specs.Prelude.{IsTrue, All, ◌↔◌, ◌&&◌, Result, Ok, Err, IfOk}
-use Rattle.std.specs.Ordering.{nat_cmp, eq_by_cmp, on}
+use Rattle.std.proofs.Common.{◌≡◌, ℕ, ◌<◌, List, [], ◌∷◌, map, get_or, true, sym}
+use Rattle.std.proofs.Common.{ap, subst, ◌∙◌, nat_eq}
+use Rattle.std.specs.Prelude.{All, ◌↔◌, Result, Ok, Err, IfOk}
+use Rattle.std.specs.Ordering.{nat_cmp, eq_by_cmp}
 use Rattle.std.specs.declared.cmp.Ordering.{Ordering}
 use Rattle.std.specs.declared.cmp.Ordering.TheVariants.{Less}
 use Rattle.std.specs.Cmp.{IsTotalOrder, IsEquivalence, on_total, unsigned_ties, both_tied, eq_by_cmp_equiv}
@@ -10,22 +10,20 @@ use Rattle.std.specs.Cmp.Lexicographic.{slice_cmp, pointwise, lists_ties}
 use Rattle.std.specs.List.{Contains, AllByRecursion}
 use Rattle.std.specs.List.Sorted.{IsStrictlySortedBy}
 use Rattle.std.proofs.lemmas.List.{get_or-map, length-map}
-use Rattle.std.proofs.lemmas.List.Elements.{All-contains, All-from_recursion, All-contains_itself, All-from_get_or}
 use Rattle.std.proofs.lemmas.List.Elements.{All-get_or, Contains-get_or}
 use Rattle.node_store.specs.Strings.{Strings}
 use Rattle.mirror_model.specs.View.{View}
 use Rattle.mirror_model.specs.Heads.{HasHead}
-use Rattle.mirror_model.specs.Complete.{IsBuilt, IsComplete}
 use Rattle.mirror_model.specs.Forks.{Point, point_cmp}
 use Rattle.mirror_model.specs.Marks.{Points, State}
-use Rattle.mirror_model.specs.Reports.{ReportsHeads, head_point, IsFlagged}
+use Rattle.mirror_model.specs.Reports.{ReportsHeads, head_point}
 use Rattle.mirror_model.specs.declared.reports.Head.{Head}
 use Rattle.stored_trees.proofs.Marking.{point_total, point_same, same_key}
 use Rattle.stored_trees.proofs.Orders.{equal_is}
 use Rattle.tlog_mirror.specs.Kept.{state_of, IsKeptWell}
-use Rattle.tlog_mirror.specs.Best.{HasKept, by_point, pair_point, kept_point, IsBuiltFlag}
+use Rattle.tlog_mirror.specs.Best.{HasKept, by_point, pair_point, IsBuiltFlag}
 use Rattle.tlog_mirror.specs.declared.kept.KeptNote.{KeptNote}
-use Rattle.tlog_mirror.proofs.ServedNotes.{Unmapped, unmapped, head_from_kept, kept_head, with_head}
+use Rattle.tlog_mirror.proofs.ServedNotes.{unmapped, head_from_kept, kept_head, with_head}
 
 -- ---- the order of sizes and roots, and the test that is equality
 

@@ -1,5 +1,5 @@
 -- Events on mirrors, as they happen to views: one more, and one again.
-use Rattle.std.proofs.Common.{◌≡◌, ℕ, zero, suc, ◌+◌, ◌-◌, ◌<◌, ◌≤◌, List, [], ◌∷◌, ◌++◌, length, map, take, set}
+use Rattle.std.proofs.Common.{◌≡◌, ℕ, zero, suc, ◌+◌, ◌-◌, ◌<◌, List, [], ◌∷◌, ◌++◌, length, map, take, set}
 use Rattle.std.proofs.Common.{get_or, Some, add-one, refl, sym, ap, subst, ◌∙◌, arith}
 use Rattle.std.specs.Prelude.{slice_get, option_map}
 use Rattle.std.proofs.lemmas.List.{set-append_left, set-append_right, get_or_append_left, get_or-append_right}
@@ -9,11 +9,10 @@ use Rattle.std.proofs.Math.Seq.{map-set_same}
 use Rattle.signed_note.specs.Keys.{Key}
 use Rattle.mirror_model.specs.View.{View}
 use Rattle.mirror_model.specs.Marks.{State}
-use Rattle.mirror_model.specs.Steps.{Answer, Done, Exhausted, Happens, Merges, MergesAt, Run, Takes, TakesAt}
+use Rattle.mirror_model.specs.Steps.{Answer, Exhausted, Happens, Merges, MergesAt, Run, Takes, TakesAt}
 use Rattle.mirror_model.specs.Events.{IsFitting}
-use Rattle.mirror_model.specs.Item.{IsWidth}
 use Rattle.mirror_model.specs.declared.events.Event.{Event}
-use Rattle.mirror_model.specs.declared.events.Event.TheVariants.{Take, Merge}
+use Rattle.mirror_model.specs.declared.events.Event.TheVariants.{Take}
 use Rattle.mirror_model.specs.declared.items.Item.{Item}
 use Rattle.mirror_model.specs.declared.items.Item.TheVariants.{Head, Tile, Bundle}
 use Rattle.mirror_model.proofs.Happening.{event_again}

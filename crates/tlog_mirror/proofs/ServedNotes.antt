@@ -1,6 +1,6 @@
 -- What a mirror serves, from the notes that it keeps.
-use Rattle.std.proofs.Common.{◌≡◌, ◌≢◌, ℕ, zero, suc, ◌+◌, ◌<◌, ◌≤◌, List, [], ◌∷◌, length, map, get_or, slice_index_or}
-use Rattle.std.proofs.Common.{Option, Some, None, Bool, true, false, Bor, sym, refl, ap, subst, ◌∙◌, ◌⊎◌, inl, inr}
+use Rattle.std.proofs.Common.{◌≡◌, ℕ, zero, suc, ◌<◌, ◌≤◌, List, [], ◌∷◌, length, map, get_or, slice_index_or}
+use Rattle.std.proofs.Common.{Option, Some, None, Bool, true, false, Bor, sym, refl, ap, subst, ◌∙◌, inl, inr}
 use Rattle.std.proofs.Common.{arith}
 use Rattle.std.specs.Prelude.{IsTrue, IfSome, IfNone, is_some, not, ◌↔◌}
 use Rattle.std.specs.Ordering.{nat_cmp, ordering_then, is_gt, is_le}
@@ -17,8 +17,8 @@ use Rattle.std.proofs.lemmas.List.Elements.{All-contains, All-from_recursion, Co
 use Rattle.node_store.specs.Strings.{Strings}
 use Rattle.mirror_model.specs.View.{View}
 use Rattle.mirror_model.specs.Heads.{IsHead, HoldsHead, HasHead}
-use Rattle.mirror_model.specs.Complete.{IsTreeOf, IsBuilt, IsComplete}
-use Rattle.mirror_model.specs.Served.{Served, IsCompleteNote, IsAtMost}
+use Rattle.mirror_model.specs.Complete.{IsBuilt, IsComplete}
+use Rattle.mirror_model.specs.Served.{IsCompleteNote, IsAtMost}
 use Rattle.mirror_model.specs.Forks.{Point}
 use Rattle.mirror_model.specs.Front.{path_cmp}
 use Rattle.mirror_model.specs.Walk.{IsMissing}

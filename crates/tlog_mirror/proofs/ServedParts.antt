@@ -1,6 +1,6 @@
 -- What is served is that of the list that is found once.
-use Rattle.std.proofs.Common.{◌≡◌, ℕ, ◌+◌, ◌*◌, ◌^◌, ◌<◌, ◌≤◌, List, [], ◌∷◌, length, map, get_or, slice_index_or}
-use Rattle.std.proofs.Common.{Option, Some, None, Bor, sym, refl, ap, subst, ◌∙◌, arith}
+use Rattle.std.proofs.Common.{◌≡◌, ℕ, ◌+◌, ◌*◌, ◌<◌, ◌≤◌, List, [], ◌∷◌, length, map, get_or, slice_index_or}
+use Rattle.std.proofs.Common.{Option, Some, None, Bor, sym, subst, ◌∙◌, arith}
 use Rattle.std.specs.Prelude.{Result, Ok, Err, IfOk, IfSome, IfNone, All}
 use Rattle.std.proofs.lemmas.List.{get_or-map, length-map}
 use Rattle.std.proofs.lemmas.List.Elements.{All-contains, All-from_recursion, All-get_or, All-from_get_or, All-take}
@@ -8,12 +8,11 @@ use Rattle.std.proofs.lemmas.List.Elements.{All-drop, Contains-get_or}
 use Rattle.tlog_hash.specs.Tree.{mth, strings}
 use Rattle.tlog_hash.specs.Rows.{part}
 use Rattle.tlog_tiles.specs.Tiles.{tile_bytes, bundle_bytes, IsTileWithin}
-use Rattle.node_store.specs.Strings.{Strings, Has, NoClash}
+use Rattle.node_store.specs.Strings.{Strings, Has}
 use Rattle.mirror_model.specs.View.{View}
-use Rattle.mirror_model.specs.Complete.{IsTreeOf, IsBuilt, IsLawful}
+use Rattle.mirror_model.specs.Complete.{IsTreeOf}
 use Rattle.mirror_model.specs.Served.{Served, IsServedList, IsRangeHash, IsServedTile, IsServedBundle, IsServedNote}
 use Rattle.mirror_model.specs.Served.{IsCompleteNote}
-use Rattle.mirror_model.specs.Strings.{IsDigest}
 use Rattle.mirror_model.proofs.StringSets.{all_from_held}
 use Rattle.mirror_model.proofs.FullBundles.{strings_leaf}
 use Rattle.mirror_model.proofs.OneLists.{serves_one, only}

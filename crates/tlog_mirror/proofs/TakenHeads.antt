@@ -1,8 +1,8 @@
 -- The take of a head: what is answered of its note and of its edge rows is answered of the head.
-use Rattle.std.proofs.Common.{◌≡◌, ◌≤◌, ℕ, List, [], ◌∷◌, length, map, Result, Ok, Err, ◌⊎◌, inl, inr, refl, sym, ap}
+use Rattle.std.proofs.Common.{◌≡◌, ◌≤◌, ℕ, List, [], ◌∷◌, length, map, Result, Ok, Err, inl, inr, refl, sym, ap}
 use Rattle.std.proofs.Common.{subst, ◌∙◌}
 use Rattle.std.specs.FinSet as set
-use Rattle.node_store.specs.Strings.{Strings, Has, HasAll, NoClash}
+use Rattle.node_store.specs.Strings.{Strings, Has, HasAll}
 use Rattle.node_store.specs.declared.store.AddFault.{AddFault}
 use Rattle.node_store.specs.declared.store.AddFault.TheVariants as adding
 use Rattle.signed_note.specs.Keys.{Key}
@@ -11,19 +11,18 @@ use Rattle.tlog_checkpoint.specs.declared.Checkpoint.{Checkpoint}
 use Rattle.mirror_model.specs.Answered.{answer_of}
 use Rattle.mirror_model.specs.Complete.{HasEdge}
 use Rattle.mirror_model.specs.Edge.{edge_strings}
-use Rattle.mirror_model.specs.Heads.{IsHead, IsOpenHead}
+use Rattle.mirror_model.specs.Heads.{IsHead}
 use Rattle.mirror_model.specs.Item.{IsGoodHead, HasEdgeRows, row_of, plus}
 use Rattle.mirror_model.specs.Refusals.{IsOpenCheckpoint, ReadsHead, JudgesHead}
-use Rattle.mirror_model.specs.Steps.{Answer, Done, Clashed, Exhausted, Refused, Answers, Takes, IsBetween}
+use Rattle.mirror_model.specs.Steps.{Done, Exhausted, Refused, Answers, Takes, IsBetween}
 use Rattle.mirror_model.specs.Strings.{HasClash}
-use Rattle.mirror_model.specs.View.{View, IsSubview}
+use Rattle.mirror_model.specs.View.{View}
 use Rattle.mirror_model.specs.declared.fault.TakeFault.{TakeFault}
 use Rattle.mirror_model.specs.declared.fault.TakeFault.TheVariants as taking
-use Rattle.mirror_model.specs.declared.items.Item.{Item}
 use Rattle.mirror_model.specs.declared.items.Item.TheVariants.{Head}
 use Rattle.mirror_model.proofs.RefusedHeads.{heads_are_judged}
 use Rattle.mirror_model.proofs.StringSets.{has_left, has_right, has_from_listed, held_from_all, clash_within}
-use Rattle.std.specs.List.{AllByRecursion, Contains}
+use Rattle.std.specs.List.{Contains}
 use Rattle.std.proofs.lemmas.List.Elements.{recursion_from_All, All-contains_itself, All-weaker}
 use Rattle.tlog_mirror.specs.Adding.{added, taken_of, with_note, with_strings}
 use Rattle.tlog_mirror.specs.Edges.{JudgesEdge}

@@ -2,7 +2,6 @@
 -- functions alone.
 use Rattle.std.specs.Prelude.{◌≡◌, ℕ, zero, suc, ◌+◌, ◌<◌, List, [], ◌∷◌, map, Some, Result, Ok}
 use Rattle.std.specs.Prelude.{Err, slice_get}
-use Rattle.std.specs.FinSet as set
 use Rattle.signed_note.specs.Keys.{Key}
 use Rattle.mirror_model.specs.View.{View}
 use Rattle.mirror_model.specs.Marks.{Points, State}

@@ -1,6 +1,5 @@
 use Rattle.std.proofs.Common.{◌≡◌, ℕ, List, [], ◌∷◌, ◌++◌, map, ap, sym, subst, ◌∙◌}
 use Rattle.std.proofs.lemmas.List.{map_push}
-use Rattle.std.specs.Borrow.{Bor}
 use Rattle.std.specs.FinSet.{from_list}
 use Rattle.node_store.specs.Strings.{string_of}
 use Rattle.mirror_files.proofs.Gathered.{HoldsPart, part_start, part_more, part_pass, part_end, lent_bytes}

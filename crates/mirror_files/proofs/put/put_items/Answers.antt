@@ -1,6 +1,5 @@
-use Rattle.std.proofs.Common.{ℕ, List, [], map, subst, length, ◌<◌, sym}
+use Rattle.std.proofs.Common.{ℕ, List, [], subst, ◌<◌, sym}
 use Rattle.std.proofs.lemmas.List.{length-map, get_or-map}
-use Rattle.std.proofs.lemmas.List.Elements.{All-contains}
 use Rattle.std.specs.Borrow.{Bor}
 use Rattle.mirror_files.specs.Items.{item_text, IsItem}
 use Rattle.mirror_files.proofs.Putting.{puts_none, puts_next, puts_last}

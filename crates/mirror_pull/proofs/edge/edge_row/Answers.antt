@@ -1,4 +1,4 @@
-use Rattle.std.proofs.Common.{◌≡◌, ◌∙◌, sym, subst, length, Some, None}
+use Rattle.std.proofs.Common.{◌≡◌, ◌∙◌, subst, length, Some, None}
 use Rattle.tlog_tiles.specs.declared.paths.Path.{Path}
 use Rattle.log_sources.specs.Files.{full_of}
 use Rattle.std.proofs.lemmas.Result.{err_from_is_err_and}

@@ -1,4 +1,4 @@
-use Rattle.std.proofs.Common.{refl, List, [], ◌∷◌, ◌++◌, take, arith, ◌≡◌, All, Contains, ap, ◌∙◌, sym, subst, get_or}
+use Rattle.std.proofs.Common.{refl, List, [], ◌∷◌, ◌++◌, arith, All, Contains, ap, ◌∙◌, sym, subst, get_or}
 use Rattle.std.proofs.Common.{length, ◌<◌}
 use Rattle.std.proofs.lemmas.List.Elements.{All-push, Contains-get_or}
 use Rattle.tlog_tiles.specs.declared.paths.Path.{Path}

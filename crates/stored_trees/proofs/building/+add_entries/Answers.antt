@@ -1,4 +1,4 @@
-use Rattle.std.proofs.Common.{◌≡◌, List, ℕ, ◌∷◌, ◌++◌, IfOk, OnOk, sym, ap, ◌∙◌, subst, arith, take, length}
+use Rattle.std.proofs.Common.{◌≡◌, ◌∷◌, ◌++◌, IfOk, OnOk, sym, ap, ◌∙◌, subst, arith, take}
 use Rattle.std.specs.FinSet as set
 use Rattle.std.proofs.lemmas.Result.{err_from_is_err_and}
 use Rattle.tlog_hash.specs.Tree.{mth, strings}

@@ -1,4 +1,4 @@
-use Rattle.std.proofs.Common.{◌≡◌, ◌<◌, ◌+◌, arith, sym, ap, ◌∙◌, eqb}
+use Rattle.std.proofs.Common.{arith, sym, ap, ◌∙◌, eqb}
 use Rattle.std.specs.Cmp.Lexicographic.{pointwise}
 use Rattle.stored_trees.proofs.EdgeSteps.{edge_none, edge_skipped, edge_refused, edge_told}
 use Rattle.stored_trees.proofs.edge.+holds_edge_from.Goals as goal

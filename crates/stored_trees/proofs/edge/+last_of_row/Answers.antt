@@ -1,4 +1,4 @@
-use Rattle.std.proofs.Common.{◌≡◌, ℕ, List, ◌-◌, ◌≤◌, length, arith, rules, subst, sym, ap, ◌∙◌}
+use Rattle.std.proofs.Common.{◌≡◌, ℕ, List, length, arith, rules}
 use Rattle.stored_trees.specs.HeldEdge.{HasRow}
 use Rattle.stored_trees.proofs.EdgeSteps.{row_one, one_row, rows_join, parts_of_row, no_row, some_from, none_from}
 use Rattle.stored_trees.proofs.edge.+last_of_row.Goals as goal

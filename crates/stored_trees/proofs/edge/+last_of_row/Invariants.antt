@@ -1,4 +1,3 @@
-use Rattle.std.proofs.Common.{◌-◌}
 use Rattle.stored_trees.proofs.edge.+last_of_row.Given as goal
 
 abbrev pub decreases-last_of_row : goal.decreases-last_of_row

@@ -1,4 +1,4 @@
-use Rattle.std.proofs.Common.{◌≡◌, ℕ, List, ◌<◌, ◌+◌, length, arith, rules, sym, ap, ◌∙◌, subst}
+use Rattle.std.proofs.Common.{◌≡◌, ℕ, List, ◌+◌, length, arith, rules, sym, ◌∙◌, subst}
 use Rattle.stored_trees.specs.HeldEdge.{LeadsUp, HasRow}
 use Rattle.stored_trees.proofs.EdgeSteps.{top_value, value_top, skip_level, skipped, add_level, level_of, leads_on}
 use Rattle.stored_trees.proofs.EdgeSteps.{some_from, none_from}

@@ -1,5 +1,4 @@
 use Rattle.std.proofs.Common.{◌≡◌, ◌⊎◌, ◌-◌, ◌≤◌, length, sym, subst, arith, rules}
-use Rattle.std.specs.FinSet as set
 use Rattle.mirror_model.specs.Complete.{IsBuilt}
 use Rattle.stored_trees.specs.Slices.{IsSliceOf, HasMark}
 use Rattle.stored_trees.proofs.Descents.{no-pair, left-tree, right-tree}

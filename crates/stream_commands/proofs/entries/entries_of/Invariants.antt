@@ -1,4 +1,4 @@
-use Rattle.std.proofs.Common.{◌≡◌, ℕ, ◌<◌, ◌^◌, List, [], ◌++◌, length, map, All}
+use Rattle.std.proofs.Common.{◌≡◌, ℕ, ◌<◌, ◌^◌, [], ◌++◌, length, map, All}
 use Rattle.std.specs.List.{flat_map}
 use Rattle.tlog_tiles.specs.Bundle.{entry_text, HasBundle}
 use Rattle.stream_commands.proofs.entries.entries_of.Given as goal

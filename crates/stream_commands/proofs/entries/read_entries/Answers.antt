@@ -1,4 +1,4 @@
-use Rattle.std.proofs.Common.{◌<◌, ◌≤◌, subst, length, arith, map}
+use Rattle.std.proofs.Common.{◌<◌, subst, length, arith, map}
 use Rattle.tlog_text.specs.Answers.{seen}
 use Rattle.stream_commands.specs.Entries.{ReadsEntries}
 use Rattle.stream_commands.specs.declared.entries.TheConstants.{MOST_BYTES}

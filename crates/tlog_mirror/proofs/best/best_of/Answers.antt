@@ -1,4 +1,4 @@
-use Rattle.std.proofs.Common.{◌≡◌, false, true, ◌∙◌, sym, inl, inr}
+use Rattle.std.proofs.Common.{◌≡◌, true, inl, inr}
 use Rattle.tlog_mirror.proofs.BestNotes.{better_at, no_better_at, best_of_all}
 use Rattle.tlog_mirror.proofs.best.best_of.Goals as goal
 use Rattle.tlog_mirror.proofs.best.best_of.Goals.{else-is_ahead-via-then-is_ahead+else-is_built}

@@ -1,11 +1,10 @@
-use Rattle.std.proofs.Common.{◌≡◌, ◌<◌, List, ℕ, [], ◌∷◌, length, map, Vec, Global, Err, OnOk, sym, ap, subst}
+use Rattle.std.proofs.Common.{◌≡◌, ◌<◌, List, ℕ, [], ◌∷◌, length, Vec, Global, OnOk, sym, ap, subst}
 use Rattle.std.proofs.Common.{◌∙◌, arith}
 use Rattle.std.specs.FinSet as set
 use Rattle.std.proofs.lemmas.Bool.Decides.{nat_tests}
 use Rattle.std.proofs.lemmas.List.{nil_from_length}
-use Rattle.std.specs.List.{remove}
 use Rattle.tlog_hash.specs.Tree.{fold_of, joins}
-use Rattle.mirror_model.specs.Edge.{edge_root, edge_strings, root_from, strings_from}
+use Rattle.mirror_model.specs.Edge.{edge_strings}
 use Rattle.mirror_model.specs.Strings.{HasClash}
 use Rattle.tlog_mirror.proofs.EdgeRows.{items_of, split_rows, edge_strings_are, edge_clash}
 use Rattle.stored_trees.proofs.BuiltTrees.{added_none}

@@ -1,4 +1,4 @@
-use Rattle.std.proofs.Common.{◌≡◌, ◌<◌, ◌*◌, ℕ, List, Vec, Global, Result, Ok, Err, IfOk, All, length, map, ap, sym}
+use Rattle.std.proofs.Common.{◌≡◌, ◌<◌, ◌*◌, ℕ, List, Vec, Global, Result, Ok, Err, IfOk, All, length, map}
 use Rattle.std.proofs.Common.{subst, ◌∙◌}
 use Rattle.tlog_text.specs.Answers.{seen}
 use Rattle.mirror_model.specs.Edge.{edge_widths}

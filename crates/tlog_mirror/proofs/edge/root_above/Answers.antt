@@ -1,6 +1,6 @@
 use Rattle.std.proofs.Common.{◌≡◌, List, ℕ, ◌∷◌, length, Vec, Global, map, sym, ap, ◌∙◌, arith}
 use Rattle.std.proofs.lemmas.List.{nil_from_length}
-use Rattle.std.specs.Vec.Iter.{into_iter_items, into_iter_len}
+use Rattle.std.specs.Vec.Iter.{into_iter_items}
 use Rattle.tlog_hash.specs.Tree.{fold_of}
 use Rattle.mirror_model.specs.Edge.{root_from}
 use Rattle.stored_trees.proofs.BuiltTrees.{above_root}
