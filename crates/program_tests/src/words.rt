@@ -1,16 +1,26 @@
 //! What words ask for that no transcript can show.
+use crate::states::{BUNDLE, COMPLETE, NOTE, ROW};
 use command_line::{Command, Place, read_words};
+use file_commands::{MemoryFiles, MemoryFolders, NamedFault, NamedFiles};
+use mirror_commands::{RunFault, run_named};
+use std::alloc::{AllocError, Global};
 use std::test::Fail;
+
+// The words of a line.
+fn words_of(alloc: Global, line: &str) -> Result<Vec<String>, AllocError> {
+    let mut words = Vec::new(alloc);
+    for word in line.split(' ') {
+        words.push(String::from_str(alloc, word)?)?;
+    }
+    Ok(words)
+}
 
 // A log on a server that has no other: the place is taken apart, and no run could dial it.
 #[test]
 fn pull(rt: HostRuntime) -> Result<(), Fail> {
     let alloc = rt.alloc();
     let line = "pull --origin o --keys k --out t --state s http log.example:80/2026";
-    let mut words = Vec::new(alloc);
-    for word in line.split(' ') {
-        words.push(String::from_str(alloc, word)?)?;
-    }
+    let words = words_of(alloc, line)?;
     assert!(&rt;
         matches!(
             read_words(alloc, &words),
@@ -24,5 +34,73 @@ fn pull(rt: HostRuntime) -> Result<(), Fail> {
                     }
         )
     );
+    Ok(())
+}
+
+// Puts a file. It tells nothing of it, so that the rest of the test is cheap to prove.
+fn put(files: &mut MemoryFiles, name: &str, bytes: &[u8]) -> Result<(), NamedFault> {
+    files.replace(name, bytes)
+}
+
+// Runs a line over files and folders in memory. It tells nothing of it either.
+fn run_line(
+    rt: &HostRuntime,
+    files: &mut MemoryFiles,
+    folders: &mut MemoryFolders,
+    line: &str,
+    mut input: &[u8],
+) -> Result<u8, RunFault> {
+    let alloc = rt.alloc();
+    let Ok(words) = words_of(alloc, line) else {
+        return Err(RunFault::Command(command_line::CommandFault::OutOfMemory));
+    };
+    let mut output = Vec::new(alloc);
+    let mut errors = Vec::new(alloc);
+    run_named(
+        rt,
+        files,
+        folders,
+        alloc,
+        &words,
+        &mut input,
+        &mut output,
+        &mut errors,
+    )
+}
+
+// A log is built into one folder, and the mirror of it exported into another, with a key file in memory. Once more into
+// either is refused.
+#[test]
+fn folders_in_memory(rt: HostRuntime) -> Result<(), Fail> {
+    let alloc = rt.alloc();
+    let mut files = MemoryFiles::new(alloc);
+    put(&mut files, "keys", b"hmac ex 00000001 00\n")?;
+    put(&mut files, "state", COMPLETE)?;
+    let mut folders = MemoryFolders::new(alloc);
+    for (line, status) in [
+        ("build --origin ex --keys keys --dir built", 0),
+        ("export --origin ex --keys keys --state state --dir copy", 0),
+        ("build --origin ex --keys keys --dir copy", 1),
+        (
+            "export --origin ex --keys keys --state state --dir built",
+            1,
+        ),
+    ] {
+        let answer = run_line(&rt, &mut files, &mut folders, line, BUNDLE);
+        assert!(rt; answer.is_ok() == (status == 0), "{line}");
+    }
+    let files = [
+        ("tile/0/000.p/3", ROW),
+        ("tile/entries/000.p/3", BUNDLE),
+        ("checkpoint", NOTE),
+    ];
+    let puts = folders.puts();
+    assert!(rt; puts.len() == 6);
+    for (i, (folder, path, bytes)) in puts.iter().enumerate() {
+        let (name, want) = files[i % 3];
+        assert!(rt; folder.as_str() == (if i < 3 { "built" } else { "copy" }));
+        assert!(rt; path.text(alloc)?.as_str() == name);
+        assert!(rt; bytes.as_slice() == want, "{name}");
+    }
     Ok(())
 }
