@@ -100,7 +100,7 @@ fn folders_in_memory(rt: HostRuntime) -> Result<(), Fail> {
         let (name, want) = files[i % 3];
         assert!(rt; folder.as_str() == (if i < 3 { "built" } else { "copy" }));
         assert!(rt; path.text(alloc)?.as_str() == name);
-        assert!(rt; bytes.as_slice() == want, "{name}");
+        assert!(rt; bytes.as_slice() == want, "{i}");
     }
     Ok(())
 }
