@@ -10,6 +10,7 @@ use Rattle.command_line.specs.declared.command.Build.{Build as BuildWords}
 use Rattle.command_line.specs.declared.command.Merge.{Merge as MergeWords}
 use Rattle.command_line.specs.declared.command.Export.{Export as FolderWords}
 use Rattle.command_line.specs.declared.command.Pull.{Pull as PullWords}
+use Rattle.command_line.specs.declared.command.Serve.{Serve as ServeWords}
 use Rattle.mirror_folders.specs.Shelf.{Put}
 use Rattle.state_commands.specs.NoteFiles.{NamedFile}
 use Rattle.state_commands.specs.declared.question.Question.TheVariants as question
@@ -35,7 +36,7 @@ use Rattle.stream_commands.specs.Check.{AnswersCheck}
 use Rattle.mirror_commands.specs.Builds.{BuildsFrom}
 use Rattle.mirror_commands.specs.Named.{TakesWords}
 use Rattle.mirror_commands.specs.Pulls.{TellsPull}
-use Rattle.mirror_commands.specs.Works.{AsksState, IsWriting, TellsPort}
+use Rattle.mirror_commands.specs.Works.{AsksState, IsWriting, ServesState}
 
 -- the files that a command reads alone are left as they are; what the others leave is said by
 -- `Does`
@@ -113,6 +114,12 @@ module _ (digest : List ℕ → List ℕ) (keys : List Key) (key_bytes : List �
       TellsPull digest c.made.log.origin.now keys (option_map (λ name. name.now) c.state)
       c.made.out.now told left old new answer
 
+  -- what an answer of `serve` says of its state file, and of what was written
+  abbrev pub ServesOne : ServeWords → Option (List ℕ) → Option (List ℕ) →
+      Result (Unit {0}) TellFault → Type 0
+  ServesOne c old new answer =
+      ServesState digest keys told c.held.state.now c.held.log.origin.now c.port old new answer
+
   -- what each answer of a command says of the input and of named files and folders, where they are
   -- known, and of what was written
   abbrev pub Does : Order → Option (List ℕ) → Option (List ℕ) → Option (List ℕ) →
@@ -173,7 +180,7 @@ module _ (digest : List ℕ → List ℕ) (keys : List Key) (key_bytes : List �
   Does (order.Notes c) input old new (Err (Notes fault)) =
       WritesInto c (failed fault) × Keeps old new
   Does (order.Serve c) input old new (Ok status) =
-      TellsPort c.port old new done × (status ≡ 0)
+      ServesOne c old new done × (status ≡ 0)
   Does (order.Serve c) input old new (Err (Serve fault)) =
-      TellsPort c.port old new (failed fault)
+      ServesOne c old new (failed fault)
   Does other input old new answer = ⊥

@@ -1,7 +1,8 @@
--- What each answer of a command over files says of what was written to standard output.
+-- What each answer of a command over a state file says of it, and of what was written to standard
+-- output.
 use Rattle.std.specs.Prelude.{◌≡◌, ◌⊎◌, ℕ, List, ◌++◌, Option, Result, Ok, Err, codes}
 use Rattle.std.specs.Fmt.{decimal}
-use Rattle.std.specs.Io.KnownBytes.{Appends}
+use Rattle.std.specs.Io.KnownBytes.{Appends, Keeps}
 use Rattle.byte_streams.specs.Streams.{AppendsPrefix}
 use Rattle.signed_note.specs.Keys.{Key}
 use Rattle.mirror_model.specs.View.{View}
@@ -11,8 +12,10 @@ use Rattle.state_commands.specs.declared.question.Question.{Question}
 use Rattle.state_commands.specs.declared.fault.AskFault.TheVariants as ask
 use Rattle.file_commands.specs.States.{OpensFile}
 use Rattle.mirror_commands.specs.declared.fault.WorkFault.{WorkFault}
-use Rattle.mirror_commands.specs.declared.fault.WorkFault.TheVariants.{State, Ask}
+use Rattle.mirror_commands.specs.declared.fault.WorkFault.TheVariants.{State, Ask, PortFault}
+use Rattle.mirror_commands.specs.declared.fault.WorkFault.TheVariants.{OutOfMemory}
 use Rattle.mirror_commands.specs.declared.fault.TellFault.{TellFault}
+use Rattle.mirror_commands.specs.declared.fault.TellFault.TheVariants.{Work, WriteFault}
 
 -- the exit status is one of a command that was done: 0, or 3 for a no
 abbrev pub IsStatus : ℕ → Type 0
@@ -45,8 +48,32 @@ module _
 abbrev pub listening_text : ℕ → List ℕ
 listening_text port = codes "listening 127.0.0.1:" ++ (decimal port ++ codes "\n")
 
--- the line that tells the port was written, or at a fault a prefix of it
+-- what each answer of serving says of that line: it was written, or at a fault a prefix of it;
+-- where the port cannot be had, or a connection be accepted, nothing or all of it
 abbrev pub TellsPort : {T : Type 0} → ℕ → Option (List ℕ) → Option (List ℕ) → Result T TellFault →
     Type 0
 TellsPort port old new (Ok x) = Appends old new (listening_text port)
-TellsPort port old new (Err fault) = AppendsPrefix old new (listening_text port)
+TellsPort port old new (Err WriteFault) = AppendsPrefix old new (listening_text port)
+TellsPort port old new (Err (Work PortFault)) =
+    Keeps old new ⊎ Appends old new (listening_text port)
+TellsPort port old new (Err (Work OutOfMemory)) = Keeps old new
+TellsPort port old new (Err other) = ⊥
+
+module _
+    (digest : List ℕ → List ℕ) (keys : List Key) (told : Option (List NamedFile)) (name : List ℕ)
+    (origin : List ℕ) (port : ℕ) (old new : Option (List ℕ)) where
+  -- no mirror was opened of the state file, as the fault says
+  abbrev pub OpensNothing : {T : Type 0} → Result T TellFault → Type 0
+  OpensNothing (Err (Work (State fault))) = OpensFile digest origin keys told name (Err fault)
+  OpensNothing other = ⊥
+
+  -- a mirror was opened of the state file, and the port was told so
+  pub record OpensAndTells {T : Type 0} (answer : Result T TellFault) : Type 0 where
+    pub view : View
+    pub opened : OpensFile digest origin keys told name (Ok view)
+    pub tells : TellsPort port old new answer
+
+  -- what each answer of `serve` says: a mirror was opened, and its port told; or none was, and
+  -- nothing was written
+  abbrev pub ServesState : {T : Type 0} → Result T TellFault → Type 0
+  ServesState answer = (OpensNothing answer × Keeps old new) ⊎ OpensAndTells answer

@@ -1,7 +1,4 @@
 //! Why a command was not done.
-ghost use Rattle.std.specs.Prelude.{◌≡◌};
-ghost use Rattle.mirror_commands.specs.declared.fault.WorkFault.TheVariants as work;
-
 use command_line::CommandFault;
 use file_commands::{
     ExportFileFault, MergeFilesFault, NamedFault, NotesFault, StateFault, TakeFilesFault,
@@ -10,7 +7,6 @@ use mirror_pull::PullFault;
 use mirror_updates::BuildFault;
 use signed_note::KeyFileFault;
 use state_commands::AskFault;
-use std::alloc::AllocError;
 use stream_commands::{CheckFault, EntriesFault, RootFault};
 use thiserror::Error;
 use tlog_mirror::NewFault;
@@ -112,28 +108,4 @@ pub enum TellFault {
     /// A write failed, or took no byte. A prefix of the text may have been written.
     #[error("WriteFault")]
     WriteFault,
-}
-
-impl From<StateFault> for WorkFault {
-    ghost from_gives = { λ f e. e ≡ work.State f };
-
-    fn from(fault: StateFault) -> WorkFault {
-        WorkFault::State(fault)
-    }
-}
-
-impl From<PullFault> for WorkFault {
-    ghost from_gives = { λ f e. e ≡ work.Pull f };
-
-    fn from(fault: PullFault) -> WorkFault {
-        WorkFault::Pull(fault)
-    }
-}
-
-impl From<AllocError> for WorkFault {
-    ghost from_gives = { λ _ e. e ≡ work.OutOfMemory };
-
-    fn from(_e: AllocError) -> WorkFault {
-        WorkFault::OutOfMemory
-    }
 }

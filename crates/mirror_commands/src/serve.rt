@@ -1,15 +1,16 @@
 //! The command `serve`: answers over HTTP.
-ghost use Rattle.std.specs.Prelude.{◌≡◌, IfOk, string_bytes};
-ghost use Rattle.mirror_commands.specs.Works.{TellsPort, listening_text};
+ghost use Rattle.std.specs.Prelude.{◌≡◌, IfOk, map, string_bytes};
+ghost use Rattle.sha2.specs.Sha256.{sha256};
+ghost use Rattle.mirror_commands.specs.Works.{ServesState, TellsPort, listening_text};
 
 use crate::fault::{TellFault, WorkFault};
 use byte_streams::{TimedStream, write_whole};
-use command_line::{Held, Serve};
+use command_line::Serve;
 use file_commands::{NamedFiles, loaded};
 use mirror_server::{HttpFault, answer};
 use signed_note::Verifier;
 use std::alloc::{AllocError, Global};
-use std::io::Write;
+use std::io::{self, Write};
 use std::net::{Ipv4Addr, Net, TcpListener, TcpStream};
 use std::rt::Clock;
 use std::time::Duration;
@@ -40,16 +41,27 @@ pub(crate) fn run_serve<R, F: NamedFiles, O: Write, E: Write>(
 ) -> Result<(), TellFault>
 where
     R: Clock + Net<Stream = TcpStream, Listener = TcpListener>,
-    ensures line { TellsPort serve.now.port (O.contents output.old) (O.contents output.new) result }
+    ensures { ServesState sha256 (map (λ k. key k) keys.now) (F.puts files.now) serve.now.held.state.now serve.now.held.log.origin.now serve.now.port (O.contents output.old) (O.contents output.new) result }
 {
-    match settled::<Sha256Tree, F>(files, alloc, &serve.held, keys) {
-        Ok(mirror) => serve_mirror(rt, alloc, &mirror, serve, output, errors),
-        Err(fault) => Err(TellFault::Work(fault)),
+    let held = &serve.held;
+    let mut mirror = match loaded::<Sha256Tree, F>(
+        files,
+        alloc,
+        held.log.origin,
+        keys,
+        held.state,
+    ) {
+        Ok(mirror) => mirror,
+        Err(fault) => return Err(TellFault::Work(WorkFault::State(fault))),
+    };
+    match mirror.settle(alloc) {
+        Ok(()) => {}
+        Err(_) => return Err(TellFault::Work(WorkFault::OutOfMemory)),
     }
+    serve_mirror(rt, alloc, &mirror, serve, output, errors)
 }
 
 // Listens at the port, tells of it, and answers as many connections as are asked for.
-#[tactic(auto, using(crate::proofs::Written::front_of_whole))]
 fn serve_mirror<H: TreeHash, R, O: Write, E: Write>(
     rt: &R,
     alloc: Global,
@@ -71,7 +83,7 @@ where
     }
     match serve_all(rt, alloc, mirror, &listener, serve.requests, errors) {
         Ok(()) => Ok(()),
-        Err(fault) => Err(TellFault::Work(fault)),
+        Err(_) => Err(TellFault::Work(WorkFault::PortFault)),
     }
 }
 
@@ -88,18 +100,6 @@ fn tell_port<O: Write>(alloc: Global, port: u16, output: &mut O) -> Result<(), T
     }
 }
 
-// The mirror in the state file, which remembers what is complete.
-fn settled<H: TreeHash, F: NamedFiles>(
-    files: &F,
-    alloc: Global,
-    held: &Held<'_>,
-    keys: &[Box<dyn Verifier>],
-) -> Result<Mirror<H>, WorkFault> {
-    let mut mirror = loaded::<H, F>(files, alloc, held.log.origin, keys, held.state)?;
-    mirror.settle(alloc)?;
-    Ok(mirror)
-}
-
 // The line that tells where connections are accepted.
 fn listening_line(alloc: Global, port: u16) -> Result<String, AllocError>
     ensures { IfOk result (λ line. string_bytes line ≡ listening_text port) }
@@ -107,7 +107,7 @@ fn listening_line(alloc: Global, port: u16) -> Result<String, AllocError>
     format!(in alloc; "listening 127.0.0.1:{port}\n")
 }
 
-// Answers so many connections, one after the other.
+// Answers so many connections, one after the other, as long as they can be accepted.
 fn serve_all<H: TreeHash, C: Clock, E: Write>(
     clock: &C,
     alloc: Global,
@@ -115,11 +115,9 @@ fn serve_all<H: TreeHash, C: Clock, E: Write>(
     listener: &TcpListener,
     requests: u64,
     errors: &mut E,
-) -> Result<(), WorkFault> {
+) -> io::Result<()> {
     for _ in 0..requests {
-        let Ok((stream, _)) = listener.accept() else {
-            return Err(WorkFault::PortFault);
-        };
+        let (stream, _) = listener.accept()?;
         match answer_one(clock, alloc, mirror, &stream) {
             Ok(()) => {}
             Err(fault) => tell(errors, fault),

@@ -10,7 +10,7 @@ returns-in-Ok-build_log g c =
       lines = c.in-Ok.lines.items;
       are_lines = c.in-Ok.ensures;
       first_is = sym c.in-Some.is ∙ c.signing_key.ensures;
-    } c.in-Ok-open.ensures.opened c.in-Ok-build_log.ensures.builds (g.I.Read.remaining c.args.input.now)
+    } c.in-Ok-check_origin.ensures.lawful c.in-Ok-open.ensures.opened c.in-Ok-build_log.ensures.builds (g.I.Read.remaining c.args.input.now)
     c.in-Ok-read_entries.ensures.answer
 
 pub returns-in-Err-build_log : goal.returns-in-Err-build_log
@@ -20,5 +20,5 @@ returns-in-Err-build_log g c =
       lines = c.in-Ok.lines.items;
       are_lines = c.in-Ok.ensures;
       first_is = sym c.in-Some.is ∙ c.signing_key.ensures;
-    } c.in-Ok-open.ensures.opened c.in-Err-build_log.ensures.builds (g.I.Read.remaining c.args.input.now)
+    } c.in-Ok-check_origin.ensures.lawful c.in-Ok-open.ensures.opened c.in-Err-build_log.ensures.builds (g.I.Read.remaining c.args.input.now)
     c.in-Ok-read_entries.ensures.answer

@@ -1,4 +1,4 @@
-use Rattle.std.proofs.Common.{◌≡◌, List, ℕ, subst, ◌∙◌, inr}
+use Rattle.std.proofs.Common.{◌≡◌, List, ℕ, subst, ◌∙◌}
 use Rattle.std.specs.Io.KnownBytes.{Appends}
 use Rattle.byte_streams.specs.Streams.{AppendsPrefix}
 use Rattle.mirror_updates.specs.Pulling.{pulled_lines}
@@ -7,7 +7,7 @@ use Rattle.mirror_commands.proofs.pull.tell_pulled.Goals as goal
 
 pub returns-in_default-clause-answer : goal.returns-in_default-clause-answer
 returns-in_default-clause-answer g c =
-    (inr c.in-Ok.ensures, keeps_itself (g.W.Write.contents c.args.output.now))
+    (c.in-Ok.ensures, keeps_itself (g.W.Write.contents c.args.output.now))
 
 pub returns-in-Ok-write_whole-clause-answer : goal.returns-in-Ok-write_whole-clause-answer
 returns-in-Ok-write_whole-clause-answer g c =

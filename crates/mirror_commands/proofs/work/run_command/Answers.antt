@@ -222,7 +222,7 @@ pub returns-in-Err-run_ask-4-clause-folders : goal.returns-in-Err-run_ask-4-clau
 returns-in-Err-run_ask-4-clause-folders g c = rw c.in-Prove.is refl
 
 pub returns-in-Ok-run_serve-clause-answer : goal.returns-in-Ok-run_serve-clause-answer
-returns-in-Ok-run_serve-clause-answer g c = rw c.in-Serve.is (c.in-Ok-run_serve.ensures.line, refl)
+returns-in-Ok-run_serve-clause-answer g c = rw c.in-Serve.is (c.in-Ok-run_serve.ensures, refl)
 
 pub returns-in-Ok-run_serve-clause-files : goal.returns-in-Ok-run_serve-clause-files
 returns-in-Ok-run_serve-clause-files g c = rw c.in-Serve.is refl
@@ -231,7 +231,7 @@ pub returns-in-Ok-run_serve-clause-folders : goal.returns-in-Ok-run_serve-clause
 returns-in-Ok-run_serve-clause-folders g c = rw c.in-Serve.is refl
 
 pub returns-in-Err-run_serve-clause-answer : goal.returns-in-Err-run_serve-clause-answer
-returns-in-Err-run_serve-clause-answer g c = rw c.in-Serve.is c.in-Err-run_serve.ensures.line
+returns-in-Err-run_serve-clause-answer g c = rw c.in-Serve.is c.in-Err-run_serve.ensures
 
 pub returns-in-Err-run_serve-clause-files : goal.returns-in-Err-run_serve-clause-files
 returns-in-Err-run_serve-clause-files g c = rw c.in-Serve.is refl
