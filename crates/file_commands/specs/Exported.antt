@@ -38,5 +38,6 @@ module _ (digest : List ℕ → List ℕ) (origin : List ℕ) (keys : List Key)
   ExportsFile (Ok x) = ExportsOpened done
   ExportsFile (Err (State fault)) =
       OpensFile digest origin keys told name (Err fault) × (put ≡ before)
-  ExportsFile (Err OutOfMemory) = put ≡ before
+  ExportsFile (Err OutOfMemory) =
+      ((view : View) × OpensFile digest origin keys told name (Ok view)) × (put ≡ before)
   ExportsFile (Err (Export fault)) = ExportsOpened (failed fault)

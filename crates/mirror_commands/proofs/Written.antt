@@ -11,10 +11,6 @@ front_written (Ok x) old new bytes ok err =
     (length bytes, subst (Appends old new) (sym (take_all (length bytes) bytes (omega arith))) ok)
 front_written (Err e) old new bytes ok err = err
 
-pub front_of_whole : (old new : Option (List ℕ)) (bytes : List ℕ) → Appends old new bytes → AppendsPrefix old new bytes
-front_of_whole old new bytes h =
-    (length bytes, subst (Appends old new) (sym (take_all (length bytes) bytes (omega arith))) h)
-
 pub keeps_itself : (now : Option (List ℕ)) → Keeps now now
 keeps_itself None = tt
 keeps_itself (Some bytes) = refl

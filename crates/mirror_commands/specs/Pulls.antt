@@ -31,8 +31,7 @@ module _ (v : View) (pulled : Pulled) (out : List ℕ) (told left : Option (List
   TellsPulled old new (Err other) = ⊥
 
 module _ (digest : List ℕ → List ℕ) (origin : List ℕ) (keys : List Key)
-    (state : Option (List ℕ)) (out : List ℕ) (told left : Option (List NamedFile))
-    (old new : Option (List ℕ)) where
+    (state : Option (List ℕ)) (told : Option (List NamedFile)) where
   -- a pull from some source began with the mirror of the file that is named, or where none is with
   -- one that holds nothing, and came to this view, with this answer
   pub record PullsFromFile (v : View) (answer : Result Pulled PullFault) : Type 0 where
@@ -46,15 +45,16 @@ module _ (digest : List ℕ → List ℕ) (origin : List ℕ) (keys : List Key)
   PullsNothing (Err (Work (Pull fault))) = (v : View) × PullsFromFile v (Err fault)
   PullsNothing other = ⊥
 
-  -- a pull came to its end, and that was told so
-  pub record PullsAndTells (answer : Result ℕ TellFault) : Type 0 where
-    pub view : View
-    pub pulled : Pulled
-    pub pulls : PullsFromFile view (Ok pulled)
-    pub tells : TellsPulled view pulled out told left old new answer
+  module _ (out : List ℕ) (left : Option (List NamedFile)) (old new : Option (List ℕ)) where
+    -- a pull came to its end, and that was told so
+    pub record PullsAndTells (answer : Result ℕ TellFault) : Type 0 where
+      pub view : View
+      pub pulled : Pulled
+      pub pulls : PullsFromFile view (Ok pulled)
+      pub tells : TellsPulled view pulled out told left old new answer
 
-  -- what each answer of `pull` says: a pull came to its end, its state was written, and then its
-  -- two lines; or there was nothing to tell, and all is as it was
-  abbrev pub TellsPull : Result ℕ TellFault → Type 0
-  TellsPull answer =
-      (PullsNothing answer × (left ≡ told) × Keeps old new) ⊎ PullsAndTells answer
+    -- what each answer of `pull` says: a pull came to its end, its state was written, and then its
+    -- two lines; or there was nothing to tell, and all is as it was
+    abbrev pub TellsPull : Result ℕ TellFault → Type 0
+    TellsPull answer =
+        (PullsNothing answer × (left ≡ told) × Keeps old new) ⊎ PullsAndTells answer

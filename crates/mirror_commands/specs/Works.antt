@@ -61,19 +61,20 @@ TellsPort port old new (Err other) = ⊥
 
 module _
     (digest : List ℕ → List ℕ) (keys : List Key) (told : Option (List NamedFile)) (name : List ℕ)
-    (origin : List ℕ) (port : ℕ) (old new : Option (List ℕ)) where
+    (origin : List ℕ) where
   -- no mirror was opened of the state file, as the fault says
   abbrev pub OpensNothing : {T : Type 0} → Result T TellFault → Type 0
   OpensNothing (Err (Work (State fault))) = OpensFile digest origin keys told name (Err fault)
   OpensNothing other = ⊥
 
-  -- a mirror was opened of the state file, and the port was told so
-  pub record OpensAndTells {T : Type 0} (answer : Result T TellFault) : Type 0 where
-    pub view : View
-    pub opened : OpensFile digest origin keys told name (Ok view)
-    pub tells : TellsPort port old new answer
+  module _ (port : ℕ) (old new : Option (List ℕ)) where
+    -- a mirror was opened of the state file, and the port was told so
+    pub record OpensAndTells {T : Type 0} (answer : Result T TellFault) : Type 0 where
+      pub view : View
+      pub opened : OpensFile digest origin keys told name (Ok view)
+      pub tells : TellsPort port old new answer
 
-  -- what each answer of `serve` says: a mirror was opened, and its port told; or none was, and
-  -- nothing was written
-  abbrev pub ServesState : {T : Type 0} → Result T TellFault → Type 0
-  ServesState answer = (OpensNothing answer × Keeps old new) ⊎ OpensAndTells answer
+    -- what each answer of `serve` says: a mirror was opened, and its port told; or none was, and
+    -- nothing was written
+    abbrev pub ServesState : {T : Type 0} → Result T TellFault → Type 0
+    ServesState answer = (OpensNothing answer × Keeps old new) ⊎ OpensAndTells answer

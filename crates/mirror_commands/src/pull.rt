@@ -38,7 +38,7 @@ pub(crate) fn run_pull<R: Files + Clock + Net<Stream = TcpStream>, F: NamedFiles
     keys: &[Box<dyn Verifier>],
     output: &mut W,
 ) -> Result<u8, TellFault>
-    ensures answer { TellsPull sha256 words.now.made.log.origin.now (map (λ k. key k) keys.now) (option_map (λ name. name.now) words.now.state) words.now.made.out.now (F.puts files.old) (F.puts files.new) (W.contents output.old) (W.contents output.new) result }
+    ensures answer { TellsPull sha256 words.now.made.log.origin.now (map (λ k. key k) keys.now) (option_map (λ name. name.now) words.now.state) (F.puts files.old) words.now.made.out.now (F.puts files.new) (W.contents output.old) (W.contents output.new) result }
     ensures status { IfOk result IsStatus }
     ensures quiet { IfErr result (λ fault. fault ≢ TellFault.WriteFault → Keeps (W.contents output.old) (W.contents output.new)) }
 {

@@ -1,8 +1,8 @@
 //! What words ask for that no transcript can show.
 use crate::states::{BUNDLE, COMPLETE, NOTE, ROW};
-use command_line::{Command, Place, read_words};
+use command_line::{Command, CommandFault, Place, read_words};
 use file_commands::{MemoryFiles, MemoryFolders, NamedFault, NamedFiles};
-use mirror_commands::{RunFault, run_named};
+use mirror_commands::{RunFault, carry_out, run_named, told};
 use std::alloc::{AllocError, Global};
 use std::test::Fail;
 
@@ -42,34 +42,36 @@ fn put(files: &mut MemoryFiles, name: &str, bytes: &[u8]) -> Result<(), NamedFau
     files.replace(name, bytes)
 }
 
-// Runs a line over files and folders in memory. It tells nothing of it either.
+// The status of a line that is run over files and folders in memory, and all that it says of a fault. It tells nothing of
+// it either.
 fn run_line(
     rt: &HostRuntime,
     files: &mut MemoryFiles,
     folders: &mut MemoryFolders,
     line: &str,
     mut input: &[u8],
-) -> Result<u8, RunFault> {
+    errors: &mut Vec<u8>,
+) -> u8 {
     let alloc = rt.alloc();
-    let Ok(words) = words_of(alloc, line) else {
-        return Err(RunFault::Command(command_line::CommandFault::OutOfMemory));
-    };
     let mut output = Vec::new(alloc);
-    let mut errors = Vec::new(alloc);
-    run_named(
-        rt,
-        files,
-        folders,
-        alloc,
-        &words,
-        &mut input,
-        &mut output,
-        &mut errors,
-    )
+    let answer = match words_of(alloc, line) {
+        Ok(words) => run_named(
+            rt,
+            files,
+            folders,
+            alloc,
+            &words,
+            &mut input,
+            &mut output,
+            errors,
+        ),
+        Err(_) => Err(RunFault::Command(CommandFault::OutOfMemory)),
+    };
+    carry_out(&told(alloc, answer), &mut output, errors)
 }
 
 // A log is built into one folder, and the mirror of it exported into another, with a key file in memory. Once more into
-// either is refused.
+// either is refused, since it has a checkpoint.
 #[test]
 fn folders_in_memory(rt: HostRuntime) -> Result<(), Fail> {
     let alloc = rt.alloc();
@@ -77,17 +79,28 @@ fn folders_in_memory(rt: HostRuntime) -> Result<(), Fail> {
     put(&mut files, "keys", b"hmac ex 00000001 00\n")?;
     put(&mut files, "state", COMPLETE)?;
     let mut folders = MemoryFolders::new(alloc);
-    for (line, status) in [
-        ("build --origin ex --keys keys --dir built", 0),
-        ("export --origin ex --keys keys --state state --dir copy", 0),
-        ("build --origin ex --keys keys --dir copy", 1),
+    for (line, status, said) in [
+        ("build --origin ex --keys keys --dir built", 0, ""),
+        (
+            "export --origin ex --keys keys --state state --dir copy",
+            0,
+            "",
+        ),
+        (
+            "build --origin ex --keys keys --dir copy",
+            1,
+            "tlogmirror: ShelfInUse\n",
+        ),
         (
             "export --origin ex --keys keys --state state --dir built",
             1,
+            "tlogmirror: ShelfInUse\n",
         ),
     ] {
-        let answer = run_line(&rt, &mut files, &mut folders, line, BUNDLE);
-        assert!(rt; answer.is_ok() == (status == 0), "{line}");
+        let mut errors = Vec::new(alloc);
+        let ended = run_line(&rt, &mut files, &mut folders, line, BUNDLE, &mut errors);
+        assert!(rt; ended == status, "{line}");
+        assert!(rt; errors.as_slice() == said.as_bytes(), "{line}");
     }
     let files = [
         ("tile/0/000.p/3", ROW),
