@@ -46,13 +46,20 @@ understood words name options (Err BadArgument) calls u = (
 )
 understood words name options (Err OutOfMemory) calls u = tt
 
+-- words that name no command are no command line
+pub nothing_named : (words : List Text) (m : ArgMatches) (name : Text) (options : List Row)
+    → HasMatchesOf mirror_app words m → None ≡ option_map (λ p. p.1) (subcommand_rows_of m)
+    → Calls words name options → ⊥
+nothing_named words m name options matches r calls =
+    let same : subcommand_rows_of m ≡ Some (name, options) = (matches refl).1 ∙ calls.named in
+    let bad : None ≡ Some options = r ∙ ap (option_map (λ (p : Text × List Row). p.1)) same in
+    true≢false (ap is_some (sym bad))
+
 -- words that name no command ask for none
 pub nothing_called : (words : List Text) (m : ArgMatches) → HasMatchesOf mirror_app words m →
     None ≡ option_map (λ p. p.1) (subcommand_rows_of m) → AsksNone words
 nothing_called words m matches r command asked =
-    let same : subcommand_rows_of m ≡ Some (name_of command, asked.0) = (matches refl).1 ∙ asked.1.named in
-    let bad : None ≡ Some asked.0 = r ∙ ap (option_map (λ (p : Text × List Row). p.1)) same in
-    true≢false (ap is_some (sym bad))
+    nothing_named words m (name_of command) asked.0 matches r asked.1
 
 -- a fault of the parser, as the program tells it
 pub refused : (words : List Text) (e : Error) (fault : CommandFault) → HasKind (faults words) e →
@@ -65,11 +72,12 @@ refused words e BadArgument h told = absurd told
 refused words e OutOfMemory h told = tt
 
 -- the same, of the reader of the file of keys
-pub keys_refused : (words : List Text) (fault : CommandFault) → Reads words (Err fault) → ReadsKeyFile words (Err fault)
-keys_refused words (Help text) h = h
-keys_refused words (Words text) h = h
-keys_refused words BadArgument h = h
-keys_refused words OutOfMemory h = tt
+pub keys_refused : (words : List Text) (e : Error) (fault : CommandFault) → HasKind (faults words) e →
+    Tells (kind_of e) fault → ReadsKeyFile words (Err fault)
+keys_refused words e (Help text) h told = refused words e (Help text) h told
+keys_refused words e (Words text) h told = refused words e (Words text) h told
+keys_refused words e BadArgument h told = absurd told
+keys_refused words e OutOfMemory h told = tt
 
 pub keys_read : (words : List Text) (name : Text) (options : List Row) (keys : Option Text) → Calls words name options →
     first_of (codes "keys") options ≡ keys → ReadsKeyFile words (Ok keys)

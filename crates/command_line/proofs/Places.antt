@@ -11,7 +11,7 @@ use Rattle.std.specs.Str.Parse.{AllDigits}
 use Rattle.std.specs.Char.{digit_value}
 use Rattle.signed_note.proofs.Lacking.{Lacks, Lacks-from_reads}
 use Rattle.tlog_text.specs.Number.{IsDecimal}
-use Rattle.mirror_http.specs.Site.{slash, IsSitePrefix}
+use Rattle.mirror_client.specs.Site.{slash, IsSitePrefix}
 use Rattle.command_line.specs.Commands.{IsEmptyOrSlash, IsNumberIn, IsPlace, IsServer, colon}
 use Rattle.command_line.specs.declared.command.Place.{Place}
 use Rattle.command_line.specs.declared.command.Place.TheVariants.{Folder, Server}

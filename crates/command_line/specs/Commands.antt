@@ -11,7 +11,7 @@ use Rattle.tlog_text.specs.Hash.{IsHashText}
 use Rattle.tlog_shape.specs.declared.TheConstants.{MAX_SIZE}
 use Rattle.tlog_proof.specs.declared.proof.Ask.{Ask}
 use Rattle.tlog_proof.specs.declared.proof.Ask.TheVariants.{Inclusion, Consistency}
-use Rattle.mirror_http.specs.Site.{IsHost, IsSitePrefix, slash}
+use Rattle.mirror_client.specs.Site.{IsHost, IsSitePrefix, slash}
 use Rattle.command_line.specs.App.{mirror_app}
 use Rattle.command_line.specs.declared.command.Command.{Command}
 use Rattle.command_line.specs.declared.command.Command.TheVariants as order

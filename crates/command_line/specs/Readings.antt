@@ -40,13 +40,14 @@ pub record HasNoKeys (words : List Text) : Type 0 where
   pub calls : Calls words name options
   pub given : first_of (codes "keys") options ≡ None
 
--- what each answer of the reader of the file of keys says of the words
+-- what each answer of the reader of the file of keys says of the words: whatever the options'
+-- values, it is never BadArgument
 abbrev pub ReadsKeyFile : List Text → Result (Option Text) CommandFault → Type 0
 ReadsKeyFile words (Ok (Some keys)) = HasKeys words keys
 ReadsKeyFile words (Ok None) = HasNoKeys words
 ReadsKeyFile words (Err (Help text)) = (k : ErrorKind) × IsAmong k (faults words) × IsHelp k
 ReadsKeyFile words (Err (Words text)) = (k : ErrorKind) × IsAmong k (faults words) × (IsHelp k → ⊥)
-ReadsKeyFile words (Err BadArgument) = (faults words ≡ []) × AsksNone words
+ReadsKeyFile words (Err BadArgument) = ⊥
 ReadsKeyFile words (Err OutOfMemory) = Unit {0}
 
 -- what an answer of the reader of a part says: the part is so, or no part is

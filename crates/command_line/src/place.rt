@@ -2,12 +2,12 @@
 ghost use Rattle.std.specs.Prelude.{◌≡◌, ◌≢◌, ◌++◌, ◌∷◌, ℕ, ◌<◌, IfNone, IfSome, codes, length, slice_index};
 ghost use Rattle.command_line.specs.Commands.{IsEmptyOrSlash, IsHostAndPrefix, IsPlace, colon};
 ghost use Rattle.command_line.specs.Readings.{Decides};
-ghost use Rattle.mirror_http.specs.Site.{slash};
+ghost use Rattle.mirror_client.specs.Site.{slash};
 
 use crate::command::Place;
 use crate::fault::CommandFault;
 use crate::parts::number_in;
-use mirror_http::{Site, SiteFault};
+use mirror_client::{Site, SiteFault};
 use std::alloc::Global;
 
 // What stands before the first slash, and what follows, with that slash.

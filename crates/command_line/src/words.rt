@@ -85,8 +85,8 @@ pub fn read_words<'a>(alloc: Global, words: &'a [String]) -> Result<Command<'a>,
 ///
 /// # Errors
 ///
-/// `Help` and `Words` come with the text of `clap`, and `BadArgument` where the words name no command.
-/// `OutOfMemory` comes where memory was refused.
+/// `Help` and `Words` come with the text of `clap`. `OutOfMemory` comes where memory was refused. `BadArgument` never
+/// comes here: it is told behind the faults of the key file.
 pub fn key_file<'a>(alloc: Global, words: &'a [String]) -> Result<Option<&'a str>, CommandFault>
     ensures { ReadsKeyFile (map string_bytes words.now) (seen (option_map (λ k. k.now)) result) }
 {
@@ -96,6 +96,7 @@ pub fn key_file<'a>(alloc: Global, words: &'a [String]) -> Result<Option<&'a str
     };
     match matches.subcommand() {
         Some((_name, found)) => Ok(found.get_str("keys")),
+        // It never comes here: words in which `clap` finds nothing wrong name a command.
         None => Err(CommandFault::BadArgument),
     }
 }

@@ -4,9 +4,9 @@ use Rattle.log_sources.specs.Told.{AddsTold}
 use Rattle.signed_note.specs.Keys.{Key}
 use Rattle.mirror_model.specs.Origin.{IsOrigin}
 use Rattle.mirror_model.specs.View.{View, nothing}
-use Rattle.mirror_files.specs.Loading.{Loads}
-use Rattle.mirror_files.specs.StateText.{StateText}
-use Rattle.mirror_files.specs.declared.fault.LoadFault.{LoadFault}
+use Rattle.mirror_state.specs.Loading.{Loads}
+use Rattle.mirror_state.specs.StateText.{StateText}
+use Rattle.mirror_state.specs.declared.fault.LoadFault.{LoadFault}
 use Rattle.tlog_mirror.specs.declared.fault.NewFault.TheVariants as made
 use Rattle.state_commands.specs.NoteFiles.{NamedFile}
 use Rattle.file_commands.specs.Named.{FailsToPut, ReadsFile, TellsFile}

@@ -3,10 +3,9 @@ ghost use Rattle.std.specs.Prelude.{map};
 ghost use Rattle.file_commands.specs.Exported.{CountsFileExport, ExportsFile};
 
 use crate::fault::ExportFileFault;
-use crate::folders::NamedFolders;
 use crate::named::NamedFiles;
 use crate::state::loaded;
-use mirror_folders::export;
+use mirror_folders::{NamedFolders, export};
 use signed_note::Verifier;
 use std::alloc::Global;
 use tlog_hash::TreeHash;

@@ -1,6 +1,6 @@
 //! Why a command over named files is not done.
-use mirror_files::LoadFault;
 use mirror_folders::ExportFault;
+use mirror_state::LoadFault;
 use thiserror::Error;
 use tlog_mirror::{MergeFault, NewFault, TakeFault};
 

@@ -10,7 +10,6 @@
 
 mod export;
 mod fault;
-mod folders;
 mod item;
 mod laws;
 mod memory;
@@ -27,12 +26,12 @@ pub use export::run_export;
 pub use fault::{
     ExportFileFault, MergeFilesFault, NamedFault, NotesFault, StateFault, TakeFilesFault,
 };
-pub use folders::NamedFolders;
 pub use item::ItemFiles;
 pub use laws::{kept_files_law, standing_notes_law};
 pub use memory::MemoryFiles;
 pub use memory_folders::MemoryFolders;
 pub use merge::run_merge;
+pub use mirror_folders::NamedFolders;
 pub use named::{MOST_BYTES, NamedFiles};
 pub use notes::run_notes;
 pub use state::{begun, loaded, write_state};

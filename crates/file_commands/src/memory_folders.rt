@@ -4,8 +4,7 @@ ghost use Rattle.std.specs.Str.{bytes_eq};
 ghost use Rattle.mirror_folders.specs.Shelf.{HasPut};
 ghost use Rattle.file_commands.specs.Folders.{put_into};
 
-use crate::folders::NamedFolders;
-use mirror_folders::{Shelf, ShelfError};
+use mirror_folders::{NamedFolders, Shelf, ShelfError};
 use std::alloc::{AllocError, Global};
 use std::marker::Model;
 use tlog_tiles::Path;

@@ -1,12 +1,12 @@
 //! Mirrors read from state files, and written to them.
 ghost use Rattle.std.specs.Prelude.{IfOk, map, option_map};
-ghost use Rattle.mirror_files.specs.StateText.{StateText};
+ghost use Rattle.mirror_state.specs.StateText.{StateText};
 ghost use Rattle.tlog_text.specs.Answers.{seen};
 ghost use Rattle.file_commands.specs.States.{BeginsWith, OpensFile, SavesFile};
 
 use crate::fault::{NamedFault, StateFault};
 use crate::named::NamedFiles;
-use mirror_files::{load, save};
+use mirror_state::{load, save};
 use signed_note::Verifier;
 use state_commands::check_origin;
 use std::alloc::{AllocError, Global};
@@ -22,7 +22,7 @@ use tlog_mirror::Mirror;
 /// # Errors
 ///
 /// The first that applies: `Origin`, as of `Mirror::new`; `File`, where the file is not read; `Load`, with the fault of
-/// `mirror_files::load`. Want of memory is told in each of them.
+/// `mirror_state::load`. Want of memory is told in each of them.
 pub fn loaded<H: TreeHash, F: NamedFiles>(
     files: &F,
     alloc: Global,

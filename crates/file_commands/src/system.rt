@@ -1,6 +1,7 @@
 //! The files of the system.
-ghost use Rattle.std.specs.Prelude.{◌≤◌, IfOk, vec_len};
-ghost use Rattle.file_commands.specs.Named.{most_bytes};
+ghost use Rattle.std.specs.Prelude.{◌≤◌, ◌≢◌, [], IfOk, None, vec_len};
+ghost use Rattle.tlog_text.specs.Answers.{seen};
+ghost use Rattle.file_commands.specs.Named.{ReadsFile, ReadsShort, TellsFolder, TellsReplace, most_bytes};
 
 use crate::fault::NamedFault;
 use crate::named::{MOST_BYTES, NamedFiles};
@@ -17,7 +18,7 @@ const MOST_READS: u64 = 16_777_216;
 /// The files of the system. What they have no contract says.
 ///
 /// A file is replaced as `mirror_folders::replace_file` does. What is there and is no plain file, as a device, is
-/// written to as it is. A folder cannot be read or written.
+/// written to as it is. A folder cannot be read or written, and an empty name is one of no file and of no folder.
 ///
 /// ```text
 /// let files = SystemFiles::new(&rt, alloc);
@@ -37,14 +38,27 @@ impl<'a, R: Files> SystemFiles<'a, R> {
 }
 
 impl<'a, R: Files> NamedFiles for SystemFiles<'a, R> {
-    fn read(&self, name: &str) -> Result<Vec<u8>, NamedFault> {
+    fn read(&self, name: &str) -> Result<Vec<u8>, NamedFault>
+        ensures bytes { ReadsShort None name.now (seen (λ bytes. bytes.items) result) }
+        ensures short { IfOk result (λ bytes. vec_len bytes ≤ most_bytes) }
+        ensures named { IfOk result (λ _. name.now ≢ []) }
+    {
+        if name.is_empty() {
+            return Err(NamedFault::FileFault);
+        }
         match fs::open(self.files, name) {
             Ok(mut file) => read_short(self.alloc, &mut file),
             Err(e) => Err(named_fault(&e)),
         }
     }
 
-    fn read_state(&self, name: &str) -> Result<Vec<u8>, NamedFault> {
+    fn read_state(&self, name: &str) -> Result<Vec<u8>, NamedFault>
+        ensures bytes { ReadsFile None name.now (seen (λ bytes. bytes.items) result) }
+        ensures named { IfOk result (λ _. name.now ≢ []) }
+    {
+        if name.is_empty() {
+            return Err(NamedFault::FileFault);
+        }
         match fs::open(self.files, name) {
             Ok(mut file) => read_long(self.alloc, &mut file),
             Err(e) => Err(named_fault(&e)),
@@ -55,7 +69,13 @@ impl<'a, R: Files> NamedFiles for SystemFiles<'a, R> {
         fs::metadata(self.files, name).is_ok()
     }
 
-    fn replace(&mut self, name: &str, bytes: &[u8]) -> Result<(), NamedFault> {
+    fn replace(&mut self, name: &str, bytes: &[u8]) -> Result<(), NamedFault>
+        ensures put { TellsReplace None None (name.now, bytes.now) result }
+        ensures named { IfOk result (λ _. name.now ≢ []) }
+    {
+        if name.is_empty() {
+            return Err(NamedFault::FileFault);
+        }
         let written = if is_special(self.files, name) {
             write_in_place(self.files, name, bytes)
         } else {
@@ -67,7 +87,13 @@ impl<'a, R: Files> NamedFiles for SystemFiles<'a, R> {
         }
     }
 
-    fn make_folder(&self, name: &str) -> Result<(), NamedFault> {
+    fn make_folder(&self, name: &str) -> Result<(), NamedFault>
+        ensures made { TellsFolder None result }
+        ensures named { IfOk result (λ _. name.now ≢ []) }
+    {
+        if name.is_empty() {
+            return Err(NamedFault::FileFault);
+        }
         match fs::create_dir_all(self.files, name) {
             Ok(()) => Ok(()),
             Err(_) => Err(NamedFault::FileFault),

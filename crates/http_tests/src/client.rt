@@ -1,5 +1,7 @@
 //! The client: its requests, the replies that it reads, and its source over connections that give one reply.
 mod canned;
+mod connections;
+mod pulls;
 mod replies;
 mod sites;
 mod sources;

@@ -1,4 +1,4 @@
-//! The tests of what reads and writes streams: `byte_streams`, the client `mirror_http` and the server `mirror_server`.
+//! The tests of what reads and writes streams: `byte_streams`, and the client and the server of `mirror_http`.
 //!
 //! They stand in a crate of their own, since a crate's tests are checked together with the crate again. There is no other
 //! code.

@@ -6,7 +6,7 @@ mod streams;
 ghost use Rattle.std.specs.Prelude.{codes, ◌∷◌, []};
 ghost use Rattle.std.specs.Str.{bytes_eq};
 
-use mirror_server::{HttpFault, answer};
+use mirror_http::{HttpFault, answer};
 use signed_note::Verifier;
 use std::alloc::{AllocError, Global};
 use std::io::{Read, Write};
@@ -21,7 +21,8 @@ const NOTE: &str =
 const BAD_REQUEST: &str =
     "HTTP/1.1 400 Bad Request\r\nContent-Length: 0\r\nConnection: close\r\n\r\n";
 
-const NOT_FOUND: &str = "HTTP/1.1 404 Not Found\r\nContent-Length: 0\r\nConnection: close\r\n\r\n";
+pub(crate) const NOT_FOUND: &str =
+    "HTTP/1.1 404 Not Found\r\nContent-Length: 0\r\nConnection: close\r\n\r\n";
 
 const NOT_ALLOWED: &str =
     "HTTP/1.1 405 Method Not Allowed\r\nAllow: GET\r\nContent-Length: 0\r\nConnection: close\r\n\r\n";
@@ -71,7 +72,7 @@ fn take_head_of_3<H: TreeHash>(alloc: Global, mirror: &mut Mirror<H>) -> Result<
 }
 
 // A mirror that is complete at the three entries.
-fn mirror_of_3<H: TreeHash>(alloc: Global) -> Result<Mirror<H>, Fail> {
+pub(crate) fn mirror_of_3<H: TreeHash>(alloc: Global) -> Result<Mirror<H>, Fail> {
     let mut mirror = Mirror::<H>::new(alloc, "ex")?;
     take_head_of_3(alloc, &mut mirror)?;
     mirror.take_bundle(alloc, 3, b"\x00\x00\x00\x01\x00\x00\x01\x10")?;
@@ -79,7 +80,7 @@ fn mirror_of_3<H: TreeHash>(alloc: Global) -> Result<Mirror<H>, Fail> {
 }
 
 // Answers a client. It ensures nothing, so that its callers are cheap to check.
-fn answered<H: TreeHash, R: Read, W: Write>(
+pub(crate) fn answered<H: TreeHash, R: Read, W: Write>(
     alloc: Global,
     mirror: &Mirror<H>,
     reader: &mut R,

@@ -14,9 +14,10 @@ use Rattle.file_commands.specs.declared.fault.NamedFault.{NamedFault}
 use Rattle.command_line.specs.declared.command.Command.{Command as Order}
 use Rattle.command_line.specs.declared.fault.CommandFault.{CommandFault}
 use Rattle.command_line.specs.Commands.{Asks}
-use Rattle.command_line.specs.Readings.{HasKeys, HasNoKeys, Reads}
+use Rattle.command_line.specs.Readings.{HasKeys, HasNoKeys, Reads, ReadsKeyFile}
 use Rattle.mirror_commands.specs.declared.fault.RunFault.{RunFault}
 use Rattle.mirror_commands.specs.declared.fault.RunFault.TheVariants.{Command, KeyFile, KeyLines}
+use Rattle.mirror_commands.specs.declared.fault.RunFault.TheVariants.{OutOfMemory}
 use Rattle.mirror_commands.specs.Done.{Does, LeavesFiles, LeavesFolders}
 
 module _ (digest : List ℕ → List ℕ) (keys : List Key) (key_bytes : List ℕ)
@@ -57,6 +58,17 @@ key_of (Pin texts) = pinned_key texts
 abbrev pub no_lines : KeyFileFault → Result (List KeyLine) KeyFileFault
 no_lines fault = Err fault
 
+-- the key file's name, where the words give none
+abbrev pub no_name : CommandFault → Result (Option (List ℕ)) CommandFault
+no_name fault = Err fault
+
+-- what each answer of the finder of the key file's name says of the words
+abbrev pub NamesKeyFile : List (List ℕ) → Result (Option (List ℕ)) RunFault → Type 0
+NamesKeyFile words (Ok name) = ReadsKeyFile words (Ok name)
+NamesKeyFile words (Err (Command fault)) = ReadsKeyFile words (no_name fault)
+NamesKeyFile words (Err OutOfMemory) = Unit {0}
+NamesKeyFile words (Err other) = ⊥
+
 -- the bytes of a file that was not read
 abbrev pub no_bytes : NamedFault → Result (List ℕ) NamedFault
 no_bytes fault = Err fault
@@ -84,9 +96,10 @@ module _ (told : Option (List NamedFile)) (words : List (List ℕ)) where
     pub are_bytes : AreKeyBytes bytes
     pub reads : ReadsKeys bytes (no_lines fault)
 
-  -- what a fault at the keys says of the words, and of their key file
+  -- what a fault at the keys says of the words, and of their key file: BadArgument is none, since it
+  -- is told behind the key file's own faults
   abbrev pub FailsAtKeys : RunFault → Type 0
-  FailsAtKeys (Command fault) = Reads words (Err fault)
+  FailsAtKeys (Command fault) = ReadsKeyFile words (no_name fault)
   FailsAtKeys (KeyFile fault) = LacksKeyFile fault
   FailsAtKeys (KeyLines fault) = LacksKeyLines fault
   FailsAtKeys other = ⊥

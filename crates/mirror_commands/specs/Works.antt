@@ -1,11 +1,13 @@
 -- What each answer of a command over a state file says of it, and of what was written to standard
--- output.
+-- output. `connection_fault` is cited by the contracts of private functions alone.
 use Rattle.std.specs.Prelude.{◌≡◌, ◌⊎◌, ℕ, List, ◌++◌, Option, Result, Ok, Err, codes}
 use Rattle.std.specs.Fmt.{decimal}
 use Rattle.std.specs.Io.KnownBytes.{Appends, Keeps}
 use Rattle.byte_streams.specs.Streams.{AppendsPrefix}
 use Rattle.signed_note.specs.Keys.{Key}
 use Rattle.mirror_model.specs.View.{View}
+use Rattle.mirror_server.specs.declared.fault.HttpFault.{HttpFault}
+use Rattle.mirror_server.specs.declared.fault.HttpFault.TheVariants as http
 use Rattle.state_commands.specs.NoteFiles.{NamedFile}
 use Rattle.state_commands.specs.Questions.{AnswersQuestion}
 use Rattle.state_commands.specs.declared.question.Question.{Question}
@@ -43,6 +45,12 @@ module _
   AsksState (Err other) = ⊥
 
 -- ---- serve
+
+-- the name of the fault of a connection
+abbrev pub connection_fault : HttpFault → List ℕ
+connection_fault http.ReadFault = codes "ReadFault"
+connection_fault http.WriteFault = codes "WriteFault"
+connection_fault http.OutOfMemory = codes "OutOfMemory"
 
 -- the line that tells where connections are accepted
 abbrev pub listening_text : ℕ → List ℕ

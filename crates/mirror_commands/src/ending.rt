@@ -93,7 +93,7 @@ pub fn told(alloc: Global, answer: Result<u8, RunFault>) -> Ending
 }
 
 // Writes the text, as far as the stream takes it.
-fn write_front<W: Write>(writer: &mut W, text: &[u8])
+pub(crate) fn write_front<W: Write>(writer: &mut W, text: &[u8])
     ensures { AppendsPrefix (W.contents writer.old) (W.contents writer.new) text.now }
 {
     match write_whole(writer, text) {

@@ -62,6 +62,9 @@ pub enum RunFault {
     /// Not as many connections were answered as were asked for.
     #[error(transparent)]
     Serve(TellFault),
+    /// Memory was refused for the name of the key file.
+    #[error("OutOfMemory")]
+    OutOfMemory,
 }
 
 /// Why a command over files was not done. It prints the name of the innermost variant.

@@ -1,10 +1,9 @@
 //! The key file that the words name.
-ghost use Rattle.std.specs.Prelude.{map, string_bytes};
+ghost use Rattle.std.specs.Prelude.{map, option_map, string_bytes};
 ghost use Rattle.tlog_text.specs.Answers.{seen};
-ghost use Rattle.mirror_commands.specs.Runs.{FindsKeys};
+ghost use Rattle.mirror_commands.specs.Runs.{FindsKeys, NamesKeyFile};
 
 use crate::fault::RunFault;
-use command_line::key_file;
 use file_commands::NamedFiles;
 use std::alloc::Global;
 
@@ -20,12 +19,35 @@ pub(crate) fn key_bytes<F: NamedFiles>(
 ) -> Result<Vec<u8>, RunFault>
     ensures { FindsKeys (F.puts files.now) (map string_bytes words.now) (seen (λ bytes. bytes.items) result) }
 {
-    match key_file(alloc, words) {
+    match command_line::key_file(alloc, words) {
         Ok(Some(name)) => match files.read(name) {
             Ok(bytes) => Ok(bytes),
             Err(fault) => Err(RunFault::KeyFile(fault)),
         },
         Ok(None) => Ok(Vec::new(alloc)),
+        Err(fault) => Err(RunFault::Command(fault)),
+    }
+}
+
+/// The name of the key file that the words give: the word of `--keys`, and None for `root` and `check`, which have none.
+///
+/// ```text
+/// key_file(alloc, &words)   // Ok(Some("keys"))
+/// ```
+///
+/// # Errors
+///
+/// `Command` with what `clap` finds, help too, and never with `BadArgument`: no other option is judged here.
+/// `OutOfMemory` where memory was refused for the name.
+pub fn key_file(alloc: Global, words: &[String]) -> Result<Option<String>, RunFault>
+    ensures { NamesKeyFile (map string_bytes words.now) (seen (option_map string_bytes) result) }
+{
+    match command_line::key_file(alloc, words) {
+        Ok(Some(name)) => match String::from_str(alloc, name) {
+            Ok(name) => Ok(Some(name)),
+            Err(_) => Err(RunFault::OutOfMemory),
+        },
+        Ok(None) => Ok(None),
         Err(fault) => Err(RunFault::Command(fault)),
     }
 }

@@ -4,7 +4,7 @@
 //! ```text
 //! let mut files = SystemFiles::new(&rt, alloc);
 //! let mut folders = SystemFolders::new(&rt, alloc);
-//! run_named(&rt, &mut files, &mut folders, alloc, &words, &mut input, &mut output, &mut errors)? // 0, or 3 for a no
+//! run_named(&rt, alloc, &mut files, &mut folders, &words, &mut input, &mut output, &mut errors)? // 0, or 3 for a no
 //! ```
 #![tactic(auto)]
 
@@ -22,7 +22,7 @@ mod work;
 
 pub use ending::{Ending, Said, Stream, carry_out, told};
 pub use fault::{RunFault, TellFault, WorkFault};
+pub use keys::key_file;
 pub use laws::signing_key_law;
-pub use running::{run, run_named, run_words};
-pub use serve::answer_one;
-pub use work::run_command;
+pub use running::{run, run_named, run_words, run_words_over};
+pub use stream_commands::{CheckFault, EntriesFault, RootFault, read_entries, run_check, run_root};

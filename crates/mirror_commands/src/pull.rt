@@ -10,8 +10,8 @@ use crate::fault::{TellFault, WorkFault};
 use byte_streams::write_whole;
 use command_line::{Place, Pull};
 use file_commands::{NamedFiles, begun, write_state};
+use mirror_client::{HttpSource, Site, TcpDial};
 use mirror_folders::DirSource;
-use mirror_http::{HttpSource, Site, TcpDial};
 use mirror_pull::{PullFault, Pulled, pull};
 use mirror_updates::{pulled_status, pulled_text};
 use signed_note::Verifier;
@@ -121,7 +121,7 @@ fn from_server<H: TreeHash, N: Net<Stream = TcpStream> + Clock + Clone + Drop>(
 ) -> Result<Pulled, PullFault>
     ensures { PullsTo H.digest (map (λ k. key k) keys.now) mirror.old.view mirror.new.view result }
 {
-    let Ok(dial) = TcpDial::new(alloc, net, host, port) else {
+    let Ok(dial) = TcpDial::new(net, alloc, host, port) else {
         return Err(PullFault::OutOfMemory);
     };
     let mut source = HttpSource::new(alloc, site, dial);

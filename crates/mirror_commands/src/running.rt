@@ -43,9 +43,9 @@ where
     let mut folders = SystemFolders::new(rt, alloc);
     run_named(
         rt,
+        alloc,
         &mut files,
         &mut folders,
-        alloc,
         words,
         input,
         output,
@@ -61,9 +61,9 @@ where
 #[allow(clippy::too_many_arguments)]
 pub fn run_named<R, F: NamedFiles, D: NamedFolders, I: Read, O: Write, E: Write>(
     rt: &R,
+    alloc: Global,
     files: &mut F,
     folders: &mut D,
-    alloc: Global,
     words: &[String],
     input: &mut I,
     output: &mut O,
@@ -77,7 +77,7 @@ where
 {
     match key_bytes(files, alloc, words) {
         Ok(bytes) => run_keyed(
-            rt, files, folders, alloc, words, &bytes, input, output, errors,
+            rt, alloc, files, folders, words, &bytes, input, output, errors,
         ),
         Err(fault) => Err(fault),
     }
@@ -88,9 +88,9 @@ where
 #[allow(clippy::too_many_arguments)]
 fn run_keyed<R, F: NamedFiles, D: NamedFolders, I: Read, O: Write, E: Write>(
     rt: &R,
+    alloc: Global,
     files: &mut F,
     folders: &mut D,
-    alloc: Global,
     words: &[String],
     key_bytes: &[u8],
     input: &mut I,
@@ -129,24 +129,67 @@ where
             }
         }
     }
-    run_words(
-        rt, files, folders, alloc, words, key_bytes, &keys, input, output, errors,
+    run_words_over(
+        rt, alloc, files, folders, words, key_bytes, &keys, input, output, errors,
     )
 }
 
-/// Does what the words ask for, with keys in hand: the bytes of the key file, and its keys. Both are empty where the
-/// command has none.
+/// Does the command that the words ask for, with keys in hand: the bytes of the key file, and its keys, boxed by the
+/// caller. Both are empty where the command has no keys. The status is 0, or 3 where the answer is the other one. The
+/// files and folders are those of the system. `serve` alone writes to `errors`.
+///
+/// ```text
+/// run_words(&rt, alloc, &words, &key_bytes, &keys, &mut input, &mut output, &mut errors)   // Ok(0)
+/// ```
 ///
 /// # Errors
 ///
 /// `Command` where the words ask for no command; the others are those of the command's own call.
+#[allow(clippy::too_many_arguments)]
+pub fn run_words<R, I: Read, O: Write, E: Write>(
+    rt: &R,
+    alloc: Global,
+    words: &[String],
+    key_bytes: &[u8],
+    keys: &[Box<dyn Verifier>],
+    input: &mut I,
+    output: &mut O,
+    errors: &mut E,
+) -> Result<u8, RunFault>
+where
+    R: Files + Clock + Net<Stream = TcpStream, Listener = TcpListener>,
+    ensures answer { Runs sha256 (map (λ k. key k) keys.now) key_bytes.now None None (λ _. None) None None (map string_bytes words.now) (I.remaining input.old) (O.contents output.old) (O.contents output.new) result }
+    ensures status { IfOk result IsStatus }
+    ensures quiet { IfErr result (λ fault. (IsWriteFault fault → ⊥) → Keeps (O.contents output.old) (O.contents output.new)) }
+{
+    let mut files = SystemFiles::new(rt, alloc);
+    let mut folders = SystemFolders::new(rt, alloc);
+    run_words_over(
+        rt,
+        alloc,
+        &mut files,
+        &mut folders,
+        words,
+        key_bytes,
+        keys,
+        input,
+        output,
+        errors,
+    )
+}
+
+/// Does the same over any files and folders that have names.
+///
+/// # Errors
+///
+/// Those of `run_words`.
 #[tactic(auto, using(crate::proofs::Doable::asked_doable))]
 #[allow(clippy::too_many_arguments)]
-pub fn run_words<R, F: NamedFiles, D: NamedFolders, I: Read, O: Write, E: Write>(
+pub fn run_words_over<R, F: NamedFiles, D: NamedFolders, I: Read, O: Write, E: Write>(
     rt: &R,
+    alloc: Global,
     files: &mut F,
     folders: &mut D,
-    alloc: Global,
     words: &[String],
     key_bytes: &[u8],
     keys: &[Box<dyn Verifier>],
@@ -162,7 +205,7 @@ where
 {
     match read_words(alloc, words) {
         Ok(command) => run_command(
-            rt, files, folders, alloc, &command, key_bytes, keys, input, output, errors,
+            rt, alloc, files, folders, &command, key_bytes, keys, input, output, errors,
         ),
         Err(fault) => Err(RunFault::Command(fault)),
     }

@@ -1,8 +1,11 @@
 //! The command `serve`: answers over HTTP.
 ghost use Rattle.std.specs.Prelude.{◌≡◌, IfOk, map, string_bytes};
 ghost use Rattle.sha2.specs.Sha256.{sha256};
-ghost use Rattle.mirror_commands.specs.Works.{ServesState, TellsPort, listening_text};
+ghost use Rattle.byte_streams.specs.Streams.{AppendsPrefix};
+ghost use Rattle.mirror_commands.specs.Endings.{fault_line};
+ghost use Rattle.mirror_commands.specs.Works.{ServesState, TellsPort, connection_fault, listening_text};
 
+use crate::ending::write_front;
 use crate::fault::{TellFault, WorkFault};
 use byte_streams::{TimedStream, write_whole};
 use command_line::Serve;
@@ -120,18 +123,15 @@ fn serve_all<H: TreeHash, C: Clock, E: Write>(
         let (stream, _) = listener.accept()?;
         match answer_one(clock, alloc, mirror, &stream) {
             Ok(()) => {}
-            Err(fault) => tell(errors, fault),
+            Err(fault) => print_fault(errors, fault),
         }
     }
     Ok(())
 }
 
-/// Answers one connection, which is cut off in time, whatever its client does.
-///
-/// # Errors
-///
-/// Those of `answer`. `ReadFault` also where there is no clock.
-pub fn answer_one<H: TreeHash, C: Clock>(
+// Answers one connection, which is cut off in time, whatever its client does. Where there is no clock that is a
+// `ReadFault`.
+fn answer_one<H: TreeHash, C: Clock>(
     clock: &C,
     alloc: Global,
     mirror: &Mirror<H>,
@@ -146,12 +146,20 @@ pub fn answer_one<H: TreeHash, C: Clock>(
     answer(alloc, mirror, &mut reader, &mut writer)
 }
 
-// Writes the line that tells of the fault of a connection, as far as the stream takes it.
-fn tell<E: Write>(errors: &mut E, fault: HttpFault) {
-    let line = match fault {
-        HttpFault::ReadFault => "tlogmirror: ReadFault\n",
-        HttpFault::WriteFault => "tlogmirror: WriteFault\n",
-        HttpFault::OutOfMemory => "tlogmirror: OutOfMemory\n",
-    };
-    let _told = write_whole(errors, line.as_bytes());
+// The line of the fault of a connection.
+fn fault_text(fault: HttpFault) -> &'static [u8]
+    ensures { result.now ≡ fault_line (connection_fault fault) }
+{
+    match fault {
+        HttpFault::ReadFault => b"tlogmirror: ReadFault\n",
+        HttpFault::WriteFault => b"tlogmirror: WriteFault\n",
+        HttpFault::OutOfMemory => b"tlogmirror: OutOfMemory\n",
+    }
+}
+
+// Writes the line of the fault of a connection, as far as the stream takes it.
+fn print_fault<E: Write>(errors: &mut E, fault: HttpFault)
+    ensures { AppendsPrefix (E.contents errors.old) (E.contents errors.new) (fault_line (connection_fault fault)) }
+{
+    write_front(errors, fault_text(fault));
 }

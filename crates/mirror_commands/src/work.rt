@@ -29,11 +29,11 @@ use tlog_hash::Sha256Tree;
 ///
 /// Those of the command's own call, under its name.
 #[allow(clippy::too_many_arguments)]
-pub fn run_command<R, F: NamedFiles, D: NamedFolders, I: Read, O: Write, E: Write>(
+pub(crate) fn run_command<R, F: NamedFiles, D: NamedFolders, I: Read, O: Write, E: Write>(
     rt: &R,
+    alloc: Global,
     files: &mut F,
     folders: &mut D,
-    alloc: Global,
     command: &Command<'_>,
     key_bytes: &[u8],
     keys: &[Box<dyn Verifier>],

@@ -1,28 +1,18 @@
-//! Files: a mirror loaded from the text of its state, and saved as it.
+//! Files of a mirror and of a log: the text of a state, and a log as a folder. It has no code of its own: what is here
+//! comes from `mirror_state` and `mirror_folders`, its parts.
 //!
 //! ```text
 //! let mirror: Mirror<Sha256Tree> = load(alloc, "example.com/log", &keys, &mut file)?;
-//! save(alloc, &mirror, &mut other)?;
+//! let mut shelf = DirShelf::new(&rt, alloc, "log");
+//! export(alloc, &mirror, &mut shelf)?;
 //! ```
 #![tactic(auto)]
 
-mod fault;
-mod items;
-mod laws;
-mod listing;
-mod lists;
-mod loading;
-mod order;
-mod page;
-mod parts;
-mod put;
-mod saving;
-
-pub use fault::{LoadFault, SaveFault};
-pub use laws::{
-    cut_law, load_law, loaded_text_law, old_state_law, one_answer_law, one_text_law, saved_law,
-    state_text_law,
+pub use mirror_folders::{
+    DirShelf, DirSource, ExportFault, MOST_BYTES, MemShelf, NamedFolders, Shelf, ShelfError,
+    export, files_law, replace_file,
 };
-pub use loading::load;
-pub use parts::PartsFault;
-pub use saving::save;
+pub use mirror_state::{
+    LoadFault, SaveFault, cut_law, load, load_law, loaded_text_law, old_state_law, one_answer_law,
+    one_text_law, save, saved_law, state_text_law,
+};

@@ -3,3 +3,5 @@ pub mod Files
 pub mod Exports
 pub mod Faults
 pub mod FileLaws
+pub mod Places
+pub mod Answers

@@ -2,19 +2,41 @@
 ghost use Rattle.std.specs.Prelude.{◌≡◌};
 ghost use Rattle.mirror_folders.specs.Shelf.{CountsError};
 
+use crate::flush::{flush_files, flush_folder};
+use crate::folders::NamedFolders;
+use crate::leftovers::Leftovers;
 use crate::place::{counted, file_path, folder_of, is_missing};
-use crate::replace::replace_file;
+use crate::replace::put_whole;
 use crate::shelf::{Shelf, ShelfError};
-use std::alloc::Global;
+use std::alloc::{AllocError, Global};
 use std::fs::Files;
 use std::io::ErrorKind;
 use std::marker::Model;
 use std::{fs, io};
 use tlog_tiles::Path;
 
+// The name of a folder: the caller's own, or a copy.
+#[derive(Drop)]
+enum FolderName<'a> {
+    Lent(&'a str),
+    Copied(String),
+}
+
+impl<'a> FolderName<'a> {
+    fn text(&self) -> &str {
+        match self {
+            FolderName::Lent(name) => name,
+            FolderName::Copied(name) => name.as_str(),
+        }
+    }
+}
+
 /// A folder as a shelf: a file lies at the folder's path, a slash, and the text of its path in the log. Folders that
-/// are missing are made, and a file is put by `replace_file`. What a folder holds no contract says: contracts see how
-/// many calls failed.
+/// are missing are made, and a file is replaced whole, as by `replace_file`. What was put is flushed to the device, with
+/// the folders that it lies in, before a checkpoint is put, and not file by file: what is behind a checkpoint is on the
+/// device before that stands there. What a folder holds no contract says: contracts see how many calls failed.
+///
+/// A folder of the empty name has no files: each call fails.
 ///
 /// ```text
 /// let mut shelf = DirShelf::new(&rt, rt.alloc(), "log");
@@ -24,8 +46,12 @@ use tlog_tiles::Path;
 pub struct DirShelf<'a, R: Files> {
     files: &'a R,
     alloc: Global,
-    folder: &'a str,
+    folder: FolderName<'a>,
     failures: u64,
+    // What was put since the last checkpoint.
+    unflushed: Vec<Path>,
+    // What earlier runs left in the folder that was put into last.
+    left: Leftovers,
 }
 
 impl<'a, R: Files> Model for DirShelf<'a, R> {
@@ -44,14 +70,16 @@ impl<'a, R: Files> DirShelf<'a, R> {
         DirShelf {
             files,
             alloc,
-            folder,
+            folder: FolderName::Lent(folder),
             failures: 0,
+            unflushed: Vec::new(alloc),
+            left: Leftovers::none(alloc),
         }
     }
 
     // Whether something is at the path.
     fn find(&self, path: &Path) -> io::Result<bool> {
-        let place = file_path(self.alloc, self.folder, path)?;
+        let place = file_path(self.alloc, self.folder.text(), path)?;
         match fs::metadata(self.files, place.as_str()) {
             Ok(_) => Ok(true),
             Err(e) => { if is_missing(&e) { Ok(false) } else { Err(e) } }
@@ -59,10 +87,45 @@ impl<'a, R: Files> DirShelf<'a, R> {
     }
 
     // Replaces the file at the path.
-    fn write(&self, path: &Path, bytes: &[u8]) -> io::Result<()> {
-        let place = file_path(self.alloc, self.folder, path)?;
-        fs::create_dir_all(self.files, folder_of(place.as_str()))?;
-        replace_file(self.files, self.alloc, place.as_str(), bytes)
+    fn write(&mut self, path: &Path, bytes: &[u8]) -> io::Result<()>
+        ensures { self.new ≡ self.old }
+    {
+        let place = file_path(self.alloc, self.folder.text(), path)?;
+        let folder = folder_of(place.as_str());
+        fs::create_dir_all(self.files, folder)?;
+        if !self.left.are_of(folder) {
+            self.left = Leftovers::of(self.files, self.alloc, folder)?;
+        }
+        if *path == Path::Checkpoint {
+            self.write_last(place.as_str(), bytes)
+        } else {
+            self.unflushed.push(*path)?;
+            put_whole(
+                self.files,
+                self.alloc,
+                place.as_str(),
+                bytes,
+                &self.left,
+                false,
+            )
+        }
+    }
+
+    // Replaces the checkpoint, once all is on the device that was put before it.
+    fn write_last(&mut self, place: &str, bytes: &[u8]) -> io::Result<()>
+        ensures { self.new ≡ self.old }
+    {
+        flush_files(
+            self.files,
+            self.alloc,
+            self.folder.text(),
+            self.unflushed.as_slice(),
+        )?;
+        self.unflushed = Vec::new(self.alloc);
+        put_whole(self.files, self.alloc, place, bytes, &self.left, true)?;
+        // The checkpoint stands: what the system says of its folder changes nothing.
+        let _flushed = flush_folder(self.files, folder_of(place));
+        Ok(())
     }
 
     // What an error of the system is to the shelf; a failure is counted.
@@ -96,5 +159,15 @@ impl<'a, R: Files> Shelf for DirShelf<'a, R> {
 
     fn failures(&self) -> u64 {
         self.failures
+    }
+}
+
+impl<'a, R: Files> NamedFolders for DirShelf<'a, R> {
+    fn open(&mut self, name: &str) -> Result<(), AllocError> {
+        let name = String::from_str(self.alloc, name)?;
+        self.folder = FolderName::Copied(name);
+        self.unflushed = Vec::new(self.alloc);
+        self.left = Leftovers::none(self.alloc);
+        Ok(())
     }
 }

@@ -1,5 +1,6 @@
 //! A folder as a source.
 ghost use Rattle.std.specs.Prelude.{◌≡◌, ◌≤◌, IfOk, IfSome, vec_len};
+ghost use Rattle.mirror_folders.specs.Answers.{most_bytes};
 
 use crate::place::{counted, file_path, is_missing};
 use byte_streams::{StreamFault, read_all};
@@ -14,7 +15,7 @@ use tlog_tiles::Path;
 pub const MOST_BYTES: usize = 16_777_472;
 
 /// A folder as a source: a file lies at the folder's path, a slash, and the text of its path in the log. What a folder
-/// holds no contract says: contracts see how many gets failed.
+/// holds no contract says: contracts see that an answer has at most `MOST_BYTES` bytes, and how many gets failed.
 ///
 /// ```text
 /// let mut source = DirSource::new(&rt, rt.alloc(), "log");
@@ -24,8 +25,8 @@ pub const MOST_BYTES: usize = 16_777_472;
 /// # Errors
 ///
 /// Of `get`: `Failed` where what is at the path is no plain file, cannot be read, or has more than `MOST_BYTES` bytes, of
-/// which no more than that and one are read; `OutOfMemory` where memory was refused. A file that is not there is no
-/// failure, nor is one below a plain file.
+/// which no more than that and one are read, and where the folder's name is empty; `OutOfMemory` where memory was refused.
+/// A file that is not there is no failure, nor is one below a plain file.
 #[derive(Drop)]
 pub struct DirSource<'a, R: Files> {
     files: &'a R,
@@ -57,10 +58,11 @@ impl<'a, R: Files> DirSource<'a, R> {
 
     // The bytes of the file at the path, None where there is none.
     fn read(&self, path: &Path) -> Result<Option<Vec<u8>>, SourceFault>
-        ensures { IfOk result (λ found. IfSome found (λ bytes. vec_len bytes ≤ MOST_BYTES)) }
+        ensures { IfOk result (λ found. IfSome found (λ bytes. vec_len bytes ≤ most_bytes)) }
     {
-        let Ok(place) = file_path(self.alloc, self.folder, path) else {
-            return Err(SourceFault::OutOfMemory);
+        let place = match file_path(self.alloc, self.folder, path) {
+            Ok(place) => place,
+            Err(e) => return Err(source_fault(&e)),
         };
         match open_file(self.files, place.as_str()) {
             Ok(Some(mut file)) => {
@@ -70,6 +72,15 @@ impl<'a, R: Files> DirSource<'a, R> {
             Ok(None) => Ok(None),
             Err(_) => Err(SourceFault::Failed),
         }
+    }
+}
+
+// What an error of the system is to the source.
+fn source_fault(e: &io::Error) -> SourceFault {
+    if e.kind() == io::ErrorKind::OutOfMemory {
+        SourceFault::OutOfMemory
+    } else {
+        SourceFault::Failed
     }
 }
 
@@ -91,7 +102,7 @@ fn open_plain<R: Files>(files: &R, place: &str) -> io::Result<R::File> {
 
 // All the bytes of a file.
 fn read_whole<F: io::Read>(alloc: Global, file: &mut F) -> Result<Vec<u8>, SourceFault>
-    ensures { IfOk result (λ bytes. vec_len bytes ≤ MOST_BYTES) }
+    ensures { IfOk result (λ bytes. vec_len bytes ≤ most_bytes) }
 {
     match read_all(alloc, file, MOST_BYTES + 1, u64::MAX) {
         Ok(bytes) => {
@@ -106,6 +117,10 @@ fn read_whole<F: io::Read>(alloc: Global, file: &mut F) -> Result<Vec<u8>, Sourc
 }
 
 impl<'a, R: Files> Source for DirSource<'a, R> {
+    ghost use Rattle.mirror_folders.specs.Answers.{IsShortAnswer, most_bytes};
+
+    ghost may_answer = { λ _ _ answer. IsShortAnswer most_bytes answer };
+
     ghost failed = { λ s. s };
 
     fn get(&mut self, path: &Path) -> Result<Option<Vec<u8>>, SourceFault> {

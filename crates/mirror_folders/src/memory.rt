@@ -2,13 +2,14 @@
 ghost use Rattle.std.specs.Prelude.{◌≡◌, ◌↔◌, [], map, IsTrue};
 ghost use Rattle.mirror_folders.specs.Shelf.{HasPut};
 
+use crate::folders::NamedFolders;
 use crate::shelf::{Shelf, ShelfError};
-use std::alloc::Global;
+use std::alloc::{AllocError, Global};
 use std::marker::Model;
 use tlog_tiles::Path;
 
 /// A shelf in memory: it tells what it holds, and never fails. Contracts see the list of what was put, the oldest
-/// first.
+/// first. It is the folder of every name: to open one changes nothing.
 ///
 /// ```text
 /// let mut shelf = MemShelf::new(alloc);
@@ -90,5 +91,15 @@ impl Shelf for MemShelf {
 
     fn failures(&self) -> u64 {
         0
+    }
+}
+
+impl NamedFolders for MemShelf {
+    ghost use Rattle.std.specs.Prelude.{Some};
+
+    ghost held = { λ s _. Some s };
+
+    fn open(&mut self, _name: &str) -> Result<(), AllocError> {
+        Ok(())
     }
 }

@@ -1,26 +1,39 @@
 //! Where the files of a log lie in a folder.
-ghost use Rattle.std.specs.Prelude.{◌≡◌, ◌++◌, ◌∷◌, IfOk, string_bytes};
-ghost use Rattle.tlog_tiles.specs.Path.{path_text};
+ghost use Rattle.std.specs.Prelude.{◌≡◌, IfOk, string_bytes};
 ghost use Rattle.log_sources.specs.Told.{one_more};
+ghost use Rattle.mirror_folders.specs.Places.{LiesAt};
 
-use std::alloc::{AllocError, Global};
+use std::alloc::Global;
 use std::io;
 use std::io::ErrorKind;
 use tlog_tiles::Path;
 
 // The path of a file: the folder's, a slash, and the text of the path in the log. That text has no segment of dots, so
-// the file lies in the folder.
-pub(crate) fn file_path(alloc: Global, folder: &str, path: &Path) -> Result<String, AllocError>
-    ensures { IfOk result (λ text. string_bytes text ≡ folder.now ++ (47 ∷ path_text path.now)) }
+// the file lies in the folder. A folder whose name is empty has no files, and the root folder is never meant by it.
+pub(crate) fn file_path(alloc: Global, folder: &str, path: &Path) -> io::Result<String>
+    ensures { IfOk result (λ place. LiesAt folder.now path.now (string_bytes place)) }
 {
-    format!(in alloc; "{folder}/{path}")
+    if folder.is_empty() {
+        return Err(io::Error::from(ErrorKind::InvalidInput));
+    }
+    let place = format!(in alloc; "{folder}/{path}")?;
+    Ok(place)
 }
 
 // The folder that a file lies in, by the file's path.
 pub(crate) fn folder_of(path: &str) -> &str {
     match path.rsplit_once('/') {
+        Some(("", _)) => "/",
         Some((folder, _)) => folder,
         None => ".",
+    }
+}
+
+// The last name of a file's path.
+pub(crate) fn name_of(path: &str) -> &str {
+    match path.rsplit_once('/') {
+        Some((_, name)) => name,
+        None => path,
     }
 }
 

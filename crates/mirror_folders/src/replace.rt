@@ -1,17 +1,22 @@
 //! A file replaced whole.
+ghost use Rattle.std.specs.Prelude.{◌≢◌, [], IfOk};
+
+use crate::flush::flush_folder;
+use crate::leftovers::Leftovers;
+use crate::place::folder_of;
 use std::alloc::Global;
-use std::fs::{Files, OpenFile, OpenOptions};
+use std::fs::{Files, OpenFile, OpenOptions, Permissions};
 use std::io::{ErrorKind, Write};
+use std::os::unix::fs::OpenOptionsExt;
 use std::{fs, io};
 
-// How many names are tried for the temporary file.
-const TRIES: u32 = 64;
-
 /// Replaces a file whole: a temporary file beside it (the path with `.tmp` and a number behind it) is made, written,
-/// flushed to the device, and renamed to the path. So whoever opens the path finds the old file or the new one, also
-/// where the run is cut off; a temporary file that is left then stands in nobody's way.
+/// flushed to the device, and renamed to the path; then its folder is flushed, where the system lets it. So whoever opens
+/// the path finds the old file or the new one, also where the run is cut off. The temporary file has a number that no
+/// other has, however many were left; those of this path that are older than a day are taken away.
 ///
-/// A symbolic link at the path is replaced, not followed.
+/// A file that is replaced keeps its permissions, and a new one has those of the process. A symbolic link at the path is
+/// replaced, not followed; the permissions are those of the file that it led to.
 ///
 /// ```text
 /// replace_file(&rt, rt.alloc(), "ex.state", &text)?;
@@ -19,16 +24,36 @@ const TRIES: u32 = 64;
 ///
 /// # Errors
 ///
-/// Those of the system, and `ErrorKind::OutOfMemory` where memory was refused. The path is then as it was, and the
-/// temporary file is taken away where the system lets it.
-pub fn replace_file<R: Files>(
+/// Those of the system, `ErrorKind::InvalidInput` where the path is empty, and `ErrorKind::OutOfMemory` where memory was
+/// refused. The path is then as it was, and the temporary file is taken away where the system lets it.
+pub fn replace_file<R: Files>(files: &R, alloc: Global, path: &str, bytes: &[u8]) -> io::Result<()>
+    ensures named { IfOk result (λ _. path.now ≢ []) }
+{
+    let left = Leftovers::of(files, alloc, folder_of(path))?;
+    put_whole(files, alloc, path, bytes, &left, true)?;
+    // The new file stands at the path: what the system says of the folder changes nothing.
+    let _flushed = flush_folder(files, folder_of(path));
+    Ok(())
+}
+
+// Replaces a file whole, and flushes it to the device or not. What was left in its folder is at hand.
+pub(crate) fn put_whole<R: Files>(
     files: &R,
     alloc: Global,
     path: &str,
     bytes: &[u8],
-) -> io::Result<()> {
-    let (beside, mut file) = create_beside(files, alloc, path)?;
-    let written = fill(&mut file, bytes);
+    left: &Leftovers,
+    flushed: bool,
+) -> io::Result<()>
+    ensures named { IfOk result (λ _. path.now ≢ []) }
+{
+    if path.is_empty() {
+        return Err(io::Error::from(ErrorKind::InvalidInput));
+    }
+    let had = permissions_of(files, path);
+    let (beside, mut file) = create_beside(files, alloc, path, had.is_some())?;
+    let cleared = take_away_old(files, alloc, path, left, &file);
+    let written = fill(&mut file, cleared, had, bytes, flushed);
     drop(file);
     match moved(files, written, beside.as_str(), path) {
         Ok(()) => Ok(()),
@@ -45,11 +70,37 @@ fn moved<R: Files>(files: &R, written: io::Result<()>, from: &str, to: &str) -> 
     fs::rename(files, from, to)
 }
 
+// The permissions of the file at a path, None where there is no plain file.
+fn permissions_of<R: Files>(files: &R, path: &str) -> Option<Permissions> {
+    match fs::metadata(files, path) {
+        Ok(about) if about.is_file() => Some(about.permissions()),
+        _ => None,
+    }
+}
+
+// Takes away what was left of a file more than a day before its new temporary file was made.
+fn take_away_old<R: Files>(
+    files: &R,
+    alloc: Global,
+    path: &str,
+    left: &Leftovers,
+    file: &R::File,
+) -> io::Result<()> {
+    let now = file.metadata()?.modified()?;
+    left.take_away(files, alloc, path, now)?;
+    Ok(())
+}
+
 // A new file beside the path, with its own path. One that is there already is never opened.
-fn create_beside<R: Files>(files: &R, alloc: Global, path: &str) -> io::Result<(String, R::File)> {
-    for number in 0..TRIES {
+fn create_beside<R: Files>(
+    files: &R,
+    alloc: Global,
+    path: &str,
+    private: bool,
+) -> io::Result<(String, R::File)> {
+    for number in 0..u64::MAX {
         let beside = format!(in alloc; "{path}.tmp{number}")?;
-        match create_new(files, beside.as_str()) {
+        match create_new(files, beside.as_str(), private) {
             Ok(file) => return Ok((beside, file)),
             Err(e) => {
                 if e.kind() != ErrorKind::AlreadyExists {
@@ -61,16 +112,29 @@ fn create_beside<R: Files>(files: &R, alloc: Global, path: &str) -> io::Result<(
     Err(io::Error::from(ErrorKind::AlreadyExists))
 }
 
-fn create_new<R: Files>(files: &R, path: &str) -> io::Result<R::File> {
-    OpenOptions::new()
-        .write(true)
-        .create_new(true)
-        .open(files, path)
+// A new file: a private one, for its owner alone, until it is given the permissions of the one that it replaces.
+fn create_new<R: Files>(files: &R, path: &str, private: bool) -> io::Result<R::File> {
+    let mut options = OpenOptions::new();
+    options.write(true).create_new(true);
+    if private {
+        options.mode(0o600);
+    }
+    options.open(files, path)
 }
 
-// Writes all the bytes, down to the device.
-fn fill<F: Write + OpenFile>(file: &mut F, bytes: &[u8]) -> io::Result<()> {
+// Gives the file its permissions, and then writes all the bytes, down to the device where that is asked for.
+fn fill<F: Write + OpenFile>(
+    file: &mut F,
+    cleared: io::Result<()>,
+    had: Option<Permissions>,
+    bytes: &[u8],
+    flushed: bool,
+) -> io::Result<()> {
+    cleared?;
+    if let Some(permissions) = had {
+        file.set_permissions(permissions)?;
+    }
     file.write_all(bytes)?;
     file.flush()?;
-    file.sync_all()
+    if flushed { file.sync_all() } else { Ok(()) }
 }

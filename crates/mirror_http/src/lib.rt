@@ -1,32 +1,20 @@
-//! A log fetched over HTTP (RFC 9112): the requests that a mirror sends, and the replies that it reads.
-//!
-//! A `Site` is where a log's files stand: a host, and a prefix of their paths. `get_request` gives the
-//! bytes that ask for a file, and `read_reply` reads the bytes that came back.
+//! Logs and mirrors over HTTP (RFC 9112), as one crate: a client that asks a site for a log's files, and a
+//! mirror that answers one request. It holds nothing of its own: the client is that of `mirror_client`, and
+//! the server that of `mirror_server`.
 //!
 //! ```text
+//! // A pull over HTTP, with one connection for each file.
 //! let site = Site::new(alloc, "log.example", "/2026")?;
-//! let request = get_request(alloc, &site, &"tile/0/x001/000.p/5".parse()?)?;
-//! if let Some(body) = read_reply(&reply)? {
-//!     let row = read_row(alloc, 5, body)?;
-//! }
+//! let dial = TcpDial::new(rt, alloc, "log.example", 80)?;
+//! let mut source = HttpSource::new(alloc, site, dial);
+//! let pulled = pull(alloc, &mut mirror, &keys, &mut source)?;
+//! // And the mirror answers one client.
+//! answer(alloc, &mirror, &mut &stream, &mut &stream)?;
 //! ```
 #![tactic(auto)]
 
-mod fault;
-mod framing;
-mod laws;
-mod limits;
-mod reply;
-mod request;
-mod site;
-mod source;
-mod tcp;
-
-pub use fault::{ReplyFault, SiteFault};
-pub use laws::one_reply_law;
-pub use limits::{MAX_FIELDS, MAX_HEAD_LEN, MAX_HOST_LEN, MAX_PREFIX_LEN, MAX_REPLY_LEN};
-pub use reply::read_reply;
-pub use request::get_request;
-pub use site::Site;
-pub use source::{Dial, HttpSource, receive_reply, send_request};
-pub use tcp::TcpDial;
+pub use mirror_client::{
+    Dial, HttpSource, MAX_FIELDS, MAX_HEAD_LEN, MAX_HOST_LEN, MAX_PREFIX_LEN, MAX_REPLY_LEN,
+    ReplyFault, Site, SiteFault, TcpDial, get_request, one_reply_law, read_reply,
+};
+pub use mirror_server::{HttpFault, Resource, answer, one_resource_law, one_response_law};

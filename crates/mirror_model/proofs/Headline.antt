@@ -1,5 +1,5 @@
 -- Plays: several runs are one, and what it leaves.
-use Rattle.std.proofs.Common.{◌≡◌, ℕ, List, [], ◌∷◌, ◌++◌, length, zero, suc, sym, refl, ap, ◌∙◌, subst, inl, inr}
+use Rattle.std.proofs.Common.{◌≡◌, ℕ, List, [], ◌∷◌, ◌++◌, zero, suc, sym, refl, ap, ◌∙◌, subst, inl, inr}
 use Rattle.std.proofs.Common.{arith}
 use Rattle.std.specs.Prelude.{slice_get, slice_set, Some, map}
 use Rattle.std.specs.List.{Contains}
@@ -12,74 +12,78 @@ use Rattle.mirror_model.specs.declared.events.Event.TheVariants.{Take, Merge}
 use Rattle.mirror_model.specs.Steps.{Answer, Done, Refused, Clashed, Exhausted, Happens, Run}
 use Rattle.mirror_model.specs.Reached.{IsNext, AreRetried}
 use Rattle.mirror_model.specs.RunLaws.{AreLawful, IsReached, ForMirrors}
-use Rattle.mirror_model.specs.Headline.{Play, events_in, NoneClashed, Plays, ReachesToo, PlaysBring}
+use Rattle.mirror_model.specs.Headline.{Play, events_in, answers_in, NoneAnswered, Plays, ReachesToo, PlaysBring}
+use Rattle.mirror_model.specs.Headline.{PlaysAreOneRun, RunIsOnePlay, RetriedRunLeaves, NoPlayToRetry, RetriedInEachPlay, PlaysKeepEntries}
 use Rattle.mirror_model.specs.Headline.{SameReachedSameView, NoPlayClashes, MirrorsAgree, PlaysTellTruth, PlaysGrow}
 use Rattle.mirror_model.specs.Headline.{StandsIn, LeavesRest, placed, PartIsPlayed, PartIsRetried}
 use Rattle.mirror_model.proofs.Views.{same_is_one, complete_stays, forks_stay}
 use Rattle.mirror_model.proofs.OneLists.{serves_truth, forks_tell, complete_is_same}
 use Rattle.mirror_model.proofs.Steps.{same_number, one_of_list, get_set_same, get_set_other}
+use Rattle.mirror_model.proofs.Retrying.{nothing_to_retry, retries_join}
+use Rattle.mirror_model.proofs.Joining.{runs_join}
 use Rattle.mirror_model.proofs.Playing.{run_lengths, run_is_reached, none_clashes}
 use Rattle.mirror_model.proofs.Keeping.{run_is_lawful, run_grows}
 
 -- ---- plays are one run
 
-abbrev answers_in : List Play → List Answer
-answers_in [] = []
-answers_in (play ∷ plays) = play.answers ++ answers_in plays
+pub plays_are_one_run : PlaysAreOneRun
+plays_are_one_run digest keys old new [] p = p
+plays_are_one_run digest keys old new (play ∷ plays) p =
+    runs_join digest keys old p.0 new play.events (events_in plays) play.answers (answers_in plays) p.1
+    (plays_are_one_run digest keys p.0 new plays p.2)
 
-next_append : (e : Event) (es fs : List Event) → IsNext e es → IsNext e (es ++ fs)
-next_append e [] fs h = absurd h
-next_append e (f ∷ es) fs h = h
+nothing_after : {X : Type 0} (xs : List X) → xs ++ [] ≡ xs
+nothing_after [] = refl
+nothing_after (x ∷ xs) = ap (λ ys. x ∷ ys) (nothing_after xs)
 
-retried_append : (es fs : List Event) (as' bs : List Answer) → length es ≡ length as' → AreRetried es as' →
-    AreRetried fs bs → AreRetried (es ++ fs) (as' ++ bs)
-retried_append [] fs [] bs len p q = q
-retried_append [] fs (a ∷ as') bs len p q = absurd (omega (arith, len))
-retried_append (e ∷ es) fs [] bs len p q = absurd (omega (arith, len))
-retried_append (e ∷ es) fs (Done ∷ as') bs len p q = retried_append es fs as' bs (omega (arith, len)) p q
-retried_append (e ∷ es) fs (Refused ∷ as') bs len p q = retried_append es fs as' bs (omega (arith, len)) p q
-retried_append (e ∷ es) fs (Clashed ∷ as') bs len p q = retried_append es fs as' bs (omega (arith, len)) p q
-retried_append (e ∷ es) fs (Exhausted ∷ as') bs len p q =
-    (next_append e es fs p.0, retried_append es fs as' bs (omega (arith, len)) p.1 q)
+pub run_is_one_play : RunIsOnePlay
+run_is_one_play digest keys opened final events answers run = record {
+  played = (final, run, refl);
+  events_are = nothing_after events;
+  answers_are = nothing_after answers;
+}
 
-module _ (digest : List ℕ → List ℕ) (keys : List Key) where
-  run_append : (old mid new : List View) (es fs : List Event) (as' bs : List Answer) → Run digest keys old es as' mid →
-      Run digest keys mid fs bs new → Run digest keys old (es ++ fs) (as' ++ bs) new
-  run_append old mid new [] fs [] bs p q = subst (λ w. Run digest keys w fs bs new) p q
-  run_append old mid new (e ∷ es) fs (a ∷ as') bs p q = (p.0, p.1, run_append p.0 mid new es fs as' bs p.2 q)
-  run_append old mid new [] fs (a ∷ as') bs p q = absurd p
-  run_append old mid new (e ∷ es) fs [] bs p q = absurd p
+pub retried_run_leaves : ForMirrors RetriedRunLeaves
+retried_run_leaves digest origin keys opened final events answers r retried mirror v is = record {
+  final = final;
+  of_origin = r.of_origin;
+  played = (final, r.run, refl);
+  retried = subst (λ es. AreRetried es (answers ++ [])) (sym (nothing_after events))
+      (subst (AreRetried events) (sym (nothing_after answers)) retried);
+  is = is;
+}
 
-  joined : (old new : List View) (plays : List Play) → Plays digest keys old plays new →
-      Run digest keys old (events_in plays) (answers_in plays) new
-  joined old new [] p = p
-  joined old new (play ∷ plays) p =
-      run_append old p.0 new play.events (events_in plays) play.answers (answers_in plays) p.1
-      (joined p.0 new plays p.3)
+-- ---- what is done again
 
-  joined_retried : (old new : List View) (plays : List Play) → Plays digest keys old plays new →
-      AreRetried (events_in plays) (answers_in plays)
-  joined_retried old new [] p = tt
-  joined_retried old new (play ∷ plays) p =
-      retried_append play.events (events_in plays) play.answers (answers_in plays)
-      (run_lengths digest keys old p.0 play.events play.answers p.1) p.2 (joined_retried p.0 new plays p.3)
+pub retried_in_each : RetriedInEachPlay
+retried_in_each digest keys old new [] p each = tt
+retried_in_each digest keys old new (play ∷ plays) p each =
+    retries_join play.events (events_in plays) play.answers (answers_in plays)
+    (run_lengths digest keys old p.0 play.events play.answers p.1) (each play (0, omega arith, refl))
+    (retried_in_each digest keys p.0 new plays p.2 (λ q c. each q (suc c.0, omega (arith, c.1), c.2)))
 
 -- an answer of one of the plays
-in_answers : (plays : List Play) (play : Play) → Contains plays play → Contains play.answers Clashed →
-    Contains (answers_in plays) Clashed
-in_answers [] play c d = absurd (omega (arith, c.1))
-in_answers (first ∷ plays) play (zero, lt, is) d =
-    Contains-append_left first.answers (answers_in plays) Clashed
-    (subst (λ (p : Play). Contains p.answers Clashed) (sym is) d)
-in_answers (first ∷ plays) play (suc k, lt, is) d =
-    Contains-append_right first.answers (answers_in plays) Clashed (in_answers plays play (k, omega (arith, lt), is) d)
+in_answers : (answer : Answer) (plays : List Play) (play : Play) → Contains plays play → Contains play.answers answer →
+    Contains (answers_in plays) answer
+in_answers answer [] play c d = absurd (omega (arith, c.1))
+in_answers answer (first ∷ plays) play (zero, lt, is) d =
+    Contains-append_left first.answers (answers_in plays) answer
+    (subst (λ (p : Play). Contains p.answers answer) (sym is) d)
+in_answers answer (first ∷ plays) play (suc k, lt, is) d =
+    Contains-append_right first.answers (answers_in plays) answer
+    (in_answers answer plays play (k, omega (arith, lt), is) d)
 
-none_in_answers : (plays : List Play) → NoneClashed plays → Contains (answers_in plays) Clashed → ⊥
-none_in_answers [] none c = absurd (omega (arith, c.1))
-none_in_answers (play ∷ plays) none c = elim (Contains-append_cases play.answers (answers_in plays) Clashed c) [
+none_in_answers : (answer : Answer) (plays : List Play) → NoneAnswered answer plays →
+    Contains (answers_in plays) answer → ⊥
+none_in_answers answer [] none c = absurd (omega (arith, c.1))
+none_in_answers answer (play ∷ plays) none c = elim (Contains-append_cases play.answers (answers_in plays) answer c) [
   | inl a ↦ none play (0, omega arith, refl) a
-  | inr b ↦ none_in_answers plays (λ p d e. none p (suc d.0, omega (arith, d.1), d.2) e) b
+  | inr b ↦ none_in_answers answer plays (λ p d e. none p (suc d.0, omega (arith, d.1), d.2) e) b
 ]
+
+pub no_play_to_retry : NoPlayToRetry
+no_play_to_retry plays none =
+    nothing_to_retry (events_in plays) (answers_in plays) (none_in_answers Exhausted plays none)
 
 -- ---- what mirrors agree on
 
@@ -102,8 +106,8 @@ half digest origin keys opened opened' events events' mirror mirror' v w a b too
 pub plays_bring : ForMirrors PlaysBring
 plays_bring digest origin keys opened plays mirror v l none =
     run_is_reached digest origin keys opened l.final (events_in plays) (answers_in plays)
-    (record { of_origin = l.of_origin; run = joined digest keys opened l.final plays l.played })
-    (none_in_answers plays none) (joined_retried digest keys opened l.final plays l.played) mirror v l.is
+    (record { of_origin = l.of_origin; run = plays_are_one_run digest keys opened l.final plays l.played })
+    (none_in_answers Clashed plays none) l.retried mirror v l.is
 
 pub same_reached : ForMirrors SameReachedSameView
 same_reached digest origin keys opened opened' plays plays' mirror mirror' v w p q apart apart' alike =
@@ -114,16 +118,16 @@ same_reached digest origin keys opened opened' plays plays' mirror mirror' v w p
     (half digest origin keys opened' opened (events_in plays') (events_in plays) mirror' mirror w v b a alike.back)
 
 pub no_play_clashes : ForMirrors NoPlayClashes
-no_play_clashes digest origin keys opened plays mirror v clean l play in_plays c =
-    none_clashes digest origin keys opened l.final (events_in plays) (answers_in plays)
-    (record { of_origin = l.of_origin; run = joined digest keys opened l.final plays l.played }) clean
-    (in_answers plays play in_plays c)
+no_play_clashes digest origin keys opened final plays clean of played play in_plays c =
+    none_clashes digest origin keys opened final (events_in plays) (answers_in plays)
+    (record { of_origin = of; run = plays_are_one_run digest keys opened final plays played }) clean
+    (in_answers Clashed plays play in_plays c)
 
 pub mirrors_agree : ForMirrors MirrorsAgree
 mirrors_agree digest origin keys opened opened' plays plays' mirror mirror' v w clean clean' p q alike =
     same_reached digest origin keys opened opened' plays plays' mirror mirror' v w p q
-    (no_play_clashes digest origin keys opened plays mirror v clean p)
-    (no_play_clashes digest origin keys opened' plays' mirror' w clean' q)
+    (no_play_clashes digest origin keys opened p.final plays clean p.of_origin p.played)
+    (no_play_clashes digest origin keys opened' q.final plays' clean' q.of_origin q.played)
     alike
 
 -- ---- what they tell
@@ -133,7 +137,7 @@ plays_lawful : (digest : List ℕ → List ℕ) → IsDigest digest →
     Plays digest keys opened plays final → AreLawful digest final
 plays_lawful digest hash keys opened final plays lawful p =
     run_is_lawful digest hash keys opened final (events_in plays) (answers_in plays) lawful
-    (joined digest keys opened final plays p)
+    (plays_are_one_run digest keys opened final plays p)
 
 pub plays_tell_truth : PlaysTellTruth
 plays_tell_truth digest hash keys opened final plays lawful p mirror v is = record {
@@ -142,18 +146,26 @@ plays_tell_truth digest hash keys opened final plays lawful p mirror v is = reco
       (plays_lawful digest hash keys opened final plays lawful p mirror v is) a b first second differ f s;
 }
 
-pub plays_grow : PlaysGrow
-plays_grow digest hash keys opened final plays lawful p mirror before after found is =
-    let grows : IsSubview before after =
+plays_within : (digest : List ℕ → List ℕ) (keys : List Key) (opened final : List View) (plays : List Play) →
+    Plays digest keys opened plays final → (mirror : ℕ) (before after : View) → slice_get opened mirror ≡ Some before →
+    slice_get final mirror ≡ Some after → IsSubview before after
+plays_within digest keys opened final plays p =
     run_grows digest keys opened final (events_in plays) (answers_in plays)
-    (joined digest keys opened final plays p) mirror before after found is in
-    let after_lawful = plays_lawful digest hash keys opened final plays lawful p mirror after is in
+    (plays_are_one_run digest keys opened final plays p)
+
+pub plays_grow : PlaysGrow
+plays_grow digest keys opened final plays p mirror before after found is =
+    let grows = plays_within digest keys opened final plays p mirror before after found is in
     record {
       stays = λ size root entries c. complete_stays digest before after grows size root entries c;
-      same = λ size root entries others c d. complete_is_same digest hash before after grows after_lawful.no_clash size
-          root entries others c d;
       forks = λ a b f. forks_stay digest before after grows a b f;
     }
+
+pub plays_keep_entries : PlaysKeepEntries
+plays_keep_entries digest hash keys opened final plays lawful p mirror before after found is =
+    let after_lawful = plays_lawful digest hash keys opened final plays lawful p mirror after is in
+    complete_is_same digest hash before after
+    (plays_within digest keys opened final plays p mirror before after found is) after_lawful.no_clash
 
 -- ---- plays of some mirrors
 

@@ -36,3 +36,6 @@ pub mod Refusing
 pub mod RefusedHeads
 pub mod Reporting
 pub mod Origins
+pub mod Joining
+pub mod Retrying
+pub mod PlayExamples

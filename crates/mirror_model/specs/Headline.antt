@@ -12,10 +12,10 @@ use Rattle.mirror_model.specs.Item.{IsGood}
 use Rattle.mirror_model.specs.declared.events.Event.{Event}
 use Rattle.mirror_model.specs.declared.events.Event.TheVariants.{Take, Merge}
 use Rattle.mirror_model.specs.Events.{Reaches}
-use Rattle.mirror_model.specs.Steps.{Answer, Clashed, Run}
+use Rattle.mirror_model.specs.Steps.{Answer, Clashed, Exhausted, Run}
 use Rattle.mirror_model.specs.Reached.{OpensWith, AreRetried}
 use Rattle.mirror_model.specs.ReplyLaws.{IsTruth}
-use Rattle.mirror_model.specs.RunLaws.{AreOf, AreLawful, IsReached, NothingClashes}
+use Rattle.mirror_model.specs.RunLaws.{AreOf, AreLawful, IsReached, IsRun, NothingClashes}
 
 -- ---- plays
 
@@ -29,26 +29,46 @@ abbrev pub events_in : List Play → List Event
 events_in [] = []
 events_in (play ∷ plays) = play.events ++ events_in plays
 
+-- the answers of several plays, one play after another
+abbrev pub answers_in : List Play → List Answer
+answers_in [] = []
+answers_in (play ∷ plays) = play.answers ++ answers_in plays
+
+-- no event of a play was answered so
+abbrev pub NoneAnswered : Answer → List Play → Type 0
+NoneAnswered answer plays =
+    (play : Play) → Contains plays play → Contains play.answers answer → ⊥
+
 -- no event of a play was answered by a clash
 abbrev pub NoneClashed : List Play → Type 0
-NoneClashed plays = (play : Play) → Contains plays play → Contains play.answers Clashed → ⊥
+NoneClashed plays = NoneAnswered Clashed plays
 
--- plays of any number of mirrors, each from the views that the one before left; in each, an event
--- for which memory was refused is followed by the same event, before any other
+-- plays of any number of mirrors, each from the views that the one before left
 abbrev pub Plays : (List ℕ → List ℕ) → List Key → List View → List Play → List View → Type 0
 Plays digest keys old [] new = new ≡ old
 Plays digest keys old (play ∷ plays) new =
     (between : List View) × Run digest keys old play.events play.answers between
-    × AreRetried play.events play.answers × Plays digest keys between plays new
+    × Plays digest keys between plays new
+
+-- over all plays, one after another, an event for which memory was refused is followed by the same
+-- event, before any other: the last event of a play by the first event of the plays after it
+abbrev pub PlaysAreRetried : List Play → Type 0
+PlaysAreRetried plays = AreRetried (events_in plays) (answers_in plays)
+
+-- a run, as one play
+abbrev pub one_play : List Event → List Answer → List Play
+one_play events answers = record { events = events; answers = answers } ∷ []
 
 -- ---- what mirrors agree on
 
 module _ (digest : List ℕ → List ℕ) (origin : List ℕ) (keys : List Key) where
-  -- plays of mirrors of one origin leave a mirror that view
+  -- plays of mirrors of one origin, in which each event for which memory was refused was done
+  -- again, leave a mirror that view
   pub record Leaves (opened : List View) (plays : List Play) (mirror : ℕ) (v : View) : Type 0 where
     pub final : List View
     pub of_origin : AreOf origin opened
     pub played : Plays digest keys opened plays final
+    pub retried : PlaysAreRetried plays
     pub is : slice_get final mirror ≡ Some v
 
   -- the good items that reach the one mirror in the one run, and each string and note of the
@@ -92,12 +112,14 @@ module _ (digest : List ℕ → List ℕ) (origin : List ℕ) (keys : List Key) 
       ReachedAlike opened opened' (events_in plays) (events_in plays') mirror mirror' →
       v ≡ w
 
-  -- while no two different strings met share a digest, no event of any play is answered by a clash
+  -- while no two different strings met share a digest, no event of any play is answered by a
+  -- clash, whether or not an event for which memory was refused was done again
   abbrev pub NoPlayClashes : Type 0
   NoPlayClashes =
-      (opened : List View) (plays : List Play) (mirror : ℕ) (v : View) →
+      (opened final : List View) (plays : List Play) →
       NothingClashes digest origin keys opened (events_in plays) →
-      Leaves opened plays mirror v →
+      AreOf origin opened →
+      Plays digest keys opened plays final →
       NoneClashed plays
 
   -- The headline: while no two different byte strings met share a digest, mirrors that the same
@@ -112,6 +134,54 @@ module _ (digest : List ℕ → List ℕ) (origin : List ℕ) (keys : List Key) 
       Leaves opened' plays' mirror' w →
       ReachedAlike opened opened' (events_in plays) (events_in plays') mirror mirror' →
       v ≡ w
+
+-- ---- plays and runs
+
+-- plays, one after another, are one run of their events, with their answers
+abbrev pub PlaysAreOneRun : Type 0
+PlaysAreOneRun =
+    (digest : List ℕ → List ℕ) (keys : List Key) (opened final : List View) (plays : List Play) →
+    Plays digest keys opened plays final →
+    Run digest keys opened (events_in plays) (answers_in plays) final
+
+-- the events, with their answers, are those of one play, which leads to the same views
+pub record IsOnePlay (digest : List ℕ → List ℕ) (keys : List Key) (opened : List View)
+    (events : List Event) (answers : List Answer) (final : List View) : Type 0 where
+  pub played : Plays digest keys opened (one_play events answers) final
+  pub events_are : events_in (one_play events answers) ≡ events
+  pub answers_are : answers_in (one_play events answers) ≡ answers
+
+-- a run is one play: so what is said of plays is said of takes and merges that are called one by one
+abbrev pub RunIsOnePlay : Type 0
+RunIsOnePlay =
+    (digest : List ℕ → List ℕ) (keys : List Key) (opened final : List View) (events : List Event)
+    (answers : List Answer) →
+    Run digest keys opened events answers final →
+    IsOnePlay digest keys opened events answers final
+
+module _ (digest : List ℕ → List ℕ) (origin : List ℕ) (keys : List Key) where
+  -- of a run in which each event for which memory was refused was done again the headline speaks
+  abbrev pub RetriedRunLeaves : Type 0
+  RetriedRunLeaves =
+      (opened final : List View) (events : List Event) (answers : List Answer) →
+      IsRun digest origin keys opened events answers final →
+      AreRetried events answers →
+      (mirror : ℕ) (v : View) →
+      slice_get final mirror ≡ Some v →
+      Leaves digest origin keys opened (one_play events answers) mirror v
+
+-- where no event of a play was refused memory, nothing has to be done again
+abbrev pub NoPlayToRetry : Type 0
+NoPlayToRetry = (plays : List Play) → NoneAnswered Exhausted plays → PlaysAreRetried plays
+
+-- where in each play by itself an event for which memory was refused is done again, it is so over
+-- all of them
+abbrev pub RetriedInEachPlay : Type 0
+RetriedInEachPlay =
+    (digest : List ℕ → List ℕ) (keys : List Key) (opened final : List View) (plays : List Play) →
+    Plays digest keys opened plays final →
+    ((play : Play) → Contains plays play → AreRetried play.events play.answers) →
+    PlaysAreRetried plays
 
 -- ---- what they tell
 
@@ -130,8 +200,8 @@ pub record IsTruthful (digest : List ℕ → List ℕ) (v : View) : Type 0 where
       Complete digest v b.size b.root second →
       IsFork digest v a b ↔ ((IsPrefix first second → ⊥) × (IsPrefix second first → ⊥))
 
--- what a view tells is true after any plays from lawful views; strings that share a digest change
--- nothing of it
+-- what a view tells is true after any plays from lawful views, however the events were answered;
+-- strings that share a digest change nothing of it
 abbrev pub PlaysTellTruth : Type 0
 PlaysTellTruth =
     (digest : List ℕ → List ℕ) →
@@ -143,24 +213,30 @@ PlaysTellTruth =
     slice_get final mirror ≡ Some v →
     IsTruthful digest v
 
--- of the views before and after: what was complete is complete with the same entries, and with no
--- others; a fork that was reported is reported
+-- of the views before and after: what was complete is complete with the same entries; a fork that
+-- was reported is reported
 pub record HasGrown (digest : List ℕ → List ℕ) (before after : View) : Type 0 where
   pub stays :
       (size : ℕ) (root : List ℕ) (entries : List (List ℕ)) →
       Complete digest before size root entries →
       Complete digest after size root entries
-  pub same :
-      (size : ℕ) (root : List ℕ) (entries others : List (List ℕ)) →
-      Complete digest before size root entries →
-      Complete digest after size root others →
-      entries ≡ others
   pub forks : (a b : Point) → IsFork digest before a b → IsFork digest after a b
 
--- from lawful views, after any plays, each mirror's view has grown: what was complete stays so,
--- with the same entries, and each fork stays
+-- after any plays, however the events were answered, each mirror's view has grown: what was
+-- complete stays so, with the same entries, and each fork stays
 abbrev pub PlaysGrow : Type 0
 PlaysGrow =
+    (digest : List ℕ → List ℕ) (keys : List Key) (opened final : List View) (plays : List Play) →
+    Plays digest keys opened plays final →
+    (mirror : ℕ) (before after : View) →
+    slice_get opened mirror ≡ Some before →
+    slice_get final mirror ≡ Some after →
+    HasGrown digest before after
+
+-- after any plays from lawful views, however the events were answered, what was complete has no
+-- other entries
+abbrev pub PlaysKeepEntries : Type 0
+PlaysKeepEntries =
     (digest : List ℕ → List ℕ) →
     IsDigest digest →
     (keys : List Key) (opened final : List View) (plays : List Play) →
@@ -169,7 +245,10 @@ PlaysGrow =
     (mirror : ℕ) (before after : View) →
     slice_get opened mirror ≡ Some before →
     slice_get final mirror ≡ Some after →
-    HasGrown digest before after
+    (size : ℕ) (root : List ℕ) (entries others : List (List ℕ)) →
+    Complete digest before size root entries →
+    Complete digest after size root others →
+    entries ≡ others
 
 -- ---- plays of some mirrors
 
@@ -200,8 +279,8 @@ PartIsPlayed =
     (new : List View) × Run digest keys whole (map (placed place) events) answers new
     × LeavesRest place after whole new
 
--- a play of some mirrors in which each event for which memory was refused is done again is such a
--- play of all of them
+-- where in a run of some mirrors each event for which memory was refused is done again, it is so in
+-- that run of all of them
 abbrev pub PartIsRetried : Type 0
 PartIsRetried =
     (place : ℕ → ℕ) (events : List Event) (answers : List Answer) →

@@ -16,6 +16,7 @@ pub mod Steps
 pub mod Reached
 pub mod Examples
 pub mod ViewExamples
+pub mod PlayExamples
 pub mod Listed
 pub mod Answered
 pub mod Refusals
@@ -39,4 +40,5 @@ pub mod ServedLaws
 pub mod ReachLaws
 pub mod EventLaws
 pub mod RunLaws
+pub mod RetryLaws
 pub mod Headline

@@ -1,5 +1,5 @@
 -- Laws of runs: what they leave in a view.
-use Rattle.std.specs.Prelude.{◌≡◌, ◌⊎◌, ℕ, List, Some, slice_get}
+use Rattle.std.specs.Prelude.{◌≡◌, ◌⊎◌, ℕ, List, [], ◌∷◌, ◌++◌, Some, slice_get, slice_set}
 use Rattle.std.specs.List.{Contains}
 use Rattle.signed_note.specs.Keys.{Key}
 use Rattle.node_store.specs.Strings.{Has}
@@ -9,8 +9,8 @@ use Rattle.mirror_model.specs.Complete.{IsLawful}
 use Rattle.mirror_model.specs.declared.items.Item.{Item}
 use Rattle.mirror_model.specs.Item.{IsGood, strings_of}
 use Rattle.mirror_model.specs.declared.events.Event.{Event}
-use Rattle.mirror_model.specs.declared.events.Event.TheVariants.{Take}
-use Rattle.mirror_model.specs.Steps.{Answer, Clashed, Run}
+use Rattle.mirror_model.specs.declared.events.Event.TheVariants.{Take, Merge}
+use Rattle.mirror_model.specs.Steps.{Answer, Clashed, Takes, Merges, Run}
 use Rattle.mirror_model.specs.Reached.{HasReached, HasReachedOnly, events_of, is_done, may_change}
 use Rattle.mirror_model.specs.Reached.{AreRetried}
 
@@ -116,3 +116,33 @@ RunGrows =
     Run digest keys opened events answers final → (mirror : ℕ) (v w : View) →
     slice_get opened mirror ≡ Some v →
     slice_get final mirror ≡ Some w → IsSubview v w
+
+-- ---- runs of single calls
+
+-- two runs, the second from the views that the first left, are one run of the events of both
+abbrev pub RunsJoin : Type 0
+RunsJoin =
+    (digest : List ℕ → List ℕ) (keys : List Key) (old between new : List View)
+    (first second : List Event) (answers more : List Answer) →
+    Run digest keys old first answers between →
+    Run digest keys between second more new →
+    Run digest keys old (first ++ second) (answers ++ more) new
+
+-- what one take leaves one of some mirrors, as a call says it, is a run of that one event
+abbrev pub TakeIsRun : Type 0
+TakeIsRun =
+    (digest : List ℕ → List ℕ) (keys : List Key) (views : List View) (mirror : ℕ)
+    (old new : View) (item : Item) (answer : Answer) →
+    slice_get views mirror ≡ Some old →
+    Takes digest keys old item answer new →
+    Run digest keys views (Take mirror item ∷ []) (answer ∷ []) (slice_set views mirror new)
+
+-- what one merge leaves one of some mirrors, as a call says it, is a run of that one event
+abbrev pub MergeIsRun : Type 0
+MergeIsRun =
+    (digest : List ℕ → List ℕ) (keys : List Key) (views : List View) (mirror source : ℕ)
+    (old other new : View) (answer : Answer) →
+    slice_get views mirror ≡ Some old →
+    slice_get views source ≡ Some other →
+    Merges digest old other answer new →
+    Run digest keys views (Merge mirror source ∷ []) (answer ∷ []) (slice_set views mirror new)

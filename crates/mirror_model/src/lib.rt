@@ -19,14 +19,15 @@ pub use items::{Bytes, Item, Rows};
 pub use laws::edges::{edge_root_law, edge_rows_law, edge_strings_law, lawful_edge_law};
 pub use laws::events::{again_law, event_law, once_law, refused_memory_law};
 pub use laws::examples::{
-    fork_example, front_example, opening_example, served_example, trees_example, way_example,
+    calls_example, fork_example, front_example, opening_example, retry_example, served_example,
+    trees_example, way_example,
 };
 pub use laws::fetches::{answered_law, full_files_law, missing_law, missing_list_law, plus_law};
 pub use laws::fronts::{front_law, rounds_law, walk_law};
-pub use laws::headline::{headline_law, part_law};
+pub use laws::headline::{headline_law, part_law, plays_law};
 pub use laws::items::bytes_law;
 pub use laws::lists::lists_law;
-pub use laws::play::{clash_law, keeping_law, reaches_law, run_law};
+pub use laws::play::{clash_law, join_law, keeping_law, reaches_law, retry_law, run_law};
 pub use laws::refusals::refusals_law;
 pub use laws::reports::reports_law;
 pub use laws::tiles::{bundle_law, full_row_law};

@@ -1,17 +1,16 @@
 -- Paths that were not asked for yet, by their places.
 use Rattle.std.proofs.Common.{◌≡◌, ◌≢◌, ◌⊎◌, ℕ, zero, suc, ◌<◌, List, [], ◌∷◌, ◌++◌, length, get_or, take, arith}
 use Rattle.std.proofs.Common.{AllPairs, Contains, refl, sym, ◌∙◌, ap, subst, inl, inr, append_assoc}
-use Rattle.std.proofs.Common.{◌+◌, ◌≤◌, ◌↔◌, All, Option, length-take, length-append}
+use Rattle.std.proofs.Common.{◌+◌, length-take}
 use Rattle.std.proofs.lemmas.List.{append-nil, get_or_default, get_or-take, take_more}
 use Rattle.std.proofs.lemmas.List.Elements.{Contains-push_cases, Contains-append_cases, Contains-get_or}
 use Rattle.tlog_tiles.specs.declared.paths.Path.{Path}
 use Rattle.tlog_tiles.specs.declared.paths.Path.TheVariants.{Checkpoint, Tile, Entries}
 use Rattle.tlog_tiles.specs.Edge.{edge_of, level_of}
-use Rattle.tlog_tiles.specs.Tiles.{IsEdgeTile}
-use Rattle.tlog_tiles.proofs.EdgeLemmas.{edge_is, edge_rises}
+use Rattle.tlog_tiles.proofs.EdgeLemmas.{edge_rises}
 use Rattle.log_sources.specs.Files.{full_of, width_named}
 use Rattle.log_sources.specs.Honest.{IsGone, Gets, GetsNone, GetsFound, GetsFull}
-use Rattle.mirror_pull.specs.Asking.{IsFresh, AreFresh, AsksEach, AsksNone, AsksOne, AsksTwo, AddsEach, AddsTo}
+use Rattle.mirror_pull.specs.Asking.{IsFresh, AreFresh, AsksEach, AsksNone, AsksOne, AsksTwo, AddsEach}
 use Rattle.mirror_pull.specs.Parts.{GetsAll}
 
 pub full_full : (path : Path) → full_of (full_of path) ≡ full_of path
@@ -116,14 +115,6 @@ pub edge_apart : (size : ℕ) → AllPairs (λ a b. full_of a ≢ full_of b) (ed
 edge_apart size i j d lt within =
     lower_apart (get_or (edge_of size) i d) (get_or (edge_of size) j d) (edge_rises size i j d lt within)
 
-pub edge_partial : (size : ℕ) (path : Path) → Contains (edge_of size) path → path ≢ full_of path
-edge_partial size path has = go path ((edge_is size path).0 has)
-  where
-    go : (path : Path) → IsEdgeTile size path → path ≢ full_of path
-    go Checkpoint h e = h
-    go (Tile level index width) h e = let w : width ≡ 256 = ap width_named e in omega (arith, h.partial, w)
-    go (Entries index width) h e = h
-
 -- ---- one path after another of a list
 
 -- the places of a list of paths differ, so each is fresh when its turn comes
@@ -140,35 +131,6 @@ fresh_next before mid ps i lt are adds =
 
 pub take_one : (ps : List Path) (i : ℕ) → i < length ps → take (i + 1) ps ≡ take i ps ++ get_or ps i Checkpoint ∷ []
 take_one ps i lt = take_more ps i Checkpoint lt
-
-pub adds_each_then : (ps qs before mid after : List Path) → AddsEach ps before mid → AddsEach qs mid after →
-    AddsEach (ps ++ qs) before after
-adds_each_then ps qs before mid after a b = record {
-  gets = a.gets ++ b.gets;
-  each = each_then ps a.gets qs b.gets a.each b.each;
-  list = b.list ∙ (ap (λ (l : List Path). l ++ b.gets) a.list ∙ append_assoc before a.gets b.gets);
-}
-
-pub each_step :
-    (qs ps before mid after : List Path) (i : ℕ) → qs ≡ ps → i < length qs → AreFresh before ps →
-    ((p : Path) → Contains ps p → p ≢ full_of p) →
-    AddsEach (take i ps) before mid →
-    (IsFresh mid (get_or qs i Checkpoint) → get_or qs i Checkpoint ≢ full_of (get_or qs i Checkpoint) →
-    AddsEach (get_or qs i Checkpoint ∷ []) mid after) →
-    AddsEach (take (i + 1) ps) before after
-each_step qs ps before mid after i same lt are partial adds step =
-    let less : i < length ps = omega (arith, lt, ap length same) in
-    let p = get_or ps i Checkpoint in
-    let is : get_or qs i Checkpoint ≡ p = ap (λ (l : List Path). get_or l i Checkpoint) same in
-    let more =
-    step (subst (IsFresh mid) (sym is) (fresh_next before mid ps i less are adds))
-    (subst (λ (r : Path). r ≢ full_of r) (sym is) (partial p (Contains-get_or ps i Checkpoint less))) in
-    subst (λ (l : List Path). AddsEach l before after) (sym (take_one ps i less))
-    (adds_each_then (take i ps) (p ∷ []) before mid after adds
-    (subst (λ (r : Path). AddsEach (r ∷ []) mid after) is more))
-
-pub adds_each_none : (before : List Path) → AddsEach [] before before
-adds_each_none before = record { gets = []; each = AsksNone; list = sym (append-nil before) }
 
 -- ---- the gets of a list, and what they say
 
@@ -193,42 +155,3 @@ contains_take i xs q c =
     let short : c.0 < i =
     omega (arith, c.1, length-take i xs) in
     (c.0, omega (arith, c.1, length-take i xs), sym (get_or-take i xs c.0 q short) ∙ c.2)
-
--- a round asks for something where its first path was not asked for
-pub asks_step :
-    (before mid after ps : List Path) (a b : Option (List Path)) (i : ℕ) → (i ≡ 0 → mid ≡ before) →
-    (1 ≤ i → (Contains before (get_or ps 0 Checkpoint) → ⊥) → length before < length mid) → AddsTo mid after a b →
-    ((Contains mid (get_or ps i Checkpoint) → ⊥) → length mid < length after) →
-    (Contains before (get_or ps 0 Checkpoint) → ⊥) → length before < length after
-asks_step before mid after ps a b zero start more told step new =
-    let same =
-    start refl in omega
-    (arith, ap length same, step (λ has. new (subst (λ (l : List Path). Contains l (get_or ps 0 Checkpoint)) same has)))
-asks_step before mid after ps a b (suc i) start more told step new =
-    omega (arith, more (omega arith) new, ap length told.list, length-append mid told.more)
-
--- rounds that came so far asked for something, and so does one more
-pub asks_round :
-    (before mid after seen paths list : List Path) (rounds : ℕ) → seen ≡ mid → list ≡ paths →
-    (rounds ≡ 0 → mid ≡ before) → (1 ≤ rounds → length before < length mid) →
-    All (λ path. Contains seen path → ⊥) paths → 1 ≤ length paths →
-    (1 ≤ length list → (Contains mid (get_or list 0 Checkpoint) → ⊥) → length mid < length after) →
-    length before < length after
-asks_round before mid after seen paths list rounds same is start more new some step =
-    let unasked : Contains mid (get_or list 0 Checkpoint) → ⊥ = λ has.
-    new 0 Checkpoint some
-    (subst (λ (l : List Path). Contains l (get_or paths 0 Checkpoint)) (sym same)
-    (subst (λ (l : List Path). Contains mid (get_or l 0 Checkpoint)) is has)) in
-    let longer = step (omega (arith, some, ap length is)) unasked in
-    go rounds start more longer
-  where
-    go : (r : ℕ) → (r ≡ 0 → mid ≡ before) → (1 ≤ r → length before < length mid) → length mid < length after →
-        length before < length after
-    go zero start more longer = omega (arith, ap length (start refl), longer)
-    go (suc r) start more longer = omega (arith, more (omega arith), longer)
-
--- so they are none exactly where nothing was asked for
-pub none_round : (before mid : List Path) (rounds : ℕ) → (rounds ≡ 0 → mid ≡ before) →
-    (1 ≤ rounds → length before < length mid) → (rounds ≡ 0) ↔ (mid ≡ before)
-none_round before mid zero start more = (start, λ e. refl)
-none_round before mid (suc r) start more = (start, λ e. absurd (omega (arith, more (omega arith), ap length e)))

@@ -3,6 +3,8 @@ pub mod Gains
 pub mod FrontRounds
 pub mod HeadsRead
 pub mod Freshness
+pub mod Replies
+pub mod Followed
 pub mod TrueRows
 pub mod TrueTakes
 pub mod Orders

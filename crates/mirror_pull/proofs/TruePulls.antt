@@ -1,10 +1,9 @@
 -- A pull from an honest source, from its checkpoint to its outcome.
-use Rattle.std.proofs.Common.{◌≡◌, ◌≢◌, ◌⊎◌, ℕ, zero, suc, ◌*◌, ◌^◌, ◌<◌, ◌≤◌, List, [], ◌∷◌, ◌++◌, length, get_or}
-use Rattle.std.proofs.Common.{map, take, arith, length-take, length-append, ◌↔◌, Contains}
+use Rattle.std.proofs.Common.{◌≡◌, ◌≢◌, ◌⊎◌, ℕ, suc, ◌*◌, ◌^◌, ◌<◌, ◌≤◌, List, [], ◌∷◌, ◌++◌, length, get_or}
+use Rattle.std.proofs.Common.{map, take, arith, length-take, Contains}
 use Rattle.std.proofs.Common.{Option, Some, None, Err, Bool, refl, sym, ◌∙◌, ap, subst}
 use Rattle.std.proofs.Common.{inl, inr}
 use Rattle.std.specs.Prelude.{max}
-use Rattle.std.proofs.lemmas.List.{append-nil}
 use Rattle.std.proofs.lemmas.List.Elements.{Contains-get_or, Contains-append_cases}
 use Rattle.signed_note.specs.Keys.{Key}
 use Rattle.tlog_shape.specs.Edge.{width_of, edge_index_of, IsTop}
@@ -34,7 +33,7 @@ use Rattle.log_sources.specs.Files.{full_of}
 use Rattle.log_sources.specs.Source.{StaysWithin}
 use Rattle.log_sources.specs.Told.{AddsTold}
 use Rattle.log_sources.specs.Honest.{IsHonest, true_bytes}
-use Rattle.mirror_pull.specs.Asking.{AreFresh, AddsTo, AddsEach, AsksInParts}
+use Rattle.mirror_pull.specs.Asking.{AreFresh, AddsTo}
 use Rattle.mirror_pull.specs.Taking.{TakesHead, GainsStrings}
 use Rattle.mirror_pull.specs.Honest.{NoClashAmong, AreFrontRounds, with_head, HonestGets, HonestOutcome}
 use Rattle.mirror_pull.specs.declared.pulling.Pulled.{Pulled}
@@ -142,30 +141,6 @@ none_asked none path is has = let h = subst (λ (l : List Path). Contains l path
 
 pub first_asked : (none asked : List Path) → none ≡ [] → asked ≡ none ++ Checkpoint ∷ [] → asked ≡ Checkpoint ∷ []
 first_asked none asked is grown = grown ∙ ap (λ (l : List Path). l ++ Checkpoint ∷ []) is
-
-no_more : (more : List Path) → length more ≡ 0 → more ≡ []
-no_more [] e = refl
-no_more (p ∷ ps) e = absurd (omega (arith, e))
-
-pub parts_asked :
-    (old new a b : Option (List Path)) (size rounds : ℕ) (none asked mid after : List Path) → none ≡ [] →
-    asked ≡ Checkpoint ∷ [] → AddsEach (edge_of size) asked mid → AddsTo mid after a b → AddsTo none after old new →
-    (rounds ≡ 0) ↔ (after ≡ mid) → AsksInParts old new size rounds
-parts_asked old new a b size rounds none asked mid after is begun edge work told counts = record {
-  edge_gets = edge.gets;
-  round_gets = work.more;
-  edge = edge.each;
-  told =
-      let all : after ≡ Checkpoint ∷ edge.gets ++ work.more =
-      work.list ∙
-      ap (λ (l : List Path). l ++ work.more) (edge.list ∙ ap (λ (l : List Path). l ++ edge.gets) begun) in
-      subst (AddsTold old new) (sym (told.list ∙ ap (λ (l : List Path). l ++ told.more) is) ∙ all) told.adds.told;
-  none = (
-    λ zero. no_more work.more
-        (omega (arith, ap length (counts.0 zero), ap length work.list, length-append mid work.more)),
-    λ nothing. counts.1 (work.list ∙ (ap (λ (l : List Path). mid ++ l) nothing ∙ append-nil mid)),
-  );
-}
 
 empty_front : (digest : List ℕ → List ℕ) (held : Strings) (start : ℕ) (x : Node) →
     InFront digest held (tree_of []) start x → ⊥

@@ -14,7 +14,7 @@ use Rattle.mirror_model.proofs.Fetching.{full_tiles_begin}
 use Rattle.log_sources.specs.Files.{full_of, width_named}
 use Rattle.log_sources.specs.Source.{StaysWithin}
 use Rattle.log_sources.specs.Honest.{IsGone, GetsNone, GetsFound, GetsFull, true_bytes}
-use Rattle.mirror_pull.specs.Asking.{IsFresh, AreFresh, AsksNone, AsksOne, AsksTwo, AddsEach}
+use Rattle.mirror_pull.specs.Asking.{IsFresh, AreFresh}
 use Rattle.mirror_pull.specs.Parts.{GetsAll, IsTilePath, IsTrueSource, IsTrueRow, AreTrueRows}
 use Rattle.mirror_pull.proofs.Freshness.{full_unasked, fresh_next, take_one, adds_of_gets, gets_none, gets_all_then}
 
@@ -30,25 +30,11 @@ source_stays digest entries may later within is =
       parts = λ path inside answer h. is.parts path inside answer (within.stays path answer h);
     }
 
-pub adds_one_each : (path : Path) (before after : List Path) → after ≡ before ++ path ∷ [] →
-    AddsEach (path ∷ []) before after
-adds_one_each path before after e = record { gets = path ∷ []; each = AsksOne path AsksNone; list = e }
-
 pub two_more : (path full : Path) (before middle after : List Path) → full ≡ full_of path →
     middle ≡ before ++ path ∷ [] → after ≡ middle ++ full ∷ [] → after ≡ before ++ path ∷ full_of path ∷ []
 two_more path full before middle after same e f =
     f ∙ (ap (λ (l : List Path). l ++ full ∷ []) e ∙
     (ap (λ (q : Path). (before ++ path ∷ []) ++ q ∷ []) same ∙ append_assoc before (path ∷ []) (full_of path ∷ [])))
-
-pub adds_two_each : (path full : Path) (before middle after : List Path) → full ≡ full_of path →
-    middle ≡ before ++ path ∷ [] → after ≡ middle ++ full ∷ [] → AddsEach (path ∷ []) before after
-adds_two_each path full before middle after same e f =
-    record {
-      gets =
-          path ∷ full_of path ∷ [];
-      each = AsksTwo path AsksNone;
-      list = two_more path full before middle after same e f;
-    }
 
 -- that the full path was not asked for, where the path was
 pub full_fresh : (path full : Path) (before middle : List Path) → full ≡ full_of path → path ≢ full_of path →

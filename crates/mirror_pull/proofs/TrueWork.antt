@@ -24,7 +24,9 @@ use Rattle.mirror_model.proofs.Fronts.{front_empty}
 use Rattle.log_sources.specs.Source.{StaysWithin}
 use Rattle.mirror_pull.specs.Asking.{IsFresh}
 use Rattle.mirror_pull.specs.Honest.{IsFrontRound, AreFrontRounds}
-use Rattle.mirror_pull.specs.Parts.{IsWanted, MayTake, MayWork, TakesTrue, HasWorked}
+use Rattle.mirror_pull.specs.Parts.{MayTake, MayWork, TakesTrue, HasWorked}
+use Rattle.mirror_pull.specs.Replying.{IsLeft}
+use Rattle.mirror_pull.proofs.Replies.{leaves_all}
 use Rattle.mirror_pull.proofs.Freshness.{each_place, gets_each_asked}
 use Rattle.mirror_pull.proofs.TrueRows.{source_stays}
 use Rattle.mirror_pull.proofs.TrueTakes.{InTrees, clean_gained, paths_only}
@@ -102,7 +104,7 @@ module _ (digest : List ℕ → List ℕ) (entries : List (List ℕ)) (size : �
         answered_is_not_again digest v.strings (take size entries) small m.edge path
         (m.fetched before has path same whole.0 whole.1) f
 
-    pub wanted_front : (paths : List Path) → IsWanted digest v size root asked paths →
+    pub wanted_front : (paths : List Path) → IsLeft digest size root asked v paths →
         ListsFront digest v (take size entries) paths
     wanted_front paths wanted =
         let lists : ListsMissing digest v (length (take size entries)) (mth digest (take size entries)) wanted.missing =
@@ -110,7 +112,9 @@ module _ (digest : List ℕ → List ℕ) (entries : List (List ℕ)) (size : �
         (subst (λ r. ListsMissing digest v size r wanted.missing) m.root_is wanted.lists) in
         let fronts =
         missing_is_front_list digest m.source.hash v (take size entries) clean_first wanted.missing lists in
-        let same = wanted.whole (λ path listed has. front_fresh path ((fronts.exact path).0 listed) path has refl) in
+        let same =
+        leaves_all asked wanted.missing paths wanted.leaves
+        (λ path listed has. front_fresh path ((fronts.exact path).0 listed) path has refl) in
         subst (ListsFront digest v (take size entries)) (sym same) fronts
 
     pub round_may : (paths : List Path) → ListsFront digest v (take size entries) paths →
@@ -186,7 +190,7 @@ module _ (digest : List ℕ → List ℕ) (entries : List (List ℕ)) (size : �
   module _ (may : Path → Option (List ℕ) → Type 0) (v x : View) (before mid : List Path) (rounds : ℕ) where
     pub work_step :
         (now later : Path → Option (List ℕ) → Type 0) (w : View) (after paths : List Path) →
-        IsWorking digest entries size root now rounds v x before mid → IsWanted digest x size root mid paths →
+        IsWorking digest entries size root now rounds v x before mid → IsLeft digest size root mid x paths →
         1 ≤ length paths → StaysWithin now later → IsSubview x w →
         TakesTrue digest entries paths mid after x w →
         IsWorking digest entries size root later (rounds + 1) v w before after
@@ -208,7 +212,7 @@ module _ (digest : List ℕ → List ℕ) (entries : List (List ℕ)) (size : �
         }
 
     pub work_done : (paths : List Path) → IsWorking digest entries size root may rounds v x before mid →
-        IsWanted digest x size root mid paths → length paths ≡ 0 → HasWorked digest entries size rounds v x before mid
+        IsLeft digest size root mid x paths → length paths ≡ 0 → HasWorked digest entries size rounds v x before mid
     work_done paths working wanted none = record {
       lists = working.lists;
       gets = working.gets;

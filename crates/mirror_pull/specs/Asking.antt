@@ -1,10 +1,8 @@
 -- What a pull asks of its source. `AddsEach`, `AddsTo`, `AreFresh`, `AsksPaths` and `IsFresh` are
 -- cited by the contracts of private functions alone.
-use Rattle.std.specs.Prelude.{◌≡◌, ◌≢◌, ◌↔◌, ℕ, List, [], ◌∷◌, ◌++◌, Option, Result, Ok, Err}
+use Rattle.std.specs.Prelude.{◌≡◌, ◌≢◌, ℕ, List, [], ◌∷◌, ◌++◌, Option, Result, Ok, Err}
 use Rattle.std.specs.Prelude.{AllPairs, Contains}
 use Rattle.tlog_tiles.specs.declared.paths.Path.{Path}
-use Rattle.tlog_tiles.specs.declared.paths.Path.TheVariants.{Checkpoint}
-use Rattle.tlog_tiles.specs.Edge.{edge_of}
 use Rattle.log_sources.specs.Files.{full_of}
 use Rattle.log_sources.specs.Told.{AddsTold, Rose}
 use Rattle.mirror_pull.specs.declared.fault.PullFault.{PullFault}
@@ -71,12 +69,3 @@ pub record AddsEach (paths before after : List Path) : Type 0 where
   pub gets : List Path
   pub each : AsksEach paths gets
   pub list : after ≡ before ++ gets
-
--- what a pull asked for: the checkpoint, the paths of the edge of that size, and those of its
--- rounds, of which there are none exactly where nothing was asked for after the edge
-pub record AsksInParts (old new : Option (List Path)) (size rounds : ℕ) : Type 0 where
-  pub edge_gets : List Path
-  pub round_gets : List Path
-  pub edge : AsksEach (edge_of size) edge_gets
-  pub told : AddsTold old new (Checkpoint ∷ edge_gets ++ round_gets)
-  pub none : (rounds ≡ 0) ↔ (round_gets ≡ [])

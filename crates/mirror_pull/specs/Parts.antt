@@ -13,7 +13,6 @@ use Rattle.mirror_model.specs.Heads.{HasHead}
 use Rattle.mirror_model.specs.Edge.{edge_rows, edge_strings}
 use Rattle.mirror_model.specs.Rounds.{true_strings}
 use Rattle.mirror_model.specs.TrueLaws.{AreShort, IsWidest}
-use Rattle.mirror_model.specs.Listed.{ListsMissing}
 use Rattle.log_sources.specs.Files.{full_of}
 use Rattle.log_sources.specs.Honest.{Gets, true_bytes, IsTrueAnswer}
 use Rattle.mirror_pull.specs.Asking.{AreFresh}
@@ -37,14 +36,6 @@ pub record GetsAll (n : ℕ) (paths before after : List Path) : Type 0 where
   pub founds : List Path
   pub are : Gets n paths gets founds
   pub list : after ≡ before ++ gets
-
--- of what is missing of a head these paths are asked for: all of it, where nothing of it was asked
--- for
-pub record IsWanted (digest : List ℕ → List ℕ) (v : View) (size : ℕ) (root : List ℕ)
-    (asked paths : List Path) : Type 0 where
-  pub missing : List Path
-  pub lists : ListsMissing digest v size root missing
-  pub whole : ((path : Path) → Contains missing path → Contains asked path → ⊥) → paths ≡ missing
 
 module _ (digest : List ℕ → List ℕ) (entries : List (List ℕ)) where
   -- a source of which these answers may come answers each path within the entries truly

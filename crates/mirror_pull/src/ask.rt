@@ -1,8 +1,9 @@
 //! Asking a source for paths, none twice.
-ghost use Rattle.std.specs.Prelude.{◌≡◌, ◌↔◌, IsTrue, ◌≢◌, ℕ, IfOk, Contains, None, option_map, ◌++◌, ◌∷◌, []};
+ghost use Rattle.std.specs.Prelude.{◌≡◌, ◌↔◌, IsTrue, IfOk, Contains, option_map, ◌++◌, ◌∷◌, []};
 ghost use Rattle.mirror_pull.specs.Asking.{AsksPaths, Counts};
 ghost use Rattle.log_sources.specs.Files.{full_of, width_named};
 ghost use Rattle.mirror_pull.specs.Taking.{IsEarly, IsLate};
+ghost use Rattle.mirror_pull.specs.Replying.{Asks, Gathers};
 ghost use Rattle.log_sources.specs.Source.{StaysWithin};
 
 use crate::fault::PullFault;
@@ -53,8 +54,8 @@ pub(crate) fn ask<S: Source>(
     ensures early { IsEarly result }
     ensures late { IsLate result }
     ensures later { StaysWithin (S.may_answer source.old) (S.may_answer source.new) }
-    ensures again { IfOk result (λ bytes. Contains asked.old.items path → bytes ≡ None) }
     ensures answer { IfOk result (λ bytes. (Contains asked.old.items path → ⊥) → S.may_answer source.old path (option_map (λ v. v.items) bytes)) }
+    ensures replied { IfOk result (λ bytes. Gathers (S.may_answer source.old) (S.asked source.old) (S.asked source.new) asked.old.items asked.new.items (λ replies. Asks asked.old.items path replies (option_map (λ v. v.items) bytes))) }
     ensures grown { IfOk result (λ _. (Contains asked.old.items path → ⊥) → asked.new.items ≡ asked.old.items ++ path ∷ []) }
 {
     if is_asked(asked, &path) {

@@ -1,8 +1,9 @@
 //! Pulling a log from one source.
-ghost use Rattle.std.specs.Prelude.{◌≡◌, [], map, IfOk};
+ghost use Rattle.std.specs.Prelude.{◌≡◌, [], map, ⊤, MatchResult};
 ghost use Rattle.mirror_model.specs.declared.items.Item.TheVariants.{Head};
-ghost use Rattle.mirror_pull.specs.Asking.{AddsSome, AsksInParts, AsksPaths, Counts};
+ghost use Rattle.mirror_pull.specs.Asking.{AddsSome, AsksPaths, Counts};
 ghost use Rattle.mirror_pull.specs.Honest.{PullsHonestly};
+ghost use Rattle.mirror_pull.specs.Replying.{FollowsReplies, RefusesHead};
 ghost use Rattle.mirror_pull.specs.Taking.{PullsTo, TakesHead};
 ghost use Rattle.log_sources.specs.Source.{StaysWithin};
 
@@ -40,7 +41,8 @@ fn take_rows<H: TreeHash>(
     note: &[u8],
     rows: &[Vec<u8>],
 ) -> Result<(), PullFault>
-    ensures { TakesHead H.digest (map (λ k. key k) keys.now) mirror.old.view (Head note.now (map (λ row. row.items) rows.now)) result mirror.new.view }
+    ensures takes { TakesHead H.digest (map (λ k. key k) keys.now) mirror.old.view (Head note.now (map (λ row. row.items) rows.now)) result mirror.new.view }
+    ensures judged { MatchResult result (λ _. ⊤) (λ e. RefusesHead H.digest mirror.old.view.origin (map (λ k. key k) keys.now) note.now (map (λ row. row.items) rows.now) e) }
 {
     let mut edge: Vec<&[u8]> = Vec::new(alloc);
     for row in rows {
@@ -80,7 +82,7 @@ pub fn pull<H: TreeHash, S: Source>(
     ensures once { AddsSome [] (S.asked source.old) (S.asked source.new) }
     ensures counted { Counts (S.failed source.old) (S.failed source.new) result }
     ensures later { StaysWithin (S.may_answer source.old) (S.may_answer source.new) }
-    ensures asks { IfOk result (λ p. AsksInParts (S.asked source.old) (S.asked source.new) p.size p.rounds) }
+    ensures replies { FollowsReplies H.digest (map (λ k. key k) keys.now) mirror.old.view mirror.new.view (S.may_answer source.old) (S.asked source.old) (S.asked source.new) result }
     ensures honest { PullsHonestly H.digest (map (λ k. key k) keys.now) mirror.old.view mirror.new.view (S.may_answer source.old) (S.asked source.old) (S.asked source.new) result }
 {
     let mut asked = Vec::new(alloc);

@@ -5,7 +5,8 @@ ghost use Rattle.mirror_model.specs.Heads.{HasHead};
 ghost use Rattle.mirror_model.specs.TreeLaws.{IsOfSize};
 ghost use Rattle.mirror_pull.specs.Asking.{AsksPaths, Counts};
 ghost use Rattle.mirror_pull.specs.Taking.{IsLate, GainsStrings, IsTakeable, TakesItem, item_at};
-ghost use Rattle.mirror_pull.specs.Parts.{HasWorked, IsOutside, IsWanted, MayTake, MayWork, TakesTrue};
+ghost use Rattle.mirror_pull.specs.Parts.{HasWorked, IsOutside, MayTake, MayWork, TakesTrue};
+ghost use Rattle.mirror_pull.specs.Replying.{AreWorkedRounds, Gathers, IsLeft, IsWorkedList, IsWorkedPath};
 ghost use Rattle.mirror_pull.specs.Answering.{refused_of, refused_of_fault};
 ghost use Rattle.log_sources.specs.Source.{StaysWithin};
 
@@ -71,7 +72,7 @@ fn take_path<H: TreeHash, S: Source>(
     ensures later { StaysWithin (S.may_answer source.old) (S.may_answer source.new) }
     ensures late { IsLate result }
     ensures gains { GainsStrings mirror.old.view mirror.new.view }
-    ensures asks { IfOk result (λ _. (Contains asked.old.items path → ⊥) → length asked.old.items < length asked.new.items) }
+    ensures replied { IfOk result (λ refused. Gathers (S.may_answer source.old) (S.asked source.old) (S.asked source.new) asked.old.items asked.new.items (λ replies. IsWorkedPath H.digest asked.old.items mirror.old.view path refused mirror.new.view replies)) }
     ensures honest { (entries : List (List ℕ)) (size : ℕ) → MayTake H.digest entries size (S.may_answer source.old) mirror.old.view asked.old.items (path ∷ []) → MatchResult result (λ refused. (refused ≡ false) × TakesTrue H.digest entries (path ∷ []) asked.old.items asked.new.items mirror.old.view mirror.new.view) IsOutside }
 {
     if let Some(bytes) = ask(source, asked, path)? {
@@ -99,7 +100,7 @@ fn work_round<H: TreeHash, S: Source>(
     ensures later { StaysWithin (S.may_answer source.old) (S.may_answer source.new) }
     ensures late { IsLate result }
     ensures gains { GainsStrings mirror.old.view mirror.new.view }
-    ensures asks { IfOk result (λ _. 1 ≤ length paths.now → (Contains asked.old.items (get_or paths.now 0 Checkpoint) → ⊥) → length asked.old.items < length asked.new.items) }
+    ensures replied { IfOk result (λ refused. Gathers (S.may_answer source.old) (S.asked source.old) (S.asked source.new) asked.old.items asked.new.items (λ replies. IsWorkedList H.digest asked.old.items mirror.old.view paths.now refused mirror.new.view replies)) }
     ensures honest { (entries : List (List ℕ)) (size : ℕ) → MayTake H.digest entries size (S.may_answer source.old) mirror.old.view asked.old.items paths.now → MatchResult result (λ refused. (refused ≡ 0) × TakesTrue H.digest entries paths.now asked.old.items asked.new.items mirror.old.view mirror.new.view) IsOutside }
 {
     let mut refused = 0u64;
@@ -121,8 +122,7 @@ fn wanted<H: TreeHash>(
 ) -> Result<Vec<Path>, AllocError>
     requires { size ≤ 256 ^ 8 }
     ensures takeable { IfOk result (λ paths. All IsTakeable paths.items) }
-    ensures new { IfOk result (λ paths. All (λ path. Contains asked.now path → ⊥) paths.items) }
-    ensures whole { IfOk result (λ paths. HasHead mirror.now.view size root.now → IsWanted H.digest mirror.now.view size root.now asked.now paths.items) }
+    ensures left { IfOk result (λ paths. HasHead mirror.now.view size root.now → IsLeft H.digest size root.now asked.now mirror.now.view paths.items) }
 {
     walk_law();
     let mut paths = Vec::new(alloc);
@@ -153,7 +153,7 @@ pub(crate) fn work<H: TreeHash, S: Source>(
     ensures late { IsLate result }
     ensures gains { GainsStrings mirror.old.view mirror.new.view }
     ensures rounds { IfOk result (λ r. r.0 ≤ 8) }
-    ensures none { IfOk result (λ r. r.0 ≡ 0 ↔ asked.new.items ≡ asked.old.items) }
+    ensures replied { IfOk result (λ r. HasHead mirror.old.view size root.now → Gathers (S.may_answer source.old) (S.asked source.old) (S.asked source.new) asked.old.items asked.new.items (λ replies. AreWorkedRounds H.digest size root.now asked.old.items mirror.old.view r.0 r.1 mirror.new.view replies)) }
     ensures honest { (entries : List (List ℕ)) → MayWork H.digest entries size root.now (S.may_answer source.old) mirror.old.view asked.old.items → MatchResult result (λ r. (r.1 ≡ 0) × HasWorked H.digest entries size r.0 mirror.old.view mirror.new.view asked.old.items asked.new.items) IsOutside }
 {
     let mut refused = 0u64;

@@ -10,6 +10,7 @@ use Rattle.httparse.specs.Grammar.{print_request, ReadsRequest, HasNoRequest}
 use Rattle.httparse.specs.Spans.{RequestOverflows}
 use Rattle.httparse.specs.declared.spans.Span.{Span}
 use Rattle.byte_streams.specs.Streams.{TakesAtMost}
+use Rattle.mirror_server.specs.Answered.{FailsBeforeHead}
 use Rattle.mirror_server.specs.Response.{HasRequest, LacksRequest}
 use Rattle.mirror_server.specs.Looks.{HasRequestAt, ReadsMore, ReadsEnd, ReadsNone, SeesIn}
 use Rattle.mirror_server.specs.declared.limits.TheConstants.{MAX_FIELDS, MAX_HEAD_LEN}
@@ -97,6 +98,18 @@ sees_head (Some all) (Some ys) xs method target le c l =
       l.method_is,
       l.target_is,
     )
+
+-- bytes that were read, among which there is no head, when a read failed
+pub fails_before : (known cur : Option (List ℕ)) (xs : List ℕ) → Consumes known cur xs →
+    length xs < MAX_HEAD_LEN → (0 < length xs → HasNoRequest xs) → FailsBeforeHead known cur
+fails_before known cur xs c lt none =
+    record {
+      taken = xs;
+      consumes = c;
+      within = lt;
+      lacks = λ some h has. none some h has.rest
+          (subst (λ (b : List ℕ). ReadsRequest b h has.rest) (take_all MAX_HEAD_LEN xs (omega (arith, lt))) has.reads);
+    }
 
 -- ---- one read more
 

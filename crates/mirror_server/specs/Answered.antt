@@ -1,13 +1,14 @@
 -- What the call that answers a client does. The contracts of private functions alone cite these
--- words, but for `AnswersClient`.
-use Rattle.std.specs.Prelude.{◌≡◌, ℕ, List, ◌++◌, Option, Result, Ok, Err, IsUtf8, codes}
+-- words, but for `AnswersClient` and `FailsBeforeHead`.
+use Rattle.std.specs.Prelude.{◌≡◌, ℕ, ◌<◌, List, ◌++◌, length, Option, Result, Ok, Err, IsUtf8, codes}
 use Rattle.std.specs.Fmt.{decimal}
 use Rattle.http.specs.StatusCode.{status_text}
-use Rattle.std.specs.Io.KnownBytes.{Appends, Keeps}
+use Rattle.std.specs.Io.KnownBytes.{Appends, Consumes, Keeps}
 use Rattle.byte_streams.specs.Streams.{AppendsPrefix}
 use Rattle.httparse.specs.Grammar.{RequestHead}
 use Rattle.mirror_model.specs.View.{View}
-use Rattle.mirror_server.specs.Response.{IsReplyTo, Response}
+use Rattle.mirror_server.specs.Response.{IsReplyTo, LacksRequest, Response}
+use Rattle.mirror_server.specs.declared.limits.TheConstants.{MAX_HEAD_LEN}
 use Rattle.mirror_server.specs.declared.fault.HttpFault.{HttpFault}
 use Rattle.mirror_server.specs.declared.fault.HttpFault.TheVariants.{ReadFault, WriteFault}
 use Rattle.mirror_server.specs.declared.fault.HttpFault.TheVariants.{OutOfMemory}
@@ -27,6 +28,13 @@ empty_text status fields =
     codes "HTTP/1.1 "
     ++ (status_text status
     ++ (codes "\r\n" ++ (fields ++ codes "Content-Length: 0\r\nConnection: close\r\n\r\n")))
+
+-- the bytes that a client gave before a read failed are fewer than 8,192, and hold no head
+pub record FailsBeforeHead (old new : Option (List ℕ)) : Type 0 where
+  pub taken : List ℕ
+  pub consumes : Consumes old new taken
+  pub within : length taken < MAX_HEAD_LEN
+  pub lacks : 0 < length taken → LacksRequest taken
 
 module _ (digest : List ℕ → List ℕ) (v : View) where
   -- the reply is that to a request of that method and target, which is text

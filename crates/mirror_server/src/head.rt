@@ -1,6 +1,8 @@
 //! The head of a request, read no further than it goes.
-ghost use Rattle.std.specs.Prelude.{◌≡◌, ◌-◌, ◌<◌, ◌≤◌, IfOk, IfSome, vec_len};
+ghost use Rattle.std.specs.Prelude.{◌≡◌, ◌-◌, ◌<◌, ◌≤◌, IfErr, IfOk, IfSome, vec_len};
+ghost use Rattle.std.specs.Io.KnownBytes.{Keeps};
 ghost use Rattle.byte_streams.specs.Streams.{TakesAtMost};
+ghost use Rattle.mirror_server.specs.Answered.{FailsBeforeHead};
 ghost use Rattle.mirror_server.specs.Looks.{LiesWithin, LooksLike, ReadsOn, SeesIn};
 
 use crate::fault::HttpFault;
@@ -63,6 +65,7 @@ fn read_more<R: Read>(reader: &mut R, received: &mut Vec<u8>) -> Result<Turn, Ht
     requires { vec_len received.old < MAX_HEAD_LEN }
     ensures turn { IfOk result (ReadsOn (R.remaining reader.old) (R.remaining reader.new) received.old.items received.new.items) }
     ensures limit { TakesAtMost (MAX_HEAD_LEN - vec_len received.old) (R.remaining reader.old) (R.remaining reader.new) }
+    ensures fault { IfErr result (λ e. e ≡ HttpFault.ReadFault → Keeps (R.remaining reader.old) (R.remaining reader.new)) }
 {
     let mut chunk = [0u8; CHUNK];
     let room = chunk.len().min(MAX_HEAD_LEN - received.len());
@@ -88,6 +91,7 @@ pub fn read_head<R: Read>(alloc: Global, reader: &mut R) -> Result<(Seen, Vec<u8
     ensures within { IfOk result (λ r. LiesWithin (vec_len r.1) r.0) }
     ensures seen { IfOk result (λ r. IfSome (R.remaining reader.old) (λ all. SeesIn all r.1.items r.0)) }
     ensures limit { TakesAtMost MAX_HEAD_LEN (R.remaining reader.old) (R.remaining reader.new) }
+    ensures fault { IfErr result (λ e. e ≡ HttpFault.ReadFault → FailsBeforeHead (R.remaining reader.old) (R.remaining reader.new)) }
 {
     let mut received = Vec::new(alloc);
     for _ in 0..u64::MAX {

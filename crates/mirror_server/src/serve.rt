@@ -2,7 +2,7 @@
 ghost use Rattle.std.specs.Prelude.{◌≡◌, ◌≢◌, ◌↔◌, List, ℕ, IfErr, IfNone, IfOk, IfSome, IsTrue, codes, string_bytes};
 ghost use Rattle.std.specs.Io.KnownBytes.{Keeps};
 ghost use Rattle.byte_streams.specs.Streams.{TakesAtMost};
-ghost use Rattle.mirror_server.specs.Answered.{AnswersClient, IsReplyOf, empty_text, head_of_reply};
+ghost use Rattle.mirror_server.specs.Answered.{AnswersClient, FailsBeforeHead, IsReplyOf, empty_text, head_of_reply};
 ghost use Rattle.mirror_server.specs.Response.{bad_request, found, IsFound, not_allowed, not_found, Response};
 
 use crate::body::{body_of, kind_of};
@@ -138,6 +138,7 @@ fn response<H: TreeHash, R: Read>(
 ) -> Result<Vec<u8>, HttpFault>
     ensures reply { IfOk result (λ reply. IfSome (R.remaining reader.old) (λ bytes. Response H.digest mirror.now.view bytes reply.items)) }
     ensures limit { TakesAtMost MAX_HEAD_LEN (R.remaining reader.old) (R.remaining reader.new) }
+    ensures fault { IfErr result (λ e. e ≡ HttpFault.ReadFault → FailsBeforeHead (R.remaining reader.old) (R.remaining reader.new)) }
 {
     let (seen, received) = read_head(alloc, reader)?;
     match seen {
@@ -162,8 +163,8 @@ fn response<H: TreeHash, R: Read>(
 ///
 /// # Errors
 ///
-/// `ReadFault` where a read failed, and `OutOfMemory` where memory was refused: nothing was written.
-/// `WriteFault` where a write failed or took no byte: a prefix of the reply was written.
+/// `ReadFault` where a read failed before a whole head was there, and `OutOfMemory` where memory was
+/// refused: nothing was written. `WriteFault` where a write failed or took no byte: a prefix of the reply was written.
 ///
 /// # Examples
 ///
@@ -178,11 +179,12 @@ pub fn answer<H: TreeHash, R: Read, W: Write>(
     ensures answer { IfSome (R.remaining reader.old) (λ bytes. AnswersClient H.digest mirror.now.view bytes (W.contents writer.old) (W.contents writer.new) result) }
     ensures quiet { IfErr result (λ e. e ≢ HttpFault.WriteFault → Keeps (W.contents writer.old) (W.contents writer.new)) }
     ensures limit { TakesAtMost MAX_HEAD_LEN (R.remaining reader.old) (R.remaining reader.new) }
+    ensures fault { IfErr result (λ e. e ≡ HttpFault.ReadFault → FailsBeforeHead (R.remaining reader.old) (R.remaining reader.new)) }
 {
     let reply = match response(alloc, mirror, reader) {
         Ok(reply) => reply,
-        Err(HttpFault::OutOfMemory) => return Err(HttpFault::OutOfMemory),
-        Err(_) => return Err(HttpFault::ReadFault),
+        Err(HttpFault::ReadFault) => return Err(HttpFault::ReadFault),
+        Err(_) => return Err(HttpFault::OutOfMemory),
     };
     match write_whole(writer, &reply) {
         Ok(()) => Ok(()),

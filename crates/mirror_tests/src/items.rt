@@ -1,5 +1,6 @@
-//! Bundles whose strings share a digest, under the digest that sums.
-use std::alloc::Global;
+//! Items whose strings share a digest, under the digest that sums.
+use crate::given::answer_to_head;
+use std::alloc::{AllocError, Global};
 use std::process::Abort;
 use std::test::Fail;
 use tlog_hash::{SumTree, TreeHash};
@@ -50,4 +51,81 @@ fn refuses<H: TreeHash>(
     let answer = mirror.take_bundle(alloc, u32::from(width), bytes);
     assert!(rt; answer == Err(TakeFault::Collision));
     assert!(rt; mirror.strings().len() == held);
+}
+
+// The roots of the rows of 01, 02, 02 and 01, and of 02 and 01, behind the sizes.
+const HEAD_OF_FOUR: &str =
+    "ex\n4\nCQAAAAAAAAAAAAAAAAAAAAAAAAAAAAAAAAAAAAAAAAA=\n\n\u{2014} good AQIDBAU=\n";
+
+const HEAD_OF_TWO: &str =
+    "ex\n2\nBAAAAAAAAAAAAAAAAAAAAAAAAAAAAAAAAAAAAAAAAAA=\n\n\u{2014} good AQIDBAU=\n";
+
+// Tiles and heads over rows of which two joins clash, and rows of which one clashes with what is held: each is Collision, and
+// not OutOfMemory.
+#[test]
+fn colliding_tiles_and_heads(rt: HostRuntime) -> Result<(), Fail> {
+    let mut mirror = Mirror::<SumTree>::new(rt.alloc(), "ex")?;
+    refuses_row(&rt, rt.alloc(), &mut mirror, &[1, 2, 2, 1], HEAD_OF_FOUR, 0)?;
+    mirror.take_tile(rt.alloc(), 2, &row_of(rt.alloc(), &[1, 2])?)?;
+    refuses_row(&rt, rt.alloc(), &mut mirror, &[2, 1], HEAD_OF_TWO, 1)
+}
+
+// The row of the hashes that begin with these bytes, and have zeros behind.
+fn row_of(alloc: Global, bytes: &[u8]) -> Result<Vec<u8>, AllocError> {
+    let mut row = Vec::new(alloc);
+    for byte in bytes {
+        row.push(*byte)?;
+        row.extend_from_slice(&[0; 31])?;
+    }
+    Ok(row)
+}
+
+// The tile of a row of one to four hashes, and the head of that note over it, are refused, and so many strings are held.
+fn refuses_row<H: TreeHash>(
+    rt: &impl Abort,
+    alloc: Global,
+    mirror: &mut Mirror<H>,
+    hashes: &[u8],
+    note: &str,
+    held: usize,
+) -> Result<(), Fail> {
+    let width = hashes.len();
+    assert!(rt; width > 0 && width < 5);
+    let row = row_of(alloc, hashes)?;
+    let answer = mirror.take_tile(alloc, width as u32, &row);
+    assert!(rt; answer == Err(TakeFault::Collision));
+    let answer = answer_to_head(alloc, mirror, note.as_bytes(), &[&row])?;
+    assert!(rt; answer == Err(TakeFault::Collision));
+    assert!(rt; mirror.strings().len() == held && mirror.note_at(0).is_none());
+    Ok(())
+}
+
+// A tile of each width, and a bundle of each width, is taken.
+#[test]
+fn each_width(rt: HostRuntime) -> Result<(), Fail> {
+    let mut mirror = Mirror::<SumTree>::new(rt.alloc(), "ex")?;
+    let row = vec![in rt.alloc(); 0; 8_192]?;
+    let entries = vec![in rt.alloc(); 0; 512]?;
+    takes_each_width(&rt, rt.alloc(), &mut mirror, &row, &entries)
+}
+
+// A tile and a bundle of each width are taken: the first bytes of a row of 256 hashes, and of a bundle of 256 entries of no
+// bytes. The mirror then holds a string for each width: that of the entry, and the join of each list of two entries or more.
+fn takes_each_width<H: TreeHash>(
+    rt: &impl Abort,
+    alloc: Global,
+    mirror: &mut Mirror<H>,
+    row: &[u8],
+    entries: &[u8],
+) -> Result<(), Fail> {
+    for width in 1..257u32 {
+        let hashes = row.get(..width as usize * 32).ok_or("no row")?;
+        let answer = mirror.take_tile(alloc, width, hashes);
+        assert!(rt; answer == Ok(()), "tile of {width}");
+        let bytes = entries.get(..width as usize * 2).ok_or("no bundle")?;
+        let answer = mirror.take_bundle(alloc, width, bytes);
+        assert!(rt; answer == Ok(()), "bundle of {width}");
+    }
+    assert!(rt; mirror.strings().len() == 256);
+    Ok(())
 }

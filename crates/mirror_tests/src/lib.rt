@@ -1,8 +1,8 @@
 //! Tests of the mirror and of pulls, in a crate of their own, since a crate's tests are checked together with the crate
 //! again.
 //!
-//! It holds tests of `tlog_mirror` and `mirror_pull` and nothing else: what the program cannot show of them. What it can
-//! stands in the transcripts of `tests/`.
+//! It holds tests of `tlog_mirror` and `mirror_pull`, and two of `mirror_state`: what the program cannot show of them. What it
+//! can stands in the transcripts of `tests/`.
 #![tactic(auto)]
 
 #[cfg(test)]
@@ -11,6 +11,8 @@ mod forks;
 mod given;
 #[cfg(test)]
 mod items;
+#[cfg(test)]
+mod loads;
 #[cfg(test)]
 mod memory;
 #[cfg(test)]

@@ -1,6 +1,6 @@
 //! Items in every order.
 use crate::given::{take_letters, take_log};
-use mirror_files::save;
+use mirror_state::save;
 use std::alloc::Global;
 use std::process::Abort;
 use std::test::Fail;

@@ -121,6 +121,45 @@ fn play_again_once(rt: HostRuntime) -> Result<(), Fail> {
     plays_three::<Sha256Tree>(&rt, rt.alloc(), 2)
 }
 
+// A merge of a mirror with itself changes nothing, and is done.
+#[test]
+fn merge_with_itself(rt: HostRuntime) -> Result<(), Fail> {
+    merges_with_itself::<Sha256Tree>(&rt, rt.alloc())
+}
+
+// Mirror 0 takes a head, and mirror 1 a bundle; each is merged with itself.
+fn merges_with_itself<H: TreeHash>(rt: &impl Abort, alloc: Global) -> Result<(), Fail> {
+    let mut events = three_events::<H>(alloc)?;
+    let _other = events.pop();
+    for i in 0..2usize {
+        events.push(Event::Merge {
+            target: i,
+            source: i,
+        })?;
+    }
+    let mut world = two_mirrors::<H>(alloc)?;
+    let mut keys: Vec<Box<dyn Verifier>> = Vec::new(alloc);
+    keys.push(Box::new(alloc, Five)?)?;
+    let answers = answers_under(alloc, &mut world, &keys, &events, 0)?;
+    assert!(rt; are_done(&answers, 4));
+    assert!(rt; are_apart(&world));
+    Ok(())
+}
+
+// Whether mirror 0 holds the head and no string, and mirror 1 the string of the bundle and no head.
+fn are_apart<H: TreeHash>(world: &[Mirror<H>]) -> bool {
+    match (world.first(), world.get(1)) {
+        (Some(first), Some(second)) => {
+            first.note_at(0) == Some(HEAD_OF_1.as_bytes())
+                && first.note_at(1).is_none()
+                && first.strings().len() == 0
+                && second.note_at(0).is_none()
+                && second.strings().len() == 1
+        }
+        _ => false,
+    }
+}
+
 #[test]
 fn fits_refuses(rt: HostRuntime) -> Result<(), AllocError> {
     let mut events = Vec::new(rt.alloc());

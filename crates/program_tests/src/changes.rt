@@ -1,7 +1,7 @@
 //! Each byte of a state changed in turn.
 use crate::given::{keys, loaded, saved};
 use crate::states::{COMPLETE, sealed};
-use mirror_files::LoadFault;
+use mirror_state::LoadFault;
 use signed_note::Verifier;
 use std::alloc::Global;
 use std::process::Abort;

@@ -1,5 +1,5 @@
 //! What the tests give: the key, and mirrors of states.
-use mirror_files::{LoadFault, SaveFault, load, save};
+use mirror_state::{LoadFault, SaveFault, load, save};
 use signed_note::{HmacKey, KeyFault, Verifier};
 use state_commands::check_origin;
 use std::alloc::Global;

@@ -2,7 +2,7 @@
 use crate::given::{keys, loaded, mirror_of};
 use crate::states::COMPLETE;
 use crate::streams::{FailingWriter, Strange};
-use mirror_files::{LoadFault, SaveFault, save};
+use mirror_state::{LoadFault, SaveFault, save};
 use signed_note::Verifier;
 use std::alloc::Global;
 use std::io::Read;

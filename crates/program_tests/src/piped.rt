@@ -54,6 +54,18 @@ fn one_byte_reads(rt: HostRuntime) -> Result<(), Fail> {
     Ok(())
 }
 
+// 1,500 entries of a byte, in 4,500 reads of a byte, are read to the end.
+#[test]
+fn entries_in_more_than_4096_reads(rt: HostRuntime) -> Result<(), Fail> {
+    let alloc = rt.alloc();
+    let mut bytes = Vec::new(alloc);
+    for _ in 0..1_500 {
+        bytes.extend_from_slice(&[0, 1, b'a'])?;
+    }
+    assert!(rt; count_of(alloc, &bytes, false) == Ok(1_500));
+    Ok(())
+}
+
 // Whether the bytes before the fault are a bundle, entries or a proof, too few or too many: the fault comes first, and
 // nothing is written.
 #[test]

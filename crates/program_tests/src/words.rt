@@ -2,7 +2,7 @@
 use crate::states::{BUNDLE, COMPLETE, NOTE, ROW};
 use command_line::{Command, CommandFault, Place, read_words};
 use file_commands::{MemoryFiles, MemoryFolders, NamedFault, NamedFiles};
-use mirror_commands::{RunFault, carry_out, run_named, told};
+use mirror_commands::{RunFault, carry_out, key_file, run_named, run_words, told};
 use std::alloc::{AllocError, Global};
 use std::test::Fail;
 
@@ -37,6 +37,67 @@ fn pull(rt: HostRuntime) -> Result<(), Fail> {
     Ok(())
 }
 
+// Whether that is the name of the key file that a line gives.
+fn has_key_file(alloc: Global, line: &str, name: Option<&str>) -> Result<bool, AllocError> {
+    let words = words_of(alloc, line)?;
+    match key_file(alloc, &words) {
+        Ok(Some(found)) => Ok(name == Some(found.as_str())),
+        Ok(None) => Ok(name.is_none()),
+        Err(_) => Ok(false),
+    }
+}
+
+// No other option is judged where the key file is found.
+#[test]
+fn names_of_key_files(rt: HostRuntime) -> Result<(), Fail> {
+    let alloc = rt.alloc();
+    for (line, name) in [
+        ("check", None),
+        ("root --width x", None),
+        ("status --origin o --keys k --state s", Some("k")),
+        (
+            "missing --origin o --keys k --state s --size x --root y",
+            Some("k"),
+        ),
+    ] {
+        assert!(rt; has_key_file(alloc, line, name)?, "{line}");
+    }
+    Ok(())
+}
+
+// The status of a line that has no key file, and what is written, or no status at a fault. It tells nothing of it, so
+// that the rest of the test is cheap to prove.
+fn status_of(
+    rt: &HostRuntime,
+    line: &str,
+    mut input: &[u8],
+    output: &mut Vec<u8>,
+) -> Result<Option<u8>, AllocError> {
+    let alloc = rt.alloc();
+    let words = words_of(alloc, line)?;
+    let mut errors = Vec::new(alloc);
+    Ok(run_words(rt, alloc, &words, &[], &[], &mut input, output, &mut errors).ok())
+}
+
+// With no keys in hand, since the commands have none.
+#[test]
+fn commands_with_keys_in_hand(rt: HostRuntime) -> Result<(), Fail> {
+    let text = b"size 1\nroot bjQLnP+zepicpUTmu3gKLHiQHT+zNzh2hRGjBhevoB0=\n";
+    for (line, status, written) in [
+        ("root --width 1", Some(0), text.as_slice()),
+        ("root --width 2", None, &[]),
+        ("check", None, &[]),
+    ] {
+        let mut output = Vec::new(rt.alloc());
+        assert!(&rt;
+            status_of(&rt, line, &[0, 0], &mut output)? == status,
+            "{line}"
+        );
+        assert!(&rt; output.as_slice() == written, "{line}");
+    }
+    Ok(())
+}
+
 // Puts a file. It tells nothing of it, so that the rest of the test is cheap to prove.
 fn put(files: &mut MemoryFiles, name: &str, bytes: &[u8]) -> Result<(), NamedFault> {
     files.replace(name, bytes)
@@ -57,9 +118,9 @@ fn run_line(
     let answer = match words_of(alloc, line) {
         Ok(words) => run_named(
             rt,
+            alloc,
             files,
             folders,
-            alloc,
             &words,
             &mut input,
             &mut output,

@@ -23,7 +23,7 @@ fn write_report<W: Write>(output: &mut W, report: &Report) -> Result<(), StreamF
 }
 
 /// Writes the report on the question, of what the mirror holds, and answers the exit status: 0, or 3 where the answer is
-/// the other one. For heads and forks the mirror settles first, so that no complete tree is walked twice.
+/// the other one. For heads, forks and proofs the mirror settles first, so that no complete tree is walked twice.
 ///
 /// ```text
 /// print_report(alloc, &mut mirror, &Question::Forks, &mut output)?

@@ -1,6 +1,6 @@
 //! What may be asked of a state, and the report that answers it.
 ghost use Rattle.std.specs.Prelude.{IfOk};
-ghost use Rattle.mirror_reports.specs.Reports.{TellsForks, TellsStatus};
+ghost use Rattle.mirror_reports.specs.Reports.{ReportsProof, TellsForks, TellsStatus};
 ghost use Rattle.state_commands.specs.Questions.{ReportsOn};
 
 use mirror_reports::{
@@ -45,6 +45,20 @@ fn settled_forks<H: TreeHash>(alloc: Global, mirror: &mut Mirror<H>) -> Result<R
     forks_report(alloc, mirror)
 }
 
+// A proof of what is served, likewise.
+fn settled_proof<H: TreeHash>(
+    alloc: Global,
+    mirror: &mut Mirror<H>,
+    ask: Ask,
+) -> Result<Report, ReportFault>
+    ensures { ReportsProof H.digest mirror.old.view ask result }
+{
+    match mirror.settle(alloc) {
+        Ok(()) => proof_report(alloc, mirror, ask),
+        Err(_) => Err(ReportFault::OutOfMemory),
+    }
+}
+
 // The report on the question.
 pub(crate) fn report_on<H: TreeHash>(
     alloc: Global,
@@ -57,6 +71,6 @@ pub(crate) fn report_on<H: TreeHash>(
         Question::Status => Ok(settled_status(alloc, mirror)?),
         Question::Missing { size, root } => missing_report(alloc, mirror, *size, root),
         Question::Forks => Ok(settled_forks(alloc, mirror)?),
-        Question::Proof(ask) => proof_report(alloc, mirror, *ask),
+        Question::Proof(ask) => settled_proof(alloc, mirror, *ask),
     }
 }

@@ -26,7 +26,7 @@ use Rattle.tlog_shape.specs.Edge.{width_of}
 use Rattle.mirror_model.specs.Edge.{root_from, strings_from, edge_root, edge_strings, edge_levels}
 use Rattle.mirror_model.proofs.EdgeWalks.{Fit, HaveWidths, widths_from, rows_fit}
 use Rattle.mirror_model.specs.Item.{row_of}
-use Rattle.stored_trees.specs.HeldEdge.{HasRow, LeadsUp, HoldsEdgeFrom, HoldsEdge}
+use Rattle.stored_trees.specs.HeldEdge.{AreEdgeRows, HasRow, LeadsUp, HoldsEdgeFrom, HoldsEdge}
 
 module _ (digest : List ℕ → List ℕ) where
   joins-one : (h : List ℕ) → joins digest (h ∷ []) ≡ []
@@ -235,7 +235,7 @@ module _ (digest : List ℕ → List ℕ) (held : Strings) (n level : ℕ) (root
         rows =
             [];
         fit =
-            subst (λ m. Fit n m level []) (let e : 0 ≡ 8 - level = omega arith in e) refl;
+            subst (λ m. AreEdgeRows n m level []) (let e : 0 ≡ 8 - level = omega arith in e) refl;
         value_len =
             len;
         root_is = refl;
@@ -244,7 +244,7 @@ module _ (digest : List ℕ → List ℕ) (held : Strings) (n level : ℕ) (root
 
   pub value_top : (value : List ℕ) → level ≡ 8 → LeadsUp digest held n level root value → value ≡ root
   value_top value top up =
-      let none : up.rows ≡ [] = subst (λ m. Fit n m level up.rows) (let e : 8 - level ≡ 0 = omega arith in e) up.fit in
+      let none : up.rows ≡ [] = subst (λ m. AreEdgeRows n m level up.rows) (let e : 8 - level ≡ 0 = omega arith in e) up.fit in
       subst (λ rows. root_from digest value rows ≡ root) none up.root_is
 
   module _ (below : level < 8) where
@@ -259,7 +259,7 @@ module _ (digest : List ℕ → List ℕ) (held : Strings) (n level : ℕ) (root
           rows =
               up.rows;
           fit =
-              subst (λ m. Fit n m level up.rows) levels_left (inl (none, up.fit));
+              subst (λ m. AreEdgeRows n m level up.rows) levels_left (inl (none, up.fit));
           value_len =
               up.value_len;
           root_is = up.root_is;
@@ -280,7 +280,7 @@ module _ (digest : List ℕ → List ℕ) (held : Strings) (n level : ℕ) (root
         (subst (λ v. HasAll held (strings_from digest v up.rows)) (sym row.fold_is) up.are_held)) in
         record {
           rows = row.front ∷ up.rows;
-          fit = subst (λ m. Fit n m level (row.front ∷ up.rows)) levels_left
+          fit = subst (λ m. AreEdgeRows n m level (row.front ∷ up.rows)) levels_left
               (inr (
                 row.front,
                 up.rows,
@@ -301,9 +301,9 @@ module _ (digest : List ℕ → List ℕ) (held : Strings) (n level : ℕ) (root
 
     pub skipped : (value : List ℕ) → width_of n level ≡ 0 → LeadsUp digest held n level root value →
         LeadsUp digest held n (level + 1) root value
-    skipped value none up = at (subst (λ m. Fit n m level up.rows) left_levels up.fit)
+    skipped value none up = at (subst (λ m. AreEdgeRows n m level up.rows) left_levels up.fit)
       where
-        at : Fit n (suc (8 - (level + 1))) level up.rows → LeadsUp digest held n (level + 1) root value
+        at : AreEdgeRows n (suc (8 - (level + 1))) level up.rows → LeadsUp digest held n (level + 1) root value
         at (inl f) =
             record { rows = up.rows; fit = f.1; value_len = up.value_len; root_is = up.root_is; are_held = up.are_held }
         at (inr f) = absurd (omega (arith, f.3, none))
@@ -316,9 +316,9 @@ module _ (digest : List ℕ → List ℕ) (held : Strings) (n level : ℕ) (root
 
     pub level_of : (width : ℕ) (value : List ℕ) → width ≡ width_of n level → 0 < width →
         LeadsUp digest held n level root value → HasLevel width value
-    level_of width value width_is some up = at (subst (λ m. Fit n m level up.rows) left_levels up.fit)
+    level_of width value width_is some up = at (subst (λ m. AreEdgeRows n m level up.rows) left_levels up.fit)
       where
-        at : Fit n (suc (8 - (level + 1))) level up.rows → HasLevel width value
+        at : AreEdgeRows n (suc (8 - (level + 1))) level up.rows → HasLevel width value
         at (inl f) = absurd (omega (arith, f.0, width_is, some))
         at (inr f) =
             let row = f.0 in
@@ -371,13 +371,13 @@ module _ (digest : List ℕ → List ℕ) (held : Strings) (n level : ℕ) (root
         λ h. record {
           rows = [];
           fit =
-              subst (λ m. Fit n m level []) (sym none_left) refl;
+              subst (λ m. AreEdgeRows n m level []) (sym none_left) refl;
           root_is = decides.0 h;
           are_held = tt;
         },
         λ e. decides.1
             (subst (λ rows. edge_root digest rows ≡ root)
-            (subst (λ m. Fit n m level e.rows) none_left e.fit) e.root_is),
+            (subst (λ m. AreEdgeRows n m level e.rows) none_left e.fit) e.root_is),
       )
 
   module _ (size : (s : List ℕ) → length (digest s) ≡ 32) (clean : NoClash digest held) (below : level < 8) where
@@ -387,19 +387,19 @@ module _ (digest : List ℕ → List ℕ) (held : Strings) (n level : ℕ) (root
     pub edge_skipped : (b : Bool) → width_of n level ≡ 0 → IsTrue b ↔ HoldsEdgeFrom digest held n (level + 1) root →
         IsTrue b ↔ HoldsEdgeFrom digest held n level root
     edge_skipped b none above =
-        (λ h. up (above.0 h), λ e. above.1 (down e (subst (λ m. Fit n m level e.rows) more_levels e.fit)))
+        (λ h. up (above.0 h), λ e. above.1 (down e (subst (λ m. AreEdgeRows n m level e.rows) more_levels e.fit)))
       where
         up : HoldsEdgeFrom digest held n (level + 1) root → HoldsEdgeFrom digest held n level root
         up e = record {
           rows = e.rows;
           fit =
-              subst (λ m. Fit n m level e.rows) (sym more_levels) (inl (none, e.fit));
+              subst (λ m. AreEdgeRows n m level e.rows) (sym more_levels) (inl (none, e.fit));
           root_is =
               e.root_is;
           are_held = e.are_held;
         }
 
-        down : (e : HoldsEdgeFrom digest held n level root) → Fit n (suc (8 - (level + 1))) level e.rows →
+        down : (e : HoldsEdgeFrom digest held n level root) → AreEdgeRows n (suc (8 - (level + 1))) level e.rows →
             HoldsEdgeFrom digest held n (level + 1) root
         down e (inl f) = record { rows = e.rows; fit = f.1; root_is = e.root_is; are_held = e.are_held }
         down e (inr f) = absurd (omega (arith, f.3, none))
@@ -424,7 +424,7 @@ module _ (digest : List ℕ → List ℕ) (held : Strings) (n level : ℕ) (root
         (subst (λ v. HasAll held (strings_from digest v h.up.rows)) (sym h.row.fold_is) h.up.are_held)) in
         record {
           rows = row ∷ h.up.rows;
-          fit = subst (λ m. Fit n m level (row ∷ h.up.rows)) (sym more_levels)
+          fit = subst (λ m. AreEdgeRows n m level (row ∷ h.up.rows)) (sym more_levels)
               (inr (row, h.up.rows, refl, subst (λ w. 0 < w) width_is some, len, h.row.hashes, h.up.fit));
           root_is = ap (λ v. root_from digest v h.up.rows) h.row.fold_is ∙ h.up.root_is;
           are_held = held_from_all held _ all;
@@ -432,9 +432,9 @@ module _ (digest : List ℕ → List ℕ) (held : Strings) (n level : ℕ) (root
 
     pub lowest_of : (width : ℕ) → width ≡ width_of n level → 0 < width → HoldsEdgeFrom digest held n level root →
         HasLowest width
-    lowest_of width width_is some e = at (subst (λ m. Fit n m level e.rows) more_levels e.fit)
+    lowest_of width width_is some e = at (subst (λ m. AreEdgeRows n m level e.rows) more_levels e.fit)
       where
-        at : Fit n (suc (8 - (level + 1))) level e.rows → HasLowest width
+        at : AreEdgeRows n (suc (8 - (level + 1))) level e.rows → HasLowest width
         at (inl f) = absurd (omega (arith, f.0, width_is, some))
         at (inr f) =
             let row = f.0 in
@@ -481,9 +481,9 @@ module _ (digest : List ℕ → List ℕ) (held : Strings) (n level : ℕ) (root
     -- a value leads up from the next level too
     pub leads_on : (value : List ℕ) → LeadsUp digest held n level root value →
         (above : List ℕ) × LeadsUp digest held n (level + 1) root above
-    leads_on value up = at (subst (λ m. Fit n m level up.rows) more_levels up.fit)
+    leads_on value up = at (subst (λ m. AreEdgeRows n m level up.rows) more_levels up.fit)
       where
-        at : Fit n (suc (8 - (level + 1))) level up.rows →
+        at : AreEdgeRows n (suc (8 - (level + 1))) level up.rows →
             (above : List ℕ) × LeadsUp digest held n (level + 1) root above
         at (inl f) = (
           value,
@@ -525,9 +525,9 @@ abbrev HasBytes : ℕ → List ℕ → List (List (List ℕ)) → Type 0
 HasBytes n levels rows = (texts : List (List ℕ)) × (HaveWidths n levels texts × (map row_of texts ≡ rows))
 
 bytes_level : (n levels level : ℕ) (x : Bool) → nat_eq (width_of n level) 0 ≡ x →
-    ((rows : List (List (List ℕ))) → Fit n levels (level + 1) rows →
+    ((rows : List (List (List ℕ))) → AreEdgeRows n levels (level + 1) rows →
     HasBytes n (widths_from n levels (level + 1)) rows) → (rows : List (List (List ℕ))) →
-    Fit n (suc levels) level rows →
+    AreEdgeRows n (suc levels) level rows →
     HasBytes n (cond (not x) (level ∷ widths_from n levels (level + 1)) (widths_from n levels (level + 1))) rows
 bytes_level n levels level true z later rows (inl f) = later rows f.1
 bytes_level n levels level true z later rows (inr f) =
@@ -548,7 +548,15 @@ bytes_level n levels level false z later rows (inr f) =
     (ap (λ (rs : List (List (List ℕ))). row ∷ rs) after.1.1 ∙ sym f.2) in
     (row_text row ∷ after.0, (widths, whole))
 
-bytes_of_rows : (n levels level : ℕ) (rows : List (List (List ℕ))) → Fit n levels level rows →
+-- rows that fit, in the words of another crate
+rows_from : (n levels level : ℕ) (rows : List (List (List ℕ))) → Fit n levels level rows →
+    AreEdgeRows n levels level rows
+rows_from n zero level rows f = f
+rows_from n (suc levels) level rows (inl f) = inl (f.0, rows_from n levels (level + 1) rows f.1)
+rows_from n (suc levels) level rows (inr f) =
+    inr (f.0, f.1, f.2, f.3, f.4, f.5, rows_from n levels (level + 1) f.1 f.6)
+
+bytes_of_rows : (n levels level : ℕ) (rows : List (List (List ℕ))) → AreEdgeRows n levels level rows →
     HasBytes n (widths_from n levels level) rows
 bytes_of_rows n zero level rows fit = ([], (refl, sym fit))
 bytes_of_rows n (suc levels) level rows fit =
@@ -573,7 +581,7 @@ edge_is digest held n root b is = (λ h. up (is.0 h), λ e. is.1 (down e))
     down e = record {
       rows = map row_of e.rows;
       fit =
-          rows_fit n e.rows e.has_edge.widths;
+          rows_from n 8 0 (map row_of e.rows) (rows_fit n e.rows e.has_edge.widths);
       root_is = e.has_edge.root_is;
       are_held = e.are_held;
     }

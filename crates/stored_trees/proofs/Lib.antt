@@ -1,4 +1,5 @@
 pub mod BuiltTrees
+pub mod Gained
 pub mod Descents
 pub mod Builds
 pub mod RowSteps
@@ -11,5 +12,6 @@ pub mod Orders
 pub mod PrefixSteps
 pub mod SliceSteps
 pub mod Settles
+pub mod KnownSteps
 pub mod EdgeSteps
 pub mod EmptySets

@@ -1,5 +1,5 @@
 -- What is remembered of a tree, step by step.
-use Rattle.std.proofs.Common.{◌≡◌, ℕ, ◌-◌, ◌≤◌, List, [], ◌∷◌, ◌++◌, length, sym, ap, ◌∙◌, subst, ◌⊎◌}
+use Rattle.std.proofs.Common.{◌≡◌, ℕ, ◌-◌, ◌≤◌, List, ◌∷◌, ◌++◌, length, sym, ap, ◌∙◌, subst, ◌⊎◌}
 use Rattle.std.proofs.Common.{inl, inr, Result, Ok, Err}
 use Rattle.std.specs.Prelude.{OnOk, OnErr}
 use Rattle.std.specs.Ordering.{is_eq}
@@ -8,11 +8,12 @@ use Rattle.std.specs.FinSet as set
 use Rattle.std.specs.FinSet.{contains-insert}
 use Rattle.tlog_shape.specs.Split.{split_of}
 use Rattle.node_store.proofs.Sets.{or_left, or_right, or_either}
-use Rattle.node_store.specs.Strings.{Strings, IsHeldAt, NoClash}
+use Rattle.node_store.specs.Strings.{Strings, Has, IsHeldAt, NoClash}
 use Rattle.mirror_model.specs.Complete.{IsBuilt}
 use Rattle.mirror_model.specs.Forks.{Point, point_cmp}
 use Rattle.mirror_model.specs.Marks.{Points}
 use Rattle.mirror_model.proofs.StringSets.{held_more}
+use Rattle.stored_trees.specs.Known.{AreBuilt}
 use Rattle.stored_trees.specs.Slices.{HasMark, IsSliceOf, HasSlices, AreSettled, Gains, SettledStays, MarksAreSlices}
 use Rattle.stored_trees.proofs.Marking.{point_total, point_same}
 use Rattle.stored_trees.proofs.SliceSteps.{point_at, one_slice, whole_slice, left_slice, right_slice}
@@ -132,23 +133,29 @@ added_gains digest held n root (Err e) u v w p is same f g = subst (Gains digest
 
 -- ---- laws
 
+-- what is held stays so as more is held
+pub built_stays : (digest : List ℕ → List ℕ) (held more : Strings) →
+    ((string : List ℕ) → Has held string → Has more string) → (points : Points) → AreBuilt digest held points →
+    AreBuilt digest more points
+built_stays digest held more upon points s = record {
+  built =
+      λ size root h. let b =
+      s.built size root h in record {
+        entries =
+            b.entries;
+        is =
+            record {
+              size_is =
+                  b.is.size_is;
+              root_is = b.is.root_is;
+              are_held = held_more held more _ upon b.is.are_held;
+            };
+      };
+}
+
 pub settled_stays : SettledStays
 settled_stays digest hash held more upon clean points s = record {
-  known = record {
-    built =
-        λ size root h. let b =
-        s.known.built size root h in record {
-          entries =
-              b.entries;
-          is =
-              record {
-                size_is =
-                    b.is.size_is;
-                root_is = b.is.root_is;
-                are_held = held_more held more _ upon b.is.are_held;
-              };
-        };
-  };
+  known = built_stays digest held more upon points s.known;
   closed = λ size root h p m. s.closed size root h p
       (slice_stays digest held more upon hash clean size root p (s.known.built size root h) m);
 }

@@ -4,6 +4,7 @@ use Rattle.std.specs.FinSet.{contains}
 use Rattle.node_store.specs.Strings.{Strings}
 use Rattle.mirror_model.specs.Complete.{IsBuilt}
 use Rattle.mirror_model.specs.Marks.{Points, State, IsSound}
+use Rattle.stored_trees.specs.declared.known.Known.{Known}
 
 -- the set has that size and root
 abbrev pub HasPoint : Points → ℕ → List ℕ → Type 0
@@ -12,6 +13,11 @@ HasPoint points size root = IsTrue (contains points (record { size = size; root 
 -- each size and root of the set is that of a tree that is held
 pub record AreBuilt (digest : List ℕ → List ℕ) (held : Strings) (points : Points) : Type 0 where
   pub built : (size : ℕ) (root : List ℕ) → HasPoint points size root → IsBuilt digest held size root
+
+-- all that is known of a store beforehand is held
+pub record AreKnown (digest : List ℕ → List ℕ) (held : Strings) (known : Known) : Type 0 where
+  pub remembered : AreBuilt digest held known.remembered
+  pub built : AreBuilt digest held known.built
 
 -- what a sound mirror remembers is held whole
 abbrev pub RememberedIsHeld : Type 0

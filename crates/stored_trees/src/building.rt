@@ -6,6 +6,7 @@ ghost use Rattle.node_store.specs.Strings.{NoClash};
 ghost use Rattle.tlog_hash.specs.Tree.{fold_of, joins, mth, strings};
 ghost use Rattle.mirror_model.specs.Edge.{root_from, strings_from};
 ghost use Rattle.mirror_model.specs.Strings.{HasClash};
+ghost use Rattle.stored_trees.specs.Building.{HasGained};
 
 use node_store::{AddFault, Store, Tagged};
 use tlog_hash::{Hash, TreeHash};
@@ -18,14 +19,16 @@ use tlog_shape::split;
 ///
 /// # Errors
 ///
-/// `Collision` comes exactly where the strings of the store and of the row clash, and `OutOfMemory` only where a
-/// growth was refused; it may hide the other. After either the store may have got some of the strings.
+/// `Collision` comes only where the strings of the store and of the row clash. Where they clash the answer is it or
+/// `OutOfMemory`, which comes where memory was refused. After either the store has what it had, and besides that strings
+/// of the row at most.
 pub fn add_row<H: TreeHash>(store: &mut Store<H>, row: &[Hash]) -> Result<Hash, AddFault>
     requires some { 0 < length row.now }
     requires no_clash { NoClash H.digest store.old }
     ensures hash { IfOk result (λ hash. hash ≡ fold_of H.digest row.now) }
     ensures ok { OnOk result (store.new ≡ set.union store.old (set.from_list (joins H.digest row.now))) }
     ensures collision { result ≡ Err AddFault.Collision → HasClash H.digest (set.union store.old (set.from_list (joins H.digest row.now))) }
+    ensures gained { HasGained store.old (joins H.digest row.now) store.new }
     ensures no_clash { NoClash H.digest store.new }
 {
     if row.len() == 1 {
@@ -44,13 +47,15 @@ pub fn add_row<H: TreeHash>(store: &mut Store<H>, row: &[Hash]) -> Result<Hash, 
 ///
 /// # Errors
 ///
-/// `Collision` comes exactly where the strings of the store and of the tree clash, and `OutOfMemory` only where a
-/// growth was refused; it may hide the other. After either the store may have got some of the strings.
+/// `Collision` comes only where the strings of the store and of the tree clash. Where they clash the answer is it or
+/// `OutOfMemory`, which comes where memory was refused. After either the store has what it had, and besides that strings
+/// of the tree at most.
 pub fn add_entries<H: TreeHash>(store: &mut Store<H>, entries: &[&[u8]]) -> Result<Hash, AddFault>
     requires { NoClash H.digest store.old }
     ensures hash { IfOk result (λ hash. hash ≡ mth H.digest (map (λ e. e.now) entries.now)) }
     ensures ok { OnOk result (store.new ≡ set.union store.old (set.from_list (strings H.digest (map (λ e. e.now) entries.now)))) }
     ensures collision { result ≡ Err AddFault.Collision → HasClash H.digest (set.union store.old (set.from_list (strings H.digest (map (λ e. e.now) entries.now)))) }
+    ensures gained { HasGained store.old (strings H.digest (map (λ e. e.now) entries.now)) store.new }
     ensures no_clash { NoClash H.digest store.new }
 {
     match entries {
@@ -73,8 +78,9 @@ pub fn add_entries<H: TreeHash>(store: &mut Store<H>, entries: &[&[u8]]) -> Resu
 ///
 /// # Errors
 ///
-/// `Collision` comes exactly where the strings of the store and of the rows clash, and `OutOfMemory` only where a
-/// growth was refused; it may hide the other. After either the store may have got some of the strings.
+/// `Collision` comes only where the strings of the store and of the rows clash. Where they clash the answer is it or
+/// `OutOfMemory`, which comes where memory was refused. After either the store has what it had, and besides that strings
+/// of the rows at most.
 pub fn add_above<H: TreeHash>(
     store: &mut Store<H>,
     start: Hash,
@@ -84,6 +90,7 @@ pub fn add_above<H: TreeHash>(
     ensures hash { IfOk result (λ hash. hash ≡ root_from H.digest start (map (λ row. row.items) rows.items)) }
     ensures ok { OnOk result (store.new ≡ set.union store.old (set.from_list (strings_from H.digest start (map (λ row. row.items) rows.items)))) }
     ensures collision { result ≡ Err AddFault.Collision → HasClash H.digest (set.union store.old (set.from_list (strings_from H.digest start (map (λ row. row.items) rows.items)))) }
+    ensures gained { HasGained store.old (strings_from H.digest start (map (λ row. row.items) rows.items)) store.new }
     ensures no_clash { NoClash H.digest store.new }
 {
     let mut value = start;

@@ -9,7 +9,7 @@
 //! ```text
 //! let mut store: Store<Sha256Tree> = Store::new(alloc);
 //! let root = add_entries(&mut store, &[b"a", b"b", b"c"])?;
-//! is_built(&store, &Marks::new(alloc), 3, &root)  // true
+//! is_built(&store, &Known::new(alloc), 3, &root)  // true
 //! entries_at(alloc, &store, 3, &root, 0, 3)?      // Some of the three entries
 //! ```
 #![tactic(auto)]
@@ -18,6 +18,7 @@ mod building;
 mod built;
 mod bundle;
 mod edge;
+mod known;
 mod laws;
 mod marks;
 mod missing;
@@ -30,6 +31,7 @@ pub use building::{add_above, add_entries, add_row};
 pub use built::is_built;
 pub use bundle::entries_at;
 pub use edge::holds_edge;
+pub use known::Known;
 pub use laws::{forks_go_on_law, known_law, prefix_of_prefix_law, settled_law, slices_law};
 pub use marks::Marks;
 pub use missing::missing_of;

@@ -1,14 +1,16 @@
 //! What is missing of a tree.
-ghost use Rattle.std.specs.Prelude.{◌≡◌, ◌↔◌, ◌⊎◌, ◌+◌, ◌≤◌, ◌<◌, ◌^◌, ℕ, List, [], IfOk, OnOk};
+ghost use Rattle.std.specs.Prelude.{◌≡◌, ◌↔◌, ◌⊎◌, ◌+◌, ◌≤◌, ◌<◌, ◌^◌, ℕ, List, [], IfOk, OnOk, IsTrue};
 ghost use Rattle.std.specs.List.{Contains};
 ghost use Rattle.std.specs.List.Sorted.{IsStrictlySortedBy};
 ghost use Rattle.tlog_tiles.specs.declared.paths.Path.{Path as AnyPath};
 ghost use Rattle.mirror_model.specs.Front.{path_cmp, IsPathOf};
 ghost use Rattle.mirror_model.specs.Walk.{IsMissing};
 ghost use Rattle.node_store.specs.Strings.{NoClash};
-ghost use Rattle.stored_trees.specs.Known.{AreBuilt};
+ghost use Rattle.mirror_model.specs.Complete.{IsBuilt};
+ghost use Rattle.stored_trees.specs.Known.{AreBuilt, AreKnown};
 ghost use Rattle.stored_trees.specs.Lost.{IsLost};
 
+use crate::known::{Known, is_noted, note_built};
 use crate::marks::Marks;
 use crate::rows::unit_of;
 use node_store::Store;
@@ -22,8 +24,8 @@ use tlog_tiles::Path;
 /// and rising index, then bundles by rising index, each once. There is none exactly where the tree is held.
 ///
 /// From a node of two or more entries the walk goes on to both parts where the pair of its hash is held, and else
-/// fails there; at one entry it fails where no entry of the hash is held. It does not go into what is remembered, each
-/// of which is to be held.
+/// fails there; at one entry it fails where no entry of the hash is held. It does not go into what is known, each of which
+/// is to be held, nor again into a tree of many entries that it found held whole.
 ///
 /// # Errors
 ///
@@ -31,16 +33,16 @@ use tlog_tiles::Path;
 pub fn missing_of<H: TreeHash>(
     alloc: Global,
     store: &Store<H>,
-    marks: &Marks,
+    known: &Known,
     size: u64,
     root: &Hash,
 ) -> Result<Vec<Path>, AllocError>
-    requires known { AreBuilt H.digest store.now marks.now }
+    requires known { AreKnown H.digest store.now known.now }
     requires clean { NoClash H.digest store.now }
     ensures sorted { IfOk result (λ paths. IsStrictlySortedBy path_cmp paths.items) }
     ensures exact { IfOk result (λ paths. (path : AnyPath) → Contains paths.items path ↔ IsMissing H.digest store.now size root.now path) }
 {
-    let mut paths = all_lost(alloc, store, marks, size, root)?;
+    let mut paths = all_lost(alloc, store, known, size, root)?;
     put_in_order(&mut paths);
     Ok(paths)
 }
@@ -49,11 +51,11 @@ pub fn missing_of<H: TreeHash>(
 fn all_lost<H: TreeHash>(
     alloc: Global,
     store: &Store<H>,
-    marks: &Marks,
+    known: &Known,
     size: u64,
     root: &Hash,
 ) -> Result<Vec<Path>, AllocError>
-    requires known { AreBuilt H.digest store.now marks.now }
+    requires known { AreKnown H.digest store.now known.now }
     requires clean { NoClash H.digest store.now }
     ensures { IfOk result (λ paths. (path : AnyPath) → Contains paths.items path ↔ IsMissing H.digest store.now size root.now path) }
 {
@@ -61,7 +63,8 @@ fn all_lost<H: TreeHash>(
     if size == 0 {
         return Ok(paths);
     }
-    push_lost(store, marks, size, 0, size, root, &mut paths)?;
+    let mut found = Marks::new(alloc);
+    push_lost(store, known, &mut found, size, 0, size, root, &mut paths)?;
     Ok(paths)
 }
 
@@ -103,39 +106,65 @@ fn order(a: &Path, b: &Path) -> Ordering
 }
 
 // Adds the paths of the nodes where the walk fails, of the subtree of `size` entries from `start` on in a tree of
-// `total`.
+// `total`. True where there are none. What it finds held whole it notes among what was found.
 fn push_lost<H: TreeHash>(
     store: &Store<H>,
-    marks: &Marks,
+    known: &Known,
+    found: &mut Marks,
     total: u64,
     start: u64,
     size: u64,
     root: &Hash,
     paths: &mut Vec<Path>,
-) -> Result<(), AllocError>
-    requires known { AreBuilt H.digest store.now marks.now }
+) -> Result<bool, AllocError>
+    requires known { AreKnown H.digest store.now known.now }
+    requires found { AreBuilt H.digest store.now found.old }
     requires clean { NoClash H.digest store.now }
     requires some { 1 ≤ size }
     requires within { start + size ≤ total }
-    ensures { OnOk result ((path : AnyPath) → Contains paths.new.items path ↔ (Contains paths.old.items path ⊎ IsLost H.digest store.now total start size root.now path)) }
+    ensures adds { IfOk result (λ whole. (path : AnyPath) → Contains paths.new.items path ↔ (Contains paths.old.items path ⊎ IsLost H.digest store.now total start size root.now path)) }
+    ensures whole { IfOk result (λ whole. IsTrue whole → IsBuilt H.digest store.now size root.now) }
+    ensures found { AreBuilt H.digest store.now found.new }
 {
-    if marks.contains(size, root) {
-        return Ok(());
+    if known.contains(size, root) {
+        return Ok(true);
+    }
+    if is_noted(found, size, root) {
+        return Ok(true);
     }
     if size == 1 {
-        return match store.entry_of(root) {
-            Some(_) => Ok(()),
-            None => push_path(paths, path_of(total, start, size)),
+        let Some(_) = store.entry_of(root) else {
+            push_path(paths, path_of(total, start, size))?;
+            return Ok(false);
         };
+        return Ok(true);
     }
     let Some(pair) = store.pair_of(root) else {
-        return push_path(paths, path_of(total, start, size));
+        push_path(paths, path_of(total, start, size))?;
+        return Ok(false);
     };
     let left = pair.0;
     let right = pair.1;
     let k = split(size);
-    push_lost(store, marks, total, start, k, &left, paths)?;
-    push_lost(store, marks, total, start + k, size - k, &right, paths)
+    let first = push_lost(store, known, found, total, start, k, &left, paths)?;
+    let second = push_lost(
+        store,
+        known,
+        found,
+        total,
+        start + k,
+        size - k,
+        &right,
+        paths,
+    )?;
+    if !first {
+        return Ok(false);
+    }
+    if !second {
+        return Ok(false);
+    }
+    note_built(found, size, root)?;
+    Ok(true)
 }
 
 // Adds a path that is not the last one.

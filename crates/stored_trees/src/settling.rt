@@ -3,9 +3,11 @@ ghost use Rattle.std.specs.Prelude.{◌⊎◌, OnOk};
 ghost use Rattle.node_store.specs.Strings.{NoClash};
 ghost use Rattle.mirror_model.specs.Complete.{IsBuilt};
 ghost use Rattle.mirror_model.specs.Forks.{Point};
+ghost use Rattle.stored_trees.specs.Known.{AreKnown};
 ghost use Rattle.stored_trees.specs.Slices.{AreSettled, Gains, HasMark, HasSlices, IsSliceOf};
 
-use crate::built::is_built;
+use crate::built::check_built;
+use crate::known::Known;
 use crate::marks::Marks;
 use node_store::Store;
 use std::alloc::AllocError;
@@ -15,8 +17,8 @@ use tlog_shape::split;
 /// Remembers the tree of that size and root, if it is held whole: the size and hash of each of its slices, the whole
 /// tree among them.
 ///
-/// It does not walk into what is remembered already. The order in which trees are remembered is of no matter; by
-/// rising size each costs a walk through what is new to it.
+/// It does not walk into what is known already, and of each size and hash it walks into one tree. The order in which
+/// trees are remembered is of no matter; by rising size each costs a walk through what is new to it.
 ///
 /// # Errors
 ///
@@ -24,21 +26,23 @@ use tlog_shape::split;
 /// tree some whole slices may be.
 pub fn settle<H: TreeHash>(
     store: &Store<H>,
-    marks: &mut Marks,
+    known: &mut Known,
     size: u64,
     root: &Hash,
 ) -> Result<(), AllocError>
     requires clean { NoClash H.digest store.now }
-    requires settled { AreSettled H.digest store.now marks.old }
-    ensures done { OnOk result (HasSlices H.digest store.now marks.new size root.now) }
-    ensures at_least { (point : Point) → HasMark marks.old point → HasMark marks.new point }
-    ensures at_most { (point : Point) → HasMark marks.new point → HasMark marks.old point ⊎ IsSliceOf H.digest store.now size root.now point }
-    ensures settled { AreSettled H.digest store.now marks.new }
+    requires known { AreKnown H.digest store.now known.old }
+    requires settled { AreSettled H.digest store.now known.old.remembered }
+    ensures done { OnOk result (HasSlices H.digest store.now known.new.remembered size root.now) }
+    ensures at_least { (point : Point) → HasMark known.old.remembered point → HasMark known.new.remembered point }
+    ensures at_most { (point : Point) → HasMark known.new.remembered point → HasMark known.old.remembered point ⊎ IsSliceOf H.digest store.now size root.now point }
+    ensures settled { AreSettled H.digest store.now known.new.remembered }
+    ensures known { AreKnown H.digest store.now known.new }
 {
-    if !is_built(store, marks, size, root) {
+    if !check_built(store, known, size, root)? {
         return Ok(());
     }
-    remember(store, marks, size, root)
+    remember(store, &mut known.remembered, size, root)
 }
 
 // Remembers the slices of a tree that is held whole. A size and hash is added after those of both parts, so that at

@@ -2,6 +2,7 @@ pub mod NewMirrors
 pub mod TakenItems
 pub mod EdgeRows
 pub mod KeptNotes
+mod KnownTrees
 pub mod ListedNotes
 pub mod MergedMirrors
 pub mod PlayedEvents

@@ -143,16 +143,6 @@ module _ (world front back : List State) (parts : world ≡ front ++ back) (targ
 -- ---- one event more, and one again
 
 module _ (digest : List ℕ → List ℕ) (keys : List Key) where
-  run_push :
-      (old mid new : List View) (es : List Event) (answers : List Answer) (e : Event) (a : Answer) →
-      Run digest keys old es answers mid → Happens digest keys mid e a new →
-      Run digest keys old (es ++ e ∷ []) (answers ++ a ∷ []) new
-  run_push old mid new [] [] e a run step = (new, subst (λ w. Happens digest keys w e a new) run step, refl)
-  run_push old mid new (f ∷ es) (b ∷ answers) e a run step =
-      (run.0, run.1, run_push run.0 mid new es answers e a run.2 step)
-  run_push old mid new [] (b ∷ answers) e a run step = absurd run
-  run_push old mid new (f ∷ es) [] e a run step = absurd run
-
   within_push :
       (tries : ℕ) (old mid new : List View) (es : List Event) (answers : List Answer) (e : Event) (a : Answer) →
       RunsWithin digest keys tries old es answers mid → HappensWithin digest keys tries mid e a new →
@@ -191,16 +181,6 @@ module _ (digest : List ℕ → List ℕ) (keys : List Key) where
       (at : e ≡ get_or es i e) where
     taken_more : take (i + 1) es ≡ take i es ++ e ∷ []
     taken_more = take_more es i e lt ∙ ap (λ x. take i es ++ x ∷ []) (sym at)
-
-    pub run_more :
-        (old mid new : List View) (answers pushed : List R) (a : R) → pushed ≡ answers ++ a ∷ [] →
-        Run digest keys old (take i es) (map kind answers) mid → Happens digest keys mid e (kind a) new →
-        Run digest keys old (take (i + 1) es) (map kind pushed) new
-    run_more old mid new answers pushed a is run step =
-        subst (λ xs. Run digest keys old xs (map kind pushed) new) (sym taken_more)
-        (subst (λ ys. Run digest keys old (take i es ++ e ∷ []) ys new)
-        (sym (ap (map kind) is ∙ map-append kind answers (a ∷ [])))
-        (run_push old mid new (take i es) (map kind answers) e (kind a) run step))
 
     pub within_more :
         (tries : ℕ) (old mid new : List View) (answers pushed : List R) (a : R) → pushed ≡ answers ++ a ∷ [] →

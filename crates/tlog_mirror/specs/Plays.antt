@@ -42,11 +42,12 @@ module _ (digest : List ℕ → List ℕ) (keys : List Key) where
   JudgesItem origin (Bundle width bytes) answer = JudgesBundle width bytes answer
 
   -- an event on mirrors of these origins is answered as its kind may be: a take by what its item
-  -- is, a merge by an answer of merges
+  -- is, a merge by an answer of merges, and a merge of a mirror with itself by Ok
   abbrev pub JudgesEvent : List (List ℕ) → Event → Result (Unit {0}) TakeFault → Type 0
   JudgesEvent origins (Take target item) answer =
       (origin : List ℕ) → slice_get origins target ≡ Some origin → JudgesItem origin item answer
-  JudgesEvent origins (Merge target source) answer = IsMergeAnswer answer
+  JudgesEvent origins (Merge target source) answer =
+      IsMergeAnswer answer × (target ≡ source → answer ≡ Ok tt)
 
   -- events on mirrors of these origins, one after another, are each answered as its kind may be
   abbrev pub JudgesEvents :

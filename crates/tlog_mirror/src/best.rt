@@ -1,12 +1,12 @@
 //! Which of the kept notes is served.
 ghost use Rattle.std.specs.Prelude.{◌≡◌, ◌↔◌, ℕ, List, IsTrue, IfSome, IfNone};
-ghost use Rattle.stored_trees.specs.Known.{AreBuilt};
+ghost use Rattle.stored_trees.specs.Known.{AreKnown};
 ghost use Rattle.tlog_mirror.specs.Best.{HasKept, IsAhead, IsBestOf, IsFirstWith};
 
 use crate::kept::KeptNote;
 use node_store::Store;
 use std::cmp::Ordering;
-use stored_trees::{Marks, is_built};
+use stored_trees::{Known, is_built};
 use tlog_hash::{Hash, TreeHash};
 
 // Of the heads that are held whole, the size and root that are served.
@@ -14,16 +14,16 @@ use tlog_hash::{Hash, TreeHash};
 // The notes rise by their bytes, so from the back the larger sizes mostly come first, and few heads are walked.
 pub(crate) fn best_of<H: TreeHash>(
     store: &Store<H>,
-    marks: &Marks,
+    known: &Known,
     kept: &[KeptNote],
 ) -> Option<(u64, Hash)>
-    requires { AreBuilt H.digest store.now marks.now }
+    requires { AreKnown H.digest store.now known.now }
     ensures { IsBestOf H.digest store.now kept.now result }
 {
     let mut best = None;
     for at in (0..kept.len()).rev() {
         let one = &kept[at];
-        if is_ahead(one.size, &one.root, &best) && is_built(store, marks, one.size, &one.root) {
+        if is_ahead(one.size, &one.root, &best) && is_built(store, known, one.size, &one.root) {
             best = Some((one.size, one.root));
         }
     }

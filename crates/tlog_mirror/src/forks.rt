@@ -8,7 +8,7 @@ ghost use Rattle.mirror_model.specs.Complete.{IsBuilt};
 ghost use Rattle.mirror_model.specs.Listed.{pair_cmp};
 ghost use Rattle.mirror_model.specs.Reports.{ReportsForks, fork_pair};
 ghost use Rattle.mirror_model.specs.declared.reports.Fork.{Fork as AnyFork};
-ghost use Rattle.stored_trees.specs.Known.{AreBuilt};
+ghost use Rattle.stored_trees.specs.Known.{AreKnown};
 ghost use Rattle.tlog_mirror.specs.Best.{by_point};
 ghost use Rattle.tlog_mirror.specs.Branches.{AreBranches, IsBranch, IsDeparture, IsTwin, IsTwinOf, head_pair, told_of};
 
@@ -18,7 +18,7 @@ use mirror_model::{Fork, Head};
 use node_store::Store;
 use std::alloc::{AllocError, Global};
 use std::cmp::Ordering;
-use stored_trees::{Marks, is_prefix};
+use stored_trees::{Known, is_prefix};
 use tlog_hash::{Hash, TreeHash};
 
 // A complete head, with the complete heads before it whose entries do not begin its own.
@@ -42,7 +42,7 @@ impl<H: TreeHash> Mirror<H> {
         ensures { IfOk result (λ forks. ReportsForks H.digest self.now.view forks.items) }
     {
         let points = points_of(alloc, self.kept.as_slice())?;
-        let whole = whole_of(alloc, &self.strings, &self.remembered, points.as_slice())?;
+        let whole = whole_of(alloc, &self.strings, &self.known, points.as_slice())?;
         forks_of(alloc, &self.strings, points.as_slice(), whole.as_slice())
     }
 }
@@ -51,15 +51,15 @@ impl<H: TreeHash> Mirror<H> {
 fn whole_of<H: TreeHash>(
     alloc: Global,
     store: &Store<H>,
-    marks: &Marks,
+    known: &Known,
     points: &[(u64, Hash)],
 ) -> Result<Vec<(u64, Hash)>, AllocError>
-    requires known { AreBuilt H.digest store.now marks.now }
+    requires known { AreKnown H.digest store.now known.now }
     requires sorted { IsStrictlySortedBy by_point points.now }
     ensures sorted { IfOk result (λ whole. IsStrictlySortedBy by_point whole.items) }
     ensures exact { IfOk result (λ whole. (p : ℕ × List ℕ) → Contains whole.items p ↔ (Contains points.now p × IsBuilt H.digest store.now p.0 p.1)) }
 {
-    let heads = flagged(alloc, store, marks, points)?;
+    let heads = flagged(alloc, store, known, points)?;
     complete_of(alloc, heads.as_slice())
 }
 

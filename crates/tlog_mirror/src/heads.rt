@@ -4,7 +4,7 @@ ghost use Rattle.std.specs.List.{Contains};
 ghost use Rattle.std.specs.List.Sorted.{IsStrictlySortedBy};
 ghost use Rattle.mirror_model.specs.Complete.{IsComplete};
 ghost use Rattle.mirror_model.specs.Reports.{ReportsHeads, head_point};
-ghost use Rattle.stored_trees.specs.Known.{AreBuilt};
+ghost use Rattle.stored_trees.specs.Known.{AreKnown};
 ghost use Rattle.tlog_mirror.specs.Best.{HasKept, by_point, pair_point, IsBuiltFlag};
 
 use crate::best::first_with;
@@ -13,7 +13,7 @@ use crate::mirror::Mirror;
 use mirror_model::Head;
 use node_store::Store;
 use std::alloc::{AllocError, Global};
-use stored_trees::{Marks, is_built};
+use stored_trees::{Known, is_built};
 use tlog_hash::{Hash, TreeHash};
 
 impl<H: TreeHash> Mirror<H> {
@@ -23,7 +23,7 @@ impl<H: TreeHash> Mirror<H> {
         ensures { IsTrue result ↔ IsComplete H.digest self.now.view size root.now }
     {
         first_with(self.kept.as_slice(), size, root).is_some()
-            && is_built(&self.strings, &self.remembered, size, root)
+            && is_built(&self.strings, &self.known, size, root)
     }
 
     /// Each size and root of the held notes once, by size and then by the root's bytes, with whether it is
@@ -36,7 +36,7 @@ impl<H: TreeHash> Mirror<H> {
         ensures { IfOk result (λ heads. ReportsHeads H.digest self.now.view heads.items) }
     {
         let points = points_of(alloc, self.kept.as_slice())?;
-        flagged(alloc, &self.strings, &self.remembered, points.as_slice())
+        flagged(alloc, &self.strings, &self.known, points.as_slice())
     }
 }
 
@@ -44,27 +44,27 @@ impl<H: TreeHash> Mirror<H> {
 pub(crate) fn flagged<H: TreeHash>(
     alloc: Global,
     store: &Store<H>,
-    marks: &Marks,
+    known: &Known,
     points: &[(u64, Hash)],
 ) -> Result<Vec<Head>, AllocError>
-    requires { AreBuilt H.digest store.now marks.now }
+    requires { AreKnown H.digest store.now known.now }
     ensures points { IfOk result (λ heads. map head_point heads.items ≡ map pair_point points.now) }
     ensures flags { IfOk result (λ heads. All (IsBuiltFlag H.digest store.now) heads.items) }
 {
     let mut heads = Vec::with_capacity(alloc, points.len())?;
     for point in points {
-        heads.push(head_of(store, marks, point.0, &point.1))?;
+        heads.push(head_of(store, known, point.0, &point.1))?;
     }
     Ok(heads)
 }
 
 // A size and root with whether its tree is held.
-fn head_of<H: TreeHash>(store: &Store<H>, marks: &Marks, size: u64, root: &Hash) -> Head
-    requires { AreBuilt H.digest store.now marks.now }
+fn head_of<H: TreeHash>(store: &Store<H>, known: &Known, size: u64, root: &Hash) -> Head
+    requires { AreKnown H.digest store.now known.now }
     ensures point { head_point result ≡ record { size = size; root = root.now } }
     ensures flag { IsBuiltFlag H.digest store.now result }
 {
-    let complete = is_built(store, marks, size, root);
+    let complete = is_built(store, known, size, root);
     let root = *root;
     Head {
         size,

@@ -11,7 +11,7 @@ use crate::kept::KeptNote;
 use node_store::Store;
 use std::alloc::Global;
 use std::marker::Model;
-use stored_trees::Marks;
+use stored_trees::Known;
 use tlog_hash::TreeHash;
 
 /// What was gathered of one log.
@@ -23,21 +23,22 @@ pub struct Mirror<H: TreeHash> {
     pub(crate) origin: String,
     pub(crate) kept: Vec<KeptNote>,
     pub(crate) strings: Store<H>,
-    pub(crate) remembered: Marks,
+    pub(crate) known: Known,
 }
 
 impl<H: TreeHash> Model for Mirror<H> {
     ghost use Rattle.std.specs.Prelude.{string_bytes};
     ghost use Rattle.mirror_model.specs.Marks.{State, state_code};
+    ghost use Rattle.stored_trees.specs.Known.{AreBuilt};
     ghost use Rattle.tlog_mirror.specs.Kept.{state_of, IsKeptWell};
 
     ghost Value = { State };
 
     ghost coded = { state_code };
 
-    ghost view = { λ a. state_of (string_bytes a.origin) a.kept.items a.strings a.remembered };
+    ghost view = { λ a. state_of (string_bytes a.origin) a.kept.items a.strings a.known.remembered };
 
-    ghost invariant = { λ a. IsKeptWell H.digest (string_bytes a.origin) a.kept.items a.strings a.remembered };
+    ghost invariant = { λ a. IsKeptWell H.digest (string_bytes a.origin) a.kept.items a.strings a.known.remembered × AreBuilt H.digest a.strings a.known.built };
 }
 
 impl<H: TreeHash> Mirror<H> {
@@ -63,7 +64,7 @@ impl<H: TreeHash> Mirror<H> {
             origin,
             kept: Vec::new(alloc),
             strings: Store::new(alloc),
-            remembered: Marks::new(alloc),
+            known: Known::new(alloc),
         })
     }
 
@@ -78,7 +79,7 @@ impl<H: TreeHash> Mirror<H> {
     pub fn remembered(&self) -> usize
         ensures { result ≡ set.len self.now.remembered }
     {
-        self.remembered.len()
+        self.known.remembered.len()
     }
 
     /// The bytes of the notes that are held, one by one: they rise, from number 0 on. `None` past the last. It

@@ -31,7 +31,7 @@ impl<H: TreeHash> Mirror<H> {
         if first_with(self.kept.as_slice(), size, root).is_none() {
             return Ok(None);
         }
-        let paths = missing_of(alloc, &self.strings, &self.remembered, size, root)?;
+        let paths = missing_of(alloc, &self.strings, &self.known, size, root)?;
         Ok(Some(paths))
     }
 }

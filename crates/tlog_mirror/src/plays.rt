@@ -52,8 +52,8 @@ fn is_width(width: u32) -> bool
 }
 
 /// Lets events happen to mirrors, one after another, and gives one answer for each: that of the take, or of the
-/// merge, whose faults keep their names. A merge of a mirror with itself changes nothing. The keys are those that heads
-/// are opened with.
+/// merge, whose faults keep their names. A merge of a mirror with itself is answered `Ok` and changes nothing. The keys
+/// are those that heads are opened with.
 ///
 /// ```
 /// let events = [
@@ -81,14 +81,7 @@ pub fn play<H: TreeHash>(
     ensures err { OnErr result (world.new ≡ world.old) }
     ensures remembered { all_remembered world.new ≡ all_remembered world.old }
 {
-    let mut answers = Vec::with_capacity(alloc, events.len())?;
-    for event in events {
-        let answer = happen(alloc, world, keys, event);
-        let Ok(()) = answers.push(answer) else {
-            unreachable!()
-        };
-    }
-    Ok(answers)
+    play_again(alloc, world, keys, events, 1)
 }
 
 /// As `play`, but an event that runs out of memory happens again before any other, that many times in all at most; its
@@ -114,7 +107,7 @@ pub fn play_again<H: TreeHash>(
 {
     let mut answers = Vec::with_capacity(alloc, events.len())?;
     for event in events {
-        let answer = happen_again(alloc, world, keys, event, tries);
+        let answer = apply_again(alloc, world, keys, event, tries);
         let Ok(()) = answers.push(answer) else {
             unreachable!()
         };
@@ -122,8 +115,8 @@ pub fn play_again<H: TreeHash>(
     Ok(answers)
 }
 
-// An event happens until it is not for want of memory that it fails, that many times at most.
-fn happen_again<H: TreeHash>(
+// Applies an event until it fails for no want of memory, that many times at most.
+fn apply_again<H: TreeHash>(
     alloc: Global,
     world: &mut [Mirror<H>],
     keys: &[Box<dyn Verifier>],
@@ -138,16 +131,16 @@ fn happen_again<H: TreeHash>(
     ensures remembered { all_remembered world.new ≡ all_remembered world.old }
 {
     for before in 0..tries - 1 {
-        match happen(alloc, world, keys, event) {
+        match apply(alloc, world, keys, event) {
             Err(TakeFault::OutOfMemory) => {}
             answer => return answer,
         }
     }
-    happen(alloc, world, keys, event)
+    apply(alloc, world, keys, event)
 }
 
-// One event.
-fn happen<H: TreeHash>(
+// Applies an event to the mirrors.
+fn apply<H: TreeHash>(
     alloc: Global,
     world: &mut [Mirror<H>],
     keys: &[Box<dyn Verifier>],
@@ -194,6 +187,7 @@ fn merge_at<H: TreeHash>(
     requires source { source < length world.old }
     ensures merges { (keys : List Key) → MergesAt H.digest keys (views_of world.old) target source (answer_of result) (views_of world.new) }
     ensures judged { IsMergeAnswer result }
+    ensures itself { target ≡ source → result ≡ Ok tt }
     ensures origins { origins_of world.new ≡ origins_of world.old }
     ensures remembered { all_remembered world.new ≡ all_remembered world.old }
 {
@@ -223,7 +217,7 @@ impl<H: TreeHash> Mirror<H> {
     // The answer of a merge with itself, which changes nothing: a mirror's strings do not clash.
     fn merge_itself(&self) -> Result<(), TakeFault>
         ensures merges { Merges H.digest self.now.view self.now.view (answer_of result) self.now.view }
-        ensures judged { IsMergeAnswer result }
+        ensures done { result ≡ Ok tt }
     {
         let _held = self.strings.len();
         Ok(())

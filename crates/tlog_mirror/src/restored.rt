@@ -14,7 +14,7 @@ use mirror_model::TakeFault;
 use node_store::Store;
 use signed_note::Verifier;
 use std::alloc::{AllocError, Global};
-use stored_trees::{Marks, holds_edge};
+use stored_trees::{Known, holds_edge};
 use tlog_hash::{Hash, TreeHash};
 
 impl<H: TreeHash> Mirror<H> {
@@ -48,7 +48,7 @@ impl<H: TreeHash> Mirror<H> {
             origin,
             kept: Vec::new(alloc),
             strings,
-            remembered: Marks::new(alloc),
+            known: Known::new(alloc),
         })
     }
 

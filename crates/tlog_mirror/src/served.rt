@@ -62,7 +62,7 @@ impl<H: TreeHash> Mirror<H> {
         ensures some { IfSome result (λ kept. IsServedAs H.digest self.now.view kept.now.note.bytes kept.now.size kept.now.root) }
         ensures none { IfNone result (ServesNothing H.digest self.now.view) }
     {
-        let Some(best) = best_of(&self.strings, &self.remembered, self.kept.as_slice()) else {
+        let Some(best) = best_of(&self.strings, &self.known, self.kept.as_slice()) else {
             return None;
         };
         let root = best.1;

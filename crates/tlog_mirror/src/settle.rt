@@ -3,6 +3,7 @@ ghost use Rattle.std.specs.Prelude.{◌≡◌, ◌↔◌, All, OnOk};
 ghost use Rattle.node_store.specs.Strings.{NoClash};
 ghost use Rattle.mirror_model.specs.Forks.{Point};
 ghost use Rattle.mirror_model.specs.Marks.{IsMark};
+ghost use Rattle.stored_trees.specs.Known.{AreKnown};
 ghost use Rattle.stored_trees.specs.Slices.{AreSettled, HasMark};
 ghost use Rattle.tlog_mirror.specs.Settled.{GainsAny, HasSlicesOf};
 
@@ -10,7 +11,7 @@ use crate::heads::points_of;
 use crate::mirror::Mirror;
 use node_store::Store;
 use std::alloc::{AllocError, Global};
-use stored_trees::Marks;
+use stored_trees::Known;
 use tlog_hash::{Hash, TreeHash};
 
 impl<H: TreeHash> Mirror<H> {
@@ -18,7 +19,8 @@ impl<H: TreeHash> Mirror<H> {
     /// the recursion of the tree hash (RFC 6962, section 2.1) meets on their entries, the whole lists among them.
     ///
     /// It changes no answer, and what was remembered stays. Heads go by rising size, so that each costs a walk
-    /// through what is new to it.
+    /// through what is new to it. Equal subtrees are walked into once, and what is held whole of a head that is not
+    /// complete is noted too, so that no later walk goes into that either.
     ///
     /// # Errors
     ///
@@ -31,23 +33,25 @@ impl<H: TreeHash> Mirror<H> {
         ensures kept { (point : Point) → HasMark self.old.remembered point → HasMark self.new.remembered point }
     {
         let heads = points_of(alloc, self.kept.as_slice())?;
-        settle_all(&self.strings, &mut self.remembered, heads.as_slice())
+        settle_all(&self.strings, &mut self.known, heads.as_slice())
     }
 }
 
 // Remembers those of these trees that are held.
 fn settle_all<H: TreeHash>(
     store: &Store<H>,
-    marks: &mut Marks,
+    known: &mut Known,
     heads: &[(u64, Hash)],
 ) -> Result<(), AllocError>
     requires clean { NoClash H.digest store.now }
-    requires settled { AreSettled H.digest store.now marks.old }
-    ensures done { OnOk result (All (HasSlicesOf H.digest store.now marks.new) heads.now) }
-    ensures gains { GainsAny H.digest store.now heads.now marks.old marks.new }
+    requires known { AreKnown H.digest store.now known.old }
+    requires settled { AreSettled H.digest store.now known.old.remembered }
+    ensures done { OnOk result (All (HasSlicesOf H.digest store.now known.new.remembered) heads.now) }
+    ensures gains { GainsAny H.digest store.now heads.now known.old.remembered known.new.remembered }
+    ensures known { AreKnown H.digest store.now known.new }
 {
     for head in heads {
-        stored_trees::settle(store, marks, head.0, &head.1)?;
+        stored_trees::settle(store, known, head.0, &head.1)?;
     }
     Ok(())
 }

@@ -18,7 +18,7 @@ fn settle_part(rt: HostRuntime) -> Result<(), Fail> {
         ([(3, root), (0, Sha256Tree::empty())].as_slice(), 0),
         (&[(2, first)], 3),
     ] {
-        assert!(rt; remembered(rt.alloc(), &store, trees)?.len() == marks);
+        assert!(rt; remembered(rt.alloc(), &store, trees)?.remembered.len() == marks);
     }
     Ok(())
 }

@@ -7,7 +7,7 @@ ghost use Rattle.stored_trees.specs.Slices.{AreSettled};
 use node_store::{AddFault, Store};
 use std::alloc::{AllocError, Global};
 use std::process::Abort;
-use stored_trees::{Marks, add_entries, add_row, is_built, missing_of, settle};
+use stored_trees::{Known, add_entries, add_row, is_built, missing_of, settle};
 use tlog_hash::{Hash, TreeHash};
 use tlog_tiles::Path;
 
@@ -63,7 +63,7 @@ pub(crate) fn is_held<H: TreeHash>(
     size: u64,
     root: &Hash,
 ) -> bool {
-    is_built(store, &Marks::new(alloc), size, root)
+    is_built(store, &Known::new(alloc), size, root)
 }
 
 // What is missing of a tree, where nothing is remembered.
@@ -75,7 +75,7 @@ pub(crate) fn missing<H: TreeHash>(
 ) -> Result<Vec<Path>, AllocError>
     requires { NoClash H.digest store.now }
 {
-    missing_of(alloc, store, &Marks::new(alloc), size, root)
+    missing_of(alloc, store, &Known::new(alloc), size, root)
 }
 
 // What is remembered of these trees, those of which all is held.
@@ -83,13 +83,13 @@ pub(crate) fn remembered<H: TreeHash>(
     alloc: Global,
     store: &Store<H>,
     trees: &[(u64, Hash)],
-) -> Result<Marks, AllocError>
+) -> Result<Known, AllocError>
     requires { NoClash H.digest store.now }
-    ensures { IfOk result (λ marks. AreSettled H.digest store.now marks) }
+    ensures { IfOk result (λ known. AreSettled H.digest store.now known.remembered) }
 {
-    let mut marks = Marks::new(alloc);
+    let mut known = Known::new(alloc);
     for tree in trees {
-        settle(store, &mut marks, tree.0, &tree.1)?;
+        settle(store, &mut known, tree.0, &tree.1)?;
     }
-    Ok(marks)
+    Ok(known)
 }

@@ -6,11 +6,13 @@ use std::io::{ErrorKind, Read, Write};
 use std::rc::Rc;
 use std::test::Fail;
 
-// Takes all bytes, and gives the reply from that place on, once or with letters behind it without end.
+// Takes all bytes, and gives the reply from that place on, at most so many bytes a read, once or with letters behind it
+// without end.
 #[derive(Drop)]
 pub(crate) struct Canned {
     reply: Rc<Vec<u8>>,
     at: usize,
+    most: usize,
     ends: bool,
 }
 
@@ -29,7 +31,7 @@ impl Read for Canned {
         let Some(rest) = self.reply.get(self.at..) else {
             return Ok(0);
         };
-        let count = rest.len().min(buf.len());
+        let count = rest.len().min(buf.len()).min(self.most);
         buf[..count].copy_from_slice(&rest[..count]);
         self.at += count;
         if count == 0 && !self.ends {
@@ -44,6 +46,7 @@ impl Read for Canned {
 #[derive(Drop)]
 pub(crate) struct CannedDial {
     reply: Rc<Vec<u8>>,
+    most: usize,
     ends: bool,
     works: bool,
 }
@@ -58,25 +61,42 @@ impl Dial for CannedDial {
         Ok(Canned {
             reply: self.reply.clone()?,
             at: 0,
+            most: self.most,
             ends: self.ends,
         })
     }
 }
 
-// A dial of such connections, which takes no memory.
-fn dial_of(alloc: Global, reply: &str, ends: bool, works: bool) -> Result<CannedDial, Fail> {
+// A source over such connections.
+fn source_over(
+    alloc: Global,
+    reply: &str,
+    most: usize,
+    ends: bool,
+    works: bool,
+) -> Result<HttpSource<CannedDial>, Fail> {
     let reply = Rc::new(alloc, Vec::from_slice(alloc, reply.as_bytes())?)?;
-    Ok(CannedDial { reply, ends, works })
+    let dial = CannedDial {
+        reply,
+        most,
+        ends,
+        works,
+    };
+    let site = Site::new(alloc, "log.example", "/2026")?;
+    Ok(HttpSource::new(alloc, site, dial))
 }
 
-// A source over such connections.
+// A source over connections that give as much of the reply as they are asked for.
 pub(crate) fn source_of(
     alloc: Global,
     reply: &str,
     ends: bool,
     works: bool,
 ) -> Result<HttpSource<CannedDial>, Fail> {
-    let dial = dial_of(alloc, reply, ends, works)?;
-    let site = Site::new(alloc, "log.example", "/2026")?;
-    Ok(HttpSource::new(alloc, site, dial))
+    source_over(alloc, reply, usize::MAX, ends, works)
+}
+
+// A source over connections that give a byte a read.
+pub(crate) fn source_in_pieces(alloc: Global, reply: &str) -> Result<HttpSource<CannedDial>, Fail> {
+    source_over(alloc, reply, 1, true, true)
 }

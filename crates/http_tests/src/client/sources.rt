@@ -1,10 +1,9 @@
 //! A source over connections that give one reply.
-use crate::client::canned::{CannedDial, source_of};
+use crate::client::canned::{CannedDial, source_in_pieces, source_of};
+use crate::given::push_times;
 use log_sources::{Source, SourceFault};
-use mirror_http::{HttpSource, receive_reply};
+use mirror_http::HttpSource;
 use std::alloc::Global;
-use std::io;
-use std::io::Read;
 use std::process::Abort;
 use std::test::Fail;
 use tlog_tiles::Path;
@@ -47,24 +46,13 @@ fn a_dial_that_fails_is_counted(rt: HostRuntime) -> Result<(), Fail> {
     Ok(())
 }
 
-// Gives letters without end.
-#[derive(Drop)]
-struct Endless {
-    given: usize,
-}
-
-impl Read for Endless {
-    fn read(&mut self, buf: &mut [u8]) -> io::Result<usize> {
-        buf.fill(b'a');
-        self.given = self.given.saturating_add(buf.len());
-        Ok(buf.len())
-    }
-}
-
+// A reply of 70,019 bytes, each in a piece of its own.
 #[test]
-fn a_reply_that_never_ends(rt: HostRuntime) {
-    let mut reader = Endless { given: 0 };
-    let answer = receive_reply(rt.alloc(), &mut reader);
-    assert!(rt; matches!(answer, Err(SourceFault::Failed)));
-    assert!(rt; reader.given == 16_785_665);
+fn a_reply_in_many_pieces(rt: HostRuntime) -> Result<(), Fail> {
+    let mut reply = String::from_str(rt.alloc(), "HTTP/1.1 200 OK\r\n\r\n")?;
+    push_times(&mut reply, "a", 70_000)?;
+    let mut source = source_in_pieces(rt.alloc(), &reply)?;
+    let body = source.get(&Path::Checkpoint)?.ok_or("not found")?;
+    assert!(rt; body.len() == 70_000);
+    Ok(())
 }

@@ -1,7 +1,7 @@
 //! Requests for memory that are refused, as by `rt try --test --fail-alloc N`: where an answer was refused
 //! one, nothing was written, and the next answer is right.
 use crate::served::{answered, mirror_of_3, reply_of};
-use mirror_server::HttpFault;
+use mirror_http::HttpFault;
 use std::alloc::Global;
 use std::process::Abort;
 use std::test::Fail;

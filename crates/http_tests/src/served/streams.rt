@@ -1,6 +1,6 @@
 //! Readers and writers that give a byte a call, that are interrupted, and that fail.
 use crate::served::{BAD_REQUEST, BUNDLE_REPLY, BUNDLE_REQUEST, answered, mirror_of_3};
-use mirror_server::HttpFault;
+use mirror_http::HttpFault;
 use std::alloc::{AllocError, Global};
 use std::io;
 use std::io::{ErrorKind, Read, Write};

@@ -183,6 +183,34 @@ fn a_client_that_takes_nothing(rt: HostRuntime) -> Result<(), Fail> {
     assert_in_time(&rt, &rt, start)
 }
 
+// A connection to a listener that accepts none: the system makes it, and nothing is ever sent or taken. The stream is
+// owned, as that of a pull is.
+fn silent_server(rt: &HostRuntime) -> io::Result<(TcpListener, TcpStream)> {
+    let listener = TcpListener::bind(rt, "127.0.0.1:0")?;
+    let client = TcpStream::connect(rt, listener.local_addr()?)?;
+    Ok((listener, client))
+}
+
+#[test]
+fn a_server_that_sends_nothing(rt: HostRuntime) -> Result<(), Fail> {
+    let (_listener, client) = silent_server(&rt)?;
+    let start = Instant::now(&rt)?;
+    let mut client = TimedStream::new(client, rt, deadline())?;
+    let answer = read_all(rt.alloc(), &mut client, 100, u64::MAX);
+    assert!(rt; answer.map(|_| ()) == Err(StreamFault::ReadFault));
+    assert_in_time(&rt, &rt, start)
+}
+
+#[test]
+fn a_server_that_takes_nothing(rt: HostRuntime) -> Result<(), Fail> {
+    let (_listener, client) = silent_server(&rt)?;
+    let bytes = vec![in rt.alloc(); 0u8; 65_536]?;
+    let start = Instant::now(&rt)?;
+    let mut client = TimedStream::new(client, rt, deadline())?;
+    assert!(rt; write_on(&mut client, &bytes) == Err(StreamFault::WriteFault));
+    assert_in_time(&rt, &rt, start)
+}
+
 #[test]
 fn bytes_within_a_deadline(rt: HostRuntime) -> Result<(), Fail> {
     let (client, server) = connection(&rt)?;

@@ -1,5 +1,6 @@
 //! Small cases of the definitions, worked out.
 ghost use Rattle.mirror_model.specs.Examples.{EdgesOfSizes, PartsOfThree, RootsOfRows, HasTileOutside, HashesDoNotTellForks, IsFrontOfThree, TreeOfThree, MergesLeadInOrder};
+ghost use Rattle.mirror_model.specs.PlayExamples.{RetriesSpanPlays, RetryInNextPlayCounts, TwoCallsAreOneRun};
 ghost use Rattle.mirror_model.specs.ViewExamples.{EmptyCountsForNothing, OneEntryIsServed};
 
 /// The tree of three entries, the edges of some sizes, and the roots of some edges, under a digest that
@@ -37,4 +38,17 @@ pub fn opening_example()
 /// A lawful view that holds a note of size 1 and the tree of one entry serves these.
 pub fn served_example()
     ensures { OneEntryIsServed }
+{}
+
+/// A take for which memory was refused as the last of one play is done again as the first of the next,
+/// and the headline speaks of what the two plays leave. It is not done again where nothing follows, or
+/// another event comes first.
+pub fn retry_example()
+    ensures spans { RetriesSpanPlays }
+    ensures counts { RetryInNextPlayCounts }
+{}
+
+/// A take at one mirror and a merge of it into another, called one after the other, are one run.
+pub fn calls_example()
+    ensures { TwoCallsAreOneRun }
 {}

@@ -1,5 +1,6 @@
 //! Laws of runs: what reaches which mirror, and what a run leaves.
-ghost use Rattle.mirror_model.specs.RunLaws.{ForMirrors, NoneClashes, RunGrows, RunIsBounded, RunIsLawful, RunIsReached};
+ghost use Rattle.mirror_model.specs.RunLaws.{ForMirrors, MergeIsRun, NoneClashes, RunGrows, RunIsBounded, RunIsLawful, RunIsReached, RunsJoin, TakeIsRun};
+ghost use Rattle.mirror_model.specs.RetryLaws.{IsAnsweredOutOfMemory, NoAnswerToRetry, NothingToRetry, RetriesJoin};
 ghost use Rattle.mirror_model.specs.ReachLaws.{OpeningReachesGoByLast, ReachesGoByLast};
 
 /// What reaches a mirror, by the last event of a list: a take adds its item, a merge adds what reached
@@ -29,4 +30,24 @@ pub fn clash_law()
 pub fn keeping_law()
     ensures lawful { RunIsLawful }
     ensures grows { RunGrows }
+{}
+
+/// What a take leaves one of some mirrors is a run of one event, and so is what a merge leaves it, as the
+/// contracts of these calls say it. Two runs, one after the other, are one run. So takes and merges that
+/// are called one by one are a run.
+pub fn join_law()
+    ensures take { TakeIsRun }
+    ensures merge { MergeIsRun }
+    ensures runs { RunsJoin }
+{}
+
+/// Where memory was refused for no event, nothing has to be done again: so where no answer is
+/// `OutOfMemory`. Memory was refused for a take, and for a merge, exactly where it was answered so. Where
+/// in each of two lists of events each for which memory was refused is done again, it is so in both as
+/// one list.
+pub fn retry_law()
+    ensures none { NothingToRetry }
+    ensures answers { NoAnswerToRetry }
+    ensures named { IsAnsweredOutOfMemory }
+    ensures joined { RetriesJoin }
 {}

@@ -1,7 +1,7 @@
 use Rattle.std.proofs.Common.{suc, Some, None, lit<, inl, inr, ◌∙◌, ap, length, drop, drop-cons, arith, ◌∷◌}
 use Rattle.std.proofs.lemmas.Str.Pattern.{find_char}
 use Rattle.std.proofs.lemmas.List.{drop_all}
-use Rattle.mirror_http.specs.Site.{slash}
+use Rattle.mirror_client.specs.Site.{slash}
 use Rattle.command_line.proofs.Places.{front_lacks}
 use Rattle.command_line.proofs.place.host_and_prefix.Goals as goal
 

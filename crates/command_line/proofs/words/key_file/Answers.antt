@@ -1,6 +1,7 @@
 use Rattle.std.proofs.Common.{◌≡◌, subst, refl, true, map, option_map, string_bytes, codes, []}
 use Rattle.clap.specs.Words.{App, HasKind, HasMatchesOf, fault_of, found_of, is_simple_and_free, rows_of}
-use Rattle.command_line.proofs.Lines.{called, keys_read, keys_refused, nothing_called, refused}
+use Rattle.command_line.proofs.CommandLaws.{lawful_one}
+use Rattle.command_line.proofs.Lines.{called, keys_read, keys_refused, nothing_named}
 use Rattle.command_line.proofs.Refusing.{given_or_none}
 use Rattle.command_line.proofs.words.key_file.Goals as goal
 
@@ -9,8 +10,7 @@ returns-in-Err c =
     let words = map string_bytes c.args.words.now in
     let faults = subst (λ (a : App). is_simple_and_free a ≡ true → HasKind (fault_of a words) c.in-Err.error)
     c.in_ok-parser.ensures.is_app c.in-Err.ensures.kinds in
-    keys_refused words c.fault_of.result
-    (refused words c.in-Err.error c.fault_of.result (faults refl) c.fault_of.ensures)
+    keys_refused words c.in-Err.error c.fault_of.result (faults refl) c.fault_of.ensures
 
 pub returns-in-Some : goal.returns-in-Some
 returns-in-Some c =
@@ -31,4 +31,5 @@ returns c =
     let app = c.in_ok-parser.ensures.is_app in
     let lawful = subst (λ (a : App). is_simple_and_free a ≡ true → fault_of a words ≡ []) app c.in-Ok.ensures.kinds in
     let matches = subst (λ (a : App). HasMatchesOf a words c.in-Ok.matches) app c.in-Ok.ensures.matches in
-    (lawful refl, nothing_called words c.in-Ok.matches matches c.in-None.ensures.rows)
+    let one = lawful_one words (lawful refl) in
+    nothing_named words c.in-Ok.matches one.0 one.1 matches c.in-None.ensures.rows one.2

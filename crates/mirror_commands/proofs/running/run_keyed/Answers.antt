@@ -50,16 +50,16 @@ returns-clause-answer g c =
       are_bytes = c.requires;
       are_lines = c.in-Ok.ensures;
       runs = runs_under sha256 _ (map key_of c.in-Ok.lines.items) c.args.key_bytes.now
-          (g.F.NamedFiles.puts c.args.files.now) (g.F.NamedFiles.puts c.run_words.new.files)
+          (g.F.NamedFiles.puts c.args.files.now) (g.F.NamedFiles.puts c.run_words_over.new.files)
           (g.D.NamedFolders.held c.args.folders.now) (g.D.Shelf.puts c.args.folders.now)
-          (g.D.Shelf.puts c.run_words.new.folders) (map string_bytes c.args.words.now)
+          (g.D.Shelf.puts c.run_words_over.new.folders) (map string_bytes c.args.words.now)
           (g.I.Read.remaining c.args.input.now) (g.O.Write.contents c.args.output.now)
-          (g.O.Write.contents c.run_words.new.output) c.run_words.result
+          (g.O.Write.contents c.run_words_over.new.output) c.run_words_over.result
           (ap (map _) c.deref.ensures.value
           ∙ (all_boxes secret_key pinned_key _ (λ b x. refl) (λ b x. refl) c.loop-line.keys.items
           ∙ (none_left (map (key_in secret_key pinned_key) c.loop-line.keys.items) key_of
           c.loop-line.line-iterator.rest.items (sym c.loop-line.line-iterator.rest.ok.0 ∙ c.in-None.ensures.steps.0)
           (map key_of c.into_iter-line-iterator.result.rest.items) c.loop-line.invariant.2
           ∙ ap (map key_of) c.into_iter-line-iterator.ensures.into_iter_gives.0)))
-          c.run_words.ensures.answer;
+          c.run_words_over.ensures.answer;
     }

@@ -2,6 +2,9 @@ use Rattle.std.proofs.Common.{Contains, ◌∷◌, [], refl}
 use Rattle.std.proofs.lemmas.Result.{err_from_is_err_and}
 use Rattle.mirror_pull.proofs.Askings.{adds_some_none, adds_to_none, adds_one, some_get}
 use Rattle.mirror_pull.proofs.Gains.{early_of_source, late_of_source, stays_itself}
+use Rattle.std.proofs.Common.{None}
+use Rattle.mirror_pull.specs.Replying.{Asks, AsksNew, AsksAgain}
+use Rattle.mirror_pull.proofs.Replies.{gathers_none}
 use Rattle.mirror_pull.proofs.ask.ask.Goals as goal
 
 pub returns-in_err-push-clause-told : goal.returns-in_err-push-clause-told
@@ -53,16 +56,6 @@ returns-clause-later g c = c.in_ok-get.ensures.later
 pub returns-in_err-get-clause-later : goal.returns-in_err-get-clause-later
 returns-in_err-get-clause-later g c = c.in_err-get.ensures.later
 
-pub returns-in_err-get-clause-again : goal.returns-in_err-get-clause-again
-returns-in_err-get-clause-again g c =
-    let p = err_from_is_err_and c.from_residual-in_err-get.result c.from_residual-in_err-get.ensures.1 in
-    rw p.1 tt
-
-pub returns-in_err-push-clause-again : goal.returns-in_err-push-clause-again
-returns-in_err-push-clause-again g c =
-    let p = err_from_is_err_and c.from_residual.result c.from_residual.ensures.1 in
-    rw p.1 tt
-
 pub returns-in_err-get-clause-answer : goal.returns-in_err-get-clause-answer
 returns-in_err-get-clause-answer g c =
     let p = err_from_is_err_and c.from_residual-in_err-get.result c.from_residual-in_err-get.ensures.1 in
@@ -110,11 +103,37 @@ returns-in_err-push-clause-later g c = stays_itself (g.S.Source.may_answer c.arg
 pub returns-then-is_asked-clause-later : goal.returns-then-is_asked-clause-later
 returns-then-is_asked-clause-later g c = stays_itself (g.S.Source.may_answer c.args.source.now)
 
-pub returns-then-is_asked-clause-again : goal.returns-then-is_asked-clause-again
-returns-then-is_asked-clause-again g c = λ has. refl
-
 pub returns-then-is_asked-clause-counted : goal.returns-then-is_asked-clause-counted
 returns-then-is_asked-clause-counted g c = refl
 
 pub returns-then-is_asked-clause-told : goal.returns-then-is_asked-clause-told
 returns-then-is_asked-clause-told g c = adds_to_none c.args.asked.now.items (g.S.Source.asked c.args.source.now)
+
+pub returns-then-is_asked-clause-replied : goal.returns-then-is_asked-clause-replied
+returns-then-is_asked-clause-replied g c =
+    let has : Contains c.args.asked.now.items c.args.path =
+    rw c.deref.ensures.value at (c.is_asked.ensures.0 c.if-is_asked.true) in
+    gathers_none (g.S.Source.may_answer c.args.source.now) (g.S.Source.asked c.args.source.now) c.args.asked.now.items
+    (λ xs. Asks c.args.asked.now.items c.args.path xs None) (AsksAgain has)
+
+pub returns-in_err-push-clause-replied : goal.returns-in_err-push-clause-replied
+returns-in_err-push-clause-replied g c =
+    let p = err_from_is_err_and c.from_residual.result c.from_residual.ensures.1 in
+    rw p.1 tt
+
+pub returns-in_err-get-clause-replied : goal.returns-in_err-get-clause-replied
+returns-in_err-get-clause-replied g c =
+    let p = err_from_is_err_and c.from_residual-in_err-get.result c.from_residual-in_err-get.ensures.1 in
+    rw p.1 tt
+
+pub returns-clause-replied : goal.returns-clause-replied
+returns-clause-replied g c =
+    let fresh : Contains c.args.asked.now.items c.args.path → ⊥ =
+    λ has. let t = c.is_asked.ensures.1 (rw (← c.deref.ensures.value) at has) in absurd cc in
+    record {
+      replies = _;
+      are = AsksNew _ fresh;
+      may_reply = (c.in_ok-get.ensures.answer, tt);
+      list = c.in_ok-push.ensures.items;
+      told = c.in_ok-get.ensures.told;
+    }

@@ -5,8 +5,10 @@ use Rattle.std.proofs.lemmas.Result.{err_from_is_err_and}
 use Rattle.mirror_pull.proofs.Askings.{adds_some_then, adds_to_then, some_of}
 use Rattle.mirror_pull.proofs.Freshness.{fresh_unasked, gone_partial}
 use Rattle.mirror_pull.proofs.Gains.{counts_err, outside, stays_then}
-use Rattle.mirror_pull.proofs.TrueRows.{source_stays, adds_one_each, adds_two_each, full_fresh, row_found, row_full}
+use Rattle.mirror_pull.proofs.TrueRows.{source_stays, full_fresh, row_found as true_row, row_full}
 use Rattle.mirror_pull.proofs.TrueRows.{is_gone, full_answers, full_length, gets_full, tile_within}
+use Rattle.std.proofs.Common.{sym, ap, option_map}
+use Rattle.mirror_pull.proofs.Replies.{row_cut, row_none, row_found, not_edge, never_none, some_same}
 use Rattle.mirror_pull.proofs.edge.edge_row.Goals as goal
 
 pub returns-in_err-bytes-2-clause-told : goal.returns-in_err-bytes-2-clause-told
@@ -46,29 +48,14 @@ returns-clause-told g c =
     adds_to_then c.args.asked.now.items c.ask.new.asked.items c.ask-2.new.asked.items (asked c.args.source.now)
     (asked c.ask.new.source) (asked c.ask-2.new.source) c.in_ok-bytes.ensures.told c.in_ok-bytes-2.ensures.told
 
-pub returns-in-Some-clause-each : goal.returns-in-Some-clause-each
-returns-in-Some-clause-each g c =
-    λ fresh partial. adds_one_each c.args.path c.args.asked.now.items c.ask.new.asked.items
-    (c.in_ok-bytes.ensures.grown (fresh_unasked c.args.asked.now.items c.args.path fresh))
-
 pub returns-in-Some-clause-honest : goal.returns-in-Some-clause-honest
 returns-in-Some-clause-honest g c =
     λ digest entries is tile fresh.
     let unasked = fresh_unasked c.args.asked.now.items c.args.path fresh in
     let answer = rw c.in-Some.is at (c.in_ok-bytes.ensures.answer unasked) in
-    row_found digest entries
+    true_row digest entries
     (g.S.Source.may_answer c.args.source.now) is c.args.path c.args.asked.now.items c.ask.new.asked.items
     c.in-Some.bytes.items tile answer (c.in_ok-bytes.ensures.grown unasked)
-
-pub returns-clause-each : goal.returns-clause-each
-returns-clause-each g c =
-    λ fresh partial.
-    let grown = c.in_ok-bytes.ensures.grown (fresh_unasked c.args.asked.now.items c.args.path fresh) in
-    let full =
-    full_fresh c.args.path c.full_path.result c.args.asked.now.items c.ask.new.asked.items c.full_path.ensures partial
-    grown fresh in
-    adds_two_each c.args.path c.full_path.result c.args.asked.now.items c.ask.new.asked.items c.ask-2.new.asked.items
-    c.full_path.ensures grown (c.in_ok-bytes-2.ensures.grown full)
 
 pub returns-clause-honest : goal.returns-clause-honest
 returns-clause-honest g c =
@@ -178,9 +165,6 @@ returns-in_default-2-clause-later g c =
     stays_then (may c.args.source.now) (may c.ask.new.source) (may c.ask-2.new.source) c.in_ok-bytes.ensures.later
     c.in_ok-bytes-2.ensures.later
 
-pub returns-in_default-2-clause-each : goal.returns-in_default-2-clause-each
-returns-in_default-2-clause-each g c = tt
-
 pub returns-then-len-ne-FULL_TILE-clause-counted : goal.returns-then-len-ne-FULL_TILE-clause-counted
 returns-then-len-ne-FULL_TILE-clause-counted g c = c.in_ok-bytes-2.ensures.counted ∙ c.in_ok-bytes.ensures.counted
 
@@ -192,9 +176,6 @@ returns-then-len-ne-FULL_TILE-clause-later g c =
     let may = g.S.Source.may_answer in
     stays_then (may c.args.source.now) (may c.ask.new.source) (may c.ask-2.new.source) c.in_ok-bytes.ensures.later
     c.in_ok-bytes-2.ensures.later
-
-pub returns-then-len-ne-FULL_TILE-clause-each : goal.returns-then-len-ne-FULL_TILE-clause-each
-returns-then-len-ne-FULL_TILE-clause-each g c = tt
 
 pub returns-in-Some-clause-counted : goal.returns-in-Some-clause-counted
 returns-in-Some-clause-counted g c = c.in_ok-bytes.ensures.counted
@@ -216,11 +197,6 @@ returns-in_err-bytes-2-clause-counted g c =
     (counts_err (failed c.args.source.now) (failed c.ask.new.source) (failed c.ask-2.new.source)
     c.in_err-bytes-2.field-0.0 c.in_ok-bytes.ensures.counted c.in_err-bytes-2.ensures.counted)
 
-pub returns-in_err-bytes-2-clause-each : goal.returns-in_err-bytes-2-clause-each
-returns-in_err-bytes-2-clause-each g c =
-    let p = err_from_is_err_and c.from_residual-in_err-bytes-2.result c.from_residual-in_err-bytes-2.ensures.1 in
-    rw p.1 tt
-
 pub returns-in_err-bytes-2-clause-later : goal.returns-in_err-bytes-2-clause-later
 returns-in_err-bytes-2-clause-later g c =
     let may = g.S.Source.may_answer in
@@ -232,11 +208,6 @@ returns-in_err-bytes-clause-counted g c =
     let p = err_from_is_err_and c.from_residual.result c.from_residual.ensures.1 in
     rw (p.1, p.2) c.in_err-bytes.ensures.counted
 
-pub returns-in_err-bytes-clause-each : goal.returns-in_err-bytes-clause-each
-returns-in_err-bytes-clause-each g c =
-    let p = err_from_is_err_and c.from_residual.result c.from_residual.ensures.1 in
-    rw p.1 tt
-
 pub returns-in_err-bytes-clause-later : goal.returns-in_err-bytes-clause-later
 returns-in_err-bytes-clause-later g c = c.in_err-bytes.ensures.later
 
@@ -244,3 +215,50 @@ pub returns-in_err-bytes-clause-told : goal.returns-in_err-bytes-clause-told
 returns-in_err-bytes-clause-told g c =
     let p = err_from_is_err_and c.from_residual.result c.from_residual.ensures.1 in
     rw p.1 c.in_err-bytes.ensures.told
+
+pub returns-in-Some-clause-replied : goal.returns-in-Some-clause-replied
+returns-in-Some-clause-replied g c =
+    row_found (g.S.Source.may_answer c.args.source.now) (g.S.Source.asked c.args.source.now)
+    (g.S.Source.asked c.ask.new.source) c.args.asked.now.items c.ask.new.asked.items c.args.path _
+    c.in-Some.bytes.items (ap (option_map (λ v. v.items)) c.in-Some.is) c.in_ok-bytes.ensures.replied
+
+pub returns-clause-replied : goal.returns-clause-replied
+returns-clause-replied g c =
+    row_cut (g.S.Source.may_answer c.args.source.now) (g.S.Source.may_answer c.ask.new.source)
+    (g.S.Source.asked c.args.source.now) (g.S.Source.asked c.ask.new.source) (g.S.Source.asked c.ask-2.new.source)
+    c.args.asked.now.items c.ask.new.asked.items c.ask-2.new.asked.items c.args.path c.full_path.result _ _
+    c.in_ok-bytes.ensures.later c.full_path.ensures (ap (option_map (λ v. v.items)) c.in_default.is)
+    c.in_ok-bytes.ensures.replied c.in_ok-bytes-2.ensures.replied c.in-Some-2.bytes.items c.truncate.new.self.items
+    (ap (option_map (λ v. v.items)) c.in-Some-2.is)
+    (sym c.in-Some-2.bytes.ok.0 ∙ (sym c.len.ensures ∙ c.if-len-ne-FULL_TILE.false))
+    (rw c.path_width.ensures at c.truncate.ensures.items)
+
+pub returns-in_default-2-clause-replied : goal.returns-in_default-2-clause-replied
+returns-in_default-2-clause-replied g c =
+    λ e. row_none (g.S.Source.may_answer c.args.source.now) (g.S.Source.may_answer c.ask.new.source)
+    (g.S.Source.asked c.args.source.now) (g.S.Source.asked c.ask.new.source) (g.S.Source.asked c.ask-2.new.source)
+    c.args.asked.now.items c.ask.new.asked.items c.ask-2.new.asked.items c.args.path c.full_path.result _ _
+    c.in_ok-bytes.ensures.later c.full_path.ensures (ap (option_map (λ v. v.items)) c.in_default.is)
+    c.in_ok-bytes.ensures.replied c.in_ok-bytes-2.ensures.replied
+    (λ b is long. never_none b (sym (ap (option_map (λ v. v.items)) c.in_default-2.is) ∙ is))
+
+pub returns-then-len-ne-FULL_TILE-clause-replied : goal.returns-then-len-ne-FULL_TILE-clause-replied
+returns-then-len-ne-FULL_TILE-clause-replied g c =
+    λ e. row_none (g.S.Source.may_answer c.args.source.now) (g.S.Source.may_answer c.ask.new.source)
+    (g.S.Source.asked c.args.source.now) (g.S.Source.asked c.ask.new.source) (g.S.Source.asked c.ask-2.new.source)
+    c.args.asked.now.items c.ask.new.asked.items c.ask-2.new.asked.items c.args.path c.full_path.result _ _
+    c.in_ok-bytes.ensures.later c.full_path.ensures (ap (option_map (λ v. v.items)) c.in_default.is)
+    c.in_ok-bytes.ensures.replied c.in_ok-bytes-2.ensures.replied
+    (λ b is long. c.if-len-ne-FULL_TILE.true
+    (c.len.ensures ∙ (c.in-Some-2.bytes.ok.0 ∙
+    (ap length (some_same c.in-Some-2.bytes.items b (sym (ap (option_map (λ v. v.items)) c.in-Some-2.is) ∙ is)) ∙ long))))
+
+pub returns-in_err-bytes-clause-replied : goal.returns-in_err-bytes-clause-replied
+returns-in_err-bytes-clause-replied g c =
+    let p = err_from_is_err_and c.from_residual.result c.from_residual.ensures.1 in
+    rw (p.1, p.2) (λ e. absurd (not_edge c.in_err-bytes.field-0.0 c.in_err-bytes.ensures.late e))
+
+pub returns-in_err-bytes-2-clause-replied : goal.returns-in_err-bytes-2-clause-replied
+returns-in_err-bytes-2-clause-replied g c =
+    let p = err_from_is_err_and c.from_residual-in_err-bytes-2.result c.from_residual-in_err-bytes-2.ensures.1 in
+    rw (p.1, p.2) (λ e. absurd (not_edge c.in_err-bytes-2.field-0.0 c.in_err-bytes-2.ensures.late e))

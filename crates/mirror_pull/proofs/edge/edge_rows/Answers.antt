@@ -1,10 +1,14 @@
-use Rattle.std.proofs.Common.{◌∙◌, refl, ap, map, length, arith}
+use Rattle.std.proofs.Common.{◌∙◌, refl, ap, map, length, arith, take, ◌+◌}
 use Rattle.tlog_tiles.specs.Edge.{edge_of}
-use Rattle.mirror_pull.proofs.Freshness.{each_step, edge_partial, adds_each_none}
 use Rattle.mirror_pull.proofs.TrueRows.{row_reached, rows_step, rows_none, rows_whole, edge_tile, source_stays}
 use Rattle.std.proofs.lemmas.Result.{err_from_is_err_and}
 use Rattle.mirror_pull.proofs.Askings.{adds_some_then, adds_to_then, adds_to_none, some_of}
 use Rattle.mirror_pull.proofs.Gains.{stays_then, stays_itself, counts_err}
+use Rattle.std.proofs.Common.{List, [], subst}
+use Rattle.std.proofs.lemmas.List.{take_all}
+use Rattle.tlog_tiles.specs.declared.paths.Path.{Path}
+use Rattle.mirror_pull.specs.Replying.{GivesRows, RowsNone, GivesNoRows}
+use Rattle.mirror_pull.proofs.Replies.{gathers_as, gathers_then, gathers_none, edge_step, no_rows, memory_no_edge}
 use Rattle.mirror_pull.proofs.edge.edge_rows.Goals as goal
 
 pub returns-in_err-row-clause-told : goal.returns-in_err-row-clause-told
@@ -42,10 +46,14 @@ loop-path-preserved g c =
           (asked c.args.source.now) (asked c.loop-path.source)
           (asked c.edge_row.new.source) c.loop-path.invariant.told c.in_ok-row.ensures.told;
       counted = c.in_ok-row.ensures.counted ∙ c.loop-path.invariant.counted;
-      each = λ fresh. each_step c.deref-path-items.result.now
-          (edge_of c.args.size) c.args.asked.now.items c.loop-path.asked.items c.edge_row.new.asked.items
-          c.loop-path.path-index (c.deref-path-items.ensures.value ∙ c.in_ok-paths.ensures) c.loop-path-test.true
-          fresh (edge_partial c.args.size) (c.loop-path.invariant.each fresh) c.in_ok-row.ensures.each;
+      replied = gathers_then
+          (λ xs. GivesRows c.args.asked.now.items (take (c.loop-path.path-index + 1) (edge_of c.args.size)) xs
+          (map (λ row. row.items) c.push.new.self.items)) c.loop-path.invariant.later c.loop-path.invariant.replied
+          c.in_ok-row.ensures.replied
+          (λ xs ys grown list p q. edge_step (λ row. row.items) c.args.asked.now.items c.deref-path-items.result.now
+          (edge_of c.args.size) c.loop-path.path-index c.loop-path.asked.items xs ys c.loop-path.rows.items
+          c.push.new.self.items c.in_ok-row.row c.in_ok-push.ensures.items
+          (c.deref-path-items.ensures.value ∙ c.in_ok-paths.ensures) c.loop-path-test.true grown p q);
       honest = λ digest entries is within fresh.
           rows_step digest entries (λ row. row.items) c.deref-path-items.result.now
           (edge_of c.args.size) c.args.asked.now.items c.loop-path.asked.items c.edge_row.new.asked.items
@@ -65,7 +73,9 @@ loop-path-init g c =
     record {
       told = adds_to_none c.args.asked.now.items (g.S.Source.asked c.args.source.now);
       counted = refl;
-      each = λ fresh. adds_each_none c.args.asked.now.items;
+      replied = rw (ap (map (λ row. row.items)) c.new-rows.ensures.items)
+          (gathers_none (g.S.Source.may_answer c.args.source.now) (g.S.Source.asked c.args.source.now)
+          c.args.asked.now.items (λ xs. GivesRows c.args.asked.now.items [] xs []) RowsNone);
       honest = λ digest entries is within fresh. rw (ap (map (λ row. row.items)) c.new-rows.ensures.items)
           (rows_none digest entries c.args.asked.now.items);
       later = stays_itself (g.S.Source.may_answer c.args.source.now);
@@ -119,11 +129,6 @@ returns-in_err-push-clause-counted g c =
     let p = err_from_is_err_and c.from_residual-in_err-push.result c.from_residual-in_err-push.ensures.1 in
     rw (p.1, p.2) (c.in_ok-row.ensures.counted ∙ c.loop-path.invariant.counted)
 
-pub returns-in_err-push-clause-each : goal.returns-in_err-push-clause-each
-returns-in_err-push-clause-each g c =
-    let p = err_from_is_err_and c.from_residual-in_err-push.result c.from_residual-in_err-push.ensures.1 in
-    rw p.1 tt
-
 pub returns-in_err-push-clause-early : goal.returns-in_err-push-clause-early
 returns-in_err-push-clause-early g c =
     let p = err_from_is_err_and c.from_residual-in_err-push.result c.from_residual-in_err-push.ensures.1 in
@@ -135,20 +140,10 @@ returns-in_err-push-clause-later g c =
     stays_then (may c.args.source.now) (may c.loop-path.source) (may c.edge_row.new.source) c.loop-path.invariant.later
     c.in_ok-row.ensures.later
 
-pub returns-in_err-row-clause-each : goal.returns-in_err-row-clause-each
-returns-in_err-row-clause-each g c =
-    let p = err_from_is_err_and c.from_residual-in_err-row.result c.from_residual-in_err-row.ensures.1 in
-    rw p.1 tt
-
 pub returns-in_err-paths-clause-counted : goal.returns-in_err-paths-clause-counted
 returns-in_err-paths-clause-counted g c =
     let p = err_from_is_err_and c.from_residual.result c.from_residual.ensures.1 in
     rw (p.1, p.2) refl
-
-pub returns-in_err-paths-clause-each : goal.returns-in_err-paths-clause-each
-returns-in_err-paths-clause-each g c =
-    let p = err_from_is_err_and c.from_residual.result c.from_residual.ensures.1 in
-    rw p.1 tt
 
 pub returns-in_err-paths-clause-early : goal.returns-in_err-paths-clause-early
 returns-in_err-paths-clause-early g c =
@@ -157,3 +152,31 @@ returns-in_err-paths-clause-early g c =
 
 pub returns-in_err-paths-clause-later : goal.returns-in_err-paths-clause-later
 returns-in_err-paths-clause-later g c = stays_itself (g.S.Source.may_answer c.args.source.now)
+
+pub returns-clause-replied : goal.returns-clause-replied
+returns-clause-replied g c =
+    let e = c.deref-path-items.ensures.value ∙ c.in_ok-paths.ensures in
+    gathers_as c.loop-path.invariant.replied (λ xs list p.
+    subst (λ (l : List Path). GivesRows c.args.asked.now.items l xs (map (λ row. row.items) c.loop-path.rows.items))
+    (take_all c.loop-path.path-index (edge_of c.args.size) (omega (arith, ap length e, c.loop-path-test.false))) p)
+
+pub returns-in_err-row-clause-replied : goal.returns-in_err-row-clause-replied
+returns-in_err-row-clause-replied g c =
+    let p = err_from_is_err_and c.from_residual-in_err-row.result c.from_residual-in_err-row.ensures.1 in
+    rw (p.1, p.2)
+    (λ e. gathers_then (GivesNoRows c.args.asked.now.items (edge_of c.args.size)) c.loop-path.invariant.later
+    c.loop-path.invariant.replied (c.in_err-row.ensures.replied e)
+    (λ xs ys grown list a b. no_rows c.args.asked.now.items c.deref-path-items.result.now
+    (edge_of c.args.size) c.loop-path.path-index c.loop-path.asked.items xs ys
+    (map (λ row. row.items) c.loop-path.rows.items)
+    (c.deref-path-items.ensures.value ∙ c.in_ok-paths.ensures) c.loop-path-test.true grown a b))
+
+pub returns-in_err-push-clause-replied : goal.returns-in_err-push-clause-replied
+returns-in_err-push-clause-replied g c =
+    let p = err_from_is_err_and c.from_residual-in_err-push.result c.from_residual-in_err-push.ensures.1 in
+    rw (p.1, p.2) (λ e. absurd (memory_no_edge e))
+
+pub returns-in_err-paths-clause-replied : goal.returns-in_err-paths-clause-replied
+returns-in_err-paths-clause-replied g c =
+    let p = err_from_is_err_and c.from_residual.result c.from_residual.ensures.1 in
+    rw (p.1, p.2) (λ e. absurd (memory_no_edge e))

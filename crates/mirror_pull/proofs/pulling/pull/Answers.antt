@@ -1,9 +1,10 @@
-use Rattle.std.proofs.Common.{◌≡◌, ◌∙◌, Some, None, refl, sym, ap, map, inl}
+use Rattle.std.proofs.Common.{◌≡◌, ◌∙◌, Some, None, refl, sym, ap, map, inl, option_map, ◌∷◌, []}
 use Rattle.tlog_tiles.specs.declared.paths.Path.TheVariants.{Checkpoint}
 use Rattle.mirror_model.proofs.Views.{head_stays}
 use Rattle.mirror_pull.specs.Answering.{of_take}
+use Rattle.tlog_tiles.specs.Edge.{edge_of}
 use Rattle.mirror_pull.proofs.BegunPulls.{is_begun, may_go_on, rows_are_edge}
-use Rattle.mirror_pull.proofs.TruePulls.{none_asked, first_asked, parts_asked, some_same, never_none, edge_fresh}
+use Rattle.mirror_pull.proofs.TruePulls.{none_asked, some_same, never_none}
 use Rattle.mirror_pull.proofs.TruePulls.{head_fault, worked_complete, worked_gets, worked_few, worked_none}
 use Rattle.mirror_pull.proofs.TruePulls.{worked_note, worked_notes, worked_strings, outcome_read}
 use Rattle.std.proofs.lemmas.Result.{err_from_is_err_and}
@@ -11,6 +12,10 @@ use Rattle.mirror_pull.proofs.Askings.{adds_some_then, adds_to_then, some_of, fr
 use Rattle.mirror_pull.proofs.Gains.{outcome_early, outcome_head, outcome_late, grows_head, grows_then, has_head}
 use Rattle.mirror_pull.proofs.Gains.{counts_err, outside, stays_then}
 use Rattle.mirror_pull.proofs.HeadsRead.{opened_head, honest_fault}
+use Rattle.mirror_model.proofs.Views.{within_itself}
+use Rattle.mirror_pull.specs.Replying.{GivesRows, GivesNoRows, AreWorkedRounds}
+use Rattle.mirror_pull.proofs.Followed.{replied_first, replied_of, follows_outside, follows_late, follows_edge}
+use Rattle.mirror_pull.proofs.Followed.{follows_taken, follows_head, behind_note, all_replies, pulled_by}
 use Rattle.mirror_pull.proofs.pulling.pull.Goals as goal
 
 pub returns-in_err-rows-clause-once : goal.returns-in_err-rows-clause-once
@@ -61,7 +66,7 @@ returns-in_err-take_rows-clause-outcome g c =
     let p = err_from_is_err_and c.from_residual-in_err-take_rows.result c.from_residual-in_err-take_rows.ensures.1 in
     rw (p.1, p.2)
     (outcome_head g.H.TreeHash.digest _ c.args.mirror.now.view c.take_rows.new.mirror.view c.deref-2.result.now _
-    c.in_err-take_rows.field-0.0 c.in_err-take_rows.ensures)
+    c.in_err-take_rows.field-0.0 c.in_err-take_rows.ensures.takes)
 
 pub returns-in_err-rounds-clause-outcome : goal.returns-in_err-rounds-clause-outcome
 returns-in_err-rounds-clause-outcome g c =
@@ -70,41 +75,23 @@ returns-in_err-rounds-clause-outcome g c =
     (outcome_late g.H.TreeHash.digest _ c.args.mirror.now.view c.work.new.mirror.view c.in_err-rounds.field-0.0
     c.in_err-rounds.ensures.late (grows_then _ c.args.mirror.now.view c.take_rows.new.mirror.view
     c.work.new.mirror.view (grows_head g.H.TreeHash.digest _ c.args.mirror.now.view c.take_rows.new.mirror.view
-    c.deref-2.result.now _ c.in_ok-take_rows.ensures) c.in_err-rounds.ensures.gains))
+    c.deref-2.result.now _ c.in_ok-take_rows.ensures.takes) c.in_err-rounds.ensures.gains))
 
 pub returns-clause-outcome : goal.returns-clause-outcome
 returns-clause-outcome g c = (
   grows_then _ c.args.mirror.now.view c.take_rows.new.mirror.view c.work.new.mirror.view
       (grows_head g.H.TreeHash.digest _ c.args.mirror.now.view c.take_rows.new.mirror.view c.deref-2.result.now _
-      c.in_ok-take_rows.ensures) c.in_ok-rounds.ensures.gains,
+      c.in_ok-take_rows.ensures.takes) c.in_ok-rounds.ensures.gains,
   record {
     head = has_head g.H.TreeHash.digest _ c.args.mirror.now.view c.take_rows.new.mirror.view c.work.new.mirror.view
         c.deref-2.result.now c.deref.result.now _ c.in_ok-checkpoint.checkpoint.size c.in_ok-checkpoint.checkpoint.root
-        (c.deref-2.ensures.value ∙ sym c.deref.ensures.value) c.in_ok-take_rows.ensures.2
+        (c.deref-2.ensures.value ∙ sym c.deref.ensures.value) c.in_ok-take_rows.ensures.takes.2
         (opened_head _ _ _ c.in_ok-checkpoint.checkpoint c.in_ok-checkpoint.ensures) c.in_ok-rounds.ensures.gains.grows;
     complete = c.is_complete.ensures.0;
     not_complete = c.is_complete.ensures.1;
     at_most = c.in_ok-rounds.ensures.rounds;
   },
 )
-
-pub returns-clause-asks : goal.returns-clause-asks
-returns-clause-asks g c =
-    let asked = g.S.Source.asked in
-    let none = c.new-asked.result.items in
-    let unasked = none_asked none Checkpoint c.new-asked.ensures.items in
-    let begun = first_asked none c.ask.new.asked.items c.new-asked.ensures.items (c.in_ok-note.ensures.grown unasked) in
-    let at = c.in_ok-checkpoint.checkpoint.size in
-    let told =
-    adds_to_then none c.edge_rows.new.asked.items c.work.new.asked.items (asked c.args.source.now)
-    (asked c.edge_rows.new.source) (asked c.work.new.source)
-    (adds_to_then none c.ask.new.asked.items c.edge_rows.new.asked.items (asked c.args.source.now)
-    (asked c.ask.new.source)
-    (asked c.edge_rows.new.source) c.in_ok-note.ensures.told c.in_ok-rows.ensures.told) c.in_ok-rounds.ensures.told in
-    parts_asked (asked c.args.source.now) (asked c.work.new.source) (asked c.edge_rows.new.source)
-    (asked c.work.new.source) at _ none c.ask.new.asked.items c.edge_rows.new.asked.items c.work.new.asked.items
-    c.new-asked.ensures.items begun (c.in_ok-rows.ensures.each (edge_fresh at c.ask.new.asked.items begun))
-    c.in_ok-rounds.ensures.told told c.in_ok-rounds.ensures.none
 
 pub returns-in_default-clause-honest : goal.returns-in_default-clause-honest
 returns-in_default-clause-honest g c =
@@ -150,7 +137,7 @@ returns-in_err-take_rows-clause-honest g c =
     let rows_are = ap (map (λ row. row.items)) c.deref-3.ensures.value in
     head_fault _ b.hash _ entries _ c.deref.result.now c.in_ok-checkpoint.checkpoint.size _ b.honestly.honest
     b.honestly.clean b.small c.take_rows.new.mirror.view _ _ c.in_err-take_rows.field-0.0 note_is
-    (rows_are_edge b got rows_are) c.in_err-take_rows.ensures)
+    (rows_are_edge b got rows_are) c.in_err-take_rows.ensures.takes)
 
 pub returns-in_err-rounds-clause-honest : goal.returns-in_err-rounds-clause-honest
 returns-in_err-rounds-clause-honest g c =
@@ -163,7 +150,7 @@ returns-in_err-rounds-clause-honest g c =
     let got = c.in_ok-rows.ensures.honest _ entries b.source b.honestly.honest.within b.fresh in
     let note_is = c.deref-2.ensures.value ∙ sym c.deref.ensures.value in
     let rows_are = ap (map (λ row. row.items)) c.deref-3.ensures.value in
-    let on = may_go_on b got rows_are c.in_ok-rows.ensures.later note_is c.in_ok-take_rows.ensures.2 in
+    let on = may_go_on b got rows_are c.in_ok-rows.ensures.later note_is c.in_ok-take_rows.ensures.takes.2 in
     c.in_err-rounds.ensures.honest entries on.may_work)
 
 pub returns-clause-honest : goal.returns-clause-honest
@@ -183,7 +170,7 @@ returns-clause-honest g c =
     let got = c.in_ok-rows.ensures.honest _ entries b.source b.honestly.honest.within b.fresh in
     let note_is = c.deref-2.ensures.value ∙ sym c.deref.ensures.value in
     let rows_are = ap (map (λ row. row.items)) c.deref-3.ensures.value in
-    let on = may_go_on b got rows_are c.in_ok-rows.ensures.later note_is c.in_ok-take_rows.ensures.2 in
+    let on = may_go_on b got rows_are c.in_ok-rows.ensures.later note_is c.in_ok-take_rows.ensures.takes.2 in
     let w = c.take_rows.new.mirror.view in
     let asked = g.S.Source.asked in
     let edge_asked = c.edge_rows.new.asked.items in
@@ -315,31 +302,6 @@ returns-in_err-note-clause-counted g c =
     let p = err_from_is_err_and c.from_residual.result c.from_residual.ensures.1 in
     rw (p.1, p.2) c.in_err-note.ensures.counted
 
-pub returns-in_err-note-clause-asks : goal.returns-in_err-note-clause-asks
-returns-in_err-note-clause-asks g c =
-    let p = err_from_is_err_and c.from_residual.result c.from_residual.ensures.1 in
-    rw p.1 tt
-
-pub returns-in_err-checkpoint-clause-asks : goal.returns-in_err-checkpoint-clause-asks
-returns-in_err-checkpoint-clause-asks g c =
-    let p = err_from_is_err_and c.from_residual-in_err-checkpoint.result c.from_residual-in_err-checkpoint.ensures.1 in
-    rw p.1 tt
-
-pub returns-in_err-rows-clause-asks : goal.returns-in_err-rows-clause-asks
-returns-in_err-rows-clause-asks g c =
-    let p = err_from_is_err_and c.from_residual-in_err-rows.result c.from_residual-in_err-rows.ensures.1 in
-    rw p.1 tt
-
-pub returns-in_err-take_rows-clause-asks : goal.returns-in_err-take_rows-clause-asks
-returns-in_err-take_rows-clause-asks g c =
-    let p = err_from_is_err_and c.from_residual-in_err-take_rows.result c.from_residual-in_err-take_rows.ensures.1 in
-    rw p.1 tt
-
-pub returns-in_err-rounds-clause-asks : goal.returns-in_err-rounds-clause-asks
-returns-in_err-rounds-clause-asks g c =
-    let p = err_from_is_err_and c.from_residual-in_err-rounds.result c.from_residual-in_err-rounds.ensures.1 in
-    rw p.1 tt
-
 pub returns-in_err-note-clause-once : goal.returns-in_err-note-clause-once
 returns-in_err-note-clause-once g c =
     let asked = g.S.Source.asked in
@@ -359,3 +321,133 @@ returns-in_err-checkpoint-clause-once g c =
     from_none c.new-asked.result.items (asked c.args.source.now) (asked c.ask.new.source) c.new-asked.ensures.items
     (some_of c.new-asked.result.items c.ask.new.asked.items (asked c.args.source.now) (asked c.ask.new.source)
     c.in_ok-note.ensures.told)
+
+pub returns-in_err-note-clause-replies : goal.returns-in_err-note-clause-replies
+returns-in_err-note-clause-replies g c =
+    let p = err_from_is_err_and c.from_residual.result c.from_residual.ensures.1 in
+    rw (p.1, p.2)
+    (follows_outside g.H.TreeHash.digest _ c.args.mirror.now.view c.args.mirror.now.view
+    (g.S.Source.may_answer c.args.source.now) (g.S.Source.asked c.args.source.now)
+    (g.S.Source.asked c.ask.new.source)
+    c.in_err-note.field-0.0 c.in_err-note.ensures.early c.in_err-note.ensures.late)
+
+pub returns-in_default-clause-replies : goal.returns-in_default-clause-replies
+returns-in_default-clause-replies g c =
+    replied_first g.H.TreeHash.digest _ c.args.mirror.now.view c.args.mirror.now.view
+    (g.S.Source.may_answer c.args.source.now) (g.S.Source.asked c.args.source.now)
+    (g.S.Source.asked c.ask.new.source)
+    c.new-asked.result.items c.ask.new.asked.items _ None c.new-asked.ensures.items
+    (ap (option_map (λ v. v.items)) c.in_default.is) c.in_ok-note.ensures.replied
+
+pub returns-in_err-checkpoint-clause-replies : goal.returns-in_err-checkpoint-clause-replies
+returns-in_err-checkpoint-clause-replies g c =
+    let p = err_from_is_err_and c.from_residual-in_err-checkpoint.result c.from_residual-in_err-checkpoint.ensures.1 in
+    rw (p.1, p.2)
+    (follows_taken g.H.TreeHash.digest _ c.args.mirror.now.view c.args.mirror.now.view
+    (g.S.Source.may_answer c.args.source.now) (g.S.Source.asked c.args.source.now)
+    (g.S.Source.asked c.ask.new.source)
+    c.deref.result.now c.in-Some.note.items c.in_err-checkpoint.field-0.0 c.deref.ensures.value
+    c.in_err-checkpoint.ensures
+    (replied_first g.H.TreeHash.digest _ c.args.mirror.now.view c.args.mirror.now.view
+    (g.S.Source.may_answer c.args.source.now) (g.S.Source.asked c.args.source.now)
+    (g.S.Source.asked c.ask.new.source)
+    c.new-asked.result.items c.ask.new.asked.items _ (Some c.in-Some.note.items) c.new-asked.ensures.items
+    (ap (option_map (λ v. v.items)) c.in-Some.is) c.in_ok-note.ensures.replied))
+
+pub returns-in_err-rows-clause-replies : goal.returns-in_err-rows-clause-replies
+returns-in_err-rows-clause-replies g c =
+    let p = err_from_is_err_and c.from_residual-in_err-rows.result c.from_residual-in_err-rows.ensures.1 in
+    rw (p.1, p.2)
+    (follows_edge g.H.TreeHash.digest _ c.args.mirror.now.view c.args.mirror.now.view
+    (g.S.Source.may_answer c.args.source.now) (g.S.Source.asked c.args.source.now)
+    (g.S.Source.asked c.edge_rows.new.source)
+    c.in_err-rows.field-0.0 c.in_err-rows.ensures.early (λ is.
+    let all =
+    behind_note (g.S.Source.may_answer c.args.source.now) (g.S.Source.may_answer c.ask.new.source)
+    (g.S.Source.asked c.args.source.now) (g.S.Source.asked c.ask.new.source) (g.S.Source.asked c.edge_rows.new.source)
+    c.new-asked.result.items c.ask.new.asked.items c.edge_rows.new.asked.items c.in-Some.note.items _ (λ asked xs. GivesNoRows asked (edge_of c.in_ok-checkpoint.checkpoint.size) xs) c.new-asked.ensures.items
+    (ap (option_map (λ v. v.items)) c.in-Some.is) c.in_ok-note.ensures.later c.in_ok-note.ensures.replied (c.in_err-rows.ensures.replied is) in
+    record {
+      note = c.in-Some.note.items;
+      checkpoint = c.in_ok-checkpoint.checkpoint;
+      is_open = rw c.deref.ensures.value at c.in_ok-checkpoint.ensures;
+      edge = all.are.edge;
+      not_given = all.are.are;
+      replied = replied_of g.H.TreeHash.digest _ c.args.mirror.now.view c.args.mirror.now.view
+          (g.S.Source.may_answer c.args.source.now) (g.S.Source.asked c.args.source.now)
+          (g.S.Source.asked c.edge_rows.new.source)
+          c.new-asked.result.items c.edge_rows.new.asked.items _ all _ all.are.replies_are;
+    }))
+
+pub returns-in_err-take_rows-clause-replies : goal.returns-in_err-take_rows-clause-replies
+returns-in_err-take_rows-clause-replies g c =
+    let p = err_from_is_err_and c.from_residual-in_err-take_rows.result c.from_residual-in_err-take_rows.ensures.1 in
+    let same = c.deref-2.ensures.value in
+    let are = ap (map (λ row. row.items)) c.deref-3.ensures.value in
+    rw (p.1, p.2)
+    (follows_head g.H.TreeHash.digest _ c.args.mirror.now.view c.take_rows.new.mirror.view
+    (g.S.Source.may_answer c.args.source.now) (g.S.Source.asked c.args.source.now)
+    (g.S.Source.asked c.edge_rows.new.source)
+    c.in-Some.note.items (map (λ row. row.items) c.in_ok-rows.rows.items)
+    c.in_err-take_rows.field-0.0 (rw (same, are) at c.in_err-take_rows.ensures.judged) (λ f judged.
+    let all =
+    behind_note (g.S.Source.may_answer c.args.source.now) (g.S.Source.may_answer c.ask.new.source)
+    (g.S.Source.asked c.args.source.now) (g.S.Source.asked c.ask.new.source) (g.S.Source.asked c.edge_rows.new.source)
+    c.new-asked.result.items c.ask.new.asked.items c.edge_rows.new.asked.items c.in-Some.note.items _
+    (λ asked xs. GivesRows asked (edge_of c.in_ok-checkpoint.checkpoint.size) xs
+    (map (λ row. row.items) c.in_ok-rows.rows.items)) c.new-asked.ensures.items
+    (ap (option_map (λ v. v.items)) c.in-Some.is) c.in_ok-note.ensures.later c.in_ok-note.ensures.replied c.in_ok-rows.ensures.replied in
+    record {
+      note = c.in-Some.note.items;
+      checkpoint = c.in_ok-checkpoint.checkpoint;
+      is_open = rw c.deref.ensures.value at c.in_ok-checkpoint.ensures;
+      edge = all.are.edge;
+      rows = map (λ row. row.items) c.in_ok-rows.rows.items;
+      given = all.are.are;
+      refused = judged;
+      replied = replied_of g.H.TreeHash.digest _ c.args.mirror.now.view c.take_rows.new.mirror.view
+          (g.S.Source.may_answer c.args.source.now) (g.S.Source.asked c.args.source.now)
+          (g.S.Source.asked c.edge_rows.new.source)
+          c.new-asked.result.items c.edge_rows.new.asked.items _ all _ all.are.replies_are;
+    }))
+
+pub returns-in_err-rounds-clause-replies : goal.returns-in_err-rounds-clause-replies
+returns-in_err-rounds-clause-replies g c =
+    let p = err_from_is_err_and c.from_residual-in_err-rounds.result c.from_residual-in_err-rounds.ensures.1 in
+    rw (p.1, p.2)
+    (follows_late g.H.TreeHash.digest _ c.args.mirror.now.view c.work.new.mirror.view
+    (g.S.Source.may_answer c.args.source.now) (g.S.Source.asked c.args.source.now)
+    (g.S.Source.asked c.work.new.source)
+    c.in_err-rounds.field-0.0 c.in_err-rounds.ensures.late)
+
+pub returns-clause-replies : goal.returns-clause-replies
+returns-clause-replies g c =
+    let digest = g.H.TreeHash.digest in
+    let may = g.S.Source.may_answer in
+    let v = c.args.mirror.now.view in
+    let x = c.take_rows.new.mirror.view in
+    let size = c.in_ok-checkpoint.checkpoint.size in
+    let root = c.in_ok-checkpoint.checkpoint.root in
+    let rows = map (λ row. row.items) c.in_ok-rows.rows.items in
+    let opened =
+    opened_head _ _ _ c.in_ok-checkpoint.checkpoint (rw c.deref.ensures.value at c.in_ok-checkpoint.ensures) in
+    let head =
+    has_head digest _ v x x c.deref-2.result.now c.in-Some.note.items _ size root c.deref-2.ensures.value
+    c.in_ok-take_rows.ensures.takes.2 opened (within_itself x) in
+    let all =
+    behind_note (g.S.Source.may_answer c.args.source.now) (g.S.Source.may_answer c.ask.new.source)
+    (g.S.Source.asked c.args.source.now) (g.S.Source.asked c.ask.new.source) (g.S.Source.asked c.edge_rows.new.source)
+    c.new-asked.result.items c.ask.new.asked.items c.edge_rows.new.asked.items c.in-Some.note.items _ (λ asked xs. GivesRows asked (edge_of size) xs rows) c.new-asked.ensures.items
+    (ap (option_map (λ v. v.items)) c.in-Some.is) c.in_ok-note.ensures.later c.in_ok-note.ensures.replied c.in_ok-rows.ensures.replied in
+    pulled_by digest _ v x c.work.new.mirror.view (may c.args.source.now) (g.S.Source.asked c.args.source.now)
+    (g.S.Source.asked c.work.new.source) c.new-asked.result.items c.work.new.asked.items c.in-Some.note.items
+    c.deref-2.result.now rows _ _ c.deref-2.ensures.value (ap (map (λ row. row.items)) c.deref-3.ensures.value)
+    c.in_ok-take_rows.ensures.takes.2 opened
+    (all_replies (may c.args.source.now) (may c.edge_rows.new.source) (g.S.Source.asked c.args.source.now)
+    (g.S.Source.asked c.edge_rows.new.source) (g.S.Source.asked c.work.new.source) c.new-asked.result.items
+    c.edge_rows.new.asked.items c.work.new.asked.items c.in-Some.note.items
+    (λ edge. GivesRows (Checkpoint ∷ []) (edge_of size) edge rows)
+    (λ asked xs. AreWorkedRounds digest size root asked x c.in_ok-rounds.rounds c.in_ok-rounds.refused
+    c.work.new.mirror.view xs)
+    (stays_then (may c.args.source.now) (may c.ask.new.source) (may c.edge_rows.new.source) c.in_ok-note.ensures.later
+    c.in_ok-rows.ensures.later) all (c.in_ok-rounds.ensures.replied head))

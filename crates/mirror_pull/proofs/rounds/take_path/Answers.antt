@@ -4,6 +4,8 @@ use Rattle.mirror_pull.proofs.Askings.{adds_some_then, adds_to_then, asks_late}
 use Rattle.mirror_pull.proofs.Gains.{gains_item, gains_itself, late_item, counts_item, counts_err, stays_then, outside}
 use Rattle.mirror_pull.proofs.Freshness.{fresh_unasked}
 use Rattle.mirror_pull.proofs.TrueTakes.{path_fresh, path_found, path_full_fresh, path_full, path_neither}
+use Rattle.std.proofs.Common.{ap, option_map}
+use Rattle.mirror_pull.proofs.Replies.{found_worked, full_worked, none_worked}
 use Rattle.mirror_pull.proofs.rounds.take_path.Goals as goal
 
 pub returns-in_err-bytes-clause-late : goal.returns-in_err-bytes-clause-late
@@ -151,16 +153,6 @@ returns-in_err-bytes-2-clause-counted g c =
     (g.S.Source.failed c.ask-2.new.source) c.in_err-bytes-2.field-0.0 c.in_ok-bytes.ensures.counted
     c.in_err-bytes-2.ensures.counted)
 
-pub returns-in_err-bytes-clause-asks : goal.returns-in_err-bytes-clause-asks
-returns-in_err-bytes-clause-asks g c =
-    let p = err_from_is_err_and c.from_residual.result c.from_residual.ensures.1 in
-    rw p.1 tt
-
-pub returns-in_err-bytes-2-clause-asks : goal.returns-in_err-bytes-2-clause-asks
-returns-in_err-bytes-2-clause-asks g c =
-    let p = err_from_is_err_and c.from_residual-in_err-bytes-2.result c.from_residual-in_err-bytes-2.ensures.1 in
-    rw p.1 tt
-
 pub returns-in_err-bytes-clause-gains : goal.returns-in_err-bytes-clause-gains
 returns-in_err-bytes-clause-gains g c =
     gains_itself c.args.mirror.now.view
@@ -206,3 +198,41 @@ returns-in-None-clause-late g c =
 pub returns-in-None-clause-counted : goal.returns-in-None-clause-counted
 returns-in-None-clause-counted g c =
     c.in_ok-bytes-2.ensures.counted ∙ c.in_ok-bytes.ensures.counted
+
+pub returns-in-Some-clause-replied : goal.returns-in-Some-clause-replied
+returns-in-Some-clause-replied g c =
+    found_worked (g.S.Source.may_answer c.args.source.now) (g.S.Source.asked c.args.source.now)
+    (g.S.Source.asked c.ask.new.source) c.args.asked.now.items c.ask.new.asked.items c.args.path _
+    c.in-Some.bytes.items (ap (option_map (λ v. v.items)) c.in-Some.is) c.in_ok-bytes.ensures.replied
+    g.H.TreeHash.digest c.args.mirror.now.view c.take_found.new.mirror.view c.deref.result.now c.take_found.result
+    c.deref.ensures.value c.take_found.ensures
+
+pub returns-in-Some-2-clause-replied : goal.returns-in-Some-2-clause-replied
+returns-in-Some-2-clause-replied g c =
+    full_worked (g.S.Source.may_answer c.args.source.now) (g.S.Source.may_answer c.ask.new.source)
+    (g.S.Source.asked c.args.source.now) (g.S.Source.asked c.ask.new.source) (g.S.Source.asked c.ask-2.new.source)
+    c.args.asked.now.items c.ask.new.asked.items c.ask-2.new.asked.items c.args.path c.full_path-full.result _ _
+    c.in_ok-bytes.ensures.later c.full_path-full.ensures (ap (option_map (λ v. v.items)) c.in_default.is)
+    c.in_ok-bytes.ensures.replied c.in_ok-bytes-2.ensures.replied
+    g.H.TreeHash.digest c.args.mirror.now.view c.take_found-in-Some-2.new.mirror.view c.in-Some-2.bytes.items
+    c.deref-in-Some-2.result.now c.take_found-in-Some-2.result (ap (option_map (λ v. v.items)) c.in-Some-2.is)
+    c.deref-in-Some-2.ensures.value c.take_found-in-Some-2.ensures
+
+pub returns-in-None-clause-replied : goal.returns-in-None-clause-replied
+returns-in-None-clause-replied g c =
+    none_worked (g.S.Source.may_answer c.args.source.now) (g.S.Source.may_answer c.ask.new.source)
+    (g.S.Source.asked c.args.source.now) (g.S.Source.asked c.ask.new.source) (g.S.Source.asked c.ask-2.new.source)
+    c.args.asked.now.items c.ask.new.asked.items c.ask-2.new.asked.items c.args.path c.full_path-full.result _ _
+    c.in_ok-bytes.ensures.later c.full_path-full.ensures (ap (option_map (λ v. v.items)) c.in_default.is)
+    c.in_ok-bytes.ensures.replied c.in_ok-bytes-2.ensures.replied
+    g.H.TreeHash.digest c.args.mirror.now.view (ap (option_map (λ v. v.items)) c.in-None.is)
+
+pub returns-in_err-bytes-clause-replied : goal.returns-in_err-bytes-clause-replied
+returns-in_err-bytes-clause-replied g c =
+    let p = err_from_is_err_and c.from_residual.result c.from_residual.ensures.1 in
+    rw p.1 tt
+
+pub returns-in_err-bytes-2-clause-replied : goal.returns-in_err-bytes-2-clause-replied
+returns-in_err-bytes-2-clause-replied g c =
+    let p = err_from_is_err_and c.from_residual-in_err-bytes-2.result c.from_residual-in_err-bytes-2.ensures.1 in
+    rw p.1 tt

@@ -1,13 +1,14 @@
-use Rattle.std.proofs.Common.{refl, List, [], ◌∷◌, ◌++◌, arith, All, Contains, ap, ◌∙◌, sym, subst, get_or}
+use Rattle.std.proofs.Common.{refl, List, arith, All, ap, ◌∙◌, sym, subst, get_or}
 use Rattle.std.proofs.Common.{length, ◌<◌}
-use Rattle.std.proofs.lemmas.List.Elements.{All-push, Contains-get_or}
+use Rattle.std.proofs.lemmas.List.Elements.{All-push}
 use Rattle.tlog_tiles.specs.declared.paths.Path.{Path}
 use Rattle.tlog_tiles.specs.declared.paths.Path.TheVariants.{Checkpoint}
 use Rattle.std.proofs.lemmas.List.{take_all}
 use Rattle.mirror_pull.specs.Taking.{IsTakeable}
 use Rattle.mirror_pull.proofs.Gains.{missing_takeable}
 use Rattle.mirror_pull.proofs.rounds.wanted.Goals.{then-not-is_asked+in_ok-push, else-not-is_asked}
-use Rattle.mirror_pull.proofs.Freshness.{take_one}
+use Rattle.mirror_pull.specs.Replying.{Leaves, LeavesNone}
+use Rattle.mirror_pull.proofs.Replies.{leaves_in, leaves_out}
 use Rattle.mirror_pull.proofs.rounds.wanted.Goals as goal
 
 pub loop-path-preserved : goal.loop-path-preserved
@@ -26,43 +27,35 @@ loop-path-preserved g c =
             takeable =
                 subst (All IsTakeable) (sym grown)
                 (All-push IsTakeable c.loop-path.paths.items _ c.loop-path.invariant.takeable item);
-            new = subst (All (λ path. Contains c.args.asked.now path → ⊥)) (sym grown)
-                (All-push
-                (λ path. Contains c.args.asked.now path → ⊥) c.loop-path.paths.items _ c.loop-path.invariant.new
-                (λ has. let asked = w.if-not-is_asked.ensures.1 has in absurd cc));
-            whole = λ none. grown ∙
-                (ap (λ (l : List Path). l ++ get_or c.deref-path-items.result.now c.loop-path.path-index Checkpoint
-                ∷ []) (c.loop-path.invariant.whole none) ∙
-                sym (take_one c.deref-path-items.result.now c.loop-path.path-index c.loop-path-test.true));
+            leaves = leaves_in c.args.asked.now c.deref-path-items.result.now c.loop-path.path-index
+                c.loop-path.paths.items _ c.loop-path-test.true grown c.loop-path.invariant.leaves
+                (λ has. let asked = w.if-not-is_asked.ensures.1 has in absurd cc);
           }
       | else-not-is_asked w ↦
           let kept = ap (λ v. v.items) w.paths-is in
           record {
             takeable = subst (All IsTakeable) (sym kept) c.loop-path.invariant.takeable;
-            new = subst (All (λ path. Contains c.args.asked.now path → ⊥)) (sym kept) c.loop-path.invariant.new;
-            whole = λ none. absurd
-                (none (get_or c.deref-path-items.result.now c.loop-path.path-index Checkpoint)
-                (Contains-get_or c.deref-path-items.result.now c.loop-path.path-index Checkpoint c.loop-path-test.true)
-                (w.if-not-is_asked.ensures.0 refl));
+            leaves = leaves_out c.args.asked.now c.deref-path-items.result.now c.loop-path.path-index
+                c.loop-path.paths.items _ c.loop-path-test.true kept c.loop-path.invariant.leaves
+                (w.if-not-is_asked.ensures.0 refl);
           }
     ]
 
 pub loop-path-init : goal.loop-path-init
 loop-path-init g c = record {
   takeable = rw c.new-paths.ensures.items (λ k d lt. absurd (omega (arith, lt)));
-  new = rw c.new-paths.ensures.items (λ k d lt. absurd (omega (arith, lt)));
-  whole = λ none. c.new-paths.ensures.items;
+  leaves = rw c.new-paths.ensures.items LeavesNone;
 }
 
-pub returns-clause-whole : goal.returns-clause-whole
-returns-clause-whole g c =
+pub returns-clause-left : goal.returns-clause-left
+returns-clause-left g c =
     λ head.
     let m = rw c.in-Some.is at c.in_ok-missing.ensures in
     let at = c.deref-path-items.ensures.value in
     record {
       missing = c.in-Some.missing.items;
       lists = m.some;
-      whole = λ none. c.loop-path.invariant.whole
-          (subst (λ (xs : List Path). (path : Path) → Contains xs path → Contains c.args.asked.now path → ⊥)
-          (sym at) none) ∙ (take_all c.loop-path.path-index c.deref-path-items.result.now c.loop-path-test.false ∙ at);
+      leaves = subst (λ (l : List Path). Leaves c.args.asked.now l c.loop-path.paths.items)
+          (take_all c.loop-path.path-index c.deref-path-items.result.now c.loop-path-test.false ∙ at)
+          c.loop-path.invariant.leaves;
     }

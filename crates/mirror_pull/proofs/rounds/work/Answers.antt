@@ -1,9 +1,11 @@
-use Rattle.std.proofs.Common.{arith, sym, ◌≤◌, length, ap, ◌∙◌, refl}
+use Rattle.std.proofs.Common.{arith, sym, ◌≤◌, ◌+◌, ◌≡◌, length, ◌∙◌, refl}
 use Rattle.std.proofs.lemmas.Result.{err_from_is_err_and}
 use Rattle.mirror_pull.proofs.Askings.{adds_some_then, adds_to_then, adds_to_none}
 use Rattle.mirror_pull.proofs.Gains.{stays_then, stays_itself, counts_err, gains_then, gains_itself}
-use Rattle.mirror_pull.proofs.Freshness.{asks_round, none_round}
-use Rattle.mirror_pull.specs.Parts.{IsWanted}
+use Rattle.mirror_model.proofs.Views.{head_stays}
+use Rattle.mirror_pull.specs.Replying.{IsLeft}
+use Rattle.mirror_pull.proofs.Replies.{AreRoundsSoFar, gathers_as, gathers_then, gathers_none, rounds_none, rounds_step}
+use Rattle.mirror_pull.proofs.Replies.{rounds_ended, rounds_eight}
 use Rattle.mirror_pull.proofs.Orders.{none_if, some_if}
 use Rattle.mirror_pull.proofs.TrueWork.{wanted_front, round_may, work_none, work_step, work_done, never_eight}
 use Rattle.mirror_pull.proofs.rounds.work.Goals as goal
@@ -49,17 +51,26 @@ loop-rounds-preserved g c =
       counted = c.in_ok-more.ensures.counted ∙ c.loop-rounds.invariant.counted;
       later = stays_then (may c.args.source.now) (may c.loop-rounds.source)
           (may c.work_round.new.source) c.loop-rounds.invariant.later c.in_ok-more.ensures.later;
-      start = λ e. absurd (omega (arith, e));
-      asks = λ _. asks_round c.args.asked.now.items c.loop-rounds.asked.items
-          c.work_round.new.asked.items c.deref.result.now c.in_ok-paths.paths.items c.deref-in-loop-rounds.result.now
-          c.loop-rounds.rounds c.deref.ensures.value c.deref-in-loop-rounds.ensures.value c.loop-rounds.invariant.start
-          c.loop-rounds.invariant.asks c.in_ok-paths.ensures.new some c.in_ok-more.ensures.asks;
+      replied = λ head.
+          let digest = g.H.TreeHash.digest in
+          let x = c.loop-rounds.mirror.view in
+          let now =
+          head_stays c.args.mirror.now.view x c.loop-rounds.invariant.gains.grows c.args.size c.args.root.now head in
+          gathers_then
+          (λ xs. AreRoundsSoFar digest c.args.size c.args.root.now c.args.asked.now.items c.args.mirror.now.view
+          (c.loop-rounds.rounds + 1) c.saturating_add-refused.result c.work_round.new.mirror.view xs)
+          c.loop-rounds.invariant.later (c.loop-rounds.invariant.replied head) c.in_ok-more.ensures.replied
+          (λ xs ys grown list p q. rounds_step digest c.args.size c.args.root.now c.args.asked.now.items
+          c.loop-rounds.asked.items c.deref.result.now c.in_ok-paths.paths.items c.deref-in-loop-rounds.result.now
+          c.args.mirror.now.view x c.work_round.new.mirror.view c.loop-rounds.rounds c.loop-rounds.refused
+          c.in_ok-more.more c.saturating_add-refused.result xs ys c.saturating_add-refused.ensures grown
+          c.deref.ensures.value c.deref-in-loop-rounds.ensures.value some p (c.in_ok-paths.ensures.left now) q);
       honest = λ entries m.
           let digest = g.H.TreeHash.digest in
           let before = c.loop-rounds.invariant.honest entries m in
-          let wants : IsWanted digest c.loop-rounds.mirror.view
-          c.args.size c.args.root.now c.loop-rounds.asked.items c.in_ok-paths.paths.items =
-          rw c.deref.ensures.value at (c.in_ok-paths.ensures.whole before.1.next.head) in
+          let wants : IsLeft digest c.args.size c.args.root.now
+          c.loop-rounds.asked.items c.loop-rounds.mirror.view c.in_ok-paths.paths.items =
+          rw c.deref.ensures.value at (c.in_ok-paths.ensures.left before.1.next.head) in
           let fronts =
           wanted_front digest entries c.args.size c.args.root.now
           (may c.loop-rounds.source) c.loop-rounds.mirror.view c.loop-rounds.asked.items before.1.next
@@ -88,8 +99,11 @@ loop-rounds-init g c =
       told = adds_to_none c.args.asked.now.items (g.S.Source.asked c.args.source.now);
       counted = refl;
       later = stays_itself (g.S.Source.may_answer c.args.source.now);
-      start = λ e. refl;
-      asks = λ some. absurd (omega (arith, some));
+      replied = λ head. gathers_none (g.S.Source.may_answer c.args.source.now) (g.S.Source.asked c.args.source.now)
+          c.args.asked.now.items
+          (λ xs. AreRoundsSoFar g.H.TreeHash.digest c.args.size c.args.root.now c.args.asked.now.items
+          c.args.mirror.now.view 0 0 c.args.mirror.now.view xs)
+          (rounds_none g.H.TreeHash.digest c.args.size c.args.root.now c.args.asked.now.items c.args.mirror.now.view);
       honest = λ entries m. (
         refl,
         work_none g.H.TreeHash.digest entries c.args.size c.args.root.now
@@ -103,32 +117,20 @@ returns-in_err-more-clause-gains g c =
     gains_then c.args.mirror.now.view c.loop-rounds.mirror.view c.work_round.new.mirror.view
     c.loop-rounds.invariant.gains c.in_err-more.ensures.gains
 
-pub returns-then-is_empty-clause-none : goal.returns-then-is_empty-clause-none
-returns-then-is_empty-clause-none g c =
-    none_round c.args.asked.now.items c.loop-rounds.asked.items c.loop-rounds.rounds c.loop-rounds.invariant.start
-    c.loop-rounds.invariant.asks
-
 pub returns-then-is_empty-clause-honest : goal.returns-then-is_empty-clause-honest
 returns-then-is_empty-clause-honest g c =
     λ entries m.
     let digest = g.H.TreeHash.digest in
     let may = g.S.Source.may_answer c.loop-rounds.source in
     let before = c.loop-rounds.invariant.honest entries m in
-    let wants : IsWanted digest c.loop-rounds.mirror.view c.args.size c.args.root.now c.loop-rounds.asked.items
-    c.in_ok-paths.paths.items = rw c.deref.ensures.value at (c.in_ok-paths.ensures.whole before.1.next.head) in (
+    let wants : IsLeft digest c.args.size c.args.root.now c.loop-rounds.asked.items c.loop-rounds.mirror.view
+    c.in_ok-paths.paths.items = rw c.deref.ensures.value at (c.in_ok-paths.ensures.left before.1.next.head) in (
       before.0,
       work_done digest entries c.args.size c.args.root.now may c.args.mirror.now.view c.loop-rounds.mirror.view
           c.args.asked.now.items c.loop-rounds.asked.items c.loop-rounds.rounds c.in_ok-paths.paths.items before.1 wants
           (sym c.in_ok-paths.paths.ok.0
           ∙ none_if c.in_ok-paths.paths.len (sym c.is_empty.ensures ∙ c.if-is_empty.true)),
     )
-
-pub returns-clause-none : goal.returns-clause-none
-returns-clause-none g c = (
-  λ e. absurd (omega (arith, e)),
-  λ same. absurd
-      (omega (arith, c.loop-rounds.invariant.asks (omega (arith, c.loop-rounds-test.false)), ap length same)),
-)
 
 pub returns-clause-honest : goal.returns-clause-honest
 returns-clause-honest g c =
@@ -146,8 +148,8 @@ returns-in_err-more-clause-honest g c =
     rw (p.1, p.2) (λ entries m.
     let digest = g.H.TreeHash.digest in
     let before = c.loop-rounds.invariant.honest entries m in
-    let wants : IsWanted digest c.loop-rounds.mirror.view c.args.size c.args.root.now c.loop-rounds.asked.items
-    c.in_ok-paths.paths.items = rw c.deref.ensures.value at (c.in_ok-paths.ensures.whole before.1.next.head) in
+    let wants : IsLeft digest c.args.size c.args.root.now c.loop-rounds.asked.items c.loop-rounds.mirror.view
+    c.in_ok-paths.paths.items = rw c.deref.ensures.value at (c.in_ok-paths.ensures.left before.1.next.head) in
     let fronts =
     wanted_front digest entries c.args.size c.args.root.now
     (may c.loop-rounds.source) c.loop-rounds.mirror.view c.loop-rounds.asked.items before.1.next
@@ -157,3 +159,24 @@ returns-in_err-more-clause-honest g c =
     (may c.loop-rounds.source) c.loop-rounds.mirror.view c.loop-rounds.asked.items before.1.next
     c.in_ok-paths.paths.items fronts in
     c.in_err-more.ensures.honest entries c.args.size (rw c.deref-in-loop-rounds.ensures.value may_take))
+
+pub returns-then-is_empty-clause-replied : goal.returns-then-is_empty-clause-replied
+returns-then-is_empty-clause-replied g c =
+    λ head.
+    let x = c.loop-rounds.mirror.view in
+    let now =
+    head_stays c.args.mirror.now.view x c.loop-rounds.invariant.gains.grows c.args.size c.args.root.now head in
+    gathers_as (c.loop-rounds.invariant.replied head) (λ xs grown p.
+    rounds_ended g.H.TreeHash.digest c.args.size c.args.root.now c.args.asked.now.items c.loop-rounds.asked.items
+    c.deref.result.now c.in_ok-paths.paths.items c.args.mirror.now.view x c.loop-rounds.rounds c.loop-rounds.refused xs
+    grown c.deref.ensures.value
+    (sym c.in_ok-paths.paths.ok.0 ∙ none_if c.in_ok-paths.paths.len (sym c.is_empty.ensures ∙ c.if-is_empty.true)) p
+    (c.in_ok-paths.ensures.left now))
+
+pub returns-clause-replied : goal.returns-clause-replied
+returns-clause-replied g c =
+    λ head.
+    let is : c.loop-rounds.rounds ≡ 8 = omega (arith, c.loop-rounds-test.false, c.loop-rounds.auto.rounds-end) in
+    gathers_as (c.loop-rounds.invariant.replied head) (λ xs grown p.
+    rounds_eight g.H.TreeHash.digest c.args.size c.args.root.now c.args.asked.now.items c.args.mirror.now.view
+    c.loop-rounds.mirror.view c.loop-rounds.rounds 8 c.loop-rounds.refused xs is refl p)

@@ -1,4 +1,7 @@
-use Rattle.std.proofs.Common.{◌≡◌, ◌<◌, ◌≤◌, ℕ, List, length}
+use Rattle.std.proofs.Common.{◌≡◌, ℕ, List}
+use Rattle.mirror_model.specs.Heads.{HasHead}
+use Rattle.mirror_pull.specs.Replying.{Gathers}
+use Rattle.mirror_pull.proofs.Replies.{AreRoundsSoFar}
 use Rattle.mirror_pull.specs.Parts.{MayWork}
 use Rattle.mirror_pull.proofs.TrueWork.{IsWorking}
 use Rattle.mirror_pull.specs.Asking.{AddsTo}
@@ -11,8 +14,12 @@ invariant-loop-rounds g l = record {
   told : AddsTo l.fn.asked.items l.asked.items (g.S.Source.asked l.fn.source) (g.S.Source.asked l.source);
   counted : g.S.Source.failed l.source ≡ g.S.Source.failed l.fn.source;
   later : StaysWithin (g.S.Source.may_answer l.fn.source) (g.S.Source.may_answer l.source);
-  start : l.rounds ≡ 0 → l.asked.items ≡ l.fn.asked.items;
-  asks : 1 ≤ l.rounds → length l.fn.asked.items < length l.asked.items;
+  replied :
+      HasHead l.fn.mirror.view l.fn.size l.fn.root →
+      Gathers (g.S.Source.may_answer l.fn.source) (g.S.Source.asked l.fn.source) (g.S.Source.asked l.source)
+      l.fn.asked.items l.asked.items
+      (λ xs. AreRoundsSoFar g.H.TreeHash.digest l.fn.size l.fn.root l.fn.asked.items l.fn.mirror.view l.rounds l.refused
+      l.mirror.view xs);
   honest :
       (entries : List (List ℕ)) →
       MayWork g.H.TreeHash.digest entries l.fn.size l.fn.root

@@ -1,9 +1,10 @@
-use Rattle.std.proofs.Common.{arith, ◌∙◌, refl}
+use Rattle.std.proofs.Common.{arith, ◌∙◌, refl, take, ◌+◌, [], ap}
 use Rattle.std.proofs.lemmas.Result.{err_from_is_err_and}
 use Rattle.mirror_pull.proofs.Askings.{adds_some_then, adds_to_then, adds_to_none}
 use Rattle.mirror_pull.proofs.Gains.{stays_then, stays_itself, counts_err, gains_then, gains_itself}
 use Rattle.mirror_pull.proofs.TrueTakes.{round_next, round_step, round_none, round_whole}
-use Rattle.mirror_pull.proofs.Freshness.{asks_step}
+use Rattle.mirror_pull.specs.Replying.{IsWorkedList, one_if}
+use Rattle.mirror_pull.proofs.Replies.{gathers_as, gathers_then, gathers_none, list_none, list_step, list_whole}
 use Rattle.mirror_pull.proofs.rounds.work_round.Goals.{then-branch, else-branch}
 use Rattle.mirror_pull.proofs.rounds.work_round.Goals as goal
 
@@ -46,11 +47,18 @@ loop-path-preserved g c =
       counted = c.in_ok-take_path.ensures.counted ∙ c.loop-path.invariant.counted;
       later = stays_then (may c.args.source.now) (may c.loop-path.source)
           (may c.take_path.new.source) c.loop-path.invariant.later c.in_ok-take_path.ensures.later;
-      start = λ e. absurd (omega (arith, e));
-      asks = λ some new. asks_step c.args.asked.now.items c.loop-path.asked.items
-          c.take_path.new.asked.items c.args.paths.now (asked c.loop-path.source) (asked c.take_path.new.source)
-          c.loop-path.path-index c.loop-path.invariant.start c.loop-path.invariant.asks c.in_ok-take_path.ensures.told
-          c.in_ok-take_path.ensures.asks new;
+      replied = gathers_then
+          (λ xs. IsWorkedList g.H.TreeHash.digest c.args.asked.now.items c.args.mirror.now.view
+          (take (c.loop-path.path-index + 1) c.args.paths.now) c.if-branch.refused c.take_path.new.mirror.view xs)
+          c.loop-path.invariant.later c.loop-path.invariant.replied c.in_ok-take_path.ensures.replied
+          (λ xs ys grown list p q. list_step g.H.TreeHash.digest c.args.asked.now.items c.loop-path.asked.items
+          c.args.paths.now c.loop-path.path-index c.args.mirror.now.view c.loop-path.mirror.view
+          c.take_path.new.mirror.view c.loop-path.refused c.if-branch.refused _ xs ys c.loop-path-test.true
+          (elim c.if-branch.branch [
+            | then-branch w ↦ omega
+                (arith, w.refused-is, w.saturating_add-refused.ensures, ap one_if w.if-branch.true)
+            | else-branch w ↦ omega (arith, w.refused-is, ap one_if w.if-branch.false, p.refused_is)
+          ]) grown p q);
       honest = λ entries size m.
           let digest = g.H.TreeHash.digest in
           let before = c.loop-path.invariant.honest entries size m in
@@ -80,8 +88,10 @@ loop-path-init g c =
       told = adds_to_none c.args.asked.now.items (g.S.Source.asked c.args.source.now);
       counted = refl;
       later = stays_itself (g.S.Source.may_answer c.args.source.now);
-      start = λ e. refl;
-      asks = λ some new. absurd (omega (arith, some));
+      replied = gathers_none (g.S.Source.may_answer c.args.source.now) (g.S.Source.asked c.args.source.now)
+          c.args.asked.now.items
+          (λ xs. IsWorkedList g.H.TreeHash.digest c.args.asked.now.items c.args.mirror.now.view [] 0
+          c.args.mirror.now.view xs) (list_none g.H.TreeHash.digest c.args.asked.now.items c.args.mirror.now.view);
       honest = λ entries size m. (
         refl,
         round_none g.H.TreeHash.digest entries size c.args.mirror.now.view c.args.asked.now.items,
@@ -114,3 +124,14 @@ returns-clause-honest g c =
           c.loop-path.mirror.view c.args.asked.now.items c.loop-path.asked.items c.args.paths.now c.loop-path.path-index
           c.loop-path-test.false h.1,
     )
+
+pub returns-clause-replied : goal.returns-clause-replied
+returns-clause-replied g c =
+    gathers_as c.loop-path.invariant.replied (λ xs list p.
+    list_whole g.H.TreeHash.digest c.args.asked.now.items c.args.paths.now c.loop-path.path-index c.args.mirror.now.view
+    c.loop-path.mirror.view c.loop-path.refused xs c.loop-path-test.false p)
+
+pub returns-in_err-take_path-clause-replied : goal.returns-in_err-take_path-clause-replied
+returns-in_err-take_path-clause-replied g c =
+    let p = err_from_is_err_and c.from_residual.result c.from_residual.ensures.1 in
+    rw p.1 tt

@@ -1,5 +1,5 @@
-use Rattle.std.proofs.Common.{◌≡◌, ◌<◌, ◌≤◌, ℕ, List, length, get_or, take, Contains}
-use Rattle.tlog_tiles.specs.declared.paths.Path.TheVariants.{Checkpoint}
+use Rattle.std.proofs.Common.{◌≡◌, ℕ, List, take}
+use Rattle.mirror_pull.specs.Replying.{Gathers, IsWorkedList}
 use Rattle.mirror_pull.specs.Parts.{MayTake, TakesTrue}
 use Rattle.mirror_pull.specs.Asking.{AddsTo}
 use Rattle.log_sources.specs.Source.{StaysWithin}
@@ -11,9 +11,11 @@ invariant-loop-path g l = record {
   told : AddsTo l.fn.asked.items l.asked.items (g.S.Source.asked l.fn.source) (g.S.Source.asked l.source);
   counted : g.S.Source.failed l.source ≡ g.S.Source.failed l.fn.source;
   later : StaysWithin (g.S.Source.may_answer l.fn.source) (g.S.Source.may_answer l.source);
-  start : l.path-index ≡ 0 → l.asked.items ≡ l.fn.asked.items;
-  asks : 1 ≤ l.path-index → (Contains l.fn.asked.items (get_or l.paths 0 Checkpoint) → ⊥) →
-      length l.fn.asked.items < length l.asked.items;
+  replied :
+      Gathers (g.S.Source.may_answer l.fn.source) (g.S.Source.asked l.fn.source) (g.S.Source.asked l.source)
+      l.fn.asked.items l.asked.items
+      (λ xs. IsWorkedList g.H.TreeHash.digest l.fn.asked.items l.fn.mirror.view (take l.path-index l.paths) l.refused
+      l.mirror.view xs);
   honest :
       (entries : List (List ℕ)) (size : ℕ) →
       MayTake g.H.TreeHash.digest entries size

@@ -1,11 +1,13 @@
 use Rattle.std.proofs.Common.{◌<◌, List, ℕ, length, arith, vec_len, subst, ap, sym, ◌∙◌}
 use Rattle.std.proofs.lemmas.List.{length-append}
 use Rattle.std.proofs.lemmas.Bool.{eqb-false}
+use Rattle.std.proofs.KnownBytes.{Consumes-kept}
+use Rattle.std.proofs.lemmas.Result.{err_from_is_err_and}
 use Rattle.httparse.specs.Grammar.{HasNoRequest}
 use Rattle.mirror_server.specs.Looks.{LooksLike, ReadsOn}
 use Rattle.mirror_server.specs.declared.head.Look.TheVariants.{Open, Bad, Whole}
 use Rattle.mirror_server.specs.declared.head.Turn.{Turn}
-use Rattle.mirror_server.proofs.Seeing.{sees_bad, sees_end, sees_full, sees_head, taken_end, taken_more, taken_within}
+use Rattle.mirror_server.proofs.Seeing.{sees_bad, sees_end, sees_full, sees_head, taken_end, taken_more, taken_within, fails_before}
 use Rattle.mirror_server.proofs.head.read_head.Goals as goal
 
 pub returns-in_err-read_more-clause-limit : goal.returns-in_err-read_more-clause-limit
@@ -105,3 +107,18 @@ returns-then-len-eq-MAX_HEAD_LEN-clause-limit g c =
     taken_within (told c.args.reader.now) (told c.loop.reader) (told c.read_more.new.reader)
     c.loop.received.items c.read_more.new.received.items (vec_len c.loop.received) (omega arith)
     c.loop.invariant.room c.loop.invariant.taken c.read_more.ensures.limit
+
+pub returns-in_err-read_more-clause-fault : goal.returns-in_err-read_more-clause-fault
+returns-in_err-read_more-clause-fault g c =
+    let told = g.R.Read.remaining in
+    let p = err_from_is_err_and c.from_residual.result c.from_residual.ensures.1 in
+    rw p.1 (λ is. fails_before (told c.args.reader.now) (told c.read_more.new.reader) c.loop.received.items
+    (Consumes-kept (told c.args.reader.now) (told c.loop.reader) (told c.read_more.new.reader)
+    c.loop.received.items c.loop.invariant.taken (c.in_err-read_more.ensures.fault (sym p.2 ∙ is)))
+    (omega (arith, c.loop.invariant.room)) (λ some. c.loop.invariant.unended (omega (arith, some))))
+
+pub returns-clause-fault : goal.returns-clause-fault
+returns-clause-fault g c is =
+    let told = g.R.Read.remaining in
+    fails_before (told c.args.reader.now) (told c.loop.reader) c.loop.received.items c.loop.invariant.taken
+    (omega (arith, c.loop.invariant.room)) (λ some. c.loop.invariant.unended (omega (arith, some)))

@@ -8,6 +8,7 @@ use Rattle.tlog_hash.proofs.Trees.{mth-none, mth-one, strings-none, strings-one}
 use Rattle.stored_trees.proofs.BuiltTrees.{bytes_of, rest_after, entries_parts, entries_last, entries_mth, entries_none}
 use Rattle.stored_trees.proofs.BuiltTrees.{entries_one, added_none, added_one, clash_inserted, added_last, clash_left}
 use Rattle.stored_trees.proofs.BuiltTrees.{clash_right, clash_last}
+use Rattle.stored_trees.proofs.Gained.{gained_none, gained_single, gained_left, gained_right, gained_last}
 use Rattle.stored_trees.proofs.building.+add_entries.Goals as goal
 
 pub returns-in-empty-clause-hash : goal.returns-in-empty-clause-hash
@@ -107,3 +108,46 @@ returns-in_ok-right-in_default-clause-collision g t c = λ is.
     c.add_entries.new.store c.add_entries-in_default.new.store c.in_ok-left-in_default.ensures.ok
     c.in_ok-right-in_default.ensures.ok
     (subst (Clashes d c.add_entries-in_default.new.store) last (c.insert-in_default.ensures.collision.0 is))
+
+pub returns-in-empty-clause-gained : goal.returns-in-empty-clause-gained
+returns-in-empty-clause-gained g t c =
+    gained_none c.args.store.now (strings g.H.TreeHash.digest (bytes_of c.args.entries.now))
+
+pub returns-in-len1-clause-gained : goal.returns-in-len1-clause-gained
+returns-in-len1-clause-gained g t c =
+    let d = g.H.TreeHash.digest in
+    let one = entries_one c.args.entries.now _ c.in-len1.len_at_least c.in-len1.len_below in
+    gained_single c.insert.result c.args.store.now c.insert.new.self _ (strings d (bytes_of c.args.entries.now))
+    (ap (strings d) one ∙ strings-one d _) c.insert.ensures.ok c.insert.ensures.err
+
+pub returns-in_err-left-in_default-clause-gained : goal.returns-in_err-left-in_default-clause-gained
+returns-in_err-left-in_default-clause-gained g t c =
+    let d = g.H.TreeHash.digest in
+    let es = c.args.entries.now in
+    let k = c.split-k.result in
+    gained_left (strings d (bytes_of (take k es))) (strings d (bytes_of (rest_after d es k)))
+    (strings d (bytes_of es)) (entries_last d es k) (entries_parts d es k (omega arith) c.split-k.ensures.value)
+    c.args.store.now c.add_entries.new.store c.add_entries.ensures.gained
+
+pub returns-in_err-right-in_default-clause-gained : goal.returns-in_err-right-in_default-clause-gained
+returns-in_err-right-in_default-clause-gained g t c =
+    let d = g.H.TreeHash.digest in
+    let es = c.args.entries.now in
+    let k = c.split-k.result in
+    gained_right (strings d (bytes_of (take k es))) (strings d (bytes_of (rest_after d es k)))
+    (strings d (bytes_of es)) (entries_last d es k) (entries_parts d es k (omega arith) c.split-k.ensures.value)
+    c.args.store.now c.add_entries.new.store c.add_entries-in_default.new.store c.add_entries.ensures.gained
+    c.add_entries-in_default.ensures.gained
+
+pub returns-in_ok-right-in_default-clause-gained : goal.returns-in_ok-right-in_default-clause-gained
+returns-in_ok-right-in_default-clause-gained g t c =
+    let d = g.H.TreeHash.digest in
+    let es = c.args.entries.now in
+    let k = c.split-k.result in
+    let last : 1 ∷ c.in_ok-left-in_default.left ++ c.in_ok-right-in_default.right ≡ entries_last d es k =
+    λ i. 1 ∷ c.in_ok-left-in_default.ensures.hash i ++ c.in_ok-right-in_default.ensures.hash i in
+    gained_last (strings d (bytes_of (take k es))) (strings d (bytes_of (rest_after d es k)))
+    (strings d (bytes_of es)) (entries_last d es k) (entries_parts d es k (omega arith) c.split-k.ensures.value)
+    c.insert-in_default.result c.args.store.now c.add_entries.new.store c.add_entries-in_default.new.store
+    c.insert-in_default.new.self _ last c.add_entries.ensures.gained c.add_entries-in_default.ensures.gained
+    c.insert-in_default.ensures.ok c.insert-in_default.ensures.err

@@ -6,6 +6,7 @@ use Rattle.node_store.specs.Strings.{Clashes}
 use Rattle.tlog_hash.proofs.Trees.{fold_of-single, fold_of-parts}
 use Rattle.stored_trees.proofs.BuiltTrees.{row_parts, row_last, after, joins_single, added_none, added_last, clash_left}
 use Rattle.stored_trees.proofs.BuiltTrees.{clash_right, clash_last}
+use Rattle.stored_trees.proofs.Gained.{gained_none, gained_left, gained_right, gained_last}
 use Rattle.stored_trees.proofs.building.+add_row.Goals as goal
 
 pub returns-then-row-eq1-clause-hash : goal.returns-then-row-eq1-clause-hash
@@ -74,3 +75,36 @@ returns-clause-collision g t c = λ is.
     (row_parts d row k (omega arith) c.split-k.ensures.value)
     c.add_row.new.store c.add_row-2.new.store c.in_ok-left.ensures.ok c.in_ok-right.ensures.ok
     (subst (Clashes d c.add_row-2.new.store) last (c.insert.ensures.collision.0 is))
+
+pub returns-then-row-eq1-clause-gained : goal.returns-then-row-eq1-clause-gained
+returns-then-row-eq1-clause-gained g t c = gained_none c.args.store.now (joins g.H.TreeHash.digest c.args.row.now)
+
+pub returns-in_err-left-clause-gained : goal.returns-in_err-left-clause-gained
+returns-in_err-left-clause-gained g t c =
+    let d = g.H.TreeHash.digest in
+    let row = c.args.row.now in
+    let k = c.split-k.result in
+    gained_left (joins d (take k row)) (joins d (after d row k)) (joins d row) (row_last d row k)
+    (row_parts d row k (omega arith) c.split-k.ensures.value)
+    c.args.store.now c.add_row.new.store c.add_row.ensures.gained
+
+pub returns-in_err-right-clause-gained : goal.returns-in_err-right-clause-gained
+returns-in_err-right-clause-gained g t c =
+    let d = g.H.TreeHash.digest in
+    let row = c.args.row.now in
+    let k = c.split-k.result in
+    gained_right (joins d (take k row)) (joins d (after d row k)) (joins d row) (row_last d row k)
+    (row_parts d row k (omega arith) c.split-k.ensures.value)
+    c.args.store.now c.add_row.new.store c.add_row-2.new.store c.add_row.ensures.gained c.add_row-2.ensures.gained
+
+pub returns-clause-gained : goal.returns-clause-gained
+returns-clause-gained g t c =
+    let d = g.H.TreeHash.digest in
+    let row = c.args.row.now in
+    let k = c.split-k.result in
+    let last : 1 ∷ c.in_ok-left.left ++ c.in_ok-right.right ≡ row_last d row k =
+    λ i. 1 ∷ c.in_ok-left.ensures.hash i ++ c.in_ok-right.ensures.hash i in
+    gained_last (joins d (take k row)) (joins d (after d row k)) (joins d row) (row_last d row k)
+    (row_parts d row k (omega arith) c.split-k.ensures.value)
+    c.insert.result c.args.store.now c.add_row.new.store c.add_row-2.new.store c.insert.new.self _ last
+    c.add_row.ensures.gained c.add_row-2.ensures.gained c.insert.ensures.ok c.insert.ensures.err

@@ -2,6 +2,7 @@ use Rattle.std.proofs.Common.{◌≡◌, inl, inr, List, [], length, subst, ap, 
 use Rattle.std.specs.List.{Contains}
 use Rattle.mirror_model.specs.Walk.{IsMissing}
 use Rattle.tlog_tiles.specs.declared.paths.Path.{Path}
+use Rattle.stored_trees.proofs.EmptySets.{empty_known}
 use Rattle.stored_trees.proofs.Losses.{nothing_missing, lost_is_missing}
 use Rattle.stored_trees.proofs.missing.all_lost.Goals as goal
 
@@ -18,7 +19,7 @@ returns-then-size-eq0 g c = λ path. (
 
 pub returns : goal.returns
 returns g c = λ path.
-    let added = c.in_ok-push_lost.ensures path in
+    let added = c.in_ok-push_lost.ensures.adds path in
     let same = lost_is_missing g.H.TreeHash.digest c.args.store.now c.args.size c.args.root.now path in (
       λ h. elim
           (added.0 h) [
@@ -28,3 +29,7 @@ returns g c = λ path.
           ],
       λ m. added.1 (inr (same.1 m)),
     )
+
+pub push_lost-requires-clause-found : goal.push_lost-requires-clause-found
+push_lost-requires-clause-found g c =
+    empty_known g.H.TreeHash.digest c.args.store.now c.new-found.result c.new-found.ensures

@@ -10,6 +10,12 @@ returns-then-target-source-clause-merges g c = λ keys.
     c.args.source c.if-target-source.true (answer_of c.merge_itself.result)
     c.merge_itself.ensures.merges
 
+pub returns-then-target-source-clause-judged : goal.returns-then-target-source-clause-judged
+returns-then-target-source-clause-judged g c = rw c.merge_itself.ensures.done tt
+
+pub returns-then-target-source-clause-itself : goal.returns-then-target-source-clause-itself
+returns-then-target-source-clause-itself g c = λ same. c.merge_itself.ensures.done
+
 pub returns-then-target-source-2 : goal.returns-then-target-source-2
 returns-then-target-source-2 g c =
     let parts = c.split_at_mut-front.ensures in
@@ -19,7 +25,13 @@ returns-then-target-source-2 g c =
     c.index-back-0.result c.requires.target c.requires.source c.merge.new.self (answer_of c.told.result)
     parts.front_len c.if-target-source-2.true (rw (← c.told.ensures.same) at c.merge.ensures.merges)
     c.merge.ensures.remembered in
-    record { merges = m.merges; judged = search rules; origins = m.origins; remembered = m.remembered }
+    record {
+      merges = m.merges;
+      judged = search rules;
+      itself = λ same. absurd (omega (arith, same, c.if-target-source-2.true));
+      origins = m.origins;
+      remembered = m.remembered;
+    }
 
 pub returns : goal.returns
 returns g c =
@@ -31,4 +43,10 @@ returns g c =
     c.index-front-source.result c.requires.target c.requires.source c.merge-2.new.self (answer_of c.told-2.result)
     parts.front_len below (rw (← c.told-2.ensures.same) at c.merge-2.ensures.merges)
     c.merge-2.ensures.remembered in
-    record { merges = m.merges; judged = search rules; origins = m.origins; remembered = m.remembered }
+    record {
+      merges = m.merges;
+      judged = search rules;
+      itself = λ same. absurd (omega (arith, same, below));
+      origins = m.origins;
+      remembered = m.remembered;
+    }

@@ -15,18 +15,18 @@ loop-event-preserved g c = record {
       )).key b.value) c.args.keys.now) answer_of c.args.events.now c.loop-event.event-index c.event-item.result
       c.loop-event-test.true c.event-item.is
       c.args.tries (views_of c.args.world.now) (views_of c.loop-event.world)
-      (views_of c.happen_again-answer.new.world) c.loop-event.answers.items
-      c.push.new.self.items c.happen_again-answer.result c.in-Ok.ensures.items c.loop-event.invariant.run
-      c.happen_again-answer.ensures.happens;
+      (views_of c.apply_again-answer.new.world) c.loop-event.answers.items
+      c.push.new.self.items c.apply_again-answer.result c.in-Ok.ensures.items c.loop-event.invariant.run
+      c.apply_again-answer.ensures.happens;
   judged = judged_more g.H.TreeHash.digest
       (map (λ b. (goal.Verifier-dyn g (b.vtable, b.value)).key b.value) c.args.keys.now)
       (origins_of c.args.world.now) c.args.events.now
       c.loop-event.event-index c.event-item.result c.loop-event-test.true c.event-item.is c.loop-event.answers.items
-      c.push.new.self.items c.happen_again-answer.result c.in-Ok.ensures.items c.loop-event.invariant.judged
-      (rw c.loop-event.invariant.origins at c.happen_again-answer.ensures.judged);
-  origins = c.happen_again-answer.ensures.origins ∙ c.loop-event.invariant.origins;
-  remembered = c.happen_again-answer.ensures.remembered ∙ c.loop-event.invariant.remembered;
-  fits = rw c.happen_again-answer.auto.world c.loop-event.invariant.fits;
+      c.push.new.self.items c.apply_again-answer.result c.in-Ok.ensures.items c.loop-event.invariant.judged
+      (rw c.loop-event.invariant.origins at c.apply_again-answer.ensures.judged);
+  origins = c.apply_again-answer.ensures.origins ∙ c.loop-event.invariant.origins;
+  remembered = c.apply_again-answer.ensures.remembered ∙ c.loop-event.invariant.remembered;
+  fits = rw c.apply_again-answer.auto.world c.loop-event.invariant.fits;
   count = omega (arith, c.in-Ok.ensures.len);
   room = omega arith;
 }
@@ -52,7 +52,7 @@ returns-clause-judged g c =
 pub returns-clause-remembered : goal.returns-clause-remembered
 returns-clause-remembered g c = c.loop-event.invariant.remembered
 
-pub happen_again-answer-requires-clause-fits : goal.happen_again-answer-requires-clause-fits
-happen_again-answer-requires-clause-fits g c =
+pub apply_again-answer-requires-clause-fits : goal.apply_again-answer-requires-clause-fits
+apply_again-answer-requires-clause-fits g c =
     rw c.event-item.is
     (c.loop-event.invariant.fits c.loop-event.event-index c.event-item.result c.loop-event-test.true)

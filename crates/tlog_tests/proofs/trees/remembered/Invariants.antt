@@ -1,5 +1,9 @@
+use Rattle.stored_trees.specs.Known.{AreKnown}
 use Rattle.stored_trees.specs.Slices.{AreSettled}
 use Rattle.tlog_tests.proofs.trees.remembered.Given as goal
 
 abbrev pub invariant-loop-tree : goal.invariant-loop-tree
-invariant-loop-tree g l = AreSettled g.H.TreeHash.digest l.store l.marks
+invariant-loop-tree g l = record {
+  settled : AreSettled g.H.TreeHash.digest l.store l.known.remembered;
+  known : AreKnown g.H.TreeHash.digest l.store l.known;
+}

@@ -1,5 +1,5 @@
 use Rattle.mirror_model.proofs.Headline.{mirrors_agree, no_play_clashes, same_reached, plays_bring, plays_tell_truth}
-use Rattle.mirror_model.proofs.Headline.{plays_grow}
+use Rattle.mirror_model.proofs.Headline.{plays_grow, plays_keep_entries}
 use Rattle.mirror_model.proofs.laws.headline.headline_law.Goals as goal
 
 pub returns-clause-agree : goal.returns-clause-agree
@@ -19,3 +19,6 @@ returns-clause-truth c = plays_tell_truth
 
 pub returns-clause-growth : goal.returns-clause-growth
 returns-clause-growth c = plays_grow
+
+pub returns-clause-entries : goal.returns-clause-entries
+returns-clause-entries c = plays_keep_entries

@@ -20,8 +20,8 @@ returns g c =
     × IsBuilt g.H.TreeHash.digest c.self.inside.strings p.0 p.1)) c.as_slice-2.ensures.value
     c.in_ok-whole.ensures.exact in
     reports_forks g.H.TreeHash.digest
-    (string_bytes c.self.inside.origin) c.self.inside.kept.items c.self.inside.strings c.self.inside.remembered
-    c.self.invariant
+    (string_bytes c.self.inside.origin) c.self.inside.kept.items c.self.inside.strings c.self.inside.known.remembered
+    c.self.invariant.0
     points whole exact are_whole c.args.self.now c.self.view_is
     (λ x. x.items) c.forks_of.result c.forks_of.ensures.sorted
     (rw (c.as_slice-3.ensures.value, c.as_slice-4.ensures.value) at c.forks_of.ensures.exact)

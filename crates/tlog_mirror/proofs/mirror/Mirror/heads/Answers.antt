@@ -1,13 +1,13 @@
 use Rattle.std.proofs.Common.{ℕ, List, subst}
 use Rattle.std.specs.Prelude.{◌↔◌, string_bytes}
 use Rattle.std.specs.List.{Contains}
-use Rattle.stored_trees.proofs.MarkedTrees.{sound_is_built}
+use Rattle.tlog_mirror.proofs.KnownTrees.{all_known}
 use Rattle.tlog_mirror.specs.Best.{HasKept, pair_point}
 use Rattle.tlog_mirror.proofs.HeadLists.{reported}
 use Rattle.tlog_mirror.proofs.mirror.Mirror.heads.Goals as goal
 
 pub flagged-requires : goal.flagged-requires
-flagged-requires g c = sound_is_built g.H.TreeHash.digest _ c.self.invariant.sound
+flagged-requires g c = all_known g.H.TreeHash.digest _ _ _ c.self.inside.known c.self.invariant
 
 pub returns : goal.returns
 returns g c =
@@ -16,7 +16,7 @@ returns g c =
     subst (λ kept. (p : ℕ × List ℕ) →
     Contains points p ↔ HasKept kept (pair_point p)) c.as_slice.ensures.value c.in_ok-points.ensures.exact in
     reported g.H.TreeHash.digest
-    (string_bytes c.self.inside.origin) c.self.inside.kept.items c.self.inside.strings c.self.inside.remembered
-    c.self.invariant c.args.self.now c.self.view_is
+    (string_bytes c.self.inside.origin) c.self.inside.kept.items c.self.inside.strings c.self.inside.known.remembered
+    c.self.invariant.0 c.args.self.now c.self.view_is
     points c.in_ok-points.ensures.sorted exact (λ heads. heads.items) c.flagged.result
     (rw c.as_slice-2.ensures.value at c.flagged.ensures.points) c.flagged.ensures.flags

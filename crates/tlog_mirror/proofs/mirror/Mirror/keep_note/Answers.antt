@@ -27,12 +27,14 @@ invariant_of-self-in-Err g c =
     (Err at)) c.bytes.ensures.bytes c.in-Err.ensures.place) in
     let said : IsHead (note_bytes k) origin k.size k.root =
     subst (λ (s : State). IsHead (note_bytes k) s.view.origin k.size k.root) (sym c.self.view_is) c.requires.said in
-    let edge : HasEdge d (state_of origin kept c.self.inside.strings c.self.inside.remembered).view (note_bytes k) =
-    subst (λ (s : State). HasEdge d s.view (note_bytes k)) (sym c.self.view_is) c.requires.edge in
-    subst (λ (xs : List KeptNote). IsKeptWell d origin xs c.self.inside.strings c.self.inside.remembered)
-    (sym c.in_ok-insert-in-Err.ensures.items)
-    (inserted_well d origin kept c.self.inside.strings c.self.inside.remembered c.self.invariant k
-    at within gap said edge)
+    let edge : HasEdge d (state_of origin kept c.self.inside.strings c.self.inside.known.remembered).view (note_bytes k) =
+    subst (λ (s : State). HasEdge d s.view (note_bytes k)) (sym c.self.view_is) c.requires.edge in (
+      subst (λ (xs : List KeptNote). IsKeptWell d origin xs c.self.inside.strings c.self.inside.known.remembered)
+          (sym c.in_ok-insert-in-Err.ensures.items)
+          (inserted_well d origin kept c.self.inside.strings c.self.inside.known.remembered c.self.invariant.0 k
+          at within gap said edge),
+      c.self.invariant.1,
+    )
 
 pub returns-in-Ok-clause-ok : goal.returns-in-Ok-clause-ok
 returns-in-Ok-clause-ok g c =
@@ -55,7 +57,7 @@ returns-in_ok-insert-in-Err-clause-ok g c =
     let origin = string_bytes c.self.inside.origin in
     let kept = c.self.inside.kept.items in
     let k = c.args.kept in
-    ap (λ (xs : List KeptNote). (state_of origin xs c.self.inside.strings c.self.inside.remembered).view)
+    ap (λ (xs : List KeptNote). (state_of origin xs c.self.inside.strings c.self.inside.known.remembered).view)
     c.in_ok-insert-in-Err.ensures.items
-    ∙ inserted_view d origin kept c.self.inside.strings c.self.inside.remembered c.self.invariant k c.in-Err.at
+    ∙ inserted_view d origin kept c.self.inside.strings c.self.inside.known.remembered c.self.invariant.0 k c.in-Err.at
     ∙ ap (λ (s : State). with_note s.view (note_bytes k)) c.self.view_is

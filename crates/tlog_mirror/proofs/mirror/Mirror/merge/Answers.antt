@@ -21,7 +21,7 @@ returns-in-Err-OutOfMemory-clause-merges g c =
     subst (λ (s : State). Answers d old (old.origin ≡ s.view.origin)
     (union old s.view) Exhausted c.add_strings.new.self.view) c.other.view_is
     (strings_part d old
-    (string_bytes o.origin) o.kept.items o.strings o.remembered c.add_strings.new.self.view same adds)
+    (string_bytes o.origin) o.kept.items o.strings o.known.remembered c.add_strings.new.self.view same adds)
 
 pub keep_notes-requires-clause-edges : goal.keep_notes-requires-clause-edges
 keep_notes-requires-clause-edges g c =
@@ -30,7 +30,7 @@ keep_notes-requires-clause-edges g c =
     let old = c.args.self.now.view in
     let same : old.origin ≡ string_bytes o.origin = search rules in
     others_edges d old
-    (string_bytes o.origin) o.kept.items o.strings o.remembered c.other.invariant same c.add_strings.new.self.view
+    (string_bytes o.origin) o.kept.items o.strings o.known.remembered c.other.invariant.0 same c.add_strings.new.self.view
     c.in-Ok.ensures.adds.2 c.as_slice.result.now c.as_slice.ensures.value
 
 pub returns-in-Err-clause-merges : goal.returns-in-Err-clause-merges
@@ -42,7 +42,7 @@ returns-in-Err-clause-merges g c =
     subst (λ (s : State). Answers d old (old.origin ≡ s.view.origin)
     (union old s.view) Exhausted c.keep_notes.new.self.view) c.other.view_is
     (merged_part d old
-    (string_bytes o.origin) o.kept.items o.strings o.remembered c.in-Err.ensures.err.0 c.keep_notes.new.self.view same
+    (string_bytes o.origin) o.kept.items o.strings o.known.remembered c.in-Err.ensures.err.0 c.keep_notes.new.self.view same
     c.in-Ok.ensures.adds.1
     (c.in-Err.ensures.err.1 ∙
     (λ t. with_notes (c.in-Ok.ensures.adds.2 t) (first_notes c.in-Err.ensures.err.0 (c.as_slice.ensures.value t)))))

@@ -11,6 +11,6 @@ returns-clause-merges g c =
     let D = g.H.TreeHash.digest in (
       refl,
       subst (λ (w : View). NoClash D w.strings) (sym (union_repeats v))
-          (subst (λ (s : State). NoClash D s.view.strings) c.self.view_is c.self.invariant.sound.lawful.no_clash),
+          (subst (λ (s : State). NoClash D s.view.strings) c.self.view_is c.self.invariant.0.sound.lawful.no_clash),
       sym (union_repeats v),
     )

@@ -13,7 +13,7 @@ returns-in-Some g c =
     let at : k ≡ get_or o.kept.items c.args.i k =
     subst (λ (xs : List KeptNote). k ≡ get_or xs c.args.i k) c.deref.ensures.value c.in-Some.ensures.lookup.1 in
     note_found g.H.TreeHash.digest
-    (string_bytes o.origin) o.kept.items o.strings o.remembered c.self.invariant c.args.self.now c.self.view_is c.args.i
+    (string_bytes o.origin) o.kept.items o.strings o.known.remembered c.self.invariant.0 c.args.self.now c.self.view_is c.args.i
     k c.bytes.result.now within at c.bytes.ensures.bytes
 
 pub returns-in-None : goal.returns-in-None
@@ -22,5 +22,5 @@ returns-in-None g c =
     let past : length o.kept.items ≤ c.args.i =
     subst (λ (xs : List KeptNote). length xs ≤ c.args.i) c.deref.ensures.value c.in-None.ensures.lookup.3 in
     note_past g.H.TreeHash.digest
-    (string_bytes o.origin) o.kept.items o.strings o.remembered c.self.invariant c.args.self.now c.self.view_is
+    (string_bytes o.origin) o.kept.items o.strings o.known.remembered c.self.invariant.0 c.args.self.now c.self.view_is
     c.args.i past

@@ -2,8 +2,13 @@ use Rattle.std.proofs.Common.{ℕ, List, sym, subst}
 use Rattle.std.specs.Prelude.{◌↔◌, string_bytes}
 use Rattle.std.specs.List.{Contains}
 use Rattle.tlog_mirror.specs.Best.{HasKept, pair_point}
+use Rattle.tlog_mirror.proofs.KnownTrees.{all_known}
 use Rattle.tlog_mirror.proofs.SettledHeads.{settled_well, marks_now, marked}
 use Rattle.tlog_mirror.proofs.mirror.Mirror.settle.Goals as goal
+
+pub settle_all-requires-clause-known : goal.settle_all-requires-clause-known
+settle_all-requires-clause-known g c =
+    all_known g.H.TreeHash.digest _ _ _ c.self.inside.known c.self.invariant
 
 pub invariant_of-self : goal.invariant_of-self
 invariant_of-self g c =
@@ -12,10 +17,12 @@ invariant_of-self g c =
     (sym c.as_slice-2.ensures.value)
     (subst (λ kept. (p : ℕ × List ℕ) →
     Contains c.in_ok-heads.heads.items p
-    ↔ HasKept kept (pair_point p)) c.as_slice.ensures.value c.in_ok-heads.ensures.exact) in
-    settled_well g.H.TreeHash.digest
-    (string_bytes c.self.inside.origin) c.self.inside.kept.items c.self.inside.strings c.self.inside.remembered
-    c.settle_all.new.marks c.self.invariant c.as_slice-2.result.now exact c.settle_all.ensures.gains
+    ↔ HasKept kept (pair_point p)) c.as_slice.ensures.value c.in_ok-heads.ensures.exact) in (
+      settled_well g.H.TreeHash.digest
+          (string_bytes c.self.inside.origin) c.self.inside.kept.items c.self.inside.strings c.self.inside.known.remembered
+          c.settle_all.new.known.remembered c.self.invariant.0 c.as_slice-2.result.now exact c.settle_all.ensures.gains,
+      c.settle_all.ensures.known.built,
+    )
 
 pub returns-clause-done : goal.returns-clause-done
 returns-clause-done g c =
@@ -26,8 +33,8 @@ returns-clause-done g c =
     Contains c.in_ok-heads.heads.items p
     ↔ HasKept kept (pair_point p)) c.as_slice.ensures.value c.in_ok-heads.ensures.exact) in
     marked g.H.TreeHash.digest
-    (string_bytes c.self.inside.origin) c.self.inside.kept.items c.self.inside.strings c.self.inside.remembered
-    c.settle_all.new.marks c.self.invariant c.as_slice-2.result.now exact c.settle_all.ensures.gains
+    (string_bytes c.self.inside.origin) c.self.inside.kept.items c.self.inside.strings c.self.inside.known.remembered
+    c.settle_all.new.known.remembered c.self.invariant.0 c.as_slice-2.result.now exact c.settle_all.ensures.gains
     c.settle_all.result c.settle_all.ensures.done
 
 pub returns-clause-within : goal.returns-clause-within
@@ -39,5 +46,5 @@ returns-clause-within g c =
     Contains c.in_ok-heads.heads.items p
     ↔ HasKept kept (pair_point p)) c.as_slice.ensures.value c.in_ok-heads.ensures.exact) in
     marks_now g.H.TreeHash.digest
-    (string_bytes c.self.inside.origin) c.self.inside.kept.items c.self.inside.strings c.self.inside.remembered
-    c.settle_all.new.marks c.self.invariant c.as_slice-2.result.now exact c.settle_all.ensures.gains
+    (string_bytes c.self.inside.origin) c.self.inside.kept.items c.self.inside.strings c.self.inside.known.remembered
+    c.settle_all.new.known.remembered c.self.invariant.0 c.as_slice-2.result.now exact c.settle_all.ensures.gains

@@ -1,0 +1,135 @@
+//! Connections over TCP, over loopback in one process.
+use crate::served::{NOT_FOUND, answered, mirror_of_3};
+use byte_streams::{read_all, write_whole};
+use log_sources::{Source, SourceFault};
+use mirror_http::{Dial, HttpSource, Site, TcpDial, get_request};
+use std::alloc::Global;
+use std::cell::Cell;
+use std::io;
+use std::net::{Ipv4Addr, Net, SocketAddr, TcpListener, TcpStream};
+use std::process::Abort;
+use std::rc::Rc;
+use std::test::Fail;
+use std::time::{Clock, Duration};
+use tlog_hash::{Sha256Tree, TreeHash};
+use tlog_mirror::Mirror;
+use tlog_tiles::Path;
+
+#[test]
+fn tcp_loopback(rt: HostRuntime) -> Result<(), Fail> {
+    let mirror = mirror_of_3::<Sha256Tree>(rt.alloc())?;
+    asks_over_loopback(&rt, &rt, rt.alloc(), &mirror)
+}
+
+// A client connects and sends its request, and leaves its side open; then it is accepted and answered; then it reads.
+fn asks_over_loopback<H: TreeHash>(
+    rt: &impl Abort,
+    net: &HostRuntime,
+    alloc: Global,
+    mirror: &Mirror<H>,
+) -> Result<(), Fail> {
+    let listener = TcpListener::bind(net, "127.0.0.1:0")?;
+    let port = listener.local_addr()?.port();
+    let mut client = TcpDial::new(*net, alloc, "127.0.0.1", port)?.dial()?;
+    let site = Site::new(alloc, "log.example", "")?;
+    let path = Path::Tile {
+        level: 0,
+        index: 1000,
+        width: 5,
+    };
+    let request = get_request(alloc, &site, &path)?;
+    write_whole(&mut client, &request)?;
+    answers_next(alloc, mirror, &listener)?;
+    let reply = read_all(alloc, &mut client, 1_000, u64::MAX)?;
+    assert!(rt; reply.as_slice() == NOT_FOUND.as_bytes());
+    Ok(())
+}
+
+// Accepts the next client, answers it, and closes.
+fn answers_next<H: TreeHash>(
+    alloc: Global,
+    mirror: &Mirror<H>,
+    listener: &TcpListener,
+) -> Result<(), Fail> {
+    let (server, _) = listener.accept()?;
+    answered(alloc, mirror, &mut &server, &mut &server)?;
+    Ok(())
+}
+
+// The system's network, but each host has the addresses 127.0.0.2, 127.0.0.3 and 127.0.0.1, in this order, and the clock
+// stands at 0 when it is looked at first, and at 59.9 seconds from then on.
+#[derive(Clone, Drop)]
+struct StrangeNet {
+    rt: HostRuntime,
+    looks: Rc<Cell<u64>>,
+}
+
+impl Clock for StrangeNet {
+    fn monotonic(&self) -> io::Result<Duration> {
+        let looks = self.looks.get();
+        self.looks.set(looks.saturating_add(1));
+        if looks == 0 {
+            return Ok(Duration::ZERO);
+        }
+        Ok(Duration::from_millis(59_900))
+    }
+
+    fn since_1970(&self) -> io::Result<Duration> {
+        self.rt.since_1970()
+    }
+}
+
+impl Net for StrangeNet {
+    type Stream = TcpStream;
+
+    type Listener = TcpListener;
+
+    fn bind(&self, addr: SocketAddr) -> io::Result<TcpListener> {
+        self.rt.bind(addr)
+    }
+
+    fn connect(&self, addr: SocketAddr) -> io::Result<TcpStream> {
+        self.rt.connect(addr)
+    }
+
+    fn connect_timeout(&self, addr: SocketAddr, timeout: Duration) -> io::Result<TcpStream> {
+        self.rt.connect_timeout(addr, timeout)
+    }
+
+    fn lookup_host(&self, _host: &str, port: u16, found: &mut [SocketAddr]) -> io::Result<usize> {
+        let lasts = [2u8, 3, 1];
+        let count = lasts.len().min(found.len());
+        for (slot, last) in found.iter_mut().zip(&lasts) {
+            *slot = SocketAddr::from((Ipv4Addr::new(127, 0, 0, *last), port));
+        }
+        Ok(count)
+    }
+}
+
+// At the first two addresses of the host nobody listens, and the third one answers.
+#[test]
+fn each_address_of_a_host_is_tried(rt: HostRuntime) -> Result<(), Fail> {
+    let looks = Rc::new(rt.alloc(), Cell::new(0))?;
+    let listener = TcpListener::bind(&rt, "127.0.0.1:0")?;
+    let port = listener.local_addr()?.port();
+    let net = StrangeNet { rt, looks };
+    let mut dial = TcpDial::new(net, rt.alloc(), "log.example", port)?;
+    assert!(rt; dial.dial().is_ok());
+    Ok(())
+}
+
+// A listener that accepts none: 59.9 seconds after the connection was made there are 0.1 left for the reply.
+#[test]
+fn a_log_that_never_answers(rt: HostRuntime) -> Result<(), Fail> {
+    let looks = Rc::new(rt.alloc(), Cell::new(0))?;
+    let listener = TcpListener::bind(&rt, "127.0.0.1:0")?;
+    let port = listener.local_addr()?.port();
+    let net = StrangeNet { rt, looks };
+    let dial = TcpDial::new(net, rt.alloc(), "127.0.0.1", port)?;
+    let site = Site::new(rt.alloc(), "log.example", "")?;
+    let mut source = HttpSource::new(rt.alloc(), site, dial);
+    let answer = source.get(&Path::Checkpoint);
+    assert!(rt; matches!(answer, Err(SourceFault::Failed)));
+    assert!(rt; source.failures() == 1);
+    Ok(())
+}

@@ -1,0 +1,155 @@
+//! A pull over HTTP, from a mirror that answers in memory.
+//!
+//! C(n) is the log of the numbers from 0 on, n of them, each in two bytes, big-endian.
+ghost use Rattle.std.specs.Prelude.{map, IfOk};
+ghost use Rattle.mirror_model.specs.TrueLaws.{AreShort};
+
+use crate::served::answered;
+use log_sources::{ListSource, Source};
+use mirror_http::{Dial, HttpSource, Site};
+use mirror_pull::{PullFault, Pulled, pull};
+use signed_note::{HmacKey, KeyFault, Verifier};
+use std::alloc::{AllocError, Global};
+use std::cell::Cell;
+use std::io;
+use std::io::{ErrorKind, Read, Write};
+use std::process::Abort;
+use std::rc::Rc;
+use std::test::Fail;
+use tlog_hash::{Sha256Tree, TreeHash};
+use tlog_mirror::Mirror;
+
+// A connection to that mirror: it keeps what is written, and has its reply made at the first read.
+#[derive(Drop)]
+struct Conversation<H: TreeHash> {
+    alloc: Global,
+    mirror: Rc<Mirror<H>>,
+    request: Vec<u8>,
+    reply: Option<Vec<u8>>,
+    at: usize,
+}
+
+impl<H: TreeHash> Write for Conversation<H> {
+    fn write(&mut self, buf: &[u8]) -> io::Result<usize> {
+        self.request.extend_from_slice(buf)?;
+        Ok(buf.len())
+    }
+
+    fn flush(&mut self) -> io::Result<()> {
+        Ok(())
+    }
+}
+
+// The mirror's reply to that request.
+fn reply_to<H: TreeHash>(
+    alloc: Global,
+    mirror: &Mirror<H>,
+    mut request: &[u8],
+) -> io::Result<Vec<u8>> {
+    let mut reply = Vec::new(alloc);
+    match answered(alloc, mirror, &mut request, &mut reply) {
+        Ok(()) => Ok(reply),
+        Err(_) => Err(io::Error::from(ErrorKind::Other)),
+    }
+}
+
+impl<H: TreeHash> Read for Conversation<H> {
+    fn read(&mut self, buf: &mut [u8]) -> io::Result<usize> {
+        if self.reply.is_none() {
+            self.reply = Some(reply_to(self.alloc, &self.mirror, &self.request)?);
+        }
+        let Some(reply) = &self.reply else {
+            return Ok(0);
+        };
+        let Some(rest) = reply.get(self.at..) else {
+            return Ok(0);
+        };
+        let count = rest.len().min(buf.len());
+        buf[..count].copy_from_slice(&rest[..count]);
+        self.at += count;
+        Ok(count)
+    }
+}
+
+// Makes connections to that mirror, and counts them.
+#[derive(Drop)]
+struct MirrorDial<H: TreeHash> {
+    alloc: Global,
+    mirror: Rc<Mirror<H>>,
+    dials: Rc<Cell<u64>>,
+}
+
+impl<H: TreeHash> Dial for MirrorDial<H> {
+    type Stream = Conversation<H>;
+
+    fn dial(&mut self) -> io::Result<Conversation<H>> {
+        let dials = self.dials.get();
+        self.dials.set(dials.saturating_add(1));
+        Ok(Conversation {
+            alloc: self.alloc,
+            mirror: self.mirror.clone()?,
+            request: Vec::new(self.alloc),
+            reply: None,
+            at: 0,
+        })
+    }
+}
+
+// The entries of C(n).
+fn numbers(alloc: Global, n: u16) -> Result<Vec<Vec<u8>>, AllocError>
+    ensures { IfOk result (λ entries. AreShort (map (λ e. e.items) entries.items)) }
+{
+    let mut entries = Vec::new(alloc);
+    for i in 0..n {
+        entries.push(Vec::from_slice(alloc, &i.to_be_bytes())?)?;
+    }
+    Ok(entries)
+}
+
+// The key `ex`, id 1, secret 00, of these logs.
+fn key(alloc: Global) -> Result<HmacKey, KeyFault> {
+    HmacKey::new(alloc, "ex", 1, &[0])
+}
+
+// How a pull ends, under the key of these logs. It ensures nothing, so that its callers are cheap to check.
+fn end_of_pull<H: TreeHash, S: Source>(
+    alloc: Global,
+    mirror: &mut Mirror<H>,
+    source: &mut S,
+) -> Result<Result<Pulled, PullFault>, Fail> {
+    let mut keys: Vec<Box<dyn Verifier>> = Vec::new(alloc);
+    keys.push(Box::new(alloc, key(alloc)?)?)?;
+    Ok(pull(alloc, mirror, &keys, source))
+}
+
+// A mirror that is complete at C(n).
+fn mirror_of<H: TreeHash>(alloc: Global, n: u16) -> Result<Mirror<H>, Fail> {
+    let mut mirror = Mirror::<H>::new(alloc, "ex")?;
+    let mut list = ListSource::<H>::new(alloc, "ex", numbers(alloc, n)?, key(alloc)?)?;
+    let _pulled = end_of_pull(alloc, &mut mirror, &mut list)??;
+    Ok(mirror)
+}
+
+// A new mirror pulls over HTTP from that one, as pull-257 does from a list: by five gets, in one round.
+#[test]
+fn pull_over_http(rt: HostRuntime) -> Result<(), Fail> {
+    let mirror = mirror_of::<Sha256Tree>(rt.alloc(), 257)?;
+    pulls_257(&rt, rt.alloc(), mirror)
+}
+
+fn pulls_257<H: TreeHash>(rt: &impl Abort, alloc: Global, mirror: Mirror<H>) -> Result<(), Fail> {
+    let dials = Rc::new(alloc, Cell::new(0))?;
+    let dial = MirrorDial {
+        alloc,
+        mirror: Rc::new(alloc, mirror)?,
+        dials: dials.clone()?,
+    };
+    let site = Site::new(alloc, "log.example", "")?;
+    let mut source = HttpSource::new(alloc, site, dial);
+    let mut puller = Mirror::<H>::new(alloc, "ex")?;
+    let pulled = end_of_pull(alloc, &mut puller, &mut source)??;
+    assert!(rt; pulled.size == 257 && pulled.rounds == 1);
+    assert!(rt; pulled.refused == 0 && pulled.complete);
+    assert!(rt; dials.get() == 5 && source.failures() == 0);
+    Ok(())
+}

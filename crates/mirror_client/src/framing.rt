@@ -1,0 +1,103 @@
+//! What the fields of a reply say of its body (RFC 9112, section 6; RFC 9110, section 8.6).
+ghost use Rattle.std.specs.Prelude.{◌≡◌, ◌↔◌, ◌++◌, ◌∷◌, [], ℕ, List, IsTrue, IfSome, IfNone};
+ghost use Rattle.std.specs.Char.{is_ascii_digit};
+ghost use Rattle.std.specs.List.{list_all};
+ghost use Rattle.mirror_client.specs.Reply.{Field, IsCoding, IsLength};
+ghost use Rattle.mirror_client.specs.Framing.{FramingIs, LengthIs};
+
+/// The length that the fields give the body.
+#[derive(Debug, PartialEq, Eq, Clone, Copy)]
+pub enum Length {
+    /// No field gives one.
+    NotGiven,
+    /// Some do, and all of these give this one.
+    Given(u64),
+    /// Some value is no number of 64 bits, or two are different.
+    Unclear,
+}
+
+/// What the fields say of the body.
+#[derive(Debug, PartialEq, Eq, Clone, Copy)]
+pub struct Framing {
+    /// Whether the body is in a coding.
+    pub coded: bool,
+    pub length: Length,
+}
+
+// Whether the field says that the body is in a coding.
+fn is_coding(name: &[u8], value: &[u8]) -> bool
+    ensures { IsTrue result ↔ IsCoding (name.now, value.now) }
+{
+    (name.eq_ignore_ascii_case(b"transfer-encoding")
+        || name.eq_ignore_ascii_case(b"content-encoding"))
+        && !value.eq_ignore_ascii_case(b"identity")
+}
+
+// Whether the bytes are ASCII digits alone.
+fn are_digits(bytes: &[u8]) -> bool
+    ensures { result ≡ list_all is_ascii_digit bytes.now }
+{
+    bytes.iter().all(|byte| byte.is_ascii_digit())
+}
+
+// The length that the digits are.
+fn length_of(digits: &[u8]) -> Option<u64>
+    ensures found { IfSome result (λ n. IsLength digits.now n) }
+    ensures none { IfNone result ((n : ℕ) → IsLength digits.now n → ⊥) }
+{
+    if !are_digits(digits) {
+        return None;
+    }
+    let Ok(text) = str::from_utf8(digits) else {
+        return None;
+    };
+    match text.parse::<u64>() {
+        Ok(n) => Some(n),
+        Err(_) => None,
+    }
+}
+
+// The length with that field behind those before it.
+fn with_length(so_far: Length, name: &[u8], value: &[u8]) -> Length
+    ensures { (fields : List Field) → LengthIs fields so_far → LengthIs (fields ++ (name.now, value.now) ∷ []) result }
+{
+    if !name.eq_ignore_ascii_case(b"content-length") {
+        return so_far;
+    }
+    let Some(n) = length_of(value) else {
+        return Length::Unclear;
+    };
+    match so_far {
+        Length::NotGiven => Length::Given(n),
+        Length::Given(m) => {
+            if m == n {
+                Length::Given(m)
+            } else {
+                Length::Unclear
+            }
+        }
+        Length::Unclear => Length::Unclear,
+    }
+}
+
+impl Framing {
+    /// What no fields say.
+    pub fn new() -> Framing
+        ensures { FramingIs [] result }
+    {
+        Framing {
+            coded: false,
+            length: Length::NotGiven,
+        }
+    }
+
+    /// With that field behind those before it.
+    pub fn with_field(self, name: &[u8], value: &[u8]) -> Framing
+        ensures { (fields : List Field) → FramingIs fields self → FramingIs (fields ++ (name.now, value.now) ∷ []) result }
+    {
+        Framing {
+            coded: self.coded || is_coding(name, value),
+            length: with_length(self.length, name, value),
+        }
+    }
+}

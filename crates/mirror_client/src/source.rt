@@ -1,0 +1,167 @@
+//! A source that asks for each file over a connection of its own.
+ghost use Rattle.std.specs.Prelude.{◌≡◌, ◌≢◌, Err, IfErr, IfOk, IfSome, Ok, OnErr, OnOk, option_map};
+ghost use Rattle.std.specs.Io.KnownBytes.{Appends, Keeps};
+ghost use Rattle.byte_streams.specs.Streams.{AppendsPrefix, TakesAtMost};
+ghost use Rattle.tlog_text.specs.Answers.{seen};
+ghost use Rattle.mirror_client.specs.Request.{request_text};
+ghost use Rattle.mirror_client.specs.Source.{IsShortAnswer, Receives, source_fault};
+
+use crate::limits::{MAX_REPLY_LEN, MOST_TAKEN};
+use crate::reply::read_reply;
+use crate::request::get_request;
+use crate::site::Site;
+use byte_streams::{StreamFault, read_all, write_whole};
+use log_sources::{Source, SourceFault};
+use std::alloc::Global;
+use std::io;
+use std::io::{Read, Write};
+use std::marker::Model;
+use tlog_tiles::Path;
+
+/// Opens connections to where a log's files stand.
+/// `TcpDial` does by TCP, and tests do in memory.
+pub trait Dial {
+    /// A connection, which is closed when it is dropped.
+    type Stream: Read + Write + Drop;
+
+    /// A fresh connection, for one request.
+    fn dial(&mut self) -> io::Result<Self::Stream>;
+}
+
+// Writes the request for that file of the site, and nothing else. It is `Failed` where a write fails or takes
+// no byte: a prefix of the request was written. Where memory was refused nothing was written.
+#[tactic(auto, using(crate::proofs::Sources::appends_none))]
+fn send_request<W: Write>(
+    alloc: Global,
+    writer: &mut W,
+    site: &Site,
+    path: &Path,
+) -> Result<(), SourceFault>
+    ensures ok { OnOk result (Appends (W.contents writer.old) (W.contents writer.new) (request_text site.now path.now)) }
+    ensures err { OnErr result (AppendsPrefix (W.contents writer.old) (W.contents writer.new) (request_text site.now path.now)) }
+    ensures quiet { IfErr result (λ e. e ≢ SourceFault.Failed → Keeps (W.contents writer.old) (W.contents writer.new)) }
+{
+    let Ok(request) = get_request(alloc, site, path) else {
+        return Err(SourceFault::OutOfMemory);
+    };
+    match write_whole(writer, &request) {
+        Ok(()) => Ok(()),
+        Err(_) => Err(SourceFault::Failed),
+    }
+}
+
+// Reads the reply that the reader gives up to its end, and gives the body, or None where the file is not
+// there (RFC 9112). Of a reply of more than 16,785,664 bytes one byte more is taken, and no others.
+fn receive_reply<R: Read>(alloc: Global, reader: &mut R) -> Result<Option<Vec<u8>>, SourceFault>
+    ensures reply { IfOk result (λ answer. IfSome (R.remaining reader.old) (λ bytes. Receives bytes (Ok (option_map (λ v. v.items) answer)))) }
+    ensures bound { IfOk result (λ answer. IsShortAnswer MAX_REPLY_LEN (option_map (λ v. v.items) answer)) }
+    ensures limit { TakesAtMost MOST_TAKEN (R.remaining reader.old) (R.remaining reader.new) }
+{
+    reply_body(alloc, read_all(alloc, reader, MOST_TAKEN, u64::MAX))
+}
+
+// The body of the reply whose bytes were read, if they were.
+fn reply_body(
+    alloc: Global,
+    bytes: Result<Vec<u8>, StreamFault>,
+) -> Result<Option<Vec<u8>>, SourceFault>
+    ensures reply { IfOk bytes (λ v. Receives v.items (seen (option_map (λ w. w.items)) result)) }
+    ensures fault { IfErr bytes (λ e. result ≡ Err (source_fault e)) }
+{
+    match bytes {
+        Ok(bytes) => body_of(alloc, &bytes),
+        Err(StreamFault::OutOfMemory) => Err(SourceFault::OutOfMemory),
+        Err(_) => Err(SourceFault::Failed),
+    }
+}
+
+// The body of the reply that the bytes are.
+fn body_of(alloc: Global, bytes: &[u8]) -> Result<Option<Vec<u8>>, SourceFault>
+    ensures { Receives bytes.now (seen (option_map (λ v. v.items)) result) }
+{
+    if bytes.len() > MAX_REPLY_LEN {
+        return Err(SourceFault::Failed);
+    }
+    match read_reply(bytes) {
+        Ok(Some(body)) => match Vec::from_slice(alloc, body) {
+            Ok(body) => Ok(Some(body)),
+            Err(_) => Err(SourceFault::OutOfMemory),
+        },
+        Ok(None) => Ok(None),
+        Err(_) => Err(SourceFault::Failed),
+    }
+}
+
+/// A source that asks for each file by one request over a fresh connection.
+/// Under the prefix `/2026` it asks for `tile/0/000` by `GET /2026/tile/0/000 HTTP/1.0`.
+///
+/// It opens a connection only where it is asked for a file, and asks on it for that file alone. What it
+/// answers is what the other end says: of it is known that it has at most 16,785,664 bytes. `Failed` comes
+/// where a connection, a write or a read fails, where the reply has more bytes, and where it is none that
+/// `read_reply` reads; memory that was refused is `OutOfMemory`, and is not counted.
+#[derive(Drop)]
+pub struct HttpSource<D: Dial + Drop> {
+    alloc: Global,
+    site: Site,
+    dial: D,
+    failures: u64,
+}
+
+impl<D: Dial + Drop> Model for HttpSource<D> {
+    ghost use Rattle.std.specs.Prelude.{ℕ};
+
+    ghost Value = { ℕ };
+
+    ghost view = { λ a. a.failures };
+}
+
+impl<D: Dial + Drop> HttpSource<D> {
+    /// A source of the files of that site, over connections that the dial opens. It takes no memory.
+    pub fn new(alloc: Global, site: Site, dial: D) -> HttpSource<D>
+        ensures { result ≡ 0 }
+    {
+        HttpSource {
+            alloc,
+            site,
+            dial,
+            failures: 0,
+        }
+    }
+
+    // The body of the reply to one request.
+    fn fetch(&mut self, path: &Path) -> Result<Option<Vec<u8>>, SourceFault>
+        ensures same { self.new ≡ self.old }
+        ensures bound { IfOk result (λ answer. IsShortAnswer MAX_REPLY_LEN (option_map (λ v. v.items) answer)) }
+    {
+        let Ok(mut stream) = self.dial.dial() else {
+            return Err(SourceFault::Failed);
+        };
+        match send_request(self.alloc, &mut stream, &self.site, path) {
+            Ok(()) => receive_reply(self.alloc, &mut stream),
+            Err(fault) => Err(fault),
+        }
+    }
+}
+
+impl<D: Dial + Drop> Source for HttpSource<D> {
+    ghost use Rattle.mirror_client.specs.declared.limits.TheConstants.{MAX_REPLY_LEN};
+
+    ghost may_answer = { λ _ _ answer. IsShortAnswer MAX_REPLY_LEN answer };
+
+    ghost failed = { λ s. s };
+
+    fn get(&mut self, path: &Path) -> Result<Option<Vec<u8>>, SourceFault> {
+        match self.fetch(path) {
+            Ok(found) => Ok(found),
+            Err(SourceFault::OutOfMemory) => Err(SourceFault::OutOfMemory),
+            Err(SourceFault::Failed) => {
+                self.failures = self.failures.saturating_add(1);
+                Err(SourceFault::Failed)
+            }
+        }
+    }
+
+    fn failures(&self) -> u64 {
+        self.failures
+    }
+}

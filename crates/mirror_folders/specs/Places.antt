@@ -1,0 +1,10 @@
+-- Where a file of a log lies in a folder. It is cited by the contracts of private functions alone.
+use Rattle.std.specs.Prelude.{◌≡◌, ◌≢◌, ℕ, List, [], ◌∷◌, ◌++◌}
+use Rattle.tlog_tiles.specs.declared.paths.Path.{Path}
+use Rattle.tlog_tiles.specs.Path.{path_text}
+
+-- the place of the file at a path of the log: the folder's name, a slash, and the path's text. A
+-- folder whose name is empty has no file: the text would name one of the root folder
+pub record LiesAt (folder : List ℕ) (path : Path) (place : List ℕ) : Type 0 where
+  pub named : folder ≢ []
+  pub place_is : place ≡ folder ++ 47 ∷ path_text path

@@ -1,0 +1,81 @@
+//! Files and folders flushed to the device.
+use crate::place::{file_path, folder_of, is_missing};
+use std::alloc::Global;
+use std::fs::{Files, OpenFile};
+use std::io::ErrorKind;
+use std::{fs, io};
+use tlog_tiles::Path;
+
+// Flushes a folder: what names it has. A system that flushes no folders says that this is no input, which is passed over.
+pub(crate) fn flush_folder<R: Files>(files: &R, folder: &str) -> io::Result<()> {
+    let opened = fs::open(files, folder)?;
+    match opened.sync_all() {
+        Ok(()) => Ok(()),
+        Err(e) => {
+            if e.kind() == ErrorKind::InvalidInput {
+                Ok(())
+            } else {
+                Err(e)
+            }
+        }
+    }
+}
+
+// Flushes a file. One that was taken away since needs it no more.
+fn flush_file<R: Files>(files: &R, place: &str) -> io::Result<()> {
+    match fs::open(files, place) {
+        Ok(opened) => opened.sync_all(),
+        Err(e) => { if is_missing(&e) { Ok(()) } else { Err(e) } }
+    }
+}
+
+// Flushes files of a log that lie in a folder, then the folders that they lie in, each once for files in a row, and that
+// folder itself; last those above it, where the system lets it, since the folder may be new there.
+pub(crate) fn flush_files<R: Files>(
+    files: &R,
+    alloc: Global,
+    folder: &str,
+    paths: &[Path],
+) -> io::Result<()> {
+    for path in paths {
+        let place = file_path(alloc, folder, path)?;
+        flush_file(files, place.as_str())?;
+    }
+    let mut last = String::new(alloc);
+    for path in paths {
+        let place = file_path(alloc, folder, path)?;
+        let inner = folder_of(place.as_str());
+        if inner != last.as_str() {
+            flush_between(files, folder, inner)?;
+            last = String::from_str(alloc, inner)?;
+        }
+    }
+    flush_folder(files, folder)?;
+    flush_above(files, folder_of(folder));
+    Ok(())
+}
+
+// Flushes a folder, and those above it down to the outer one, which is not flushed.
+fn flush_between<R: Files>(files: &R, outer: &str, inner: &str) -> io::Result<()> {
+    let mut folder = inner;
+    for _ in 0..inner.len() {
+        if folder.len() <= outer.len() {
+            break;
+        }
+        flush_folder(files, folder)?;
+        folder = folder_of(folder);
+    }
+    Ok(())
+}
+
+// Flushes a folder and all above it that its name names, where the system lets it.
+fn flush_above<R: Files>(files: &R, folder: &str) {
+    let mut above = folder;
+    for _ in 0..folder.len() {
+        let _flushed = flush_folder(files, above);
+        if above == "/" || above == "." {
+            break;
+        }
+        above = folder_of(above);
+    }
+}

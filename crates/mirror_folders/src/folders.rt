@@ -1,0 +1,28 @@
+//! Folders by their names.
+use crate::shelf::Shelf;
+use std::alloc::AllocError;
+
+/// A shelf that stands for one folder at a time: the one that was opened last.
+///
+/// ```text
+/// let mut shelf = DirShelf::new(&rt, alloc, ".");
+/// shelf.open("log")?;
+/// shelf.put(&Path::Checkpoint, note)?; // log/checkpoint
+/// ```
+pub trait NamedFolders: Shelf {
+    ghost use Rattle.std.specs.Prelude.{◌≡◌, ℕ, List, Option, None, IfErr, IfOk};
+    ghost use Rattle.mirror_folders.specs.Shelf.{Put};
+
+    /// What was put into the folder of a name, the oldest first, where it is told.
+    ghost held: { Self → List ℕ → Option (List Put) } = { λ _ _. None };
+
+    /// Opens the folder of that name: what is put from then on is put there. It need not be there yet.
+    ///
+    /// # Errors
+    ///
+    /// Where memory was refused; the folder that was open still is.
+    fn open(&mut self, name: &str) -> Result<(), AllocError>
+        ensures opened { IfOk result (λ _. Self.puts self.new ≡ held self.old name.now) }
+        ensures same { IfErr result (λ _. Self.puts self.new ≡ Self.puts self.old) }
+        ensures counted { Self.failed self.new ≡ Self.failed self.old };
+}

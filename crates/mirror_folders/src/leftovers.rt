@@ -1,0 +1,133 @@
+//! Temporary files that runs left.
+use crate::place::name_of;
+use std::alloc::{AllocError, Global};
+use std::fs::Files;
+use std::io::Read;
+use std::time::{Duration, SystemTime};
+use std::{fs, io};
+
+// For how many seconds a temporary file is left to the run that may be writing it.
+const DAY: u64 = 86_400;
+
+// How many bytes of names are read at a time.
+const CHUNK: usize = 32_768;
+
+// The temporary files that were found in a folder.
+#[derive(Drop)]
+pub(crate) struct Leftovers {
+    folder: String,
+    names: Vec<String>,
+}
+
+impl Leftovers {
+    // Those of no folder. It takes no memory.
+    pub(crate) fn none(alloc: Global) -> Leftovers {
+        Leftovers {
+            folder: String::new(alloc),
+            names: Vec::new(alloc),
+        }
+    }
+
+    // Those of a folder. One that cannot be read is as one that has none.
+    pub(crate) fn of<R: Files>(
+        files: &R,
+        alloc: Global,
+        folder: &str,
+    ) -> Result<Leftovers, AllocError> {
+        Ok(Leftovers {
+            folder: String::from_str(alloc, folder)?,
+            names: temporary_names(files, alloc, folder)?,
+        })
+    }
+
+    // Whether they are those of that folder.
+    pub(crate) fn are_of(&self, folder: &str) -> bool {
+        self.folder.as_str() == folder
+    }
+
+    // Takes away those of a file that are older than a day, where the system lets it.
+    pub(crate) fn take_away<R: Files>(
+        &self,
+        files: &R,
+        alloc: Global,
+        path: &str,
+        now: SystemTime,
+    ) -> Result<(), AllocError> {
+        let folder = self.folder.as_str();
+        for name in &self.names {
+            if file_of(name) == Some(name_of(path)) {
+                let place = format!(in alloc; "{folder}/{name}")?;
+                if is_old(files, place.as_str(), now) {
+                    let _gone = fs::remove_file(files, place.as_str());
+                }
+            }
+        }
+        Ok(())
+    }
+}
+
+// The name of the file that a temporary file is for, by the name of the temporary one: that with `.tmp` and a number
+// behind it.
+fn file_of(name: &str) -> Option<&str> {
+    match name.rsplit_once(".tmp") {
+        Some((file, number)) if is_number(number) => Some(file),
+        _ => None,
+    }
+}
+
+fn is_number(text: &str) -> bool {
+    for byte in text.as_bytes() {
+        if !byte.is_ascii_digit() {
+            return false;
+        }
+    }
+    !text.is_empty()
+}
+
+// Whether a plain file was written last more than a day before.
+fn is_old<R: Files>(files: &R, place: &str, now: SystemTime) -> bool {
+    let Ok(about) = fs::symlink_metadata(files, place) else {
+        return false;
+    };
+    let Ok(written) = about.modified() else {
+        return false;
+    };
+    match now.duration_since(written) {
+        Ok(age) => about.is_file() && age > Duration::from_secs(DAY),
+        Err(_) => false,
+    }
+}
+
+// The names of the temporary files in a folder, and none where it cannot be read.
+fn temporary_names<R: Files>(
+    files: &R,
+    alloc: Global,
+    folder: &str,
+) -> Result<Vec<String>, AllocError> {
+    let mut names = Vec::new(alloc);
+    // By the slash a link to a folder is followed.
+    let place = format!(in alloc; "{folder}/")?;
+    let Ok(mut listing) = files.open_dir(place.as_str()) else {
+        return Ok(names);
+    };
+    let mut space = vec![in alloc; 0u8; CHUNK]?;
+    for _ in 0..u64::MAX {
+        match listing.read(&mut space) {
+            Ok(0) | Err(_) => break,
+            Ok(count) => push_temporary(alloc, &space[..count], &mut names)?,
+        }
+    }
+    Ok(names)
+}
+
+// Adds the names of temporary files among names that each end by a NUL.
+fn push_temporary(alloc: Global, listed: &[u8], names: &mut Vec<String>) -> Result<(), AllocError> {
+    for bytes in listed.split(|byte| *byte == 0) {
+        if let Ok(name) = std::str::from_utf8(bytes) {
+            if file_of(name).is_some() {
+                names.push(String::from_str(alloc, name)?)?;
+            }
+        }
+    }
+    Ok(())
+}

@@ -1,0 +1,259 @@
+-- What a pull asks its source for, and what it makes of the replies: given these, nothing is left
+-- open (C2SP tlog-tiles, "Merkle Tree", "Log Entries" and "Partial Tiles"). What stands
+-- below "parts of a pull" is cited by the contracts of private functions alone.
+use Rattle.std.specs.Prelude.{◌≡◌, ◌≢◌, ◌⊎◌, ℕ, ◌+◌, ◌-◌, ◌*◌, ◌^◌, ◌≤◌, List, [], ◌∷◌, ◌++◌, length, take, min}
+use Rattle.std.specs.Prelude.{suc, Option, Some, None, Result, Ok, Err, Bool, true, false, Contains}
+use Rattle.signed_note.specs.Keys.{Key}
+use Rattle.tlog_checkpoint.specs.declared.Checkpoint.{Checkpoint as Read}
+use Rattle.tlog_tiles.specs.declared.paths.Path.{Path}
+use Rattle.tlog_tiles.specs.declared.paths.Path.TheVariants.{Checkpoint}
+use Rattle.tlog_tiles.specs.Edge.{edge_of}
+use Rattle.mirror_model.specs.View.{View}
+use Rattle.mirror_model.specs.Heads.{IsOpenHead}
+use Rattle.mirror_model.specs.Item.{IsGood, plus}
+use Rattle.mirror_model.specs.declared.items.Item.TheVariants as item
+use Rattle.mirror_model.specs.Listed.{ListsMissing}
+use Rattle.mirror_model.specs.Refusals.{IsOpenCheckpoint, ReadsHead, JudgesHead}
+use Rattle.mirror_model.specs.declared.fault.TakeFault.{TakeFault}
+use Rattle.log_sources.specs.Files.{full_of, width_named}
+use Rattle.mirror_pull.specs.Replies.{Reply, reply, paths_of, MayReply}
+use Rattle.log_sources.specs.Told.{AddsTold}
+use Rattle.mirror_pull.specs.Taking.{item_at}
+use Rattle.mirror_pull.specs.declared.fault.PullFault.{PullFault}
+use Rattle.mirror_pull.specs.declared.fault.PullFault.TheVariants.{NoCheckpoint, NoEdge, Head}
+use Rattle.mirror_pull.specs.declared.fault.PullFault.TheVariants.{Source, Collision, OutOfMemory}
+use Rattle.mirror_pull.specs.declared.pulling.Pulled.{Pulled}
+
+-- ---- gets
+
+-- one get of a path, but none of a path that was asked for already: it counts as not found
+pub data Asks (asked : List Path) (path : Path) : List Reply → Option (List ℕ) → Type 0 where
+  AsksNew : (found : Option (List ℕ)) → (Contains asked path → ⊥) →
+      Asks asked path (reply path found ∷ []) found
+  AsksAgain : Contains asked path → Asks asked path [] None
+
+-- the paths asked for, with those of some replies
+abbrev pub with_replies : List Path → List Reply → List Path
+with_replies asked replies = asked ++ paths_of replies
+
+-- a path is asked for and, where it is not found and only there, its full path at once
+pub data AsksPath (asked : List Path) (path : Path) : List Reply → Type 0 where
+  PathFound : {replies : List Reply} {bytes : List ℕ} → Asks asked path replies (Some bytes) →
+      AsksPath asked path replies
+  PathNone : {first second : List Reply} {found : Option (List ℕ)} → Asks asked path first None →
+      Asks (with_replies asked first) (full_of path) second found →
+      AsksPath asked path (first ++ second)
+
+-- so are the paths of a list, one after another
+pub data AsksList (asked : List Path) : List Path → List Reply → Type 0 where
+  ListNone : AsksList asked [] []
+  ListNext : {paths : List Path} {first second : List Reply} (path : Path) →
+      AsksList asked paths first → AsksPath (with_replies asked first) path second →
+      AsksList asked (paths ++ path ∷ []) (first ++ second)
+
+-- ---- the edge
+
+-- the row of a path of the edge is what was found there or, where nothing was, the first hashes of
+-- the full tile, which has 8,192 bytes
+pub data GivesRow (asked : List Path) (path : Path) : List Reply → List ℕ → Type 0 where
+  RowFound : {replies : List Reply} {row : List ℕ} → Asks asked path replies (Some row) →
+      GivesRow asked path replies row
+  RowCut : {first second : List Reply} (bytes : List ℕ) → Asks asked path first None →
+      Asks (with_replies asked first) (full_of path) second (Some bytes) → length bytes ≡ 8192 →
+      GivesRow asked path (first ++ second) (take (32 * width_named path) bytes)
+
+-- the rows of these paths, one after another
+pub data GivesRows (asked : List Path) : List Path → List Reply → List (List ℕ) → Type 0 where
+  RowsNone : GivesRows asked [] [] []
+  RowsNext : {paths : List Path} {first second : List Reply} {rows : List (List ℕ)} (path : Path)
+      (row : List ℕ) → GivesRows asked paths first rows →
+      GivesRow (with_replies asked first) path second row →
+      GivesRows asked (paths ++ path ∷ []) (first ++ second) (rows ++ row ∷ [])
+
+-- a path of the edge has no row: nothing was found there, nor a full tile of 8,192 bytes
+pub record GivesNoRow (asked : List Path) (path : Path) (replies : List Reply) : Type 0 where
+  pub first : List Reply
+  pub second : List Reply
+  pub found : Option (List ℕ)
+  pub none : Asks asked path first None
+  pub full : Asks (with_replies asked first) (full_of path) second found
+  pub no_tile : (bytes : List ℕ) → found ≡ Some bytes → length bytes ≢ 8192
+  pub replies_are : replies ≡ first ++ second
+
+-- of these paths some first ones have their rows, and the next has none
+pub record GivesNoRows (asked paths : List Path) (replies : List Reply) : Type 0 where
+  pub before : List Path
+  pub path : Path
+  pub after : List Path
+  pub paths_are : paths ≡ before ++ path ∷ after
+  pub first : List Reply
+  pub second : List Reply
+  pub rows : List (List ℕ)
+  pub given : GivesRows asked before first rows
+  pub not_given : GivesNoRow (with_replies asked first) path second
+  pub replies_are : replies ≡ first ++ second
+
+-- ---- rounds
+
+-- the paths of a list that were not asked for, in order
+pub data Leaves (asked : List Path) : List Path → List Path → Type 0 where
+  LeavesNone : Leaves asked [] []
+  LeavesOut : (path : Path) {paths left : List Path} → Contains asked path →
+      Leaves asked paths left → Leaves asked (path ∷ paths) left
+  LeavesIn : (path : Path) {paths left : List Path} → (Contains asked path → ⊥) →
+      Leaves asked paths left → Leaves asked (path ∷ paths) (path ∷ left)
+
+-- of replies to gets of tiles and bundles, those that are good are taken, and the others counted; a
+-- path that was not found counts for nothing
+pub data TakesReplies (digest : List ℕ → List ℕ) : View → List Reply → ℕ → View → Type 0 where
+  TakesEnd : (v : View) → TakesReplies digest v [] 0 v
+  TakesNone : {v w : View} {replies : List Reply} {refused : ℕ} (path : Path) →
+      TakesReplies digest v replies refused w →
+      TakesReplies digest v (reply path None ∷ replies) refused w
+  TakesGood : {v w : View} {replies : List Reply} {refused : ℕ} (path : Path) (bytes : List ℕ) →
+      IsGood digest v.origin [] (item_at path bytes) →
+      TakesReplies digest (plus digest v (item_at path bytes)) replies refused w →
+      TakesReplies digest v (reply path (Some bytes) ∷ replies) refused w
+  TakesBad : {v w : View} {replies : List Reply} {refused : ℕ} (path : Path) (bytes : List ℕ) →
+      (IsGood digest v.origin [] (item_at path bytes) → ⊥) →
+      TakesReplies digest v replies refused w →
+      TakesReplies digest v (reply path (Some bytes) ∷ replies) (suc refused) w
+
+-- what is missing of the head and was not asked for
+pub record IsLeft (digest : List ℕ → List ℕ) (size : ℕ) (root : List ℕ) (asked : List Path)
+    (v : View) (left : List Path) : Type 0 where
+  pub missing : List Path
+  pub lists : ListsMissing digest v size root missing
+  pub leaves : Leaves asked missing left
+
+-- one round: what is left of the head at its start, which is not empty, is asked for, and what
+-- comes is taken
+pub record IsPullRound (digest : List ℕ → List ℕ) (size : ℕ) (root : List ℕ) (asked : List Path)
+    (v : View) (replies : List Reply) (refused : ℕ) (w : View) : Type 0 where
+  pub list : List Path
+  pub left : IsLeft digest size root asked v list
+  pub some : 1 ≤ length list
+  pub asks : AsksList asked list replies
+  pub takes : TakesReplies digest v replies refused w
+
+-- so many rounds, one after another, and how many replies were refused in all of them
+pub data ArePullRounds (digest : List ℕ → List ℕ) (size : ℕ) (root : List ℕ) (asked : List Path)
+    (v : View) : List Reply → ℕ → ℕ → View → Type 0 where
+  RoundsNone : ArePullRounds digest size root asked v [] 0 0 v
+  RoundsNext : {first second : List Reply} {rounds refused more : ℕ} {x w : View} →
+      ArePullRounds digest size root asked v first rounds refused x →
+      IsPullRound digest size root (with_replies asked first) x second more w →
+      ArePullRounds digest size root asked v (first ++ second) (suc rounds) (refused + more) w
+
+-- ---- a pull
+
+module _ (digest : List ℕ → List ℕ) (keys : List Key) (v w : View)
+    (may : Path → Option (List ℕ) → Type 0) (old new : Option (List Path)) where
+  -- the source was asked for these paths and no others, and may have replied so
+  pub record Replied (replies : List Reply) : Type 0 where
+    pub may_reply : MayReply may replies
+    pub told : AddsTold old new (paths_of replies)
+
+  -- a pull that went well: the checkpoint and the rows of its edge were found and taken, then came
+  -- so many rounds, after which nothing was left, or which were eight; the replies of all of them
+  -- that were refused are counted, up to the last value of a u64
+  pub record IsPulledBy (p : Pulled) : Type 0 where
+    pub note : List ℕ
+    pub edge : List Reply
+    pub rows : List (List ℕ)
+    pub replies : List Reply
+    pub many : ℕ
+    pub is_head : IsOpenHead note v.origin keys p.size p.root
+    pub given : GivesRows (Checkpoint ∷ []) (edge_of p.size) edge rows
+    pub rounds : ArePullRounds digest p.size p.root (with_replies (Checkpoint ∷ []) edge)
+        (plus digest v (item.Head note rows)) replies p.rounds many w
+    pub ended : (p.rounds ≡ 8) ⊎
+        IsLeft digest p.size p.root
+        (with_replies (with_replies (Checkpoint ∷ []) edge) replies) w []
+    pub refused : p.refused ≡ min many (2 ^ 64 - 1)
+    pub replied : Replied (reply Checkpoint (Some note) ∷ edge ++ replies)
+
+  -- why no edge was found: the checkpoint was found and is good, and some row of its edge was not
+  pub record HasNoEdge : Type 0 where
+    pub note : List ℕ
+    pub checkpoint : Read
+    pub is_open : IsOpenCheckpoint note v.origin keys checkpoint
+    pub edge : List Reply
+    pub not_given : GivesNoRows (Checkpoint ∷ []) (edge_of checkpoint.size) edge
+    pub replied : Replied (reply Checkpoint (Some note) ∷ edge)
+
+  -- the head's note was refused, and nothing was asked for behind it
+  pub record HasBadNote (f : TakeFault) : Type 0 where
+    pub note : List ℕ
+    pub refused : ReadsHead note v.origin keys (Err f)
+    pub replied : Replied (reply Checkpoint (Some note) ∷ [])
+
+  -- the head was refused with the rows of its edge
+  pub record HasBadRows (f : TakeFault) : Type 0 where
+    pub note : List ℕ
+    pub checkpoint : Read
+    pub is_open : IsOpenCheckpoint note v.origin keys checkpoint
+    pub edge : List Reply
+    pub rows : List (List ℕ)
+    pub given : GivesRows (Checkpoint ∷ []) (edge_of checkpoint.size) edge rows
+    pub refused : JudgesHead digest v.origin keys note rows (Err f)
+    pub replied : Replied (reply Checkpoint (Some note) ∷ edge)
+
+  -- what each answer of a pull says of the replies
+  abbrev pub FollowsReplies : Result Pulled PullFault → Type 0
+  FollowsReplies (Ok p) = IsPulledBy p
+  FollowsReplies (Err NoCheckpoint) = Replied (reply Checkpoint None ∷ [])
+  FollowsReplies (Err NoEdge) = HasNoEdge
+  FollowsReplies (Err (Head f)) = HasBadNote f ⊎ HasBadRows f
+  FollowsReplies (Err Source) = Unit {0}
+  FollowsReplies (Err Collision) = Unit {0}
+  FollowsReplies (Err OutOfMemory) = Unit {0}
+
+-- ---- parts of a pull
+
+-- a part of a pull asked for some paths, by which its list grew, and the replies are such
+pub record Gathers (may : Path → Option (List ℕ) → Type 0) (old new : Option (List Path))
+    (before after : List Path) (Are : List Reply → Type 0) : Type 0 where
+  pub replies : List Reply
+  pub are : Are replies
+  pub may_reply : MayReply may replies
+  pub list : after ≡ with_replies before replies
+  pub told : AddsTold old new (paths_of replies)
+
+-- a fault of a head says why it was refused
+abbrev pub RefusesHead : (List ℕ → List ℕ) → List ℕ → List Key → List ℕ → List (List ℕ) →
+    PullFault → Type 0
+RefusesHead digest origin keys note rows NoCheckpoint = ⊥
+RefusesHead digest origin keys note rows NoEdge = ⊥
+RefusesHead digest origin keys note rows (Head f) = JudgesHead digest origin keys note rows (Err f)
+RefusesHead digest origin keys note rows Source = ⊥
+RefusesHead digest origin keys note rows Collision = Unit {0}
+RefusesHead digest origin keys note rows OutOfMemory = Unit {0}
+
+-- how many replies were refused, of one
+abbrev pub one_if : Bool → ℕ
+one_if false = 0
+one_if true = 1
+
+-- a path was asked for, and what was found was taken or refused
+pub record IsWorkedPath (digest : List ℕ → List ℕ) (asked : List Path) (v : View) (path : Path)
+    (refused : Bool) (w : View) (replies : List Reply) : Type 0 where
+  pub asks : AsksPath asked path replies
+  pub takes : TakesReplies digest v replies (one_if refused) w
+
+-- so were the paths of a list; the count of what was refused goes up to the last value of a u64
+pub record IsWorkedList (digest : List ℕ → List ℕ) (asked : List Path) (v : View)
+    (paths : List Path) (refused : ℕ) (w : View) (replies : List Reply) : Type 0 where
+  pub many : ℕ
+  pub refused_is : refused ≡ min many (2 ^ 64 - 1)
+  pub asks : AsksList asked paths replies
+  pub takes : TakesReplies digest v replies many w
+
+-- rounds were worked until nothing was left, or eight of them
+pub record AreWorkedRounds (digest : List ℕ → List ℕ) (size : ℕ) (root : List ℕ)
+    (asked : List Path) (v : View) (rounds refused : ℕ) (w : View) (replies : List Reply)
+    : Type 0 where
+  pub many : ℕ
+  pub refused_is : refused ≡ min many (2 ^ 64 - 1)
+  pub rounds_are : ArePullRounds digest size root asked v replies rounds many w
+  pub ended : (rounds ≡ 8) ⊎ IsLeft digest size root (with_replies asked replies) w []

@@ -1,0 +1,248 @@
+-- The strings of a store that have one tag, gathered and put in order.
+use Rattle.std.proofs.Common.{◌≡◌, ◌⊎◌, inl, inr, ℕ, zero, suc, ◌+◌, ◌≤◌, take, get_or, Some, None, List}
+use Rattle.std.proofs.Common.{[], ◌∷◌, ◌++◌, length, map, All, Bool, true, refl, sym, ap, subst, ◌∙◌, arith, nat_eq}
+use Rattle.std.specs.Prelude.{◌↔◌, ◌&&◌}
+use Rattle.std.specs.Borrow.{Bor}
+use Rattle.std.specs.Prelude.{slice_get}
+use Rattle.std.proofs.lemmas.List.{take_more}
+use Rattle.std.proofs.lemmas.Option.{slice_get_cases, slice_get_within, get_or_from_slice_get}
+use Rattle.mirror_model.proofs.Listing.{notes_are_listed_once, head_or, later as cons_later}
+use Rattle.mirror_model.specs.Listed.{ListsNotes}
+use Rattle.mirror_model.specs.View.{View}
+use Rattle.tlog_mirror.specs.NoteLists.{IsNoteAt}
+use Rattle.std.specs.FinSet.{from_list}
+use Rattle.std.specs.List.{Contains, AllByRecursion, dedup}
+use Rattle.std.specs.List.Sorted.{IsPermutation, IsStrictlySortedBy}
+use Rattle.std.specs.Ordering.{nat_cmp, ordering_then, eq_by_cmp}
+use Rattle.std.specs.declared.cmp.Ordering.{Ordering}
+use Rattle.std.specs.declared.cmp.Ordering.TheVariants.{Less, Equal, Greater}
+use Rattle.std.specs.Cmp.{IsTotalOrder, IsEquivalence, eq_by_cmp_equiv, unsigned_ties, both_tied, first_so, second_so}
+use Rattle.std.specs.Cmp.{then_total}
+use Rattle.std.specs.Cmp.Lexicographic.{slice_cmp, pointwise, lists_ties, on_texts}
+use Rattle.std.proofs.lemmas.List.Elements.{Contains-append_left, Contains-append_right, Contains-append_cases}
+use Rattle.std.proofs.lemmas.List.Elements.{recursion_from_All}
+use Rattle.std.proofs.lemmas.List.Kept.{Any-dedup, Contains-from_dedup}
+use Rattle.std.proofs.lemmas.List.Sorted.{Contains-permutation, IsPermutation-sym}
+use Rattle.node_store.specs.Strings.{Strings, Has}
+use Rattle.mirror_model.proofs.StringSets.{listed_from_has, has_from_listed}
+use Rattle.mirror_state.specs.Listing.{HoldsEach}
+use Rattle.mirror_state.specs.Loading.{Rises}
+use Rattle.mirror_state.specs.Putting.{pair_bytes, IsSizedPair}
+use Rattle.mirror_state.proofs.Listed.{nothing_in, mapped, from_mapped}
+use Rattle.node_store.proofs.Pools.{exact as exact_bytes}
+
+-- ---- what is gathered, string after string
+
+cons_here : {X : Type 0} (x y : X) (xs : List X) → x ≡ y → Contains (x ∷ xs) y
+cons_here x y xs is = (zero, omega arith, is)
+
+tail_of : List ℕ → List ℕ
+tail_of [] = []
+tail_of (x ∷ xs) = xs
+
+module _ (tag : ℕ) (strings : Strings) where
+  -- these items were gathered, and those strings are left
+  abbrev pub HoldsPart : List (List ℕ) → List (List ℕ) → Type 0
+  HoldsPart items left = (e : List ℕ) → Has strings (tag ∷ e) ↔ (Contains items e ⊎ Contains left (tag ∷ e))
+
+  pub part_start : (items all : List (List ℕ)) → items ≡ [] → from_list all ≡ strings → HoldsPart items all
+  part_start items all none is = subst (λ (i : List (List ℕ)). HoldsPart i all) (sym none) (λ e. (
+    λ h. inr (listed_from_has all (tag ∷ e) (subst (λ (s : Strings). Has s (tag ∷ e)) (sym is) h)),
+    λ h. elim h [
+      | inl c ↦ absurd (nothing_in e c)
+      | inr c ↦ subst (λ (s : Strings). Has s (tag ∷ e)) is (has_from_listed all (tag ∷ e) c)
+    ],
+  ))
+
+  pub part_end : (items left : List (List ℕ)) → left ≡ [] → HoldsPart items left → HoldsEach tag strings items
+  part_end items left none p = λ e. (
+    λ c. (p e).1 (inl c),
+    λ h. elim ((p e).0 h) [
+      | inl c ↦ c
+      | inr c ↦ absurd (nothing_in (tag ∷ e) (subst (λ (l : List (List ℕ)). Contains l (tag ∷ e)) none c))
+    ],
+  )
+
+  module _ (items left after : List (List ℕ)) (p : HoldsPart items left) where
+    -- a string with the tag
+    pub part_more : (item : List ℕ) → left ≡ (tag ∷ item) ∷ after → HoldsPart (items ++ item ∷ []) after
+    unfolding tail_of
+    part_more item is = λ e. (
+      λ h. elim ((p e).0 h) [
+        | inl c ↦ inl (Contains-append_left items (item ∷ []) e c)
+        | inr c ↦
+            elim (head_or (tag ∷ item) after (tag ∷ e) (subst (λ (l : List (List ℕ)). Contains l (tag ∷ e)) is c)) [
+              | inl same ↦ inl (Contains-append_right items (item ∷ []) e (cons_here item e [] (ap tail_of same)))
+              | inr later ↦ inr later
+            ]
+      ],
+      λ h. elim h [
+        | inl c ↦ elim (Contains-append_cases items (item ∷ []) e c) [
+          | inl before ↦ (p e).1 (inl before)
+          | inr one ↦ elim (head_or item [] e one) [
+            | inl same ↦ (p e).1 (inr (subst (λ (l : List (List ℕ)). Contains l (tag ∷ e)) (sym is)
+                (cons_here (tag ∷ item) (tag ∷ e) after (ap (λ (x : List ℕ). tag ∷ x) same))))
+            | inr none ↦ absurd (nothing_in e none)
+          ]
+        ]
+        | inr later ↦ (p e).1 (inr (subst (λ (l : List (List ℕ)). Contains l (tag ∷ e)) (sym is)
+            (cons_later (tag ∷ item) after (tag ∷ e) later)))
+      ],
+    )
+
+    -- a string with another tag
+    pub part_pass : (other : List ℕ) → ((e : List ℕ) → other ≡ tag ∷ e → ⊥) → left ≡ other ∷ after →
+        HoldsPart items after
+    part_pass other differs is = λ e. (
+      λ h. elim ((p e).0 h) [
+        | inl c ↦ inl c
+        | inr c ↦ elim (head_or other after (tag ∷ e) (subst (λ (l : List (List ℕ)). Contains l (tag ∷ e)) is c)) [
+          | inl same ↦ absurd (differs e same)
+          | inr later ↦ inr later
+        ]
+      ],
+      λ h. elim h [
+        | inl c ↦ (p e).1 (inl c)
+        | inr later ↦ (p e).1 (inr
+            (subst (λ (l : List (List ℕ)). Contains l (tag ∷ e)) (sym is) (cons_later other after (tag ∷ e) later)))
+      ],
+    )
+
+-- ---- items in order, each once
+
+module _ {X : Type 0} (bytes : X → List ℕ) {cmp : X → X → Ordering} (total : IsTotalOrder cmp) {same : X → X → Bool}
+    (ties : (x y : X) → same x y ≡ eq_by_cmp cmp x y) (exact : (x y : X) → same x y ≡ true → bytes x ≡ bytes y) where
+  equivalence : IsEquivalence same
+  equivalence = subst IsEquivalence (λ i a b. sym (ties a b) i) (eq_by_cmp_equiv total)
+
+  pub same_items : (old sorted new : List X) → IsPermutation old sorted → new ≡ dedup same sorted → (e : List ℕ) →
+      Contains (map bytes new) e ↔ Contains (map bytes old) e
+  same_items old sorted new moved is e = (
+    λ c.
+        let m = from_mapped bytes (dedup same sorted) e (subst (λ (xs : List X). Contains (map bytes xs) e) is c) in
+        let there = Contains-permutation sorted old m.from (IsPermutation-sym old sorted moved)
+        (Contains-from_dedup same sorted m.from m.is_in) in
+        subst (Contains (map bytes old)) m.is (mapped bytes old m.from there),
+    λ c.
+        let m = from_mapped bytes old e c in
+        let a = Any-dedup equivalence sorted m.from (Contains-permutation old sorted m.from moved m.is_in) in
+        let there = mapped bytes (dedup same sorted) a.1 (a.0, a.2, a.3) in
+        subst (λ (xs : List X). Contains (map bytes xs) e) (sym is)
+        (subst (Contains (map bytes (dedup same sorted))) (sym (exact m.from a.1 a.4) ∙ m.is) there),
+  )
+
+-- what rises by an order rises by its bytes, where the order is theirs
+module _ {X : Type 0} (bytes : X → List ℕ) (cmp : X → X → Ordering) (Fits : X → Type 0)
+    (agrees : (x y : X) → Fits x → Fits y → cmp x y ≡ Less → slice_cmp nat_cmp (bytes x) (bytes y) ≡ Less) where
+  all_above : (x : X) (xs : List X) → Fits x → AllByRecursion Fits xs → AllByRecursion (λ y. cmp x y ≡ Less) xs →
+      AllByRecursion (λ y. slice_cmp nat_cmp (bytes x) y ≡ Less) (map bytes xs)
+  all_above x [] fit fits h = tt
+  all_above x (y ∷ ys) fit fits h = (agrees x y fit fits.0 h.0, all_above x ys fit fits.1 h.1)
+
+  pub rises_by_bytes : (xs : List X) → AllByRecursion Fits xs → IsStrictlySortedBy cmp xs → Rises (map bytes xs)
+  unfolding IsStrictlySortedBy
+  rises_by_bytes [] fits s = tt
+  rises_by_bytes (x ∷ xs) fits s = (all_above x xs fits.0 fits.1 s.0, rises_by_bytes xs fits.1 s.1)
+
+-- ---- entries
+
+abbrev pub lent_bytes : Bor (List ℕ) → List ℕ
+lent_bytes lent = lent.now
+
+abbrev pub lent_cmp : Bor (List ℕ) → Bor (List ℕ) → Ordering
+lent_cmp a b = slice_cmp nat_cmp a.now b.now
+
+abbrev pub lent_same : Bor (List ℕ) → Bor (List ℕ) → Bool
+lent_same a b = pointwise nat_eq a.now b.now
+
+pub lent_total : IsTotalOrder lent_cmp
+lent_total = on_texts lent_bytes
+
+pub lent_ties : (a b : Bor (List ℕ)) → lent_same a b ≡ eq_by_cmp lent_cmp a b
+lent_ties a b = lists_ties nat_cmp unsigned_ties a.now b.now
+
+pub lent_exact : (a b : Bor (List ℕ)) → lent_same a b ≡ true → lent_bytes a ≡ lent_bytes b
+lent_exact a b h = exact_bytes a.now b.now h
+
+all_units : {X : Type 0} (xs : List X) → AllByRecursion (λ (x : X). Unit {0}) xs
+all_units [] = tt
+all_units (x ∷ xs) = (tt, all_units xs)
+
+pub entries_rise : (xs : List (Bor (List ℕ))) → IsStrictlySortedBy lent_cmp xs → Rises (map lent_bytes xs)
+entries_rise xs s = rises_by_bytes lent_bytes lent_cmp (λ x. Unit {0}) (λ x y a b h. h) xs (all_units xs) s
+
+-- ---- pairs
+
+abbrev pub Pair : Type 0
+Pair = Bor (List ℕ) × Bor (List ℕ)
+
+abbrev pub pair_cmp : Pair → Pair → Ordering
+pair_cmp a b = ordering_then (slice_cmp nat_cmp a.0.now b.0.now) (slice_cmp nat_cmp a.1.now b.1.now)
+
+abbrev pub pair_same : Pair → Pair → Bool
+pair_same a b = pointwise nat_eq a.0.now b.0.now && pointwise nat_eq a.1.now b.1.now
+
+pub pair_total : IsTotalOrder pair_cmp
+pair_total = then_total (on_texts (λ (p : Pair). p.0.now)) (on_texts (λ (p : Pair). p.1.now))
+
+pub pair_ties : (a b : Pair) → pair_same a b ≡ eq_by_cmp pair_cmp a b
+pair_ties a b = both_tied (pointwise nat_eq a.0.now b.0.now)
+    (pointwise nat_eq a.1.now b.1.now) (slice_cmp nat_cmp a.0.now b.0.now) (slice_cmp nat_cmp a.1.now b.1.now)
+    (lists_ties nat_cmp unsigned_ties a.0.now b.0.now) (lists_ties nat_cmp unsigned_ties a.1.now b.1.now)
+
+pub pair_exact : (a b : Pair) → pair_same a b ≡ true → pair_bytes a ≡ pair_bytes b
+pair_exact a b h =
+    let left = exact_bytes a.0.now b.0.now
+    (first_so (pointwise nat_eq a.0.now b.0.now) (pointwise nat_eq a.1.now b.1.now) h) in
+    let right = exact_bytes a.1.now b.1.now
+    (second_so (pointwise nat_eq a.0.now b.0.now) (pointwise nat_eq a.1.now b.1.now) h) in
+    λ i. left i ++ right i
+
+then_assoc : (o a b : Ordering) → ordering_then (ordering_then o a) b ≡ ordering_then o (ordering_then a b)
+then_assoc Less a b = refl
+then_assoc Equal a b = refl
+then_assoc Greater a b = refl
+
+-- of lists whose prefixes are as long, the prefixes decide first
+cat_cmp : (l m r s : List ℕ) → length l ≡ length m →
+    slice_cmp nat_cmp (l ++ r) (m ++ s) ≡ ordering_then (slice_cmp nat_cmp l m) (slice_cmp nat_cmp r s)
+cat_cmp [] [] r s len = refl
+cat_cmp [] (y ∷ ys) r s len = absurd cc
+cat_cmp (x ∷ xs) [] r s len = absurd cc
+cat_cmp (x ∷ xs) (y ∷ ys) r s len =
+    let both : suc (length xs) ≡ suc (length ys) = len in
+    ap (λ (o : Ordering). ordering_then (nat_cmp x y) o) (cat_cmp xs ys r s (omega (arith, both)))
+    ∙ sym (then_assoc (nat_cmp x y) (slice_cmp nat_cmp xs ys) (slice_cmp nat_cmp r s))
+
+pub pairs_rise : (xs : List Pair) → All IsSizedPair xs → IsStrictlySortedBy pair_cmp xs → Rises (map pair_bytes xs)
+pairs_rise xs sized s = rises_by_bytes pair_bytes pair_cmp IsSizedPair
+    (λ x y a b h. cat_cmp x.0.now y.0.now x.1.now y.1.now (a ∙ sym b) ∙ h) xs
+    (recursion_from_All IsSizedPair xs sized) s
+
+-- ---- notes, one after another
+
+take_past : (i : ℕ) (xs : List (List ℕ)) → length xs ≤ i → take i xs ≡ xs
+take_past zero [] past = refl
+take_past zero (x ∷ xs) past = absurd (omega (arith, past))
+take_past (suc i) [] past = refl
+take_past (suc i) (x ∷ xs) past = ap (λ (rest : List (List ℕ)). x ∷ rest) (take_past i xs (omega (arith, past)))
+
+past_none : (xs : List (List ℕ)) (i : ℕ) → slice_get xs i ≡ None → length xs ≤ i
+past_none xs i none = elim (slice_get_cases xs i).1 [
+  | inl found ↦ absurd (let e = sym none ∙ found.2 in cc e)
+  | inr past ↦ past.0
+]
+
+pub note_more : (v : View) (i : ℕ) (all items : List (List ℕ)) (note : List ℕ) → IsNoteAt v i (Some note) →
+    ListsNotes v all → items ≡ take i all → items ++ note ∷ [] ≡ take (i + 1) all
+note_more v i all items note found h e =
+    let same : found.0 ≡ all = notes_are_listed_once v found.0 all found.1 h in
+    let is : slice_get all i ≡ Some note = subst (λ (xs : List (List ℕ)). slice_get xs i ≡ Some note) same found.2 in
+    let x : note ≡ get_or all i note = sym (get_or_from_slice_get all i note note is) in
+    ap (λ (xs : List (List ℕ)). xs ++ note ∷ []) e
+    ∙ (ap (λ (y : List ℕ). take i all ++ y ∷ []) x ∙ sym (take_more all i note (slice_get_within all i note is)))
+
+pub note_end : (v : View) (i : ℕ) (items : List (List ℕ)) → IsNoteAt v i None →
+    ((all : List (List ℕ)) → ListsNotes v all → items ≡ take i all) → ListsNotes v items
+note_end v i items found h =
+    subst (ListsNotes v) (sym (h found.0 found.1 ∙ take_past i found.0 (past_none found.0 i found.2))) found.1

@@ -1,0 +1,8 @@
+use Rattle.mirror_state.proofs.ListedItems.{all_given}
+use Rattle.mirror_state.proofs.loading.load.Goals as goal
+
+pub returns-clause-loads : goal.returns-clause-loads
+returns-clause-loads g c =
+    all_given _ _ c.in-Ok.bytes.items c.as_slice-input.result.now 18446744073709551615 c.is_below.result
+    c.as_slice-input.ensures.value c.is_below.ensures c.if-not-is_below.false
+    c.in-Ok.ensures.bytes c.load_bytes.ensures.loads

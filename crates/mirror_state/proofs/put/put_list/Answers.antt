@@ -1,0 +1,14 @@
+use Rattle.std.proofs.Common.{ℕ, List, map}
+use Rattle.std.proofs.lemmas.List.{length-map}
+use Rattle.std.specs.Borrow.{Bor}
+use Rattle.mirror_state.specs.Items.{items_text}
+use Rattle.mirror_state.proofs.Putting.{puts_short, puts_then}
+use Rattle.mirror_state.proofs.put.put_list.Goals as goal
+
+pub returns-in-Err : goal.returns-in-Err
+returns-in-Err g c =
+    rw length-map
+    (puts_short (items_text c.args.form (map (λ (i : Bor (List ℕ)). i.now) c.args.items.now)) c.in-Err.ensures)
+
+pub returns : goal.returns
+returns g c = rw length-map (puts_then c.in-Ok.ensures c.put_items.ensures)

@@ -1,0 +1,14 @@
+use Rattle.std.proofs.Common.{map}
+use Rattle.std.proofs.lemmas.List.{length-map}
+use Rattle.mirror_state.specs.declared.items.Form.TheVariants.{Hashes}
+use Rattle.mirror_state.specs.Putting.{pair_bytes}
+use Rattle.mirror_state.specs.Items.{items_text}
+use Rattle.mirror_state.proofs.Putting.{puts_short, puts_then}
+use Rattle.mirror_state.proofs.put.put_pairs.Goals as goal
+
+pub returns-in-Err : goal.returns-in-Err
+returns-in-Err g c =
+    rw length-map (puts_short (items_text Hashes (map pair_bytes c.args.pairs.now)) c.in-Err.ensures)
+
+pub returns : goal.returns
+returns g c = rw length-map (puts_then c.in-Ok.ensures c.put_each_pair.ensures)

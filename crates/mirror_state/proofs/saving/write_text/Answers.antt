@@ -1,0 +1,21 @@
+use Rattle.std.proofs.Common.{ℕ, List, map}
+use Rattle.std.specs.Borrow.{Bor}
+use Rattle.mirror_state.specs.StateText.{Parted, body_text}
+use Rattle.mirror_state.specs.Putting.{pair_bytes}
+use Rattle.mirror_state.proofs.Saved.{body_fails, body_ends}
+use Rattle.mirror_state.proofs.saving.write_text.Goals as goal
+
+pub returns-in-Err : goal.returns-in-Err
+returns-in-Err g c =
+    body_fails (g.W.Write.contents c.args.writer.now) (g.W.Write.contents c.put_body.new.writer) c.new-page.result
+    c.put_body.new.page (body_text (Parted c.args.origin.now (map (λ (n : Bor (List ℕ)). n.now) c.args.notes.now)
+    (map pair_bytes c.args.pairs.now) (map (λ (e : Bor (List ℕ)). e.now) c.args.entries.now)))
+    c.in-Err.fault c.new-page.ensures.held c.in-Err.ensures
+
+pub returns : goal.returns
+returns g c =
+    body_ends (g.W.Write.contents c.args.writer.now) (g.W.Write.contents c.put_body.new.writer)
+    (g.W.Write.contents c.finish.new.writer) c.new-page.result c.put_body.new.page
+    (body_text (Parted c.args.origin.now (map (λ (n : Bor (List ℕ)). n.now) c.args.notes.now)
+    (map pair_bytes c.args.pairs.now) (map (λ (e : Bor (List ℕ)). e.now) c.args.entries.now)))
+    c.finish.result c.new-page.ensures.held c.new-page.ensures.hashed c.in-Ok.ensures c.finish.ensures

@@ -1,0 +1,158 @@
+-- What the steps of a loader answer. The contracts of private functions cite these words; what a
+-- loader answers needs none of them.
+use Rattle.std.specs.Prelude.{◌≡◌, ℕ, ◌≤◌, List, ◌∷◌, length, All, Result, Ok, Err}
+use Rattle.std.specs.FinSet as set
+use Rattle.signed_note.specs.Keys.{Key}
+use Rattle.node_store.specs.Strings.{Strings, NoClash}
+use Rattle.mirror_model.specs.Complete.{HasEdge}
+use Rattle.mirror_model.specs.Strings.{HasClash}
+use Rattle.mirror_model.specs.View.{View}
+use Rattle.mirror_model.specs.declared.fault.TakeFault.{TakeFault}
+use Rattle.mirror_model.specs.declared.fault.TakeFault.TheVariants as taking
+use Rattle.byte_streams.specs.declared.fault.StreamFault.{StreamFault}
+use Rattle.byte_streams.specs.declared.fault.StreamFault.TheVariants as streams
+use Rattle.node_store.specs.declared.store.AddFault.{AddFault}
+use Rattle.node_store.specs.declared.store.AddFault.TheVariants as adding
+use Rattle.tlog_mirror.specs.Adding.{with_notes}
+use Rattle.tlog_mirror.specs.Restored.{IsOpenNote}
+use Rattle.mirror_state.specs.StateText.{Parts, Parted, Tagged}
+use Rattle.mirror_state.specs.Reading.{ReadsParts}
+use Rattle.mirror_state.specs.declared.parts.PartsFault.{PartsFault}
+use Rattle.mirror_state.specs.declared.parts.PartsFault.TheVariants as reading
+use Rattle.mirror_state.specs.declared.loading.Kind.{Kind}
+use Rattle.mirror_state.specs.declared.loading.Kind.TheVariants.{Entries, Pairs, Strings as Tags}
+use Rattle.mirror_state.specs.Loading.{IsStateString, HasStrings, IsOfOtherOrigin, IsDisordered}
+use Rattle.mirror_state.specs.Loading.{HasBadString, HasClosed, HasUnheld}
+use Rattle.mirror_state.specs.declared.fault.LoadFault.{LoadFault}
+use Rattle.mirror_state.specs.declared.fault.LoadFault.TheVariants.{StateMagic, StateShort}
+use Rattle.mirror_state.specs.declared.fault.LoadFault.TheVariants.{StateLong, StateDigest}
+use Rattle.mirror_state.specs.declared.fault.LoadFault.TheVariants.{OtherOrigin, StateOrder}
+use Rattle.mirror_state.specs.declared.fault.LoadFault.TheVariants.{StateString, StateHead}
+use Rattle.mirror_state.specs.declared.fault.LoadFault.TheVariants.{Collision, StateEdge, ReadFault}
+use Rattle.mirror_state.specs.declared.fault.LoadFault.TheVariants.{OutOfMemory}
+
+-- the fault of a loader at a reader whose bytes are not had
+abbrev pub stream_fault_of : StreamFault → LoadFault
+stream_fault_of streams.ReadFault = ReadFault
+stream_fault_of streams.WriteFault = ReadFault
+stream_fault_of streams.OutOfMemory = OutOfMemory
+
+-- the fault of a loader at lists that cannot be read
+abbrev pub load_fault_of : PartsFault → LoadFault
+load_fault_of reading.StateMagic = StateMagic
+load_fault_of reading.StateShort = StateShort
+load_fault_of reading.StateLong = StateLong
+load_fault_of reading.StateDigest = StateDigest
+load_fault_of reading.OutOfMemory = OutOfMemory
+
+-- what each answer of a reader of lists says of them, as far as they are judged without a digest
+-- and without keys
+abbrev pub ChecksLists : List ℕ → List ℕ → Result Parts LoadFault → Type 0
+ChecksLists origin bytes (Ok parts) = HasStrings origin bytes parts
+ChecksLists origin bytes (Err StateMagic) = ReadsParts bytes (Err reading.StateMagic)
+ChecksLists origin bytes (Err StateShort) = ReadsParts bytes (Err reading.StateShort)
+ChecksLists origin bytes (Err StateLong) = ReadsParts bytes (Err reading.StateLong)
+ChecksLists origin bytes (Err StateDigest) = ReadsParts bytes (Err reading.StateDigest)
+ChecksLists origin bytes (Err OtherOrigin) = IsOfOtherOrigin origin bytes
+ChecksLists origin bytes (Err StateOrder) = IsDisordered origin bytes
+ChecksLists origin bytes (Err StateString) = HasBadString origin bytes
+ChecksLists origin bytes (Err StateHead) = ⊥
+ChecksLists origin bytes (Err Collision) = ⊥
+ChecksLists origin bytes (Err StateEdge) = ⊥
+ChecksLists origin bytes (Err ReadFault) = ⊥
+ChecksLists origin bytes (Err OutOfMemory) = Unit {0}
+
+-- how strings are listed: as entries, as pairs of hashes, or with their tags
+abbrev pub tagged_as : Kind → List ℕ → List ℕ
+tagged_as Entries item = 0 ∷ item
+tagged_as Pairs item = 1 ∷ item
+tagged_as Tags item = item
+
+-- the item can be listed in that way
+abbrev pub IsListable : Kind → List ℕ → Type 0
+IsListable Entries item = length item ≤ 65535
+IsListable Pairs item = length item ≡ 64
+IsListable Tags item = IsStateString item
+
+-- all strings of a state text can be listed in its way
+abbrev pub AreListable : Parts → Type 0
+AreListable (Parted origin notes pairs entries) =
+    All (IsListable Entries) entries × All (IsListable Pairs) pairs
+AreListable (Tagged origin notes strings) = All (IsListable Tags) strings
+
+-- what each answer of adding strings to a set says: they are added, if none clashes
+abbrev pub AddsListed : (List ℕ → List ℕ) → Strings → List (List ℕ) → Result (Unit {0}) AddFault →
+    Strings → Type 0
+AddsListed digest old strings (Ok done) new =
+    (new ≡ set.union old (set.from_list strings)) × NoClash digest new
+AddsListed digest old strings (Err adding.Collision) new =
+    HasClash digest (set.union old (set.from_list strings))
+AddsListed digest old strings (Err adding.OutOfMemory) new = Unit {0}
+
+-- what each answer of making a set of strings says: they make one by themselves, if none clashes
+abbrev pub MakesStore : (List ℕ → List ℕ) → List (List ℕ) → Result Strings AddFault → Type 0
+MakesStore digest strings (Ok made) = (made ≡ set.from_list strings) × NoClash digest made
+MakesStore digest strings (Err adding.Collision) = HasClash digest (set.from_list strings)
+MakesStore digest strings (Err adding.OutOfMemory) = Unit {0}
+
+-- ---- notes
+
+-- the fault of a loader at a note that cannot be read as a head
+abbrev pub note_fault_of : TakeFault → LoadFault
+note_fault_of (taking.Note fault) = StateHead
+note_fault_of (taking.Checkpoint fault) = StateHead
+note_fault_of taking.OtherOrigin = StateHead
+note_fault_of taking.NoTrustedSignature = StateHead
+note_fault_of taking.EdgeCount = StateHead
+note_fault_of taking.EdgeLength = StateHead
+note_fault_of taking.EdgeMismatch = StateHead
+note_fault_of taking.RowLength = StateHead
+note_fault_of taking.BundleShort = StateHead
+note_fault_of taking.BundleLong = StateHead
+note_fault_of taking.Collision = StateHead
+note_fault_of taking.OutOfMemory = OutOfMemory
+
+-- an answer of a step that may come to Ok, StateHead or want of memory alone
+abbrev pub PassesOrFails : (Good Bad : Type 0) → Result (Unit {0}) LoadFault → Type 0
+PassesOrFails Good Bad (Ok done) = Good
+PassesOrFails Good Bad (Err StateMagic) = ⊥
+PassesOrFails Good Bad (Err StateShort) = ⊥
+PassesOrFails Good Bad (Err StateLong) = ⊥
+PassesOrFails Good Bad (Err StateDigest) = ⊥
+PassesOrFails Good Bad (Err OtherOrigin) = ⊥
+PassesOrFails Good Bad (Err StateOrder) = ⊥
+PassesOrFails Good Bad (Err StateString) = ⊥
+PassesOrFails Good Bad (Err StateHead) = Bad
+PassesOrFails Good Bad (Err Collision) = ⊥
+PassesOrFails Good Bad (Err StateEdge) = ⊥
+PassesOrFails Good Bad (Err ReadFault) = ⊥
+PassesOrFails Good Bad (Err OutOfMemory) = Unit {0}
+
+-- what each answer of judging a note says: it opens under the keys, or it is StateHead
+abbrev pub ChecksNote : List ℕ → List Key → List ℕ → Result (Unit {0}) LoadFault → Type 0
+ChecksNote origin keys note answer =
+    PassesOrFails (IsOpenNote origin keys note) (IsOpenNote origin keys note → ⊥) answer
+
+-- what each answer of judging all notes says: all open under the keys, or one does not
+abbrev pub ChecksNotes : List ℕ → List Key → List (List ℕ) → Result (Unit {0}) LoadFault → Type 0
+ChecksNotes origin keys notes answer =
+    PassesOrFails (All (IsOpenNote origin keys) notes) (HasClosed origin keys notes) answer
+
+-- what each answer of keeping all notes says: all are kept, each with its edge held, or the edge of
+-- one is not
+abbrev pub KeepsNotes : (List ℕ → List ℕ) → View → List (List ℕ) → Result (Unit {0}) LoadFault →
+    View → Type 0
+KeepsNotes digest old notes (Ok done) new =
+    (new ≡ with_notes old notes) × All (HasEdge digest old) notes
+KeepsNotes digest old notes (Err StateMagic) new = ⊥
+KeepsNotes digest old notes (Err StateShort) new = ⊥
+KeepsNotes digest old notes (Err StateLong) new = ⊥
+KeepsNotes digest old notes (Err StateDigest) new = ⊥
+KeepsNotes digest old notes (Err OtherOrigin) new = ⊥
+KeepsNotes digest old notes (Err StateOrder) new = ⊥
+KeepsNotes digest old notes (Err StateString) new = ⊥
+KeepsNotes digest old notes (Err StateHead) new = ⊥
+KeepsNotes digest old notes (Err Collision) new = ⊥
+KeepsNotes digest old notes (Err StateEdge) new = HasUnheld digest old notes
+KeepsNotes digest old notes (Err ReadFault) new = ⊥
+KeepsNotes digest old notes (Err OutOfMemory) new = Unit {0}

@@ -1,0 +1,63 @@
+-- How a text is put together on its way to a writer. The contracts of private functions cite these
+-- words; what a saver answers needs none of them.
+use Rattle.std.specs.Prelude.{◌≡◌, ℕ, List, ◌++◌, length, Option, Result, Ok, Err, OnOk}
+use Rattle.std.specs.Io.KnownBytes.{Appends}
+use Rattle.std.specs.Borrow.{Bor}
+use Rattle.sha2.specs.Sha256.{sha256}
+use Rattle.sha2.specs.Hashers.{Holds256}
+use Rattle.byte_streams.specs.Streams.{AppendsPrefix}
+use Rattle.byte_streams.specs.declared.fault.StreamFault.{StreamFault}
+use Rattle.mirror_state.specs.StateText.{Parts, body_text}
+use Rattle.mirror_state.specs.declared.page.Page.{Page}
+
+-- the text of these parts, with its digest
+abbrev pub state_text : Parts → List ℕ
+state_text parts = body_text parts ++ sha256 (body_text parts)
+
+-- the bytes of two hashes
+abbrev pub pair_bytes : Bor (List ℕ) × Bor (List ℕ) → List ℕ
+pair_bytes pair = pair.0.now ++ pair.1.now
+
+-- the first of two hashes has 32 bytes, as the second is known to have
+abbrev pub IsSizedPair : Bor (List ℕ) × Bor (List ℕ) → Type 0
+IsSizedPair pair = length pair.0.now ≡ 32
+
+-- since the start a prefix of the text was written, and the rest of it is held back
+pub record IsUnderWay (start now : Option (List ℕ)) (held text : List ℕ) : Type 0 where
+  pub written : List ℕ
+  pub appended : Appends start now written
+  pub text_is : text ≡ written ++ held
+
+-- a text that is under way goes on with the piece; where a write fails a prefix of it was
+-- written
+abbrev pub Writes :
+    Option (List ℕ) → Option (List ℕ) → List ℕ → List ℕ → List ℕ → Result (Unit {0}) StreamFault →
+    Type 0
+Writes old new held held' piece (Ok done) =
+    (start : Option (List ℕ)) (text : List ℕ) → IsUnderWay start old held text →
+    IsUnderWay start new held' (text ++ piece)
+Writes old new held held' piece (Err fault) =
+    (start : Option (List ℕ)) (text : List ℕ) → IsUnderWay start old held text →
+    AppendsPrefix start new (text ++ piece)
+
+-- what a page's writer does with a piece: it goes on with the text, and the page's digest is that
+-- of the text with the piece behind it
+pub record Puts (old new : Option (List ℕ)) (page page' : Page) (piece : List ℕ)
+    (answer : Result (Unit {0}) StreamFault)
+    : Type 0 where
+  pub writes : Writes old new page.held.items page'.held.items piece answer
+  pub hashes : OnOk answer
+      ((text : List ℕ) → Holds256 page.digest text → Holds256 page'.digest (text ++ piece))
+
+-- a whole text was written, or at a fault a prefix of it
+abbrev pub WritesText : Option (List ℕ) → Option (List ℕ) → List ℕ → Result (Unit {0}) StreamFault →
+    Type 0
+WritesText old new text (Ok done) = Appends old new text
+WritesText old new text (Err fault) = AppendsPrefix old new text
+
+-- the text that is under way ends with its digest
+abbrev pub EndsText : Option (List ℕ) → Option (List ℕ) → Page → Result (Unit {0}) StreamFault →
+    Type 0
+EndsText old new page answer =
+    (start : Option (List ℕ)) (text : List ℕ) → IsUnderWay start old page.held.items text →
+    Holds256 page.digest text → WritesText start new (text ++ sha256 text) answer

@@ -1,0 +1,60 @@
+-- What stands at the start of bytes. The contracts of the private readers cite these words; the
+-- grammar of a state text needs none of them.
+use Rattle.std.specs.Prelude.{◌≡◌, ◌≢◌, ◌<◌, ℕ, List, ◌++◌, length, map, All, Result, Ok, Err}
+use Rattle.sha2.specs.Sha256.{sha256}
+use Rattle.mirror_state.specs.declared.items.Form.{Form}
+use Rattle.mirror_state.specs.StateText.{Parts, Parted, Tagged, AreParts, lists_text}
+use Rattle.mirror_state.specs.declared.lists.Lists.{Lists}
+use Rattle.mirror_state.specs.declared.lists.Lists.TheVariants as lists
+use Rattle.mirror_state.specs.declared.parts.PartsFault.{PartsFault}
+use Rattle.mirror_state.specs.declared.parts.PartsFault.TheVariants.{StateMagic, StateShort}
+use Rattle.mirror_state.specs.declared.parts.PartsFault.TheVariants.{StateLong, StateDigest}
+use Rattle.mirror_state.specs.declared.parts.PartsFault.TheVariants.{OutOfMemory}
+use Rattle.mirror_state.specs.Reading.{HasMagic, HasBody}
+use Rattle.mirror_state.specs.Items.{items_text, list_text, IsItem, AreItems}
+
+-- the bytes begin with that many items, and the rest follows them
+pub record HasItems (form : Form) (count : ℕ) (bytes : List ℕ) (items : List (List ℕ))
+    (rest : List ℕ) : Type 0 where
+  pub count_is : length items ≡ count
+  pub fits : All (IsItem form) items
+  pub text : bytes ≡ items_text form items ++ rest
+
+-- the bytes begin with a list of items, and the rest follows it
+pub record HasList (form : Form) (bytes : List ℕ) (items : List (List ℕ)) (rest : List ℕ)
+    : Type 0 where
+  pub are_items : AreItems form items
+  pub text : bytes ≡ list_text form items ++ rest
+
+-- the bytes begin with what a state text lists, and the rest follows it
+pub record HasLists (bytes : List ℕ) (parts : Parts) (rest : List ℕ) : Type 0 where
+  pub are_parts : AreParts parts
+  pub text : bytes ≡ lists_text parts ++ rest
+
+-- what a state text lists, as a value, of what is lent
+abbrev pub parts_of : Lists → Parts
+parts_of (lists.Parted origin notes pairs entries) =
+    Parted origin.now (map (λ x. x.now) notes.items) (map (λ x. x.now) pairs.items)
+    (map (λ x. x.now) entries.items)
+parts_of (lists.Tagged origin notes strings) =
+    Tagged origin.now (map (λ x. x.now) notes.items) (map (λ x. x.now) strings.items)
+
+-- what each answer of the reader of the lists says of the bytes
+abbrev pub FindsLists : List ℕ → Result (Parts × List ℕ) PartsFault → Type 0
+FindsLists bytes (Ok found) = HasBody bytes found.0 found.1
+FindsLists bytes (Err StateMagic) = HasMagic bytes → ⊥
+FindsLists bytes (Err StateShort) =
+    HasMagic bytes × ((parts : Parts) (rest : List ℕ) → HasBody bytes parts rest → ⊥)
+FindsLists bytes (Err StateLong) = ⊥
+FindsLists bytes (Err StateDigest) = ⊥
+FindsLists bytes (Err OutOfMemory) = Unit {0}
+
+-- what each answer of judging the end of a state text says: what follows the lists is the digest of
+-- the body before it, and no more
+abbrev pub EndsAs : List ℕ → List ℕ → Result (Unit {0}) PartsFault → Type 0
+EndsAs body end (Ok x) = end ≡ sha256 body
+EndsAs body end (Err StateMagic) = ⊥
+EndsAs body end (Err StateShort) = length end < 32
+EndsAs body end (Err StateLong) = 32 < length end
+EndsAs body end (Err StateDigest) = (length end ≡ 32) × (end ≢ sha256 body)
+EndsAs body end (Err OutOfMemory) = ⊥

@@ -1,0 +1,129 @@
+//! What a mirror holds, in the order in which a state text lists it.
+ghost use Rattle.std.specs.Prelude.{◌≡◌, ◌↔◌, ◌++◌, ℕ, List, map, All, IfOk};
+ghost use Rattle.std.specs.List.{Contains};
+ghost use Rattle.mirror_model.specs.Listed.{ListsNotes};
+ghost use Rattle.mirror_state.specs.Listing.{HoldsEach, ListsEach, ListsView};
+ghost use Rattle.mirror_state.specs.Loading.{Rises};
+ghost use Rattle.mirror_state.specs.Putting.{pair_bytes, IsSizedPair};
+
+use node_store::{Store, Tagged};
+use std::alloc::{AllocError, Global};
+use tlog_hash::{Hash, TreeHash};
+use tlog_mirror::Mirror;
+
+/// What a mirror holds, each list in its order.
+#[derive(Drop)]
+pub(crate) struct Sorted<'a> {
+    pub(crate) notes: Vec<&'a [u8]>,
+    pub(crate) pairs: Vec<(&'a Hash, &'a Hash)>,
+    pub(crate) entries: Vec<&'a [u8]>,
+}
+
+// What the mirror holds.
+pub(crate) fn sort_all<H: TreeHash>(
+    alloc: Global,
+    mirror: &Mirror<H>,
+) -> Result<Sorted<'_>, AllocError>
+    ensures { IfOk result (λ held. ListsView mirror.now.view held) }
+{
+    let notes = notes_of(alloc, mirror)?;
+    let pairs = pairs_of(alloc, mirror.strings())?;
+    let entries = entries_of(alloc, mirror.strings())?;
+    Ok(Sorted {
+        notes,
+        pairs,
+        entries,
+    })
+}
+
+// The notes that are held.
+fn notes_of<H: TreeHash>(alloc: Global, mirror: &Mirror<H>) -> Result<Vec<&[u8]>, AllocError>
+    ensures { IfOk result (λ notes. ListsNotes mirror.now.view (map (λ n. n.now) notes.items)) }
+{
+    let mut notes = Vec::new(alloc);
+    for i in 0..usize::MAX {
+        match mirror.note_at(i) {
+            Some(note) => notes.push(note)?,
+            None => return Ok(notes),
+        }
+    }
+    // No memory holds so many.
+    Err(AllocError)
+}
+
+// The entries of a store.
+fn entries_of<H: TreeHash>(alloc: Global, store: &Store<H>) -> Result<Vec<&[u8]>, AllocError>
+    ensures { IfOk result (λ entries. ListsEach 0 store.now (map (λ e. e.now) entries.items)) }
+{
+    let mut entries = all_entries(alloc, store)?;
+    sort_entries(&mut entries);
+    Ok(entries)
+}
+
+// The entries of a store, in any order.
+fn all_entries<H: TreeHash>(alloc: Global, store: &Store<H>) -> Result<Vec<&[u8]>, AllocError>
+    ensures { IfOk result (λ entries. HoldsEach 0 store.now (map (λ e. e.now) entries.items)) }
+{
+    let mut entries = Vec::new(alloc);
+    for string in store.iter() {
+        match string {
+            Tagged::Leaf(entry) => entries.push(entry)?,
+            Tagged::Pair(_, _) => {}
+        }
+    }
+    Ok(entries)
+}
+
+// Puts entries in order, each once.
+fn sort_entries(entries: &mut Vec<&[u8]>)
+    ensures rises { Rises (map (λ e. e.now) entries.new.items) }
+    ensures same { (e : List ℕ) → Contains (map (λ e. e.now) entries.new.items) e ↔ Contains (map (λ e. e.now) entries.old.items) e }
+{
+    entries.sort_unstable();
+    entries.dedup();
+}
+
+// The pairs of a store.
+fn pairs_of<H: TreeHash>(alloc: Global, store: &Store<H>) -> Result<Vec<(&Hash, &Hash)>, AllocError>
+    ensures { IfOk result (λ pairs. ListsEach 1 store.now (map pair_bytes pairs.items)) }
+{
+    let mut pairs = all_pairs(alloc, store)?;
+    sort_pairs(&mut pairs);
+    Ok(pairs)
+}
+
+// The pairs of a store, in any order.
+fn all_pairs<H: TreeHash>(
+    alloc: Global,
+    store: &Store<H>,
+) -> Result<Vec<(&Hash, &Hash)>, AllocError>
+    ensures each { IfOk result (λ pairs. HoldsEach 1 store.now (map pair_bytes pairs.items)) }
+    ensures sized { IfOk result (λ pairs. All IsSizedPair pairs.items) }
+{
+    let mut pairs = Vec::new(alloc);
+    for string in store.iter() {
+        match string {
+            Tagged::Leaf(_) => {}
+            Tagged::Pair(left, right) => pairs.push(pair_of(left, right))?,
+        }
+    }
+    Ok(pairs)
+}
+
+// The two hashes, of which the left has 32 bytes.
+fn pair_of<'a>(left: &'a Hash, right: &'a Hash) -> (&'a Hash, &'a Hash)
+    ensures bytes { pair_bytes result ≡ left.now ++ right.now }
+    ensures sized { IsSizedPair result }
+{
+    (left, right)
+}
+
+// Puts pairs in order, each once.
+fn sort_pairs(pairs: &mut Vec<(&Hash, &Hash)>)
+    requires { All IsSizedPair pairs.old.items }
+    ensures rises { Rises (map pair_bytes pairs.new.items) }
+    ensures same { (p : List ℕ) → Contains (map pair_bytes pairs.new.items) p ↔ Contains (map pair_bytes pairs.old.items) p }
+{
+    pairs.sort_unstable();
+    pairs.dedup();
+}

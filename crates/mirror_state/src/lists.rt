@@ -1,0 +1,107 @@
+//! What a state text lists, lent from its bytes.
+ghost use Rattle.std.specs.Prelude.{◌≡◌, ◌↔◌, codes, ℕ, List, map, IfNone, IfOk, IfSome, IsTrue};
+ghost use Rattle.mirror_state.specs.StateText.{Parted, Tagged, magic_of};
+ghost use Rattle.mirror_state.specs.Loading.{AllRise, AllTaggedWell, listed_notes, listed_origin};
+ghost use Rattle.mirror_state.specs.Stands.{parts_of, HasLists};
+
+use crate::items::{Form, item_at, list_at};
+use crate::order::{all_state_strings, rises};
+use std::alloc::{AllocError, Global};
+
+/// The lists of a state text.
+#[derive(Drop)]
+pub(crate) enum Lists<'a> {
+    /// Version 2: pairs of hashes, and entries.
+    Parted(&'a [u8], Vec<&'a [u8]>, Vec<&'a [u8]>, Vec<&'a [u8]>),
+    /// Version 1: strings with their tags.
+    Tagged(&'a [u8], Vec<&'a [u8]>, Vec<&'a [u8]>),
+}
+
+impl<'a> Lists<'a> {
+    // The origin.
+    pub(crate) fn origin(&self) -> &[u8]
+        ensures { result.now ≡ listed_origin (parts_of self.now) }
+    {
+        match self {
+            Lists::Parted(origin, _, _, _) => origin,
+            Lists::Tagged(origin, _, _) => origin,
+        }
+    }
+
+    // The notes.
+    pub(crate) fn notes(&self) -> &[&[u8]]
+        ensures { map (λ n. n.now) result.now ≡ listed_notes (parts_of self.now) }
+    {
+        match self {
+            Lists::Parted(_, notes, _, _) => notes.as_slice(),
+            Lists::Tagged(_, notes, _) => notes.as_slice(),
+        }
+    }
+
+    // Whether each list rises strictly.
+    pub(crate) fn all_rise(&self) -> bool
+        ensures { IsTrue result ↔ AllRise (parts_of self.now) }
+    {
+        match self {
+            Lists::Parted(_, notes, pairs, entries) => {
+                rises(notes) && rises(pairs) && rises(entries)
+            }
+            Lists::Tagged(_, notes, strings) => rises(notes) && rises(strings),
+        }
+    }
+
+    // Whether the strings of version 1 are such as trees hash.
+    pub(crate) fn all_tagged_well(&self) -> bool
+        ensures { IsTrue result ↔ AllTaggedWell (parts_of self.now) }
+    {
+        match self {
+            Lists::Parted(_, _, _, _) => true,
+            Lists::Tagged(_, _, strings) => all_state_strings(strings),
+        }
+    }
+}
+
+// The lists of version 2 at the start, and the bytes behind them.
+pub(crate) fn parted_at(
+    alloc: Global,
+    bytes: &[u8],
+) -> Result<Option<(Lists<'_>, &[u8])>, AllocError>
+    ensures found { IfOk result (λ o. IfSome o (λ x. HasLists bytes.now (parts_of x.0) x.1.now)) }
+    ensures version { IfOk result (λ o. IfSome o (λ x. magic_of (parts_of x.0) ≡ codes "TLMIRR02")) }
+    ensures none { IfOk result (λ o. IfNone o ((origin : List ℕ) (notes pairs entries : List (List ℕ)) (rest : List ℕ) → HasLists bytes.now (Parted origin notes pairs entries) rest → ⊥)) }
+{
+    let Some((origin, after)) = item_at(Form::Short, bytes) else {
+        return Ok(None);
+    };
+    let Some((notes, after)) = list_at(alloc, Form::Long, after)? else {
+        return Ok(None);
+    };
+    let Some((pairs, after)) = list_at(alloc, Form::Hashes, after)? else {
+        return Ok(None);
+    };
+    let Some((entries, rest)) = list_at(alloc, Form::Short, after)? else {
+        return Ok(None);
+    };
+    Ok(Some((Lists::Parted(origin, notes, pairs, entries), rest)))
+}
+
+// The lists of version 1 at the start, and the bytes behind them.
+pub(crate) fn tagged_at(
+    alloc: Global,
+    bytes: &[u8],
+) -> Result<Option<(Lists<'_>, &[u8])>, AllocError>
+    ensures found { IfOk result (λ o. IfSome o (λ x. HasLists bytes.now (parts_of x.0) x.1.now)) }
+    ensures version { IfOk result (λ o. IfSome o (λ x. magic_of (parts_of x.0) ≡ codes "TLMIRR01")) }
+    ensures none { IfOk result (λ o. IfNone o ((origin : List ℕ) (notes strings : List (List ℕ)) (rest : List ℕ) → HasLists bytes.now (Tagged origin notes strings) rest → ⊥)) }
+{
+    let Some((origin, after)) = item_at(Form::Short, bytes) else {
+        return Ok(None);
+    };
+    let Some((notes, after)) = list_at(alloc, Form::Long, after)? else {
+        return Ok(None);
+    };
+    let Some((strings, rest)) = list_at(alloc, Form::Long, after)? else {
+        return Ok(None);
+    };
+    Ok(Some((Lists::Tagged(origin, notes, strings), rest)))
+}

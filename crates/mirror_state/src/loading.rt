@@ -1,0 +1,359 @@
+//! Loading a mirror from its state.
+ghost use Rattle.std.specs.Prelude.{◌≡◌, ◌↔◌, ◌<◌, ◌∷◌, ◌++◌, length, map, All, IfOk, IfSome, IsTrue, OnOk};
+ghost use Rattle.std.specs.FinSet as set;
+ghost use Rattle.mirror_model.specs.Origin.{IsOrigin};
+ghost use Rattle.node_store.specs.Strings.{Clashes, NoClash};
+ghost use Rattle.tlog_mirror.specs.Restored.{IsOpenNote};
+ghost use Rattle.tlog_text.specs.Answers.{seen};
+ghost use Rattle.mirror_state.specs.LoadSteps.{AddsListed, AreListable, ChecksLists, ChecksNote, ChecksNotes, IsListable, KeepsNotes, MakesStore, load_fault_of, note_fault_of, stream_fault_of, tagged_as};
+ghost use Rattle.mirror_state.specs.Loading.{HasStrings, IsStateString, Loads, listed_strings};
+ghost use Rattle.mirror_state.specs.Stands.{parts_of};
+
+use crate::fault::LoadFault;
+use crate::lists::Lists;
+use crate::parts::{PartsFault, read_parts};
+use byte_streams::{StreamFault, read_all};
+use node_store::{AddFault, Store, Tagged};
+use signed_note::Verifier;
+use std::alloc::Global;
+use std::io::Read;
+use tlog_hash::{Hash, TreeHash};
+use tlog_mirror::{HeldFault, Mirror, TakeFault};
+
+// How often a reader is read at most.
+const READS: u64 = 16_777_216;
+
+/// The mirror of a state text: all that the reader gives is the text, of version 1 or 2, of what a mirror of that
+/// origin holds, and each note opens under the keys. Nothing is remembered of complete heads.
+///
+/// ```text
+/// let mirror: Mirror<Sha256Tree> = load(alloc, "example.com/log", &keys, &mut file)?;
+/// ```
+///
+/// # Errors
+///
+/// `ReadFault`, where a read fails, or the reader has not ended after 16,777,216 reads of at most 65,536 bytes each. It
+/// is read to its end first. Then the first that applies, in the order of `LoadFault`: `StateMagic` to `StateEdge`.
+/// `OutOfMemory` where memory was refused, before any of them or after.
+pub fn load<H: TreeHash, R: Read>(
+    alloc: Global,
+    origin: &str,
+    keys: &[Box<dyn Verifier>],
+    reader: &mut R,
+) -> Result<Mirror<H>, LoadFault>
+    requires { IsOrigin origin.now }
+    ensures loads { IfSome (R.remaining reader.old) (λ bytes. Loads H.digest origin.now (map (λ k. key k) keys.now) bytes (seen (λ mirror. mirror.view) result)) }
+    ensures remembered { IfOk result (λ mirror. mirror.remembered ≡ set.empty) }
+{
+    let bytes = match read_all(alloc, reader, usize::MAX, READS) {
+        Ok(bytes) => bytes,
+        Err(fault) => return Err(stream_fault(fault)),
+    };
+    let input = bytes.as_slice();
+    // No memory holds more bytes than this.
+    if !is_below(input) {
+        return Err(LoadFault::OutOfMemory);
+    }
+    load_bytes(alloc, origin, keys, input)
+}
+
+// Why the reader's bytes are not had. Nothing is written.
+fn stream_fault(fault: StreamFault) -> LoadFault
+    ensures { result ≡ stream_fault_of fault }
+{
+    match fault {
+        StreamFault::ReadFault | StreamFault::WriteFault => LoadFault::ReadFault,
+        StreamFault::OutOfMemory => LoadFault::OutOfMemory,
+    }
+}
+
+// Whether there are fewer bytes than were allowed.
+fn is_below(bytes: &[u8]) -> bool
+    ensures { IsTrue result ↔ length bytes.now < 18446744073709551615 }
+{
+    bytes.len() < usize::MAX
+}
+
+// The mirror of which that is the state text.
+fn load_bytes<H: TreeHash>(
+    alloc: Global,
+    origin: &str,
+    keys: &[Box<dyn Verifier>],
+    bytes: &[u8],
+) -> Result<Mirror<H>, LoadFault>
+    requires { IsOrigin origin.now }
+    ensures loads { Loads H.digest origin.now (map (λ k. key k) keys.now) bytes.now (seen (λ mirror. mirror.view) result) }
+    ensures remembered { IfOk result (λ mirror. mirror.remembered ≡ set.empty) }
+{
+    let lists = match checked_lists(alloc, origin.as_bytes(), bytes) {
+        Ok(lists) => lists,
+        Err(fault) => return Err(fault),
+    };
+    match check_all::<H>(alloc, origin, keys, lists.notes()) {
+        Ok(()) => {}
+        Err(fault) => return Err(fault),
+    }
+    let strings = match store_of::<H>(alloc, &lists) {
+        Ok(strings) => strings,
+        Err(AddFault::Collision) => return Err(LoadFault::Collision),
+        Err(AddFault::OutOfMemory) => return Err(LoadFault::OutOfMemory),
+    };
+    // The origin is lawful, so that nothing but want of memory is told here.
+    let Ok(mut mirror) = Mirror::of_strings(alloc, origin, strings) else {
+        return Err(LoadFault::OutOfMemory);
+    };
+    match keep_notes(alloc, &mut mirror, keys, lists.notes()) {
+        Ok(()) => {}
+        Err(fault) => return Err(fault),
+    }
+    Ok(mirror)
+}
+
+// How strings are listed.
+#[derive(Clone, Copy)]
+pub(crate) enum Kind {
+    // As entries.
+    Entries,
+    // As pairs of hashes.
+    Pairs,
+    // With their tags.
+    Strings,
+}
+
+// Why the lists are not read.
+fn load_fault(fault: PartsFault) -> LoadFault
+    ensures { result ≡ load_fault_of fault }
+{
+    match fault {
+        PartsFault::StateMagic => LoadFault::StateMagic,
+        PartsFault::StateShort => LoadFault::StateShort,
+        PartsFault::StateLong => LoadFault::StateLong,
+        PartsFault::StateDigest => LoadFault::StateDigest,
+        PartsFault::OutOfMemory => LoadFault::OutOfMemory,
+    }
+}
+
+// The lists of a state text of that origin, in order.
+pub(crate) fn checked_lists<'a>(
+    alloc: Global,
+    origin: &[u8],
+    bytes: &'a [u8],
+) -> Result<Lists<'a>, LoadFault>
+    ensures { ChecksLists origin.now bytes.now (seen parts_of result) }
+{
+    let lists = match read_parts(alloc, bytes) {
+        Ok(lists) => lists,
+        Err(fault) => return Err(load_fault(fault)),
+    };
+    if lists.origin() != origin {
+        return Err(LoadFault::OtherOrigin);
+    }
+    if !lists.all_rise() {
+        return Err(LoadFault::StateOrder);
+    }
+    if !lists.all_tagged_well() {
+        return Err(LoadFault::StateString);
+    }
+    Ok(lists)
+}
+
+// The 32 bytes there.
+fn hash_of(bytes: &[u8]) -> Hash
+    requires { length bytes.now ≡ 32 }
+    ensures { result ≡ bytes.now }
+{
+    let mut hash = [0u8; 32];
+    hash.copy_from_slice(bytes);
+    hash
+}
+
+// Adds the string that is listed so.
+fn add_item<H: TreeHash>(store: &mut Store<H>, kind: Kind, item: &[u8]) -> Result<(), AddFault>
+    requires { IsListable kind item.now }
+    ensures ok { OnOk result ((store.new ≡ set.insert store.old (tagged_as kind item.now)) × NoClash H.digest store.new) }
+    ensures collision { result ≡ Err AddFault.Collision → Clashes H.digest store.old (tagged_as kind item.now) }
+{
+    match kind {
+        Kind::Entries => store.add(Tagged::Leaf(item)),
+        Kind::Pairs => add_pair(store, item),
+        Kind::Strings => add_tagged(store, item),
+    }
+}
+
+// Adds the string of a pair, two hashes.
+fn add_pair<H: TreeHash>(store: &mut Store<H>, pair: &[u8]) -> Result<(), AddFault>
+    requires { length pair.now ≡ 64 }
+    ensures ok { OnOk result ((store.new ≡ set.insert store.old (1 ∷ pair.now)) × NoClash H.digest store.new) }
+    ensures collision { result ≡ Err AddFault.Collision → Clashes H.digest store.old (1 ∷ pair.now) }
+{
+    let (left, right) = pair.split_at(32);
+    let left = hash_of(left);
+    let right = hash_of(right);
+    store.add(Tagged::Pair(&left, &right))
+}
+
+// Adds a string that stands with its tag.
+fn add_tagged<H: TreeHash>(store: &mut Store<H>, string: &[u8]) -> Result<(), AddFault>
+    requires { IsStateString string.now }
+    ensures ok { OnOk result ((store.new ≡ set.insert store.old string.now) × NoClash H.digest store.new) }
+    ensures collision { result ≡ Err AddFault.Collision → Clashes H.digest store.old string.now }
+{
+    let (tag, rest) = string.split_at(1);
+    if tag[0] == 0 {
+        store.add(Tagged::Leaf(rest))
+    } else {
+        add_pair(store, rest)
+    }
+}
+
+// Adds all strings that are listed so.
+fn add_listed<H: TreeHash>(
+    store: &mut Store<H>,
+    kind: Kind,
+    items: &[&[u8]],
+) -> Result<(), AddFault>
+    requires listable { All (IsListable kind) (map (λ x. x.now) items.now) }
+    requires no_clash { NoClash H.digest store.old }
+    ensures { AddsListed H.digest store.old (map (tagged_as kind) (map (λ x. x.now) items.now)) result store.new }
+{
+    for item in items {
+        match add_item(store, kind, item) {
+            Ok(()) => {}
+            Err(fault) => return Err(fault),
+        }
+    }
+    Ok(())
+}
+
+// The set of the strings that are listed.
+fn store_of<H: TreeHash>(alloc: Global, lists: &Lists) -> Result<Store<H>, AddFault>
+    requires { AreListable (parts_of lists.now) }
+    ensures { MakesStore H.digest (listed_strings (parts_of lists.now)) result }
+{
+    let mut store: Store<H> = Store::new(alloc);
+    match add_lists(&mut store, lists) {
+        Ok(()) => {}
+        Err(fault) => return Err(fault),
+    }
+    Ok(store)
+}
+
+// Adds the strings that are listed.
+fn add_lists<H: TreeHash>(store: &mut Store<H>, lists: &Lists) -> Result<(), AddFault>
+    requires listable { AreListable (parts_of lists.now) }
+    requires no_clash { NoClash H.digest store.old }
+    ensures { AddsListed H.digest store.old (listed_strings (parts_of lists.now)) result store.new }
+{
+    match lists {
+        Lists::Parted(_, _, pairs, entries) => add_both(store, pairs, entries),
+        Lists::Tagged(_, _, strings) => add_strings(store, strings),
+    }
+}
+
+// Adds strings that stand with their tags.
+fn add_strings<H: TreeHash>(store: &mut Store<H>, strings: &[&[u8]]) -> Result<(), AddFault>
+    requires listable { All IsStateString (map (λ x. x.now) strings.now) }
+    requires no_clash { NoClash H.digest store.old }
+    ensures { AddsListed H.digest store.old (map (λ x. x.now) strings.now) result store.new }
+{
+    add_listed(store, Kind::Strings, strings)
+}
+
+// Adds the strings of entries and of pairs.
+fn add_both<H: TreeHash>(
+    store: &mut Store<H>,
+    pairs: &[&[u8]],
+    entries: &[&[u8]],
+) -> Result<(), AddFault>
+    requires entries { All (IsListable Kind.Entries) (map (λ x. x.now) entries.now) }
+    requires pairs { All (IsListable Kind.Pairs) (map (λ x. x.now) pairs.now) }
+    requires no_clash { NoClash H.digest store.old }
+    ensures { AddsListed H.digest store.old (map (λ e. 0 ∷ e) (map (λ x. x.now) entries.now) ++ map (λ p. 1 ∷ p) (map (λ x. x.now) pairs.now)) result store.new }
+{
+    match add_listed(store, Kind::Entries, entries) {
+        Ok(()) => {}
+        Err(fault) => return Err(fault),
+    }
+    add_listed(store, Kind::Pairs, pairs)
+}
+
+// Whether the note opens as a checkpoint of the mirror's origin.
+fn check_note<H: TreeHash>(
+    alloc: Global,
+    mirror: &Mirror<H>,
+    keys: &[Box<dyn Verifier>],
+    note: &[u8],
+) -> Result<(), LoadFault>
+    ensures { ChecksNote mirror.now.view.origin (map (λ k. key k) keys.now) note.now result }
+{
+    match mirror.check_head(alloc, keys, note) {
+        Ok(_) => {}
+        Err(fault) => return Err(note_fault(fault)),
+    }
+    Ok(())
+}
+
+// What a fault of reading a head is here.
+fn note_fault(fault: TakeFault) -> LoadFault
+    ensures { result ≡ note_fault_of fault }
+{
+    match fault {
+        TakeFault::OutOfMemory => LoadFault::OutOfMemory,
+        _ => LoadFault::StateHead,
+    }
+}
+
+// Whether all notes do.
+fn check_notes<H: TreeHash>(
+    alloc: Global,
+    mirror: &Mirror<H>,
+    keys: &[Box<dyn Verifier>],
+    notes: &[&[u8]],
+) -> Result<(), LoadFault>
+    ensures { ChecksNotes mirror.now.view.origin (map (λ k. key k) keys.now) (map (λ n. n.now) notes.now) result }
+{
+    for note in notes {
+        match check_note(alloc, mirror, keys, note) {
+            Ok(()) => {}
+            Err(fault) => return Err(fault),
+        }
+    }
+    Ok(())
+}
+
+// Whether all notes open as checkpoints of that origin.
+fn check_all<H: TreeHash>(
+    alloc: Global,
+    origin: &str,
+    keys: &[Box<dyn Verifier>],
+    notes: &[&[u8]],
+) -> Result<(), LoadFault>
+    ensures { ChecksNotes origin.now (map (λ k. key k) keys.now) (map (λ n. n.now) notes.now) result }
+{
+    let Ok(mirror) = Mirror::<H>::new(alloc, origin) else {
+        return Err(LoadFault::OutOfMemory);
+    };
+    check_notes(alloc, &mirror, keys, notes)
+}
+
+// Keeps the notes, the edges of which are held.
+fn keep_notes<H: TreeHash>(
+    alloc: Global,
+    mirror: &mut Mirror<H>,
+    keys: &[Box<dyn Verifier>],
+    notes: &[&[u8]],
+) -> Result<(), LoadFault>
+    requires { All (IsOpenNote mirror.old.view.origin (map (λ k. key k) keys.now)) (map (λ n. n.now) notes.now) }
+    ensures keeps { KeepsNotes H.digest mirror.old.view (map (λ n. n.now) notes.now) result mirror.new.view }
+    ensures remembered { mirror.new.remembered ≡ mirror.old.remembered }
+{
+    for note in notes {
+        match mirror.keep_held_head(alloc, keys, note) {
+            Ok(()) => {}
+            Err(HeldFault::BadHead) => return Err(LoadFault::StateHead),
+            Err(HeldFault::UnheldEdge) => return Err(LoadFault::StateEdge),
+            Err(HeldFault::OutOfMemory) => return Err(LoadFault::OutOfMemory),
+        }
+    }
+    Ok(())
+}

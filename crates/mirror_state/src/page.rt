@@ -1,0 +1,105 @@
+//! Bytes on their way to a writer: held back until they are many, and hashed as they come.
+ghost use Rattle.std.specs.Prelude.{◌≡◌, [], OnOk};
+ghost use Rattle.sha2.specs.Hashers.{Holds256};
+ghost use Rattle.mirror_state.specs.Putting.{EndsText, Puts, Writes};
+
+use byte_streams::{StreamFault, write_whole};
+use sha2::{Digest, Sha256};
+use std::alloc::{AllocError, Global};
+use std::io::Write;
+
+// From so many bytes on what is held back is written.
+const PAGE: usize = 65_536;
+
+/// What was put and is not written yet, and the digest of all that was put.
+#[derive(Drop)]
+pub(crate) struct Page {
+    held: Vec<u8>,
+    digest: Sha256,
+}
+
+impl Page {
+    // Nothing was put.
+    pub(crate) fn new(alloc: Global) -> Page
+        ensures held { result.held.items ≡ [] }
+        ensures hashed { Holds256 result.digest [] }
+    {
+        Page {
+            held: Vec::new(alloc),
+            digest: Sha256::new(),
+        }
+    }
+}
+
+// Writes what is held back.
+fn flush<W: Write>(writer: &mut W, held: &mut Vec<u8>) -> Result<(), StreamFault>
+    ensures writes { Writes (W.contents writer.old) (W.contents writer.new) held.old.items held.new.items [] result }
+    ensures empty { OnOk result (held.new.items ≡ []) }
+{
+    match write_whole(writer, held.as_slice()) {
+        Ok(()) => {}
+        Err(fault) => return Err(fault),
+    }
+    held.clear();
+    Ok(())
+}
+
+// Writes what is held back where it is much.
+fn make_room<W: Write>(writer: &mut W, held: &mut Vec<u8>) -> Result<(), StreamFault>
+    ensures { Writes (W.contents writer.old) (W.contents writer.new) held.old.items held.new.items [] result }
+{
+    if held.len() < PAGE {
+        return Ok(());
+    }
+    flush(writer, held)
+}
+
+// Writes what is held back, and then the piece.
+fn write_through<W: Write>(
+    writer: &mut W,
+    held: &mut Vec<u8>,
+    piece: &[u8],
+) -> Result<(), StreamFault>
+    ensures writes { Writes (W.contents writer.old) (W.contents writer.new) held.old.items held.new.items piece.now result }
+    ensures empty { OnOk result (held.new.items ≡ []) }
+{
+    match flush(writer, held) {
+        Ok(()) => {}
+        Err(fault) => return Err(fault),
+    }
+    write_whole(writer, piece)
+}
+
+// Holds the piece back. Where memory for it is refused it is written at once.
+fn hold<W: Write>(writer: &mut W, held: &mut Vec<u8>, piece: &[u8]) -> Result<(), StreamFault>
+    ensures { Writes (W.contents writer.old) (W.contents writer.new) held.old.items held.new.items piece.now result }
+{
+    match held.extend_from_slice(piece) {
+        Ok(()) => Ok(()),
+        Err(AllocError) => write_through(writer, held, piece),
+    }
+}
+
+// Puts a piece of the text.
+pub(crate) fn put<W: Write>(
+    writer: &mut W,
+    page: &mut Page,
+    piece: &[u8],
+) -> Result<(), StreamFault>
+    ensures { Puts (W.contents writer.old) (W.contents writer.new) page.old page.new piece.now result }
+{
+    page.digest.update(piece);
+    match make_room(writer, &mut page.held) {
+        Ok(()) => {}
+        Err(fault) => return Err(fault),
+    }
+    hold(writer, &mut page.held, piece)
+}
+
+// Writes what is held back, and the digest of all that was put.
+pub(crate) fn finish<W: Write>(writer: &mut W, page: &mut Page) -> Result<(), StreamFault>
+    ensures { EndsText (W.contents writer.old) (W.contents writer.new) page.old result }
+{
+    let digest = page.digest.finalize_reset();
+    write_through(writer, &mut page.held, digest.as_slice())
+}

@@ -1,0 +1,109 @@
+//! Reads what a state text lists.
+ghost use Rattle.std.specs.Prelude.{◌≡◌, ◌↔◌, codes, IsTrue};
+ghost use Rattle.std.specs.Result.{result_map_both};
+ghost use Rattle.mirror_state.specs.Reading.{ReadsParts};
+ghost use Rattle.mirror_state.specs.Stands.{parts_of, FindsLists, EndsAs};
+ghost use Rattle.mirror_state.specs.declared.parts.PartsFault.TheVariants.{OutOfMemory};
+
+use crate::lists::{Lists, parted_at, tagged_at};
+use sha2::{Digest, Sha256};
+use std::alloc::{AllocError, Global};
+use thiserror::Error;
+
+/// Why bytes are not the text of a state, as far as they alone decide.
+#[derive(Debug, Drop, PartialEq, Eq, Clone, Copy, Error)]
+pub(crate) enum PartsFault {
+    /// The bytes begin as a state text of neither version.
+    #[error("StateMagic")]
+    StateMagic,
+    /// A part that is counted, or the digest, does not fit into what is there.
+    #[error("StateShort")]
+    StateShort,
+    /// Bytes follow the digest.
+    #[error("StateLong")]
+    StateLong,
+    /// The digest is not that of the bytes before it.
+    #[error("StateDigest")]
+    StateDigest,
+    /// Memory was refused.
+    #[error("OutOfMemory")]
+    OutOfMemory,
+}
+
+impl From<AllocError> for PartsFault {
+    ghost from_gives = { λ _ e. e ≡ OutOfMemory };
+
+    fn from(_e: AllocError) -> PartsFault {
+        PartsFault::OutOfMemory
+    }
+}
+
+// What is left behind the lists is the digest of what is before it, and no more.
+fn check_end(body: &[u8], end: &[u8]) -> Result<(), PartsFault>
+    ensures { EndsAs body.now end.now result }
+{
+    if end.len() < 32 {
+        return Err(PartsFault::StateShort);
+    }
+    if end.len() > 32 {
+        return Err(PartsFault::StateLong);
+    }
+    let digest = Sha256::digest(body);
+    if digest.as_slice() != end {
+        return Err(PartsFault::StateDigest);
+    }
+    Ok(())
+}
+
+// The first eight bytes are those of version 2.
+fn is_new(magic: &[u8]) -> bool
+    ensures { IsTrue result ↔ (magic.now ≡ codes "TLMIRR02") }
+{
+    magic == b"TLMIRR02".as_slice()
+}
+
+// The first eight bytes are those of version 1.
+fn is_old(magic: &[u8]) -> bool
+    ensures { IsTrue result ↔ (magic.now ≡ codes "TLMIRR01") }
+{
+    magic == b"TLMIRR01".as_slice()
+}
+
+// The lists that the bytes begin with, behind the eight bytes that say which version it is, and what follows them.
+fn lists_at(alloc: Global, bytes: &[u8]) -> Result<(Lists<'_>, &[u8]), PartsFault>
+    ensures { FindsLists bytes.now (result_map_both (λ x. (parts_of x.0, x.1.now)) (λ e. e) result) }
+{
+    if bytes.len() < 8 {
+        return Err(PartsFault::StateMagic);
+    }
+    let (magic, after) = bytes.split_at(8);
+    if is_new(magic) {
+        let Some(found) = parted_at(alloc, after)? else {
+            return Err(PartsFault::StateShort);
+        };
+        return Ok(found);
+    }
+    if is_old(magic) {
+        let Some(found) = tagged_at(alloc, after)? else {
+            return Err(PartsFault::StateShort);
+        };
+        return Ok(found);
+    }
+    Err(PartsFault::StateMagic)
+}
+
+/// The lists of a state text, lent from its bytes.
+pub(crate) fn read_parts(alloc: Global, bytes: &[u8]) -> Result<Lists<'_>, PartsFault>
+    ensures { ReadsParts bytes.now (result_map_both parts_of (λ e. e) result) }
+{
+    match lists_at(alloc, bytes) {
+        Err(fault) => Err(fault),
+        Ok((lists, end)) => {
+            let (body, _) = bytes.split_at(bytes.len() - end.len());
+            match check_end(body, end) {
+                Err(fault) => Err(fault),
+                Ok(()) => Ok(lists),
+            }
+        }
+    }
+}

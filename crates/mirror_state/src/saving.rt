@@ -1,0 +1,114 @@
+//! Saving the state of a mirror.
+ghost use Rattle.std.specs.Prelude.{map};
+ghost use Rattle.mirror_state.specs.Listing.{ListsView};
+ghost use Rattle.mirror_state.specs.Putting.{pair_bytes, state_text, Puts, WritesText};
+ghost use Rattle.mirror_state.specs.Saving.{Saves};
+ghost use Rattle.mirror_state.specs.StateText.{body_text, AreParted, Parted};
+
+use crate::fault::SaveFault;
+use crate::items::Form;
+use crate::listing::{Sorted, sort_all};
+use crate::page::{Page, finish, put};
+use crate::put::{put_list, put_pairs, put_short};
+use byte_streams::StreamFault;
+use std::alloc::{AllocError, Global};
+use std::io::Write;
+use tlog_hash::{Hash, TreeHash};
+use tlog_mirror::Mirror;
+
+/// Writes the text of what a mirror holds, of version 2. It goes through a buffer, so that the writer needs none; it is
+/// not flushed.
+///
+/// ```text
+/// save(alloc, &mirror, &mut file)?;
+/// ```
+///
+/// # Errors
+///
+/// `OutOfMemory` where memory was refused: nothing was written. `WriteFault` where a write failed or took no byte: a
+/// prefix of the text was written.
+pub fn save<H: TreeHash, W: Write>(
+    alloc: Global,
+    mirror: &Mirror<H>,
+    writer: &mut W,
+) -> Result<(), SaveFault>
+    ensures { Saves mirror.now.view (W.contents writer.old) (W.contents writer.new) result }
+{
+    match sort_all(alloc, mirror) {
+        Ok(held) => save_sorted(alloc, mirror, &held, writer),
+        Err(AllocError) => Err(SaveFault::OutOfMemory),
+    }
+}
+
+// Writes the text of a mirror that holds just that.
+fn save_sorted<H: TreeHash, W: Write>(
+    alloc: Global,
+    mirror: &Mirror<H>,
+    held: &Sorted,
+    writer: &mut W,
+) -> Result<(), SaveFault>
+    requires { ListsView mirror.now.view held.now }
+    ensures { Saves mirror.now.view (W.contents writer.old) (W.contents writer.new) result }
+{
+    // What a mirror holds is sound: so each item has a length that can be written.
+    let _sound = mirror.strings();
+    let origin = mirror.origin().as_bytes();
+    let notes = held.notes.as_slice();
+    let pairs = held.pairs.as_slice();
+    let entries = held.entries.as_slice();
+    match write_text(alloc, writer, origin, notes, pairs, entries) {
+        Ok(()) => Ok(()),
+        Err(_) => Err(SaveFault::WriteFault),
+    }
+}
+
+// Writes the text of these parts.
+fn write_text<W: Write>(
+    alloc: Global,
+    writer: &mut W,
+    origin: &[u8],
+    notes: &[&[u8]],
+    pairs: &[(&Hash, &Hash)],
+    entries: &[&[u8]],
+) -> Result<(), StreamFault>
+    requires { AreParted origin.now (map (λ n. n.now) notes.now) (map pair_bytes pairs.now) (map (λ e. e.now) entries.now) }
+    ensures { WritesText (W.contents writer.old) (W.contents writer.new) (state_text (Parted origin.now (map (λ n. n.now) notes.now) (map pair_bytes pairs.now) (map (λ e. e.now) entries.now))) result }
+{
+    let mut page = Page::new(alloc);
+    match put_body(writer, &mut page, origin, notes, pairs, entries) {
+        Ok(()) => {}
+        Err(fault) => return Err(fault),
+    }
+    finish(writer, &mut page)
+}
+
+// Puts the text of these parts, up to its digest.
+fn put_body<W: Write>(
+    writer: &mut W,
+    page: &mut Page,
+    origin: &[u8],
+    notes: &[&[u8]],
+    pairs: &[(&Hash, &Hash)],
+    entries: &[&[u8]],
+) -> Result<(), StreamFault>
+    requires { AreParted origin.now (map (λ n. n.now) notes.now) (map pair_bytes pairs.now) (map (λ e. e.now) entries.now) }
+    ensures { Puts (W.contents writer.old) (W.contents writer.new) page.old page.new (body_text (Parted origin.now (map (λ n. n.now) notes.now) (map pair_bytes pairs.now) (map (λ e. e.now) entries.now))) result }
+{
+    match put(writer, page, b"TLMIRR02".as_slice()) {
+        Ok(()) => {}
+        Err(fault) => return Err(fault),
+    }
+    match put_short(writer, page, origin) {
+        Ok(()) => {}
+        Err(fault) => return Err(fault),
+    }
+    match put_list(writer, page, Form::Long, notes) {
+        Ok(()) => {}
+        Err(fault) => return Err(fault),
+    }
+    match put_pairs(writer, page, pairs) {
+        Ok(()) => {}
+        Err(fault) => return Err(fault),
+    }
+    put_list(writer, page, Form::Short, entries)
+}

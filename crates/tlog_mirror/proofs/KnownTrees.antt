@@ -1,0 +1,12 @@
+-- What a mirror knows of its trees is held.
+use Rattle.std.proofs.Common.{ℕ, List}
+use Rattle.node_store.specs.Strings.{Strings}
+use Rattle.stored_trees.specs.Known.{AreBuilt, AreKnown}
+use Rattle.stored_trees.specs.declared.known.Known.{Known}
+use Rattle.tlog_mirror.specs.Kept.{IsKeptWell}
+use Rattle.tlog_mirror.specs.declared.kept.KeptNote.{KeptNote}
+
+pub all_known : (digest : List ℕ → List ℕ) (origin : List ℕ) (kept : List KeptNote) (strings : Strings)
+    (known : Known) → IsKeptWell digest origin kept strings known.remembered × AreBuilt digest strings known.built →
+    AreKnown digest strings known
+all_known digest origin kept strings known ok = record { remembered = ok.0.settled.known; built = ok.1 }
