@@ -50,7 +50,7 @@ partway_end old other now rest none p =
       | inr m ↦ elim (p.covers s m) [ inl k ↦ k | inr k ↦ absurd (Has-empty s (subst (λ v. Has v s) none k)) ]
     ])
 
--- what is in rest clashes with nothing that is there
+-- what is in rest collides with nothing that is there
 pub partway_clash : (digest : List ℕ → List ℕ) (old other now rest : Strings) (x : List ℕ) → NoClash digest other →
     (ClashesWith digest old other → ⊥) → IsPartway old other now rest → Has rest x → Clashes digest now x → ⊥
 partway_clash digest old other now rest x clean apart p in_rest c =
@@ -70,9 +70,9 @@ partway_clash digest old other now rest x clean apart p in_rest c =
       | inr m ↦ c.differs (clean.same c.other x m in_other c.same_digest)
     ]
 
--- ---- looking for a clash
+-- ---- looking for a collision
 
--- none of other but rest clashes
+-- none of other but rest collides
 pub record IsPassed (digest : List ℕ → List ℕ) (now other rest : Strings) : Type 0 where
   pub left : (s : List ℕ) → Has rest s → Has other s
   pub passed : (s : List ℕ) → Has other s → (Clashes digest now s → ⊥) ⊎ Has rest s

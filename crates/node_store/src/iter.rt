@@ -2,7 +2,7 @@
 ghost use Rattle.std.specs.Iterator.{YieldsFirstBy, item_count};
 ghost use Rattle.node_store.specs.Strings.{string_of};
 
-use crate::pool::{Held, lend};
+use crate::pool::{Slot, borrow_string};
 use crate::strings::Tagged;
 use std::collections::hash_map::Values;
 use std::marker::Model;
@@ -10,11 +10,11 @@ use tlog_hash::Hash;
 
 /// Goes over the strings of a store, each once. The order is open.
 ///
-/// It is seen as the list of the strings that are left. Entries are lent from the store, and nothing
+/// It is seen as the list of the strings that are left. Entries are borrowed from the store, and nothing
 /// is copied.
 #[derive(Drop)]
 pub struct Iter<'a> {
-    left: Values<'a, Hash, Held>,
+    left: Values<'a, Hash, Slot>,
     pool: &'a [u8],
 }
 
@@ -23,7 +23,7 @@ impl<'a> Model for Iter<'a> {
 
     ghost Value = { List (List ℕ) };
 
-    ghost use Rattle.node_store.specs.Held.{held_strings, AllWithin};
+    ghost use Rattle.node_store.specs.Slots.{held_strings, AllWithin};
 
     ghost view = { λ a. held_strings a.pool.now a.left };
 
@@ -32,10 +32,10 @@ impl<'a> Model for Iter<'a> {
 
 impl<'a> Iter<'a> {
     ghost use Rattle.std.specs.Prelude.{◌≡◌};
-    ghost use Rattle.node_store.specs.Held.{held_strings, AllWithin};
+    ghost use Rattle.node_store.specs.Slots.{held_strings, AllWithin};
 
     // The strings of what is left, all of them within the pool.
-    pub(crate) fn new(left: Values<'a, Hash, Held>, pool: &'a [u8]) -> Self
+    pub(crate) fn new(left: Values<'a, Hash, Slot>, pool: &'a [u8]) -> Self
         requires { AllWithin pool.now left }
         ensures { result ≡ held_strings pool.now left.entry }
     {
@@ -52,7 +52,7 @@ impl<'a> Iterator for Iter<'a> {
 
     fn next(&mut self) -> Option<Tagged<'a>> {
         match self.left.next() {
-            Some(held) => Some(lend(held, self.pool)),
+            Some(slot) => Some(borrow_string(slot, self.pool)),
             None => None,
         }
     }

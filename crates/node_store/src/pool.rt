@@ -4,7 +4,7 @@ ghost use Rattle.std.specs.Vec.{vec_capacity};
 ghost use Rattle.std.specs.Cmp.Lexicographic.{pointwise};
 ghost use Rattle.std.specs.HashMap.{IsReordered, IsUnique, spare};
 ghost use Rattle.node_store.specs.Strings.{string_of};
-ghost use Rattle.node_store.specs.Held.{bytes_at, held_string, end_of, IsSized, pooled_bytes};
+ghost use Rattle.node_store.specs.Slots.{bytes_at, held_string, end_of, IsSized, pooled_bytes};
 
 use crate::strings::Tagged;
 use std::alloc::AllocError;
@@ -18,9 +18,9 @@ pub(crate) struct PoolSpan {
     len: usize,
 }
 
-// What is held of a string, beside the pool.
+// What the map has at a digest: where the entry lies in the pool, or the two hashes.
 #[derive(Clone, Copy)]
-pub(crate) enum Held {
+pub(crate) enum Slot {
     Entry(PoolSpan),
     Hashes(Hash, Hash),
 }
@@ -35,20 +35,20 @@ pub(crate) fn bytes_at(pool: &[u8], place: PoolSpan) -> &[u8]
     &pool[start..end]
 }
 
-// The string that is held, lent from the pool.
-pub(crate) fn lend<'a>(held: &'a Held, pool: &'a [u8]) -> Tagged<'a>
-    requires { end_of held.now ≤ length pool.now }
-    ensures { string_of result ≡ held_string pool.now held.now }
+// The string of the slot, borrowed from the slot and the pool.
+pub(crate) fn borrow_string<'a>(slot: &'a Slot, pool: &'a [u8]) -> Tagged<'a>
+    requires { end_of slot.now ≤ length pool.now }
+    ensures { string_of result ≡ held_string pool.now slot.now }
 {
-    match held {
-        Held::Entry(place) => Tagged::Leaf(bytes_at(pool, *place)),
-        Held::Hashes(left, right) => Tagged::Pair(left, right),
+    match slot {
+        Slot::Entry(place) => Tagged::Leaf(bytes_at(pool, *place)),
+        Slot::Hashes(left, right) => Tagged::Pair(left, right),
     }
 }
 
 // Makes room for a string that is new, and changes nothing else.
 pub(crate) fn make_room(
-    held: &mut HashMap<Hash, Held>,
+    held: &mut HashMap<Hash, Slot>,
     pool: &mut Vec<u8>,
     string: Tagged,
 ) -> Result<(), AllocError>
@@ -66,7 +66,7 @@ pub(crate) fn make_room(
 }
 
 // Puts the string's bytes behind the pool, which has room for them.
-pub(crate) fn keep(pool: &mut Vec<u8>, string: Tagged) -> Held
+pub(crate) fn keep(pool: &mut Vec<u8>, string: Tagged) -> Slot
     requires { vec_len pool.old + length (pooled_bytes string) ≤ vec_capacity pool.old }
     ensures pool { pool.new.items ≡ pool.old.items ++ pooled_bytes string.entry }
     ensures string { held_string pool.new.items result ≡ string_of string.entry }
@@ -80,16 +80,16 @@ pub(crate) fn keep(pool: &mut Vec<u8>, string: Tagged) -> Held
                 unreachable!()
             };
             let len = entry.len();
-            Held::Entry(PoolSpan { start, len })
+            Slot::Entry(PoolSpan { start, len })
         }
         Tagged::Pair(left, right) => held_pair(left, right),
     }
 }
 
 // The two hashes, to be held.
-fn held_pair(left: &Hash, right: &Hash) -> Held
-    ensures value { result ≡ Held.Hashes left.now right.now }
+fn held_pair(left: &Hash, right: &Hash) -> Slot
+    ensures value { result ≡ Slot.Hashes left.now right.now }
     ensures sized { IsSized result }
 {
-    Held::Hashes(*left, *right)
+    Slot::Hashes(*left, *right)
 }

@@ -3,12 +3,12 @@ ghost use Rattle.std.specs.Prelude.{◌≡◌, ◌≢◌, ◌↔◌, ℕ, List, 
 ghost use Rattle.std.specs.FinSet as set;
 ghost use Rattle.std.specs.Map.{values_of};
 ghost use Rattle.node_store.specs.Strings.{Strings, string_of, Has, IsHeldAt, Clashes, ClashesWith, NoClash, AllTagged};
-ghost use Rattle.node_store.specs.Held.{AllKeyed};
+ghost use Rattle.node_store.specs.Slots.{AllKeyed};
 ghost use Rattle.tlog_hash.specs.Tree.{joined};
 
 use crate::iter::Iter;
-use crate::keyed::Keyed;
-use crate::pool::{Held, keep, lend, make_room};
+use crate::keyed::KeyedStrings;
+use crate::pool::{Slot, borrow_string, keep, make_room};
 use crate::strings::{Tagged, digest_of, is_same};
 use std::alloc::Global;
 use std::collections::HashMap;
@@ -40,10 +40,10 @@ pub enum AddFault {
 /// ```
 //
 // The map has the two hashes of a pair, or where an entry lies in the pool, which has the bytes of all
-// entries one after the other. So an entry costs no allocation of its own, and is lent as it lies.
+// entries one after the other. So an entry costs no allocation of its own, and is borrowed in place.
 #[derive(Drop)]
 pub struct Store<H: TreeHash> {
-    held: HashMap<Hash, Held>,
+    held: HashMap<Hash, Slot>,
     pool: Vec<u8>,
     by: PhantomData<H>,
 }
@@ -57,7 +57,7 @@ impl<H: TreeHash> Model for Store<H> {
 
     ghost coded = { set.code (coded_list coded_ℕ) };
 
-    ghost use Rattle.node_store.specs.Held.{strings_in, IsByDigest};
+    ghost use Rattle.node_store.specs.Slots.{strings_in, IsByDigest};
 
     ghost view = { λ a. strings_in a.pool.items a.held.entries };
 
@@ -115,7 +115,7 @@ impl<H: TreeHash> Store<H> {
         }
     }
 
-    // Adds a string of which that is the digest.
+    // Adds a string that has that digest.
     fn add_at(&mut self, digest: &Hash, string: Tagged) -> Result<(), AddFault>
         requires { digest.now ≡ H.digest (string_of string) }
         ensures ok { OnOk result (self.new ≡ set.insert self.old (string_of string.entry)) }
@@ -125,7 +125,7 @@ impl<H: TreeHash> Store<H> {
         ensures no_clash { NoClash H.digest self.new }
         ensures tagged { AllTagged self.new }
     {
-        match self.at(digest) {
+        match self.find(digest) {
             Some(held) => {
                 if is_same(held, string) {
                     Ok(())
@@ -137,7 +137,7 @@ impl<H: TreeHash> Store<H> {
         }
     }
 
-    // Adds a string of which the digest is new. All growth comes before any change.
+    // Adds a string whose digest is new. All growth comes before any change.
     fn add_new(&mut self, digest: Hash, string: Tagged) -> Result<(), AddFault>
         requires digest { digest ≡ H.digest (string_of string) }
         requires new { (s : List ℕ) → Has self.old s → H.digest s ≢ digest }
@@ -168,7 +168,7 @@ impl<H: TreeHash> Store<H> {
     pub fn holds(&self, string: Tagged) -> bool
         ensures { IsTrue result ↔ Has self.now (string_of string.entry) }
     {
-        match self.at(&digest_of::<H>(string)) {
+        match self.find(&digest_of::<H>(string)) {
             Some(held) => is_same(held, string),
             None => false,
         }
@@ -178,23 +178,23 @@ impl<H: TreeHash> Store<H> {
     /// digest is. It takes no memory.
     pub fn pair_of(&self, hash: &Hash) -> Option<(Hash, Hash)>
         ensures some { IfSome result (λ p. IsHeldAt H.digest self.now hash.now (joined p)) }
-        ensures none { IfNone result ((l r : List ℕ) → IsHeldAt H.digest self.now hash.now (1 ∷ l ++ r) → ⊥) }
+        ensures none { IfNone result ((l r : List ℕ) → ¬ IsHeldAt H.digest self.now hash.now (1 ∷ l ++ r)) }
         ensures no_clash { NoClash H.digest self.now }
     {
-        match self.at(hash) {
+        match self.find(hash) {
             Some(Tagged::Pair(left, right)) => Some((*left, *right)),
             _ => None,
         }
     }
 
     /// The entry of that digest that is held, and `None` exactly where no entry of that digest is.
-    /// It is lent from the store, without a copy, and takes no memory.
+    /// It is borrowed from the store, without a copy, and takes no memory.
     pub fn entry_of(&self, hash: &Hash) -> Option<&[u8]>
         ensures some { IfSome result (λ e. IsHeldAt H.digest self.now hash.now (0 ∷ e.now)) }
-        ensures none { IfNone result ((e : List ℕ) → IsHeldAt H.digest self.now hash.now (0 ∷ e) → ⊥) }
+        ensures none { IfNone result ((e : List ℕ) → ¬ IsHeldAt H.digest self.now hash.now (0 ∷ e)) }
         ensures no_clash { NoClash H.digest self.now }
     {
-        match self.at(hash) {
+        match self.find(hash) {
             Some(Tagged::Leaf(entry)) => Some(entry),
             _ => None,
         }
@@ -207,8 +207,8 @@ impl<H: TreeHash> Store<H> {
         self.held.len()
     }
 
-    /// The strings that are held, each once. The order is open. They are lent from the store, without a
-    /// copy, and take no memory.
+    /// The strings that are held, each once. The order is open. They are borrowed from the store, without
+    /// a copy, and take no memory.
     pub fn iter(&self) -> Iter<'_>
         ensures all { set.from_list result ≡ self.now }
         ensures once { length result ≡ set.len self.now }
@@ -218,11 +218,11 @@ impl<H: TreeHash> Store<H> {
         Iter::new(self.held.values(), self.pool.as_slice())
     }
 
-    /// Adds all strings of another store, if none of them clashes. It hashes nothing.
+    /// Adds all strings of another store, if none of them collides. It hashes nothing.
     ///
     /// # Errors
     ///
-    /// `Collision` comes exactly where the two sets together clash. It leaves the set as it was, and
+    /// `Collision` comes exactly where the two sets together collide. It leaves the set as it was, and
     /// comes before any memory is asked for. After `OutOfMemory`, which comes only where a growth was
     /// refused, the set lies between what it was and the union.
     pub fn add_all(&mut self, other: &Store<H>) -> Result<(), AddFault>
@@ -240,7 +240,7 @@ impl<H: TreeHash> Store<H> {
         self.add_each(other)
     }
 
-    // Whether a string of the other store clashes.
+    // Whether a string of the other store collides.
     fn clashes_with(&self, other: &Store<H>) -> bool
         ensures clashes { IsTrue result ↔ ClashesWith H.digest self.now other.now }
         ensures no_clash { NoClash H.digest self.now }
@@ -256,9 +256,9 @@ impl<H: TreeHash> Store<H> {
         false
     }
 
-    // Adds all strings of another store, of which none clashes.
+    // Adds all strings of another store, of which none collides.
     fn add_each(&mut self, other: &Store<H>) -> Result<(), AddFault>
-        requires apart { ClashesWith H.digest self.old other.now → ⊥ }
+        requires apart { ¬ ClashesWith H.digest self.old other.now }
         requires no_clash { NoClash H.digest self.old }
         requires tagged { AllTagged self.old }
         ensures ok { OnOk result (self.new ≡ set.union self.old other.now) }
@@ -282,31 +282,31 @@ impl<H: TreeHash> Store<H> {
         requires { digest.now ≡ H.digest (string_of string) }
         ensures { IsTrue result ↔ Clashes H.digest self.now (string_of string.entry) }
     {
-        match self.at(digest) {
+        match self.find(digest) {
             Some(held) => !is_same(held, string),
             None => false,
         }
     }
 
     // The strings that are held, each beside its digest.
-    fn keyed(&self) -> Keyed<'_>
+    fn keyed(&self) -> KeyedStrings<'_>
         ensures all { set.from_list (values_of result) ≡ self.now }
         ensures digests { AllKeyed H.digest result }
         ensures tagged { AllTagged self.now }
         ensures no_clash { NoClash H.digest self.now }
     {
-        Keyed::new(self.held.iter(), self.pool.as_slice())
+        KeyedStrings::new(self.held.iter(), self.pool.as_slice())
     }
 
-    // The string of that digest that is held.
-    fn at(&self, digest: &Hash) -> Option<Tagged<'_>>
+    // Finds the string of that digest that is held.
+    fn find(&self, digest: &Hash) -> Option<Tagged<'_>>
         ensures some { IfSome result (λ s. IsHeldAt H.digest self.now digest.now (string_of s)) }
-        ensures none { IfNone result ((s : List ℕ) → IsHeldAt H.digest self.now digest.now s → ⊥) }
+        ensures none { IfNone result ((s : List ℕ) → ¬ IsHeldAt H.digest self.now digest.now s) }
         ensures no_clash { NoClash H.digest self.now }
         ensures tagged { AllTagged self.now }
     {
         match self.held.get(digest) {
-            Some(held) => Some(lend(held, self.pool.as_slice())),
+            Some(slot) => Some(borrow_string(slot, self.pool.as_slice())),
             None => None,
         }
     }

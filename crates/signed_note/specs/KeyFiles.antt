@@ -1,6 +1,6 @@
 -- Key files: a line for each key, `hmac NAME ID SECRET` or `pin NAME ID DIGEST`.
 use Rattle.std.specs.Prelude.{◌≡◌, ◌≢◌, ℕ, ◌+◌, ◌<◌, ◌^◌, codes, List, [], ◌∷◌, ◌++◌, length}
-use Rattle.std.specs.Prelude.{Result, Ok, Err}
+use Rattle.std.specs.Prelude.{Result, Ok, Err, ⊤}
 use Rattle.hex.specs.Hex.{decode_of}
 use Rattle.byteorder.specs.Endian.{big_bytes}
 use Rattle.signed_note.specs.Names.{newline, space, IsOwnName, IsSecret}
@@ -56,7 +56,7 @@ IsKeyFile bytes (key ∷ keys) =
 -- the bytes do not begin with the ended line of a key
 abbrev pub BeginsWithNoKey : List ℕ → Type 0
 BeginsWithNoKey bytes =
-    (line rest : List ℕ) (key : KeyLine) → bytes ≡ line ++ newline ∷ rest → IsKeyLine line key → ⊥
+    (line rest : List ℕ) (key : KeyLine) → bytes ≡ line ++ newline ∷ rest → ¬ IsKeyLine line key
 
 -- lines of keys stand first, and the line after them, which has that number from 1, is none
 pub record IsBadLine (bytes : List ℕ) (number : ℕ) : Type 0 where
@@ -73,10 +73,10 @@ pub record IsBadLine (bytes : List ℕ) (number : ℕ) : Type 0 where
 abbrev pub ReadsKeys : List ℕ → Result (List KeyLine) KeyFileFault → Type 0
 ReadsKeys bytes (Ok keys) = IsKeyFile bytes keys
 ReadsKeys bytes (Err (BadKeyLine number)) = IsBadLine bytes number
-ReadsKeys bytes (Err OutOfMemory) = Unit {0}
+ReadsKeys bytes (Err OutOfMemory) = ⊤
 
 -- what each answer of a reader of the line of that number says, by what makes a value the line's
 abbrev pub ReadsAs : {X : Type 0} → (X → Type 0) → ℕ → Result X KeyFileFault → Type 0
 ReadsAs Is number (Ok x) = Is x
-ReadsAs {X = X} Is number (Err (BadKeyLine n)) = (n ≡ number) × ((x : X) → Is x → ⊥)
-ReadsAs Is number (Err OutOfMemory) = Unit {0}
+ReadsAs {X = X} Is number (Err (BadKeyLine n)) = (n ≡ number) × ((x : X) → ¬ Is x)
+ReadsAs Is number (Err OutOfMemory) = ⊤

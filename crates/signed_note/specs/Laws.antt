@@ -13,10 +13,10 @@ NoteHasOneReading =
     (bytes text other : List ℕ) (lines others : List SignatureParts) →
     IsNote bytes text lines → IsNote bytes other others → (text ≡ other) × (lines ≡ others)
 
--- bytes have one answer as a note, but for want of memory
+-- bytes have one answer as a note, OutOfMemory apart
 abbrev pub OneNoteAnswer : Type 0
 OneNoteAnswer = HasOneAnswer note.OutOfMemory ReadsNote
 
--- bytes have one answer as a key file, but for want of memory
+-- bytes have one answer as a key file, OutOfMemory apart
 abbrev pub OneKeyAnswer : Type 0
 OneKeyAnswer = HasOneAnswer key_file.OutOfMemory ReadsKeys

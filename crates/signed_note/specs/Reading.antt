@@ -1,8 +1,8 @@
 -- What each answer of a reader of notes says of the bytes: the first refusal that applies, in the
--- order of the faults. An answer other than want of memory is determined by the bytes.
+-- order of the faults. An answer other than OutOfMemory is determined by the bytes.
 -- `ReadsBase64` is cited by the contracts of private functions alone.
 use Rattle.std.specs.Prelude.{◌≡◌, ◌≢◌, ℕ, ◌+◌, ◌-◌, ◌<◌, ◌≤◌, ◌==◌, if◌then◌else◌, List, []}
-use Rattle.std.specs.Prelude.{length, slice_index, All, Result, Ok, Err, count_by}
+use Rattle.std.specs.Prelude.{length, slice_index, All, Result, Ok, Err, count_by, ⊤}
 use Rattle.std.specs.List.{flat_map}
 use Rattle.base64.specs.GeneralPurpose.{IsBytes}
 use Rattle.tlog_text.specs.Hash.{base64_of}
@@ -34,7 +34,7 @@ abbrev pub ReadsBase64 : List ℕ → Result (List ℕ) NoteFault → Type 0
 ReadsBase64 text (Ok bytes) = IsBytes bytes × (text ≡ base64_of bytes)
 ReadsBase64 text (Err note.BadSignatureLine) =
     (bytes : List ℕ) → IsBytes bytes → text ≢ base64_of bytes
-ReadsBase64 text (Err note.OutOfMemory) = Unit {0}
+ReadsBase64 text (Err note.OutOfMemory) = ⊤
 ReadsBase64 text (Err note.NoteTooLong) = ⊥
 ReadsBase64 text (Err note.NotText) = ⊥
 ReadsBase64 text (Err note.NoSignatures) = ⊥
@@ -46,7 +46,7 @@ abbrev pub ReadsLine : List ℕ → Result SignatureParts NoteFault → Type 0
 ReadsLine text (Ok line) = IsSignatureLine line × (text ≡ line_body line)
 ReadsLine text (Err note.BadSignatureLine) =
     (line : SignatureParts) → IsSignatureLine line → text ≢ line_body line
-ReadsLine text (Err note.OutOfMemory) = Unit {0}
+ReadsLine text (Err note.OutOfMemory) = ⊤
 ReadsLine text (Err note.NoteTooLong) = ⊥
 ReadsLine text (Err note.NotText) = ⊥
 ReadsLine text (Err note.NoSignatures) = ⊥
@@ -56,8 +56,8 @@ ReadsLine text (Err note.TooManySignatures) = ⊥
 abbrev pub ReadsSignatureLines : List ℕ → Result (List SignatureParts) NoteFault → Type 0
 ReadsSignatureLines signed (Ok lines) = AreSignatureLines signed lines
 ReadsSignatureLines signed (Err note.BadSignatureLine) =
-    (lines : List SignatureParts) → AreSignatureLines signed lines → ⊥
-ReadsSignatureLines signed (Err note.OutOfMemory) = Unit {0}
+    (lines : List SignatureParts) → ¬ AreSignatureLines signed lines
+ReadsSignatureLines signed (Err note.OutOfMemory) = ⊤
 ReadsSignatureLines signed (Err note.NoteTooLong) = ⊥
 ReadsSignatureLines signed (Err note.NotText) = ⊥
 ReadsSignatureLines signed (Err note.NoSignatures) = ⊥
@@ -80,7 +80,7 @@ pub record HasPart (bytes text signed : List ℕ) : Type 0 where
 abbrev pub ReadsNote : List ℕ → Result NoteParts NoteFault → Type 0
 ReadsNote bytes (Ok parts) = (parts.bytes ≡ bytes) × IsNote bytes parts.text parts.lines
 ReadsNote bytes (Err note.NoteTooLong) = MAX_NOTE_LEN < length bytes
-ReadsNote bytes (Err note.NotText) = (length bytes ≤ MAX_NOTE_LEN) × (IsNoteText bytes → ⊥)
+ReadsNote bytes (Err note.NotText) = (length bytes ≤ MAX_NOTE_LEN) × (¬ IsNoteText bytes)
 ReadsNote bytes (Err note.NoSignatures) =
     IsReadable bytes × ((text signed : List ℕ) → IsNoteSplit bytes text signed → signed ≡ [])
 ReadsNote bytes (Err note.TooManySignatures) =
@@ -89,21 +89,21 @@ ReadsNote bytes (Err note.TooManySignatures) =
 ReadsNote bytes (Err note.BadSignatureLine) =
     (text : List ℕ) × (signed : List ℕ) × HasPart bytes text signed
     × (line_count signed ≤ MAX_LINES)
-    × ((lines : List SignatureParts) → AreSignatureLines signed lines → ⊥)
-ReadsNote bytes (Err note.OutOfMemory) = Unit {0}
+    × ((lines : List SignatureParts) → ¬ AreSignatureLines signed lines)
+ReadsNote bytes (Err note.OutOfMemory) = ⊤
 
 -- what each answer of a constructor of a shared key says of what it is given
 abbrev pub MakesSecret : List ℕ → ℕ → List ℕ → Result Secret KeyFault → Type 0
 MakesSecret name id secret (Ok k) =
     IsOwnName name × IsSecret secret × (k ≡ record { name = name; id = id; secret = secret })
-MakesSecret name id secret (Err key.BadName) = IsOwnName name → ⊥
-MakesSecret name id secret (Err key.BadSecret) = IsOwnName name × (IsSecret secret → ⊥)
-MakesSecret name id secret (Err key.OutOfMemory) = Unit {0}
+MakesSecret name id secret (Err key.BadName) = ¬ IsOwnName name
+MakesSecret name id secret (Err key.BadSecret) = IsOwnName name × (¬ IsSecret secret)
+MakesSecret name id secret (Err key.OutOfMemory) = ⊤
 
 -- what each answer of a constructor of pinned texts says of what it is given
 abbrev pub MakesPins : List ℕ → ℕ → List (List ℕ) → Result Pins KeyFault → Type 0
 MakesPins name id digests (Ok k) =
     IsOwnName name × (k ≡ record { name = name; id = id; digests = digests })
-MakesPins name id digests (Err key.BadName) = IsOwnName name → ⊥
+MakesPins name id digests (Err key.BadName) = ¬ IsOwnName name
 MakesPins name id digests (Err key.BadSecret) = ⊥
-MakesPins name id digests (Err key.OutOfMemory) = Unit {0}
+MakesPins name id digests (Err key.OutOfMemory) = ⊤

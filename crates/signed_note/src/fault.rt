@@ -1,7 +1,7 @@
 //! Why a note, a key or a key file is refused.
 //!
 //! Of the refusals of one call the first that applies is answered, in the order in which they stand
-//! here. Want of memory may come before any of them.
+//! here. `OutOfMemory` may come before any of them.
 
 use std::alloc::{AllocError, AllocFailed};
 use thiserror::Error;

@@ -24,7 +24,7 @@ pub fn first_line(bytes: &[u8]) -> Option<(&[u8], &[u8])>
 /// The id of 32 bits that eight digits are.
 fn id_of(digits: &str) -> Option<u32>
     ensures found { IfSome result (λ id. (id < 2 ^ 32) × IsHexOf digits.now (big_bytes 4 id)) }
-    ensures none { IfNone result ((id : ℕ) → IsHexOf digits.now (big_bytes 4 id) → ⊥) }
+    ensures none { IfNone result ((id : ℕ) → ¬ IsHexOf digits.now (big_bytes 4 id)) }
 {
     let bytes = <[u8; 4]>::from_hex(digits).ok()?;
     Some(BigEndian::read_u32(&bytes))
@@ -34,7 +34,7 @@ fn id_of(digits: &str) -> Option<u32>
 pub fn words_of(text: &str) -> Option<(&str, u32, &str)>
     ensures found { IfSome result (λ x. AreWords text.now x.0.now x.1 x.2.now) }
     ensures first { IfSome result (λ x. (i : ℕ) → i < length x.0.now → slice_index x.0.now i ≢ space) }
-    ensures none { IfNone result ((name digits : List ℕ) (id : ℕ) → IsOwnName name → AreWords text.now name id digits → ⊥) }
+    ensures none { IfNone result ((name digits : List ℕ) (id : ℕ) → IsOwnName name → ¬ AreWords text.now name id digits) }
 {
     let (name, rest) = text.split_once(' ')?;
     let (id_digits, digits) = rest.split_once(' ')?;

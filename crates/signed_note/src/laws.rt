@@ -8,13 +8,13 @@ pub fn notes_law()
     ensures { NoteHasOneReading }
 {}
 
-/// Bytes have one answer of `Note::read`, but for want of memory. So it is `Ok` exactly where the bytes
+/// Bytes have one answer of `Note::read`, `OutOfMemory` apart. So it is `Ok` exactly where the bytes
 /// are a note, and each refusal comes exactly where it is the first that applies.
 pub fn one_answer_law()
     ensures { OneNoteAnswer }
 {}
 
-/// Bytes have one answer of `read_keys`, but for want of memory: they are a key file of one list of keys
+/// Bytes have one answer of `read_keys`, `OutOfMemory` apart: they are a key file of one list of keys
 /// at most, and otherwise one line is the first bad one.
 pub fn one_key_answer_law()
     ensures { OneKeyAnswer }

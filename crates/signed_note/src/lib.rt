@@ -1,7 +1,7 @@
 //! Signed notes and the keys that they open under (C2SP signed-note).
 //!
 //! A note is a text and, after a blank line, the signature lines of one or more keys. `Note::read` reads
-//! one, `open_note` tells whether some line is a signature of a known key, and `sign` makes one. What
+//! one, `open_note` says whether some line is a signature of a known key, and `sign` makes one. What
 //! checks a signature is a `Verifier`: `HmacKey` and `PinnedTexts` are the kinds of this crate, `read_keys`
 //! reads them from a key file, and a caller may bring kinds of its own.
 //!
@@ -37,7 +37,6 @@ pub use fault::{KeyFault, KeyFileFault, NoteFault, OpenFault};
 pub use key_file::read_keys;
 pub use key_line::KeyLine;
 pub use laws::{notes_law, one_answer_law, one_key_answer_law};
-pub use limits::{MAX_LINES, MAX_NAME_LEN, MAX_NOTE_LEN, MAX_SECRET_LEN, MAX_TEXT_LEN};
 pub use line::SignatureLine;
 pub use mac_key::HmacKey;
 pub use note::Note;

@@ -1,16 +1,16 @@
 //! How long notes, names and secrets may be.
 
 /// A note has at most so many bytes.
-pub const MAX_NOTE_LEN: usize = 1_000_000;
+pub(crate) const MAX_NOTE_LEN: usize = 1_000_000;
 
 /// A note has at most so many signature lines.
-pub const MAX_LINES: usize = 100;
+pub(crate) const MAX_LINES: usize = 100;
 
 /// A text to be signed has at most so many bytes, so that the note has room for its line.
-pub const MAX_TEXT_LEN: usize = 900_000;
+pub(crate) const MAX_TEXT_LEN: usize = 900_000;
 
 /// The name of a key of this crate has at most so many bytes.
-pub const MAX_NAME_LEN: usize = 255;
+pub(crate) const MAX_NAME_LEN: usize = 255;
 
 /// A shared secret has at most so many bytes, which are one block of SHA-256.
-pub const MAX_SECRET_LEN: usize = 64;
+pub(crate) const MAX_SECRET_LEN: usize = 64;

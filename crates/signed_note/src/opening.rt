@@ -49,7 +49,7 @@ fn opens(text: &str, lines: &[SignatureLine], keys: &[Box<dyn Verifier>]) -> boo
 ///
 /// # Errors
 ///
-/// `NoTrustedSignature` where no line and key are so.
+/// `NoTrustedSignature` where there is no such line and key.
 pub fn open_note(note: &Note, keys: &[Box<dyn Verifier>]) -> Result<(), OpenFault>
     ensures { IsOk result ↔ Opens note.now.text note.now.lines (map (λ k. key k) keys.now) }
 {

@@ -13,8 +13,8 @@ use std::alloc::Global;
 /// The last place at which two newlines stand together.
 fn blank_line(bytes: &[u8]) -> Option<usize>
     ensures found { IfSome result (λ at. IsBlank bytes.now at) }
-    ensures last { IfSome result (λ at. (j : ℕ) → at < j → IsBlank bytes.now j → ⊥) }
-    ensures none { IfNone result ((j : ℕ) → IsBlank bytes.now j → ⊥) }
+    ensures last { IfSome result (λ at. (j : ℕ) → at < j → ¬ IsBlank bytes.now j) }
+    ensures none { IfNone result ((j : ℕ) → ¬ IsBlank bytes.now j) }
 {
     let mut end = bytes.len();
     while end >= 2 {
@@ -30,7 +30,7 @@ fn blank_line(bytes: &[u8]) -> Option<usize>
 /// blank line.
 pub fn parts_of(whole: &str) -> Option<(&str, &str)>
     ensures found { IfSome result (λ x. IsNoteSplit whole.now x.0.now x.1.now) }
-    ensures none { IfNone result ((text signed : List ℕ) → IsNoteSplit whole.now text signed → ⊥) }
+    ensures none { IfNone result ((text signed : List ℕ) → ¬ IsNoteSplit whole.now text signed) }
 {
     let at = blank_line(whole.as_bytes())?;
     Some((&whole[..at + 1], &whole[at + 2..]))

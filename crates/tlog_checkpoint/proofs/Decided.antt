@@ -49,7 +49,7 @@ end_decided (b ∷ c ∷ rest) = elim (end_decided (c ∷ rest)) [
   | inr none ↦ inr (newline_more b (c ∷ rest) (λ is. cc is) none)
 ]
 
--- an answer that is no want of memory
+-- an answer other than OutOfMemory
 FieldsAnswered : List ℕ → List ℕ → List ℕ → List (List ℕ) → Type 0
 FieldsAnswered o s r e = (a : Result Checkpoint CheckpointFault) × (a ≢ Err OutOfMemory) × ReadsFields o s r e a
 

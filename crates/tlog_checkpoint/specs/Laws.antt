@@ -26,11 +26,11 @@ WhatIsReadIsWritable =
     (text : List ℕ) (c : Checkpoint) → IsCheckpoint text c.origin c.size c.root c.extensions →
     IsWritableCheckpoint c
 
--- two answers to one text that are no want of memory are the same
+-- two answers to one text other than OutOfMemory are the same
 abbrev pub OneCheckpointAnswer : Type 0
 OneCheckpointAnswer = HasOneAnswer OutOfMemory ReadsCheckpoint
 
--- each text has an answer that is no want of memory
+-- each text has an answer other than OutOfMemory
 abbrev pub EachTextHasAnswer : Type 0
 EachTextHasAnswer =
     (text : List ℕ) →

@@ -14,7 +14,7 @@ ended line = line ++ 10 ∷ []
 abbrev pub text_of : List (List ℕ) → List ℕ
 text_of lines = flat_map ended lines
 
--- bytes without a newline, which can be a line, be it empty
+-- bytes without a newline, which can be a line, also an empty one
 abbrev pub IsLine : List ℕ → Type 0
 IsLine line = IsTrue (list_all (λ byte. not (is_newline byte)) line)
 

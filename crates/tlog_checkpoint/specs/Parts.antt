@@ -1,6 +1,6 @@
 -- What the steps of reading a checkpoint answer. `ReadsCheckpointLines` and `ReadsFields` are cited
 -- by the contracts of private functions alone.
-use Rattle.std.specs.Prelude.{◌≡◌, ℕ, ◌<◌, ◌≤◌, List, [], Result, Ok, Err}
+use Rattle.std.specs.Prelude.{◌≡◌, ℕ, ◌<◌, ◌≤◌, List, [], Result, Ok, Err, ⊤}
 use Rattle.tlog_shape.specs.declared.TheConstants.{MAX_SIZE}
 use Rattle.tlog_checkpoint.specs.declared.Checkpoint.{Checkpoint}
 use Rattle.tlog_checkpoint.specs.declared.fault.CheckpointFault.{CheckpointFault}
@@ -11,7 +11,7 @@ use Rattle.tlog_checkpoint.specs.Lines.{HasLines}
 use Rattle.tlog_text.specs.Number.{IsDecimal}
 use Rattle.tlog_text.specs.Hash.{IsHashText}
 
--- the lines of a text, be they few or empty
+-- the lines of a text, also where they are few or empty
 abbrev pub ReadsCheckpointLines : List ℕ → Result (List (List ℕ)) CheckpointFault → Type 0
 ReadsCheckpointLines text (Ok lines) = HasLines text lines
 ReadsCheckpointLines text (Err TooFewLines) =
@@ -20,12 +20,12 @@ ReadsCheckpointLines text (Err EmptyLine) = ⊥
 ReadsCheckpointLines text (Err BadSize) = ⊥
 ReadsCheckpointLines text (Err SizeTooLarge) = ⊥
 ReadsCheckpointLines text (Err BadRoot) = ⊥
-ReadsCheckpointLines text (Err OutOfMemory) = Unit {0}
+ReadsCheckpointLines text (Err OutOfMemory) = ⊤
 
 -- the number of a size's line
 abbrev pub ReadsSize : List ℕ → Result ℕ CheckpointFault → Type 0
 ReadsSize line (Ok n) = IsDecimal line n × (n ≤ MAX_SIZE)
-ReadsSize line (Err BadSize) = (n : ℕ) → IsDecimal line n → ⊥
+ReadsSize line (Err BadSize) = (n : ℕ) → ¬ IsDecimal line n
 ReadsSize line (Err SizeTooLarge) = (n : ℕ) × IsDecimal line n × (MAX_SIZE < n)
 ReadsSize line (Err TooFewLines) = ⊥
 ReadsSize line (Err EmptyLine) = ⊥
@@ -35,7 +35,7 @@ ReadsSize line (Err OutOfMemory) = ⊥
 -- the hash of a root's line
 abbrev pub ReadsRoot : List ℕ → Result (List ℕ) CheckpointFault → Type 0
 ReadsRoot line (Ok root) = IsHashText line root
-ReadsRoot line (Err BadRoot) = (root : List ℕ) → IsHashText line root → ⊥
+ReadsRoot line (Err BadRoot) = (root : List ℕ) → ¬ IsHashText line root
 ReadsRoot line (Err TooFewLines) = ⊥
 ReadsRoot line (Err EmptyLine) = ⊥
 ReadsRoot line (Err BadSize) = ⊥
@@ -54,4 +54,4 @@ ReadsFields origin size root extensions (Err BadRoot) =
     (n : ℕ) × ReadsSize size (Ok n) × ReadsRoot root (Err BadRoot)
 ReadsFields origin size root extensions (Err TooFewLines) = ⊥
 ReadsFields origin size root extensions (Err EmptyLine) = ⊥
-ReadsFields origin size root extensions (Err OutOfMemory) = Unit {0}
+ReadsFields origin size root extensions (Err OutOfMemory) = ⊤

@@ -1,5 +1,5 @@
 -- What reading a text answers: its checkpoint, or the first refusal that applies.
-use Rattle.std.specs.Prelude.{ℕ, ◌<◌, ◌≤◌, List, [], length, Result, Ok, Err}
+use Rattle.std.specs.Prelude.{ℕ, ◌<◌, ◌≤◌, List, [], length, Result, Ok, Err, ⊤}
 use Rattle.std.specs.List.{Contains}
 use Rattle.tlog_shape.specs.declared.TheConstants.{MAX_SIZE}
 use Rattle.tlog_checkpoint.specs.declared.Checkpoint.{Checkpoint}
@@ -30,7 +30,7 @@ pub record HasBadSize (text : List ℕ) : Type 0 where
   pub root_line : List ℕ
   pub extensions : List (List ℕ)
   pub fields : HasFields text origin size_line root_line extensions
-  pub no_size : (n : ℕ) → IsDecimal size_line n → ⊥
+  pub no_size : (n : ℕ) → ¬ IsDecimal size_line n
 
 -- The size is a number over the greatest, however many digits it has.
 pub record HasLargeSize (text : List ℕ) : Type 0 where
@@ -53,9 +53,9 @@ pub record HasBadRoot (text : List ℕ) : Type 0 where
   pub size : ℕ
   pub has_size : IsDecimal size_line size
   pub in_range : size ≤ MAX_SIZE
-  pub no_root : (root : List ℕ) → IsHashText root_line root → ⊥
+  pub no_root : (root : List ℕ) → ¬ IsHashText root_line root
 
--- What reading a text may answer. Want of memory may come at any text.
+-- What reading a text may answer. OutOfMemory may come at any text.
 abbrev pub ReadsCheckpoint : List ℕ → Result Checkpoint CheckpointFault → Type 0
 ReadsCheckpoint text (Ok c) = IsCheckpoint text c.origin c.size c.root c.extensions
 ReadsCheckpoint text (Err TooFewLines) = HasTooFewLines text
@@ -63,4 +63,4 @@ ReadsCheckpoint text (Err EmptyLine) = HasEmptyLine text
 ReadsCheckpoint text (Err BadSize) = HasBadSize text
 ReadsCheckpoint text (Err SizeTooLarge) = HasLargeSize text
 ReadsCheckpoint text (Err BadRoot) = HasBadRoot text
-ReadsCheckpoint text (Err OutOfMemory) = Unit {0}
+ReadsCheckpoint text (Err OutOfMemory) = ⊤

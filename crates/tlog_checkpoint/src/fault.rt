@@ -7,13 +7,13 @@ use std::alloc::{AllocError, AllocFailed};
 use thiserror::Error;
 
 /// Why a text was not read as a checkpoint. Of those that apply, the first in this order is
-/// answered; want of memory may come before any of them.
+/// answered; `OutOfMemory` may come before any of them.
 #[derive(Debug, Drop, PartialEq, Eq, Clone, Copy, Error)]
 pub enum CheckpointFault {
     /// The text has fewer than three lines, or bytes after its last newline.
     #[error("TooFewLines")]
     TooFewLines,
-    /// A line is empty, be it an extension line.
+    /// A line is empty. Extension lines count too.
     #[error("EmptyLine")]
     EmptyLine,
     /// The second line is not decimal digits, or has a leading zero before another digit.

@@ -7,7 +7,7 @@ use tlog_hash::Hash;
 use tlog_shape::MAX_SIZE;
 use tlog_text::{NumberFault, read_hash, read_number};
 
-/// The size that the line gives in decimal digits, of which there may be any number.
+/// The size that the line gives in decimal digits, however many they are.
 pub fn size_of(line: &str) -> Result<u64, CheckpointFault>
     ensures { ReadsSize line.now result }
 {

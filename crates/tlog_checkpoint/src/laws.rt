@@ -18,13 +18,13 @@ pub fn writable_law()
     ensures { WhatIsReadIsWritable }
 {}
 
-/// Two answers to one text are the same, unless memory was wanting: a checkpoint's text is never
+/// Two answers to one text are the same, `OutOfMemory` apart: a checkpoint's text is never
 /// refused, and each other text has one refusal, the first that applies.
 pub fn one_answer_law()
     ensures { OneCheckpointAnswer }
 {}
 
-/// Each text has an answer that is no want of memory: it is a checkpoint, or one of the refusals
+/// Each text has an answer other than `OutOfMemory`: it is a checkpoint, or one of the refusals
 /// applies.
 pub fn each_answered_law()
     ensures { EachTextHasAnswer }

@@ -2,7 +2,7 @@
 
 ghost use Rattle.std.specs.Prelude.{◌≡◌, ◌==◌, ◌≢◌, ℕ, List, Ok, Err, [], ◌∷◌, ◌++◌, length, map, IfOk, MatchOption};
 ghost use Rattle.std.specs.List.{list_any, slice_split};
-ghost use Rattle.std.specs.Result.{result_map_both};
+ghost use Rattle.tlog_text.specs.Answers.{seen};
 ghost use Rattle.tlog_checkpoint.specs.Lines.{is_newline};
 ghost use Rattle.tlog_checkpoint.specs.Grammar.{IsCheckpoint, IsWritableCheckpoint};
 ghost use Rattle.tlog_checkpoint.specs.Parts.{ReadsCheckpointLines, ReadsFields};
@@ -31,7 +31,7 @@ fn parts_of(alloc: Global, text: &str) -> Result<Vec<&str>, AllocError>
 
 /// The lines of the text, each of which ends in a newline.
 fn lines_of(alloc: Global, text: &str) -> Result<Vec<&str>, CheckpointFault>
-    ensures { ReadsCheckpointLines text.now (result_map_both (λ v. map (λ line. line.now) v.items) (λ e. e) result) }
+    ensures { ReadsCheckpointLines text.now (seen (λ v. map (λ line. line.now) v.items) result) }
 {
     let Some(body) = without_last_newline(text) else {
         return Err(CheckpointFault::TooFewLines);
@@ -46,8 +46,8 @@ fn has_empty_line(lines: &[&str]) -> bool
     lines.iter().any(|line| line.is_empty())
 }
 
-/// The lines in memory of their own.
-fn copied(alloc: Global, lines: &[&str]) -> Result<Lines, AllocError>
+/// Copies the lines.
+fn copy_lines(alloc: Global, lines: &[&str]) -> Result<Lines, AllocError>
     ensures { IfOk result (λ copies. copies ≡ map (λ line. line.now) lines.now) }
 {
     let mut copies = Vec::new(alloc);
@@ -70,7 +70,7 @@ fn checkpoint_of(
     let size = size_of(size_line)?;
     let root = root_of(root_line)?;
     let origin = Line::new(String::from_str(alloc, origin)?);
-    let extensions = copied(alloc, extensions)?;
+    let extensions = copy_lines(alloc, extensions)?;
     Ok(Checkpoint {
         origin,
         size,
@@ -79,7 +79,7 @@ fn checkpoint_of(
     })
 }
 
-/// What `read` answers, of which its other clauses follow.
+/// What `read` answers. Its other clauses follow from this one.
 fn checkpoint_in(alloc: Global, text: &str) -> Result<Checkpoint, CheckpointFault>
     ensures { ReadsCheckpoint text.now result }
 {
@@ -102,7 +102,7 @@ fn checkpoint_in(alloc: Global, text: &str) -> Result<Checkpoint, CheckpointFaul
 /// The first of these that applies:
 ///
 /// - `TooFewLines`: fewer than three lines, or bytes after the last newline;
-/// - `EmptyLine`: some line is empty, be it an extension line;
+/// - `EmptyLine`: some line is empty, extension lines included;
 /// - `BadSize`: the second line is not decimal digits, or has a leading zero before another digit;
 /// - `SizeTooLarge`: its number is over 9223372036854775807, however many digits it has;
 /// - `BadRoot`: the third line is not the standard base64 of exactly 32 bytes, padded and canonical.
@@ -111,7 +111,7 @@ fn checkpoint_in(alloc: Global, text: &str) -> Result<Checkpoint, CheckpointFaul
 pub fn read(alloc: Global, text: &str) -> Result<Checkpoint, CheckpointFault>
     // What is read is a checkpoint of that text, and each refusal is the first that applies.
     ensures answer { ReadsCheckpoint text.now result }
-    // The text of a checkpoint is read as that checkpoint, unless memory is wanting.
+    // The text of a checkpoint is read as that checkpoint, unless memory was refused.
     ensures only { (c : Checkpoint) → IsCheckpoint text.now c.origin c.size c.root c.extensions → result ≢ Err CheckpointFault.OutOfMemory → result ≡ Ok c }
     // What was read can be written.
     ensures writable { IfOk result IsWritableCheckpoint }

@@ -23,7 +23,7 @@ impl Model for Line {
 }
 
 impl Line {
-    /// That text. Whether it can stand in a checkpoint is asked where the checkpoint is written.
+    /// A line of that text. `write` requires that it can stand in a checkpoint.
     pub fn new(text: String) -> Self
         ensures { result ≡ string_bytes text }
     {
@@ -35,14 +35,6 @@ impl Line {
         ensures { result.now ≡ self.now }
     {
         self.text.as_str()
-    }
-
-    /// The text, given back.
-    pub fn into_string(self) -> String
-        ensures { string_bytes result ≡ self }
-    {
-        let Line { text } = self;
-        text
     }
 }
 
@@ -90,14 +82,6 @@ impl Lines {
         ensures { map string_bytes result.now ≡ self.now }
     {
         self.lines.as_slice()
-    }
-
-    /// The lines, given back.
-    pub fn into_vec(self) -> Vec<String>
-        ensures { map string_bytes result.items ≡ self }
-    {
-        let Lines { lines } = self;
-        lines
     }
 }
 

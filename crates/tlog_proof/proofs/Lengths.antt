@@ -10,7 +10,7 @@ use Rattle.tlog_shape.proofs.Splits.{split_of-below, split_of-half, split_of-pow
 use Rattle.tlog_hash.specs.Tree.{tree_of, mth}
 use Rattle.tlog_hash.proofs.Trees.{tree_of-none, tree_of-one, induction}
 use Rattle.tlog_shape.specs.declared.TheConstants.{MAX_SIZE}
-use Rattle.tlog_proof.specs.declared.TheConstants.{MAX_PATH}
+use Rattle.tlog_proof.specs.declared.limits.TheConstants.{MAX_PATH}
 use Rattle.tlog_proof.specs.Inclusion.{path_in, path_of}
 use Rattle.tlog_proof.specs.Consistency.{proof_in, subproof_of, proof_of}
 use Rattle.tlog_proof.specs.Laws.{PathsAreShort}

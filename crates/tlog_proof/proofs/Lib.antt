@@ -11,4 +11,3 @@ pub mod Parts
 pub mod Lines
 pub mod Spelling
 pub mod Lengths
-pub mod Rows

@@ -170,7 +170,7 @@ IsMetByInclusion digest entries i entry path string =
     ⊎ Contains (strings digest entries) string)
 
 -- a path that is accepted for entry i of a list shows that entry, where nothing that is hashed
--- clashes
+-- collides
 abbrev pub AcceptedInclusionShows : Type 0
 AcceptedInclusionShows =
     (digest : List ℕ → List ℕ) → ((s : List ℕ) → length (digest s) ≡ 32) →
@@ -186,7 +186,7 @@ IsMetByConsistency digest ds es path string =
     ⊎ (Contains (strings digest ds) string ⊎ Contains (strings digest es) string)
 
 -- a path of hashes that is accepted for the sizes and roots of two lists shows that the first is a
--- prefix of the second, where nothing that is hashed clashes
+-- prefix of the second, where nothing that is hashed collides
 abbrev pub AcceptedConsistencyShows : Type 0
 AcceptedConsistencyShows =
     (digest : List ℕ → List ℕ) → ((s : List ℕ) → length (digest s) ≡ 32) →

@@ -1,8 +1,7 @@
 -- What is asked for, and what is answered.
-use Rattle.std.specs.Prelude.{ℕ, ◌+◌, ◌*◌, ◌^◌, ◌∷◌, List, [], length, take, slice_index_or, nat_lt}
+use Rattle.std.specs.Prelude.{ℕ, ◌∷◌, List, [], length, take, slice_index_or, nat_lt}
 use Rattle.std.specs.Prelude.{nat_le, nat_eq, if◌then◌else◌, Result, Ok, Err}
 use Rattle.tlog_hash.specs.Tree.{mth}
-use Rattle.tlog_hash.specs.Rows.{level_row}
 use Rattle.tlog_text.specs.Answers.{seen}
 use Rattle.tlog_proof.specs.Inclusion.{path_of, IsInclusion}
 use Rattle.tlog_proof.specs.Consistency.{proof_of, IsConsistency}
@@ -36,12 +35,6 @@ module _ (digest : List ℕ → List ℕ) where
       Err FirstIsZero else (if nat_lt second first then Err Backwards
       else
       Ok (proof_of digest first (take second entries))))
-
-  -- the hashes of a tile, where the list has their entries
-  abbrev pub row_in : List (List ℕ) → ℕ → ℕ → ℕ → Result (List (List ℕ)) ProofFault
-  row_in entries level index width =
-      if nat_lt (length entries) ((256 * index + width) * 256 ^ level) then Err NoSuchSize
-      else Ok (level_row digest entries level (256 * index) width)
 
   -- the proof that was asked for: the path with the numbers asked for, the roots, and the leaf hash
   abbrev pub asked_proof : List (List ℕ) → Ask → Result Proof ProofFault

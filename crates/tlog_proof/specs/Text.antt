@@ -2,12 +2,12 @@
 -- a newline. Numbers are decimal without leading zeros, and hashes standard base64 with padding
 -- (RFC 4648, section 4). `LacksNewline` is cited by the contracts of private functions alone.
 use Rattle.std.specs.Prelude.{◌≡◌, ◌≢◌, ℕ, ◌≤◌, ◌<◌, List, [], ◌∷◌, ◌++◌, length, slice_index}
-use Rattle.std.specs.Prelude.{codes, Result, Ok, Err}
+use Rattle.std.specs.Prelude.{codes, Result, Ok, Err, ⊤}
 use Rattle.std.specs.Fmt.{decimal}
 use Rattle.std.specs.List.{AllByRecursion}
 use Rattle.tlog_text.specs.Hash.{base64_of, Is32Bytes}
 use Rattle.tlog_shape.specs.declared.TheConstants.{MAX_SIZE}
-use Rattle.tlog_proof.specs.declared.TheConstants.{MAX_PATH, MAX_TEXT}
+use Rattle.tlog_proof.specs.declared.limits.TheConstants.{MAX_PATH, MAX_TEXT_LEN}
 use Rattle.tlog_proof.specs.declared.proof.Proof.{Proof}
 use Rattle.tlog_proof.specs.declared.proof.Proof.TheVariants.{Inclusion, Consistency}
 use Rattle.tlog_proof.specs.declared.fault.TextFault.{TextFault}
@@ -75,12 +75,12 @@ pub record IsProofText (text : List ℕ) (proof : Proof) : Type 0 where
 -- what each answer of a reader of proof texts says of the text
 abbrev pub ReadsProof : List ℕ → Result Proof TextFault → Type 0
 ReadsProof text (Ok proof) = IsProofText text proof
-ReadsProof text (Err BadProofText) = (proof : Proof) → IsProofText text proof → ⊥
-ReadsProof text (Err OutOfMemory) = Unit {0}
+ReadsProof text (Err BadProofText) = (proof : Proof) → ¬ IsProofText text proof
+ReadsProof text (Err OutOfMemory) = ⊤
 
 -- a text is one proof at most, a proof has one text, and no text is longer than these
 pub record HasOneSpelling : Type 0 where
   pub one_proof : (text : List ℕ) (a b : Proof) → IsProofText text a → IsProofText text b → a ≡ b
   pub one_text : (s t : List ℕ) (proof : Proof) → IsProofText s proof → IsProofText t proof → s ≡ t
-  pub short : (text : List ℕ) (proof : Proof) → IsProofText text proof → length text ≤ MAX_TEXT
+  pub short : (text : List ℕ) (proof : Proof) → IsProofText text proof → length text ≤ MAX_TEXT_LEN
   pub longest : (text : List ℕ) (proof : Proof) → IsProofText text proof → length text ≤ 3365

@@ -99,7 +99,7 @@ fn grows<H: TreeHash>(
         return false;
     }
     let at = to_block(first - 1, second - 1);
-    // The index is 0 where the first size is a power of two: the first root stands in front of the
+    // The index is 0 where the first size is a power of two: the first root stands before the
     // path.
     if at.0 == 0 {
         leads_to::<H>(at.0, at.1, first_root, path, first_root, second_root)

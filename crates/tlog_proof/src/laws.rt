@@ -41,13 +41,13 @@ pub fn made_consistency_law()
 {}
 
 /// An inclusion proof that is accepted for an index of a list shows the entry at that index, where the
-/// strings that are hashed on either side do not clash.
+/// strings that are hashed on either side do not collide.
 pub fn accepted_inclusion_law()
     ensures { AcceptedInclusionShows }
 {}
 
 /// A consistency proof that is accepted for the sizes and roots of two lists shows that the first is a
-/// prefix of the second, where the strings that are hashed on either side do not clash.
+/// prefix of the second, where the strings that are hashed on either side do not collide.
 pub fn accepted_consistency_law()
     ensures { AcceptedConsistencyShows }
 {}

@@ -11,8 +11,7 @@
 //! `write_text` and `read_text` write a proof as text and read it back.
 //!
 //! ```text
-//! let list = Listed::<Sha256Tree>::new(&[b"", b"\x00", b"\x10"]);
-//! let proof = prove(alloc, &list, Ask::Inclusion { size: 3, index: 2 })?;
+//! let proof = prove(alloc, &ranges, Ask::Inclusion { size: 3, index: 2 })?;
 //! let text = write_text(alloc, &proof)?;
 //! read_text(alloc, &text)? == proof
 //! holds::<Sha256Tree>(&proof)      // true
@@ -22,19 +21,13 @@
 mod check;
 mod fault;
 mod laws;
+mod limits;
 mod make;
-mod memory;
 mod path;
 mod proof;
 mod ranges;
 mod read;
 mod write;
-
-/// The most hashes that a path of a proof's text has.
-pub const MAX_PATH: usize = 64;
-
-/// No text of a proof has more bytes, so a reader may stop there. The longest has 3,365.
-pub const MAX_TEXT: usize = 8192;
 
 pub use check::{check_consistency, check_inclusion};
 pub use fault::TextFault;
@@ -42,8 +35,8 @@ pub use laws::{
     accepted_consistency_law, accepted_inclusion_law, cons_law, incl_law, made_consistency_law,
     made_inclusion_law, path_law, path_length_law, proof_law, text_law,
 };
-pub use make::{ProofFault, consistency, inclusion, row_of};
-pub use memory::Listed;
+pub use limits::MAX_TEXT_LEN;
+pub use make::{ProofFault, consistency, inclusion};
 pub use path::HashPath;
 pub use proof::{Ask, Proof, holds, prove};
 pub use ranges::Ranges;

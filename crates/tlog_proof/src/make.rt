@@ -1,11 +1,11 @@
 //! Paths of a list of which only the hashes of ranges are known.
-ghost use Rattle.std.specs.Prelude.{◌≡◌, ◌+◌, ◌*◌, ◌<◌, ◌≤◌, ◌^◌, ◌++◌, ℕ, List, length, IfOk, IfErr, OnOk};
+ghost use Rattle.std.specs.Prelude.{◌≡◌, ◌+◌, ◌<◌, ◌≤◌, ◌^◌, ◌++◌, ℕ, List, length, IfOk, IfErr, OnOk};
 ghost use Rattle.tlog_hash.specs.Tree.{mth};
-ghost use Rattle.tlog_hash.specs.Rows.{part, level_row};
+ghost use Rattle.tlog_hash.specs.Rows.{part};
 ghost use Rattle.tlog_proof.specs.Answers.{AnswersAs};
 ghost use Rattle.tlog_proof.specs.Inclusion.{path_of};
 ghost use Rattle.tlog_proof.specs.Consistency.{subproof_of};
-ghost use Rattle.tlog_proof.specs.Made.{inclusion_in, consistency_in, row_in};
+ghost use Rattle.tlog_proof.specs.Made.{inclusion_in, consistency_in};
 ghost use Rattle.tlog_proof.specs.declared.make.ProofFault.TheVariants.{OutOfMemory};
 
 use crate::ranges::Ranges;
@@ -99,65 +99,6 @@ pub fn consistency<R: Ranges>(
     Ok(path)
 }
 
-/// The hashes of a tile: `width` hashes of that level, each of `256^level` entries, from the one with the
-/// number `256 * index` on (C2SP tlog-tiles, "Merkle Tree").
-///
-/// # Errors
-///
-/// `NoSuchSize` where the list has fewer entries than these hashes are of; `OutOfMemory` at any step.
-pub fn row_of<R: Ranges>(
-    alloc: Global,
-    ranges: &R,
-    level: u32,
-    index: u64,
-    width: u32,
-) -> Result<Vec<Hash>, ProofFault>
-    requires { level ≤ 7 }
-    ensures { (entries : List (List ℕ)) → R.lists ranges.now entries → AnswersAs ProofFault.OutOfMemory (λ v. v.items) result (row_in R.digest entries level index width) }
-{
-    let size = ranges.size();
-    // How many hashes the level has.
-    let hashes = size / entries_of(level);
-    if index > hashes / 256 {
-        return Err(ProofFault::NoSuchSize);
-    }
-    let first = 256 * index;
-    if u64::from(width) > hashes - first {
-        return Err(ProofFault::NoSuchSize);
-    }
-    add_row(alloc, ranges, level, first, u64::from(width))
-}
-
-// How many entries a hash of a level is of.
-fn entries_of(level: u32) -> u64
-    requires { level ≤ 7 }
-    ensures value { result ≡ 256 ^ level }
-    ensures some { 0 < result }
-{
-    1 << (8 * level)
-}
-
-// The hashes of a level from the one of that number on.
-fn add_row<R: Ranges>(
-    alloc: Global,
-    ranges: &R,
-    level: u32,
-    first: u64,
-    width: u64,
-) -> Result<Vec<Hash>, ProofFault>
-    requires level { level ≤ 7 }
-    requires fits { (first + width) * 256 ^ level < 2 ^ 64 }
-    ensures ok { IfOk result (λ v. (entries : List (List ℕ)) → R.lists ranges.now entries → v.items ≡ level_row R.digest entries level first width) }
-    ensures err { IfErr result (λ e. (entries : List (List ℕ)) → R.lists ranges.now entries → (first + width) * 256 ^ level ≤ length entries → e ≡ ProofFault.OutOfMemory) }
-{
-    let len = entries_of(level);
-    let mut row = Vec::new(alloc);
-    for number in 0..width {
-        row.push(hash_of(ranges, (first + number) * len, len)?)?;
-    }
-    Ok(row)
-}
-
 /// The tree hash of a range that is within the list.
 pub(crate) fn hash_of<R: Ranges>(ranges: &R, start: u64, len: u64) -> Result<Hash, ProofFault>
     ensures ok { IfOk result (λ hash. (entries : List (List ℕ)) → R.lists ranges.now entries → (start + len ≤ length entries) × (hash ≡ mth R.digest (part start len entries))) }
@@ -198,7 +139,7 @@ fn add_path<R: Ranges>(
 }
 
 // Adds the path from the first entries of a range to all of it. Where all of it is the first tree,
-// `held` says that its root is known to who checks.
+// `held` says that the checker knows its root.
 fn add_subproof<R: Ranges>(
     ranges: &R,
     start: u64,

@@ -1,5 +1,5 @@
 //! The hashes of a proof.
-ghost use Rattle.std.specs.Prelude.{◌≡◌, ◌==◌, ◌↔◌, IsTrue, length, nat_eq};
+ghost use Rattle.std.specs.Prelude.{◌≡◌, ◌↔◌, IsTrue, nat_eq};
 ghost use Rattle.std.specs.Cmp.Lexicographic.{pointwise};
 ghost use Rattle.std.specs.Cmp.Rules.{comparing};
 ghost use Rattle.std.proofs.Common.{rules};
@@ -30,33 +30,11 @@ impl HashPath {
         Self { hashes }
     }
 
-    /// The hashes, as a list.
-    pub fn into_vec(self) -> Vec<Hash>
-        ensures { result.items ≡ self }
-    {
-        let HashPath { hashes } = self;
-        hashes
-    }
-
     /// The hashes.
     pub fn as_slice(&self) -> &[Hash]
         ensures { result.now ≡ self.now }
     {
         self.hashes.as_slice()
-    }
-
-    /// How many hashes there are.
-    pub fn len(&self) -> usize
-        ensures { result ≡ length self.now }
-    {
-        self.hashes.len()
-    }
-
-    /// Whether there is none.
-    pub fn is_empty(&self) -> bool
-        ensures { result ≡ (length self.now == 0) }
-    {
-        self.hashes.is_empty()
     }
 }
 

@@ -6,7 +6,7 @@ ghost use Rattle.tlog_hash.specs.Rows.{part};
 use tlog_hash::Hash;
 
 /// The tree hashes of the ranges of one list of entries.
-/// `Listed` has those of a list that is held.
+/// For example a list in memory may hash the entries of each range anew.
 ///
 /// What gives the ranges need not hold the entries: a mirror finds the hashes in tiles. A contract that
 /// speaks of a list holds for each list that the value may stand for.

@@ -5,8 +5,8 @@ ghost use Rattle.tlog_text.specs.Hash.{Is32Bytes};
 ghost use Rattle.tlog_proof.specs.Text.{LacksNewline, line, number_line, hash_line, path_lines, ReadsProof};
 ghost use Rattle.tlog_proof.specs.Reading.{FindsThat, AreProofLines, IsInclusionProof, IsConsistencyProof};
 
-use crate::MAX_PATH;
 use crate::fault::TextFault;
+use crate::limits::MAX_PATH;
 use crate::path::HashPath;
 use crate::proof::Proof;
 use std::alloc::Global;

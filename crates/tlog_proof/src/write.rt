@@ -16,7 +16,7 @@ use tlog_text::{push_hash, push_number};
 /// `path HASH` for each hash of the path. Each line ends in a newline; numbers are decimal without
 /// leading zeros, and hashes standard base64 with padding.
 ///
-/// Numbers of at most 9223372036854775807 and at most `MAX_PATH` hashes of the path are the condition.
+/// Numbers of at most 9223372036854775807 and at most 64 hashes of the path are the condition.
 ///
 /// # Errors
 ///

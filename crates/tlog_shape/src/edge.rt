@@ -48,7 +48,7 @@ pub fn top_level(n: u64) -> u32
 pub fn width_in(n: u64, level: u32, index: u64) -> Option<u32>
     requires { level ≤ 7 }
     ensures some { IfSome result (λ width. IsTile n level index width) }
-    ensures none { IfNone result ((width : ℕ) → IsTile n level index width → ⊥) }
+    ensures none { IfNone result ((width : ℕ) → ¬ IsTile n level index width) }
 {
     let full = edge_index(n, level);
     if index < full {

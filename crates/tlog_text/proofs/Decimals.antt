@@ -30,7 +30,7 @@ no_digits ds n other is =
     let digits : list_all is_ascii_digit ds ≡ true = own.from ds is.numeral.1 in
     cc
 
--- the test of digits with no leading zero tells whether they give a number
+-- the test of digits with no leading zero says whether they give a number
 pub decimal_test : (ds : List ℕ) (r : Bool) → 0 < length ds → (1 < length ds → get_or ds 0 0 ≢ 48) →
     r ≡ list_all is_ascii_digit ds → MatchBool r (IsDecimal ds (digits_value 10 ds)) ((n : ℕ) → IsDecimal ds n → ⊥)
 decimal_test ds true some zero is = decimal_here ds some (sym is) zero

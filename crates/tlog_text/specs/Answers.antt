@@ -10,7 +10,7 @@ seen view (Err e) = Err e
 abbrev pub AlwaysHasOneAnswer : {X Y : Type 0} → (X → Y → Type 0) → Type 0
 AlwaysHasOneAnswer {X} {Y} reads = (input : X) (a b : Y) → reads input a → reads input b → a ≡ b
 
--- an input has one answer, but for want of memory, which this fault tells
+-- an input has one answer, apart from this fault, which says that memory was refused
 abbrev pub HasOneAnswer : {X Y E : Type 0} → E → (X → Result Y E → Type 0) → Type 0
 HasOneAnswer {X} {Y} {E} memory reads =
     (input : X) (a b : Result Y E) →

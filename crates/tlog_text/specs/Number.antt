@@ -15,5 +15,5 @@ pub record IsDecimal (digits : List ℕ) (n : ℕ) : Type 0 where
 -- what each answer to a text says of it, where numbers of at most the greatest are taken
 abbrev pub ReadsNumber : ℕ → List ℕ → Result ℕ NumberFault → Type 0
 ReadsNumber greatest text (Ok n) = IsDecimal text n × (n ≤ greatest)
-ReadsNumber greatest text (Err NotANumber) = (n : ℕ) → IsDecimal text n → ⊥
+ReadsNumber greatest text (Err NotANumber) = (n : ℕ) → ¬ IsDecimal text n
 ReadsNumber greatest text (Err TooLarge) = (n : ℕ) × IsDecimal text n × (greatest < n)

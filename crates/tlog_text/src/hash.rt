@@ -9,7 +9,7 @@ use std::alloc::AllocError;
 const SYMBOLS: usize = 44;
 
 // The bytes but the last.
-fn front(bytes: &[u8; 33]) -> [u8; 32]
+fn drop_last(bytes: &[u8; 33]) -> [u8; 32]
     ensures { result ≡ take 32 bytes.now }
 {
     let mut hash = [0u8; 32];
@@ -26,7 +26,7 @@ fn front(bytes: &[u8; 33]) -> [u8; 32]
 /// symbol, or with another in the place of the one before it, the text is no hash.
 pub fn read_hash(text: &str) -> Option<[u8; 32]>
     ensures some { IfSome result (λ hash. IsHashText text.now hash) }
-    ensures none { IfNone result ((hash : List ℕ) → IsHashText text.now hash → ⊥) }
+    ensures none { IfNone result ((hash : List ℕ) → ¬ IsHashText text.now hash) }
 {
     if text.len() != SYMBOLS {
         return None;
@@ -39,7 +39,7 @@ pub fn read_hash(text: &str) -> Option<[u8; 32]>
     if len != 32 {
         return None;
     }
-    Some(front(&bytes))
+    Some(drop_last(&bytes))
 }
 
 /// Adds the one text of the hash.

@@ -130,7 +130,7 @@ ok_long width bytes es next rest p q =
     (bundle_one es q.entries [] (next ∷ rest) (p.count ∙ sym q.is_bundle.count) p.fits q.is_bundle.fits same).1 in
     absurd cc
 
--- an answer other than want of memory is the only one
+-- an answer other than OutOfMemory is the only one
 pub answer_one : (width : ℕ) (bytes : List ℕ) (a b : Result (List (List ℕ)) BundleFault) → a ≢ Err OutOfMemory →
     b ≢ Err OutOfMemory → ReadsBundle width bytes a → ReadsBundle width bytes b → a ≡ b
 answer_one width bytes (Ok es) (Ok fs) m n p q =

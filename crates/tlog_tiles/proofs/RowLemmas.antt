@@ -36,7 +36,7 @@ row_one (g ∷ a) (h ∷ b) p q n e =
     let others = row_one a b (All-tail is_hash g a p) (All-tail is_hash h b q) (omega arith) rest in
     ap (λ (x : List ℕ). x ∷ a) first ∙ ap (λ (xs : List (List ℕ)). h ∷ xs) others
 
--- an answer other than want of memory is the only one
+-- an answer other than OutOfMemory is the only one
 pub row_answer_one : (width : ℕ) (bytes : List ℕ) (a b : Result (List (List ℕ)) RowFault) → a ≢ Err OutOfMemory →
     b ≢ Err OutOfMemory → ReadsRow width bytes a → ReadsRow width bytes b → a ≡ b
 row_answer_one width bytes (Ok r) (Ok s) m n p q =

@@ -85,7 +85,7 @@ some_slash a b h = h (length a) 0 (omega (arith, length-append a (47 ∷ b))) (g
 pub width_cut : (front last : List ℕ) → front ++ codes ".p/" ++ last ≡ (front ++ codes ".p") ++ 47 ∷ last
 width_cut front last = append_assoc front (codes ".p/") last ∙ sym (append_assoc front (codes ".p") (47 ∷ last))
 
--- what an option says is told where it is none
+-- what an option says, for the case where it is none
 pub if_none : {X : Type 0} (P : Type 0) (r : Option X) → P → IfNone r P
 if_none P None h = h
 if_none P (Some x) h = tt

@@ -1,6 +1,6 @@
 -- Bundles of entries (C2SP tlog-tiles, "Log Entries"), and what each answer of a reader of them
 -- says.
-use Rattle.std.specs.Prelude.{◌≡◌, ℕ, ◌<◌, ◌^◌, List, ◌∷◌, ◌++◌, length, Result, Ok, Err, All}
+use Rattle.std.specs.Prelude.{◌≡◌, ℕ, ◌<◌, ◌^◌, List, ◌∷◌, ◌++◌, length, Result, Ok, Err, All, ⊤}
 use Rattle.std.specs.List.{flat_map}
 use Rattle.std.specs.Int.{w16, to_be_bytes}
 use Rattle.tlog_tiles.specs.declared.bundle.BundleFault.{BundleFault}
@@ -31,7 +31,7 @@ pub record HasBundle (width : ℕ) (bytes rest : List ℕ) : Type 0 where
 -- what each answer of a reader of bundles says of the bytes
 abbrev pub ReadsBundle : ℕ → List ℕ → Result (List (List ℕ)) BundleFault → Type 0
 ReadsBundle width bytes (Ok entries) = IsBundle width bytes entries
-ReadsBundle width bytes (Err BundleShort) = (rest : List ℕ) → HasBundle width bytes rest → ⊥
+ReadsBundle width bytes (Err BundleShort) = (rest : List ℕ) → ¬ HasBundle width bytes rest
 ReadsBundle width bytes (Err BundleLong) =
     (next : ℕ) × (rest : List ℕ) × HasBundle width bytes (next ∷ rest)
-ReadsBundle width bytes (Err OutOfMemory) = Unit {0}
+ReadsBundle width bytes (Err OutOfMemory) = ⊤

@@ -14,7 +14,7 @@ use Rattle.tlog_tiles.specs.declared.bundle.BundleFault.TheVariants as bundle
 use Rattle.tlog_tiles.specs.declared.paths.Path.{Path}
 use Rattle.tlog_tiles.specs.declared.row.RowFault.TheVariants as row
 
--- bytes have one answer as a bundle of a width, want of memory apart
+-- bytes have one answer as a bundle of a width, OutOfMemory apart
 abbrev pub OneBundleAnswer : Type 0
 OneBundleAnswer = (width : ℕ) → HasOneAnswer bundle.OutOfMemory (ReadsBundle width)
 
@@ -24,7 +24,7 @@ BundlesAreShort =
     (width : ℕ) (bytes : List ℕ) (entries : List (List ℕ)) →
     width ≤ 256 → IsBundle width bytes entries → length bytes ≤ MAX_BUNDLE_LEN
 
--- bytes have one answer as a row of a width, want of memory apart
+-- bytes have one answer as a row of a width, OutOfMemory apart
 abbrev pub OneRowAnswer : Type 0
 OneRowAnswer = (width : ℕ) → HasOneAnswer row.OutOfMemory (ReadsRow width)
 

@@ -2,7 +2,7 @@
 -- is spelled, and what each answer of a reader of paths says.
 use Rattle.std.specs.Prelude.{◌≡◌, ◌≢◌, ◌==◌, ℕ, zero, suc, ◌+◌, ◌*◌, ◌/◌, ◌%◌, ◌<◌, ◌≤◌, ◌⊎◌, List}
 use Rattle.std.specs.Prelude.{[], ◌∷◌, ◌++◌, Option, Some, None, Result, Ok, Err, All}
-use Rattle.std.specs.Prelude.{if◌then◌else◌, codes}
+use Rattle.std.specs.Prelude.{if◌then◌else◌, codes, ⊤}
 use Rattle.std.specs.List.{flat_map}
 use Rattle.std.specs.Fmt.{decimal}
 use Rattle.tlog_tiles.specs.declared.paths.TheConstants.{MAX_INDEX}
@@ -33,7 +33,7 @@ number_of before (group ∷ groups) = number_of (before * 1000 + group) groups
 
 -- the first of the groups, if any, is not x000
 abbrev pub BeginsAboveZero : List ℕ → Type 0
-BeginsAboveZero [] = Unit {0}
+BeginsAboveZero [] = ⊤
 BeginsAboveZero (group ∷ groups) = 0 < group
 
 -- the text is the index, in groups of three digits of which each but the last follows an x
@@ -73,7 +73,7 @@ IsKind second =
 abbrev pub HasWidthPart : List ℕ → List ℕ → Option (List ℕ) → Type 0
 HasWidthPart tail index None =
     (tail ≡ index)
-    × ((front last : List ℕ) → HasNoSlash last → tail ≡ front ++ codes ".p/" ++ last → ⊥)
+    × ((front last : List ℕ) → HasNoSlash last → ¬ (tail ≡ front ++ codes ".p/" ++ last))
 HasWidthPart tail index (Some width) = (tail ≡ index ++ codes ".p/" ++ width) × HasNoSlash width
 
 -- ---- the grammar
@@ -103,7 +103,7 @@ pub record HasBadLevel (text : List ℕ) : Type 0 where
   pub second : List ℕ
   pub tail : List ℕ
   pub below : IsBelowTile text second tail
-  pub bad : IsKind second → ⊥
+  pub bad : ¬ IsKind second
 
 -- the second segment is a level or `entries`, and the index is no lawful one
 pub record HasBadIndex (text : List ℕ) : Type 0 where
@@ -114,7 +114,7 @@ pub record HasBadIndex (text : List ℕ) : Type 0 where
   pub below : IsBelowTile text second tail
   pub kind : IsKind second
   pub parts : HasWidthPart tail index_text width_text
-  pub bad : (index : ℕ) → index ≤ MAX_INDEX → IsIndex index_text index → ⊥
+  pub bad : (index : ℕ) → index ≤ MAX_INDEX → ¬ IsIndex index_text index
 
 -- the second segment and the index are as they should be, and the width is not one of a partial
 -- tile
@@ -129,13 +129,13 @@ pub record HasBadWidth (text : List ℕ) : Type 0 where
   pub parts : HasWidthPart tail index_text width_text
   pub index_is : IsIndex index_text index
   pub index_fits : index ≤ MAX_INDEX
-  pub bad : (width : ℕ) → IsWidthOf width_text width → ⊥
+  pub bad : (width : ℕ) → ¬ IsWidthOf width_text width
 
 -- what each answer of a reader of paths says of the text
 abbrev pub ReadsPath : List ℕ → Result Path PathFault → Type 0
 ReadsPath text (Ok path) = IsPath text path
 ReadsPath text (Err Unknown) =
-    (text ≢ codes "checkpoint") × ((second tail : List ℕ) → IsBelowTile text second tail → ⊥)
+    (text ≢ codes "checkpoint") × ((second tail : List ℕ) → ¬ IsBelowTile text second tail)
 ReadsPath text (Err BadLevel) = HasBadLevel text
 ReadsPath text (Err BadIndex) = HasBadIndex text
 ReadsPath text (Err BadWidth) = HasBadWidth text
@@ -171,7 +171,7 @@ path_text (Entries index width) = codes "tile/entries/" ++ (index_text index ++ 
 
 -- the path is one that is read
 abbrev pub IsLawfulPath : Path → Type 0
-IsLawfulPath Checkpoint = Unit {0}
+IsLawfulPath Checkpoint = ⊤
 IsLawfulPath (Tile level index width) =
     (level ≤ 7) × (index ≤ MAX_INDEX) × (1 ≤ width) × (width ≤ 256)
 IsLawfulPath (Entries index width) = (index ≤ MAX_INDEX) × (1 ≤ width) × (width ≤ 256)

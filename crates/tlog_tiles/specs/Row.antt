@@ -1,5 +1,5 @@
 -- Rows of hashes (C2SP tlog-tiles, "Merkle Tree"), and what each answer of a reader of them says.
-use Rattle.std.specs.Prelude.{◌≡◌, ◌≢◌, ℕ, ◌*◌, List, length, Result, Ok, Err, All}
+use Rattle.std.specs.Prelude.{◌≡◌, ◌≢◌, ℕ, ◌*◌, List, length, Result, Ok, Err, All, ⊤}
 use Rattle.std.specs.List.{flat_map}
 use Rattle.tlog_tiles.specs.declared.row.RowFault.{RowFault}
 use Rattle.tlog_tiles.specs.declared.row.RowFault.TheVariants.{RowLength, OutOfMemory}
@@ -18,4 +18,4 @@ pub record IsRow (width : ℕ) (bytes : List ℕ) (row : List (List ℕ)) : Type
 abbrev pub ReadsRow : ℕ → List ℕ → Result (List (List ℕ)) RowFault → Type 0
 ReadsRow width bytes (Ok row) = IsRow width bytes row
 ReadsRow width bytes (Err RowLength) = length bytes ≢ 32 * width
-ReadsRow width bytes (Err OutOfMemory) = Unit {0}
+ReadsRow width bytes (Err OutOfMemory) = ⊤

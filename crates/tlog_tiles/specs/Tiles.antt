@@ -34,7 +34,7 @@ IsWithin n (Entries index width) = IsTileWithin n 0 index width
 pub record IsPartialIn (n level index width : ℕ) : Type 0 where
   pub within : IsWithin n (Tile level index width)
   pub partial : width < 256
-  pub widest : (wider : ℕ) → width < wider → IsWithin n (Tile level index wider) → ⊥
+  pub widest : (wider : ℕ) → width < wider → ¬ IsWithin n (Tile level index wider)
 
 -- the path is that of a partial tile within n entries of which none wider is
 abbrev pub IsEdgeTile : ℕ → Path → Type 0

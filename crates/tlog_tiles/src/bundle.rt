@@ -41,16 +41,22 @@ impl<T: Drop> From<AllocFailed<T>> for BundleFault {
 /// A bundle has at most so many bytes: 256 entries of 65,535 bytes, each after its length.
 pub const MAX_BUNDLE_LEN: usize = 16_777_472;
 
-// The entry at the start, and the bytes behind it.
-fn entry_at(bytes: &[u8]) -> Option<(&[u8], &[u8])>
+/// The entry that the bytes begin with, after its length of two bytes, big-endian, and the bytes behind it
+/// (C2SP tlog-tiles, "Log Entries"). `None` exactly where they begin with none. It takes no memory.
+///
+/// ```text
+/// split_entry(&[0, 1, 97, 9])   // Some((&[97], &[9]))
+/// split_entry(&[0, 2, 97])      // None: one byte is lacking
+/// ```
+pub fn split_entry(bytes: &[u8]) -> Option<(&[u8], &[u8])>
     ensures found { IfSome result (λ x. (length x.0.now < 2 ^ 16) × (bytes.now ≡ entry_text x.0.now ++ x.1.now)) }
-    ensures none { IfNone result ((entry rest : List ℕ) → length entry < 2 ^ 16 → bytes.now ≡ entry_text entry ++ rest → ⊥) }
+    ensures none { IfNone result ((entry rest : List ℕ) → length entry < 2 ^ 16 → ¬ (bytes.now ≡ entry_text entry ++ rest)) }
 {
     if bytes.len() < 2 {
         return None;
     }
-    let (front, after) = bytes.split_at(2);
-    let len = u16::from_be_bytes([front[0], front[1]]) as usize;
+    let (len_bytes, after) = bytes.split_at(2);
+    let len = u16::from_be_bytes([len_bytes[0], len_bytes[1]]) as usize;
     if after.len() < len {
         return None;
     }
@@ -58,8 +64,8 @@ fn entry_at(bytes: &[u8]) -> Option<(&[u8], &[u8])>
 }
 
 /// The entries of a bundle of `width` entries: each stands after its length, two bytes big-endian, and
-/// together they are all of the bytes (C2SP tlog-tiles, "Log Entries"). The entries are lent from the
-/// bytes.
+/// together they are all of the bytes (C2SP tlog-tiles, "Log Entries"). The entries are borrowed from
+/// the bytes.
 ///
 /// # Errors
 ///
@@ -72,7 +78,7 @@ pub fn read_bundle(alloc: Global, width: u32, bytes: &[u8]) -> Result<Vec<&[u8]>
     let mut entries = Vec::new(alloc);
     let mut rest = bytes;
     for _ in 0..width {
-        let Some((entry, after)) = entry_at(rest) else {
+        let Some((entry, after)) = split_entry(rest) else {
             return Err(BundleFault::BundleShort);
         };
         entries.push(entry)?;

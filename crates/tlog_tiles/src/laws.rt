@@ -4,7 +4,7 @@
 //! A law is the contract of a function with an empty body: the proof is all that there is of it.
 ghost use Rattle.tlog_tiles.specs.Laws.{BundlesAreShort, EdgeIsPartialTiles, EdgeLevelsRise, LevelsFoldToTreeHash, OneBundleAnswer, OnePathAnswer, OneRowAnswer, PathsAreSpelled, TrueBytesAreRead};
 
-/// Bytes have one answer as a bundle of a width, want of memory apart: the entries are known from
+/// Bytes have one answer as a bundle of a width, `OutOfMemory` apart: the entries are known from
 /// them, and the three outcomes exclude one another.
 pub fn one_bundle_law()
     ensures { OneBundleAnswer }
@@ -15,7 +15,7 @@ pub fn bundle_length_law()
     ensures { BundlesAreShort }
 {}
 
-/// Bytes have one answer as a row of a width, want of memory apart.
+/// Bytes have one answer as a row of a width, `OutOfMemory` apart.
 pub fn one_row_law()
     ensures { OneRowAnswer }
 {}

@@ -21,11 +21,11 @@ mod laws;
 mod paths;
 mod row;
 
-pub use bundle::{BundleFault, MAX_BUNDLE_LEN, read_bundle, write_bundle};
+pub use bundle::{BundleFault, MAX_BUNDLE_LEN, read_bundle, split_entry, write_bundle};
 pub use edge::edge_paths;
 pub use laws::{
     bundle_length_law, edge_law, edge_order_law, one_bundle_law, one_path_law, one_row_law,
     row_fold_law, served_law, spelling_law,
 };
-pub use paths::{MAX_INDEX, Path, PathFault, print};
+pub use paths::{Path, PathFault, print};
 pub use row::{RowFault, read_row, write_row};

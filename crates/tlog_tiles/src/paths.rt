@@ -11,7 +11,7 @@ use std::str::FromStr;
 use thiserror::Error;
 
 /// The greatest index of a lawful path: 2^55 - 1, that of the last tile of a tree of 2^63 entries.
-pub const MAX_INDEX: u64 = 36028797018963967;
+pub(crate) const MAX_INDEX: u64 = 36028797018963967;
 
 /// The path of one of a log's files.
 ///

@@ -43,34 +43,34 @@ fn cut_last(bytes: &[u8]) -> Option<(&[u8], &[u8])>
 }
 
 // What follows the prefix, where the bytes begin with it.
-fn behind<'a>(bytes: &'a [u8], front: &[u8]) -> Option<&'a [u8]>
-    ensures found { IfSome result (λ rest. bytes.now ≡ front.now ++ rest.now) }
-    ensures none { IfNone result ((rest : List ℕ) → bytes.now ≡ front.now ++ rest → ⊥) }
+fn strip_start<'a>(bytes: &'a [u8], prefix: &[u8]) -> Option<&'a [u8]>
+    ensures found { IfSome result (λ rest. bytes.now ≡ prefix.now ++ rest.now) }
+    ensures none { IfNone result ((rest : List ℕ) → ¬ (bytes.now ≡ prefix.now ++ rest)) }
 {
-    bytes.strip_prefix(front)
+    bytes.strip_prefix(prefix)
 }
 
-// What precedes the end, where the bytes end with it.
-fn ahead_of<'a>(bytes: &'a [u8], end: &[u8]) -> Option<&'a [u8]>
-    ensures found { IfSome result (λ front. bytes.now ≡ front.now ++ end.now) }
-    ensures none { IfNone result ((front : List ℕ) → bytes.now ≡ front ++ end.now → ⊥) }
+// What precedes the suffix, where the bytes end with it.
+fn strip_end<'a>(bytes: &'a [u8], suffix: &[u8]) -> Option<&'a [u8]>
+    ensures found { IfSome result (λ rest. bytes.now ≡ rest.now ++ suffix.now) }
+    ensures none { IfNone result ((rest : List ℕ) → ¬ (bytes.now ≡ rest ++ suffix.now)) }
 {
-    bytes.strip_suffix(end)
+    bytes.strip_suffix(suffix)
 }
 
 // Of a path of three segments or more that begins with `tile`, the second and what follows it.
 pub fn below_tile(bytes: &[u8]) -> Option<(&[u8], &[u8])>
     ensures found { IfSome result (λ x. IsBelowTile bytes.now x.0.now x.1.now) }
-    ensures none { IfNone result ((second tail : List ℕ) → IsBelowTile bytes.now second tail → ⊥) }
+    ensures none { IfNone result ((second tail : List ℕ) → ¬ IsBelowTile bytes.now second tail) }
 {
-    let rest = behind(bytes, b"tile/")?;
+    let rest = strip_start(bytes, b"tile/")?;
     cut_first(rest)
 }
 
 // What a second segment names.
 pub fn kind_of(second: &[u8]) -> Option<Kind>
     ensures found { IfSome result (λ kind. IsOfKind second.now kind) }
-    ensures none { IfNone result (IsKind second.now → ⊥) }
+    ensures none { IfNone result (¬ IsKind second.now) }
 {
     if second == b"entries".as_slice() {
         return Some(Kind::Bundles);
@@ -85,8 +85,8 @@ pub fn kind_of(second: &[u8]) -> Option<Kind>
 pub fn width_part(tail: &[u8]) -> (&[u8], Option<&[u8]>)
     ensures { HasWidthPart tail.now result.0.now (option_copied result.1) }
 {
-    if let Some((front, digits)) = cut_last(tail) {
-        if let Some(index) = ahead_of(front, b".p") {
+    if let Some((before, digits)) = cut_last(tail) {
+        if let Some(index) = strip_end(before, b".p") {
             return (index, Some(digits));
         }
     }
@@ -96,7 +96,7 @@ pub fn width_part(tail: &[u8]) -> (&[u8], Option<&[u8]>)
 // The number of three digits at the start, and the bytes behind them.
 fn three_at(bytes: &[u8]) -> Option<(u64, &[u8])>
     ensures found { IfSome result (λ x. (x.0 < 1000) × (bytes.now ≡ three_digits x.0 ++ x.1.now)) }
-    ensures none { IfNone result ((group : ℕ) (rest : List ℕ) → group < 1000 → bytes.now ≡ three_digits group ++ rest → ⊥) }
+    ensures none { IfNone result ((group : ℕ) (rest : List ℕ) → group < 1000 → ¬ (bytes.now ≡ three_digits group ++ rest)) }
 {
     match bytes {
         [
@@ -117,11 +117,11 @@ fn three_at(bytes: &[u8]) -> Option<(u64, &[u8])>
 // The number of the group at the start, which others follow, and the bytes behind it.
 fn group_at(bytes: &[u8]) -> Option<(u64, &[u8])>
     ensures found { IfSome result (λ x. (x.0 < 1000) × (bytes.now ≡ group_text x.0 ++ x.1.now)) }
-    ensures none { IfNone result ((group : ℕ) (rest : List ℕ) → group < 1000 → bytes.now ≡ group_text group ++ rest → ⊥) }
+    ensures none { IfNone result ((group : ℕ) (rest : List ℕ) → group < 1000 → ¬ (bytes.now ≡ group_text group ++ rest)) }
 {
-    let digits = behind(bytes, b"x")?;
+    let digits = strip_start(bytes, b"x")?;
     let (number, after) = three_at(digits)?;
-    let rest = behind(after, b"/")?;
+    let rest = strip_start(after, b"/")?;
     Some((number, rest))
 }
 
@@ -140,7 +140,7 @@ fn with_group(number: u64, group: u64) -> Option<u64>
 // The index that a text in groups of three digits gives.
 pub fn index_of(text: &[u8]) -> Option<u64>
     ensures found { IfSome result (λ index. IsIndex text.now index × (index ≤ MAX_INDEX)) }
-    ensures none { IfNone result ((index : ℕ) → index ≤ MAX_INDEX → IsIndex text.now index → ⊥) }
+    ensures none { IfNone result ((index : ℕ) → index ≤ MAX_INDEX → ¬ IsIndex text.now index) }
 {
     let mut index = 0;
     let mut rest = text;
@@ -161,7 +161,7 @@ pub fn index_of(text: &[u8]) -> Option<u64>
 // The width that its text gives, or that of a path without one.
 pub fn width_of(text: Option<&[u8]>) -> Option<u32>
     ensures found { IfSome result (λ width. IsWidthOf (option_copied text.entry) width) }
-    ensures none { IfNone result ((width : ℕ) → IsWidthOf (option_copied text.entry) width → ⊥) }
+    ensures none { IfNone result ((width : ℕ) → ¬ IsWidthOf (option_copied text.entry) width) }
 {
     let Some(digits) = text else {
         return Some(256);
@@ -172,7 +172,7 @@ pub fn width_of(text: Option<&[u8]>) -> Option<u32>
 // A width below 256, in decimal digits.
 fn partial_width(digits: &[u8]) -> Option<u32>
     ensures found { IfSome result (λ width. IsPartialWidth digits.now width) }
-    ensures none { IfNone result ((width : ℕ) → IsPartialWidth digits.now width → ⊥) }
+    ensures none { IfNone result ((width : ℕ) → ¬ IsPartialWidth digits.now width) }
 {
     let Ok(text) = str::from_utf8(digits) else {
         return None;

@@ -3,7 +3,7 @@ use Rattle.std.specs.Str.{IsUtf8}
 use Rattle.std.specs.List.{AllByRecursion}
 use Rattle.tlog_text.specs.Hash.{Is32Bytes}
 use Rattle.tlog_proof.specs.Text.{path_lines}
-use Rattle.tlog_proof.specs.declared.TheConstants.{MAX_PATH}
+use Rattle.tlog_proof.specs.declared.limits.TheConstants.{MAX_PATH}
 use Rattle.tlog_proof.proofs.read.path_fields.Given as goal
 
 abbrev pub invariant-loop-rest : goal.invariant-loop-rest

@@ -33,7 +33,7 @@ returns-clause-some c =
     subst (λ s. IsWrittenOver (decoded_bytes_of standard s)
     (replicate 33 0) c.decode_slice.new.output) c.as_bytes.ensures.value c.in-Ok.ensures.written in
     let are = subst (λ s. IsBytes (decoded_bytes_of standard s)) c.as_bytes.ensures.value c.in-Ok.ensures.bytes in
-    subst (IsHashText text) (sym c.front.ensures)
+    subst (IsHashText text) (sym c.drop_last.ensures)
     (found text bytes c.if-text-ne-SYMBOLS.false
     (replicate 33 0) c.decode_slice.new.output c.decode_slice.result c.in-Ok.len value c.in-Ok.is c.if-len-ne32.false
     written are)

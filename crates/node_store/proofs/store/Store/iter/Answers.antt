@@ -2,7 +2,7 @@ use Rattle.std.proofs.Common.{length, ap, ◌∙◌, sym, subst}
 use Rattle.std.proofs.lemmas.List.{length-map}
 use Rattle.std.specs.FinSet as set
 use Rattle.node_store.specs.Strings.{NoClash, AllTagged}
-use Rattle.node_store.specs.Held.{held_string}
+use Rattle.node_store.specs.Slots.{held_string}
 use Rattle.node_store.proofs.Pools.{all_within, len-strings_in, no_clash, all_tagged}
 use Rattle.node_store.proofs.store.Store.iter.Goals as goal
 

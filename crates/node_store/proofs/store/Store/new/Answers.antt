@@ -1,5 +1,5 @@
 use Rattle.std.proofs.Common.{ap}
-use Rattle.node_store.specs.Held.{strings_in}
+use Rattle.node_store.specs.Slots.{strings_in}
 use Rattle.node_store.proofs.store.Store.new.Goals as goal
 
 pub returns : goal.returns
