@@ -1,4 +1,4 @@
--- What was taken of a reader, or given to a writer, that tells its bytes.
+-- What was taken of a reader, or given to a writer, that records its bytes.
 use Rattle.std.specs.Prelude.{ℕ, ◌≤◌, List, length, take, Option}
 use Rattle.std.specs.Io.KnownBytes.{Appends, Consumes}
 

@@ -6,10 +6,11 @@ use Rattle.std.proofs.lemmas.List.{append-nil, length-append, length-drop, lengt
 use Rattle.httparse.specs.Grammar.{print_response}
 use Rattle.byte_streams.specs.Streams.{AppendsPrefix}
 use Rattle.byte_streams.specs.declared.fault.StreamFault.{StreamFault}
-use Rattle.log_sources.specs.declared.source.SourceFault.{SourceFault}
+use Rattle.mirror_sources.specs.declared.source.SourceFault.{SourceFault}
 use Rattle.tlog_text.specs.Answers.{seen}
 use Rattle.mirror_client.specs.Reply.{ReadsReply}
-use Rattle.mirror_client.specs.Source.{IsShortAnswer, Receives, source_fault}
+use Rattle.mirror_sources.specs.Source.{IsShortAnswer}
+use Rattle.mirror_client.specs.Source.{Receives, source_fault}
 use Rattle.mirror_client.specs.declared.limits.TheConstants.{MAX_HEAD_LEN, MAX_REPLY_LEN, MOST_TAKEN}
 
 -- nothing is a prefix of the bytes

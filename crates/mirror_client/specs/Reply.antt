@@ -33,7 +33,7 @@ NamesCoding name =
 -- a field that says that the body is in a coding
 pub record IsCoding (field : Field) : Type 0 where
   pub name : NamesCoding field.0
-  pub value : IsAnyCase field.1 (codes "identity") → ⊥
+  pub value : ¬ IsAnyCase field.1 (codes "identity")
 
 -- a field that gives the length of the body
 abbrev pub IsLengthField : Field → Type 0
@@ -51,7 +51,7 @@ LengthsAre fields n = All (λ field. IsLengthField field → IsLength field.1 n)
 
 -- no field gives a length
 abbrev pub GivesNoLength : List Field → Type 0
-GivesNoLength fields = All (λ field. IsLengthField field → ⊥) fields
+GivesNoLength fields = All (λ field. ¬ IsLengthField field) fields
 
 -- some fields give a length, and all of these give n
 abbrev pub GivesLength : List Field → ℕ → Type 0
@@ -59,11 +59,11 @@ GivesLength fields n = Any IsLengthField fields × LengthsAre fields n
 
 -- some value of a field that gives a length is none, or two are different ones
 abbrev pub HasUnclearLength : List Field → Type 0
-HasUnclearLength fields = (n : ℕ) → LengthsAre fields n → ⊥
+HasUnclearLength fields = (n : ℕ) → ¬ LengthsAre fields n
 
 -- no field says that the body is in a coding
 abbrev pub IsUncoded : List Field → Type 0
-IsUncoded fields = All (λ field. IsCoding field → ⊥) fields
+IsUncoded fields = All (λ field. ¬ IsCoding field) fields
 
 -- ---- replies
 
@@ -91,7 +91,7 @@ SaysOfBody status fields rest (Ok (Some body)) =
     IsPlain status fields × (body ≡ rest)
     × (GivesNoLength fields ⊎ GivesLength fields (length rest))
 SaysOfBody status fields rest (Err (OtherStatus code)) =
-    (code ≡ status) × (IsNotFound status → ⊥) × (status ≢ 200)
+    (code ≡ status) × (¬ IsNotFound status) × (status ≢ 200)
 SaysOfBody status fields rest (Err CodedReply) = (status ≡ 200) × Any IsCoding fields
 SaysOfBody status fields rest (Err BadReply) = IsPlain status fields × HasUnclearLength fields
 SaysOfBody status fields rest (Err BodyShort) =
@@ -104,4 +104,4 @@ abbrev pub ReadsReply : List ℕ → Result (Option (List ℕ)) ReplyFault → T
 ReadsReply bytes answer =
     ((h : ResponseHead) × (rest : List ℕ) × HasReply bytes h rest
     × SaysOfBody (status_code h) (fields_of h) rest answer)
-    ⊎ (((h : ResponseHead) (rest : List ℕ) → HasReply bytes h rest → ⊥) × (answer ≡ Err BadReply))
+    ⊎ (((h : ResponseHead) (rest : List ℕ) → ¬ HasReply bytes h rest) × (answer ≡ Err BadReply))

@@ -1,6 +1,6 @@
 -- Where a log's files stand: a host and a prefix of paths (RFC 9112, sections 3.2 and 3.2.1).
 use Rattle.std.specs.Prelude.{◌≡◌, ◌≢◌, ◌⊎◌, ℕ, ◌≤◌, Bool, ◌&&◌, nat_le, List, [], ◌∷◌, ◌++◌}
-use Rattle.std.specs.Prelude.{length, Result, Ok, Err}
+use Rattle.std.specs.Prelude.{length, Result, Ok, Err, ⊤}
 use Rattle.std.specs.List.{AllPass}
 use Rattle.mirror_client.specs.declared.limits.TheConstants.{MAX_HOST_LEN, MAX_PREFIX_LEN}
 use Rattle.mirror_client.specs.declared.fault.SiteFault.{SiteFault}
@@ -44,6 +44,6 @@ IsSitePrefix prefix = (prefix ≡ []) ⊎ IsSomePrefix prefix
 abbrev pub MakesSite : List ℕ → List ℕ → Result HostAndPrefix SiteFault → Type 0
 MakesSite host prefix (Ok s) =
     IsHost host × IsSitePrefix prefix × (s ≡ record { host = host; prefix = prefix })
-MakesSite host prefix (Err BadHost) = IsHost host → ⊥
-MakesSite host prefix (Err BadPrefix) = IsHost host × (IsSitePrefix prefix → ⊥)
-MakesSite host prefix (Err OutOfMemory) = Unit {0}
+MakesSite host prefix (Err BadHost) = ¬ IsHost host
+MakesSite host prefix (Err BadPrefix) = IsHost host × (¬ IsSitePrefix prefix)
+MakesSite host prefix (Err OutOfMemory) = ⊤

@@ -1,17 +1,12 @@
--- What a source over HTTP receives, and what it may answer.
-use Rattle.std.specs.Prelude.{◌≡◌, ◌⊎◌, ℕ, ◌<◌, ◌≤◌, List, length, Option, Some, None, Result, Ok, Err}
+-- What a source over HTTP receives.
+use Rattle.std.specs.Prelude.{◌≡◌, ◌⊎◌, ℕ, ◌<◌, ◌≤◌, List, length, Option, Result, Ok, Err, ⊤}
 use Rattle.byte_streams.specs.declared.fault.StreamFault.{StreamFault}
 use Rattle.byte_streams.specs.declared.fault.StreamFault.TheVariants as stream
-use Rattle.log_sources.specs.declared.source.SourceFault.{SourceFault}
-use Rattle.log_sources.specs.declared.source.SourceFault.TheVariants.{Failed, OutOfMemory}
+use Rattle.mirror_sources.specs.declared.source.SourceFault.{SourceFault}
+use Rattle.mirror_sources.specs.declared.source.SourceFault.TheVariants.{Failed, OutOfMemory}
 use Rattle.mirror_client.specs.Reply.{ReadsReply}
 use Rattle.mirror_client.specs.declared.fault.ReplyFault.{ReplyFault}
 use Rattle.mirror_client.specs.declared.limits.TheConstants.{MAX_REPLY_LEN}
-
--- an answer of a source that has bytes has at most so many
-abbrev pub IsShortAnswer : ℕ → Option (List ℕ) → Type 0
-IsShortAnswer most None = Unit {0}
-IsShortAnswer most (Some bytes) = length bytes ≤ most
 
 -- the bytes are more than a reply has, 16,785,664, or no reply that is read
 abbrev pub IsNoReply : List ℕ → Type 0
@@ -23,7 +18,7 @@ IsNoReply bytes =
 abbrev pub Receives : List ℕ → Result (Option (List ℕ)) SourceFault → Type 0
 Receives bytes (Ok answer) = (length bytes ≤ MAX_REPLY_LEN) × ReadsReply bytes (Ok answer)
 Receives bytes (Err Failed) = IsNoReply bytes
-Receives bytes (Err OutOfMemory) = Unit {0}
+Receives bytes (Err OutOfMemory) = ⊤
 
 -- the fault of a source whose stream had that fault
 abbrev pub source_fault : StreamFault → SourceFault

@@ -1,7 +1,7 @@
 //! Why a site is not made, and why a reply is not read.
 //!
 //! Of the refusals of one call the first that applies is answered, in the order that the call states.
-//! Want of memory may come before any of them.
+//! `OutOfMemory` may come before any of them.
 
 use std::alloc::AllocError;
 use thiserror::Error;

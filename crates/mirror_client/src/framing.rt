@@ -43,7 +43,7 @@ fn are_digits(bytes: &[u8]) -> bool
 // The length that the digits are.
 fn length_of(digits: &[u8]) -> Option<u64>
     ensures found { IfSome result (λ n. IsLength digits.now n) }
-    ensures none { IfNone result ((n : ℕ) → IsLength digits.now n → ⊥) }
+    ensures none { IfNone result ((n : ℕ) → ¬ IsLength digits.now n) }
 {
     if !are_digits(digits) {
         return None;

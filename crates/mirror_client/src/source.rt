@@ -4,14 +4,15 @@ ghost use Rattle.std.specs.Io.KnownBytes.{Appends, Keeps};
 ghost use Rattle.byte_streams.specs.Streams.{AppendsPrefix, TakesAtMost};
 ghost use Rattle.tlog_text.specs.Answers.{seen};
 ghost use Rattle.mirror_client.specs.Request.{request_text};
-ghost use Rattle.mirror_client.specs.Source.{IsShortAnswer, Receives, source_fault};
+ghost use Rattle.mirror_client.specs.Source.{Receives, source_fault};
+ghost use Rattle.mirror_sources.specs.Source.{IsShortAnswer};
 
 use crate::limits::{MAX_REPLY_LEN, MOST_TAKEN};
 use crate::reply::read_reply;
 use crate::request::get_request;
 use crate::site::Site;
 use byte_streams::{StreamFault, read_all, write_whole};
-use log_sources::{Source, SourceFault};
+use mirror_sources::{Source, SourceFault};
 use std::alloc::Global;
 use std::io;
 use std::io::{Read, Write};

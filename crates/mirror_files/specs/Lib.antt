@@ -4,7 +4,6 @@ pub use Rattle.mirror_folders.specs.Exports
 pub use Rattle.mirror_folders.specs.Faults
 pub use Rattle.mirror_folders.specs.FileLaws
 pub use Rattle.mirror_folders.specs.Places
-pub use Rattle.mirror_folders.specs.Answers
 pub use Rattle.mirror_state.specs.Items
 pub use Rattle.mirror_state.specs.StateText
 pub use Rattle.mirror_state.specs.Reading

@@ -9,8 +9,8 @@
 #![tactic(auto)]
 
 pub use mirror_folders::{
-    DirShelf, DirSource, ExportFault, MOST_BYTES, MemShelf, NamedFolders, Shelf, ShelfError,
-    export, files_law, replace_file,
+    DirShelf, DirSource, ExportFault, MemShelf, NamedFolders, Shelf, ShelfError, export, files_law,
+    replace_file,
 };
 pub use mirror_state::{
     LoadFault, SaveFault, cut_law, load, load_law, loaded_text_law, old_state_law, one_answer_law,

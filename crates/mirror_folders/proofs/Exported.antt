@@ -5,7 +5,7 @@ use Rattle.std.proofs.lemmas.Bool.{false≢true, cases_lt}
 use Rattle.std.proofs.lemmas.List.{length-map}
 use Rattle.tlog_tiles.specs.declared.paths.Path.{Path}
 use Rattle.tlog_tiles.specs.declared.paths.Path.TheVariants.{Checkpoint}
-use Rattle.log_sources.specs.Told.{AddsTold, KeepsTold, Rose, one_more}
+use Rattle.mirror_sources.specs.Told.{AddsTold, KeepsTold, Rose, one_more}
 use Rattle.mirror_model.specs.View.{View}
 use Rattle.tlog_mirror.specs.Tops.{Top, IsServedTop, ServesNothing}
 use Rattle.mirror_folders.specs.Shelf.{CountsFailures, Put, TellsHas, TellsNone, TellsSome}

@@ -11,7 +11,7 @@ use Rattle.std.proofs.lemmas.List.{map-append, nil_from_length, take-append-drop
 use Rattle.std.proofs.lemmas.List.Elements.{All-append, All-cons, All-map, All-nil, Contains-append_cases, All-contains}
 use Rattle.tlog_tiles.specs.declared.paths.Path.{Path}
 use Rattle.tlog_tiles.specs.declared.paths.Path.TheVariants.{Checkpoint}
-use Rattle.log_sources.specs.Told.{AddsTold, KeepsTold}
+use Rattle.mirror_sources.specs.Told.{AddsTold, KeepsTold}
 use Rattle.mirror_model.specs.View.{View}
 use Rattle.mirror_folders.specs.Shelf.{Put, HasPut, Stands}
 use Rattle.mirror_folders.specs.Files.{served_bytes, file_at, full_paths, kind_paths, partial_path, kind_path, paths_of}

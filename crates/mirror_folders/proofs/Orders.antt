@@ -6,7 +6,7 @@ use Rattle.std.proofs.lemmas.Bool.{cases_lt}
 use Rattle.std.proofs.lemmas.List.{append-nil, take-append-drop}
 use Rattle.std.proofs.lemmas.List.FromFn.{take-map-range_with_len, map-range_with_len_more}
 use Rattle.tlog_tiles.specs.declared.paths.Path.{Path}
-use Rattle.log_sources.specs.Told.{AddsTold}
+use Rattle.mirror_sources.specs.Told.{AddsTold}
 use Rattle.mirror_folders.specs.Shelf.{Put}
 use Rattle.mirror_folders.specs.Exports.{AddsPrefix}
 use Rattle.mirror_folders.specs.Files.{kind_paths, tiles_below, tile_paths}

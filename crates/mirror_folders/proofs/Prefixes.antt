@@ -4,7 +4,7 @@ use Rattle.std.proofs.Common.{Err, sym, ap, subst, ◌∙◌, append_assoc, leng
 use Rattle.std.proofs.lemmas.List.{append-nil, take-append-le, map-append}
 use Rattle.std.proofs.Math.Seq.{take-append-add}
 use Rattle.tlog_tiles.specs.declared.paths.Path.{Path}
-use Rattle.log_sources.specs.Told.{AddsTold, KeepsTold}
+use Rattle.mirror_sources.specs.Told.{AddsTold, KeepsTold}
 use Rattle.mirror_folders.specs.Shelf.{Put}
 use Rattle.mirror_folders.specs.Exports.{AddsFiles, AddsPrefix}
 

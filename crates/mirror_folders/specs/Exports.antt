@@ -1,12 +1,12 @@
 -- What an export puts onto a shelf, whatever its answer. `AddsFiles` is cited by the contracts of
 -- private functions alone.
 use Rattle.std.specs.Prelude.{◌≡◌, ℕ, ◌<◌, List, ◌++◌, length, take, Option, Some, None, Result, Ok}
-use Rattle.std.specs.Prelude.{Err, Contains}
+use Rattle.std.specs.Prelude.{Err, Contains, ⊤}
 use Rattle.tlog_tiles.specs.declared.paths.Path.{Path}
 use Rattle.tlog_tiles.specs.declared.paths.Path.TheVariants.{Checkpoint}
 use Rattle.mirror_model.specs.View.{View}
 use Rattle.mirror_model.specs.Served.{Served}
-use Rattle.log_sources.specs.Told.{KeepsTold, AddsTold, Rose}
+use Rattle.mirror_sources.specs.Told.{KeepsTold, AddsTold, Rose}
 use Rattle.mirror_folders.specs.Shelf.{Put, HasPut, Stands, TellsNone, TellsSome}
 use Rattle.mirror_folders.specs.Files.{paths_of, served_bytes, IsServedFiles}
 use Rattle.mirror_folders.specs.declared.fault.ExportFault.{ExportFault}
@@ -72,10 +72,10 @@ module _ (digest : List ℕ → List ℕ) where
   -- the checkpoint comes last: after each put a shelf that had none has one only if every tile and
   -- bundle of it stands there with true bytes
   abbrev pub CheckpointIsLast : View → Option (List Put) → Option (List Put) → Type 0
-  CheckpointIsLast v None new = Unit {0}
+  CheckpointIsLast v None new = ⊤
   CheckpointIsLast v (Some old) None = ⊥
   CheckpointIsLast v (Some old) (Some new) =
-      (HasPut old Checkpoint → ⊥) → (now : List Put) → IsMoment old new now →
+      (¬ HasPut old Checkpoint) → (now : List Put) → IsMoment old new now →
       HasPut now Checkpoint → StandsWhole v now
 
 -- an export blames its shelf only where the shelf's count of failures rose, or stands at its last

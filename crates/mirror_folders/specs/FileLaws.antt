@@ -1,5 +1,5 @@
 -- Which files a log has, in the words of the layout: a law of the list in which they are put.
-use Rattle.std.specs.Prelude.{◌↔◌, ℕ, ◌<◌, Contains}
+use Rattle.std.specs.Prelude.{◌↔◌, ℕ, ◌<◌, Contains, ⊤}
 use Rattle.tlog_tiles.specs.declared.paths.Path.{Path}
 use Rattle.tlog_tiles.specs.declared.paths.Path.TheVariants.{Checkpoint, Tile, Entries}
 use Rattle.tlog_tiles.specs.Tiles.{IsTileWithin}
@@ -9,11 +9,11 @@ use Rattle.mirror_folders.specs.Files.{paths_of}
 -- them, and no more
 pub record IsWidestIn (n level index width : ℕ) : Type 0 where
   pub within : IsTileWithin n level index width
-  pub widest : (wider : ℕ) → width < wider → IsTileWithin n level index wider → ⊥
+  pub widest : (wider : ℕ) → width < wider → ¬ IsTileWithin n level index wider
 
 -- a log of n entries has the file
 abbrev pub IsFileOf : ℕ → Path → Type 0
-IsFileOf n Checkpoint = Unit {0}
+IsFileOf n Checkpoint = ⊤
 IsFileOf n (Tile level index width) = IsWidestIn n level index width
 IsFileOf n (Entries index width) = IsWidestIn n 0 index width
 

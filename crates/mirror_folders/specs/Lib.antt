@@ -4,4 +4,3 @@ pub mod Exports
 pub mod Faults
 pub mod FileLaws
 pub mod Places
-pub mod Answers

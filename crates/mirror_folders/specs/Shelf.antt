@@ -1,8 +1,8 @@
 -- What a shelf tells of what was put onto it.
 use Rattle.std.specs.Prelude.{◌≡◌, ◌↔◌, ℕ, List, [], ◌∷◌, ◌++◌, map, Option, Some, None, Result, Ok}
-use Rattle.std.specs.Prelude.{Err, Bool, IsTrue, Contains}
+use Rattle.std.specs.Prelude.{Err, Bool, IsTrue, Contains, ⊤}
 use Rattle.tlog_tiles.specs.declared.paths.Path.{Path}
-use Rattle.log_sources.specs.Told.{KeepsTold, AddsTold, one_more}
+use Rattle.mirror_sources.specs.Told.{KeepsTold, AddsTold, one_more}
 use Rattle.mirror_folders.specs.declared.shelf.ShelfError.{ShelfError}
 use Rattle.mirror_folders.specs.declared.shelf.ShelfError.TheVariants.{Failed, OutOfMemory}
 
@@ -21,7 +21,7 @@ pub record Stands (puts : List Put) (path : Path) (bytes : List ℕ) : Type 0 wh
   pub puts_are : puts ≡ before ++ (path, bytes) ∷ after
   pub kept : (other : List ℕ) → Contains after (path, other) → other ≡ bytes
 
--- a put that answers Ok is told last, and one that answers an error left all as it was
+-- a put that answers Ok is recorded last, and one that answers an error left all as it was
 abbrev pub TellsPut : {T : Type 0} → Option (List Put) → Option (List Put) → Put →
     Result T ShelfError → Type 0
 TellsPut old new put (Ok x) = AddsTold old new (put ∷ [])
@@ -29,20 +29,20 @@ TellsPut old new put (Err e) = KeepsTold old new
 
 -- the answer tells whether something was put at the path
 abbrev pub TellsHas : Option (List Put) → Path → Bool → Type 0
-TellsHas None path answer = Unit {0}
+TellsHas None path answer = ⊤
 TellsHas (Some puts) path answer = IsTrue answer ↔ HasPut puts path
 
 -- nothing was put at the path, as far as the shelf tells
 abbrev pub TellsNone : Option (List Put) → Path → Type 0
-TellsNone None path = Unit {0}
-TellsNone (Some puts) path = HasPut puts path → ⊥
+TellsNone None path = ⊤
+TellsNone (Some puts) path = ¬ HasPut puts path
 
 -- something was put at the path, as far as the shelf tells
 abbrev pub TellsSome : Option (List Put) → Path → Type 0
-TellsSome None path = Unit {0}
+TellsSome None path = ⊤
 TellsSome (Some puts) path = HasPut puts path
 
--- the shelf's count of failures rises by one at each failure, and want of memory is none
+-- the shelf's count of failures rises by one at each failure, and OutOfMemory is none
 abbrev pub CountsError : ℕ → ℕ → ShelfError → Type 0
 CountsError old new Failed = new ≡ one_more old
 CountsError old new OutOfMemory = new ≡ old

@@ -5,7 +5,7 @@ ghost use Rattle.mirror_folders.specs.Shelf.{CountsError};
 use crate::flush::{flush_files, flush_folder};
 use crate::folders::NamedFolders;
 use crate::leftovers::Leftovers;
-use crate::place::{counted, file_path, folder_of, is_missing};
+use crate::place::{count_failure, file_path, folder_of, is_missing};
 use crate::replace::put_whole;
 use crate::shelf::{Shelf, ShelfError};
 use std::alloc::{AllocError, Global};
@@ -135,7 +135,7 @@ impl<'a, R: Files> DirShelf<'a, R> {
         if e.kind() == ErrorKind::OutOfMemory {
             return ShelfError::OutOfMemory;
         }
-        self.failures = counted(self.failures);
+        self.failures = count_failure(self.failures);
         ShelfError::Failed
     }
 }

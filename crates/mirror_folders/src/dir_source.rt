@@ -1,21 +1,17 @@
 //! A folder as a source.
 ghost use Rattle.std.specs.Prelude.{◌≡◌, ◌≤◌, IfOk, IfSome, vec_len};
-ghost use Rattle.mirror_folders.specs.Answers.{most_bytes};
 
-use crate::place::{counted, file_path, is_missing};
+use crate::place::{count_failure, file_path, is_missing};
 use byte_streams::{StreamFault, read_all};
-use log_sources::{Source, SourceFault};
+use mirror_sources::{Source, SourceFault};
 use std::alloc::Global;
 use std::fs::Files;
 use std::marker::Model;
 use std::{fs, io};
-use tlog_tiles::Path;
-
-/// How many bytes a file may have: those of the longest lawful bundle, 256 entries of 65,535 bytes.
-pub const MOST_BYTES: usize = 16_777_472;
+use tlog_tiles::{MAX_BUNDLE_LEN, Path};
 
 /// A folder as a source: a file lies at the folder's path, a slash, and the text of its path in the log. What a folder
-/// holds no contract says: contracts see that an answer has at most `MOST_BYTES` bytes, and how many gets failed.
+/// holds no contract says: contracts see that an answer has at most `MAX_BUNDLE_LEN` bytes, those of the longest bundle, and how many gets failed.
 ///
 /// ```text
 /// let mut source = DirSource::new(&rt, rt.alloc(), "log");
@@ -24,7 +20,7 @@ pub const MOST_BYTES: usize = 16_777_472;
 ///
 /// # Errors
 ///
-/// Of `get`: `Failed` where what is at the path is no plain file, cannot be read, or has more than `MOST_BYTES` bytes, of
+/// Of `get`: `Failed` where what is at the path is no plain file, cannot be read, or has more than `MAX_BUNDLE_LEN` bytes, of
 /// which no more than that and one are read, and where the folder's name is empty; `OutOfMemory` where memory was refused.
 /// A file that is not there is no failure, nor is one below a plain file.
 #[derive(Drop)]
@@ -58,7 +54,7 @@ impl<'a, R: Files> DirSource<'a, R> {
 
     // The bytes of the file at the path, None where there is none.
     fn read(&self, path: &Path) -> Result<Option<Vec<u8>>, SourceFault>
-        ensures { IfOk result (λ found. IfSome found (λ bytes. vec_len bytes ≤ most_bytes)) }
+        ensures { IfOk result (λ found. IfSome found (λ bytes. vec_len bytes ≤ MAX_BUNDLE_LEN)) }
     {
         let place = match file_path(self.alloc, self.folder, path) {
             Ok(place) => place,
@@ -102,11 +98,11 @@ fn open_plain<R: Files>(files: &R, place: &str) -> io::Result<R::File> {
 
 // All the bytes of a file.
 fn read_whole<F: io::Read>(alloc: Global, file: &mut F) -> Result<Vec<u8>, SourceFault>
-    ensures { IfOk result (λ bytes. vec_len bytes ≤ most_bytes) }
+    ensures { IfOk result (λ bytes. vec_len bytes ≤ MAX_BUNDLE_LEN) }
 {
-    match read_all(alloc, file, MOST_BYTES + 1, u64::MAX) {
+    match read_all(alloc, file, MAX_BUNDLE_LEN + 1, u64::MAX) {
         Ok(bytes) => {
-            if bytes.len() > MOST_BYTES {
+            if bytes.len() > MAX_BUNDLE_LEN {
                 return Err(SourceFault::Failed);
             }
             Ok(bytes)
@@ -117,9 +113,10 @@ fn read_whole<F: io::Read>(alloc: Global, file: &mut F) -> Result<Vec<u8>, Sourc
 }
 
 impl<'a, R: Files> Source for DirSource<'a, R> {
-    ghost use Rattle.mirror_folders.specs.Answers.{IsShortAnswer, most_bytes};
+    ghost use Rattle.mirror_sources.specs.Source.{IsShortAnswer};
+    ghost use Rattle.tlog_tiles.specs.declared.bundle.TheConstants.{MAX_BUNDLE_LEN};
 
-    ghost may_answer = { λ _ _ answer. IsShortAnswer most_bytes answer };
+    ghost may_answer = { λ _ _ answer. IsShortAnswer MAX_BUNDLE_LEN answer };
 
     ghost failed = { λ s. s };
 
@@ -128,7 +125,7 @@ impl<'a, R: Files> Source for DirSource<'a, R> {
             Ok(found) => Ok(found),
             Err(SourceFault::OutOfMemory) => Err(SourceFault::OutOfMemory),
             Err(SourceFault::Failed) => {
-                self.failures = counted(self.failures);
+                self.failures = count_failure(self.failures);
                 Err(SourceFault::Failed)
             }
         }

@@ -13,7 +13,7 @@ pub trait NamedFolders: Shelf {
     ghost use Rattle.std.specs.Prelude.{◌≡◌, ℕ, List, Option, None, IfErr, IfOk};
     ghost use Rattle.mirror_folders.specs.Shelf.{Put};
 
-    /// What was put into the folder of a name, the oldest first, where it is told.
+    /// What was put into the folder of a name, the oldest first, where it is recorded.
     ghost held: { Self → List ℕ → Option (List Put) } = { λ _ _. None };
 
     /// Opens the folder of that name: what is put from then on is put there. It need not be there yet.

@@ -24,7 +24,7 @@ mod replace;
 mod shelf;
 
 pub use dir_shelf::DirShelf;
-pub use dir_source::{DirSource, MOST_BYTES};
+pub use dir_source::DirSource;
 pub use exporting::export;
 pub use fault::ExportFault;
 pub use folders::NamedFolders;

@@ -8,7 +8,7 @@ use std::alloc::{AllocError, Global};
 use std::marker::Model;
 use tlog_tiles::Path;
 
-/// A shelf in memory: it tells what it holds, and never fails. Contracts see the list of what was put, the oldest
+/// A shelf in memory: it records what it holds, and never fails. Contracts see the list of what was put, the oldest
 /// first. It is the folder of every name: to open one changes nothing.
 ///
 /// ```text

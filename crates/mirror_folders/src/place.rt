@@ -1,6 +1,6 @@
 //! Where the files of a log lie in a folder.
 ghost use Rattle.std.specs.Prelude.{◌≡◌, IfOk, string_bytes};
-ghost use Rattle.log_sources.specs.Told.{one_more};
+ghost use Rattle.mirror_sources.specs.Told.{one_more};
 ghost use Rattle.mirror_folders.specs.Places.{LiesAt};
 
 use std::alloc::Global;
@@ -43,7 +43,7 @@ pub(crate) fn is_missing(e: &io::Error) -> bool {
 }
 
 // A count of failures after one more.
-pub(crate) fn counted(failures: u64) -> u64
+pub(crate) fn count_failure(failures: u64) -> u64
     ensures { result ≡ one_more failures }
 {
     failures.saturating_add(1)

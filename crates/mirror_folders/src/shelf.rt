@@ -30,7 +30,7 @@ impl From<AllocError> for ShelfError {
 /// `DirShelf` keeps them in a folder, a file for each path, as `tile/0/000`.
 pub trait Shelf {
     ghost use Rattle.std.specs.Prelude.{◌≡◌, ℕ, List, Option, None, IfOk};
-    ghost use Rattle.log_sources.specs.Told.{KeepsTold};
+    ghost use Rattle.mirror_sources.specs.Told.{KeepsTold};
     ghost use Rattle.mirror_folders.specs.Shelf.{Put, TellsPut, TellsHas, CountsFailures};
 
     /// What was put, the oldest first, where the shelf tells it. What was put last at a path stands there.

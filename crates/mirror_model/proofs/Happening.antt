@@ -180,7 +180,7 @@ event_again digest keys old between new (Take target item) answer p q =
 event_again digest keys old between new (Merge target source) answer p q =
     merge_again digest keys old between new answer target source p q
 
--- ---- clashes of a union
+-- ---- collisions of a union
 
 module _ (digest : List ℕ → List ℕ) (v w : Strings) (clean : NoClash digest v) (clean' : NoClash digest w) where
   from_union : HasClash digest (set.union v w) → ClashesWith digest v w

@@ -1,4 +1,4 @@
--- The edge of a size and a root is one, where what it hashes is held and nothing clashes.
+-- The edge of a size and a root is one, where what it hashes is held and nothing collides.
 use Rattle.std.proofs.Common.{inl, inr, subst, get_or, ◌≡◌, ℕ, ◌+◌, ◌-◌, ◌*◌, ◌^◌, ◌<◌, ◌≤◌, List, [], ◌∷◌, ◌++◌}
 use Rattle.std.proofs.Common.{length, take, drop, map, sym, refl, ap, ◌∙◌, arith, length-append, length-take}
 use Rattle.std.proofs.Common.{length-drop, take-append-drop}

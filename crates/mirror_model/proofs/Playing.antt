@@ -330,7 +330,7 @@ module _ (digest : List ℕ → List ℕ) (origin : List ℕ) (keys : List Key) 
       (union h.before h.other) b h.after) refused h.merges in
       absurd (m.0 (of target h.before h.found ∙ sym (of source h.other h.found_other)))
 
-  -- a take of a good item that was kept has added it
+  -- a take of a valid item that was kept has added it
   take_adds : (old mid : List View) (target : ℕ) (item : Item) (a : Answer) → AreOf origin old → IsExact a →
       (h : TakesAt digest keys old target item a mid) → IsGood digest origin keys item → (q : List ℕ) →
       Contains (adds item) q → Has (part h.after) q
@@ -604,7 +604,7 @@ run_lengths digest keys old new (e ∷ es) (a ∷ as') run = ap suc (run_lengths
 run_lengths digest keys old new [] (a ∷ as') run = absurd run
 run_lengths digest keys old new (e ∷ es) [] run = absurd run
 
--- answers that are kept and are no clash are exact
+-- answers that are kept and are no collision are exact
 answered_exact : (answers : List Answer) → (Contains answers Clashed → ⊥) →
     AllByRecursion (λ a. is_answered a ≡ true → IsExact a) answers
 answered_exact [] apart = tt
@@ -686,7 +686,7 @@ run_is_reached digest origin keys opened final events answers r apart retried mi
           (λ a h. absurd (cc h)) mirror v found);
     }
 
--- ---- no clash
+-- ---- no collision
 
 module _ (digest : List ℕ → List ℕ) (origin : List ℕ) (keys : List Key) (M : List ℕ → Type 0)
     (clean : (x y : List ℕ) → M x → M y → digest x ≡ digest y → x ≡ y) where

@@ -1,4 +1,4 @@
--- Heads are refused exactly where they are not good, and for one reason.
+-- Heads are refused exactly where they are not valid, and for one reason.
 use Rattle.std.proofs.Common.{◌≡◌, ◌≢◌, ◌⊎◌, inl, inr, ℕ, ◌*◌, List, length, map, Ok, Err, refl, sym, ap, subst, ◌∙◌}
 use Rattle.std.specs.Prelude.{Result}
 use Rattle.std.proofs.lemmas.List.{length-map}
@@ -352,7 +352,7 @@ module _ (digest : List ℕ → List ℕ) (origin : List ℕ) (keys : List Key) 
       same_edge a b p.checkpoint p.step
       (subst (EdgeStep b) (sym (same_open p.checkpoint q.checkpoint p.is_open q.is_open)) q.step)
 
-  -- the checkpoint of a good head, and its rows
+  -- the checkpoint of a valid head, and its rows
   good_edge : (c : Checkpoint) → IsOpenCheckpoint bytes origin keys c → IsGoodHead digest origin keys bytes rows →
       HasEdgeRows digest c.size c.root rows
   good_edge c is good =

@@ -1,4 +1,4 @@
--- Tiles and bundles are refused exactly where they are not good, and for one reason.
+-- Tiles and bundles are refused exactly where they are not valid, and for one reason.
 use Rattle.std.proofs.Common.{◌≡◌, ◌≢◌, ◌⊎◌, inl, inr, ℕ, ◌*◌, List, [], length, Ok, Err, refl, sym, ◌∙◌}
 use Rattle.std.specs.Prelude.{Result}
 use Rattle.std.proofs.lemmas.List.{append-nil}

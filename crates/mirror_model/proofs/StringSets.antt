@@ -124,13 +124,13 @@ pub held_more : (v w : Strings) (wanted : List (List ℕ)) → ((q : List ℕ) �
 held_more v w [] more h = tt
 held_more v w (s ∷ ss) more h = (more s h.0, held_more v w ss more h.1)
 
--- ---- clashes
+-- ---- collisions
 
 pub no_clash_within : (digest : List ℕ → List ℕ) (v w : Strings) → ((q : List ℕ) → Has v q → Has w q) →
     NoClash digest w → NoClash digest v
 no_clash_within digest v w more clean = record { same = λ x y hx hy e. clean.same x y (more x hx) (more y hy) e }
 
--- what clashes within a set clashes within a larger one
+-- what collides within a set collides within a larger one
 pub clash_within : (digest : List ℕ → List ℕ) (v w : Strings) → ((q : List ℕ) → Has v q → Has w q) →
     HasClash digest v → HasClash digest w
 clash_within digest v w more c = record {
@@ -142,7 +142,7 @@ clash_within digest v w more c = record {
   differ = c.differ;
 }
 
--- two sets that clash with each other do so within their union
+-- two sets that collide with each other do so within their union
 pub union_clash : (digest : List ℕ → List ℕ) (v w : Strings) → ClashesWith digest v w →
     HasClash digest (set.union v w)
 union_clash digest v w c = record {

@@ -31,18 +31,19 @@ module _ (digest : List ℕ → List ℕ) where
     pub entries : List (List ℕ)
     pub complete : Complete v size root entries
 
-  -- some edge rows of the size lead to the root, and what they hash is held
-  pub record HasEdgeOf (v : View) (size : ℕ) (root : List ℕ) : Type 0 where
+  -- the edge of that size and root is held: some edge rows, lowest level first, lead to the root, and
+  -- what they hash is held
+  pub record HoldsEdge (held : Strings) (size : ℕ) (root : List ℕ) : Type 0 where
     pub rows : List (List ℕ)
     pub has_edge : HasEdgeRows digest size root rows
-    pub are_held : HasAll v.strings (edge_strings digest (map row_of rows))
+    pub are_held : HasAll held (edge_strings digest (map row_of rows))
 
   -- the note is a head of the view's origin, whose edge is held
   pub record HasEdge (v : View) (note : List ℕ) : Type 0 where
     pub size : ℕ
     pub root : List ℕ
     pub is_head : IsHead note v.origin size root
-    pub edge : HasEdgeOf v size root
+    pub edge : HoldsEdge v.strings size root
 
   -- a lawful view: no two of its strings share a digest, its entries have at most 65,535 bytes, and
   -- the edge of each note is held

@@ -29,7 +29,7 @@ CompleteStays =
     (size : ℕ) (root : List ℕ) (entries : List (List ℕ)) →
     Complete digest v size root entries → Complete digest w size root entries
 
--- what is complete has no other entries in a view that grew, while nothing clashes there
+-- what is complete has no other entries in a view that grew, while nothing collides there
 abbrev pub CompleteKeepsItsList : Type 0
 CompleteKeepsItsList =
     (digest : List ℕ → List ℕ) → IsDigest digest → (v w : View) → IsSubview v w →
@@ -44,4 +44,4 @@ MissingIsNone =
     (digest : List ℕ → List ℕ) → IsDigest digest → (v : View) → IsLawful digest v →
     (size : ℕ) (root : List ℕ) →
     HasHead v size root →
-    ((path : Path) → IsMissing digest v.strings size root path → ⊥) ↔ IsComplete digest v size root
+    ((path : Path) → ¬ IsMissing digest v.strings size root path) ↔ IsComplete digest v size root

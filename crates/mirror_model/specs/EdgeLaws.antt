@@ -9,7 +9,7 @@ use Rattle.mirror_model.specs.TrueLaws.{edge_bytes}
 use Rattle.mirror_model.specs.Strings.{IsDigest}
 
 -- of a size and a root there is one edge at most whose strings are held, while what is held does
--- not clash
+-- not collide
 abbrev pub EdgeIsOne : Type 0
 EdgeIsOne =
     (digest : List ℕ → List ℕ) →

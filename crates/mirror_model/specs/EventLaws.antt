@@ -12,7 +12,7 @@ use Rattle.mirror_model.specs.declared.events.Event.TheVariants.{Merge}
 use Rattle.mirror_model.specs.Steps.{Answer, Exhausted, IsBetween, Takes, Merges, Happens}
 use Rattle.mirror_model.specs.RunLaws.{AreLawful}
 
--- want of memory apart, a take has one answer and leaves one view
+-- OutOfMemory apart, a take has one answer and leaves one view
 abbrev pub TakesHaveOneAnswer : Type 0
 TakesHaveOneAnswer =
     (digest : List ℕ → List ℕ) (keys : List Key) (old new other : View) (item : Item)
@@ -21,7 +21,7 @@ TakesHaveOneAnswer =
     b ≢ Exhausted →
     (a ≡ b) × (new ≡ other)
 
--- want of memory apart, a merge has one answer and leaves one view
+-- OutOfMemory apart, a merge has one answer and leaves one view
 abbrev pub MergesHaveOneAnswer : Type 0
 MergesHaveOneAnswer =
     (digest : List ℕ → List ℕ) (old source new other : View) (a b : Answer) →
@@ -43,7 +43,7 @@ RetriedMergeIsOneMerge =
     Merges digest old other Exhausted between → Merges digest between other answer new →
     Merges digest old other answer new
 
--- after want of memory in a take a new note stands only if the view is the one with the item
+-- after OutOfMemory in a take a new note stands only if the view is the one with the item
 abbrev pub NewNoteMeansWholeItem : Type 0
 NewNoteMeansWholeItem =
     (digest : List ℕ → List ℕ) (keys : List Key) (old new : View) (item : Item) (note : List ℕ) →
@@ -93,12 +93,12 @@ MergesKeepLawful =
     IsLawful digest new
 
 -- what refused memory leaves lies between the old view and the whole one; it is the old one where
--- the event is not allowed, or the whole one clashes; and a new note stands only where all strings
+-- the event is not allowed, or the whole one collides; and a new note stands only where all strings
 -- do
 pub record IsLeft (digest : List ℕ → List ℕ) (old : View) (Allowed : Type 0) (whole new : View)
     : Type 0 where
   pub between : IsBetween old whole new
-  pub not_allowed : (Allowed → ⊥) → new ≡ old
+  pub not_allowed : (¬ Allowed) → new ≡ old
   pub clashing : HasClash digest whole.strings → new ≡ old
 
 -- what a take for which memory was refused leaves: the old view, or one between it and the view
@@ -140,7 +140,7 @@ EventKeepsLawful =
     Happens digest keys old event answer new →
     AreLawful digest new
 
--- want of memory apart, an event at one mirror of a list has one answer, and leaves one list of
+-- OutOfMemory apart, an event at one mirror of a list has one answer, and leaves one list of
 -- views
 abbrev pub EventsHaveOneAnswer : Type 0
 EventsHaveOneAnswer =

@@ -72,8 +72,8 @@ pub record HashesDoNotTellForks : Type 0 where
   pub small_root : mth sum_digest small_list ≡ sum_hash 62
   pub large_root : mth sum_digest large_list ≡ sum_hash 163
   pub same_root : mth sum_digest (take 3 large_list) ≡ mth sum_digest small_list
-  pub not_prefix : IsPrefix small_list large_list → ⊥
-  pub not_extension : IsPrefix large_list small_list → ⊥
+  pub not_prefix : ¬ IsPrefix small_list large_list
+  pub not_extension : ¬ IsPrefix large_list small_list
 
 -- the bytes of a row of no hash and of a bundle of the first two of the three entries
 pub record PartsOfThree : Type 0 where
@@ -88,8 +88,8 @@ some_item = item.Tile 1 []
 -- the same two in the other order it does not, nor over a merge before the take
 pub record MergesLeadInOrder : Type 0 where
   pub reaches : Reaches some_item 2 (Take 0 some_item ∷ Merge 1 0 ∷ Merge 2 1 ∷ [])
-  pub not_back : Reaches some_item 2 (Take 0 some_item ∷ Merge 2 1 ∷ Merge 1 0 ∷ []) → ⊥
-  pub not_before : Reaches some_item 1 (Merge 1 0 ∷ Take 0 some_item ∷ []) → ⊥
+  pub not_back : ¬ Reaches some_item 2 (Take 0 some_item ∷ Merge 2 1 ∷ Merge 1 0 ∷ [])
+  pub not_before : ¬ Reaches some_item 1 (Merge 1 0 ∷ Take 0 some_item ∷ [])
 
 -- with nothing held the front of three entries is their bundle, and nothing else
 pub record IsFrontOfThree : Type 0 where

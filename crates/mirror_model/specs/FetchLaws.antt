@@ -57,7 +57,7 @@ AnsweredIsNotAgain =
     IsFront digest held entries path →
     ⊥
 
--- where nothing clashes, what is missing is listed as the front is
+-- where nothing collides, what is missing is listed as the front is
 abbrev pub MissingIsFrontList : Type 0
 MissingIsFrontList =
     (digest : List ℕ → List ℕ) →

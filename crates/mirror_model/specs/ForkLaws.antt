@@ -23,4 +23,4 @@ ForkMeansNoPrefix =
     (digest : List ℕ → List ℕ) → IsDigest digest → (v : View) → IsLawful digest v →
     (a b : Point) (first second : List (List ℕ)) → a ≢ b → Complete digest v a.size a.root first →
     Complete digest v b.size b.root second →
-    IsFork digest v a b ↔ ((IsPrefix first second → ⊥) × (IsPrefix second first → ⊥))
+    IsFork digest v a b ↔ ((¬ IsPrefix first second) × (¬ IsPrefix second first))

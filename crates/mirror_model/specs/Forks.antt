@@ -28,8 +28,8 @@ module _ (digest : List ℕ → List ℕ) where
     pub second : List (List ℕ)
     pub first_complete : Complete digest v a.size a.root first
     pub second_complete : Complete digest v b.size b.root second
-    pub not_prefix : IsPrefix first second → ⊥
-    pub not_extension : IsPrefix second first → ⊥
+    pub not_prefix : ¬ IsPrefix first second
+    pub not_extension : ¬ IsPrefix second first
 
   -- two heads of the view are a fork: they differ, and have equal sizes or disagree in their
   -- entries

@@ -48,7 +48,7 @@ IsPathOf size start len (Entries index width) = IsNodeBundle size start len inde
 -- x is the node of these three, and its string is not held
 pub record IsUnheldThis (held : Strings) (start len : ℕ) (string : List ℕ) (x : Node) : Type 0 where
   pub this : IsThis start len string x
-  pub unheld : Has held x.string → ⊥
+  pub unheld : ¬ Has held x.string
 
 module _ (digest : List ℕ → List ℕ) (held : Strings) where
   -- x is a node of the tree whose string is not held, while those of all nodes above it are

@@ -37,9 +37,9 @@ answers_in (play ∷ plays) = play.answers ++ answers_in plays
 -- no event of a play was answered so
 abbrev pub NoneAnswered : Answer → List Play → Type 0
 NoneAnswered answer plays =
-    (play : Play) → Contains plays play → Contains play.answers answer → ⊥
+    (play : Play) → Contains plays play → ¬ Contains play.answers answer
 
--- no event of a play was answered by a clash
+-- no event of a play was answered by a collision
 abbrev pub NoneClashed : List Play → Type 0
 NoneClashed plays = NoneAnswered Clashed plays
 
@@ -71,7 +71,7 @@ module _ (digest : List ℕ → List ℕ) (origin : List ℕ) (keys : List Key) 
     pub retried : PlaysAreRetried plays
     pub is : slice_get final mirror ≡ Some v
 
-  -- the good items that reach the one mirror in the one run, and each string and note of the
+  -- the valid items that reach the one mirror in the one run, and each string and note of the
   -- opening views that reach it, reach the other mirror in the other run
   pub record ReachesToo (opened opened' : List View) (events events' : List Event)
       (mirror mirror' : ℕ) : Type 0 where
@@ -85,13 +85,13 @@ module _ (digest : List ℕ → List ℕ) (origin : List ℕ) (keys : List Key) 
         (note : List ℕ) → OpensWith opened (λ v. v.notes) events mirror note →
         OpensWith opened' (λ v. v.notes) events' mirror' note
 
-  -- the same good items, and the same strings and notes of opening views, reach both
+  -- the same valid items, and the same strings and notes of opening views, reach both
   pub record ReachedAlike (opened opened' : List View) (events events' : List Event)
       (mirror mirror' : ℕ) : Type 0 where
     pub there : ReachesToo opened opened' events events' mirror mirror'
     pub back : ReachesToo opened' opened events' events mirror' mirror
 
-  -- where nothing clashed a mirror's view is the union of the opening views and of the good items
+  -- where nothing collided a mirror's view is the union of the opening views and of the valid items
   -- that reach it
   abbrev pub PlaysBring : Type 0
   PlaysBring =
@@ -113,7 +113,7 @@ module _ (digest : List ℕ → List ℕ) (origin : List ℕ) (keys : List Key) 
       v ≡ w
 
   -- while no two different strings met share a digest, no event of any play is answered by a
-  -- clash, whether or not an event for which memory was refused was done again
+  -- collide, whether or not an event for which memory was refused was done again
   abbrev pub NoPlayClashes : Type 0
   NoPlayClashes =
       (opened final : List View) (plays : List Play) →
@@ -123,7 +123,7 @@ module _ (digest : List ℕ → List ℕ) (origin : List ℕ) (keys : List Key) 
       NoneClashed plays
 
   -- The headline: while no two different byte strings met share a digest, mirrors that the same
-  -- good items, and the same strings and notes of opening views, have reached hold equal views,
+  -- valid items, and the same strings and notes of opening views, have reached hold equal views,
   -- whatever the plays.
   abbrev pub MirrorsAgree : Type 0
   MirrorsAgree =
@@ -198,7 +198,7 @@ pub record IsTruthful (digest : List ℕ → List ℕ) (v : View) : Type 0 where
       a ≢ b →
       Complete digest v a.size a.root first →
       Complete digest v b.size b.root second →
-      IsFork digest v a b ↔ ((IsPrefix first second → ⊥) × (IsPrefix second first → ⊥))
+      IsFork digest v a b ↔ ((¬ IsPrefix first second) × (¬ IsPrefix second first))
 
 -- what a view tells is true after any plays from lawful views, however the events were answered;
 -- strings that share a digest change nothing of it
@@ -266,7 +266,7 @@ placed place (Merge target source) = Merge (place target) (place source)
 pub record LeavesRest (place : ℕ → ℕ) (part whole new : List View) : Type 0 where
   pub stands : StandsIn place part new
   pub rest :
-      (number : ℕ) → ((i : ℕ) → number ≡ place i → ⊥) →
+      (number : ℕ) → ((i : ℕ) → ¬ (number ≡ place i)) →
       slice_get new number ≡ slice_get whole number
 
 -- a play of some mirrors is one of all of them: so the plays of a list may each be of other mirrors

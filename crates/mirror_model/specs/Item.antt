@@ -1,4 +1,4 @@
--- Items: when they are good, and what they add to a view (C2SP tlog-tiles, "Merkle Tree", "Log
+-- Items: when they are valid, and what they add to a view (C2SP tlog-tiles, "Merkle Tree", "Log
 -- Entries" and "Checkpoints"). The bytes of an item stand in it as they came.
 use Rattle.std.specs.Prelude.{◌≡◌, ℕ, zero, suc, ◌*◌, ◌/◌, ◌≤◌, List, [], ◌∷◌, length, take, drop}
 use Rattle.std.specs.Prelude.{map}
@@ -33,12 +33,12 @@ pub record IsWidth (width : ℕ) : Type 0 where
   pub some : 1 ≤ width
   pub most : width ≤ 256
 
--- a tile is good: there are as many hashes as its width
+-- a tile is valid: there are as many hashes as its width
 pub record IsGoodTile (width : ℕ) (bytes : List ℕ) : Type 0 where
   pub is_width : IsWidth width
   pub length_is : length bytes ≡ 32 * width
 
--- a bundle is good: its bytes are as many entries as its width
+-- a bundle is valid: its bytes are as many entries as its width
 pub record IsGoodBundle (width : ℕ) (bytes : List ℕ) : Type 0 where
   pub is_width : IsWidth width
   pub entries : List (List ℕ)
@@ -56,7 +56,7 @@ module _ (digest : List ℕ → List ℕ) where
     pub widths : map length rows ≡ map (λ width. 32 * width) (edge_widths size)
     pub root_is : edge_root digest (map row_of rows) ≡ root
 
-  -- a head is good: it opens, and the edge rows lead to its root
+  -- a head is valid: it opens, and the edge rows lead to its root
   pub record IsGoodHead (origin : List ℕ) (keys : List Key) (note : List ℕ)
       (rows : List (List ℕ)) : Type 0 where
     pub size : ℕ
@@ -64,7 +64,7 @@ module _ (digest : List ℕ → List ℕ) where
     pub is_head : IsOpenHead note origin keys size root
     pub has_edge : HasEdgeRows size root rows
 
-  -- an item is good, so that a mirror of that origin may take it under these keys, whatever it
+  -- an item is valid, so that a mirror of that origin may take it under these keys, whatever it
   -- holds
   abbrev pub IsGood : List ℕ → List Key → Item → Type 0
   IsGood origin keys (Head note edge) = IsGoodHead origin keys note edge

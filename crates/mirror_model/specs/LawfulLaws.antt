@@ -8,13 +8,13 @@ use Rattle.mirror_model.specs.Strings.{IsDigest}
 use Rattle.mirror_model.specs.Heads.{HasHead}
 use Rattle.mirror_model.specs.declared.items.Item.{Item}
 use Rattle.mirror_model.specs.Item.{IsGood, plus}
-use Rattle.mirror_model.specs.Complete.{HasEdgeOf, IsLawful}
+use Rattle.mirror_model.specs.Complete.{HoldsEdge, IsLawful}
 
 -- a view that holds nothing is lawful
 abbrev pub NothingIsLawful : Type 0
 NothingIsLawful = (digest : List ℕ → List ℕ) (origin : List ℕ) → IsLawful digest (nothing origin)
 
--- a lawful view with a good item is lawful where nothing clashes
+-- a lawful view with a valid item is lawful where nothing collides
 abbrev pub PlusIsLawful : Type 0
 PlusIsLawful =
     (digest : List ℕ → List ℕ) → IsDigest digest → (keys : List Key) (v : View) (item : Item) →
@@ -22,7 +22,7 @@ PlusIsLawful =
     IsGood digest v.origin keys item → NoClash digest (plus digest v item).strings →
     IsLawful digest (plus digest v item)
 
--- the union of two lawful views of one origin is lawful where nothing clashes
+-- the union of two lawful views of one origin is lawful where nothing collides
 abbrev pub UnionIsLawful : Type 0
 UnionIsLawful =
     (digest : List ℕ → List ℕ) (v w : View) → IsLawful digest v → IsLawful digest w →
@@ -34,4 +34,4 @@ abbrev pub HeadsHaveEdges : Type 0
 HeadsHaveEdges =
     (digest : List ℕ → List ℕ) (v : View) → IsLawful digest v → (size : ℕ) (root : List ℕ) →
     HasHead v size root →
-    HasEdgeOf digest v size root
+    HoldsEdge digest v.strings size root

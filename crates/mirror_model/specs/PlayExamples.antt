@@ -34,11 +34,11 @@ nothing_happens = record { events = []; answers = [] }
 pub record RetriesSpanPlays : Type 0 where
   pub next : PlaysAreRetried (takes_tile 0 Exhausted ∷ takes_tile 0 Done ∷ [])
   pub later : PlaysAreRetried (takes_tile 0 Exhausted ∷ nothing_happens ∷ takes_tile 0 Done ∷ [])
-  pub not_last : PlaysAreRetried (takes_tile 0 Exhausted ∷ []) → ⊥
+  pub not_last : ¬ PlaysAreRetried (takes_tile 0 Exhausted ∷ [])
   pub not_another_mirror :
-      PlaysAreRetried (takes_tile 0 Exhausted ∷ takes_tile 1 Done ∷ []) → ⊥
+      ¬ PlaysAreRetried (takes_tile 0 Exhausted ∷ takes_tile 1 Done ∷ [])
   pub not_after_another :
-      PlaysAreRetried (takes_tile 0 Exhausted ∷ merges_one ∷ takes_tile 0 Done ∷ []) → ⊥
+      ¬ PlaysAreRetried (takes_tile 0 Exhausted ∷ merges_one ∷ takes_tile 0 Done ∷ [])
 
 -- a mirror that opened empty, and took the tile in the second of two plays after memory was refused
 -- for it in the first, is one of which the headline speaks; it holds the string of the tile

@@ -8,7 +8,7 @@ use Rattle.mirror_model.specs.Events.{Reaches, OpeningReaches}
 -- By the last event of a list: a take at a mirror adds its item to what reaches it, a merge into a
 -- mirror adds what reached its source, and nothing else changes.
 pub record ReachesByLast (events : List Event) : Type 0 where
-  pub none : (item : Item) (mirror : ℕ) → Reaches item mirror [] → ⊥
+  pub none : (item : Item) (mirror : ℕ) → ¬ Reaches item mirror []
   pub take :
       (target : ℕ) (taken item : Item) (mirror : ℕ) →
       Reaches item mirror (events ++ Take target taken ∷ [])

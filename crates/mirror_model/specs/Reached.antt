@@ -1,5 +1,5 @@
 -- What has reached a mirror, string by string and note by note.
-use Rattle.std.specs.Prelude.{◌≡◌, ◌⊎◌, ℕ, Bool, true, false, List, [], ◌∷◌, Some, slice_get, cond}
+use Rattle.std.specs.Prelude.{◌≡◌, ◌⊎◌, ℕ, Bool, true, false, List, [], ◌∷◌, Some, slice_get, cond, ⊤}
 use Rattle.std.specs.List.{Contains}
 use Rattle.node_store.specs.Strings.{Strings, Has}
 use Rattle.signed_note.specs.Keys.{Key}
@@ -20,7 +20,7 @@ pub record OpensWith (opened : List View) (part : View → Strings) (events : Li
   pub has : Has (part view) string
 
 module _ (digest : List ℕ → List ℕ) (origin : List ℕ) (keys : List Key) where
-  -- the string is one of a good item that reaches the mirror
+  -- the string is one of a valid item that reaches the mirror
   pub record TakesIn (part : Item → List (List ℕ)) (events : List Event) (mirror : ℕ)
       (string : List ℕ) : Type 0 where
     pub item : Item
@@ -29,14 +29,14 @@ module _ (digest : List ℕ → List ℕ) (origin : List ℕ) (keys : List Key) 
     pub has : Contains (part item) string
 
 module _ (digest : List ℕ → List ℕ) (origin : List ℕ) (keys : List Key) (opened : List View) where
-  -- a string has reached the mirror: it was in an opening view or is of a good item, and merges
+  -- a string has reached the mirror: it was in an opening view or is of a valid item, and merges
   -- lead from there
   abbrev pub StringReaches : List Event → ℕ → List ℕ → Type 0
   StringReaches events mirror string =
       OpensWith opened (λ v. v.strings) events mirror string
       ⊎ TakesIn digest origin keys (strings_of digest) events mirror string
 
-  -- a note has reached the mirror: it was in an opening view or is of a good item, and merges lead
+  -- a note has reached the mirror: it was in an opening view or is of a valid item, and merges lead
   -- from there
   abbrev pub NoteReaches : List Event → ℕ → List ℕ → Type 0
   NoteReaches events mirror note =
@@ -81,8 +81,8 @@ IsNext event (next ∷ events) = next ≡ event
 
 -- an event for which memory was refused is followed by the same event, before any other
 abbrev pub AreRetried : List Event → List Answer → Type 0
-AreRetried [] answers = Unit {0}
-AreRetried (event ∷ events) [] = Unit {0}
+AreRetried [] answers = ⊤
+AreRetried (event ∷ events) [] = ⊤
 AreRetried (event ∷ events) (Done ∷ answers) = AreRetried events answers
 AreRetried (event ∷ events) (Refused ∷ answers) = AreRetried events answers
 AreRetried (event ∷ events) (Clashed ∷ answers) = AreRetried events answers

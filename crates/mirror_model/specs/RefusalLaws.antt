@@ -1,4 +1,4 @@
--- Laws of refusals: an item is refused exactly where it is not good, and for one reason.
+-- Laws of refusals: an item is refused exactly where it is not valid, and for one reason.
 use Rattle.std.specs.Prelude.{◌≡◌, ◌≢◌, ◌↔◌, ℕ, List, Result, Err}
 use Rattle.signed_note.specs.Keys.{Key}
 use Rattle.tlog_checkpoint.specs.declared.Checkpoint.{Checkpoint}
@@ -11,10 +11,10 @@ use Rattle.mirror_model.specs.Refusals.{JudgesBundle}
 use Rattle.mirror_model.specs.declared.fault.TakeFault.{TakeFault}
 use Rattle.mirror_model.specs.declared.fault.TakeFault.TheVariants.{OutOfMemory}
 
--- the answers to an item say whether it is good: where it is refused it is not; where it is
--- answered otherwise, want of memory apart, it is; and two refusals are one
+-- the answers to an item say whether it is valid: where it is refused it is not; where it is
+-- answered otherwise, OutOfMemory apart, it is; and two refusals are one
 pub record JudgesOnce (Judges : Result (Unit {0}) TakeFault → Type 0) (Good : Type 0) : Type 0 where
-  pub refused : (a : Result (Unit {0}) TakeFault) → Judges a → answer_of a ≡ Refused → Good → ⊥
+  pub refused : (a : Result (Unit {0}) TakeFault) → Judges a → answer_of a ≡ Refused → ¬ Good
   pub taken :
       (a : Result (Unit {0}) TakeFault) → Judges a → answer_of a ≢ Refused → a ≢ Err OutOfMemory →
       Good
@@ -23,24 +23,24 @@ pub record JudgesOnce (Judges : Result (Unit {0}) TakeFault → Type 0) (Good : 
       answer_of b ≡ Refused →
       a ≡ b
 
--- a tile is refused exactly where it is not good, and for one reason
+-- a tile is refused exactly where it is not valid, and for one reason
 abbrev pub TilesAreJudged : Type 0
 TilesAreJudged =
     (width : ℕ) (bytes : List ℕ) → JudgesOnce (JudgesTile width bytes) (IsGoodTile width bytes)
 
--- a bundle is refused exactly where it is not good, and for one reason
+-- a bundle is refused exactly where it is not valid, and for one reason
 abbrev pub BundlesAreJudged : Type 0
 BundlesAreJudged =
     (width : ℕ) (bytes : List ℕ) → JudgesOnce (JudgesBundle width bytes) (IsGoodBundle width bytes)
 
--- a head is refused exactly where it is not good, and for one reason
+-- a head is refused exactly where it is not valid, and for one reason
 abbrev pub HeadsAreJudged : Type 0
 HeadsAreJudged =
     (digest : List ℕ → List ℕ) (origin : List ℕ) (keys : List Key) (note : List ℕ)
     (rows : List (List ℕ)) →
     JudgesOnce (JudgesHead digest origin keys note rows) (IsGoodHead digest origin keys note rows)
 
--- a note has one answer as a head's, but for want of memory
+-- a note has one answer as a head's, but for OutOfMemory
 abbrev pub HeadNotesAreReadOnce : Type 0
 HeadNotesAreReadOnce =
     (note origin : List ℕ) (keys : List Key) (a b : Result Checkpoint TakeFault) →

@@ -1,7 +1,7 @@
 -- What each answer of a call that takes an item says of the item: the first refusal that applies,
--- in the order of the faults. It names no state: a clash is found with what is held, and says that
--- the item is good. An answer other than want of memory is determined by the item.
-use Rattle.std.specs.Prelude.{◌≡◌, ◌≢◌, ℕ, ◌*◌, List, length, map, Result, Ok, Err}
+-- in the order of the faults. It names no state: a collision is found with what is held, and says that
+-- the item is valid. An answer other than OutOfMemory is determined by the item.
+use Rattle.std.specs.Prelude.{◌≡◌, ◌≢◌, ℕ, ◌*◌, List, length, map, Result, Ok, Err, ⊤}
 use Rattle.signed_note.specs.Keys.{Key}
 use Rattle.signed_note.specs.Notes.{SignatureParts, IsNote, Opens}
 use Rattle.signed_note.specs.Reading.{ReadsNote}
@@ -63,7 +63,7 @@ pub record HasNoSigner (bytes origin : List ℕ) (keys : List Key) : Type 0 wher
   pub lines : List SignatureParts
   pub is : IsCheckpointNote bytes checkpoint text lines
   pub origin_is : checkpoint.origin ≡ origin
-  pub closed : Opens text lines keys → ⊥
+  pub closed : ¬ Opens text lines keys
 
 -- what each answer of a reader of head notes says: Ok, that the note opens under the keys with that
 -- checkpoint; a fault, why it does not
@@ -80,7 +80,7 @@ ReadsHead bytes origin keys (Err taking.RowLength) = ⊥
 ReadsHead bytes origin keys (Err taking.BundleShort) = ⊥
 ReadsHead bytes origin keys (Err taking.BundleLong) = ⊥
 ReadsHead bytes origin keys (Err taking.Collision) = ⊥
-ReadsHead bytes origin keys (Err taking.OutOfMemory) = Unit {0}
+ReadsHead bytes origin keys (Err taking.OutOfMemory) = ⊤
 
 -- there are as many rows as the size has partial tiles
 abbrev pub HasEdgeCount : ℕ → List (List ℕ) → Type 0
@@ -90,24 +90,24 @@ HasEdgeCount size rows = length rows ≡ length (edge_widths size)
 abbrev pub HasEdgeLengths : ℕ → List (List ℕ) → Type 0
 HasEdgeLengths size rows = map length rows ≡ map (λ width. 32 * width) (edge_widths size)
 
--- the note part is good, and there are more rows or fewer than its size has partial tiles
+-- the note part is valid, and there are more rows or fewer than its size has partial tiles
 pub record HasOtherCount (bytes origin : List ℕ) (keys : List Key) (rows : List (List ℕ))
     : Type 0 where
   pub checkpoint : Checkpoint
   pub is_open : IsOpenCheckpoint bytes origin keys checkpoint
-  pub differs : HasEdgeCount checkpoint.size rows → ⊥
+  pub differs : ¬ HasEdgeCount checkpoint.size rows
 
--- the note part is good, there are as many rows as its size has partial tiles, and some row is
+-- the note part is valid, there are as many rows as its size has partial tiles, and some row is
 -- longer or shorter than its tile
 pub record HasOtherLengths (bytes origin : List ℕ) (keys : List Key) (rows : List (List ℕ))
     : Type 0 where
   pub checkpoint : Checkpoint
   pub is_open : IsOpenCheckpoint bytes origin keys checkpoint
   pub count_is : HasEdgeCount checkpoint.size rows
-  pub differ : HasEdgeLengths checkpoint.size rows → ⊥
+  pub differ : ¬ HasEdgeLengths checkpoint.size rows
 
 module _ (digest : List ℕ → List ℕ) where
-  -- the note part is good, each row has its tile's length, and the rows do not lead to the root
+  -- the note part is valid, each row has its tile's length, and the rows do not lead to the root
   pub record HasOtherRoot (bytes origin : List ℕ) (keys : List Key) (rows : List (List ℕ))
       : Type 0 where
     pub checkpoint : Checkpoint
@@ -132,7 +132,7 @@ module _ (digest : List ℕ → List ℕ) where
   JudgesHead origin keys bytes rows (Err taking.BundleLong) = ⊥
   JudgesHead origin keys bytes rows (Err taking.Collision) =
       IsGoodHead digest origin keys bytes rows
-  JudgesHead origin keys bytes rows (Err taking.OutOfMemory) = Unit {0}
+  JudgesHead origin keys bytes rows (Err taking.OutOfMemory) = ⊤
 
 -- what each answer of taking a tile of that width says of its bytes
 abbrev pub JudgesTile : ℕ → List ℕ → Result (Unit {0}) TakeFault → Type 0
@@ -148,7 +148,7 @@ JudgesTile width bytes (Err taking.RowLength) = length bytes ≢ 32 * width
 JudgesTile width bytes (Err taking.BundleShort) = ⊥
 JudgesTile width bytes (Err taking.BundleLong) = ⊥
 JudgesTile width bytes (Err taking.Collision) = IsGoodTile width bytes
-JudgesTile width bytes (Err taking.OutOfMemory) = Unit {0}
+JudgesTile width bytes (Err taking.OutOfMemory) = ⊤
 
 -- what each answer of taking a bundle of that width says of its bytes
 abbrev pub JudgesBundle : ℕ → List ℕ → Result (Unit {0}) TakeFault → Type 0
@@ -165,4 +165,4 @@ JudgesBundle width bytes (Err taking.BundleShort) =
     ReadsBundle width bytes (Err bundling.BundleShort)
 JudgesBundle width bytes (Err taking.BundleLong) = ReadsBundle width bytes (Err bundling.BundleLong)
 JudgesBundle width bytes (Err taking.Collision) = IsGoodBundle width bytes
-JudgesBundle width bytes (Err taking.OutOfMemory) = Unit {0}
+JudgesBundle width bytes (Err taking.OutOfMemory) = ⊤

@@ -45,4 +45,4 @@ module _ (digest : List ℕ → List ℕ) where
       × Served digest v note point.size point.root entries
   SaysServed v None =
       (note : List ℕ) (size : ℕ) (root : List ℕ) (entries : List (List ℕ)) →
-      Served digest v note size root entries → ⊥
+      ¬ Served digest v note size root entries

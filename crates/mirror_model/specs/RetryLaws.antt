@@ -14,14 +14,14 @@ use Rattle.mirror_model.specs.Reached.{AreRetried}
 abbrev pub NothingToRetry : Type 0
 NothingToRetry =
     (events : List Event) (answers : List Answer) →
-    (Contains answers Exhausted → ⊥) →
+    (¬ Contains answers Exhausted) →
     AreRetried events answers
 
 -- where no answer is OutOfMemory, nothing has to be done again
 abbrev pub NoAnswerToRetry : Type 0
 NoAnswerToRetry =
     (events : List Event) (answers : List (Result (Unit {0}) TakeFault)) →
-    (Contains answers (Err taking.OutOfMemory) → ⊥) →
+    (¬ Contains answers (Err taking.OutOfMemory)) →
     AreRetried events (map answer_of answers)
 
 -- memory was refused for a take, and for a merge, exactly where it was answered OutOfMemory

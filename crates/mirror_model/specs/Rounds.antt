@@ -1,5 +1,5 @@
 -- Rounds of fetching: the true bytes of all paths of the front are taken (C2SP tlog-tiles).
-use Rattle.std.specs.Prelude.{ℕ, ◌*◌, ◌≤◌, List, [], ◌∷◌}
+use Rattle.std.specs.Prelude.{ℕ, ◌*◌, ◌≤◌, List, [], ◌∷◌, ⊤}
 use Rattle.tlog_hash.specs.Tree.{strings, joins}
 use Rattle.tlog_hash.specs.Rows.{part, level_row}
 use Rattle.tlog_tiles.specs.declared.paths.Path.{Path}
@@ -31,7 +31,7 @@ module _ (digest : List ℕ → List ℕ) (entries : List (List ℕ)) where
 
   -- one round after another
   abbrev pub AreRounds : Strings → List Strings → Type 0
-  AreRounds held [] = Unit {0}
+  AreRounds held [] = ⊤
   AreRounds held (after ∷ afters) = IsRound held after × AreRounds after afters
 
   -- the front has no tile above that level
@@ -42,4 +42,4 @@ module _ (digest : List ℕ → List ℕ) (entries : List (List ℕ)) where
   -- the front has no tile
   abbrev pub AsksBundlesAlone : Strings → Type 0
   AsksBundlesAlone held =
-      (level index width : ℕ) → IsFront digest held entries (Tile level index width) → ⊥
+      (level index width : ℕ) → ¬ IsFront digest held entries (Tile level index width)

@@ -42,20 +42,20 @@ module _ (digest : List ℕ → List ℕ) (origin : List ℕ) (keys : List Key) 
       (mirror : ℕ) (v : View) → slice_get final mirror ≡ Some v →
       IsBounded opened events answers mirror v
 
-  -- a mirror's view is the union of the opening views and of the good items that reach it
+  -- a mirror's view is the union of the opening views and of the valid items that reach it
   pub record IsReached (opened : List View) (events : List Event) (mirror : ℕ) (v : View)
       : Type 0 where
     pub origin_is : v.origin ≡ origin
     pub has : HasReached digest origin keys opened events mirror v
     pub only : HasReachedOnly digest origin keys opened events mirror v
 
-  -- where nothing clashed, and each event for which memory was refused was done again, a mirror's
-  -- view is the union of the opening views and of the good items that reach it
+  -- where nothing collided, and each event for which memory was refused was done again, a mirror's
+  -- view is the union of the opening views and of the valid items that reach it
   abbrev pub RunIsReached : Type 0
   RunIsReached =
       (opened final : List View) (events : List Event) (answers : List Answer) →
       IsRun opened events answers final →
-      (Contains answers Clashed → ⊥) → AreRetried events answers → (mirror : ℕ) (v : View) →
+      (¬ Contains answers Clashed) → AreRetried events answers → (mirror : ℕ) (v : View) →
       slice_get final mirror ≡ Some v → IsReached opened events mirror v
 
 -- the string stands in an opening view
@@ -66,7 +66,7 @@ pub record IsOpened (opened : List View) (string : List ℕ) : Type 0 where
   pub has : Has view.strings string
 
 module _ (digest : List ℕ → List ℕ) (origin : List ℕ) (keys : List Key) where
-  -- the string is of a good item that some event of the list takes, at whichever mirror
+  -- the string is of a valid item that some event of the list takes, at whichever mirror
   pub record IsTaken (events : List Event) (string : List ℕ) : Type 0 where
     pub position : ℕ
     pub target : ℕ
@@ -75,7 +75,7 @@ module _ (digest : List ℕ → List ℕ) (origin : List ℕ) (keys : List Key) 
     pub good : IsGood digest origin keys item
     pub has : Contains (strings_of digest item) string
 
-  -- the mirrors meet the string: it stands in an opening view, or is of a good item that is taken
+  -- the mirrors meet the string: it stands in an opening view, or is of a valid item that is taken
   abbrev pub IsMet : List View → List Event → List ℕ → Type 0
   IsMet opened events string = IsOpened opened string ⊎ IsTaken events string
 
@@ -84,12 +84,12 @@ module _ (digest : List ℕ → List ℕ) (origin : List ℕ) (keys : List Key) 
   NothingClashes opened events =
       (x y : List ℕ) → IsMet opened events x → IsMet opened events y → digest x ≡ digest y → x ≡ y
 
-  -- where no two different strings that are met have one digest, no event is answered by a clash
+  -- where no two different strings that are met have one digest, no event is answered by a collision
   abbrev pub NoneClashes : Type 0
   NoneClashes =
       (opened final : List View) (events : List Event) (answers : List Answer) →
       IsRun digest origin keys opened events answers final → NothingClashes opened events →
-      Contains answers Clashed → ⊥
+      ¬ Contains answers Clashed
 
 -- a law holds for each digest, origin and list of keys
 abbrev pub ForMirrors : ((List ℕ → List ℕ) → List ℕ → List Key → Type 0) → Type 0

@@ -21,7 +21,7 @@ module _ (digest : List ℕ → List ℕ) (v : View) where
   -- the bundles from that index on have these entries, each list those of one; behind the last no
   -- bundle is served
   abbrev pub AreBundles : ℕ → List (List (List ℕ)) → Type 0
-  AreBundles index [] = (width : ℕ) (bytes : List ℕ) → IsServedBundle digest v index width bytes → ⊥
+  AreBundles index [] = (width : ℕ) (bytes : List ℕ) → ¬ IsServedBundle digest v index width bytes
   AreBundles index (entries ∷ more) = IsWidestBundle index entries × AreBundles (index + 1) more
 
 -- the entries of the bundles that are served, in order, are the entries served, and nothing else

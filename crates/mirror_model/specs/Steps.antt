@@ -28,12 +28,12 @@ pub record IsBetween (old whole new : View) : Type 0 where
 
 module _ (digest : List ℕ → List ℕ) where
   -- an event that would make the old view the whole one, where it is allowed: it is refused exactly
-  -- where it is not allowed, and clashes exactly where the whole view does; want of memory leaves
-  -- the old view, or, where the event is allowed and the whole view does not clash, one between the
+  -- where it is not allowed, and collides exactly where the whole view does; OutOfMemory leaves
+  -- the old view, or, where the event is allowed and the whole view does not collide, one between the
   -- two
   abbrev pub Answers : View → Type 0 → View → Answer → View → Type 0
   Answers old Allowed whole Done new = Allowed × NoClash digest whole.strings × (new ≡ whole)
-  Answers old Allowed whole Refused new = (Allowed → ⊥) × (new ≡ old)
+  Answers old Allowed whole Refused new = (¬ Allowed) × (new ≡ old)
   Answers old Allowed whole Clashed new = Allowed × HasClash digest whole.strings × (new ≡ old)
   Answers old Allowed whole Exhausted new =
       (new ≡ old) ⊎ (Allowed × NoClash digest whole.strings × IsBetween old whole new)

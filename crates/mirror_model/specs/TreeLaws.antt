@@ -70,7 +70,7 @@ abbrev pub FrontIsEmpty : Type 0
 FrontIsEmpty =
     (digest : List ℕ → List ℕ) (held : Strings) (entries : List (List ℕ)) →
     length entries ≤ 256 ^ 8 →
-    ((path : Path) → IsFront digest held entries path → ⊥) ↔ HasAll held (strings digest entries)
+    ((path : Path) → ¬ IsFront digest held entries path) ↔ HasAll held (strings digest entries)
 
 -- after a round in which no tile above level L was asked for, a node that is not held has at most
 -- 256^L entries
@@ -79,7 +79,7 @@ RoundLeavesSmallNodes =
     (digest : List ℕ → List ℕ) (held after : Strings) (entries : List (List ℕ)) →
     length entries ≤ 256 ^ 8 → IsRound digest entries held after → (top : ℕ) →
     AsksUpTo digest entries held top → (x : Node) →
-    IsNode digest (tree_of entries) 0 x → (Has after x.string → ⊥) → x.len ≤ 256 ^ top
+    IsNode digest (tree_of entries) 0 x → (¬ Has after x.string) → x.len ≤ 256 ^ top
 
 -- the round after one asks for tiles of lower levels alone
 abbrev pub RoundGoesDown : Type 0

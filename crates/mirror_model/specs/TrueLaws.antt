@@ -21,7 +21,7 @@ use Rattle.mirror_model.specs.Strings.{IsDigest}
 abbrev pub AreShort : List (List ℕ) → Type 0
 AreShort entries = All (λ entry. length entry < 2 ^ 16) entries
 
--- a tile of true bytes is good, and gives the strings of its row
+-- a tile of true bytes is valid, and gives the strings of its row
 pub record IsTrueTile (digest : List ℕ → List ℕ) (entries : List (List ℕ))
     (level index width : ℕ) : Type 0 where
   pub good : IsGoodTile width (tile_bytes digest entries level index width)
@@ -29,13 +29,13 @@ pub record IsTrueTile (digest : List ℕ → List ℕ) (entries : List (List ℕ
       strings_of digest (item.Tile width (tile_bytes digest entries level index width))
       ≡ true_strings digest entries (Tile level index width)
 
--- each tile of a list of entries, as a log serves it, is good and gives the strings of its row
+-- each tile of a list of entries, as a log serves it, is valid and gives the strings of its row
 abbrev pub TrueTilesAreGood : Type 0
 TrueTilesAreGood =
     (digest : List ℕ → List ℕ) → IsDigest digest → (entries : List (List ℕ)) → AreShort entries →
     (level index width : ℕ) → IsWidth width → IsTrueTile digest entries level index width
 
--- a bundle of true bytes is good, and gives what the tree hash of its entries hashes
+-- a bundle of true bytes is valid, and gives what the tree hash of its entries hashes
 pub record IsTrueBundle (digest : List ℕ → List ℕ) (entries : List (List ℕ)) (index width : ℕ)
     : Type 0 where
   pub good : IsGoodBundle width (bundle_bytes entries index width)
@@ -43,7 +43,7 @@ pub record IsTrueBundle (digest : List ℕ → List ℕ) (entries : List (List �
       strings_of digest (item.Bundle width (bundle_bytes entries index width))
       ≡ true_strings digest entries (Entries index width)
 
--- each bundle within a list of entries, as a log serves it, is good and gives what the tree hash of
+-- each bundle within a list of entries, as a log serves it, is valid and gives what the tree hash of
 -- its entries hashes
 abbrev pub TrueBundlesAreGood : Type 0
 TrueBundlesAreGood =

@@ -16,7 +16,7 @@ UnionAssociates = (v w x : View) → union (union v w) x ≡ union v (union w x)
 abbrev pub UnionIsIdempotent : Type 0
 UnionIsIdempotent = (v : View) → union v v ≡ v
 
--- a union clashes in the same cases either way round
+-- a union collides in the same cases either way round
 abbrev pub UnionClashesEitherWay : Type 0
 UnionClashesEitherWay =
     (digest : List ℕ → List ℕ) (v w : View) → HasClash digest (union v w).strings →
@@ -26,8 +26,8 @@ UnionClashesEitherWay =
 abbrev pub MutualSubviewsAreEqual : Type 0
 MutualSubviewsAreEqual = (v w : View) → IsSubview v w → IsSubview w v → v ≡ w
 
--- where neither of two sets of strings clashes, their union does exactly where a string of the one
--- clashes with one of the other
+-- where neither of two sets of strings collides, their union does exactly where a string of the one
+-- collides with one of the other
 abbrev pub UnionClashes : Type 0
 UnionClashes =
     (digest : List ℕ → List ℕ) (v w : View) →
@@ -35,11 +35,11 @@ UnionClashes =
     NoClash digest w.strings →
     HasClash digest (union v w).strings ↔ ClashesWith digest v.strings w.strings
 
--- where neither of two sets of strings clashes, their union does not exactly where no string of the
--- one clashes with one of the other
+-- where neither of two sets of strings collides, their union does not exactly where no string of the
+-- one collides with one of the other
 abbrev pub UnionIsClean : Type 0
 UnionIsClean =
     (digest : List ℕ → List ℕ) (v w : View) →
     NoClash digest v.strings →
     NoClash digest w.strings →
-    NoClash digest (union v w).strings ↔ (ClashesWith digest v.strings w.strings → ⊥)
+    NoClash digest (union v w).strings ↔ (¬ ClashesWith digest v.strings w.strings)

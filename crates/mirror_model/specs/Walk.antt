@@ -25,9 +25,9 @@ module _ (digest : List ℕ → List ℕ) (held : Strings) where
   abbrev pub WalkFails : Tree ℕ → ℕ → List ℕ → ℕ → ℕ → Type 0
   WalkFails Empty start hash at many = ⊥
   WalkFails (One x) start hash at many =
-      IsSpot start 1 at many × ((entry : List ℕ) → IsHeldAt digest held hash (0 ∷ entry) → ⊥)
+      IsSpot start 1 at many × ((entry : List ℕ) → ¬ IsHeldAt digest held hash (0 ∷ entry))
   WalkFails (Join l r) start hash at many =
-      (IsSpot start (size_of l + size_of r) at many × ((x y : List ℕ) → IsPairHeld hash x y → ⊥))
+      (IsSpot start (size_of l + size_of r) at many × ((x y : List ℕ) → ¬ IsPairHeld hash x y))
       ⊎ ((x : List ℕ)
       × (y : List ℕ)
       × IsPairHeld hash x y
@@ -41,7 +41,7 @@ module _ (digest : List ℕ → List ℕ) (held : Strings) where
     pub fails : WalkFails (shape size) 0 hash at many
     pub path_is : IsPathOf size at many path
 
-  -- what is held and the tree of the entries together do not clash
+  -- what is held and the tree of the entries together do not collide
   abbrev pub NoClashWith : List (List ℕ) → Type 0
   NoClashWith entries =
       (x y : List ℕ) → Has held x ⊎ Contains (strings digest entries) x →

@@ -1,7 +1,7 @@
 //! Why a mirror does not take what it is given, or is not merged.
 //!
 //! Of the refusals of one call the first that applies is answered, in the order in which they stand
-//! here. Want of memory may come before any of them.
+//! here. `OutOfMemory` may come before any of them.
 
 use signed_note::NoteFault;
 use thiserror::Error;
@@ -11,10 +11,10 @@ use tlog_checkpoint::CheckpointFault;
 /// collision, a bundle for its length and a collision.
 #[derive(Debug, Drop, PartialEq, Eq, Clone, Copy, Error)]
 pub enum TakeFault {
-    /// The bytes are no note. Want of memory is never told here.
+    /// The bytes are no note. `OutOfMemory` never comes here.
     #[error("{0}")]
     Note(NoteFault),
-    /// The note's text is no checkpoint. Want of memory is never told here.
+    /// The note's text is no checkpoint. `OutOfMemory` never comes here.
     #[error("{0}")]
     Checkpoint(CheckpointFault),
     /// The checkpoint, or the other mirror of a merge, is of another origin.

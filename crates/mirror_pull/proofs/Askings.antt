@@ -1,16 +1,18 @@
 -- Paths that a pull asks for, one call after another.
 use Rattle.std.proofs.Common.{◌≡◌, ◌≢◌, ℕ, List, [], ◌∷◌, ◌++◌, Option, Some, None, Result, Ok, Err, Contains, sym, ◌∙◌}
 use Rattle.std.proofs.Common.{ap, subst, append_assoc}
-use Rattle.std.proofs.lemmas.List.{append-nil, get_or_default}
+use Rattle.std.proofs.lemmas.List.{append-nil, get_or_default, map-append}
 use Rattle.std.proofs.lemmas.List.Quantifiers.{all_pairs_push}
 use Rattle.tlog_tiles.specs.declared.paths.Path.{Path}
-use Rattle.log_sources.specs.Told.{AddsTold, KeepsTold}
+use Rattle.mirror_sources.specs.Told.{AddsTold, KeepsTold}
 use Rattle.mirror_pull.specs.Asking.{IsOnce, Adds, AddsTo, AddsSome, AsksPaths}
 use Rattle.std.proofs.Common.{Vec, Global}
-use Rattle.log_sources.specs.Source.{TellsGet}
+use Rattle.mirror_sources.specs.Source.{TellsGet, StaysWithin}
+use Rattle.mirror_sources.specs.Replies.{Reply, paths_of, MayReply}
+use Rattle.mirror_pull.specs.Replying.{with_replies}
 use Rattle.mirror_pull.specs.Faults.{of_source}
-use Rattle.log_sources.specs.declared.source.SourceFault.{SourceFault}
-use Rattle.log_sources.specs.declared.source.SourceFault.TheVariants as source
+use Rattle.mirror_sources.specs.declared.source.SourceFault.{SourceFault}
+use Rattle.mirror_sources.specs.declared.source.SourceFault.TheVariants as source
 use Rattle.mirror_pull.specs.declared.fault.PullFault.{PullFault}
 
 pub adds_told_none : {X : Type 0} (a : Option (List X)) → AddsTold a a []
@@ -99,3 +101,23 @@ asks_late before after a b (Err e) p = some_of before after a b p
 
 pub from_none : (before : List Path) (a b : Option (List Path)) → before ≡ [] → AddsSome before a b → AddsSome [] a b
 from_none before a b e p = subst (λ (l : List Path). AddsSome l a b) e p
+
+-- ---- replies, one after another
+
+pub paths_then : (xs ys : List Reply) → paths_of (xs ++ ys) ≡ paths_of xs ++ paths_of ys
+paths_then xs ys = map-append (λ (r : Reply). r.path) xs ys
+
+pub with_then : (asked : List Path) (xs ys : List Reply) →
+    with_replies asked (xs ++ ys) ≡ with_replies (with_replies asked xs) ys
+with_then asked xs ys =
+    ap (λ (l : List Path). asked ++ l) (paths_then xs ys) ∙ sym (append_assoc asked (paths_of xs) (paths_of ys))
+
+pub may_then : (may : Path → Option (List ℕ) → Type 0) (xs ys : List Reply) → MayReply may xs → MayReply may ys →
+    MayReply may (xs ++ ys)
+may_then may [] ys p q = q
+may_then may (x ∷ xs) ys p q = (p.0, may_then may xs ys p.1 q)
+
+pub may_stays : (may later : Path → Option (List ℕ) → Type 0) (xs : List Reply) → StaysWithin may later →
+    MayReply later xs → MayReply may xs
+may_stays may later [] stays p = tt
+may_stays may later (x ∷ xs) stays p = (stays.stays x.path x.found p.0, may_stays may later xs stays p.1)

@@ -1,5 +1,5 @@
 -- A pull from an honest source up to its rounds: the note that is read is the log's, and so are its head and its edge.
-use Rattle.std.proofs.Common.{◌≡◌, ℕ, ◌<◌, ◌^◌, List, [], ◌∷◌, ◌++◌, take, Option, Some, Contains, ◌∙◌}
+use Rattle.std.proofs.Common.{◌≡◌, ℕ, ◌<◌, ◌^◌, List, [], ◌∷◌, ◌++◌, take, Option, Some, Contains, ◌∙◌, sym, subst}
 use Rattle.signed_note.specs.Keys.{Key}
 use Rattle.tlog_checkpoint.specs.declared.Checkpoint.{Checkpoint}
 use Rattle.tlog_tiles.specs.declared.paths.Path.{Path}
@@ -13,8 +13,8 @@ use Rattle.mirror_model.specs.Item.{plus}
 use Rattle.mirror_model.specs.TrueLaws.{edge_bytes}
 use Rattle.mirror_model.specs.declared.items.Item.TheVariants as item
 use Rattle.mirror_model.proofs.Views.{within_itself}
-use Rattle.log_sources.specs.Source.{StaysWithin}
-use Rattle.log_sources.specs.Honest.{IsHonest}
+use Rattle.mirror_sources.specs.Source.{StaysWithin}
+use Rattle.mirror_sources.specs.Honest.{IsHonest}
 use Rattle.mirror_pull.specs.Asking.{AreFresh}
 use Rattle.mirror_pull.specs.Honest.{NoClashAmong, with_head}
 use Rattle.mirror_pull.specs.Parts.{IsTrueSource, AreTrueRows, MayWork}
@@ -30,6 +30,7 @@ pub record IsBegun (digest : List ℕ → List ℕ) (entries : List (List ℕ)) 
     (asked : List Path) : Type 0 where
   pub hash : IsDigest digest
   pub same : taken ≡ note
+  pub answered : may Root (Some taken)
   pub opened : IsOpenCheckpoint taken v.origin keys read
   pub honestly : IsReadHonestly digest entries keys v taken size read.size read.root may
   pub small : read.size < 256 ^ 8
@@ -56,6 +57,7 @@ is_begun {digest} {entries} {keys} {note} {taken} {found} {size} {may} {later} {
     record {
       hash = hash;
       same = same;
+      answered = subst (λ (bytes : List ℕ). may Root (Some bytes)) (sym taken_is) (answer unasked);
       opened = opened;
       honestly = honestly;
       small = read_small digest entries v.origin keys taken read.size may honestly.honest;
@@ -69,7 +71,7 @@ is_begun {digest} {entries} {keys} {note} {taken} {found} {size} {may} {later} {
 module _ {digest : List ℕ → List ℕ} {entries : List (List ℕ)} {keys : List Key} {v : View} {note taken : List ℕ}
     {size : ℕ} {read : Checkpoint} {may later : Path → Option (List ℕ) → Type 0} {asked after : List Path}
     {rows shown_rows : List (List ℕ)} (b : IsBegun digest entries keys v note taken size read may later asked)
-    (got : AreTrueRows digest entries (edge_of read.size) asked after rows) (rows_are : shown_rows ≡ rows) where
+    (got : AreTrueRows digest entries later (edge_of read.size) asked after rows) (rows_are : shown_rows ≡ rows) where
   -- the rows are those of the edge of the first entries
   pub rows_are_edge : shown_rows ≡ edge_bytes digest (take read.size entries)
   rows_are_edge = rows_are ∙ (got.rows_are ∙ rows_of_edge digest entries read.size b.honestly.honest.within)
@@ -92,6 +94,6 @@ module _ {digest : List ℕ → List ℕ} {entries : List (List ℕ)} {keys : Li
         taken_is = taken_is;
         head = head;
         may_work = rounds_may digest b.hash keys entries v taken read.size may b.honestly.honest b.honestly.clean
-            b.small rest w read.root asked after (stays_then may later rest b.stays stays) taken_is b.honestly.root_is
+            b.small later rest w read.root asked after (stays_then may later rest b.stays stays) taken_is b.honestly.root_is
             head b.begun got.gets;
       }

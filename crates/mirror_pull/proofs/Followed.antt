@@ -12,10 +12,10 @@ use Rattle.mirror_model.specs.declared.items.Item.TheVariants as item
 use Rattle.mirror_model.specs.Refusals.{ReadsHead, JudgesHead}
 use Rattle.mirror_model.specs.declared.fault.TakeFault.{TakeFault}
 use Rattle.mirror_model.specs.declared.fault.TakeFault.TheVariants as take
-use Rattle.log_sources.specs.Source.{StaysWithin}
-use Rattle.mirror_pull.specs.Replies.{Reply, reply}
+use Rattle.mirror_sources.specs.Source.{StaysWithin}
+use Rattle.mirror_sources.specs.Replies.{Reply, reply}
 use Rattle.mirror_pull.specs.Answering.{of_take}
-use Rattle.mirror_pull.specs.Taking.{IsEarly, IsLate}
+use Rattle.mirror_pull.specs.Taking.{EndsBeforeHead, EndsAfterHead}
 use Rattle.mirror_pull.specs.Replying.{Asks, AsksNew, AsksAgain, GivesRows, Gathers, Replied, HasNoEdge}
 use Rattle.mirror_pull.specs.Replying.{HasBadNote, HasBadRows, IsPulledBy, FollowsReplies, RefusesHead, AreWorkedRounds}
 use Rattle.mirror_pull.specs.Replying.{ArePullRounds, with_replies}
@@ -23,7 +23,8 @@ use Rattle.mirror_pull.specs.declared.pulling.Pulled.{Pulled}
 use Rattle.mirror_pull.specs.declared.fault.PullFault.{PullFault}
 use Rattle.mirror_pull.specs.declared.fault.PullFault.TheVariants.{NoCheckpoint, NoEdge, Head, Source, Collision}
 use Rattle.mirror_pull.specs.declared.fault.PullFault.TheVariants.{OutOfMemory}
-use Rattle.mirror_pull.proofs.Replies.{gathers_then, with_then}
+use Rattle.mirror_pull.proofs.Askings.{with_then}
+use Rattle.mirror_pull.proofs.Replies.{gathers_then}
 
 -- ---- the checkpoint
 
@@ -51,7 +52,7 @@ module _ (digest : List ℕ → List ℕ) (keys : List Key) (v w : View) (may : 
 
   -- ---- faults
 
-  pub follows_outside : (e : PullFault) → IsEarly {T = Bool} (Err e) → IsLate {T = Bool} (Err e) →
+  pub follows_outside : (e : PullFault) → EndsBeforeHead {T = Bool} (Err e) → EndsAfterHead {T = Bool} (Err e) →
       FollowsReplies digest keys v w may old new (Err e)
   follows_outside NoCheckpoint early late = absurd early
   follows_outside NoEdge early late = absurd late
@@ -60,7 +61,7 @@ module _ (digest : List ℕ → List ℕ) (keys : List Key) (v w : View) (may : 
   follows_outside Collision early late = tt
   follows_outside OutOfMemory early late = tt
 
-  pub follows_late : (e : PullFault) → IsLate {T = Bool} (Err e) →
+  pub follows_late : (e : PullFault) → EndsAfterHead {T = Bool} (Err e) →
       FollowsReplies digest keys v w may old new (Err e)
   follows_late NoCheckpoint late = absurd late
   follows_late NoEdge late = absurd late
@@ -69,7 +70,7 @@ module _ (digest : List ℕ → List ℕ) (keys : List Key) (v w : View) (may : 
   follows_late Collision late = tt
   follows_late OutOfMemory late = tt
 
-  pub follows_edge : (e : PullFault) → IsEarly {T = Bool} (Err e) →
+  pub follows_edge : (e : PullFault) → EndsBeforeHead {T = Bool} (Err e) →
       (e ≡ NoEdge → HasNoEdge digest keys v w may old new) → FollowsReplies digest keys v w may old new (Err e)
   follows_edge NoCheckpoint early why = absurd early
   follows_edge NoEdge early why = why refl

@@ -1,17 +1,20 @@
 -- Paths that were not asked for yet, by their places.
 use Rattle.std.proofs.Common.{◌≡◌, ◌≢◌, ◌⊎◌, ℕ, zero, suc, ◌<◌, List, [], ◌∷◌, ◌++◌, length, get_or, take, arith}
 use Rattle.std.proofs.Common.{AllPairs, Contains, refl, sym, ◌∙◌, ap, subst, inl, inr, append_assoc}
-use Rattle.std.proofs.Common.{◌+◌, length-take}
+use Rattle.std.proofs.Common.{◌+◌, length-take, Option}
 use Rattle.std.proofs.lemmas.List.{append-nil, get_or_default, get_or-take, take_more}
 use Rattle.std.proofs.lemmas.List.Elements.{Contains-push_cases, Contains-append_cases, Contains-get_or}
 use Rattle.tlog_tiles.specs.declared.paths.Path.{Path}
 use Rattle.tlog_tiles.specs.declared.paths.Path.TheVariants.{Checkpoint, Tile, Entries}
 use Rattle.tlog_tiles.specs.Edge.{edge_of, level_of}
 use Rattle.tlog_tiles.proofs.EdgeLemmas.{edge_rises}
-use Rattle.log_sources.specs.Files.{full_of, width_named}
-use Rattle.log_sources.specs.Honest.{IsGone, Gets, GetsNone, GetsFound, GetsFull}
+use Rattle.mirror_sources.specs.Files.{full_of, width_named}
+use Rattle.mirror_sources.specs.Source.{StaysWithin}
+use Rattle.mirror_sources.specs.Replies.{Reply, paths_of}
+use Rattle.mirror_sources.specs.Honest.{IsGone, Gets, GetsNone, GetsFound, GetsFull}
 use Rattle.mirror_pull.specs.Asking.{IsFresh, AreFresh, AsksEach, AsksNone, AsksOne, AsksTwo, AddsEach}
 use Rattle.mirror_pull.specs.Parts.{GetsAll}
+use Rattle.mirror_pull.proofs.Askings.{with_then, may_then, may_stays}
 
 pub full_full : (path : Path) → full_of (full_of path) ≡ full_of path
 full_full Checkpoint = refl
@@ -38,16 +41,13 @@ gone_partial n (Entries index width) gone e = let w : width ≡ 256 = ap width_n
 
 -- ---- gets, one after another
 
-pub gets_one : (n : ℕ) (path : Path) → Gets n (path ∷ []) (path ∷ []) (path ∷ [])
-gets_one n path = GetsFound path GetsNone
-
-pub gets_then : (n : ℕ) (ps gs fs qs hs es : List Path) → Gets n ps gs fs → Gets n qs hs es →
-    Gets n (ps ++ qs) (gs ++ hs) (fs ++ es)
-gets_then n ps gs fs qs hs es GetsNone h = h
-gets_then n ps gs fs qs hs es (GetsFound path {paths = ps'} {gets = gs'} {founds = fs'} g) h =
-    GetsFound path (gets_then n ps' gs' fs' qs hs es g h)
-gets_then n ps gs fs qs hs es (GetsFull path {paths = ps'} {gets = gs'} {founds = fs'} gone g) h =
-    GetsFull path gone (gets_then n ps' gs' fs' qs hs es g h)
+pub gets_then : (n : ℕ) (ps fs qs es : List Path) (xs ys : List Reply) → Gets n ps xs fs → Gets n qs ys es →
+    Gets n (ps ++ qs) (xs ++ ys) (fs ++ es)
+gets_then n ps fs qs es xs ys GetsNone h = h
+gets_then n ps fs qs es xs ys (GetsFound path bytes {paths = ps'} {founds = fs'} {replies = xs'} g) h =
+    GetsFound path bytes (gets_then n ps' fs' qs es xs' ys g h)
+gets_then n ps fs qs es xs ys (GetsFull path bytes {paths = ps'} {founds = fs'} {replies = xs'} gone g) h =
+    GetsFull path bytes gone (gets_then n ps' fs' qs es xs' ys g h)
 
 pub each_then : (ps gs qs hs : List Path) → AsksEach ps gs → AsksEach qs hs → AsksEach (ps ++ qs) (gs ++ hs)
 each_then ps gs qs hs AsksNone h = h
@@ -55,12 +55,12 @@ each_then ps gs qs hs (AsksOne path {paths = ps'} {gets = gs'} g) h = AsksOne pa
 each_then ps gs qs hs (AsksTwo path {paths = ps'} {gets = gs'} g) h = AsksTwo path (each_then ps' gs' qs hs g h)
 
 -- what was asked for is at the places of the paths
-pub gets_each_asked : (n : ℕ) (ps gs fs : List Path) → Gets n ps gs fs → AsksEach ps gs
-gets_each_asked n ps gs fs GetsNone = AsksNone
-gets_each_asked n ps gs fs (GetsFound path {paths = ps'} {gets = gs'} {founds = fs'} g) =
-    AsksOne path (gets_each_asked n ps' gs' fs' g)
-gets_each_asked n ps gs fs (GetsFull path {paths = ps'} {gets = gs'} {founds = fs'} gone g) =
-    AsksTwo path (gets_each_asked n ps' gs' fs' g)
+pub gets_each_asked : (n : ℕ) (ps fs : List Path) (xs : List Reply) → Gets n ps xs fs → AsksEach ps (paths_of xs)
+gets_each_asked n ps fs xs GetsNone = AsksNone
+gets_each_asked n ps fs xs (GetsFound path bytes {paths = ps'} {founds = fs'} {replies = xs'} g) =
+    AsksOne path (gets_each_asked n ps' fs' xs' g)
+gets_each_asked n ps fs xs (GetsFull path bytes {paths = ps'} {founds = fs'} {replies = xs'} gone g) =
+    AsksTwo path (gets_each_asked n ps' fs' xs' g)
 
 -- the place of what was asked for
 pub record HasPlace (paths : List Path) (get : Path) : Type 0 where
@@ -134,21 +134,29 @@ take_one ps i lt = take_more ps i Checkpoint lt
 
 -- ---- the gets of a list, and what they say
 
-pub gets_none : (n : ℕ) (before : List Path) → GetsAll n [] before before
-gets_none n before = record { gets = []; founds = []; are = GetsNone; list = sym (append-nil before) }
+abbrev pub gets_none : (n : ℕ) (may : Path → Option (List ℕ) → Type 0) (before : List Path) → GetsAll n may [] before before
+gets_none n may before =
+    record { replies = []; founds = []; are = GetsNone; may_reply = tt; list = sym (append-nil before) }
 
-pub gets_all_then : (n : ℕ) (ps qs before mid after : List Path) → GetsAll n ps before mid → GetsAll n qs mid after →
-    GetsAll n (ps ++ qs) before after
-gets_all_then n ps qs before mid after a b = record {
-  gets = a.gets ++ b.gets;
+abbrev pub gets_all_then :
+    (n : ℕ) (may later : Path → Option (List ℕ) → Type 0) (ps qs before mid after : List Path) → StaysWithin may later →
+    GetsAll n may ps before mid → GetsAll n later qs mid after → GetsAll n may (ps ++ qs) before after
+gets_all_then n may later ps qs before mid after stays a b = record {
+  replies = a.replies ++ b.replies;
   founds = a.founds ++ b.founds;
-  are = gets_then n ps a.gets a.founds qs b.gets b.founds a.are b.are;
-  list = b.list ∙ (ap (λ (l : List Path). l ++ b.gets) a.list ∙ append_assoc before a.gets b.gets);
+  are = gets_then n ps a.founds qs b.founds a.replies b.replies a.are b.are;
+  may_reply = may_then may a.replies b.replies a.may_reply (may_stays may later b.replies stays b.may_reply);
+  list = b.list ∙
+      (ap (λ (l : List Path). l ++ paths_of b.replies) a.list ∙ sym (with_then before a.replies b.replies));
 }
 
-pub adds_of_gets : (n : ℕ) (ps before after : List Path) → GetsAll n ps before after → AddsEach ps before after
-adds_of_gets n ps before after a =
-    record { gets = a.gets; each = gets_each_asked n ps a.gets a.founds a.are; list = a.list }
+pub adds_of_gets : (n : ℕ) (may : Path → Option (List ℕ) → Type 0) (ps before after : List Path) →
+    GetsAll n may ps before after → AddsEach ps before after
+adds_of_gets n may ps before after a = record {
+  gets = paths_of a.replies;
+  each = gets_each_asked n ps a.founds a.replies a.are;
+  list = a.list;
+}
 
 pub contains_take : (i : ℕ) (xs : List Path) (q : Path) → Contains (take i xs) q → Contains xs q
 contains_take i xs q c =

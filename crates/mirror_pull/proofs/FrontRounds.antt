@@ -25,8 +25,9 @@ use Rattle.mirror_model.proofs.TrueItems.{front_bundle, front_within, prefixes_s
 use Rattle.mirror_model.proofs.TrueItems.{bundles_are_true}
 use Rattle.mirror_model.proofs.ManyRounds.{rounds_complete}
 use Rattle.mirror_model.proofs.Fronts.{front_empty}
-use Rattle.log_sources.specs.Files.{full_of}
-use Rattle.log_sources.specs.Honest.{IsGone, Gets, GetsNone, GetsFound, GetsFull}
+use Rattle.mirror_sources.specs.Files.{full_of}
+use Rattle.mirror_sources.specs.Replies.{Reply}
+use Rattle.mirror_sources.specs.Honest.{IsGone, Gets, GetsNone, GetsFound, GetsFull}
 use Rattle.mirror_pull.specs.Honest.{AreFrontRounds, true_item, with_true}
 use Rattle.mirror_pull.specs.PullLaws.{HonestRoundIsRound, HonestRoundsAreFew}
 use Rattle.mirror_model.proofs.FullBundles.{full_bundles_serve}
@@ -47,27 +48,27 @@ first_or_later x xs y zero lt e = inl e
 first_or_later x xs y (suc k) lt e = inr (k, omega (arith, lt), e)
 
 -- the bytes of each path were found at the path or, where its file may be gone, at the full path
-gets_each : (n : ℕ) (list gets founds : List Path) → Gets n list gets founds → (path : Path) → Contains list path →
+gets_each : (n : ℕ) (list founds : List Path) (xs : List Reply) → Gets n list xs founds → (path : Path) → Contains list path →
     Contains founds path ⊎ (IsGone n path × Contains founds (full_of path))
-gets_each n list gets founds GetsNone path c = absurd (contains_none path c)
-gets_each n list gets founds (GetsFound p {paths = ps} {gets = gs} {founds = fs} g) path c =
+gets_each n list founds xs GetsNone path c = absurd (contains_none path c)
+gets_each n list founds xs (GetsFound p bytes {paths = ps} {founds = fs} {replies = xs'} g) path c =
     elim (first_or_later p ps path c.0 c.1 c.2) [
       | inl same ↦ inl (subst (λ q. Contains (p ∷ fs) q) same (at_first p fs))
       | inr later ↦ elim
-          (gets_each n ps gs fs g path later) [
+          (gets_each n ps fs xs' g path later) [
             | inl a ↦ inl (at_later p fs path a)
             | inr b ↦ inr
                 (b.0, at_later p fs (full_of path) b.1)
           ]
     ]
-gets_each n list gets founds (GetsFull p {paths = ps} {gets = gs} {founds = fs} gone g) path c =
+gets_each n list founds xs (GetsFull p bytes {paths = ps} {founds = fs} {replies = xs'} gone g) path c =
     elim (first_or_later p ps path c.0 c.1 c.2) [
       | inl same ↦ inr (
         subst (λ q. IsGone n q) same gone,
         subst (λ q. Contains (full_of p ∷ fs) (full_of q)) same (at_first (full_of p) fs),
       )
       | inr later ↦ elim
-          (gets_each n ps gs fs g path later) [
+          (gets_each n ps fs xs' g path later) [
             | inl a ↦ inl (at_later (full_of p) fs path a)
             | inr b ↦ inr
                 (b.0, at_later (full_of p) fs (full_of path) b.1)
@@ -156,13 +157,13 @@ module _ (digest : List ℕ → List ℕ) (hash : IsDigest digest) (entries : Li
       ]
 
 pub front_round_takes : HonestRoundIsRound
-front_round_takes digest hash entries short size v list gets founds le less edge lists got = record {
+front_round_takes digest hash entries short size v list founds replies le less edge lists got = record {
   edge = edge;
   grows = (true_grows digest entries founds v).strings_are;
   taken = λ path f. held_from_holds (with_true digest entries v founds).strings
       (true_strings digest (take size entries) path)
       (answer digest hash entries short size v founds le less edge path f
-      (gets_each (length entries) list gets founds got path ((lists.exact path).1 f)));
+      (gets_each (length entries) list founds replies got path ((lists.exact path).1 f)));
 }
 
 -- ---- round after round
@@ -177,11 +178,11 @@ record Reaches (digest : List ℕ → List ℕ) (entries : List (List ℕ)) (hel
 
 module _ (digest : List ℕ → List ℕ) (hash : IsDigest digest) (entries : List (List ℕ)) (short : AreShort entries)
     (size : ℕ) (le : size ≤ length entries) (less : size < 256 ^ 8) where
-  reaches : (lists : List (List Path)) (count : ℕ) (v w : View) (gets : List Path) → count < length lists →
+  reaches : (lists : List (List Path)) (count : ℕ) (v w : View) (xs : List Reply) → count < length lists →
       HasAll v.strings (edge_strings digest (edge_rows digest (take size entries))) →
-      AreFrontRounds digest entries size v w lists gets → Reaches digest (take size entries) v.strings count
-  reaches [] count v w gets lt edge rounds = absurd (omega (arith, lt))
-  reaches (list ∷ lists) zero v w gets lt edge rounds =
+      AreFrontRounds digest entries size v w lists xs → Reaches digest (take size entries) v.strings count
+  reaches [] count v w xs lt edge rounds = absurd (omega (arith, lt))
+  reaches (list ∷ lists) zero v w xs lt edge rounds =
       let round = rounds.3 in
       let first = get_or list 0 Checkpoint in
       record {
@@ -195,13 +196,13 @@ module _ (digest : List ℕ → List ℕ) (hash : IsDigest digest) (entries : Li
             first;
         front = (round.front.exact first).0 (Contains-get_or list 0 Checkpoint (omega (arith, round.some)));
       }
-  reaches (list ∷ lists) (suc count) v w gets lt edge rounds =
+  reaches (list ∷ lists) (suc count) v w xs lt edge rounds =
       let between = rounds.0 in
       let round = rounds.3 in
       let takes : IsRound digest (take size entries) v.strings between.strings =
       subst (λ (x : View). IsRound digest (take size entries) v.strings x.strings) (sym round.taken)
-      (front_round_takes digest hash entries short size v list rounds.1 round.founds le less edge round.front
-      round.gets_are) in
+      (front_round_takes digest hash entries short size v list round.founds rounds.1 le less edge round.front
+      round.gets) in
       let r = reaches lists count between w rounds.2 (omega (arith, lt))
       (held_more v.strings between.strings
       (edge_strings digest (edge_rows digest (take size entries))) takes.grows edge) rounds.4 in
@@ -216,13 +217,13 @@ module _ (digest : List ℕ → List ℕ) (hash : IsDigest digest) (entries : Li
       }
 
 pub front_rounds_end : HonestRoundsAreFew
-front_rounds_end digest hash entries short size top v w lists gets le less is_top edge rounds =
+front_rounds_end digest hash entries short size top v w lists replies le less is_top edge rounds =
     let es = take size entries in
     let long : length es ≡ size = omega (arith, length-take size entries, le) in
     elim (cases_lt (max 1 top) (length lists)) [
       | inr enough ↦ enough
       | inl many ↦
-          (let r = reaches digest hash entries short size le less lists (max 1 top) v w gets many edge rounds in
+          (let r = reaches digest hash entries short size le less lists (max 1 top) v w replies many edge rounds in
           let last = last_held v.strings r.more in
           let tree =
           rounds_complete digest v.strings es top r.more (omega (arith, long, less))

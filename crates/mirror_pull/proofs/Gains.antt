@@ -18,27 +18,27 @@ use Rattle.mirror_model.specs.Steps.{Takes, Exhausted}
 use Rattle.mirror_model.proofs.Views.{within_itself, within_trans, within_plus}
 use Rattle.mirror_model.proofs.StringSets.{has_right, has_cases, has_empty, listed_from_has, has_from_listed}
 use Rattle.mirror_model.proofs.HeadNotes.{head_of}
-use Rattle.mirror_pull.specs.Taking.{GainsStrings, Grows, PullsTo, TakesItem, TakesHead, IsTakeable, item_at, IsEarly}
-use Rattle.mirror_pull.specs.Taking.{IsLate}
+use Rattle.mirror_pull.specs.Taking.{GainsStrings, Grows, PullsTo, TakesItem, TakesHead, IsTakeable, item_at, EndsBeforeHead}
+use Rattle.mirror_pull.specs.Taking.{EndsAfterHead}
 use Rattle.mirror_pull.specs.Answering.{of_take, refused_of, refused_of_fault}
 use Rattle.mirror_model.specs.Answered.{answer_of}
 use Rattle.mirror_model.specs.declared.fault.TakeFault.{TakeFault}
 use Rattle.mirror_model.specs.declared.fault.TakeFault.TheVariants as take
-use Rattle.log_sources.specs.Source.{StaysWithin}
-use Rattle.mirror_pull.specs.Asking.{Counts}
+use Rattle.mirror_sources.specs.Source.{StaysWithin}
+use Rattle.mirror_pull.specs.Asking.{BlamesSource}
 use Rattle.mirror_pull.specs.Parts.{IsOutside}
 use Rattle.mirror_pull.specs.Faults.{of_source}
-use Rattle.log_sources.specs.declared.source.SourceFault.{SourceFault}
-use Rattle.log_sources.specs.declared.source.SourceFault.TheVariants as source
+use Rattle.mirror_sources.specs.declared.source.SourceFault.{SourceFault}
+use Rattle.mirror_sources.specs.declared.source.SourceFault.TheVariants as source
 use Rattle.mirror_pull.specs.declared.fault.PullFault.{PullFault}
 use Rattle.mirror_pull.specs.declared.fault.PullFault.TheVariants.{NoCheckpoint, NoEdge, Head, Source, Collision}
 use Rattle.mirror_pull.specs.declared.fault.PullFault.TheVariants.{OutOfMemory}
 
-pub early_of_source : (f : SourceFault) → IsEarly {T = Bool} (Err (of_source f))
+pub early_of_source : (f : SourceFault) → EndsBeforeHead {T = Bool} (Err (of_source f))
 early_of_source source.Failed = tt
 early_of_source source.OutOfMemory = tt
 
-pub late_of_source : (f : SourceFault) → IsLate {T = Bool} (Err (of_source f))
+pub late_of_source : (f : SourceFault) → EndsAfterHead {T = Bool} (Err (of_source f))
 late_of_source source.Failed = tt
 late_of_source source.OutOfMemory = tt
 
@@ -126,7 +126,7 @@ pub stays_then : (a b c : Path → Option (List ℕ) → Type 0) → StaysWithin
 stays_then a b c p q = record { stays = λ path answer h. p.stays path answer (q.stays path answer h) }
 
 -- a fault that may come before the head and after it comes from outside
-pub outside : (e : PullFault) → IsEarly {T = Bool} (Err e) → IsLate {T = Bool} (Err e) → IsOutside e
+pub outside : (e : PullFault) → EndsBeforeHead {T = Bool} (Err e) → EndsAfterHead {T = Bool} (Err e) → IsOutside e
 outside NoCheckpoint early late = absurd early
 outside NoEdge early late = absurd late
 outside (Head f) early late = absurd early
@@ -136,7 +136,7 @@ outside OutOfMemory early late = inl refl
 
 -- what a take answers may come after the head
 pub late_item : (digest : List ℕ → List ℕ) (v w : View) (path : Path) (bytes : List ℕ) (r : Result Bool PullFault) →
-    TakesItem digest v (item_at path bytes) r w → IsLate r
+    TakesItem digest v (item_at path bytes) r w → EndsAfterHead r
 late_item digest v w path bytes (Ok true) t = tt
 late_item digest v w path bytes (Ok false) t = tt
 late_item digest v w path bytes (Err Collision) t = tt
@@ -148,7 +148,7 @@ late_item digest v w path bytes (Err Source) t = absurd t
 
 -- a take blames no source
 pub counts_item : (digest : List ℕ → List ℕ) (v w : View) (path : Path) (bytes : List ℕ) (a b : ℕ)
-    (r : Result Bool PullFault) → b ≡ a → TakesItem digest v (item_at path bytes) r w → Counts a b r
+    (r : Result Bool PullFault) → b ≡ a → TakesItem digest v (item_at path bytes) r w → BlamesSource a b r
 counts_item digest v w path bytes a b (Ok true) same t = same
 counts_item digest v w path bytes a b (Ok false) same t = same
 counts_item digest v w path bytes a b (Err Collision) same t = same
@@ -158,8 +158,8 @@ counts_item digest v w path bytes a b (Err NoEdge) same t = absurd t
 counts_item digest v w path bytes a b (Err (Head f)) same t = absurd t
 counts_item digest v w path bytes a b (Err Source) same t = absurd t
 
-pub counts_err : (a b c : ℕ) (e : PullFault) → b ≡ a → Counts {T = Bool} b c (Err e) → Counts {T = Bool} a c (Err e)
-counts_err a b c e same h = subst (λ m. Counts {T = Bool} m c (Err e)) same h
+pub counts_err : (a b c : ℕ) (e : PullFault) → b ≡ a → BlamesSource {T = Bool} b c (Err e) → BlamesSource {T = Bool} a c (Err e)
+counts_err a b c e same h = subst (λ m. BlamesSource {T = Bool} m c (Err e)) same h
 
 -- ---- heads
 
@@ -261,29 +261,6 @@ missing_takeable digest v size root paths law small m k lt =
     let c : Contains paths p = (k, lt, get_or_default paths k p Checkpoint lt) in
     of_size_takeable size p (law digest v.strings size root small p ((m.exact p).0 c))
 
--- ---- rows
-
-take_map_more : {X Y : Type 0} (f : X → Y) (xs : List X) (i : ℕ) (x : X) → i < length xs → x ≡ get_or xs i x →
-    take (i + 1) (map f xs) ≡ take i (map f xs) ++ f x ∷ []
-take_map_more {X} f xs i x lt e =
-    let more : take (i + 1) xs ≡ take i xs ++ x ∷ [] =
-    take_more xs i x lt ∙ ap (λ (y : X). take i xs ++ y ∷ []) (sym e) in
-    take-map f (i + 1) xs ∙
-    (ap (map f) more ∙ (map-append f (take i xs) (x ∷ []) ∙ ap (λ l. l ++ f x ∷ []) (sym (take-map f i xs))))
-
-pub rows_more : {A B C : Type 0} (f : A → C) (g : B → C) (xs ys : List A) (a : A) (bs : List B) (i : ℕ) (b : B) →
-    ys ≡ xs ++ a ∷ [] → f a ≡ g b → i < length bs → b ≡ get_or bs i b → map f xs ≡ take i (map g bs) →
-    map f ys ≡ take (i + 1) (map g bs)
-rows_more {A} {B} {C} f g xs ys a bs i b grown same lt is before =
-    ap (map f) grown ∙
-    (map-append f xs (a ∷ []) ∙
-    (ap (λ (l : List C). l ++ f a ∷ []) before ∙
-    (ap (λ (c : C). take i (map g bs) ++ c ∷ []) same ∙ sym (take_map_more g bs i b lt is))))
-
-pub rows_all : {A B C : Type 0} (f : A → C) (g : B → C) (xs ys : List A) (bs : List B) (i : ℕ) → ys ≡ xs →
-    length bs ≤ i → map f xs ≡ take i (map g bs) → map f ys ≡ map g bs
-rows_all f g xs ys bs i same le is = ap (map f) same ∙ (is ∙ take_all i (map g bs) (simp length-map le))
-
 -- ---- outcomes of a pull
 
 pub outcome_head : (digest : List ℕ → List ℕ) (keys : List Key) (v w : View) (note : List ℕ) (rows : List (List ℕ))
@@ -297,7 +274,7 @@ outcome_head digest keys v w note rows Collision t = grows_same keys v w t.1
 outcome_head digest keys v w note rows OutOfMemory t = t
 
 pub outcome_early : (digest : List ℕ → List ℕ) (keys : List Key) (v : View) (e : PullFault) →
-    IsEarly {T = Bool} (Err e) → PullsTo digest keys v v (Err e)
+    EndsBeforeHead {T = Bool} (Err e) → PullsTo digest keys v v (Err e)
 outcome_early digest keys v NoCheckpoint early = absurd early
 outcome_early digest keys v NoEdge early = refl
 outcome_early digest keys v (Head f) early = absurd early
@@ -306,7 +283,7 @@ outcome_early digest keys v Collision early = absurd early
 outcome_early digest keys v OutOfMemory early = grows_itself keys v
 
 pub outcome_late : (digest : List ℕ → List ℕ) (keys : List Key) (v w : View) (e : PullFault) →
-    IsLate {T = Bool} (Err e) → Grows keys v w → PullsTo digest keys v w (Err e)
+    EndsAfterHead {T = Bool} (Err e) → Grows keys v w → PullsTo digest keys v w (Err e)
 outcome_late digest keys v w NoCheckpoint late grows = absurd late
 outcome_late digest keys v w NoEdge late grows = absurd late
 outcome_late digest keys v w (Head f) late grows = absurd late

@@ -3,7 +3,7 @@ use Rattle.std.proofs.Common.{◌≡◌, ℕ, List, take, Option, Result, Ok, Er
 use Rattle.tlog_hash.specs.Tree.{mth}
 use Rattle.tlog_tiles.specs.declared.paths.Path.{Path}
 use Rattle.mirror_model.specs.View.{View}
-use Rattle.log_sources.specs.Honest.{IsHonest}
+use Rattle.mirror_sources.specs.Honest.{IsHonest}
 use Rattle.signed_note.specs.Keys.{Key}
 use Rattle.tlog_checkpoint.specs.declared.Checkpoint.{Checkpoint}
 use Rattle.mirror_model.specs.Heads.{IsOpenHead}

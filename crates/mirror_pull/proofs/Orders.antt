@@ -14,7 +14,7 @@ use Rattle.tlog_tiles.specs.declared.paths.Path.{Path}
 use Rattle.tlog_tiles.specs.declared.paths.Path.TheVariants.{Checkpoint, Tile, Entries}
 use Rattle.mirror_model.specs.Front.{path_cmp}
 use Rattle.mirror_model.specs.TrueLaws.{IsWidest}
-use Rattle.log_sources.specs.Files.{full_of}
+use Rattle.mirror_sources.specs.Files.{full_of}
 use Rattle.mirror_model.proofs.ManyRounds.{one_lower}
 
 nat_same : (n : ℕ) → nat_cmp n n ≡ Equal

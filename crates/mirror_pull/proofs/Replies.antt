@@ -9,11 +9,11 @@ use Rattle.tlog_tiles.specs.declared.paths.Path.{Path}
 use Rattle.tlog_tiles.specs.declared.paths.Path.TheVariants.{Checkpoint}
 use Rattle.mirror_model.specs.View.{View}
 use Rattle.mirror_model.specs.Item.{plus}
-use Rattle.log_sources.specs.Files.{full_of, width_named}
-use Rattle.log_sources.specs.Source.{StaysWithin}
-use Rattle.mirror_pull.specs.Replies.{Reply, reply, paths_of, MayReply}
-use Rattle.log_sources.specs.Told.{AddsTold}
-use Rattle.mirror_pull.specs.Taking.{TakesItem, IsLate, item_at}
+use Rattle.mirror_sources.specs.Files.{full_of, width_named}
+use Rattle.mirror_sources.specs.Source.{StaysWithin}
+use Rattle.mirror_sources.specs.Replies.{Reply, reply, paths_of, MayReply}
+use Rattle.mirror_sources.specs.Told.{AddsTold}
+use Rattle.mirror_pull.specs.Taking.{TakesItem, EndsAfterHead, item_at}
 use Rattle.mirror_pull.specs.Replying.{Asks, AsksNew, AsksAgain, AsksPath, PathFound, PathNone, AsksList, ListNone}
 use Rattle.mirror_pull.specs.Replying.{ListNext, GivesRow, RowFound, RowCut, GivesRows, RowsNext, GivesNoRow}
 use Rattle.mirror_pull.specs.Replying.{GivesNoRows, Leaves, LeavesNone, LeavesOut, LeavesIn, TakesReplies, TakesEnd}
@@ -22,28 +22,8 @@ use Rattle.mirror_pull.specs.Replying.{Gathers, IsWorkedPath, IsWorkedList, AreW
 use Rattle.mirror_pull.specs.declared.fault.PullFault.{PullFault}
 use Rattle.mirror_pull.specs.declared.fault.PullFault.TheVariants.{NoEdge}
 use Rattle.mirror_pull.specs.declared.fault.PullFault.TheVariants.{OutOfMemory}
-use Rattle.mirror_pull.proofs.Askings.{adds_told_none, adds_told_then}
+use Rattle.mirror_pull.proofs.Askings.{adds_told_none, adds_told_then, paths_then, with_then, may_then, may_stays}
 use Rattle.mirror_pull.proofs.Freshness.{take_one}
-
--- ---- replies, one after another
-
-pub paths_then : (xs ys : List Reply) → paths_of (xs ++ ys) ≡ paths_of xs ++ paths_of ys
-paths_then xs ys = map-append (λ (r : Reply). r.path) xs ys
-
-pub with_then : (asked : List Path) (xs ys : List Reply) →
-    with_replies asked (xs ++ ys) ≡ with_replies (with_replies asked xs) ys
-with_then asked xs ys =
-    ap (λ (l : List Path). asked ++ l) (paths_then xs ys) ∙ sym (append_assoc asked (paths_of xs) (paths_of ys))
-
-pub may_then : (may : Path → Option (List ℕ) → Type 0) (xs ys : List Reply) → MayReply may xs → MayReply may ys →
-    MayReply may (xs ++ ys)
-may_then may [] ys p q = q
-may_then may (x ∷ xs) ys p q = (p.0, may_then may xs ys p.1 q)
-
-pub may_stays : (may later : Path → Option (List ℕ) → Type 0) (xs : List Reply) → StaysWithin may later →
-    MayReply later xs → MayReply may xs
-may_stays may later [] stays p = tt
-may_stays may later (x ∷ xs) stays p = (stays.stays x.path x.found p.0, may_stays may later xs stays p.1)
 
 -- ---- parts, one after another
 
@@ -119,8 +99,8 @@ no_row before middle path full xs ys found list is other p q = record {
   replies_are = refl;
 }
 
-pub not_edge : (e : PullFault) → IsLate {T = Bool} (Err e) → e ≡ NoEdge → ⊥
-not_edge e late is = subst (λ (f : PullFault). IsLate {T = Bool} (Err f)) is late
+pub not_edge : (e : PullFault) → EndsAfterHead {T = Bool} (Err e) → e ≡ NoEdge → ⊥
+not_edge e late is = subst (λ (f : PullFault). EndsAfterHead {T = Bool} (Err f)) is late
 
 pub memory_no_edge : OutOfMemory ≡ NoEdge → ⊥
 memory_no_edge e = cc e

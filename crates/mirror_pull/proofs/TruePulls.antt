@@ -29,10 +29,12 @@ use Rattle.mirror_model.proofs.StringSets.{clash_contradicts, held_from_holds}
 use Rattle.mirror_model.proofs.TrueItems.{edges_are_true, edge_is_of_paths, prefixes_serve_same}
 use Rattle.mirror_model.proofs.EdgeStrings.{edge_strings_within}
 use Rattle.mirror_model.proofs.Fetching.{plus_holds}
-use Rattle.log_sources.specs.Files.{full_of}
-use Rattle.log_sources.specs.Source.{StaysWithin}
-use Rattle.log_sources.specs.Told.{AddsTold}
-use Rattle.log_sources.specs.Honest.{IsHonest, true_bytes}
+use Rattle.mirror_sources.specs.Files.{full_of}
+use Rattle.mirror_sources.specs.Source.{StaysWithin}
+use Rattle.mirror_sources.specs.Told.{AddsTold}
+use Rattle.mirror_sources.specs.Replies.{Reply, reply, paths_of, MayReply}
+use Rattle.mirror_sources.specs.Honest.{IsHonest, true_bytes}
+use Rattle.mirror_pull.proofs.Askings.{paths_then, may_then, may_stays}
 use Rattle.mirror_pull.specs.Asking.{AreFresh, AddsTo}
 use Rattle.mirror_pull.specs.Taking.{TakesHead, GainsStrings}
 use Rattle.mirror_pull.specs.Honest.{NoClashAmong, AreFrontRounds, with_head, HonestGets, HonestOutcome}
@@ -117,19 +119,21 @@ settled_checkpoint size Checkpoint same within = within
 settled_checkpoint size (Tile level index width) same within = let k : 0 ≡ 1 = ap kind_of same in omega (arith, k)
 settled_checkpoint size (Entries index width) same within = let k : 0 ≡ 2 = ap kind_of same in omega (arith, k)
 
-pub edge_settled : (n size : ℕ) (asked after : List Path) → asked ≡ Checkpoint ∷ [] →
-    GetsAll n (edge_of size) asked after → (before : Path) → Contains after before → (path : Path) →
+pub edge_settled :
+    (n size : ℕ) (may : Path → Option (List ℕ) → Type 0) (asked after : List Path) → asked ≡ Checkpoint ∷ [] →
+    GetsAll n may (edge_of size) asked after → (before : Path) → Contains after before → (path : Path) →
     full_of before ≡ full_of path → IsWithin size path → IsWidest size path → ⊥
-edge_settled n size asked after is got before has path same within widest =
-    elim (Contains-append_cases asked got.gets before (subst (λ (l : List Path). Contains l before) got.list has)) [
+edge_settled n size may asked after is got before has path same within widest =
+    elim (Contains-append_cases asked (paths_of got.replies) before
+    (subst (λ (l : List Path). Contains l before) got.list has)) [
       | inl old ↦ elim (cases_first Checkpoint [] before (subst (λ (l : List Path). Contains l before) is old)) [
         | inl e ↦ settled_checkpoint size path (ap full_of e ∙ same) within
         | inr none ↦ omega (arith, none.1)
       ]
       | inr new ↦
           (let place =
-          each_place (edge_of size) got.gets
-          (gets_each_asked n (edge_of size) got.gets got.founds got.are) before new in
+          each_place (edge_of size) (paths_of got.replies)
+          (gets_each_asked n (edge_of size) got.founds got.replies got.are) before new in
           settled_edge size place.path path ((edge_is size place.path).0 place.listed)
           (sym place.same ∙ same) within widest)
     ]
@@ -209,12 +213,12 @@ module _ (digest : List ℕ → List ℕ) (hash : IsDigest digest) (keys : List 
 
     -- after which the rounds may go on
     pub rounds_may :
-        (later : Path → Option (List ℕ) → Type 0) (w : View) (root : List ℕ) (asked after : List Path) →
+        (edge_may later : Path → Option (List ℕ) → Type 0) (w : View) (root : List ℕ) (asked after : List Path) →
         StaysWithin may later → w ≡ with_head digest entries v note size → root ≡ mth digest (take size entries) →
         HasHead w size root →
-        asked ≡ Checkpoint ∷ [] → GetsAll (length entries) (edge_of size) asked after →
+        asked ≡ Checkpoint ∷ [] → GetsAll (length entries) edge_may (edge_of size) asked after →
         MayWork digest entries size root later w after
-    rounds_may later w root asked after stays taken root_is head begun got =
+    rounds_may edge_may later w root asked after stays taken root_is head begun got =
         let x = item.Head note (edge_bytes digest (take size entries)) in
         let e = edges_are_true digest hash (take size entries) true_edge_small in
         let held : HasAll (plus digest v x).strings (edge_strings digest (edge_rows digest (take size entries))) =
@@ -233,14 +237,14 @@ module _ (digest : List ℕ → List ℕ) (hash : IsDigest digest) (keys : List 
               (sym taken) held;
           fetched =
               λ before has path same within widest. absurd
-              (edge_settled (length entries) size asked after begun got before has path same within widest);
+              (edge_settled (length entries) size edge_may asked after begun got before has path same within widest);
         }
 
     -- of no entries there are no rounds
-    no_rounds : (lists : List (List Path)) (x w : View) (gets : List Path) → size ≡ 0 →
-        AreFrontRounds digest entries size x w lists gets → length lists ≡ 0
-    no_rounds [] x w gets none rounds = refl
-    no_rounds (list ∷ lists) x w gets none rounds =
+    no_rounds : (lists : List (List Path)) (x w : View) (xs : List Reply) → size ≡ 0 →
+        AreFrontRounds digest entries size x w lists xs → length lists ≡ 0
+    no_rounds [] x w xs none rounds = refl
+    no_rounds (list ∷ lists) x w xs none rounds =
         let round = rounds.3 in
         let front =
         (round.front.exact (get_or list 0 Checkpoint)).0
@@ -248,8 +252,9 @@ module _ (digest : List ℕ → List ℕ) (hash : IsDigest digest) (keys : List 
         absurd (empty_front digest x.strings 0 front.node
         (subst (λ (n : ℕ). InFront digest x.strings (tree_of (take n entries)) 0 front.node) none front.is))
 
-    module _ (w x : View) (rounds : ℕ) (mid after : List Path) (taken : w ≡ with_head digest entries v note size)
-        (working : HasWorked digest entries size rounds w x mid after) where
+    module _ (rest : Path → Option (List ℕ) → Type 0) (w x : View) (rounds : ℕ) (mid after : List Path)
+        (taken : w ≡ with_head digest entries v note size)
+        (working : HasWorked digest entries size rest rounds w x mid after) where
       pub worked_few : (top : ℕ) → IsTop size top → rounds ≤ max 1 top
       worked_few top is_top =
           let e = edges_are_true digest hash (take size entries) true_edge_small in
@@ -263,13 +268,13 @@ module _ (digest : List ℕ → List ℕ) (hash : IsDigest digest) (keys : List 
           (sym taken) held in
           omega (
             arith,
-            front_rounds_end digest hash entries is.short size top w x working.lists working.gets is.within small is_top
+            front_rounds_end digest hash entries is.short size top w x working.lists working.replies is.within small is_top
                 edge working.worked,
             working.count,
           )
 
       pub worked_none : size ≡ 0 → rounds ≡ 0
-      worked_none none = sym working.count ∙ no_rounds working.lists w x working.gets none working.worked
+      worked_none none = sym working.count ∙ no_rounds working.lists w x working.replies none working.worked
 
       pub worked_strings : (y : List ℕ) → Has x.strings y → Has v.strings y ⊎ InTrees digest entries size y
       worked_strings y h = elim (working.strings y h) [
@@ -292,23 +297,32 @@ module _ (digest : List ℕ → List ℕ) (hash : IsDigest digest) (keys : List 
                 };
           }
 
-      pub worked_gets : (none asked : List Path) (old new : Option (List Path)) → none ≡ [] → asked ≡ Checkpoint ∷ [] →
-          GetsAll (length entries) (edge_of size) asked mid → AddsTo none after old new →
-          HonestGets digest entries note size v x old new rounds
-      worked_gets none asked old new is_none begun got told = record {
-        edge_gets = got.gets;
+      pub worked_gets :
+          (edge_may : Path → Option (List ℕ) → Type 0) (none asked : List Path) (old new : Option (List Path)) →
+          StaysWithin may edge_may → StaysWithin may rest → may Checkpoint (Some note) → none ≡ [] →
+          asked ≡ Checkpoint ∷ [] →
+          GetsAll (length entries) edge_may (edge_of size) asked mid → AddsTo none after old new →
+          HonestGets digest entries note size v x may old new rounds
+      worked_gets edge_may none asked old new stays later answered is_none begun got told = record {
+        edge = got.replies;
         edge_founds = got.founds;
-        edge = got.are;
+        edge_gets = got.are;
         lists = working.lists;
-        gets = working.gets;
+        replies = working.replies;
         count = working.count;
         worked = subst
-            (λ (u : View). AreFrontRounds digest entries size u x working.lists working.gets) taken working.worked;
+            (λ (u : View). AreFrontRounds digest entries size u x working.lists working.replies) taken working.worked;
+        may_reply = (
+          answered,
+          may_then may got.replies working.replies (may_stays may edge_may got.replies stays got.may_reply)
+              (may_stays may rest working.replies later working.may_reply),
+        );
         told = subst (AddsTold old new)
             (sym (told.list ∙ ap (λ (l : List Path). l ++ told.more) is_none) ∙
             (working.list ∙
-            (ap (λ (l : List Path). l ++ working.gets)
-            (got.list ∙ ap (λ (l : List Path). l ++ got.gets) begun)))) told.adds.told;
+            (ap (λ (l : List Path). l ++ paths_of working.replies)
+            (got.list ∙ ap (λ (l : List Path). l ++ paths_of got.replies) begun) ∙
+            ap (λ (l : List Path). Checkpoint ∷ l) (sym (paths_then got.replies working.replies))))) told.adds.told;
       }
 
       pub worked_notes : GainsStrings w x → (other : List ℕ) → Has x.notes other → Has v.notes other ⊎ (other ≡ note)
@@ -368,8 +382,8 @@ head_done digest entries v w note taken size rows same are is =
 
 pub outcome_read :
     (digest : List ℕ → List ℕ) (entries : List (List ℕ)) (note taken : List ℕ) (size at : ℕ) (v w : View)
-    (old new : Option (List Path)) (p : Pulled) → taken ≡ note → at ≡ size →
-    HonestOutcome digest entries taken at v w old new p → HonestOutcome digest entries note size v w old new p
-outcome_read digest entries note taken size at v w old new p same size_is h =
-    subst (λ (n : ℕ). HonestOutcome digest entries note n v w old new p) size_is
-    (subst (λ (b : List ℕ). HonestOutcome digest entries b at v w old new p) same h)
+    (may : Path → Option (List ℕ) → Type 0) (old new : Option (List Path)) (p : Pulled) → taken ≡ note → at ≡ size →
+    HonestOutcome digest entries taken at v w may old new p → HonestOutcome digest entries note size v w may old new p
+outcome_read digest entries note taken size at v w may old new p same size_is h =
+    subst (λ (n : ℕ). HonestOutcome digest entries note n v w may old new p) size_is
+    (subst (λ (b : List ℕ). HonestOutcome digest entries b at v w may old new p) same h)

@@ -11,9 +11,10 @@ use Rattle.std.proofs.lemmas.List.{map-append, take_all}
 use Rattle.std.proofs.lemmas.List.Elements.{Contains-get_or}
 use Rattle.mirror_model.proofs.TrueItems.{tiles_are_true}
 use Rattle.mirror_model.proofs.Fetching.{full_tiles_begin}
-use Rattle.log_sources.specs.Files.{full_of, width_named}
-use Rattle.log_sources.specs.Source.{StaysWithin}
-use Rattle.log_sources.specs.Honest.{IsGone, GetsNone, GetsFound, GetsFull, true_bytes}
+use Rattle.mirror_sources.specs.Files.{full_of, width_named}
+use Rattle.mirror_sources.specs.Source.{StaysWithin}
+use Rattle.mirror_sources.specs.Replies.{reply}
+use Rattle.mirror_sources.specs.Honest.{IsGone, GetsNone, GetsFound, GetsFull, true_bytes}
 use Rattle.mirror_pull.specs.Asking.{IsFresh, AreFresh}
 use Rattle.mirror_pull.specs.Parts.{GetsAll, IsTilePath, IsTrueSource, IsTrueRow, AreTrueRows}
 use Rattle.mirror_pull.proofs.Freshness.{full_unasked, fresh_next, take_one, adds_of_gets, gets_none, gets_all_then}
@@ -50,18 +51,26 @@ tile_within n (Entries index width) h = absurd h
 
 module _ (digest : List ℕ → List ℕ) (entries : List (List ℕ)) (may : Path → Option (List ℕ) → Type 0)
     (is : IsTrueSource digest entries may) where
-  pub gets_found : (path : Path) (before after : List Path) → after ≡ before ++ path ∷ [] →
-      GetsAll (length entries) (path ∷ []) before after
-  gets_found path before after e =
-      record { gets = path ∷ []; founds = path ∷ []; are = GetsFound path GetsNone; list = e }
+  abbrev pub gets_found : (path : Path) (bytes : List ℕ) (before after : List Path) → may path (Some bytes) →
+      after ≡ before ++ path ∷ [] → GetsAll (length entries) may (path ∷ []) before after
+  gets_found path bytes before after h e = record {
+    replies = reply path (Some bytes) ∷ [];
+    founds = path ∷ [];
+    are = GetsFound path bytes GetsNone;
+    may_reply = (h, tt);
+    list = e;
+  }
 
-  pub gets_full : (path full : Path) (before middle after : List Path) → IsGone (length entries) path →
+  abbrev pub gets_full :
+      (later : Path → Option (List ℕ) → Type 0) (path full : Path) (bytes : List ℕ) (before middle after : List Path) →
+      StaysWithin may later → IsGone (length entries) path → may path None → later (full_of path) (Some bytes) →
       full ≡ full_of path → middle ≡ before ++ path ∷ [] → after ≡ middle ++ full ∷ [] →
-      GetsAll (length entries) (path ∷ []) before after
-  gets_full path full before middle after gone same e f = record {
-    gets = path ∷ full_of path ∷ [];
+      GetsAll (length entries) may (path ∷ []) before after
+  gets_full later path full bytes before middle after stays gone none h same e f = record {
+    replies = reply path None ∷ reply (full_of path) (Some bytes) ∷ [];
     founds = full_of path ∷ [];
-    are = GetsFull path gone GetsNone;
+    are = GetsFull path bytes gone GetsNone;
+    may_reply = (none, (stays.stays (full_of path) (Some bytes) h, tt));
     list = two_more path full before middle after same e f;
   }
 
@@ -77,12 +86,12 @@ module _ (digest : List ℕ → List ℕ) (entries : List (List ℕ)) (may : Pat
       let again = is.parts (Entries index 256) gone.full None h in omega (arith, again.partial)
 
   pub row_found : (path : Path) (before after : List Path) (bytes : List ℕ) → IsTilePath (length entries) path →
-      may path (Some bytes) → after ≡ before ++ path ∷ [] → IsTrueRow digest entries path before after bytes
+      may path (Some bytes) → after ≡ before ++ path ∷ [] → IsTrueRow digest entries may path before after bytes
   row_found path before after bytes tile h e =
       record {
         bytes_are =
             is.parts path (tile_within (length entries) path tile) (Some bytes) h;
-        gets = gets_found path before after e;
+        gets = gets_found path bytes before after h e;
       }
 
   pub full_length : (path : Path) (bytes : List ℕ) → IsTilePath (length entries) path → IsGone (length entries) path →
@@ -121,23 +130,25 @@ edge_tile size n le path has = go path ((edge_is size path).0 has)
 
 module _ (digest : List ℕ → List ℕ) (entries : List (List ℕ)) where
   pub rows_step :
-      {A : Type 0} (f : A → List ℕ) (qs ps before mid after : List Path) (i : ℕ) (rows more : List A) (row : A) →
-      qs ≡ ps → i < length qs → AreFresh before ps →
+      {A : Type 0} (f : A → List ℕ) (may later : Path → Option (List ℕ) → Type 0)
+      (qs ps before mid after : List Path) (i : ℕ) (rows more : List A) (row : A) →
+      StaysWithin may later → qs ≡ ps → i < length qs → AreFresh before ps →
       ((p : Path) → Contains ps p → IsTilePath (length entries) p) → more ≡ rows ++ row ∷ [] →
-      AreTrueRows digest entries (take i ps) before mid (map f rows) →
+      AreTrueRows digest entries may (take i ps) before mid (map f rows) →
       (IsTilePath (length entries) (get_or qs i Checkpoint) → IsFresh mid (get_or qs i Checkpoint) →
-      IsTrueRow digest entries (get_or qs i Checkpoint) mid after (f row)) →
-      AreTrueRows digest entries (take (i + 1) ps) before after (map f more)
-  rows_step f qs ps before mid after i rows more row same lt are tiles grown old step =
+      IsTrueRow digest entries later (get_or qs i Checkpoint) mid after (f row)) →
+      AreTrueRows digest entries may (take (i + 1) ps) before after (map f more)
+  rows_step f may later qs ps before mid after i rows more row stays same lt are tiles grown old step =
       let less : i < length ps = omega (arith, lt, ap length same) in
       let p = get_or ps i Checkpoint in
       let is : get_or qs i Checkpoint ≡ p = ap (λ (l : List Path). get_or l i Checkpoint) same in
-      let fresh = fresh_next before mid ps i less are (adds_of_gets (length entries) (take i ps) before mid old.gets) in
+      let fresh =
+      fresh_next before mid ps i less are (adds_of_gets (length entries) may (take i ps) before mid old.gets) in
       let new =
-      subst (λ (r : Path). IsTrueRow digest entries r mid after (f row)) is
+      subst (λ (r : Path). IsTrueRow digest entries later r mid after (f row)) is
       (step (subst (IsTilePath (length entries)) (sym is) (tiles p (Contains-get_or ps i Checkpoint less)))
       (subst (IsFresh mid) (sym is) fresh)) in
-      subst (λ (l : List Path). AreTrueRows digest entries l before after (map f more)) (sym (take_one ps i less))
+      subst (λ (l : List Path). AreTrueRows digest entries may l before after (map f more)) (sym (take_one ps i less))
       (record {
         rows_are =
             ap (map f) grown ∙
@@ -145,27 +156,32 @@ module _ (digest : List ℕ → List ℕ) (entries : List (List ℕ)) where
             (ap (λ (l : List (List ℕ)). l ++ f row ∷ []) old.rows_are ∙
             (ap (λ (r : List ℕ). map (true_bytes digest entries) (take i ps) ++ r ∷ []) new.bytes_are ∙
             sym (map-append (true_bytes digest entries) (take i ps) (p ∷ [])))));
-        gets = gets_all_then (length entries) (take i ps) (p ∷ []) before mid after old.gets new.gets;
+        gets =
+            gets_all_then (length entries) may later (take i ps) (p ∷ []) before mid after stays old.gets new.gets;
       })
 
-  pub rows_none : (before : List Path) → AreTrueRows digest entries [] before before []
-  rows_none before = record { rows_are = refl; gets = gets_none (length entries) before }
+  pub rows_none : (may : Path → Option (List ℕ) → Type 0) (before : List Path) →
+      AreTrueRows digest entries may [] before before []
+  rows_none may before = record { rows_are = refl; gets = gets_none (length entries) may before }
 
-  pub rows_whole : (ps before after : List Path) (i : ℕ) (rows : List (List ℕ)) → length ps ≤ i →
-      AreTrueRows digest entries (take i ps) before after rows → AreTrueRows digest entries ps before after rows
-  rows_whole ps before after i rows le are =
-      subst (λ (l : List Path). AreTrueRows digest entries l before after rows) (take_all i ps le) are
+  pub rows_whole :
+      (may : Path → Option (List ℕ) → Type 0) (ps before after : List Path) (i : ℕ) (rows : List (List ℕ)) →
+      length ps ≤ i → AreTrueRows digest entries may (take i ps) before after rows →
+      AreTrueRows digest entries may ps before after rows
+  rows_whole may ps before after i rows le are =
+      subst (λ (l : List Path). AreTrueRows digest entries may l before after rows) (take_all i ps le) are
 
   -- a row whose turn has come is asked for as it may be
   pub row_reached :
-      {R : Type 0} (qs ps before mid : List Path) (i : ℕ) (rows : List (List ℕ)) → qs ≡ ps → i < length qs →
+      {R : Type 0} (may : Path → Option (List ℕ) → Type 0) (qs ps before mid : List Path) (i : ℕ)
+      (rows : List (List ℕ)) → qs ≡ ps → i < length qs →
       AreFresh before ps → ((p : Path) → Contains ps p → IsTilePath (length entries) p) →
-      AreTrueRows digest entries (take i ps) before mid rows →
+      AreTrueRows digest entries may (take i ps) before mid rows →
       (IsTilePath (length entries) (get_or qs i Checkpoint) → IsFresh mid (get_or qs i Checkpoint) → R) → R
-  row_reached qs ps before mid i rows same lt are tiles old step =
+  row_reached may qs ps before mid i rows same lt are tiles old step =
       let less : i < length ps = omega (arith, lt, ap length same) in
       let p = get_or ps i Checkpoint in
       let is : get_or qs i Checkpoint ≡ p = ap (λ (l : List Path). get_or l i Checkpoint) same in
       step (subst (IsTilePath (length entries)) (sym is) (tiles p (Contains-get_or ps i Checkpoint less)))
       (subst (IsFresh mid) (sym is)
-      (fresh_next before mid ps i less are (adds_of_gets (length entries) (take i ps) before mid old.gets)))
+      (fresh_next before mid ps i less are (adds_of_gets (length entries) may (take i ps) before mid old.gets)))

@@ -22,19 +22,20 @@ use Rattle.mirror_model.proofs.StringSets.{has_left, has_right, has_cases, has_f
 use Rattle.mirror_model.proofs.StringSets.{no_clash_within, clash_contradicts}
 use Rattle.mirror_model.proofs.TrueItems.{prefixes_serve_same, tiles_are_true, bundles_are_true, true_strings_within}
 use Rattle.mirror_model.proofs.Fetching.{plus_holds}
-use Rattle.log_sources.specs.Files.{full_of}
-use Rattle.log_sources.specs.Honest.{IsGone, Gets, GetsNone, GetsFound, GetsFull, true_bytes}
+use Rattle.mirror_sources.specs.Files.{full_of}
+use Rattle.mirror_sources.specs.Replies.{Reply, reply, MayReply}
+use Rattle.mirror_sources.specs.Honest.{IsGone, Gets, GetsNone, GetsFound, GetsFull, true_bytes}
 use Rattle.mirror_pull.specs.Taking.{TakesItem, item_at}
 use Rattle.mirror_pull.specs.Honest.{NoClashAmong, true_item, with_true}
-use Rattle.log_sources.specs.Source.{StaysWithin}
+use Rattle.mirror_sources.specs.Source.{StaysWithin}
 use Rattle.mirror_pull.specs.Asking.{IsFresh}
-use Rattle.mirror_pull.specs.Parts.{IsOutside, TakesTrue, MayTake}
+use Rattle.mirror_pull.specs.Parts.{GetsAll, IsOutside, TakesTrue, MayTake}
 use Rattle.mirror_pull.specs.declared.fault.PullFault.{PullFault}
 use Rattle.mirror_pull.specs.declared.fault.PullFault.TheVariants.{NoCheckpoint, NoEdge, Head, Source, Collision}
 use Rattle.mirror_pull.specs.declared.fault.PullFault.TheVariants.{OutOfMemory}
-use Rattle.mirror_pull.proofs.Freshness.{cases_first, contains_take, gone_partial, fresh_next, take_one, gets_then}
-use Rattle.mirror_pull.proofs.Freshness.{gets_each_asked}
-use Rattle.mirror_pull.proofs.TrueRows.{source_stays, full_fresh, two_more, is_gone, full_answers}
+use Rattle.mirror_pull.proofs.Freshness.{cases_first, contains_take, gone_partial, fresh_next, take_one}
+use Rattle.mirror_pull.proofs.Freshness.{adds_of_gets, gets_all_then, gets_none}
+use Rattle.mirror_pull.proofs.TrueRows.{source_stays, full_fresh, is_gone, full_answers, gets_found, gets_full}
 use Rattle.tlog_tiles.proofs.EdgeLemmas.{contains_one}
 
 pub within_more : (m n : ℕ) → m ≤ n → (path : Path) → IsWithin m path → IsWithin n path
@@ -45,23 +46,23 @@ within_more m n le (Entries index width) h =
     record { level_fits = h.level_fits; some = h.some; upto = h.upto; within = omega (arith, h.within, le) }
 
 -- bytes were found at a path of the list, or at the full path of one whose file may be gone
-pub founds_each : (n : ℕ) (ps gs fs : List Path) → Gets n ps gs fs → (f : Path) → Contains fs f →
+pub founds_each : (n : ℕ) (ps fs : List Path) (xs : List Reply) → Gets n ps xs fs → (f : Path) → Contains fs f →
     Contains ps f ⊎ ((p : Path) × Contains ps p × IsGone n p × (f ≡ full_of p))
-founds_each n ps gs fs GetsNone f c = absurd (omega (arith, c.1))
-founds_each n ps gs fs (GetsFound p {paths = ps'} {gets = gs'} {founds = fs'} g) f c = elim (cases_first p fs' f c) [
+founds_each n ps fs xs GetsNone f c = absurd (omega (arith, c.1))
+founds_each n ps fs xs (GetsFound p bytes {paths = ps'} {founds = fs'} {replies = xs'} g) f c = elim (cases_first p fs' f c) [
   | inl e ↦ inl (0, omega arith, e)
   | inr later ↦ elim
-      (founds_each n ps' gs' fs' g f later) [
+      (founds_each n ps' fs' xs' g f later) [
         | inl a ↦ inl (suc a.0, omega (arith, a.1), a.2)
         | inr b ↦ inr
             (b.0, (suc b.1.0, omega (arith, b.1.1), b.1.2), b.2, b.3)
       ]
 ]
-founds_each n ps gs fs (GetsFull p {paths = ps'} {gets = gs'} {founds = fs'} gone g) f c =
+founds_each n ps fs xs (GetsFull p bytes {paths = ps'} {founds = fs'} {replies = xs'} gone g) f c =
     elim (cases_first (full_of p) fs' f c) [
       | inl e ↦ inr (p, (0, omega arith, refl), gone, sym e)
       | inr later ↦ elim
-          (founds_each n ps' gs' fs' g f later) [
+          (founds_each n ps' fs' xs' g f later) [
             | inl a ↦ inl (suc a.0, omega (arith, a.1), a.2)
             | inr b ↦ inr
                 (b.0, (suc b.1.0, omega (arith, b.1.1), b.1.2), b.2, b.3)
@@ -82,7 +83,7 @@ module _ (digest : List ℕ → List ℕ) (entries : List (List ℕ)) (size : �
       has_right (set.from_list (strings digest entries)) (set.from_list (strings digest (take size entries))) y
       (has_from_listed (strings digest (take size entries)) y b)
 
-  -- a view that gained strings of the trees alone clashes with them no more than before
+  -- a view that gained strings of the trees alone collides with them no more than before
   pub clean_gained : (v w : View) → ((y : List ℕ) → Has w.strings y → Has v.strings y ⊎ InTrees y) →
       NoClashAmong digest entries v size → NoClashAmong digest entries w size
   clean_gained v w only clean =
@@ -176,36 +177,36 @@ module _ (digest : List ℕ → List ℕ) (entries : List (List ℕ)) (size : �
         ]
 
     pub taken_only :
-        (ps gs fs : List Path) (v : View) → Gets (length entries) ps gs fs →
+        (ps fs : List Path) (xs : List Reply) (v : View) → Gets (length entries) ps xs fs →
         ((path : Path) → Contains ps path → IsWithin size path × IsWidest size path) →
         (y : List ℕ) → Has (with_true digest entries v fs).strings y → Has v.strings y ⊎ InTrees y
-    taken_only ps gs fs v got are y h =
-        only_founds fs v (λ f c. elim (founds_each (length entries) ps gs fs got f c) [
+    taken_only ps fs xs v got are y h =
+        only_founds fs v (λ f c. elim (founds_each (length entries) ps fs xs got f c) [
           | inl listed ↦ first_strings f (are f listed).0 (are f listed).1
           | inr full ↦ subst
               (λ (q : Path). (y : List ℕ) → Contains (strings_of digest (true_item digest entries q)) y → InTrees y)
               (sym full.3) (full_strings full.0 full.2)
         ]) y h
 
--- what a pull makes of an item that is good and clashes with nothing
+-- what a pull makes of an item that is valid and collides with nothing
 pub item_taken :
-    (digest : List ℕ → List ℕ) (entries : List (List ℕ)) (v w : View) (path found : Path)
-    (before after gets : List Path) (r : Result Bool PullFault) →
+    (digest : List ℕ → List ℕ) (entries : List (List ℕ)) (may : Path → Option (List ℕ) → Type 0) (v w : View)
+    (path found : Path) (before after : List Path) (r : Result Bool PullFault)
+    (got : GetsAll (length entries) may (path ∷ []) before after) → got.founds ≡ found ∷ [] →
     IsGood digest v.origin [] (true_item digest entries found) →
     NoClash digest (plus digest v (true_item digest entries found)).strings →
-    Gets (length entries) (path ∷ []) gets (found ∷ []) → after ≡ before ++ gets →
     TakesItem digest v (true_item digest entries found) r w →
-    MatchResult r (λ refused. (refused ≡ false) × TakesTrue digest entries (path ∷ []) before after v w) IsOutside
-item_taken digest entries v w path found before after gets (Ok true) good clean got list t = absurd (t.0 good)
-item_taken digest entries v w path found before after gets (Ok false) good clean got list t =
-    (refl, record { gets = gets; founds = found ∷ []; are = got; list = list; taken = t.2 })
-item_taken digest entries v w path found before after gets (Err Collision) good clean got list t =
+    MatchResult r (λ refused. (refused ≡ false) × TakesTrue digest entries may (path ∷ []) before after v w) IsOutside
+item_taken digest entries may v w path found before after (Ok true) got is good clean t = absurd (t.0 good)
+item_taken digest entries may v w path found before after (Ok false) got is good clean t =
+    (refl, record { gets = got; taken = t.2 ∙ ap (with_true digest entries v) (sym is) })
+item_taken digest entries may v w path found before after (Err Collision) got is good clean t =
     absurd (clash_contradicts digest (plus digest v (true_item digest entries found)).strings clean t.0)
-item_taken digest entries v w path found before after gets (Err OutOfMemory) good clean got list t = inl refl
-item_taken digest entries v w path found before after gets (Err NoCheckpoint) good clean got list t = absurd t
-item_taken digest entries v w path found before after gets (Err NoEdge) good clean got list t = absurd t
-item_taken digest entries v w path found before after gets (Err (Head f)) good clean got list t = absurd t
-item_taken digest entries v w path found before after gets (Err Source) good clean got list t = absurd t
+item_taken digest entries may v w path found before after (Err OutOfMemory) got is good clean t = inl refl
+item_taken digest entries may v w path found before after (Err NoCheckpoint) got is good clean t = absurd t
+item_taken digest entries may v w path found before after (Err NoEdge) got is good clean t = absurd t
+item_taken digest entries may v w path found before after (Err (Head f)) got is good clean t = absurd t
+item_taken digest entries may v w path found before after (Err Source) got is good clean t = absurd t
 
 -- ---- one path
 
@@ -227,15 +228,16 @@ module _ (digest : List ℕ → List ℕ) (entries : List (List ℕ)) (size : �
       (w : View) (after : List Path) (bytes taken : List ℕ) (r : Result Bool PullFault) → may path (Some bytes) →
       taken ≡ bytes → after ≡ before ++ path ∷ [] →
       TakesItem digest v (item_at path taken) r w →
-      MatchResult r (λ refused. (refused ≡ false) × TakesTrue digest entries (path ∷ []) before after v w) IsOutside
+      MatchResult r (λ refused. (refused ≡ false) × TakesTrue digest entries may (path ∷ []) before after v w) IsOutside
   path_found w after bytes taken r answer same list t =
       let true : taken ≡ true_bytes digest entries path = same ∙ m.source.parts path path_within (Some bytes) answer in
       let are = m.paths_are path here in
-      item_taken digest entries v w path path before after (path ∷ []) r
+      item_taken digest entries may v w path path before after r
+      (gets_found digest entries may m.source path bytes before after answer list) refl
       (true_good digest entries size m.source.hash m.source.short m.within v.origin path path_within)
       (plus_clean digest entries size v (true_item digest entries path)
       (first_strings digest entries size m.source.hash m.source.short m.within path are.0 are.1) m.clean)
-      (GetsFound path GetsNone) list (subst (λ b. TakesItem digest v (item_at path b) r w) true t)
+      (subst (λ b. TakesItem digest v (item_at path b) r w) true t)
 
   pub path_full_fresh : (full : Path) (middle : List Path) → may path None → full ≡ full_of path →
       middle ≡ before ++ path ∷ [] → Contains middle full → ⊥
@@ -248,7 +250,7 @@ module _ (digest : List ℕ → List ℕ) (entries : List (List ℕ)) (size : �
       may path None → later full (Some bytes) → full ≡ full_of path → taken ≡ bytes → middle ≡ before ++ path ∷ [] →
       after ≡ middle ++ full ∷ [] →
       TakesItem digest v (item_at full taken) r w →
-      MatchResult r (λ refused. (refused ≡ false) × TakesTrue digest entries (path ∷ []) before after v w) IsOutside
+      MatchResult r (λ refused. (refused ≡ false) × TakesTrue digest entries may (path ∷ []) before after v w) IsOutside
   path_full later w full middle after bytes taken r stays none answer is same list more t =
       let gone = path_gone none in
       let source = source_stays digest entries may later stays m.source in
@@ -257,11 +259,12 @@ module _ (digest : List ℕ → List ℕ) (entries : List (List ℕ)) (size : �
       same ∙ source.parts (full_of path) gone.full (Some bytes) there in
       let t' = subst (λ b. TakesItem digest v (item_at (full_of path) b) r w) true
       (subst (λ (q : Path). TakesItem digest v (item_at q taken) r w) is t) in
-      item_taken digest entries v w path (full_of path) before after (path ∷ full_of path ∷ []) r
+      item_taken digest entries may v w path (full_of path) before after r
+      (gets_full digest entries may m.source later path full bytes before middle after stays gone none there is list
+      more) refl
       (true_good digest entries size m.source.hash m.source.short m.within v.origin (full_of path) gone.full)
       (plus_clean digest entries size v (true_item digest entries (full_of path))
-      (full_strings digest entries size m.source.hash m.source.short m.within path gone) m.clean)
-      (GetsFull path gone GetsNone) (two_more path full before middle after is list more) t'
+      (full_strings digest entries size m.source.hash m.source.short m.within path gone) m.clean) t'
 
   pub path_neither : (later : Path → Option (List ℕ) → Type 0) (full : Path) → StaysWithin may later → may path None →
       later full None → full ≡ full_of path → ⊥
@@ -281,16 +284,17 @@ module _ (digest : List ℕ → List ℕ) (entries : List (List ℕ)) (size : �
   pub paths_only :
       (may : Path → Option (List ℕ) → Type 0) (v w : View) (before mid ps qs : List Path) →
       MayTake digest entries size may v before ps → ((p : Path) → Contains qs p → Contains ps p) →
-      TakesTrue digest entries qs before mid v w → (y : List ℕ) → Has w.strings y →
+      TakesTrue digest entries may qs before mid v w → (y : List ℕ) → Has w.strings y →
       Has v.strings y ⊎ InTrees digest entries size y
   paths_only may v w before mid ps qs m among t y h =
-      taken_only digest entries size m.source.hash m.source.short m.within qs t.gets t.founds v t.are
+      taken_only digest entries size m.source.hash m.source.short m.within qs t.gets.founds t.gets.replies v
+      t.gets.are
       (λ p c. m.paths_are p (among p c)) y (subst (λ (x : View). Has x.strings y) t.taken h)
 
   pub round_next :
       (may later : Path → Option (List ℕ) → Type 0) (v w : View) (before mid ps : List Path) (i : ℕ) →
       StaysWithin may later → i < length ps → MayTake digest entries size may v before ps →
-      TakesTrue digest entries (take i ps) before mid v w →
+      TakesTrue digest entries may (take i ps) before mid v w →
       MayTake digest entries size later w mid (get_or ps i Checkpoint ∷ [])
   round_next may later v w before mid ps i stays lt m t =
       let p = get_or ps i Checkpoint in
@@ -305,37 +309,32 @@ module _ (digest : List ℕ → List ℕ) (entries : List (List ℕ)) (size : �
         fresh = record {
           fresh = λ q c. subst (IsFresh mid) (contains_one p q c)
               (fresh_next before mid ps i lt m.fresh
-              (record {
-                gets =
-                    t.gets;
-                each = gets_each_asked (length entries) (take i ps) t.gets t.founds t.are;
-                list = t.list;
-              }));
+              (adds_of_gets (length entries) may (take i ps) before mid t.gets));
           apart = λ a b d l within. absurd (omega (arith, l, within));
         };
       }
 
   pub round_step :
-      (v x w : View) (before mid after ps : List Path) (i : ℕ) → i < length ps →
-      TakesTrue digest entries (take i ps) before mid v x →
-      TakesTrue digest entries (get_or ps i Checkpoint ∷ []) mid after x w →
-      TakesTrue digest entries (take (i + 1) ps) before after v w
-  round_step v x w before mid after ps i lt a b =
+      (may later : Path → Option (List ℕ) → Type 0) (v x w : View) (before mid after ps : List Path) (i : ℕ) →
+      StaysWithin may later → i < length ps →
+      TakesTrue digest entries may (take i ps) before mid v x →
+      TakesTrue digest entries later (get_or ps i Checkpoint ∷ []) mid after x w →
+      TakesTrue digest entries may (take (i + 1) ps) before after v w
+  round_step may later v x w before mid after ps i stays lt a b =
       let p = get_or ps i Checkpoint in
-      subst (λ (l : List Path). TakesTrue digest entries l before after v w) (sym (take_one ps i lt)) (record {
-        gets = a.gets ++ b.gets;
-        founds = a.founds ++ b.founds;
-        are = gets_then (length entries) (take i ps) a.gets a.founds (p ∷ []) b.gets b.founds a.are b.are;
-        list = b.list ∙ (ap (λ (l : List Path). l ++ b.gets) a.list ∙ append_assoc before a.gets b.gets);
+      subst (λ (l : List Path). TakesTrue digest entries may l before after v w) (sym (take_one ps i lt)) (record {
+        gets = gets_all_then (length entries) may later (take i ps) (p ∷ []) before mid after stays a.gets b.gets;
         taken = b.taken ∙
-            (ap (λ (y : View). with_true digest entries y b.founds) a.taken ∙
-            sym (taken_then digest entries a.founds b.founds v));
+            (ap (λ (y : View). with_true digest entries y b.gets.founds) a.taken ∙
+            sym (taken_then digest entries a.gets.founds b.gets.founds v));
       })
 
-  pub round_none : (v : View) (before : List Path) → TakesTrue digest entries [] before before v v
-  round_none v before = record { gets = []; founds = []; are = GetsNone; list = sym (append-nil before); taken = refl }
+  pub round_none : (may : Path → Option (List ℕ) → Type 0) (v : View) (before : List Path) →
+      TakesTrue digest entries may [] before before v v
+  round_none may v before = record { gets = gets_none (length entries) may before; taken = refl }
 
-  pub round_whole : (v w : View) (before after ps : List Path) (i : ℕ) → length ps ≤ i →
-      TakesTrue digest entries (take i ps) before after v w → TakesTrue digest entries ps before after v w
-  round_whole v w before after ps i le t =
-      subst (λ (l : List Path). TakesTrue digest entries l before after v w) (take_all i ps le) t
+  pub round_whole : (may : Path → Option (List ℕ) → Type 0) (v w : View) (before after ps : List Path) (i : ℕ) →
+      length ps ≤ i → TakesTrue digest entries may (take i ps) before after v w →
+      TakesTrue digest entries may ps before after v w
+  round_whole may v w before after ps i le t =
+      subst (λ (l : List Path). TakesTrue digest entries may l before after v w) (take_all i ps le) t

@@ -21,11 +21,13 @@ use Rattle.mirror_model.proofs.Views.{head_stays}
 use Rattle.mirror_model.proofs.TrueItems.{front_is_within, front_is_widest}
 use Rattle.mirror_model.proofs.Fetching.{missing_is_front_list, answered_is_not_again}
 use Rattle.mirror_model.proofs.Fronts.{front_empty}
-use Rattle.log_sources.specs.Source.{StaysWithin}
+use Rattle.mirror_sources.specs.Source.{StaysWithin}
+use Rattle.mirror_sources.specs.Replies.{Reply, paths_of, MayReply}
 use Rattle.mirror_pull.specs.Asking.{IsFresh}
 use Rattle.mirror_pull.specs.Honest.{IsFrontRound, AreFrontRounds}
 use Rattle.mirror_pull.specs.Parts.{MayTake, MayWork, TakesTrue, HasWorked}
-use Rattle.mirror_pull.specs.Replying.{IsLeft}
+use Rattle.mirror_pull.specs.Replying.{IsLeft, with_replies}
+use Rattle.mirror_pull.proofs.Askings.{with_then, may_then, may_stays}
 use Rattle.mirror_pull.proofs.Replies.{leaves_all}
 use Rattle.mirror_pull.proofs.Freshness.{each_place, gets_each_asked}
 use Rattle.mirror_pull.proofs.TrueRows.{source_stays}
@@ -37,36 +39,38 @@ use Rattle.mirror_pull.proofs.FrontRounds.{front_round_takes, front_rounds_end}
 
 rounds_push :
     (digest : List ℕ → List ℕ) (entries : List (List ℕ)) (size : ℕ) (lists : List (List Path)) (v x w : View)
-    (gets list first : List Path) →
-    AreFrontRounds digest entries size v x lists gets → IsFrontRound digest entries size x w list first →
-    AreFrontRounds digest entries size v w (lists ++ list ∷ []) (gets ++ first)
-rounds_push digest entries size [] v x w gets list first rounds round = (
+    (list : List Path) (xs first : List Reply) →
+    AreFrontRounds digest entries size v x lists xs → IsFrontRound digest entries size x w list first →
+    AreFrontRounds digest entries size v w (lists ++ list ∷ []) (xs ++ first)
+rounds_push digest entries size [] v x w list xs first rounds round = (
   w,
   first,
   [],
   subst (λ (y : View). IsFrontRound digest entries size y w list first) rounds.0 round,
   (refl, refl),
-  ap (λ (l : List Path). l ++ first) rounds.1 ∙ sym (append-nil first),
+  ap (λ (l : List Reply). l ++ first) rounds.1 ∙ sym (append-nil first),
 )
-rounds_push digest entries size (l ∷ ls) v x w gets list first rounds round = (
+rounds_push digest entries size (l ∷ ls) v x w list xs first rounds round = (
   rounds.0,
   rounds.1,
   rounds.2 ++ first,
   rounds.3,
-  rounds_push digest entries size ls rounds.0 x w rounds.2 list first rounds.4 round,
-  ap (λ (g : List Path). g ++ first) rounds.5 ∙ append_assoc rounds.1 rounds.2 first,
+  rounds_push digest entries size ls rounds.0 x w list rounds.2 first rounds.4 round,
+  ap (λ (g : List Reply). g ++ first) rounds.5 ∙ append_assoc rounds.1 rounds.2 first,
 )
 
 -- the rounds so far, after which they may go on
 pub record IsWorking (digest : List ℕ → List ℕ) (entries : List (List ℕ)) (size : ℕ) (root : List ℕ)
-    (may : Path → Option (List ℕ) → Type 0) (rounds : ℕ) (v w : View) (before after : List Path) : Type 0 where
+    (may later : Path → Option (List ℕ) → Type 0) (rounds : ℕ) (v w : View) (before after : List Path)
+    : Type 0 where
   pub lists : List (List Path)
-  pub gets : List Path
+  pub replies : List Reply
   pub count : length lists ≡ rounds
-  pub worked : AreFrontRounds digest entries size v w lists gets
-  pub list : after ≡ before ++ gets
+  pub worked : AreFrontRounds digest entries size v w lists replies
+  pub may_reply : MayReply may replies
+  pub list : after ≡ with_replies before replies
   pub strings : (y : List ℕ) → Has w.strings y → Has v.strings y ⊎ InTrees digest entries size y
-  pub next : MayWork digest entries size root may w after
+  pub next : MayWork digest entries size root later w after
 
 module _ (digest : List ℕ → List ℕ) (entries : List (List ℕ)) (size : ℕ) (root : List ℕ) where
   module _ (may : Path → Option (List ℕ) → Type 0) (v : View) (asked : List Path)
@@ -147,12 +151,12 @@ module _ (digest : List ℕ → List ℕ) (entries : List (List ℕ)) (size : �
     pub after_round :
         (later : Path → Option (List ℕ) → Type 0) (w : View) (after paths : List Path) → StaysWithin may later →
         IsSubview v w → ListsFront digest v (take size entries) paths →
-        TakesTrue digest entries paths asked after v w →
+        TakesTrue digest entries may paths asked after v w →
         MayWork digest entries size root later w after
     after_round later w after paths stays grows fronts t =
         let takes =
-        front_round_takes digest m.source.hash entries m.source.short size v paths t.gets t.founds m.within m.small
-        m.edge fronts t.are in
+        front_round_takes digest m.source.hash entries m.source.short size v paths t.gets.founds t.gets.replies m.within
+        m.small m.edge fronts t.gets.are in
         let taken =
         λ (path : Path) (f : IsFront digest v.strings (take size entries) path). subst
         (λ (x : View). HasAll x.strings (true_strings digest (take size entries) path)) (sym t.taken)
@@ -170,13 +174,15 @@ module _ (digest : List ℕ → List ℕ) (entries : List (List ℕ)) (size : �
               (edge_strings digest (edge_rows digest (take size entries))) grows.strings_are m.edge;
           fetched =
               λ before has path same within widest. elim
-              (Contains-append_cases asked t.gets before (subst (λ (l : List Path). Contains l before) t.list has)) [
+              (Contains-append_cases asked (paths_of t.gets.replies) before
+              (subst (λ (l : List Path). Contains l before) t.gets.list has)) [
                 | inl old ↦ held_more v.strings w.strings (true_strings digest (take size entries) path)
                     grows.strings_are
                     (m.fetched before old path same within widest)
                 | inr got ↦
                     (let place =
-                    each_place paths t.gets (gets_each_asked (length entries) paths t.gets t.founds t.are) before got in
+                    each_place paths (paths_of t.gets.replies)
+                    (gets_each_asked (length entries) paths t.gets.founds t.gets.replies t.gets.are) before got in
                     let f = (fronts.exact place.path).0 place.listed in
                     let is : place.path ≡ path =
                     widest_same size place.path path (front_whole place.path f).1 widest (sym place.same ∙ same) in
@@ -187,22 +193,33 @@ module _ (digest : List ℕ → List ℕ) (entries : List (List ℕ)) (size : �
 
   -- ---- the steps of the loop
 
-  module _ (may : Path → Option (List ℕ) → Type 0) (v x : View) (before mid : List Path) (rounds : ℕ) where
+  module _ (may now : Path → Option (List ℕ) → Type 0) (v x : View) (before mid : List Path) (rounds : ℕ) where
     pub work_step :
-        (now later : Path → Option (List ℕ) → Type 0) (w : View) (after paths : List Path) →
-        IsWorking digest entries size root now rounds v x before mid → IsLeft digest size root mid x paths →
+        (later : Path → Option (List ℕ) → Type 0) (w : View) (after paths : List Path) → StaysWithin may now →
+        IsWorking digest entries size root may now rounds v x before mid → IsLeft digest size root mid x paths →
         1 ≤ length paths → StaysWithin now later → IsSubview x w →
-        TakesTrue digest entries paths mid after x w →
-        IsWorking digest entries size root later (rounds + 1) v w before after
-    work_step now later w after paths working wanted some stays grows t =
+        TakesTrue digest entries now paths mid after x w →
+        IsWorking digest entries size root may later (rounds + 1) v w before after
+    work_step later w after paths began working wanted some stays grows t =
         let fronts = wanted_front now x mid working.next paths wanted in
         record {
           lists = working.lists ++ paths ∷ [];
-          gets = working.gets ++ t.gets;
+          replies = working.replies ++ t.gets.replies;
           count = omega (arith, length-append working.lists (paths ∷ []), working.count);
-          worked = rounds_push digest entries size working.lists v x w working.gets paths t.gets working.worked
-              (record { founds = t.founds; some = some; front = fronts; gets_are = t.are; taken = t.taken });
-          list = t.list ∙ (ap (λ (l : List Path). l ++ t.gets) working.list ∙ append_assoc before working.gets t.gets);
+          worked = rounds_push digest entries size working.lists v x w paths working.replies t.gets.replies
+              working.worked
+              (record {
+                founds = t.gets.founds;
+                some = some;
+                front = fronts;
+                gets = t.gets.are;
+                taken = t.taken;
+              });
+          may_reply = may_then may working.replies t.gets.replies working.may_reply
+              (may_stays may now t.gets.replies began t.gets.may_reply);
+          list = t.gets.list ∙
+              (ap (λ (l : List Path). l ++ paths_of t.gets.replies) working.list ∙
+              sym (with_then before working.replies t.gets.replies));
           strings =
               λ y h. elim
               (paths_only digest entries size now x w mid after paths paths
@@ -211,28 +228,31 @@ module _ (digest : List ℕ → List ℕ) (entries : List (List ℕ)) (size : �
           next = after_round now x mid working.next later w after paths stays grows fronts t;
         }
 
-    pub work_done : (paths : List Path) → IsWorking digest entries size root may rounds v x before mid →
-        IsLeft digest size root mid x paths → length paths ≡ 0 → HasWorked digest entries size rounds v x before mid
+    pub work_done : (paths : List Path) → IsWorking digest entries size root may now rounds v x before mid →
+        IsLeft digest size root mid x paths → length paths ≡ 0 →
+        HasWorked digest entries size may rounds v x before mid
     work_done paths working wanted none = record {
       lists = working.lists;
-      gets = working.gets;
+      replies = working.replies;
       count = working.count;
       worked = working.worked;
+      may_reply = working.may_reply;
       list = working.list;
-      whole = none_missing may x mid working.next paths (wanted_front may x mid working.next paths wanted) none;
+      whole = none_missing now x mid working.next paths (wanted_front now x mid working.next paths wanted) none;
       strings = working.strings;
     }
 
   pub work_none : (may : Path → Option (List ℕ) → Type 0) (v : View) (before : List Path) →
-      MayWork digest entries size root may v before → IsWorking digest entries size root may 0 v v before before
+      MayWork digest entries size root may v before → IsWorking digest entries size root may may 0 v v before before
   work_none may v before m =
       record {
         lists =
             [];
-        gets =
+        replies =
             [];
         count = refl;
         worked = (refl, refl);
+        may_reply = tt;
         list = sym (append-nil before);
         strings = λ y h. inl h;
         next = m;
@@ -242,10 +262,10 @@ module _ (digest : List ℕ → List ℕ) (entries : List (List ℕ)) (size : �
   pub never_eight :
       (start now : Path → Option (List ℕ) → Type 0) (v x : View) (before mid : List Path) (rounds : ℕ) → 8 ≤ rounds →
       MayWork digest entries size root start v before →
-      IsWorking digest entries size root now rounds v x before mid → ⊥
+      IsWorking digest entries size root start now rounds v x before mid → ⊥
   never_eight start now v x before mid rounds many m working =
       let t = has_top size m.small in
       let few =
-      front_rounds_end digest m.source.hash entries m.source.short size t.top v x working.lists working.gets m.within
+      front_rounds_end digest m.source.hash entries m.source.short size t.top v x working.lists working.replies m.within
       m.small t.is m.edge working.worked in
       omega (arith, few, many, working.count, t.is.within)

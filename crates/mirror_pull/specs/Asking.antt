@@ -3,8 +3,8 @@
 use Rattle.std.specs.Prelude.{◌≡◌, ◌≢◌, ℕ, List, [], ◌∷◌, ◌++◌, Option, Result, Ok, Err}
 use Rattle.std.specs.Prelude.{AllPairs, Contains}
 use Rattle.tlog_tiles.specs.declared.paths.Path.{Path}
-use Rattle.log_sources.specs.Files.{full_of}
-use Rattle.log_sources.specs.Told.{AddsTold, Rose}
+use Rattle.mirror_sources.specs.Files.{full_of}
+use Rattle.mirror_sources.specs.Told.{AddsTold, Rose}
 use Rattle.mirror_pull.specs.declared.fault.PullFault.{PullFault}
 use Rattle.mirror_pull.specs.declared.fault.PullFault.TheVariants.{NoCheckpoint, NoEdge, Head}
 use Rattle.mirror_pull.specs.declared.fault.PullFault.TheVariants.{Source, Collision, OutOfMemory}
@@ -38,14 +38,14 @@ AsksPaths before after old new (Err e) = AddsSome before old new
 
 -- a pull blames its source only where the source's count of failures rose, or stands at its last
 -- value
-abbrev pub Counts : {T : Type 0} → ℕ → ℕ → Result T PullFault → Type 0
-Counts old new (Ok x) = new ≡ old
-Counts old new (Err NoCheckpoint) = new ≡ old
-Counts old new (Err NoEdge) = new ≡ old
-Counts old new (Err (Head f)) = new ≡ old
-Counts old new (Err Source) = Rose old new
-Counts old new (Err Collision) = new ≡ old
-Counts old new (Err OutOfMemory) = new ≡ old
+abbrev pub BlamesSource : {T : Type 0} → ℕ → ℕ → Result T PullFault → Type 0
+BlamesSource old new (Ok x) = new ≡ old
+BlamesSource old new (Err NoCheckpoint) = new ≡ old
+BlamesSource old new (Err NoEdge) = new ≡ old
+BlamesSource old new (Err (Head f)) = new ≡ old
+BlamesSource old new (Err Source) = Rose old new
+BlamesSource old new (Err Collision) = new ≡ old
+BlamesSource old new (Err OutOfMemory) = new ≡ old
 
 -- nothing at the place of the path, neither its file nor the full one, was asked for
 abbrev pub IsFresh : List Path → Path → Type 0

@@ -1,6 +1,6 @@
 -- Which fault of a pull a fault of its source is.
-use Rattle.log_sources.specs.declared.source.SourceFault.{SourceFault}
-use Rattle.log_sources.specs.declared.source.SourceFault.TheVariants as source
+use Rattle.mirror_sources.specs.declared.source.SourceFault.{SourceFault}
+use Rattle.mirror_sources.specs.declared.source.SourceFault.TheVariants as source
 use Rattle.mirror_pull.specs.declared.fault.PullFault.{PullFault}
 use Rattle.mirror_pull.specs.declared.fault.PullFault.TheVariants.{Source, OutOfMemory}
 

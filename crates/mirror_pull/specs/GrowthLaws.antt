@@ -11,7 +11,7 @@ use Rattle.mirror_pull.specs.declared.pulling.Pulled.{Pulled}
 use Rattle.mirror_pull.specs.declared.fault.PullFault.{PullFault}
 
 -- of the views before and after: what was complete stays so with the same entries, and with no
--- others while nothing clashes; forks stay
+-- others while nothing collides; forks stay
 pub record KeepsHeads (digest : List ℕ → List ℕ) (old new : View) : Type 0 where
   pub complete :
       (size : ℕ) (root : List ℕ) (entries : List (List ℕ)) → Complete digest old size root entries →

@@ -1,6 +1,6 @@
 -- What a pull from an honest source comes to (C2SP tlog-tiles).
 use Rattle.std.specs.Prelude.{◌≡◌, ◌⊎◌, ℕ, ◌≤◌, max, List, [], ◌∷◌, ◌++◌, length, take, Option}
-use Rattle.std.specs.Prelude.{IsTrue, Result, MatchResult, Contains}
+use Rattle.std.specs.Prelude.{Some, IsTrue, Result, MatchResult, Contains}
 use Rattle.std.specs.FinSet as set
 use Rattle.signed_note.specs.Keys.{Key}
 use Rattle.tlog_shape.specs.Edge.{IsTop}
@@ -15,8 +15,9 @@ use Rattle.mirror_model.specs.declared.items.Item.TheVariants as item
 use Rattle.mirror_model.specs.Item.{plus}
 use Rattle.mirror_model.specs.TrueLaws.{edge_bytes}
 use Rattle.mirror_model.specs.Listed.{ListsFront}
-use Rattle.log_sources.specs.Told.{AddsTold}
-use Rattle.log_sources.specs.Honest.{Gets, true_bytes, IsHonest}
+use Rattle.mirror_sources.specs.Told.{AddsTold}
+use Rattle.mirror_sources.specs.Replies.{Reply, reply, paths_of, MayReply}
+use Rattle.mirror_sources.specs.Honest.{Gets, true_bytes, IsHonest}
 use Rattle.mirror_pull.specs.Taking.{item_at}
 use Rattle.mirror_pull.specs.declared.pulling.Pulled.{Pulled}
 use Rattle.mirror_pull.specs.declared.fault.PullFault.{PullFault}
@@ -32,7 +33,7 @@ module _ (digest : List ℕ → List ℕ) (entries : List (List ℕ)) where
   with_true v [] = v
   with_true v (path ∷ paths) = with_true (plus digest v (true_item path)) paths
 
-  -- what a view holds and the trees of the entries and of the first of them do not clash together
+  -- what a view holds and the trees of the entries and of the first of them do not collide together
   abbrev pub NoClashAmong : View → ℕ → Type 0
   NoClashAmong v size =
       NoClash digest
@@ -42,46 +43,50 @@ module _ (digest : List ℕ → List ℕ) (entries : List (List ℕ)) where
 
   -- one round of a pull took the front: its list is the front, in order, and is not empty; each of
   -- its paths was asked for, and the true bytes that were found were taken
-  pub record IsFrontRound (size : ℕ) (v w : View) (list gets : List Path) : Type 0 where
+  pub record IsFrontRound (size : ℕ) (v w : View) (list : List Path) (replies : List Reply)
+      : Type 0 where
     pub founds : List Path
     pub some : 1 ≤ length list
     pub front : ListsFront digest v (take size entries) list
-    pub gets_are : Gets (length entries) list gets founds
+    pub gets : Gets (length entries) list replies founds
     pub taken : w ≡ with_true v founds
 
   -- rounds of a pull took the front, one after another
-  abbrev pub AreFrontRounds : ℕ → View → View → List (List Path) → List Path → Type 0
-  AreFrontRounds size v w [] gets = (w ≡ v) × (gets ≡ [])
-  AreFrontRounds size v w (list ∷ lists) gets =
-      (between : View) × (first : List Path) × (rest : List Path) ×
+  abbrev pub AreFrontRounds : ℕ → View → View → List (List Path) → List Reply → Type 0
+  AreFrontRounds size v w [] replies = (w ≡ v) × (replies ≡ [])
+  AreFrontRounds size v w (list ∷ lists) replies =
+      (between : View) × (first : List Reply) × (rest : List Reply) ×
       IsFrontRound size v between list first × AreFrontRounds size between w lists rest ×
-      (gets ≡ first ++ rest)
+      (replies ≡ first ++ rest)
 
   -- the view with the head of the first entries
   abbrev pub with_head : View → List ℕ → ℕ → View
   with_head v note size = plus digest v (item.Head note (edge_bytes digest (take size entries)))
 
-  -- what the gets of an honest pull were: the checkpoint, the paths of the edge, then those of each
-  -- round
-  pub record HonestGets (note : List ℕ) (size : ℕ) (v w : View) (old new : Option (List Path))
-      (rounds : ℕ) : Type 0 where
-    pub edge_gets : List Path
+  -- what an honest pull asked for, and what was replied, as it may be: the checkpoint, the paths of
+  -- the edge, then those of each round
+  pub record HonestGets (note : List ℕ) (size : ℕ) (v w : View)
+      (may : Path → Option (List ℕ) → Type 0) (old new : Option (List Path)) (rounds : ℕ)
+      : Type 0 where
+    pub edge : List Reply
     pub edge_founds : List Path
-    pub edge : Gets (length entries) (edge_of size) edge_gets edge_founds
+    pub edge_gets : Gets (length entries) (edge_of size) edge edge_founds
     pub lists : List (List Path)
-    pub gets : List Path
+    pub replies : List Reply
     pub count : length lists ≡ rounds
-    pub worked : AreFrontRounds size (with_head v note size) w lists gets
-    pub told : AddsTold old new (Checkpoint ∷ edge_gets ++ gets)
+    pub worked : AreFrontRounds size (with_head v note size) w lists replies
+    pub may_reply : MayReply may (reply Checkpoint (Some note) ∷ edge ++ replies)
+    pub told : AddsTold old new (paths_of (reply Checkpoint (Some note) ∷ edge ++ replies))
 
   -- what an honest pull came to
-  pub record HonestOutcome (note : List ℕ) (size : ℕ) (v w : View) (old new : Option (List Path))
-      (p : Pulled) : Type 0 where
+  pub record HonestOutcome (note : List ℕ) (size : ℕ) (v w : View)
+      (may : Path → Option (List ℕ) → Type 0) (old new : Option (List Path)) (p : Pulled)
+      : Type 0 where
     pub size_is : p.size ≡ size
     pub root_is : p.root ≡ mth digest (take size entries)
     pub none_refused : p.refused ≡ 0
     pub complete : IsTrue p.complete
-    pub gets : HonestGets note size v w old new p.rounds
+    pub gets : HonestGets note size v w may old new p.rounds
     pub at_most : (top : ℕ) → IsTop size top → p.rounds ≤ max 1 top
     pub none : size ≡ 0 → p.rounds ≡ 0
     pub has_note : Has w.notes note
@@ -92,7 +97,7 @@ module _ (digest : List ℕ → List ℕ) (entries : List (List ℕ)) where
         (Contains (strings digest entries) y ⊎ Contains (strings digest (take size entries)) y)
 
 -- a pull from an honest source goes well, unless memory is refused or the source fails, and nothing
--- clashes: from whichever entries the source is honest for
+-- collides: from whichever entries the source is honest for
 abbrev pub PullsHonestly : (List ℕ → List ℕ) → List Key → View → View →
     (Path → Option (List ℕ) → Type 0) → Option (List Path) → Option (List Path) →
     Result Pulled PullFault → Type 0
@@ -100,5 +105,5 @@ PullsHonestly digest keys v w may old new result =
     (entries : List (List ℕ)) (note : List ℕ) (size : ℕ) →
     IsHonest digest entries v.origin keys note size may →
     NoClashAmong digest entries v size →
-    MatchResult result (λ p. HonestOutcome digest entries note size v w old new p)
+    MatchResult result (λ p. HonestOutcome digest entries note size v w may old new p)
     (λ e. (e ≡ OutOfMemory) ⊎ (e ≡ Source))

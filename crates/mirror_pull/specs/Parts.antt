@@ -13,10 +13,12 @@ use Rattle.mirror_model.specs.Heads.{HasHead}
 use Rattle.mirror_model.specs.Edge.{edge_rows, edge_strings}
 use Rattle.mirror_model.specs.Rounds.{true_strings}
 use Rattle.mirror_model.specs.TrueLaws.{AreShort, IsWidest}
-use Rattle.log_sources.specs.Files.{full_of}
-use Rattle.log_sources.specs.Honest.{Gets, true_bytes, IsTrueAnswer}
+use Rattle.mirror_sources.specs.Files.{full_of}
+use Rattle.mirror_sources.specs.Replies.{Reply, MayReply}
+use Rattle.mirror_sources.specs.Honest.{Gets, true_bytes, IsTrueAnswer}
 use Rattle.mirror_pull.specs.Asking.{AreFresh}
 use Rattle.mirror_pull.specs.Honest.{NoClashAmong, AreFrontRounds, with_true}
+use Rattle.mirror_pull.specs.Replying.{with_replies}
 use Rattle.mirror_pull.specs.declared.fault.PullFault.{PullFault}
 use Rattle.mirror_pull.specs.declared.fault.PullFault.TheVariants.{Source, OutOfMemory}
 
@@ -30,12 +32,15 @@ IsTilePath n Checkpoint = ⊥
 IsTilePath n (Tile level index width) = IsWithin n (Tile level index width)
 IsTilePath n (Entries index width) = ⊥
 
--- what was asked for to get these paths, and what the list of paths asked for grew by
-pub record GetsAll (n : ℕ) (paths before after : List Path) : Type 0 where
-  pub gets : List Path
+-- what was replied to the gets of these paths, as it may be, and what the list of paths asked for
+-- grew by
+pub record GetsAll (n : ℕ) (may : Path → Option (List ℕ) → Type 0) (paths before after : List Path)
+    : Type 0 where
+  pub replies : List Reply
   pub founds : List Path
-  pub are : Gets n paths gets founds
-  pub list : after ≡ before ++ gets
+  pub are : Gets n paths replies founds
+  pub may_reply : MayReply may replies
+  pub list : after ≡ with_replies before replies
 
 module _ (digest : List ℕ → List ℕ) (entries : List (List ℕ)) where
   -- a source of which these answers may come answers each path within the entries truly
@@ -48,22 +53,22 @@ module _ (digest : List ℕ → List ℕ) (entries : List (List ℕ)) where
         IsTrueAnswer digest entries path answer
 
   -- the bytes that were got for a tile of the edge are its true bytes
-  pub record IsTrueRow (path : Path) (before after : List Path) (bytes : List ℕ) : Type 0 where
+  pub record IsTrueRow (may : Path → Option (List ℕ) → Type 0) (path : Path)
+      (before after : List Path) (bytes : List ℕ) : Type 0 where
     pub bytes_are : bytes ≡ true_bytes digest entries path
-    pub gets : GetsAll (length entries) (path ∷ []) before after
+    pub gets : GetsAll (length entries) may (path ∷ []) before after
 
   -- the bytes that were got for several tiles of the edge are their true bytes
-  pub record AreTrueRows (paths before after : List Path) (rows : List (List ℕ)) : Type 0 where
+  pub record AreTrueRows (may : Path → Option (List ℕ) → Type 0) (paths before after : List Path)
+      (rows : List (List ℕ)) : Type 0 where
     pub rows_are : rows ≡ map (true_bytes digest entries) paths
-    pub gets : GetsAll (length entries) paths before after
+    pub gets : GetsAll (length entries) may paths before after
 
   -- paths were asked for, and the true bytes that were found were taken
-  pub record TakesTrue (paths before after : List Path) (v w : View) : Type 0 where
-    pub gets : List Path
-    pub founds : List Path
-    pub are : Gets (length entries) paths gets founds
-    pub list : after ≡ before ++ gets
-    pub taken : w ≡ with_true digest entries v founds
+  pub record TakesTrue (may : Path → Option (List ℕ) → Type 0) (paths before after : List Path)
+      (v w : View) : Type 0 where
+    pub gets : GetsAll (length entries) may paths before after
+    pub taken : w ≡ with_true digest entries v gets.founds
 
   -- a round may go well: each path is within the first entries and the widest of its place, and
   -- none was asked for
@@ -97,12 +102,14 @@ module _ (digest : List ℕ → List ℕ) (entries : List (List ℕ)) where
 
   -- the rounds that were worked: whatever the tree of the first entries hashes is held, and strings
   -- of the two trees alone were gained
-  pub record HasWorked (size rounds : ℕ) (v w : View) (before after : List Path) : Type 0 where
+  pub record HasWorked (size : ℕ) (may : Path → Option (List ℕ) → Type 0) (rounds : ℕ) (v w : View)
+      (before after : List Path) : Type 0 where
     pub lists : List (List Path)
-    pub gets : List Path
+    pub replies : List Reply
     pub count : length lists ≡ rounds
-    pub worked : AreFrontRounds digest entries size v w lists gets
-    pub list : after ≡ before ++ gets
+    pub worked : AreFrontRounds digest entries size v w lists replies
+    pub may_reply : MayReply may replies
+    pub list : after ≡ with_replies before replies
     pub whole : HasAll w.strings (strings digest (take size entries))
     pub strings :
         (y : List ℕ) → Has w.strings y →

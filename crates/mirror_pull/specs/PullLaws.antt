@@ -9,7 +9,8 @@ use Rattle.mirror_model.specs.Edge.{edge_rows, edge_strings}
 use Rattle.mirror_model.specs.Rounds.{IsRound}
 use Rattle.mirror_model.specs.TrueLaws.{AreShort}
 use Rattle.mirror_model.specs.Listed.{ListsFront}
-use Rattle.log_sources.specs.Honest.{Gets}
+use Rattle.mirror_sources.specs.Replies.{Reply}
+use Rattle.mirror_sources.specs.Honest.{Gets}
 use Rattle.mirror_pull.specs.Honest.{AreFrontRounds, with_true}
 
 -- a round of a pull from an honest source is a round of fetching: it takes the front
@@ -19,12 +20,12 @@ HonestRoundIsRound =
     IsDigest digest →
     (entries : List (List ℕ)) →
     AreShort entries →
-    (size : ℕ) (v : View) (list gets founds : List Path) →
+    (size : ℕ) (v : View) (list founds : List Path) (replies : List Reply) →
     size ≤ length entries →
     size < 256 ^ 8 →
     HasAll v.strings (edge_strings digest (edge_rows digest (take size entries))) →
     ListsFront digest v (take size entries) list →
-    Gets (length entries) list gets founds →
+    Gets (length entries) list replies founds →
     IsRound digest (take size entries) v.strings (with_true digest entries v founds).strings
 
 -- of rounds of an honest pull there are at most as many as the greatest level that has a partial
@@ -35,10 +36,10 @@ HonestRoundsAreFew =
     IsDigest digest →
     (entries : List (List ℕ)) →
     AreShort entries →
-    (size top : ℕ) (v w : View) (lists : List (List Path)) (gets : List Path) →
+    (size top : ℕ) (v w : View) (lists : List (List Path)) (replies : List Reply) →
     size ≤ length entries →
     size < 256 ^ 8 →
     IsTop size top →
     HasAll v.strings (edge_strings digest (edge_rows digest (take size entries))) →
-    AreFrontRounds digest entries size v w lists gets →
+    AreFrontRounds digest entries size v w lists replies →
     length lists ≤ max 1 top

@@ -2,7 +2,7 @@
 -- open (C2SP tlog-tiles, "Merkle Tree", "Log Entries" and "Partial Tiles"). What stands
 -- below "parts of a pull" is cited by the contracts of private functions alone.
 use Rattle.std.specs.Prelude.{◌≡◌, ◌≢◌, ◌⊎◌, ℕ, ◌+◌, ◌-◌, ◌*◌, ◌^◌, ◌≤◌, List, [], ◌∷◌, ◌++◌, length, take, min}
-use Rattle.std.specs.Prelude.{suc, Option, Some, None, Result, Ok, Err, Bool, true, false, Contains}
+use Rattle.std.specs.Prelude.{suc, Option, Some, None, Result, Ok, Err, Bool, true, false, Contains, ⊤}
 use Rattle.signed_note.specs.Keys.{Key}
 use Rattle.tlog_checkpoint.specs.declared.Checkpoint.{Checkpoint as Read}
 use Rattle.tlog_tiles.specs.declared.paths.Path.{Path}
@@ -15,9 +15,9 @@ use Rattle.mirror_model.specs.declared.items.Item.TheVariants as item
 use Rattle.mirror_model.specs.Listed.{ListsMissing}
 use Rattle.mirror_model.specs.Refusals.{IsOpenCheckpoint, ReadsHead, JudgesHead}
 use Rattle.mirror_model.specs.declared.fault.TakeFault.{TakeFault}
-use Rattle.log_sources.specs.Files.{full_of, width_named}
-use Rattle.mirror_pull.specs.Replies.{Reply, reply, paths_of, MayReply}
-use Rattle.log_sources.specs.Told.{AddsTold}
+use Rattle.mirror_sources.specs.Files.{full_of, width_named}
+use Rattle.mirror_sources.specs.Replies.{Reply, reply, paths_of, MayReply}
+use Rattle.mirror_sources.specs.Told.{AddsTold}
 use Rattle.mirror_pull.specs.Taking.{item_at}
 use Rattle.mirror_pull.specs.declared.fault.PullFault.{PullFault}
 use Rattle.mirror_pull.specs.declared.fault.PullFault.TheVariants.{NoCheckpoint, NoEdge, Head}
@@ -28,7 +28,7 @@ use Rattle.mirror_pull.specs.declared.pulling.Pulled.{Pulled}
 
 -- one get of a path, but none of a path that was asked for already: it counts as not found
 pub data Asks (asked : List Path) (path : Path) : List Reply → Option (List ℕ) → Type 0 where
-  AsksNew : (found : Option (List ℕ)) → (Contains asked path → ⊥) →
+  AsksNew : (found : Option (List ℕ)) → (¬ Contains asked path) →
       Asks asked path (reply path found ∷ []) found
   AsksAgain : Contains asked path → Asks asked path [] None
 
@@ -100,10 +100,10 @@ pub data Leaves (asked : List Path) : List Path → List Path → Type 0 where
   LeavesNone : Leaves asked [] []
   LeavesOut : (path : Path) {paths left : List Path} → Contains asked path →
       Leaves asked paths left → Leaves asked (path ∷ paths) left
-  LeavesIn : (path : Path) {paths left : List Path} → (Contains asked path → ⊥) →
+  LeavesIn : (path : Path) {paths left : List Path} → (¬ Contains asked path) →
       Leaves asked paths left → Leaves asked (path ∷ paths) (path ∷ left)
 
--- of replies to gets of tiles and bundles, those that are good are taken, and the others counted; a
+-- of replies to gets of tiles and bundles, those that are valid are taken, and the others counted; a
 -- path that was not found counts for nothing
 pub data TakesReplies (digest : List ℕ → List ℕ) : View → List Reply → ℕ → View → Type 0 where
   TakesEnd : (v : View) → TakesReplies digest v [] 0 v
@@ -115,7 +115,7 @@ pub data TakesReplies (digest : List ℕ → List ℕ) : View → List Reply →
       TakesReplies digest (plus digest v (item_at path bytes)) replies refused w →
       TakesReplies digest v (reply path (Some bytes) ∷ replies) refused w
   TakesBad : {v w : View} {replies : List Reply} {refused : ℕ} (path : Path) (bytes : List ℕ) →
-      (IsGood digest v.origin [] (item_at path bytes) → ⊥) →
+      (¬ IsGood digest v.origin [] (item_at path bytes)) →
       TakesReplies digest v replies refused w →
       TakesReplies digest v (reply path (Some bytes) ∷ replies) (suc refused) w
 
@@ -173,7 +173,7 @@ module _ (digest : List ℕ → List ℕ) (keys : List Key) (v w : View)
     pub refused : p.refused ≡ min many (2 ^ 64 - 1)
     pub replied : Replied (reply Checkpoint (Some note) ∷ edge ++ replies)
 
-  -- why no edge was found: the checkpoint was found and is good, and some row of its edge was not
+  -- why no edge was found: the checkpoint was found and is valid, and some row of its edge was not
   pub record HasNoEdge : Type 0 where
     pub note : List ℕ
     pub checkpoint : Read
@@ -205,9 +205,9 @@ module _ (digest : List ℕ → List ℕ) (keys : List Key) (v w : View)
   FollowsReplies (Err NoCheckpoint) = Replied (reply Checkpoint None ∷ [])
   FollowsReplies (Err NoEdge) = HasNoEdge
   FollowsReplies (Err (Head f)) = HasBadNote f ⊎ HasBadRows f
-  FollowsReplies (Err Source) = Unit {0}
-  FollowsReplies (Err Collision) = Unit {0}
-  FollowsReplies (Err OutOfMemory) = Unit {0}
+  FollowsReplies (Err Source) = ⊤
+  FollowsReplies (Err Collision) = ⊤
+  FollowsReplies (Err OutOfMemory) = ⊤
 
 -- ---- parts of a pull
 
@@ -227,8 +227,8 @@ RefusesHead digest origin keys note rows NoCheckpoint = ⊥
 RefusesHead digest origin keys note rows NoEdge = ⊥
 RefusesHead digest origin keys note rows (Head f) = JudgesHead digest origin keys note rows (Err f)
 RefusesHead digest origin keys note rows Source = ⊥
-RefusesHead digest origin keys note rows Collision = Unit {0}
-RefusesHead digest origin keys note rows OutOfMemory = Unit {0}
+RefusesHead digest origin keys note rows Collision = ⊤
+RefusesHead digest origin keys note rows OutOfMemory = ⊤
 
 -- how many replies were refused, of one
 abbrev pub one_if : Bool → ℕ

@@ -1,6 +1,6 @@
 -- What a pull takes of what its source answers. The contracts of private functions alone cite these
 -- words, but for `Grows`, `item_at`, `IsOfHead`, `IsPulled` and `PullsTo`.
-use Rattle.std.specs.Prelude.{◌≡◌, ℕ, ◌≤◌, List, [], Result, Ok, Err, Bool, true, false, IsTrue}
+use Rattle.std.specs.Prelude.{◌≡◌, ℕ, ◌≤◌, List, [], Result, Ok, Err, Bool, true, false, IsTrue, ⊤}
 use Rattle.signed_note.specs.Keys.{Key}
 use Rattle.tlog_tiles.specs.declared.paths.Path.{Path}
 use Rattle.tlog_tiles.specs.declared.paths.Path.TheVariants.{Checkpoint, Tile, Entries}
@@ -29,10 +29,10 @@ pub record GainsStrings (old new : View) : Type 0 where
 pub record Grows (keys : List Key) (old new : View) : Type 0 where
   pub grows : IsSubview old new
   pub one_note :
-      (note other : List ℕ) → Has new.notes note → Has new.notes other → (Has old.notes note → ⊥) →
-      (Has old.notes other → ⊥) → note ≡ other
+      (note other : List ℕ) → Has new.notes note → Has new.notes other → (¬ Has old.notes note) →
+      (¬ Has old.notes other) → note ≡ other
   pub good :
-      (note : List ℕ) → Has new.notes note → (Has old.notes note → ⊥) →
+      (note : List ℕ) → Has new.notes note → (¬ Has old.notes note) →
       (size : ℕ) × (root : List ℕ) × IsOpenHead note old.origin keys size root
 
 -- the item that bytes at a path are
@@ -49,7 +49,7 @@ IsTakeable (Entries index width) = IsWidth width
 
 -- what a pull's answer to an item says of the views: true where the item was refused for what it is
 abbrev pub TakesItem : (List ℕ → List ℕ) → View → Item → Result Bool PullFault → View → Type 0
-TakesItem digest old item (Ok true) new = (IsGood digest old.origin [] item → ⊥) × (new ≡ old)
+TakesItem digest old item (Ok true) new = (¬ IsGood digest old.origin [] item) × (new ≡ old)
 TakesItem digest old item (Ok false) new = IsGood digest old.origin [] item ×
     NoClash digest (plus digest old item).strings × (new ≡ plus digest old item)
 TakesItem digest old item (Err Collision) new = HasClash digest (plus digest old item).strings ×
@@ -60,33 +60,33 @@ TakesItem digest old item (Err NoEdge) new = ⊥
 TakesItem digest old item (Err (Head f)) new = ⊥
 TakesItem digest old item (Err Source) new = ⊥
 
--- the answer may come after the head: a pull then ends early for its source, for a clash or for
--- want of memory alone
-abbrev pub IsLate : {T : Type 0} → Result T PullFault → Type 0
-IsLate (Ok x) = Unit {0}
-IsLate (Err NoCheckpoint) = ⊥
-IsLate (Err NoEdge) = ⊥
-IsLate (Err (Head f)) = ⊥
-IsLate (Err Source) = Unit {0}
-IsLate (Err Collision) = Unit {0}
-IsLate (Err OutOfMemory) = Unit {0}
+-- the answer may come after the head: a pull then ends early for its source, for a collision or for
+-- OutOfMemory alone
+abbrev pub EndsAfterHead : {T : Type 0} → Result T PullFault → Type 0
+EndsAfterHead (Ok x) = ⊤
+EndsAfterHead (Err NoCheckpoint) = ⊥
+EndsAfterHead (Err NoEdge) = ⊥
+EndsAfterHead (Err (Head f)) = ⊥
+EndsAfterHead (Err Source) = ⊤
+EndsAfterHead (Err Collision) = ⊤
+EndsAfterHead (Err OutOfMemory) = ⊤
 
--- the answer may come before the head: a pull then ends for want of memory, its source or the edge
+-- the answer may come before the head: a pull then ends for OutOfMemory, its source or the edge
 -- alone
-abbrev pub IsEarly : {T : Type 0} → Result T PullFault → Type 0
-IsEarly (Ok x) = Unit {0}
-IsEarly (Err NoCheckpoint) = ⊥
-IsEarly (Err NoEdge) = Unit {0}
-IsEarly (Err (Head f)) = ⊥
-IsEarly (Err Source) = Unit {0}
-IsEarly (Err Collision) = ⊥
-IsEarly (Err OutOfMemory) = Unit {0}
+abbrev pub EndsBeforeHead : {T : Type 0} → Result T PullFault → Type 0
+EndsBeforeHead (Ok x) = ⊤
+EndsBeforeHead (Err NoCheckpoint) = ⊥
+EndsBeforeHead (Err NoEdge) = ⊤
+EndsBeforeHead (Err (Head f)) = ⊥
+EndsBeforeHead (Err Source) = ⊤
+EndsBeforeHead (Err Collision) = ⊥
+EndsBeforeHead (Err OutOfMemory) = ⊤
 
--- the fault of a take says what is wrong with the head, and is no clash and no want of memory
+-- the fault of a take says what is wrong with the head, and is neither a collision nor OutOfMemory
 abbrev pub IsOfHead : TakeFault → Type 0
 IsOfHead take.Collision = ⊥
 IsOfHead take.OutOfMemory = ⊥
-IsOfHead f = Unit {0}
+IsOfHead f = ⊤
 
 -- what a pull's answer to its head says of the views
 abbrev pub TakesHead : {T : Type 0} → (List ℕ → List ℕ) → List Key → View → Item →
@@ -96,7 +96,7 @@ TakesHead digest keys old item (Ok x) new = IsGood digest old.origin keys item �
 TakesHead digest keys old item (Err NoCheckpoint) new = ⊥
 TakesHead digest keys old item (Err NoEdge) new = ⊥
 TakesHead digest keys old item (Err (Head f)) new = IsOfHead f ×
-    (IsGood digest old.origin keys item → ⊥) × (new ≡ old)
+    (¬ IsGood digest old.origin keys item) × (new ≡ old)
 TakesHead digest keys old item (Err Source) new = ⊥
 TakesHead digest keys old item (Err Collision) new =
     HasClash digest (plus digest old item).strings × (new ≡ old)

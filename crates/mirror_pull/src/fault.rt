@@ -4,8 +4,8 @@ ghost use Rattle.mirror_pull.specs.Answering.{of_take};
 ghost use Rattle.mirror_pull.specs.Faults.{of_source};
 ghost use Rattle.mirror_pull.specs.declared.fault.PullFault.TheVariants.{OutOfMemory};
 
-use log_sources::SourceFault;
 use mirror_model::TakeFault;
+use mirror_sources::SourceFault;
 use std::alloc::{AllocError, AllocFailed};
 use thiserror::Error;
 

@@ -14,7 +14,7 @@ pub fn front_rounds_law()
 {}
 
 /// After any pull, whatever it answers, what was complete stays complete with the same entries, and with
-/// no others while nothing clashes; a fork stays one.
+/// no others while nothing collides; a fork stays one.
 pub fn pull_growth_law()
     ensures { PullsKeepHeads }
 {}

@@ -16,5 +16,5 @@ mod rounds;
 
 pub use fault::PullFault;
 pub use laws::{front_round_law, front_rounds_law, pull_growth_law};
-pub use log_sources::{ListSource, Source, SourceFault};
+pub use mirror_sources::{ListSource, Source, SourceFault};
 pub use pulling::{Pulled, pull};

@@ -1,17 +1,17 @@
 //! Pulling a log from one source.
 ghost use Rattle.std.specs.Prelude.{◌≡◌, [], map, ⊤, MatchResult};
 ghost use Rattle.mirror_model.specs.declared.items.Item.TheVariants.{Head};
-ghost use Rattle.mirror_pull.specs.Asking.{AddsSome, AsksPaths, Counts};
+ghost use Rattle.mirror_pull.specs.Asking.{AddsSome, AsksPaths, BlamesSource};
 ghost use Rattle.mirror_pull.specs.Honest.{PullsHonestly};
 ghost use Rattle.mirror_pull.specs.Replying.{FollowsReplies, RefusesHead};
 ghost use Rattle.mirror_pull.specs.Taking.{PullsTo, TakesHead};
-ghost use Rattle.log_sources.specs.Source.{StaysWithin};
+ghost use Rattle.mirror_sources.specs.Source.{StaysWithin};
 
 use crate::ask::ask;
 use crate::edge::edge_rows;
 use crate::fault::PullFault;
 use crate::rounds::work;
-use log_sources::Source;
+use mirror_sources::Source;
 use signed_note::Verifier;
 use std::alloc::Global;
 use tlog_hash::{Hash, TreeHash};
@@ -44,11 +44,7 @@ fn take_rows<H: TreeHash>(
     ensures takes { TakesHead H.digest (map (λ k. key k) keys.now) mirror.old.view (Head note.now (map (λ row. row.items) rows.now)) result mirror.new.view }
     ensures judged { MatchResult result (λ _. ⊤) (λ e. RefusesHead H.digest mirror.old.view.origin (map (λ k. key k) keys.now) note.now (map (λ row. row.items) rows.now) e) }
 {
-    let mut edge: Vec<&[u8]> = Vec::new(alloc);
-    for row in rows {
-        edge.push(row.as_slice())?;
-    }
-    mirror.take_head(alloc, keys, note, &edge)?;
+    mirror.take_head_rows(alloc, keys, note, rows)?;
     Ok(())
 }
 
@@ -80,7 +76,7 @@ pub fn pull<H: TreeHash, S: Source>(
 ) -> Result<Pulled, PullFault>
     ensures outcome { PullsTo H.digest (map (λ k. key k) keys.now) mirror.old.view mirror.new.view result }
     ensures once { AddsSome [] (S.asked source.old) (S.asked source.new) }
-    ensures counted { Counts (S.failed source.old) (S.failed source.new) result }
+    ensures counted { BlamesSource (S.failed source.old) (S.failed source.new) result }
     ensures later { StaysWithin (S.may_answer source.old) (S.may_answer source.new) }
     ensures replies { FollowsReplies H.digest (map (λ k. key k) keys.now) mirror.old.view mirror.new.view (S.may_answer source.old) (S.asked source.old) (S.asked source.new) result }
     ensures honest { PullsHonestly H.digest (map (λ k. key k) keys.now) mirror.old.view mirror.new.view (S.may_answer source.old) (S.asked source.old) (S.asked source.new) result }

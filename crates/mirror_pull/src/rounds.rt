@@ -3,17 +3,17 @@ ghost use Rattle.std.specs.Prelude.{◌≡◌, ◌↔◌, ◌<◌, ◌≤◌, �
 ghost use Rattle.tlog_tiles.specs.declared.paths.Path.TheVariants.{Checkpoint};
 ghost use Rattle.mirror_model.specs.Heads.{HasHead};
 ghost use Rattle.mirror_model.specs.TreeLaws.{IsOfSize};
-ghost use Rattle.mirror_pull.specs.Asking.{AsksPaths, Counts};
-ghost use Rattle.mirror_pull.specs.Taking.{IsLate, GainsStrings, IsTakeable, TakesItem, item_at};
+ghost use Rattle.mirror_pull.specs.Asking.{AsksPaths, BlamesSource};
+ghost use Rattle.mirror_pull.specs.Taking.{EndsAfterHead, GainsStrings, IsTakeable, TakesItem, item_at};
 ghost use Rattle.mirror_pull.specs.Parts.{HasWorked, IsOutside, MayTake, MayWork, TakesTrue};
 ghost use Rattle.mirror_pull.specs.Replying.{AreWorkedRounds, Gathers, IsLeft, IsWorkedList, IsWorkedPath};
 ghost use Rattle.mirror_pull.specs.Answering.{refused_of, refused_of_fault};
-ghost use Rattle.log_sources.specs.Source.{StaysWithin};
+ghost use Rattle.mirror_sources.specs.Source.{StaysWithin};
 
 use crate::ask::{ask, full_path, is_asked};
 use crate::fault::PullFault;
-use log_sources::Source;
 use mirror_model::{TakeFault, walk_law};
+use mirror_sources::Source;
 use std::alloc::{AllocError, Global};
 use tlog_hash::{Hash, TreeHash};
 use tlog_mirror::Mirror;
@@ -68,12 +68,12 @@ fn take_path<H: TreeHash, S: Source>(
 ) -> Result<bool, PullFault>
     requires { IsTakeable path }
     ensures told { AsksPaths asked.old.items asked.new.items (S.asked source.old) (S.asked source.new) result }
-    ensures counted { Counts (S.failed source.old) (S.failed source.new) result }
+    ensures counted { BlamesSource (S.failed source.old) (S.failed source.new) result }
     ensures later { StaysWithin (S.may_answer source.old) (S.may_answer source.new) }
-    ensures late { IsLate result }
+    ensures late { EndsAfterHead result }
     ensures gains { GainsStrings mirror.old.view mirror.new.view }
     ensures replied { IfOk result (λ refused. Gathers (S.may_answer source.old) (S.asked source.old) (S.asked source.new) asked.old.items asked.new.items (λ replies. IsWorkedPath H.digest asked.old.items mirror.old.view path refused mirror.new.view replies)) }
-    ensures honest { (entries : List (List ℕ)) (size : ℕ) → MayTake H.digest entries size (S.may_answer source.old) mirror.old.view asked.old.items (path ∷ []) → MatchResult result (λ refused. (refused ≡ false) × TakesTrue H.digest entries (path ∷ []) asked.old.items asked.new.items mirror.old.view mirror.new.view) IsOutside }
+    ensures honest { (entries : List (List ℕ)) (size : ℕ) → MayTake H.digest entries size (S.may_answer source.old) mirror.old.view asked.old.items (path ∷ []) → MatchResult result (λ refused. (refused ≡ false) × TakesTrue H.digest entries (S.may_answer source.old) (path ∷ []) asked.old.items asked.new.items mirror.old.view mirror.new.view) IsOutside }
 {
     if let Some(bytes) = ask(source, asked, path)? {
         return take_found(alloc, mirror, path, &bytes);
@@ -96,12 +96,12 @@ fn work_round<H: TreeHash, S: Source>(
 ) -> Result<u64, PullFault>
     requires { All IsTakeable paths.now }
     ensures told { AsksPaths asked.old.items asked.new.items (S.asked source.old) (S.asked source.new) result }
-    ensures counted { Counts (S.failed source.old) (S.failed source.new) result }
+    ensures counted { BlamesSource (S.failed source.old) (S.failed source.new) result }
     ensures later { StaysWithin (S.may_answer source.old) (S.may_answer source.new) }
-    ensures late { IsLate result }
+    ensures late { EndsAfterHead result }
     ensures gains { GainsStrings mirror.old.view mirror.new.view }
     ensures replied { IfOk result (λ refused. Gathers (S.may_answer source.old) (S.asked source.old) (S.asked source.new) asked.old.items asked.new.items (λ replies. IsWorkedList H.digest asked.old.items mirror.old.view paths.now refused mirror.new.view replies)) }
-    ensures honest { (entries : List (List ℕ)) (size : ℕ) → MayTake H.digest entries size (S.may_answer source.old) mirror.old.view asked.old.items paths.now → MatchResult result (λ refused. (refused ≡ 0) × TakesTrue H.digest entries paths.now asked.old.items asked.new.items mirror.old.view mirror.new.view) IsOutside }
+    ensures honest { (entries : List (List ℕ)) (size : ℕ) → MayTake H.digest entries size (S.may_answer source.old) mirror.old.view asked.old.items paths.now → MatchResult result (λ refused. (refused ≡ 0) × TakesTrue H.digest entries (S.may_answer source.old) paths.now asked.old.items asked.new.items mirror.old.view mirror.new.view) IsOutside }
 {
     let mut refused = 0u64;
     for path in paths {
@@ -113,7 +113,7 @@ fn work_round<H: TreeHash, S: Source>(
 }
 
 /// The paths that are missing of a head and were not asked for yet.
-fn wanted<H: TreeHash>(
+fn paths_to_ask<H: TreeHash>(
     alloc: Global,
     mirror: &Mirror<H>,
     asked: &[Path],
@@ -148,17 +148,17 @@ pub(crate) fn work<H: TreeHash, S: Source>(
 ) -> Result<(u32, u64), PullFault>
     requires { size ≤ 256 ^ 8 }
     ensures told { AsksPaths asked.old.items asked.new.items (S.asked source.old) (S.asked source.new) result }
-    ensures counted { Counts (S.failed source.old) (S.failed source.new) result }
+    ensures counted { BlamesSource (S.failed source.old) (S.failed source.new) result }
     ensures later { StaysWithin (S.may_answer source.old) (S.may_answer source.new) }
-    ensures late { IsLate result }
+    ensures late { EndsAfterHead result }
     ensures gains { GainsStrings mirror.old.view mirror.new.view }
     ensures rounds { IfOk result (λ r. r.0 ≤ 8) }
     ensures replied { IfOk result (λ r. HasHead mirror.old.view size root.now → Gathers (S.may_answer source.old) (S.asked source.old) (S.asked source.new) asked.old.items asked.new.items (λ replies. AreWorkedRounds H.digest size root.now asked.old.items mirror.old.view r.0 r.1 mirror.new.view replies)) }
-    ensures honest { (entries : List (List ℕ)) → MayWork H.digest entries size root.now (S.may_answer source.old) mirror.old.view asked.old.items → MatchResult result (λ r. (r.1 ≡ 0) × HasWorked H.digest entries size r.0 mirror.old.view mirror.new.view asked.old.items asked.new.items) IsOutside }
+    ensures honest { (entries : List (List ℕ)) → MayWork H.digest entries size root.now (S.may_answer source.old) mirror.old.view asked.old.items → MatchResult result (λ r. (r.1 ≡ 0) × HasWorked H.digest entries size (S.may_answer source.old) r.0 mirror.old.view mirror.new.view asked.old.items asked.new.items) IsOutside }
 {
     let mut refused = 0u64;
     for rounds in 0..8u32 {
-        let paths = wanted(alloc, mirror, asked, size, root)?;
+        let paths = paths_to_ask(alloc, mirror, asked, size, root)?;
         if paths.is_empty() {
             return Ok((rounds, refused));
         }

@@ -22,7 +22,7 @@ ResponseIsOne =
 abbrev pub ResponseIsThere : Type 0
 ResponseIsThere =
     (digest : List ℕ → List ℕ) (v : View) (bytes : List ℕ) →
-    ((reply : List ℕ) → Response digest v bytes reply → ⊥) → ⊥
+    ¬ ((reply : List ℕ) → ¬ Response digest v bytes reply)
 
 -- views that are equal have equal replies to equal bytes
 abbrev pub EqualViewsReplyAlike : Type 0

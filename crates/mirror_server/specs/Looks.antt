@@ -1,6 +1,6 @@
 -- What is seen in the bytes that were read so far. The contracts of private functions alone cite
 -- these words, but for `SeesIn` and `LiesWithin`.
-use Rattle.std.specs.Prelude.{◌≡◌, ◌≤◌, ℕ, List, [], ◌∷◌, ◌++◌, ◌<◌, length, Option}
+use Rattle.std.specs.Prelude.{◌≡◌, ◌≤◌, ℕ, List, [], ◌∷◌, ◌++◌, ◌<◌, length, Option, ⊤}
 use Rattle.std.specs.Io.KnownBytes.{Consumes, Keeps, IsAtEnd}
 use Rattle.httparse.specs.Grammar.{RequestHead, ReadsRequest, HasNoRequest}
 use Rattle.httparse.specs.declared.spans.Span.{Span}
@@ -42,8 +42,8 @@ SeesIn all buf (Head method target) =
 
 -- the method and the target that were seen lie in the first `len` bytes
 abbrev pub LiesWithin : ℕ → Seen → Type 0
-LiesWithin len Nothing = Unit {0}
-LiesWithin len NoHead = Unit {0}
+LiesWithin len Nothing = ⊤
+LiesWithin len NoHead = ⊤
 LiesWithin len (Head method target) = IsWithin len method × IsWithin len target
 
 -- one read brought some bytes more

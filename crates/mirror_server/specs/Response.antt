@@ -28,7 +28,7 @@ pub record HasRequest (bytes : List ℕ) (h : RequestHead) : Type 0 where
 
 -- the bytes begin with no head that a server reads
 abbrev pub LacksRequest : List ℕ → Type 0
-LacksRequest bytes = (h : RequestHead) → HasRequest bytes h → ⊥
+LacksRequest bytes = (h : RequestHead) → ¬ HasRequest bytes h
 
 -- ---- replies
 
@@ -105,7 +105,7 @@ module _ (digest : List ℕ → List ℕ) (v : View) where
 -- served, and to one that does
 pub data IsReplyTo (digest : List ℕ → List ℕ) (v : View) (h : RequestHead) : List ℕ → Type 0 where
   other_method : h.method ≢ codes "GET" → IsReplyTo digest v h not_allowed
-  not_there : h.method ≡ codes "GET" → ((reply : List ℕ) → IsFound digest v h.target reply → ⊥) →
+  not_there : h.method ≡ codes "GET" → ((reply : List ℕ) → ¬ IsFound digest v h.target reply) →
       IsReplyTo digest v h not_found
   is_there : {reply : List ℕ} → h.method ≡ codes "GET" → IsFound digest v h.target reply →
       IsReplyTo digest v h reply

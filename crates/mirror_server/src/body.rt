@@ -1,6 +1,5 @@
 //! The bytes of what is asked for.
 ghost use Rattle.std.specs.Prelude.{◌≡◌, ◌≢◌, ℕ, List, IfNone, IfOk, IfSome, OnOk};
-ghost use Rattle.mirror_model.specs.Served.{Replies};
 ghost use Rattle.mirror_server.specs.Response.{IsBody, IsServedProofText, media_type};
 
 use crate::resource::Resource;
@@ -10,31 +9,6 @@ use tlog_mirror::Mirror;
 use tlog_proof::{Ask, ProofFault, prove, write_text};
 use tlog_tiles::Path;
 
-// The bytes of a file of the log.
-fn file_bytes<H: TreeHash>(
-    alloc: Global,
-    mirror: &Mirror<H>,
-    path: &Path,
-) -> Result<Option<Vec<u8>>, AllocError>
-    ensures found { IfOk result (λ o. IfSome o (λ bytes. Replies H.digest mirror.now.view path.now bytes.items)) }
-    ensures none { IfOk result (λ o. IfNone o ((bytes : List ℕ) → Replies H.digest mirror.now.view path.now bytes → ⊥)) }
-{
-    match *path {
-        Path::Checkpoint => {
-            let Some(note) = mirror.top() else {
-                return Ok(None);
-            };
-            Ok(Some(Vec::from_slice(alloc, note.bytes())?))
-        }
-        Path::Tile {
-            level,
-            index,
-            width,
-        } => mirror.tile(alloc, level, index, width),
-        Path::Entries { index, width } => mirror.bundle(alloc, index, width),
-    }
-}
-
 // The text of a proof of the entries that are served.
 fn proof_bytes<H: TreeHash>(
     alloc: Global,
@@ -42,7 +16,7 @@ fn proof_bytes<H: TreeHash>(
     ask: Ask,
 ) -> Result<Option<Vec<u8>>, AllocError>
     ensures found { IfOk result (λ o. IfSome o (λ bytes. IsServedProofText H.digest mirror.now.view ask bytes.items)) }
-    ensures none { IfOk result (λ o. IfNone o ((bytes : List ℕ) → IsServedProofText H.digest mirror.now.view ask bytes → ⊥)) }
+    ensures none { IfOk result (λ o. IfNone o ((bytes : List ℕ) → ¬ IsServedProofText H.digest mirror.now.view ask bytes)) }
 {
     let Some(top) = mirror.top_ranges() else {
         return Ok(None);
@@ -50,14 +24,14 @@ fn proof_bytes<H: TreeHash>(
     match prove(alloc, &top, ask) {
         Ok(proof) => Ok(Some(write_text(alloc, &proof)?.into_bytes())),
         Err(fault) => {
-            refused(fault)?;
+            check_memory(fault)?;
             Ok(None)
         }
     }
 }
 
 // Whether the proof was refused, and did not merely want memory.
-fn refused(fault: ProofFault) -> Result<(), AllocError>
+fn check_memory(fault: ProofFault) -> Result<(), AllocError>
     ensures { OnOk result (fault ≢ ProofFault.OutOfMemory) }
 {
     match fault {
@@ -73,10 +47,10 @@ pub fn body_of<H: TreeHash>(
     resource: &Resource,
 ) -> Result<Option<Vec<u8>>, AllocError>
     ensures found { IfOk result (λ o. IfSome o (λ body. IsBody H.digest mirror.now.view resource.now body.items)) }
-    ensures none { IfOk result (λ o. IfNone o ((body : List ℕ) → IsBody H.digest mirror.now.view resource.now body → ⊥)) }
+    ensures none { IfOk result (λ o. IfNone o ((body : List ℕ) → ¬ IsBody H.digest mirror.now.view resource.now body)) }
 {
     match *resource {
-        Resource::File(path) => file_bytes(alloc, mirror, &path),
+        Resource::File(path) => mirror.file(alloc, &path),
         Resource::Status => Ok(Some(mirror.status_text(alloc)?.into_bytes())),
         Resource::Forks => Ok(Some(mirror.forks_text(alloc)?.into_bytes())),
         Resource::Missing { size, root } => {

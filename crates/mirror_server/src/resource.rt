@@ -39,7 +39,7 @@ fn two_behind<'a>(target: &'a str, front: &str) -> Option<(&'a str, &'a str)>
 // The number that the text is.
 fn number_of(text: &str) -> Option<u64>
     ensures found { IfSome result (λ n. IsNumber text.now n) }
-    ensures none { IfNone result ((n : ℕ) → IsNumber text.now n → ⊥) }
+    ensures none { IfNone result ((n : ℕ) → ¬ IsNumber text.now n) }
 {
     match read_number(text, MAX_SIZE) {
         Ok(n) => Some(n),
@@ -50,7 +50,7 @@ fn number_of(text: &str) -> Option<u64>
 // The two numbers behind the prefix.
 fn numbers_of(target: &str, front: &str) -> Option<(u64, u64)>
     ensures found { IfSome result (λ x. NamesNumbers front.now target.now x.0 x.1) }
-    ensures none { IfNone result ((m n : ℕ) → NamesNumbers front.now target.now m n → ⊥) }
+    ensures none { IfNone result ((m n : ℕ) → ¬ NamesNumbers front.now target.now m n) }
 {
     let Some((first, second)) = two_behind(target, front) else {
         return None;
@@ -77,7 +77,7 @@ fn is_spelled(hash: &Hash, digits: &str) -> bool
 // The hash that the digits are. They may be read in either case, and are in lower case.
 fn hash_of(digits: &str) -> Option<Hash>
     ensures found { IfSome result (λ hash. IsHexHash digits.now hash) }
-    ensures none { IfNone result ((hash : List ℕ) → IsHexHash digits.now hash → ⊥) }
+    ensures none { IfNone result ((hash : List ℕ) → ¬ IsHexHash digits.now hash) }
 {
     match <[u8; 32]>::from_hex(digits) {
         Ok(hash) => {
@@ -94,7 +94,7 @@ fn hash_of(digits: &str) -> Option<Hash>
 // The size and the root that are asked what is missing of them.
 fn head_of(target: &str) -> Option<(u64, Hash)>
     ensures found { IfSome result (λ x. NamesHead (codes "/mirror/missing/") target.now x.0 x.1) }
-    ensures none { IfNone result ((n : ℕ) (root : List ℕ) → NamesHead (codes "/mirror/missing/") target.now n root → ⊥) }
+    ensures none { IfNone result ((n : ℕ) (root : List ℕ) → ¬ NamesHead (codes "/mirror/missing/") target.now n root) }
 {
     let Some((digits, hex_digits)) = two_behind(target, "/mirror/missing/") else {
         return None;
@@ -111,7 +111,7 @@ fn head_of(target: &str) -> Option<(u64, Hash)>
 // The file that is asked for.
 fn file_of(target: &str) -> Option<Path>
     ensures found { IfSome result (λ path. NamesFile target.now path) }
-    ensures none { IfNone result ((path : Path) → NamesFile target.now path → ⊥) }
+    ensures none { IfNone result ((path : Path) → ¬ NamesFile target.now path) }
 {
     let Some(name) = target.strip_prefix("/") else {
         return None;
@@ -125,7 +125,7 @@ fn file_of(target: &str) -> Option<Path>
 /// What the target of a request names. It takes no memory.
 pub fn resource_of(target: &str) -> Option<Resource>
     ensures found { IfSome result (λ resource. Names target.now resource) }
-    ensures none { IfNone result ((resource : Resource) → Names target.now resource → ⊥) }
+    ensures none { IfNone result ((resource : Resource) → ¬ Names target.now resource) }
 {
     if target == "/mirror/status" {
         return Some(Resource::Status);

@@ -79,7 +79,7 @@ fn found_at<H: TreeHash>(
     target: &str,
 ) -> Result<Option<Vec<u8>>, AllocError>
     ensures found { IfOk result (λ o. IfSome o (λ reply. IsFound H.digest mirror.now.view target.now reply.items)) }
-    ensures none { IfOk result (λ o. IfNone o ((reply : List ℕ) → IsFound H.digest mirror.now.view target.now reply → ⊥)) }
+    ensures none { IfOk result (λ o. IfNone o ((reply : List ℕ) → ¬ IsFound H.digest mirror.now.view target.now reply)) }
 {
     let Some(resource) = resource_of(target) else {
         return Ok(None);

@@ -21,7 +21,7 @@ use Rattle.mirror_model.specs.Strings.{HasClash}
 use Rattle.mirror_model.specs.View.{View}
 use Rattle.mirror_model.proofs.StringSets.{listed_from_has, has_from_listed, same_strings, has_cases, has_left}
 use Rattle.mirror_model.proofs.StringSets.{has_right, has_empty, clash_within}
-use Rattle.stored_trees.proofs.BuiltTrees.{added_both, added_one, added_none}
+use Rattle.mirror_trees.proofs.BuiltTrees.{added_both, added_one, added_none}
 use Rattle.tlog_mirror.specs.Adding.{with_note, with_notes}
 use Rattle.mirror_state.specs.Loading.{Rises, HasUnheld}
 use Rattle.mirror_state.proofs.Listed.{mapped}
@@ -33,8 +33,8 @@ use Rattle.mirror_model.specs.Refusals.{ReadsHead}
 use Rattle.mirror_model.specs.declared.fault.TakeFault.{TakeFault}
 use Rattle.mirror_model.specs.declared.fault.TakeFault.TheVariants as taking
 use Rattle.tlog_mirror.specs.Restored.{IsOpenNote, KeepsHeld}
-use Rattle.tlog_mirror.specs.declared.fault.HeldFault.{HeldFault}
-use Rattle.tlog_mirror.specs.declared.fault.HeldFault.TheVariants.{BadHead, UnheldEdge}
+use Rattle.tlog_mirror.specs.declared.fault.RestoreFault.{RestoreFault}
+use Rattle.tlog_mirror.specs.declared.fault.RestoreFault.TheVariants.{BadHead, UnheldEdge}
 use Rattle.tlog_mirror.proofs.RestoredMirrors.{not_open}
 use Rattle.mirror_state.specs.declared.fault.LoadFault.{LoadFault}
 use Rattle.mirror_state.specs.declared.fault.LoadFault.TheVariants.{StateMagic, StateShort, StateLong, StateDigest}
@@ -362,7 +362,7 @@ module _ (digest : List ℕ → List ℕ) (old current new : View) (keys : List 
   abbrev note : List ℕ
   note = (get_or items i d).now
 
-  pub never_bad : All (IsOpenNote old.origin keys) (bytes_of items) → (fault : HeldFault) →
+  pub never_bad : All (IsOpenNote old.origin keys) (bytes_of items) → (fault : RestoreFault) →
       KeepsHeld digest current keys note (Err fault) new → fault ≡ BadHead → ⊥
   never_bad opened fault h is =
       let there : KeepsHeld digest current keys note (Err BadHead) new =
@@ -370,7 +370,7 @@ module _ (digest : List ℕ → List ℕ) (old current new : View) (keys : List 
       there.0 (subst (λ (v : View). IsOpenNote v.origin keys note) (sym view_is) (All-contains
       (IsOpenNote old.origin keys) (bytes_of items) note opened (is_item (λ (x : List ℕ). x) items i d lt)))
 
-  pub edge_lacks : (fault : HeldFault) → KeepsHeld digest current keys note (Err fault) new → fault ≡ UnheldEdge →
+  pub edge_lacks : (fault : RestoreFault) → KeepsHeld digest current keys note (Err fault) new → fault ≡ UnheldEdge →
       HasUnheld digest old (bytes_of items)
   edge_lacks fault h is =
       let there : KeepsHeld digest current keys note (Err UnheldEdge) new =

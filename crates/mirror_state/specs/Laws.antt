@@ -5,7 +5,7 @@ use Rattle.mirror_state.specs.StateText.{Parts, IsText}
 use Rattle.mirror_state.specs.Reading.{ReadsParts}
 use Rattle.mirror_state.specs.declared.parts.PartsFault.TheVariants.{OutOfMemory}
 
--- bytes have one answer as a state text, want of memory apart
+-- bytes have one answer as a state text, OutOfMemory apart
 abbrev pub TextsHaveOneAnswer : Type 0
 TextsHaveOneAnswer = HasOneAnswer OutOfMemory ReadsParts
 
@@ -19,4 +19,4 @@ TextListsOneState =
 abbrev pub NoTextBeginsAnother : Type 0
 NoTextBeginsAnother =
     (bytes : List ℕ) (next : ℕ) (rest : List ℕ) (first second : Parts) → IsText bytes first →
-    IsText (bytes ++ (next ∷ rest)) second → ⊥
+    ¬ IsText (bytes ++ (next ∷ rest)) second

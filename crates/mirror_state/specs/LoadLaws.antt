@@ -15,7 +15,7 @@ pub record IsOfBytes (answer : Result View LoadFault) : Type 0 where
   pub was_read : answer ≢ Err ReadFault
   pub has_memory : answer ≢ Err OutOfMemory
 
--- bytes have one answer of a loader, failed reads and want of memory apart
+-- bytes have one answer of a loader, failed reads and OutOfMemory apart
 abbrev pub LoadsHaveOneAnswer : Type 0
 LoadsHaveOneAnswer =
     (digest : List ℕ → List ℕ) (origin : List ℕ) (keys : List Key) (bytes : List ℕ)

@@ -1,6 +1,6 @@
 -- What the steps of a loader answer. The contracts of private functions cite these words; what a
 -- loader answers needs none of them.
-use Rattle.std.specs.Prelude.{◌≡◌, ℕ, ◌≤◌, List, ◌∷◌, length, All, Result, Ok, Err}
+use Rattle.std.specs.Prelude.{◌≡◌, ℕ, ◌≤◌, List, ◌∷◌, length, All, Result, Ok, Err, ⊤}
 use Rattle.std.specs.FinSet as set
 use Rattle.signed_note.specs.Keys.{Key}
 use Rattle.node_store.specs.Strings.{Strings, NoClash}
@@ -60,7 +60,7 @@ ChecksLists origin bytes (Err StateHead) = ⊥
 ChecksLists origin bytes (Err Collision) = ⊥
 ChecksLists origin bytes (Err StateEdge) = ⊥
 ChecksLists origin bytes (Err ReadFault) = ⊥
-ChecksLists origin bytes (Err OutOfMemory) = Unit {0}
+ChecksLists origin bytes (Err OutOfMemory) = ⊤
 
 -- how strings are listed: as entries, as pairs of hashes, or with their tags
 abbrev pub tagged_as : Kind → List ℕ → List ℕ
@@ -80,20 +80,20 @@ AreListable (Parted origin notes pairs entries) =
     All (IsListable Entries) entries × All (IsListable Pairs) pairs
 AreListable (Tagged origin notes strings) = All (IsListable Tags) strings
 
--- what each answer of adding strings to a set says: they are added, if none clashes
+-- what each answer of adding strings to a set says: they are added, if none collides
 abbrev pub AddsListed : (List ℕ → List ℕ) → Strings → List (List ℕ) → Result (Unit {0}) AddFault →
     Strings → Type 0
 AddsListed digest old strings (Ok done) new =
     (new ≡ set.union old (set.from_list strings)) × NoClash digest new
 AddsListed digest old strings (Err adding.Collision) new =
     HasClash digest (set.union old (set.from_list strings))
-AddsListed digest old strings (Err adding.OutOfMemory) new = Unit {0}
+AddsListed digest old strings (Err adding.OutOfMemory) new = ⊤
 
--- what each answer of making a set of strings says: they make one by themselves, if none clashes
+-- what each answer of making a set of strings says: they make one by themselves, if none collides
 abbrev pub MakesStore : (List ℕ → List ℕ) → List (List ℕ) → Result Strings AddFault → Type 0
 MakesStore digest strings (Ok made) = (made ≡ set.from_list strings) × NoClash digest made
 MakesStore digest strings (Err adding.Collision) = HasClash digest (set.from_list strings)
-MakesStore digest strings (Err adding.OutOfMemory) = Unit {0}
+MakesStore digest strings (Err adding.OutOfMemory) = ⊤
 
 -- ---- notes
 
@@ -112,7 +112,7 @@ note_fault_of taking.BundleLong = StateHead
 note_fault_of taking.Collision = StateHead
 note_fault_of taking.OutOfMemory = OutOfMemory
 
--- an answer of a step that may come to Ok, StateHead or want of memory alone
+-- an answer of a step that may come to Ok, StateHead or OutOfMemory alone
 abbrev pub PassesOrFails : (Good Bad : Type 0) → Result (Unit {0}) LoadFault → Type 0
 PassesOrFails Good Bad (Ok done) = Good
 PassesOrFails Good Bad (Err StateMagic) = ⊥
@@ -126,12 +126,12 @@ PassesOrFails Good Bad (Err StateHead) = Bad
 PassesOrFails Good Bad (Err Collision) = ⊥
 PassesOrFails Good Bad (Err StateEdge) = ⊥
 PassesOrFails Good Bad (Err ReadFault) = ⊥
-PassesOrFails Good Bad (Err OutOfMemory) = Unit {0}
+PassesOrFails Good Bad (Err OutOfMemory) = ⊤
 
 -- what each answer of judging a note says: it opens under the keys, or it is StateHead
 abbrev pub ChecksNote : List ℕ → List Key → List ℕ → Result (Unit {0}) LoadFault → Type 0
 ChecksNote origin keys note answer =
-    PassesOrFails (IsOpenNote origin keys note) (IsOpenNote origin keys note → ⊥) answer
+    PassesOrFails (IsOpenNote origin keys note) (¬ IsOpenNote origin keys note) answer
 
 -- what each answer of judging all notes says: all open under the keys, or one does not
 abbrev pub ChecksNotes : List ℕ → List Key → List (List ℕ) → Result (Unit {0}) LoadFault → Type 0
@@ -155,4 +155,4 @@ KeepsNotes digest old notes (Err StateHead) new = ⊥
 KeepsNotes digest old notes (Err Collision) new = ⊥
 KeepsNotes digest old notes (Err StateEdge) new = HasUnheld digest old notes
 KeepsNotes digest old notes (Err ReadFault) new = ⊥
-KeepsNotes digest old notes (Err OutOfMemory) new = Unit {0}
+KeepsNotes digest old notes (Err OutOfMemory) new = ⊤

@@ -1,7 +1,7 @@
 -- What each answer of a loader says of all the bytes: the first refusal that applies, in the order
 -- of the faults.
 use Rattle.std.specs.Prelude.{◌≡◌, ◌≢◌, ℕ, ◌≤◌, ◌⊎◌, List, [], ◌∷◌, ◌++◌, length, map, All, Result}
-use Rattle.std.specs.Prelude.{Ok, Err}
+use Rattle.std.specs.Prelude.{Ok, Err, ⊤}
 use Rattle.std.specs.FinSet as set
 use Rattle.std.specs.List.{Contains}
 use Rattle.std.specs.List.Sorted.{IsStrictlySortedBy}
@@ -67,7 +67,7 @@ IsStateString (tag ∷ rest) = ((tag ≡ 0) × (length rest ≤ 65535)) ⊎ ((ta
 
 -- each string of version 1 is one of a tree; in version 2 the tags are not written
 abbrev pub AllTaggedWell : Parts → Type 0
-AllTaggedWell (Parted origin notes pairs entries) = Unit {0}
+AllTaggedWell (Parted origin notes pairs entries) = ⊤
 AllTaggedWell (Tagged origin notes strings) = All IsStateString strings
 
 -- ---- how far bytes are in order, and why they are refused
@@ -99,19 +99,19 @@ module _ (origin : List ℕ) (bytes : List ℕ) where
   pub record IsDisordered : Type 0 where
     pub parts : Parts
     pub has_origin : HasOrigin parts
-    pub falls : AllRise parts → ⊥
+    pub falls : ¬ AllRise parts
 
   -- the bytes are a state text of that origin in order, of which a string can be none of a tree
   pub record HasBadString : Type 0 where
     pub parts : Parts
     pub has_order : HasOrder parts
-    pub bad : AllTaggedWell parts → ⊥
+    pub bad : ¬ AllTaggedWell parts
 
 -- a note of the list does not open
 pub record HasClosed (origin : List ℕ) (keys : List Key) (notes : List (List ℕ)) : Type 0 where
   pub note : List ℕ
   pub is_listed : Contains notes note
-  pub closed : IsOpenNote origin keys note → ⊥
+  pub closed : ¬ IsOpenNote origin keys note
 
 module _ (origin : List ℕ) (keys : List Key) (bytes : List ℕ) where
   -- the bytes are a state text of that origin, in order and with strings of trees, and all its
@@ -131,7 +131,7 @@ module _ (origin : List ℕ) (keys : List Key) (bytes : List ℕ) where
 pub record HasUnheld (digest : List ℕ → List ℕ) (v : View) (notes : List (List ℕ)) : Type 0 where
   pub note : List ℕ
   pub is_listed : Contains notes note
-  pub lacks : HasEdge digest v note → ⊥
+  pub lacks : ¬ HasEdge digest v note
 
 module _ (digest : List ℕ → List ℕ) (origin : List ℕ) (keys : List Key) (bytes : List ℕ) where
   -- the bytes are a state text that is right up to its notes, which open, and no two of its strings
@@ -147,7 +147,7 @@ module _ (digest : List ℕ → List ℕ) (origin : List ℕ) (keys : List Key) 
     pub has_open_notes : HasOpenNotes origin keys bytes parts
     pub clash : HasClash digest (listed_view parts).strings
 
-  -- the bytes are a state text without a clash, and the edge of a note of it is not held
+  -- the bytes are a state text without a collision, and the edge of a note of it is not held
   pub record LacksEdge : Type 0 where
     pub parts : Parts
     pub has_no_collision : HasNoCollision parts
@@ -165,7 +165,7 @@ module _ (digest : List ℕ → List ℕ) (origin : List ℕ) (keys : List Key) 
 
   -- ---- the answers
 
-  -- what each answer of a loader says of the bytes; a read that failed and want of memory say
+  -- what each answer of a loader says of the bytes; a read that failed and OutOfMemory say
   -- nothing
   abbrev pub Loads : Result View LoadFault → Type 0
   Loads (Ok v) = HasState v
@@ -179,5 +179,5 @@ module _ (digest : List ℕ → List ℕ) (origin : List ℕ) (keys : List Key) 
   Loads (Err StateHead) = HasBadNote origin keys bytes
   Loads (Err Collision) = HasClashing
   Loads (Err StateEdge) = LacksEdge
-  Loads (Err ReadFault) = Unit {0}
-  Loads (Err OutOfMemory) = Unit {0}
+  Loads (Err ReadFault) = ⊤
+  Loads (Err OutOfMemory) = ⊤

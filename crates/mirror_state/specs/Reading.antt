@@ -1,6 +1,6 @@
 -- What each answer of a reader of state texts says of the bytes, as far as the bytes alone decide.
 use Rattle.std.specs.Prelude.{◌≡◌, ◌≢◌, ℕ, ◌⊎◌, List, [], ◌∷◌, ◌++◌, length, take, codes, Result}
-use Rattle.std.specs.Prelude.{Ok, Err}
+use Rattle.std.specs.Prelude.{Ok, Err, ⊤}
 use Rattle.sha2.specs.Sha256.{sha256}
 use Rattle.mirror_state.specs.StateText.{Parts, body_text, AreParts, IsText}
 use Rattle.mirror_state.specs.declared.parts.PartsFault.{PartsFault}
@@ -33,11 +33,11 @@ pub record IsSpoiled (bytes : List ℕ) : Type 0 where
 -- what each answer of a reader of state texts says of the bytes
 abbrev pub ReadsParts : List ℕ → Result Parts PartsFault → Type 0
 ReadsParts bytes (Ok parts) = IsText bytes parts
-ReadsParts bytes (Err StateMagic) = HasMagic bytes → ⊥
+ReadsParts bytes (Err StateMagic) = ¬ HasMagic bytes
 ReadsParts bytes (Err StateShort) =
-    HasMagic bytes × ((parts : Parts) (digest rest : List ℕ) → HasText bytes parts digest rest → ⊥)
+    HasMagic bytes × ((parts : Parts) (digest rest : List ℕ) → ¬ HasText bytes parts digest rest)
 ReadsParts bytes (Err StateLong) =
     (parts : Parts) × (digest : List ℕ) × (next : ℕ) × (rest : List ℕ)
     × HasText bytes parts digest (next ∷ rest)
 ReadsParts bytes (Err StateDigest) = IsSpoiled bytes
-ReadsParts bytes (Err OutOfMemory) = Unit {0}
+ReadsParts bytes (Err OutOfMemory) = ⊤

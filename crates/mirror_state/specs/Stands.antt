@@ -1,6 +1,6 @@
 -- What stands at the start of bytes. The contracts of the private readers cite these words; the
 -- grammar of a state text needs none of them.
-use Rattle.std.specs.Prelude.{◌≡◌, ◌≢◌, ◌<◌, ℕ, List, ◌++◌, length, map, All, Result, Ok, Err}
+use Rattle.std.specs.Prelude.{◌≡◌, ◌≢◌, ◌<◌, ℕ, List, ◌++◌, length, map, All, Result, Ok, Err, ⊤}
 use Rattle.sha2.specs.Sha256.{sha256}
 use Rattle.mirror_state.specs.declared.items.Form.{Form}
 use Rattle.mirror_state.specs.StateText.{Parts, Parted, Tagged, AreParts, lists_text}
@@ -42,12 +42,12 @@ parts_of (lists.Tagged origin notes strings) =
 -- what each answer of the reader of the lists says of the bytes
 abbrev pub FindsLists : List ℕ → Result (Parts × List ℕ) PartsFault → Type 0
 FindsLists bytes (Ok found) = HasBody bytes found.0 found.1
-FindsLists bytes (Err StateMagic) = HasMagic bytes → ⊥
+FindsLists bytes (Err StateMagic) = ¬ HasMagic bytes
 FindsLists bytes (Err StateShort) =
-    HasMagic bytes × ((parts : Parts) (rest : List ℕ) → HasBody bytes parts rest → ⊥)
+    HasMagic bytes × ((parts : Parts) (rest : List ℕ) → ¬ HasBody bytes parts rest)
 FindsLists bytes (Err StateLong) = ⊥
 FindsLists bytes (Err StateDigest) = ⊥
-FindsLists bytes (Err OutOfMemory) = Unit {0}
+FindsLists bytes (Err OutOfMemory) = ⊤
 
 -- what each answer of judging the end of a state text says: what follows the lists is the digest of
 -- the body before it, and no more

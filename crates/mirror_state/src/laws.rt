@@ -4,7 +4,7 @@
 ghost use Rattle.mirror_state.specs.Laws.{NoTextBeginsAnother, TextListsOneState, TextsHaveOneAnswer};
 ghost use Rattle.mirror_state.specs.LoadLaws.{LoadsHaveOneAnswer, OldIsSavedAsNew, SavedIsLoaded, ViewHasOneText, TextsAreLoaded};
 
-/// Bytes have one answer as a state text, want of memory apart: what is listed is known from them, and the refusals
+/// Bytes have one answer as a state text, `OutOfMemory` apart: what is listed is known from them, and the refusals
 /// exclude one another.
 pub fn one_answer_law()
     ensures { TextsHaveOneAnswer }

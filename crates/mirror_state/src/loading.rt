@@ -18,7 +18,7 @@ use signed_note::Verifier;
 use std::alloc::Global;
 use std::io::Read;
 use tlog_hash::{Hash, TreeHash};
-use tlog_mirror::{HeldFault, Mirror, TakeFault};
+use tlog_mirror::{Mirror, RestoreFault, TakeFault};
 
 // How often a reader is read at most.
 const READS: u64 = 16_777_216;
@@ -98,7 +98,7 @@ fn load_bytes<H: TreeHash>(
         Err(AddFault::Collision) => return Err(LoadFault::Collision),
         Err(AddFault::OutOfMemory) => return Err(LoadFault::OutOfMemory),
     };
-    // The origin is lawful, so that nothing but want of memory is told here.
+    // The origin is lawful, so that nothing but `OutOfMemory` comes here.
     let Ok(mut mirror) = Mirror::of_strings(alloc, origin, strings) else {
         return Err(LoadFault::OutOfMemory);
     };
@@ -350,9 +350,9 @@ fn keep_notes<H: TreeHash>(
     for note in notes {
         match mirror.keep_held_head(alloc, keys, note) {
             Ok(()) => {}
-            Err(HeldFault::BadHead) => return Err(LoadFault::StateHead),
-            Err(HeldFault::UnheldEdge) => return Err(LoadFault::StateEdge),
-            Err(HeldFault::OutOfMemory) => return Err(LoadFault::OutOfMemory),
+            Err(RestoreFault::BadHead) => return Err(LoadFault::StateHead),
+            Err(RestoreFault::UnheldEdge) => return Err(LoadFault::StateEdge),
+            Err(RestoreFault::OutOfMemory) => return Err(LoadFault::OutOfMemory),
         }
     }
     Ok(())

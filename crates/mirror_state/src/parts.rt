@@ -1,6 +1,6 @@
 //! Reads what a state text lists.
 ghost use Rattle.std.specs.Prelude.{◌≡◌, ◌↔◌, codes, IsTrue};
-ghost use Rattle.std.specs.Result.{result_map_both};
+ghost use Rattle.tlog_text.specs.Answers.{seen};
 ghost use Rattle.mirror_state.specs.Reading.{ReadsParts};
 ghost use Rattle.mirror_state.specs.Stands.{parts_of, FindsLists, EndsAs};
 ghost use Rattle.mirror_state.specs.declared.parts.PartsFault.TheVariants.{OutOfMemory};
@@ -71,7 +71,7 @@ fn is_old(magic: &[u8]) -> bool
 
 // The lists that the bytes begin with, behind the eight bytes that say which version it is, and what follows them.
 fn lists_at(alloc: Global, bytes: &[u8]) -> Result<(Lists<'_>, &[u8]), PartsFault>
-    ensures { FindsLists bytes.now (result_map_both (λ x. (parts_of x.0, x.1.now)) (λ e. e) result) }
+    ensures { FindsLists bytes.now (seen (λ x. (parts_of x.0, x.1.now)) result) }
 {
     if bytes.len() < 8 {
         return Err(PartsFault::StateMagic);
@@ -94,7 +94,7 @@ fn lists_at(alloc: Global, bytes: &[u8]) -> Result<(Lists<'_>, &[u8]), PartsFaul
 
 /// The lists of a state text, lent from its bytes.
 pub(crate) fn read_parts(alloc: Global, bytes: &[u8]) -> Result<Lists<'_>, PartsFault>
-    ensures { ReadsParts bytes.now (result_map_both parts_of (λ e. e) result) }
+    ensures { ReadsParts bytes.now (seen parts_of result) }
 {
     match lists_at(alloc, bytes) {
         Err(fault) => Err(fault),

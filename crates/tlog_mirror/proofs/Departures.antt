@@ -15,7 +15,7 @@ use Rattle.node_store.specs.Strings.{Strings}
 use Rattle.mirror_model.specs.Complete.{IsTreeOf, IsBuilt}
 use Rattle.mirror_model.specs.Forks.{IsPrefix}
 use Rattle.mirror_model.specs.declared.reports.Fork.{Fork}
-use Rattle.stored_trees.proofs.PrefixSteps.{prefix_of_prefix}
+use Rattle.mirror_trees.proofs.PrefixSteps.{prefix_of_prefix}
 use Rattle.tlog_mirror.specs.Best.{by_point}
 use Rattle.tlog_mirror.specs.Branches.{Departs, IsDeparture, IsBranch, AreBranches, told_of}
 use Rattle.tlog_mirror.specs.declared.forks.Branch.{Branch}

@@ -20,7 +20,7 @@ use Rattle.mirror_model.specs.Edge.{all_levels, edge_levels, edge_widths, edge_r
 use Rattle.mirror_model.specs.Edge.{strings_from}
 use Rattle.mirror_model.specs.Item.{row_of}
 use Rattle.mirror_model.specs.Strings.{HasClash}
-use Rattle.stored_trees.proofs.BuiltTrees.{added_both}
+use Rattle.mirror_trees.proofs.BuiltTrees.{added_both}
 use Rattle.tlog_mirror.specs.Edges.{HaveWidths}
 use Rattle.mirror_model.proofs.StringSets.{has_left, clash_within}
 

@@ -21,8 +21,8 @@ use Rattle.mirror_model.specs.Marks.{Points, State}
 use Rattle.mirror_model.specs.Reports.{ReportsForks, head_point, fork_pair}
 use Rattle.mirror_model.specs.declared.reports.Fork.{Fork}
 use Rattle.mirror_model.specs.declared.reports.Head.{Head}
-use Rattle.stored_trees.proofs.Marking.{point_total, same_key}
-use Rattle.stored_trees.proofs.PrefixSteps.{prefix_of_prefix}
+use Rattle.mirror_trees.proofs.Marking.{point_total, same_key}
+use Rattle.mirror_trees.proofs.PrefixSteps.{prefix_of_prefix}
 use Rattle.tlog_mirror.specs.Best.{HasKept, by_point, pair_point, IsBuiltFlag}
 use Rattle.tlog_mirror.specs.Branches.{head_pair, IsTwin, IsDeparture}
 use Rattle.tlog_mirror.specs.Kept.{state_of, IsKeptWell}

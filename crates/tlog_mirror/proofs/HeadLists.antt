@@ -18,8 +18,8 @@ use Rattle.mirror_model.specs.Forks.{Point, point_cmp}
 use Rattle.mirror_model.specs.Marks.{Points, State}
 use Rattle.mirror_model.specs.Reports.{ReportsHeads, head_point}
 use Rattle.mirror_model.specs.declared.reports.Head.{Head}
-use Rattle.stored_trees.proofs.Marking.{point_total, point_same, same_key}
-use Rattle.stored_trees.proofs.Orders.{equal_is}
+use Rattle.mirror_trees.proofs.Marking.{point_total, point_same, same_key}
+use Rattle.mirror_trees.proofs.Orders.{equal_is}
 use Rattle.tlog_mirror.specs.Kept.{state_of, IsKeptWell}
 use Rattle.tlog_mirror.specs.Best.{HasKept, by_point, pair_point, IsBuiltFlag}
 use Rattle.tlog_mirror.specs.declared.kept.KeptNote.{KeptNote}

@@ -1,8 +1,8 @@
 -- What a mirror knows of its trees is held.
 use Rattle.std.proofs.Common.{ℕ, List}
 use Rattle.node_store.specs.Strings.{Strings}
-use Rattle.stored_trees.specs.Known.{AreBuilt, AreKnown}
-use Rattle.stored_trees.specs.declared.known.Known.{Known}
+use Rattle.mirror_trees.specs.Known.{AreBuilt, AreKnown}
+use Rattle.mirror_trees.specs.declared.known.Known.{Known}
 use Rattle.tlog_mirror.specs.Kept.{IsKeptWell}
 use Rattle.tlog_mirror.specs.declared.kept.KeptNote.{KeptNote}
 

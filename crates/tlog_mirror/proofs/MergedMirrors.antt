@@ -12,7 +12,7 @@ use Rattle.mirror_model.specs.Heads.{IsHead}
 use Rattle.mirror_model.specs.Marks.{Points}
 use Rattle.mirror_model.specs.Steps.{Exhausted, Answers, IsBetween}
 use Rattle.mirror_model.proofs.StringSets.{has_left, has_right, has_cases, has_from_listed, listed_from_has, held_more}
-use Rattle.stored_trees.proofs.BuiltTrees.{added_both, added_none}
+use Rattle.mirror_trees.proofs.BuiltTrees.{added_both, added_none}
 use Rattle.tlog_mirror.specs.Adding.{with_note, with_notes, with_strings}
 use Rattle.tlog_mirror.specs.Kept.{state_of, note_bytes, IsKeptWell}
 use Rattle.tlog_mirror.specs.declared.kept.KeptNote.{KeptNote}
@@ -109,7 +109,7 @@ module _ (digest : List ℕ → List ℕ) (old : View) (origin : List ℕ) (kept
       (has_from_listed (map note_bytes kept) note
       (i, omega (arith, length-map kept note_bytes, lt), get_or-map note_bytes kept i k note lt)))))
 
-  -- want of memory among the notes
+  -- OutOfMemory among the notes
   pub merged_part :
       (i : ℕ) (new : View) → old.origin ≡ origin → NoClash digest (set.union old.strings strings) →
       new ≡ with_notes (with_strings old strings) (first_notes i kept) →
@@ -145,7 +145,7 @@ module _ (digest : List ℕ → List ℕ) (old : View) (origin : List ℕ) (kept
           (sym (map-append note_bytes (take i kept) (drop i kept)) ∙ ap (map note_bytes) (take-append-drop i kept))
           (Contains-append_left (first_notes i kept) (map note_bytes (drop i kept)) n c)
 
-  -- want of memory among the strings
+  -- OutOfMemory among the strings
   pub strings_part :
       (new : View) → old.origin ≡ origin → Answers digest old (Unit {0}) (with_strings old strings) Exhausted new →
       Answers digest old (old.origin ≡ origin) (union old other) Exhausted new

@@ -9,7 +9,7 @@ use Rattle.mirror_model.specs.Forks.{point_cmp}
 use Rattle.mirror_model.specs.Heads.{IsHead}
 use Rattle.mirror_model.specs.Marks.{Points}
 use Rattle.mirror_model.proofs.Views.{nothing_is_lawful}
-use Rattle.stored_trees.proofs.EmptySets.{empty_settled}
+use Rattle.mirror_trees.proofs.EmptySets.{empty_settled}
 use Rattle.tlog_mirror.specs.Kept.{note_bytes, IsKeptWell}
 use Rattle.tlog_mirror.specs.declared.kept.KeptNote.{KeptNote}
 

@@ -8,7 +8,7 @@ use Rattle.std.proofs.lemmas.List.Elements.{All-nil}
 use Rattle.signed_note.specs.Keys.{Key}
 use Rattle.node_store.specs.Strings.{Strings, Has, AllTagged, NoClash}
 use Rattle.tlog_checkpoint.specs.declared.Checkpoint.{Checkpoint}
-use Rattle.mirror_model.specs.Complete.{HasEdge, HasEdgeOf}
+use Rattle.mirror_model.specs.Complete.{HasEdge, HoldsEdge}
 use Rattle.mirror_model.specs.Forks.{point_cmp}
 use Rattle.mirror_model.specs.Heads.{IsHead}
 use Rattle.mirror_model.specs.Marks.{Points}
@@ -20,12 +20,11 @@ use Rattle.mirror_model.specs.declared.fault.TakeFault.TheVariants as taking
 use Rattle.mirror_model.proofs.HeadNotes.{head_once}
 use Rattle.mirror_model.proofs.RefusedHeads.{head_notes_are_read_once, open_heads_are_read}
 use Rattle.mirror_model.proofs.StringSets.{has_empty}
-use Rattle.stored_trees.specs.HeldEdge.{HoldsEdge}
-use Rattle.stored_trees.proofs.EmptySets.{empty_settled}
+use Rattle.mirror_trees.proofs.EmptySets.{empty_settled}
 use Rattle.tlog_mirror.specs.Kept.{note_bytes, IsKeptWell}
 use Rattle.tlog_mirror.specs.Restored.{IsOpenNote, FindsHeld, held_fault_of}
-use Rattle.tlog_mirror.specs.declared.fault.HeldFault.{HeldFault}
-use Rattle.tlog_mirror.specs.declared.fault.HeldFault.TheVariants.{UnheldEdge}
+use Rattle.tlog_mirror.specs.declared.fault.RestoreFault.{RestoreFault}
+use Rattle.tlog_mirror.specs.declared.fault.RestoreFault.TheVariants.{UnheldEdge}
 use Rattle.tlog_mirror.specs.declared.kept.KeptNote.{KeptNote}
 use Rattle.tlog_mirror.proofs.TakenHeads.{open_is_head}
 
@@ -97,7 +96,7 @@ module _ (digest : List ℕ → List ℕ) (v : View) (keys : List Key) (note : L
 
   module _ (checkpoint : Checkpoint) (opened : IsOpenCheckpoint note v.origin keys checkpoint) where
     -- its edge is not held
-    pub found_no_edge : (HasEdgeOf digest v checkpoint.size checkpoint.root → ⊥) →
+    pub found_no_edge : (HoldsEdge digest v.strings checkpoint.size checkpoint.root → ⊥) →
         FindsHeld digest v keys note (Err UnheldEdge)
     found_no_edge none = (
       open_note note v.origin keys checkpoint opened,
@@ -105,21 +104,13 @@ module _ (digest : List ℕ → List ℕ) (v : View) (keys : List Key) (note : L
           let same =
           head_once note v.origin v.origin e.size checkpoint.size e.root checkpoint.root e.is_head
           (open_is_head note v.origin keys checkpoint opened) in
-          none (subst (λ n. HasEdgeOf digest v n checkpoint.root) same.size_is
-          (subst (HasEdgeOf digest v e.size) same.root_is e.edge)),
+          none (subst (λ n. HoldsEdge digest v.strings n checkpoint.root) same.size_is
+          (subst (HoldsEdge digest v.strings e.size) same.root_is e.edge)),
     )
-
--- the edge is held among the strings of the view
-pub edge_of : (digest : List ℕ → List ℕ) (v : View) (size : ℕ) (root : List ℕ) (b : Bool) →
-    IsTrue b ↔ HoldsEdge digest v.strings size root → IsTrue b ↔ HasEdgeOf digest v size root
-edge_of digest v size root b h = (
-  λ t. let e = h.0 t in record { rows = e.rows; has_edge = e.has_edge; are_held = e.are_held },
-  λ e. h.1 (record { rows = e.rows; has_edge = e.has_edge; are_held = e.are_held }),
-)
 
 -- the answers of a finder of notes, where the origin that is read for is the view's
 module _ (digest : List ℕ → List ℕ) (v : View) (keys : List Key) (note origin : List ℕ) (same : origin ≡ v.origin) where
-  pub fault_at : (fault : TakeFault) → ReadsHead note origin keys (Err fault) → (held : HeldFault) →
+  pub fault_at : (fault : TakeFault) → ReadsHead note origin keys (Err fault) → (held : RestoreFault) →
       held ≡ held_fault_of fault → FindsHeld digest v keys note (Err held)
   fault_at fault h held is =
       subst (λ f. FindsHeld digest v keys note (Err f)) (sym is)
@@ -129,7 +120,7 @@ module _ (digest : List ℕ → List ℕ) (v : View) (keys : List Key) (note ori
     at_view : IsOpenCheckpoint note v.origin keys checkpoint
     at_view = subst (λ o. IsOpenCheckpoint note o keys checkpoint) same h
 
-    pub no_edge_at : (b : Bool) → IsTrue b ↔ HasEdgeOf digest v checkpoint.size checkpoint.root → b ≡ false →
+    pub no_edge_at : (b : Bool) → IsTrue b ↔ HoldsEdge digest v.strings checkpoint.size checkpoint.root → b ≡ false →
         FindsHeld digest v keys note (Err UnheldEdge)
     no_edge_at b tells is =
         found_no_edge digest v keys note checkpoint at_view (λ e. let t : b ≡ true = tells.1 e in cc (t, is))

@@ -9,8 +9,9 @@ use Rattle.node_store.specs.Strings.{Strings}
 use Rattle.mirror_model.specs.View.{View}
 use Rattle.mirror_model.specs.Forks.{Point}
 use Rattle.mirror_model.specs.Marks.{Points, IsMark}
-use Rattle.stored_trees.specs.Slices.{HasMark, HasSlices, IsSliceOf, AreSettled}
-use Rattle.stored_trees.proofs.Settles.{marks_are_slices}
+use Rattle.mirror_trees.specs.Known.{HasMark}
+use Rattle.mirror_trees.specs.Slices.{HasSlices, IsSliceOf, AreSettled}
+use Rattle.mirror_trees.proofs.Settles.{marks_are_slices}
 use Rattle.tlog_mirror.specs.Best.{HasKept, pair_point}
 use Rattle.tlog_mirror.specs.Kept.{state_of, IsKeptWell}
 use Rattle.tlog_mirror.specs.Settled.{HasSlicesOf, GainsAny}

@@ -129,7 +129,7 @@ module _ (digest : List ℕ → List ℕ) (keys : List Key) (old : View) (note :
   )
   fault_takes taking.OutOfMemory h clash = inl refl
 
-  -- a head that is taken, or clashes with what is held, or finds no memory
+  -- a head that is taken, or collides with what is held, or finds no memory
   pub head_takes :
       IsGoodHead digest old.origin keys note rows → (strings : Strings) →
       strings ≡ set.from_list (edge_strings digest (map row_of rows)) → (answer : Result (Unit {0}) AddFault)
@@ -261,7 +261,7 @@ module _ (digest : List ℕ → List ℕ) (keys : List Key) (old : View) (note :
     abbrev edge : List (List ℕ)
     edge = edge_strings digest (map row_of rows)
 
-    -- edge rows that are refused, or clash among themselves
+    -- edge rows that are refused, or collide among themselves
     pub edge_takes :
         (fault : TakeFault) → JudgesEdge digest checkpoint.size checkpoint.root rows (Err fault) → (none : Strings) →
         none ≡ set.empty →

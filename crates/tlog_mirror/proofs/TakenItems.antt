@@ -31,8 +31,8 @@ use Rattle.mirror_model.proofs.Views.{edge_stays, marks_stay}
 use Rattle.mirror_model.proofs.ItemBytes.{row_is_one, bundle_is_one}
 use Rattle.mirror_model.proofs.ItemStrings.{item_strings, is_short}
 use Rattle.mirror_model.proofs.StringSets.{clash_within, union_clash}
-use Rattle.stored_trees.proofs.Settles.{settled_stays}
-use Rattle.stored_trees.proofs.BuiltTrees.{added_none}
+use Rattle.mirror_trees.proofs.Settles.{settled_stays}
+use Rattle.mirror_trees.proofs.BuiltTrees.{added_none}
 
 -- ---- two sets together
 
@@ -208,7 +208,7 @@ module _ (width : ℕ) (bytes : List ℕ) (wide : IsWidth width) where
   pub bundle_good : (entries : List (List ℕ)) → IsBundle width bytes entries → IsGoodBundle width bytes
   bundle_good entries b = record { is_width = wide; entries = entries; is_bundle = b }
 
--- a good tile is answered by a clash or want of memory alone
+-- a valid tile is answered by a collision or OutOfMemory alone
 pub tile_judged :
     (width : ℕ) (bytes : List ℕ) → IsGoodTile width bytes → (answer : Result (Unit {0}) AddFault)
     (result : Result (Unit {0}) TakeFault) → result ≡ taken_of answer → JudgesTile width bytes result
@@ -219,7 +219,7 @@ tile_judged width bytes good answer result is = subst (JudgesTile width bytes) (
     at (Err Collision) = good
     at (Err OutOfMemory) = tt
 
--- a good bundle is answered by a clash or want of memory alone
+-- a valid bundle is answered by a collision or OutOfMemory alone
 pub bundle_judged :
     (width : ℕ) (bytes : List ℕ) → IsGoodBundle width bytes → (answer : Result (Unit {0}) AddFault)
     (result : Result (Unit {0}) TakeFault) → result ≡ taken_of answer → JudgesBundle width bytes result

@@ -2,7 +2,7 @@
 -- then of the least root, then the least by bytes. The contracts of private functions alone cite
 -- these words.
 use Rattle.std.specs.Prelude.{◌≡◌, ℕ, ◌<◌, List, length, slice_index_or, Option, Some, None, false}
-use Rattle.std.specs.Prelude.{IsTrue, ◌↔◌}
+use Rattle.std.specs.Prelude.{IsTrue, ◌↔◌, ⊤}
 use Rattle.std.specs.Ordering.{nat_cmp, ordering_then, is_gt}
 use Rattle.std.specs.declared.cmp.Ordering.{Ordering}
 use Rattle.std.specs.declared.cmp.Ordering.TheVariants.{Less}
@@ -33,7 +33,7 @@ served_cmp a b = ordering_then (nat_cmp b.size a.size) (slice_cmp nat_cmp a.root
 
 -- the head is served before the one that was found, if one was
 abbrev pub IsAhead : Point → Option (ℕ × List ℕ) → Type 0
-IsAhead point None = Unit {0}
+IsAhead point None = ⊤
 IsAhead point (Some found) = served_cmp point (pair_point found) ≡ Less
 
 -- a kept note has that size and root
@@ -61,7 +61,7 @@ module _ (digest : List ℕ → List ℕ) (held : Strings) where
   -- what is found among the kept notes: None where the tree of none is held, else the size and root
   -- of which none is served before it
   abbrev pub IsBestOf : List KeptNote → Option (ℕ × List ℕ) → Type 0
-  IsBestOf kept None = (other : KeptNote) → Contains kept other → IsBuiltAt (kept_point other) → ⊥
+  IsBestOf kept None = (other : KeptNote) → Contains kept other → ¬ IsBuiltAt (kept_point other)
   IsBestOf kept (Some found) = IsBest kept (pair_point found)
 
 -- the note is the first of the kept notes of that size and root
@@ -71,4 +71,4 @@ pub record IsFirstWith (kept : List KeptNote) (point : Point) (one : KeptNote) :
   pub is_there : slice_index_or kept at one ≡ one
   pub is : kept_point one ≡ point
   pub none : (k : ℕ) (other : KeptNote) → k < at → slice_index_or kept k other ≡ other →
-      kept_point other ≡ point → ⊥
+      ¬ (kept_point other ≡ point)

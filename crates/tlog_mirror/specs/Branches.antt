@@ -41,7 +41,7 @@ module _ (digest : List ℕ → List ℕ) (held : Strings) where
     pub second : List (List ℕ)
     pub first_tree : IsTreeOf digest held a.0 a.1 first
     pub second_tree : IsTreeOf digest held b.0 b.1 second
-    pub not_prefix : IsPrefix first second → ⊥
+    pub not_prefix : ¬ IsPrefix first second
 
   -- the fork is of two of the heads of which the second departs from the first
   abbrev pub IsDeparture : List (ℕ × List ℕ) → Fork → Type 0

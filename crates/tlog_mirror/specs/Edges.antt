@@ -1,6 +1,6 @@
 -- What is said of the edge rows of a head. The contracts of private functions alone cite these
 -- words.
-use Rattle.std.specs.Prelude.{◌≡◌, ◌≢◌, ℕ, ◌*◌, List, length, map, Result, Ok, Err}
+use Rattle.std.specs.Prelude.{◌≡◌, ◌≢◌, ℕ, ◌*◌, List, length, map, Result, Ok, Err, ⊤}
 use Rattle.mirror_model.specs.Edge.{edge_root}
 use Rattle.mirror_model.specs.Item.{row_of, HasEdgeRows}
 use Rattle.mirror_model.specs.Refusals.{HasEdgeCount, HasEdgeLengths}
@@ -20,13 +20,13 @@ ReadsRows widths rows (Err (taking.Checkpoint fault)) = ⊥
 ReadsRows widths rows (Err taking.OtherOrigin) = ⊥
 ReadsRows widths rows (Err taking.NoTrustedSignature) = ⊥
 ReadsRows widths rows (Err taking.EdgeCount) = ⊥
-ReadsRows widths rows (Err taking.EdgeLength) = HaveWidths widths rows → ⊥
+ReadsRows widths rows (Err taking.EdgeLength) = ¬ HaveWidths widths rows
 ReadsRows widths rows (Err taking.EdgeMismatch) = ⊥
 ReadsRows widths rows (Err taking.RowLength) = ⊥
 ReadsRows widths rows (Err taking.BundleShort) = ⊥
 ReadsRows widths rows (Err taking.BundleLong) = ⊥
 ReadsRows widths rows (Err taking.Collision) = ⊥
-ReadsRows widths rows (Err taking.OutOfMemory) = Unit {0}
+ReadsRows widths rows (Err taking.OutOfMemory) = ⊤
 
 -- what each answer of a reader of edge rows says: there are as many rows as the size has partial
 -- tiles, and they have these widths
@@ -36,18 +36,18 @@ ReadsEdge size rows (Err (taking.Note fault)) = ⊥
 ReadsEdge size rows (Err (taking.Checkpoint fault)) = ⊥
 ReadsEdge size rows (Err taking.OtherOrigin) = ⊥
 ReadsEdge size rows (Err taking.NoTrustedSignature) = ⊥
-ReadsEdge size rows (Err taking.EdgeCount) = HasEdgeCount size rows → ⊥
+ReadsEdge size rows (Err taking.EdgeCount) = ¬ HasEdgeCount size rows
 ReadsEdge size rows (Err taking.EdgeLength) =
-    HasEdgeCount size rows × (HasEdgeLengths size rows → ⊥)
+    HasEdgeCount size rows × (¬ HasEdgeLengths size rows)
 ReadsEdge size rows (Err taking.EdgeMismatch) = ⊥
 ReadsEdge size rows (Err taking.RowLength) = ⊥
 ReadsEdge size rows (Err taking.BundleShort) = ⊥
 ReadsEdge size rows (Err taking.BundleLong) = ⊥
 ReadsEdge size rows (Err taking.Collision) = ⊥
-ReadsEdge size rows (Err taking.OutOfMemory) = Unit {0}
+ReadsEdge size rows (Err taking.OutOfMemory) = ⊤
 
 -- what each answer of taking edge rows says: they are as the size has them, and lead to the root; a
--- clash is told of such rows alone
+-- collide is told of such rows alone
 abbrev pub JudgesEdge : (List ℕ → List ℕ) → ℕ → List ℕ → List (List ℕ) →
     Result (Unit {0}) TakeFault → Type 0
 JudgesEdge digest size root rows (Ok done) = HasEdgeRows digest size root rows
@@ -55,13 +55,13 @@ JudgesEdge digest size root rows (Err (taking.Note fault)) = ⊥
 JudgesEdge digest size root rows (Err (taking.Checkpoint fault)) = ⊥
 JudgesEdge digest size root rows (Err taking.OtherOrigin) = ⊥
 JudgesEdge digest size root rows (Err taking.NoTrustedSignature) = ⊥
-JudgesEdge digest size root rows (Err taking.EdgeCount) = HasEdgeCount size rows → ⊥
+JudgesEdge digest size root rows (Err taking.EdgeCount) = ¬ HasEdgeCount size rows
 JudgesEdge digest size root rows (Err taking.EdgeLength) =
-    HasEdgeCount size rows × (HasEdgeLengths size rows → ⊥)
+    HasEdgeCount size rows × (¬ HasEdgeLengths size rows)
 JudgesEdge digest size root rows (Err taking.EdgeMismatch) =
     HasEdgeLengths size rows × (edge_root digest (map row_of rows) ≢ root)
 JudgesEdge digest size root rows (Err taking.RowLength) = ⊥
 JudgesEdge digest size root rows (Err taking.BundleShort) = ⊥
 JudgesEdge digest size root rows (Err taking.BundleLong) = ⊥
 JudgesEdge digest size root rows (Err taking.Collision) = HasEdgeRows digest size root rows
-JudgesEdge digest size root rows (Err taking.OutOfMemory) = Unit {0}
+JudgesEdge digest size root rows (Err taking.OutOfMemory) = ⊤

@@ -7,7 +7,7 @@ use Rattle.std.specs.FinSet as set
 use Rattle.node_store.specs.Strings.{Strings}
 use Rattle.mirror_model.specs.Heads.{IsHead}
 use Rattle.mirror_model.specs.Marks.{Points, State, IsSound}
-use Rattle.stored_trees.specs.Slices.{AreSettled}
+use Rattle.mirror_trees.specs.Slices.{AreSettled}
 use Rattle.tlog_mirror.specs.declared.kept.KeptNote.{KeptNote}
 
 -- the bytes of a kept note

@@ -1,7 +1,7 @@
 -- Plays: events on mirrors, one after another. `HasWidth` is cited by the contracts of private
 -- functions alone.
 use Rattle.std.specs.Prelude.{◌≡◌, ℕ, zero, suc, ◌+◌, ◌<◌, List, [], ◌∷◌, map, Some, Result, Ok}
-use Rattle.std.specs.Prelude.{Err, slice_get}
+use Rattle.std.specs.Prelude.{Err, slice_get, ⊤}
 use Rattle.signed_note.specs.Keys.{Key}
 use Rattle.mirror_model.specs.View.{View}
 use Rattle.mirror_model.specs.Marks.{Points, State}
@@ -30,7 +30,7 @@ origins_of world = map (λ state. state.view.origin) world
 
 -- the answer is one that a merge may have, among those of takes
 abbrev pub IsMergeAnswer : Result (Unit {0}) TakeFault → Type 0
-IsMergeAnswer (Ok done) = Unit {0}
+IsMergeAnswer (Ok done) = ⊤
 IsMergeAnswer (Err fault) = (merging : MergeFault) × (fault ≡ take_fault_of merging)
 
 module _ (digest : List ℕ → List ℕ) (keys : List Key) where
@@ -52,7 +52,7 @@ module _ (digest : List ℕ → List ℕ) (keys : List Key) where
   -- events on mirrors of these origins, one after another, are each answered as its kind may be
   abbrev pub JudgesEvents :
       List (List ℕ) → List Event → List (Result (Unit {0}) TakeFault) → Type 0
-  JudgesEvents origins [] [] = Unit {0}
+  JudgesEvents origins [] [] = ⊤
   JudgesEvents origins (event ∷ events) (answer ∷ answers) =
       JudgesEvent origins event answer × JudgesEvents origins events answers
   JudgesEvents origins [] (answer ∷ answers) = ⊥
@@ -65,7 +65,7 @@ module _ (digest : List ℕ → List ℕ) (keys : List Key) where
       (between : List View) × RunsOut times old event between
       × Happens digest keys between event Exhausted new
 
-  -- an event happens until it fails for no want of memory, at most that many times, and this is its
+  -- an event happens until it is answered otherwise than by OutOfMemory, at most that many times, and this is its
   -- last answer
   pub record HappensWithin (tries : ℕ) (old : List View) (event : Event) (answer : Answer)
       (new : List View) : Type 0 where
@@ -87,6 +87,6 @@ module _ (digest : List ℕ → List ℕ) (keys : List Key) where
 
 -- the item, where it is a tile or a bundle, has a width from 1 to 256
 abbrev pub HasWidth : Item → Type 0
-HasWidth (Head note edge) = Unit {0}
+HasWidth (Head note edge) = ⊤
 HasWidth (Tile width bytes) = IsWidth width
 HasWidth (Bundle width bytes) = IsWidth width

@@ -1,7 +1,7 @@
 -- A mirror that is made again of what was kept of one: of its strings, and then of its notes.
 -- `FindsHeld`, `IsHeldHead` and `held_fault_of` are cited by the contracts of private functions
 -- alone.
-use Rattle.std.specs.Prelude.{◌≡◌, ℕ, List, Result, Ok, Err}
+use Rattle.std.specs.Prelude.{◌≡◌, ℕ, List, Result, Ok, Err, ⊤}
 use Rattle.std.specs.FinSet as set
 use Rattle.signed_note.specs.Keys.{Key}
 use Rattle.node_store.specs.Strings.{Strings}
@@ -11,8 +11,8 @@ use Rattle.mirror_model.specs.View.{View}
 use Rattle.mirror_model.specs.declared.fault.TakeFault.{TakeFault}
 use Rattle.mirror_model.specs.declared.fault.TakeFault.TheVariants as taking
 use Rattle.tlog_mirror.specs.Adding.{with_note}
-use Rattle.tlog_mirror.specs.declared.fault.HeldFault.{HeldFault}
-use Rattle.tlog_mirror.specs.declared.fault.HeldFault.TheVariants.{BadHead, UnheldEdge, OutOfMemory}
+use Rattle.tlog_mirror.specs.declared.fault.RestoreFault.{RestoreFault}
+use Rattle.tlog_mirror.specs.declared.fault.RestoreFault.TheVariants.{BadHead, UnheldEdge, OutOfMemory}
 use Rattle.tlog_mirror.specs.declared.kept.KeptNote.{KeptNote}
 
 -- the view of these strings, and of no note
@@ -28,12 +28,12 @@ pub record IsOpenNote (origin : List ℕ) (keys : List Key) (note : List ℕ) : 
 module _ (digest : List ℕ → List ℕ) where
   -- what each answer of keeping a note says: it is kept exactly where it opens and the strings of
   -- its edge are held already
-  abbrev pub KeepsHeld : View → List Key → List ℕ → Result (Unit {0}) HeldFault → View → Type 0
+  abbrev pub KeepsHeld : View → List Key → List ℕ → Result (Unit {0}) RestoreFault → View → Type 0
   KeepsHeld old keys note (Ok done) new =
       IsOpenNote old.origin keys note × HasEdge digest old note × (new ≡ with_note old note)
-  KeepsHeld old keys note (Err BadHead) new = (IsOpenNote old.origin keys note → ⊥) × (new ≡ old)
+  KeepsHeld old keys note (Err BadHead) new = (¬ IsOpenNote old.origin keys note) × (new ≡ old)
   KeepsHeld old keys note (Err UnheldEdge) new =
-      IsOpenNote old.origin keys note × (HasEdge digest old note → ⊥) × (new ≡ old)
+      IsOpenNote old.origin keys note × (¬ HasEdge digest old note) × (new ≡ old)
   KeepsHeld old keys note (Err OutOfMemory) new = new ≡ old
 
   -- ---- what the private readers' contracts cite
@@ -47,15 +47,15 @@ module _ (digest : List ℕ → List ℕ) where
     pub edge : HasEdge digest v kept.note.bytes
 
   -- what each answer of the finder of a note that may be kept says of the note
-  abbrev pub FindsHeld : View → List Key → List ℕ → Result KeptNote HeldFault → Type 0
+  abbrev pub FindsHeld : View → List Key → List ℕ → Result KeptNote RestoreFault → Type 0
   FindsHeld v keys note (Ok kept) = IsHeldHead v keys note kept
-  FindsHeld v keys note (Err BadHead) = IsOpenNote v.origin keys note → ⊥
+  FindsHeld v keys note (Err BadHead) = ¬ IsOpenNote v.origin keys note
   FindsHeld v keys note (Err UnheldEdge) =
-      IsOpenNote v.origin keys note × (HasEdge digest v note → ⊥)
-  FindsHeld v keys note (Err OutOfMemory) = Unit {0}
+      IsOpenNote v.origin keys note × (¬ HasEdge digest v note)
+  FindsHeld v keys note (Err OutOfMemory) = ⊤
 
 -- which fault of keeping a note a fault of reading it as a head is
-abbrev pub held_fault_of : TakeFault → HeldFault
+abbrev pub held_fault_of : TakeFault → RestoreFault
 held_fault_of (taking.Note fault) = BadHead
 held_fault_of (taking.Checkpoint fault) = BadHead
 held_fault_of taking.OtherOrigin = BadHead

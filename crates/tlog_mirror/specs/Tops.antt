@@ -56,7 +56,7 @@ module _ (digest : List ℕ → List ℕ) where
   abbrev pub ServesNothing : View → Type 0
   ServesNothing v =
       (note : List ℕ) (size : ℕ) (root : List ℕ) (entries : List (List ℕ)) →
-      Served digest v note size root entries → ⊥
+      ¬ Served digest v note size root entries
 
 -- the top of a lawful view stands for exactly the entries that are served
 abbrev pub TopHasServed : Type 0

@@ -1,12 +1,12 @@
 //! Which of the kept notes is served.
 ghost use Rattle.std.specs.Prelude.{◌≡◌, ◌↔◌, ℕ, List, IsTrue, IfSome, IfNone};
-ghost use Rattle.stored_trees.specs.Known.{AreKnown};
+ghost use Rattle.mirror_trees.specs.Known.{AreKnown};
 ghost use Rattle.tlog_mirror.specs.Best.{HasKept, IsAhead, IsBestOf, IsFirstWith};
 
 use crate::kept::KeptNote;
+use mirror_trees::{Known, is_built};
 use node_store::Store;
 use std::cmp::Ordering;
-use stored_trees::{Known, is_built};
 use tlog_hash::{Hash, TreeHash};
 
 // Of the heads that are held whole, the size and root that are served.
@@ -43,7 +43,7 @@ fn is_ahead(size: u64, root: &Hash, best: &Option<(u64, Hash)>) -> bool
 // The first kept note of that size and root.
 pub(crate) fn first_with<'a>(kept: &'a [KeptNote], size: u64, root: &Hash) -> Option<&'a KeptNote>
     ensures some { IfSome result (λ one. IsFirstWith kept.now (record { size = size; root = root.now }) one.now) }
-    ensures none { IfNone result (HasKept kept.now (record { size = size; root = root.now }) → ⊥) }
+    ensures none { IfNone result (¬ HasKept kept.now (record { size = size; root = root.now })) }
 {
     for one in kept {
         if one.size == size && one.root == *root {

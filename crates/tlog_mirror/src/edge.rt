@@ -9,9 +9,9 @@ ghost use Rattle.tlog_text.specs.Answers.{seen};
 ghost use Rattle.tlog_mirror.specs.Edges.{JudgesEdge, ReadsEdge, ReadsRows};
 
 use mirror_model::TakeFault;
+use mirror_trees::{add_above, add_row};
 use node_store::{AddFault, Store};
 use std::alloc::{AllocError, Global};
-use stored_trees::{add_above, add_row};
 use tlog_hash::{Hash, TreeHash, fold};
 use tlog_shape::edge_width;
 use tlog_tiles::{RowFault, read_row};
@@ -50,7 +50,7 @@ pub(crate) fn take_edge<H: TreeHash>(
     }
 }
 
-// What is answered where the strings of the rows clash: rows that lead elsewhere are refused for that.
+// What is answered where the strings of the rows collide: rows that lead elsewhere are refused for that.
 fn clash_of<H: TreeHash>(alloc: Global, size: u64, root: &Hash, edge: &[&[u8]]) -> TakeFault
     ensures { JudgesEdge H.digest size root.now (map (λ row. row.now) edge.now) (Err result) }
 {

@@ -14,7 +14,7 @@ pub enum NewFault {
 
 /// Why a head is not kept over the strings that are held. It prints its variant's name.
 #[derive(Debug, Drop, PartialEq, Eq, Clone, Copy, Error)]
-pub enum HeldFault {
+pub enum RestoreFault {
     /// The bytes are no note, its text is no checkpoint of the mirror's origin, or no key accepts a line of it.
     #[error("BadHead")]
     BadHead,

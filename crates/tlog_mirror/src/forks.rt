@@ -8,17 +8,17 @@ ghost use Rattle.mirror_model.specs.Complete.{IsBuilt};
 ghost use Rattle.mirror_model.specs.Listed.{pair_cmp};
 ghost use Rattle.mirror_model.specs.Reports.{ReportsForks, fork_pair};
 ghost use Rattle.mirror_model.specs.declared.reports.Fork.{Fork as AnyFork};
-ghost use Rattle.stored_trees.specs.Known.{AreKnown};
+ghost use Rattle.mirror_trees.specs.Known.{AreKnown};
 ghost use Rattle.tlog_mirror.specs.Best.{by_point};
 ghost use Rattle.tlog_mirror.specs.Branches.{AreBranches, IsBranch, IsDeparture, IsTwin, IsTwinOf, head_pair, told_of};
 
-use crate::heads::{flagged, points_of};
+use crate::heads::{flag_heads, points_of};
 use crate::mirror::Mirror;
 use mirror_model::{Fork, Head};
+use mirror_trees::{Known, is_prefix};
 use node_store::Store;
 use std::alloc::{AllocError, Global};
 use std::cmp::Ordering;
-use stored_trees::{Known, is_prefix};
 use tlog_hash::{Hash, TreeHash};
 
 // A complete head, with the complete heads before it whose entries do not begin its own.
@@ -59,7 +59,7 @@ fn whole_of<H: TreeHash>(
     ensures sorted { IfOk result (λ whole. IsStrictlySortedBy by_point whole.items) }
     ensures exact { IfOk result (λ whole. (p : ℕ × List ℕ) → Contains whole.items p ↔ (Contains points.now p × IsBuilt H.digest store.now p.0 p.1)) }
 {
-    let heads = flagged(alloc, store, known, points)?;
+    let heads = flag_heads(alloc, store, known, points)?;
     complete_of(alloc, heads.as_slice())
 }
 

@@ -4,16 +4,16 @@ ghost use Rattle.std.specs.List.{Contains};
 ghost use Rattle.std.specs.List.Sorted.{IsStrictlySortedBy};
 ghost use Rattle.mirror_model.specs.Complete.{IsComplete};
 ghost use Rattle.mirror_model.specs.Reports.{ReportsHeads, head_point};
-ghost use Rattle.stored_trees.specs.Known.{AreKnown};
+ghost use Rattle.mirror_trees.specs.Known.{AreKnown};
 ghost use Rattle.tlog_mirror.specs.Best.{HasKept, by_point, pair_point, IsBuiltFlag};
 
 use crate::best::first_with;
 use crate::kept::KeptNote;
 use crate::mirror::Mirror;
 use mirror_model::Head;
+use mirror_trees::{Known, is_built};
 use node_store::Store;
 use std::alloc::{AllocError, Global};
-use stored_trees::{Known, is_built};
 use tlog_hash::{Hash, TreeHash};
 
 impl<H: TreeHash> Mirror<H> {
@@ -36,12 +36,12 @@ impl<H: TreeHash> Mirror<H> {
         ensures { IfOk result (λ heads. ReportsHeads H.digest self.now.view heads.items) }
     {
         let points = points_of(alloc, self.kept.as_slice())?;
-        flagged(alloc, &self.strings, &self.known, points.as_slice())
+        flag_heads(alloc, &self.strings, &self.known, points.as_slice())
     }
 }
 
 // The heads of these sizes and roots, each with whether its tree is held.
-pub(crate) fn flagged<H: TreeHash>(
+pub(crate) fn flag_heads<H: TreeHash>(
     alloc: Global,
     store: &Store<H>,
     known: &Known,

@@ -37,11 +37,11 @@ pub(crate) fn place_of(kept: &[KeptNote], bytes: &[u8]) -> Result<usize, usize>
     ensures bound { IsSearchInRange result (length kept.now) }
     ensures place { IsBinarySearchResult (λ k. slice_cmp nat_cmp (note_bytes k) bytes.now) kept.now result }
 {
-    kept.binary_search_by(|k| compared(k, bytes))
+    kept.binary_search_by(|k| compare_bytes(k, bytes))
 }
 
 // How the bytes of a kept note compare to others.
-fn compared(kept: &KeptNote, bytes: &[u8]) -> Ordering
+fn compare_bytes(kept: &KeptNote, bytes: &[u8]) -> Ordering
     ensures { result ≡ slice_cmp nat_cmp (note_bytes kept.now) bytes.now }
 {
     kept.note.bytes().cmp(&bytes)

@@ -25,6 +25,7 @@ mod mirror;
 mod missing;
 mod plays;
 mod restored;
+mod rows;
 mod served;
 mod settle;
 mod take_head;
@@ -32,7 +33,7 @@ mod takes;
 mod texts;
 mod top_ranges;
 
-pub use fault::{HeldFault, NewFault};
+pub use fault::{NewFault, RestoreFault};
 pub use laws::served_list_law;
 pub use mirror::Mirror;
 pub use mirror_model::{Bytes, Event, Fork, Head, Item, MergeFault, Rows, TakeFault};

@@ -8,10 +8,10 @@ ghost use Rattle.tlog_mirror.specs.NoteLists.{IsNoteAt};
 
 use crate::fault::NewFault;
 use crate::kept::KeptNote;
+use mirror_trees::Known;
 use node_store::Store;
 use std::alloc::Global;
 use std::marker::Model;
-use stored_trees::Known;
 use tlog_hash::TreeHash;
 
 /// What was gathered of one log.
@@ -29,7 +29,7 @@ pub struct Mirror<H: TreeHash> {
 impl<H: TreeHash> Model for Mirror<H> {
     ghost use Rattle.std.specs.Prelude.{string_bytes};
     ghost use Rattle.mirror_model.specs.Marks.{State, state_code};
-    ghost use Rattle.stored_trees.specs.Known.{AreBuilt};
+    ghost use Rattle.mirror_trees.specs.Known.{AreBuilt};
     ghost use Rattle.tlog_mirror.specs.Kept.{state_of, IsKeptWell};
 
     ghost Value = { State };
@@ -52,7 +52,7 @@ impl<H: TreeHash> Mirror<H> {
         ensures view { IfOk result (λ mirror. mirror.view ≡ nothing origin.now) }
         ensures remembered { IfOk result (λ mirror. mirror.remembered ≡ set.empty) }
         ensures lawful { OnOk result (IsOrigin origin.now) }
-        ensures bad_origin { result ≡ Err NewFault.BadOrigin → IsOrigin origin.now → ⊥ }
+        ensures bad_origin { result ≡ Err NewFault.BadOrigin → ¬ IsOrigin origin.now }
     {
         if !is_origin(origin) {
             return Err(NewFault::BadOrigin);

@@ -5,8 +5,8 @@ ghost use Rattle.mirror_model.specs.Listed.{ListsMissing};
 
 use crate::best::first_with;
 use crate::mirror::Mirror;
+use mirror_trees::missing_of;
 use std::alloc::{AllocError, Global};
-use stored_trees::missing_of;
 use tlog_hash::{Hash, TreeHash};
 use tlog_tiles::Path;
 
@@ -26,7 +26,7 @@ impl<H: TreeHash> Mirror<H> {
     ) -> Result<Option<Vec<Path>>, AllocError>
         ensures head { IfOk result (λ o. IfSome o (λ paths. HasHead self.now.view size root.now)) }
         ensures some { IfOk result (λ o. IfSome o (λ paths. ListsMissing H.digest self.now.view size root.now paths.items)) }
-        ensures none { IfOk result (λ o. IfNone o (HasHead self.now.view size root.now → ⊥)) }
+        ensures none { IfOk result (λ o. IfNone o (¬ HasHead self.now.view size root.now)) }
     {
         if first_with(self.kept.as_slice(), size, root).is_none() {
             return Ok(None);

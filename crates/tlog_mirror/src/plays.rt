@@ -5,12 +5,11 @@ ghost use Rattle.mirror_model.specs.Events.{Fits, IsFitting};
 ghost use Rattle.mirror_model.specs.Item.{IsWidth};
 ghost use Rattle.mirror_model.specs.Steps.{Happens, Merges, MergesAt, Run, Takes, TakesAt};
 ghost use Rattle.mirror_model.specs.declared.events.Event.TheVariants.{Take};
-ghost use Rattle.mirror_model.specs.declared.items.Item.TheVariants.{Head};
 ghost use Rattle.signed_note.specs.Keys.{Key};
 ghost use Rattle.tlog_mirror.specs.Plays.{HappensWithin, HasWidth, IsMergeAnswer, JudgesEvent, JudgesEvents, JudgesItem, RunsWithin, all_remembered, origins_of, views_of};
 
 use crate::mirror::Mirror;
-use mirror_model::{Event, Item, MergeFault, Rows, TakeFault};
+use mirror_model::{Event, Item, MergeFault, TakeFault};
 use signed_note::Verifier;
 use std::alloc::{AllocError, Global};
 use tlog_hash::TreeHash;
@@ -67,7 +66,7 @@ fn is_width(width: u32) -> bool
 ///
 /// # Errors
 ///
-/// Memory for the list of answers was refused: it is made first, and no mirror has changed. Want of memory at an event is
+/// Memory for the list of answers was refused: it is made first, and no mirror has changed. `OutOfMemory` at an event is
 /// that event's answer, `TakeFault::OutOfMemory`.
 pub fn play<H: TreeHash>(
     alloc: Global,
@@ -115,7 +114,7 @@ pub fn play_again<H: TreeHash>(
     Ok(answers)
 }
 
-// Applies an event until it fails for no want of memory, that many times at most.
+// Applies an event until it is answered otherwise than by `OutOfMemory`, that many times at most.
 fn apply_again<H: TreeHash>(
     alloc: Global,
     world: &mut [Mirror<H>],
@@ -196,14 +195,14 @@ fn merge_at<H: TreeHash>(
     }
     if target < source {
         let (front, back) = world.split_at_mut(source);
-        return told(front[target].merge(alloc, &back[0]));
+        return answer_of_merge(front[target].merge(alloc, &back[0]));
     }
     let (front, back) = world.split_at_mut(target);
-    told(back[0].merge(alloc, &front[source]))
+    answer_of_merge(back[0].merge(alloc, &front[source]))
 }
 
 // The answer of a merge among those of takes: its faults keep their names.
-fn told(answer: Result<(), MergeFault>) -> Result<(), TakeFault>
+fn answer_of_merge(answer: Result<(), MergeFault>) -> Result<(), TakeFault>
     ensures same { answer_of result ≡ merge_answer_of answer }
     ensures names { MatchResult answer (λ done. result ≡ Ok done) (λ fault. result ≡ Err (take_fault_of fault)) }
 {
@@ -214,7 +213,7 @@ fn told(answer: Result<(), MergeFault>) -> Result<(), TakeFault>
 }
 
 impl<H: TreeHash> Mirror<H> {
-    // The answer of a merge with itself, which changes nothing: a mirror's strings do not clash.
+    // The answer of a merge with itself, which changes nothing: a mirror's strings do not collide.
     fn merge_itself(&self) -> Result<(), TakeFault>
         ensures merges { Merges H.digest self.now.view self.now.view (answer_of result) self.now.view }
         ensures done { result ≡ Ok tt }
@@ -236,38 +235,11 @@ impl<H: TreeHash> Mirror<H> {
         ensures remembered { self.new.remembered ≡ self.old.remembered }
     {
         match item {
-            Item::Head { note, edge } => self.take_rows(alloc, keys, note.as_slice(), edge),
+            Item::Head { note, edge } => {
+                self.take_head_rows(alloc, keys, note.as_slice(), edge.as_slice())
+            }
             Item::Tile { width, bytes } => self.take_tile(alloc, *width, bytes.as_slice()),
             Item::Bundle { width, bytes } => self.take_bundle(alloc, *width, bytes.as_slice()),
         }
     }
-
-    // Takes a head with these rows.
-    fn take_rows(
-        &mut self,
-        alloc: Global,
-        keys: &[Box<dyn Verifier>],
-        note: &[u8],
-        edge: &Rows,
-    ) -> Result<(), TakeFault>
-        ensures takes { Takes H.digest (map (λ k. key k) keys.now) self.old.view (Head note.now edge.now) (answer_of result) self.new.view }
-        ensures judged { JudgesItem H.digest (map (λ k. key k) keys.now) self.old.view.origin (Head note.now edge.now) result }
-        ensures remembered { self.new.remembered ≡ self.old.remembered }
-    {
-        match slices_of(alloc, edge.as_slice()) {
-            Ok(rows) => self.take_head(alloc, keys, note, rows.as_slice()),
-            Err(AllocError) => Err(TakeFault::OutOfMemory),
-        }
-    }
-}
-
-// The rows, each as a slice.
-fn slices_of<'a>(alloc: Global, rows: &'a [Vec<u8>]) -> Result<Vec<&'a [u8]>, AllocError>
-    ensures { IfOk result (λ slices. map (λ slice. slice.now) slices.items ≡ map (λ row. row.items) rows.entry.now) }
-{
-    let mut slices: Vec<&'a [u8]> = Vec::new(alloc);
-    for row in rows {
-        slices.push(row.as_slice())?;
-    }
-    Ok(slices)
 }

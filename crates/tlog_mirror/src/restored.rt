@@ -1,20 +1,20 @@
 //! Mirrors that are made again of what was kept of one.
 ghost use Rattle.std.specs.Prelude.{◌≡◌, ◌≤◌, ◌↔◌, ℕ, List, ◌∷◌, length, map, IfOk, IsTrue, OnOk};
 ghost use Rattle.std.specs.FinSet as set;
-ghost use Rattle.mirror_model.specs.Complete.{HasEdgeOf};
+ghost use Rattle.mirror_model.specs.Complete.{HoldsEdge};
 ghost use Rattle.mirror_model.specs.Origin.{IsOrigin};
 ghost use Rattle.node_store.specs.Strings.{Has};
 ghost use Rattle.tlog_mirror.specs.Restored.{FindsHeld, KeepsHeld, held_fault_of, strings_alone};
 
-use crate::fault::{HeldFault, NewFault};
+use crate::fault::{NewFault, RestoreFault};
 use crate::head_note::read_head;
 use crate::kept::KeptNote;
 use crate::mirror::{Mirror, is_origin};
 use mirror_model::TakeFault;
+use mirror_trees::{Known, holds_edge};
 use node_store::Store;
 use signed_note::Verifier;
 use std::alloc::{AllocError, Global};
-use stored_trees::{Known, holds_edge};
 use tlog_hash::{Hash, TreeHash};
 
 impl<H: TreeHash> Mirror<H> {
@@ -34,7 +34,7 @@ impl<H: TreeHash> Mirror<H> {
         ensures view { IfOk result (λ mirror. mirror.view ≡ strings_alone origin.now strings) }
         ensures remembered { IfOk result (λ mirror. mirror.remembered ≡ set.empty) }
         ensures lawful { OnOk result (IsOrigin origin.now) }
-        ensures bad_origin { result ≡ Err NewFault.BadOrigin → IsOrigin origin.now → ⊥ }
+        ensures bad_origin { result ≡ Err NewFault.BadOrigin → ¬ IsOrigin origin.now }
     {
         if !is_origin(origin) {
             return Err(NewFault::BadOrigin);
@@ -64,7 +64,7 @@ impl<H: TreeHash> Mirror<H> {
         alloc: Global,
         keys: &[Box<dyn Verifier>],
         note: &[u8],
-    ) -> Result<(), HeldFault>
+    ) -> Result<(), RestoreFault>
         ensures keeps { KeepsHeld H.digest self.old.view (map (λ k. key k) keys.now) note.now result self.new.view }
         ensures remembered { self.new.remembered ≡ self.old.remembered }
     {
@@ -74,7 +74,7 @@ impl<H: TreeHash> Mirror<H> {
         };
         match self.keep_note(kept) {
             Ok(()) => Ok(()),
-            Err(AllocError) => Err(HeldFault::OutOfMemory),
+            Err(AllocError) => Err(RestoreFault::OutOfMemory),
         }
     }
 
@@ -84,7 +84,7 @@ impl<H: TreeHash> Mirror<H> {
         alloc: Global,
         keys: &[Box<dyn Verifier>],
         note: &[u8],
-    ) -> Result<KeptNote, HeldFault>
+    ) -> Result<KeptNote, RestoreFault>
         ensures { FindsHeld H.digest self.now.view (map (λ k. key k) keys.now) note.now result }
     {
         let (note, checkpoint) = match read_head(alloc, self.origin(), keys, note) {
@@ -94,25 +94,25 @@ impl<H: TreeHash> Mirror<H> {
         let size = checkpoint.size;
         let root = checkpoint.root;
         if !self.has_edge(size, &root) {
-            return Err(HeldFault::UnheldEdge);
+            return Err(RestoreFault::UnheldEdge);
         }
         Ok(KeptNote { note, size, root })
     }
 
     // Whether the edge of that size and root is held.
     fn has_edge(&self, size: u64, root: &Hash) -> bool
-        ensures { IsTrue result ↔ HasEdgeOf H.digest self.now.view size root.now }
+        ensures { IsTrue result ↔ HoldsEdge H.digest self.now.view.strings size root.now }
     {
         holds_edge(&self.strings, size, root)
     }
 }
 
 // What a fault of reading a head is here.
-fn held_fault(fault: TakeFault) -> HeldFault
+fn held_fault(fault: TakeFault) -> RestoreFault
     ensures { result ≡ held_fault_of fault }
 {
     match fault {
-        TakeFault::OutOfMemory => HeldFault::OutOfMemory,
-        _ => HeldFault::BadHead,
+        TakeFault::OutOfMemory => RestoreFault::OutOfMemory,
+        _ => RestoreFault::BadHead,
     }
 }

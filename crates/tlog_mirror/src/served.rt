@@ -1,6 +1,6 @@
 //! What a mirror serves.
 ghost use Rattle.std.specs.Prelude.{◌≡◌, ◌↔◌, ℕ, List, IfOk, IfSome, IfNone, IsTrue};
-ghost use Rattle.mirror_model.specs.Served.{IsRangeHash, IsServedBundle, IsServedNote, IsServedTile};
+ghost use Rattle.mirror_model.specs.Served.{IsRangeHash, IsServedBundle, IsServedNote, IsServedTile, Replies};
 ghost use Rattle.mirror_model.specs.Reports.{SaysServed};
 ghost use Rattle.std.specs.Option.{option_map};
 ghost use Rattle.tlog_mirror.specs.Best.{pair_point};
@@ -14,6 +14,7 @@ use signed_note::Note;
 use std::alloc::{AllocError, Global};
 use tlog_hash::{Hash, TreeHash};
 use tlog_proof::Ranges;
+use tlog_tiles::Path;
 
 impl<H: TreeHash> Mirror<H> {
     /// What is served, found once: of the complete checkpoints the one of the greatest size, then of the least
@@ -23,7 +24,7 @@ impl<H: TreeHash> Mirror<H> {
         ensures some { IfSome result (λ top. IsServedTop H.digest self.now.view top) }
         ensures none { IfNone result (ServesNothing H.digest self.now.view) }
     {
-        let Some(kept) = self.served() else {
+        let Some(kept) = self.served_note() else {
             return None;
         };
         let root = kept.root;
@@ -40,7 +41,7 @@ impl<H: TreeHash> Mirror<H> {
         ensures some { IfSome result (λ note. IsServedNote H.digest self.now.view note.now.bytes) }
         ensures none { IfNone result (ServesNothing H.digest self.now.view) }
     {
-        let Some(kept) = self.served() else {
+        let Some(kept) = self.served_note() else {
             return None;
         };
         Some(&kept.note)
@@ -50,7 +51,7 @@ impl<H: TreeHash> Mirror<H> {
     pub(crate) fn served_point(&self) -> Option<(u64, Hash)>
         ensures { SaysServed H.digest self.now.view (option_map pair_point result) }
     {
-        let Some(kept) = self.served() else {
+        let Some(kept) = self.served_note() else {
             return None;
         };
         let root = kept.root;
@@ -58,7 +59,7 @@ impl<H: TreeHash> Mirror<H> {
     }
 
     // The kept note that is served.
-    fn served(&self) -> Option<&KeptNote>
+    fn served_note(&self) -> Option<&KeptNote>
         ensures some { IfSome result (λ kept. IsServedAs H.digest self.now.view kept.now.note.bytes kept.now.size kept.now.root) }
         ensures none { IfNone result (ServesNothing H.digest self.now.view) }
     {
@@ -74,7 +75,7 @@ impl<H: TreeHash> Mirror<H> {
     /// memory.
     pub fn range_hash(&self, start: u64, len: u64) -> Option<Hash>
         ensures some { IfSome result (λ hash. IsRangeHash H.digest self.now.view start len hash) }
-        ensures none { IfNone result ((hash : List ℕ) → IsRangeHash H.digest self.now.view start len hash → ⊥) }
+        ensures none { IfNone result ((hash : List ℕ) → ¬ IsRangeHash H.digest self.now.view start len hash) }
     {
         let Some(top) = self.top_ranges() else {
             return None;
@@ -96,7 +97,7 @@ impl<H: TreeHash> Mirror<H> {
         width: u32,
     ) -> Result<Option<Vec<u8>>, AllocError>
         ensures some { IfOk result (λ o. IfSome o (λ bytes. IsServedTile H.digest self.now.view level index width bytes.items)) }
-        ensures none { IfOk result (λ o. IfNone o ((bytes : List ℕ) → IsServedTile H.digest self.now.view level index width bytes → ⊥)) }
+        ensures none { IfOk result (λ o. IfNone o ((bytes : List ℕ) → ¬ IsServedTile H.digest self.now.view level index width bytes)) }
     {
         let Some(top) = self.top_ranges() else {
             return Ok(None);
@@ -117,11 +118,41 @@ impl<H: TreeHash> Mirror<H> {
         width: u32,
     ) -> Result<Option<Vec<u8>>, AllocError>
         ensures some { IfOk result (λ o. IfSome o (λ bytes. IsServedBundle H.digest self.now.view index width bytes.items)) }
-        ensures none { IfOk result (λ o. IfNone o ((bytes : List ℕ) → IsServedBundle H.digest self.now.view index width bytes → ⊥)) }
+        ensures none { IfOk result (λ o. IfNone o ((bytes : List ℕ) → ¬ IsServedBundle H.digest self.now.view index width bytes)) }
     {
         let Some(top) = self.top_ranges() else {
             return Ok(None);
         };
         top.bundle(alloc, index, width)
+    }
+
+    /// The bytes of a file of the log at its path: the note that is served, or a tile or a bundle of the served entries
+    /// (C2SP tlog-tiles, "Parameters"). `None` exactly where nothing is served there.
+    ///
+    /// ```text
+    /// mirror.file(alloc, &Path::Checkpoint)?   // the note
+    /// ```
+    ///
+    /// # Errors
+    ///
+    /// Memory was refused.
+    pub fn file(&self, alloc: Global, path: &Path) -> Result<Option<Vec<u8>>, AllocError>
+        ensures some { IfOk result (λ o. IfSome o (λ bytes. Replies H.digest self.now.view path.now bytes.items)) }
+        ensures none { IfOk result (λ o. IfNone o ((bytes : List ℕ) → ¬ Replies H.digest self.now.view path.now bytes)) }
+    {
+        match *path {
+            Path::Checkpoint => {
+                let Some(note) = self.top() else {
+                    return Ok(None);
+                };
+                Ok(Some(Vec::from_slice(alloc, note.bytes())?))
+            }
+            Path::Tile {
+                level,
+                index,
+                width,
+            } => self.tile(alloc, level, index, width),
+            Path::Entries { index, width } => self.bundle(alloc, index, width),
+        }
     }
 }

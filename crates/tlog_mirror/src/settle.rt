@@ -3,15 +3,15 @@ ghost use Rattle.std.specs.Prelude.{◌≡◌, ◌↔◌, All, OnOk};
 ghost use Rattle.node_store.specs.Strings.{NoClash};
 ghost use Rattle.mirror_model.specs.Forks.{Point};
 ghost use Rattle.mirror_model.specs.Marks.{IsMark};
-ghost use Rattle.stored_trees.specs.Known.{AreKnown};
-ghost use Rattle.stored_trees.specs.Slices.{AreSettled, HasMark};
+ghost use Rattle.mirror_trees.specs.Known.{AreKnown, HasMark};
+ghost use Rattle.mirror_trees.specs.Slices.{AreSettled};
 ghost use Rattle.tlog_mirror.specs.Settled.{GainsAny, HasSlicesOf};
 
 use crate::heads::points_of;
 use crate::mirror::Mirror;
+use mirror_trees::Known;
 use node_store::Store;
 use std::alloc::{AllocError, Global};
-use stored_trees::Known;
 use tlog_hash::{Hash, TreeHash};
 
 impl<H: TreeHash> Mirror<H> {
@@ -51,7 +51,7 @@ fn settle_all<H: TreeHash>(
     ensures known { AreKnown H.digest store.now known.new }
 {
     for head in heads {
-        stored_trees::settle(store, known, head.0, &head.1)?;
+        mirror_trees::settle(store, known, head.0, &head.1)?;
     }
     Ok(())
 }

@@ -13,7 +13,7 @@ use crate::edge::take_edge;
 use crate::head_note::read_head;
 use crate::kept::{KeptNote, place_of};
 use crate::mirror::Mirror;
-use crate::takes::taken;
+use crate::takes::take_answer;
 use mirror_model::TakeFault;
 use node_store::{AddFault, Store};
 use signed_note::Verifier;
@@ -22,7 +22,7 @@ use tlog_checkpoint::Checkpoint;
 use tlog_hash::TreeHash;
 
 impl<H: TreeHash> Mirror<H> {
-    /// The checkpoint of a head's note, where the note is good: it is a checkpoint of the mirror's origin, and
+    /// The checkpoint of a head's note, where the note is valid: it is a checkpoint of the mirror's origin, and
     /// it opens under the keys (C2SP signed-note and tlog-checkpoint). Its edge is not asked for, and nothing
     /// is taken.
     ///
@@ -80,7 +80,7 @@ impl<H: TreeHash> Mirror<H> {
             Ok(()) => {}
             Err(fault) => return Err(fault),
         }
-        taken(self.keep_head(KeptNote { note, size, root }, &strings))
+        take_answer(self.keep_head(KeptNote { note, size, root }, &strings))
     }
 
     // Adds the strings of a head, and then its note.

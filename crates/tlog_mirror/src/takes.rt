@@ -10,9 +10,9 @@ ghost use Rattle.tlog_mirror.specs.Adding.{added, taken_of, with_strings};
 
 use crate::mirror::Mirror;
 use mirror_model::TakeFault;
+use mirror_trees::{add_entries, add_row};
 use node_store::{AddFault, Store};
 use std::alloc::Global;
-use stored_trees::{add_entries, add_row};
 use tlog_hash::TreeHash;
 use tlog_tiles::{BundleFault, RowFault, read_bundle, read_row};
 
@@ -41,7 +41,7 @@ impl<H: TreeHash> Mirror<H> {
         };
         let mut strings = Store::new(alloc);
         match add_row::<H>(&mut strings, row.as_slice()) {
-            Ok(_) => taken(self.add_strings(&strings)),
+            Ok(_) => take_answer(self.add_strings(&strings)),
             Err(AddFault::Collision) => Err(TakeFault::Collision),
             Err(AddFault::OutOfMemory) => Err(TakeFault::OutOfMemory),
         }
@@ -73,13 +73,13 @@ impl<H: TreeHash> Mirror<H> {
         };
         let mut strings = Store::new(alloc);
         match add_entries::<H>(&mut strings, entries.as_slice()) {
-            Ok(_) => taken(self.add_strings(&strings)),
+            Ok(_) => take_answer(self.add_strings(&strings)),
             Err(AddFault::Collision) => Err(TakeFault::Collision),
             Err(AddFault::OutOfMemory) => Err(TakeFault::OutOfMemory),
         }
     }
 
-    // Adds strings, of which none clash and none is a long entry's.
+    // Adds strings, of which none collide and none is a long entry's.
     pub(crate) fn add_strings(&mut self, strings: &Store<H>) -> Result<(), AddFault>
         requires no_clash { NoClash H.digest strings.now }
         requires short { (entry : List ℕ) → Has strings.now (0 ∷ entry) → length entry ≤ 65535 }
@@ -96,7 +96,7 @@ impl<H: TreeHash> Mirror<H> {
 }
 
 // The answer of adding an item's strings, as that of its take.
-pub(crate) fn taken(answer: Result<(), AddFault>) -> Result<(), TakeFault>
+pub(crate) fn take_answer(answer: Result<(), AddFault>) -> Result<(), TakeFault>
     ensures { result ≡ taken_of answer }
 {
     match answer {

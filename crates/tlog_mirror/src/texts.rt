@@ -61,7 +61,7 @@ impl<H: TreeHash> Mirror<H> {
         root: &Hash,
     ) -> Result<Option<String>, AllocError>
         ensures some { IfOk result (λ o. IfSome o (λ text. IsMissingText H.digest self.now.view size root.now (string_bytes text))) }
-        ensures none { IfOk result (λ o. IfNone o (HasHead self.now.view size root.now → ⊥)) }
+        ensures none { IfOk result (λ o. IfNone o (¬ HasHead self.now.view size root.now)) }
     {
         let Some(paths) = self.missing(alloc, size, root)? else {
             return Ok(None);

@@ -5,11 +5,11 @@ ghost use Rattle.tlog_hash.specs.Rows.{part};
 ghost use Rattle.tlog_tiles.specs.Tiles.{IsTileWithin, tile_bytes, bundle_bytes};
 ghost use Rattle.tlog_mirror.specs.Tops.{IsListOf};
 
+use mirror_trees::{entries_at, range_hash, row_at};
 use node_store::Store;
 use signed_note::Note;
 use std::alloc::{AllocError, Global};
 use std::marker::Model;
-use stored_trees::{entries_at, range_hash, row_at};
 use tlog_hash::{Hash, TreeHash};
 use tlog_proof::Ranges;
 use tlog_tiles::{write_bundle, write_row};
@@ -52,13 +52,6 @@ impl<'a, H: TreeHash> TopRanges<'a, H> {
         self.note
     }
 
-    /// The root of the served checkpoint. It takes no memory.
-    pub fn root(&self) -> &Hash
-        ensures { result.now ≡ self.now.root }
-    {
-        &self.root
-    }
-
     /// The bytes of a tile of the served entries (C2SP tlog-tiles, "Merkle Tree"): `width` hashes of that
     /// level from number `256 * index` on. `None` exactly where the tile is not within the entries, as for a
     /// level over 7 or a width outside 1 to 256.
@@ -75,7 +68,7 @@ impl<'a, H: TreeHash> TopRanges<'a, H> {
     ) -> Result<Option<Vec<u8>>, AllocError>
         ensures some { IfOk result (λ o. IfSome o (λ bytes. (entries : List (List ℕ)) → IsListOf H.digest self.now entries → bytes.items ≡ tile_bytes H.digest entries level index width)) }
         ensures within { IfOk result (λ o. IfSome o (λ bytes. IsTileWithin self.now.size level index width)) }
-        ensures none { IfOk result (λ o. IfNone o (IsTileWithin self.now.size level index width → ⊥)) }
+        ensures none { IfOk result (λ o. IfNone o (¬ IsTileWithin self.now.size level index width)) }
     {
         let Some(row) = row_at(
             alloc,
@@ -107,7 +100,7 @@ impl<'a, H: TreeHash> TopRanges<'a, H> {
     ) -> Result<Option<Vec<u8>>, AllocError>
         ensures some { IfOk result (λ o. IfSome o (λ bytes. (entries : List (List ℕ)) → IsListOf H.digest self.now entries → bytes.items ≡ bundle_bytes entries index width)) }
         ensures within { IfOk result (λ o. IfSome o (λ bytes. IsTileWithin self.now.size 0 index width)) }
-        ensures none { IfOk result (λ o. IfNone o (IsTileWithin self.now.size 0 index width → ⊥)) }
+        ensures none { IfOk result (λ o. IfNone o (¬ IsTileWithin self.now.size 0 index width)) }
     {
         let Some(entries) = entries_at(alloc, self.strings, self.size, &self.root, index, width)?
         else {

@@ -19,7 +19,7 @@ pub fn edge_strings_law()
 {}
 
 /// Rows that lead to one root at one size, and whose strings are held, are one, while what is held does not
-/// clash. So of a head of a lawful view that is complete, the rows that are its edge are the true rows of
+/// collide. So of a head of a lawful view that is complete, the rows that are its edge are the true rows of
 /// its entries.
 pub fn lawful_edge_law()
     ensures one { EdgeIsOne }

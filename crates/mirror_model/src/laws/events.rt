@@ -12,7 +12,7 @@ pub fn event_law()
     ensures lawful { EventKeepsLawful }
 {}
 
-/// Want of memory apart, an event has one answer and leaves one view.
+/// `OutOfMemory` apart, an event has one answer and leaves one view.
 pub fn once_law()
     ensures takes { TakesHaveOneAnswer }
     ensures merges { MergesHaveOneAnswer }
@@ -29,7 +29,7 @@ pub fn again_law()
 {}
 
 /// What an event leaves for which memory was refused: a view between the old one and the one with all
-/// that the event brings; the old one, where the event would be refused or would clash. After a take a
+/// that the event brings; the old one, where the event would be refused or would collide. After a take a
 /// new note stands only if the view is the one with the item; after a merge only if all strings do. So
 /// such a view is lawful where the two others are.
 pub fn refused_memory_law()

@@ -23,7 +23,7 @@ pub fn missing_law()
     ensures within { MissingIsWithin }
 {}
 
-/// Where what is held and the tree of some entries do not clash together, the list of what is missing of
+/// Where what is held and the tree of some entries do not collide together, the list of what is missing of
 /// a head of their size and tree hash is the list of their front.
 pub fn missing_list_law()
     ensures { MissingIsFrontList }

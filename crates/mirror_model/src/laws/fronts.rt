@@ -19,7 +19,7 @@ pub fn rounds_law()
     ensures number { EnoughRoundsComplete }
 {}
 
-/// Where a list of entries has the size and the root, and its tree does not clash with what is held, the walk
+/// Where a list of entries has the size and the root, and its tree does not collide with what is held, the walk
 /// from the root finds its front. Whether or not there is one, at a size of at most `256^8` (as those of all
 /// logs are) what it finds are full tiles of the levels 1 to 7, and bundles as wide as the size has them, that
 /// begin within the size. That a tile of a lawful view's head is within the size too, `missing_law` says.

@@ -4,14 +4,14 @@ ghost use Rattle.mirror_model.specs.Headline.{MirrorsAgree, NoPlayClashes, NoPla
 
 /// The headline, over any number of mirrors of one origin, in one play or in several.
 ///
-/// Mirrors that the same good items, and the same strings and notes of opening views, have reached hold
-/// equal views: while no two different strings of the opening views and of the good items share a
-/// digest, or where no event was answered by a clash. Such a view is the union of what reached it. Here
+/// Mirrors that the same valid items, and the same strings and notes of opening views, have reached hold
+/// equal views: while no two different strings of the opening views and of the valid items share a
+/// digest, or where no event was answered by a collision. Such a view is the union of what reached it. Here
 /// an event for which memory was refused is followed by the same event, before any other, in the same
 /// play or as the first of the next. What follows has no such premise.
 ///
-/// While no two different strings of the opening views and of the good items share a digest, no event is
-/// answered by a clash. From lawful views, whatever the strings: the checkpoint served says the length
+/// While no two different strings of the opening views and of the valid items share a digest, no event is
+/// answered by a collision. From lawful views, whatever the strings: the checkpoint served says the length
 /// and the tree hash of exactly the entries served; two complete checkpoints that differ are a fork
 /// exactly where neither list of entries is a prefix of the other; and what was complete has no other
 /// entries. From any views: what was complete, or a fork, stays so.

@@ -11,7 +11,7 @@ pub fn reaches_law()
 {}
 
 /// After a run of events over mirrors of one origin a mirror's view is the union of the opening views
-/// and of the good items that reach it, where no event was answered by a clash, and each event for which
+/// and of the valid items that reach it, where no event was answered by a collision, and each event for which
 /// memory was refused is followed by the same event. Whatever was answered, the view has all that the
 /// events that were done bring to it, and nothing but what these and the events for which memory was
 /// refused bring.
@@ -20,8 +20,8 @@ pub fn run_law()
     ensures bounded { ForMirrors RunIsBounded }
 {}
 
-/// Where no two different strings of the opening views and of the good items share a digest, no event of
-/// a run over mirrors of one origin is answered by a clash.
+/// Where no two different strings of the opening views and of the valid items share a digest, no event of
+/// a run over mirrors of one origin is answered by a collision.
 pub fn clash_law()
     ensures { ForMirrors NoneClashes }
 {}

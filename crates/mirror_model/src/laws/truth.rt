@@ -2,7 +2,7 @@
 ghost use Rattle.mirror_model.specs.TrueLaws.{TrueBundlesAreGood, EdgeHasEachPartialTile, TrueEdgesLeadToRoot, FrontIsWidest, FrontIsWithin, PrefixesServeSame, TrueTilesAreGood, TrueStringsAreOfTree};
 ghost use Rattle.mirror_model.specs.ServedLaws.{ServedBundlesAreAllEntries, AllEntriesAreInBundles};
 
-/// The true tiles and bundles of a list of entries are good, and give what its tree hash hashes there;
+/// The true tiles and bundles of a list of entries are valid, and give what its tree hash hashes there;
 /// its true edge rows lead to its tree hash.
 pub fn true_items_law()
     ensures tiles { TrueTilesAreGood }

@@ -8,8 +8,8 @@ ghost use Rattle.mirror_model.specs.MarkLaws.{MarksStay, WholeListIsMark};
 ghost use Rattle.mirror_model.specs.ReplyLaws.{RangeHashIsOne, ReplyIsOne, ServedIsOne, ServedRootIsTreeHash, ServedWhereComplete};
 
 /// Views that hold the same are one, and views of one origin are joined in any order, in any grouping
-/// and any number of times with one result. Their strings clash either way round or neither: where a string of the one
-/// and another of the other share a digest, if neither view clashes by itself.
+/// and any number of times with one result. Their strings collide either way round or neither: where a string of the one
+/// and another of the other share a digest, if neither view collides by itself.
 pub fn union_law()
     ensures same { MutualSubviewsAreEqual }
     ensures commutes { UnionCommutes }
@@ -26,7 +26,7 @@ pub fn one_list_law()
     ensures root { CompleteListHasRoot }
 {}
 
-/// What is complete stays complete as a view grows, with the same entries while no two strings clash.
+/// What is complete stays complete as a view grows, with the same entries while no two strings collide.
 pub fn growth_law()
     ensures stays { CompleteStays }
     ensures same { CompleteKeepsItsList }
@@ -52,8 +52,8 @@ pub fn forks_law()
     ensures stay { ForksStay }
 {}
 
-/// A view that holds nothing is lawful, and a lawful view stays so as it takes a good item, or is merged
-/// with a lawful view of the same log, where no two strings clash. The edge of each of its heads is held.
+/// A view that holds nothing is lawful, and a lawful view stays so as it takes a valid item, or is merged
+/// with a lawful view of the same log, where no two strings collide. The edge of each of its heads is held.
 pub fn lawful_law()
     ensures nothing { NothingIsLawful }
     ensures item { PlusIsLawful }

@@ -1,7 +1,7 @@
 use Rattle.std.proofs.Common.{◌≡◌, ℕ, List, map}
 use Rattle.std.specs.List.{range_with_len}
 use Rattle.tlog_mirror.specs.Tops.{IsListOf}
-use Rattle.log_sources.specs.Told.{AddsTold}
+use Rattle.mirror_sources.specs.Told.{AddsTold}
 use Rattle.mirror_folders.specs.Files.{files_at, kind_path}
 use Rattle.mirror_folders.proofs.files.put_full.Given as goal
 

@@ -1,5 +1,5 @@
 use Rattle.std.proofs.Common.{◌≡◌, ℕ, List, ◌∷◌, [], ◌++◌, subst, ◌∙◌}
-use Rattle.log_sources.specs.Told.{AddsTold}
+use Rattle.mirror_sources.specs.Told.{AddsTold}
 use Rattle.std.proofs.lemmas.Result.{err_from_is_err_and}
 use Rattle.tlog_tiles.specs.declared.paths.Path.TheVariants.{Checkpoint}
 use Rattle.mirror_folders.specs.Files.{file_at, kind_paths, tile_paths}

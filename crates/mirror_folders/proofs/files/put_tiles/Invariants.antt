@@ -1,6 +1,6 @@
 use Rattle.std.proofs.Common.{◌≡◌, ℕ, List}
 use Rattle.tlog_mirror.specs.Tops.{IsListOf}
-use Rattle.log_sources.specs.Told.{AddsTold}
+use Rattle.mirror_sources.specs.Told.{AddsTold}
 use Rattle.mirror_folders.specs.Files.{files_at, tiles_below}
 use Rattle.mirror_folders.proofs.files.put_tiles.Given as goal
 

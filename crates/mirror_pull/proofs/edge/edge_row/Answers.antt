@@ -1,6 +1,6 @@
 use Rattle.std.proofs.Common.{◌≡◌, ◌∙◌, subst, length, Some, None}
 use Rattle.tlog_tiles.specs.declared.paths.Path.{Path}
-use Rattle.log_sources.specs.Files.{full_of}
+use Rattle.mirror_sources.specs.Files.{full_of}
 use Rattle.std.proofs.lemmas.Result.{err_from_is_err_and}
 use Rattle.mirror_pull.proofs.Askings.{adds_some_then, adds_to_then, some_of}
 use Rattle.mirror_pull.proofs.Freshness.{fresh_unasked, gone_partial}
@@ -80,9 +80,10 @@ returns-clause-honest g c =
       bytes_are =
           rw c.path_width.ensures at c.truncate.ensures.items ∙
           row_full digest entries may next c.args.path c.in-Some-2.bytes.items tile gone there;
-      gets = gets_full digest entries may next c.args.path c.full_path.result c.args.asked.now.items
-          c.ask.new.asked.items c.ask-2.new.asked.items gone c.full_path.ensures grown
-          (c.in_ok-bytes-2.ensures.grown full);
+      gets = gets_full digest entries (g.S.Source.may_answer c.args.source.now) is may c.args.path c.full_path.result
+          c.in-Some-2.bytes.items c.args.asked.now.items
+          c.ask.new.asked.items c.ask-2.new.asked.items c.in_ok-bytes.ensures.later gone none there c.full_path.ensures
+          grown (c.in_ok-bytes-2.ensures.grown full);
     }
 
 pub returns-in_default-2-clause-honest : goal.returns-in_default-2-clause-honest

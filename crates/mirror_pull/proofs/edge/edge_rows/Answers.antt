@@ -55,10 +55,11 @@ loop-path-preserved g c =
           c.push.new.self.items c.in_ok-row.row c.in_ok-push.ensures.items
           (c.deref-path-items.ensures.value ∙ c.in_ok-paths.ensures) c.loop-path-test.true grown p q);
       honest = λ digest entries is within fresh.
-          rows_step digest entries (λ row. row.items) c.deref-path-items.result.now
+          rows_step digest entries (λ row. row.items) (may c.args.source.now)
+          (may c.loop-path.source) c.deref-path-items.result.now
           (edge_of c.args.size) c.args.asked.now.items c.loop-path.asked.items c.edge_row.new.asked.items
           c.loop-path.path-index c.loop-path.rows.items c.push.new.self.items c.in_ok-row.row
-          (c.deref-path-items.ensures.value ∙ c.in_ok-paths.ensures)
+          c.loop-path.invariant.later (c.deref-path-items.ensures.value ∙ c.in_ok-paths.ensures)
           c.loop-path-test.true fresh (edge_tile c.args.size (length entries) within) c.in_ok-push.ensures.items
           (c.loop-path.invariant.honest digest entries is within fresh)
           (c.in_ok-row.ensures.honest digest entries
@@ -77,7 +78,7 @@ loop-path-init g c =
           (gathers_none (g.S.Source.may_answer c.args.source.now) (g.S.Source.asked c.args.source.now)
           c.args.asked.now.items (λ xs. GivesRows c.args.asked.now.items [] xs []) RowsNone);
       honest = λ digest entries is within fresh. rw (ap (map (λ row. row.items)) c.new-rows.ensures.items)
-          (rows_none digest entries c.args.asked.now.items);
+          (rows_none digest entries (g.S.Source.may_answer c.args.source.now) c.args.asked.now.items);
       later = stays_itself (g.S.Source.may_answer c.args.source.now);
     }
 
@@ -96,7 +97,7 @@ returns-in_err-row-clause-honest g c =
     let may = g.S.Source.may_answer in
     let p = err_from_is_err_and c.from_residual-in_err-row.result c.from_residual-in_err-row.ensures.1 in
     rw (p.1, p.2) (λ digest entries is within fresh.
-    row_reached digest entries c.deref-path-items.result.now
+    row_reached digest entries (may c.args.source.now) c.deref-path-items.result.now
     (edge_of c.args.size) c.args.asked.now.items c.loop-path.asked.items c.loop-path.path-index
     (map (λ row. row.items) c.loop-path.rows.items)
     (c.deref-path-items.ensures.value ∙ c.in_ok-paths.ensures) c.loop-path-test.true fresh
@@ -107,7 +108,7 @@ returns-in_err-row-clause-honest g c =
 pub returns-clause-honest : goal.returns-clause-honest
 returns-clause-honest g c =
     λ digest entries is within fresh. let e = c.deref-path-items.ensures.value ∙ c.in_ok-paths.ensures in
-    rows_whole digest entries
+    rows_whole digest entries (g.S.Source.may_answer c.args.source.now)
     (edge_of c.args.size) c.args.asked.now.items c.loop-path.asked.items c.loop-path.path-index _
     (omega (arith, ap length e, c.loop-path-test.false))
     (c.loop-path.invariant.honest digest entries is within fresh)

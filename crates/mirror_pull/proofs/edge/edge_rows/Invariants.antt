@@ -3,7 +3,7 @@ use Rattle.tlog_tiles.specs.Edge.{edge_of}
 use Rattle.mirror_pull.specs.Asking.{AddsTo, AreFresh}
 use Rattle.mirror_pull.specs.Replying.{Gathers, GivesRows}
 use Rattle.mirror_pull.specs.Parts.{AreTrueRows, IsTrueSource}
-use Rattle.log_sources.specs.Source.{StaysWithin}
+use Rattle.mirror_sources.specs.Source.{StaysWithin}
 use Rattle.mirror_pull.proofs.edge.edge_rows.Given as goal
 
 abbrev pub invariant-loop-path : goal.invariant-loop-path
@@ -19,7 +19,7 @@ invariant-loop-path g l = record {
       (digest : List ℕ → List ℕ) (entries : List (List ℕ)) →
       IsTrueSource digest entries (g.S.Source.may_answer l.fn.source) → l.fn.size ≤ length entries →
       AreFresh l.fn.asked.items (edge_of l.fn.size) →
-      AreTrueRows digest entries (take l.path-index (edge_of l.fn.size)) l.fn.asked.items l.asked.items
+      AreTrueRows digest entries (g.S.Source.may_answer l.fn.source) (take l.path-index (edge_of l.fn.size)) l.fn.asked.items l.asked.items
       (map (λ row. row.items) l.rows.items);
   later : StaysWithin (g.S.Source.may_answer l.fn.source) (g.S.Source.may_answer l.source);
 }

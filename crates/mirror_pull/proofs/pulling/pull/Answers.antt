@@ -184,35 +184,38 @@ returns-clause-honest g c =
     let x = c.work.new.mirror.view in
     let gains = c.in_ok-rounds.ensures.gains in
     let before = g.S.Source.may_answer c.args.source.now in
+    let edge_may = g.S.Source.may_answer c.ask.new.source in
+    let rest = g.S.Source.may_answer c.edge_rows.new.source in
+    let later = stays_then before edge_may rest c.in_ok-note.ensures.later c.in_ok-rows.ensures.later in
     let honest = b.honestly.honest in
     let no_clash = b.honestly.clean in
-    outcome_read digest entries note taken size at v x (asked c.args.source.now) (asked c.work.new.source) _ b.same
+    outcome_read digest entries note taken size at v x before (asked c.args.source.now) (asked c.work.new.source) _ b.same
     b.honestly.size_is (record {
       size_is = refl;
       root_is = b.honestly.root_is;
       none_refused = done.0;
       complete =
           c.is_complete.ensures.1
-          (worked_complete digest hash _ entries v taken at before honest no_clash b.small w x _ edge_asked all_asked
+          (worked_complete digest hash _ entries v taken at before honest no_clash b.small rest w x _ edge_asked all_asked
           on.taken_is done.1 root b.honestly.root_is (head_stays w x gains.grows at root on.head));
       gets =
-          worked_gets digest hash _ entries v taken at before honest no_clash b.small w x _ edge_asked all_asked
-          on.taken_is done.1 none c.ask.new.asked.items (asked c.args.source.now) (asked c.work.new.source)
-          c.new-asked.ensures.items b.begun got.gets told;
+          worked_gets digest hash _ entries v taken at before honest no_clash b.small rest w x _ edge_asked all_asked
+          on.taken_is done.1 edge_may none c.ask.new.asked.items (asked c.args.source.now) (asked c.work.new.source)
+          c.in_ok-note.ensures.later later b.answered c.new-asked.ensures.items b.begun got.gets told;
       at_most =
-          worked_few digest hash _ entries v taken at before honest no_clash b.small w x _ edge_asked all_asked
+          worked_few digest hash _ entries v taken at before honest no_clash b.small rest w x _ edge_asked all_asked
           on.taken_is done.1;
       none =
-          worked_none digest hash _ entries v taken at before honest no_clash b.small w x _ edge_asked all_asked
+          worked_none digest hash _ entries v taken at before honest no_clash b.small rest w x _ edge_asked all_asked
           on.taken_is done.1;
       has_note =
-          worked_note digest hash _ entries v taken at before honest no_clash b.small w x _ edge_asked all_asked
+          worked_note digest hash _ entries v taken at before honest no_clash b.small rest w x _ edge_asked all_asked
           on.taken_is done.1 gains;
       notes =
-          worked_notes digest hash _ entries v taken at before honest no_clash b.small w x _ edge_asked all_asked
+          worked_notes digest hash _ entries v taken at before honest no_clash b.small rest w x _ edge_asked all_asked
           on.taken_is done.1 gains;
       strings =
-          worked_strings digest hash _ entries v taken at before honest no_clash b.small w x _ edge_asked all_asked
+          worked_strings digest hash _ entries v taken at before honest no_clash b.small rest w x _ edge_asked all_asked
           on.taken_is done.1;
     })
 

@@ -82,11 +82,11 @@ loop-rounds-preserved g c =
           let took =
           rw c.deref-in-loop-rounds.ensures.value at c.in_ok-more.ensures.honest entries c.args.size may_take in (
             omega (arith, c.saturating_add-refused.ensures, before.0, took.0),
-            work_step digest entries c.args.size c.args.root.now
+            work_step digest entries c.args.size c.args.root.now (may c.args.source.now)
                 (may c.loop-rounds.source) c.args.mirror.now.view c.loop-rounds.mirror.view
-                c.args.asked.now.items c.loop-rounds.asked.items c.loop-rounds.rounds (may c.loop-rounds.source)
+                c.args.asked.now.items c.loop-rounds.asked.items c.loop-rounds.rounds
                 (may c.work_round.new.source) c.work_round.new.mirror.view c.work_round.new.asked.items
-                c.in_ok-paths.paths.items before.1 wants some c.in_ok-more.ensures.later
+                c.in_ok-paths.paths.items c.loop-rounds.invariant.later before.1 wants some c.in_ok-more.ensures.later
                 c.in_ok-more.ensures.gains.grows took.1,
           );
       gains = gains_then c.args.mirror.now.view c.loop-rounds.mirror.view c.work_round.new.mirror.view
@@ -126,7 +126,8 @@ returns-then-is_empty-clause-honest g c =
     let wants : IsLeft digest c.args.size c.args.root.now c.loop-rounds.asked.items c.loop-rounds.mirror.view
     c.in_ok-paths.paths.items = rw c.deref.ensures.value at (c.in_ok-paths.ensures.left before.1.next.head) in (
       before.0,
-      work_done digest entries c.args.size c.args.root.now may c.args.mirror.now.view c.loop-rounds.mirror.view
+      work_done digest entries c.args.size c.args.root.now (g.S.Source.may_answer c.args.source.now) may
+          c.args.mirror.now.view c.loop-rounds.mirror.view
           c.args.asked.now.items c.loop-rounds.asked.items c.loop-rounds.rounds c.in_ok-paths.paths.items before.1 wants
           (sym c.in_ok-paths.paths.ok.0
           ∙ none_if c.in_ok-paths.paths.len (sym c.is_empty.ensures ∙ c.if-is_empty.true)),

@@ -5,7 +5,7 @@ use Rattle.mirror_pull.proofs.Replies.{AreRoundsSoFar}
 use Rattle.mirror_pull.specs.Parts.{MayWork}
 use Rattle.mirror_pull.proofs.TrueWork.{IsWorking}
 use Rattle.mirror_pull.specs.Asking.{AddsTo}
-use Rattle.log_sources.specs.Source.{StaysWithin}
+use Rattle.mirror_sources.specs.Source.{StaysWithin}
 use Rattle.mirror_pull.specs.Taking.{GainsStrings}
 use Rattle.mirror_pull.proofs.rounds.work.Given as goal
 
@@ -26,6 +26,6 @@ invariant-loop-rounds g l = record {
       (g.S.Source.may_answer l.fn.source) l.fn.mirror.view l.fn.asked.items →
       (l.refused ≡ 0)
       × IsWorking g.H.TreeHash.digest entries l.fn.size l.fn.root
-      (g.S.Source.may_answer l.source) l.rounds l.fn.mirror.view l.mirror.view l.fn.asked.items l.asked.items;
+      (g.S.Source.may_answer l.fn.source) (g.S.Source.may_answer l.source) l.rounds l.fn.mirror.view l.mirror.view l.fn.asked.items l.asked.items;
   gains : GainsStrings l.fn.mirror.view l.mirror.view;
 }

@@ -74,9 +74,10 @@ loop-path-preserved g c =
                   (let refused = w.if-branch.true in absurd cc)
               | else-branch w ↦ w.refused-is ∙ before.0
             ],
-            round_step digest entries size c.args.mirror.now.view c.loop-path.mirror.view c.take_path.new.mirror.view
+            round_step digest entries size (may c.args.source.now) (may c.loop-path.source)
+                c.args.mirror.now.view c.loop-path.mirror.view c.take_path.new.mirror.view
                 c.args.asked.now.items c.loop-path.asked.items c.take_path.new.asked.items c.args.paths.now
-                c.loop-path.path-index c.loop-path-test.true before.1 took.1,
+                c.loop-path.path-index c.loop-path.invariant.later c.loop-path-test.true before.1 took.1,
           );
       gains = gains_then c.args.mirror.now.view c.loop-path.mirror.view c.take_path.new.mirror.view
           c.loop-path.invariant.gains c.in_ok-take_path.ensures.gains;
@@ -94,7 +95,8 @@ loop-path-init g c =
           c.args.mirror.now.view xs) (list_none g.H.TreeHash.digest c.args.asked.now.items c.args.mirror.now.view);
       honest = λ entries size m. (
         refl,
-        round_none g.H.TreeHash.digest entries size c.args.mirror.now.view c.args.asked.now.items,
+        round_none g.H.TreeHash.digest entries size (g.S.Source.may_answer c.args.source.now)
+            c.args.mirror.now.view c.args.asked.now.items,
       );
       gains = gains_itself c.args.mirror.now.view;
     }
@@ -120,7 +122,7 @@ returns-clause-honest g c =
     λ entries size m. let h =
     c.loop-path.invariant.honest entries size m in (
       h.0,
-      round_whole g.H.TreeHash.digest entries size c.args.mirror.now.view
+      round_whole g.H.TreeHash.digest entries size (g.S.Source.may_answer c.args.source.now) c.args.mirror.now.view
           c.loop-path.mirror.view c.args.asked.now.items c.loop-path.asked.items c.args.paths.now c.loop-path.path-index
           c.loop-path-test.false h.1,
     )

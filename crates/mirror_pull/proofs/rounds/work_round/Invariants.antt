@@ -2,7 +2,7 @@ use Rattle.std.proofs.Common.{◌≡◌, ℕ, List, take}
 use Rattle.mirror_pull.specs.Replying.{Gathers, IsWorkedList}
 use Rattle.mirror_pull.specs.Parts.{MayTake, TakesTrue}
 use Rattle.mirror_pull.specs.Asking.{AddsTo}
-use Rattle.log_sources.specs.Source.{StaysWithin}
+use Rattle.mirror_sources.specs.Source.{StaysWithin}
 use Rattle.mirror_pull.specs.Taking.{GainsStrings}
 use Rattle.mirror_pull.proofs.rounds.work_round.Given as goal
 
@@ -21,7 +21,7 @@ invariant-loop-path g l = record {
       MayTake g.H.TreeHash.digest entries size
       (g.S.Source.may_answer l.fn.source) l.fn.mirror.view l.fn.asked.items l.paths →
       (l.refused ≡ 0)
-      × TakesTrue g.H.TreeHash.digest entries
+      × TakesTrue g.H.TreeHash.digest entries (g.S.Source.may_answer l.fn.source)
       (take l.path-index l.paths) l.fn.asked.items l.asked.items l.fn.mirror.view l.mirror.view;
   gains : GainsStrings l.fn.mirror.view l.mirror.view;
 }

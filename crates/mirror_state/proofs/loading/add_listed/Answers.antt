@@ -1,7 +1,7 @@
 use Rattle.mirror_state.specs.LoadSteps.{IsListable, tagged_as}
 use Rattle.std.proofs.lemmas.List.Elements.{All-contains}
 use Rattle.mirror_state.proofs.ListedItems.{bytes_of, is_item, listed_more, listed_refused, listed_done}
-use Rattle.stored_trees.proofs.BuiltTrees.{added_none}
+use Rattle.mirror_trees.proofs.BuiltTrees.{added_none}
 use Rattle.mirror_state.proofs.loading.add_listed.Goals as goal
 
 pub loop-item-init : goal.loop-item-init

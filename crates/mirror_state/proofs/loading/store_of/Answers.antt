@@ -1,5 +1,5 @@
 use Rattle.mirror_state.proofs.ListedItems.{store_made, store_refused}
-use Rattle.stored_trees.proofs.EmptySets.{empty_no_clash}
+use Rattle.mirror_trees.proofs.EmptySets.{empty_no_clash}
 use Rattle.mirror_state.proofs.loading.store_of.Goals as goal
 
 pub add_lists-requires-clause-no_clash : goal.add_lists-requires-clause-no_clash

@@ -7,7 +7,7 @@ use Rattle.tlog_hash.specs.Tree.{fold_of, joins}
 use Rattle.mirror_model.specs.Edge.{edge_strings}
 use Rattle.mirror_model.specs.Strings.{HasClash}
 use Rattle.tlog_mirror.proofs.EdgeRows.{items_of, split_rows, edge_strings_are, edge_clash}
-use Rattle.stored_trees.proofs.BuiltTrees.{added_none}
+use Rattle.mirror_trees.proofs.BuiltTrees.{added_none}
 use Rattle.tlog_mirror.proofs.edge.add_edge.Goals as goal
 
 pub returns-then-is_empty-clause-ok : goal.returns-then-is_empty-clause-ok

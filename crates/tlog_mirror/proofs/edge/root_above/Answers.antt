@@ -3,7 +3,7 @@ use Rattle.std.proofs.lemmas.List.{nil_from_length}
 use Rattle.std.specs.Vec.Iter.{into_iter_items}
 use Rattle.tlog_hash.specs.Tree.{fold_of}
 use Rattle.mirror_model.specs.Edge.{root_from}
-use Rattle.stored_trees.proofs.BuiltTrees.{above_root}
+use Rattle.mirror_trees.proofs.BuiltTrees.{above_root}
 use Rattle.tlog_mirror.proofs.edge.root_above.Goals as goal
 
 pub loop-row-init : goal.loop-row-init

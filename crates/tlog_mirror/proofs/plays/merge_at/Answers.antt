@@ -22,8 +22,8 @@ returns-then-target-source-2 g c =
     let m =
     merged_in_front g.H.TreeHash.digest c.args.world.now c.split_at_mut-front.result.0.now
     c.split_at_mut-front.result.1.now parts.value c.args.target c.args.source c.index-front-target.result
-    c.index-back-0.result c.requires.target c.requires.source c.merge.new.self (answer_of c.told.result)
-    parts.front_len c.if-target-source-2.true (rw (← c.told.ensures.same) at c.merge.ensures.merges)
+    c.index-back-0.result c.requires.target c.requires.source c.merge.new.self (answer_of c.answer_of_merge.result)
+    parts.front_len c.if-target-source-2.true (rw (← c.answer_of_merge.ensures.same) at c.merge.ensures.merges)
     c.merge.ensures.remembered in
     record {
       merges = m.merges;
@@ -40,8 +40,8 @@ returns g c =
     let m =
     merged_in_back g.H.TreeHash.digest c.args.world.now c.split_at_mut-front-2.result.0.now
     c.split_at_mut-front-2.result.1.now parts.value c.args.target c.args.source c.index-back-0-2.result
-    c.index-front-source.result c.requires.target c.requires.source c.merge-2.new.self (answer_of c.told-2.result)
-    parts.front_len below (rw (← c.told-2.ensures.same) at c.merge-2.ensures.merges)
+    c.index-front-source.result c.requires.target c.requires.source c.merge-2.new.self (answer_of c.answer_of_merge-2.result)
+    parts.front_len below (rw (← c.answer_of_merge-2.ensures.same) at c.merge-2.ensures.merges)
     c.merge-2.ensures.remembered in
     record {
       merges = m.merges;

@@ -1,5 +1,5 @@
 use Rattle.std.proofs.Common.{ap, ◌∙◌}
-use Rattle.log_sources.specs.Told.{one_more}
+use Rattle.mirror_sources.specs.Told.{one_more}
 use Rattle.mirror_client.proofs.source.HttpSourceSource.get.Goals as goal
 
 pub returns-in-Err-Failed-clause-counted : goal.returns-in-Err-Failed-clause-counted

@@ -6,8 +6,8 @@ use Rattle.tlog_mirror.specs.Best.{HasKept, pair_point}
 use Rattle.tlog_mirror.proofs.HeadLists.{reported}
 use Rattle.tlog_mirror.proofs.mirror.Mirror.heads.Goals as goal
 
-pub flagged-requires : goal.flagged-requires
-flagged-requires g c = all_known g.H.TreeHash.digest _ _ _ c.self.inside.known c.self.invariant
+pub flag_heads-requires : goal.flag_heads-requires
+flag_heads-requires g c = all_known g.H.TreeHash.digest _ _ _ c.self.inside.known c.self.invariant
 
 pub returns : goal.returns
 returns g c =
@@ -18,5 +18,5 @@ returns g c =
     reported g.H.TreeHash.digest
     (string_bytes c.self.inside.origin) c.self.inside.kept.items c.self.inside.strings c.self.inside.known.remembered
     c.self.invariant.0 c.args.self.now c.self.view_is
-    points c.in_ok-points.ensures.sorted exact (λ heads. heads.items) c.flagged.result
-    (rw c.as_slice-2.ensures.value at c.flagged.ensures.points) c.flagged.ensures.flags
+    points c.in_ok-points.ensures.sorted exact (λ heads. heads.items) c.flag_heads.result
+    (rw c.as_slice-2.ensures.value at c.flag_heads.ensures.points) c.flag_heads.ensures.flags

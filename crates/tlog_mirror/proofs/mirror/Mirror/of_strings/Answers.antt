@@ -1,7 +1,7 @@
 use Rattle.std.proofs.Common.{◌≡◌, sym, subst, arith}
 use Rattle.std.specs.Prelude.{string_bytes}
 use Rattle.mirror_model.specs.Origin.{IsOrigin}
-use Rattle.stored_trees.proofs.EmptySets.{empty_known}
+use Rattle.mirror_trees.proofs.EmptySets.{empty_known}
 use Rattle.tlog_mirror.proofs.RestoredMirrors.{restored_well}
 use Rattle.tlog_mirror.proofs.mirror.Mirror.of_strings.Goals as goal
 

@@ -7,7 +7,7 @@ use Rattle.mirror_model.specs.declared.items.Item.TheVariants.{Bundle}
 use Rattle.tlog_mirror.proofs.TakenItems.{bundle_judged, gathered, gathered_short, takes_added}
 use Rattle.tlog_mirror.proofs.TakenItems.{takes_clashed, bundle_good, bundle_strings_are}
 use Rattle.mirror_model.proofs.Refusing.{bundle_not_short, bundle_not_long}
-use Rattle.stored_trees.proofs.EmptySets.{empty_no_clash}
+use Rattle.mirror_trees.proofs.EmptySets.{empty_no_clash}
 use Rattle.tlog_mirror.proofs.mirror.Mirror.take_bundle.Goals as goal
 
 pub returns-in-Err-BundleShort-clause-takes : goal.returns-in-Err-BundleShort-clause-takes
@@ -52,7 +52,7 @@ returns-in-Ok-add_entries-clause-takes g c = λ keys.
     (gathered c.new-strings.result c.add_entries.new.store _ _ c.new-strings.ensures c.in-Ok-add_entries.ensures.ok
     (ap (λ (es : List (Bor (List ℕ))). strings d (map (λ e. e.now) es)) c.as_slice.ensures.value ∙
     bundle_strings_are d c.args.width c.args.bytes.now
-    (map (λ e. e.now) c.in-Ok.entries.items) c.in-Ok.ensures)) refl c.add_strings.result c.taken.result c.taken.ensures
+    (map (λ e. e.now) c.in-Ok.entries.items) c.in-Ok.ensures)) refl c.add_strings.result c.take_answer.result c.take_answer.ensures
     c.add_strings.new.self.view c.add_strings.ensures.adds
 
 pub returns-in-Err-Collision-clause-takes : goal.returns-in-Err-Collision-clause-takes
@@ -72,7 +72,7 @@ returns-in-Ok-add_entries-clause-judged g c =
     let w : IsWidth c.args.width = record { some = c.requires.some; most = c.requires.most } in
     bundle_judged c.args.width c.args.bytes.now
     (bundle_good c.args.width c.args.bytes.now w
-    (map (λ e. e.now) c.in-Ok.entries.items) c.in-Ok.ensures) c.add_strings.result c.taken.result c.taken.ensures
+    (map (λ e. e.now) c.in-Ok.entries.items) c.in-Ok.ensures) c.add_strings.result c.take_answer.result c.take_answer.ensures
 
 pub returns-in-Err-Collision-clause-judged : goal.returns-in-Err-Collision-clause-judged
 returns-in-Err-Collision-clause-judged g c =

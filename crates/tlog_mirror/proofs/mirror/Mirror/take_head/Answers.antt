@@ -1,6 +1,6 @@
 use Rattle.tlog_mirror.proofs.EdgeRows.{bytes_of}
 use Rattle.tlog_mirror.proofs.TakenHeads.{note_takes, edge_takes, edge_short, head_edge, whole_takes}
-use Rattle.stored_trees.proofs.EmptySets.{empty_no_clash}
+use Rattle.mirror_trees.proofs.EmptySets.{empty_no_clash}
 use Rattle.tlog_mirror.proofs.mirror.Mirror.take_head.Goals as goal
 
 pub returns-in-Err-clause-takes : goal.returns-in-Err-clause-takes
@@ -38,4 +38,4 @@ returns-clause-takes g c =
     (bytes_of c.args.edge.now) c.origin.result.now c.origin.ensures c.in-Ok.head.1 c.in-Ok.ensures.reads
     c.in-Ok-take_edge.ensures.judged c.new-strings.result c.take_edge.new.store c.new-strings.ensures
     c.in-Ok-take_edge.ensures.ok c.in-Ok.head.0.bytes c.in-Ok.ensures.note
-    c.keep_head.result c.taken.result c.taken.ensures c.keep_head.new.self.view c.keep_head.ensures.adds
+    c.keep_head.result c.take_answer.result c.take_answer.ensures c.keep_head.new.self.view c.keep_head.ensures.adds

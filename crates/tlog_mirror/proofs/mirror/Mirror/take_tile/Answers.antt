@@ -4,7 +4,7 @@ use Rattle.mirror_model.specs.Item.{IsWidth}
 use Rattle.mirror_model.specs.declared.items.Item.TheVariants.{Tile}
 use Rattle.tlog_mirror.proofs.TakenItems.{tile_judged, gathered, gathered_short, takes_added}
 use Rattle.tlog_mirror.proofs.TakenItems.{takes_clashed, tile_good, tile_joins}
-use Rattle.stored_trees.proofs.EmptySets.{empty_no_clash}
+use Rattle.mirror_trees.proofs.EmptySets.{empty_no_clash}
 use Rattle.tlog_mirror.proofs.mirror.Mirror.take_tile.Goals as goal
 
 pub add_row-requires-clause-no_clash : goal.add_row-requires-clause-no_clash
@@ -31,7 +31,7 @@ returns-in-Ok-add_row-clause-takes g c = λ keys.
     (gathered c.new-strings.result c.add_row.new.store _ _ c.new-strings.ensures c.in-Ok-add_row.ensures.ok
     (ap (joins d) c.as_slice.ensures.value ∙
     tile_joins c.args.width c.args.bytes.now w d c.in-Ok.row.items c.in-Ok.ensures)) refl c.add_strings.result
-    c.taken.result c.taken.ensures c.add_strings.new.self.view c.add_strings.ensures.adds
+    c.take_answer.result c.take_answer.ensures c.add_strings.new.self.view c.add_strings.ensures.adds
 
 pub returns-in-Err-Collision-clause-takes : goal.returns-in-Err-Collision-clause-takes
 returns-in-Err-Collision-clause-takes g c = λ keys.
@@ -48,8 +48,8 @@ pub returns-in-Ok-add_row-clause-judged : goal.returns-in-Ok-add_row-clause-judg
 returns-in-Ok-add_row-clause-judged g c =
     let w : IsWidth c.args.width = record { some = c.requires.some; most = c.requires.most } in
     tile_judged c.args.width c.args.bytes.now
-    (tile_good c.args.width c.args.bytes.now w c.in-Ok.row.items c.in-Ok.ensures) c.add_strings.result c.taken.result
-    c.taken.ensures
+    (tile_good c.args.width c.args.bytes.now w c.in-Ok.row.items c.in-Ok.ensures) c.add_strings.result c.take_answer.result
+    c.take_answer.ensures
 
 pub returns-in-Err-Collision-clause-judged : goal.returns-in-Err-Collision-clause-judged
 returns-in-Err-Collision-clause-judged g c =

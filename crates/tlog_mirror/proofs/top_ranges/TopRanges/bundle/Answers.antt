@@ -1,4 +1,4 @@
-use Rattle.stored_trees.proofs.LeafRows.{at_some}
+use Rattle.mirror_trees.proofs.LeafRows.{at_some}
 use Rattle.tlog_mirror.proofs.ServedParts.{lent_short}
 use Rattle.tlog_mirror.proofs.top_ranges.TopRanges.bundle.Goals as goal
 

@@ -1,5 +1,5 @@
 use Rattle.std.proofs.Common.{ap, ◌∙◌}
-use Rattle.stored_trees.proofs.LeafRows.{at_some}
+use Rattle.mirror_trees.proofs.LeafRows.{at_some}
 use Rattle.tlog_tiles.specs.Row.{row_text}
 use Rattle.tlog_mirror.proofs.top_ranges.TopRanges.tile.Goals as goal
 

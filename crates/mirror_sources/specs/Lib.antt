@@ -1,0 +1,6 @@
+pub mod Told
+pub mod Source
+pub mod Files
+pub mod Replies
+pub mod Honest
+pub mod ListSource

@@ -1,0 +1,21 @@
+-- What a source replies, get after get.
+use Rattle.std.specs.Prelude.{ℕ, List, [], ◌∷◌, map, Option, ⊤}
+use Rattle.tlog_tiles.specs.declared.paths.Path.{Path}
+
+-- a get of a path, and the bytes that were found there, or None
+pub record Reply : Type 0 where
+  pub path : Path
+  pub found : Option (List ℕ)
+
+-- the reply to a get of that path
+abbrev pub reply : Path → Option (List ℕ) → Reply
+reply path found = record { path = path; found = found }
+
+-- the paths that were asked for
+abbrev pub paths_of : List Reply → List Path
+paths_of replies = map (λ r. r.path) replies
+
+-- replies that may come, each as the source may answer its path
+abbrev pub MayReply : (Path → Option (List ℕ) → Type 0) → List Reply → Type 0
+MayReply may [] = ⊤
+MayReply may (r ∷ rs) = may r.path r.found × MayReply may rs

@@ -1,0 +1,22 @@
+-- What is known of calls that a source tells.
+use Rattle.std.specs.Prelude.{◌≡◌, ℕ, ◌+◌, ◌-◌, ◌^◌, ◌<◌, ◌⊎◌, List, ◌++◌, min, Option, Some, None, ⊤}
+
+-- a list of calls that is known stays as it was
+abbrev pub KeepsTold : {X : Type 0} → Option (List X) → Option (List X) → Type 0
+KeepsTold None new = ⊤
+KeepsTold (Some xs) None = ⊥
+KeepsTold (Some xs) (Some ys) = ys ≡ xs
+
+-- a list of calls that is known grows by these
+abbrev pub AddsTold : {X : Type 0} → Option (List X) → Option (List X) → List X → Type 0
+AddsTold None new zs = ⊤
+AddsTold (Some xs) None zs = ⊥
+AddsTold (Some xs) (Some ys) zs = ys ≡ xs ++ zs
+
+-- one more, up to the last value of a u64
+abbrev pub one_more : ℕ → ℕ
+one_more n = min (n + 1) (2 ^ 64 - 1)
+
+-- a count of failures rose, or stands at its last value
+abbrev pub Rose : ℕ → ℕ → Type 0
+Rose old new = (old < new) ⊎ (new ≡ 2 ^ 64 - 1)

@@ -1,0 +1,19 @@
+use Rattle.std.proofs.Common.{◌∷◌, [], take, map}
+use Rattle.std.proofs.lemmas.List.{map-append, take_more}
+use Rattle.mirror_trees.proofs.LeafRows.{leaves_push, leaves_none}
+use Rattle.mirror_trees.proofs.bundle.entries_of.Goals as goal
+
+pub returns-in_default-clause-none : goal.returns-in_default-clause-none
+returns-in_default-clause-none g c = λ entries h.
+    leaves_none g.H.TreeHash.digest c.args.store.now c.args.row.now entries c.loop-hash.hash-index _
+    c.loop-hash-test.true c.in_default.ensures.none h
+
+pub loop-hash-preserved : goal.loop-hash-preserved
+loop-hash-preserved g c =
+    rw (
+      take_more c.args.row.now c.loop-hash.hash-index [] c.loop-hash-test.true,
+      c.in_ok-push.ensures.items,
+      map-append (λ e. e.now) c.loop-hash.lent.items (c.in-Some.entry ∷ []),
+    )
+    (leaves_push g.H.TreeHash.digest c.args.store.now (take c.loop-hash.hash-index c.args.row.now)
+    (map (λ e. e.now) c.loop-hash.lent.items) _ c.in-Some.entry.now c.loop-hash.invariant c.in-Some.ensures.some)

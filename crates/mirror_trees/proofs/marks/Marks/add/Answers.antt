@@ -1,0 +1,10 @@
+use Rattle.std.proofs.Common.{ap, ◌∙◌}
+use Rattle.std.specs.FinSet as set
+use Rattle.mirror_trees.proofs.Marking.{add_point}
+use Rattle.mirror_trees.specs.Marked.{point_of}
+use Rattle.mirror_trees.proofs.marks.Marks.add.Goals as goal
+
+pub returns-clause-ok : goal.returns-clause-ok
+returns-clause-ok c =
+    add_point c.self.inside.points.keys c.insert.new.self.keys (c.args.size, c.args.root.now) c.in-Ok.ensures.updates.0
+    ∙ ap (λ v. set.insert v (point_of (c.args.size, c.args.root.now))) c.self.view_is

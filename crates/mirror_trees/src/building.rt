@@ -1,0 +1,107 @@
+//! Trees that are built in a store, in one pass from the leaves up: each string is hashed once, and what
+//! its hashing gives is the hash of the node above it.
+ghost use Rattle.std.specs.Prelude.{◌≡◌, ◌<◌, ◌∷◌, length, map, IfOk, OnOk};
+ghost use Rattle.std.specs.FinSet as set;
+ghost use Rattle.node_store.specs.Strings.{NoClash};
+ghost use Rattle.tlog_hash.specs.Tree.{fold_of, joins, mth, strings};
+ghost use Rattle.mirror_model.specs.Edge.{root_from, strings_from};
+ghost use Rattle.mirror_model.specs.Strings.{HasClash};
+ghost use Rattle.mirror_trees.specs.Building.{HasGained};
+
+use node_store::{AddFault, Store, Tagged};
+use tlog_hash::{Hash, TreeHash};
+use tlog_shape::split;
+
+/// Adds the strings that join the hashes of a row, and gives the hash over them: the tree hash of a list of which
+/// these are the leaf hashes (RFC 6962, section 2.1), as over the row of a full tile (C2SP tlog-tiles).
+///
+/// Each string is hashed once, and of each the store is asked once.
+///
+/// # Errors
+///
+/// `Collision` comes only where the strings of the store and of the row collide. Where they collide the answer is it or
+/// `OutOfMemory`, which comes where memory was refused. After either the store has what it had, and besides that strings
+/// of the row at most.
+pub fn add_row<H: TreeHash>(store: &mut Store<H>, row: &[Hash]) -> Result<Hash, AddFault>
+    requires some { 0 < length row.now }
+    requires no_clash { NoClash H.digest store.old }
+    ensures hash { IfOk result (λ hash. hash ≡ fold_of H.digest row.now) }
+    ensures ok { OnOk result (store.new ≡ set.union store.old (set.from_list (joins H.digest row.now))) }
+    ensures collision { result ≡ Err AddFault.Collision → HasClash H.digest (set.union store.old (set.from_list (joins H.digest row.now))) }
+    ensures gained { HasGained store.old (joins H.digest row.now) store.new }
+    ensures no_clash { NoClash H.digest store.new }
+{
+    if row.len() == 1 {
+        return Ok(row[0]);
+    }
+    let k = split(row.len() as u64) as usize;
+    let left = add_row(store, &row[..k])?;
+    let right = add_row(store, &row[k..])?;
+    store.insert(Tagged::Pair(&left, &right))
+}
+
+/// Adds the strings that the tree hash of a list of entries hashes, and gives that hash (RFC 6962, section 2.1). The
+/// hash of no entries is that of no bytes, and is not added.
+///
+/// Each string is hashed once, and of each the store is asked once.
+///
+/// # Errors
+///
+/// `Collision` comes only where the strings of the store and of the tree collide. Where they collide the answer is it or
+/// `OutOfMemory`, which comes where memory was refused. After either the store has what it had, and besides that strings
+/// of the tree at most.
+pub fn add_entries<H: TreeHash>(store: &mut Store<H>, entries: &[&[u8]]) -> Result<Hash, AddFault>
+    requires { NoClash H.digest store.old }
+    ensures hash { IfOk result (λ hash. hash ≡ mth H.digest (map (λ e. e.now) entries.now)) }
+    ensures ok { OnOk result (store.new ≡ set.union store.old (set.from_list (strings H.digest (map (λ e. e.now) entries.now)))) }
+    ensures collision { result ≡ Err AddFault.Collision → HasClash H.digest (set.union store.old (set.from_list (strings H.digest (map (λ e. e.now) entries.now)))) }
+    ensures gained { HasGained store.old (strings H.digest (map (λ e. e.now) entries.now)) store.new }
+    ensures no_clash { NoClash H.digest store.new }
+{
+    match entries {
+        [] => Ok(H::empty()),
+        [entry] => store.insert(Tagged::Leaf(entry)),
+        _ => {
+            let k = split(entries.len() as u64) as usize;
+            let left = add_entries(store, &entries[..k])?;
+            let right = add_entries(store, &entries[k..])?;
+            store.insert(Tagged::Pair(&left, &right))
+        }
+    }
+}
+
+/// Adds the strings of rows, lowest first, each of which has the value so far as one more hash at its end, and gives
+/// the value that they lead to. The value so far is `start` at first, and then the hash over the row before.
+///
+/// So the rows of the partial tiles at the right edge of a tree (C2SP tlog-tiles), the lowest left out, lead from the
+/// hash over the lowest to the root.
+///
+/// # Errors
+///
+/// `Collision` comes only where the strings of the store and of the rows collide. Where they collide the answer is it or
+/// `OutOfMemory`, which comes where memory was refused. After either the store has what it had, and besides that strings
+/// of the rows at most.
+pub fn add_above<H: TreeHash>(
+    store: &mut Store<H>,
+    start: Hash,
+    rows: Vec<Vec<Hash>>,
+) -> Result<Hash, AddFault>
+    requires { NoClash H.digest store.old }
+    ensures hash { IfOk result (λ hash. hash ≡ root_from H.digest start (map (λ row. row.items) rows.items)) }
+    ensures ok { OnOk result (store.new ≡ set.union store.old (set.from_list (strings_from H.digest start (map (λ row. row.items) rows.items)))) }
+    ensures collision { result ≡ Err AddFault.Collision → HasClash H.digest (set.union store.old (set.from_list (strings_from H.digest start (map (λ row. row.items) rows.items)))) }
+    ensures gained { HasGained store.old (strings_from H.digest start (map (λ row. row.items) rows.items)) store.new }
+    ensures no_clash { NoClash H.digest store.new }
+{
+    let mut value = start;
+    for mut row in rows {
+        let Ok(()) = row.push(value) else {
+            return Err(AddFault::OutOfMemory);
+        };
+        match add_row(store, row.as_slice()) {
+            Ok(hash) => value = hash,
+            Err(fault) => return Err(fault),
+        }
+    }
+    Ok(value)
+}

@@ -1,0 +1,73 @@
+//! The sizes and hashes that are remembered.
+ghost use Rattle.std.specs.Prelude.{◌≡◌, ◌↔◌, ℕ, List, IsTrue, OnOk, OnErr};
+ghost use Rattle.std.specs.FinSet as set;
+ghost use Rattle.mirror_trees.specs.Known.{HasMark};
+
+use std::alloc::{AllocError, Global};
+use std::collections::HashSet;
+use std::marker::Model;
+use tlog_hash::Hash;
+
+/// A set of sizes with hashes: what is remembered of trees.
+///
+/// ```text
+/// let mut marks = Marks::new(alloc);
+/// marks.add(3, &root)?;
+/// marks.contains(3, &root)  // true
+/// ```
+#[derive(Drop)]
+pub struct Marks {
+    points: HashSet<(u64, Hash)>,
+}
+
+impl Model for Marks {
+    ghost use Rattle.std.specs.FinSet as set;
+    ghost use Rattle.mirror_model.specs.Marks.{Points, point_code};
+    ghost use Rattle.mirror_trees.specs.Marked.{points_of};
+
+    ghost Value = { Points };
+
+    ghost coded = { set.code point_code };
+
+    ghost view = { λ a. points_of a.points.keys };
+}
+
+impl Marks {
+    /// The empty set. It takes no memory.
+    pub fn new(alloc: Global) -> Self
+        ensures { result ≡ set.empty }
+    {
+        Marks {
+            points: HashSet::new(alloc),
+        }
+    }
+
+    /// Adds a size and hash.
+    ///
+    /// # Errors
+    ///
+    /// `AllocError` comes only where a growth was refused. The set is as it was.
+    pub fn add(&mut self, size: u64, root: &Hash) -> Result<(), AllocError>
+        ensures ok { OnOk result (self.new ≡ set.insert self.old (record { size = size; root = root.now })) }
+        ensures err { OnErr result (self.new ≡ self.old) }
+    {
+        let Ok(_) = self.points.insert((size, *root)) else {
+            return Err(AllocError);
+        };
+        Ok(())
+    }
+
+    /// How many there are. It takes no memory.
+    pub fn len(&self) -> usize
+        ensures { result ≡ set.len self.now }
+    {
+        self.points.len()
+    }
+
+    /// Whether the set has that size and hash. It takes no memory.
+    pub fn contains(&self, size: u64, root: &Hash) -> bool
+        ensures { IsTrue result ↔ HasMark self.now (record { size = size; root = root.now }) }
+    {
+        self.points.contains(&(size, *root))
+    }
+}

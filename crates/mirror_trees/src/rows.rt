@@ -1,0 +1,121 @@
+//! The hashes of a tile, and the entries of a bundle.
+ghost use Rattle.std.specs.Prelude.{◌≡◌, ◌*◌, ◌+◌, ◌++◌, ◌^◌, ◌≤◌, ℕ, List, map, IsTrue, IfOk, IfSome, IfNone};
+ghost use Rattle.tlog_hash.specs.Tree.{mth};
+ghost use Rattle.tlog_hash.specs.Rows.{level_row, part, ranges};
+ghost use Rattle.tlog_shape.specs.Split.{IsPowerOfTwo};
+ghost use Rattle.tlog_tiles.specs.Tiles.{IsTileWithin};
+ghost use Rattle.mirror_model.specs.Complete.{IsTreeOf};
+
+use node_store::Store;
+use std::alloc::{AllocError, Global};
+use tlog_hash::{Hash, TreeHash};
+use tlog_shape::split;
+
+/// The hashes of a tile (C2SP tlog-tiles, "Merkle Tree") of the tree of that size and root: as many as `width`, each of
+/// `256^level` entries, from the one with the number `256 * index` of its level on. `None` where the tile is not within
+/// the tree; so it is for a level above 7 and for a width outside 1 to 256. Where the tree is not held nothing else is
+/// said of the answer.
+///
+/// From the root it goes down to the nodes that cover the tile, and along them once.
+///
+/// # Errors
+///
+/// `AllocError` comes only where a growth was refused.
+pub fn row_at<H: TreeHash>(
+    alloc: Global,
+    store: &Store<H>,
+    size: u64,
+    root: &Hash,
+    level: u32,
+    index: u64,
+    width: u32,
+) -> Result<Option<Vec<Hash>>, AllocError>
+    ensures within { IfOk result (λ o. IfSome o (λ row. IsTileWithin size level index width)) }
+    ensures some { IfOk result (λ o. IfSome o (λ row. (entries : List (List ℕ)) → IsTreeOf H.digest store.now size root.now entries → row.items ≡ level_row H.digest entries level (256 * index) width)) }
+    ensures none { IfOk result (λ o. IfNone o ((entries : List (List ℕ)) → IsTreeOf H.digest store.now size root.now entries → ¬ IsTileWithin size level index width)) }
+{
+    let Some(first) = first_of(size, level, index, width) else {
+        return Ok(None);
+    };
+    let mut row = Vec::with_capacity(alloc, width as usize)?;
+    if push_row(
+        store,
+        size,
+        root,
+        unit_of(level),
+        first,
+        u64::from(width),
+        &mut row,
+    )? {
+        Ok(Some(row))
+    } else {
+        Ok(None)
+    }
+}
+
+// How many entries a hash of that level has.
+pub(crate) fn unit_of(level: u32) -> u64
+    requires { level ≤ 7 }
+    ensures value { result ≡ 256 ^ level }
+    ensures power { IsPowerOfTwo result }
+{
+    1 << (8 * level)
+}
+
+// The number of a tile's first hash in its level, where the tile is within a tree of that size.
+fn first_of(size: u64, level: u32, index: u64, width: u32) -> Option<u64>
+    ensures some { IfSome result (λ first. (first ≡ 256 * index) × IsTileWithin size level index width) }
+    ensures none { IfNone result (¬ IsTileWithin size level index width) }
+{
+    if level > 7 || width == 0 || width > 256 {
+        return None;
+    }
+    let count = size >> (8 * level);
+    if index > count / 256 {
+        return None;
+    }
+    let first = 256 * index;
+    if u64::from(width) > count - first {
+        return None;
+    }
+    Some(first)
+}
+
+// Adds the hashes of the nodes of `unit` entries each, from the one with that number on, as many as `count`. True
+// where the tree is held so far.
+fn push_row<H: TreeHash>(
+    store: &Store<H>,
+    size: u64,
+    root: &Hash,
+    unit: u64,
+    first: u64,
+    count: u64,
+    row: &mut Vec<Hash>,
+) -> Result<bool, AllocError>
+    requires power { IsPowerOfTwo unit }
+    requires some { 1 ≤ count }
+    requires within { (first + count) * unit ≤ size }
+    ensures { IfOk result (λ held. (entries : List (List ℕ)) → IsTreeOf H.digest store.now size root.now entries → IsTrue held × (row.new.items ≡ row.old.items ++ map (mth H.digest) (ranges unit first count entries))) }
+{
+    if size == unit {
+        row.push(*root)?;
+        return Ok(true);
+    }
+    let Some(pair) = store.pair_of(root) else {
+        return Ok(false);
+    };
+    let left = pair.0;
+    let right = pair.1;
+    let k = split(size);
+    let cut = k / unit;
+    if first + count <= cut {
+        return push_row(store, k, &left, unit, first, count, row);
+    }
+    if first >= cut {
+        return push_row(store, size - k, &right, unit, first - cut, count, row);
+    }
+    if !push_row(store, k, &left, unit, first, cut - first, row)? {
+        return Ok(false);
+    }
+    push_row(store, size - k, &right, unit, 0, first + count - cut, row)
+}

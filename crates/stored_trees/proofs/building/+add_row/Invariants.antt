@@ -1,5 +1,0 @@
-use Rattle.std.proofs.Common.{length}
-use Rattle.stored_trees.proofs.building.+add_row.Given as goal
-
-abbrev pub decreases-add_row : goal.decreases-add_row
-decreases-add_row g l = length l.row.now

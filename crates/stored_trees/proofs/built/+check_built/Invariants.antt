@@ -1,4 +1,0 @@
-use Rattle.stored_trees.proofs.built.+check_built.Given as goal
-
-abbrev pub decreases-check_built : goal.decreases-check_built
-decreases-check_built g l = l.size

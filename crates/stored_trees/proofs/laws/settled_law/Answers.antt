@@ -1,5 +1,0 @@
-use Rattle.stored_trees.proofs.Settles.{settled_stays}
-use Rattle.stored_trees.proofs.laws.settled_law.Goals as goal
-
-pub returns : goal.returns
-returns c = settled_stays

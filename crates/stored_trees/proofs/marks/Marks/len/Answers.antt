@@ -1,9 +1,0 @@
-use Rattle.std.proofs.Common.{sym, ap, ◌∙◌}
-use Rattle.std.specs.FinSet as set
-use Rattle.stored_trees.proofs.Marking.{count_points}
-use Rattle.stored_trees.proofs.marks.Marks.len.Goals as goal
-
-pub returns : goal.returns
-returns c =
-    c.len.ensures.len ∙ sym (count_points c.self.inside.points.keys c.len.ensures.unique) ∙
-    ap (λ s. set.len s) c.self.view_is

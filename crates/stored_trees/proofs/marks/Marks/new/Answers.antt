@@ -1,4 +1,0 @@
-use Rattle.stored_trees.proofs.marks.Marks.new.Goals as goal
-
-pub returns : goal.returns
-returns c = cc

@@ -1,4 +1,0 @@
-use Rattle.stored_trees.proofs.settling.+remember.Given as goal
-
-abbrev pub decreases-remember : goal.decreases-remember
-decreases-remember g l = l.size
