@@ -1,12 +1,12 @@
 //! A mirror for one append-only transparency log in the C2SP tlog-tiles layout: the program.
 //!
-//! `main` reads the words of the command line, does the command over the standard streams (`run`), and ends as `told` says: a
+//! `main` reads the words of the command line, does the command over the standard streams (`run`), and ends as `ending_of` says: a
 //! fault by its name on standard error, and by the exit status: 0 done, 1 a fault, 2 a command line that asks for nothing
 //! that can be done, 3 a no.
 #![tactic(auto)]
 
-use command_line::CommandFault;
-use mirror_commands::{RunFault, carry_out, run, told};
+use program_library::{RunFault, ending_of, print_ending, run};
+use program_words::CommandFault;
 use std::io::ErrorKind;
 use std::process::ExitCode;
 use std::{env, io};
@@ -23,8 +23,8 @@ fn main(rt: HostRuntime) -> ExitCode {
         ),
         Err(fault) => Err(RunFault::Command(fault)),
     };
-    let ending = told(rt.alloc(), answer);
-    ExitCode::from(carry_out(&ending, &mut rt.stdout(), &mut rt.stderr()))
+    let ending = ending_of(rt.alloc(), answer);
+    ExitCode::from(print_ending(&ending, &mut rt.stdout(), &mut rt.stderr()))
 }
 
 // The words after the program's name. One that is not UTF-8 is a bad argument.

@@ -1,4 +1,0 @@
-mod NamedLemmas
-mod Leaving
-mod Putting
-mod FolderLemmas

@@ -1,6 +1,0 @@
-use Rattle.std.proofs.Common.{rules}
-use Rattle.file_commands.proofs.state.loaded.Goals as goal
-
-pub returns-in-Ok-load : goal.returns-in-Ok-load
-returns-in-Ok-load g c =
-    (search rules, (c.in-Ok-read_state.state.items, c.in-Ok-read_state.ensures, search rules))

@@ -1,9 +1,0 @@
-pub mod Answers
-pub mod Named
-pub mod Folders
-pub mod States
-pub mod Takes
-pub mod Merges
-pub mod Exported
-pub mod Notes
-pub mod NoteLaws

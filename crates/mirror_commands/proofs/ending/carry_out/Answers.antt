@@ -1,6 +1,0 @@
-use Rattle.std.proofs.Common.{inr, refl, rules}
-use Rattle.mirror_commands.proofs.ending.carry_out.Goals as goal
-
-pub returns-in-Errors : goal.returns-in-Errors
-returns-in-Errors g c =
-    inr (c.in-Errors.is, search rules, rw (← c.as_bytes-text.ensures) c.write_front-in-Errors.ensures, refl)

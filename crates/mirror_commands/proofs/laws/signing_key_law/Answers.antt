@@ -1,5 +1,0 @@
-use Rattle.mirror_commands.proofs.Signers.{signers_are_keys}
-use Rattle.mirror_commands.proofs.laws.signing_key_law.Goals as goal
-
-pub returns : goal.returns
-returns c = signers_are_keys

@@ -1,5 +1,0 @@
-use Rattle.std.proofs.Common.{◌≡◌, map, take}
-use Rattle.mirror_updates.proofs.taking.slices_of.Given as goal
-
-abbrev pub invariant-loop-row : goal.invariant-loop-row
-invariant-loop-row l = map (λ slice. slice.now) l.slices.items ≡ map (λ row. row.items) (take l.row-index l.rows)

@@ -1,5 +1,0 @@
-use Rattle.mirror_updates.proofs.taking.take_head_files.Goals as goal
-
-pub returns-in-Ok-clause-takes : goal.returns-in-Ok-clause-takes
-returns-in-Ok-clause-takes g c =
-    rw c.in-Ok.ensures at (rw c.as_slice.ensures.value at c.take_head.ensures.takes)

@@ -1,4 +1,0 @@
-pub mod Faults
-pub mod Pulling
-pub mod Signing
-pub mod Building

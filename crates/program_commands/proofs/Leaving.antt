@@ -1,0 +1,49 @@
+-- What a command leaves in files, from what it made.
+use Rattle.std.proofs.Common.{ℕ, List, Option, Ok, Err}
+use Rattle.mirror_sources.specs.Told.{KeepsTold}
+use Rattle.signed_note.specs.Keys.{Key}
+use Rattle.mirror_model.specs.View.{View}
+use Rattle.program_files.specs.Named.{NamedFile}
+use Rattle.program_commands.specs.Takes.{LeavesTaken, MakesTaken, TakesHeld}
+use Rattle.program_commands.specs.States.{BeginsWith}
+use Rattle.program_commands.specs.Merges.{LeavesMerged, MakesMerged}
+use Rattle.program_commands.specs.declared.item.ItemFiles.{ItemFiles}
+use Rattle.program_commands.specs.declared.fault.TakeFilesFault.{TakeFilesFault}
+use Rattle.program_commands.specs.declared.fault.TakeFilesFault.TheVariants as taking
+use Rattle.program_commands.specs.declared.fault.MergeFilesFault.{MergeFilesFault}
+use Rattle.program_commands.specs.declared.fault.MergeFilesFault.TheVariants as merging
+
+-- A fault says the same whatever type its answer has: that is written `Unit` here.
+
+module _ (digest : List ℕ → List ℕ) (origin : List ℕ) (keys : List Key) (told new : Option (List NamedFile)) where
+  -- nothing was taken, and nothing written
+  pub left_untaken :
+      (state : Option (List ℕ)) (files : ItemFiles) (out : List ℕ) (fault : TakeFilesFault) →
+      MakesTaken digest origin keys told state files (Err fault) → KeepsTold told new →
+      LeavesTaken digest origin keys told state files {T = Unit {0}} out new (Err fault)
+  left_untaken state files out (taking.State fault) h kept = (h, kept)
+  left_untaken state files out (taking.Item fault) h kept = (h, kept)
+  left_untaken state files out (taking.Take fault) h kept = (h, kept)
+  left_untaken state files out (taking.Out fault) h kept = absurd h
+
+  -- the same of a merge
+  pub left_unmerged :
+      (first second out : List ℕ) (fault : MergeFilesFault) →
+      MakesMerged digest origin keys told first second (Err fault) → KeepsTold told new →
+      LeavesMerged digest origin keys told first second {T = Unit {0}} out new (Err fault)
+  left_unmerged first second out (merging.First fault) h kept = (h, kept)
+  left_unmerged first second out (merging.Second fault) h kept = (h, kept)
+  left_unmerged first second out (merging.Merge fault) h kept = (h, kept)
+  left_unmerged first second out (merging.Out fault) h kept = absurd h
+
+module _ (digest : List ℕ → List ℕ) (origin : List ℕ) (keys : List Key) (told : Option (List NamedFile))
+    (state : Option (List ℕ)) (files : ItemFiles) where
+  -- a mirror was begun with, and no item was taken into it
+  pub begun_untaken :
+      (before after : View) (fault : TakeFilesFault) → BeginsWith digest origin keys told state (Ok before) →
+      TakesHeld digest keys told {T = Unit {0}} before files after (Err fault) →
+      MakesTaken digest origin keys told state files (Err fault)
+  begun_untaken before after (taking.State fault) begun h = absurd h
+  begun_untaken before after (taking.Item fault) begun h = ((before, begun), h)
+  begun_untaken before after (taking.Take fault) begun h = (after, record { before = before; begun = begun; taken = h })
+  begun_untaken before after (taking.Out fault) begun h = absurd h

@@ -1,0 +1,5 @@
+mod Leaving
+mod Putting
+mod NoteWalks
+mod Cut
+mod CheckText

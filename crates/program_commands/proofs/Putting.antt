@@ -1,0 +1,153 @@
+-- Notes put one after the other.
+use Rattle.std.proofs.Common.{◌≡◌, ℕ, ◌+◌, ◌<◌, ◌≤◌, zero, suc, List, [], ◌∷◌, ◌++◌, length, map, take, drop, get_or}
+use Rattle.std.proofs.Common.{Option, Some, None, Result, Ok, Err, Bool, true, false, refl, sym, ap, subst, ◌∙◌, inl}
+use Rattle.std.proofs.Common.{inr, arith}
+use Rattle.std.specs.Prelude.{if◌then◌else◌}
+use Rattle.std.specs.Str.{bytes_eq}
+use Rattle.std.proofs.lemmas.List.{append_assoc, map-append, take_more, take_all, take-append-drop}
+use Rattle.std.proofs.lemmas.Option.{none-some, same_Some}
+use Rattle.std.proofs.lemmas.Slice.Eq.{bytes_eq-Decides}
+use Rattle.program_files.specs.Named.{NamedFile}
+use Rattle.program_files.specs.Named.{ReadsShort, HasContents, TellsPresence, TellsReplace, contents_of}
+use Rattle.program_commands.specs.Notes.{HasSame, IsTold, PutsEach, PutsPrefix, PutsOnce, PutsOne}
+use Rattle.program_commands.specs.Notes.{TellsUnlike}
+use Rattle.program_commands.specs.NoteLaws.{KeepsFiles, NotesStand}
+use Rattle.program_files.specs.declared.fault.NamedFault.{NamedFault}
+use Rattle.program_files.specs.declared.fault.NamedFault.TheVariants as named
+use Rattle.program_files.proofs.NamedLemmas.{kept_itself, newer_named, none_is, standing_push}
+
+-- ---- what follows of puts
+
+kept_newer : (test : Bool) (found : Option (List ℕ)) (bytes given : List ℕ) → (test ≡ true → found ≡ None) →
+    found ≡ Some bytes → (if test then Some given else found) ≡ Some bytes
+kept_newer true found bytes given none is = absurd (none-some bytes (sym (none refl) ∙ is))
+kept_newer false found bytes given none is = is
+
+kept_once : (file : NamedFile) (old new : List NamedFile) (name bytes : List ℕ) → PutsOnce file old new →
+    contents_of old name ≡ Some bytes → contents_of new name ≡ Some bytes
+kept_once file old new name bytes (inl left) is = ap (λ puts. contents_of puts name) left.1 ∙ is
+kept_once file old new name bytes (inr put) is =
+    let none : bytes_eq file.0 name ≡ true → contents_of old name ≡ None =
+    λ same. ap (contents_of old) (sym ((bytes_eq-Decides file.0 name).0 same)) ∙ put.0 in
+    ap (λ puts. contents_of puts name) put.1 ∙
+    (standing_push old file name ∙ kept_newer (bytes_eq file.0 name) (contents_of old name) bytes file.1 none is)
+
+pub kept_files : KeepsFiles
+kept_files [] old new name bytes puts is = ap (λ list. contents_of list name) puts ∙ is
+kept_files (file ∷ files) old new name bytes puts is =
+    kept_files files puts.0 new name bytes puts.2 (kept_once file old puts.0 name bytes puts.1 is)
+
+stands_once : (file : NamedFile) (old new : List NamedFile) → PutsOnce file old new → contents_of new file.0 ≡ Some file.1
+stands_once file old new (inl left) = ap (λ puts. contents_of puts file.0) left.1 ∙ left.0
+stands_once file old new (inr put) =
+    ap (λ puts. contents_of puts file.0) put.1 ∙
+    (standing_push old file file.0 ∙
+    newer_named (contents_of old file.0) file file.0 ((bytes_eq-Decides file.0 file.0).1 refl))
+
+notes_stand_at : (files old new : List NamedFile) (file : NamedFile) (k : ℕ) → PutsEach files old new →
+    k < length files → get_or files k file ≡ file → contents_of new file.0 ≡ Some file.1
+notes_stand_at [] old new file k puts lt at = absurd (omega (arith, lt))
+notes_stand_at (first ∷ files) old new file zero puts lt at =
+    kept_files files puts.0 new file.0 file.1 puts.2
+    (subst (λ f. contents_of puts.0 f.0 ≡ Some f.1) at (stands_once first old puts.0 puts.1))
+notes_stand_at (first ∷ files) old new file (suc k) puts lt at =
+    notes_stand_at files puts.0 new file k puts.2 (omega (arith, lt)) at
+
+pub notes_stand : NotesStand
+notes_stand files old new file puts listed = notes_stand_at files old new file listed.0 puts listed.1 listed.2
+
+-- ---- as they are told
+
+pub told_none : (old : Option (List NamedFile)) → IsTold (PutsEach []) old old
+told_none None = tt
+told_none (Some puts) = refl
+
+each_push : (files : List NamedFile) (file : NamedFile) (old between new : List NamedFile) →
+    PutsEach files old between → PutsOnce file between new → PutsEach (files ++ file ∷ []) old new
+each_push [] file old between new is once = (new, subst (λ puts. PutsOnce file puts new) is once, refl)
+each_push (first ∷ files) file old between new each once =
+    (each.0, each.1, each_push files file each.0 between new each.2 once)
+
+pub told_more : (files : List NamedFile) (file : NamedFile) (old between new : Option (List NamedFile)) →
+    IsTold (PutsEach files) old between → IsTold (PutsOnce file) between new →
+    IsTold (PutsEach (files ++ file ∷ [])) old new
+told_more files file None between new each once = tt
+told_more files file (Some old) None new each once = absurd each
+told_more files file (Some old) (Some between) None each once = absurd once
+told_more files file (Some old) (Some between) (Some new) each once = each_push files file old between new each once
+
+-- ---- one note
+
+pub put_new : {T : Type 0} (old new : Option (List NamedFile)) (file : NamedFile) (r : Result T NamedFault) →
+    TellsPresence old file.0 false → TellsReplace old new file r → PutsOne old new file r
+put_new None new file (Ok x) absent told = tt
+put_new (Some old) None file (Ok x) absent told = absurd told
+put_new (Some old) (Some new) file (Ok x) absent told = inr (none_is (contents_of old file.0) (sym absent), told)
+put_new None new file (Err named.FileFault) absent told = (told.0, tt)
+put_new (Some old) new file (Err named.FileFault) absent told = absurd (none-some old (sym told.1))
+put_new old new file (Err named.OutOfMemory) absent told = (told.0, tt)
+
+pub put_same : {T : Type 0} (told : Option (List NamedFile)) (file : NamedFile) (r : Result T NamedFault) →
+    TellsPresence told file.0 true → HasSame told file r → PutsOne told told file r
+put_same None file (Ok x) present same = tt
+put_same (Some puts) file (Ok x) present same = inl (same, refl)
+put_same None file (Err named.FileFault) present same = (tt, tt)
+put_same (Some puts) file (Err named.FileFault) present same = (refl, record { present = sym present; differs = same })
+put_same told file (Err named.OutOfMemory) present same = (kept_itself told, tt)
+
+-- a file that was not read
+pub unread_unlike : (told : Option (List NamedFile)) (file : NamedFile) (fault : NamedFault) →
+    ReadsShort told file.0 (Err fault) → HasSame {T = Unit {0}} told file (Err fault)
+unread_unlike None file named.FileFault h = tt
+unread_unlike (Some puts) file named.FileFault h = λ is. h file.1 is
+unread_unlike told file named.OutOfMemory h = tt
+
+-- a file that has other bytes
+pub other_unlike : (told : Option (List NamedFile)) (file : NamedFile) (there : List ℕ) → HasContents told file.0 there →
+    (there ≡ file.1 → ⊥) → TellsUnlike told file
+other_unlike None file there stands other = tt
+other_unlike (Some puts) file there stands other = λ is. absurd (other (same_Some there file.1 (sym stands ∙ is)))
+
+-- ---- several notes
+
+module _ {X : Type 0} (seen : X → NamedFile) (xs : List X) (i : ℕ) (x : X) (within : i < length xs)
+    (at : x ≡ get_or xs i x) where
+  abbrev so_far : List NamedFile
+  so_far = map seen (take i xs)
+
+  more : map seen (take (i + 1) xs) ≡ so_far ++ seen x ∷ []
+  more = ap (map seen) (take_more xs i x within ∙ ap (λ y. take i xs ++ y ∷ []) (sym at)) ∙
+      map-append seen (take i xs) (x ∷ [])
+
+  parts : map seen xs ≡ so_far ++ seen x ∷ map seen (drop (i + 1) xs)
+  parts =
+      ap (map seen) (sym (take-append-drop (i + 1) xs)) ∙ (map-append seen (take (i + 1) xs) (drop (i + 1) xs)
+      ∙ (ap (λ list. list ++ map seen (drop (i + 1) xs)) more ∙
+      append_assoc so_far (seen x ∷ []) (map seen (drop (i + 1) xs))))
+
+  pub puts_more : (old between new : Option (List NamedFile)) → IsTold (PutsEach so_far) old between →
+      IsTold (PutsOnce (seen x)) between new → IsTold (PutsEach (map seen (take (i + 1) xs))) old new
+  puts_more old between new each once =
+      subst (λ files. IsTold (PutsEach files) old new) (sym more) (told_more so_far (seen x) old between new each once)
+
+  pub puts_front : (old between new : Option (List NamedFile)) (fault : NamedFault) →
+      IsTold (PutsEach so_far) old between → PutsOne {T = Unit {0}} between new (seen x) (Err fault) →
+      PutsPrefix (map seen xs) old new fault
+  puts_front old between new fault each one =
+      record {
+        before =
+            so_far;
+        file =
+            seen x;
+        after =
+            map seen (drop (i + 1) xs);
+        stopped = between;
+        files_are = parts;
+        told = each;
+        stops = one.1;
+        kept = one.0;
+      }
+
+pub puts_all : {X : Type 0} (seen : X → NamedFile) (xs : List X) (i : ℕ) (old new : Option (List NamedFile)) →
+    length xs ≤ i → IsTold (PutsEach (map seen (take i xs))) old new → IsTold (PutsEach (map seen xs)) old new
+puts_all seen xs i old new le each = subst (λ list. IsTold (PutsEach (map seen list)) old new) (take_all i xs le) each

@@ -1,0 +1,23 @@
+use Rattle.program_commands.proofs.export.run_export.Goals as goal
+
+pub returns-in-Ok-export-clause-answer : goal.returns-in-Ok-export-clause-answer
+returns-in-Ok-export-clause-answer g c =
+    let done = c.in-Ok-export.ensures in
+    rw (← c.in-Ok-open.ensures.opened) record {
+      view = c.in-Ok.mirror.view;
+      opened = c.in-Ok.ensures;
+      puts = done.puts;
+      nothing = done.nothing;
+      last = done.last;
+    }
+
+pub returns-clause-answer : goal.returns-clause-answer
+returns-clause-answer g c =
+    let failed = c.in-Err-export.ensures in
+    rw (← c.in-Ok-open.ensures.opened) record {
+      view = c.in-Ok.mirror.view;
+      opened = c.in-Ok.ensures;
+      puts = failed.puts;
+      nothing = failed.nothing;
+      last = failed.last;
+    }

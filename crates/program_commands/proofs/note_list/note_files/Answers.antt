@@ -1,0 +1,37 @@
+use Rattle.std.proofs.Common.{◌≡◌, ℕ, List, [], ◌∷◌, Some, map, ap, sym, subst, ◌∙◌}
+use Rattle.std.proofs.lemmas.List.{map-append}
+use Rattle.tlog_mirror.specs.NoteLists.{IsNoteAt}
+use Rattle.program_commands.specs.NoteFiles.{file_after, head_note, note_file}
+use Rattle.program_commands.proofs.NoteWalks.{meets_none, meets_more, meets_all}
+use Rattle.program_commands.proofs.note_list.note_files.Goals as goal
+
+pub loop-i-init : goal.loop-i-init
+loop-i-init g c =
+    rw (c.new-heads.ensures.items, c.new-files.ensures.items) (meets_none c.args.mirror.now.view)
+
+pub loop-i-preserved : goal.loop-i-preserved
+loop-i-preserved g c =
+    let v = c.args.mirror.now.view in
+    let i = c.loop-i.i in
+    let heads = c.loop-i.heads.items in
+    let files = c.loop-i.files.items in
+    let head = c.in_ok-head.head in
+    let file = c.in_ok-file_of.field-0 in
+    let at : IsNoteAt v i (Some head.bytes.now) =
+    subst (λ (note : List ℕ). IsNoteAt v i (Some note)) (sym c.in_ok-head.ensures.note) c.in-Some.ensures in
+    let named : note_file file ≡ file_after (map head_note heads) (head_note head) =
+    c.in_ok-file_of.ensures ∙ ap (λ others. file_after (map head_note others) (head_note head)) c.deref.ensures.value in
+    rw (
+      c.in_ok-push-2.ensures.items,
+      c.in_ok-push.ensures.items,
+      map-append head_note heads (head ∷ []),
+      map-append note_file files (file ∷ []),
+    )
+    (meets_more v i (map head_note heads) (map note_file files) (head_note head) (note_file file)
+    c.in_ok-head.ensures.head at named c.loop-i.invariant)
+
+pub returns-in_default : goal.returns-in_default
+returns-in_default g c =
+    meets_all c.args.mirror.now.view c.loop-i.i (map head_note c.loop-i.heads.items)
+    (map note_file c.loop-i.files.items) c.in_default.ensures
+    c.loop-i.invariant

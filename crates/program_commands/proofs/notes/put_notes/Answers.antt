@@ -1,0 +1,34 @@
+use Rattle.std.proofs.Common.{sym, subst}
+use Rattle.std.proofs.lemmas.Simd.{map-map}
+use Rattle.program_commands.specs.NoteFiles.{note_file}
+use Rattle.program_commands.specs.Notes.{IsTold, PutsEach, PutsPrefix, in_folder}
+use Rattle.program_commands.proofs.Putting.{puts_all, puts_front, puts_more}
+use Rattle.program_commands.proofs.notes.put_notes.Goals as goal
+
+pub returns-in-Err : goal.returns-in-Err
+returns-in-Err g c =
+    let puts = g.F.NamedFiles.puts in
+    subst (λ files. PutsPrefix files (puts c.args.files.now) (puts c.put_note.new.files) c.in-Err.fault)
+    (sym (map-map (in_folder c.args.folder.now) note_file c.args.notes.now))
+    (puts_front
+    (λ note. in_folder c.args.folder.now
+    (note_file note)) c.args.notes.now c.loop-note.note-index c.note-item.result c.loop-note-test.true c.note-item.is
+    (puts c.args.files.now) (puts c.loop-note.files)
+    (puts c.put_note.new.files) c.in-Err.fault c.loop-note.invariant c.in-Err.ensures)
+
+pub loop-note-preserved : goal.loop-note-preserved
+loop-note-preserved g c =
+    let puts = g.F.NamedFiles.puts in
+    puts_more
+    (λ note. in_folder c.args.folder.now
+    (note_file note)) c.args.notes.now c.loop-note.note-index c.note-item.result c.loop-note-test.true c.note-item.is
+    (puts c.args.files.now) (puts c.loop-note.files) (puts c.put_note.new.files) c.loop-note.invariant c.in-Ok.ensures
+
+pub returns : goal.returns
+returns g c =
+    let puts = g.F.NamedFiles.puts in
+    subst (λ files. IsTold (PutsEach files) (puts c.args.files.now) (puts c.loop-note.files))
+    (sym (map-map (in_folder c.args.folder.now) note_file c.args.notes.now))
+    (puts_all (λ note. in_folder c.args.folder.now (note_file note)) c.args.notes.now c.loop-note.note-index
+    (puts c.args.files.now) (puts c.loop-note.files)
+    c.loop-note-test.false c.loop-note.invariant)

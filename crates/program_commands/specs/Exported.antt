@@ -1,0 +1,43 @@
+-- What the command `export` makes of a state file, and what it puts into the folder.
+use Rattle.std.specs.Prelude.{◌≡◌, ◌↔◌, ℕ, List, Option, Result, Ok, Err}
+use Rattle.signed_note.specs.Keys.{Key}
+use Rattle.mirror_model.specs.View.{View}
+use Rattle.tlog_mirror.specs.Tops.{ServesNothing}
+use Rattle.mirror_folders.specs.Shelf.{Put}
+use Rattle.mirror_folders.specs.Exports.{CheckpointIsLast, CountsExport, Exports}
+use Rattle.mirror_folders.specs.declared.fault.ExportFault.{ExportFault}
+use Rattle.mirror_folders.specs.declared.fault.ExportFault.TheVariants.{NothingComplete}
+use Rattle.program_files.specs.Named.{NamedFile}
+use Rattle.program_commands.specs.Answers.{done, failed}
+use Rattle.program_commands.specs.States.{OpensFile}
+use Rattle.program_commands.specs.declared.fault.ExportFileFault.{ExportFileFault}
+use Rattle.program_commands.specs.declared.fault.ExportFileFault.TheVariants.{State, OutOfMemory}
+use Rattle.program_commands.specs.declared.fault.ExportFileFault.TheVariants.{Export}
+
+-- the shelf's count of failures, as an export counts them
+abbrev pub CountsFileExport : {T : Type 0} → ℕ → ℕ → Result T ExportFileFault → Type 0
+CountsFileExport old new (Ok x) = CountsExport old new done
+CountsFileExport old new (Err (State fault)) = new ≡ old
+CountsFileExport old new (Err OutOfMemory) = new ≡ old
+CountsFileExport old new (Err (Export fault)) = CountsExport old new (failed fault)
+
+module _ (digest : List ℕ → List ℕ) (origin : List ℕ) (keys : List Key)
+    (told : Option (List NamedFile)) (name : List ℕ) (held before put : Option (List Put)) where
+  -- a mirror was opened of the file, and what it serves was put, over what the folder held, as an
+  -- export with that answer puts it
+  pub record ExportsOpened (answer : Result (Unit {0}) ExportFault) : Type 0 where
+    pub view : View
+    pub opened : OpensFile digest origin keys told name (Ok view)
+    pub puts : Exports digest view held put answer
+    pub nothing : (answer ≡ Err NothingComplete) ↔ ServesNothing digest view
+    pub last : CheckpointIsLast digest view held put
+
+  -- what each answer of the command says: the file is opened first, and then the folder; nothing is
+  -- put where either is not
+  abbrev pub ExportsFile : {T : Type 0} → Result T ExportFileFault → Type 0
+  ExportsFile (Ok x) = ExportsOpened done
+  ExportsFile (Err (State fault)) =
+      OpensFile digest origin keys told name (Err fault) × (put ≡ before)
+  ExportsFile (Err OutOfMemory) =
+      ((view : View) × OpensFile digest origin keys told name (Ok view)) × (put ≡ before)
+  ExportsFile (Err (Export fault)) = ExportsOpened (failed fault)

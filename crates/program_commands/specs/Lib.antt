@@ -1,0 +1,11 @@
+pub mod Answers
+pub mod States
+pub mod Takes
+pub mod Merges
+pub mod Exported
+pub mod NoteFiles
+pub mod Notes
+pub mod NoteLaws
+pub mod Root
+pub mod Check
+pub mod Faults

@@ -1,0 +1,70 @@
+-- The notes of a mirror as files: their names, and their bytes. The names are own. `head_note` is
+-- cited by the contracts of private functions alone.
+use Rattle.std.specs.Prelude.{◌≡◌, ℕ, List, [], ◌∷◌, ◌++◌, ◌==◌, ◌&&◌, map, Bool, All, count_by}
+use Rattle.std.specs.Prelude.{codes, string_bytes}
+use Rattle.std.specs.Fmt.{decimal}
+use Rattle.std.specs.Str.{bytes_eq}
+use Rattle.hex.specs.Hex.{encode_lower}
+use Rattle.mirror_model.specs.Heads.{IsHead}
+use Rattle.mirror_model.specs.Listed.{ListsNotes}
+use Rattle.mirror_model.specs.View.{View}
+use Rattle.program_files.specs.Named.{NamedFile}
+use Rattle.program_commands.specs.declared.note_list.HeadNote.{HeadNote as LentNote}
+use Rattle.program_commands.specs.declared.note_list.NoteFile.{NoteFile}
+
+-- a note, with the size and the root that it says
+pub record HeadNote : Type 0 where
+  pub note : List ℕ
+  pub size : ℕ
+  pub root : List ℕ
+
+-- a note borrowed from a mirror, as a value
+abbrev pub head_note : LentNote → HeadNote
+head_note head = record { note = head.bytes.now; size = head.size; root = head.root }
+
+-- a file of a note, as values: its name and its bytes
+abbrev pub note_file : NoteFile → NamedFile
+note_file file = (string_bytes file.name, file.bytes.now)
+
+-- the note is a checkpoint of that size and root
+abbrev pub IsHeadNote : HeadNote → Type 0
+IsHeadNote head = (origin : List ℕ) × IsHead head.note origin head.size head.root
+
+-- two notes say one size and one root
+abbrev pub is_alike : HeadNote → HeadNote → Bool
+is_alike a b = (a.size == b.size) && bytes_eq a.root b.root
+
+-- how many of these say that size and root
+abbrev pub alike_count : List HeadNote → HeadNote → ℕ
+alike_count others head = count_by (λ other. is_alike other head) others
+
+-- `SIZE-ROOT-NUMBER.note`: the root as 64 hexadecimal digits in lower case
+abbrev pub note_name : ℕ → List ℕ → ℕ → List ℕ
+note_name size root number =
+    decimal size
+    ++ (codes "-" ++ (encode_lower root ++ (codes "-" ++ (decimal number ++ codes ".note"))))
+
+-- the file of a note that follows others: it is numbered from 0 among those of its size and root
+abbrev pub file_after : List HeadNote → HeadNote → NamedFile
+file_after before head = (note_name head.size head.root (alike_count before head), head.note)
+
+-- the files of notes that follow others
+abbrev pub files_after : List HeadNote → List HeadNote → List NamedFile
+files_after before [] = []
+files_after before (head ∷ rest) =
+    file_after before head ∷ files_after (before ++ head ∷ []) rest
+
+-- the files of notes, in their order, numbered from 0 among those of one size and root
+abbrev pub files_of : List HeadNote → List NamedFile
+files_of heads = files_after [] heads
+
+-- the list has the notes of the view, by their bytes, each with what it says
+pub record HasHeads (v : View) (heads : List HeadNote) : Type 0 where
+  pub notes : ListsNotes v (map (λ (head : HeadNote). head.note) heads)
+  pub are_heads : All IsHeadNote heads
+
+-- the files are the notes of the view, each once, by their bytes
+pub record ListsNoteFiles (v : View) (files : List NamedFile) : Type 0 where
+  pub heads : List HeadNote
+  pub has : HasHeads v heads
+  pub files_are : files ≡ files_of heads

@@ -1,0 +1,130 @@
+-- What the command `notes` puts into its folder.
+use Rattle.std.specs.Prelude.{◌≡◌, ◌⊎◌, ℕ, ◌<◌, List, [], ◌∷◌, ◌++◌, length, map, codes, true}
+use Rattle.std.specs.Prelude.{is_some, Option, Some, None, Result, Ok, Err, ⊤}
+use Rattle.mirror_sources.specs.Told.{KeepsTold}
+use Rattle.signed_note.specs.Keys.{Key}
+use Rattle.mirror_model.specs.View.{View}
+use Rattle.program_files.specs.Named.{NamedFile}
+use Rattle.program_commands.specs.NoteFiles.{ListsNoteFiles}
+use Rattle.program_files.specs.Named.{TellsFault, HasContents, contents_of}
+use Rattle.program_files.specs.declared.named.TheConstants.{MAX_FILE_LEN}
+use Rattle.program_commands.specs.States.{OpensFile}
+use Rattle.program_files.specs.declared.fault.NamedFault.{NamedFault}
+use Rattle.program_files.specs.declared.fault.NamedFault.TheVariants as named
+use Rattle.program_commands.specs.declared.fault.NotesFault.{NotesFault}
+use Rattle.program_commands.specs.declared.fault.NotesFault.TheVariants.{State, OutOfMemory, Folder}
+use Rattle.program_commands.specs.declared.fault.NotesFault.TheVariants.{Note}
+
+-- where the note of that name lies in a folder
+abbrev pub note_place : List ℕ → List ℕ → List ℕ
+note_place folder name = folder ++ (codes "/" ++ name)
+
+-- the file, in a folder
+abbrev pub in_folder : List ℕ → NamedFile → NamedFile
+in_folder folder file = (note_place folder file.0, file.1)
+
+-- ---- files that record what was put
+
+-- a file that stands with these bytes is left, and one that is not there is put; no other is
+-- written
+abbrev pub PutsOnce : NamedFile → List NamedFile → List NamedFile → Type 0
+PutsOnce file old new =
+    ((contents_of old file.0 ≡ Some file.1) × (new ≡ old))
+    ⊎ ((contents_of old file.0 ≡ None) × (new ≡ old ++ file ∷ []))
+
+-- each of the files, one after the other
+abbrev pub PutsEach : List NamedFile → List NamedFile → List NamedFile → Type 0
+PutsEach [] old new = new ≡ old
+PutsEach (file ∷ files) old new =
+    (between : List NamedFile) × PutsOnce file old between × PutsEach files between new
+
+-- there is a file of that name; these are not its bytes, unless they are too long to be read
+pub record HasOther (puts : List NamedFile) (file : NamedFile) : Type 0 where
+  pub present : is_some (contents_of puts file.0) ≡ true
+  pub differs : contents_of puts file.0 ≡ Some file.1 → MAX_FILE_LEN < length file.1
+
+-- ---- as far as it is recorded
+
+-- the puts before and after are so, where they are recorded
+abbrev pub IsTold : (List NamedFile → List NamedFile → Type 0) → Option (List NamedFile) →
+    Option (List NamedFile) → Type 0
+IsTold Holds None new = ⊤
+IsTold Holds (Some old) None = ⊥
+IsTold Holds (Some old) (Some new) = Holds old new
+
+-- these are not the bytes of the file of that name, unless they are too long to be read
+abbrev pub TellsUnlike : Option (List NamedFile) → NamedFile → Type 0
+TellsUnlike None file = ⊤
+TellsUnlike (Some puts) file = contents_of puts file.0 ≡ Some file.1 → MAX_FILE_LEN < length file.1
+
+-- a file of that name has other bytes
+abbrev pub TellsOther : Option (List NamedFile) → NamedFile → Type 0
+TellsOther None file = ⊤
+TellsOther (Some puts) file = HasOther puts file
+
+-- whether the file has these bytes
+abbrev pub HasSame : {T : Type 0} → Option (List NamedFile) → NamedFile → Result T NamedFault →
+    Type 0
+HasSame told file (Ok x) = HasContents told file.0 file.1
+HasSame told file (Err named.FileFault) = TellsUnlike told file
+HasSame told file (Err named.OutOfMemory) = ⊤
+
+-- why a note is not put
+abbrev pub StopsAt : Option (List NamedFile) → NamedFile → NamedFault → Type 0
+StopsAt told file named.FileFault = TellsOther told file
+StopsAt told file named.OutOfMemory = ⊤
+
+-- one file is put or left, or all is as it was
+abbrev pub PutsOne : {T : Type 0} → Option (List NamedFile) → Option (List NamedFile) →
+    NamedFile → Result T NamedFault → Type 0
+PutsOne old new file (Ok x) = IsTold (PutsOnce file) old new
+PutsOne old new file (Err fault) = KeepsTold old new × StopsAt old file fault
+
+-- a front of the files was put or left; the next one was not, and all stayed as it was then
+pub record PutsPrefix (files : List NamedFile) (old new : Option (List NamedFile))
+    (fault : NamedFault) : Type 0 where
+  pub before : List NamedFile
+  pub file : NamedFile
+  pub after : List NamedFile
+  pub stopped : Option (List NamedFile)
+  pub files_are : files ≡ before ++ file ∷ after
+  pub told : IsTold (PutsEach before) old stopped
+  pub stops : StopsAt stopped file fault
+  pub kept : KeepsTold stopped new
+
+-- the notes as they lie in the folder, or a front of them
+abbrev pub PutsNotes : {T : Type 0} → List ℕ → List NamedFile → Option (List NamedFile) →
+    Option (List NamedFile) → Result T NamedFault → Type 0
+PutsNotes folder notes old new (Ok x) = IsTold (PutsEach (map (in_folder folder) notes)) old new
+PutsNotes folder notes old new (Err fault) = PutsPrefix (map (in_folder folder) notes) old new fault
+
+-- the answer of a call that put the notes
+abbrev pub notes_put : Result (Unit {0}) NamedFault
+notes_put = Ok tt
+
+-- an answer of a call that stopped at a note
+abbrev pub notes_stopped : NamedFault → Result (Unit {0}) NamedFault
+notes_stopped fault = Err fault
+
+module _ (digest : List ℕ → List ℕ) (origin : List ℕ) (keys : List Key)
+    (told : Option (List NamedFile)) (state folder : List ℕ) (new : Option (List NamedFile)) where
+  -- the state file was loaded
+  abbrev pub OpensState : Type 0
+  OpensState = (view : View) × OpensFile digest origin keys told state (Ok view)
+
+  -- the state file was loaded, and its notes were put so
+  pub record WritesThese (answer : Result (Unit {0}) NamedFault) : Type 0 where
+    pub view : View
+    pub notes : List NamedFile
+    pub opened : OpensFile digest origin keys told state (Ok view)
+    pub listed : ListsNoteFiles view notes
+    pub puts : PutsNotes folder notes told new answer
+
+  -- what each answer of `notes` says of its state file, and of what it put into the folder
+  abbrev pub WritesNotes : {T : Type 0} → Result T NotesFault → Type 0
+  WritesNotes (Ok x) = WritesThese notes_put
+  WritesNotes (Err (State fault)) =
+      OpensFile digest origin keys told state (Err fault) × KeepsTold told new
+  WritesNotes (Err OutOfMemory) = OpensState × KeepsTold told new
+  WritesNotes (Err (Folder fault)) = OpensState × TellsFault told fault × KeepsTold told new
+  WritesNotes (Err (Note fault)) = WritesThese (notes_stopped fault)

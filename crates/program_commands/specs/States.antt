@@ -1,0 +1,49 @@
+-- What is made of state files, and what is left in them.
+use Rattle.std.specs.Prelude.{◌≡◌, ℕ, List, [], ◌∷◌, Option, Some, None, Result, Ok, Err, ⊤}
+use Rattle.mirror_sources.specs.Told.{AddsTold}
+use Rattle.signed_note.specs.Keys.{Key}
+use Rattle.mirror_model.specs.Origin.{IsOrigin}
+use Rattle.mirror_model.specs.View.{View, nothing}
+use Rattle.mirror_state.specs.Loading.{Loads}
+use Rattle.mirror_state.specs.StateText.{StateText}
+use Rattle.mirror_state.specs.declared.fault.LoadFault.{LoadFault}
+use Rattle.tlog_mirror.specs.declared.fault.NewFault.TheVariants as made
+use Rattle.program_files.specs.Named.{NamedFile}
+use Rattle.program_files.specs.Named.{FailsToPut, ReadsFile, HasContents}
+use Rattle.program_files.specs.declared.fault.NamedFault.{NamedFault}
+use Rattle.program_commands.specs.declared.fault.StateFault.{StateFault}
+use Rattle.program_commands.specs.declared.fault.StateFault.TheVariants.{Origin, File, Load}
+
+module _ (digest : List ℕ → List ℕ) (origin : List ℕ) (keys : List Key)
+    (told : Option (List NamedFile)) where
+  -- some bytes, which the file of that name has, are loaded so
+  abbrev pub LoadsFile : List ℕ → Result View LoadFault → Type 0
+  LoadsFile name answer =
+      (bytes : List ℕ) × HasContents told name bytes × Loads digest origin keys bytes answer
+
+  -- the origin is judged first, then the file is read, and then it is loaded
+  abbrev pub OpensFile : List ℕ → Result View StateFault → Type 0
+  OpensFile name (Ok v) = IsOrigin origin × LoadsFile name (Ok v)
+  OpensFile name (Err (Origin made.BadOrigin)) = ¬ IsOrigin origin
+  OpensFile name (Err (Origin made.OutOfMemory)) = ⊤
+  OpensFile name (Err (File fault)) = IsOrigin origin × ReadsFile told name (Err fault)
+  OpensFile name (Err (Load fault)) = IsOrigin origin × LoadsFile name (Err fault)
+
+  -- the mirror of a file, where one is named, and else one that holds nothing
+  abbrev pub BeginsWith : Option (List ℕ) → Result View StateFault → Type 0
+  BeginsWith (Some name) answer = OpensFile name answer
+  BeginsWith None (Ok v) = IsOrigin origin × (v ≡ nothing origin)
+  BeginsWith None (Err (Origin made.BadOrigin)) = ¬ IsOrigin origin
+  BeginsWith None (Err (Origin made.OutOfMemory)) = ⊤
+  BeginsWith None (Err other) = ⊥
+
+-- the state of the view was written to the file of that name, and nothing else was
+abbrev pub WritesState : View → List ℕ → Option (List NamedFile) → Option (List NamedFile) → Type 0
+WritesState v name old new =
+    (text : List ℕ) × StateText v text × AddsTold old new ((name, text) ∷ [])
+
+-- it was written, or nothing was
+abbrev pub SavesFile : {T : Type 0} → View → List ℕ → Option (List NamedFile) →
+    Option (List NamedFile) → Result T NamedFault → Type 0
+SavesFile v name old new (Ok x) = WritesState v name old new
+SavesFile v name old new (Err fault) = FailsToPut old new fault

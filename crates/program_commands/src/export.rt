@@ -1,0 +1,48 @@
+//! The command `export`: what the mirror in a state file serves, put into a folder.
+ghost use Rattle.std.specs.Prelude.{map};
+ghost use Rattle.program_commands.specs.Exported.{CountsFileExport, ExportsFile};
+
+use crate::fault::ExportFileFault;
+use crate::state::open_state;
+use mirror_folders::{NamedFolders, export};
+use program_files::NamedFiles;
+use signed_note::Verifier;
+use std::alloc::Global;
+use tlog_hash::TreeHash;
+
+/// Puts all tiles, then all bundles, then the checkpoint that the mirror in the state file serves, into the folder.
+///
+/// ```text
+/// let mut folders = DirShelf::new(&rt, alloc, ".");
+/// run_export::<Sha256Tree, _, _>(&files, &mut folders, alloc, "example.com/log", &keys, "log.state", "log")?;
+/// ```
+///
+/// # Errors
+///
+/// In this order: `State`, those of `open_state`; `OutOfMemory`, where memory for the folder's name was refused; nothing is
+/// put then. `Export`, those of `mirror_folders::export`. What was put before a fault stays.
+pub fn run_export<H: TreeHash, F: NamedFiles, D: NamedFolders>(
+    files: &F,
+    folders: &mut D,
+    alloc: Global,
+    origin: &str,
+    keys: &[Box<dyn Verifier>],
+    state: &str,
+    folder: &str,
+) -> Result<(), ExportFileFault>
+    ensures answer { ExportsFile H.digest origin.now (map (λ k. key k) keys.now) (F.puts files.now) state.now (D.held folders.old folder.now) (D.puts folders.old) (D.puts folders.new) result }
+    ensures blamed { CountsFileExport (D.failed folders.old) (D.failed folders.new) result }
+{
+    let mirror = match open_state::<H, F>(files, alloc, origin, keys, state) {
+        Ok(mirror) => mirror,
+        Err(fault) => return Err(ExportFileFault::State(fault)),
+    };
+    match folders.open(folder) {
+        Ok(()) => {}
+        Err(_) => return Err(ExportFileFault::OutOfMemory),
+    }
+    match export(alloc, &mirror, folders) {
+        Ok(()) => Ok(()),
+        Err(fault) => Err(ExportFileFault::Export(fault)),
+    }
+}

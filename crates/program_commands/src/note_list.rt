@@ -1,0 +1,112 @@
+//! The notes of a mirror as files.
+ghost use Rattle.std.specs.Prelude.{◌≡◌, IfOk, count_by, map, string_bytes};
+ghost use Rattle.program_commands.specs.NoteFiles.{IsHeadNote, ListsNoteFiles, file_after, head_note, is_alike, note_file, note_name};
+
+use signed_note::Note;
+use std::alloc::{AllocError, Global};
+use tlog_checkpoint::read;
+use tlog_hash::{Hash, TreeHash};
+use tlog_mirror::Mirror;
+
+/// A note as a file.
+#[derive(Debug, Drop)]
+pub struct NoteFile<'a> {
+    /// `SIZE-ROOT-NUMBER.note`: the size and the root that the note says, the root as 64 hexadecimal digits in lower case,
+    /// and the note's number from 0 among those of that size and root.
+    pub name: String,
+    /// The note's bytes, as they came.
+    pub bytes: &'a [u8],
+}
+
+// A note, with the size and the root that it says.
+#[derive(Debug, Drop)]
+pub(crate) struct HeadNote<'a> {
+    pub(crate) bytes: &'a [u8],
+    pub(crate) size: u64,
+    pub(crate) root: Hash,
+}
+
+// The note of those bytes. A mirror holds no others than heads, so that nothing but `OutOfMemory` comes here.
+fn head_of(alloc: Global, bytes: &[u8]) -> Result<HeadNote<'_>, AllocError>
+    ensures note { IfOk result (λ head. head.bytes.now ≡ bytes.now) }
+    ensures head { IfOk result (λ head. IsHeadNote (head_note head)) }
+{
+    let Ok(note) = Note::read(alloc, bytes) else {
+        return Err(AllocError);
+    };
+    let Ok(checkpoint) = read(alloc, note.text()) else {
+        return Err(AllocError);
+    };
+    let root = checkpoint.root;
+    Ok(HeadNote {
+        bytes,
+        size: checkpoint.size,
+        root,
+    })
+}
+
+// How many of these are of that size and root.
+fn count_alike(others: &[HeadNote], head: &HeadNote) -> usize
+    ensures { result ≡ count_by (λ other. is_alike (head_note other) (head_note head.now)) others.now }
+{
+    others
+        .iter()
+        .filter(|other| other.size == head.size && other.root == head.root)
+        .count()
+}
+
+// `SIZE-ROOT-NUMBER.note`.
+fn name_of(alloc: Global, size: u64, root: &Hash, number: usize) -> Result<String, AllocError>
+    ensures { IfOk result (λ name. string_bytes name ≡ note_name size root.now number) }
+{
+    let root = hex::encode(alloc, root.as_slice())?;
+    format!(in alloc; "{size}-{root}-{number}.note")
+}
+
+// The file of a note that follows these.
+fn file_of<'a>(
+    alloc: Global,
+    before: &[HeadNote<'a>],
+    head: &HeadNote<'a>,
+) -> Result<NoteFile<'a>, AllocError>
+    ensures { IfOk result (λ file. note_file file ≡ file_after (map head_note before.now) (head_note head.now)) }
+{
+    let number = count_alike(before, head);
+    let name = name_of(alloc, head.size, &head.root, number)?;
+    Ok(NoteFile {
+        name,
+        bytes: head.bytes,
+    })
+}
+
+/// The notes that a mirror holds, as files: each note once, by their bytes, as they came.
+///
+/// ```text
+/// for file in &note_files(alloc, &mirror)? {
+///     file.name    // 3-aeb6bcfe274b70a14fb067a5e5578264db0fa9b51af5e0ba159158f329e06e77-0.note
+///     file.bytes   // the note
+/// }
+/// ```
+///
+/// # Errors
+///
+/// Memory was refused.
+pub fn note_files<H: TreeHash>(
+    alloc: Global,
+    mirror: &Mirror<H>,
+) -> Result<Vec<NoteFile<'_>>, AllocError>
+    ensures { IfOk result (λ files. ListsNoteFiles mirror.now.view (map note_file files.items)) }
+{
+    let mut heads = Vec::new(alloc);
+    let mut files = Vec::new(alloc);
+    for i in 0..usize::MAX {
+        let Some(bytes) = mirror.note_at(i) else {
+            return Ok(files);
+        };
+        let head = head_of(alloc, bytes)?;
+        files.push(file_of(alloc, &heads, &head)?)?;
+        heads.push(head)?;
+    }
+    // No memory holds so many.
+    Err(AllocError)
+}

@@ -1,0 +1,178 @@
+//! The command `take`: what files hold is taken into a mirror.
+ghost use Rattle.std.specs.Prelude.{◌≤◌, List, map, option_map};
+ghost use Rattle.signed_note.specs.Keys.{Key};
+ghost use Rattle.tlog_text.specs.Answers.{seen};
+ghost use Rattle.program_files.specs.Named.{ReadsFiles};
+ghost use Rattle.program_commands.specs.Takes.{HasWidth, LeavesTaken, MakesTaken, TakesHeld};
+ghost use Rattle.program_commands.specs.declared.item.ItemFiles.TheVariants.{Bundle, Head, Tile};
+
+use crate::fault::TakeFilesFault;
+use crate::item::ItemFiles;
+use crate::state::{open_or_new, write_state};
+use program_files::{NamedFault, NamedFiles};
+use signed_note::Verifier;
+use std::alloc::Global;
+use tlog_hash::TreeHash;
+use tlog_mirror::Mirror;
+
+/// Takes an item of files into the mirror in the state file, or into one that holds nothing where none is named, and
+/// writes its state to the file `out`.
+///
+/// ```text
+/// let item = ItemFiles::Bundle { width: 3, file: "log/tile/entries/000.p/3" };
+/// run_take::<Sha256Tree, _>(&mut files, alloc, "example.com/log", &keys, None, item, "log.state")?;
+/// ```
+///
+/// # Errors
+///
+/// In this order: `State`, those of `open_or_new`; `Item`, where a file of the item is not read; `Take`, as of the mirror's own
+/// calls; `Out`, where the state is not written. All files are then as they were.
+pub fn run_take<H: TreeHash, F: NamedFiles>(
+    files: &mut F,
+    alloc: Global,
+    origin: &str,
+    keys: &[Box<dyn Verifier>],
+    state: Option<&str>,
+    item: ItemFiles<'_>,
+    out: &str,
+) -> Result<(), TakeFilesFault>
+    requires { HasWidth item }
+    ensures { LeavesTaken H.digest origin.now (map (λ k. key k) keys.now) (F.puts files.old) (option_map (λ name. name.now) state.entry) item.entry out.now (F.puts files.new) result }
+{
+    let mirror = mirror_with_item::<H, F>(files, alloc, origin, keys, state, item)?;
+    match write_state(files, alloc, out, &mirror) {
+        Ok(()) => Ok(()),
+        Err(fault) => Err(TakeFilesFault::Out(fault)),
+    }
+}
+
+// The mirror that is begun with, with the item of the files taken into it.
+fn mirror_with_item<H: TreeHash, F: NamedFiles>(
+    files: &F,
+    alloc: Global,
+    origin: &str,
+    keys: &[Box<dyn Verifier>],
+    state: Option<&str>,
+    item: ItemFiles<'_>,
+) -> Result<Mirror<H>, TakeFilesFault>
+    requires { HasWidth item }
+    ensures { MakesTaken H.digest origin.now (map (λ k. key k) keys.now) (F.puts files.now) (option_map (λ name. name.now) state.entry) item.entry (seen (λ mirror. mirror.view) result) }
+{
+    let mut mirror = match open_or_new::<H, F>(files, alloc, origin, keys, state) {
+        Ok(mirror) => mirror,
+        Err(fault) => return Err(TakeFilesFault::State(fault)),
+    };
+    match take_item(files, alloc, &mut mirror, keys, item) {
+        Ok(()) => Ok(mirror),
+        Err(fault) => Err(fault),
+    }
+}
+
+// Takes the item that files hold.
+fn take_item<H: TreeHash, F: NamedFiles>(
+    files: &F,
+    alloc: Global,
+    mirror: &mut Mirror<H>,
+    keys: &[Box<dyn Verifier>],
+    item: ItemFiles<'_>,
+) -> Result<(), TakeFilesFault>
+    requires { HasWidth item }
+    ensures { TakesHeld H.digest (map (λ k. key k) keys.now) (F.puts files.now) mirror.old.view item.entry mirror.new.view result }
+{
+    match item {
+        ItemFiles::Head { note, rows } => take_head(files, alloc, mirror, keys, note, rows),
+        ItemFiles::Tile { width, file } => take_tile(files, alloc, mirror, width, file),
+        ItemFiles::Bundle { width, file } => take_bundle(files, alloc, mirror, width, file),
+    }
+}
+
+// Takes a head: the file of its note, and those of the rows of its size's edge.
+fn take_head<H: TreeHash, F: NamedFiles>(
+    files: &F,
+    alloc: Global,
+    mirror: &mut Mirror<H>,
+    keys: &[Box<dyn Verifier>],
+    note: &str,
+    rows: &[&str],
+) -> Result<(), TakeFilesFault>
+    ensures { TakesHeld H.digest (map (λ k. key k) keys.now) (F.puts files.now) mirror.old.view (Head note.entry rows.entry) mirror.new.view result }
+{
+    let bytes = match files.read(note) {
+        Ok(bytes) => bytes,
+        Err(fault) => return Err(TakeFilesFault::Item(fault)),
+    };
+    let edge = match read_files(files, alloc, rows) {
+        Ok(edge) => edge,
+        Err(fault) => return Err(TakeFilesFault::Item(fault)),
+    };
+    match mirror.take_head_rows(alloc, keys, &bytes, &edge) {
+        Ok(()) => Ok(()),
+        Err(fault) => Err(TakeFilesFault::Take(fault)),
+    }
+}
+
+// Takes a tile, to which keys say nothing.
+fn take_tile<H: TreeHash, F: NamedFiles>(
+    files: &F,
+    alloc: Global,
+    mirror: &mut Mirror<H>,
+    width: u32,
+    file: &str,
+) -> Result<(), TakeFilesFault>
+    requires least { 1 ≤ width }
+    requires most { width ≤ 256 }
+    ensures { (keys : List Key) → TakesHeld H.digest keys (F.puts files.now) mirror.old.view (Tile width file.entry) mirror.new.view result }
+{
+    let bytes = match files.read(file) {
+        Ok(bytes) => bytes,
+        Err(fault) => return Err(TakeFilesFault::Item(fault)),
+    };
+    match mirror.take_tile(alloc, width, &bytes) {
+        Ok(()) => Ok(()),
+        Err(fault) => Err(TakeFilesFault::Take(fault)),
+    }
+}
+
+// Takes a bundle, to which keys say nothing.
+fn take_bundle<H: TreeHash, F: NamedFiles>(
+    files: &F,
+    alloc: Global,
+    mirror: &mut Mirror<H>,
+    width: u32,
+    file: &str,
+) -> Result<(), TakeFilesFault>
+    requires least { 1 ≤ width }
+    requires most { width ≤ 256 }
+    ensures { (keys : List Key) → TakesHeld H.digest keys (F.puts files.now) mirror.old.view (Bundle width file.entry) mirror.new.view result }
+{
+    let bytes = match files.read(file) {
+        Ok(bytes) => bytes,
+        Err(fault) => return Err(TakeFilesFault::Item(fault)),
+    };
+    match mirror.take_bundle(alloc, width, &bytes) {
+        Ok(()) => Ok(()),
+        Err(fault) => Err(TakeFilesFault::Take(fault)),
+    }
+}
+
+// The bytes of each of the files.
+fn read_files<F: NamedFiles>(
+    files: &F,
+    alloc: Global,
+    names: &[&str],
+) -> Result<Vec<Vec<u8>>, NamedFault>
+    ensures { ReadsFiles (F.puts files.now) (map (λ name. name.now) names.now) (seen (λ held. map (λ bytes. bytes.items) held.items) result) }
+{
+    let mut held = Vec::new(alloc);
+    for name in names {
+        let bytes = match files.read(name) {
+            Ok(bytes) => bytes,
+            Err(fault) => return Err(fault),
+        };
+        match held.push(bytes) {
+            Ok(()) => {}
+            Err(_) => return Err(NamedFault::OutOfMemory),
+        }
+    }
+    Ok(held)
+}

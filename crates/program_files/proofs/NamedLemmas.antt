@@ -1,0 +1,123 @@
+-- Files by their names: what stands after one more put, several files one after the other, what is kept.
+use Rattle.std.proofs.Common.{◌≡◌, ℕ, suc, ◌+◌, ◌<◌, ◌≤◌, List, [], ◌∷◌, ◌++◌, length, map, take, get_or, Option, Some}
+use Rattle.std.proofs.Common.{None, Err, Bool, true, false, refl, sym, ap, ◌∙◌, arith}
+use Rattle.std.specs.Prelude.{if◌then◌else◌, is_some, Contains}
+use Rattle.std.specs.List.{AllZip}
+use Rattle.std.specs.Str.{bytes_eq}
+use Rattle.std.proofs.lemmas.List.{map-append, take_more, take_all, get_or-map, length-map}
+use Rattle.std.proofs.lemmas.Bool.{false≢true}
+use Rattle.mirror_sources.specs.Told.{KeepsTold}
+use Rattle.program_files.specs.Named.{NamedFile}
+use Rattle.program_files.specs.Named.{FailsToRead, ReadsShort, last_put, contents_of, HasContents, HaveContents}
+use Rattle.program_files.specs.declared.fault.NamedFault.{NamedFault}
+use Rattle.program_files.specs.declared.fault.NamedFault.TheVariants as named
+
+-- what is told stays as it is
+pub kept_itself : {X : Type 0} (told : Option (List X)) → KeepsTold told told
+kept_itself None = tt
+kept_itself (Some xs) = refl
+
+-- ---- what stands
+
+-- a later put under the name is found in place of an earlier one
+abbrev pub newer : Option (List ℕ) → NamedFile → List ℕ → Option (List ℕ)
+newer found file name = if bytes_eq file.0 name then Some file.1 else found
+
+last_put_push : (found : Option (List ℕ)) (puts : List NamedFile) (file : NamedFile) (name : List ℕ) →
+    last_put found (puts ++ file ∷ []) name ≡ newer (last_put found puts name) file name
+last_put_push found [] file name = refl
+last_put_push found (first ∷ rest) file name = last_put_push (newer found first name) rest file name
+
+pub standing_push : (puts : List NamedFile) (file : NamedFile) (name : List ℕ) →
+    contents_of (puts ++ file ∷ []) name ≡ newer (contents_of puts name) file name
+standing_push puts file name = last_put_push None puts file name
+
+pub newer_named : (found : Option (List ℕ)) (file : NamedFile) (name : List ℕ) → bytes_eq file.0 name ≡ true →
+    newer found file name ≡ Some file.1
+newer_named found file name same = ap (λ (t : Bool). if t then Some file.1 else found) same
+
+pub newer_other : (found : Option (List ℕ)) (file : NamedFile) (name : List ℕ) → bytes_eq file.0 name ≡ false →
+    newer found file name ≡ found
+newer_other found file name other = ap (λ (t : Bool). if t then Some file.1 else found) other
+
+-- one more element of a list that is gone through
+pub standing_more :
+    {X : Type 0} (seen : X → NamedFile) (xs : List X) (i : ℕ) (x : X) (name : List ℕ) → i < length xs →
+    x ≡ get_or xs i x →
+    contents_of (map seen (take (i + 1) xs)) name ≡ newer (contents_of (map seen (take i xs)) name) (seen x) name
+standing_more seen xs i x name lt at =
+    let all : map seen (take (i + 1) xs) ≡ map seen (take i xs) ++ seen x ∷ [] =
+    ap (map seen) (take_more xs i x lt ∙ ap (λ y. take i xs ++ y ∷ []) (sym at)) ∙
+    map-append seen (take i xs) (x ∷ []) in
+    ap (λ puts. contents_of puts name) all ∙ standing_push (map seen (take i xs)) (seen x) name
+
+pub standing_all : {X : Type 0} (seen : X → NamedFile) (xs : List X) (i : ℕ) (name : List ℕ) → length xs ≤ i →
+    contents_of (map seen (take i xs)) name ≡ contents_of (map seen xs) name
+standing_all seen xs i name le = ap (λ ys. contents_of (map seen ys) name) (take_all i xs le)
+
+pub none_is : {X : Type 0} (found : Option X) → is_some found ≡ false → found ≡ None
+none_is None e = refl
+none_is (Some x) e = absurd (false≢true (sym e))
+
+-- ---- several files
+
+zip_push : {A B : Type 0} (R : A → B → Type 0) (xs : List A) (ys : List B) (x : A) (y : B) → AllZip R xs ys → R x y →
+    AllZip R (xs ++ x ∷ []) (ys ++ y ∷ [])
+zip_push R [] [] x y h r = (r, tt)
+zip_push R [] (b ∷ ys) x y h r = absurd h
+zip_push R (a ∷ xs) [] x y h r = absurd h
+zip_push R (a ∷ xs) (b ∷ ys) x y h r = (h.0, zip_push R xs ys x y h.1 r)
+
+pub tells_more :
+    {A B : Type 0} (told : Option (List NamedFile)) (f : A → List ℕ) (g : B → List ℕ) (xs ys : List A) (a : A)
+    (names : List B) (i : ℕ) (d : B) →
+    ys ≡ xs ++ a ∷ [] → HasContents told (g (get_or names i d)) (f a) → i < length names →
+    HaveContents told (map g (take i names)) (map f xs) →
+    HaveContents told (map g (take (i + 1) names)) (map f ys)
+tells_more told f g xs ys a names i d grown is lt before =
+    let named : map g (take (i + 1) names) ≡ map g (take i names) ++ g (get_or names i d) ∷ [] =
+    ap (map g) (take_more names i d lt) ∙ map-append g (take i names) (get_or names i d ∷ []) in
+    let held : map f ys ≡ map f xs ++ f a ∷ [] = ap (map f) grown ∙ map-append f xs (a ∷ []) in
+    rw (named, held)
+    (zip_push (HasContents told) (map g (take i names)) (map f xs) (g (get_or names i d)) (f a) before is)
+
+pub named_here : {B : Type 0} (g : B → List ℕ) (names : List B) (i : ℕ) (d : B) → i < length names →
+    Contains (map g names) (g (get_or names i d))
+named_here g names i d lt = (i, omega (arith, length-map names g), get_or-map g names i d (g (get_or names i d)) lt)
+
+pub named_behind : (first : List ℕ) (names : List (List ℕ)) (name : List ℕ) → Contains names name →
+    Contains (first ∷ names) name
+named_behind first names name h = (suc h.0, omega (arith, h.1), h.2)
+
+-- one of the files cannot be read
+pub read_failed : (told : Option (List NamedFile)) (names : List (List ℕ)) (name : List ℕ) (fault : NamedFault) →
+    Contains names name → ReadsShort told name (Err fault) → FailsToRead told names fault
+read_failed told names name named.FileFault listed h = (name, listed, h)
+read_failed told names name named.OutOfMemory listed h = tt
+
+-- a longer list of names has it too
+pub behind_failed : (told : Option (List NamedFile)) (first : List ℕ) (names : List (List ℕ)) (fault : NamedFault) →
+    FailsToRead told names fault → FailsToRead told (first ∷ names) fault
+behind_failed told first names named.FileFault h = (h.0, named_behind first names h.0 h.1, h.2)
+behind_failed told first names named.OutOfMemory h = tt
+
+-- the first file, or the only one
+pub first_failed : (told : Option (List NamedFile)) (first : List ℕ) (names : List (List ℕ)) (fault : NamedFault) →
+    ReadsShort told first (Err fault) → FailsToRead told (first ∷ names) fault
+first_failed told first names fault h = read_failed told (first ∷ names) first fault (0, omega arith, refl) h
+
+-- ---- what was found
+
+module _ {X : Type 0} (seen : X → NamedFile) (xs : List X) (i : ℕ) (x : X) (name : List ℕ) (within : i < length xs)
+    (at : x ≡ get_or xs i x) where
+  pub found_named : (found : Option (List ℕ)) → bytes_eq (seen x).0 name ≡ true → found ≡ Some (seen x).1 →
+      found ≡ contents_of (map seen (take (i + 1) xs)) name
+  found_named found same is =
+      is ∙ sym (standing_more seen xs i x name within at ∙
+      newer_named (contents_of (map seen (take i xs)) name) (seen x) name same)
+
+  pub found_other : (found : Option (List ℕ)) → bytes_eq (seen x).0 name ≡ false →
+      found ≡ contents_of (map seen (take i xs)) name → found ≡ contents_of (map seen (take (i + 1) xs)) name
+  found_other found other is =
+      is ∙ sym (standing_more seen xs i x name within at ∙
+      newer_other (contents_of (map seen (take i xs)) name) (seen x) name other)

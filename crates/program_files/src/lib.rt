@@ -1,0 +1,19 @@
+//! Files by their names, as the commands read and write them: those of the system, and files in memory, which record
+//! what was put.
+//!
+//! ```text
+//! let mut files = MemoryFiles::new(alloc);
+//! files.replace("log.keys", key_text)?;
+//! files.read("log.keys")?                  // key_text
+//! ```
+#![tactic(auto)]
+
+mod fault;
+mod memory;
+mod named;
+mod system;
+
+pub use fault::NamedFault;
+pub use memory::MemoryFiles;
+pub use named::{MAX_FILE_LEN, NamedFiles};
+pub use system::SystemFiles;

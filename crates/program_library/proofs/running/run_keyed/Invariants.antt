@@ -1,0 +1,13 @@
+use Rattle.std.proofs.Common.{◌≡◌, ◌++◌, map}
+use Rattle.signed_note.specs.Keys.{pinned_key, secret_key}
+use Rattle.program_library.specs.Runs.{key_of}
+use Rattle.program_library.proofs.MadeKeys.{key_in}
+use Rattle.program_library.proofs.running.run_keyed.Given as goal
+
+-- the keys so far, and those of the lines that are left, are those of all lines
+abbrev pub invariant-loop-line : goal.invariant-loop-line
+invariant-loop-line g l =
+    (goal.iterator-loop-line g).can_next l.line-iterator ×
+    (goal.iterator-loop-line g).is_finite l.line-iterator ×
+    (map (key_in secret_key pinned_key) l.keys.items ++ map key_of l.line-iterator.rest.items
+    ≡ map key_of l.initial.line-iterator.rest.items)

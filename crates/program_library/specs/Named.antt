@@ -1,0 +1,31 @@
+-- What the words of `take` ask for of named files.
+use Rattle.std.specs.Prelude.{◌≡◌, ℕ, List, ◌∷◌, map, Option, Result}
+use Rattle.std.specs.Prelude.{option_map}
+use Rattle.signed_note.specs.Keys.{Key}
+use Rattle.program_files.specs.Named.{NamedFile}
+use Rattle.program_words.specs.declared.command.Kind.{Kind}
+use Rattle.program_words.specs.declared.command.Kind.TheVariants as kind
+use Rattle.program_words.specs.declared.command.Take.{Take}
+use Rattle.program_commands.specs.Takes.{LeavesTaken}
+use Rattle.program_commands.specs.declared.item.ItemFiles.{ItemFiles}
+use Rattle.program_commands.specs.declared.item.ItemFiles.TheVariants.{Head, Tile, Bundle}
+use Rattle.program_commands.specs.declared.fault.TakeFilesFault.{TakeFilesFault}
+
+-- the names of files of a kind are those of the item: of a tile and a bundle the first
+abbrev pub AsksItem : Kind → ℕ → List (List ℕ) → ItemFiles → Type 0
+AsksItem kind.Head width names (Head note rows) = names ≡ note.now ∷ map (λ row. row.now) rows.now
+AsksItem kind.Tile width names (Tile size file) =
+    (size ≡ width) × ((rest : List (List ℕ)) × (names ≡ file.now ∷ rest))
+AsksItem kind.Bundle width names (Bundle size file) =
+    (size ≡ width) × ((rest : List (List ℕ)) × (names ≡ file.now ∷ rest))
+AsksItem other width names item = ⊥
+
+-- the item of the files that the words name was taken so, and its state left in the file that they
+-- name
+abbrev pub TakesWords : {T : Type 0} → (List ℕ → List ℕ) → List Key → Take →
+    Option (List NamedFile) → Option (List NamedFile) → Result T TakeFilesFault → Type 0
+TakesWords digest keys take old new answer =
+    (item : ItemFiles)
+    × AsksItem take.kind take.width (map (λ name. name.now) take.files.items) item
+    × LeavesTaken digest take.mirror.log.origin.now keys old
+    (option_map (λ name. name.now) take.state) item take.mirror.out.now new answer

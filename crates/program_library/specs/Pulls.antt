@@ -1,0 +1,60 @@
+-- What the command `pull` makes of a state file, what it leaves in the file that it writes, and
+-- what it prints.
+use Rattle.std.specs.Prelude.{◌≡◌, ◌⊎◌, ℕ, List, Option, Result, Ok, Err}
+use Rattle.std.specs.Io.KnownBytes.{Appends, Keeps}
+use Rattle.byte_streams.specs.Streams.{AppendsPrefix}
+use Rattle.signed_note.specs.Keys.{Key}
+use Rattle.mirror_model.specs.View.{View}
+use Rattle.mirror_pull.specs.Taking.{PullsTo}
+use Rattle.mirror_pull.specs.declared.fault.PullFault.{PullFault}
+use Rattle.mirror_pull.specs.declared.pulling.Pulled.{Pulled}
+use Rattle.program_reports.specs.Pulling.{IsPulledStatus, pulled_lines}
+use Rattle.program_files.specs.Named.{NamedFile}
+use Rattle.program_files.specs.Named.{FailsToPut}
+use Rattle.program_commands.specs.States.{BeginsWith, WritesState}
+use Rattle.program_library.specs.declared.fault.TellFault.{TellFault}
+use Rattle.program_library.specs.declared.fault.TellFault.TheVariants.{Work, WriteFault}
+use Rattle.program_library.specs.declared.fault.WorkFault.TheVariants.{Named, OutOfMemory}
+use Rattle.program_library.specs.declared.fault.WorkFault.TheVariants.{Pull, State}
+
+-- what each answer says of a mirror of this view that pulled this: its state was written to the file
+-- `out`, and then its two lines; or it failed, as the fault says
+module _ (v : View) (pulled : Pulled) (out : List ℕ) (told left : Option (List NamedFile)) where
+  abbrev pub TellsPulled : Option (List ℕ) → Option (List ℕ) → Result ℕ TellFault → Type 0
+  TellsPulled old new (Ok status) =
+      WritesState v out told left × Appends old new (pulled_lines pulled)
+      × IsPulledStatus pulled status
+  TellsPulled old new (Err WriteFault) =
+      WritesState v out told left × AppendsPrefix old new (pulled_lines pulled)
+  TellsPulled old new (Err (Work (Named fault))) = FailsToPut told left fault × Keeps old new
+  TellsPulled old new (Err (Work OutOfMemory)) = WritesState v out told left × Keeps old new
+  TellsPulled old new (Err other) = ⊥
+
+module _ (digest : List ℕ → List ℕ) (origin : List ℕ) (keys : List Key)
+    (state : Option (List ℕ)) (told : Option (List NamedFile)) where
+  -- a pull from some source began with the mirror of the file that is named, or where none is with
+  -- one that holds nothing, and came to this view, with this answer
+  pub record PullsFromFile (v : View) (answer : Result Pulled PullFault) : Type 0 where
+    pub start : View
+    pub begun : BeginsWith digest origin keys told state (Ok start)
+    pub pulls : PullsTo digest keys start v answer
+
+  -- the first reason why there is nothing to tell: no mirror was begun with, or its pull ended early
+  abbrev pub PullsNothing : Result ℕ TellFault → Type 0
+  PullsNothing (Err (Work (State fault))) = BeginsWith digest origin keys told state (Err fault)
+  PullsNothing (Err (Work (Pull fault))) = (v : View) × PullsFromFile v (Err fault)
+  PullsNothing other = ⊥
+
+  module _ (out : List ℕ) (left : Option (List NamedFile)) (old new : Option (List ℕ)) where
+    -- a pull came to its end, and that was told so
+    pub record PullsAndTells (answer : Result ℕ TellFault) : Type 0 where
+      pub view : View
+      pub pulled : Pulled
+      pub pulls : PullsFromFile view (Ok pulled)
+      pub tells : TellsPulled view pulled out told left old new answer
+
+    -- what each answer of `pull` says: a pull came to its end, its state was written, and then its
+    -- two lines; or there was nothing to tell, and all is as it was
+    abbrev pub TellsPull : Result ℕ TellFault → Type 0
+    TellsPull answer =
+        (PullsNothing answer × (left ≡ told) × Keeps old new) ⊎ PullsAndTells answer

@@ -1,0 +1,136 @@
+-- What a run of the program answers and writes. `FindsKeys` is cited by the contracts of private
+-- functions alone.
+use Rattle.std.specs.Prelude.{◌≡◌, ◌⊎◌, ℕ, List, [], Option, Result, Ok, Err, map, ⊤}
+use Rattle.std.specs.Io.KnownBytes.{Keeps}
+use Rattle.signed_note.specs.Keys.{Key, secret_key, pinned_key}
+use Rattle.signed_note.specs.KeyFiles.{IsKeyFile, ReadsKeys}
+use Rattle.signed_note.specs.declared.fault.KeyFileFault.{KeyFileFault}
+use Rattle.signed_note.specs.declared.key_line.KeyLine.{KeyLine}
+use Rattle.signed_note.specs.declared.key_line.KeyLine.TheVariants.{Hmac, Pin}
+use Rattle.mirror_folders.specs.Shelf.{Put}
+use Rattle.program_files.specs.Named.{NamedFile}
+use Rattle.program_files.specs.Named.{ReadsShort, HasContents}
+use Rattle.program_files.specs.declared.fault.NamedFault.{NamedFault}
+use Rattle.program_words.specs.declared.command.Command.{Command as Order}
+use Rattle.program_words.specs.declared.fault.CommandFault.{CommandFault}
+use Rattle.program_words.specs.Commands.{Asks}
+use Rattle.program_words.specs.Readings.{HasKeys, HasNoKeys, Reads, ReadsKeyFile}
+use Rattle.program_library.specs.declared.fault.RunFault.{RunFault}
+use Rattle.program_library.specs.declared.fault.RunFault.TheVariants.{Command, KeyFile, KeyLines}
+use Rattle.program_library.specs.declared.fault.RunFault.TheVariants.{OutOfMemory}
+use Rattle.program_library.specs.Done.{Executes, LeavesFiles, LeavesFolders}
+
+module _ (digest : List ℕ → List ℕ) (keys : List Key) (key_bytes : List ℕ)
+    (told left : Option (List NamedFile)) (held : List ℕ → Option (List Put))
+    (before put : Option (List Put)) where
+  -- the words ask for a command, and this is its answer
+  pub record Obeys (words : List (List ℕ)) (input old new : Option (List ℕ))
+      (answer : Result ℕ RunFault) : Type 0 where
+    pub command : Order
+    pub asked : Asks words command
+    pub done : Executes digest keys key_bytes told left held before put command input old new answer
+    pub files : LeavesFiles command told left
+    pub folders : LeavesFolders command before put
+
+  -- the words ask for no command: this is the answer, nothing was written, and no file was changed
+  pub record Refuses (words : List (List ℕ)) (old new : Option (List ℕ))
+      (answer : Result ℕ RunFault) : Type 0 where
+    pub fault : CommandFault
+    pub answer_is : answer ≡ Err (Command fault)
+    pub reads : Reads words (Err fault)
+    pub quiet : Keeps old new
+    pub files : left ≡ told
+    pub folders : put ≡ before
+
+  -- what the answer of a run says of the words, of the input, and of what was written
+  abbrev pub Runs : List (List ℕ) → Option (List ℕ) → Option (List ℕ) → Option (List ℕ) →
+      Result ℕ RunFault → Type 0
+  Runs words input old new answer = Refuses words old new answer ⊎ Obeys words input old new answer
+
+-- ---- the key file
+
+-- the key of a line of a key file
+abbrev pub key_of : KeyLine → Key
+key_of (Hmac key) = secret_key key
+key_of (Pin texts) = pinned_key texts
+
+-- the keys of a reader of key files that failed
+abbrev pub no_lines : KeyFileFault → Result (List KeyLine) KeyFileFault
+no_lines fault = Err fault
+
+-- the key file's name, where the words give none
+abbrev pub no_name : CommandFault → Result (Option (List ℕ)) CommandFault
+no_name fault = Err fault
+
+-- what each answer of the finder of the key file's name says of the words
+abbrev pub NamesKeyFile : List (List ℕ) → Result (Option (List ℕ)) RunFault → Type 0
+NamesKeyFile words (Ok name) = ReadsKeyFile words (Ok name)
+NamesKeyFile words (Err (Command fault)) = ReadsKeyFile words (no_name fault)
+NamesKeyFile words (Err OutOfMemory) = ⊤
+NamesKeyFile words (Err other) = ⊥
+
+-- the bytes of a file that was not read
+abbrev pub no_bytes : NamedFault → Result (List ℕ) NamedFault
+no_bytes fault = Err fault
+
+module _ (told : Option (List NamedFile)) (words : List (List ℕ)) where
+  -- the command that the words name has a key file, which has these bytes as far as files record it
+  pub record NamesKeys (bytes : List ℕ) : Type 0 where
+    pub name : List ℕ
+    pub has : HasKeys words name
+    pub tells : HasContents told name bytes
+
+  -- the command that the words name has a key file, which is not read, as the fault says
+  pub record LacksKeyFile (fault : NamedFault) : Type 0 where
+    pub name : List ℕ
+    pub has : HasKeys words name
+    pub reads : ReadsShort told name (no_bytes fault)
+
+  -- the bytes of the key file that the words name, or none where the command has no keys
+  abbrev pub AreKeyBytes : List ℕ → Type 0
+  AreKeyBytes bytes = NamesKeys bytes ⊎ (HasNoKeys words × (bytes ≡ []))
+
+  -- the bytes of the key file are no lines of keys, as the fault says
+  pub record LacksKeyLines (fault : KeyFileFault) : Type 0 where
+    pub bytes : List ℕ
+    pub are_bytes : AreKeyBytes bytes
+    pub reads : ReadsKeys bytes (no_lines fault)
+
+  -- what a fault at the keys says of the words, and of their key file: BadArgument is none, since it
+  -- is told behind the key file's own faults
+  abbrev pub FailsAtKeys : RunFault → Type 0
+  FailsAtKeys (Command fault) = ReadsKeyFile words (no_name fault)
+  FailsAtKeys (KeyFile fault) = LacksKeyFile fault
+  FailsAtKeys (KeyLines fault) = LacksKeyLines fault
+  FailsAtKeys other = ⊥
+
+  -- what each answer of the finder of the keys' bytes says
+  abbrev pub FindsKeys : Result (List ℕ) RunFault → Type 0
+  FindsKeys (Ok bytes) = AreKeyBytes bytes
+  FindsKeys (Err fault) = FailsAtKeys fault
+
+module _ (digest : List ℕ → List ℕ) (told left : Option (List NamedFile))
+    (held : List ℕ → Option (List Put)) (before put : Option (List Put)) (words : List (List ℕ))
+    (input old new : Option (List ℕ)) (answer : Result ℕ RunFault) where
+  -- no keys were found: this is the answer, nothing was written, and no file was changed
+  pub record LacksKeys : Type 0 where
+    pub fault : RunFault
+    pub answer_is : answer ≡ Err fault
+    pub finds : FailsAtKeys told words fault
+    pub quiet : Keeps old new
+    pub files : left ≡ told
+    pub folders : put ≡ before
+
+  -- the run is one under the keys of the key file's lines, in their order
+  pub record RunsUnder : Type 0 where
+    pub bytes : List ℕ
+    pub lines : List KeyLine
+    pub are_bytes : AreKeyBytes told words bytes
+    pub are_lines : IsKeyFile bytes lines
+    pub runs :
+        Runs digest (map key_of lines) bytes told left held before put words input old new answer
+
+  -- what the answer of a run that begins with the key file says: no keys were found, or the run is
+  -- one under its keys
+  abbrev pub RunsKeyed : Type 0
+  RunsKeyed = LacksKeys ⊎ RunsUnder

@@ -1,0 +1,131 @@
+//! How the program ends: its exit status, and what it says on which stream.
+ghost use Rattle.std.specs.Prelude.{◌≡◌, IfOk, string_bytes};
+ghost use Rattle.byte_streams.specs.Streams.{AppendsPrefix};
+ghost use Rattle.program_library.specs.Endings.{PrintsEnding, IsFaultLine, TellsRun, message_bytes};
+
+use crate::fault::RunFault;
+use byte_streams::write_whole;
+use program_words::CommandFault;
+use std::alloc::{AllocError, Global};
+use std::io::Write;
+
+/// One of the two streams that the program writes.
+#[derive(Debug, PartialEq, Eq, Clone, Copy)]
+pub enum Stream {
+    /// Standard output.
+    Output,
+    /// Standard error.
+    Errors,
+}
+
+/// A text that was made, or one that takes no memory.
+#[derive(Debug, Drop)]
+pub enum Message {
+    /// A text of `clap`, or the line of a fault.
+    Made(String),
+    /// A text of the program's own.
+    Fixed(&'static str),
+}
+
+impl Message {
+    /// The text's bytes.
+    pub fn as_bytes(&self) -> &[u8]
+        ensures { result.now ≡ message_bytes self.now }
+    {
+        match self {
+            Message::Made(text) => text.as_bytes(),
+            Message::Fixed(text) => text.as_bytes(),
+        }
+    }
+}
+
+/// How the program ends.
+#[derive(Debug, Drop)]
+pub struct Ending {
+    /// The exit status: 0 done, 1 a fault, 2 words that ask for nothing that can be done, 3 a no.
+    pub status: u8,
+    /// Where the text goes.
+    pub stream: Stream,
+    /// What is said besides what the command wrote.
+    pub text: Message,
+}
+
+// `tlogmirror: `, what the fault prints, and a newline.
+fn line_made(alloc: Global, fault: &RunFault) -> Result<String, AllocError>
+    ensures { IfOk result (λ line. IsFaultLine (string_bytes line)) }
+{
+    let name = fault.to_string(alloc)?;
+    format!(in alloc; "tlogmirror: {name}\n")
+}
+
+// The line that tells the fault. Without memory for it the fault is reported as `OutOfMemory`.
+fn line_of(alloc: Global, fault: &RunFault) -> Message
+    ensures { IsFaultLine (message_bytes result) }
+{
+    match line_made(alloc, fault) {
+        Ok(line) => Message::Made(line),
+        Err(_) => Message::Fixed("tlogmirror: OutOfMemory\n"),
+    }
+}
+
+/// How the program ends after this answer of a run.
+///
+/// Help goes to standard output, and what is wrong with the words, as `clap` says it, to standard
+/// error. Each other fault is told on standard error as one line: `tlogmirror: ` and the fault's name,
+/// or `OutOfMemory` where there is no memory for that line.
+pub fn ending_of(alloc: Global, answer: Result<u8, RunFault>) -> Ending
+    ensures { TellsRun answer result }
+{
+    let (status, stream, text) = match answer {
+        Ok(status) => (status, Stream::Output, Message::Fixed("")),
+        Err(RunFault::Command(CommandFault::Help(help))) => (
+            0,
+            Stream::Output,
+            Message::Made(help),
+        ),
+        Err(RunFault::Command(CommandFault::Words(why))) => (2, Stream::Errors, Message::Made(why)),
+        Err(RunFault::Command(CommandFault::BadArgument)) => (
+            2,
+            Stream::Errors,
+            Message::Fixed("tlogmirror: BadArgument\n"),
+        ),
+        Err(fault) => (1, Stream::Errors, line_of(alloc, &fault)),
+    };
+    Ending {
+        status,
+        stream,
+        text,
+    }
+}
+
+// Writes the text, as far as the stream takes it.
+pub(crate) fn write_front<W: Write>(writer: &mut W, text: &[u8])
+    ensures { AppendsPrefix (W.contents writer.old) (W.contents writer.new) text.now }
+{
+    match write_whole(writer, text) {
+        Ok(()) | Err(_) => (),
+    }
+}
+
+/// Writes the text to its stream, and answers the exit status.
+///
+/// Help that cannot be written is a fault: `tlogmirror: WriteFault` on the other stream, status 1.
+/// A fault that cannot be written leaves the status what it is.
+pub fn print_ending<O: Write, E: Write>(ending: &Ending, output: &mut O, errors: &mut E) -> u8
+    ensures { PrintsEnding ending.now result (O.contents output.old) (O.contents output.new) (E.contents errors.old) (E.contents errors.new) }
+{
+    let text = ending.text.as_bytes();
+    match ending.stream {
+        Stream::Output => match write_whole(output, text) {
+            Ok(()) => ending.status,
+            Err(_) => {
+                write_front(errors, b"tlogmirror: WriteFault\n");
+                1
+            }
+        },
+        Stream::Errors => {
+            write_front(errors, text);
+            ending.status
+        }
+    }
+}

@@ -1,0 +1,114 @@
+//! Why a command was not done.
+use mirror_pull::PullFault;
+use program_commands::{
+    CheckFault, ExportFileFault, MergeFilesFault, NotesFault, RootFault, StateFault, TakeFilesFault,
+};
+use program_files::NamedFault;
+use program_reports::AskFault;
+use program_words::CommandFault;
+use signed_note::KeyFileFault;
+use thiserror::Error;
+use tlog_build::{BuildFault, EntriesFault};
+use tlog_mirror::NewFault;
+
+/// Why a command was not done. It prints the name of the innermost variant.
+#[derive(Debug, Drop, Error)]
+pub enum RunFault {
+    /// The words ask for no command.
+    #[error(transparent)]
+    Command(CommandFault),
+    /// The key file was not read.
+    #[error(transparent)]
+    KeyFile(NamedFault),
+    /// A line of the key file is no key.
+    #[error(transparent)]
+    KeyLines(KeyFileFault),
+    /// `root` told no root.
+    #[error(transparent)]
+    Root(RootFault),
+    /// `check` told no verdict.
+    #[error(transparent)]
+    Check(CheckFault),
+    /// `build` made no log.
+    #[error(transparent)]
+    Build(WorkFault),
+    /// `take` wrote no state.
+    #[error(transparent)]
+    Take(TakeFilesFault),
+    /// `merge` wrote no state.
+    #[error(transparent)]
+    Merge(MergeFilesFault),
+    /// `pull` wrote no state, or did not tell of it.
+    #[error(transparent)]
+    Pull(TellFault),
+    /// `status` was not printed.
+    #[error(transparent)]
+    Status(WorkFault),
+    /// What is missing was not printed.
+    #[error(transparent)]
+    Missing(WorkFault),
+    /// Forks were not printed.
+    #[error(transparent)]
+    Forks(WorkFault),
+    /// No proof was printed.
+    #[error(transparent)]
+    Prove(WorkFault),
+    /// Not all was exported.
+    #[error(transparent)]
+    Export(ExportFileFault),
+    /// Not all notes were written.
+    #[error(transparent)]
+    Notes(NotesFault),
+    /// Not as many connections were answered as were asked for.
+    #[error(transparent)]
+    Serve(TellFault),
+    /// Memory was refused for the name of the key file.
+    #[error("OutOfMemory")]
+    OutOfMemory,
+}
+
+/// Why a command over files was not done. It prints the name of the innermost variant.
+#[derive(Debug, Drop, Error)]
+pub enum WorkFault {
+    /// A file that the words name was not read or not written.
+    #[error(transparent)]
+    Named(NamedFault),
+    /// The key file has no key that signs.
+    #[error("NoSigningKey")]
+    NoSigningKey,
+    /// The origin is none.
+    #[error(transparent)]
+    Origin(NewFault),
+    /// There is no mirror of a state file.
+    #[error(transparent)]
+    State(StateFault),
+    /// Standard input has no entries.
+    #[error(transparent)]
+    Entries(EntriesFault),
+    /// Nothing was reported of a state.
+    #[error(transparent)]
+    Ask(AskFault),
+    /// A pull ended early.
+    #[error(transparent)]
+    Pull(PullFault),
+    /// No log was made.
+    #[error(transparent)]
+    Build(BuildFault),
+    /// The port cannot be had, or a connection cannot be accepted.
+    #[error("PortFault")]
+    PortFault,
+    /// Memory was refused.
+    #[error("OutOfMemory")]
+    OutOfMemory,
+}
+
+/// Why a command that tells what it did was not done. It prints the name of the innermost variant.
+#[derive(Debug, Drop, Error)]
+pub enum TellFault {
+    /// Its work was not done.
+    #[error(transparent)]
+    Work(WorkFault),
+    /// A write failed, or took no byte. A prefix of the text may have been written.
+    #[error("WriteFault")]
+    WriteFault,
+}

@@ -1,0 +1,213 @@
+//! One run: the key file, the words, and the command that they ask for.
+ghost use Rattle.std.specs.Prelude.{IfErr, IfOk, None, map, string_bytes};
+ghost use Rattle.std.specs.Io.KnownBytes.{Keeps};
+ghost use Rattle.sha2.specs.Sha256.{sha256};
+ghost use Rattle.program_library.specs.Done.{IsWriteFault};
+ghost use Rattle.program_library.specs.Works.{IsStatus};
+ghost use Rattle.program_library.specs.Runs.{AreKeyBytes, Runs, RunsKeyed};
+
+use crate::fault::RunFault;
+use crate::keys::key_bytes;
+use crate::work::run_command;
+use mirror_folders::{DirShelf, NamedFolders};
+use program_files::{NamedFiles, SystemFiles};
+use program_words::read_words;
+use signed_note::{KeyFileFault, KeyLine, Verifier, read_keys};
+use std::alloc::Global;
+use std::fs::Files;
+use std::io::{Read, Write};
+use std::net::{Net, TcpListener, TcpStream};
+use std::rt::Clock;
+
+/// Executes the command that the words ask for, with the keys of the key file that they name, and answers the exit status:
+/// 0 where it is done, 3 where its answer is the other one. The files and folders are those of the system.
+///
+/// # Errors
+///
+/// In this order: what `clap` finds, the key file, `BadArgument`, and those of the command. Nothing was written to the
+/// output, except where a write failed, and by `serve`, whose line comes before its connections.
+pub fn run<R, I: Read, O: Write, E: Write>(
+    rt: &R,
+    alloc: Global,
+    words: &[String],
+    input: &mut I,
+    output: &mut O,
+    errors: &mut E,
+) -> Result<u8, RunFault>
+where
+    R: Files + Clock + Net<Stream = TcpStream, Listener = TcpListener>,
+    ensures answer { RunsKeyed sha256 None None (λ _. None) None None (map string_bytes words.now) (I.remaining input.old) (O.contents output.old) (O.contents output.new) result }
+    ensures status { IfOk result IsStatus }
+    ensures quiet { IfErr result (λ fault. (¬ IsWriteFault fault) → Keeps (O.contents output.old) (O.contents output.new)) }
+{
+    let mut files = SystemFiles::new(rt, alloc);
+    let mut folders = DirShelf::new(rt, alloc, ".");
+    run_named(
+        rt,
+        alloc,
+        &mut files,
+        &mut folders,
+        words,
+        input,
+        output,
+        errors,
+    )
+}
+
+/// Executes the same over any files and folders that have names; the key file is one of the files.
+///
+/// # Errors
+///
+/// Those of `run`.
+#[allow(clippy::too_many_arguments)]
+pub fn run_named<R, F: NamedFiles, D: NamedFolders, I: Read, O: Write, E: Write>(
+    rt: &R,
+    alloc: Global,
+    files: &mut F,
+    folders: &mut D,
+    words: &[String],
+    input: &mut I,
+    output: &mut O,
+    errors: &mut E,
+) -> Result<u8, RunFault>
+where
+    R: Files + Clock + Net<Stream = TcpStream, Listener = TcpListener>,
+    ensures answer { RunsKeyed sha256 (F.puts files.old) (F.puts files.new) (D.held folders.old) (D.puts folders.old) (D.puts folders.new) (map string_bytes words.now) (I.remaining input.old) (O.contents output.old) (O.contents output.new) result }
+    ensures status { IfOk result IsStatus }
+    ensures quiet { IfErr result (λ fault. (¬ IsWriteFault fault) → Keeps (O.contents output.old) (O.contents output.new)) }
+{
+    match key_bytes(files, alloc, words) {
+        Ok(bytes) => run_keyed(
+            rt, alloc, files, folders, words, &bytes, input, output, errors,
+        ),
+        Err(fault) => Err(fault),
+    }
+}
+
+// Executes the same with the bytes of the key file in hand.
+#[tactic(auto, using(crate::proofs::Keyed::lines_lack))]
+#[allow(clippy::too_many_arguments)]
+fn run_keyed<R, F: NamedFiles, D: NamedFolders, I: Read, O: Write, E: Write>(
+    rt: &R,
+    alloc: Global,
+    files: &mut F,
+    folders: &mut D,
+    words: &[String],
+    key_bytes: &[u8],
+    input: &mut I,
+    output: &mut O,
+    errors: &mut E,
+) -> Result<u8, RunFault>
+where
+    R: Files + Clock + Net<Stream = TcpStream, Listener = TcpListener>,
+    requires { AreKeyBytes (F.puts files.old) (map string_bytes words.now) key_bytes.now }
+    ensures answer { RunsKeyed sha256 (F.puts files.old) (F.puts files.new) (D.held folders.old) (D.puts folders.old) (D.puts folders.new) (map string_bytes words.now) (I.remaining input.old) (O.contents output.old) (O.contents output.new) result }
+    ensures status { IfOk result IsStatus }
+    ensures quiet { IfErr result (λ fault. (¬ IsWriteFault fault) → Keeps (O.contents output.old) (O.contents output.new)) }
+{
+    let lines = match read_keys(alloc, key_bytes) {
+        Ok(lines) => lines,
+        Err(fault) => return Err(RunFault::KeyLines(fault)),
+    };
+    let mut keys: Vec<Box<dyn Verifier>> = Vec::new(alloc);
+    for line in lines {
+        match line {
+            KeyLine::Hmac(key) => {
+                let Ok(key) = Box::new(alloc, key) else {
+                    return Err(RunFault::KeyLines(KeyFileFault::OutOfMemory));
+                };
+                let Ok(()) = keys.push(key) else {
+                    return Err(RunFault::KeyLines(KeyFileFault::OutOfMemory));
+                };
+            }
+            KeyLine::Pin(texts) => {
+                let Ok(texts) = Box::new(alloc, texts) else {
+                    return Err(RunFault::KeyLines(KeyFileFault::OutOfMemory));
+                };
+                let Ok(()) = keys.push(texts) else {
+                    return Err(RunFault::KeyLines(KeyFileFault::OutOfMemory));
+                };
+            }
+        }
+    }
+    run_words_over(
+        rt, alloc, files, folders, words, key_bytes, &keys, input, output, errors,
+    )
+}
+
+/// Executes the command that the words ask for, with keys in hand: the bytes of the key file, and its keys, boxed by the
+/// caller. Both are empty where the command has no keys. The status is 0, or 3 where the answer is the other one. The
+/// files and folders are those of the system. `serve` alone writes to `errors`.
+///
+/// ```text
+/// run_words(&rt, alloc, &words, &key_bytes, &keys, &mut input, &mut output, &mut errors)   // Ok(0)
+/// ```
+///
+/// # Errors
+///
+/// `Command` where the words ask for no command; the others are those of the command's own call.
+#[allow(clippy::too_many_arguments)]
+pub fn run_words<R, I: Read, O: Write, E: Write>(
+    rt: &R,
+    alloc: Global,
+    words: &[String],
+    key_bytes: &[u8],
+    keys: &[Box<dyn Verifier>],
+    input: &mut I,
+    output: &mut O,
+    errors: &mut E,
+) -> Result<u8, RunFault>
+where
+    R: Files + Clock + Net<Stream = TcpStream, Listener = TcpListener>,
+    ensures answer { Runs sha256 (map (λ k. key k) keys.now) key_bytes.now None None (λ _. None) None None (map string_bytes words.now) (I.remaining input.old) (O.contents output.old) (O.contents output.new) result }
+    ensures status { IfOk result IsStatus }
+    ensures quiet { IfErr result (λ fault. (¬ IsWriteFault fault) → Keeps (O.contents output.old) (O.contents output.new)) }
+{
+    let mut files = SystemFiles::new(rt, alloc);
+    let mut folders = DirShelf::new(rt, alloc, ".");
+    run_words_over(
+        rt,
+        alloc,
+        &mut files,
+        &mut folders,
+        words,
+        key_bytes,
+        keys,
+        input,
+        output,
+        errors,
+    )
+}
+
+/// Executes the same over any files and folders that have names.
+///
+/// # Errors
+///
+/// Those of `run_words`.
+#[tactic(auto, using(crate::proofs::Doable::asked_doable))]
+#[allow(clippy::too_many_arguments)]
+pub fn run_words_over<R, F: NamedFiles, D: NamedFolders, I: Read, O: Write, E: Write>(
+    rt: &R,
+    alloc: Global,
+    files: &mut F,
+    folders: &mut D,
+    words: &[String],
+    key_bytes: &[u8],
+    keys: &[Box<dyn Verifier>],
+    input: &mut I,
+    output: &mut O,
+    errors: &mut E,
+) -> Result<u8, RunFault>
+where
+    R: Files + Clock + Net<Stream = TcpStream, Listener = TcpListener>,
+    ensures answer { Runs sha256 (map (λ k. key k) keys.now) key_bytes.now (F.puts files.old) (F.puts files.new) (D.held folders.old) (D.puts folders.old) (D.puts folders.new) (map string_bytes words.now) (I.remaining input.old) (O.contents output.old) (O.contents output.new) result }
+    ensures status { IfOk result IsStatus }
+    ensures quiet { IfErr result (λ fault. (¬ IsWriteFault fault) → Keeps (O.contents output.old) (O.contents output.new)) }
+{
+    match read_words(alloc, words) {
+        Ok(command) => run_command(
+            rt, alloc, files, folders, &command, key_bytes, keys, input, output, errors,
+        ),
+        Err(fault) => Err(RunFault::Command(fault)),
+    }
+}

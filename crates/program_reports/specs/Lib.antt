@@ -1,0 +1,3 @@
+pub mod Reports
+pub mod Questions
+pub mod Pulling

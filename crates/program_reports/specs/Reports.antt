@@ -1,0 +1,85 @@
+-- What a command that asks something of a mirror prints, and with which exit status it ends.
+use Rattle.std.specs.Prelude.{◌≡◌, ◌≢◌, ◌⊎◌, ℕ, List, [], Some, None, Result, Ok, Err}
+use Rattle.std.specs.Prelude.{string_bytes, ⊤}
+use Rattle.tlog_proof.specs.Made.{asked_proof}
+use Rattle.tlog_proof.specs.Text.{IsProofText}
+use Rattle.tlog_proof.specs.declared.make.ProofFault.{ProofFault}
+use Rattle.tlog_proof.specs.declared.make.ProofFault.TheVariants as proving
+use Rattle.tlog_proof.specs.declared.proof.Ask.{Ask}
+use Rattle.tlog_proof.specs.declared.proof.Proof.{Proof}
+use Rattle.mirror_model.specs.Forks.{Point}
+use Rattle.mirror_model.specs.Heads.{HasHead}
+use Rattle.mirror_model.specs.Reports.{SaysServed}
+use Rattle.mirror_model.specs.Served.{IsServedList}
+use Rattle.mirror_model.specs.Texts.{IsStatusText, IsForksText, IsMissingText}
+use Rattle.mirror_model.specs.View.{View}
+use Rattle.program_reports.specs.declared.fault.ReportFault.{ReportFault}
+use Rattle.program_reports.specs.declared.fault.ReportFault.TheVariants.{NothingComplete, NoSuchHead}
+use Rattle.program_reports.specs.declared.fault.ReportFault.TheVariants.{Proof as Refused}
+use Rattle.program_reports.specs.declared.fault.ReportFault.TheVariants.{OutOfMemory}
+use Rattle.program_reports.specs.declared.reports.Report.{Report}
+
+-- the text that is printed
+abbrev pub printed : Report → List ℕ
+printed report = string_bytes report.text
+
+-- the exit status of a text that tells something or nothing: 0 for no bytes, 3 for some
+abbrev pub TellsNothing : List ℕ → ℕ → Type 0
+TellsNothing text status = ((text ≡ []) × (status ≡ 0)) ⊎ ((text ≢ []) × (status ≡ 3))
+
+-- a fault of a proof among those of reports
+abbrev pub of_proof : ProofFault → ReportFault
+of_proof proving.OutOfMemory = OutOfMemory
+of_proof fault = Refused fault
+
+module _ (digest : List ℕ → List ℕ) (v : View) where
+  -- the exit status of `status`: 0 where something is served, 3 where nothing is
+  abbrev pub TellsServed : ℕ → Type 0
+  TellsServed status =
+      ((point : Point) × SaysServed digest v (Some point) × (status ≡ 0))
+      ⊎ (SaysServed digest v None × (status ≡ 3))
+
+  -- the report of `status`
+  pub record TellsStatus (report : Report) : Type 0 where
+    pub text : IsStatusText digest v (printed report)
+    pub status : TellsServed report.status
+
+  -- the report of `forks`
+  pub record TellsForks (report : Report) : Type 0 where
+    pub text : IsForksText digest v (printed report)
+    pub status : TellsNothing (printed report) report.status
+
+  -- the report of `missing`, for a head
+  pub record TellsMissing (size : ℕ) (root : List ℕ) (report : Report) : Type 0 where
+    pub text : IsMissingText digest v size root (printed report)
+    pub status : TellsNothing (printed report) report.status
+
+  -- what each answer to `missing` says
+  abbrev pub ReportsMissing : ℕ → List ℕ → Result Report ReportFault → Type 0
+  ReportsMissing size root (Ok report) = TellsMissing size root report
+  ReportsMissing size root (Err NoSuchHead) = ¬ HasHead v size root
+  ReportsMissing size root (Err OutOfMemory) = ⊤
+  ReportsMissing size root (Err other) = ⊥
+
+  -- the report of `prove`: the text of the proof of the entries that are served
+  pub record TellsProof (ask : Ask) (report : Report) : Type 0 where
+    pub entries : List (List ℕ)
+    pub served : IsServedList digest v entries
+    pub proof : Proof
+    pub made : asked_proof digest entries ask ≡ Ok proof
+    pub text : IsProofText (printed report) proof
+    pub status : report.status ≡ 0
+
+  -- the proof that was asked for is refused, with that fault
+  pub record RefusesProof (ask : Ask) (fault : ProofFault) : Type 0 where
+    pub entries : List (List ℕ)
+    pub served : IsServedList digest v entries
+    pub refused : asked_proof digest entries ask ≡ Err fault
+
+  -- what each answer to `prove` says
+  abbrev pub ReportsProof : Ask → Result Report ReportFault → Type 0
+  ReportsProof ask (Ok report) = TellsProof ask report
+  ReportsProof ask (Err NothingComplete) = SaysServed digest v None
+  ReportsProof ask (Err OutOfMemory) = ⊤
+  ReportsProof ask (Err NoSuchHead) = ⊥
+  ReportsProof ask (Err (Refused fault)) = RefusesProof ask fault

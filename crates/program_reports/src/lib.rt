@@ -1,0 +1,21 @@
+//! What the commands that ask something of a mirror print, and with which exit status they end; and the report on a pull.
+//!
+//! ```text
+//! let report = status_report(alloc, &mirror)?;
+//! report.text        // origin ex, each head, and what is served
+//! report.status      // 0 where something is served, 3 where nothing is
+//! print_report(alloc, &mut mirror, &Question::Status, &mut output)?   // prints that text, and returns 0 or 3
+//! ```
+#![tactic(auto)]
+
+mod fault;
+mod printing;
+mod pulling;
+mod question;
+mod reports;
+
+pub use fault::{AskFault, ReportFault};
+pub use printing::print_report;
+pub use pulling::{pulled_status, pulled_text};
+pub use question::Question;
+pub use reports::{Report, forks_report, missing_report, proof_report, status_report};

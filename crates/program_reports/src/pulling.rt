@@ -1,0 +1,60 @@
+//! What is told of a pull.
+ghost use Rattle.std.specs.Prelude.{◌≡◌, IfOk, string_bytes};
+ghost use Rattle.program_reports.specs.Pulling.{IsPulledStatus, counts_text, head_text, pulled_lines};
+
+use mirror_pull::Pulled;
+use std::alloc::{AllocError, Global};
+use tlog_hash::Hash;
+use tlog_text::push_hash;
+
+/// What a pull came to, as the two lines `pulled SIZE ROOT rounds N refused N` and `complete` or `partial`, the root in
+/// standard base64.
+///
+/// ```text
+/// pulled 3 rra8/idLcKFPsGel5VeCZNsPqbUa9eC6FZFY8yngbnc= rounds 1 refused 0
+/// complete
+/// ```
+///
+/// # Errors
+///
+/// Memory was refused.
+pub fn pulled_text(alloc: Global, pulled: &Pulled) -> Result<String, AllocError>
+    ensures { IfOk result (λ text. string_bytes text ≡ pulled_lines pulled.now) }
+{
+    let mut text = head_of(alloc, pulled.size, &pulled.root)?;
+    let counts = counts_of(alloc, pulled.rounds, pulled.refused)?;
+    text.push_str(counts.as_str())?;
+    text.push_str(if pulled.complete {
+        "complete\n"
+    } else {
+        "partial\n"
+    })?;
+    Ok(text)
+}
+
+// The beginning of the first line.
+fn head_of(alloc: Global, size: u64, root: &Hash) -> Result<String, AllocError>
+    ensures { IfOk result (λ text. string_bytes text ≡ head_text size root.now) }
+{
+    let mut text = format!(in alloc; "pulled {size} ")?;
+    push_hash(&mut text, root)?;
+    Ok(text)
+}
+
+// The rest of it.
+fn counts_of(alloc: Global, rounds: u32, refused: u64) -> Result<String, AllocError>
+    ensures { IfOk result (λ text. string_bytes text ≡ counts_text rounds refused) }
+{
+    format!(in alloc; " rounds {rounds} refused {refused}\n")
+}
+
+/// The exit status of a pull: 0 where the head is complete, and 3 where it is not.
+///
+/// ```text
+/// pulled_status(&pulled) // 0
+/// ```
+pub fn pulled_status(pulled: &Pulled) -> u8
+    ensures { IsPulledStatus pulled.now result }
+{
+    if pulled.complete { 0 } else { 3 }
+}

@@ -1,0 +1,75 @@
+//! What may be asked of a state, and the report that answers it.
+ghost use Rattle.std.specs.Prelude.{IfOk};
+ghost use Rattle.program_reports.specs.Reports.{ReportsProof, TellsForks, TellsStatus};
+ghost use Rattle.program_reports.specs.Questions.{ReportsOn};
+
+use crate::fault::ReportFault;
+use crate::reports::{Report, forks_report, missing_report, proof_report, status_report};
+use std::alloc::{AllocError, Global};
+use tlog_hash::{Hash, TreeHash};
+use tlog_mirror::Mirror;
+use tlog_proof::Ask;
+
+/// What is asked of a state.
+#[derive(Debug, Drop, PartialEq, Eq, Clone, Copy)]
+pub enum Question {
+    /// Its heads, and what is served.
+    Status,
+    /// What is missing of a head's tree.
+    Missing {
+        /// The head's size.
+        size: u64,
+        /// The head's root.
+        root: Hash,
+    },
+    /// The forks between its heads.
+    Forks,
+    /// A proof of what is served.
+    Proof(Ask),
+}
+
+// The report on heads and on what is served, of a mirror that settles first: so no complete tree is walked twice.
+fn settled_status<H: TreeHash>(alloc: Global, mirror: &mut Mirror<H>) -> Result<Report, AllocError>
+    ensures { IfOk result (λ report. TellsStatus H.digest mirror.old.view report) }
+{
+    mirror.settle(alloc)?;
+    status_report(alloc, mirror)
+}
+
+// The report on forks, likewise.
+fn settled_forks<H: TreeHash>(alloc: Global, mirror: &mut Mirror<H>) -> Result<Report, AllocError>
+    ensures { IfOk result (λ report. TellsForks H.digest mirror.old.view report) }
+{
+    mirror.settle(alloc)?;
+    forks_report(alloc, mirror)
+}
+
+// A proof of what is served, likewise.
+fn settled_proof<H: TreeHash>(
+    alloc: Global,
+    mirror: &mut Mirror<H>,
+    ask: Ask,
+) -> Result<Report, ReportFault>
+    ensures { ReportsProof H.digest mirror.old.view ask result }
+{
+    match mirror.settle(alloc) {
+        Ok(()) => proof_report(alloc, mirror, ask),
+        Err(_) => Err(ReportFault::OutOfMemory),
+    }
+}
+
+// The report on the question.
+pub(crate) fn report_on<H: TreeHash>(
+    alloc: Global,
+    mirror: &mut Mirror<H>,
+    question: &Question,
+) -> Result<Report, ReportFault>
+    ensures { ReportsOn H.digest question.now mirror.old.view result }
+{
+    match question {
+        Question::Status => Ok(settled_status(alloc, mirror)?),
+        Question::Missing { size, root } => missing_report(alloc, mirror, *size, root),
+        Question::Forks => Ok(settled_forks(alloc, mirror)?),
+        Question::Proof(ask) => settled_proof(alloc, mirror, *ask),
+    }
+}

@@ -1,0 +1,102 @@
+//! The reports, a command each.
+ghost use Rattle.std.specs.Prelude.{IfOk, string_bytes};
+ghost use Rattle.program_reports.specs.Reports.{ReportsMissing, ReportsProof, TellsForks, TellsNothing, TellsServed, TellsStatus};
+
+use crate::fault::ReportFault;
+use std::alloc::{AllocError, Global};
+use tlog_hash::{Hash, TreeHash};
+use tlog_mirror::Mirror;
+use tlog_proof::{Ask, prove, write_text};
+
+/// What a command prints, and its exit status.
+#[derive(Debug, Drop)]
+pub struct Report {
+    /// The text: lines that each end in a newline.
+    pub text: String,
+    /// 0, or 3 where the answer is the other one.
+    pub status: u8,
+}
+
+/// `status`: the origin, each head, and what is served. The exit status is 3 where nothing is served.
+///
+/// # Errors
+///
+/// Memory was refused.
+pub fn status_report<H: TreeHash>(alloc: Global, mirror: &Mirror<H>) -> Result<Report, AllocError>
+    ensures { IfOk result (λ report. TellsStatus H.digest mirror.now.view report) }
+{
+    let text = mirror.status_text(alloc)?;
+    let status = served_status(mirror);
+    Ok(Report { text, status })
+}
+
+// 0 where something is served, 3 where nothing is.
+fn served_status<H: TreeHash>(mirror: &Mirror<H>) -> u8
+    ensures { TellsServed H.digest mirror.now.view result }
+{
+    match mirror.top_ranges() {
+        Some(_) => 0,
+        None => 3,
+    }
+}
+
+/// `forks`: a line for each fork. The exit status is 3 where there is one.
+///
+/// # Errors
+///
+/// Memory was refused.
+pub fn forks_report<H: TreeHash>(alloc: Global, mirror: &Mirror<H>) -> Result<Report, AllocError>
+    ensures { IfOk result (λ report. TellsForks H.digest mirror.now.view report) }
+{
+    let text = mirror.forks_text(alloc)?;
+    let status = quiet_status(&text);
+    Ok(Report { text, status })
+}
+
+/// `missing`: the paths that are missing of the head of that size and root, a line each. The exit status is 3 where one is.
+///
+/// # Errors
+///
+/// `NoSuchHead` where no held note has that size and root. `OutOfMemory` where memory was refused.
+pub fn missing_report<H: TreeHash>(
+    alloc: Global,
+    mirror: &Mirror<H>,
+    size: u64,
+    root: &Hash,
+) -> Result<Report, ReportFault>
+    ensures { ReportsMissing H.digest mirror.now.view size root.now result }
+{
+    let Some(text) = mirror.missing_text(alloc, size, root)? else {
+        return Err(ReportFault::NoSuchHead);
+    };
+    let status = quiet_status(&text);
+    Ok(Report { text, status })
+}
+
+// 0 where there is nothing to tell, 3 where there is.
+fn quiet_status(text: &str) -> u8
+    ensures { TellsNothing text.now result }
+{
+    if text.is_empty() { 0 } else { 3 }
+}
+
+/// `prove`: the text of a proof of the entries that are served.
+///
+/// # Errors
+///
+/// The first that applies: `NothingComplete`, where nothing is served; those of `tlog_proof::prove`, of the entries that
+/// are served: `NoSuchSize`, `NoSuchIndex`, `FirstIsZero`, `Backwards`. `OutOfMemory` where memory was refused.
+pub fn proof_report<H: TreeHash>(
+    alloc: Global,
+    mirror: &Mirror<H>,
+    ask: Ask,
+) -> Result<Report, ReportFault>
+    ensures { ReportsProof H.digest mirror.now.view ask result }
+{
+    let Some(top) = mirror.top_ranges() else {
+        return Err(ReportFault::NothingComplete);
+    };
+    let proof = prove(alloc, &top, ask)?;
+    let text = write_text(alloc, &proof)?;
+    Ok(Report { text, status: 0 })
+}

@@ -1,0 +1,85 @@
+-- What the matches of a parser say of the words.
+use Rattle.std.proofs.Common.{◌≡◌, ◌∙◌, ap, sym, subst, inl, inr, List, [], option_map, unwrap_or, Option, Some, None}
+use Rattle.std.proofs.Common.{Result, Ok, Err, true≢false, is_some, refl, codes}
+use Rattle.std.specs.Prelude.{Box}
+use Rattle.std.specs.Box.{box_value}
+use Rattle.clap.specs.Words.{HasKind, HasMatchesOf, Row, Text, first_of, kind_of, subcommand_name_of, subcommand_rows}
+use Rattle.clap.specs.Words.{subcommand_rows_of}
+use Rattle.clap.specs.declared.error.Error.{Error}
+use Rattle.clap.specs.declared.parser.matches.ArgMatches.{ArgMatches}
+use Rattle.clap.specs.declared.parser.matches.ArgMatches.TheViews.{out-ArgMatches, out-SubCommand}
+use Rattle.clap.specs.declared.parser.matches.SubCommand.{SubCommand}
+use Rattle.program_words.specs.App.{mirror_app}
+use Rattle.program_words.specs.Commands.{Calls, Says, faults, name_of}
+use Rattle.program_words.specs.Readings.{AsksNone, ReadsPart, IsSaid, Reads, ReadsKeyFile, Tells}
+use Rattle.program_words.specs.declared.command.Command.{Command}
+use Rattle.program_words.specs.declared.fault.CommandFault.{CommandFault}
+use Rattle.program_words.specs.declared.fault.CommandFault.TheVariants.{Help, Words, BadArgument, OutOfMemory}
+
+-- the command's name and its options, as the parser gives them
+entered_is : {Z : Type 0} → (o : Option (Box SubCommand Z)) (name : Text) (options : List Row)
+    → Some name ≡ option_map (λ b. (out-SubCommand (box_value b)).name.now) o
+    → Some options ≡ option_map (λ p. p.1) (subcommand_rows o) → subcommand_rows o ≡ Some (name, options)
+entered_is None name options n r = cc
+entered_is (Some b) name options n r = cc
+
+pub called : (words : List Text) (m : ArgMatches) (name : Text) (options : List Row) → faults words ≡ []
+    → HasMatchesOf mirror_app words m
+    → Some name ≡ subcommand_name_of m → Some options ≡ option_map (λ p. p.1) (subcommand_rows_of m)
+    → Calls words name options
+called words m name options lawful matches n r =
+    record { lawful = lawful; named = sym (matches refl).1 ∙ entered_is (out-ArgMatches m).subcommand name options n r }
+
+-- what a command's own reader makes of the options is what the words ask for
+pub understood : (words : List Text) (name : Text) (options : List Row) (r : Result Command CommandFault) →
+    Calls words name options → ReadsPart (IsSaid name options) r → Reads words r
+understood words name options (Ok command) calls u = (options, subst (λ n. Calls words n options) u.0 calls, u.1)
+understood words name options (Err (Help text)) calls u = absurd u
+understood words name options (Err (Words text)) calls u = absurd u
+understood words name options (Err BadArgument) calls u = (
+  calls.lawful,
+  λ command asked.
+      let same : Some (name_of command, asked.0) ≡ Some (name, options) = sym asked.1.named ∙ calls.named in
+      let names = ap (λ o. let p : Text × List Row = unwrap_or o (name, options) in p.0) same in
+      let rows = ap (λ o. let p : Text × List Row = unwrap_or o (name, options) in p.1) same in
+      u command (sym names, subst (λ (o : List Row). Says o command) rows asked.2),
+)
+understood words name options (Err OutOfMemory) calls u = tt
+
+-- words that name no command are no command line
+pub nothing_named : (words : List Text) (m : ArgMatches) (name : Text) (options : List Row)
+    → HasMatchesOf mirror_app words m → None ≡ option_map (λ p. p.1) (subcommand_rows_of m)
+    → Calls words name options → ⊥
+nothing_named words m name options matches r calls =
+    let same : subcommand_rows_of m ≡ Some (name, options) = (matches refl).1 ∙ calls.named in
+    let bad : None ≡ Some options = r ∙ ap (option_map (λ (p : Text × List Row). p.1)) same in
+    true≢false (ap is_some (sym bad))
+
+-- words that name no command ask for none
+pub nothing_called : (words : List Text) (m : ArgMatches) → HasMatchesOf mirror_app words m →
+    None ≡ option_map (λ p. p.1) (subcommand_rows_of m) → AsksNone words
+nothing_called words m matches r command asked =
+    nothing_named words m (name_of command) asked.0 matches r asked.1
+
+-- a fault of the parser, as the program tells it
+pub refused : (words : List Text) (e : Error) (fault : CommandFault) → HasKind (faults words) e →
+    Tells (kind_of e) fault → Reads words (Err fault)
+refused words e (Help text) (inl memory) told = absurd (elim told [ inl h ↦ cc | inr h ↦ cc ])
+refused words e (Help text) (inr among) told = (kind_of e, among, told)
+refused words e (Words text) (inl memory) told = absurd (told.0 memory)
+refused words e (Words text) (inr among) told = (kind_of e, among, told.1)
+refused words e BadArgument h told = absurd told
+refused words e OutOfMemory h told = tt
+
+-- the same, of the reader of the file of keys
+pub keys_refused : (words : List Text) (e : Error) (fault : CommandFault) → HasKind (faults words) e →
+    Tells (kind_of e) fault → ReadsKeyFile words (Err fault)
+keys_refused words e (Help text) h told = refused words e (Help text) h told
+keys_refused words e (Words text) h told = refused words e (Words text) h told
+keys_refused words e BadArgument h told = absurd told
+keys_refused words e OutOfMemory h told = tt
+
+pub keys_read : (words : List Text) (name : Text) (options : List Row) (keys : Option Text) → Calls words name options →
+    first_of (codes "keys") options ≡ keys → ReadsKeyFile words (Ok keys)
+keys_read words name options (Some k) calls e = record { name = name; options = options; calls = calls; given = e }
+keys_read words name options None calls e = record { name = name; options = options; calls = calls; given = e }

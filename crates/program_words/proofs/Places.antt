@@ -1,0 +1,127 @@
+-- A word that names a server is cut in one way.
+use Rattle.std.proofs.Common.{◌≡◌, ◌≢◌, inl, inr, ℕ, ◌<◌, ◌≤◌, List, [], ◌∷◌, ◌++◌, length, take, drop, nat_eq, get_or}
+use Rattle.std.proofs.Common.{get_or-take, ◌+◌, Option, Some, None, Bor, refl, sym, ap, subst, ◌∙◌, arith, codes}
+use Rattle.std.proofs.Common.{MatchOption}
+use Rattle.std.specs.Prelude.{IfNone, IfSome}
+use Rattle.std.specs.Str.Pattern.{RFindsChar}
+use Rattle.std.specs.Str.{NoCharPasses}
+use Rattle.std.proofs.lemmas.Str.Pattern.{NoCharPasses-char}
+use Rattle.std.proofs.lemmas.List.{length-take}
+use Rattle.std.specs.Str.Parse.{AllDigits}
+use Rattle.std.specs.Char.{digit_value}
+use Rattle.signed_note.proofs.Lacking.{Lacks, Lacks-from_reads}
+use Rattle.tlog_text.specs.Number.{IsDecimal}
+use Rattle.mirror_client.specs.Site.{slash, IsSitePrefix}
+use Rattle.program_words.specs.Commands.{IsEmptyOrSlash, IsNumberIn, IsPlace, IsServer, colon}
+use Rattle.program_words.specs.declared.command.Place.{Place}
+use Rattle.program_words.specs.declared.command.Place.TheVariants.{Folder, Server}
+use Rattle.program_words.proofs.Named.{apart}
+
+-- ---- cuts
+
+-- before the first slash
+pub front_lacks : (c at : ℕ) (word front : List ℕ) → front ≡ take at word → ((i : ℕ) → i < at → get_or word i 0 ≢ c) →
+    (i : ℕ) → i < length front → get_or front i 0 ≢ c
+front_lacks c at word front is lacks i lt same =
+    let short : length front ≤ at = omega (arith, ap length is, length-take at word) in
+    let in_front : i < at = omega (arith, lt, short) in
+    lacks i in_front (sym (get_or-take at word i 0 in_front) ∙ (ap (λ l. get_or l i 0) (sym is) ∙ same))
+
+-- the bytes behind the last colon, where a text is cut there
+pub last_lacks : (c : ℕ) (bs : List ℕ) (r : Option (Bor (List ℕ) × Bor (List ℕ)))
+    → MatchOption r (RFindsChar c bs None) (λ x. (i : ℕ) × (j : ℕ)
+    × RFindsChar c bs (Some (i, j)) × (x.0.now ≡ take i bs) × (x.1.now ≡ drop j bs) × (i ≤ j) × (length x.0.now ≡ i)
+    × (length x.1.now + j ≡ length bs)) → c < 128
+    → IfSome r (λ x. (i : ℕ) → i < length x.1.now → get_or x.1.now i 0 ≢ c)
+last_lacks c bs None h low = tt
+last_lacks c bs (Some x) h low =
+    λ i. NoCharPasses-char c x.1.now i (subst (NoCharPasses (λ d. nat_eq d c)) (sym h.4) h.2.0) low
+
+pub none_lacks : (c : ℕ) (bs : List ℕ) (r : Option (Bor (List ℕ) × Bor (List ℕ)))
+    → MatchOption r (RFindsChar c bs None) (λ x. (i : ℕ) × (j : ℕ)
+    × RFindsChar c bs (Some (i, j)) × (x.0.now ≡ take i bs) × (x.1.now ≡ drop j bs) × (i ≤ j) × (length x.0.now ≡ i)
+    × (length x.1.now + j ≡ length bs)) → c < 128
+    → IfNone r ((i : ℕ) → i < length bs → get_or bs i 0 ≢ c)
+none_lacks c bs None h low = λ i. NoCharPasses-char c bs i h low
+none_lacks c bs (Some x) h low = tt
+
+Lacks-middle : (c : ℕ) (d e : List ℕ) → Lacks c (d ++ c ∷ e) → ⊥
+Lacks-middle c [] e h = h.0 refl
+Lacks-middle c (y ∷ d) e h = Lacks-middle c d e h.1
+
+-- two cuts at c, where what follows lacks it, are one
+cut_last : (c : ℕ) (a b d e : List ℕ) → a ++ (c ∷ b) ≡ d ++ (c ∷ e) → Lacks c b → Lacks c e → (a ≡ d) × (b ≡ e)
+cut_last c [] b [] e h p q = (refl, cc)
+cut_last c [] b (y ∷ d) e h p q = let tails : b ≡ d ++ (c ∷ e) = cc in
+    absurd (Lacks-middle c d e (subst (Lacks c) tails p))
+cut_last c (x ∷ a) b [] e h p q = let tails : a ++ (c ∷ b) ≡ e = cc in
+    absurd (Lacks-middle c a b (subst (Lacks c) (sym tails) q))
+cut_last c (x ∷ a) b (y ∷ d) e h p q =
+    let heads : x ≡ y = cc in
+    let tails : a ++ (c ∷ b) ≡ d ++ (c ∷ e) = cc in
+    let rest = cut_last c a b d e tails p q in
+    (cc, rest.1)
+
+-- two cuts before the first slash are one
+cut_first : (a b d e : List ℕ) → a ++ b ≡ d ++ e → Lacks slash a → Lacks slash d → IsEmptyOrSlash b → IsEmptyOrSlash e →
+    (a ≡ d) × (b ≡ e)
+cut_first [] b [] e h p q s t = (refl, h)
+cut_first [] b (y ∷ d) e h p q (inl empty) t = absurd cc
+cut_first [] b (y ∷ d) e h p q (inr some) t = let same : y ≡ slash = cc in absurd (q.0 same)
+cut_first (x ∷ a) b [] e h p q s (inl empty) = absurd cc
+cut_first (x ∷ a) b [] e h p q s (inr some) = let same : x ≡ slash = cc in absurd (p.0 same)
+cut_first (x ∷ a) b (y ∷ d) e h p q s t =
+    let heads : x ≡ y = cc in
+    let tails : a ++ b ≡ d ++ e = cc in
+    let rest = cut_first a b d e tails p.1 q.1 s t in
+    (cc, rest.1)
+
+prefix_begins : (prefix : List ℕ) → IsSitePrefix prefix → IsEmptyOrSlash prefix
+prefix_begins prefix (inl empty) = inl empty
+prefix_begins prefix (inr some) = inr some.between.begins
+
+-- digits have no colon
+all_lack : (digits : List ℕ) → AllDigits 10 digits → Lacks colon digits
+all_lack [] h = tt
+all_lack (d ∷ ds) h = (
+  λ e. let bad : digit_value colon < 10 = subst (λ x. digit_value x < 10) e h.0 in
+      absurd (omega (arith, bad)),
+  all_lack ds h.1,
+)
+
+digits_lack : (digits : List ℕ) (n : ℕ) → IsDecimal digits n → Lacks colon digits
+digits_lack digits n is = all_lack digits is.numeral.1
+
+-- ---- servers
+
+-- a server's host and prefix are those of the word
+pub one_site : (word host prefix : List ℕ) → word ≡ host ++ prefix
+    → ((i : ℕ) → i < length host → get_or host i 0 ≢ slash) → IsEmptyOrSlash prefix → (p : Place)
+    → IsPlace (codes "http") word p
+    → (address : List ℕ) × (port : ℕ) × IsServer word host prefix address port
+one_site word host prefix whole before after (Folder path) is =
+    absurd (apart (codes "http") (codes "http") (codes "dir") refl is.0 refl)
+one_site word host prefix whole before after (Server h q address port) is =
+    let s = is.1 in
+    let one = cut_first host prefix h.now q.now (sym whole ∙ s.whole) (Lacks-from_reads slash host before)
+    (Lacks-from_reads slash h.now s.before) after (prefix_begins q.now s.site.is_prefix) in (
+      address.now,
+      port,
+      subst (λ (x : List ℕ). IsServer word x prefix address.now port) (sym one.0)
+          (subst (λ (x : List ℕ). IsServer word h.now x address.now port) (sym one.1) s),
+    )
+
+-- a server's port is what follows the last colon
+pub one_port : (word host prefix front digits address : List ℕ) (port : ℕ) → host ≡ front ++ colon ∷ digits →
+    ((i : ℕ) → i < length digits → get_or digits i 0 ≢ colon) → IsServer word host prefix address port →
+    IsNumberIn 1 65535 port digits
+one_port word host prefix front digits address port parts lacks s =
+    let one = cut_last colon front digits address s.digits (sym parts ∙ s.parts) (Lacks-from_reads colon digits lacks)
+    (digits_lack s.digits port s.is_port.number) in
+    subst (IsNumberIn 1 65535 port) (sym one.1) s.is_port
+
+-- a server's host has a colon
+pub some_port : (word host prefix address : List ℕ) (port : ℕ) → ((i : ℕ) → i < length host → get_or host i 0 ≢ colon) →
+    IsServer word host prefix address port → ⊥
+some_port word host prefix address port lacks s =
+    Lacks-middle colon address s.digits (subst (Lacks colon) s.parts (Lacks-from_reads colon host lacks))

@@ -1,0 +1,8 @@
+use Rattle.std.proofs.Common.{codes}
+use Rattle.program_words.specs.App.{option_rule}
+use Rattle.program_words.proofs.parser.log_parser.Goals as goal
+
+pub returns : goal.returns
+returns c =
+    let with_origin = c.with_argument.ensures _ (option_rule (codes "origin")) c.command.ensures c.option-origin.ensures.rule c.option-origin.ensures.local in
+    c.with_argument-2.ensures _ (option_rule (codes "keys")) with_origin c.option-keys.ensures.rule c.option-keys.ensures.local

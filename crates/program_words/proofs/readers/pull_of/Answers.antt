@@ -1,0 +1,38 @@
+use Rattle.std.proofs.Common.{codes, option_map}
+use Rattle.std.proofs.lemmas.Result.{err_from_is_err_and}
+use Rattle.clap.specs.Words.{found_of, rows_of}
+use Rattle.program_words.specs.Commands.{IsPull}
+use Rattle.program_words.proofs.Refusing.{given_or_none, word_refused}
+use Rattle.program_words.proofs.readers.pull_of.Goals as goal
+
+pub returns-in_err-word_of : goal.returns-in_err-word_of
+returns-in_err-word_of c =
+    let options = rows_of (found_of c.args.found.now) in
+    word_refused options (codes "kind")
+    (IsPull options) c.from_residual-in_err-word_of.result c.in_err-word_of.field-0.0
+    (err_from_is_err_and c.from_residual-in_err-word_of.result c.from_residual-in_err-word_of.ensures.1)
+    c.in_err-word_of.ensures (λ y q. (q.place.value, q.place.given))
+
+pub returns-in_err-word_of-2 : goal.returns-in_err-word_of-2
+returns-in_err-word_of-2 c =
+    let options = rows_of (found_of c.args.found.now) in
+    word_refused options (codes "place") (IsPull options)
+    c.from_residual-in_err-word_of-2.result c.in_err-word_of-2.field-0.0
+    (err_from_is_err_and c.from_residual-in_err-word_of-2.result c.from_residual-in_err-word_of-2.ensures.1)
+    c.in_err-word_of-2.ensures (λ y q. (q.place.is_such.value, q.place.is_such.given))
+
+pub returns : goal.returns
+returns c = record {
+  mirror = c.in_ok-output_args.ensures;
+  state = given_or_none (found_of c.args.found.now) (codes "state") (option_map (λ s. s.now) c.get_str.result)
+      c.get_str.ensures;
+  place = record {
+    value = c.in_ok-word_of.field-0.now;
+    given = c.in_ok-word_of.ensures;
+    is_such = record {
+      value = c.in_ok-word_of-2.field-0.now;
+      given = c.in_ok-word_of-2.ensures;
+      is_such = c.in_ok-place_of.ensures;
+    };
+  };
+}

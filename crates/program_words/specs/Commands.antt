@@ -1,0 +1,236 @@
+-- Which command the words of a command line ask for. `IsEmptyOrSlash` and `IsParserOf` are cited by
+-- the contracts of private functions alone.
+use Rattle.std.specs.Prelude.{◌≡◌, ◌≢◌, ◌⊎◌, ℕ, ◌≤◌, List, [], ◌∷◌, ◌++◌, Option, Some, None, false}
+use Rattle.std.specs.Prelude.{length, map, option_map, unwrap_or, codes, slice_index, ◌<◌, ⊤}
+use Rattle.clap.specs.Words.{App, Kinds, Row, Text, all_of, app_of, fault_of, first_of}
+use Rattle.clap.specs.Words.{subcommand_of}
+use Rattle.clap.specs.declared.builder.command.Command.{Command as Parser}
+use Rattle.clap.specs.declared.builder.command.Command.TheViews.{out-Command}
+use Rattle.tlog_text.specs.Number.{IsDecimal}
+use Rattle.tlog_text.specs.Hash.{IsHashText}
+use Rattle.tlog_shape.specs.declared.TheConstants.{MAX_SIZE}
+use Rattle.tlog_proof.specs.declared.proof.Ask.{Ask}
+use Rattle.tlog_proof.specs.declared.proof.Ask.TheVariants.{Inclusion, Consistency}
+use Rattle.mirror_client.specs.Site.{IsHost, IsSitePrefix, slash}
+use Rattle.program_words.specs.App.{mirror_app}
+use Rattle.program_words.specs.declared.command.Command.{Command}
+use Rattle.program_words.specs.declared.command.Command.TheVariants as order
+use Rattle.program_words.specs.declared.command.Root.{Root as RootWords}
+use Rattle.program_words.specs.declared.command.Log.{Log}
+use Rattle.program_words.specs.declared.command.StateArgs.{StateArgs}
+use Rattle.program_words.specs.declared.command.OutputArgs.{OutputArgs}
+use Rattle.program_words.specs.declared.command.Build.{Build}
+use Rattle.program_words.specs.declared.command.Kind.{Kind}
+use Rattle.program_words.specs.declared.command.Kind.TheVariants.{Head, Tile, Bundle}
+use Rattle.program_words.specs.declared.command.Take.{Take}
+use Rattle.program_words.specs.declared.command.Merge.{Merge}
+use Rattle.program_words.specs.declared.command.Place.{Place}
+use Rattle.program_words.specs.declared.command.Place.TheVariants.{Folder, Server}
+use Rattle.program_words.specs.declared.command.Pull.{Pull}
+use Rattle.program_words.specs.declared.command.Missing.{Missing}
+use Rattle.program_words.specs.declared.command.Prove.{Prove}
+use Rattle.program_words.specs.declared.command.Export.{Export}
+use Rattle.program_words.specs.declared.command.Serve.{Serve}
+
+-- ---- the command line
+
+-- the parser is that of the command line, with no option that all commands share
+pub record IsParserOf (app : App) (parser : Parser) : Type 0 where
+  pub is_app : app_of parser ≡ app
+  pub local : (out-Command parser).has_globals ≡ false
+
+-- what is wrong with the words as a command line, or what else than a command they ask for
+abbrev pub faults : List Text → Kinds
+faults words = fault_of mirror_app words
+
+-- the words are a command line: they name a command, with these options
+pub record Calls (words : List Text) (name : Text) (options : List Row) : Type 0 where
+  pub lawful : faults words ≡ []
+  pub named : subcommand_of mirror_app words ≡ Some (name, options)
+
+-- ---- options
+
+-- the option has this value
+abbrev pub Given : List Row → Text → Text → Type 0
+Given options name text = first_of name options ≡ Some text
+
+-- the option has a value, which is such a text
+pub record HasValue (options : List Row) (name : Text) (IsSuch : Text → Type 0) : Type 0 where
+  pub value : Text
+  pub given : Given options name value
+  pub is_such : IsSuch value
+
+-- the word spells a number between these two, in decimal digits without leading zeros
+pub record IsNumberIn (least most n : ℕ) (word : Text) : Type 0 where
+  pub number : IsDecimal word n
+  pub least_is : least ≤ n
+  pub most_is : n ≤ most
+
+-- a size, or an index
+abbrev pub IsSize : ℕ → Text → Type 0
+IsSize n word = IsNumberIn 0 MAX_SIZE n word
+
+-- ---- what commands share
+
+-- the options name the log and its keys
+pub record IsLog (options : List Row) (log : Log) : Type 0 where
+  pub origin : Given options (codes "origin") log.origin.now
+  pub keys : Given options (codes "keys") log.keys.now
+
+-- the options name a mirror that is kept in a file
+pub record IsStateArgs (options : List Row) (args : StateArgs) : Type 0 where
+  pub log : IsLog options args.log
+  pub state : Given options (codes "state") args.state.now
+
+-- the options name the file that a mirror is written to
+pub record IsOutputArgs (options : List Row) (args : OutputArgs) : Type 0 where
+  pub log : IsLog options args.log
+  pub out : Given options (codes "out") args.out.now
+
+-- ---- the commands
+
+-- what the options of `root` say
+abbrev pub IsRoot : List Row → RootWords → Type 0
+IsRoot options root = HasValue options (codes "width") (IsNumberIn 0 256 root.width)
+
+-- what the options of `build` say
+pub record IsBuild (options : List Row) (build : Build) : Type 0 where
+  pub log : IsLog options build.log
+  pub folder : Given options (codes "dir") build.folder.now
+
+-- the word that names what files hold
+abbrev pub kind_name : Kind → Text
+kind_name Head = codes "head"
+kind_name Tile = codes "tile"
+kind_name Bundle = codes "bundle"
+
+-- how many files there may be: for a head the note and any number of rows
+abbrev pub IsCount : Kind → ℕ → Type 0
+IsCount Head n = 1 ≤ n
+IsCount Tile n = n ≡ 1
+IsCount Bundle n = n ≡ 1
+
+-- a width that may be left out, which is 256 then
+abbrev pub IsTakeWidth : Option Text → ℕ → Type 0
+IsTakeWidth None width = width ≡ 256
+IsTakeWidth (Some word) width = IsNumberIn 1 256 width word
+
+-- what the options of `take` say
+pub record IsTake (options : List Row) (take : Take) : Type 0 where
+  pub mirror : IsOutputArgs options take.mirror
+  pub state : first_of (codes "state") options ≡ option_map (λ s. s.now) take.state
+  pub width : IsTakeWidth (first_of (codes "width") options) take.width
+  pub kind : Given options (codes "kind") (kind_name take.kind)
+  pub files : unwrap_or (all_of (codes "file") options) [] ≡ map (λ f. f.now) take.files.items
+  pub count : IsCount take.kind (length take.files.items)
+
+-- what the options of `merge` say
+pub record IsMerge (options : List Row) (merge : Merge) : Type 0 where
+  pub mirror : IsOutputArgs options merge.mirror
+  pub first : Given options (codes "a") merge.first.now
+  pub second : Given options (codes "b") merge.second.now
+
+-- the colon, U+003A
+abbrev pub colon : ℕ
+colon = 58
+
+-- a site may have this host and prefix
+pub record IsHostAndPrefix (host prefix : Text) : Type 0 where
+  pub is_host : IsHost host
+  pub is_prefix : IsSitePrefix prefix
+
+-- nothing, or a text that begins with a slash
+abbrev pub IsEmptyOrSlash : Text → Type 0
+IsEmptyOrSlash text = (text ≡ []) ⊎ ((rest : Text) × (text ≡ slash ∷ rest))
+
+-- `HOST:PORT` with an optional prefix: what stands before the first slash is the host, of which the
+-- port follows the last colon
+pub record IsServer (word host prefix address : Text) (port : ℕ) : Type 0 where
+  pub whole : word ≡ host ++ prefix
+  pub before : (i : ℕ) → i < length host → slice_index host i ≢ slash
+  pub site : IsHostAndPrefix host prefix
+  pub digits : Text
+  pub parts : host ≡ address ++ colon ∷ digits
+  pub is_port : IsNumberIn 1 65535 port digits
+
+-- the two words that name a place
+abbrev pub IsPlace : Text → Text → Place → Type 0
+IsPlace kind word (Folder path) = (kind ≡ codes "dir") × (path.now ≡ word)
+IsPlace kind word (Server host prefix address port) =
+    (kind ≡ codes "http") × IsServer word host.now prefix.now address.now port
+
+-- what the options of `pull` say
+pub record IsPull (options : List Row) (pull : Pull) : Type 0 where
+  pub mirror : IsOutputArgs options pull.mirror
+  pub state : first_of (codes "state") options ≡ option_map (λ s. s.now) pull.state
+  pub place : HasValue options (codes "kind")
+      (λ kind. HasValue options (codes "place") (λ word. IsPlace kind word pull.place))
+
+-- what the options of `missing` say
+pub record IsMissingAsk (options : List Row) (missing : Missing) : Type 0 where
+  pub mirror : IsStateArgs options missing.mirror
+  pub size : HasValue options (codes "size") (IsSize missing.size)
+  pub root : HasValue options (codes "root") (λ word. IsHashText word missing.root)
+
+-- the three words that ask for a proof
+abbrev pub IsAsk : Text → Text → Text → Ask → Type 0
+IsAsk kind a b (Inclusion size index) = (kind ≡ codes "inclusion") × IsSize size a × IsSize index b
+IsAsk kind a b (Consistency first second) =
+    (kind ≡ codes "consistency") × IsSize first a × IsSize second b
+
+-- what the options of `prove` say
+pub record IsProve (options : List Row) (prove : Prove) : Type 0 where
+  pub mirror : IsStateArgs options prove.mirror
+  pub ask : HasValue options (codes "kind")
+      (λ kind. HasValue options (codes "a")
+      (λ a. HasValue options (codes "b") (λ b. IsAsk kind a b prove.ask)))
+
+-- what the options of `export` and of `notes` say
+pub record IsExport (options : List Row) (export : Export) : Type 0 where
+  pub mirror : IsStateArgs options export.mirror
+  pub folder : Given options (codes "dir") export.folder.now
+
+-- what the options of `serve` say
+pub record IsServe (options : List Row) (serve : Serve) : Type 0 where
+  pub mirror : IsStateArgs options serve.mirror
+  pub port : HasValue options (codes "port") (IsNumberIn 1 65535 serve.port)
+  pub requests : HasValue options (codes "requests") (IsSize serve.requests)
+
+-- ---- all commands
+
+-- the word that names the command
+abbrev pub name_of : Command → Text
+name_of (order.Root c) = codes "root"
+name_of order.Check = codes "check"
+name_of (order.Build c) = codes "build"
+name_of (order.Take c) = codes "take"
+name_of (order.Merge c) = codes "merge"
+name_of (order.Pull c) = codes "pull"
+name_of (order.Status c) = codes "status"
+name_of (order.Missing c) = codes "missing"
+name_of (order.Forks c) = codes "forks"
+name_of (order.Prove c) = codes "prove"
+name_of (order.Export c) = codes "export"
+name_of (order.Notes c) = codes "notes"
+name_of (order.Serve c) = codes "serve"
+
+-- the options say this command, of those of its name
+abbrev pub Says : List Row → Command → Type 0
+Says options (order.Root c) = IsRoot options c
+Says options order.Check = ⊤
+Says options (order.Build c) = IsBuild options c
+Says options (order.Take c) = IsTake options c
+Says options (order.Merge c) = IsMerge options c
+Says options (order.Pull c) = IsPull options c
+Says options (order.Status c) = IsStateArgs options c
+Says options (order.Missing c) = IsMissingAsk options c
+Says options (order.Forks c) = IsStateArgs options c
+Says options (order.Prove c) = IsProve options c
+Says options (order.Export c) = IsExport options c
+Says options (order.Notes c) = IsExport options c
+Says options (order.Serve c) = IsServe options c
+
+-- the words ask for the command
+abbrev pub Asks : List Text → Command → Type 0
+Asks words command =
+    (options : List Row) × Calls words (name_of command) options × Says options command

@@ -1,0 +1,28 @@
+-- What is so of all words of a command line.
+use Rattle.std.specs.Prelude.{◌≡◌, ◌⊎◌, List, [], ◌∷◌, codes}
+use Rattle.clap.specs.Words.{Row, Text}
+use Rattle.program_words.specs.declared.command.Command.{Command}
+use Rattle.program_words.specs.Commands.{Asks, Calls, Says, faults, name_of}
+
+-- the names of the commands
+abbrev pub command_names : List Text
+command_names =
+    codes "root" ∷ codes "check" ∷ codes "build" ∷ codes "take" ∷ codes "merge" ∷ codes "pull"
+    ∷ codes "status"
+    ∷ codes "missing" ∷ codes "forks" ∷ codes "prove" ∷ codes "export" ∷ codes "notes"
+    ∷ codes "serve" ∷ []
+
+-- the text is one of these
+abbrev pub IsOneOf : List Text → Text → Type 0
+IsOneOf [] text = ⊥
+IsOneOf (t ∷ ts) text = (text ≡ t) ⊎ IsOneOf ts text
+
+-- words in which nothing is wrong name one of the commands
+abbrev pub LawfulWordsName : Type 0
+LawfulWordsName = (words : List Text) → faults words ≡ []
+    → (name : Text) × (options : List Row) × Calls words name options × IsOneOf command_names name
+
+-- the commands that words ask for have one name, and the same options say them
+abbrev pub WordsAskForOneName : Type 0
+WordsAskForOneName = (words : List Text) (a b : Command) → Asks words a → Asks words b
+    → (name_of a ≡ name_of b) × (options : List Row) × Says options a × Says options b

@@ -1,0 +1,39 @@
+//! Why words ask for no command.
+ghost use Rattle.std.specs.Prelude.{◌≡◌};
+ghost use Rattle.program_words.specs.declared.fault.CommandFault.TheVariants.{OutOfMemory};
+
+use std::alloc::{AllocError, AllocFailed};
+use thiserror::Error;
+
+/// Why the words ask for no command.
+#[derive(Debug, Drop, Error)]
+pub enum CommandFault {
+    /// Help, or the version, was asked for: its text.
+    #[error("{0}")]
+    Help(String),
+    /// The words are no command line of this program: what is wrong with them.
+    #[error("{0}")]
+    Words(String),
+    /// A word is not spelled as what it stands for, or is out of its range.
+    #[error("BadArgument")]
+    BadArgument,
+    /// Memory was refused.
+    #[error("OutOfMemory")]
+    OutOfMemory,
+}
+
+impl From<AllocError> for CommandFault {
+    ghost from_gives = { λ _ e. e ≡ OutOfMemory };
+
+    fn from(_e: AllocError) -> CommandFault {
+        CommandFault::OutOfMemory
+    }
+}
+
+impl<T: Drop> From<AllocFailed<T>> for CommandFault {
+    ghost from_gives = { λ _ e. e ≡ OutOfMemory };
+
+    fn from(_e: AllocFailed<T>) -> CommandFault {
+        CommandFault::OutOfMemory
+    }
+}

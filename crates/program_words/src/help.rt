@@ -1,0 +1,301 @@
+//! What `--help` behind a command says after the options: what it reads and writes, its statuses, and its
+//! faults, each with what to do.
+
+/// What `root` reads, writes and may end with.
+pub(crate) const ROOT: &str = "\
+Each entry of the bundle is its length, two bytes with the higher first, and its bytes.
+The output is the lines 'size W' and 'root ROOT', the tree hash in base64 (RFC 6962, section 2.1).
+
+Exit status: 0 done, 1 a fault, 2 W is no number from 0 to 256 (BadArgument).
+Faults, on standard error:
+  BundleShort  the input ends before W entries do: give all of it, or its own width
+  BundleLong   bytes follow the W entries: give the bundle alone, or its own width
+  ReadFault    standard input could not be read
+  WriteFault   standard output could not be written: a part may have been
+  OutOfMemory  there is not enough memory for the bundle
+
+Example: printf '\\0\\0' | tlogmirror root --width 1";
+
+/// What `check` reads, writes and may end with.
+pub(crate) const CHECK: &str = "\
+The output is 'yes' where the proof holds, else 'no'. Who relies on a yes compares the roots in the
+text with checkpoints of the log.
+
+Exit status: 0 for a yes, 3 for a no, 1 a fault, 2 words that ask for nothing.
+Faults, on standard error:
+  BadProofText  the input is not the text of a proof: give it as it was made, to the last newline
+  ReadFault     standard input could not be read
+  WriteFault    standard output could not be written: a part may have been
+  OutOfMemory   there is not enough memory for the text
+
+Example: tlogmirror check <examples/inclusion-2-of-3.proof";
+
+/// What `build` reads, writes and may end with.
+pub(crate) const BUILD: &str = "\
+Each entry on standard input is its length, two bytes with the higher first, and its bytes. The
+checkpoint is signed with the first 'hmac' key of K. Tiles and bundles are written before it.
+
+Exit status: 0 done, 1 a fault, 2 words that ask for nothing.
+Faults, on standard error:
+  FileFault     K cannot be read: see the path and the rights
+  BadKeyLine    a line of K is no key: 'hmac NAME ID SECRET' or 'pin NAME ID DIGEST'
+  NoSigningKey  K has no line 'hmac NAME ID SECRET': add one
+  BadOrigin     O is empty, too long, or has a control character
+  BundleShort   the input ends within an entry: give all of it
+  ReadFault     standard input could not be read
+  ShelfInUse    D has a checkpoint: name another folder
+  ShelfFault    D cannot be written: see the path, the rights and the room
+  Collision     two different strings share a digest: nothing was taken; keep both files
+  OutOfMemory   there is not enough memory
+
+Example: printf '\\0\\1a' | tlogmirror build --origin log.example --keys keys --dir log";
+
+/// What `take` reads, writes and may end with.
+pub(crate) const TAKE: &str = "\
+A head is a signed note, and then the rows of hashes at the right edge of its tree, lowest level
+first. A tile is W hashes, a bundle is W entries. Nothing is written where something is refused.
+
+Exit status: 0 done, 1 a fault, 2 words that ask for nothing, or that do not fit (BadArgument).
+Faults, on standard error:
+  FileFault           a file that was named cannot be read or written: see the path and the rights
+  BadKeyLine          a line of K is no key: 'hmac NAME ID SECRET' or 'pin NAME ID DIGEST'
+  BadOrigin           O is empty, too long, or has a control character
+  StateMagic          S is no state file: name the file that --out made
+  StateShort, StateLong, StateDigest
+                      S was cut or changed: take a copy of it
+  OtherOrigin         S is of another log: give its own origin
+  StateOrder, StateString, StateEdge
+                      S was not made by this program: take a copy of it
+  StateHead           a note in S does not verify under K: give the keys that it was made with
+  NoteTooLong, NotText, NoSignatures, TooManySignatures, BadSignatureLine
+                      the first file is no signed note
+  TooFewLines, EmptyLine, BadSize, SizeTooLarge, BadRoot
+                      the note is no checkpoint
+  NoTrustedSignature  no key of K signed the note: add the log's key or a pin
+  EdgeCount, EdgeLength, EdgeMismatch
+                      the rows are not those of the note's tree
+  RowLength           the tile is not W hashes: give its own width
+  BundleShort, BundleLong
+                      the bundle is not W entries: give its own width
+  Collision           two different strings share a digest: nothing was taken; keep both files
+  OutOfMemory         there is not enough memory
+
+Example: tlogmirror take --origin log.example --keys keys --out state bundle log/tile/entries/000.p/3 --width 3";
+
+/// What `merge` reads, writes and may end with.
+pub(crate) const MERGE: &str = "\
+What B holds is taken into A. T may be A or B. A state of version 1 is written as version 2.
+
+Exit status: 0 done, 1 a fault, 2 words that ask for nothing.
+Faults, on standard error:
+  FileFault    a file that was named cannot be read or written: see the path and the rights
+  BadKeyLine   a line of K is no key: 'hmac NAME ID SECRET' or 'pin NAME ID DIGEST'
+  BadOrigin    O is empty, too long, or has a control character
+  StateMagic   A or B is no state file: name a file that --out made
+  StateShort, StateLong, StateDigest
+               A or B was cut or changed: take a copy of it
+  OtherOrigin  A or B is of another log: give its own origin
+  StateOrder, StateString, StateEdge
+               A or B was not made by this program: take a copy of it
+  StateHead    a note in A or B does not verify under K: give the keys that it was made with
+  Collision    two different strings share a digest: nothing was taken; keep both files
+  OutOfMemory  there is not enough memory
+
+Example: tlogmirror merge --origin log.example --keys keys --out both here there";
+
+/// What `pull` reads, writes and may end with.
+pub(crate) const PULL: &str = "\
+The output is 'pulled SIZE ROOT rounds N refused N', and 'complete' or 'partial'. T is written for a
+partial pull too; a later pull with --state T goes on from it. An old checkpoint stays in the state.
+
+Exit status: 0 complete, 3 partial, 1 a fault, 2 words that ask for nothing, or that do not fit
+(BadArgument).
+Faults, on standard error:
+  FileFault           a file that was named cannot be read or written: see the path and the rights
+  BadKeyLine          a line of K is no key: 'hmac NAME ID SECRET' or 'pin NAME ID DIGEST'
+  BadOrigin           O is empty, too long, or has a control character
+  StateMagic          S is no state file: name the file that --out made
+  StateShort, StateLong, StateDigest
+                      S was cut or changed: take a copy of it
+  OtherOrigin         S is of another log: give its own origin
+  StateOrder, StateString, StateEdge
+                      S was not made by this program: take a copy of it
+  StateHead           a note in S does not verify under K: give the keys that it was made with
+  NoCheckpoint        the place has no checkpoint: see PLACE
+  NoEdge              the place lacks a tile of the checkpoint's edge: try again, or another place
+  Source              the place could not be read or did not answer: try again
+  NoteTooLong, NotText, NoSignatures, TooManySignatures, BadSignatureLine
+                      the checkpoint is no signed note
+  TooFewLines, EmptyLine, BadSize, SizeTooLarge, BadRoot
+                      the note is no checkpoint
+  NoTrustedSignature  no key of K signed the checkpoint: add the log's key or a pin
+  EdgeLength, EdgeMismatch
+                      the tiles are not those of the checkpoint: another place may be honest
+  Collision           two different strings share a digest: nothing was taken; keep both files
+  WriteFault          standard output could not be written: a part may have been
+  OutOfMemory         there is not enough memory
+
+Example: tlogmirror pull --origin log.example --keys keys --out state http log.example:80/2026";
+
+/// What `status` reads, writes and may end with.
+pub(crate) const STATUS: &str = "\
+The output is 'origin O', a line 'head SIZE ROOT complete' or '.. partial' for each checkpoint, and
+'served SIZE ROOT' or 'served none'.
+
+Exit status: 0 done, 3 nothing is complete, 1 a fault, 2 words that ask for nothing.
+Faults, on standard error:
+  FileFault    a file that was named cannot be read or written: see the path and the rights
+  BadKeyLine   a line of K is no key: 'hmac NAME ID SECRET' or 'pin NAME ID DIGEST'
+  BadOrigin    O is empty, too long, or has a control character
+  StateMagic   S is no state file: name the file that --out made
+  StateShort, StateLong, StateDigest
+               S was cut or changed: take a copy of it
+  OtherOrigin  S is of another log: give its own origin
+  StateOrder, StateString, StateEdge
+               S was not made by this program: take a copy of it
+  StateHead    a note in S does not verify under K: give the keys that it was made with
+  WriteFault   standard output could not be written: a part may have been
+  OutOfMemory  there is not enough memory
+
+Example: tlogmirror status --origin log.example --keys keys --state state";
+
+/// What `missing` reads, writes and may end with.
+pub(crate) const MISSING: &str = "\
+The output is one path a line, as a log publishes them; none where the checkpoint is complete.
+
+Exit status: 0 nothing is missing, 3 something is, 1 a fault, 2 words that ask for nothing, or N or
+ROOT is none (BadArgument).
+Faults, on standard error:
+  FileFault    a file that was named cannot be read or written: see the path and the rights
+  BadKeyLine   a line of K is no key: 'hmac NAME ID SECRET' or 'pin NAME ID DIGEST'
+  BadOrigin    O is empty, too long, or has a control character
+  StateMagic   S is no state file: name the file that --out made
+  StateShort, StateLong, StateDigest
+               S was cut or changed: take a copy of it
+  OtherOrigin  S is of another log: give its own origin
+  StateOrder, StateString, StateEdge
+               S was not made by this program: take a copy of it
+  StateHead    a note in S does not verify under K: give the keys that it was made with
+  NoSuchHead   no checkpoint has that size and root: 'status' prints those that are held
+  WriteFault   standard output could not be written: a part may have been
+  OutOfMemory  there is not enough memory
+
+Example: tlogmirror missing --origin log.example --keys keys --state state --size 3 --root ROOT";
+
+/// What `forks` reads, writes and may end with.
+pub(crate) const FORKS: &str = "\
+The output is 'fork SIZE ROOT SIZE ROOT' for each two checkpoints of one size with different roots, and
+for each two complete ones of which neither list of entries is a prefix of the other. A fork is the
+operator's doing: keep the state, and write both notes with 'notes'.
+
+Exit status: 0 none, 3 there are forks, 1 a fault, 2 words that ask for nothing.
+Faults, on standard error:
+  FileFault    a file that was named cannot be read or written: see the path and the rights
+  BadKeyLine   a line of K is no key: 'hmac NAME ID SECRET' or 'pin NAME ID DIGEST'
+  BadOrigin    O is empty, too long, or has a control character
+  StateMagic   S is no state file: name the file that --out made
+  StateShort, StateLong, StateDigest
+               S was cut or changed: take a copy of it
+  OtherOrigin  S is of another log: give its own origin
+  StateOrder, StateString, StateEdge
+               S was not made by this program: take a copy of it
+  StateHead    a note in S does not verify under K: give the keys that it was made with
+  WriteFault   standard output could not be written: a part may have been
+  OutOfMemory  there is not enough memory
+
+Example: tlogmirror forks --origin log.example --keys keys --state state";
+
+/// What `prove` reads, writes and may end with.
+pub(crate) const PROVE: &str = "\
+'inclusion SIZE INDEX' or 'consistency FIRST SECOND', of what the mirror serves. The output is the
+proof's text, which 'check' reads.
+
+Exit status: 0 done, 1 a fault, 2 words that ask for nothing, or that do not fit (BadArgument).
+Faults, on standard error:
+  FileFault        a file that was named cannot be read or written: see the path and the rights
+  BadKeyLine       a line of K is no key: 'hmac NAME ID SECRET' or 'pin NAME ID DIGEST'
+  BadOrigin        O is empty, too long, or has a control character
+  StateMagic       S is no state file: name the file that --out made
+  StateShort, StateLong, StateDigest
+                   S was cut or changed: take a copy of it
+  OtherOrigin      S is of another log: give its own origin
+  StateOrder, StateString, StateEdge
+                   S was not made by this program: take a copy of it
+  StateHead        a note in S does not verify under K: give the keys that it was made with
+  NothingComplete  no checkpoint is complete: pull what is missing first
+  NoSuchSize       a size is greater than the served one
+  NoSuchIndex      the index is not below the size
+  FirstIsZero      the smaller size is 0: every tree begins with the empty one
+  Backwards        the smaller size is the greater: turn them round
+  WriteFault       standard output could not be written: a part may have been
+  OutOfMemory      there is not enough memory
+
+Example: tlogmirror prove --origin log.example --keys keys --state state inclusion 3 2";
+
+/// What `export` reads, writes and may end with.
+pub(crate) const EXPORT: &str = "\
+Tiles and bundles are written before the checkpoint. Any web server can serve the folder.
+
+Exit status: 0 done, 1 a fault, 2 words that ask for nothing.
+Faults, on standard error:
+  FileFault        a file that was named cannot be read or written: see the path and the rights
+  BadKeyLine       a line of K is no key: 'hmac NAME ID SECRET' or 'pin NAME ID DIGEST'
+  BadOrigin        O is empty, too long, or has a control character
+  StateMagic       S is no state file: name the file that --out made
+  StateShort, StateLong, StateDigest
+                   S was cut or changed: take a copy of it
+  OtherOrigin      S is of another log: give its own origin
+  StateOrder, StateString, StateEdge
+                   S was not made by this program: take a copy of it
+  StateHead        a note in S does not verify under K: give the keys that it was made with
+  NothingComplete  no checkpoint is complete: pull what is missing first
+  ShelfInUse       D has a checkpoint: name another folder
+  ShelfFault       D cannot be written: see the path, the rights and the room
+  OutOfMemory      there is not enough memory
+
+Example: tlogmirror export --origin log.example --keys keys --state state --dir copy";
+
+/// What `notes` reads, writes and may end with.
+pub(crate) const NOTES: &str = "\
+Each note is written byte for byte as it came, to SIZE-ROOT-K.note: ROOT in lower case hexadecimal, K
+from 0 among the notes of one size and root. So both notes of a fork can be shown to anyone.
+
+Exit status: 0 done, 1 a fault (FileFault where a file of that name has other bytes), 2 words that
+ask for nothing.
+Faults, on standard error:
+  FileFault    a file that was named cannot be read or written: see the path and the rights
+  BadKeyLine   a line of K is no key: 'hmac NAME ID SECRET' or 'pin NAME ID DIGEST'
+  BadOrigin    O is empty, too long, or has a control character
+  StateMagic   S is no state file: name the file that --out made
+  StateShort, StateLong, StateDigest
+               S was cut or changed: take a copy of it
+  OtherOrigin  S is of another log: give its own origin
+  StateOrder, StateString, StateEdge
+               S was not made by this program: take a copy of it
+  StateHead    a note in S does not verify under K: give the keys that it was made with
+  OutOfMemory  there is not enough memory
+
+Example: tlogmirror notes --origin log.example --keys keys --state state --dir notes";
+
+/// What `serve` reads, writes and may end with.
+pub(crate) const SERVE: &str = "\
+The output is 'listening 127.0.0.1:P' once connections are accepted. They are answered one after the
+other; a fault of one is printed on standard error, and the next is answered.
+
+Exit status: 0 done, 1 a fault, 2 words that ask for nothing, or P or N is none (BadArgument).
+Faults, on standard error:
+  FileFault    a file that was named cannot be read or written: see the path and the rights
+  BadKeyLine   a line of K is no key: 'hmac NAME ID SECRET' or 'pin NAME ID DIGEST'
+  BadOrigin    O is empty, too long, or has a control character
+  StateMagic   S is no state file: name the file that --out made
+  StateShort, StateLong, StateDigest
+               S was cut or changed: take a copy of it
+  OtherOrigin  S is of another log: give its own origin
+  StateOrder, StateString, StateEdge
+               S was not made by this program: take a copy of it
+  StateHead    a note in S does not verify under K: give the keys that it was made with
+  PortFault    the port cannot be had: another program may have it
+  WriteFault   standard output could not be written: a part may have been
+  OutOfMemory  there is not enough memory
+
+Example: tlogmirror serve --origin log.example --keys keys --state state --port 8080 --requests 100";

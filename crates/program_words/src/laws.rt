@@ -1,0 +1,26 @@
+//! What the command line says of some words, and of all.
+ghost use Rattle.std.specs.Prelude.{◌≡◌, ◌∷◌, [], codes};
+ghost use Rattle.clap.specs.declared.error.kind.ErrorKind.TheVariants.{
+  DisplayHelp,
+  DisplayVersion,
+  MissingRequiredArgument,
+};
+ghost use Rattle.program_words.specs.Commands.{Asks, faults};
+ghost use Rattle.program_words.specs.Laws.{LawfulWordsName, WordsAskForOneName};
+ghost use Rattle.program_words.specs.declared.command.Command.TheVariants.{Root, Check};
+
+/// Some command lines, and what they ask for.
+pub fn words_example()
+    ensures root { Asks (codes "root" ∷ codes "--width" ∷ codes "200" ∷ []) (Root (record { width = 200 })) }
+    ensures check { Asks (codes "check" ∷ []) Check }
+    ensures no_width { faults (codes "root" ∷ []) ≡ MissingRequiredArgument ∷ [] }
+    ensures help { faults (codes "root" ∷ codes "--help" ∷ []) ≡ DisplayHelp ∷ [] }
+    ensures version { faults (codes "--version" ∷ []) ≡ DisplayVersion ∷ [] }
+{}
+
+/// Words with nothing wrong name one of the commands, and what they ask for is said by one name and one list of
+/// options.
+pub fn lawful_law()
+    ensures named { LawfulWordsName }
+    ensures one { WordsAskForOneName }
+{}

@@ -1,0 +1,75 @@
+//! The place that a log's files are fetched from.
+ghost use Rattle.std.specs.Prelude.{◌≡◌, ◌≢◌, ◌++◌, ◌∷◌, ℕ, ◌<◌, IfNone, IfSome, codes, length, slice_index};
+ghost use Rattle.program_words.specs.Commands.{IsEmptyOrSlash, IsHostAndPrefix, IsPlace, colon};
+ghost use Rattle.program_words.specs.Readings.{ReadsPart};
+ghost use Rattle.mirror_client.specs.Site.{slash};
+
+use crate::command::Place;
+use crate::fault::CommandFault;
+use crate::parts::number_in;
+use mirror_client::{Site, SiteFault};
+use std::alloc::Global;
+
+// What stands before the first slash, and what follows, with that slash.
+fn host_and_prefix(word: &str) -> (&str, &str)
+    ensures whole { word.now ≡ result.0.now ++ result.1.now }
+    ensures before { (i : ℕ) → i < length result.0.now → slice_index result.0.now i ≢ slash }
+    ensures after { IsEmptyOrSlash result.1.now }
+{
+    match word.find('/') {
+        Some(at) => word.split_at(at),
+        None => word.split_at(word.len()),
+    }
+}
+
+// What stands before the last colon, and what follows it.
+fn address_and_digits(host: &str) -> Option<(&str, &str)>
+    ensures some { IfSome result (λ x. host.now ≡ x.0.now ++ colon ∷ x.1.now) }
+    ensures last { IfSome result (λ x. (i : ℕ) → i < length x.1.now → slice_index x.1.now i ≢ colon) }
+    ensures none { IfNone result ((i : ℕ) → i < length host.now → slice_index host.now i ≢ colon) }
+{
+    host.rsplit_once(':')
+}
+
+// Whether a site may have this host and prefix.
+fn check_site(alloc: Global, host: &str, prefix: &str) -> Result<(), CommandFault>
+    ensures { ReadsPart (λ _. IsHostAndPrefix host.now prefix.now) result }
+{
+    match Site::new(alloc, host, prefix) {
+        Ok(_) => Ok(()),
+        Err(SiteFault::OutOfMemory) => Err(CommandFault::OutOfMemory),
+        Err(_) => Err(CommandFault::BadArgument),
+    }
+}
+
+// The server that the word names.
+fn server_of<'a>(alloc: Global, word: &'a str) -> Result<Place<'a>, CommandFault>
+    ensures { ReadsPart (IsPlace (codes "http") word.now) result }
+{
+    let (host, prefix) = host_and_prefix(word);
+    check_site(alloc, host, prefix)?;
+    match address_and_digits(host) {
+        Some((address, digits)) => Ok(Place::Server {
+            host,
+            prefix,
+            address,
+            port: number_in(digits, 1, 65_535)? as u16,
+        }),
+        None => Err(CommandFault::BadArgument),
+    }
+}
+
+/// The place that the two words name: `dir` and a folder, or `http` and a server.
+pub(crate) fn place_of<'a>(
+    alloc: Global,
+    kind: &str,
+    word: &'a str,
+) -> Result<Place<'a>, CommandFault>
+    ensures { ReadsPart (IsPlace kind.now word.now) result }
+{
+    match kind {
+        "dir" => Ok(Place::Folder(word)),
+        "http" => server_of(alloc, word),
+        _ => Err(CommandFault::BadArgument),
+    }
+}

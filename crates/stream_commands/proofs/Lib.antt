@@ -1,3 +1,0 @@
-mod Cut
-mod CheckText
-mod EntryLists

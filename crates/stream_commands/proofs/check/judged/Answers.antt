@@ -1,5 +1,0 @@
-use Rattle.stream_commands.proofs.CheckText.{proof_is_utf8}
-use Rattle.stream_commands.proofs.check.judged.Goals as goal
-
-pub returns-in_default : goal.returns-in_default
-returns-in_default c = λ proof is. c.in_default.ensures.cases.0 (proof_is_utf8 c.args.bytes.now proof is)

@@ -1,0 +1,10 @@
+use Rattle.std.proofs.Common.{◌≡◌}
+use Rattle.tlog_build.specs.Signing.{first_secret}
+use Rattle.tlog_build.proofs.signing.signing_key.Given as goal
+
+-- the first key of a shared secret is the first of the lines that are left
+abbrev pub invariant-loop-line : goal.invariant-loop-line
+invariant-loop-line l =
+    (goal.iterator-loop-line).can_next l.line-iterator ×
+    (goal.iterator-loop-line).is_finite l.line-iterator ×
+    (first_secret l.line-iterator.rest.items ≡ first_secret l.fn.keys.items)

@@ -1,0 +1,79 @@
+-- A log built of entries (C2SP tlog-tiles). `ChecksOrigin` and `IsUnexported` are cited by the
+-- contracts of private functions alone.
+use Rattle.std.specs.Prelude.{◌≡◌, ◌⊎◌, ℕ, List, length, Option, Result, Ok, Err, ⊤}
+use Rattle.std.specs.FinSet as set
+use Rattle.signed_note.specs.Keys.{Key}
+use Rattle.tlog_hash.specs.Tree.{mth, strings}
+use Rattle.tlog_tiles.specs.declared.paths.Path.TheVariants.{Checkpoint}
+use Rattle.node_store.specs.Strings.{Has, NoClash}
+use Rattle.mirror_model.specs.Origin.{IsOrigin}
+use Rattle.mirror_model.specs.View.{View}
+use Rattle.mirror_model.specs.Complete.{IsComplete}
+use Rattle.mirror_sources.specs.ListSource.{OpensAnywhere}
+use Rattle.mirror_sources.specs.Told.{KeepsTold, AddsTold}
+use Rattle.mirror_folders.specs.Shelf.{Put, TellsNone, TellsSome}
+use Rattle.mirror_folders.specs.Files.{paths_of, files_at}
+use Rattle.mirror_folders.specs.Exports.{AddsPrefix}
+use Rattle.mirror_folders.specs.declared.fault.ExportFault.TheVariants as export
+use Rattle.tlog_build.specs.declared.fault.BuildFault.{BuildFault}
+use Rattle.tlog_build.specs.declared.fault.BuildFault.TheVariants.{BadOrigin, Export}
+use Rattle.tlog_build.specs.declared.fault.BuildFault.TheVariants.{OutOfMemory}
+
+-- what each answer of judging an origin says: a mirror may be of it, or not
+abbrev pub ChecksOrigin : {T : Type 0} → List ℕ → Result T BuildFault → Type 0
+ChecksOrigin origin (Ok x) = IsOrigin origin
+ChecksOrigin origin (Err BadOrigin) = ¬ IsOrigin origin
+ChecksOrigin origin (Err OutOfMemory) = ⊤
+ChecksOrigin origin (Err fault) = ⊥
+
+-- the answer comes from before the export: no shelf was asked for anything
+abbrev pub IsUnexported : {T : Type 0} → Result T BuildFault → Type 0
+IsUnexported (Ok x) = ⊤
+IsUnexported (Err (Export fault)) = ⊥
+IsUnexported (Err fault) = ⊤
+
+module _ (digest : List ℕ → List ℕ) where
+  -- no two strings of the tree of the entries share a digest
+  abbrev pub HasNoClashing : List (List ℕ) → Type 0
+  HasNoClashing entries = NoClash digest (set.from_list (strings digest entries))
+
+  module _ (origin : List ℕ) (key : Key) (entries : List (List ℕ)) where
+    -- the note is a checkpoint of all the entries, which opens under any keys that have the key
+    abbrev pub IsLogNote : List ℕ → Type 0
+    IsLogNote note = OpensAnywhere note origin key (length entries) (mth digest entries)
+
+    -- the files of the log of the entries under such a note
+    pub record AreLogFiles (files : List Put) : Type 0 where
+      pub note : List ℕ
+      pub is_note : IsLogNote note
+      pub files_are : files ≡ files_at digest note entries (paths_of (length entries))
+
+    -- a view that holds such a note, and nothing but what belongs to the log; its head is complete
+    pub record IsLogView (v : View) : Type 0 where
+      pub note : List ℕ
+      pub is_note : IsLogNote note
+      pub origin_is : v.origin ≡ origin
+      pub notes : (other : List ℕ) → Has v.notes other → other ≡ note
+      pub held : (y : List ℕ) → Has v.strings y → Has (set.from_list (strings digest entries)) y
+      pub complete : IsComplete digest v (length entries) (mth digest entries)
+
+    -- what each answer of making a view of the log says
+    abbrev pub FillsMirror : Result View BuildFault → Type 0
+    FillsMirror (Ok v) = IsLogView v
+    FillsMirror (Err BadOrigin) = ¬ IsOrigin origin
+    FillsMirror (Err OutOfMemory) = ⊤
+    FillsMirror (Err fault) = ⊥
+
+    -- what building the log puts onto a shelf: at Ok all its files, onto one that had no checkpoint
+    abbrev pub BuildsLog : {T : Type 0} → Option (List Put) → Option (List Put) →
+        Result T BuildFault → Type 0
+    BuildsLog old new (Ok x) =
+        (files : List Put) × AreLogFiles files × TellsNone old Checkpoint × AddsTold old new files
+    BuildsLog old new (Err BadOrigin) = (¬ IsOrigin origin) × KeepsTold old new
+    BuildsLog old new (Err (Export export.ShelfInUse)) =
+        KeepsTold old new × TellsSome old Checkpoint
+    BuildsLog old new (Err (Export export.ShelfFault)) =
+        (files : List Put) × AreLogFiles files × AddsPrefix old new files
+    BuildsLog old new (Err OutOfMemory) =
+        KeepsTold old new ⊎ ((files : List Put) × AreLogFiles files × AddsPrefix old new files)
+    BuildsLog old new (Err fault) = ⊥

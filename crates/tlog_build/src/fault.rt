@@ -1,0 +1,69 @@
+//! Why a log is not built.
+ghost use Rattle.std.specs.Prelude.{◌≡◌};
+ghost use Rattle.tlog_build.specs.declared.fault.BuildFault.TheVariants.{OutOfMemory};
+ghost use Rattle.tlog_build.specs.Faults.{of_export, of_new, of_pull};
+
+use mirror_folders::ExportFault;
+use mirror_pull::PullFault;
+use std::alloc::AllocError;
+use thiserror::Error;
+use tlog_mirror::NewFault;
+
+/// Why a log is not built. It prints the name of the innermost variant.
+/// A shelf that has a checkpoint already, for example, prints `ShelfInUse`.
+#[derive(Debug, Drop, PartialEq, Eq, Clone, Copy, Error)]
+pub enum BuildFault {
+    /// No mirror may be of that origin: it is empty, has more than 65,535 bytes, or has a character below U+0020.
+    #[error("BadOrigin")]
+    BadOrigin,
+    /// The pull of the log's own entries ended early. `OutOfMemory` never comes here.
+    #[error(transparent)]
+    Pull(PullFault),
+    /// The log is not put onto its shelf. `OutOfMemory` never comes here.
+    #[error(transparent)]
+    Export(ExportFault),
+    /// Memory was refused.
+    #[error("OutOfMemory")]
+    OutOfMemory,
+}
+
+impl From<NewFault> for BuildFault {
+    ghost from_gives = { λ f u. u ≡ of_new f };
+
+    fn from(fault: NewFault) -> BuildFault {
+        match fault {
+            NewFault::BadOrigin => BuildFault::BadOrigin,
+            NewFault::OutOfMemory => BuildFault::OutOfMemory,
+        }
+    }
+}
+
+impl From<PullFault> for BuildFault {
+    ghost from_gives = { λ f u. u ≡ of_pull f };
+
+    fn from(fault: PullFault) -> BuildFault {
+        match fault {
+            PullFault::OutOfMemory => BuildFault::OutOfMemory,
+            _ => BuildFault::Pull(fault),
+        }
+    }
+}
+
+impl From<ExportFault> for BuildFault {
+    ghost from_gives = { λ f u. u ≡ of_export f };
+
+    fn from(fault: ExportFault) -> BuildFault {
+        match fault {
+            ExportFault::OutOfMemory => BuildFault::OutOfMemory,
+            _ => BuildFault::Export(fault),
+        }
+    }
+}
+
+impl From<AllocError> for BuildFault {
+    ghost from_gives = { λ _ u. u ≡ OutOfMemory };
+
+    fn from(_e: AllocError) -> BuildFault {
+        BuildFault::OutOfMemory
+    }
+}

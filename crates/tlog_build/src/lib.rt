@@ -1,0 +1,18 @@
+//! A log built of entries: the entries are read, a key signs its checkpoint, and all its files are put onto a shelf.
+//!
+//! ```text
+//! let entries = read_entries(alloc, &mut input)?;
+//! let Some(key) = signing_key(read_keys(alloc, &key_bytes)?) else { .. };
+//! build_log::<Sha256Tree, _>(alloc, "example.com/log", &keys, key, entries, &mut shelf)?;
+//! ```
+#![tactic(auto)]
+
+mod building;
+mod entries;
+mod fault;
+mod signing;
+
+pub use building::build_log;
+pub use entries::{EntriesFault, read_entries};
+pub use fault::BuildFault;
+pub use signing::signing_key;
