@@ -4,7 +4,7 @@ ghost use Rattle.signed_note.specs.Reading.{MakesSecret};
 ghost use Rattle.mirror_model.specs.TrueLaws.{AreShort};
 
 use crate::clock::{now, since};
-use log_sources::ListSource;
+use mirror_sources::ListSource;
 use signed_note::{HmacKey, KeyFault};
 use std::alloc::{AllocError, Global};
 use std::time::CpuClock;

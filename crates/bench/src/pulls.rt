@@ -4,8 +4,8 @@ ghost use Rattle.mirror_model.specs.TrueLaws.{AreShort};
 
 use crate::clock::{now, resident_bytes, tell, tell_since};
 use crate::list::{entries_of, hash_tree, key, source_of};
-use log_sources::ListSource;
 use mirror_pull::{PullFault, Pulled, pull};
+use mirror_sources::ListSource;
 use signed_note::Verifier;
 use std::alloc::{AllocError, Global};
 use std::rt::Files;

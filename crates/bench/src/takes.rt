@@ -4,7 +4,7 @@ ghost use Rattle.std.specs.Prelude.{◌≡◌, ◌/◌};
 use crate::clock::{now, since, tell};
 use crate::heads::take_bundle;
 use crate::pulls::source_told;
-use log_sources::{ListSource, Source, SourceFault};
+use mirror_sources::{ListSource, Source, SourceFault};
 use std::time::CpuClock;
 use tlog_hash::TreeHash;
 use tlog_mirror::Mirror;

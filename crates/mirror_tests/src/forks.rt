@@ -1,4 +1,4 @@
-//! A fork that two lists show though they share a digest. Forks of logs without clashes stand in `tests/forks.runs`.
+//! A fork that two lists show though they share a digest. Forks of logs without collides stand in `tests/forks.runs`.
 use crate::given::{take_letters, take_log};
 use std::alloc::{AllocError, Global};
 use std::process::Abort;

@@ -6,7 +6,7 @@ use std::test::Fail;
 use tlog_hash::{SumTree, TreeHash};
 use tlog_mirror::{Mirror, TakeFault};
 
-// Two entries that clash, in one bundle and in two.
+// Two entries that collide, in one bundle and in two.
 #[test]
 fn colliding_leaves(rt: HostRuntime) -> Result<(), Fail> {
     let mut mirror = Mirror::<SumTree>::new(rt.alloc(), "ex")?;
@@ -23,7 +23,7 @@ fn colliding_leaves(rt: HostRuntime) -> Result<(), Fail> {
     Ok(())
 }
 
-// The node of the first two entries clashes with the third.
+// The node of the first two entries collides with the third.
 #[test]
 fn colliding_join(rt: HostRuntime) -> Result<(), Fail> {
     let mut mirror = Mirror::<SumTree>::new(rt.alloc(), "ex")?;
@@ -38,7 +38,7 @@ fn colliding_join(rt: HostRuntime) -> Result<(), Fail> {
     Ok(())
 }
 
-// A bundle of one to three entries that clash is refused, and so many strings are held.
+// A bundle of one to three entries that collide is refused, and so many strings are held.
 fn refuses<H: TreeHash>(
     rt: &impl Abort,
     alloc: Global,
@@ -60,7 +60,7 @@ const HEAD_OF_FOUR: &str =
 const HEAD_OF_TWO: &str =
     "ex\n2\nBAAAAAAAAAAAAAAAAAAAAAAAAAAAAAAAAAAAAAAAAAA=\n\n\u{2014} good AQIDBAU=\n";
 
-// Tiles and heads over rows of which two joins clash, and rows of which one clashes with what is held: each is Collision, and
+// Tiles and heads over rows of which two joins collide, and rows of which one collides with what is held: each is Collision, and
 // not OutOfMemory.
 #[test]
 fn colliding_tiles_and_heads(rt: HostRuntime) -> Result<(), Fail> {

@@ -167,7 +167,7 @@ fn play_under<H: TreeHash>(
     Ok(())
 }
 
-// Whether three events were answered, one of them by want of memory and the others by Ok.
+// Whether three events were answered, one of them by `OutOfMemory` and the others by Ok.
 fn are_done_but_one(answers: &[Result<(), TakeFault>]) -> bool {
     let mut refused = 0usize;
     for answer in answers {

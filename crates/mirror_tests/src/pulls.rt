@@ -8,15 +8,16 @@ ghost use Rattle.std.specs.Prelude.{◌≡◌, map, IfOk};
 ghost use Rattle.mirror_model.specs.TrueLaws.{AreShort};
 
 use crate::given::count_of_heads;
-use log_sources::{ListSource, Source};
 use lying::{Liar, Lie, lying_log};
 use mirror_pull::{PullFault, Pulled, pull};
+use mirror_sources::{ListSource, Source};
 use signed_note::{HmacKey, KeyFault, Verifier};
 use std::alloc::{AllocError, Global};
 use std::process::Abort;
 use std::test::Fail;
 use tlog_hash::{Sha256Tree, TreeHash};
 use tlog_mirror::Mirror;
+use tlog_tiles::Path;
 
 // The numbers from that one on, so many of them.
 fn numbers(alloc: Global, from: u16, count: u16) -> Result<Vec<Vec<u8>>, AllocError>
@@ -91,8 +92,8 @@ fn fails_once<H: TreeHash>(
     Ok(())
 }
 
-// How often a pull of C(257) asks, and how it ends: of the rows pull-257, at a source that would fail then, false-bundle and
-// partials-gone, and where nothing is given, or the checkpoint alone.
+// How often a new mirror's pull of C(257) asks, and how it ends: of the rows pull-257, at a source that would fail then, false-bundle
+// and partials-gone, and where nothing is given, or the checkpoint alone.
 #[test]
 fn gets_of_a_pull(rt: HostRuntime) -> Result<(), Fail> {
     for (lie, from, count, gets, end) in [
@@ -102,7 +103,7 @@ fn gets_of_a_pull(rt: HostRuntime) -> Result<(), Fail> {
         (Lie::Silence, 0, 0, 1, Err(PullFault::NoCheckpoint)),
         (Lie::NoFiles, 0, 0, 3, Err(PullFault::NoEdge)),
     ] {
-        let mut source = lying_log::<Sha256Tree>(rt.alloc(), lie, from, count, gets)?;
+        let mut source = lying_log::<Sha256Tree>(rt.alloc(), lie, from, count, gets as u64)?;
         asks(&rt, rt.alloc(), &mut source, gets, end)?;
     }
     Ok(())
@@ -113,12 +114,15 @@ fn asks<H: TreeHash>(
     rt: &impl Abort,
     alloc: Global,
     source: &mut Liar<H>,
-    gets: u64,
+    gets: usize,
     want: Result<bool, PullFault>,
 ) -> Result<(), Fail> {
     let mut mirror = Mirror::<H>::new(alloc, "ex")?;
     let end = end_of_pull(alloc, &mut mirror, source)?;
-    assert!(rt; source.gets == gets && source.failures == 0, "{gets}");
+    assert!(rt;
+        source.asked.len() == gets && source.failures == 0,
+        "{gets}"
+    );
     match end {
         Ok(pulled) => {
             assert!(rt; want == Ok(pulled.complete), "{gets}");
@@ -126,6 +130,53 @@ fn asks<H: TreeHash>(
         }
         Err(fault) => assert!(rt; want == Err(fault), "{gets}"),
     }
+    Ok(())
+}
+
+// The row false-bundle: what a mirror that serves C(3) asks a source over C(257) for, whose first bundle is of other entries.
+#[test]
+fn gets_of_a_false_bundle(rt: HostRuntime) -> Result<(), Fail> {
+    asks_false_bundle::<Sha256Tree>(&rt, rt.alloc())
+}
+
+fn asks_false_bundle<H: TreeHash>(rt: &impl Abort, alloc: Global) -> Result<(), Fail> {
+    let mut mirror = Mirror::<H>::new(alloc, "ex")?;
+    let mut first = list::<H>(alloc, 0, 3)?;
+    let held = end_of_pull(alloc, &mut mirror, &mut first)??;
+    assert!(rt; held.size == 3 && held.complete);
+    let mut source = lying_log::<H>(alloc, Lie::FalseBundle, 1000, 256, 5)?;
+    asks_five(rt, alloc, &mut mirror, &mut source)
+}
+
+// The checkpoint, the two partial tiles at the edge of 257 entries, and the two bundles: nothing else is missing, since the
+// leaf hashes of a bundle give all nodes above them.
+fn asks_five<H: TreeHash>(
+    rt: &impl Abort,
+    alloc: Global,
+    mirror: &mut Mirror<H>,
+    source: &mut Liar<H>,
+) -> Result<(), Fail> {
+    let end = end_of_pull(alloc, mirror, source)??;
+    assert!(rt; end.size == 257 && end.rounds == 1 && end.refused == 0 && !end.complete);
+    let five = [
+        Path::Checkpoint,
+        Path::Tile {
+            level: 0,
+            index: 1,
+            width: 1,
+        },
+        Path::Tile {
+            level: 1,
+            index: 0,
+            width: 1,
+        },
+        Path::Entries {
+            index: 0,
+            width: 256,
+        },
+        Path::Entries { index: 1, width: 1 },
+    ];
+    assert!(rt; source.asked.as_slice() == five.as_slice() && source.failures == 0);
     Ok(())
 }
 

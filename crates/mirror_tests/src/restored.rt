@@ -6,7 +6,7 @@ use std::alloc::Global;
 use std::process::Abort;
 use std::test::Fail;
 use tlog_hash::{Sha256Tree, TreeHash};
-use tlog_mirror::{HeldFault, Mirror, NewFault};
+use tlog_mirror::{Mirror, NewFault, RestoreFault};
 
 // The head of the log of one entry of no bytes, the edge of which has no strings.
 const HEAD_OF_1: &str =
@@ -48,14 +48,14 @@ fn keeps_heads<H: TreeHash>(
         mirror,
         &keys,
         HEAD_OF_1,
-        Err(HeldFault::BadHead),
+        Err(RestoreFault::BadHead),
         0,
     )?;
     keys.push(Box::new(alloc, Five)?)?;
     for (note, want) in [
         (HEAD_OF_1, Ok(())),
         (HEAD_OF_1, Ok(())),
-        (HEAD_OF_3, Err(HeldFault::UnheldEdge)),
+        (HEAD_OF_3, Err(RestoreFault::UnheldEdge)),
     ] {
         answers(rt, alloc, mirror, &keys, note, want, 1)?;
     }
@@ -69,7 +69,7 @@ fn answers<H: TreeHash>(
     mirror: &mut Mirror<H>,
     keys: &[Box<dyn Verifier>],
     note: &str,
-    want: Result<(), HeldFault>,
+    want: Result<(), RestoreFault>,
     count: usize,
 ) -> Result<(), Fail> {
     let answer = mirror.keep_held_head(alloc, keys, note.as_bytes());

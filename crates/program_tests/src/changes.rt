@@ -1,5 +1,5 @@
 //! Each byte of a state changed in turn.
-use crate::given::{keys, loaded, saved};
+use crate::given::{keys, load_example, saved};
 use crate::states::{COMPLETE, sealed};
 use mirror_state::LoadFault;
 use signed_note::Verifier;
@@ -32,7 +32,7 @@ fn fate_of<H: TreeHash>(
     text: &[u8],
 ) -> Result<Option<LoadFault>, Fail> {
     let mut reader = text;
-    match loaded::<H, _>(alloc, keys, &mut reader) {
+    match load_example::<H, _>(alloc, keys, &mut reader) {
         Ok(mirror) => {
             assert!(rt; saved(alloc, &mirror)?.as_slice() == text);
             Ok(None)

@@ -2,11 +2,9 @@
 use crate::given::mirror_of;
 use crate::states::{COMPLETE, EMPTY, FIRST_SUM, SECOND_SUM};
 use crate::streams::FailingWriter;
-use file_commands::{
-    ItemFiles, MemoryFiles, MergeFilesFault, NamedFault, NamedFiles, TakeFilesFault, run_merge,
-    run_take,
-};
-use state_commands::{AskFault, Question, print_report};
+use program_commands::{ItemFiles, MergeFilesFault, TakeFilesFault, run_merge, run_take};
+use program_files::{MemoryFiles, NamedFault, NamedFiles};
+use program_reports::{AskFault, Question, print_report};
 use std::alloc::Global;
 use std::io::Write;
 use std::test::Fail;

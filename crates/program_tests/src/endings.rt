@@ -1,22 +1,23 @@
 //! How a run ends by a fault that no run comes to, or over a stream that fails in mid-text: its status, and what it says on
 //! which stream.
 use crate::streams::FailingWriter;
-use command_line::CommandFault;
-use file_commands::{ExportFileFault, MergeFilesFault, NotesFault, StateFault, TakeFilesFault};
-use mirror_commands::{RunFault, TellFault, WorkFault, carry_out, told};
 use mirror_pull::PullFault;
 use mirror_state::LoadFault;
-use mirror_updates::BuildFault;
+use program_commands::{
+    CheckFault, ExportFileFault, MergeFilesFault, NotesFault, RootFault, StateFault, TakeFilesFault,
+};
+use program_library::{RunFault, TellFault, WorkFault, ending_of, print_ending};
+use program_words::CommandFault;
 use std::alloc::Global;
 use std::io::Write;
 use std::process::Abort;
 use std::test::Fail;
-use stream_commands::{CheckFault, RootFault};
+use tlog_build::BuildFault;
 use tlog_mirror::{MergeFault, TakeFault};
 
 // How a run ends by that fault, over these streams. It tells nothing of the calls, which makes the tests cheaper.
 fn ended<O: Write, E: Write>(alloc: Global, fault: RunFault, output: &mut O, errors: &mut E) -> u8 {
-    carry_out(&told(alloc, Err(fault)), output, errors)
+    print_ending(&ending_of(alloc, Err(fault)), output, errors)
 }
 
 // A run that ends by that fault has the status 1, and this is all that is said.
@@ -53,7 +54,7 @@ fn collisions_of_a_load(rt: HostRuntime) {
     }
 }
 
-// The same met by the work itself, and want of memory.
+// The same met by the work itself, and `OutOfMemory`.
 #[test]
 fn collisions_of_the_work(rt: HostRuntime) {
     let fault = PullFault::Collision;

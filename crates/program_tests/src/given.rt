@@ -1,7 +1,7 @@
 //! What the tests give: the key, and mirrors of states.
 use mirror_state::{LoadFault, SaveFault, load, save};
+use program_commands::check_origin;
 use signed_note::{HmacKey, KeyFault, Verifier};
-use state_commands::check_origin;
 use std::alloc::Global;
 use std::io::Read;
 use std::test::Fail;
@@ -21,7 +21,7 @@ pub(crate) fn keys(alloc: Global) -> Result<Vec<Box<dyn Verifier>>, Fail> {
 }
 
 // What the reader gives is loaded to, of origin `ex`, which is lawful.
-pub(crate) fn loaded<H: TreeHash, R: Read>(
+pub(crate) fn load_example<H: TreeHash, R: Read>(
     alloc: Global,
     keys: &[Box<dyn Verifier>],
     reader: &mut R,
@@ -35,7 +35,7 @@ pub(crate) fn loaded<H: TreeHash, R: Read>(
 // The mirror of a state of origin `ex`, under the key of these tests.
 pub(crate) fn mirror_of<H: TreeHash>(alloc: Global, mut text: &[u8]) -> Result<Mirror<H>, Fail> {
     let keys = keys(alloc)?;
-    Ok(loaded(alloc, &keys, &mut text)?)
+    Ok(load_example(alloc, &keys, &mut text)?)
 }
 
 // The text that is saved of a mirror.

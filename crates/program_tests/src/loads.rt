@@ -1,5 +1,5 @@
 //! States that are cut, and readers and writers that fail.
-use crate::given::{keys, loaded, mirror_of};
+use crate::given::{keys, load_example, mirror_of};
 use crate::states::COMPLETE;
 use crate::streams::{FailingWriter, Strange};
 use mirror_state::{LoadFault, SaveFault, save};
@@ -17,7 +17,7 @@ fn fault_of<H: TreeHash, R: Read>(
     keys: &[Box<dyn Verifier>],
     reader: &mut R,
 ) -> Option<LoadFault> {
-    loaded::<H, R>(alloc, keys, reader).err()
+    load_example::<H, R>(alloc, keys, reader).err()
 }
 
 #[test]

@@ -1,10 +1,10 @@
 //! Requests for memory that are refused, as by `rt try --test --fail-alloc N`: where a call was refused one, it did
 //! nothing, or what it put is no checkpoint; and the next call is right.
 use crate::exports::assert_files;
-use crate::given::{keys, loaded, mirror_of, saved};
+use crate::given::{keys, load_example, mirror_of, saved};
 use crate::states::{COMPLETE, NOTE};
-use log_sources::{Source, SourceFault};
 use mirror_folders::{DirShelf, DirSource, ExportFault, MemShelf, Shelf, export};
+use mirror_sources::{Source, SourceFault};
 use mirror_state::{LoadFault, SaveFault, save};
 use signed_note::Verifier;
 use std::alloc::Global;
@@ -50,10 +50,10 @@ fn loaded_at_last<H: TreeHash>(
     keys: &[Box<dyn Verifier>],
 ) -> Result<Mirror<H>, LoadFault> {
     let mut reader = COMPLETE;
-    match loaded(alloc, keys, &mut reader) {
+    match load_example(alloc, keys, &mut reader) {
         Err(LoadFault::OutOfMemory) => {
             let mut reader = COMPLETE;
-            loaded(alloc, keys, &mut reader)
+            load_example(alloc, keys, &mut reader)
         }
         answer => answer,
     }
@@ -90,7 +90,7 @@ fn export_again_after_want_of_memory(rt: HostRuntime) -> Result<(), Fail> {
     )
 }
 
-// Want of memory, and then ample memory, onto a folder, and of a file read from it.
+// `OutOfMemory`, and then ample memory, onto a folder, and of a file read from it.
 #[test]
 fn folder_again_after_want_of_memory(rt: HostRuntime) -> Result<(), Fail> {
     let folder = "want-of-memory";

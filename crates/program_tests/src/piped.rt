@@ -1,9 +1,10 @@
 //! `root`, `check` and the entries of `build` over streams that are slow or fail.
 use crate::streams::{FailingWriter, Slow};
+use program_commands::{CheckFault, RootFault, run_check, run_root};
 use std::alloc::Global;
 use std::io::Write;
 use std::test::Fail;
-use stream_commands::{CheckFault, EntriesFault, RootFault, read_entries, run_check, run_root};
+use tlog_build::{EntriesFault, read_entries};
 use tlog_hash::Sha256Tree;
 
 // What is told of one entry of no bytes.

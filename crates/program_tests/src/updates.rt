@@ -3,10 +3,10 @@ use crate::given::key;
 use mirror_folders::MemShelf;
 use mirror_model::TakeFault;
 use mirror_pull::PullFault;
-use mirror_updates::{BuildFault, build_log};
 use signed_note::HmacKey;
 use std::alloc::Global;
 use std::test::Fail;
+use tlog_build::{BuildFault, build_log};
 use tlog_hash::{Sha256Tree, TreeHash};
 
 // Why a log of no entries is not built, under no key.

@@ -1,8 +1,10 @@
 //! What words ask for that no transcript can show.
-use crate::states::{BUNDLE, COMPLETE, NOTE, ROW};
-use command_line::{Command, CommandFault, Place, read_words};
-use file_commands::{MemoryFiles, MemoryFolders, NamedFault, NamedFiles};
-use mirror_commands::{RunFault, carry_out, key_file, run_named, run_words, told};
+use crate::exports::assert_files;
+use crate::states::{BUNDLE, COMPLETE};
+use mirror_folders::MemShelf;
+use program_files::{MemoryFiles, NamedFault, NamedFiles};
+use program_library::{RunFault, ending_of, key_file, print_ending, run_named, run_words};
+use program_words::{Command, CommandFault, Place, read_words};
 use std::alloc::{AllocError, Global};
 use std::test::Fail;
 
@@ -29,7 +31,7 @@ fn pull(rt: HostRuntime) -> Result<(), Fail> {
                     && pull.place == Place::Server {
                         host: "log.example:80",
                         prefix: "/2026",
-                        dialled: "log.example",
+                        address: "log.example",
                         port: 80,
                     }
         )
@@ -103,12 +105,12 @@ fn put(files: &mut MemoryFiles, name: &str, bytes: &[u8]) -> Result<(), NamedFau
     files.replace(name, bytes)
 }
 
-// The status of a line that is run over files and folders in memory, and all that it says of a fault. It tells nothing of
+// The status of a line that is run over files and a folder in memory, and all that it says of a fault. It tells nothing of
 // it either.
 fn run_line(
     rt: &HostRuntime,
     files: &mut MemoryFiles,
-    folders: &mut MemoryFolders,
+    folder: &mut MemShelf,
     line: &str,
     mut input: &[u8],
     errors: &mut Vec<u8>,
@@ -120,7 +122,7 @@ fn run_line(
             rt,
             alloc,
             files,
-            folders,
+            folder,
             &words,
             &mut input,
             &mut output,
@@ -128,10 +130,10 @@ fn run_line(
         ),
         Err(_) => Err(RunFault::Command(CommandFault::OutOfMemory)),
     };
-    carry_out(&told(alloc, answer), &mut output, errors)
+    print_ending(&ending_of(alloc, answer), &mut output, errors)
 }
 
-// A log is built into one folder, and the mirror of it exported into another, with a key file in memory. Once more into
+// A log is built into a folder, and the mirror of it exported into another, with a key file in memory. Once more into
 // either is refused, since it has a checkpoint.
 #[test]
 fn folders_in_memory(rt: HostRuntime) -> Result<(), Fail> {
@@ -139,42 +141,18 @@ fn folders_in_memory(rt: HostRuntime) -> Result<(), Fail> {
     let mut files = MemoryFiles::new(alloc);
     put(&mut files, "keys", b"hmac ex 00000001 00\n")?;
     put(&mut files, "state", COMPLETE)?;
-    let mut folders = MemoryFolders::new(alloc);
-    for (line, status, said) in [
-        ("build --origin ex --keys keys --dir built", 0, ""),
-        (
-            "export --origin ex --keys keys --state state --dir copy",
-            0,
-            "",
-        ),
-        (
-            "build --origin ex --keys keys --dir copy",
-            1,
-            "tlogmirror: ShelfInUse\n",
-        ),
-        (
-            "export --origin ex --keys keys --state state --dir built",
-            1,
-            "tlogmirror: ShelfInUse\n",
-        ),
+    for line in [
+        "build --origin ex --keys keys --dir log",
+        "export --origin ex --keys keys --state state --dir log",
     ] {
-        let mut errors = Vec::new(alloc);
-        let ended = run_line(&rt, &mut files, &mut folders, line, BUNDLE, &mut errors);
-        assert!(rt; ended == status, "{line}");
-        assert!(rt; errors.as_slice() == said.as_bytes(), "{line}");
-    }
-    let files = [
-        ("tile/0/000.p/3", ROW),
-        ("tile/entries/000.p/3", BUNDLE),
-        ("checkpoint", NOTE),
-    ];
-    let puts = folders.puts();
-    assert!(rt; puts.len() == 6);
-    for (i, (folder, path, bytes)) in puts.iter().enumerate() {
-        let (name, want) = files[i % 3];
-        assert!(rt; folder.as_str() == (if i < 3 { "built" } else { "copy" }));
-        assert!(rt; path.text(alloc)?.as_str() == name);
-        assert!(rt; bytes.as_slice() == want, "{i}");
+        let mut folder = MemShelf::new(alloc);
+        for (status, said) in [(0, ""), (1, "tlogmirror: ShelfInUse\n")] {
+            let mut errors = Vec::new(alloc);
+            let ended = run_line(&rt, &mut files, &mut folder, line, BUNDLE, &mut errors);
+            assert!(rt; ended == status, "{line}");
+            assert!(rt; errors.as_slice() == said.as_bytes(), "{line}");
+        }
+        assert_files(&rt, alloc, folder.puts())?;
     }
     Ok(())
 }

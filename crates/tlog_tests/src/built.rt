@@ -1,4 +1,4 @@
-//! Trees that are built (`stored_trees`).
+//! Trees that are built (`mirror_trees`).
 
 use crate::given::{LEAF_OF_00, LEAF_OF_10, LEAF_OF_NO_BYTES, ROOT_OF_THREE, hash};
 use crate::trees::{empty_store, put_entries, put_row, stored};

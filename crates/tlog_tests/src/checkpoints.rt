@@ -59,13 +59,8 @@ fn made_by_hand(rt: HostRuntime) -> Result<(), Fail> {
         text_of(alloc, &checkpoint)?.as_str()
             == "ex\n3\nrra8/idLcKFPsGel5VeCZNsPqbUa9eC6FZFY8yngbnc=\nmore\n"
     );
-    let Checkpoint {
-        origin,
-        extensions,
-        ..
-    } = checkpoint;
-    assert!(rt; origin.into_string().as_str() == "ex");
-    let lines = extensions.into_vec();
+    assert!(rt; checkpoint.origin.as_str() == "ex");
+    let lines = checkpoint.extensions.as_slice();
     assert!(rt; lines.len() == 1);
     assert!(rt; lines[0].as_str() == "more");
     Ok(())

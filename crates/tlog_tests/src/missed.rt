@@ -1,4 +1,4 @@
-//! What is missing of trees of which nothing is held (`stored_trees`).
+//! What is missing of trees of which nothing is held (`mirror_trees`).
 
 use crate::given::{ROOT_OF_THREE, hash};
 use crate::trees::{empty_store, is_held, missing};

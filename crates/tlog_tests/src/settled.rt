@@ -1,4 +1,4 @@
-//! What is remembered of trees (`stored_trees`).
+//! What is remembered of trees (`mirror_trees`).
 
 use crate::given::{lent, numbers};
 use crate::trees::{empty_store, put_entries, put_row, remembered};

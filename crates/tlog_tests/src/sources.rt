@@ -1,9 +1,9 @@
-//! Lists that stand in for logs (`log_sources`).
+//! Lists that stand in for logs (`mirror_sources`).
 
 ghost use Rattle.std.specs.Prelude.{◌≡◌, map, IfOk};
 ghost use Rattle.mirror_model.specs.TrueLaws.{AreShort};
 
-use log_sources::{ListSource, Source, SourceFault};
+use mirror_sources::{ListSource, Source, SourceFault};
 use signed_note::HmacKey;
 use std::alloc::{AllocError, Global};
 use std::test::Fail;

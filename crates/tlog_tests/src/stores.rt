@@ -40,7 +40,7 @@ fn entry_of<'a, H: TreeHash>(store: &'a Store<H>, digest: &Hash) -> Option<&'a [
     store.entry_of(digest)
 }
 
-// Adds a string that does not clash, has that digest, and is held then.
+// Adds a string that does not collide, has that digest, and is held then.
 fn expect_inserted<H: TreeHash>(
     rt: &impl Abort,
     store: &mut Store<H>,

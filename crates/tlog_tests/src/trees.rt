@@ -1,13 +1,13 @@
-//! What the tests of `stored_trees` share.
+//! What the tests of `mirror_trees` share.
 
 ghost use Rattle.std.specs.Prelude.{◌≡◌, IfOk};
 ghost use Rattle.node_store.specs.Strings.{NoClash};
-ghost use Rattle.stored_trees.specs.Slices.{AreSettled};
+ghost use Rattle.mirror_trees.specs.Slices.{AreSettled};
 
+use mirror_trees::{Known, add_entries, add_row, is_built, missing_of, settle};
 use node_store::{AddFault, Store};
 use std::alloc::{AllocError, Global};
 use std::process::Abort;
-use stored_trees::{Known, add_entries, add_row, is_built, missing_of, settle};
 use tlog_hash::{Hash, TreeHash};
 use tlog_tiles::Path;
 

@@ -1,12 +1,12 @@
-//! Rows and entries of trees that are held (`stored_trees`).
+//! Rows and entries of trees that are held (`mirror_trees`).
 
 ghost use Rattle.node_store.specs.Strings.{NoClash};
 
 use crate::trees::stored;
+use mirror_trees::{entries_at, row_at};
 use node_store::Store;
 use std::alloc::{AllocError, Global};
 use std::test::Fail;
-use stored_trees::{entries_at, row_at};
 use tlog_hash::{Hash, Sha256Tree, TreeHash};
 
 // What is held of a tree: the tests need no clause of it.

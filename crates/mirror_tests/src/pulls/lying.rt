@@ -1,6 +1,6 @@
 //! A source that lies.
 use crate::pulls::list;
-use log_sources::{ListSource, Source, SourceFault};
+use mirror_sources::{ListSource, Source, SourceFault};
 use std::alloc::Global;
 use std::test::Fail;
 use tlog_hash::TreeHash;
@@ -21,14 +21,14 @@ pub(crate) enum Lie {
     Silence,
 }
 
-// A source over a list, with a lie, that fails after so many gets.
+// A source over a list, with a lie, that fails after so many gets. It records the paths that it was asked for, the oldest first.
 #[derive(Drop)]
 pub(crate) struct Liar<H: TreeHash> {
     pub log: ListSource<H>,
     pub other: ListSource<H>,
     pub lie: Lie,
     pub passes: u64,
-    pub gets: u64,
+    pub asked: Vec<Path>,
     pub failures: u64,
 }
 
@@ -45,7 +45,7 @@ pub(crate) fn lying_log<H: TreeHash>(
         other: list(alloc, from, count)?,
         lie,
         passes,
-        gets: 0,
+        asked: Vec::new(alloc),
         failures: 0,
     })
 }
@@ -80,7 +80,7 @@ impl<H: TreeHash> Source for Liar<H> {
     ghost failed = { λ s. s.failures };
 
     fn get(&mut self, path: &Path) -> Result<Option<Vec<u8>>, SourceFault> {
-        self.gets = self.gets.saturating_add(1);
+        self.asked.push(*path)?;
         if self.passes == 0 {
             self.failures = self.failures.saturating_add(1);
             return Err(SourceFault::Failed);

@@ -1,4 +1,4 @@
-use Rattle.stored_trees.proofs.EmptySets.{empty_no_clash}
+use Rattle.mirror_trees.proofs.EmptySets.{empty_no_clash}
 use Rattle.tlog_tests.proofs.trees.empty_store.Goals as goal
 
 pub returns : goal.returns

@@ -1,4 +1,4 @@
-use Rattle.stored_trees.proofs.EmptySets.{nothing_known}
+use Rattle.mirror_trees.proofs.EmptySets.{nothing_known}
 use Rattle.tlog_tests.proofs.trees.is_held.Goals as goal
 
 pub is_built-requires : goal.is_built-requires

@@ -1,4 +1,4 @@
-use Rattle.stored_trees.proofs.EmptySets.{nothing_known}
+use Rattle.mirror_trees.proofs.EmptySets.{nothing_known}
 use Rattle.tlog_tests.proofs.trees.missing.Goals as goal
 
 pub missing_of-requires-clause-known : goal.missing_of-requires-clause-known

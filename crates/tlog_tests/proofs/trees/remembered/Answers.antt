@@ -1,4 +1,4 @@
-use Rattle.stored_trees.proofs.EmptySets.{empty_settled, nothing_known}
+use Rattle.mirror_trees.proofs.EmptySets.{empty_settled, nothing_known}
 use Rattle.tlog_tests.proofs.trees.remembered.Goals as goal
 
 pub loop-tree-init : goal.loop-tree-init

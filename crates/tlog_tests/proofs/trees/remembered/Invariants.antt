@@ -1,5 +1,5 @@
-use Rattle.stored_trees.specs.Known.{AreKnown}
-use Rattle.stored_trees.specs.Slices.{AreSettled}
+use Rattle.mirror_trees.specs.Known.{AreKnown}
+use Rattle.mirror_trees.specs.Slices.{AreSettled}
 use Rattle.tlog_tests.proofs.trees.remembered.Given as goal
 
 abbrev pub invariant-loop-tree : goal.invariant-loop-tree

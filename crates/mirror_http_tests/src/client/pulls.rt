@@ -5,9 +5,9 @@ ghost use Rattle.std.specs.Prelude.{map, IfOk};
 ghost use Rattle.mirror_model.specs.TrueLaws.{AreShort};
 
 use crate::served::answered;
-use log_sources::{ListSource, Source};
 use mirror_http::{Dial, HttpSource, Site};
 use mirror_pull::{PullFault, Pulled, pull};
+use mirror_sources::{ListSource, Source};
 use signed_note::{HmacKey, KeyFault, Verifier};
 use std::alloc::{AllocError, Global};
 use std::cell::Cell;

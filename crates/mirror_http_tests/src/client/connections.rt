@@ -1,8 +1,8 @@
 //! Connections over TCP, over loopback in one process.
 use crate::served::{NOT_FOUND, answered, mirror_of_3};
 use byte_streams::{read_all, write_whole};
-use log_sources::{Source, SourceFault};
 use mirror_http::{Dial, HttpSource, Site, TcpDial, get_request};
+use mirror_sources::{Source, SourceFault};
 use std::alloc::Global;
 use std::cell::Cell;
 use std::io;

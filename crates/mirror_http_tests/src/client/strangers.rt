@@ -1,6 +1,6 @@
 //! Replies that a source gets of a server that it does not know.
 use crate::client::canned::source_of;
-use log_sources::{Source, SourceFault};
+use mirror_sources::{Source, SourceFault};
 use std::process::Abort;
 use std::test::Fail;
 use tlog_tiles::Path;

@@ -1,8 +1,8 @@
 //! A source over connections that give one reply.
 use crate::client::canned::{CannedDial, source_in_pieces, source_of};
 use crate::given::push_times;
-use log_sources::{Source, SourceFault};
 use mirror_http::HttpSource;
+use mirror_sources::{Source, SourceFault};
 use std::alloc::Global;
 use std::process::Abort;
 use std::test::Fail;
