@@ -2,11 +2,11 @@
 -- functions alone.
 use Rattle.std.specs.Prelude.{◌≡◌, ◌⊎◌, ℕ, List, [], Option, Result, Ok, Err, map, ⊤}
 use Rattle.std.specs.Io.KnownBytes.{Keeps}
-use Rattle.signed_note.specs.Keys.{Key, secret_key, pinned_key}
+use Rattle.signed_note.specs.Keys.{Key}
 use Rattle.signed_note.specs.KeyFiles.{IsKeyFile, ReadsKeys}
 use Rattle.signed_note.specs.declared.fault.KeyFileFault.{KeyFileFault}
 use Rattle.signed_note.specs.declared.key_line.KeyLine.{KeyLine}
-use Rattle.signed_note.specs.declared.key_line.KeyLine.TheVariants.{Hmac, Pin}
+use Rattle.signed_note.specs.Verifiers.{JoinsPins, key_of}
 use Rattle.mirror_folders.specs.Shelf.{Put}
 use Rattle.program_files.specs.Named.{NamedFile}
 use Rattle.program_files.specs.Named.{ReadsShort, HasContents}
@@ -48,11 +48,6 @@ module _ (digest : List ℕ → List ℕ) (keys : List Key) (key_bytes : List �
   Runs words input old new answer = Refuses words old new answer ⊎ Obeys words input old new answer
 
 -- ---- the key file
-
--- the key of a line of a key file
-abbrev pub key_of : KeyLine → Key
-key_of (Hmac key) = secret_key key
-key_of (Pin texts) = pinned_key texts
 
 -- the keys of a reader of key files that failed
 abbrev pub no_lines : KeyFileFault → Result (List KeyLine) KeyFileFault
@@ -121,14 +116,17 @@ module _ (digest : List ℕ → List ℕ) (told left : Option (List NamedFile))
     pub files : left ≡ told
     pub folders : put ≡ before
 
-  -- the run is one under the keys of the key file's lines, in their order
+  -- the run is one under keys under which a note opens exactly where it opens under those of the key
+  -- file's lines
   pub record RunsUnder : Type 0 where
     pub bytes : List ℕ
     pub lines : List KeyLine
+    pub joined : List KeyLine
     pub are_bytes : AreKeyBytes told words bytes
     pub are_lines : IsKeyFile bytes lines
+    pub joins : JoinsPins lines joined
     pub runs :
-        Runs digest (map key_of lines) bytes told left held before put words input old new answer
+        Runs digest (map key_of joined) bytes told left held before put words input old new answer
 
   -- what the answer of a run that begins with the key file says: no keys were found, or the run is
   -- one under its keys

@@ -12,7 +12,7 @@ use crate::work::run_command;
 use mirror_folders::{DirShelf, NamedFolders};
 use program_files::{NamedFiles, SystemFiles};
 use program_words::read_words;
-use signed_note::{KeyFileFault, KeyLine, Verifier, read_keys};
+use signed_note::{KeyFileFault, KeyLine, Verifier, join_pins, read_keys};
 use std::alloc::Global;
 use std::fs::Files;
 use std::io::{Read, Write};
@@ -108,6 +108,9 @@ where
     let lines = match read_keys(alloc, key_bytes) {
         Ok(lines) => lines,
         Err(fault) => return Err(RunFault::KeyLines(fault)),
+    };
+    let Ok(lines) = join_pins(alloc, lines) else {
+        return Err(RunFault::KeyLines(KeyFileFault::OutOfMemory));
     };
     let mut keys: Vec<Box<dyn Verifier>> = Vec::new(alloc);
     for line in lines {

@@ -1,6 +1,8 @@
 pub mod MaskedBlocks
 pub mod Trust
 pub mod Digests
+pub mod PinnedSearch
+pub mod OnePin
 pub mod Lacking
 pub mod NameBytes
 pub mod Payloads
@@ -14,3 +16,4 @@ pub mod Signed
 pub mod KeyWords
 pub mod KeyLines
 pub mod OneKeyFile
+pub mod JoinedPins

@@ -34,7 +34,7 @@ accepts text line key h =
     let id = (Decides-eqb key.id line.id).1 h.id in
     rw (name, id, h.signature) refl
 
-list_any_same : {X : Type 0} (p q : X → Bool) (xs : List X) → ((x : X) → p x ≡ q x) → list_any p xs ≡ list_any q xs
+pub list_any_same : {X : Type 0} (p q : X → Bool) (xs : List X) → ((x : X) → p x ≡ q x) → list_any p xs ≡ list_any q xs
 list_any_same p q [] h = refl
 list_any_same p q (x ∷ xs) h = ap (λ b. b || list_any p xs) (h x) ∙ ap (λ b. q x || b) (list_any_same p q xs h)
 

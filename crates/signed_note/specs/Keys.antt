@@ -1,6 +1,7 @@
 -- What verifiers of notes are, as contracts see them (C2SP signed-note, "Signatures").
-use Rattle.std.specs.Prelude.{ℕ, List, Bool}
+use Rattle.std.specs.Prelude.{◌≡◌, ℕ, List, Bool}
 use Rattle.std.specs.List.{list_any}
+use Rattle.std.specs.List.Sorted.{IsPermutation}
 use Rattle.std.specs.Str.{bytes_eq}
 use Rattle.sha2.specs.Sha256.{sha256}
 use Rattle.signed_note.specs.Hmac.{hmac}
@@ -42,3 +43,9 @@ pinned_key k =
       id = k.id;
       accepts = λ text signature. list_any (λ d. bytes_eq d (sha256 text)) k.digests;
     }
+
+-- pinned texts of that name, that id and those digests, in whatever order the digests stand
+pub record ArePins (name : List ℕ) (id : ℕ) (digests : List (List ℕ)) (k : Pins) : Type 0 where
+  pub name_is : k.name ≡ name
+  pub id_is : k.id ≡ id
+  pub digests_are : IsPermutation digests k.digests

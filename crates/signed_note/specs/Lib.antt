@@ -4,4 +4,5 @@ pub mod Names
 pub mod Notes
 pub mod Reading
 pub mod KeyFiles
+pub mod Verifiers
 pub mod Laws

@@ -7,7 +7,7 @@ use Rattle.std.specs.List.{flat_map}
 use Rattle.base64.specs.GeneralPurpose.{IsBytes}
 use Rattle.tlog_text.specs.Hash.{base64_of}
 use Rattle.signed_note.specs.Names.{newline, IsNoteText, IsOwnName, IsSecret}
-use Rattle.signed_note.specs.Keys.{Secret, Pins}
+use Rattle.signed_note.specs.Keys.{Secret, Pins, ArePins}
 use Rattle.signed_note.specs.Notes.{SignatureParts, NoteParts, line_text, line_body}
 use Rattle.signed_note.specs.Notes.{IsSignatureLine}
 use Rattle.signed_note.specs.Notes.{IsNoteSplit, IsNote}
@@ -102,8 +102,7 @@ MakesSecret name id secret (Err key.OutOfMemory) = ⊤
 
 -- what each answer of a constructor of pinned texts says of what it is given
 abbrev pub MakesPins : List ℕ → ℕ → List (List ℕ) → Result Pins KeyFault → Type 0
-MakesPins name id digests (Ok k) =
-    IsOwnName name × (k ≡ record { name = name; id = id; digests = digests })
+MakesPins name id digests (Ok k) = IsOwnName name × ArePins name id digests k
 MakesPins name id digests (Err key.BadName) = ¬ IsOwnName name
 MakesPins name id digests (Err key.BadSecret) = ⊥
 MakesPins name id digests (Err key.OutOfMemory) = ⊤

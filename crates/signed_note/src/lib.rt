@@ -17,6 +17,7 @@
 #![tactic(auto)]
 
 mod fault;
+mod gathering;
 mod hmac;
 mod key_file;
 mod key_line;
@@ -34,6 +35,7 @@ mod signing;
 mod verifier;
 
 pub use fault::{KeyFault, KeyFileFault, NoteFault, OpenFault};
+pub use gathering::join_pins;
 pub use key_file::read_keys;
 pub use key_line::KeyLine;
 pub use laws::{notes_law, one_answer_law, one_key_answer_law};

@@ -1,9 +1,13 @@
 //! Texts that were verified elsewhere.
 
-ghost use Rattle.std.specs.Prelude.{◌≡◌};
+ghost use Rattle.std.specs.Prelude.{◌≡◌, string_bytes};
+ghost use Rattle.std.specs.Cmp.Lexicographic.{slice_cmp};
 ghost use Rattle.std.specs.List.{list_any};
+ghost use Rattle.std.specs.List.Sorted.{IsSorted};
+ghost use Rattle.std.specs.Ordering.{nat_cmp};
 ghost use Rattle.std.specs.Str.{bytes_eq};
-ghost use Rattle.signed_note.specs.Keys.{pinned_key};
+ghost use Rattle.signed_note.specs.Keys.{ArePins, pinned_key};
+ghost use Rattle.signed_note.specs.Names.{IsOwnName};
 ghost use Rattle.signed_note.specs.Reading.{MakesPins};
 
 use crate::fault::KeyFault;
@@ -20,15 +24,20 @@ use std::marker::Model;
 ///
 /// `PinnedTexts::new(alloc, "ex", 1, digests)?`, where `digests` has the SHA-256 of a text, accepts that
 /// text under any signature.
+///
+/// The digests are kept sorted: a text is hashed once, however many are pinned.
 #[derive(Debug, Drop)]
 pub struct PinnedTexts {
-    name: String,
-    id: u32,
-    digests: Vec<[u8; 32]>,
+    pub(crate) name: String,
+    pub(crate) id: u32,
+    pub(crate) digests: Vec<[u8; 32]>,
 }
 
 impl Model for PinnedTexts {
     ghost use Rattle.std.specs.Prelude.{string_bytes};
+    ghost use Rattle.std.specs.Cmp.Lexicographic.{slice_cmp};
+    ghost use Rattle.std.specs.List.Sorted.{IsSorted};
+    ghost use Rattle.std.specs.Ordering.{nat_cmp};
     ghost use Rattle.signed_note.specs.Keys.{Pins};
     ghost use Rattle.signed_note.specs.Names.{IsOwnName};
 
@@ -36,17 +45,28 @@ impl Model for PinnedTexts {
 
     ghost view = { λ k. record { name = string_bytes k.name; id = k.id; digests = k.digests.items } };
 
-    ghost invariant = { λ k. IsOwnName (string_bytes k.name) };
+    ghost invariant = { λ k. IsOwnName (string_bytes k.name) × IsSorted (slice_cmp nat_cmp) k.digests.items };
 }
 
-/// Whether the digest is listed.
+/// Whether the digest is one of these, which are sorted.
 fn lists(digests: &[[u8; 32]], digest: &[u8; 32]) -> bool
+    requires { IsSorted (slice_cmp nat_cmp) digests.now }
     ensures { result ≡ list_any (λ d. bytes_eq d digest.now) digests.now }
 {
-    digests.iter().any(|d| d == digest)
+    digests.binary_search(digest).is_ok()
 }
 
 impl PinnedTexts {
+    // The pins of a name that a key may have. Sorting takes no memory.
+    pub(crate) fn of_parts(name: String, id: u32, digests: Vec<[u8; 32]>) -> PinnedTexts
+        requires { IsOwnName (string_bytes name) }
+        ensures { ArePins (string_bytes name) id digests.items result }
+    {
+        let mut digests = digests;
+        digests.sort_unstable();
+        PinnedTexts { name, id, digests }
+    }
+
     /// Pins under that name and id.
     ///
     /// # Errors
@@ -64,11 +84,8 @@ impl PinnedTexts {
         if !is_own_name(name) {
             return Err(KeyFault::BadName);
         }
-        Ok(PinnedTexts {
-            name: String::from_str(alloc, name)?,
-            id,
-            digests,
-        })
+        let name = String::from_str(alloc, name)?;
+        Ok(PinnedTexts::of_parts(name, id, digests))
     }
 }
 

@@ -29,7 +29,7 @@ fn bad_key_lines(rt: HostRuntime) {
         b"hmac a+b 00000001 00\n",
         b"hmac a\xc2\xa0b 00000001 00\n",
         b"hmac a\xff 00000001 00\n",
-        b"Hd148d9517f61980203bc60924d3d818cef77ba66e43117da0e001a13d70fdf45 ex 00000001 00\n",
+        b"Hmac ex 00000001 00\n",
         b"pin ex 00000001 00\n",
         b"# a comment\nhmac ex 00000001 00\n",
         b"\xc3",

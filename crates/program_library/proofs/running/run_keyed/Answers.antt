@@ -4,7 +4,7 @@ use Rattle.sha2.specs.Sha256.{sha256}
 use Rattle.signed_note.specs.Keys.{pinned_key, secret_key}
 use Rattle.signed_note.specs.contracts.mac_key.HmacKey as hmac
 use Rattle.signed_note.specs.contracts.pinned.PinnedTexts as pinned
-use Rattle.program_library.specs.Runs.{key_of}
+use Rattle.signed_note.specs.Verifiers.{key_of}
 use Rattle.program_library.proofs.Keyed.{runs_under}
 use Rattle.program_library.proofs.MadeKeys.{all_boxes, key_in, made_first, made_second, none_left, one_more}
 use Rattle.program_library.proofs.running.run_keyed.Goals as goal
@@ -47,9 +47,11 @@ returns-clause-answer g c =
     inr record {
       bytes = c.args.key_bytes.now;
       lines = c.in-Ok.lines.items;
+      joined = c.in-Ok-join_pins.lines.items;
       are_bytes = c.requires;
       are_lines = c.in-Ok.ensures;
-      runs = runs_under sha256 _ (map key_of c.in-Ok.lines.items) c.args.key_bytes.now
+      joins = c.in-Ok-join_pins.ensures;
+      runs = runs_under sha256 _ (map key_of c.in-Ok-join_pins.lines.items) c.args.key_bytes.now
           (g.F.NamedFiles.puts c.args.files.now) (g.F.NamedFiles.puts c.run_words_over.new.files)
           (g.D.NamedFolders.held c.args.folders.now) (g.D.Shelf.puts c.args.folders.now)
           (g.D.Shelf.puts c.run_words_over.new.folders) (map string_bytes c.args.words.now)

@@ -1,8 +1,9 @@
-use Rattle.std.proofs.Common.{refl, ap}
+use Rattle.std.proofs.Common.{refl, ap, rules}
 use Rattle.std.specs.Prelude.{is_ok}
 use Rattle.signed_note.specs.Names.{space}
 use Rattle.signed_note.proofs.Lacking.{Lacks-from_reads}
 use Rattle.signed_note.proofs.KeyWords.{not_sized}
+use Rattle.signed_note.proofs.OnePin.{one_pin}
 use Rattle.signed_note.proofs.KeyLines.{no_pin_words, no_pin_digits, no_pin_name}
 use Rattle.signed_note.proofs.key_file.pin_of.Goals as goal
 
@@ -25,3 +26,8 @@ returns-in-Err-BadName c = (
       (Lacks-from_reads space c.in-Some.name.now c.in-Some.ensures.first)
       (rw c.in-Err-BadName.field-0-is at c.in-Err-BadName.ensures),
 )
+
+pub returns-in-Ok-new : goal.returns-in-Ok-new
+returns-in-Ok-new c =
+    one_pin c.args.text.now c.in-Some.name.now c.in-Some.digits.now c.in-Some.id c.in-Ok.digest c.in-Ok-new.pins
+    c.in-Some.ensures.found c.in-Ok-new.ensures.0 (search rules) (search rules) (search rules)

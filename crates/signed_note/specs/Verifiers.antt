@@ -1,0 +1,42 @@
+-- The keys of the lines of a key file, with the pins of one name and id joined. `is_trusted_by` and
+-- what follows it is cited by the contracts of private functions alone.
+use Rattle.std.specs.Prelude.{◌≡◌, ◌↔◌, ℕ, List, [], ◌∷◌, ◌++◌, Bool, Contains, map}
+use Rattle.std.specs.List.{list_any}
+use Rattle.signed_note.specs.Keys.{Key, Secret, Pins, ArePins, secret_key, pinned_key}
+use Rattle.signed_note.specs.Notes.{SignatureParts, Opens, is_accepted_by}
+use Rattle.signed_note.specs.declared.key_line.KeyLine.{KeyLine}
+use Rattle.signed_note.specs.declared.key_line.KeyLine.TheVariants.{Hmac, Pin}
+
+-- the key of a line of a key file
+abbrev pub key_of : KeyLine → Key
+key_of (Hmac key) = secret_key key
+key_of (Pin texts) = pinned_key texts
+
+-- a note opens under these keys exactly where it opens under those of the lines, and each shared
+-- key of the lines is among these
+pub record JoinsPins (lines joined : List KeyLine) : Type 0 where
+  pub opens :
+      (text : List ℕ) (signatures : List SignatureParts) →
+      Opens text signatures (map key_of joined) ↔ Opens text signatures (map key_of lines)
+  pub secrets : (key : Secret) → Contains lines (Hmac key) → Contains joined (Hmac key)
+
+-- whether one of the keys accepts the line's signature over the text
+abbrev pub is_trusted_by : List ℕ → SignatureParts → List Key → Bool
+is_trusted_by text line keys = list_any (is_accepted_by text line) keys
+
+-- one of these keys accepts a signature exactly where one of those does
+abbrev pub AcceptsAlike : List Key → List Key → Type 0
+AcceptsAlike keys others =
+    (text : List ℕ) (line : SignatureParts) →
+    is_trusted_by text line keys ≡ is_trusted_by text line others
+
+-- shared keys, and pins, that together accept what the lines' keys do
+pub record AreGathered (secrets : List KeyLine) (pins : List Pins) (lines : List KeyLine) : Type 0 where
+  pub alike : AcceptsAlike (map key_of secrets ++ map pinned_key pins) (map key_of lines)
+  pub secrets_in : (key : Secret) → Contains lines (Hmac key) → Contains secrets (Hmac key)
+
+-- the keys are the old ones, and behind them those pins
+pub record AddsPins (old new : List KeyLine) (pins : Pins) : Type 0 where
+  pub added : Pins
+  pub are_pins : ArePins pins.name pins.id pins.digests added
+  pub new_is : new ≡ old ++ Pin added ∷ []

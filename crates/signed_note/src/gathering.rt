@@ -1,0 +1,113 @@
+//! The pins of a key file, joined by name and id.
+
+ghost use Rattle.std.specs.Prelude.{◌≡◌, ◌<◌, ◌∷◌, [], ◌++◌, IfOk, IfSome, OnOk, length, map};
+ghost use Rattle.std.specs.List.{HoldsAt};
+ghost use Rattle.signed_note.specs.Keys.{pinned_key};
+ghost use Rattle.signed_note.specs.Verifiers.{AcceptsAlike, AddsPins, AreGathered, JoinsPins};
+
+use crate::key_line::KeyLine;
+use crate::pinned::PinnedTexts;
+use std::alloc::{AllocError, Global};
+use std::marker::Model;
+
+// Pinned texts of one name and id, while lines are gathered: the digests stand in the order of the lines.
+#[derive(Drop)]
+struct PinLines {
+    name: String,
+    id: u32,
+    digests: Vec<[u8; 32]>,
+}
+
+impl Model for PinLines {
+    ghost use Rattle.std.specs.Prelude.{string_bytes};
+    ghost use Rattle.signed_note.specs.Keys.{Pins};
+    ghost use Rattle.signed_note.specs.Names.{IsOwnName};
+
+    ghost Value = { Pins };
+
+    ghost view = { λ k. record { name = string_bytes k.name; id = k.id; digests = k.digests.items } };
+
+    ghost invariant = { λ k. IsOwnName (string_bytes k.name) };
+}
+
+impl PinLines {
+    // Adds the digests of pinned texts.
+    fn append(&mut self, texts: &PinnedTexts) -> Result<(), AllocError>
+        ensures { OnOk result (self.new ≡ record self.old { digests = self.old.digests ++ texts.now.digests }) }
+    {
+        self.digests.extend_from_slice(&texts.digests)
+    }
+}
+
+// Where the pins of the name and id of pinned texts are.
+fn place_of(gathered: &[PinLines], texts: &PinnedTexts) -> Option<usize>
+    ensures within { IfSome result (λ at. at < length gathered.now) }
+    ensures found { IfSome result (HoldsAt (λ k. (k.name ≡ texts.now.name) × (k.id ≡ texts.now.id)) gathered.now) }
+{
+    for at in 0..gathered.len() {
+        let one = &gathered[at];
+        if one.id == texts.id && one.name == texts.name {
+            return Some(at);
+        }
+    }
+    None
+}
+
+// Adds pinned texts to those of their name and id, or behind all where there are none.
+fn gather(gathered: &mut Vec<PinLines>, texts: PinnedTexts) -> Result<(), AllocError>
+    ensures { OnOk result (AcceptsAlike (map pinned_key gathered.new.items) (map pinned_key gathered.old.items ++ pinned_key texts ∷ [])) }
+{
+    if let Some(at) = place_of(gathered, &texts) {
+        return gathered[at].append(&texts);
+    }
+    let PinnedTexts { name, id, digests } = texts;
+    gathered.push(PinLines { name, id, digests })?;
+    Ok(())
+}
+
+// The shared keys of the lines, and their pins by name and id.
+fn gather_all(
+    alloc: Global,
+    lines: Vec<KeyLine>,
+) -> Result<(Vec<KeyLine>, Vec<PinLines>), AllocError>
+    ensures { IfOk result (λ both. AreGathered both.0.items both.1.items lines.items) }
+{
+    let mut secrets = Vec::new(alloc);
+    let mut pins = Vec::new(alloc);
+    for line in lines {
+        match line {
+            KeyLine::Hmac(key) => secrets.push(KeyLine::Hmac(key))?,
+            KeyLine::Pin(texts) => gather(&mut pins, texts)?,
+        }
+    }
+    Ok((secrets, pins))
+}
+
+// Adds pins to the keys.
+fn add_pins(keys: &mut Vec<KeyLine>, pins: PinLines) -> Result<(), AllocError>
+    ensures { OnOk result (AddsPins keys.old.items keys.new.items pins) }
+{
+    let PinLines { name, id, digests } = pins;
+    keys.push(KeyLine::Pin(PinnedTexts::of_parts(name, id, digests)))?;
+    Ok(())
+}
+
+/// The keys of the lines of a key file, with all pinned texts of one name and id in one `Pin`, so that a text is hashed once
+/// however many are pinned. A note opens under them exactly where it opens under the lines'. The shared keys come first.
+///
+/// ```text
+/// join_pins(alloc, read_keys(alloc, &bytes)?)?   // of a thousand lines `pin log 00000001 ..` one key
+/// ```
+///
+/// # Errors
+///
+/// `AllocError` where memory was refused.
+pub fn join_pins(alloc: Global, lines: Vec<KeyLine>) -> Result<Vec<KeyLine>, AllocError>
+    ensures { IfOk result (λ joined. JoinsPins lines.items joined.items) }
+{
+    let (mut keys, pins) = gather_all(alloc, lines)?;
+    for one in pins {
+        add_pins(&mut keys, one)?;
+    }
+    Ok(keys)
+}
