@@ -1,0 +1,106 @@
+//! The files of a log of some entries.
+ghost use Rattle.std.specs.Prelude.{◌≡◌, ◌<◌, ◌^◌, All, map, length, IfOk, IfSome, IfNone};
+ghost use Rattle.tlog_hash.specs.Tree.{mth};
+ghost use Rattle.tlog_tiles.specs.Tiles.{IsTileWithin, tile_bytes, bundle_bytes};
+
+use crate::bundles::bundles_of;
+use crate::levels::levels_of;
+use crate::pieces::{row_piece, text_piece};
+use std::alloc::{AllocError, Global};
+use std::marker::{Model, PhantomData};
+use tlog_hash::{Hash, TreeHash};
+
+/// The tiles and bundles of a log of some entries, and their tree hash, in memory.
+///
+/// Contracts see the list of entries, and nothing of how it lies. It has 33 bytes for each entry and, beside the entry
+/// itself, 10 bytes more.
+///
+/// ```text
+/// let files: LogFiles<Sha256Tree> = LogFiles::new(alloc, &entries)?;  // three entries
+/// files.tile(0, 0, 3)    // their leaf hashes
+/// files.tile(0, 0, 4)    // None
+/// ```
+#[derive(Drop)]
+pub struct LogFiles<H: TreeHash> {
+    // The tree hash of the entries.
+    root: Hash,
+    // Of each level from 0 to 7 the hashes of its full nodes, one after the other.
+    rows: Vec<Vec<u8>>,
+    // The entries, each after its two-byte length, one after the other.
+    text: Vec<u8>,
+    // Where each entry ends in the text.
+    ends: Vec<usize>,
+    by: PhantomData<H>,
+}
+
+impl<H: TreeHash> Model for LogFiles<H> {
+    ghost use Rattle.std.specs.Prelude.{ℕ, List, map};
+    ghost use Rattle.tlog_files.specs.Layout.{entries_in, IsLayout};
+
+    ghost Value = { List (List ℕ) };
+
+    ghost view = { λ a. entries_in 0 a.ends.items a.text.items };
+
+    ghost invariant = { λ a. IsLayout H.digest (entries_in 0 a.ends.items a.text.items) a.root (map (λ row. row.items) a.rows.items) a.text.items a.ends.items };
+}
+
+impl<H: TreeHash> LogFiles<H> {
+    /// The files of a log of those entries, each of at most 65,535 bytes. Each entry is hashed once.
+    ///
+    /// # Errors
+    ///
+    /// Memory was refused.
+    pub fn new(alloc: Global, entries: &[Vec<u8>]) -> Result<LogFiles<H>, AllocError>
+        requires short { All (λ e. length e.items < 2 ^ 16) entries.now }
+        ensures { IfOk result (λ files. files ≡ map (λ e. e.items) entries.now) }
+    {
+        let (root, rows) = levels_of::<H>(alloc, entries)?;
+        let (text, ends) = bundles_of(alloc, entries)?;
+        Ok(LogFiles {
+            root,
+            rows,
+            text,
+            ends,
+            by: PhantomData,
+        })
+    }
+
+    /// How many entries there are. It takes no memory.
+    pub fn size(&self) -> u64
+        ensures { result ≡ length self.now }
+    {
+        self.ends.len() as u64
+    }
+
+    /// The tree hash of the entries, MTH of RFC 6962, section 2.1. It takes no memory, and hashes nothing.
+    pub fn root(&self) -> Hash
+        ensures { result ≡ mth H.digest self.now }
+    {
+        self.root
+    }
+
+    /// The bytes of a tile of the entries (C2SP tlog-tiles, "Merkle Tree"): `width` hashes of that level from number
+    /// `256 * index` on. `None` exactly where the tile is not within the entries, as for a level over 7 or a width
+    /// outside 1 to 256. It takes no memory.
+    pub fn tile(&self, level: u32, index: u64, width: u32) -> Option<&[u8]>
+        ensures some { IfSome result (λ bytes. bytes.now ≡ tile_bytes H.digest self.now level index width) }
+        ensures within { IfSome result (λ bytes. IsTileWithin (length self.now) level index width) }
+        ensures none { IfNone result (¬ IsTileWithin (length self.now) level index width) }
+    {
+        if level > 7 {
+            return None;
+        }
+        row_piece(self.rows[level as usize].as_slice(), index, width)
+    }
+
+    /// The bytes of a bundle of the entries (C2SP tlog-tiles, "Log Entries"): `width` entries from number `256 * index`
+    /// on. `None` exactly where the bundle is not within the entries, as for a width outside 1 to 256. It takes no
+    /// memory.
+    pub fn bundle(&self, index: u64, width: u32) -> Option<&[u8]>
+        ensures some { IfSome result (λ bytes. bytes.now ≡ bundle_bytes self.now index width) }
+        ensures within { IfSome result (λ bytes. IsTileWithin (length self.now) 0 index width) }
+        ensures none { IfNone result (¬ IsTileWithin (length self.now) 0 index width) }
+    {
+        text_piece(self.text.as_slice(), self.ends.as_slice(), index, width)
+    }
+}
