@@ -1,3 +1,2 @@
-pub mod FullRows
 pub mod Texts
 pub mod Answering

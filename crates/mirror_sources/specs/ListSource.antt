@@ -1,10 +1,6 @@
--- A source over a list of entries: what it is seen as, and how it answers. `HoldsFile` is cited by
--- the contracts of private functions alone.
-use Rattle.std.specs.Prelude.{◌≡◌, ℕ, ◌+◌, ◌*◌, ◌/◌, ◌^◌, ◌<◌, ◌≤◌, List, [], length, get_or}
-use Rattle.std.specs.Prelude.{Contains}
-use Rattle.std.specs.Prelude.{Option, Some, None}
+-- A source over a list of entries: what it is seen as, and how it answers.
+use Rattle.std.specs.Prelude.{◌≡◌, ℕ, List, length, Contains, Option, Some, None}
 use Rattle.signed_note.specs.Keys.{Key}
-use Rattle.tlog_hash.specs.Rows.{level_row}
 use Rattle.tlog_tiles.specs.declared.paths.Path.{Path}
 use Rattle.tlog_tiles.specs.declared.paths.Path.TheVariants.{Checkpoint, Tile, Entries}
 use Rattle.tlog_tiles.specs.Tiles.{IsWithin}
@@ -16,13 +12,6 @@ pub record AskedLog : Type 0 where
   pub entries : List (List ℕ)
   pub note : List ℕ
   pub asked : List Path
-
--- a row of so many hashes, or a list of so many entries, has all that a file of that number and
--- width has
-pub record HoldsFile (len index width : ℕ) : Type 0 where
-  pub some : 1 ≤ width
-  pub upto : width ≤ 256
-  pub within : 256 * index + width ≤ len
 
 -- the note is a head of that size and root, and opens under any keys that have the key
 abbrev pub OpensAnywhere : List ℕ → List ℕ → Key → ℕ → List ℕ → Type 0
@@ -47,12 +36,3 @@ module _ (digest : List ℕ → List ℕ) (entries : List (List ℕ)) where
   IsHonestAnywhere origin key note =
       (keys : List Key) → Contains keys key →
       IsHonest digest entries origin keys note (length entries) (IsListAnswer note)
-
-  -- the hashes of all full ranges of 256^level entries
-  abbrev pub full_row : ℕ → List (List ℕ)
-  full_row level = level_row digest entries level 0 (length entries / 256 ^ level)
-
-  -- the rows are the full rows of the first levels, as many as count, lowest first
-  pub record AreFullRows (count : ℕ) (rows : List (List (List ℕ))) : Type 0 where
-    pub count_is : length rows ≡ count
-    pub each : (level : ℕ) → level < count → get_or rows level [] ≡ full_row level

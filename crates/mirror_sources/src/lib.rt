@@ -11,9 +11,7 @@
 #![tactic(auto)]
 
 mod head;
-mod levels;
 mod list;
-mod part;
 mod source;
 
 pub use list::ListSource;

@@ -4,16 +4,14 @@ ghost use Rattle.signed_note.specs.Keys.{secret_key};
 ghost use Rattle.mirror_model.specs.Origin.{IsOrigin};
 ghost use Rattle.mirror_model.specs.TrueLaws.{AreShort};
 ghost use Rattle.mirror_sources.specs.ListSource.{IsListAnswer, IsHonestAnywhere};
-ghost use Rattle.tlog_tiles.specs.declared.paths.Path.TheVariants.{Tile};
 
 use crate::head::head_note;
-use crate::levels::{levels_of, root_of};
-use crate::part::{bundle_of, tile_of};
 use crate::source::{Source, SourceFault};
 use signed_note::HmacKey;
 use std::alloc::{AllocError, Global};
-use std::marker::{Model, PhantomData};
-use tlog_hash::{Hash, TreeHash};
+use std::marker::Model;
+use tlog_files::LogFiles;
+use tlog_hash::TreeHash;
 use tlog_tiles::Path;
 
 /// A log of a list of entries, held in memory: a source that is honest, never fails, and tells what it
@@ -21,7 +19,7 @@ use tlog_tiles::Path;
 ///
 /// It answers each path within its list by the bytes that a log of these entries serves (C2SP tlog-tiles),
 /// the checkpoint by a note of the whole list that its key signed, and every other path by None. Each
-/// entry is hashed once, when it is made; what is asked for later is cut from the hashes.
+/// entry is hashed once, when it is made; what is asked for later is a copy of a piece of memory.
 ///
 /// ```text
 /// let key = HmacKey::new(alloc, "ex", 1, &[0])?;
@@ -31,23 +29,17 @@ use tlog_tiles::Path;
 #[derive(Drop)]
 pub struct ListSource<H: TreeHash> {
     alloc: Global,
-    entries: Vec<Vec<u8>>,
-    levels: Vec<Vec<Hash>>,
+    files: LogFiles<H>,
     note: Vec<u8>,
     asked: Vec<Path>,
-    by: PhantomData<H>,
 }
 
 impl<H: TreeHash> Model for ListSource<H> {
-    ghost use Rattle.std.specs.Prelude.{map};
-    ghost use Rattle.mirror_model.specs.TrueLaws.{AreShort};
-    ghost use Rattle.mirror_sources.specs.ListSource.{AskedLog, AreFullRows};
+    ghost use Rattle.mirror_sources.specs.ListSource.{AskedLog};
 
     ghost Value = { AskedLog };
 
-    ghost view = { λ a. record { entries = map (λ e. e.items) a.entries.items; note = a.note.items; asked = a.asked.items } };
-
-    ghost invariant = { λ a. AreShort (map (λ e. e.items) a.entries.items) × AreFullRows H.digest (map (λ e. e.items) a.entries.items) 8 (map (λ row. row.items) a.levels.items) };
+    ghost view = { λ a. record { entries = a.files; note = a.note.items; asked = a.asked.items } };
 }
 
 impl<H: TreeHash> ListSource<H> {
@@ -71,16 +63,13 @@ impl<H: TreeHash> ListSource<H> {
         ensures honest { IfOk result (λ source. IsHonestAnywhere H.digest source.entries origin.now (secret_key key) source.note) }
         ensures unasked { IfOk result (λ source. source.asked ≡ []) }
     {
-        let levels = levels_of::<H>(alloc, &entries)?;
-        let root = root_of::<H>(alloc, &levels[0], &levels[1])?;
-        let note = head_note(alloc, origin, entries.len() as u64, &root, &key)?;
+        let files: LogFiles<H> = LogFiles::new(alloc, &entries)?;
+        let note = head_note(alloc, origin, files.size(), &files.root(), &key)?;
         Ok(ListSource {
             alloc,
-            entries,
-            levels,
+            files,
             note,
             asked: Vec::new(alloc),
-            by: PhantomData,
         })
     }
 
@@ -92,32 +81,28 @@ impl<H: TreeHash> ListSource<H> {
     }
 
     /// The bytes at a path, where the path is within the list.
-    fn file_at(&self, path: Path) -> Result<Option<Vec<u8>>, AllocError>
-        ensures { IfOk result (λ bytes. IsListAnswer H.digest self.now.entries self.now.note path (option_map (λ v. v.items) bytes)) }
+    fn file_at(&self, path: Path) -> Option<&[u8]>
+        ensures { IsListAnswer H.digest self.now.entries self.now.note path (option_map (λ b. b.now) result) }
     {
         match path {
-            Path::Checkpoint => Ok(Some(Vec::from_slice(self.alloc, &self.note)?)),
+            Path::Checkpoint => Some(self.note.as_slice()),
             Path::Tile {
                 level,
                 index,
                 width,
-            } => self.tile_at(level, index, width),
-            Path::Entries { index, width } => {
-                let found = bundle_of(self.alloc, &self.entries, index, width)?;
-                Ok(found)
-            }
+            } => self.files.tile(level, index, width),
+            Path::Entries { index, width } => self.files.bundle(index, width),
         }
     }
 
-    /// The bytes of a tile, where it is within the list.
-    fn tile_at(&self, level: u32, index: u64, width: u32) -> Result<Option<Vec<u8>>, AllocError>
-        ensures { IfOk result (λ bytes. IsListAnswer H.digest self.now.entries self.now.note (Tile level index width) (option_map (λ v. v.items) bytes)) }
+    /// A copy of these bytes.
+    fn copy_at(&self, path: Path) -> Result<Option<Vec<u8>>, AllocError>
+        ensures { IfOk result (λ bytes. IsListAnswer H.digest self.now.entries self.now.note path (option_map (λ v. v.items) bytes)) }
     {
-        if level > 7 {
-            return Ok(None);
+        match self.file_at(path) {
+            Some(bytes) => Ok(Some(Vec::from_slice(self.alloc, bytes)?)),
+            None => Ok(None),
         }
-        let found = tile_of(self.alloc, &self.levels[level as usize], index, width)?;
-        Ok(found)
     }
 }
 
@@ -132,7 +117,7 @@ impl<H: TreeHash> Source for ListSource<H> {
     ghost failed = { λ _. 0 };
 
     fn get(&mut self, path: &Path) -> Result<Option<Vec<u8>>, SourceFault> {
-        let found = self.file_at(*path)?;
+        let found = self.copy_at(*path)?;
         self.asked.push(*path)?;
         Ok(found)
     }
