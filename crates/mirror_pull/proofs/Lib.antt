@@ -1,3 +1,4 @@
+pub mod PathSets
 pub mod Askings
 pub mod Gains
 pub mod FrontRounds

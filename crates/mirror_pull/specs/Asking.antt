@@ -1,5 +1,5 @@
--- What a pull asks of its source. `AddsEach`, `AddsTo`, `AreFresh`, `AsksPaths` and `IsFresh` are
--- cited by the contracts of private functions alone.
+-- What a pull asks of its source. `AddsEach`, `AddsTo`, `AreFresh`, `AsksPaths`, `IsFresh` and `PathList`
+-- are cited by the contracts of private functions alone.
 use Rattle.std.specs.Prelude.{◌≡◌, ◌≢◌, ℕ, List, [], ◌∷◌, ◌++◌, Option, Result, Ok, Err}
 use Rattle.std.specs.Prelude.{AllPairs, Contains}
 use Rattle.tlog_tiles.specs.declared.paths.Path.{Path}
@@ -8,6 +8,10 @@ use Rattle.mirror_sources.specs.Told.{AddsTold, Rose}
 use Rattle.mirror_pull.specs.declared.fault.PullFault.{PullFault}
 use Rattle.mirror_pull.specs.declared.fault.PullFault.TheVariants.{NoCheckpoint, NoEdge, Head}
 use Rattle.mirror_pull.specs.declared.fault.PullFault.TheVariants.{Source, Collision, OutOfMemory}
+
+-- the paths that a pull has asked for, in their order
+pub record PathList : Type 0 where
+  pub items : List Path
 
 -- no path stands twice in the list
 abbrev pub IsOnce : List Path → Type 0

@@ -6,6 +6,7 @@ ghost use Rattle.mirror_pull.specs.Taking.{EndsBeforeHead, EndsAfterHead};
 ghost use Rattle.mirror_pull.specs.Replying.{Asks, Gathers};
 ghost use Rattle.mirror_sources.specs.Source.{StaysWithin};
 
+use crate::asked::AskedPaths;
 use crate::fault::PullFault;
 use mirror_sources::Source;
 use tlog_tiles::Path;
@@ -37,8 +38,8 @@ pub(crate) fn path_width(path: Path) -> u32
 }
 
 /// Whether the path is among those asked for.
-pub(crate) fn is_asked(asked: &[Path], path: &Path) -> bool
-    ensures { IsTrue result ↔ Contains asked.now path.now }
+pub(crate) fn is_asked(asked: &AskedPaths, path: &Path) -> bool
+    ensures { IsTrue result ↔ Contains asked.now.items path.now }
 {
     asked.contains(path)
 }
@@ -46,7 +47,7 @@ pub(crate) fn is_asked(asked: &[Path], path: &Path) -> bool
 /// Asks for a path. One that was asked for already counts as not found.
 pub(crate) fn ask<S: Source>(
     source: &mut S,
-    asked: &mut Vec<Path>,
+    asked: &mut AskedPaths,
     path: Path,
 ) -> Result<Option<Vec<u8>>, PullFault>
     ensures told { AsksPaths asked.old.items asked.new.items (S.asked source.old) (S.asked source.new) result }

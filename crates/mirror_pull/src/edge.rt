@@ -9,6 +9,7 @@ ghost use Rattle.mirror_pull.specs.declared.fault.PullFault.TheVariants.{NoEdge}
 ghost use Rattle.mirror_sources.specs.Source.{StaysWithin};
 
 use crate::ask::{ask, full_path, path_width};
+use crate::asked::AskedPaths;
 use crate::fault::PullFault;
 use mirror_sources::Source;
 use std::alloc::Global;
@@ -19,7 +20,7 @@ const FULL_TILE: usize = 8192;
 /// The bytes of a partial tile: as they are found, or else the first hashes of the full tile.
 fn edge_row<S: Source>(
     source: &mut S,
-    asked: &mut Vec<Path>,
+    asked: &mut AskedPaths,
     path: Path,
 ) -> Result<Vec<u8>, PullFault>
     ensures told { AsksPaths asked.old.items asked.new.items (S.asked source.old) (S.asked source.new) result }
@@ -46,7 +47,7 @@ fn edge_row<S: Source>(
 pub(crate) fn edge_rows<S: Source>(
     alloc: Global,
     source: &mut S,
-    asked: &mut Vec<Path>,
+    asked: &mut AskedPaths,
     size: u64,
 ) -> Result<Vec<Vec<u8>>, PullFault>
     ensures told { AsksPaths asked.old.items asked.new.items (S.asked source.old) (S.asked source.new) result }

@@ -8,6 +8,7 @@
 #![tactic(auto)]
 
 mod ask;
+mod asked;
 mod edge;
 mod fault;
 mod laws;

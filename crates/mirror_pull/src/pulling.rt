@@ -8,6 +8,7 @@ ghost use Rattle.mirror_pull.specs.Taking.{PullsTo, TakesHead};
 ghost use Rattle.mirror_sources.specs.Source.{StaysWithin};
 
 use crate::ask::ask;
+use crate::asked::AskedPaths;
 use crate::edge::edge_rows;
 use crate::fault::PullFault;
 use crate::rounds::work;
@@ -81,7 +82,7 @@ pub fn pull<H: TreeHash, S: Source>(
     ensures replies { FollowsReplies H.digest (map (λ k. key k) keys.now) mirror.old.view mirror.new.view (S.may_answer source.old) (S.asked source.old) (S.asked source.new) result }
     ensures honest { PullsHonestly H.digest (map (λ k. key k) keys.now) mirror.old.view mirror.new.view (S.may_answer source.old) (S.asked source.old) (S.asked source.new) result }
 {
-    let mut asked = Vec::new(alloc);
+    let mut asked = AskedPaths::new(alloc);
     let Some(note) = ask(source, &mut asked, Path::Checkpoint)? else {
         return Err(PullFault::NoCheckpoint);
     };

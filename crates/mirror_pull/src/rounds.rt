@@ -11,6 +11,7 @@ ghost use Rattle.mirror_pull.specs.Answering.{refused_of, refused_of_fault};
 ghost use Rattle.mirror_sources.specs.Source.{StaysWithin};
 
 use crate::ask::{ask, full_path, is_asked};
+use crate::asked::AskedPaths;
 use crate::fault::PullFault;
 use mirror_model::{TakeFault, walk_law};
 use mirror_sources::Source;
@@ -63,7 +64,7 @@ fn take_path<H: TreeHash, S: Source>(
     alloc: Global,
     mirror: &mut Mirror<H>,
     source: &mut S,
-    asked: &mut Vec<Path>,
+    asked: &mut AskedPaths,
     path: Path,
 ) -> Result<bool, PullFault>
     requires { IsTakeable path }
@@ -91,7 +92,7 @@ fn work_round<H: TreeHash, S: Source>(
     alloc: Global,
     mirror: &mut Mirror<H>,
     source: &mut S,
-    asked: &mut Vec<Path>,
+    asked: &mut AskedPaths,
     paths: &[Path],
 ) -> Result<u64, PullFault>
     requires { All IsTakeable paths.now }
@@ -116,13 +117,13 @@ fn work_round<H: TreeHash, S: Source>(
 fn paths_to_ask<H: TreeHash>(
     alloc: Global,
     mirror: &Mirror<H>,
-    asked: &[Path],
+    asked: &AskedPaths,
     size: u64,
     root: &Hash,
 ) -> Result<Vec<Path>, AllocError>
     requires { size ≤ 256 ^ 8 }
     ensures takeable { IfOk result (λ paths. All IsTakeable paths.items) }
-    ensures left { IfOk result (λ paths. HasHead mirror.now.view size root.now → IsLeft H.digest size root.now asked.now mirror.now.view paths.items) }
+    ensures left { IfOk result (λ paths. HasHead mirror.now.view size root.now → IsLeft H.digest size root.now asked.now.items mirror.now.view paths.items) }
 {
     walk_law();
     let mut paths = Vec::new(alloc);
@@ -142,7 +143,7 @@ pub(crate) fn work<H: TreeHash, S: Source>(
     alloc: Global,
     mirror: &mut Mirror<H>,
     source: &mut S,
-    asked: &mut Vec<Path>,
+    asked: &mut AskedPaths,
     size: u64,
     root: &Hash,
 ) -> Result<(u32, u64), PullFault>

@@ -16,14 +16,14 @@ pub returns-in_err-get-clause-told : goal.returns-in_err-get-clause-told
 returns-in_err-get-clause-told g c =
     let p = err_from_is_err_and c.from_residual-in_err-get.result c.from_residual-in_err-get.ensures.1 in
     let fresh : Contains c.args.asked.now.items c.args.path → ⊥ =
-    λ has. let t = c.is_asked.ensures.1 (rw (← c.deref.ensures.value) at has) in absurd cc in
+    λ has. let t = c.is_asked.ensures.1 has in absurd cc in
     rw p.1 (some_get c.args.asked.now.items c.args.path (g.S.Source.asked c.args.source.now)
     (g.S.Source.asked c.get.new.self) c.in_err-get.field-0.0 fresh c.in_err-get.ensures.told)
 
 pub returns-clause-told : goal.returns-clause-told
 returns-clause-told g c =
     let fresh : Contains c.args.asked.now.items c.args.path → ⊥ =
-    λ has. let t = c.is_asked.ensures.1 (rw (← c.deref.ensures.value) at has) in absurd cc in
+    λ has. let t = c.is_asked.ensures.1 has in absurd cc in
     record {
       more = c.args.path ∷ [];
       list = c.in_ok-push.ensures.items;
@@ -112,7 +112,7 @@ returns-then-is_asked-clause-told g c = adds_to_none c.args.asked.now.items (g.S
 pub returns-then-is_asked-clause-replied : goal.returns-then-is_asked-clause-replied
 returns-then-is_asked-clause-replied g c =
     let has : Contains c.args.asked.now.items c.args.path =
-    rw c.deref.ensures.value at (c.is_asked.ensures.0 c.if-is_asked.true) in
+    c.is_asked.ensures.0 c.if-is_asked.true in
     gathers_none (g.S.Source.may_answer c.args.source.now) (g.S.Source.asked c.args.source.now) c.args.asked.now.items
     (λ xs. Asks c.args.asked.now.items c.args.path xs None) (AsksAgain has)
 
@@ -129,7 +129,7 @@ returns-in_err-get-clause-replied g c =
 pub returns-clause-replied : goal.returns-clause-replied
 returns-clause-replied g c =
     let fresh : Contains c.args.asked.now.items c.args.path → ⊥ =
-    λ has. let t = c.is_asked.ensures.1 (rw (← c.deref.ensures.value) at has) in absurd cc in
+    λ has. let t = c.is_asked.ensures.1 has in absurd cc in
     record {
       replies = _;
       are = AsksNew _ fresh;

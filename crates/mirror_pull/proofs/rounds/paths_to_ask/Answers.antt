@@ -27,7 +27,7 @@ loop-path-preserved g c =
             takeable =
                 subst (All IsTakeable) (sym grown)
                 (All-push IsTakeable c.loop-path.paths.items _ c.loop-path.invariant.takeable item);
-            leaves = leaves_in c.args.asked.now c.deref-path-items.result.now c.loop-path.path-index
+            leaves = leaves_in c.args.asked.now.items c.deref-path-items.result.now c.loop-path.path-index
                 c.loop-path.paths.items _ c.loop-path-test.true grown c.loop-path.invariant.leaves
                 (λ has. let asked = w.if-not-is_asked.ensures.1 has in absurd cc);
           }
@@ -35,7 +35,7 @@ loop-path-preserved g c =
           let kept = ap (λ v. v.items) w.paths-is in
           record {
             takeable = subst (All IsTakeable) (sym kept) c.loop-path.invariant.takeable;
-            leaves = leaves_out c.args.asked.now c.deref-path-items.result.now c.loop-path.path-index
+            leaves = leaves_out c.args.asked.now.items c.deref-path-items.result.now c.loop-path.path-index
                 c.loop-path.paths.items _ c.loop-path-test.true kept c.loop-path.invariant.leaves
                 (w.if-not-is_asked.ensures.0 refl);
           }
@@ -55,7 +55,7 @@ returns-clause-left g c =
     record {
       missing = c.in-Some.missing.items;
       lists = m.some;
-      leaves = subst (λ (l : List Path). Leaves c.args.asked.now l c.loop-path.paths.items)
+      leaves = subst (λ (l : List Path). Leaves c.args.asked.now.items l c.loop-path.paths.items)
           (take_all c.loop-path.path-index c.deref-path-items.result.now c.loop-path-test.false ∙ at)
           c.loop-path.invariant.leaves;
     }

@@ -6,5 +6,5 @@ use Rattle.mirror_pull.proofs.rounds.paths_to_ask.Given as goal
 abbrev pub invariant-loop-path : goal.invariant-loop-path
 invariant-loop-path g l = record {
   takeable : All IsTakeable l.paths.items;
-  leaves : Leaves l.asked (take l.path-index l.path-items) l.paths.items;
+  leaves : Leaves l.asked.items (take l.path-index l.path-items) l.paths.items;
 }

@@ -61,16 +61,16 @@ loop-rounds-preserved g c =
           (c.loop-rounds.rounds + 1) c.saturating_add-refused.result c.work_round.new.mirror.view xs)
           c.loop-rounds.invariant.later (c.loop-rounds.invariant.replied head) c.in_ok-more.ensures.replied
           (λ xs ys grown list p q. rounds_step digest c.args.size c.args.root.now c.args.asked.now.items
-          c.loop-rounds.asked.items c.deref.result.now c.in_ok-paths.paths.items c.deref-in-loop-rounds.result.now
+          c.loop-rounds.asked.items c.loop-rounds.asked.items c.in_ok-paths.paths.items c.deref.result.now
           c.args.mirror.now.view x c.work_round.new.mirror.view c.loop-rounds.rounds c.loop-rounds.refused
           c.in_ok-more.more c.saturating_add-refused.result xs ys c.saturating_add-refused.ensures grown
-          c.deref.ensures.value c.deref-in-loop-rounds.ensures.value some p (c.in_ok-paths.ensures.left now) q);
+          refl c.deref.ensures.value some p (c.in_ok-paths.ensures.left now) q);
       honest = λ entries m.
           let digest = g.H.TreeHash.digest in
           let before = c.loop-rounds.invariant.honest entries m in
           let wants : IsLeft digest c.args.size c.args.root.now
           c.loop-rounds.asked.items c.loop-rounds.mirror.view c.in_ok-paths.paths.items =
-          rw c.deref.ensures.value at (c.in_ok-paths.ensures.left before.1.next.head) in
+          c.in_ok-paths.ensures.left before.1.next.head in
           let fronts =
           wanted_front digest entries c.args.size c.args.root.now
           (may c.loop-rounds.source) c.loop-rounds.mirror.view c.loop-rounds.asked.items before.1.next
@@ -80,7 +80,7 @@ loop-rounds-preserved g c =
           (may c.loop-rounds.source) c.loop-rounds.mirror.view c.loop-rounds.asked.items before.1.next
           c.in_ok-paths.paths.items fronts in
           let took =
-          rw c.deref-in-loop-rounds.ensures.value at c.in_ok-more.ensures.honest entries c.args.size may_take in (
+          rw c.deref.ensures.value at c.in_ok-more.ensures.honest entries c.args.size may_take in (
             omega (arith, c.saturating_add-refused.ensures, before.0, took.0),
             work_step digest entries c.args.size c.args.root.now (may c.args.source.now)
                 (may c.loop-rounds.source) c.args.mirror.now.view c.loop-rounds.mirror.view
@@ -124,7 +124,7 @@ returns-then-is_empty-clause-honest g c =
     let may = g.S.Source.may_answer c.loop-rounds.source in
     let before = c.loop-rounds.invariant.honest entries m in
     let wants : IsLeft digest c.args.size c.args.root.now c.loop-rounds.asked.items c.loop-rounds.mirror.view
-    c.in_ok-paths.paths.items = rw c.deref.ensures.value at (c.in_ok-paths.ensures.left before.1.next.head) in (
+    c.in_ok-paths.paths.items = c.in_ok-paths.ensures.left before.1.next.head in (
       before.0,
       work_done digest entries c.args.size c.args.root.now (g.S.Source.may_answer c.args.source.now) may
           c.args.mirror.now.view c.loop-rounds.mirror.view
@@ -150,7 +150,7 @@ returns-in_err-more-clause-honest g c =
     let digest = g.H.TreeHash.digest in
     let before = c.loop-rounds.invariant.honest entries m in
     let wants : IsLeft digest c.args.size c.args.root.now c.loop-rounds.asked.items c.loop-rounds.mirror.view
-    c.in_ok-paths.paths.items = rw c.deref.ensures.value at (c.in_ok-paths.ensures.left before.1.next.head) in
+    c.in_ok-paths.paths.items = c.in_ok-paths.ensures.left before.1.next.head in
     let fronts =
     wanted_front digest entries c.args.size c.args.root.now
     (may c.loop-rounds.source) c.loop-rounds.mirror.view c.loop-rounds.asked.items before.1.next
@@ -159,7 +159,7 @@ returns-in_err-more-clause-honest g c =
     round_may digest entries c.args.size c.args.root.now
     (may c.loop-rounds.source) c.loop-rounds.mirror.view c.loop-rounds.asked.items before.1.next
     c.in_ok-paths.paths.items fronts in
-    c.in_err-more.ensures.honest entries c.args.size (rw c.deref-in-loop-rounds.ensures.value may_take))
+    c.in_err-more.ensures.honest entries c.args.size (rw c.deref.ensures.value may_take))
 
 pub returns-then-is_empty-clause-replied : goal.returns-then-is_empty-clause-replied
 returns-then-is_empty-clause-replied g c =
@@ -169,8 +169,8 @@ returns-then-is_empty-clause-replied g c =
     head_stays c.args.mirror.now.view x c.loop-rounds.invariant.gains.grows c.args.size c.args.root.now head in
     gathers_as (c.loop-rounds.invariant.replied head) (λ xs grown p.
     rounds_ended g.H.TreeHash.digest c.args.size c.args.root.now c.args.asked.now.items c.loop-rounds.asked.items
-    c.deref.result.now c.in_ok-paths.paths.items c.args.mirror.now.view x c.loop-rounds.rounds c.loop-rounds.refused xs
-    grown c.deref.ensures.value
+    c.loop-rounds.asked.items c.in_ok-paths.paths.items c.args.mirror.now.view x c.loop-rounds.rounds c.loop-rounds.refused xs
+    grown refl
     (sym c.in_ok-paths.paths.ok.0 ∙ none_if c.in_ok-paths.paths.len (sym c.is_empty.ensures ∙ c.if-is_empty.true)) p
     (c.in_ok-paths.ensures.left now))
 
