@@ -15,6 +15,7 @@ use Rattle.node_store.specs.Strings.{Strings}
 use Rattle.mirror_model.specs.View.{View}
 use Rattle.mirror_model.specs.Heads.{HasHead}
 use Rattle.mirror_model.specs.Forks.{Point, point_cmp}
+use Rattle.mirror_model.specs.Listed.{ListsHeads}
 use Rattle.mirror_model.specs.Marks.{Points, State}
 use Rattle.mirror_model.specs.Reports.{ReportsHeads, head_point}
 use Rattle.mirror_model.specs.declared.reports.Head.{Head}
@@ -141,3 +142,13 @@ module _ (digest : List ℕ → List ℕ) (origin : List ℕ) (kept : List KeptN
       IfOk r (λ heads. ReportsHeads digest old.view (items heads))
   reported items (Err e) p q = p
   reported items (Ok heads) p q = reports (items heads) p q
+
+  -- the sizes and roots are those of the heads
+  pub listed_points : ListsHeads old.view (map pair_point points)
+  listed_points = record {
+    sorted = sorted_out pair_point point_cmp points sorted;
+    exact = λ point. (
+      λ c. subst (λ (o : State). HasHead o.view point.size point.root) old_is (head_listed point c),
+      λ h. listed_head point (subst (λ (o : State). HasHead o.view point.size point.root) (sym old_is) h),
+    );
+  }

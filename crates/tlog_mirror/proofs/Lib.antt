@@ -18,3 +18,4 @@ pub mod BranchSteps
 pub mod Departures
 pub mod FoundForks
 pub mod RestoredMirrors
+pub mod ComparedHeads

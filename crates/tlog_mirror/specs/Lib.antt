@@ -8,3 +8,4 @@ pub mod Branches
 pub mod Settled
 pub mod Restored
 pub mod Plays
+pub mod Compared

@@ -13,6 +13,7 @@
 #![tactic(auto)]
 
 mod best;
+mod compare;
 mod edge;
 mod fault;
 mod forks;
@@ -33,8 +34,9 @@ mod takes;
 mod texts;
 mod top_ranges;
 
+pub use compare::{Compared, comparison_text};
 pub use fault::{NewFault, RestoreFault};
-pub use laws::served_list_law;
+pub use laws::{compare_example, compare_law, served_list_law};
 pub use mirror::Mirror;
 pub use mirror_model::{Bytes, Event, Fork, Head, Item, MergeFault, Rows, TakeFault};
 pub use plays::{fits, play, play_again};

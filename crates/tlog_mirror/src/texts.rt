@@ -73,7 +73,7 @@ impl<H: TreeHash> Mirror<H> {
 }
 
 // Adds a size and a root, with a space between.
-fn push_point(text: &mut String, size: u64, root: &Hash) -> Result<(), AllocError>
+pub(crate) fn push_point(text: &mut String, size: u64, root: &Hash) -> Result<(), AllocError>
     ensures { OnOk result (string_bytes text.new ≡ string_bytes text.old ++ point_text size root.now) }
 {
     push_number(text, size)?;

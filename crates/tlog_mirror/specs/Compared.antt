@@ -1,0 +1,102 @@
+-- How heads compare with the entries that are served. It takes no entries of the head itself: so a
+-- checkpoint whose entries were taken away again is told too.
+use Rattle.std.specs.Prelude.{◌≡◌, ◌≢◌, ℕ, ◌<◌, ◌≤◌, List, [], ◌∷◌, ◌++◌, length, map, take, All, codes}
+use Rattle.std.specs.List.{flat_map}
+use Rattle.tlog_text.specs.Hash.{base64_of}
+use Rattle.tlog_hash.specs.Tree.{mth, strings}
+use Rattle.tlog_hash.specs.Sum.{sum_digest}
+use Rattle.node_store.specs.Strings.{Strings, HasAll, NoClash}
+use Rattle.mirror_model.specs.View.{View}
+use Rattle.mirror_model.specs.Complete.{IsLawful, IsTreeOf}
+use Rattle.mirror_model.specs.Examples.{large_list, small_list, sum_hash}
+use Rattle.mirror_model.specs.Forks.{IsPrefix, Point}
+use Rattle.mirror_model.specs.Listed.{ListsHeads}
+use Rattle.mirror_model.specs.Served.{IsServedList}
+use Rattle.mirror_model.specs.Strings.{IsDigest}
+use Rattle.mirror_model.specs.Texts.{point_text}
+use Rattle.tlog_mirror.specs.declared.compare.Compared.{Compared}
+use Rattle.tlog_mirror.specs.declared.compare.Compared.TheVariants.{Same, Fork, Larger}
+
+-- the size and root that were compared
+abbrev pub compared_point : Compared → Point
+compared_point (Same size root) = record { size = size; root = root }
+compared_point (Fork size root own) = record { size = size; root = root }
+compared_point (Larger size root) = record { size = size; root = root }
+
+module _ (digest : List ℕ → List ℕ) where
+  -- what is said of a head is so of the entries: as many of them have its root, or they have
+  -- another, which is told, or there are fewer
+  abbrev pub IsCompared : List (List ℕ) → Compared → Type 0
+  IsCompared entries (Same size root) =
+      (size ≤ length entries) × (mth digest (take size entries) ≡ root)
+  IsCompared entries (Fork size root own) =
+      (size ≤ length entries) × (mth digest (take size entries) ≡ own) × (own ≢ root)
+  IsCompared entries (Larger size root) = length entries < size
+
+  -- the heads, one for one, compared with the entries that are served
+  pub record ReportsCompared (v : View) (heads : List Point) (compared : List Compared) : Type 0 where
+    pub entries : List (List ℕ)
+    pub served : IsServedList digest v entries
+    pub heads_are : map compared_point compared ≡ heads
+    pub each : All (IsCompared entries) compared
+
+  -- the heads of the view, by size and then by root, compared with the entries that are served
+  pub record ReportsHeld (v : View) (compared : List Compared) : Type 0 where
+    pub heads : List Point
+    pub are_heads : ListsHeads v heads
+    pub reports : ReportsCompared v heads compared
+
+-- ---- the text
+
+-- `same SIZE ROOT`, `fork SIZE ROOT OWN` or `larger SIZE ROOT`
+abbrev pub compared_line : Compared → List ℕ
+compared_line (Same size root) = codes "same " ++ point_text size root ++ 10 ∷ []
+compared_line (Fork size root own) =
+    codes "fork " ++ point_text size root ++ 32 ∷ base64_of own ++ 10 ∷ []
+compared_line (Larger size root) = codes "larger " ++ point_text size root ++ 10 ∷ []
+
+-- a line for each head
+abbrev pub compared_text : List Compared → List ℕ
+compared_text compared = flat_map compared_line compared
+
+-- ---- laws: what a line is evidence of
+
+-- a list of the size and root of a head that is told as a fork is no prefix of the entries, whatever
+-- collides
+abbrev pub ForkIsNoPrefix : Type 0
+ForkIsNoPrefix =
+    (digest : List ℕ → List ℕ) (entries other : List (List ℕ)) (size : ℕ) (root own : List ℕ) →
+    IsCompared digest entries (Fork size root own) → length other ≡ size → mth digest other ≡ root →
+    ¬ IsPrefix other entries
+
+-- a list of the size and root of a head that is told as the same is the beginning of the entries,
+-- where the strings of its tree and of the beginning's do not collide together. That those of its
+-- tree and of all entries do not would not be enough: see `ComparesLarge`
+abbrev pub SameIsPrefix : Type 0
+SameIsPrefix =
+    (digest : List ℕ → List ℕ) → IsDigest digest → (held : Strings) → NoClash digest held →
+    (entries other : List (List ℕ)) (size : ℕ) (root : List ℕ) →
+    IsCompared digest entries (Same size root) → IsTreeOf digest held size root other →
+    HasAll held (strings digest (take size entries)) → other ≡ take size entries
+
+-- a lawful view has one answer for the same heads
+abbrev pub HeadsAreComparedOnce : Type 0
+HeadsAreComparedOnce =
+    (digest : List ℕ → List ℕ) → IsDigest digest → (v : View) → IsLawful digest v →
+    (heads : List Point) (first second : List Compared) → ReportsCompared digest v heads first →
+    ReportsCompared digest v heads second → first ≡ second
+
+-- ---- a case by numbers
+
+-- heads compared with the four entries of large_list, under the test digest: a root of the first
+-- three is the same, though other three entries have it too; another root of two is a fork, with
+-- the root of the first two beside it; that of all four is none, and is not larger; five are larger
+pub record ComparesLarge : Type 0 where
+  pub same : IsCompared sum_digest large_list (Same 3 (sum_hash 62))
+  pub same_of_others : mth sum_digest small_list ≡ sum_hash 62
+  pub fork : IsCompared sum_digest large_list (Fork 2 (sum_hash 9) (sum_hash 51))
+  pub not_larger : ¬ IsCompared sum_digest large_list (Larger 4 (sum_hash 163))
+  pub not_fork :
+      (own : List ℕ) → ¬ IsCompared sum_digest large_list (Fork 4 (sum_hash 163) own)
+  pub not_other : ¬ IsCompared sum_digest large_list (Fork 2 (sum_hash 9) (sum_hash 163))
+  pub larger : IsCompared sum_digest large_list (Larger 5 (sum_hash 9))

@@ -1,0 +1,178 @@
+//! Heads compared with what is served: a checkpoint that was shown once, though its entries cannot be had.
+ghost use Rattle.std.specs.Prelude.{◌≡◌, ◌++◌, ◌∷◌, [], ℕ, List, map, All, IfOk, IfSome, IfNone, OnOk, string_bytes};
+ghost use Rattle.mirror_model.specs.Texts.{point_text};
+ghost use Rattle.tlog_mirror.specs.Best.{pair_point};
+ghost use Rattle.tlog_mirror.specs.Compared.{IsCompared, ReportsCompared, ReportsHeld, compared_line, compared_point, compared_text};
+ghost use Rattle.tlog_mirror.specs.Tops.{IsListOf, ServesNothing};
+ghost use Rattle.tlog_mirror.specs.declared.compare.Compared.TheVariants.{Fork};
+
+use crate::heads::points_of;
+use crate::mirror::Mirror;
+use crate::texts::push_point;
+use crate::top_ranges::TopRanges;
+use std::alloc::{AllocError, Global};
+use tlog_hash::{Hash, TreeHash};
+use tlog_proof::Ranges;
+use tlog_text::push_hash;
+
+/// A head, compared with the entries that are served.
+///
+/// ```
+/// let forked = compared.iter().any(|one| matches!(one, Compared::Fork { .. }));
+/// ```
+#[derive(Debug, PartialEq, Eq, Clone, Copy)]
+pub enum Compared {
+    /// As many of the served entries have its root.
+    Same {
+        /// How many entries its tree has.
+        size: u64,
+        /// Its tree's hash.
+        root: Hash,
+    },
+    /// As many of the served entries have another root: a log that made both has forked.
+    Fork {
+        /// How many entries its tree has.
+        size: u64,
+        /// Its tree's hash.
+        root: Hash,
+        /// The tree hash of as many of the served entries.
+        own: Hash,
+    },
+    /// It has more entries than are served: nothing is known.
+    Larger {
+        /// How many entries its tree has.
+        size: u64,
+        /// Its tree's hash.
+        root: Hash,
+    },
+}
+
+impl<H: TreeHash> Mirror<H> {
+    /// These sizes and roots, one for one, compared with the entries that are served (RFC 6962, section 2.1). `None`
+    /// exactly where nothing is served. Nothing has to be held of a head: one hash of what is served decides each.
+    ///
+    /// ```text
+    /// mirror.compare(alloc, &[(400, root)])?   // Some([Fork { size: 400, root, own }])
+    /// ```
+    ///
+    /// # Errors
+    ///
+    /// Memory was refused.
+    pub fn compare(
+        &self,
+        alloc: Global,
+        heads: &[(u64, Hash)],
+    ) -> Result<Option<Vec<Compared>>, AllocError>
+        ensures some { IfOk result (λ o. IfSome o (λ compared. ReportsCompared H.digest self.now.view (map pair_point heads.now) compared.items)) }
+        ensures none { IfOk result (λ o. IfNone o (ServesNothing H.digest self.now.view)) }
+    {
+        let Some(top) = self.top_ranges() else {
+            return Ok(None);
+        };
+        Ok(Some(compare_all(alloc, &top, heads)?))
+    }
+
+    /// Each size and root of the held notes once, by size and then by the root's bytes, compared with the entries that
+    /// are served. `None` exactly where nothing is served.
+    ///
+    /// ```text
+    /// mirror.compare_heads(alloc)?   // Some([Same { size: 3, root }])
+    /// ```
+    ///
+    /// # Errors
+    ///
+    /// Memory was refused.
+    pub fn compare_heads(&self, alloc: Global) -> Result<Option<Vec<Compared>>, AllocError>
+        ensures some { IfOk result (λ o. IfSome o (λ compared. ReportsHeld H.digest self.now.view compared.items)) }
+        ensures none { IfOk result (λ o. IfNone o (ServesNothing H.digest self.now.view)) }
+    {
+        let heads = points_of(alloc, self.kept.as_slice())?;
+        self.compare(alloc, heads.as_slice())
+    }
+}
+
+// Each of the heads, compared with the list that the top stands for.
+fn compare_all<H: TreeHash>(
+    alloc: Global,
+    top: &TopRanges<'_, H>,
+    heads: &[(u64, Hash)],
+) -> Result<Vec<Compared>, AllocError>
+    ensures heads { IfOk result (λ compared. map compared_point compared.items ≡ map pair_point heads.now) }
+    ensures each { (entries : List (List ℕ)) → IsListOf H.digest top.now entries → IfOk result (λ compared. All (IsCompared H.digest entries) compared.items) }
+{
+    let mut compared = Vec::with_capacity(alloc, heads.len())?;
+    for head in heads {
+        compared.push(compare_one(top, head.0, &head.1))?;
+    }
+    Ok(compared)
+}
+
+// A head, compared with the list that the top stands for: by one hash of a range, found in one descent.
+fn compare_one<H: TreeHash>(top: &TopRanges<'_, H>, size: u64, root: &Hash) -> Compared
+    ensures head { compared_point result ≡ record { size = size; root = root.now } }
+    ensures is { (entries : List (List ℕ)) → IsListOf H.digest top.now entries → IsCompared H.digest entries result }
+{
+    let root = *root;
+    match top.hash(0, size) {
+        None => Compared::Larger { size, root },
+        Some(own) => {
+            if own == root {
+                Compared::Same { size, root }
+            } else {
+                Compared::Fork { size, root, own }
+            }
+        }
+    }
+}
+
+/// The text of what was compared, a line each: `same SIZE ROOT`, `fork SIZE ROOT OWN` or `larger SIZE ROOT`, in
+/// decimal and standard base64. No head gives no bytes.
+///
+/// ```text
+/// comparison_text(alloc, &[Compared::Larger { size: 3, root }])?
+/// // larger 3 rra8/idLcKFPsGel5VeCZNsPqbUa9eC6FZFY8yngbnc=
+/// ```
+///
+/// # Errors
+///
+/// Memory was refused.
+pub fn comparison_text(alloc: Global, compared: &[Compared]) -> Result<String, AllocError>
+    ensures { IfOk result (λ text. string_bytes text ≡ compared_text compared.now) }
+{
+    let mut text = String::new(alloc);
+    for one in compared {
+        push_compared(&mut text, one)?;
+    }
+    Ok(text)
+}
+
+// Adds the line of a head that was compared.
+fn push_compared(text: &mut String, one: &Compared) -> Result<(), AllocError>
+    ensures { OnOk result (string_bytes text.new ≡ string_bytes text.old ++ compared_line one.now) }
+{
+    match one {
+        Compared::Same { size, root } => push_line(text, "same ", *size, root),
+        Compared::Larger { size, root } => push_line(text, "larger ", *size, root),
+        Compared::Fork { size, root, own } => push_fork(text, *size, root, own),
+    }
+}
+
+// Adds a word, a size and a root, on a line of their own.
+fn push_line(text: &mut String, word: &str, size: u64, root: &Hash) -> Result<(), AllocError>
+    ensures { OnOk result (string_bytes text.new ≡ string_bytes text.old ++ (word.now ++ point_text size root.now ++ 10 ∷ [])) }
+{
+    text.push_str(word)?;
+    push_point(text, size, root)?;
+    text.push_str("\n")
+}
+
+// Adds the line of a fork: its size and root, and the root of the served entries.
+fn push_fork(text: &mut String, size: u64, root: &Hash, own: &Hash) -> Result<(), AllocError>
+    ensures { OnOk result (string_bytes text.new ≡ string_bytes text.old ++ compared_line (Fork size root.now own.now)) }
+{
+    text.push_str("fork ")?;
+    push_point(text, size, root)?;
+    text.push_str(" ")?;
+    push_hash(text, own)?;
+    text.push_str("\n")
+}
