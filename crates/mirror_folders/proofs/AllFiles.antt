@@ -23,14 +23,14 @@ use Rattle.tlog_tiles.proofs.EdgeLemmas.{hashes_of, contains_none, contains_one}
 
 -- ---- places
 
-upto_hashes : (n level index width : ℕ) → IsTileWithin n level index width → 256 * index + width ≤ n / 256 ^ level
+pub upto_hashes : (n level index width : ℕ) → IsTileWithin n level index width → 256 * index + width ≤ n / 256 ^ level
 upto_hashes n level index width h = (le-div_iff_mul-le (level_positive level)).1 h.within
 
-full_widest : (n level index : ℕ) → level ≤ 7 → index < edge_index_of n level → IsWidestIn n level index 256
+pub full_widest : (n level index : ℕ) → level ≤ 7 → index < edge_index_of n level → IsWidestIn n level index 256
 full_widest n level index fits lt =
     record { within = full_tile n level index fits lt; widest = λ wider more h. absurd (omega (arith, h.upto)) }
 
-partial_widest : (n level : ℕ) → level ≤ 7 → width_of n level ≢ 0 →
+pub partial_widest : (n level : ℕ) → level ≤ 7 → width_of n level ≢ 0 →
     IsWidestIn n level (edge_index_of n level) (width_of n level)
 partial_widest n level fits some =
     let hashes = hashes_of n level in
@@ -48,7 +48,7 @@ pub record IsFull (n level index width : ℕ) : Type 0 where
   pub below : index < edge_index_of n level
   pub width_is : width ≡ 256
 
-widest_before : (n level index width : ℕ) → IsWidestIn n level index width → index < edge_index_of n level →
+pub widest_before : (n level index width : ℕ) → IsWidestIn n level index width → index < edge_index_of n level →
     IsFull n level index width
 widest_before n level index width h lt =
     let upto = h.within.upto in
@@ -57,7 +57,7 @@ widest_before n level index width h lt =
       | inr wide ↦ record { below = lt; width_is = omega arith }
     ]
 
-widest_last : (n level index width : ℕ) → IsWidestIn n level index width → edge_index_of n level ≤ index →
+pub widest_last : (n level index width : ℕ) → IsWidestIn n level index width → edge_index_of n level ≤ index →
     IsPartial n level index width
 widest_last n level index width h ge =
     let hashes = hashes_of n level in

@@ -5,3 +5,7 @@ pub mod Held
 pub mod Moments
 pub mod Exported
 pub mod AllFiles
+pub mod Filters
+pub mod NewFiles
+pub mod Standing
+pub mod UpdateMoments

@@ -47,7 +47,7 @@ tile_files n zero = All-nil IsFile
 tile_files n (suc level) = All-append IsFile (tiles_below n level) (kind_paths n (Tiles level)) (tile_files n level)
     (kind_files n (Tiles level))
 
-front_files : (n : ℕ) → All IsFile (tile_paths n ++ kind_paths n Bundles)
+pub front_files : (n : ℕ) → All IsFile (tile_paths n ++ kind_paths n Bundles)
 unfolding tile_paths
 front_files n = All-append IsFile (tile_paths n) (kind_paths n Bundles) (tile_files n 8) (kind_files n Bundles)
 
@@ -57,7 +57,7 @@ module _ (front : List Put) (last : Put) (no : All (λ (put : Put). put.0 ≢ Ch
   abbrev files : List Put
   files = front ++ last ∷ []
 
-  short_has_none : (so_far later : List Put) (count : ℕ) → so_far ++ later ≡ take count files →
+  pub short_has_none : (so_far later : List Put) (count : ℕ) → so_far ++ later ≡ take count files →
       length so_far ≤ length front → HasPut so_far Checkpoint → ⊥
   short_has_none so_far later count e le h =
       let j = h.0 in
@@ -71,7 +71,7 @@ module _ (front : List Put) (last : Put) (no : All (λ (put : Put). put.0 ≢ Ch
       no j last (omega arith) (sym (ap (λ (put : Put). put.0) at)
       ∙ (sym (get_or-map (λ (put : Put). put.0) so_far j last Checkpoint within) ∙ h.2))
 
-  long_is_all : (so_far later : List Put) (count : ℕ) → so_far ++ later ≡ take count files →
+  pub long_is_all : (so_far later : List Put) (count : ℕ) → so_far ++ later ≡ take count files →
       length front < length so_far → so_far ≡ files
   long_is_all so_far later count e lt =
       let sizes = length-append so_far later in

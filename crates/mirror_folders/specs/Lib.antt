@@ -4,3 +4,5 @@ pub mod Exports
 pub mod Faults
 pub mod FileLaws
 pub mod Places
+pub mod Since
+pub mod SinceLaws

@@ -28,7 +28,7 @@ pub use dir_source::DirSource;
 pub use exporting::export;
 pub use fault::ExportFault;
 pub use folders::NamedFolders;
-pub use laws::files_law;
+pub use laws::{files_law, files_since_example, files_since_law, update_law};
 pub use memory::MemShelf;
 pub use replace::replace_file;
 pub use shelf::{Shelf, ShelfError};
