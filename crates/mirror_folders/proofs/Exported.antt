@@ -1,6 +1,6 @@
 -- What an export puts, by the answers of its parts.
 use Rattle.std.proofs.Common.{◌≡◌, ℕ, ◌-◌, ◌^◌, ◌<◌, List, [], ◌∷◌, ◌++◌, length, Option, Some, None, Result, Ok, Err}
-use Rattle.std.proofs.Common.{true, false, refl, sym, subst, inl, inr, arith, length-append}
+use Rattle.std.proofs.Common.{true, false, refl, sym, ap, subst, inl, inr, arith, length-append}
 use Rattle.std.proofs.lemmas.Bool.{false≢true, cases_lt}
 use Rattle.std.proofs.lemmas.List.{length-map}
 use Rattle.tlog_tiles.specs.declared.paths.Path.{Path}
@@ -17,6 +17,8 @@ use Rattle.mirror_folders.specs.declared.shelf.ShelfError.TheVariants.{Failed, O
 use Rattle.mirror_folders.specs.declared.fault.ExportFault.{ExportFault}
 use Rattle.mirror_folders.specs.declared.fault.ExportFault.TheVariants.{NothingComplete}
 use Rattle.mirror_folders.specs.declared.files.FileKind.TheVariants.{Bundles}
+use Rattle.mirror_folders.specs.Since.{files_since}
+use Rattle.mirror_folders.proofs.NewFiles.{all_since_none}
 use Rattle.mirror_folders.proofs.Prefixes.{adds_kept, adds_then, front_then}
 
 -- ---- what a shelf tells
@@ -35,7 +37,7 @@ same_told (Some puts) = refl
 
 -- ---- its count
 
-one_more_rose : (old : ℕ) → Rose old (one_more old)
+pub one_more_rose : (old : ℕ) → Rose old (one_more old)
 one_more_rose old = elim (cases_lt old (2 ^ 64 - 1)) [ inl room ↦ inl (omega arith) | inr full ↦ inr (omega arith) ]
 
 pub count_of : (S T : Type 0) (old new : ℕ) (e : ShelfError) → CountsFailures {T = S} old new (Err e) →
@@ -72,13 +74,22 @@ module _ (digest : List ℕ → List ℕ) (v : View) (top : Top) (is : IsServedT
         length-append front (Checkpoint ∷ []),
       )
 
+  -- since no entries all files are new
+  abbrev new_files : List Put
+  new_files = files_since digest top.note is.served.entries 0 top.size
+
+  all_new : new_files ≡ files
+  all_new = ap (files_at digest top.note is.served.entries) (all_since_none top.size)
+
   pub all_put : {T : Type 0} (old middle new : Option (List Put)) (x : T) → KeepsTold old middle →
-      TellsNone old Checkpoint → AddsTold middle new files → Exports digest v old new (Ok x)
+      TellsNone old Checkpoint → AddsTold middle new (files_since digest top.note is.served.entries 0 top.size) →
+      Exports digest v old new (Ok x)
   all_put old middle new x kept free p = record {
     files = files;
     are_served = are_served;
     free = free;
-    told = adds_then old middle new [] files (adds_kept old middle kept) p;
+    told = adds_then old middle new [] files (adds_kept old middle kept)
+        (subst (λ (l : List Put). AddsTold middle new l) all_new p);
   }
 
   some_put : (old middle new : Option (List Put)) → KeepsTold old middle → TellsNone old Checkpoint →
@@ -100,9 +111,12 @@ module _ (digest : List ℕ → List ℕ) (v : View) (top : Top) (is : IsServedT
   }
 
   pub cut_put : (T : Type 0) (old middle new : Option (List Put)) (e : ShelfError) → KeepsTold old middle →
-      TellsNone old Checkpoint → AddsPrefix middle new files → Exports digest v old new (answer_of T (of_shelf e))
-  cut_put T old middle new Failed kept free p = some_put old middle new kept free p
-  cut_put T old middle new OutOfMemory kept free p = some_put old middle new kept free p
+      TellsNone old Checkpoint → AddsPrefix middle new (files_since digest top.note is.served.entries 0 top.size) →
+      Exports digest v old new (answer_of T (of_shelf e))
+  cut_put T old middle new Failed kept free p =
+      some_put old middle new kept free (subst (λ (l : List Put). AddsPrefix middle new l) all_new p)
+  cut_put T old middle new OutOfMemory kept free p =
+      some_put old middle new kept free (subst (λ (l : List Put). AddsPrefix middle new l) all_new p)
 
   pub not_put : (T : Type 0) (old new : Option (List Put)) (e : ShelfError) → KeepsTold old new →
       Exports digest v old new (answer_of T (of_shelf e))

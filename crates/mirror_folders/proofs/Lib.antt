@@ -9,3 +9,5 @@ pub mod Filters
 pub mod NewFiles
 pub mod Standing
 pub mod UpdateMoments
+pub mod Points
+pub mod Updated

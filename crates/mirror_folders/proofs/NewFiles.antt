@@ -118,7 +118,7 @@ new_since_none n path h = by (is_new 0 path) refl
     by true e = e
     by false e = let old = old_is 0 n path e h in absurd (file_of_none path old.1 old.0)
 
-all_since_none : (n : ℕ) → since_paths 0 n ≡ paths_of n
+pub all_since_none : (n : ℕ) → since_paths 0 n ≡ paths_of n
 all_since_none n = filter_all (is_new 0) (paths_of n)
     (All-weaker (λ (path : Path). Contains (paths_of n) path) (λ (path : Path). is_new 0 path ≡ true)
     (λ path h. new_since_none n path ((files_are_all n path).0 h)) (paths_of n) (All-contains_itself (paths_of n)))

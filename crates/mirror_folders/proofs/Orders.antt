@@ -1,7 +1,7 @@
 -- The files of a log in their order, as far as they were put.
-use Rattle.std.proofs.Common.{◌≡◌, ℕ, zero, suc, ◌+◌, ◌<◌, ◌≤◌, List, [], ◌∷◌, ◌++◌, map, drop, Option, refl, sym, ap}
+use Rattle.std.proofs.Common.{◌≡◌, ℕ, zero, suc, ◌+◌, ◌<◌, ◌≤◌, Bool, List, [], ◌∷◌, ◌++◌, map, drop, Option, refl, sym, ap}
 use Rattle.std.proofs.Common.{subst, ◌∙◌, append_assoc, zero-add, add-one, inl, inr, arith}
-use Rattle.std.specs.List.{range_with_len}
+use Rattle.std.specs.List.{filter, range_with_len}
 use Rattle.std.proofs.lemmas.Bool.{cases_lt}
 use Rattle.std.proofs.lemmas.List.{append-nil, take-append-drop}
 use Rattle.std.proofs.lemmas.List.FromFn.{take-map-range_with_len, map-range_with_len_more}
@@ -50,44 +50,44 @@ tiles_are : (n : ℕ) → tile_paths n ≡ tiles_below n 8
 unfolding tile_paths
 tiles_are n = refl
 
-module _ (file : Path → Put) (a b c : Option (List Put)) where
-  extends : (xs ys : List Path) → IsPrefixOf xs ys → AddsPrefix a c (map file xs) → AddsPrefix a c (map file ys)
+module _ (file : Path → Put) (keep : Path → Bool) (a b c : Option (List Put)) where
+  extends : (xs ys : List Path) → IsPrefixOf xs ys → AddsPrefix a c (map file (filter keep xs)) → AddsPrefix a c (map file (filter keep ys))
   extends xs ys front f =
-      subst (λ (l : List Path). AddsPrefix a c (map file l)) (sym front.is) (files_more file a c xs front.rest f)
+      subst (λ (l : List Path). AddsPrefix a c (map file (filter keep l))) (sym front.is) (files_more file keep a c xs front.rest f)
 
-  pub first_put : (at : ℕ → Path) (i : ℕ) (path : Path) → path ≡ at i → AddsTold a b (map file (first_paths at i)) →
-      AddsTold b c (file path ∷ []) → AddsTold a c (map file (first_paths at (i + 1)))
+  pub first_put : (at : ℕ → Path) (i : ℕ) (path : Path) → path ≡ at i → AddsTold a b (map file (filter keep (first_paths at i))) →
+      AddsTold b c (map file (filter keep (path ∷ []))) → AddsTold a c (map file (filter keep (first_paths at (i + 1))))
   first_put at i path e p q =
-      let next : AddsTold b c (map file (at i ∷ [])) = subst (λ (x : Path). AddsTold b c (file x ∷ [])) e q in
-      subst (λ (l : List Path). AddsTold a c (map file l)) (sym (first_more at i))
-      (files_then file a b c (first_paths at i) (at i ∷ []) p next)
+      let next : AddsTold b c (map file (filter keep (at i ∷ []))) = subst (λ (x : Path). AddsTold b c (map file (filter keep (x ∷ [])))) e q in
+      subst (λ (l : List Path). AddsTold a c (map file (filter keep l))) (sym (first_more at i))
+      (files_then file keep a b c (first_paths at i) (at i ∷ []) p next)
 
   pub first_cut : (at : ℕ → Path) (i count : ℕ) (path : Path) →
-      path ≡ at i → i < count → AddsTold a b (map file (first_paths at i)) → AddsPrefix b c (file path ∷ []) →
-      AddsPrefix a c (map file (first_paths at count))
+      path ≡ at i → i < count → AddsTold a b (map file (filter keep (first_paths at i))) → AddsPrefix b c (map file (filter keep (path ∷ []))) →
+      AddsPrefix a c (map file (filter keep (first_paths at count)))
   first_cut at i count path e lt p f =
-      let next : AddsPrefix b c (map file (at i ∷ [])) = subst (λ (x : Path). AddsPrefix b c (file x ∷ [])) e f in
+      let next : AddsPrefix b c (map file (filter keep (at i ∷ []))) = subst (λ (x : Path). AddsPrefix b c (map file (filter keep (x ∷ [])))) e f in
       let upto : i + 1 ≤ count = omega arith in
       extends (first_paths at (i + 1)) (first_paths at count) (first_front at (i + 1) count upto)
-      (subst (λ (l : List Path). AddsPrefix a c (map file l)) (sym (first_more at i))
-      (files_front file a b c (first_paths at i) (at i ∷ []) p next))
+      (subst (λ (l : List Path). AddsPrefix a c (map file (filter keep l))) (sym (first_more at i))
+      (files_front file keep a b c (first_paths at i) (at i ∷ []) p next))
 
-  pub level_put : (n level : ℕ) → AddsTold a b (map file (tiles_below n level)) →
-      AddsTold b c (map file (kind_paths n (Tiles level))) → AddsTold a c (map file (tiles_below n (level + 1)))
+  pub level_put : (n level : ℕ) → AddsTold a b (map file (filter keep (tiles_below n level))) →
+      AddsTold b c (map file (filter keep (kind_paths n (Tiles level)))) → AddsTold a c (map file (filter keep (tiles_below n (level + 1))))
   level_put n level p q =
-      subst (λ k. AddsTold a c (map file (tiles_below n k))) (sym (add-one level))
-      (files_then file a b c (tiles_below n level) (kind_paths n (Tiles level)) p q)
+      subst (λ k. AddsTold a c (map file (filter keep (tiles_below n k)))) (sym (add-one level))
+      (files_then file keep a b c (tiles_below n level) (kind_paths n (Tiles level)) p q)
 
-  pub level_cut : (n level : ℕ) → level < 8 → AddsTold a b (map file (tiles_below n level)) →
-      AddsPrefix b c (map file (kind_paths n (Tiles level))) → AddsPrefix a c (map file (tile_paths n))
+  pub level_cut : (n level : ℕ) → level < 8 → AddsTold a b (map file (filter keep (tiles_below n level))) →
+      AddsPrefix b c (map file (filter keep (kind_paths n (Tiles level)))) → AddsPrefix a c (map file (filter keep (tile_paths n)))
   level_cut n level lt p f =
       let upto : suc level ≤ 8 = omega arith in
-      subst (λ (l : List Path). AddsPrefix a c (map file l)) (sym (tiles_are n))
+      subst (λ (l : List Path). AddsPrefix a c (map file (filter keep l))) (sym (tiles_are n))
       (extends (tiles_below n (suc level)) (tiles_below n 8) (tiles_front n (suc level) 8 upto)
-      (files_front file a b c (tiles_below n level) (kind_paths n (Tiles level)) p f))
+      (files_front file keep a b c (tiles_below n level) (kind_paths n (Tiles level)) p f))
 
-module _ (file : Path → Put) (a b : Option (List Put)) where
-  pub all_levels_put : (n level : ℕ) → level ≡ 8 → AddsTold a b (map file (tiles_below n level)) →
-      AddsTold a b (map file (tile_paths n))
+module _ (file : Path → Put) (keep : Path → Bool) (a b : Option (List Put)) where
+  pub all_levels_put : (n level : ℕ) → level ≡ 8 → AddsTold a b (map file (filter keep (tiles_below n level))) →
+      AddsTold a b (map file (filter keep (tile_paths n)))
   all_levels_put n level e p =
-      subst (λ (l : List Path). AddsTold a b (map file l)) (ap (tiles_below n) e ∙ sym (tiles_are n)) p
+      subst (λ (l : List Path). AddsTold a b (map file (filter keep l))) (ap (tiles_below n) e ∙ sym (tiles_are n)) p

@@ -1,6 +1,8 @@
 -- Files that are put one after the other, all of them or a prefix.
-use Rattle.std.proofs.Common.{◌+◌, ◌<◌, ◌≤◌, List, [], ◌∷◌, ◌++◌, length, map, take, Option, Some, None, Result, Ok}
-use Rattle.std.proofs.Common.{Err, sym, ap, subst, ◌∙◌, append_assoc, length-append, arith}
+use Rattle.std.proofs.Common.{◌≡◌, ◌+◌, ◌<◌, ◌≤◌, List, [], ◌∷◌, ◌++◌, length, map, take, Option, Some, None, Result, Ok}
+use Rattle.std.proofs.Common.{Err, Bool, sym, ap, subst, ◌∙◌, append_assoc, length-append, arith}
+use Rattle.std.specs.List.{filter}
+use Rattle.std.proofs.lemmas.List.Elements.{filter-append}
 use Rattle.std.proofs.lemmas.List.{append-nil, take-append-le, map-append}
 use Rattle.std.proofs.Math.Seq.{take-append-add}
 use Rattle.tlog_tiles.specs.declared.paths.Path.{Path}
@@ -49,30 +51,38 @@ front_then a b c xs ys p f =
           (adds_then a b c xs (take f.count ys) p f.told);
     }
 
--- ---- the files of paths
+-- ---- the files of paths, those that are put
 
-module _ (file : Path → Put) where
-  pub files_then : (a b c : Option (List Put)) (xs ys : List Path) → AddsTold a b (map file xs) →
-      AddsTold b c (map file ys) → AddsTold a c (map file (xs ++ ys))
-  files_then a b c xs ys p q = subst (λ (l : List Put). AddsTold a c l) (sym (map-append file xs ys))
-      (adds_then a b c (map file xs) (map file ys) p q)
+module _ (file : Path → Put) (keep : Path → Bool) where
+  abbrev files : List Path → List Put
+  files paths = map file (filter keep paths)
 
-  pub files_more : (a b : Option (List Put)) (xs ys : List Path) → AddsPrefix a b (map file xs) →
-      AddsPrefix a b (map file (xs ++ ys))
-  files_more a b xs ys f = subst (λ (l : List Put). AddsPrefix a b l) (sym (map-append file xs ys))
-      (front_more a b (map file xs) (map file ys) f)
+  files_split : (xs ys : List Path) → files (xs ++ ys) ≡ files xs ++ files ys
+  files_split xs ys = ap (map file) (filter-append keep xs ys) ∙ map-append file (filter keep xs) (filter keep ys)
 
-  pub files_front : (a b c : Option (List Put)) (xs ys : List Path) → AddsTold a b (map file xs) →
-      AddsPrefix b c (map file ys) → AddsPrefix a c (map file (xs ++ ys))
-  files_front a b c xs ys p f = subst (λ (l : List Put). AddsPrefix a c l) (sym (map-append file xs ys))
-      (front_then a b c (map file xs) (map file ys) p f)
+  pub files_then : (a b c : Option (List Put)) (xs ys : List Path) → AddsTold a b (map file (filter keep xs)) →
+      AddsTold b c (map file (filter keep ys)) → AddsTold a c (map file (filter keep (xs ++ ys)))
+  files_then a b c xs ys p q = subst (λ (l : List Put). AddsTold a c l) (sym (files_split xs ys))
+      (adds_then a b c (files xs) (files ys) p q)
+
+  pub files_more : (a b : Option (List Put)) (xs ys : List Path) → AddsPrefix a b (map file (filter keep xs)) →
+      AddsPrefix a b (map file (filter keep (xs ++ ys)))
+  files_more a b xs ys f = subst (λ (l : List Put). AddsPrefix a b l) (sym (files_split xs ys))
+      (front_more a b (files xs) (files ys) f)
+
+  pub files_front : (a b c : Option (List Put)) (xs ys : List Path) → AddsTold a b (map file (filter keep xs)) →
+      AddsPrefix b c (map file (filter keep ys)) → AddsPrefix a c (map file (filter keep (xs ++ ys)))
+  files_front a b c xs ys p f = subst (λ (l : List Put). AddsPrefix a c l) (sym (files_split xs ys))
+      (front_then a b c (files xs) (files ys) p f)
 
   -- a second part, whatever its answer
   pub files_result : {T E : Type 0} (a b c : Option (List Put)) (xs ys : List Path) (r : Result T E) →
-      AddsTold a b (map file xs) → AddsFiles b c (map file ys) r → AddsFiles a c (map file (xs ++ ys)) r
+      AddsTold a b (map file (filter keep xs)) → AddsFiles b c (map file (filter keep ys)) r →
+      AddsFiles a c (map file (filter keep (xs ++ ys))) r
   files_result a b c xs ys (Ok x) p q = files_then a b c xs ys p q
   files_result a b c xs ys (Err e) p q = files_front a b c xs ys p q
 
-  -- a file that was not put
-  pub file_refused : (a b : Option (List Put)) (path : Path) → KeepsTold a b → AddsPrefix a b (map file (path ∷ []))
-  file_refused a b path kept = front_none a b (map file (path ∷ [])) (omega arith) kept
+-- a file that was not put
+pub file_refused : (file : Path → Put) (a b : Option (List Put)) (path : Path) → KeepsTold a b →
+    AddsPrefix a b (map file (path ∷ []))
+file_refused file a b path kept = front_none a b (map file (path ∷ [])) (omega arith) kept

@@ -6,3 +6,5 @@ pub mod FileLaws
 pub mod Places
 pub mod Since
 pub mod SinceLaws
+pub mod Updates
+pub mod Beginnings

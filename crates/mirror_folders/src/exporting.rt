@@ -48,6 +48,6 @@ pub fn export<H: TreeHash, S: Shelf>(
         return Err(ExportFault::ShelfInUse);
     }
     let size = top.size();
-    put_served(alloc, &top, size, shelf)?;
+    put_served(alloc, &top, size, 0, shelf)?;
     Ok(())
 }

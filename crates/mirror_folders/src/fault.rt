@@ -1,6 +1,6 @@
-//! Why an export ends early.
+//! Why an export or an update ends early.
 ghost use Rattle.std.specs.Prelude.{◌≡◌};
-ghost use Rattle.mirror_folders.specs.Faults.{of_shelf};
+ghost use Rattle.mirror_folders.specs.Faults.{of_shelf, update_of_shelf};
 
 use crate::shelf::ShelfError;
 use thiserror::Error;
@@ -30,6 +30,35 @@ impl From<ShelfError> for ExportFault {
         match e {
             ShelfError::Failed => ExportFault::ShelfFault,
             ShelfError::OutOfMemory => ExportFault::OutOfMemory,
+        }
+    }
+}
+
+/// Why an update ends early. It prints its variant's name.
+/// A folder that has the checkpoint of another log is `OtherLog`.
+#[derive(Debug, Drop, PartialEq, Eq, Clone, Copy, Error)]
+pub enum UpdateFault {
+    /// Nothing is served.
+    #[error("NothingComplete")]
+    NothingComplete,
+    /// What is served does not go on from the folder's checkpoint.
+    #[error("OtherLog")]
+    OtherLog,
+    /// The shelf failed.
+    #[error("ShelfFault")]
+    ShelfFault,
+    /// Memory was refused.
+    #[error("OutOfMemory")]
+    OutOfMemory,
+}
+
+impl From<ShelfError> for UpdateFault {
+    ghost from_gives = { λ e f. f ≡ update_of_shelf e };
+
+    fn from(e: ShelfError) -> UpdateFault {
+        match e {
+            ShelfError::Failed => UpdateFault::ShelfFault,
+            ShelfError::OutOfMemory => UpdateFault::OutOfMemory,
         }
     }
 }

@@ -1,10 +1,12 @@
-//! The files of what is served, put one after the other.
+//! The files of what is served, put one after the other: all of them, or those that are new since it had fewer entries.
 ghost use Rattle.std.specs.Prelude.{◌≡◌, ◌≤◌, ℕ, List, [], ◌∷◌, IfOk};
+ghost use Rattle.std.specs.List.{filter};
 ghost use Rattle.tlog_tiles.specs.Tiles.{IsWithin};
 ghost use Rattle.tlog_mirror.specs.Tops.{IsListOf};
 ghost use Rattle.mirror_folders.specs.Exports.{AddsFiles};
-ghost use Rattle.mirror_folders.specs.Files.{served_bytes, files_at, full_paths, kind_paths, kind_level, partial_path, kind_path, paths_of, tile_paths};
+ghost use Rattle.mirror_folders.specs.Files.{served_bytes, files_at, full_paths, kind_paths, kind_level, partial_path, kind_path, tile_paths};
 ghost use Rattle.mirror_folders.specs.Shelf.{CountsFailures};
+ghost use Rattle.mirror_folders.specs.Since.{is_new, since_paths, width_at};
 
 use crate::shelf::{Shelf, ShelfError};
 use std::alloc::{AllocError, Global};
@@ -88,22 +90,75 @@ fn put_file<H: TreeHash, S: Shelf>(
     Ok(())
 }
 
+// The width that the tile of that level and index has in a tree of that size, 0 where there is none.
+fn place_width(size: u64, level: u32, index: u64) -> u32
+    requires { level ≤ 7 }
+    ensures { result ≡ width_at size level index }
+{
+    let full = edge_index(size, level);
+    if index < full {
+        return 256;
+    }
+    if index == full {
+        return edge_width(size, level);
+    }
+    0
+}
+
+// Whether a log of that size lacks the file, or it is the checkpoint.
+fn lacks(since: u64, path: &Path) -> bool
+    requires { (n : ℕ) × IsWithin n path.now }
+    ensures { result ≡ is_new since path.now }
+{
+    match path {
+        Path::Checkpoint => true,
+        Path::Tile {
+            level,
+            index,
+            width,
+        } => *width != place_width(since, *level, *index),
+        Path::Entries { index, width } => *width != place_width(since, 0, *index),
+    }
+}
+
+// Puts a tile or a bundle, where a log of the first entries, as many as `since`, lacks it.
+fn put_new<H: TreeHash, S: Shelf>(
+    alloc: Global,
+    top: &TopRanges<'_, H>,
+    since: u64,
+    shelf: &mut S,
+    path: Path,
+) -> Result<(), ShelfError>
+    requires { IsWithin top.now.size path }
+    ensures told { (entries : List (List ℕ)) → IsListOf H.digest top.now entries
+        → AddsFiles (S.puts shelf.old) (S.puts shelf.new)
+        (files_at H.digest top.now.note entries (filter (is_new since) (path ∷ []))) result }
+    ensures counted { CountsFailures (S.failed shelf.old) (S.failed shelf.new) result }
+{
+    if !lacks(since, &path) {
+        return Ok(());
+    }
+    put_file(alloc, top, shelf, path)
+}
+
 // Puts the files of a kind: the full ones by rising index, then the partial one.
 fn put_kind<H: TreeHash, S: Shelf>(
     alloc: Global,
     top: &TopRanges<'_, H>,
     size: u64,
+    since: u64,
     shelf: &mut S,
     kind: FileKind,
 ) -> Result<(), ShelfError>
     requires size { size ≡ top.now.size }
     requires level { kind_level kind ≤ 7 }
     ensures told { (entries : List (List ℕ)) → IsListOf H.digest top.now entries
-        → AddsFiles (S.puts shelf.old) (S.puts shelf.new) (files_at H.digest top.now.note entries (kind_paths top.now.size kind)) result }
+        → AddsFiles (S.puts shelf.old) (S.puts shelf.new)
+        (files_at H.digest top.now.note entries (filter (is_new since) (kind_paths top.now.size kind))) result }
     ensures counted { CountsFailures (S.failed shelf.old) (S.failed shelf.new) result }
 {
-    put_full(alloc, top, size, shelf, kind)?;
-    put_partial(alloc, top, size, shelf, kind)
+    put_full(alloc, top, size, since, shelf, kind)?;
+    put_partial(alloc, top, size, since, shelf, kind)
 }
 
 // Puts the full files of a kind, by rising index.
@@ -111,17 +166,19 @@ fn put_full<H: TreeHash, S: Shelf>(
     alloc: Global,
     top: &TopRanges<'_, H>,
     size: u64,
+    since: u64,
     shelf: &mut S,
     kind: FileKind,
 ) -> Result<(), ShelfError>
     requires size { size ≡ top.now.size }
     requires level { kind_level kind ≤ 7 }
     ensures told { (entries : List (List ℕ)) → IsListOf H.digest top.now entries
-        → AddsFiles (S.puts shelf.old) (S.puts shelf.new) (files_at H.digest top.now.note entries (full_paths top.now.size kind)) result }
+        → AddsFiles (S.puts shelf.old) (S.puts shelf.new)
+        (files_at H.digest top.now.note entries (filter (is_new since) (full_paths top.now.size kind))) result }
     ensures counted { CountsFailures (S.failed shelf.old) (S.failed shelf.new) result }
 {
     for index in 0..edge_index(size, level_at(kind)) {
-        put_file(alloc, top, shelf, path_at(kind, index, 256))?;
+        put_new(alloc, top, since, shelf, path_at(kind, index, 256))?;
     }
     Ok(())
 }
@@ -131,13 +188,15 @@ fn put_partial<H: TreeHash, S: Shelf>(
     alloc: Global,
     top: &TopRanges<'_, H>,
     size: u64,
+    since: u64,
     shelf: &mut S,
     kind: FileKind,
 ) -> Result<(), ShelfError>
     requires size { size ≡ top.now.size }
     requires level { kind_level kind ≤ 7 }
     ensures told { (entries : List (List ℕ)) → IsListOf H.digest top.now entries
-        → AddsFiles (S.puts shelf.old) (S.puts shelf.new) (files_at H.digest top.now.note entries (partial_path top.now.size kind)) result }
+        → AddsFiles (S.puts shelf.old) (S.puts shelf.new)
+        (files_at H.digest top.now.note entries (filter (is_new since) (partial_path top.now.size kind))) result }
     ensures counted { CountsFailures (S.failed shelf.old) (S.failed shelf.new) result }
 {
     let level = level_at(kind);
@@ -145,9 +204,10 @@ fn put_partial<H: TreeHash, S: Shelf>(
     if width == 0 {
         return Ok(());
     }
-    put_file(
+    put_new(
         alloc,
         top,
+        since,
         shelf,
         path_at(kind, edge_index(size, level), width),
     )
@@ -158,33 +218,37 @@ fn put_tiles<H: TreeHash, S: Shelf>(
     alloc: Global,
     top: &TopRanges<'_, H>,
     size: u64,
+    since: u64,
     shelf: &mut S,
 ) -> Result<(), ShelfError>
     requires size { size ≡ top.now.size }
     ensures told { (entries : List (List ℕ)) → IsListOf H.digest top.now entries
-        → AddsFiles (S.puts shelf.old) (S.puts shelf.new) (files_at H.digest top.now.note entries (tile_paths top.now.size)) result }
+        → AddsFiles (S.puts shelf.old) (S.puts shelf.new)
+        (files_at H.digest top.now.note entries (filter (is_new since) (tile_paths top.now.size))) result }
     ensures counted { CountsFailures (S.failed shelf.old) (S.failed shelf.new) result }
 {
     for level in 0..8u32 {
-        put_kind(alloc, top, size, shelf, FileKind::Tiles(level))?;
+        put_kind(alloc, top, size, since, shelf, FileKind::Tiles(level))?;
     }
     Ok(())
 }
 
-// Puts every tile, then every bundle, then the checkpoint.
+// Puts every tile, then every bundle, but for those that the first entries, as many as `since`, have too; then the
+// checkpoint.
 pub(crate) fn put_served<H: TreeHash, S: Shelf>(
     alloc: Global,
     top: &TopRanges<'_, H>,
     size: u64,
+    since: u64,
     shelf: &mut S,
 ) -> Result<(), ShelfError>
     requires size { size ≡ top.now.size }
     ensures told { (entries : List (List ℕ)) → IsListOf H.digest top.now entries
-        → AddsFiles (S.puts shelf.old) (S.puts shelf.new) (files_at H.digest top.now.note entries (paths_of top.now.size)) result }
+        → AddsFiles (S.puts shelf.old) (S.puts shelf.new) (files_at H.digest top.now.note entries (since_paths since top.now.size)) result }
     ensures counted { CountsFailures (S.failed shelf.old) (S.failed shelf.new) result }
 {
-    put_tiles(alloc, top, size, shelf)?;
-    put_kind(alloc, top, size, shelf, FileKind::Bundles)?;
+    put_tiles(alloc, top, size, since, shelf)?;
+    put_kind(alloc, top, size, since, shelf, FileKind::Bundles)?;
     shelf.put(&Path::Checkpoint, top.note().bytes())?;
     Ok(())
 }

@@ -9,6 +9,7 @@
 //! ```
 #![tactic(auto)]
 
+mod beginning;
 mod dir_shelf;
 mod dir_source;
 mod exporting;
@@ -22,13 +23,15 @@ mod memory;
 mod place;
 mod replace;
 mod shelf;
+mod updating;
 
 pub use dir_shelf::DirShelf;
 pub use dir_source::DirSource;
 pub use exporting::export;
-pub use fault::ExportFault;
+pub use fault::{ExportFault, UpdateFault};
 pub use folders::NamedFolders;
 pub use laws::{files_law, files_since_example, files_since_law, update_law};
 pub use memory::MemShelf;
 pub use replace::replace_file;
 pub use shelf::{Shelf, ShelfError};
+pub use updating::update;

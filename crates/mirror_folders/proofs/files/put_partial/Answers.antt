@@ -5,8 +5,8 @@ use Rattle.mirror_folders.proofs.FilePaths.{partial_within, partial_none, partia
 use Rattle.mirror_folders.proofs.Prefixes.{adds_none}
 use Rattle.mirror_folders.proofs.files.put_partial.Goals as goal
 
-pub put_file-requires : goal.put_file-requires
-put_file-requires g c =
+pub put_new-requires : goal.put_new-requires
+put_new-requires g c =
     let n = c.args.top.now.size in
     let kind = c.args.kind in
     let level = c.level_at-level.result in
@@ -30,7 +30,7 @@ returns-clause-told g c =
     let same = width_is n c.args.size kind level width c.requires.size c.level_at-level.ensures
     c.edge_width-width.ensures in
     λ entries is. rw (partial_some n kind (λ none. c.if-width-eq0.false (same ∙ none)))
-    (rw at at (c.put_file.ensures.told entries is))
+    (rw at at (c.put_new.ensures.told entries is))
 
 pub returns-then-width-eq0-clause-told : goal.returns-then-width-eq0-clause-told
 returns-then-width-eq0-clause-told g c =

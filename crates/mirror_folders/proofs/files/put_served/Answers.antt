@@ -4,6 +4,7 @@ use Rattle.std.proofs.lemmas.Result.{err_from_is_err_and}
 use Rattle.tlog_tiles.specs.declared.paths.Path.TheVariants.{Checkpoint}
 use Rattle.mirror_folders.specs.Files.{file_at, kind_paths, tile_paths}
 use Rattle.mirror_folders.specs.declared.files.FileKind.TheVariants.{Bundles}
+use Rattle.mirror_folders.specs.Since.{is_new}
 use Rattle.mirror_folders.proofs.Prefixes.{file_refused, files_front, files_more, files_then}
 use Rattle.mirror_folders.proofs.files.put_served.Goals as goal
 
@@ -13,9 +14,9 @@ returns-in_err-put_tiles-clause-told g c =
     let n = c.args.top.now.size in
     let p = err_from_is_err_and c.from_residual.result c.from_residual.ensures.1 in
     λ entries is. let file = file_at g.H.TreeHash.digest c.args.top.now.note entries in
-    rw p.1 (files_more file (puts c.args.shelf.now) (puts c.put_tiles.new.shelf) (tile_paths n ++ kind_paths n Bundles)
+    rw p.1 (files_more file (is_new c.args.since) (puts c.args.shelf.now) (puts c.put_tiles.new.shelf) (tile_paths n ++ kind_paths n Bundles)
     (Checkpoint ∷ [])
-    (files_more file (puts c.args.shelf.now) (puts c.put_tiles.new.shelf) (tile_paths n) (kind_paths n Bundles)
+    (files_more file (is_new c.args.since) (puts c.args.shelf.now) (puts c.put_tiles.new.shelf) (tile_paths n) (kind_paths n Bundles)
     (c.in_err-put_tiles.ensures.told entries is)))
 
 pub returns-in_err-put_kind-clause-told : goal.returns-in_err-put_kind-clause-told
@@ -24,9 +25,9 @@ returns-in_err-put_kind-clause-told g c =
     let n = c.args.top.now.size in
     let p = err_from_is_err_and c.from_residual-in_err-put_kind.result c.from_residual-in_err-put_kind.ensures.1 in
     λ entries is. let file = file_at g.H.TreeHash.digest c.args.top.now.note entries in
-    rw p.1 (files_more file (puts c.args.shelf.now) (puts c.put_kind.new.shelf) (tile_paths n ++ kind_paths n Bundles)
+    rw p.1 (files_more file (is_new c.args.since) (puts c.args.shelf.now) (puts c.put_kind.new.shelf) (tile_paths n ++ kind_paths n Bundles)
     (Checkpoint ∷ [])
-    (files_front file (puts c.args.shelf.now) (puts c.put_tiles.new.shelf) (puts c.put_kind.new.shelf) (tile_paths n)
+    (files_front file (is_new c.args.since) (puts c.args.shelf.now) (puts c.put_tiles.new.shelf) (puts c.put_kind.new.shelf) (tile_paths n)
     (kind_paths n Bundles) (c.in_ok-put_tiles.ensures.told entries is) (c.in_err-put_kind.ensures.told entries is)))
 
 pub returns-in_err-put-clause-told : goal.returns-in_err-put-clause-told
@@ -35,10 +36,10 @@ returns-in_err-put-clause-told g c =
     let n = c.args.top.now.size in
     let p = err_from_is_err_and c.from_residual-in_err-put.result c.from_residual-in_err-put.ensures.1 in
     λ entries is. let file = file_at g.H.TreeHash.digest c.args.top.now.note entries in
-    let before = files_then file (puts c.args.shelf.now) (puts c.put_tiles.new.shelf) (puts c.put_kind.new.shelf)
+    let before = files_then file (is_new c.args.since) (puts c.args.shelf.now) (puts c.put_tiles.new.shelf) (puts c.put_kind.new.shelf)
     (tile_paths n) (kind_paths n Bundles) (c.in_ok-put_tiles.ensures.told entries is)
     (c.in_ok-put_kind.ensures.told entries is) in
-    rw p.1 (files_front file (puts c.args.shelf.now) (puts c.put_kind.new.shelf)
+    rw p.1 (files_front file (is_new c.args.since) (puts c.args.shelf.now) (puts c.put_kind.new.shelf)
     (puts c.put.new.self) (tile_paths n ++ kind_paths n Bundles) (Checkpoint ∷ []) before
     (file_refused file (puts c.put_kind.new.shelf) (puts c.put.new.self) Checkpoint c.in_err-put.ensures.told))
 
@@ -48,12 +49,12 @@ returns-clause-told g c =
     let n = c.args.top.now.size in
     let note : c.bytes.result.now ≡ c.args.top.now.note = c.bytes.ensures.bytes ∙ c.note.ensures in
     λ entries is. let file = file_at g.H.TreeHash.digest c.args.top.now.note entries in
-    let before = files_then file (puts c.args.shelf.now) (puts c.put_tiles.new.shelf) (puts c.put_kind.new.shelf)
+    let before = files_then file (is_new c.args.since) (puts c.args.shelf.now) (puts c.put_tiles.new.shelf) (puts c.put_kind.new.shelf)
     (tile_paths n) (kind_paths n Bundles) (c.in_ok-put_tiles.ensures.told entries is)
     (c.in_ok-put_kind.ensures.told entries is) in
     let last : AddsTold (puts c.put_kind.new.shelf)
     (puts c.put.new.self) ((Checkpoint, c.args.top.now.note) ∷ []) = subst
     (λ (bytes : List ℕ). AddsTold (puts c.put_kind.new.shelf) (puts c.put.new.self) ((Checkpoint, bytes) ∷ []))
     note c.in_ok-put.ensures.told in
-    files_then file (puts c.args.shelf.now) (puts c.put_kind.new.shelf) (puts c.put.new.self)
+    files_then file (is_new c.args.since) (puts c.args.shelf.now) (puts c.put_kind.new.shelf) (puts c.put.new.self)
     (tile_paths n ++ kind_paths n Bundles) (Checkpoint ∷ []) before last
