@@ -54,13 +54,14 @@ fn list<'a>(alloc: Global, name: &'a str, value: &'a str, help: &'a str) -> Arg<
     argument(alloc, name, value, help).action(ArgAction::Append)
 }
 
-// A command, with no argument yet.
+// A command, with no argument yet. `after` is what its long help says behind the options.
 fn command<'a>(alloc: Global, name: &'a str, about: &'a str, after: &'a str) -> clap::Command<'a>
     ensures { IsParserOf (new_app name.entry.now) result }
 {
     clap::Command::new(alloc, name)
         .about(about)
-        .after_help(after)
+        .after_help(help::SHORT)
+        .after_long_help(after)
 }
 
 // A parser with one more argument, if there is the parser.
@@ -256,7 +257,7 @@ fn pull_parser<'a>(alloc: Global) -> Result<clap::Command<'a>, AllocError>
     let parser = made_parser(
         alloc,
         "pull",
-        "Fetches what a log's newest checkpoint lacks, and writes the mirror's state",
+        "Fetches what a log's newest checkpoint lacks, from a folder or over plain HTTP, and writes the mirror's state",
         help::PULL,
     );
     let state = choice(
@@ -265,7 +266,12 @@ fn pull_parser<'a>(alloc: Global) -> Result<clap::Command<'a>, AllocError>
         "S",
         "The file of the state to begin with; nothing where it is left out",
     );
-    let kind = place(alloc, "kind", "KIND", "Where from: dir or http");
+    let kind = place(
+        alloc,
+        "kind",
+        "KIND",
+        "Where from: dir, or http, which is plain HTTP",
+    );
     let from = place(
         alloc,
         "place",
@@ -295,7 +301,7 @@ fn prove_parser<'a>(alloc: Global) -> Result<clap::Command<'a>, AllocError>
     let parser = held_parser(
         alloc,
         "prove",
-        "Prints a proof that an entry is in a tree, or that a tree is the front of another",
+        "Prints a proof that an entry is in a tree, or that a tree is a prefix of another",
         help::PROVE,
     );
     let kind = place(
@@ -315,7 +321,7 @@ fn serve_parser<'a>(alloc: Global) -> Result<clap::Command<'a>, AllocError>
     let parser = held_parser(
         alloc,
         "serve",
-        "Answers over HTTP what the mirror serves",
+        "Answers over plain HTTP what the mirror serves",
         help::SERVE,
     );
     let port = option(alloc, "port", "P", "The port on 127.0.0.1, 1 to 65535");
@@ -323,12 +329,12 @@ fn serve_parser<'a>(alloc: Global) -> Result<clap::Command<'a>, AllocError>
     with_argument(with_argument(parser, port), requests)
 }
 
-// The program by its name, what it is for, and its version.
+// The program by its name, with its help and its version.
 fn named_parser<'a>(alloc: Global) -> Result<clap::Command<'a>, AllocError>
     ensures { IfOk result (IsParserOf named_app) }
 {
     clap::Command::new(alloc, "tlogmirror")
-        .about("A mirror for one append-only transparency log")
+        .override_help(help::PROGRAM)
         .version("0.2.0")
         .bin_name("tlogmirror")
 }
@@ -373,7 +379,7 @@ fn forks_parser<'a>(alloc: Global) -> Result<clap::Command<'a>, AllocError>
     held_parser(
         alloc,
         "forks",
-        "Prints which complete checkpoints contradict each other",
+        "Prints which checkpoints contradict each other: of one size, or both complete",
         help::FORKS,
     )
 }
