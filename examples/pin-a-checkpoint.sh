@@ -36,7 +36,7 @@ refused() {
 # verified FILE: verifies the signature by the log's public key, where openssl is there to do it. Any tool for signed notes does.
 verified() {
     if openssl version 2>/dev/null | grep -q 'OpenSSL [3-9]'; then
-        "$top/scripts/verify-checkpoint" "$top/examples/log.vkey" <"$1"
+        "$top/operate/verify-checkpoint" "$top/examples/log.vkey" <"$1"
     else
         echo "there is no openssl 3 here, so no signature is verified" >&2
         return "${2:-0}"
@@ -56,14 +56,14 @@ refused NoTrustedSignature pull "${log[@]}" --out log.state dir before
 
 # The first checkpoint: verified, pinned, pulled.
 verified before/checkpoint
-"$top/scripts/pin" example.com/log <before/checkpoint | tee -a keys
+"$top/operate/pin" example.com/log <before/checkpoint | tee -a keys
 gives 0 pull "${log[@]}" --out log.state dir before
 gives 0 status "${log[@]}" --state log.state
 
 # A pin is good for one text. The log has grown since, so its new checkpoint is verified and pinned in its turn.
 refused NoTrustedSignature pull "${log[@]}" --state log.state --out log.state dir today
 verified today/checkpoint
-"$top/scripts/pin" example.com/log <today/checkpoint | tee -a keys
+"$top/operate/pin" example.com/log <today/checkpoint | tee -a keys
 gives 0 pull "${log[@]}" --state log.state --out log.state dir today
 gives 0 status "${log[@]}" --state log.state
 

@@ -1,0 +1,96 @@
+// check-fork: whether two signed notes of one log and a consistency proof show a fork. docs/EVIDENCE.md says why.
+//
+//	check-fork LOG.VKEY SMALLER.note LARGER.note [PROOF.txt]
+//
+// Without a proof both notes have to be of one size. It prints what it found and ends with 0 where a fork is shown, else with 1. Needs Go,
+// and golang.org/x/mod. In a new folder with this file: go mod init check-fork && go mod tidy && go build
+package main
+
+import (
+	"fmt"
+	"log"
+	"os"
+	"strings"
+
+	"golang.org/x/mod/sumdb/note"
+	"golang.org/x/mod/sumdb/tlog"
+)
+
+// read gives the text of a file.
+func read(name string) string {
+	data, err := os.ReadFile(name)
+	if err != nil {
+		log.Fatal(err)
+	}
+	return string(data)
+}
+
+// hash reads a hash in base64.
+func hash(text string) tlog.Hash {
+	h, err := tlog.ParseHash(text)
+	if err != nil {
+		log.Fatal(err)
+	}
+	return h
+}
+
+// open verifies a note, and gives the origin, the size and the root of its checkpoint.
+func open(name string, key note.Verifier) (origin string, size int64, root tlog.Hash) {
+	signed, err := note.Open([]byte(read(name)), note.VerifierList(key))
+	if err != nil {
+		log.Fatalf("%s: %v", name, err)
+	}
+	lines := strings.Split(signed.Text, "\n")
+	if len(lines) < 4 {
+		log.Fatalf("%s: no checkpoint", name)
+	}
+	if _, err := fmt.Sscanf(lines[1], "%d", &size); err != nil {
+		log.Fatalf("%s: %v", name, err)
+	}
+	return lines[0], size, hash(lines[2])
+}
+
+func main() {
+	log.SetFlags(0)
+	if len(os.Args) < 4 || len(os.Args) > 5 {
+		log.Fatal("usage: check-fork LOG.VKEY SMALLER.note LARGER.note [PROOF.txt]")
+	}
+	key, err := note.NewVerifier(strings.TrimSpace(read(os.Args[1])))
+	if err != nil {
+		log.Fatal(err)
+	}
+	origin, size, root := open(os.Args[2], key)
+	other, largerSize, largerRoot := open(os.Args[3], key)
+	if origin != other {
+		log.Fatal("the notes are of two logs")
+	}
+	if len(os.Args) == 4 {
+		if size != largerSize || root == largerRoot {
+			log.Fatal("no fork is shown: the sizes differ, or the roots do not")
+		}
+		fmt.Printf("fork: the log signed %v and %v for %d entries\n", root, largerRoot, size)
+		return
+	}
+
+	// The lines of the proof: consistency, first M, root ROOT, second N, root ROOT, and path HASH for each hash.
+	var first, second int64
+	var own, end string
+	text := read(os.Args[4])
+	if _, err := fmt.Sscanf(text, "consistency\nfirst %d\nroot %s\nsecond %d\nroot %s\n", &first, &own, &second, &end); err != nil {
+		log.Fatalf("%s: %v", os.Args[4], err)
+	}
+	var proof tlog.TreeProof
+	for _, line := range strings.Split(strings.TrimSpace(text), "\n")[5:] {
+		proof = append(proof, hash(strings.TrimPrefix(line, "path ")))
+	}
+	if first != size || second != largerSize || hash(end) != largerRoot {
+		log.Fatal("no fork is shown: the proof is not of these notes")
+	}
+	if err := tlog.CheckTree(proof, second, largerRoot, first, hash(own)); err != nil {
+		log.Fatal(err)
+	}
+	if hash(own) == root {
+		log.Fatal("no fork is shown: the larger tree begins with the smaller one")
+	}
+	fmt.Printf("fork: the log signed %v for %d entries, and a tree of %d that has %v there\n", root, size, largerSize, hash(own))
+}
