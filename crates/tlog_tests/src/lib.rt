@@ -20,6 +20,8 @@ mod key_files;
 #[cfg(test)]
 mod keys;
 #[cfg(test)]
+mod log_files;
+#[cfg(test)]
 mod macs;
 #[cfg(test)]
 mod missed;

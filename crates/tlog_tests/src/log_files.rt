@@ -1,0 +1,143 @@
+//! Entries laid out as the files of their log (`tlog_files`).
+//!
+//! Under `SumTree` a hash is one byte and 31 zeros. The hash of the entry `a` is 97, and each join adds 1: a tree of n
+//! entries of no bytes has the hash n - 1, modulo 256.
+
+ghost use Rattle.std.specs.Prelude.{◌≡◌, ◌<◌, ◌^◌, All, length, IfOk};
+
+use std::alloc::{AllocError, Global};
+use std::test::Fail;
+use tlog_files::LogFiles;
+use tlog_hash::{Hash, SumTree};
+
+// Entries of no bytes.
+fn empty_entries(alloc: Global, count: usize) -> Result<Vec<Vec<u8>>, AllocError>
+    ensures { IfOk result (λ entries. All (λ e. length e.items < 2 ^ 16) entries.items) }
+{
+    let mut entries = Vec::new(alloc);
+    for _ in 0..count {
+        entries.push(Vec::new(alloc))?;
+    }
+    Ok(entries)
+}
+
+// The entries `a`, of no bytes, and `bc`.
+fn three_entries(alloc: Global) -> Result<Vec<Vec<u8>>, AllocError>
+    ensures { IfOk result (λ entries. All (λ e. length e.items < 2 ^ 16) entries.items) }
+{
+    let mut entries = Vec::new(alloc);
+    entries.push(Vec::from_slice(alloc, b"a")?)?;
+    entries.push(Vec::new(alloc))?;
+    entries.push(Vec::from_slice(alloc, b"bc")?)?;
+    Ok(entries)
+}
+
+fn empty_log(alloc: Global, count: usize) -> Result<LogFiles<SumTree>, Fail> {
+    Ok(LogFiles::new(alloc, &empty_entries(alloc, count)?)?)
+}
+
+fn three(alloc: Global) -> Result<LogFiles<SumTree>, Fail> {
+    Ok(LogFiles::new(alloc, &three_entries(alloc)?)?)
+}
+
+fn tile(files: &LogFiles<SumTree>, level: u32, index: u64, width: u32) -> Option<&[u8]> {
+    files.tile(level, index, width)
+}
+
+fn bundle(files: &LogFiles<SumTree>, index: u64, width: u32) -> Option<&[u8]> {
+    files.bundle(index, width)
+}
+
+fn sum(first: u8) -> Hash {
+    let mut hash = [0; 32];
+    hash[0] = first;
+    hash
+}
+
+// `a` is 61, `b` 62 and `c` 63: the third leaf hash is c5.
+#[test]
+fn three_files(rt: HostRuntime) -> Result<(), Fail> {
+    let files = three(rt.alloc())?;
+    assert!(rt; files.size() == 3);
+    assert!(rt; files.root() == sum(0x28)); // 1 + (1 + 61 + 0) + c5
+    let Some(row) = tile(&files, 0, 0, 3) else {
+        assert!(rt; false, "none");
+        return Ok(());
+    };
+    assert!(rt; row.len() == 96);
+    assert!(rt; (row[0], row[32], row[64]) == (0x61, 0, 0xc5));
+    assert!(rt; bundle(&files, 0, 1) == Some([0, 1, 0x61].as_slice()));
+    assert!(rt; bundle(&files, 0, 2) == Some([0, 1, 0x61, 0, 0].as_slice()));
+    assert!(rt; bundle(&files, 0, 3) == Some([0, 1, 0x61, 0, 0, 0, 2, 0x62, 0x63].as_slice()));
+    Ok(())
+}
+
+// No file is there.
+#[test]
+fn files_outside(rt: HostRuntime) -> Result<(), Fail> {
+    let files = three(rt.alloc())?;
+    for (level, index, width) in [
+        (0, 0, 0),
+        (0, 0, 4),
+        (0, 0, 257),
+        (0, 1, 1),
+        (0, u64::MAX, 1),
+        (1, 0, 1),
+        (7, 0, 1),
+        (8, 0, 1),
+        (u32::MAX, 0, 1),
+        (0, 0, u32::MAX),
+    ] {
+        assert!(rt;
+            tile(&files, level, index, width).is_none(),
+            "{level} {index} {width}"
+        );
+        if level == 0 {
+            assert!(rt; bundle(&files, index, width).is_none(), "{index} {width}");
+        }
+    }
+    Ok(())
+}
+
+// Of 256 entries on there is a hash of level 1, and from 257 on a second tile of level 0.
+#[test]
+fn sizes_of_tiles(rt: HostRuntime) -> Result<(), Fail> {
+    let full = sum(0xff);
+    for (count, root, second) in [
+        (0, 0, 0),
+        (1, 0, 0),
+        (2, 1, 0),
+        (255, 0xfe, 0),
+        (256, 0xff, 0),
+        (257, 0, 1),
+        (512, 0xff, 256),
+    ] {
+        let files = empty_log(rt.alloc(), count)?;
+        assert!(rt; files.size() == count as u64, "{count}");
+        assert!(rt; files.root() == sum(root), "{count}");
+        assert!(rt;
+            tile(&files, 0, 0, 256).is_some() == (count > 255),
+            "{count}"
+        );
+        assert!(rt;
+            bundle(&files, 0, 256).is_some() == (count > 255),
+            "{count}"
+        );
+        assert!(rt;
+            (tile(&files, 1, 0, 1) == Some(full.as_slice())) == (count > 255),
+            "{count}"
+        );
+        for width in [1, 2, 255, 256] {
+            let within = width <= second;
+            assert!(rt;
+                tile(&files, 0, 1, width).is_some() == within,
+                "{count} {width}"
+            );
+            assert!(rt;
+                bundle(&files, 1, width).is_some() == within,
+                "{count} {width}"
+            );
+        }
+    }
+    Ok(())
+}
