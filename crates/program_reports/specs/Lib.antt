@@ -1,3 +1,4 @@
 pub mod Reports
 pub mod Questions
 pub mod Pulling
+pub mod Comparisons

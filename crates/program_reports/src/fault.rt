@@ -10,7 +10,7 @@ use tlog_proof::ProofFault;
 /// A proof of a size that is not served, for example, prints `NoSuchSize`.
 #[derive(Debug, Drop, PartialEq, Eq, Clone, Copy, Error)]
 pub enum ReportFault {
-    /// No head is complete, so there are no entries to prove anything of.
+    /// No head is complete, so there are no entries to prove anything of, or to compare with.
     #[error("NothingComplete")]
     NothingComplete,
     /// No head has that size and root.

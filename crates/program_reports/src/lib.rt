@@ -8,12 +8,14 @@
 //! ```
 #![tactic(auto)]
 
+mod comparing;
 mod fault;
 mod printing;
 mod pulling;
 mod question;
 mod reports;
 
+pub use comparing::{compare_report, print_comparison};
 pub use fault::{AskFault, ReportFault};
 pub use printing::print_report;
 pub use pulling::{pulled_status, pulled_text};

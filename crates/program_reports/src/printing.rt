@@ -15,7 +15,7 @@ use tlog_hash::TreeHash;
 use tlog_mirror::Mirror;
 
 // Writes the report's text, or a prefix of it.
-fn write_report<W: Write>(output: &mut W, report: &Report) -> Result<(), StreamFault>
+pub(crate) fn write_report<W: Write>(output: &mut W, report: &Report) -> Result<(), StreamFault>
     ensures ok { OnOk result (Appends (W.contents output.old) (W.contents output.new) (printed report.now)) }
     ensures err { OnErr result (AppendsPrefix (W.contents output.old) (W.contents output.new) (printed report.now)) }
 {

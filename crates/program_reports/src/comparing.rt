@@ -1,0 +1,108 @@
+//! The report on heads that are compared with what is served, and how it is printed.
+ghost use Rattle.std.specs.Prelude.{◌≡◌, ◌≢◌, ◌⊎◌, IfErr, IfOk, option_map};
+ghost use Rattle.std.specs.Io.KnownBytes.{Keeps};
+ghost use Rattle.std.specs.List.{list_any};
+ghost use Rattle.program_reports.specs.Comparisons.{AnswersCompared, ReportsComparison, compare_status, told_fork};
+
+use crate::fault::{AskFault, ReportFault};
+use crate::printing::write_report;
+use crate::reports::Report;
+use std::alloc::Global;
+use std::io::Write;
+use tlog_hash::{Hash, TreeHash};
+use tlog_mirror::{Compared, Mirror, comparison_text};
+
+/// `compare`: a line for each of these heads, or where none are given for each that is held, by size and then by root. The
+/// exit status is 3 where one is told as a fork.
+///
+/// # Errors
+///
+/// `NothingComplete` where nothing is served. `OutOfMemory` where memory was refused.
+pub fn compare_report<H: TreeHash>(
+    alloc: Global,
+    mirror: &Mirror<H>,
+    heads: Option<&[(u64, Hash)]>,
+) -> Result<Report, ReportFault>
+    ensures { ReportsComparison H.digest mirror.now.view (option_map (λ given. given.now) heads.entry) result }
+{
+    let found = match heads {
+        Some(given) => mirror.compare(alloc, given)?,
+        None => mirror.compare_heads(alloc)?,
+    };
+    let Some(compared) = found else {
+        return Err(ReportFault::NothingComplete);
+    };
+    let text = comparison_text(alloc, compared.as_slice())?;
+    let status = fork_status(compared.as_slice());
+    Ok(Report { text, status })
+}
+
+// 3 where a head is told as a fork, 0 where none is.
+fn fork_status(compared: &[Compared]) -> u8
+    ensures { result ≡ compare_status compared.now }
+{
+    if has_fork(compared) { 3 } else { 0 }
+}
+
+// Whether a head is told as a fork.
+fn has_fork(compared: &[Compared]) -> bool
+    ensures { result ≡ list_any told_fork compared.now }
+{
+    compared.iter().any(|one| is_fork(one))
+}
+
+fn is_fork(one: &Compared) -> bool
+    ensures { result ≡ told_fork one.now }
+{
+    match one {
+        Compared::Fork { .. } => true,
+        _ => false,
+    }
+}
+
+/// Writes what `compare` tells of these heads, or where none are given of those that are held, and answers the exit
+/// status: 0, or 3 where one is told as a fork. The mirror settles first, so that no complete tree is walked twice.
+///
+/// ```text
+/// print_comparison(alloc, &mut mirror, None, &mut output)?
+/// // 0 where no head that is held contradicts what is served
+/// ```
+///
+/// # Errors
+///
+/// The first that applies: `Report`, with `NothingComplete` or `OutOfMemory`, as `compare_report` says; `WriteFault`,
+/// where a write fails or takes no byte, and then a prefix of the report was written. Nothing is written before the whole
+/// report is made.
+pub fn print_comparison<H: TreeHash, W: Write>(
+    alloc: Global,
+    mirror: &mut Mirror<H>,
+    heads: Option<&[(u64, Hash)]>,
+    output: &mut W,
+) -> Result<u8, AskFault>
+    ensures answer { AnswersCompared H.digest mirror.old.view (option_map (λ given. given.now) heads.entry) (W.contents output.old) (W.contents output.new) result }
+    ensures status { IfOk result (λ status. (status ≡ 0) ⊎ (status ≡ 3)) }
+    ensures quiet { IfErr result (λ e. e ≢ AskFault.WriteFault → Keeps (W.contents output.old) (W.contents output.new)) }
+{
+    let report = match settled_comparison(alloc, mirror, heads) {
+        Ok(report) => report,
+        Err(fault) => return Err(AskFault::Report(fault)),
+    };
+    match write_report(output, &report) {
+        Ok(()) => Ok(report.status),
+        Err(_) => Err(AskFault::WriteFault),
+    }
+}
+
+// The report, of a mirror that settles first.
+fn settled_comparison<H: TreeHash>(
+    alloc: Global,
+    mirror: &mut Mirror<H>,
+    heads: Option<&[(u64, Hash)]>,
+) -> Result<Report, ReportFault>
+    ensures { ReportsComparison H.digest mirror.old.view (option_map (λ given. given.now) heads.entry) result }
+{
+    match mirror.settle(alloc) {
+        Ok(()) => compare_report(alloc, mirror, heads),
+        Err(_) => Err(ReportFault::OutOfMemory),
+    }
+}
