@@ -23,5 +23,5 @@ pub use laws::{
     cut_law, load_law, loaded_text_law, old_state_law, one_answer_law, one_text_law, saved_law,
     state_text_law,
 };
-pub use loading::load;
+pub use loading::{load, load_bytes};
 pub use saving::save;

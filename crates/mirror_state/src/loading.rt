@@ -74,8 +74,17 @@ fn is_below(bytes: &[u8]) -> bool
     bytes.len() < usize::MAX
 }
 
-// The mirror of which that is the state text.
-fn load_bytes<H: TreeHash>(
+/// The mirror of a state text: of the same answers as `load`, of bytes that are there already, so that they are kept once.
+///
+/// ```text
+/// let mirror: Mirror<Sha256Tree> = load_bytes(alloc, "example.com/log", &keys, &bytes)?;
+/// ```
+///
+/// # Errors
+///
+/// The first that applies, in the order of `LoadFault`: `StateMagic` to `StateEdge`, and never `ReadFault`. `OutOfMemory`
+/// where memory was refused, before any of them or after.
+pub fn load_bytes<H: TreeHash>(
     alloc: Global,
     origin: &str,
     keys: &[Box<dyn Verifier>],

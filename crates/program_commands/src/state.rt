@@ -6,7 +6,7 @@ ghost use Rattle.program_commands.specs.States.{BeginsWith, OpensFile, SavesFile
 
 use crate::fault::StateFault;
 use crate::origin::check_origin;
-use mirror_state::{load, save};
+use mirror_state::{load_bytes, save};
 use program_files::{NamedFault, NamedFiles};
 use signed_note::Verifier;
 use std::alloc::{AllocError, Global};
@@ -22,7 +22,7 @@ use tlog_mirror::Mirror;
 /// # Errors
 ///
 /// The first that applies: `Origin`, as of `Mirror::new`; `File`, where the file is not read; `Load`, with the fault of
-/// `mirror_state::load`. `OutOfMemory` is told in each of them.
+/// `mirror_state::load_bytes`. `OutOfMemory` is told in each of them.
 pub fn open_state<H: TreeHash, F: NamedFiles>(
     files: &F,
     alloc: Global,
@@ -40,8 +40,7 @@ pub fn open_state<H: TreeHash, F: NamedFiles>(
         Ok(state) => state,
         Err(fault) => return Err(StateFault::File(fault)),
     };
-    let mut input = state.as_slice();
-    match load::<H, &[u8]>(alloc, origin, keys, &mut input) {
+    match load_bytes::<H>(alloc, origin, keys, &state) {
         Ok(mirror) => Ok(mirror),
         Err(fault) => Err(StateFault::Load(fault)),
     }
