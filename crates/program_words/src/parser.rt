@@ -335,7 +335,7 @@ fn named_parser<'a>(alloc: Global) -> Result<clap::Command<'a>, AllocError>
 {
     clap::Command::new(alloc, "tlogmirror")
         .override_help(help::PROGRAM)
-        .version("0.2.0")
+        .version("0.3.0")
         .bin_name("tlogmirror")
 }
 
