@@ -63,7 +63,8 @@ impl<H: TreeHash> ListSource<H> {
         ensures honest { IfOk result (λ source. IsHonestAnywhere H.digest source.entries origin.now (secret_key key) source.note) }
         ensures unasked { IfOk result (λ source. source.asked ≡ []) }
     {
-        let files: LogFiles<H> = LogFiles::new(alloc, &entries)?;
+        let lent = lent_entries(alloc, &entries)?;
+        let files: LogFiles<H> = LogFiles::new(alloc, &lent)?;
         let note = head_note(alloc, origin, files.size(), &files.root(), &key)?;
         Ok(ListSource {
             alloc,
@@ -125,4 +126,15 @@ impl<H: TreeHash> Source for ListSource<H> {
     fn failures(&self) -> u64 {
         0
     }
+}
+
+// The entries, lent.
+fn lent_entries(alloc: Global, entries: &[Vec<u8>]) -> Result<Vec<&[u8]>, AllocError>
+    ensures { IfOk result (λ lent. map (λ e. e.now) lent.items ≡ map (λ e. e.items) entries.now) }
+{
+    let mut lent = Vec::new(alloc);
+    for entry in entries {
+        lent.push(entry.as_slice())?;
+    }
+    Ok(lent)
 }

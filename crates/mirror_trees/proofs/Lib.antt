@@ -8,6 +8,7 @@ pub mod Losses
 pub mod Marking
 pub mod MarkedTrees
 pub mod LeafRows
+pub mod FileSteps
 pub mod Orders
 pub mod PrefixSteps
 pub mod SliceSteps

@@ -38,7 +38,7 @@ pub fn entries_at<'a, H: TreeHash>(
 }
 
 // The entries of these leaf hashes.
-fn entries_of<'a, H: TreeHash>(
+pub(crate) fn entries_of<'a, H: TreeHash>(
     alloc: Global,
     store: &'a Store<H>,
     row: &[Hash],

@@ -83,7 +83,7 @@ fn first_of(size: u64, level: u32, index: u64, width: u32) -> Option<u64>
 
 // Adds the hashes of the nodes of `unit` entries each, from the one with that number on, as many as `count`. True
 // where the tree is held so far.
-fn push_row<H: TreeHash>(
+pub(crate) fn push_row<H: TreeHash>(
     store: &Store<H>,
     size: u64,
     root: &Hash,

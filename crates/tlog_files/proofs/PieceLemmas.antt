@@ -148,13 +148,15 @@ entries_back from before (e ∷ es) len =
 
 -- ---- one entry more
 
-module _ {X : Type 0} (f : X → List ℕ) (xs : List X) (i : ℕ) (x : X) (lt : i < length xs) (is : x ≡ get_or xs i x) where
+module _ {X : Type 0} (f : X → List ℕ) (xs : List X) (i : ℕ) (d : X) (lt : i < length xs) where
+  abbrev x : X
+  x = get_or xs i d
+
   one_more : map f (take (i + 1) xs) ≡ map f (take i xs) ++ f x ∷ []
   one_more =
-      ap (map f) (take_more xs i x lt) ∙ map-append f (take i xs) (get_or xs i x ∷ []) ∙
-      ap (λ y. map f (take i xs) ++ f y ∷ []) (sym is)
+      ap (map f) (take_more xs i d lt) ∙ map-append f (take i xs) (x ∷ [])
 
-  pub more_text : (old new : List ℕ) → old ≡ bundle_text (map f (take i xs)) → new ≡ old ++ entry_text (f x) →
+  more_text : (old new : List ℕ) → old ≡ bundle_text (map f (take i xs)) → new ≡ old ++ entry_text (f x) →
       new ≡ bundle_text (map f (take (i + 1) xs))
   more_text old new old_is new_is =
       let es = map f (take i xs) in
@@ -164,7 +166,7 @@ module _ {X : Type 0} (f : X → List ℕ) (xs : List X) (i : ℕ) (x : X) (lt :
       ∙ sym (flat_map-append entry_text es (f x ∷ []))
       ∙ ap bundle_text (sym one_more)
 
-  pub more_ends : (ends text : List ℕ) (end : ℕ) → ends ≡ ends_of 0 (map f (take i xs)) →
+  more_ends : (ends text : List ℕ) (end : ℕ) → ends ≡ ends_of 0 (map f (take i xs)) →
       text ≡ bundle_text (map f (take (i + 1) xs)) → end ≡ length text →
       ends ++ end ∷ [] ≡ ends_of 0 (map f (take (i + 1) xs))
   more_ends ends text end ends_are text_is end_is =
@@ -178,3 +180,12 @@ module _ {X : Type 0} (f : X → List ℕ) (xs : List X) (i : ℕ) (x : X) (lt :
       ∙ ap (λ n. ends_of 0 es ++ n ∷ []) at
       ∙ sym (ends_append 0 es (f x ∷ []))
       ∙ ap (ends_of 0) (sym one_more)
+
+  -- both at once
+  pub more_bundles : (text new_text ends new_ends : List ℕ) → text ≡ bundle_text (map f (take i xs)) →
+      ends ≡ ends_of 0 (map f (take i xs)) → new_text ≡ text ++ entry_text (f x) →
+      new_ends ≡ ends ++ length new_text ∷ [] →
+      (new_text ≡ bundle_text (map f (take (i + 1) xs))) × (new_ends ≡ ends_of 0 (map f (take (i + 1) xs)))
+  more_bundles text new_text ends new_ends text_is ends_are new_text_is new_ends_are =
+      let more = more_text text new_text text_is new_text_is in
+      (more, new_ends_are ∙ more_ends ends new_text (length new_text) ends_are more refl)

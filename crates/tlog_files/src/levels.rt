@@ -9,8 +9,8 @@ use tlog_hash::{Hash, TreeHash, fold};
 use tlog_tiles::write_row;
 
 /// The leaf hashes of the entries.
-fn leaf_hashes<H: TreeHash>(alloc: Global, entries: &[Vec<u8>]) -> Result<Vec<Hash>, AllocError>
-    ensures { IfOk result (λ row. row.items ≡ map (λ e. leaf_hash H.digest e.items) entries.now) }
+fn leaf_hashes<H: TreeHash>(alloc: Global, entries: &[&[u8]]) -> Result<Vec<Hash>, AllocError>
+    ensures { IfOk result (λ row. row.items ≡ map (λ e. leaf_hash H.digest e.now) entries.now) }
 {
     let mut row = Vec::new(alloc);
     for entry in entries {
@@ -67,10 +67,10 @@ fn rows_from<H: TreeHash>(
 /// The tree hash of the entries, and the bytes of the hashes of each level from 0 to 7. Each entry is hashed once.
 pub(crate) fn levels_of<H: TreeHash>(
     alloc: Global,
-    entries: &[Vec<u8>],
+    entries: &[&[u8]],
 ) -> Result<(Hash, Vec<Vec<u8>>), AllocError>
-    ensures root { IfOk result (λ made. made.0 ≡ mth H.digest (map (λ e. e.items) entries.now)) }
-    ensures rows { IfOk result (λ made. AreFullRows H.digest (map (λ e. e.items) entries.now) 8 (map (λ row. row.items) made.1.items)) }
+    ensures root { IfOk result (λ made. made.0 ≡ mth H.digest (map (λ e. e.now) entries.now)) }
+    ensures rows { IfOk result (λ made. AreFullRows H.digest (map (λ e. e.now) entries.now) 8 (map (λ row. row.items) made.1.items)) }
 {
     let leaves = leaf_hashes::<H>(alloc, entries)?;
     let above = level_above::<H>(alloc, &leaves)?;

@@ -2,6 +2,7 @@
 ghost use Rattle.std.specs.Prelude.{◌≡◌, ◌<◌, ◌^◌, All, map, length, IfOk, IfSome, IfNone};
 ghost use Rattle.tlog_hash.specs.Tree.{mth};
 ghost use Rattle.tlog_tiles.specs.Tiles.{IsTileWithin, tile_bytes, bundle_bytes};
+ghost use Rattle.tlog_files.specs.Layout.{AreFullRows};
 
 use crate::bundles::bundles_of;
 use crate::levels::levels_of;
@@ -50,11 +51,31 @@ impl<H: TreeHash> LogFiles<H> {
     /// # Errors
     ///
     /// Memory was refused.
-    pub fn new(alloc: Global, entries: &[Vec<u8>]) -> Result<LogFiles<H>, AllocError>
-        requires short { All (λ e. length e.items < 2 ^ 16) entries.now }
-        ensures { IfOk result (λ files. files ≡ map (λ e. e.items) entries.now) }
+    pub fn new(alloc: Global, entries: &[&[u8]]) -> Result<LogFiles<H>, AllocError>
+        requires short { All (λ e. length e.now < 2 ^ 16) entries.now }
+        ensures { IfOk result (λ files. files ≡ map (λ e. e.now) entries.now) }
     {
         let (root, rows) = levels_of::<H>(alloc, entries)?;
+        LogFiles::from_rows(alloc, entries, root, rows)
+    }
+
+    /// The files of a log of those entries, each of at most 65,535 bytes, whose tree hash and hashes are known: `rows` has
+    /// the bytes of the hashes of each level from 0 to 7, of all its full nodes. Nothing is hashed.
+    ///
+    /// # Errors
+    ///
+    /// Memory was refused.
+    pub fn from_rows(
+        alloc: Global,
+        entries: &[&[u8]],
+        root: Hash,
+        rows: Vec<Vec<u8>>,
+    ) -> Result<LogFiles<H>, AllocError>
+        requires short { All (λ e. length e.now < 2 ^ 16) entries.now }
+        requires root { root ≡ mth H.digest (map (λ e. e.now) entries.now) }
+        requires rows { AreFullRows H.digest (map (λ e. e.now) entries.now) 8 (map (λ row. row.items) rows.items) }
+        ensures { IfOk result (λ files. files ≡ map (λ e. e.now) entries.now) }
+    {
         let (text, ends) = bundles_of(alloc, entries)?;
         Ok(LogFiles {
             root,

@@ -3,41 +3,23 @@
 //! Under `SumTree` a hash is one byte and 31 zeros. The hash of the entry `a` is 97, and each join adds 1: a tree of n
 //! entries of no bytes has the hash n - 1, modulo 256.
 
-ghost use Rattle.std.specs.Prelude.{◌≡◌, ◌<◌, ◌^◌, All, length, IfOk};
-
-use std::alloc::{AllocError, Global};
+use std::alloc::Global;
 use std::test::Fail;
 use tlog_files::LogFiles;
 use tlog_hash::{Hash, SumTree};
 
 // Entries of no bytes.
-fn empty_entries(alloc: Global, count: usize) -> Result<Vec<Vec<u8>>, AllocError>
-    ensures { IfOk result (λ entries. All (λ e. length e.items < 2 ^ 16) entries.items) }
-{
-    let mut entries = Vec::new(alloc);
+fn empty_log(alloc: Global, count: usize) -> Result<LogFiles<SumTree>, Fail> {
+    let mut entries: Vec<&[u8]> = Vec::new(alloc);
     for _ in 0..count {
-        entries.push(Vec::new(alloc))?;
+        entries.push(b"".as_slice())?;
     }
-    Ok(entries)
+    Ok(LogFiles::new(alloc, &entries)?)
 }
 
 // The entries `a`, of no bytes, and `bc`.
-fn three_entries(alloc: Global) -> Result<Vec<Vec<u8>>, AllocError>
-    ensures { IfOk result (λ entries. All (λ e. length e.items < 2 ^ 16) entries.items) }
-{
-    let mut entries = Vec::new(alloc);
-    entries.push(Vec::from_slice(alloc, b"a")?)?;
-    entries.push(Vec::new(alloc))?;
-    entries.push(Vec::from_slice(alloc, b"bc")?)?;
-    Ok(entries)
-}
-
-fn empty_log(alloc: Global, count: usize) -> Result<LogFiles<SumTree>, Fail> {
-    Ok(LogFiles::new(alloc, &empty_entries(alloc, count)?)?)
-}
-
 fn three(alloc: Global) -> Result<LogFiles<SumTree>, Fail> {
-    Ok(LogFiles::new(alloc, &three_entries(alloc)?)?)
+    Ok(LogFiles::new(alloc, &[b"a", b"", b"bc"])?)
 }
 
 fn tile(files: &LogFiles<SumTree>, level: u32, index: u64, width: u32) -> Option<&[u8]> {

@@ -6,6 +6,6 @@ use Rattle.tlog_files.proofs.bundles.bundles_of.Given as goal
 -- the entries so far
 abbrev pub invariant-loop-entry : goal.invariant-loop-entry
 invariant-loop-entry l = record {
-  text : l.text.items ≡ bundle_text (map (λ e. e.items) (take l.entry-index l.entries));
-  ends : l.ends.items ≡ ends_of 0 (map (λ e. e.items) (take l.entry-index l.entries));
+  text : l.text.items ≡ bundle_text (map (λ e. e.now) (take l.entry-index l.entries));
+  ends : l.ends.items ≡ ends_of 0 (map (λ e. e.now) (take l.entry-index l.entries));
 }

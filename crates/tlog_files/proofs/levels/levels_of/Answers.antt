@@ -8,9 +8,9 @@ use Rattle.tlog_files.proofs.levels.levels_of.Goals as goal
 pub root_of-requires : goal.root_of-requires
 root_of-requires g c =
     let digest = g.H.TreeHash.digest in
-    let entries = map (λ e. e.items) c.args.entries.now in
+    let entries = map (λ e. e.now) c.args.entries.now in
     let leaves : c.in_ok-leaves.leaves.items ≡ full_row digest entries 0 =
-    c.in_ok-leaves.ensures ∙ sym (map-map (leaf_hash digest) (λ e. e.items) c.args.entries.now) ∙
+    c.in_ok-leaves.ensures ∙ sym (map-map (leaf_hash digest) (λ e. e.now) c.args.entries.now) ∙
     sym (leaf_level digest entries) in
     let above : c.in_ok-above.above.items ≡ full_row digest entries 1 =
     next_level digest entries 0 c.deref.result.now c.in_ok-above.above.items (c.deref.ensures.value ∙ leaves)
@@ -21,9 +21,9 @@ root_of-requires g c =
 pub returns-clause-root : goal.returns-clause-root
 returns-clause-root g c =
     let digest = g.H.TreeHash.digest in
-    let entries = map (λ e. e.items) c.args.entries.now in
+    let entries = map (λ e. e.now) c.args.entries.now in
     let leaves : c.in_ok-leaves.leaves.items ≡ full_row digest entries 0 =
-    c.in_ok-leaves.ensures ∙ sym (map-map (leaf_hash digest) (λ e. e.items) c.args.entries.now) ∙
+    c.in_ok-leaves.ensures ∙ sym (map-map (leaf_hash digest) (λ e. e.now) c.args.entries.now) ∙
     sym (leaf_level digest entries) in
     let above : c.in_ok-above.above.items ≡ full_row digest entries 1 =
     next_level digest entries 0 c.deref.result.now c.in_ok-above.above.items (c.deref.ensures.value ∙ leaves)
@@ -33,9 +33,9 @@ returns-clause-root g c =
 pub returns-clause-rows : goal.returns-clause-rows
 returns-clause-rows g c =
     let digest = g.H.TreeHash.digest in
-    let entries = map (λ e. e.items) c.args.entries.now in
+    let entries = map (λ e. e.now) c.args.entries.now in
     let leaves : c.in_ok-leaves.leaves.items ≡ full_row digest entries 0 =
-    c.in_ok-leaves.ensures ∙ sym (map-map (leaf_hash digest) (λ e. e.items) c.args.entries.now) ∙
+    c.in_ok-leaves.ensures ∙ sym (map-map (leaf_hash digest) (λ e. e.now) c.args.entries.now) ∙
     sym (leaf_level digest entries) in
     let above : c.in_ok-above.above.items ≡ full_row digest entries 1 =
     next_level digest entries 0 c.deref.result.now c.in_ok-above.above.items (c.deref.ensures.value ∙ leaves)

@@ -1,24 +1,24 @@
 use Rattle.std.proofs.Common.{◌≡◌, [], map, refl, sym, ◌∙◌, subst}
 use Rattle.tlog_files.specs.Layout.{entries_in, IsLayout}
 use Rattle.tlog_files.proofs.PieceLemmas.{entries_back}
-use Rattle.tlog_files.proofs.log_files.LogFiles.new.Goals as goal
+use Rattle.tlog_files.proofs.log_files.LogFiles.from_rows.Goals as goal
 
 pub returns : goal.returns
 returns g c =
     (λ i. entries_in 0 (c.in_ok-text.ensures.ends i) (c.in_ok-text.ensures.text i)) ∙
-    entries_back 0 [] (map (λ e. e.items) c.args.entries.now) refl
+    entries_back 0 [] (map (λ e. e.now) c.args.entries.now) refl
 
 pub invariant_of-result : goal.invariant_of-result
 invariant_of-result g c =
-    let entries = map (λ e. e.items) c.args.entries.now in
+    let entries = map (λ e. e.now) c.args.entries.now in
     let back : entries_in 0 c.in_ok-text.ends.items c.in_ok-text.text.items ≡ entries =
     (λ i. entries_in 0 (c.in_ok-text.ensures.ends i) (c.in_ok-text.ensures.text i)) ∙
     entries_back 0 [] entries refl in
-    subst (λ es. IsLayout g.H.TreeHash.digest es c.in_ok-root.root (map (λ row. row.items) c.in_ok-root.rows.items)
+    subst (λ es. IsLayout g.H.TreeHash.digest es c.args.root (map (λ row. row.items) c.args.rows.items)
     c.in_ok-text.text.items c.in_ok-text.ends.items) (sym back)
     (record {
-      root_is = c.in_ok-root.ensures.root;
-      rows_are = c.in_ok-root.ensures.rows;
+      root_is = c.requires.root;
+      rows_are = c.requires.rows;
       text_is = c.in_ok-text.ensures.text;
       ends_are = c.in_ok-text.ensures.ends;
     })
