@@ -3,3 +3,4 @@ mod Putting
 mod NoteWalks
 mod Cut
 mod CheckText
+pub mod HeadNotes

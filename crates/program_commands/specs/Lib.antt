@@ -9,3 +9,4 @@ pub mod NoteLaws
 pub mod Root
 pub mod Check
 pub mod Faults
+pub mod HeadFiles

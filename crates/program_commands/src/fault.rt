@@ -36,6 +36,18 @@ pub enum TakeFilesFault {
     Out(NamedFault),
 }
 
+/// Why no checkpoints were read of files, in the order in which they are found. It prints the name of the innermost
+/// variant.
+#[derive(Debug, Drop, PartialEq, Eq, Clone, Copy, Error)]
+pub enum HeadFilesFault {
+    /// A file was not read.
+    #[error(transparent)]
+    File(NamedFault),
+    /// What a file holds is no checkpoint of the log that opens under the keys.
+    #[error(transparent)]
+    Head(TakeFault),
+}
+
 /// Why two states were not merged, in the order in which they are found. It prints the name of the innermost variant.
 #[derive(Debug, Drop, PartialEq, Eq, Clone, Copy, Error)]
 pub enum MergeFilesFault {

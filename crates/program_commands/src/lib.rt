@@ -12,6 +12,7 @@
 mod check;
 mod export;
 mod fault;
+mod heads;
 mod item;
 mod laws;
 mod merge;
@@ -24,7 +25,10 @@ mod take;
 
 pub use check::{CheckFault, run_check};
 pub use export::run_export;
-pub use fault::{ExportFileFault, MergeFilesFault, NotesFault, StateFault, TakeFilesFault};
+pub use fault::{
+    ExportFileFault, HeadFilesFault, MergeFilesFault, NotesFault, StateFault, TakeFilesFault,
+};
+pub use heads::read_heads;
 pub use item::ItemFiles;
 pub use laws::{kept_files_law, standing_notes_law};
 pub use merge::run_merge;

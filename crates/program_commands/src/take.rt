@@ -156,7 +156,7 @@ fn take_bundle<H: TreeHash, F: NamedFiles>(
 }
 
 // The bytes of each of the files.
-fn read_files<F: NamedFiles>(
+pub(crate) fn read_files<F: NamedFiles>(
     files: &F,
     alloc: Global,
     names: &[&str],

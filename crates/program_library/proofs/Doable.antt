@@ -28,6 +28,7 @@ asked_doable words (order.Pull c) h = tt
 asked_doable words (order.Status c) h = tt
 asked_doable words (order.Missing c) h = tt
 asked_doable words (order.Forks c) h = tt
+asked_doable words (order.Compare c) h = tt
 asked_doable words (order.Prove c) h = tt
 asked_doable words (order.Export c) h = tt
 asked_doable words (order.Notes c) h = tt

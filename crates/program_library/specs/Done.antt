@@ -1,13 +1,14 @@
 -- What each answer of a command says of the input, of named files and folders, and of what was
 -- written to standard output.
 use Rattle.std.specs.Prelude.{◌≡◌, ◌≤◌, ℕ, List, length, Option, Result, Ok, Err, Bool, true}
-use Rattle.std.specs.Prelude.{false, IfSome, option_map, ⊤}
+use Rattle.std.specs.Prelude.{false, IfSome, map, option_map, ⊤}
 use Rattle.std.specs.Io.KnownBytes.{Keeps}
 use Rattle.signed_note.specs.Keys.{Key}
 use Rattle.program_words.specs.declared.command.Command.{Command as Order}
 use Rattle.program_words.specs.declared.command.Command.TheVariants as order
 use Rattle.program_words.specs.declared.command.Build.{Build as BuildWords}
 use Rattle.program_words.specs.declared.command.Merge.{Merge as MergeWords}
+use Rattle.program_words.specs.declared.command.Compare.{Compare as CompareWords}
 use Rattle.program_words.specs.declared.command.Export.{Export as FolderWords}
 use Rattle.program_words.specs.declared.command.Pull.{Pull as PullWords}
 use Rattle.program_words.specs.declared.command.Serve.{Serve as ServeWords}
@@ -25,7 +26,7 @@ use Rattle.program_library.specs.declared.fault.RunFault.{RunFault}
 use Rattle.program_library.specs.declared.fault.RunFault.TheVariants.{Root, Check, Build, Take}
 use Rattle.program_library.specs.declared.fault.RunFault.TheVariants.{Merge, Pull, Status, Missing}
 use Rattle.program_library.specs.declared.fault.RunFault.TheVariants.{Forks, Prove, Export, Notes}
-use Rattle.program_library.specs.declared.fault.RunFault.TheVariants.{Serve}
+use Rattle.program_library.specs.declared.fault.RunFault.TheVariants.{Compare, Serve}
 use Rattle.program_commands.specs.declared.root.RootFault.TheVariants as root
 use Rattle.program_commands.specs.declared.check.CheckFault.TheVariants as check
 use Rattle.program_library.specs.declared.fault.TellFault.{TellFault}
@@ -36,7 +37,7 @@ use Rattle.program_commands.specs.Check.{AnswersCheck}
 use Rattle.program_library.specs.Builds.{BuildsFrom}
 use Rattle.program_library.specs.Named.{TakesWords}
 use Rattle.program_library.specs.Pulls.{TellsPull}
-use Rattle.program_library.specs.Works.{AsksState, IsWriting, ServesState}
+use Rattle.program_library.specs.Works.{AsksState, ComparesState, IsWriting, ServesState}
 
 -- the files that a command reads alone are left as they are; what the others leave is said by
 -- `Executes`
@@ -68,6 +69,7 @@ IsWriteFault (Pull tell.WriteFault) = ⊤
 IsWriteFault (Status fault) = IsWriting fault
 IsWriteFault (Missing fault) = IsWriting fault
 IsWriteFault (Forks fault) = IsWriting fault
+IsWriteFault (Compare fault) = IsWriting fault
 IsWriteFault (Prove fault) = IsWriting fault
 IsWriteFault (Serve fault) = ⊤
 IsWriteFault other = ⊥
@@ -106,6 +108,13 @@ module _ (digest : List ℕ → List ℕ) (keys : List Key) (key_bytes : List �
   abbrev pub WritesInto : FolderWords → Result (Unit {0}) NotesFault → Type 0
   WritesInto c answer =
       WritesNotes digest c.mirror.log.origin.now keys told c.mirror.state.now c.folder.now left answer
+
+  -- what an answer of `compare` says of the files that its words name, and of what was written
+  abbrev pub ComparesWords : CompareWords → Option (List ℕ) → Option (List ℕ) →
+      Result ℕ WorkFault → Type 0
+  ComparesWords c old new answer =
+      ComparesState digest keys told c.mirror.state.now c.mirror.log.origin.now
+      (map (λ name. name.now) c.files.items) old new answer
 
   -- what an answer of `pull` says of the files that its words name, and of what was written
   abbrev pub PullsWords : PullWords → Option (List ℕ) → Option (List ℕ) → Result ℕ TellFault →
@@ -165,6 +174,9 @@ module _ (digest : List ℕ → List ℕ) (keys : List Key) (key_bytes : List �
   Executes (order.Forks c) input old new (Err (Forks fault)) =
       AsksState digest keys told c.state.now c.log.origin.now question.Forks old new
       (Err fault)
+  Executes (order.Compare c) input old new (Ok status) = ComparesWords c old new (Ok status)
+  Executes (order.Compare c) input old new (Err (Compare fault)) =
+      ComparesWords c old new (Err fault)
   Executes (order.Prove c) input old new (Ok status) =
       AsksState digest keys told c.mirror.state.now c.mirror.log.origin.now (question.Proof c.ask)
       old new (Ok status)

@@ -1,6 +1,7 @@
 -- What each answer of a command over a state file says of it, and of what was written to standard
 -- output. `connection_fault` is cited by the contracts of private functions alone.
-use Rattle.std.specs.Prelude.{◌≡◌, ◌⊎◌, ℕ, List, ◌++◌, Option, Result, Ok, Err, codes, ⊤}
+use Rattle.std.specs.Prelude.{◌≡◌, ◌≢◌, ◌⊎◌, ℕ, List, [], ◌++◌, Option, Some, None, Result, Ok, Err}
+use Rattle.std.specs.Prelude.{codes, ⊤}
 use Rattle.std.specs.Fmt.{decimal}
 use Rattle.std.specs.Io.KnownBytes.{Appends, Keeps}
 use Rattle.byte_streams.specs.Streams.{AppendsPrefix}
@@ -9,13 +10,17 @@ use Rattle.mirror_model.specs.View.{View}
 use Rattle.mirror_server.specs.declared.fault.HttpFault.{HttpFault}
 use Rattle.mirror_server.specs.declared.fault.HttpFault.TheVariants as http
 use Rattle.program_files.specs.Named.{NamedFile}
+use Rattle.program_reports.specs.Comparisons.{AnswersCompared}
 use Rattle.program_reports.specs.Questions.{AnswersQuestion}
 use Rattle.program_reports.specs.declared.question.Question.{Question}
+use Rattle.program_reports.specs.declared.fault.AskFault.{AskFault}
 use Rattle.program_reports.specs.declared.fault.AskFault.TheVariants as ask
+use Rattle.program_commands.specs.HeadFiles.{ReadsHeads}
 use Rattle.program_commands.specs.States.{OpensFile}
+use Rattle.program_commands.specs.declared.fault.HeadFilesFault.{HeadFilesFault}
 use Rattle.program_library.specs.declared.fault.WorkFault.{WorkFault}
 use Rattle.program_library.specs.declared.fault.WorkFault.TheVariants.{State, Ask, PortFault}
-use Rattle.program_library.specs.declared.fault.WorkFault.TheVariants.{OutOfMemory}
+use Rattle.program_library.specs.declared.fault.WorkFault.TheVariants.{Heads, OutOfMemory}
 use Rattle.program_library.specs.declared.fault.TellFault.{TellFault}
 use Rattle.program_library.specs.declared.fault.TellFault.TheVariants.{Work, WriteFault}
 
@@ -43,6 +48,38 @@ module _
       (v : View) × OpensFile digest origin keys told name (Ok v) ×
       AnswersQuestion digest question v old new (Err fault)
   AsksState (Err other) = ⊥
+
+-- ---- compare
+
+-- the heads that are given: those of the files, and none where no file is named
+abbrev pub FindsHeads : List Key → Option (List NamedFile) → List ℕ → List (List ℕ) →
+    Result (Option (List (ℕ × List ℕ))) HeadFilesFault → Type 0
+FindsHeads keys told origin files (Ok None) = files ≡ []
+FindsHeads keys told origin files (Ok (Some heads)) =
+    (files ≢ []) × ReadsHeads origin keys told files (Ok heads)
+FindsHeads keys told origin files (Err fault) = ReadsHeads origin keys told files (Err fault)
+
+module _
+    (digest : List ℕ → List ℕ) (keys : List Key) (told : Option (List NamedFile)) (name : List ℕ)
+    (origin : List ℕ) (files : List (List ℕ)) (old new : Option (List ℕ)) where
+  -- a mirror was opened of the state file, and what was answered and written is what it tells of the
+  -- heads that are given
+  pub record OpensAndCompares (answer : Result ℕ AskFault) : Type 0 where
+    pub view : View
+    pub heads : Option (List (ℕ × List ℕ))
+    pub opened : OpensFile digest origin keys told name (Ok view)
+    pub given : FindsHeads keys told view.origin files (Ok heads)
+    pub answers : AnswersCompared digest view heads old new answer
+
+  -- what each answer of `compare` says of the files, and of what was written
+  abbrev pub ComparesState : Result ℕ WorkFault → Type 0
+  ComparesState (Ok status) = OpensAndCompares (Ok status)
+  ComparesState (Err (State fault)) = OpensFile digest origin keys told name (Err fault)
+  ComparesState (Err (Heads fault)) =
+      (v : View) × OpensFile digest origin keys told name (Ok v) ×
+      FindsHeads keys told v.origin files (Err fault)
+  ComparesState (Err (Ask fault)) = OpensAndCompares (Err fault)
+  ComparesState (Err other) = ⊥
 
 -- ---- serve
 

@@ -1,7 +1,8 @@
 //! Why a command was not done.
 use mirror_pull::PullFault;
 use program_commands::{
-    CheckFault, ExportFileFault, MergeFilesFault, NotesFault, RootFault, StateFault, TakeFilesFault,
+    CheckFault, ExportFileFault, HeadFilesFault, MergeFilesFault, NotesFault, RootFault, StateFault,
+    TakeFilesFault,
 };
 use program_files::NamedFault;
 use program_reports::AskFault;
@@ -50,6 +51,9 @@ pub enum RunFault {
     /// Forks were not printed.
     #[error(transparent)]
     Forks(WorkFault),
+    /// What was compared was not printed.
+    #[error(transparent)]
+    Compare(WorkFault),
     /// No proof was printed.
     #[error(transparent)]
     Prove(WorkFault),
@@ -82,6 +86,9 @@ pub enum WorkFault {
     /// There is no mirror of a state file.
     #[error(transparent)]
     State(StateFault),
+    /// There are no checkpoints in the files that the words name.
+    #[error(transparent)]
+    Heads(HeadFilesFault),
     /// Standard input has no entries.
     #[error(transparent)]
     Entries(EntriesFault),

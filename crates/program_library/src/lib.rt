@@ -10,6 +10,7 @@
 
 mod ask;
 mod build;
+mod compare;
 mod ending;
 mod fault;
 mod files;

@@ -7,6 +7,7 @@ ghost use Rattle.program_library.specs.Works.{IsStatus};
 
 use crate::ask::run_ask;
 use crate::build::run_build;
+use crate::compare::run_compare;
 use crate::fault::RunFault;
 use crate::files::{export_words, merge_words, notes_words, take_words};
 use crate::pull::run_pull;
@@ -98,6 +99,10 @@ where
         Command::Forks(args) => match run_ask(files, alloc, args, keys, &Question::Forks, output) {
             Ok(status) => Ok(status),
             Err(fault) => Err(RunFault::Forks(fault)),
+        },
+        Command::Compare(compare) => match run_compare(files, alloc, compare, keys, output) {
+            Ok(status) => Ok(status),
+            Err(fault) => Err(RunFault::Compare(fault)),
         },
         Command::Prove(prove) => {
             let question = Question::Proof(prove.ask);

@@ -4,12 +4,13 @@ use Rattle.std.specs.Bool.{MatchBool}
 use Rattle.std.specs.Str.{bytes_eq}
 use Rattle.std.proofs.lemmas.Slice.Eq.{bytes_eq-Decides}
 use Rattle.clap.specs.Words.{Row, Text}
-use Rattle.program_words.specs.Commands.{IsBuild, IsExport, IsStateArgs, IsMerge, IsMissingAsk}
+use Rattle.program_words.specs.Commands.{IsBuild, IsCompare, IsExport, IsStateArgs, IsMerge, IsMissingAsk}
 use Rattle.program_words.specs.Commands.{IsProve, IsPull, IsRoot, IsServe, IsTake}
 use Rattle.program_words.specs.Readings.{ReadsPart, IsSaid}
 use Rattle.program_words.specs.declared.command.Build.{Build}
 use Rattle.program_words.specs.declared.command.Command.{Command}
 use Rattle.program_words.specs.declared.command.Command.TheVariants as order
+use Rattle.program_words.specs.declared.command.Compare.{Compare}
 use Rattle.program_words.specs.declared.command.Export.{Export}
 use Rattle.program_words.specs.declared.command.StateArgs.{StateArgs}
 use Rattle.program_words.specs.declared.command.Merge.{Merge}
@@ -37,10 +38,11 @@ SaidOf name options =
     MatchBool (bytes_eq name (codes "status")) ((c : StateArgs) × IsStateArgs options c) (
     MatchBool (bytes_eq name (codes "missing")) ((c : Missing) × IsMissingAsk options c) (
     MatchBool (bytes_eq name (codes "forks")) ((c : StateArgs) × IsStateArgs options c) (
+    MatchBool (bytes_eq name (codes "compare")) ((c : Compare) × IsCompare options c) (
     MatchBool (bytes_eq name (codes "prove")) ((c : Prove) × IsProve options c) (
     MatchBool (bytes_eq name (codes "export")) ((c : Export) × IsExport options c) (
     MatchBool (bytes_eq name (codes "notes")) ((c : Export) × IsExport options c) (
-    MatchBool (bytes_eq name (codes "serve")) ((c : Serve) × IsServe options c) Unit)))))))))))
+    MatchBool (bytes_eq name (codes "serve")) ((c : Serve) × IsServe options c) Unit))))))))))))
 
 pub said_of : (name : Text) (options : List Row) (command : Command) → IsSaid name options command → SaidOf name options
 said_of name options (order.Root c) said = subst (λ n. SaidOf n options) (sym said.0) (c, said.1)
@@ -52,6 +54,7 @@ said_of name options (order.Pull c) said = subst (λ n. SaidOf n options) (sym s
 said_of name options (order.Status c) said = subst (λ n. SaidOf n options) (sym said.0) (c, said.1)
 said_of name options (order.Missing c) said = subst (λ n. SaidOf n options) (sym said.0) (c, said.1)
 said_of name options (order.Forks c) said = subst (λ n. SaidOf n options) (sym said.0) (c, said.1)
+said_of name options (order.Compare c) said = subst (λ n. SaidOf n options) (sym said.0) (c, said.1)
 said_of name options (order.Prove c) said = subst (λ n. SaidOf n options) (sym said.0) (c, said.1)
 said_of name options (order.Export c) said = subst (λ n. SaidOf n options) (sym said.0) (c, said.1)
 said_of name options (order.Notes c) said = subst (λ n. SaidOf n options) (sym said.0) (c, said.1)

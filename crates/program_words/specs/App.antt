@@ -76,6 +76,10 @@ missing_app =
     with_rule (with_rule (held_app (codes "missing")) (option_rule (codes "size")))
     (option_rule (codes "root"))
 
+-- `compare --origin O --keys K --state S [FILE...]`
+abbrev pub compare_app : App
+compare_app = with_rule (held_app (codes "compare")) (list_rule (codes "file"))
+
 -- `prove --origin O --keys K --state S KIND A B`
 abbrev pub prove_app : App
 prove_app = with_rule (with_rule (with_rule (held_app (codes "prove"))
@@ -123,6 +127,8 @@ abbrev pub mirror_app : App
 mirror_app =
     with_subcommand
     (with_subcommand
+    (with_subcommand
     (with_subcommand (with_subcommand (with_subcommand (with_subcommand (with_subcommand making_app
-    (held_app (codes "status")).top) missing_app.top) (held_app (codes "forks")).top) prove_app.top)
+    (held_app (codes "status")).top) missing_app.top) (held_app (codes "forks")).top)
+    compare_app.top) prove_app.top)
     (folder_app (codes "export")).top) (folder_app (codes "notes")).top) serve_app.top

@@ -28,6 +28,7 @@ use Rattle.program_words.specs.declared.command.Place.{Place}
 use Rattle.program_words.specs.declared.command.Place.TheVariants.{Folder, Server}
 use Rattle.program_words.specs.declared.command.Pull.{Pull}
 use Rattle.program_words.specs.declared.command.Missing.{Missing}
+use Rattle.program_words.specs.declared.command.Compare.{Compare}
 use Rattle.program_words.specs.declared.command.Prove.{Prove}
 use Rattle.program_words.specs.declared.command.Export.{Export}
 use Rattle.program_words.specs.declared.command.Serve.{Serve}
@@ -172,6 +173,11 @@ pub record IsMissingAsk (options : List Row) (missing : Missing) : Type 0 where
   pub size : HasValue options (codes "size") (IsSize missing.size)
   pub root : HasValue options (codes "root") (λ word. IsHashText word missing.root)
 
+-- what the options of `compare` say
+pub record IsCompare (options : List Row) (compare : Compare) : Type 0 where
+  pub mirror : IsStateArgs options compare.mirror
+  pub files : unwrap_or (all_of (codes "file") options) [] ≡ map (λ f. f.now) compare.files.items
+
 -- the three words that ask for a proof
 abbrev pub IsAsk : Text → Text → Text → Ask → Type 0
 IsAsk kind a b (Inclusion size index) = (kind ≡ codes "inclusion") × IsSize size a × IsSize index b
@@ -209,6 +215,7 @@ name_of (order.Pull c) = codes "pull"
 name_of (order.Status c) = codes "status"
 name_of (order.Missing c) = codes "missing"
 name_of (order.Forks c) = codes "forks"
+name_of (order.Compare c) = codes "compare"
 name_of (order.Prove c) = codes "prove"
 name_of (order.Export c) = codes "export"
 name_of (order.Notes c) = codes "notes"
@@ -225,6 +232,7 @@ Says options (order.Pull c) = IsPull options c
 Says options (order.Status c) = IsStateArgs options c
 Says options (order.Missing c) = IsMissingAsk options c
 Says options (order.Forks c) = IsStateArgs options c
+Says options (order.Compare c) = IsCompare options c
 Says options (order.Prove c) = IsProve options c
 Says options (order.Export c) = IsExport options c
 Says options (order.Notes c) = IsExport options c

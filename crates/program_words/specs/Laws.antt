@@ -9,8 +9,8 @@ abbrev pub command_names : List Text
 command_names =
     codes "root" ∷ codes "check" ∷ codes "build" ∷ codes "take" ∷ codes "merge" ∷ codes "pull"
     ∷ codes "status"
-    ∷ codes "missing" ∷ codes "forks" ∷ codes "prove" ∷ codes "export" ∷ codes "notes"
-    ∷ codes "serve" ∷ []
+    ∷ codes "missing" ∷ codes "forks" ∷ codes "compare" ∷ codes "prove" ∷ codes "export"
+    ∷ codes "notes" ∷ codes "serve" ∷ []
 
 -- the text is one of these
 abbrev pub IsOneOf : List Text → Text → Type 0

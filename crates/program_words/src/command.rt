@@ -122,6 +122,15 @@ pub struct Missing<'a> {
     pub root: Hash,
 }
 
+/// `compare`: checkpoints compared with what is served.
+#[derive(Debug, Drop, PartialEq, Eq)]
+pub struct Compare<'a> {
+    /// The mirror.
+    pub mirror: StateArgs<'a>,
+    /// The files of the notes that are compared; none for those that the mirror holds.
+    pub files: Vec<&'a str>,
+}
+
 /// `prove`: a proof of what is served.
 #[derive(Debug, Drop, PartialEq, Eq, Clone, Copy)]
 pub struct Prove<'a> {
@@ -172,6 +181,8 @@ pub enum Command<'a> {
     Missing(Missing<'a>),
     /// The forks between a mirror's heads.
     Forks(StateArgs<'a>),
+    /// Checkpoints compared with what is served.
+    Compare(Compare<'a>),
     /// A proof of what is served.
     Prove(Prove<'a>),
     /// What is served, as a folder.

@@ -22,8 +22,8 @@ mod readers;
 mod words;
 
 pub use command::{
-    Build, Command, Export, Kind, Log, Merge, Missing, OutputArgs, Place, Prove, Pull, Root, Serve,
-    StateArgs, Take,
+    Build, Command, Compare, Export, Kind, Log, Merge, Missing, OutputArgs, Place, Prove, Pull,
+    Root, Serve, StateArgs, Take,
 };
 pub use fault::CommandFault;
 pub use laws::{lawful_law, words_example};

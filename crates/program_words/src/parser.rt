@@ -1,7 +1,7 @@
 //! The parser of the command line, command by command.
 ghost use Rattle.std.specs.Prelude.{◌≡◌, IfOk, codes, false};
 ghost use Rattle.clap.specs.Words.{App, Rule, new_app, rule_of, with_rule, with_subcommand};
-ghost use Rattle.program_words.specs.App.{argument_rule, build_app, check_app, choice_rule, folder_app, held_app, list_rule, log_app, made_app};
+ghost use Rattle.program_words.specs.App.{argument_rule, build_app, check_app, choice_rule, compare_app, folder_app, held_app, list_rule, log_app, made_app};
 ghost use Rattle.program_words.specs.App.{making_app, merge_app, mirror_app, missing_app, named_app, option_rule, place_rule, program_app, prove_app, pull_app};
 ghost use Rattle.program_words.specs.App.{root_app, serve_app, take_app};
 ghost use Rattle.program_words.specs.Commands.{IsParserOf};
@@ -295,6 +295,24 @@ fn missing_parser<'a>(alloc: Global) -> Result<clap::Command<'a>, AllocError>
     with_argument(with_argument(parser, size), root)
 }
 
+fn compare_parser<'a>(alloc: Global) -> Result<clap::Command<'a>, AllocError>
+    ensures { IfOk result (IsParserOf compare_app) }
+{
+    let parser = held_parser(
+        alloc,
+        "compare",
+        "Prints which checkpoints contradict the served one, though their entries are gone",
+        help::COMPARE,
+    );
+    let files = list(
+        alloc,
+        "file",
+        "FILE",
+        "The signed notes that are compared; those of the state where none is named",
+    );
+    with_argument(parser, files)
+}
+
 fn prove_parser<'a>(alloc: Global) -> Result<clap::Command<'a>, AllocError>
     ensures { IfOk result (IsParserOf prove_app) }
 {
@@ -413,6 +431,7 @@ pub(crate) fn parser<'a>(alloc: Global) -> Result<clap::Command<'a>, AllocError>
     let parser = with_command(making_parser(alloc), status_parser(alloc));
     let parser = with_command(parser, missing_parser(alloc));
     let parser = with_command(parser, forks_parser(alloc));
+    let parser = with_command(parser, compare_parser(alloc));
     let parser = with_command(parser, prove_parser(alloc));
     let parser = with_command(parser, export_parser(alloc));
     let parser = with_command(parser, notes_parser(alloc));

@@ -2,11 +2,13 @@
 ghost use Rattle.std.specs.Prelude.{◌≡◌, ◌↔◌, IsTrue, [], codes, map, unwrap_or};
 ghost use Rattle.clap.specs.Words.{all_of, first_of, found_of, rows_of};
 ghost use Rattle.tlog_text.specs.Hash.{IsHashText};
-ghost use Rattle.program_words.specs.Commands.{HasValue, IsAsk, IsBuild, IsCount, IsExport, IsMerge, IsMissingAsk, IsNumberIn};
+ghost use Rattle.program_words.specs.Commands.{HasValue, IsAsk, IsBuild, IsCompare, IsCount, IsExport, IsMerge, IsMissingAsk, IsNumberIn};
 ghost use Rattle.program_words.specs.Commands.{IsProve, IsPull, IsRoot, IsServe, IsSize, IsTake, IsTakeWidth, kind_name};
 ghost use Rattle.program_words.specs.Readings.{ReadsPart};
 
-use crate::command::{Build, Export, Kind, Merge, Missing, Prove, Pull, Root, Serve, Take};
+use crate::command::{
+    Build, Compare, Export, Kind, Merge, Missing, Prove, Pull, Root, Serve, Take,
+};
 use crate::fault::CommandFault;
 use crate::parts::{log_of, number_in, number_of, output_args, state_args, word_of};
 use crate::place::place_of;
@@ -139,6 +141,18 @@ pub(crate) fn missing_of<'a>(found: &ArgMatches<'a>) -> Result<Missing<'a>, Comm
         size: number_of(found, "size", 0, MAX_SIZE)?,
         root: hash_of(word_of(found, "root")?)?,
     })
+}
+
+/// `compare`, by its options.
+pub(crate) fn compare_of<'a>(
+    alloc: Global,
+    found: &ArgMatches<'a>,
+) -> Result<Compare<'a>, CommandFault>
+    ensures { ReadsPart (IsCompare (rows_of (found_of found.now))) result }
+{
+    let mirror = state_args(found)?;
+    let files = files_of(alloc, found)?;
+    Ok(Compare { mirror, files })
 }
 
 // What a proof is asked for, by the three words.

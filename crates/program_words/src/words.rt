@@ -9,7 +9,8 @@ use crate::fault::CommandFault;
 use crate::parser::parser;
 use crate::parts::state_args;
 use crate::readers::{
-    build_of, export_of, merge_of, missing_of, prove_of, pull_of, root_of, serve_of, take_of,
+    build_of, compare_of, export_of, merge_of, missing_of, prove_of, pull_of, root_of, serve_of,
+    take_of,
 };
 use clap::ArgMatches;
 use clap::error::ErrorKind;
@@ -51,6 +52,7 @@ fn command_of<'a>(
         "status" => Ok(Command::Status(state_args(found)?)),
         "missing" => Ok(Command::Missing(missing_of(found)?)),
         "forks" => Ok(Command::Forks(state_args(found)?)),
+        "compare" => Ok(Command::Compare(compare_of(alloc, found)?)),
         "prove" => Ok(Command::Prove(prove_of(found)?)),
         "export" => Ok(Command::Export(export_of(found)?)),
         "notes" => Ok(Command::Notes(export_of(found)?)),

@@ -203,6 +203,24 @@ returns-in-Err-run_ask-3-clause-files g c = rw c.in-Forks.is refl
 pub returns-in-Err-run_ask-3-clause-folders : goal.returns-in-Err-run_ask-3-clause-folders
 returns-in-Err-run_ask-3-clause-folders g c = rw c.in-Forks.is refl
 
+pub returns-in-Ok-run_compare-clause-answer : goal.returns-in-Ok-run_compare-clause-answer
+returns-in-Ok-run_compare-clause-answer g c = rw c.in-Compare.is c.in-Ok-run_compare.ensures.answer
+
+pub returns-in-Ok-run_compare-clause-files : goal.returns-in-Ok-run_compare-clause-files
+returns-in-Ok-run_compare-clause-files g c = rw c.in-Compare.is refl
+
+pub returns-in-Ok-run_compare-clause-folders : goal.returns-in-Ok-run_compare-clause-folders
+returns-in-Ok-run_compare-clause-folders g c = rw c.in-Compare.is refl
+
+pub returns-in-Err-run_compare-clause-answer : goal.returns-in-Err-run_compare-clause-answer
+returns-in-Err-run_compare-clause-answer g c = rw c.in-Compare.is c.in-Err-run_compare.ensures.answer
+
+pub returns-in-Err-run_compare-clause-files : goal.returns-in-Err-run_compare-clause-files
+returns-in-Err-run_compare-clause-files g c = rw c.in-Compare.is refl
+
+pub returns-in-Err-run_compare-clause-folders : goal.returns-in-Err-run_compare-clause-folders
+returns-in-Err-run_compare-clause-folders g c = rw c.in-Compare.is refl
+
 pub returns-in-Ok-run_ask-4-clause-answer : goal.returns-in-Ok-run_ask-4-clause-answer
 returns-in-Ok-run_ask-4-clause-answer g c = rw c.in-Prove.is c.in-Ok-run_ask-4.ensures.answer
 

@@ -1,7 +1,7 @@
 use Rattle.std.proofs.Common.{codes}
 use Rattle.std.proofs.lemmas.Result.{err_from_is_err_and}
 use Rattle.clap.specs.Words.{found_of, rows_of}
-use Rattle.program_words.specs.Commands.{IsBuild, IsExport, IsStateArgs, IsMerge, IsMissingAsk}
+use Rattle.program_words.specs.Commands.{IsBuild, IsCompare, IsExport, IsStateArgs, IsMerge, IsMissingAsk}
 use Rattle.program_words.specs.Commands.{IsProve, IsPull, IsRoot, IsServe, IsTake}
 use Rattle.program_words.proofs.Named.{refused_of}
 use Rattle.program_words.proofs.words.command_of.Goals as goal
@@ -101,6 +101,19 @@ returns-in_err-state_args-in-forks c =
     refused_of (IsStateArgs options) c.args.name.now (codes "forks") options c.from_residual-in_err-state_args-in-forks.result
     c.in_err-state_args-in-forks.field-0.0 (λ p. p) c.in-forks.is fault
     c.in_err-state_args-in-forks.ensures
+
+pub returns-in_ok-compare_of-in-compare : goal.returns-in_ok-compare_of-in-compare
+returns-in_ok-compare_of-in-compare c = (c.in-compare.is, c.in_ok-compare_of-in-compare.ensures)
+
+pub returns-in_err-compare_of-in-compare : goal.returns-in_err-compare_of-in-compare
+returns-in_err-compare_of-in-compare c =
+    let options = rows_of (found_of c.args.found.now) in
+    let fault = err_from_is_err_and c.from_residual-in_err-compare_of-in-compare.result
+    c.from_residual-in_err-compare_of-in-compare.ensures.1 in
+    refused_of (IsCompare options) c.args.name.now (codes "compare") options
+    c.from_residual-in_err-compare_of-in-compare.result
+    c.in_err-compare_of-in-compare.field-0.0 (λ p. p) c.in-compare.is fault
+    c.in_err-compare_of-in-compare.ensures
 
 pub returns-in_ok-prove_of-in-prove : goal.returns-in_ok-prove_of-in-prove
 returns-in_ok-prove_of-in-prove c = (c.in-prove.is, c.in_ok-prove_of-in-prove.ensures)

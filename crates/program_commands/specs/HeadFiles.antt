@@ -1,0 +1,40 @@
+-- What is read of files that each hold a signed note of the log's.
+use Rattle.std.specs.Prelude.{◌≡◌, ℕ, ◌<◌, List, length, take, get_or, Option, Result, Ok, Err}
+use Rattle.std.specs.List.{AllZip}
+use Rattle.signed_note.specs.Keys.{Key}
+use Rattle.mirror_model.specs.Heads.{IsOpenHead}
+use Rattle.mirror_model.specs.Refusals.{ReadsHead}
+use Rattle.mirror_model.specs.declared.fault.TakeFault.{TakeFault}
+use Rattle.program_files.specs.Named.{NamedFile, FailsToRead, HaveContents}
+use Rattle.program_commands.specs.declared.fault.HeadFilesFault.{HeadFilesFault}
+use Rattle.program_commands.specs.declared.fault.HeadFilesFault.TheVariants.{File, Head}
+
+module _ (origin : List ℕ) (keys : List Key) where
+  -- the notes open under the keys, and are of the origin and of these sizes and roots, one for one
+  abbrev pub AreOpen : List (List ℕ) → List (ℕ × List ℕ) → Type 0
+  AreOpen notes heads = AllZip (λ note head. IsOpenHead note origin keys head.0 head.1) notes heads
+
+  -- one of the notes is refused, for that reason, and those before it are not
+  pub record RefusesNote (notes : List (List ℕ)) (fault : TakeFault) : Type 0 where
+    pub at : ℕ
+    pub note : List ℕ
+    pub heads : List (ℕ × List ℕ)
+    pub within : at < length notes
+    pub is_there : get_or notes at note ≡ note
+    pub before : AreOpen (take at notes) heads
+    pub refused : ReadsHead note origin keys (Err fault)
+
+  -- the sizes and roots of the notes, or why the first that is refused is
+  abbrev pub ChecksNotes : List (List ℕ) → Result (List (ℕ × List ℕ)) TakeFault → Type 0
+  ChecksNotes notes (Ok heads) = AreOpen notes heads
+  ChecksNotes notes (Err fault) = RefusesNote notes fault
+
+  -- the sizes and roots of the notes in the files of these names; or why one is not read; or, where
+  -- all are, why the first that is refused is
+  abbrev pub ReadsHeads : Option (List NamedFile) → List (List ℕ) →
+      Result (List (ℕ × List ℕ)) HeadFilesFault → Type 0
+  ReadsHeads told names (Ok heads) =
+      (notes : List (List ℕ)) × HaveContents told names notes × AreOpen notes heads
+  ReadsHeads told names (Err (File fault)) = FailsToRead told names fault
+  ReadsHeads told names (Err (Head fault)) =
+      (notes : List (List ℕ)) × HaveContents told names notes × RefusesNote notes fault

@@ -1,0 +1,67 @@
+//! The checkpoints that `compare` is given: files that each hold a signed note.
+ghost use Rattle.std.specs.Prelude.{map};
+ghost use Rattle.tlog_text.specs.Answers.{seen};
+ghost use Rattle.program_commands.specs.HeadFiles.{ChecksNotes, ReadsHeads};
+
+use crate::fault::HeadFilesFault;
+use crate::take::read_files;
+use program_files::NamedFiles;
+use signed_note::Verifier;
+use std::alloc::Global;
+use tlog_hash::{Hash, TreeHash};
+use tlog_mirror::{Mirror, TakeFault};
+
+/// The sizes and roots of the checkpoints in these files, in their order. Each file holds a signed note, which has to
+/// open under the keys and to be of the mirror's origin. No edge is asked for, and nothing is taken.
+///
+/// ```text
+/// read_heads(&files, alloc, &mirror, &keys, &["told.note"])?   // [(400, root)]
+/// ```
+///
+/// # Errors
+///
+/// In this order: `File`, where one of the files is not read; `Head`, with the fault of `Mirror::check_head` at the first
+/// note that has one.
+pub fn read_heads<H: TreeHash, F: NamedFiles>(
+    files: &F,
+    alloc: Global,
+    mirror: &Mirror<H>,
+    keys: &[Box<dyn Verifier>],
+    names: &[&str],
+) -> Result<Vec<(u64, Hash)>, HeadFilesFault>
+    ensures { ReadsHeads mirror.now.view.origin (map (λ k. key k) keys.now) (F.puts files.now) (map (λ name. name.now) names.now) (seen (λ heads. heads.items) result) }
+{
+    let notes = match read_files(files, alloc, names) {
+        Ok(notes) => notes,
+        Err(fault) => return Err(HeadFilesFault::File(fault)),
+    };
+    match check_notes(alloc, mirror, keys, notes.as_slice()) {
+        Ok(heads) => Ok(heads),
+        Err(fault) => Err(HeadFilesFault::Head(fault)),
+    }
+}
+
+// The size and root of each of the notes.
+fn check_notes<H: TreeHash>(
+    alloc: Global,
+    mirror: &Mirror<H>,
+    keys: &[Box<dyn Verifier>],
+    notes: &[Vec<u8>],
+) -> Result<Vec<(u64, Hash)>, TakeFault>
+    ensures { ChecksNotes mirror.now.view.origin (map (λ k. key k) keys.now) (map (λ note. note.items) notes.now) (seen (λ heads. heads.items) result) }
+{
+    let mut heads = Vec::new(alloc);
+    for note in notes {
+        let checkpoint = match mirror.check_head(alloc, keys, note.as_slice()) {
+            Ok(checkpoint) => checkpoint,
+            Err(fault) => return Err(fault),
+        };
+        let size = checkpoint.size;
+        let root = checkpoint.root;
+        match heads.push((size, root)) {
+            Ok(()) => {}
+            Err(_) => return Err(TakeFault::OutOfMemory),
+        }
+    }
+    Ok(heads)
+}

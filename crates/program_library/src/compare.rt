@@ -1,0 +1,85 @@
+//! The command `compare`: checkpoints compared with what the mirror in a state file serves.
+ghost use Rattle.std.specs.Prelude.{◌≡◌, IfErr, IfOk, map, option_map};
+ghost use Rattle.std.specs.Io.KnownBytes.{Keeps};
+ghost use Rattle.sha2.specs.Sha256.{sha256};
+ghost use Rattle.tlog_text.specs.Answers.{seen};
+ghost use Rattle.program_library.specs.Works.{ComparesState, FindsHeads, IsStatus, IsWriting};
+
+use crate::fault::WorkFault;
+use program_commands::{HeadFilesFault, open_state, read_heads};
+use program_files::NamedFiles;
+use program_reports::print_comparison;
+use program_words::Compare;
+use signed_note::Verifier;
+use std::alloc::Global;
+use std::io::Write;
+use tlog_hash::{Hash, Sha256Tree, TreeHash};
+use tlog_mirror::Mirror;
+
+/// Prints what the mirror in the state file tells of the checkpoints in the files, or where none is named of those that
+/// it holds, and answers the exit status.
+///
+/// # Errors
+///
+/// In this order: those of `open_state`, those of `read_heads`, and those of `print_comparison`. Nothing was written but
+/// at a `WriteFault`.
+pub(crate) fn run_compare<F: NamedFiles, W: Write>(
+    files: &F,
+    alloc: Global,
+    compare: &Compare<'_>,
+    keys: &[Box<dyn Verifier>],
+    output: &mut W,
+) -> Result<u8, WorkFault>
+    ensures answer { ComparesState sha256 (map (λ k. key k) keys.now) (F.puts files.now) compare.now.mirror.state.now compare.now.mirror.log.origin.now (map (λ name. name.now) compare.now.files.items) (W.contents output.old) (W.contents output.new) result }
+    ensures status { IfOk result IsStatus }
+    ensures quiet { IfErr result (λ fault. (¬ IsWriting fault) → Keeps (W.contents output.old) (W.contents output.new)) }
+{
+    let args = &compare.mirror;
+    let mut mirror = match open_state::<Sha256Tree, F>(
+        files,
+        alloc,
+        args.log.origin,
+        keys,
+        args.state,
+    ) {
+        Ok(mirror) => mirror,
+        Err(fault) => return Err(WorkFault::State(fault)),
+    };
+    let heads = match heads_of(files, alloc, &mirror, keys, compare.files.as_slice()) {
+        Ok(heads) => heads,
+        Err(fault) => return Err(WorkFault::Heads(fault)),
+    };
+    match print_comparison::<Sha256Tree, W>(alloc, &mut mirror, lend(&heads), output) {
+        Ok(status) => Ok(status),
+        Err(fault) => Err(WorkFault::Ask(fault)),
+    }
+}
+
+// The heads of the files, and none where no file is named.
+fn heads_of<H: TreeHash, F: NamedFiles>(
+    files: &F,
+    alloc: Global,
+    mirror: &Mirror<H>,
+    keys: &[Box<dyn Verifier>],
+    names: &[&str],
+) -> Result<Option<Vec<(u64, Hash)>>, HeadFilesFault>
+    ensures { FindsHeads (map (λ k. key k) keys.now) (F.puts files.now) mirror.now.view.origin (map (λ name. name.now) names.now) (seen (option_map (λ heads. heads.items)) result) }
+{
+    if names.is_empty() {
+        return Ok(None);
+    }
+    match read_heads(files, alloc, mirror, keys, names) {
+        Ok(heads) => Ok(Some(heads)),
+        Err(fault) => Err(fault),
+    }
+}
+
+// The heads that are given, as a slice.
+fn lend(heads: &Option<Vec<(u64, Hash)>>) -> Option<&[(u64, Hash)]>
+    ensures { option_map (λ given. given.now) result ≡ option_map (λ heads. heads.items) heads.now }
+{
+    match heads {
+        Some(heads) => Some(heads.as_slice()),
+        None => None,
+    }
+}
