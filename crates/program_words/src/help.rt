@@ -16,6 +16,7 @@ Ask a state:
   status   Prints its checkpoints, which of them are complete, and which is served
   missing  Prints the paths that a checkpoint's tree lacks
   forks    Prints which checkpoints contradict each other
+  compare  Prints which checkpoints contradict what is served
   prove    Prints an inclusion or a consistency proof
 Publish what it holds:
   export   Writes the log's files to a folder
@@ -201,25 +202,14 @@ have another, OWN, and 'larger SIZE ROOT' where fewer are served. A FILE is a si
 is the operator's doing: keep the note, and 'prove consistency SIZE N', whose first root is OWN.
 
 Exit status: 0 no fork, 3 there are forks, 1 a fault, 2 words that ask for nothing.
-Faults, on standard error:
-  FileFault           a file that was named cannot be read: see the path and the rights
-  BadKeyLine          a line of K is no key: 'hmac NAME ID SECRET' or 'pin NAME ID DIGEST'
-  BadOrigin           O is empty, too long, or has a control character
-  StateMagic          S is no state file: name the file that --out made
-  StateShort, StateLong, StateDigest
-                      S was cut or changed: take a copy of it
-  OtherOrigin         S or a FILE is of another log: give its own origin
-  StateOrder, StateString, StateEdge
-                      S was not made by this program: take a copy of it
-  StateHead           a note in S does not verify under K: give the keys that it was made with
+Faults of O, K and S: see 'tlogmirror --help'. Besides, on standard error:
   NoteTooLong, NotText, NoSignatures, TooManySignatures, BadSignatureLine
                       a FILE is no signed note
   TooFewLines, EmptyLine, BadSize, SizeTooLarge, BadRoot
                       the note is no checkpoint
+  OtherOrigin         the checkpoint may be the one of another log: give its own origin
   NoTrustedSignature  no key of K signed the note: add the log's key or a pin
   NothingComplete     no checkpoint is complete: pull what is missing first
-  WriteFault          standard output could not be written: a part may have been
-  OutOfMemory         there is not enough memory
 
 Example: tlogmirror compare --origin log.example --keys keys --state state told.note";
 
