@@ -1,5 +1,5 @@
 -- A folder at each moment of an update.
-use Rattle.std.proofs.Common.{◌≡◌, ◌≢◌, ◌⊎◌, ℕ, ◌+◌, ◌<◌, ◌≤◌, List, [], ◌∷◌, ◌++◌, length, map, take, Bool, true, false}
+use Rattle.std.proofs.Common.{◌≡◌, ◌≢◌, ◌⊎◌, ℕ, ◌≤◌, List, [], ◌∷◌, ◌++◌, length, map, take, Bool, true, false}
 use Rattle.std.proofs.Common.{refl, sym, ap, subst, ◌∙◌, append_assoc, length-take, inl, inr, arith}
 use Rattle.std.specs.List.{All, Contains, filter}
 use Rattle.std.proofs.lemmas.Bool.{cases_lt}
@@ -13,7 +13,7 @@ use Rattle.mirror_folders.specs.Shelf.{Put, HasPut, Stands}
 use Rattle.mirror_folders.specs.Files.{file_at, kind_paths, paths_of, served_bytes, tile_paths}
 use Rattle.mirror_folders.specs.FileLaws.{IsFileOf}
 use Rattle.mirror_folders.specs.Exports.{IsMoment}
-use Rattle.mirror_folders.specs.Since.{files_since, is_new, since_paths}
+use Rattle.mirror_folders.specs.Since.{is_new, since_paths}
 use Rattle.mirror_folders.specs.SinceLaws.{HoldsFiles, HoldsLog, IsWholeAt, UpdatesStayWhole}
 use Rattle.mirror_folders.specs.declared.files.FileKind.TheVariants.{Bundles}
 use Rattle.mirror_folders.proofs.AllFiles.{files_are_all}

@@ -1,5 +1,5 @@
 -- What an update puts, by the answers of its parts.
-use Rattle.std.proofs.Common.{◌≡◌, ◌≢◌, ℕ, ◌+◌, ◌<◌, ◌≤◌, List, length, Option, Some, None, Result, Ok, Err, refl, sym, subst, ◌∙◌}
+use Rattle.std.proofs.Common.{◌≡◌, ◌≢◌, ℕ, ◌+◌, ◌<◌, ◌≤◌, List, length, Option, Result, Ok, Err, refl, sym, subst, ◌∙◌}
 use Rattle.std.proofs.Common.{inl, inr, arith}
 use Rattle.node_store.specs.Strings.{Strings}
 use Rattle.tlog_hash.specs.Tree.{mth}
@@ -12,7 +12,7 @@ use Rattle.mirror_model.proofs.HeadNotes.{head_once}
 use Rattle.mirror_model.proofs.OneLists.{at_most_both}
 use Rattle.tlog_mirror.specs.Tops.{Top, IsListOf, IsServedTop, ServesNothing}
 use Rattle.tlog_mirror.proofs.ServedParts.{list_of, listed}
-use Rattle.mirror_sources.specs.Told.{AddsTold, KeepsTold, Rose, one_more}
+use Rattle.mirror_sources.specs.Told.{AddsTold, Rose}
 use Rattle.mirror_folders.specs.Shelf.{CountsFailures, Put}
 use Rattle.mirror_folders.specs.Faults.{update_of_shelf}
 use Rattle.mirror_folders.specs.Since.{files_since}

@@ -3,6 +3,7 @@ pub mod States
 pub mod Takes
 pub mod Merges
 pub mod Exported
+pub mod Updated
 pub mod NoteFiles
 pub mod Notes
 pub mod NoteLaws

@@ -1,5 +1,5 @@
 //! Why a command over named files is not done.
-use mirror_folders::ExportFault;
+use mirror_folders::{ExportFault, UpdateFault};
 use mirror_state::LoadFault;
 use program_files::NamedFault;
 use thiserror::Error;
@@ -75,6 +75,27 @@ pub enum ExportFileFault {
     #[error("OutOfMemory")]
     OutOfMemory,
     /// Nothing is served, or not all of it was put.
+    #[error(transparent)]
+    Export(ExportFault),
+}
+
+/// Why a folder was not brought up to date, in the order in which they are found. It prints the name of the innermost
+/// variant.
+#[derive(Debug, Drop, PartialEq, Eq, Clone, Copy, Error)]
+pub enum UpdateFileFault {
+    /// There is no mirror of the file.
+    #[error(transparent)]
+    State(StateFault),
+    /// Memory for the folder's name was refused.
+    #[error("OutOfMemory")]
+    OutOfMemory,
+    /// The folder's checkpoint was not read, or nothing is served.
+    #[error(transparent)]
+    Read(UpdateFault),
+    /// The folder has a checkpoint, and was not brought up to date.
+    #[error(transparent)]
+    Update(UpdateFault),
+    /// The folder has none, and not all was put into it.
     #[error(transparent)]
     Export(ExportFault),
 }

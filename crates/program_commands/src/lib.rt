@@ -1,4 +1,5 @@
-//! What the commands over streams and over named files do: `root` and `check`, and `take`, `merge`, `export` and `notes`.
+//! What the commands over streams and over named files do: `root` and `check`, and `take`, `merge`, `export`, with
+//! `--update` too, and `notes`.
 //!
 //! Those over files work over any `NamedFiles`: the files of the system, or files in memory that record what was put.
 //!
@@ -22,11 +23,13 @@ mod origin;
 mod root;
 mod state;
 mod take;
+mod update;
 
 pub use check::{CheckFault, run_check};
 pub use export::run_export;
 pub use fault::{
     ExportFileFault, HeadFilesFault, MergeFilesFault, NotesFault, StateFault, TakeFilesFault,
+    UpdateFileFault,
 };
 pub use heads::read_heads;
 pub use item::ItemFiles;
@@ -38,3 +41,4 @@ pub use origin::check_origin;
 pub use root::{RootFault, run_root};
 pub use state::{open_or_new, open_state, write_state};
 pub use take::run_take;
+pub use update::run_update;

@@ -31,5 +31,6 @@ asked_doable words (order.Forks c) h = tt
 asked_doable words (order.Compare c) h = tt
 asked_doable words (order.Prove c) h = tt
 asked_doable words (order.Export c) h = tt
+asked_doable words (order.Update c) h = tt
 asked_doable words (order.Notes c) h = tt
 asked_doable words (order.Serve c) h = tt

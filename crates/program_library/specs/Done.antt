@@ -17,15 +17,19 @@ use Rattle.program_files.specs.Named.{NamedFile}
 use Rattle.program_reports.specs.declared.question.Question.TheVariants as question
 use Rattle.program_commands.specs.Answers.{done, failed}
 use Rattle.program_commands.specs.Exported.{ExportsFile}
+use Rattle.program_commands.specs.Updated.{UpdatesFile}
+use Rattle.mirror_sources.specs.Source.{IsShortAnswer}
+use Rattle.tlog_tiles.specs.declared.bundle.TheConstants.{MAX_BUNDLE_LEN}
 use Rattle.program_commands.specs.Merges.{LeavesMerged}
 use Rattle.program_commands.specs.Notes.{WritesNotes}
 use Rattle.program_commands.specs.declared.fault.MergeFilesFault.{MergeFilesFault}
 use Rattle.program_commands.specs.declared.fault.ExportFileFault.{ExportFileFault}
+use Rattle.program_commands.specs.declared.fault.UpdateFileFault.{UpdateFileFault}
 use Rattle.program_commands.specs.declared.fault.NotesFault.{NotesFault}
 use Rattle.program_library.specs.declared.fault.RunFault.{RunFault}
 use Rattle.program_library.specs.declared.fault.RunFault.TheVariants.{Root, Check, Build, Take}
 use Rattle.program_library.specs.declared.fault.RunFault.TheVariants.{Merge, Pull, Status, Missing}
-use Rattle.program_library.specs.declared.fault.RunFault.TheVariants.{Forks, Prove, Export, Notes}
+use Rattle.program_library.specs.declared.fault.RunFault.TheVariants.{Forks, Prove, Export, Update, Notes}
 use Rattle.program_library.specs.declared.fault.RunFault.TheVariants.{Compare, Serve}
 use Rattle.program_commands.specs.declared.root.RootFault.TheVariants as root
 use Rattle.program_commands.specs.declared.check.CheckFault.TheVariants as check
@@ -53,6 +57,7 @@ LeavesFiles other told left = left ≡ told
 abbrev pub LeavesFolders : Order → Option (List Put) → Option (List Put) → Type 0
 LeavesFolders (order.Build c) before put = ⊤
 LeavesFolders (order.Export c) before put = ⊤
+LeavesFolders (order.Update c) before put = ⊤
 LeavesFolders other before put = put ≡ before
 
 -- the exit status of a verdict: 3 for a no
@@ -103,6 +108,13 @@ module _ (digest : List ℕ → List ℕ) (keys : List Key) (key_bytes : List �
   ExportsOne c answer =
       ExportsFile digest c.mirror.log.origin.now keys told c.mirror.state.now (held c.folder.now) before
       put answer
+
+  -- what an answer of `export --update` says of its state file, and of the folder that its words
+  -- name
+  abbrev pub UpdatesOne : FolderWords → Result (Unit {0}) UpdateFileFault → Type 0
+  UpdatesOne c answer =
+      UpdatesFile digest c.mirror.log.origin.now keys told c.mirror.state.now
+      (IsShortAnswer MAX_BUNDLE_LEN) (held c.folder.now) before put answer
 
   -- what an answer of `notes` says of its state file, and of the files in its folder
   abbrev pub WritesInto : FolderWords → Result (Unit {0}) NotesFault → Type 0
@@ -187,6 +199,10 @@ module _ (digest : List ℕ → List ℕ) (keys : List Key) (key_bytes : List �
       ExportsOne c done × Keeps old new × (status ≡ 0)
   Executes (order.Export c) input old new (Err (Export fault)) =
       ExportsOne c (failed fault) × Keeps old new
+  Executes (order.Update c) input old new (Ok status) =
+      UpdatesOne c done × Keeps old new × (status ≡ 0)
+  Executes (order.Update c) input old new (Err (Update fault)) =
+      UpdatesOne c (failed fault) × Keeps old new
   Executes (order.Notes c) input old new (Ok status) =
       WritesInto c done × Keeps old new × (status ≡ 0)
   Executes (order.Notes c) input old new (Err (Notes fault)) =

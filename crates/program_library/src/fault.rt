@@ -2,7 +2,7 @@
 use mirror_pull::PullFault;
 use program_commands::{
     CheckFault, ExportFileFault, HeadFilesFault, MergeFilesFault, NotesFault, RootFault, StateFault,
-    TakeFilesFault,
+    TakeFilesFault, UpdateFileFault,
 };
 use program_files::NamedFault;
 use program_reports::AskFault;
@@ -60,6 +60,9 @@ pub enum RunFault {
     /// Not all was exported.
     #[error(transparent)]
     Export(ExportFileFault),
+    /// A folder was not brought up to date.
+    #[error(transparent)]
+    Update(UpdateFileFault),
     /// Not all notes were written.
     #[error(transparent)]
     Notes(NotesFault),

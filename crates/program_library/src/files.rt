@@ -1,21 +1,26 @@
-//! The commands over named files, as the words give them: `take`, `merge`, `export` and `notes`.
+//! The commands over named files, as the words give them: `take`, `merge`, `export`, with `--update` too, and
+//! `notes`.
 ghost use Rattle.std.specs.Prelude.{◌≤◌, ◌∷◌, length, map};
 ghost use Rattle.sha2.specs.Sha256.{sha256};
+ghost use Rattle.tlog_tiles.specs.declared.bundle.TheConstants.{MAX_BUNDLE_LEN};
+ghost use Rattle.mirror_sources.specs.Source.{IsShortAnswer};
 ghost use Rattle.program_commands.specs.Exported.{ExportsFile};
 ghost use Rattle.program_commands.specs.Merges.{LeavesMerged};
 ghost use Rattle.program_commands.specs.Notes.{WritesNotes};
 ghost use Rattle.program_commands.specs.Takes.{HasWidth};
+ghost use Rattle.program_commands.specs.Updated.{UpdatesFile};
 ghost use Rattle.program_library.specs.Named.{AsksItem, TakesWords};
 
-use mirror_folders::NamedFolders;
+use mirror_folders::{DirSource, NamedFolders};
 use program_commands::{
-    ExportFileFault, ItemFiles, MergeFilesFault, NotesFault, TakeFilesFault, run_export, run_merge,
-    run_notes, run_take,
+    ExportFileFault, ItemFiles, MergeFilesFault, NotesFault, TakeFilesFault, UpdateFileFault, run_export,
+    run_merge, run_notes, run_take, run_update,
 };
 use program_files::NamedFiles;
 use program_words::{Export, Kind, Merge, Take};
 use signed_note::Verifier;
 use std::alloc::Global;
+use std::fs::Files;
 use tlog_hash::Sha256Tree;
 
 /// Takes the item into the mirror in the state file, or into one that holds nothing, and writes its state.
@@ -111,6 +116,34 @@ pub(crate) fn export_words<F: NamedFiles, D: NamedFolders>(
         keys,
         export.mirror.state,
         export.folder,
+    )
+}
+
+/// Brings the folder up to date with what the mirror serves.
+///
+/// # Errors
+///
+/// Those of `run_update`.
+pub(crate) fn update_words<R: Files, F: NamedFiles, D: NamedFolders>(
+    rt: &R,
+    files: &F,
+    folders: &mut D,
+    alloc: Global,
+    update: &Export<'_>,
+    keys: &[Box<dyn Verifier>],
+) -> Result<(), UpdateFileFault>
+    ensures { UpdatesFile sha256 update.now.mirror.log.origin.now (map (λ k. key k) keys.now) (F.puts files.now) update.now.mirror.state.now (IsShortAnswer MAX_BUNDLE_LEN) (D.held folders.old update.now.folder.now) (D.puts folders.old) (D.puts folders.new) result }
+{
+    let mut source = DirSource::new(rt, alloc, update.folder);
+    run_update::<Sha256Tree, F, _, D>(
+        files,
+        &mut source,
+        folders,
+        alloc,
+        update.mirror.log.origin,
+        keys,
+        update.mirror.state,
+        update.folder,
     )
 }
 

@@ -9,7 +9,7 @@ use crate::ask::run_ask;
 use crate::build::run_build;
 use crate::compare::run_compare;
 use crate::fault::RunFault;
-use crate::files::{export_words, merge_words, notes_words, take_words};
+use crate::files::{export_words, merge_words, notes_words, take_words, update_words};
 use crate::pull::run_pull;
 use crate::serve::run_serve;
 use mirror_folders::NamedFolders;
@@ -114,6 +114,10 @@ where
         Command::Export(export) => match export_words(files, folders, alloc, export, keys) {
             Ok(()) => Ok(0),
             Err(fault) => Err(RunFault::Export(fault)),
+        },
+        Command::Update(export) => match update_words(rt, files, folders, alloc, export, keys) {
+            Ok(()) => Ok(0),
+            Err(fault) => Err(RunFault::Update(fault)),
         },
         Command::Notes(notes) => match notes_words(files, alloc, notes, keys) {
             Ok(()) => Ok(0),

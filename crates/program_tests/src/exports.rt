@@ -3,7 +3,7 @@ ghost use Rattle.std.specs.Prelude.{◌≡◌, min, ◌+◌, ◌-◌, ◌^◌};
 
 use crate::given::mirror_of;
 use crate::states::{BUNDLE, COMPLETE, NOTE, ROW};
-use mirror_folders::{ExportFault, MemShelf, Shelf, ShelfError, export};
+use mirror_folders::{ExportFault, MemShelf, Shelf, ShelfError, UpdateFault, export, update};
 use std::alloc::Global;
 use std::process::Abort;
 use std::test::Fail;
@@ -126,6 +126,71 @@ fn put_onto<H: TreeHash>(
     shelf: &mut MemShelf,
 ) -> Result<(), ExportFault> {
     export(alloc, mirror, shelf)
+}
+
+// The checkpoint of the log before it had entries, with a signature that nobody looks at.
+const BEFORE: &[u8] =
+    b"ex\n0\n47DEQpj8HBSa+/TImW+5JCeuQeRkm5NMpJWZG3hSuFU=\n\n\xe2\x80\x94 ex AAAAAQA=\n";
+
+// An update of a shelf that does so many calls, from the empty log on.
+fn assert_updated<H: TreeHash>(
+    rt: &impl Abort,
+    alloc: Global,
+    mirror: &Mirror<H>,
+    passes: u32,
+    files: u32,
+    answer: Result<(), UpdateFault>,
+) {
+    let mut shelf = Failing {
+        passes,
+        files: 0,
+        has_checkpoint: false,
+        failures: 0,
+    };
+    assert!(rt; update(alloc, mirror, BEFORE, &mut shelf) == answer);
+    assert!(rt; shelf.files == files);
+    assert!(rt; shelf.has_checkpoint == answer.is_ok());
+    assert!(rt; (shelf.failures == 0) == answer.is_ok());
+}
+
+// No call asks for a file that is there: the j-th put is the call after j others.
+#[test]
+fn failing_update(rt: HostRuntime) -> Result<(), Fail> {
+    let mirror = mirror_of::<Sha256Tree>(rt.alloc(), COMPLETE)?;
+    for (passes, files, answer) in [
+        (0, 0, Err(UpdateFault::ShelfFault)),
+        (1, 1, Err(UpdateFault::ShelfFault)),
+        (2, 2, Err(UpdateFault::ShelfFault)),
+        (3, 2, Ok(())),
+    ] {
+        assert_updated(&rt, rt.alloc(), &mirror, passes, files, answer);
+    }
+    Ok(())
+}
+
+// What an update answers.
+fn bring_up<H: TreeHash>(
+    alloc: Global,
+    mirror: &Mirror<H>,
+    checkpoint: &[u8],
+    shelf: &mut MemShelf,
+) -> Result<(), UpdateFault> {
+    update(alloc, mirror, checkpoint, shelf)
+}
+
+// Nothing is put at bytes that are no note, nor at the note that is served; all three files since the empty log.
+#[test]
+fn update_e3(rt: HostRuntime) -> Result<(), Fail> {
+    let mirror = mirror_of::<Sha256Tree>(rt.alloc(), COMPLETE)?;
+    let mut shelf = MemShelf::new(rt.alloc());
+    let none: &[u8] = b"";
+    for (checkpoint, answer) in [(none, Err(UpdateFault::OtherLog)), (NOTE, Ok(()))] {
+        assert!(rt; bring_up(rt.alloc(), &mirror, checkpoint, &mut shelf) == answer);
+        assert!(rt; shelf.puts().is_empty());
+    }
+    assert!(rt; bring_up(rt.alloc(), &mirror, BEFORE, &mut shelf) == Ok(()));
+    assert_files(&rt, rt.alloc(), shelf.puts())?;
+    Ok(())
 }
 
 // What was put are the row, the bundle and the note of the log, in this order.

@@ -56,7 +56,8 @@ said_of name options (order.Missing c) said = subst (λ n. SaidOf n options) (sy
 said_of name options (order.Forks c) said = subst (λ n. SaidOf n options) (sym said.0) (c, said.1)
 said_of name options (order.Compare c) said = subst (λ n. SaidOf n options) (sym said.0) (c, said.1)
 said_of name options (order.Prove c) said = subst (λ n. SaidOf n options) (sym said.0) (c, said.1)
-said_of name options (order.Export c) said = subst (λ n. SaidOf n options) (sym said.0) (c, said.1)
+said_of name options (order.Export c) said = subst (λ n. SaidOf n options) (sym said.0) (c, said.1.0)
+said_of name options (order.Update c) said = subst (λ n. SaidOf n options) (sym said.0) (c, said.1.0)
 said_of name options (order.Notes c) said = subst (λ n. SaidOf n options) (sym said.0) (c, said.1)
 said_of name options (order.Serve c) said = subst (λ n. SaidOf n options) (sym said.0) (c, said.1)
 

@@ -1,12 +1,14 @@
 -- What is refused where a part is refused, and what `clap` finds of an option.
 use Rattle.std.proofs.Common.{◌≡◌, ◌∙◌, Bor, sym, ap, subst, true≢false, is_some, unwrap_or, option_map, List, Option}
-use Rattle.std.proofs.Common.{Some, None, Result, Err}
+use Rattle.std.proofs.Common.{Some, None, Result, Err, Bool, IsTrue, ◌↔◌, codes}
+use Rattle.std.specs.Str.{bytes_eq}
+use Rattle.std.proofs.lemmas.Slice.Eq.{bytes_eq-Decides}
 use Rattle.clap.specs.Words.{Row, Text, all_of, first_of, first_value, matched_of, raw_values, rows_of}
 use Rattle.clap.specs.declared.parser.matches.Found.{Found}
 use Rattle.clap.proofs.WalkLemmas.{first_value-rows, raw_values-rows}
 use Rattle.program_words.specs.declared.fault.CommandFault.{CommandFault}
 use Rattle.program_words.specs.declared.fault.CommandFault.TheVariants.{Help, Words, BadArgument, OutOfMemory}
-use Rattle.program_words.specs.Commands.{Given, HasValue}
+use Rattle.program_words.specs.Commands.{Given, HasFlag, HasValue}
 use Rattle.program_words.specs.Readings.{ReadsPart}
 
 -- a whole that has a part is refused where the part is
@@ -30,6 +32,14 @@ given_none f name text e h =
 -- an option that may be left out
 pub given_or_none : (f : Found) (name : Text) (o : Option Text) → o ≡ first_value f name → first_of name (rows_of f) ≡ o
 given_or_none f name o e = sym (first_value-rows f name) ∙ sym e
+
+-- an option without a value, by its text
+pub flag_some : (options : List Row) (name word : Text) (b : Bool) → b ≡ bytes_eq word (codes "true") →
+    Given options name word → IsTrue b ↔ HasFlag options name
+flag_some options name word b e given = (
+  λ t. subst (λ w. Given options name w) ((bytes_eq-Decides word (codes "true")).0 (sym e ∙ t)) given,
+  λ h. e ∙ (bytes_eq-Decides word (codes "true")).1 (ap (λ o. unwrap_or o word) (sym given ∙ h)),
+)
 
 -- the values of a list
 pub listed : (f : Found) (name : Text) (texts : Option (List Text)) →

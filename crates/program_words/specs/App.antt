@@ -2,7 +2,7 @@
 use Rattle.std.specs.Prelude.{[], Some, true, codes}
 use Rattle.clap.specs.Words.{App, Rule, Text, new_app, new_rule, with_rule, with_subcommand}
 use Rattle.clap.specs.Simple.{new_shape}
-use Rattle.clap.specs.declared.builder.action.ArgAction.TheVariants.{Append, Set}
+use Rattle.clap.specs.declared.builder.action.ArgAction.TheVariants.{Append, Set, SetTrue}
 
 -- ---- options
 
@@ -25,6 +25,10 @@ place_rule name = record (argument_rule name) { action = Some Set; required = tr
 -- `VALUE...`, any number of words alone
 abbrev pub list_rule : Text → Rule
 list_rule name = record (argument_rule name) { action = Some Append }
+
+-- `[--NAME]`, which has no value of its own
+abbrev pub flag_rule : Text → Rule
+flag_rule name = record (new_rule name) { long = Some name; action = Some SetTrue }
 
 -- ---- commands
 
@@ -89,6 +93,10 @@ prove_app = with_rule (with_rule (with_rule (held_app (codes "prove"))
 abbrev pub folder_app : Text → App
 folder_app name = with_rule (held_app name) (option_rule (codes "dir"))
 
+-- `export --origin O --keys K --state S --dir D [--update]`
+abbrev pub export_app : App
+export_app = with_rule (folder_app (codes "export")) (flag_rule (codes "update"))
+
 -- `serve --origin O --keys K --state S --port P --requests N`
 abbrev pub serve_app : App
 serve_app =
@@ -131,4 +139,4 @@ mirror_app =
     (with_subcommand (with_subcommand (with_subcommand (with_subcommand (with_subcommand making_app
     (held_app (codes "status")).top) missing_app.top) (held_app (codes "forks")).top)
     compare_app.top) prove_app.top)
-    (folder_app (codes "export")).top) (folder_app (codes "notes")).top) serve_app.top
+    export_app.top) (folder_app (codes "notes")).top) serve_app.top

@@ -196,6 +196,10 @@ pub record IsExport (options : List Row) (export : Export) : Type 0 where
   pub mirror : IsStateArgs options export.mirror
   pub folder : Given options (codes "dir") export.folder.now
 
+-- the option that has no value of its own is there
+abbrev pub HasFlag : List Row → Text → Type 0
+HasFlag options name = Given options name (codes "true")
+
 -- what the options of `serve` say
 pub record IsServe (options : List Row) (serve : Serve) : Type 0 where
   pub mirror : IsStateArgs options serve.mirror
@@ -218,6 +222,7 @@ name_of (order.Forks c) = codes "forks"
 name_of (order.Compare c) = codes "compare"
 name_of (order.Prove c) = codes "prove"
 name_of (order.Export c) = codes "export"
+name_of (order.Update c) = codes "export"
 name_of (order.Notes c) = codes "notes"
 name_of (order.Serve c) = codes "serve"
 
@@ -234,7 +239,8 @@ Says options (order.Missing c) = IsMissingAsk options c
 Says options (order.Forks c) = IsStateArgs options c
 Says options (order.Compare c) = IsCompare options c
 Says options (order.Prove c) = IsProve options c
-Says options (order.Export c) = IsExport options c
+Says options (order.Export c) = IsExport options c × (¬ HasFlag options (codes "update"))
+Says options (order.Update c) = IsExport options c × HasFlag options (codes "update")
 Says options (order.Notes c) = IsExport options c
 Says options (order.Serve c) = IsServe options c
 

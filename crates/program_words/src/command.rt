@@ -140,7 +140,7 @@ pub struct Prove<'a> {
     pub ask: Ask,
 }
 
-/// `export` and `notes`: files of a mirror, written to a folder.
+/// `export`, with `--update` too, and `notes`: files of a mirror, written to a folder.
 #[derive(Debug, Drop, PartialEq, Eq, Clone, Copy)]
 pub struct Export<'a> {
     /// The mirror.
@@ -187,6 +187,8 @@ pub enum Command<'a> {
     Prove(Prove<'a>),
     /// What is served, as a folder.
     Export(Export<'a>),
+    /// A folder brought up to date with what is served: `export --update`.
+    Update(Export<'a>),
     /// The notes of a mirror, as files of a folder.
     Notes(Export<'a>),
     /// Answers over HTTP.

@@ -231,11 +231,14 @@ Example: tlogmirror prove --origin log.example --keys keys --state state inclusi
 /// What `export` reads, writes and may end with.
 pub(crate) const EXPORT: &str = "\
 Tiles and bundles are written before the checkpoint. Any web server can serve the folder.
+With --update D may have a checkpoint of this log: what it lacks is written, the checkpoint
+last, and no file is taken away. So a folder that is being served is whole at each moment.
 
 Exit status: 0 done, 1 a fault, 2 words that ask for nothing.
 Faults of O, K and S: see 'tlogmirror --help'. Then:
   NothingComplete  no checkpoint is complete: pull what is missing first
-  ShelfInUse       D has a checkpoint: name another folder
+  ShelfInUse       D has a checkpoint: name another folder, or give --update
+  OtherLog         D has a checkpoint that S does not go on from: see status and forks
   ShelfFault       D cannot be written: see the path, the rights and the room
 
 Example: tlogmirror export --origin log.example --keys keys --state state --dir copy";

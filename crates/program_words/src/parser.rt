@@ -1,7 +1,7 @@
 //! The parser of the command line, command by command.
 ghost use Rattle.std.specs.Prelude.{◌≡◌, IfOk, codes, false};
 ghost use Rattle.clap.specs.Words.{App, Rule, new_app, rule_of, with_rule, with_subcommand};
-ghost use Rattle.program_words.specs.App.{argument_rule, build_app, check_app, choice_rule, compare_app, folder_app, held_app, list_rule, log_app, made_app};
+ghost use Rattle.program_words.specs.App.{argument_rule, build_app, check_app, choice_rule, compare_app, export_app, flag_rule, folder_app, held_app, list_rule, log_app, made_app};
 ghost use Rattle.program_words.specs.App.{making_app, merge_app, mirror_app, missing_app, named_app, option_rule, place_rule, program_app, prove_app, pull_app};
 ghost use Rattle.program_words.specs.App.{root_app, serve_app, take_app};
 ghost use Rattle.program_words.specs.Commands.{IsParserOf};
@@ -26,6 +26,17 @@ fn choice<'a>(alloc: Global, name: &'a str, value: &'a str, help: &'a str) -> Ar
     argument(alloc, name, value, help)
         .long(name)
         .action(ArgAction::Set)
+}
+
+// `[--NAME]`, which has no value of its own.
+fn flag<'a>(alloc: Global, name: &'a str, help: &'a str) -> Arg<'a>
+    ensures rule { rule_of result ≡ flag_rule name.entry.now }
+    ensures local { result.global ≡ false }
+{
+    Arg::new(alloc, name)
+        .help(help)
+        .long(name)
+        .action(ArgAction::SetTrue)
 }
 
 // `--NAME VALUE`, which has to be there.
@@ -403,14 +414,20 @@ fn forks_parser<'a>(alloc: Global) -> Result<clap::Command<'a>, AllocError>
 }
 
 fn export_parser<'a>(alloc: Global) -> Result<clap::Command<'a>, AllocError>
-    ensures { IfOk result (IsParserOf (folder_app (codes "export"))) }
+    ensures { IfOk result (IsParserOf export_app) }
 {
-    folder_parser(
+    let parser = folder_parser(
         alloc,
         "export",
         "Writes the files of the served checkpoint to a folder, as a log publishes them",
         help::EXPORT,
-    )
+    );
+    let update = flag(
+        alloc,
+        "update",
+        "Bring a folder up to date that has an older checkpoint of the log",
+    );
+    with_argument(parser, update)
 }
 
 fn notes_parser<'a>(alloc: Global) -> Result<clap::Command<'a>, AllocError>

@@ -1,7 +1,8 @@
 //! The parts that commands share: options, numbers, the log and the mirror.
-ghost use Rattle.std.specs.Prelude.{◌≡◌};
+ghost use Rattle.std.specs.Prelude.{◌≡◌, ◌↔◌, IsTrue};
+ghost use Rattle.std.specs.Str.{bytes_eq};
 ghost use Rattle.clap.specs.Words.{found_of, rows_of};
-ghost use Rattle.program_words.specs.Commands.{Given, HasValue, IsStateArgs, IsLog, IsOutputArgs, IsNumberIn};
+ghost use Rattle.program_words.specs.Commands.{Given, HasFlag, HasValue, IsStateArgs, IsLog, IsOutputArgs, IsNumberIn};
 ghost use Rattle.program_words.specs.Readings.{ReadsPart};
 
 use crate::command::{Log, OutputArgs, StateArgs};
@@ -16,6 +17,22 @@ pub(crate) fn word_of<'a>(found: &ArgMatches<'a>, name: &str) -> Result<&'a str,
     match found.get_str(name) {
         Some(word) => Ok(word),
         None => Err(CommandFault::BadArgument),
+    }
+}
+
+fn is_same(word: &str, other: &str) -> bool
+    ensures { result ≡ bytes_eq word.now other.now }
+{
+    word == other
+}
+
+/// Whether an option without a value is there.
+pub(crate) fn has_flag(found: &ArgMatches<'_>, name: &str) -> bool
+    ensures { IsTrue result ↔ HasFlag (rows_of (found_of found.now)) name.now }
+{
+    match found.get_str(name) {
+        Some(word) => is_same(word, "true"),
+        None => false,
     }
 }
 

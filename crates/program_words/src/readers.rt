@@ -4,13 +4,13 @@ ghost use Rattle.clap.specs.Words.{all_of, first_of, found_of, rows_of};
 ghost use Rattle.tlog_text.specs.Hash.{IsHashText};
 ghost use Rattle.program_words.specs.Commands.{HasValue, IsAsk, IsBuild, IsCompare, IsCount, IsExport, IsMerge, IsMissingAsk, IsNumberIn};
 ghost use Rattle.program_words.specs.Commands.{IsProve, IsPull, IsRoot, IsServe, IsSize, IsTake, IsTakeWidth, kind_name};
-ghost use Rattle.program_words.specs.Readings.{ReadsPart};
+ghost use Rattle.program_words.specs.Readings.{IsSaid, ReadsPart};
 
 use crate::command::{
-    Build, Compare, Export, Kind, Merge, Missing, Prove, Pull, Root, Serve, Take,
+    Build, Command, Compare, Export, Kind, Merge, Missing, Prove, Pull, Root, Serve, Take,
 };
 use crate::fault::CommandFault;
-use crate::parts::{log_of, number_in, number_of, output_args, state_args, word_of};
+use crate::parts::{has_flag, log_of, number_in, number_of, output_args, state_args, word_of};
 use crate::place::place_of;
 use clap::ArgMatches;
 use std::alloc::Global;
@@ -194,6 +194,21 @@ pub(crate) fn export_of<'a>(found: &ArgMatches<'a>) -> Result<Export<'a>, Comman
         mirror: state_args(found)?,
         folder: word_of(found, "dir")?,
     })
+}
+
+/// `export`, by its options, with or without `--update`.
+pub(crate) fn export_command<'a>(found: &ArgMatches<'a>) -> Result<Command<'a>, CommandFault>
+    ensures { ReadsPart (IsSaid (codes "export") (rows_of (found_of found.now))) result }
+{
+    let export = match export_of(found) {
+        Ok(export) => export,
+        Err(fault) => return Err(fault),
+    };
+    if has_flag(found, "update") {
+        Ok(Command::Update(export))
+    } else {
+        Ok(Command::Export(export))
+    }
 }
 
 /// `serve`, by its options.

@@ -9,8 +9,8 @@ use crate::fault::CommandFault;
 use crate::parser::parser;
 use crate::parts::state_args;
 use crate::readers::{
-    build_of, compare_of, export_of, merge_of, missing_of, prove_of, pull_of, root_of, serve_of,
-    take_of,
+    build_of, compare_of, export_command, export_of, merge_of, missing_of, prove_of, pull_of,
+    root_of, serve_of, take_of,
 };
 use clap::ArgMatches;
 use clap::error::ErrorKind;
@@ -54,7 +54,7 @@ fn command_of<'a>(
         "forks" => Ok(Command::Forks(state_args(found)?)),
         "compare" => Ok(Command::Compare(compare_of(alloc, found)?)),
         "prove" => Ok(Command::Prove(prove_of(found)?)),
-        "export" => Ok(Command::Export(export_of(found)?)),
+        "export" => export_command(found),
         "notes" => Ok(Command::Notes(export_of(found)?)),
         "serve" => Ok(Command::Serve(serve_of(found)?)),
         _ => Err(CommandFault::BadArgument),

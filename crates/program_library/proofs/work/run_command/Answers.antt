@@ -113,6 +113,24 @@ returns-in-Err-export_words-clause-files g c = rw c.in-Export.is refl
 pub returns-in-Err-export_words-clause-folders : goal.returns-in-Err-export_words-clause-folders
 returns-in-Err-export_words-clause-folders g c = rw c.in-Export.is tt
 
+pub returns-in-Ok-update_words-clause-answer : goal.returns-in-Ok-update_words-clause-answer
+returns-in-Ok-update_words-clause-answer g c = rw c.in-Update.is (c.in-Ok-update_words.ensures, keeps_itself (g.O.Write.contents c.args.output.now), refl)
+
+pub returns-in-Ok-update_words-clause-files : goal.returns-in-Ok-update_words-clause-files
+returns-in-Ok-update_words-clause-files g c = rw c.in-Update.is refl
+
+pub returns-in-Ok-update_words-clause-folders : goal.returns-in-Ok-update_words-clause-folders
+returns-in-Ok-update_words-clause-folders g c = rw c.in-Update.is tt
+
+pub returns-in-Err-update_words-clause-answer : goal.returns-in-Err-update_words-clause-answer
+returns-in-Err-update_words-clause-answer g c = rw c.in-Update.is (c.in-Err-update_words.ensures, keeps_itself (g.O.Write.contents c.args.output.now))
+
+pub returns-in-Err-update_words-clause-files : goal.returns-in-Err-update_words-clause-files
+returns-in-Err-update_words-clause-files g c = rw c.in-Update.is refl
+
+pub returns-in-Err-update_words-clause-folders : goal.returns-in-Err-update_words-clause-folders
+returns-in-Err-update_words-clause-folders g c = rw c.in-Update.is tt
+
 pub returns-in-Ok-notes_words-clause-answer : goal.returns-in-Ok-notes_words-clause-answer
 returns-in-Ok-notes_words-clause-answer g c = rw c.in-Notes.is (c.in-Ok-notes_words.ensures, keeps_itself (g.O.Write.contents c.args.output.now), refl)
 

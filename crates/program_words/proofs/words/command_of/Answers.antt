@@ -127,18 +127,8 @@ returns-in_err-prove_of-in-prove c =
     c.in_err-prove_of-in-prove.field-0.0 (λ p. p) c.in-prove.is fault
     c.in_err-prove_of-in-prove.ensures
 
-pub returns-in_ok-export_of-in-export : goal.returns-in_ok-export_of-in-export
-returns-in_ok-export_of-in-export c = (c.in-export.is, c.in_ok-export_of-in-export.ensures)
-
-pub returns-in_err-export_of-in-export : goal.returns-in_err-export_of-in-export
-returns-in_err-export_of-in-export c =
-    let options = rows_of (found_of c.args.found.now) in
-    let fault = err_from_is_err_and c.from_residual-in_err-export_of-in-export.result
-    c.from_residual-in_err-export_of-in-export.ensures.1 in
-    refused_of (IsExport options) c.args.name.now (codes "export") options
-    c.from_residual-in_err-export_of-in-export.result
-    c.in_err-export_of-in-export.field-0.0 (λ p. p) c.in-export.is fault
-    c.in_err-export_of-in-export.ensures
+pub returns-in-export : goal.returns-in-export
+returns-in-export c = rw c.in-export.is c.export_command.ensures
 
 pub returns-in_ok-export_of-in-notes : goal.returns-in_ok-export_of-in-notes
 returns-in_ok-export_of-in-notes c = (c.in-notes.is, c.in_ok-export_of-in-notes.ensures)
