@@ -3,4 +3,8 @@ mod Putting
 mod NoteWalks
 mod Cut
 mod CheckText
+<<<<<<< ours
 pub mod HeadNotes
+=======
+mod Updating
+>>>>>>> theirs

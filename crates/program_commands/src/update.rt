@@ -18,9 +18,9 @@ use tlog_tiles::Path;
 fn read_fault<H: TreeHash>(mirror: &Mirror<H>, fault: &SourceFault) -> UpdateFault
     ensures { NotRead H.digest mirror.now.view result }
 {
-    if mirror.top().is_none() {
+    let Some(_top) = mirror.top() else {
         return UpdateFault::NothingComplete;
-    }
+    };
     match fault {
         SourceFault::Failed => UpdateFault::ShelfFault,
         SourceFault::OutOfMemory => UpdateFault::OutOfMemory,
