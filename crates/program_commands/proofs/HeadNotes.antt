@@ -44,16 +44,15 @@ module _ (origin : List ℕ) (keys : List Key) where
         (bytes_of (get_or notes i d)) (c.size, c.root) before (open_head (bytes_of (get_or notes i d)) c opens))
 
     -- this note is refused
-    pub refused_here : (heads : List (ℕ × List ℕ)) (fault : TakeFault) →
-        AreOpen origin keys (map bytes_of (take i notes)) heads →
-        ReadsHead (bytes_of (get_or notes i d)) origin keys (Err fault) →
-        RefusesNote origin keys (map bytes_of notes) fault
-    refused_here heads fault before refused = record {
+    pub refused_here : (heads : List (ℕ × List ℕ)) (fault : TakeFault) (bytes : List ℕ) →
+        AreOpen origin keys (map bytes_of (take i notes)) heads → bytes ≡ bytes_of (get_or notes i d) →
+        ReadsHead bytes origin keys (Err fault) → RefusesNote origin keys (map bytes_of notes) fault
+    refused_here heads fault bytes before is refused = record {
       at = i;
       note = bytes_of (get_or notes i d);
       heads = heads;
       within = subst (λ n. i < n) (sym (length-map notes bytes_of)) within;
       is_there = get_or-map bytes_of notes i d (bytes_of (get_or notes i d)) within;
       before = subst (λ xs. AreOpen origin keys xs heads) (sym (take-map bytes_of i notes)) before;
-      refused = refused;
+      refused = subst (λ b. ReadsHead b origin keys (Err fault)) is refused;
     }
