@@ -4,3 +4,4 @@ mod Doable
 mod MadeKeys
 mod Keyed
 mod Signers
+mod Compares

@@ -34,9 +34,11 @@ first_listed (Pin texts ∷ lines) signer e =
 
 key_listed : (lines : List KeyLine) (signer : Secret) → Contains lines (Hmac signer) →
     Contains (map key_of lines) (secret_key signer)
-key_listed lines signer h =
-    (h.0, omega (arith, h.1, length-map lines key_of),
-    get_or-map key_of lines h.0 (Hmac signer) (secret_key signer) h.1 ∙ ap key_of h.2)
+key_listed lines signer h = (
+  h.0,
+  omega (arith, h.1, length-map lines key_of),
+  get_or-map key_of lines h.0 (Hmac signer) (secret_key signer) h.1 ∙ ap key_of h.2,
+)
 
 pub signers_are_keys : SignersAreKeys
 signers_are_keys bytes lines joined signer h joins found =

@@ -1,8 +1,8 @@
 //! Why a command was not done.
 use mirror_pull::PullFault;
 use program_commands::{
-    CheckFault, ExportFileFault, HeadFilesFault, MergeFilesFault, NotesFault, RootFault, StateFault,
-    TakeFilesFault, UpdateFileFault,
+    CheckFault, ExportFileFault, HeadFilesFault, MergeFilesFault, NotesFault, RootFault,
+    StateFault, TakeFilesFault, UpdateFileFault,
 };
 use program_files::NamedFault;
 use program_reports::AskFault;

@@ -13,8 +13,8 @@ ghost use Rattle.program_library.specs.Named.{AsksItem, TakesWords};
 
 use mirror_folders::{DirSource, NamedFolders};
 use program_commands::{
-    ExportFileFault, ItemFiles, MergeFilesFault, NotesFault, TakeFilesFault, UpdateFileFault, run_export,
-    run_merge, run_notes, run_take, run_update,
+    ExportFileFault, ItemFiles, MergeFilesFault, NotesFault, TakeFilesFault, UpdateFileFault,
+    run_export, run_merge, run_notes, run_take, run_update,
 };
 use program_files::NamedFiles;
 use program_words::{Export, Kind, Merge, Take};
