@@ -86,7 +86,8 @@ fn note_opens(rt: HostRuntime) -> Result<(), Fail> {
 }
 
 // A key file: three pins of one name and id, which stand apart, one of another name, one of another id, and a shared key.
-const PINS: &[u8] = b"pin ex 00000001 87428fc522803d31065e7bce3cf03fe475096631e5e07bbd7a0fde60c4cf25c7\npin other 00000001 0263829989b6fd954f72baaf2fc64bc2e2f01d692d4de72986ea808f6e99813f\nhmac ex 00000001 4a656665\npin ex 00000001 a3a5e715f0cc574a73c3f9bebb6bc24f32ffd5b67b387244c2c909da779a1478\npin ex 00000002 8d74beec1be996322ad76813bafb92d40839895d6dd7ee808b17ca201eac98be\npin ex 00000001 a2bbdb2de53523b8099b37013f251546f3d65dbe7a0774fa41af0a4176992fd4\n";
+const PINS: &[u8] =
+    b"pin ex 00000001 87428fc522803d31065e7bce3cf03fe475096631e5e07bbd7a0fde60c4cf25c7\npin other 00000001 0263829989b6fd954f72baaf2fc64bc2e2f01d692d4de72986ea808f6e99813f\nhmac ex 00000001 4a656665\npin ex 00000001 a3a5e715f0cc574a73c3f9bebb6bc24f32ffd5b67b387244c2c909da779a1478\npin ex 00000002 8d74beec1be996322ad76813bafb92d40839895d6dd7ee808b17ca201eac98be\npin ex 00000001 a2bbdb2de53523b8099b37013f251546f3d65dbe7a0774fa41af0a4176992fd4\n";
 
 // Texts, the name and the id of a line, and whether a note of them opens under these keys.
 const PINNED: [(&str, &str, bool); 8] = [
