@@ -1,23 +1,17 @@
-//! What the work of a mirror costs, each beside the hashing alone of the same strings in the same run: holding strings
-//! in a store, taking bundles, telling heads and forks, pulling, walking, settling, serving, and files.
+//! What the work of a mirror costs, each beside the hashing alone of the same strings in the same run: pulling, walking,
+//! settling, serving, and files.
 //!
-//! Its arguments are a subject and a count, as `bench pulls 100000`. The subject is `store`, `takes`, `heads`, `pulls`,
-//! `served`, `files` or `all`. The count is of entries of 100 bytes; of pairs and entries for `store`; and of heads, each
-//! of one entry more, for `heads`, which goes to a tenth of them first. With no arguments it is `all` of 1000.
+//! Its arguments are a subject and a count of entries of 100 bytes, as `bench pulls 100000`. The subject is `pulls`,
+//! `served`, `files` or `all`. With no arguments it is `all` of 1000.
 //!
 //! It prints what was done; what it measured goes to standard error, since that differs from run to run.
 #![tactic(auto)]
 
 mod clock;
 mod files;
-mod growing;
-mod heads;
 mod list;
 mod pulls;
-mod sample;
 mod served;
-mod store;
-mod takes;
 
 use std::env;
 use std::rt::Files;
@@ -51,26 +45,17 @@ fn measure<H: TreeHash, R: AllocGlobal + CpuClock + Files + Print + Eprint>(
     if subject != "all" {
         return measure_one::<H, R>(rt, subject, count);
     }
-    measure_one::<H, R>(rt, "store", count)?;
-    measure_one::<H, R>(rt, "takes", count)?;
-    measure_one::<H, R>(rt, "heads", count)?;
     measure_one::<H, R>(rt, "pulls", count)?;
     measure_one::<H, R>(rt, "served", count)?;
     measure_one::<H, R>(rt, "files", count)
 }
 
-// Measures a subject.
+// Measures a subject, from an empty mirror on.
 fn measure_one<H: TreeHash, R: AllocGlobal + CpuClock + Files + Print + Eprint>(
     rt: &R,
     subject: &str,
     count: u32,
 ) -> anyhow::Result<()> {
-    if subject == "store" {
-        return store::measure_store::<H, R>(rt, count);
-    }
-    if subject == "heads" {
-        return heads::measure_heads::<H, R>(rt, count);
-    }
     let mut mirror = list::empty::<H>(rt.alloc())?;
     measure_mirror(rt, &mut mirror, subject, count)
 }
@@ -82,9 +67,6 @@ fn measure_mirror<H: TreeHash, R: AllocGlobal + CpuClock + Files + Print + Eprin
     subject: &str,
     count: u32,
 ) -> anyhow::Result<()> {
-    if subject == "takes" {
-        return takes::measure_takes(rt, mirror, count);
-    }
     if subject == "pulls" {
         return pulls::measure_pulls(rt, mirror, count);
     }

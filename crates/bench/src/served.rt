@@ -34,7 +34,7 @@ enum Part {
 }
 
 /// Lets an empty mirror pull so many entries, and asks it, settled, for its parts, and then for the replies that carry
-/// them.
+/// them; and the same once it has laid them out.
 pub(crate) fn measure_served<H: TreeHash, R: AllocGlobal + CpuClock + Print + Eprint>(
     rt: &R,
     mirror: &mut Mirror<H>,
@@ -43,7 +43,25 @@ pub(crate) fn measure_served<H: TreeHash, R: AllocGlobal + CpuClock + Print + Ep
     let root = fill(rt.alloc(), mirror, count)?;
     let look_ups = walk_told(rt, mirror, count, &root)?;
     let _remembered = settle(rt.alloc(), mirror)?;
+    measure_kinds(rt, mirror, count, look_ups)?;
+    lay_out_told(rt, mirror)?;
     measure_kinds(rt, mirror, count, look_ups)
+}
+
+// Lays out what the mirror serves, and tells the time that it took.
+fn lay_out_told<H: TreeHash, R: AllocGlobal + CpuClock + Eprint>(
+    rt: &R,
+    mirror: &mut Mirror<H>,
+) -> anyhow::Result<()> {
+    let start = now(rt)?;
+    lay_out(rt.alloc(), mirror)?;
+    let took = since(rt, start)?;
+    eprintln!(rt; "  laid out in {took} ns")?;
+    Ok(())
+}
+
+fn lay_out<H: TreeHash>(alloc: Global, mirror: &mut Mirror<H>) -> Result<(), AllocError> {
+    mirror.lay_out(alloc)
 }
 
 // Walks through the tree of the head, and answers the time of so many look-ups as parts are asked for.

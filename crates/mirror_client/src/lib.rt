@@ -12,6 +12,7 @@
 //! ```
 #![tactic(auto)]
 
+mod failed;
 mod fault;
 mod framing;
 mod laws;
@@ -21,7 +22,9 @@ mod request;
 mod site;
 mod source;
 mod tcp;
+mod watched;
 
+pub use failed::{FailedGet, Reason};
 pub use fault::{ReplyFault, SiteFault};
 pub use laws::one_reply_law;
 pub use limits::{MAX_FIELDS, MAX_HEAD_LEN, MAX_HOST_LEN, MAX_PREFIX_LEN, MAX_REPLY_LEN};

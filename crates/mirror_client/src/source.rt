@@ -7,15 +7,17 @@ ghost use Rattle.mirror_client.specs.Request.{request_text};
 ghost use Rattle.mirror_client.specs.Source.{Receives, source_fault};
 ghost use Rattle.mirror_sources.specs.Source.{IsShortAnswer};
 
+use crate::failed::{FailedGet, Reason};
 use crate::limits::{MAX_REPLY_LEN, MOST_TAKEN};
 use crate::reply::read_reply;
 use crate::request::get_request;
 use crate::site::Site;
+use crate::watched::WatchedStream;
 use byte_streams::{StreamFault, read_all, write_whole};
 use mirror_sources::{Source, SourceFault};
 use std::alloc::Global;
 use std::io;
-use std::io::{Read, Write};
+use std::io::{ErrorKind, Read, Write};
 use std::marker::Model;
 use tlog_tiles::Path;
 
@@ -52,35 +54,46 @@ fn send_request<W: Write>(
 }
 
 // Reads the reply that the reader gives up to its end, and gives the body, or None where the file is not
-// there (RFC 9112). Of a reply of more than 16,785,664 bytes one byte more is taken, and no others.
-fn receive_reply<R: Read>(alloc: Global, reader: &mut R) -> Result<Option<Vec<u8>>, SourceFault>
+// there (RFC 9112). Of a reply of more than 16,785,664 bytes one byte more is taken, and no others. What is wrong with a
+// reply goes into `reason`.
+fn receive_reply<R: Read>(
+    alloc: Global,
+    reader: &mut R,
+    reason: &mut Option<Reason>,
+) -> Result<Option<Vec<u8>>, SourceFault>
     ensures reply { IfOk result (λ answer. IfSome (R.remaining reader.old) (λ bytes. Receives bytes (Ok (option_map (λ v. v.items) answer)))) }
     ensures bound { IfOk result (λ answer. IsShortAnswer MAX_REPLY_LEN (option_map (λ v. v.items) answer)) }
     ensures limit { TakesAtMost MOST_TAKEN (R.remaining reader.old) (R.remaining reader.new) }
 {
-    reply_body(alloc, read_all(alloc, reader, MOST_TAKEN, u64::MAX))
+    reply_body(alloc, read_all(alloc, reader, MOST_TAKEN, u64::MAX), reason)
 }
 
 // The body of the reply whose bytes were read, if they were.
 fn reply_body(
     alloc: Global,
     bytes: Result<Vec<u8>, StreamFault>,
+    reason: &mut Option<Reason>,
 ) -> Result<Option<Vec<u8>>, SourceFault>
     ensures reply { IfOk bytes (λ v. Receives v.items (seen (option_map (λ w. w.items)) result)) }
     ensures fault { IfErr bytes (λ e. result ≡ Err (source_fault e)) }
 {
     match bytes {
-        Ok(bytes) => body_of(alloc, &bytes),
+        Ok(bytes) => body_of(alloc, &bytes, reason),
         Err(StreamFault::OutOfMemory) => Err(SourceFault::OutOfMemory),
         Err(_) => Err(SourceFault::Failed),
     }
 }
 
 // The body of the reply that the bytes are.
-fn body_of(alloc: Global, bytes: &[u8]) -> Result<Option<Vec<u8>>, SourceFault>
+fn body_of(
+    alloc: Global,
+    bytes: &[u8],
+    reason: &mut Option<Reason>,
+) -> Result<Option<Vec<u8>>, SourceFault>
     ensures { Receives bytes.now (seen (option_map (λ v. v.items)) result) }
 {
     if bytes.len() > MAX_REPLY_LEN {
+        *reason = Some(Reason::LongReply);
         return Err(SourceFault::Failed);
     }
     match read_reply(bytes) {
@@ -89,7 +102,18 @@ fn body_of(alloc: Global, bytes: &[u8]) -> Result<Option<Vec<u8>>, SourceFault>
             Err(_) => Err(SourceFault::OutOfMemory),
         },
         Ok(None) => Ok(None),
-        Err(_) => Err(SourceFault::Failed),
+        Err(fault) => {
+            *reason = Some(Reason::Reply(fault));
+            Err(SourceFault::Failed)
+        }
+    }
+}
+
+// Why a connection on which a get failed is to blame, where nothing is known of its reply.
+fn stream_reason(error: Option<io::Error>) -> Reason {
+    match error {
+        Some(error) => Reason::of_stream(error),
+        None => Reason::Stream(io::Error::from(ErrorKind::WriteZero)),
     }
 }
 
@@ -99,13 +123,15 @@ fn body_of(alloc: Global, bytes: &[u8]) -> Result<Option<Vec<u8>>, SourceFault>
 /// It opens a connection only where it is asked for a file, and asks on it for that file alone. What it
 /// answers is what the other end says: of it is known that it has at most 16,785,664 bytes. `Failed` comes
 /// where a connection, a write or a read fails, where the reply has more bytes, and where it is none that
-/// `read_reply` reads; memory that was refused is `OutOfMemory`, and is not counted.
+/// `read_reply` reads; memory that was refused is `OutOfMemory`, and is not counted. Why the last get failed is told by
+/// `last_failed`.
 #[derive(Drop)]
 pub struct HttpSource<D: Dial + Drop> {
     alloc: Global,
     site: Site,
     dial: D,
     failures: u64,
+    last_failed: Option<FailedGet>,
 }
 
 impl<D: Dial + Drop> Model for HttpSource<D> {
@@ -126,22 +152,57 @@ impl<D: Dial + Drop> HttpSource<D> {
             site,
             dial,
             failures: 0,
+            last_failed: None,
         }
     }
 
-    // The body of the reply to one request.
+    /// The last get that failed, and why; None where none has failed. It takes no memory.
+    pub fn last_failed(&self) -> Option<FailedGet> {
+        self.last_failed
+    }
+
+    // The body of the reply to one request. Why it failed is kept.
     fn fetch(&mut self, path: &Path) -> Result<Option<Vec<u8>>, SourceFault>
         ensures same { self.new ≡ self.old }
         ensures bound { IfOk result (λ answer. IsShortAnswer MAX_REPLY_LEN (option_map (λ v. v.items) answer)) }
     {
-        let Ok(mut stream) = self.dial.dial() else {
-            return Err(SourceFault::Failed);
+        let mut reason = None;
+        let answer = match self.dial.dial() {
+            Ok(stream) => exchange(self.alloc, stream, &self.site, path, &mut reason),
+            Err(error) => {
+                reason = Some(Reason::Connection(error));
+                Err(SourceFault::Failed)
+            }
         };
-        match send_request(self.alloc, &mut stream, &self.site, path) {
-            Ok(()) => receive_reply(self.alloc, &mut stream),
-            Err(fault) => Err(fault),
+        if let Some(reason) = reason {
+            self.last_failed = Some(FailedGet {
+                path: *path,
+                reason,
+            });
         }
+        answer
     }
+}
+
+// One request over the stream, and the body of the reply to it. Where it is `Failed`, `reason` says why.
+fn exchange<S: Read + Write + Drop>(
+    alloc: Global,
+    stream: S,
+    site: &Site,
+    path: &Path,
+    reason: &mut Option<Reason>,
+) -> Result<Option<Vec<u8>>, SourceFault>
+    ensures bound { IfOk result (λ answer. IsShortAnswer MAX_REPLY_LEN (option_map (λ v. v.items) answer)) }
+{
+    let mut stream = WatchedStream::new(stream);
+    let answer = match send_request(alloc, &mut stream, site, path) {
+        Ok(()) => receive_reply(alloc, &mut stream, reason),
+        Err(fault) => Err(fault),
+    };
+    if matches!(&answer, Err(SourceFault::Failed)) && reason.is_none() {
+        *reason = Some(stream_reason(stream.error()));
+    }
+    answer
 }
 
 impl<D: Dial + Drop> Source for HttpSource<D> {

@@ -2,6 +2,7 @@
 ghost use Rattle.std.specs.Prelude.{◌≡◌};
 ghost use Rattle.mirror_folders.specs.Shelf.{CountsError};
 
+use crate::failed::FailedFile;
 use crate::flush::{flush_files, flush_folder};
 use crate::folders::NamedFolders;
 use crate::leftovers::Leftovers;
@@ -48,6 +49,7 @@ pub struct DirShelf<'a, R: Files> {
     alloc: Global,
     folder: FolderName<'a>,
     failures: u64,
+    last_failed: Option<FailedFile>,
     // What was put since the last checkpoint.
     unflushed: Vec<Path>,
     // What earlier runs left in the folder that was put into last.
@@ -72,9 +74,20 @@ impl<'a, R: Files> DirShelf<'a, R> {
             alloc,
             folder: FolderName::Lent(folder),
             failures: 0,
+            last_failed: None,
             unflushed: Vec::new(alloc),
             left: Leftovers::none(alloc),
         }
+    }
+
+    /// The file of the last call that failed, and why; None where none has failed. It takes no memory.
+    pub fn last_failed(&self) -> Option<FailedFile> {
+        self.last_failed
+    }
+
+    /// The name of the folder.
+    pub fn folder(&self) -> &str {
+        self.folder.text()
     }
 
     // Whether something is at the path.
@@ -128,13 +141,14 @@ impl<'a, R: Files> DirShelf<'a, R> {
         Ok(())
     }
 
-    // What an error of the system is to the shelf; a failure is counted.
-    fn fault(&mut self, e: &io::Error) -> ShelfError
+    // What an error of the system at that file is to the shelf; a failure is counted and kept.
+    fn fault(&mut self, path: &Path, error: io::Error) -> ShelfError
         ensures { CountsError self.old self.new result }
     {
-        if e.kind() == ErrorKind::OutOfMemory {
+        if error.kind() == ErrorKind::OutOfMemory {
             return ShelfError::OutOfMemory;
         }
+        self.last_failed = Some(FailedFile { path: *path, error });
         self.failures = count_failure(self.failures);
         ShelfError::Failed
     }
@@ -146,14 +160,14 @@ impl<'a, R: Files> Shelf for DirShelf<'a, R> {
     fn has(&mut self, path: &Path) -> Result<bool, ShelfError> {
         match self.find(path) {
             Ok(found) => Ok(found),
-            Err(e) => Err(self.fault(&e)),
+            Err(e) => Err(self.fault(path, e)),
         }
     }
 
     fn put(&mut self, path: &Path, bytes: &[u8]) -> Result<(), ShelfError> {
         match self.write(path, bytes) {
             Ok(()) => Ok(()),
-            Err(e) => Err(self.fault(&e)),
+            Err(e) => Err(self.fault(path, e)),
         }
     }
 

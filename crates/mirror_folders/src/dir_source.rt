@@ -1,11 +1,13 @@
 //! A folder as a source.
 ghost use Rattle.std.specs.Prelude.{◌≡◌, ◌≤◌, IfOk, IfSome, vec_len};
 
+use crate::failed::FailedFile;
 use crate::place::{count_failure, file_path, is_missing};
 use byte_streams::{StreamFault, read_all};
 use mirror_sources::{Source, SourceFault};
 use std::alloc::Global;
 use std::fs::Files;
+use std::io::ErrorKind;
 use std::marker::Model;
 use std::{fs, io};
 use tlog_tiles::{MAX_BUNDLE_LEN, Path};
@@ -29,6 +31,7 @@ pub struct DirSource<'a, R: Files> {
     alloc: Global,
     folder: &'a str,
     failures: u64,
+    last_failed: Option<FailedFile>,
 }
 
 impl<'a, R: Files> Model for DirSource<'a, R> {
@@ -49,34 +52,27 @@ impl<'a, R: Files> DirSource<'a, R> {
             alloc,
             folder,
             failures: 0,
+            last_failed: None,
         }
+    }
+
+    /// The file of the last get that failed, and why; None where none has failed. It takes no memory.
+    pub fn last_failed(&self) -> Option<FailedFile> {
+        self.last_failed
     }
 
     // The bytes of the file at the path, None where there is none.
-    fn read(&self, path: &Path) -> Result<Option<Vec<u8>>, SourceFault>
+    fn read(&self, path: &Path) -> io::Result<Option<Vec<u8>>>
         ensures { IfOk result (λ found. IfSome found (λ bytes. vec_len bytes ≤ MAX_BUNDLE_LEN)) }
     {
-        let place = match file_path(self.alloc, self.folder, path) {
-            Ok(place) => place,
-            Err(e) => return Err(source_fault(&e)),
-        };
-        match open_file(self.files, place.as_str()) {
-            Ok(Some(mut file)) => {
+        let place = file_path(self.alloc, self.folder, path)?;
+        match open_file(self.files, place.as_str())? {
+            Some(mut file) => {
                 let bytes = read_whole(self.alloc, &mut file)?;
                 Ok(Some(bytes))
             }
-            Ok(None) => Ok(None),
-            Err(_) => Err(SourceFault::Failed),
+            None => Ok(None),
         }
-    }
-}
-
-// What an error of the system is to the source.
-fn source_fault(e: &io::Error) -> SourceFault {
-    if e.kind() == io::ErrorKind::OutOfMemory {
-        SourceFault::OutOfMemory
-    } else {
-        SourceFault::Failed
     }
 }
 
@@ -91,24 +87,24 @@ fn open_file<R: Files>(files: &R, place: &str) -> io::Result<Option<R::File>> {
 fn open_plain<R: Files>(files: &R, place: &str) -> io::Result<R::File> {
     let about = fs::metadata(files, place)?;
     if !about.is_file() {
-        return Err(io::Error::from(io::ErrorKind::InvalidInput));
+        return Err(io::Error::new(ErrorKind::InvalidInput, "it is no plain file"));
     }
     fs::open(files, place)
 }
 
 // All the bytes of a file.
-fn read_whole<F: io::Read>(alloc: Global, file: &mut F) -> Result<Vec<u8>, SourceFault>
+fn read_whole<F: io::Read>(alloc: Global, file: &mut F) -> io::Result<Vec<u8>>
     ensures { IfOk result (λ bytes. vec_len bytes ≤ MAX_BUNDLE_LEN) }
 {
     match read_all(alloc, file, MAX_BUNDLE_LEN + 1, u64::MAX) {
         Ok(bytes) => {
             if bytes.len() > MAX_BUNDLE_LEN {
-                return Err(SourceFault::Failed);
+                return Err(io::Error::new(ErrorKind::FileTooLarge, "it has over 16,777,472 bytes"));
             }
             Ok(bytes)
         }
-        Err(StreamFault::OutOfMemory) => Err(SourceFault::OutOfMemory),
-        Err(_) => Err(SourceFault::Failed),
+        Err(StreamFault::OutOfMemory) => Err(io::Error::from(ErrorKind::OutOfMemory)),
+        Err(_) => Err(io::Error::other("a read failed")),
     }
 }
 
@@ -123,8 +119,11 @@ impl<'a, R: Files> Source for DirSource<'a, R> {
     fn get(&mut self, path: &Path) -> Result<Option<Vec<u8>>, SourceFault> {
         match self.read(path) {
             Ok(found) => Ok(found),
-            Err(SourceFault::OutOfMemory) => Err(SourceFault::OutOfMemory),
-            Err(SourceFault::Failed) => {
+            Err(error) => {
+                if error.kind() == ErrorKind::OutOfMemory {
+                    return Err(SourceFault::OutOfMemory);
+                }
+                self.last_failed = Some(FailedFile { path: *path, error });
                 self.failures = count_failure(self.failures);
                 Err(SourceFault::Failed)
             }

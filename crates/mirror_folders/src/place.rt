@@ -14,7 +14,7 @@ pub(crate) fn file_path(alloc: Global, folder: &str, path: &Path) -> io::Result<
     ensures { IfOk result (λ place. LiesAt folder.now path.now (string_bytes place)) }
 {
     if folder.is_empty() {
-        return Err(io::Error::from(ErrorKind::InvalidInput));
+        return Err(io::Error::new(ErrorKind::InvalidInput, "the folder has no name"));
     }
     let place = format!(in alloc; "{folder}/{path}")?;
     Ok(place)

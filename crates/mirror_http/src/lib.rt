@@ -14,7 +14,8 @@
 #![tactic(auto)]
 
 pub use mirror_client::{
-    Dial, HttpSource, MAX_FIELDS, MAX_HEAD_LEN, MAX_HOST_LEN, MAX_PREFIX_LEN, MAX_REPLY_LEN,
-    ReplyFault, Site, SiteFault, TcpDial, get_request, one_reply_law, read_reply,
+    Dial, FailedGet, HttpSource, MAX_FIELDS, MAX_HEAD_LEN, MAX_HOST_LEN, MAX_PREFIX_LEN,
+    MAX_REPLY_LEN, Reason, ReplyFault, Site, SiteFault, TcpDial, get_request, one_reply_law,
+    read_reply,
 };
 pub use mirror_server::{HttpFault, Resource, answer, one_resource_law, one_response_law};

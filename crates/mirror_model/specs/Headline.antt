@@ -113,7 +113,7 @@ module _ (digest : List ℕ → List ℕ) (origin : List ℕ) (keys : List Key) 
       v ≡ w
 
   -- while no two different strings met share a digest, no event of any play is answered by a
-  -- collide, whether or not an event for which memory was refused was done again
+  -- collision, whether or not an event for which memory was refused was done again
   abbrev pub NoPlayClashes : Type 0
   NoPlayClashes =
       (opened final : List View) (plays : List Play) →

@@ -14,6 +14,8 @@ mod given;
 #[cfg(test)]
 mod items;
 #[cfg(test)]
+mod laid;
+#[cfg(test)]
 mod loads;
 #[cfg(test)]
 mod memory;

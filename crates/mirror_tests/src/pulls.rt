@@ -37,7 +37,11 @@ fn key(alloc: Global) -> Result<HmacKey, KeyFault> {
 }
 
 // A source over the numbers from that one on, so many of them.
-fn list<H: TreeHash>(alloc: Global, from: u16, count: u16) -> Result<ListSource<H>, Fail> {
+pub(crate) fn list<H: TreeHash>(
+    alloc: Global,
+    from: u16,
+    count: u16,
+) -> Result<ListSource<H>, Fail> {
     let entries = numbers(alloc, from, count)?;
     Ok(ListSource::new(alloc, "ex", entries, key(alloc)?)?)
 }
@@ -51,6 +55,21 @@ fn end_of_pull<H: TreeHash, S: Source>(
     let mut keys: Vec<Box<dyn Verifier>> = Vec::new(alloc);
     keys.push(Box::new(alloc, key(alloc)?)?)?;
     Ok(pull(alloc, mirror, &keys, source))
+}
+
+// Pulls C(n) into a mirror.
+pub(crate) fn pull_log<H: TreeHash>(
+    alloc: Global,
+    mirror: &mut Mirror<H>,
+    count: u16,
+) -> Result<(), Fail> {
+    let mut source = list::<H>(alloc, 0, count)?;
+    let pulled = end_of_pull(alloc, mirror, &mut source)??;
+    if pulled.size == u64::from(count) && pulled.complete {
+        Ok(())
+    } else {
+        Err("no whole pull".into())
+    }
 }
 
 #[test]

@@ -14,7 +14,7 @@ fn small_trees(rt: HostRuntime) -> Result<(), Fail> {
 }
 
 // A mirror that took the head of the three entries, whose leaf hashes are that row, and then their bundle.
-fn mirror_of_3<H: TreeHash>(alloc: Global, row: &[u8]) -> Result<Mirror<H>, Fail> {
+pub(crate) fn mirror_of_3<H: TreeHash>(alloc: Global, row: &[u8]) -> Result<Mirror<H>, Fail> {
     let mut mirror = Mirror::<H>::new(alloc, "ex")?;
     take_3(alloc, &mut mirror, row)?;
     Ok(mirror)
@@ -28,7 +28,7 @@ fn take_3<H: TreeHash>(alloc: Global, mirror: &mut Mirror<H>, row: &[u8]) -> Res
 }
 
 // Served are the row of the three entries, and a bundle of two of them, but none of four.
-fn serves_3<H: TreeHash>(
+pub(crate) fn serves_3<H: TreeHash>(
     rt: &impl Abort,
     alloc: Global,
     mirror: &Mirror<H>,

@@ -91,7 +91,7 @@ fn settles_two<H: TreeHash>(
 }
 
 // The tree hash of 2 to that power of entries of no bytes.
-fn doubled<H: TreeHash>(times: u32) -> Hash {
+pub(crate) fn doubled<H: TreeHash>(times: u32) -> Hash {
     let mut hash = H::leaf(b"");
     for _ in 0..times {
         hash = H::node(&hash, &hash);

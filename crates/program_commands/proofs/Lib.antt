@@ -1,6 +1,7 @@
 mod Leaving
 mod Putting
 mod NoteWalks
+mod Sizes
 mod Cut
 mod CheckText
 pub mod HeadNotes

@@ -1,5 +1,6 @@
 pub mod Answers
 pub mod States
+pub mod Gained
 pub mod Takes
 pub mod Merges
 pub mod Exported

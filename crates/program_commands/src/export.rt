@@ -4,7 +4,8 @@ ghost use Rattle.program_commands.specs.Exported.{CountsFileExport, ExportsFile}
 
 use crate::fault::ExportFileFault;
 use crate::state::open_state;
-use mirror_folders::{NamedFolders, export};
+use crate::told::export_told;
+use mirror_progress::ToldFolders;
 use program_files::NamedFiles;
 use signed_note::Verifier;
 use std::alloc::Global;
@@ -21,7 +22,7 @@ use tlog_hash::TreeHash;
 ///
 /// In this order: `State`, those of `open_state`; `OutOfMemory`, where memory for the folder's name was refused; nothing is
 /// put then. `Export`, those of `mirror_folders::export`. What was put before a fault stays.
-pub fn run_export<H: TreeHash, F: NamedFiles, D: NamedFolders>(
+pub fn run_export<H: TreeHash, F: NamedFiles, D: ToldFolders>(
     files: &F,
     folders: &mut D,
     alloc: Global,
@@ -41,7 +42,7 @@ pub fn run_export<H: TreeHash, F: NamedFiles, D: NamedFolders>(
         Ok(()) => {}
         Err(_) => return Err(ExportFileFault::OutOfMemory),
     }
-    match export(alloc, &mirror, folders) {
+    match export_told(alloc, &mirror, folders) {
         Ok(()) => Ok(()),
         Err(fault) => Err(ExportFileFault::Export(fault)),
     }

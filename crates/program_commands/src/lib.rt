@@ -13,6 +13,7 @@
 mod check;
 mod export;
 mod fault;
+mod gained;
 mod heads;
 mod item;
 mod laws;
@@ -23,6 +24,7 @@ mod origin;
 mod root;
 mod state;
 mod take;
+mod told;
 mod update;
 
 pub use check::{CheckFault, run_check};
@@ -31,6 +33,7 @@ pub use fault::{
     ExportFileFault, HeadFilesFault, MergeFilesFault, NotesFault, StateFault, TakeFilesFault,
     UpdateFileFault,
 };
+pub use gained::{Holding, has_gained, holding_of};
 pub use heads::read_heads;
 pub use item::ItemFiles;
 pub use laws::{kept_files_law, standing_notes_law};
@@ -41,4 +44,5 @@ pub use origin::check_origin;
 pub use root::{RootFault, run_root};
 pub use state::{open_or_new, open_state, write_state};
 pub use take::run_take;
+pub use told::checkpoint_size;
 pub use update::run_update;

@@ -5,7 +5,9 @@ ghost use Rattle.program_commands.specs.Updated.{CountsFileUpdate, NotRead, Upda
 
 use crate::fault::UpdateFileFault;
 use crate::state::open_state;
-use mirror_folders::{NamedFolders, Shelf, UpdateFault, export, update};
+use crate::told::{export_told, update_told};
+use mirror_folders::UpdateFault;
+use mirror_progress::ToldFolders;
 use mirror_sources::{Source, SourceFault};
 use program_files::NamedFiles;
 use signed_note::Verifier;
@@ -29,7 +31,7 @@ fn read_fault<H: TreeHash>(mirror: &Mirror<H>, fault: &SourceFault) -> UpdateFau
 
 // Brings the folder up to date that the source reads and the shelf writes, or exports into it where it has no
 // checkpoint.
-fn update_folder<H: TreeHash, S: Source, D: Shelf>(
+fn update_folder<H: TreeHash, S: Source, D: ToldFolders>(
     alloc: Global,
     mirror: &Mirror<H>,
     source: &mut S,
@@ -39,11 +41,11 @@ fn update_folder<H: TreeHash, S: Source, D: Shelf>(
     ensures blamed { CountsFileUpdate (D.failed folder.old) (D.failed folder.new) result }
 {
     match source.get(&Path::Checkpoint) {
-        Ok(Some(checkpoint)) => match update(alloc, mirror, checkpoint.as_slice(), folder) {
+        Ok(Some(checkpoint)) => match update_told(alloc, mirror, checkpoint.as_slice(), folder) {
             Ok(()) => Ok(()),
             Err(fault) => Err(UpdateFileFault::Update(fault)),
         },
-        Ok(None) => match export(alloc, mirror, folder) {
+        Ok(None) => match export_told(alloc, mirror, folder) {
             Ok(()) => Ok(()),
             Err(fault) => Err(UpdateFileFault::Export(fault)),
         },
@@ -68,7 +70,7 @@ fn update_folder<H: TreeHash, S: Source, D: Shelf>(
 /// `ShelfFault` or `OutOfMemory`; nothing is put. `Update`, those of `mirror_folders::update`, where the folder has a
 /// checkpoint, and `Export`, those of `mirror_folders::export`, where it has none. What was put before a fault stays.
 #[allow(clippy::too_many_arguments)]
-pub fn run_update<H: TreeHash, F: NamedFiles, S: Source, D: NamedFolders>(
+pub fn run_update<H: TreeHash, F: NamedFiles, S: Source, D: ToldFolders>(
     files: &F,
     source: &mut S,
     folders: &mut D,

@@ -12,8 +12,10 @@ mod fault;
 mod memory;
 mod named;
 mod system;
+mod why;
 
 pub use fault::NamedFault;
 pub use memory::MemoryFiles;
 pub use named::{MAX_FILE_LEN, NamedFiles};
-pub use system::SystemFiles;
+pub use system::{FailedName, SystemFiles};
+pub use why::{MAX_WHY_LEN, system_reason, why_line};

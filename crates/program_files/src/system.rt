@@ -9,17 +9,34 @@ use crate::named::{MAX_FILE_LEN, NamedFiles};
 use byte_streams::{StreamFault, read_all};
 use mirror_folders::replace_file;
 use std::alloc::Global;
+use std::cell::Cell;
 use std::fs::{Files, OpenOptions};
-use std::io::{ErrorKind, Read, Write};
+use std::io::{ErrorKind, Write};
 use std::{fs, io};
 
 // How often the file of a state is read at most, for at most 65,536 bytes each time.
 const MOST_READS: u64 = 16_777_216;
 
+/// A named file or folder that was not read, not written or not made, and what the system said.
+///
+/// ```text
+/// if let Some(failed) = files.take_failed() {
+///     println!(rt; "{}: {}", failed.name, failed.error)?; // log.state: No space left on device (os error 28)
+/// }
+/// ```
+#[derive(Debug, Drop)]
+pub struct FailedName {
+    /// The name.
+    pub name: String,
+    /// What the system said.
+    pub error: io::Error,
+}
+
 /// The files of the system. What they have no contract says.
 ///
 /// A file is replaced as `mirror_folders::replace_file` does. What is there and is no plain file, as a device, is
 /// written to as it is. A folder cannot be read or written, and an empty name is one of no file and of no folder.
+/// What the last `FileFault` came of is told by `take_failed`.
 ///
 /// ```text
 /// let files = SystemFiles::new(&rt, alloc);
@@ -29,13 +46,45 @@ const MOST_READS: u64 = 16_777_216;
 pub struct SystemFiles<'a, R: Files> {
     files: &'a R,
     alloc: Global,
+    failed: Cell<Option<FailedName>>,
 }
 
 impl<'a, R: Files> SystemFiles<'a, R> {
     /// The files that the process sees.
     pub fn new(files: &'a R, alloc: Global) -> Self {
-        SystemFiles { files, alloc }
+        SystemFiles {
+            files,
+            alloc,
+            failed: Cell::new(None),
+        }
     }
+
+    /// What the last `FileFault` came of, once; None where there was none, or where memory for the name was refused.
+    pub fn take_failed(&self) -> Option<FailedName> {
+        self.failed.take()
+    }
+
+    // Keeps what a file that is not had came of, and says that it is not had.
+    fn refuse(&self, name: &str, error: io::Error) -> NamedFault {
+        if let Ok(name) = String::from_str(self.alloc, name) {
+            self.failed.set(Some(FailedName { name, error }));
+        }
+        NamedFault::FileFault
+    }
+
+    // What an error of the system is, at that name.
+    fn fault(&self, name: &str, error: io::Error) -> NamedFault {
+        if error.kind() == ErrorKind::OutOfMemory {
+            NamedFault::OutOfMemory
+        } else {
+            self.refuse(name, error)
+        }
+    }
+}
+
+// That a name is empty.
+fn no_name() -> io::Error {
+    io::Error::new(ErrorKind::InvalidInput, "it has no name")
 }
 
 impl<'a, R: Files> NamedFiles for SystemFiles<'a, R> {
@@ -45,11 +94,11 @@ impl<'a, R: Files> NamedFiles for SystemFiles<'a, R> {
         ensures named { IfOk result (λ _. name.now ≢ []) }
     {
         if name.is_empty() {
-            return Err(NamedFault::FileFault);
+            return Err(self.refuse(name, no_name()));
         }
-        match fs::open(self.files, name) {
-            Ok(mut file) => read_short(self.alloc, &mut file),
-            Err(e) => Err(named_fault(&e)),
+        match read_short(self.files, self.alloc, name) {
+            Ok(bytes) => Ok(bytes),
+            Err(e) => Err(self.fault(name, e)),
         }
     }
 
@@ -58,11 +107,11 @@ impl<'a, R: Files> NamedFiles for SystemFiles<'a, R> {
         ensures named { IfOk result (λ _. name.now ≢ []) }
     {
         if name.is_empty() {
-            return Err(NamedFault::FileFault);
+            return Err(self.refuse(name, no_name()));
         }
-        match fs::open(self.files, name) {
-            Ok(mut file) => read_long(self.alloc, &mut file),
-            Err(e) => Err(named_fault(&e)),
+        match read_long(self.files, self.alloc, name) {
+            Ok(bytes) => Ok(bytes),
+            Err(e) => Err(self.fault(name, e)),
         }
     }
 
@@ -75,7 +124,7 @@ impl<'a, R: Files> NamedFiles for SystemFiles<'a, R> {
         ensures named { IfOk result (λ _. name.now ≢ []) }
     {
         if name.is_empty() {
-            return Err(NamedFault::FileFault);
+            return Err(self.refuse(name, no_name()));
         }
         let written = if is_special(self.files, name) {
             write_in_place(self.files, name, bytes)
@@ -84,7 +133,7 @@ impl<'a, R: Files> NamedFiles for SystemFiles<'a, R> {
         };
         match written {
             Ok(()) => Ok(()),
-            Err(e) => Err(named_fault(&e)),
+            Err(e) => Err(self.fault(name, e)),
         }
     }
 
@@ -93,46 +142,53 @@ impl<'a, R: Files> NamedFiles for SystemFiles<'a, R> {
         ensures named { IfOk result (λ _. name.now ≢ []) }
     {
         if name.is_empty() {
-            return Err(NamedFault::FileFault);
+            return Err(self.refuse(name, no_name()));
         }
         match fs::create_dir_all(self.files, name) {
             Ok(()) => Ok(()),
-            Err(_) => Err(NamedFault::FileFault),
+            Err(e) => Err(self.refuse(name, e)),
         }
-    }
-}
-
-// What an error of the system is, at a named file.
-fn named_fault(e: &io::Error) -> NamedFault {
-    if e.kind() == ErrorKind::OutOfMemory {
-        NamedFault::OutOfMemory
-    } else {
-        NamedFault::FileFault
     }
 }
 
 // All the bytes of a file that is not too long: of one that is, no more are read than these and one.
-fn read_short<F: Read>(alloc: Global, file: &mut F) -> Result<Vec<u8>, NamedFault>
+fn read_short<R: Files>(files: &R, alloc: Global, name: &str) -> io::Result<Vec<u8>>
     ensures { IfOk result (λ bytes. vec_len bytes ≤ MAX_FILE_LEN) }
 {
-    match read_all(alloc, file, MAX_FILE_LEN + 1, u64::MAX) {
-        Ok(bytes) => {
-            if bytes.len() > MAX_FILE_LEN {
-                return Err(NamedFault::FileFault);
-            }
-            Ok(bytes)
-        }
-        Err(StreamFault::OutOfMemory) => Err(NamedFault::OutOfMemory),
-        Err(_) => Err(NamedFault::FileFault),
+    let mut file = fs::open(files, name)?;
+    match read_all(alloc, &mut file, MAX_FILE_LEN + 1, u64::MAX) {
+        Ok(bytes) => not_long(bytes),
+        Err(fault) => Err(read_error(files, name, fault)),
     }
 }
 
+// The bytes, if there are not too many.
+fn not_long(bytes: Vec<u8>) -> io::Result<Vec<u8>>
+    ensures { IfOk result (λ bytes. vec_len bytes ≤ MAX_FILE_LEN) }
+{
+    if bytes.len() > MAX_FILE_LEN {
+        return Err(io::Error::new(ErrorKind::FileTooLarge, "it has over 16,777,472 bytes"));
+    }
+    Ok(bytes)
+}
+
 // All the bytes of a file that ends.
-fn read_long<F: Read>(alloc: Global, file: &mut F) -> Result<Vec<u8>, NamedFault> {
-    match read_all(alloc, file, usize::MAX, MOST_READS) {
+fn read_long<R: Files>(files: &R, alloc: Global, name: &str) -> io::Result<Vec<u8>> {
+    let mut file = fs::open(files, name)?;
+    match read_all(alloc, &mut file, usize::MAX, MOST_READS) {
         Ok(bytes) => Ok(bytes),
-        Err(StreamFault::OutOfMemory) => Err(NamedFault::OutOfMemory),
-        Err(_) => Err(NamedFault::FileFault),
+        Err(fault) => Err(read_error(files, name, fault)),
+    }
+}
+
+// Why a file that was opened was not read: a folder opens, and does not read.
+fn read_error<R: Files>(files: &R, name: &str, fault: StreamFault) -> io::Error {
+    if fault == StreamFault::OutOfMemory {
+        return io::Error::from(ErrorKind::OutOfMemory);
+    }
+    match fs::metadata(files, name) {
+        Ok(about) if about.is_dir() => io::Error::from(ErrorKind::IsADirectory),
+        _ => io::Error::other("a read failed"),
     }
 }
 

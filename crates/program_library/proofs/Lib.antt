@@ -5,3 +5,6 @@ mod MadeKeys
 mod Keyed
 mod Signers
 mod Compares
+mod Keeping
+mod PulledStates
+mod Whys

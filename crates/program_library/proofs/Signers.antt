@@ -6,7 +6,7 @@ use Rattle.std.specs.Result.{is_ok}
 use Rattle.std.proofs.lemmas.Bool.{false≢true}
 use Rattle.signed_note.specs.Keys.{Secret, secret_key}
 use Rattle.signed_note.specs.KeyFiles.{IsKeyFile}
-use Rattle.signed_note.specs.Verifiers.{JoinsPins, key_of}
+use Rattle.signed_note.specs.Verifiers.{key_of}
 use Rattle.signed_note.specs.declared.fault.KeyFileFault.{KeyFileFault}
 use Rattle.signed_note.specs.declared.key_line.KeyLine.{KeyLine}
 use Rattle.signed_note.specs.declared.key_line.KeyLine.TheVariants.{Hmac, Pin}

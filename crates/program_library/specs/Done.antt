@@ -10,6 +10,7 @@ use Rattle.program_words.specs.declared.command.Build.{Build as BuildWords}
 use Rattle.program_words.specs.declared.command.Merge.{Merge as MergeWords}
 use Rattle.program_words.specs.declared.command.Compare.{Compare as CompareWords}
 use Rattle.program_words.specs.declared.command.Export.{Export as FolderWords}
+use Rattle.program_words.specs.declared.command.Notes.{Notes as NotesWords}
 use Rattle.program_words.specs.declared.command.Pull.{Pull as PullWords}
 use Rattle.program_words.specs.declared.command.Serve.{Serve as ServeWords}
 use Rattle.mirror_folders.specs.Shelf.{Put}
@@ -117,7 +118,7 @@ module _ (digest : List ℕ → List ℕ) (keys : List Key) (key_bytes : List �
       (IsShortAnswer MAX_BUNDLE_LEN) (held c.folder.now) before put answer
 
   -- what an answer of `notes` says of its state file, and of the files in its folder
-  abbrev pub WritesInto : FolderWords → Result (Unit {0}) NotesFault → Type 0
+  abbrev pub WritesInto : NotesWords → Result (Unit {0}) NotesFault → Type 0
   WritesInto c answer =
       WritesNotes digest c.mirror.log.origin.now keys told c.mirror.state.now c.folder.now left answer
 
@@ -133,7 +134,7 @@ module _ (digest : List ℕ → List ℕ) (keys : List Key) (key_bytes : List �
       Type 0
   PullsWords c old new answer =
       TellsPull digest c.mirror.log.origin.now keys (option_map (λ name. name.now) c.state) told
-      c.mirror.out.now left old new answer
+      c.keep c.mirror.out.now left old new answer
 
   -- what an answer of `serve` says of its state file, and of what was written
   abbrev pub ServesOne : ServeWords → Option (List ℕ) → Option (List ℕ) →

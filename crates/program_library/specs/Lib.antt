@@ -6,3 +6,4 @@ pub mod Runs
 pub mod RunLaws
 pub mod Endings
 pub mod Named
+pub mod Whys

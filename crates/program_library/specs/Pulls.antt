@@ -1,17 +1,20 @@
 -- What the command `pull` makes of a state file, what it leaves in the file that it writes, and
 -- what it prints.
-use Rattle.std.specs.Prelude.{◌≡◌, ◌⊎◌, ℕ, List, Option, Result, Ok, Err}
+use Rattle.std.specs.Prelude.{◌≡◌, ◌≢◌, ◌⊎◌, ℕ, List, Option, Result, Ok, Err, Bool, IsTrue}
 use Rattle.std.specs.Io.KnownBytes.{Appends, Keeps}
 use Rattle.byte_streams.specs.Streams.{AppendsPrefix}
 use Rattle.signed_note.specs.Keys.{Key}
+use Rattle.mirror_model.specs.Complete.{IsLawful}
 use Rattle.mirror_model.specs.View.{View}
 use Rattle.mirror_pull.specs.Taking.{PullsTo}
 use Rattle.mirror_pull.specs.declared.fault.PullFault.{PullFault}
+use Rattle.mirror_pull.specs.declared.fault.PullFault.TheVariants.{Source}
 use Rattle.mirror_pull.specs.declared.pulling.Pulled.{Pulled}
 use Rattle.program_reports.specs.Pulling.{IsPulledStatus, pulled_lines}
 use Rattle.program_files.specs.Named.{NamedFile}
 use Rattle.program_files.specs.Named.{FailsToPut}
-use Rattle.program_commands.specs.States.{BeginsWith, WritesState}
+use Rattle.program_files.specs.declared.fault.NamedFault.{NamedFault}
+use Rattle.program_commands.specs.States.{BeginsWith, SavesFile, WritesState}
 use Rattle.program_library.specs.declared.fault.TellFault.{TellFault}
 use Rattle.program_library.specs.declared.fault.TellFault.TheVariants.{Work, WriteFault}
 use Rattle.program_library.specs.declared.fault.WorkFault.TheVariants.{Named, OutOfMemory}
@@ -30,22 +33,48 @@ module _ (v : View) (pulled : Pulled) (out : List ℕ) (told left : Option (List
   TellsPulled old new (Err (Work OutOfMemory)) = WritesState v out told left × Keeps old new
   TellsPulled old new (Err other) = ⊥
 
+-- what a pull got that ended by this fault is to be kept: the words say `--keep`, and its source
+-- failed
+abbrev pub IsKept : Bool → PullFault → Type 0
+IsKept keep fault = IsTrue keep × (fault ≡ Source)
+
+module _ (keep : Bool) (out : List ℕ) (told left : Option (List NamedFile)) where
+  -- what is left by a pull from the view `start` to this one that ended by this fault: where it is to
+  -- be kept and something was gained, its state was written with that answer, which is told to
+  -- nobody; else all is as it was
+  pub record LeavesEarly {T : Type 0} (start v : View) (fault : PullFault) (written : Result T NamedFault)
+      : Type 0 where
+    pub gained : IsKept keep fault → v ≢ start → SavesFile v out told left written
+    pub nothing : IsKept keep fault → v ≡ start → left ≡ told
+    pub other : (¬ IsKept keep fault) → left ≡ told
+
 module _ (digest : List ℕ → List ℕ) (origin : List ℕ) (keys : List Key)
     (state : Option (List ℕ)) (told : Option (List NamedFile)) where
   -- a pull from some source began with the mirror of the file that is named, or where none is with
-  -- one that holds nothing, and came to this view, with this answer
+  -- one that holds nothing, and came to this view, which is lawful, with this answer
   pub record PullsFromFile (v : View) (answer : Result Pulled PullFault) : Type 0 where
     pub start : View
     pub begun : BeginsWith digest origin keys told state (Ok start)
     pub pulls : PullsTo digest keys start v answer
+    pub lawful : IsLawful digest v
 
-  -- the first reason why there is nothing to tell: no mirror was begun with, or its pull ended early
-  abbrev pub PullsNothing : Result ℕ TellFault → Type 0
-  PullsNothing (Err (Work (State fault))) = BeginsWith digest origin keys told state (Err fault)
-  PullsNothing (Err (Work (Pull fault))) = (v : View) × PullsFromFile v (Err fault)
-  PullsNothing other = ⊥
+  module _ (keep : Bool) (out : List ℕ) (left : Option (List NamedFile))
+      (old new : Option (List ℕ)) where
+    -- a pull ended early, and left what it leaves then
+    pub record PullsEarly (fault : PullFault) : Type 0 where
+      pub view : View
+      pub pulls : PullsFromFile view (Err fault)
+      pub written : Result (Unit {0}) NamedFault
+      pub leaves : LeavesEarly keep out told left pulls.start view fault written
 
-  module _ (out : List ℕ) (left : Option (List NamedFile)) (old new : Option (List ℕ)) where
+    -- the first reason why there is nothing to tell: no mirror was begun with, and all is as it was;
+    -- or its pull ended early
+    abbrev pub PullsNothing : Result ℕ TellFault → Type 0
+    PullsNothing (Err (Work (State fault))) =
+        BeginsWith digest origin keys told state (Err fault) × (left ≡ told)
+    PullsNothing (Err (Work (Pull fault))) = PullsEarly fault
+    PullsNothing other = ⊥
+
     -- a pull came to its end, and that was told so
     pub record PullsAndTells (answer : Result ℕ TellFault) : Type 0 where
       pub view : View
@@ -54,7 +83,6 @@ module _ (digest : List ℕ → List ℕ) (origin : List ℕ) (keys : List Key)
       pub tells : TellsPulled view pulled out told left old new answer
 
     -- what each answer of `pull` says: a pull came to its end, its state was written, and then its
-    -- two lines; or there was nothing to tell, and all is as it was
+    -- two lines; or there was nothing to tell, and nothing was written to standard output
     abbrev pub TellsPull : Result ℕ TellFault → Type 0
-    TellsPull answer =
-        (PullsNothing answer × (left ≡ told) × Keeps old new) ⊎ PullsAndTells answer
+    TellsPull answer = (PullsNothing answer × Keeps old new) ⊎ PullsAndTells answer

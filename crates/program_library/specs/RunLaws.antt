@@ -1,10 +1,17 @@
--- What follows of a run under the keys of a key file.
-use Rattle.std.specs.Prelude.{ℕ, List, Some, Contains, map}
-use Rattle.signed_note.specs.Keys.{Secret, secret_key}
+-- What follows of a run under the keys of a key file, and of a pull.
+use Rattle.std.specs.Prelude.{ℕ, List, Option, Result, Some, Ok, Contains, map}
+use Rattle.signed_note.specs.Keys.{Key, Secret, secret_key}
 use Rattle.signed_note.specs.KeyFiles.{IsKeyFile}
 use Rattle.signed_note.specs.Verifiers.{JoinsPins, key_of}
 use Rattle.signed_note.specs.declared.key_line.KeyLine.{KeyLine}
+use Rattle.mirror_model.specs.View.{View}
+use Rattle.mirror_state.specs.Loading.{Loads}
+use Rattle.mirror_state.specs.StateText.{StateText}
+use Rattle.mirror_pull.specs.declared.fault.PullFault.{PullFault}
+use Rattle.mirror_pull.specs.declared.pulling.Pulled.{Pulled}
+use Rattle.program_files.specs.Named.{NamedFile}
 use Rattle.program_library.specs.Builds.{FindsSigner}
+use Rattle.program_library.specs.Pulls.{PullsFromFile}
 
 -- the key that a key file signs with is among the keys of its lines, with their pins joined
 abbrev pub SignersAreKeys : Type 0
@@ -14,3 +21,13 @@ SignersAreKeys =
     JoinsPins lines joined →
     FindsSigner bytes (Some signer) →
     Contains (map key_of joined) (secret_key signer)
+
+-- the state of a mirror that was pulled into is loaded as that mirror, under the same origin and
+-- keys: whether the pull came to its end or not
+abbrev pub PulledStatesAreLoaded : Type 0
+PulledStatesAreLoaded =
+    (digest : List ℕ → List ℕ) (origin : List ℕ) (keys : List Key) (state : Option (List ℕ))
+    (told : Option (List NamedFile)) (v : View) (answer : Result Pulled PullFault)
+    (text : List ℕ) →
+    PullsFromFile digest origin keys state told v answer →
+    StateText v text → Loads digest origin keys text (Ok v)

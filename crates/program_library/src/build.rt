@@ -4,7 +4,8 @@ ghost use Rattle.sha2.specs.Sha256.{sha256};
 ghost use Rattle.program_library.specs.Builds.{BuildsFrom};
 
 use crate::fault::WorkFault;
-use mirror_folders::NamedFolders;
+use crate::told::tell_puts;
+use mirror_progress::{Task, ToldFolders};
 use program_commands::check_origin;
 use program_words::Build;
 use signed_note::{Verifier, read_keys};
@@ -19,7 +20,7 @@ use tlog_hash::Sha256Tree;
 /// # Errors
 ///
 /// In this order: `NoSigningKey`, `BadOrigin`, those of `read_entries`, and those of the folder.
-pub(crate) fn run_build<D: NamedFolders, I: Read>(
+pub(crate) fn run_build<D: ToldFolders, I: Read>(
     folders: &mut D,
     alloc: Global,
     build: &Build<'_>,
@@ -49,6 +50,7 @@ pub(crate) fn run_build<D: NamedFolders, I: Read>(
         Ok(()) => {}
         Err(_) => return Err(WorkFault::OutOfMemory),
     }
+    tell_puts(folders, build.progress, Task::Build);
     match build_log::<Sha256Tree, D>(alloc, origin, keys, key, entries, folders) {
         Ok(()) => Ok(()),
         Err(fault) => Err(WorkFault::Build(fault)),

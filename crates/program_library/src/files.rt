@@ -11,13 +11,16 @@ ghost use Rattle.program_commands.specs.Takes.{HasWidth};
 ghost use Rattle.program_commands.specs.Updated.{UpdatesFile};
 ghost use Rattle.program_library.specs.Named.{AsksItem, TakesWords};
 
-use mirror_folders::{DirSource, NamedFolders};
+use crate::told::tell_puts;
+use crate::why::Why;
+use mirror_folders::DirSource;
+use mirror_progress::{Task, ToldFolders};
 use program_commands::{
     ExportFileFault, ItemFiles, MergeFilesFault, NotesFault, TakeFilesFault, UpdateFileFault,
     run_export, run_merge, run_notes, run_take, run_update,
 };
 use program_files::NamedFiles;
-use program_words::{Export, Kind, Merge, Take};
+use program_words::{Export, Kind, Merge, Notes, Take};
 use signed_note::Verifier;
 use std::alloc::Global;
 use std::fs::Files;
@@ -99,7 +102,7 @@ pub(crate) fn merge_words<F: NamedFiles>(
 /// # Errors
 ///
 /// Those of `run_export`.
-pub(crate) fn export_words<F: NamedFiles, D: NamedFolders>(
+pub(crate) fn export_words<F: NamedFiles, D: ToldFolders>(
     files: &F,
     folders: &mut D,
     alloc: Global,
@@ -108,6 +111,7 @@ pub(crate) fn export_words<F: NamedFiles, D: NamedFolders>(
 ) -> Result<(), ExportFileFault>
     ensures { ExportsFile sha256 export.now.mirror.log.origin.now (map (λ k. key k) keys.now) (F.puts files.now) export.now.mirror.state.now (D.held folders.old export.now.folder.now) (D.puts folders.old) (D.puts folders.new) result }
 {
+    tell_puts(folders, export.progress, Task::Export);
     run_export::<Sha256Tree, F, D>(
         files,
         folders,
@@ -123,19 +127,21 @@ pub(crate) fn export_words<F: NamedFiles, D: NamedFolders>(
 ///
 /// # Errors
 ///
-/// Those of `run_update`.
-pub(crate) fn update_words<R: Files, F: NamedFiles, D: NamedFolders>(
+/// Those of `run_update`. What it is about where the folder's checkpoint cannot be read goes into `why`.
+pub(crate) fn update_words<R: Files, F: NamedFiles, D: ToldFolders>(
     rt: &R,
     files: &F,
     folders: &mut D,
     alloc: Global,
     update: &Export<'_>,
     keys: &[Box<dyn Verifier>],
+    why: &mut Option<Why>,
 ) -> Result<(), UpdateFileFault>
     ensures { UpdatesFile sha256 update.now.mirror.log.origin.now (map (λ k. key k) keys.now) (F.puts files.now) update.now.mirror.state.now (IsShortAnswer MAX_BUNDLE_LEN) (D.held folders.old update.now.folder.now) (D.puts folders.old) (D.puts folders.new) result }
 {
+    tell_puts(folders, update.progress, Task::Export);
     let mut source = DirSource::new(rt, alloc, update.folder);
-    run_update::<Sha256Tree, F, _, D>(
+    let updated = run_update::<Sha256Tree, F, _, D>(
         files,
         &mut source,
         folders,
@@ -144,7 +150,12 @@ pub(crate) fn update_words<R: Files, F: NamedFiles, D: NamedFolders>(
         keys,
         update.mirror.state,
         update.folder,
-    )
+    );
+    if let Some(failed) = source.last_failed() {
+        let folder = update.folder;
+        *why = Why::of_file(alloc, folder, &failed);
+    }
+    updated
 }
 
 /// Writes the notes into the folder, which is made where it is missing.
@@ -155,7 +166,7 @@ pub(crate) fn update_words<R: Files, F: NamedFiles, D: NamedFolders>(
 pub(crate) fn notes_words<F: NamedFiles>(
     files: &mut F,
     alloc: Global,
-    notes: &Export<'_>,
+    notes: &Notes<'_>,
     keys: &[Box<dyn Verifier>],
 ) -> Result<(), NotesFault>
     ensures { WritesNotes sha256 notes.now.mirror.log.origin.now (map (λ k. key k) keys.now) (F.puts files.old) notes.now.mirror.state.now notes.now.folder.now (F.puts files.new) result }

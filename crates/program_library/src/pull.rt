@@ -1,18 +1,24 @@
 //! The command `pull`: what is missing is fetched.
-ghost use Rattle.std.specs.Prelude.{◌≢◌, IfErr, IfOk, map, option_map};
+ghost use Rattle.std.specs.Prelude.{◌≡◌, ◌≢◌, ◌↔◌, IfErr, IfOk, IsTrue, OnOk, Result, map, option_map};
 ghost use Rattle.std.specs.Io.KnownBytes.{Keeps};
 ghost use Rattle.sha2.specs.Sha256.{sha256};
+ghost use Rattle.mirror_model.specs.Complete.{IsLawful};
+ghost use Rattle.mirror_model.specs.View.{View, IsSubview};
 ghost use Rattle.mirror_pull.specs.Taking.{PullsTo};
-ghost use Rattle.program_library.specs.Pulls.{TellsPull, TellsPulled};
+ghost use Rattle.mirror_pull.specs.declared.fault.PullFault.TheVariants.{Source};
+ghost use Rattle.program_commands.specs.Gained.{IsHolding};
+ghost use Rattle.program_library.specs.Pulls.{LeavesEarly, TellsPull, TellsPulled};
 ghost use Rattle.program_library.specs.Works.{IsStatus};
 
 use crate::fault::{TellFault, WorkFault};
+use crate::told::pull_from;
+use crate::why::Why;
 use byte_streams::write_whole;
-use mirror_client::{HttpSource, Site, TcpDial};
+use mirror_client::{FailedGet, HttpSource, Site, TcpDial};
 use mirror_folders::DirSource;
-use mirror_pull::{PullFault, Pulled, pull};
-use program_commands::{open_or_new, write_state};
-use program_files::NamedFiles;
+use mirror_pull::{PullFault, Pulled};
+use program_commands::{Holding, has_gained, holding_of, open_or_new, write_state};
+use program_files::{NamedFault, NamedFiles};
 use program_reports::{pulled_status, pulled_text};
 use program_words::{Place, Pull};
 use signed_note::Verifier;
@@ -27,19 +33,28 @@ use tlog_mirror::Mirror;
 /// Fetches what is missing into the mirror in the state file, or into one that holds nothing, writes its state, and
 /// then prints what the pull came to. The status is 3 where the pull is partial.
 ///
+/// Where the place fails its state is written only where the words want it kept and something was gained. The fault is
+/// `Source` all the same, also where the file cannot be written then.
+///
 /// # Errors
 ///
 /// In this order: `BadOrigin`, those of the state file, those of the pull, `FileFault` at the file that is written,
-/// and `WriteFault`.
-pub(crate) fn run_pull<R: Files + Clock + Net<Stream = TcpStream>, F: NamedFiles, W: Write>(
+/// and `WriteFault`. What a `Source` is about goes into `why`.
+#[allow(clippy::too_many_arguments)]
+pub(crate) fn run_pull<
+    R: Files + Clock + Eprint + Net<Stream = TcpStream>,
+    F: NamedFiles,
+    W: Write,
+>(
     rt: &R,
     files: &mut F,
     alloc: Global,
     words: &Pull<'_>,
     keys: &[Box<dyn Verifier>],
     output: &mut W,
+    why: &mut Option<Why>,
 ) -> Result<u8, TellFault>
-    ensures answer { TellsPull sha256 words.now.mirror.log.origin.now (map (λ k. key k) keys.now) (option_map (λ name. name.now) words.now.state) (F.puts files.old) words.now.mirror.out.now (F.puts files.new) (W.contents output.old) (W.contents output.new) result }
+    ensures answer { TellsPull sha256 words.now.mirror.log.origin.now (map (λ k. key k) keys.now) (option_map (λ name. name.now) words.now.state) (F.puts files.old) words.now.keep words.now.mirror.out.now (F.puts files.new) (W.contents output.old) (W.contents output.new) result }
     ensures status { IfOk result IsStatus }
     ensures quiet { IfErr result (λ fault. fault ≢ TellFault.WriteFault → Keeps (W.contents output.old) (W.contents output.new)) }
 {
@@ -48,7 +63,7 @@ pub(crate) fn run_pull<R: Files + Clock + Net<Stream = TcpStream>, F: NamedFiles
         Ok(mirror) => mirror,
         Err(fault) => return Err(TellFault::Work(WorkFault::State(fault))),
     };
-    match from_place(rt, alloc, &mut mirror, keys, &words.place) {
+    match pull_kept(rt, files, alloc, words, keys, &mut mirror, why) {
         Ok(pulled) => tell_pulled(files, alloc, words.mirror.out, &mirror, &pulled, output),
         Err(fault) => Err(TellFault::Work(WorkFault::Pull(fault))),
     }
@@ -80,20 +95,82 @@ fn tell_pulled<H: TreeHash, F: NamedFiles, W: Write>(
     }
 }
 
-// Pulls from a place into the mirror.
-fn from_place<'a, H: TreeHash, R: Files + Clock + Net<Stream = TcpStream>>(
+// Pulls into the mirror. Where the source fails, what was gained is written if the words want it kept, and what that is about
+// goes into `why`.
+fn pull_kept<H: TreeHash, R: Files + Clock + Eprint + Net<Stream = TcpStream>, F: NamedFiles>(
+    rt: &R,
+    files: &mut F,
+    alloc: Global,
+    words: &Pull<'_>,
+    keys: &[Box<dyn Verifier>],
+    mirror: &mut Mirror<H>,
+    why: &mut Option<Why>,
+) -> Result<Pulled, PullFault>
+    ensures pulls { PullsTo H.digest (map (λ k. key k) keys.now) mirror.old.view mirror.new.view result }
+    ensures early { IfErr result (λ fault. (written : Result (Unit {0}) NamedFault) × LeavesEarly words.now.keep words.now.mirror.out.now (F.puts files.old) (F.puts files.new) mirror.old.view mirror.new.view fault written) }
+    ensures lawful { IsLawful H.digest mirror.new.view }
+    ensures same { OnOk result (F.puts files.new ≡ F.puts files.old) }
+{
+    let Ok(before) = holding_of(mirror) else {
+        return Err(PullFault::OutOfMemory);
+    };
+    let answer = from_place(rt, alloc, mirror, keys, words, why);
+    // What a mirror holds is sound: so a state that is written of it is loaded again.
+    let _sound = mirror.strings();
+    match answer {
+        Ok(pulled) => Ok(pulled),
+        Err(fault) => {
+            // Where it cannot be written the fault is still the pull's.
+            let _ = keep_gained(files, alloc, words, mirror, &before, fault);
+            Err(fault)
+        }
+    }
+}
+
+// After a pull that ended by that fault: writes the mirror's state, where the words want it kept and something was
+// gained.
+fn keep_gained<H: TreeHash, F: NamedFiles>(
+    files: &mut F,
+    alloc: Global,
+    words: &Pull<'_>,
+    mirror: &Mirror<H>,
+    before: &Holding,
+    fault: PullFault,
+) -> Result<(), NamedFault>
+    ensures { (start : View) → IsHolding start before.now → IsSubview start mirror.now.view → LeavesEarly words.now.keep words.now.mirror.out.now (F.puts files.old) (F.puts files.new) start mirror.now.view fault result }
+{
+    if words.keep && is_source(fault) && has_gained(mirror, before) {
+        return write_state(files, alloc, words.mirror.out, mirror);
+    }
+    Ok(())
+}
+
+// Whether the source of a pull failed.
+fn is_source(fault: PullFault) -> bool
+    ensures { IsTrue result ↔ (fault ≡ Source) }
+{
+    matches!(fault, PullFault::Source)
+}
+
+// Pulls from a place into the mirror. What a `Source` is about goes into `why`.
+fn from_place<'a, H: TreeHash, R: Files + Clock + Eprint + Net<Stream = TcpStream>>(
     rt: &'a R,
     alloc: Global,
     mirror: &mut Mirror<H>,
     keys: &[Box<dyn Verifier>],
-    place: &'a Place<'a>,
+    words: &'a Pull<'a>,
+    why: &mut Option<Why>,
 ) -> Result<Pulled, PullFault>
     ensures { PullsTo H.digest (map (λ k. key k) keys.now) mirror.old.view mirror.new.view result }
 {
-    match place {
+    match &words.place {
         Place::Folder(folder) => {
-            let mut source = DirSource::new(rt, alloc, folder);
-            pull(alloc, mirror, keys, &mut source)
+            let source = DirSource::new(rt, alloc, folder);
+            let (pulled, source) = pull_from(rt, alloc, mirror, keys, source, words.progress);
+            if let Some(failed) = source.last_failed() {
+                *why = Why::of_file(alloc, folder, &failed);
+            }
+            pulled
         }
         Place::Server {
             host,
@@ -105,13 +182,29 @@ fn from_place<'a, H: TreeHash, R: Files + Clock + Net<Stream = TcpStream>>(
             let Ok(site) = Site::new(alloc, host, prefix) else {
                 return Err(PullFault::OutOfMemory);
             };
-            from_server(alloc, mirror, keys, site, rt, address, *port)
+            let (pulled, failed) = from_server(
+                rt,
+                alloc,
+                mirror,
+                keys,
+                site,
+                rt,
+                address,
+                *port,
+                words.progress,
+            );
+            if let Some(failed) = failed {
+                *why = Why::of_get(alloc, host, prefix, &failed);
+            }
+            pulled
         }
     }
 }
 
-// Pulls from a site, over connections to a host and port, into the mirror.
-fn from_server<H: TreeHash, N: Net<Stream = TcpStream> + Clock + Clone + Drop>(
+// Pulls from a site, over connections to a host and port, into the mirror; and the get that failed, if one did.
+#[allow(clippy::too_many_arguments)]
+fn from_server<H: TreeHash, R: Clock + Eprint, N: Net<Stream = TcpStream> + Clock + Clone + Drop>(
+    rt: &R,
     alloc: Global,
     mirror: &mut Mirror<H>,
     keys: &[Box<dyn Verifier>],
@@ -119,12 +212,14 @@ fn from_server<H: TreeHash, N: Net<Stream = TcpStream> + Clock + Clone + Drop>(
     net: N,
     host: &str,
     port: u16,
-) -> Result<Pulled, PullFault>
-    ensures { PullsTo H.digest (map (λ k. key k) keys.now) mirror.old.view mirror.new.view result }
+    progress: bool,
+) -> (Result<Pulled, PullFault>, Option<FailedGet>)
+    ensures { PullsTo H.digest (map (λ k. key k) keys.now) mirror.old.view mirror.new.view result.0 }
 {
     let Ok(dial) = TcpDial::new(net, alloc, host, port) else {
-        return Err(PullFault::OutOfMemory);
+        return (Err(PullFault::OutOfMemory), None);
     };
-    let mut source = HttpSource::new(alloc, site, dial);
-    pull(alloc, mirror, keys, &mut source)
+    let source = HttpSource::new(alloc, site, dial);
+    let (pulled, source) = pull_from(rt, alloc, mirror, keys, source, progress);
+    (pulled, source.last_failed())
 }

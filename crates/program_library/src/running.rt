@@ -8,8 +8,11 @@ ghost use Rattle.program_library.specs.Runs.{AreKeyBytes, Runs, RunsKeyed};
 
 use crate::fault::RunFault;
 use crate::keys::key_bytes;
+use crate::reasons::why_of;
+use crate::why::tell_why;
 use crate::work::run_command;
-use mirror_folders::{DirShelf, NamedFolders};
+use mirror_folders::DirShelf;
+use mirror_progress::{CountingShelf, Progress, StandardError, ToldFolders};
 use program_files::{NamedFiles, SystemFiles};
 use program_words::read_words;
 use signed_note::{KeyFileFault, KeyLine, Verifier, join_pins, read_keys};
@@ -25,7 +28,8 @@ use std::rt::Clock;
 /// # Errors
 ///
 /// In this order: what `clap` finds, the key file, `BadArgument`, and those of the command. Nothing was written to the
-/// output, except where a write failed, and by `serve`, whose line comes before its connections.
+/// output, except where a write failed, and by `serve`, whose line comes before its connections. Where the words ask for
+/// it (`--why`), what a fault is about is written to `errors` as one line.
 pub fn run<R, I: Read, O: Write, E: Write>(
     rt: &R,
     alloc: Global,
@@ -35,14 +39,14 @@ pub fn run<R, I: Read, O: Write, E: Write>(
     errors: &mut E,
 ) -> Result<u8, RunFault>
 where
-    R: Files + Clock + Net<Stream = TcpStream, Listener = TcpListener>,
+    R: Files + Clock + Eprint + Net<Stream = TcpStream, Listener = TcpListener>,
     ensures answer { RunsKeyed sha256 None None (λ _. None) None None (map string_bytes words.now) (I.remaining input.old) (O.contents output.old) (O.contents output.new) result }
     ensures status { IfOk result IsStatus }
     ensures quiet { IfErr result (λ fault. (¬ IsWriteFault fault) → Keeps (O.contents output.old) (O.contents output.new)) }
 {
     let mut files = SystemFiles::new(rt, alloc);
-    let mut folders = DirShelf::new(rt, alloc, ".");
-    run_named(
+    let mut folders = folders_of(rt, alloc);
+    let answer = run_named(
         rt,
         alloc,
         &mut files,
@@ -51,7 +55,19 @@ where
         input,
         output,
         errors,
-    )
+    );
+    let why = why_of(alloc, words, &answer, &files, &folders.shelf);
+    tell_why(alloc, words, why, errors);
+    answer
+}
+
+// The folders of the system, of which it can be told on standard error how many files are put.
+fn folders_of<'a, R: Files + Clock + Eprint>(
+    rt: &'a R,
+    alloc: Global,
+) -> CountingShelf<DirShelf<'a, R>, &'a R, StandardError<'a, R>> {
+    let progress = Progress::new(alloc, rt, StandardError::new(rt));
+    CountingShelf::new(DirShelf::new(rt, alloc, "."), progress)
 }
 
 /// Executes the same over any files and folders that have names; the key file is one of the files.
@@ -60,7 +76,7 @@ where
 ///
 /// Those of `run`.
 #[allow(clippy::too_many_arguments)]
-pub fn run_named<R, F: NamedFiles, D: NamedFolders, I: Read, O: Write, E: Write>(
+pub fn run_named<R, F: NamedFiles, D: ToldFolders, I: Read, O: Write, E: Write>(
     rt: &R,
     alloc: Global,
     files: &mut F,
@@ -71,7 +87,7 @@ pub fn run_named<R, F: NamedFiles, D: NamedFolders, I: Read, O: Write, E: Write>
     errors: &mut E,
 ) -> Result<u8, RunFault>
 where
-    R: Files + Clock + Net<Stream = TcpStream, Listener = TcpListener>,
+    R: Files + Clock + Eprint + Net<Stream = TcpStream, Listener = TcpListener>,
     ensures answer { RunsKeyed sha256 (F.puts files.old) (F.puts files.new) (D.held folders.old) (D.puts folders.old) (D.puts folders.new) (map string_bytes words.now) (I.remaining input.old) (O.contents output.old) (O.contents output.new) result }
     ensures status { IfOk result IsStatus }
     ensures quiet { IfErr result (λ fault. (¬ IsWriteFault fault) → Keeps (O.contents output.old) (O.contents output.new)) }
@@ -87,7 +103,7 @@ where
 // Executes the same with the bytes of the key file in hand.
 #[tactic(auto, using(crate::proofs::Keyed::lines_lack))]
 #[allow(clippy::too_many_arguments)]
-fn run_keyed<R, F: NamedFiles, D: NamedFolders, I: Read, O: Write, E: Write>(
+fn run_keyed<R, F: NamedFiles, D: ToldFolders, I: Read, O: Write, E: Write>(
     rt: &R,
     alloc: Global,
     files: &mut F,
@@ -99,7 +115,7 @@ fn run_keyed<R, F: NamedFiles, D: NamedFolders, I: Read, O: Write, E: Write>(
     errors: &mut E,
 ) -> Result<u8, RunFault>
 where
-    R: Files + Clock + Net<Stream = TcpStream, Listener = TcpListener>,
+    R: Files + Clock + Eprint + Net<Stream = TcpStream, Listener = TcpListener>,
     requires { AreKeyBytes (F.puts files.old) (map string_bytes words.now) key_bytes.now }
     ensures answer { RunsKeyed sha256 (F.puts files.old) (F.puts files.new) (D.held folders.old) (D.puts folders.old) (D.puts folders.new) (map string_bytes words.now) (I.remaining input.old) (O.contents output.old) (O.contents output.new) result }
     ensures status { IfOk result IsStatus }
@@ -140,7 +156,8 @@ where
 
 /// Executes the command that the words ask for, with keys in hand: the bytes of the key file, and its keys, boxed by the
 /// caller. Both are empty where the command has no keys. The status is 0, or 3 where the answer is the other one. The
-/// files and folders are those of the system. `serve` alone writes to `errors`.
+/// files and folders are those of the system. `serve` writes to `errors`, and where the words ask for it (`--why`) what a
+/// fault is about is written there as one line.
 ///
 /// ```text
 /// run_words(&rt, alloc, &words, &key_bytes, &keys, &mut input, &mut output, &mut errors)   // Ok(0)
@@ -161,14 +178,14 @@ pub fn run_words<R, I: Read, O: Write, E: Write>(
     errors: &mut E,
 ) -> Result<u8, RunFault>
 where
-    R: Files + Clock + Net<Stream = TcpStream, Listener = TcpListener>,
+    R: Files + Clock + Eprint + Net<Stream = TcpStream, Listener = TcpListener>,
     ensures answer { Runs sha256 (map (λ k. key k) keys.now) key_bytes.now None None (λ _. None) None None (map string_bytes words.now) (I.remaining input.old) (O.contents output.old) (O.contents output.new) result }
     ensures status { IfOk result IsStatus }
     ensures quiet { IfErr result (λ fault. (¬ IsWriteFault fault) → Keeps (O.contents output.old) (O.contents output.new)) }
 {
     let mut files = SystemFiles::new(rt, alloc);
-    let mut folders = DirShelf::new(rt, alloc, ".");
-    run_words_over(
+    let mut folders = folders_of(rt, alloc);
+    let answer = run_words_over(
         rt,
         alloc,
         &mut files,
@@ -179,7 +196,10 @@ where
         input,
         output,
         errors,
-    )
+    );
+    let why = why_of(alloc, words, &answer, &files, &folders.shelf);
+    tell_why(alloc, words, why, errors);
+    answer
 }
 
 /// Executes the same over any files and folders that have names.
@@ -189,7 +209,7 @@ where
 /// Those of `run_words`.
 #[tactic(auto, using(crate::proofs::Doable::asked_doable))]
 #[allow(clippy::too_many_arguments)]
-pub fn run_words_over<R, F: NamedFiles, D: NamedFolders, I: Read, O: Write, E: Write>(
+pub fn run_words_over<R, F: NamedFiles, D: ToldFolders, I: Read, O: Write, E: Write>(
     rt: &R,
     alloc: Global,
     files: &mut F,
@@ -202,15 +222,21 @@ pub fn run_words_over<R, F: NamedFiles, D: NamedFolders, I: Read, O: Write, E: W
     errors: &mut E,
 ) -> Result<u8, RunFault>
 where
-    R: Files + Clock + Net<Stream = TcpStream, Listener = TcpListener>,
+    R: Files + Clock + Eprint + Net<Stream = TcpStream, Listener = TcpListener>,
     ensures answer { Runs sha256 (map (λ k. key k) keys.now) key_bytes.now (F.puts files.old) (F.puts files.new) (D.held folders.old) (D.puts folders.old) (D.puts folders.new) (map string_bytes words.now) (I.remaining input.old) (O.contents output.old) (O.contents output.new) result }
     ensures status { IfOk result IsStatus }
     ensures quiet { IfErr result (λ fault. (¬ IsWriteFault fault) → Keeps (O.contents output.old) (O.contents output.new)) }
 {
     match read_words(alloc, words) {
-        Ok(command) => run_command(
-            rt, alloc, files, folders, &command, key_bytes, keys, input, output, errors,
-        ),
+        Ok(command) => {
+            let mut why = None;
+            let answer = run_command(
+                rt, alloc, files, folders, &command, key_bytes, keys, input, output, errors,
+                &mut why,
+            );
+            tell_why(alloc, words, why, errors);
+            answer
+        }
         Err(fault) => Err(RunFault::Command(fault)),
     }
 }

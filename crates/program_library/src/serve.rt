@@ -7,6 +7,7 @@ ghost use Rattle.program_library.specs.Works.{ServesState, TellsPort, connection
 
 use crate::ending::write_front;
 use crate::fault::{TellFault, WorkFault};
+use crate::why::Why;
 use byte_streams::{TimedStream, write_whole};
 use mirror_server::{HttpFault, answer};
 use program_commands::open_state;
@@ -33,7 +34,9 @@ const ALL_SECONDS: u64 = 70;
 /// # Errors
 ///
 /// In this order: `BadOrigin`, those of the state file, `PortFault` where the port cannot be had, `WriteFault` where the
-/// line that tells of it cannot be written, and `PortFault` where a connection cannot be accepted.
+/// line that tells of it cannot be written, and `PortFault` where a connection cannot be accepted. What a `PortFault` is
+/// about goes into `why`.
+#[allow(clippy::too_many_arguments)]
 pub(crate) fn run_serve<R, F: NamedFiles, O: Write, E: Write>(
     rt: &R,
     files: &F,
@@ -42,6 +45,7 @@ pub(crate) fn run_serve<R, F: NamedFiles, O: Write, E: Write>(
     keys: &[Box<dyn Verifier>],
     output: &mut O,
     errors: &mut E,
+    why: &mut Option<Why>,
 ) -> Result<(), TellFault>
 where
     R: Clock + Net<Stream = TcpStream, Listener = TcpListener>,
@@ -58,11 +62,21 @@ where
         Ok(mirror) => mirror,
         Err(fault) => return Err(TellFault::Work(WorkFault::State(fault))),
     };
-    match mirror.settle(alloc) {
+    match make_ready(alloc, &mut mirror) {
         Ok(()) => {}
         Err(_) => return Err(TellFault::Work(WorkFault::OutOfMemory)),
     }
-    serve_mirror(rt, alloc, &mirror, serve, output, errors)
+    serve_mirror(rt, alloc, &mirror, serve, output, errors, why)
+}
+
+// Settles a mirror, and lays out what it serves. Where memory is short for the latter it serves from its strings.
+fn make_ready<H: TreeHash>(alloc: Global, mirror: &mut Mirror<H>) -> Result<(), AllocError> {
+    mirror.settle(alloc)?;
+    match mirror.lay_out(alloc) {
+        Ok(()) => {}
+        Err(AllocError) => {}
+    }
+    Ok(())
 }
 
 // Listens at the port, tells of it, and answers as many connections as are asked for.
@@ -73,18 +87,26 @@ fn serve_mirror<H: TreeHash, R, O: Write, E: Write>(
     serve: &Serve<'_>,
     output: &mut O,
     errors: &mut E,
+    why: &mut Option<Why>,
 ) -> Result<(), TellFault>
 where
     R: Clock + Net<Stream = TcpStream, Listener = TcpListener>,
     ensures line { TellsPort serve.now.port (O.contents output.old) (O.contents output.new) result }
 {
-    let Ok(listener) = TcpListener::bind(rt, (Ipv4Addr::LOCALHOST, serve.port)) else {
-        return Err(TellFault::Work(WorkFault::PortFault));
+    let listener = match TcpListener::bind(rt, (Ipv4Addr::LOCALHOST, serve.port)) {
+        Ok(listener) => listener,
+        Err(error) => {
+            *why = Why::of_port(alloc, serve.port, &error);
+            return Err(TellFault::Work(WorkFault::PortFault));
+        }
     };
     tell_port(alloc, serve.port, output)?;
     match serve_all(rt, alloc, mirror, &listener, serve.requests, errors) {
         Ok(()) => Ok(()),
-        Err(_) => Err(TellFault::Work(WorkFault::PortFault)),
+        Err(error) => {
+            *why = Why::of_port(alloc, serve.port, &error);
+            Err(TellFault::Work(WorkFault::PortFault))
+        }
     }
 }
 

@@ -12,7 +12,8 @@ use crate::fault::RunFault;
 use crate::files::{export_words, merge_words, notes_words, take_words, update_words};
 use crate::pull::run_pull;
 use crate::serve::run_serve;
-use mirror_folders::NamedFolders;
+use crate::why::Why;
+use mirror_progress::ToldFolders;
 use program_commands::{run_check, run_root};
 use program_files::NamedFiles;
 use program_reports::Question;
@@ -29,9 +30,9 @@ use tlog_hash::Sha256Tree;
 ///
 /// # Errors
 ///
-/// Those of the command's own call, under its name.
+/// Those of the command's own call, under its name. What a fault of a source or of a port is about goes into `why`.
 #[allow(clippy::too_many_arguments)]
-pub(crate) fn run_command<R, F: NamedFiles, D: NamedFolders, I: Read, O: Write, E: Write>(
+pub(crate) fn run_command<R, F: NamedFiles, D: ToldFolders, I: Read, O: Write, E: Write>(
     rt: &R,
     alloc: Global,
     files: &mut F,
@@ -42,9 +43,10 @@ pub(crate) fn run_command<R, F: NamedFiles, D: NamedFolders, I: Read, O: Write, 
     input: &mut I,
     output: &mut O,
     errors: &mut E,
+    why: &mut Option<Why>,
 ) -> Result<u8, RunFault>
 where
-    R: Files + Clock + Net<Stream = TcpStream, Listener = TcpListener>,
+    R: Files + Clock + Eprint + Net<Stream = TcpStream, Listener = TcpListener>,
     requires { IsDoable command.now }
     ensures answer { Executes sha256 (map (λ k. key k) keys.now) key_bytes.now (F.puts files.old) (F.puts files.new) (D.held folders.old) (D.puts folders.old) (D.puts folders.new) command.now (I.remaining input.old) (O.contents output.old) (O.contents output.new) result }
     ensures files { LeavesFiles command.now (F.puts files.old) (F.puts files.new) }
@@ -76,7 +78,7 @@ where
             Ok(()) => Ok(0),
             Err(fault) => Err(RunFault::Merge(fault)),
         },
-        Command::Pull(pull) => match run_pull(rt, files, alloc, pull, keys, output) {
+        Command::Pull(pull) => match run_pull(rt, files, alloc, pull, keys, output, why) {
             Ok(status) => Ok(status),
             Err(fault) => Err(RunFault::Pull(fault)),
         },
@@ -115,7 +117,9 @@ where
             Ok(()) => Ok(0),
             Err(fault) => Err(RunFault::Export(fault)),
         },
-        Command::Update(export) => match update_words(rt, files, folders, alloc, export, keys) {
+        Command::Update(export) => match update_words(
+            rt, files, folders, alloc, export, keys, why,
+        ) {
             Ok(()) => Ok(0),
             Err(fault) => Err(RunFault::Update(fault)),
         },
@@ -123,7 +127,9 @@ where
             Ok(()) => Ok(0),
             Err(fault) => Err(RunFault::Notes(fault)),
         },
-        Command::Serve(serve) => match run_serve(rt, files, alloc, serve, keys, output, errors) {
+        Command::Serve(serve) => match run_serve(
+            rt, files, alloc, serve, keys, output, errors, why,
+        ) {
             Ok(()) => Ok(0),
             Err(fault) => Err(RunFault::Serve(fault)),
         },

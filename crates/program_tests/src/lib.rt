@@ -1,7 +1,7 @@
 //! The tests of what the program is made of, from states and files to the words of the command line, in a crate of their
 //! own, since a crate's tests are checked together with the crate again.
 //!
-//! It holds what no run of the program can show of `mirror_state`, `mirror_folders`, `tlog_build`, `program_files`,
+//! It holds what no run of the program can show of `mirror_state`, `mirror_folders`, `mirror_progress`, `tlog_build`, `program_files`,
 //! `program_commands`, `program_reports`, `program_words` and `program_library`: readers, writers and shelves that fail, refused
 //! memory, colliding digests, files in memory, each byte of a state changed, and a run that ends by a fault that no run comes
 //! to. All else is shown by transcripts (`tests/` at the top of the repository).
@@ -27,6 +27,8 @@ mod loads;
 mod memory;
 #[cfg(test)]
 mod piped;
+#[cfg(test)]
+mod progress;
 #[cfg(test)]
 mod states;
 #[cfg(test)]

@@ -1,6 +1,7 @@
 -- What the matches of a parser say of the words.
 use Rattle.std.proofs.Common.{◌≡◌, ◌∙◌, ap, sym, subst, inl, inr, List, [], option_map, unwrap_or, Option, Some, None}
-use Rattle.std.proofs.Common.{Result, Ok, Err, true≢false, is_some, refl, codes}
+use Rattle.std.proofs.Common.{Result, Ok, Err, true≢false, is_some, refl, codes, Bool, false, IsTrue, ◌↔◌}
+use Rattle.std.proofs.lemmas.Bool.{false≢true}
 use Rattle.std.specs.Prelude.{Box}
 use Rattle.std.specs.Box.{box_value}
 use Rattle.clap.specs.Words.{HasKind, HasMatchesOf, Row, Text, first_of, kind_of, subcommand_name_of, subcommand_rows}
@@ -10,8 +11,8 @@ use Rattle.clap.specs.declared.parser.matches.ArgMatches.{ArgMatches}
 use Rattle.clap.specs.declared.parser.matches.ArgMatches.TheViews.{out-ArgMatches, out-SubCommand}
 use Rattle.clap.specs.declared.parser.matches.SubCommand.{SubCommand}
 use Rattle.program_words.specs.App.{mirror_app}
-use Rattle.program_words.specs.Commands.{Calls, Says, faults, name_of}
-use Rattle.program_words.specs.Readings.{AsksNone, ReadsPart, IsSaid, Reads, ReadsKeyFile, Tells}
+use Rattle.program_words.specs.Commands.{Calls, HasFlag, Says, faults, name_of}
+use Rattle.program_words.specs.Readings.{AsksNone, AsksWhy, ReadsPart, IsSaid, Reads, ReadsKeyFile, Tells}
 use Rattle.program_words.specs.declared.command.Command.{Command}
 use Rattle.program_words.specs.declared.fault.CommandFault.{CommandFault}
 use Rattle.program_words.specs.declared.fault.CommandFault.TheVariants.{Help, Words, BadArgument, OutOfMemory}
@@ -83,3 +84,28 @@ pub keys_read : (words : List Text) (name : Text) (options : List Row) (keys : O
     first_of (codes "keys") options ≡ keys → ReadsKeyFile words (Ok keys)
 keys_read words name options (Some k) calls e = record { name = name; options = options; calls = calls; given = e }
 keys_read words name options None calls e = record { name = name; options = options; calls = calls; given = e }
+
+-- ---- the option `why`
+
+-- the options of a command line are those that the parser gives
+same_options : (words : List Text) (name name' : Text) (options options' : List Row) → Calls words name options
+    → Calls words name' options' → options ≡ options'
+same_options words name name' options options' calls calls' =
+    let same : Some (name, options) ≡ Some (name', options') = sym calls.named ∙ calls'.named in
+    ap (λ o. let p : Text × List Row = unwrap_or o (name, options) in p.1) same
+
+pub why_read : (words : List Text) (name : Text) (options : List Row) (b : Bool) → Calls words name options →
+    IsTrue b ↔ HasFlag options (codes "why") → IsTrue b ↔ AsksWhy words
+why_read words name options b calls flag = (
+  λ t. record { name = name; options = options; calls = calls; given = flag.0 t },
+  λ asks.
+      flag.1 (subst (λ (o : List Row). HasFlag o (codes "why")) (same_options words asks.name name asks.options options asks.calls calls)
+      asks.given),
+)
+
+pub why_unread : (words : List Text) (m : ArgMatches) → HasMatchesOf mirror_app words m →
+    None ≡ option_map (λ p. p.1) (subcommand_rows_of m) → IsTrue false ↔ AsksWhy words
+why_unread words m matches r = (
+  λ t. absurd (false≢true t),
+  λ asks. absurd (nothing_named words m asks.name asks.options matches r asks.calls),
+)

@@ -4,7 +4,7 @@ use Rattle.std.specs.Bool.{MatchBool}
 use Rattle.std.specs.Str.{bytes_eq}
 use Rattle.std.proofs.lemmas.Slice.Eq.{bytes_eq-Decides}
 use Rattle.clap.specs.Words.{Row, Text}
-use Rattle.program_words.specs.Commands.{IsBuild, IsCompare, IsExport, IsStateArgs, IsMerge, IsMissingAsk}
+use Rattle.program_words.specs.Commands.{IsBuild, IsCompare, IsExport, IsStateArgs, IsMerge, IsMissingAsk, IsNotes}
 use Rattle.program_words.specs.Commands.{IsProve, IsPull, IsRoot, IsServe, IsTake}
 use Rattle.program_words.specs.Readings.{ReadsPart, IsSaid}
 use Rattle.program_words.specs.declared.command.Build.{Build}
@@ -15,6 +15,7 @@ use Rattle.program_words.specs.declared.command.Export.{Export}
 use Rattle.program_words.specs.declared.command.StateArgs.{StateArgs}
 use Rattle.program_words.specs.declared.command.Merge.{Merge}
 use Rattle.program_words.specs.declared.command.Missing.{Missing}
+use Rattle.program_words.specs.declared.command.Notes.{Notes}
 use Rattle.program_words.specs.declared.command.Prove.{Prove}
 use Rattle.program_words.specs.declared.command.Pull.{Pull}
 use Rattle.program_words.specs.declared.command.Root.{Root}
@@ -41,7 +42,7 @@ SaidOf name options =
     MatchBool (bytes_eq name (codes "compare")) ((c : Compare) × IsCompare options c) (
     MatchBool (bytes_eq name (codes "prove")) ((c : Prove) × IsProve options c) (
     MatchBool (bytes_eq name (codes "export")) ((c : Export) × IsExport options c) (
-    MatchBool (bytes_eq name (codes "notes")) ((c : Export) × IsExport options c) (
+    MatchBool (bytes_eq name (codes "notes")) ((c : Notes) × IsNotes options c) (
     MatchBool (bytes_eq name (codes "serve")) ((c : Serve) × IsServe options c) Unit))))))))))))
 
 pub said_of : (name : Text) (options : List Row) (command : Command) → IsSaid name options command → SaidOf name options

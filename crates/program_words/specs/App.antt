@@ -30,12 +30,18 @@ list_rule name = record (argument_rule name) { action = Some Append }
 abbrev pub flag_rule : Text → Rule
 flag_rule name = record (new_rule name) { long = Some name; action = Some SetTrue }
 
+-- `[--progress]`
+abbrev pub progress_rule : Rule
+progress_rule = flag_rule (codes "progress")
+
 -- ---- commands
 
--- `NAME --origin O --keys K`
+-- `NAME --origin O --keys K [--why]`
 abbrev pub log_app : Text → App
 log_app name =
-    with_rule (with_rule (new_app name) (option_rule (codes "origin"))) (option_rule (codes "keys"))
+    with_rule
+    (with_rule (with_rule (new_app name) (option_rule (codes "origin"))) (option_rule (codes "keys")))
+    (flag_rule (codes "why"))
 
 -- `NAME --origin O --keys K --state S`
 abbrev pub held_app : Text → App
@@ -53,9 +59,10 @@ root_app = with_rule (new_app (codes "root")) (option_rule (codes "width"))
 abbrev pub check_app : App
 check_app = new_app (codes "check")
 
--- `build --origin O --keys K --dir D`
+-- `build --origin O --keys K --dir D [--progress]`
 abbrev pub build_app : App
-build_app = with_rule (log_app (codes "build")) (option_rule (codes "dir"))
+build_app =
+    with_rule (with_rule (log_app (codes "build")) (option_rule (codes "dir"))) progress_rule
 
 -- `take --origin O --keys K --out T [--state S] [--width W] KIND FILE...`
 abbrev pub take_app : App
@@ -69,10 +76,11 @@ merge_app =
     with_rule (with_rule (made_app (codes "merge")) (place_rule (codes "a")))
     (place_rule (codes "b"))
 
--- `pull --origin O --keys K --out T [--state S] KIND PLACE`
+-- `pull --origin O --keys K --out T [--state S] [--keep] [--progress] KIND PLACE`
 abbrev pub pull_app : App
-pull_app = with_rule (with_rule (with_rule (made_app (codes "pull"))
-    (choice_rule (codes "state"))) (place_rule (codes "kind"))) (place_rule (codes "place"))
+pull_app = with_rule (with_rule (with_rule (with_rule (with_rule (made_app (codes "pull"))
+    (choice_rule (codes "state"))) (flag_rule (codes "keep"))) progress_rule)
+    (place_rule (codes "kind"))) (place_rule (codes "place"))
 
 -- `missing --origin O --keys K --state S --size N --root ROOT`
 abbrev pub missing_app : App
@@ -93,9 +101,10 @@ prove_app = with_rule (with_rule (with_rule (held_app (codes "prove"))
 abbrev pub folder_app : Text → App
 folder_app name = with_rule (held_app name) (option_rule (codes "dir"))
 
--- `export --origin O --keys K --state S --dir D [--update]`
+-- `export --origin O --keys K --state S --dir D [--update] [--progress]`
 abbrev pub export_app : App
-export_app = with_rule (folder_app (codes "export")) (flag_rule (codes "update"))
+export_app =
+    with_rule (with_rule (folder_app (codes "export")) (flag_rule (codes "update"))) progress_rule
 
 -- `serve --origin O --keys K --state S --port P --requests N`
 abbrev pub serve_app : App

@@ -2,6 +2,7 @@
 -- the contracts of private functions alone.
 use Rattle.std.specs.Prelude.{◌≡◌, ◌≢◌, ◌⊎◌, ℕ, ◌≤◌, List, [], ◌∷◌, ◌++◌, Option, Some, None, false}
 use Rattle.std.specs.Prelude.{length, map, option_map, unwrap_or, codes, slice_index, ◌<◌, ⊤}
+use Rattle.std.specs.Prelude.{◌↔◌, IsTrue}
 use Rattle.clap.specs.Words.{App, Kinds, Row, Text, all_of, app_of, fault_of, first_of}
 use Rattle.clap.specs.Words.{subcommand_of}
 use Rattle.clap.specs.declared.builder.command.Command.{Command as Parser}
@@ -31,6 +32,7 @@ use Rattle.program_words.specs.declared.command.Missing.{Missing}
 use Rattle.program_words.specs.declared.command.Compare.{Compare}
 use Rattle.program_words.specs.declared.command.Prove.{Prove}
 use Rattle.program_words.specs.declared.command.Export.{Export}
+use Rattle.program_words.specs.declared.command.Notes.{Notes}
 use Rattle.program_words.specs.declared.command.Serve.{Serve}
 
 -- ---- the command line
@@ -60,6 +62,10 @@ pub record HasValue (options : List Row) (name : Text) (IsSuch : Text → Type 0
   pub value : Text
   pub given : Given options name value
   pub is_such : IsSuch value
+
+-- the option that has no value of its own is there
+abbrev pub HasFlag : List Row → Text → Type 0
+HasFlag options name = Given options name (codes "true")
 
 -- the word spells a number between these two, in decimal digits without leading zeros
 pub record IsNumberIn (least most n : ℕ) (word : Text) : Type 0 where
@@ -98,6 +104,7 @@ IsRoot options root = HasValue options (codes "width") (IsNumberIn 0 256 root.wi
 pub record IsBuild (options : List Row) (build : Build) : Type 0 where
   pub log : IsLog options build.log
   pub folder : Given options (codes "dir") build.folder.now
+  pub progress : IsTrue build.progress ↔ HasFlag options (codes "progress")
 
 -- the word that names what files hold
 abbrev pub kind_name : Kind → Text
@@ -164,6 +171,8 @@ IsPlace kind word (Server host prefix address port) =
 pub record IsPull (options : List Row) (pull : Pull) : Type 0 where
   pub mirror : IsOutputArgs options pull.mirror
   pub state : first_of (codes "state") options ≡ option_map (λ s. s.now) pull.state
+  pub keep : IsTrue pull.keep ↔ HasFlag options (codes "keep")
+  pub progress : IsTrue pull.progress ↔ HasFlag options (codes "progress")
   pub place : HasValue options (codes "kind")
       (λ kind. HasValue options (codes "place") (λ word. IsPlace kind word pull.place))
 
@@ -191,14 +200,16 @@ pub record IsProve (options : List Row) (prove : Prove) : Type 0 where
       (λ kind. HasValue options (codes "a")
       (λ a. HasValue options (codes "b") (λ b. IsAsk kind a b prove.ask)))
 
--- what the options of `export` and of `notes` say
+-- what the options of `export` say
 pub record IsExport (options : List Row) (export : Export) : Type 0 where
   pub mirror : IsStateArgs options export.mirror
   pub folder : Given options (codes "dir") export.folder.now
+  pub progress : IsTrue export.progress ↔ HasFlag options (codes "progress")
 
--- the option that has no value of its own is there
-abbrev pub HasFlag : List Row → Text → Type 0
-HasFlag options name = Given options name (codes "true")
+-- what the options of `notes` say
+pub record IsNotes (options : List Row) (notes : Notes) : Type 0 where
+  pub mirror : IsStateArgs options notes.mirror
+  pub folder : Given options (codes "dir") notes.folder.now
 
 -- what the options of `serve` say
 pub record IsServe (options : List Row) (serve : Serve) : Type 0 where
@@ -241,7 +252,7 @@ Says options (order.Compare c) = IsCompare options c
 Says options (order.Prove c) = IsProve options c
 Says options (order.Export c) = IsExport options c × (¬ HasFlag options (codes "update"))
 Says options (order.Update c) = IsExport options c × HasFlag options (codes "update")
-Says options (order.Notes c) = IsExport options c
+Says options (order.Notes c) = IsNotes options c
 Says options (order.Serve c) = IsServe options c
 
 -- the words ask for the command

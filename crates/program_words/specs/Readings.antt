@@ -8,7 +8,7 @@ use Rattle.program_words.specs.declared.command.Command.{Command}
 use Rattle.program_words.specs.declared.fault.CommandFault.{CommandFault}
 use Rattle.program_words.specs.declared.fault.CommandFault.TheVariants.{Help, Words, BadArgument}
 use Rattle.program_words.specs.declared.fault.CommandFault.TheVariants.{OutOfMemory}
-use Rattle.program_words.specs.Commands.{Asks, Calls, Given, Says, faults, name_of}
+use Rattle.program_words.specs.Commands.{Asks, Calls, Given, HasFlag, Says, faults, name_of}
 
 -- the words ask for no command
 abbrev pub AsksNone : List Text → Type 0
@@ -49,6 +49,13 @@ ReadsKeyFile words (Err (Help text)) = (k : ErrorKind) × IsAmong k (faults word
 ReadsKeyFile words (Err (Words text)) = (k : ErrorKind) × IsAmong k (faults words) × (¬ IsHelp k)
 ReadsKeyFile words (Err BadArgument) = ⊥
 ReadsKeyFile words (Err OutOfMemory) = ⊤
+
+-- the words are a command line, whose command is to say why it fails
+pub record AsksWhy (words : List Text) : Type 0 where
+  pub name : Text
+  pub options : List Row
+  pub calls : Calls words name options
+  pub given : HasFlag options (codes "why")
 
 -- what an answer of the reader of a part says: the part is so, or no part is
 abbrev pub ReadsPart : {X : Type 0} → (X → Type 0) → Result X CommandFault → Type 0

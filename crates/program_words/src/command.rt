@@ -43,6 +43,8 @@ pub struct Build<'a> {
     pub log: Log<'a>,
     /// The folder that it is written to.
     pub folder: &'a str,
+    /// Whether it is told how far the work is.
+    pub progress: bool,
 }
 
 /// What files hold.
@@ -107,6 +109,10 @@ pub struct Pull<'a> {
     pub mirror: OutputArgs<'a>,
     /// The file of the state that it begins with, if not with nothing.
     pub state: Option<&'a str>,
+    /// Whether what was fetched is written where the place fails.
+    pub keep: bool,
+    /// Whether it is told how far the work is.
+    pub progress: bool,
     /// Where from.
     pub place: Place<'a>,
 }
@@ -140,9 +146,20 @@ pub struct Prove<'a> {
     pub ask: Ask,
 }
 
-/// `export`, with `--update` too, and `notes`: files of a mirror, written to a folder.
+/// `export`, with `--update` too: what is served, written to a folder.
 #[derive(Debug, Drop, PartialEq, Eq, Clone, Copy)]
 pub struct Export<'a> {
+    /// The mirror.
+    pub mirror: StateArgs<'a>,
+    /// The folder.
+    pub folder: &'a str,
+    /// Whether it is told how far the work is.
+    pub progress: bool,
+}
+
+/// `notes`: the notes of a mirror, written to a folder.
+#[derive(Debug, Drop, PartialEq, Eq, Clone, Copy)]
+pub struct Notes<'a> {
     /// The mirror.
     pub mirror: StateArgs<'a>,
     /// The folder.
@@ -190,7 +207,7 @@ pub enum Command<'a> {
     /// A folder brought up to date with what is served: `export --update`.
     Update(Export<'a>),
     /// The notes of a mirror, as files of a folder.
-    Notes(Export<'a>),
+    Notes(Notes<'a>),
     /// Answers over HTTP.
     Serve(Serve<'a>),
 }

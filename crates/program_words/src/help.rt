@@ -35,7 +35,8 @@ Example: tlogmirror pull --origin example.com/log --keys examples/log.keys --out
 
 Exit status: 0 done, 1 a fault, 2 words that ask for nothing that can be done, 3 a no: the proof does
 not hold, something is missing or partial, there are forks, nothing is complete.
-A fault is one line on standard error, 'tlogmirror: NAME'. Those of files that most commands read:
+A fault is one line on standard error, 'tlogmirror: NAME'. With '--why', which all but root and check have,
+the line before it says what it is about. Those of files that most commands read:
   FileFault    a file that was named cannot be read or written: see the path and the rights
   BadKeyLine   a line of the key file is no key: 'hmac NAME ID SECRET' or 'pin NAME ID DIGEST'
   BadOrigin    the origin is empty, too long, or has a control character
@@ -88,6 +89,7 @@ Example: tlogmirror check <examples/inclusion-2-of-3.proof";
 pub(crate) const BUILD: &str = "\
 Each entry on standard input is its length, two bytes with the higher first, and its bytes. The
 checkpoint is signed with the first 'hmac' key of K. Tiles and bundles are written before it.
+With --progress lines like 'build: 1,024 files, 23 MB' go to standard error, from the first second on.
 
 Exit status: 0 done, 1 a fault, 2 words that ask for nothing.
 Faults, on standard error:
@@ -141,6 +143,10 @@ Example: tlogmirror merge --origin log.example --keys keys --out both here there
 pub(crate) const PULL: &str = "\
 The output is 'pulled SIZE ROOT rounds N refused N', and 'complete' or 'partial'. T is written for a
 partial pull too; a later pull with --state T goes on from it. An old checkpoint stays in the state.
+With --keep T is also written at Source, where anything was gained: give it to a first pull of a large
+log over a bad line, and call it again with --state T until it ends with 0.
+With --progress lines like 'pull: 1,024 files, 23 MB' go to standard error, from the first second on,
+and at its end 'pull: 5,000 to 5,300 entries, 4 files, 91 kB'.
 'http' is plain HTTP, with no TLS and no redirects: a proxy beside it ends HTTPS.
 
 Exit status: 0 complete, 3 partial, 1 a fault, 2 words that ask for nothing, or that do not fit
@@ -148,7 +154,7 @@ Exit status: 0 complete, 3 partial, 1 a fault, 2 words that ask for nothing, or 
 Faults of O, K, S and T: see 'tlogmirror --help'. Of the place:
   NoCheckpoint        it has no checkpoint: see PLACE
   NoEdge              it lacks a tile of the checkpoint's edge: try again, or another place
-  Source              it could not be read or did not answer: try again
+  Source              it could not be read or did not answer: try again, with --keep to go on
   NoteTooLong, NotText, NoSignatures, TooManySignatures, BadSignatureLine
                       the checkpoint is no signed note
   TooFewLines, EmptyLine, BadSize, SizeTooLarge, BadRoot
@@ -233,6 +239,8 @@ pub(crate) const EXPORT: &str = "\
 Tiles and bundles are written before the checkpoint. Any web server can serve the folder.
 With --update D may have a checkpoint of this log: what it lacks is written, the checkpoint
 last, and no file is taken away. So a folder that is being served is whole at each moment.
+With --progress lines like 'export: 3,200 of 7,833 files' go to standard error, from the first second
+on.
 
 Exit status: 0 done, 1 a fault, 2 words that ask for nothing.
 Faults of O, K and S: see 'tlogmirror --help'. Then:

@@ -19,12 +19,14 @@ mod parser;
 mod parts;
 mod place;
 mod readers;
+mod why;
 mod words;
 
 pub use command::{
-    Build, Command, Compare, Export, Kind, Log, Merge, Missing, OutputArgs, Place, Prove, Pull,
-    Root, Serve, StateArgs, Take,
+    Build, Command, Compare, Export, Kind, Log, Merge, Missing, Notes, OutputArgs, Place, Prove,
+    Pull, Root, Serve, StateArgs, Take,
 };
 pub use fault::CommandFault;
 pub use laws::{lawful_law, words_example};
+pub use why::{asks_why, bad_argument};
 pub use words::{key_file, read_words};

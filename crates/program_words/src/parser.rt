@@ -2,7 +2,7 @@
 ghost use Rattle.std.specs.Prelude.{◌≡◌, IfOk, codes, false};
 ghost use Rattle.clap.specs.Words.{App, Rule, new_app, rule_of, with_rule, with_subcommand};
 ghost use Rattle.program_words.specs.App.{argument_rule, build_app, check_app, choice_rule, compare_app, export_app, flag_rule, folder_app, held_app, list_rule, log_app, made_app};
-ghost use Rattle.program_words.specs.App.{making_app, merge_app, mirror_app, missing_app, named_app, option_rule, place_rule, program_app, prove_app, pull_app};
+ghost use Rattle.program_words.specs.App.{making_app, merge_app, mirror_app, missing_app, named_app, option_rule, place_rule, program_app, progress_rule, prove_app, pull_app};
 ghost use Rattle.program_words.specs.App.{root_app, serve_app, take_app};
 ghost use Rattle.program_words.specs.Commands.{IsParserOf};
 
@@ -37,6 +37,18 @@ fn flag<'a>(alloc: Global, name: &'a str, help: &'a str) -> Arg<'a>
         .help(help)
         .long(name)
         .action(ArgAction::SetTrue)
+}
+
+// `[--progress]`, an option of each command whose work may be long.
+fn progress<'a>(alloc: Global) -> Arg<'a>
+    ensures rule { rule_of result ≡ progress_rule }
+    ensures local { result.global ≡ false }
+{
+    flag(
+        alloc,
+        "progress",
+        "Tell on standard error how far the work is, by a line a second at most",
+    )
 }
 
 // `--NAME VALUE`, which has to be there.
@@ -117,7 +129,12 @@ fn log_parser<'a>(
         "K",
         "The file of the keys that its checkpoints are opened with",
     );
-    with_argument(with_argument(parser, origin), keys)
+    let why = flag(
+        alloc,
+        "why",
+        "Say before a fault what it is about: a file, a reply, a word",
+    );
+    with_argument(with_argument(with_argument(parser, origin), keys), why)
 }
 
 // A command over a mirror that is kept in a file.
@@ -203,7 +220,7 @@ fn build_parser<'a>(alloc: Global) -> Result<clap::Command<'a>, AllocError>
         help::BUILD,
     );
     let dir = option(alloc, "dir", "D", "The folder that the log is written to");
-    with_argument(parser, dir)
+    with_argument(with_argument(parser, dir), progress(alloc))
 }
 
 fn take_parser<'a>(alloc: Global) -> Result<clap::Command<'a>, AllocError>
@@ -277,6 +294,11 @@ fn pull_parser<'a>(alloc: Global) -> Result<clap::Command<'a>, AllocError>
         "S",
         "The file of the state to begin with; nothing where it is left out",
     );
+    let keep = flag(
+        alloc,
+        "keep",
+        "Write the state where the place fails too, as a first pull over a bad line wants it",
+    );
     let kind = place(
         alloc,
         "kind",
@@ -289,7 +311,9 @@ fn pull_parser<'a>(alloc: Global) -> Result<clap::Command<'a>, AllocError>
         "PLACE",
         "The folder, or host:port with an optional /prefix",
     );
-    with_argument(with_argument(with_argument(parser, state), kind), from)
+    let parser = with_argument(with_argument(parser, state), keep);
+    let parser = with_argument(parser, progress(alloc));
+    with_argument(with_argument(parser, kind), from)
 }
 
 fn missing_parser<'a>(alloc: Global) -> Result<clap::Command<'a>, AllocError>
@@ -364,7 +388,7 @@ fn named_parser<'a>(alloc: Global) -> Result<clap::Command<'a>, AllocError>
 {
     clap::Command::new(alloc, "tlogmirror")
         .override_help(help::PROGRAM)
-        .version("0.3.0")
+        .version("0.4.0")
         .bin_name("tlogmirror")
 }
 
@@ -427,7 +451,7 @@ fn export_parser<'a>(alloc: Global) -> Result<clap::Command<'a>, AllocError>
         "update",
         "Bring a folder up to date that has an older checkpoint of the log",
     );
-    with_argument(parser, update)
+    with_argument(with_argument(parser, update), progress(alloc))
 }
 
 fn notes_parser<'a>(alloc: Global) -> Result<clap::Command<'a>, AllocError>

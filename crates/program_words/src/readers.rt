@@ -2,12 +2,12 @@
 ghost use Rattle.std.specs.Prelude.{◌≡◌, ◌↔◌, IsTrue, [], codes, map, unwrap_or};
 ghost use Rattle.clap.specs.Words.{all_of, first_of, found_of, rows_of};
 ghost use Rattle.tlog_text.specs.Hash.{IsHashText};
-ghost use Rattle.program_words.specs.Commands.{HasValue, IsAsk, IsBuild, IsCompare, IsCount, IsExport, IsMerge, IsMissingAsk, IsNumberIn};
+ghost use Rattle.program_words.specs.Commands.{HasValue, IsAsk, IsBuild, IsCompare, IsCount, IsExport, IsMerge, IsMissingAsk, IsNotes, IsNumberIn};
 ghost use Rattle.program_words.specs.Commands.{IsProve, IsPull, IsRoot, IsServe, IsSize, IsTake, IsTakeWidth, kind_name};
 ghost use Rattle.program_words.specs.Readings.{IsSaid, ReadsPart};
 
 use crate::command::{
-    Build, Command, Compare, Export, Kind, Merge, Missing, Prove, Pull, Root, Serve, Take,
+    Build, Command, Compare, Export, Kind, Merge, Missing, Notes, Prove, Pull, Root, Serve, Take,
 };
 use crate::fault::CommandFault;
 use crate::parts::{has_flag, log_of, number_in, number_of, output_args, state_args, word_of};
@@ -35,11 +35,12 @@ pub(crate) fn build_of<'a>(found: &ArgMatches<'a>) -> Result<Build<'a>, CommandF
     Ok(Build {
         log: log_of(found)?,
         folder: word_of(found, "dir")?,
+        progress: has_flag(found, "progress"),
     })
 }
 
 // What files hold, by the word for it.
-fn kind_of(word: &str) -> Result<Kind, CommandFault>
+pub(crate) fn kind_of(word: &str) -> Result<Kind, CommandFault>
     ensures { ReadsPart (λ kind. word.now ≡ kind_name kind) result }
 {
     match word {
@@ -51,7 +52,7 @@ fn kind_of(word: &str) -> Result<Kind, CommandFault>
 }
 
 // The width, which may be left out.
-fn width_of(found: &ArgMatches<'_>) -> Result<u32, CommandFault>
+pub(crate) fn width_of(found: &ArgMatches<'_>) -> Result<u32, CommandFault>
     ensures { ReadsPart (IsTakeWidth (first_of (codes "width") (rows_of (found_of found.now)))) result }
 {
     match found.get_str("width") {
@@ -118,12 +119,14 @@ pub(crate) fn pull_of<'a>(alloc: Global, found: &ArgMatches<'a>) -> Result<Pull<
     Ok(Pull {
         mirror: output_args(found)?,
         state: found.get_str("state"),
+        keep: has_flag(found, "keep"),
+        progress: has_flag(found, "progress"),
         place: place_of(alloc, word_of(found, "kind")?, word_of(found, "place")?)?,
     })
 }
 
 // The hash that the word spells in base64.
-fn hash_of(word: &str) -> Result<Hash, CommandFault>
+pub(crate) fn hash_of(word: &str) -> Result<Hash, CommandFault>
     ensures { ReadsPart (IsHashText word.now) result }
 {
     match read_hash(word) {
@@ -186,13 +189,24 @@ pub(crate) fn prove_of<'a>(found: &ArgMatches<'a>) -> Result<Prove<'a>, CommandF
     })
 }
 
-/// `export` and `notes`, by their options.
-pub(crate) fn export_of<'a>(found: &ArgMatches<'a>) -> Result<Export<'a>, CommandFault>
+/// `notes`, by its options.
+pub(crate) fn notes_of<'a>(found: &ArgMatches<'a>) -> Result<Notes<'a>, CommandFault>
+    ensures { ReadsPart (IsNotes (rows_of (found_of found.now))) result }
+{
+    Ok(Notes {
+        mirror: state_args(found)?,
+        folder: word_of(found, "dir")?,
+    })
+}
+
+// What `export` writes, and where, by its options.
+fn export_of<'a>(found: &ArgMatches<'a>) -> Result<Export<'a>, CommandFault>
     ensures { ReadsPart (IsExport (rows_of (found_of found.now))) result }
 {
     Ok(Export {
         mirror: state_args(found)?,
         folder: word_of(found, "dir")?,
+        progress: has_flag(found, "progress"),
     })
 }
 

@@ -9,14 +9,15 @@ use crate::fault::CommandFault;
 use crate::parser::parser;
 use crate::parts::state_args;
 use crate::readers::{
-    build_of, compare_of, export_command, export_of, merge_of, missing_of, prove_of, pull_of,
+    build_of, compare_of, export_command, merge_of, missing_of, notes_of, prove_of, pull_of,
     root_of, serve_of, take_of,
 };
 use clap::ArgMatches;
 use clap::error::ErrorKind;
 use std::alloc::Global;
 
-fn fault_of(alloc: Global, error: clap::Error) -> CommandFault
+// What an error of `clap` is to the program.
+pub(crate) fn fault_of(alloc: Global, error: clap::Error) -> CommandFault
     ensures { Tells (kind_of error) result }
 {
     if error.kind() == ErrorKind::OutOfMemory {
@@ -55,7 +56,7 @@ fn command_of<'a>(
         "compare" => Ok(Command::Compare(compare_of(alloc, found)?)),
         "prove" => Ok(Command::Prove(prove_of(found)?)),
         "export" => export_command(found),
-        "notes" => Ok(Command::Notes(export_of(found)?)),
+        "notes" => Ok(Command::Notes(notes_of(found)?)),
         "serve" => Ok(Command::Serve(serve_of(found)?)),
         _ => Err(CommandFault::BadArgument),
     }

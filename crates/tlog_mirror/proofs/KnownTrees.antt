@@ -6,7 +6,8 @@ use Rattle.mirror_trees.specs.declared.known.Known.{Known}
 use Rattle.tlog_mirror.specs.Kept.{IsKeptWell}
 use Rattle.tlog_mirror.specs.declared.kept.KeptNote.{KeptNote}
 
-pub all_known : (digest : List ℕ → List ℕ) (origin : List ℕ) (kept : List KeptNote) (strings : Strings)
-    (known : Known) → IsKeptWell digest origin kept strings known.remembered × AreBuilt digest strings known.built →
+pub all_known : {A : Type 0} (digest : List ℕ → List ℕ) (origin : List ℕ) (kept : List KeptNote) (strings : Strings)
+    (known : Known) →
+    IsKeptWell digest origin kept strings known.remembered × (AreBuilt digest strings known.built × A) →
     AreKnown digest strings known
-all_known digest origin kept strings known ok = record { remembered = ok.0.settled.known; built = ok.1 }
+all_known digest origin kept strings known ok = record { remembered = ok.0.settled.known; built = ok.1.0 }

@@ -19,3 +19,4 @@ pub mod Departures
 pub mod FoundForks
 pub mod RestoredMirrors
 pub mod ComparedHeads
+pub mod LaidOut

@@ -47,7 +47,7 @@ ReadsEdge size rows (Err taking.Collision) = ⊥
 ReadsEdge size rows (Err taking.OutOfMemory) = ⊤
 
 -- what each answer of taking edge rows says: they are as the size has them, and lead to the root; a
--- collide is told of such rows alone
+-- collision is told of such rows alone
 abbrev pub JudgesEdge : (List ℕ → List ℕ) → ℕ → List ℕ → List (List ℕ) →
     Result (Unit {0}) TakeFault → Type 0
 JudgesEdge digest size root rows (Ok done) = HasEdgeRows digest size root rows

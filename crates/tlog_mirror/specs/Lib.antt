@@ -1,4 +1,5 @@
 pub mod Kept
+pub mod LaidOut
 pub mod Adding
 pub mod Edges
 pub mod Tops

@@ -12,6 +12,7 @@ use mirror_trees::Known;
 use node_store::Store;
 use std::alloc::Global;
 use std::marker::Model;
+use tlog_files::LogFiles;
 use tlog_hash::TreeHash;
 
 /// What was gathered of one log.
@@ -24,6 +25,10 @@ pub struct Mirror<H: TreeHash> {
     pub(crate) kept: Vec<KeptNote>,
     pub(crate) strings: Store<H>,
     pub(crate) known: Known,
+    // What is served, laid out: its note, and the files of its entries. `lay_out` alone makes it, and whatever adds a
+    // string or a note lets it go first. So, where it stands, it is of what is served now, and no change has to be shown
+    // to keep it so.
+    pub(crate) laid: Option<(KeptNote, LogFiles<H>)>,
 }
 
 impl<H: TreeHash> Model for Mirror<H> {
@@ -31,6 +36,7 @@ impl<H: TreeHash> Model for Mirror<H> {
     ghost use Rattle.mirror_model.specs.Marks.{State, state_code};
     ghost use Rattle.mirror_trees.specs.Known.{AreBuilt};
     ghost use Rattle.tlog_mirror.specs.Kept.{state_of, IsKeptWell};
+    ghost use Rattle.tlog_mirror.specs.LaidOut.{IsLaidOut};
 
     ghost Value = { State };
 
@@ -38,7 +44,7 @@ impl<H: TreeHash> Model for Mirror<H> {
 
     ghost view = { λ a. state_of (string_bytes a.origin) a.kept.items a.strings a.known.remembered };
 
-    ghost invariant = { λ a. IsKeptWell H.digest (string_bytes a.origin) a.kept.items a.strings a.known.remembered × AreBuilt H.digest a.strings a.known.built };
+    ghost invariant = { λ a. IsKeptWell H.digest (string_bytes a.origin) a.kept.items a.strings a.known.remembered × (AreBuilt H.digest a.strings a.known.built × IsLaidOut H.digest (state_of (string_bytes a.origin) a.kept.items a.strings a.known.remembered).view a.laid) };
 }
 
 impl<H: TreeHash> Mirror<H> {
@@ -65,6 +71,7 @@ impl<H: TreeHash> Mirror<H> {
             kept: Vec::new(alloc),
             strings: Store::new(alloc),
             known: Known::new(alloc),
+            laid: None,
         })
     }
 

@@ -49,6 +49,7 @@ impl<H: TreeHash> Mirror<H> {
             kept: Vec::new(alloc),
             strings,
             known: Known::new(alloc),
+            laid: None,
         })
     }
 

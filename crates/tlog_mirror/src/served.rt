@@ -8,6 +8,7 @@ ghost use Rattle.tlog_mirror.specs.Tops.{IsServedAs, IsServedTop, ServesNothing}
 
 use crate::best::{best_of, first_with};
 use crate::kept::KeptNote;
+use crate::laid::{laid_bundle, laid_tile};
 use crate::mirror::Mirror;
 use crate::top_ranges::TopRanges;
 use signed_note::Note;
@@ -58,8 +59,19 @@ impl<H: TreeHash> Mirror<H> {
         Some((kept.size, root))
     }
 
-    // The kept note that is served.
-    fn served_note(&self) -> Option<&KeptNote>
+    // The note that is served.
+    pub(crate) fn served_note(&self) -> Option<&KeptNote>
+        ensures some { IfSome result (λ kept. IsServedAs H.digest self.now.view kept.now.note.bytes kept.now.size kept.now.root) }
+        ensures none { IfNone result (ServesNothing H.digest self.now.view) }
+    {
+        match &self.laid {
+            Some(laid) => Some(&laid.0),
+            None => self.found_note(),
+        }
+    }
+
+    // The kept note that is served, looked for among all.
+    fn found_note(&self) -> Option<&KeptNote>
         ensures some { IfSome result (λ kept. IsServedAs H.digest self.now.view kept.now.note.bytes kept.now.size kept.now.root) }
         ensures none { IfNone result (ServesNothing H.digest self.now.view) }
     {
@@ -99,6 +111,23 @@ impl<H: TreeHash> Mirror<H> {
         ensures some { IfOk result (λ o. IfSome o (λ bytes. IsServedTile H.digest self.now.view level index width bytes.items)) }
         ensures none { IfOk result (λ o. IfNone o ((bytes : List ℕ) → ¬ IsServedTile H.digest self.now.view level index width bytes)) }
     {
+        match &self.laid {
+            Some(laid) => laid_tile(alloc, &laid.1, level, index, width),
+            None => self.found_tile(alloc, level, index, width),
+        }
+    }
+
+    // The bytes of a tile, looked up among the strings.
+    fn found_tile(
+        &self,
+        alloc: Global,
+        level: u32,
+        index: u64,
+        width: u32,
+    ) -> Result<Option<Vec<u8>>, AllocError>
+        ensures some { IfOk result (λ o. IfSome o (λ bytes. IsServedTile H.digest self.now.view level index width bytes.items)) }
+        ensures none { IfOk result (λ o. IfNone o ((bytes : List ℕ) → ¬ IsServedTile H.digest self.now.view level index width bytes)) }
+    {
         let Some(top) = self.top_ranges() else {
             return Ok(None);
         };
@@ -112,6 +141,22 @@ impl<H: TreeHash> Mirror<H> {
     ///
     /// Memory was refused.
     pub fn bundle(
+        &self,
+        alloc: Global,
+        index: u64,
+        width: u32,
+    ) -> Result<Option<Vec<u8>>, AllocError>
+        ensures some { IfOk result (λ o. IfSome o (λ bytes. IsServedBundle H.digest self.now.view index width bytes.items)) }
+        ensures none { IfOk result (λ o. IfNone o ((bytes : List ℕ) → ¬ IsServedBundle H.digest self.now.view index width bytes)) }
+    {
+        match &self.laid {
+            Some(laid) => laid_bundle(alloc, &laid.1, index, width),
+            None => self.found_bundle(alloc, index, width),
+        }
+    }
+
+    // The bytes of a bundle, looked up among the strings.
+    fn found_bundle(
         &self,
         alloc: Global,
         index: u64,

@@ -113,6 +113,7 @@ impl<H: TreeHash> Mirror<H> {
         match place_of(self.kept.as_slice(), kept.note.bytes()) {
             Ok(_) => Ok(()),
             Err(at) => {
+                self.laid = None;
                 self.kept.insert(at, kept)?;
                 Ok(())
             }

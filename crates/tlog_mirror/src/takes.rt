@@ -86,6 +86,7 @@ impl<H: TreeHash> Mirror<H> {
         ensures adds { Answers H.digest self.old.view (Unit {0}) (with_strings self.old.view strings.now) (added result) self.new.view }
         ensures remembered { self.new.remembered ≡ self.old.remembered }
     {
+        self.laid = None;
         match self.strings.add_all(strings) {
             Ok(()) => {}
             Err(AddFault::Collision) => return Err(AddFault::Collision),

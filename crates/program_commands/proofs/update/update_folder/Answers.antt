@@ -12,7 +12,7 @@ returns-in-Ok-Some-clause-answer g c =
       answered = subst (λ o. g.S.Source.may_answer c.args.source.now Checkpoint (option_map (λ v. v.items) o))
           c.in-Ok-Some.field-0-is c.in-Ok-Some.ensures.answer;
       puts = subst (λ (bytes : List ℕ). Updates g.H.TreeHash.digest c.args.mirror.now.view bytes
-          (puts c.args.folder.now) (puts c.update.new.shelf) (failed c.in-Err-update.fault))
-          c.as_slice.ensures.value c.in-Err-update.ensures.puts;
-      nothing = c.in-Err-update.ensures.nothing;
+          (puts c.args.folder.now) (puts c.update_told.new.folders) (failed c.in-Err-update_told.fault))
+          c.as_slice.ensures.value c.in-Err-update_told.ensures.puts;
+      nothing = c.in-Err-update_told.ensures.nothing;
     }

@@ -1,25 +1,41 @@
-use Rattle.std.proofs.Common.{inl, inr, refl}
+use Rattle.std.proofs.Common.{List, Option, inl, inr, refl, subst}
+use Rattle.program_files.specs.Named.{NamedFile}
+use Rattle.program_library.specs.Pulls.{TellsPulled}
 use Rattle.program_library.proofs.Written.{keeps_itself}
 use Rattle.program_library.proofs.pull.run_pull.Goals as goal
 
-pub returns-in-Ok-from_place-clause-answer : goal.returns-in-Ok-from_place-clause-answer
-returns-in-Ok-from_place-clause-answer g c = inr record {
-  view = c.from_place.new.mirror.view;
-  pulled = c.in-Ok-from_place.pulled;
+pub returns-in-Err-clause-answer : goal.returns-in-Err-clause-answer
+returns-in-Err-clause-answer g c =
+    inl ((c.in-Err.ensures, refl), keeps_itself (g.W.Write.contents c.args.output.now))
+
+pub returns-in-Ok-pull_kept-clause-answer : goal.returns-in-Ok-pull_kept-clause-answer
+returns-in-Ok-pull_kept-clause-answer g c = inr record {
+  view = c.pull_kept.new.mirror.view;
+  pulled = c.in-Ok-pull_kept.pulled;
   pulls = record {
     start = c.in-Ok.mirror.view;
     begun = c.in-Ok.ensures;
-    pulls = c.in-Ok-from_place.ensures;
+    pulls = c.in-Ok-pull_kept.ensures.pulls;
+    lawful = c.in-Ok-pull_kept.ensures.lawful;
   };
-  tells = c.tell_pulled.ensures.answer;
+  tells = subst (λ (told : Option (List NamedFile)). TellsPulled c.pull_kept.new.mirror.view
+      c.in-Ok-pull_kept.pulled c.args.words.now.mirror.out.now told (g.F.NamedFiles.puts c.tell_pulled.new.files)
+      (g.W.Write.contents c.args.output.now) (g.W.Write.contents c.tell_pulled.new.output) c.tell_pulled.result)
+      c.in-Ok-pull_kept.ensures.same c.tell_pulled.ensures.answer;
 }
 
 pub returns-clause-answer : goal.returns-clause-answer
 returns-clause-answer g c = inl (
-  (
-    c.from_place.new.mirror.view,
-    record { start = c.in-Ok.mirror.view; begun = c.in-Ok.ensures; pulls = c.in-Err-from_place.ensures },
-  ),
-  refl,
+  record {
+    view = c.pull_kept.new.mirror.view;
+    pulls = record {
+      start = c.in-Ok.mirror.view;
+      begun = c.in-Ok.ensures;
+      pulls = c.in-Err-pull_kept.ensures.pulls;
+      lawful = c.in-Err-pull_kept.ensures.lawful;
+    };
+    written = c.in-Err-pull_kept.ensures.early.0;
+    leaves = c.in-Err-pull_kept.ensures.early.1;
+  },
   keeps_itself (g.W.Write.contents c.args.output.now),
 )

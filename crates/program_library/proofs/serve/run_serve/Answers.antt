@@ -2,8 +2,8 @@ use Rattle.std.proofs.Common.{inr}
 use Rattle.program_library.proofs.Written.{keeps_itself}
 use Rattle.program_library.proofs.serve.run_serve.Goals as goal
 
-pub returns-in-Err-settle : goal.returns-in-Err-settle
-returns-in-Err-settle g c = inr record {
+pub returns-in-Err-make_ready : goal.returns-in-Err-make_ready
+returns-in-Err-make_ready g c = inr record {
   view = c.in-Ok.mirror.view;
   opened = c.in-Ok.ensures;
   tells = keeps_itself (g.O.Write.contents c.args.output.now);

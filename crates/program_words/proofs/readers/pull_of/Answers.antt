@@ -26,6 +26,8 @@ returns c = record {
   mirror = c.in_ok-output_args.ensures;
   state = given_or_none (found_of c.args.found.now) (codes "state") (option_map (λ s. s.now) c.get_str.result)
       c.get_str.ensures;
+  keep = c.has_flag.ensures;
+  progress = c.has_flag-2.ensures;
   place = record {
     value = c.in_ok-word_of.field-0.now;
     given = c.in_ok-word_of.ensures;

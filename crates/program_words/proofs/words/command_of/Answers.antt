@@ -1,7 +1,7 @@
 use Rattle.std.proofs.Common.{codes}
 use Rattle.std.proofs.lemmas.Result.{err_from_is_err_and}
 use Rattle.clap.specs.Words.{found_of, rows_of}
-use Rattle.program_words.specs.Commands.{IsBuild, IsCompare, IsExport, IsStateArgs, IsMerge, IsMissingAsk}
+use Rattle.program_words.specs.Commands.{IsBuild, IsCompare, IsStateArgs, IsMerge, IsMissingAsk, IsNotes}
 use Rattle.program_words.specs.Commands.{IsProve, IsPull, IsRoot, IsServe, IsTake}
 use Rattle.program_words.proofs.Named.{refused_of}
 use Rattle.program_words.proofs.words.command_of.Goals as goal
@@ -130,18 +130,18 @@ returns-in_err-prove_of-in-prove c =
 pub returns-in-export : goal.returns-in-export
 returns-in-export c = rw c.in-export.is c.export_command.ensures
 
-pub returns-in_ok-export_of-in-notes : goal.returns-in_ok-export_of-in-notes
-returns-in_ok-export_of-in-notes c = (c.in-notes.is, c.in_ok-export_of-in-notes.ensures)
+pub returns-in_ok-notes_of-in-notes : goal.returns-in_ok-notes_of-in-notes
+returns-in_ok-notes_of-in-notes c = (c.in-notes.is, c.in_ok-notes_of-in-notes.ensures)
 
-pub returns-in_err-export_of-in-notes : goal.returns-in_err-export_of-in-notes
-returns-in_err-export_of-in-notes c =
+pub returns-in_err-notes_of-in-notes : goal.returns-in_err-notes_of-in-notes
+returns-in_err-notes_of-in-notes c =
     let options = rows_of (found_of c.args.found.now) in
-    let fault = err_from_is_err_and c.from_residual-in_err-export_of-in-notes.result
-    c.from_residual-in_err-export_of-in-notes.ensures.1 in
-    refused_of (IsExport options) c.args.name.now (codes "notes") options
-    c.from_residual-in_err-export_of-in-notes.result
-    c.in_err-export_of-in-notes.field-0.0 (λ p. p) c.in-notes.is fault
-    c.in_err-export_of-in-notes.ensures
+    let fault = err_from_is_err_and c.from_residual-in_err-notes_of-in-notes.result
+    c.from_residual-in_err-notes_of-in-notes.ensures.1 in
+    refused_of (IsNotes options) c.args.name.now (codes "notes") options
+    c.from_residual-in_err-notes_of-in-notes.result
+    c.in_err-notes_of-in-notes.field-0.0 (λ p. p) c.in-notes.is fault
+    c.in_err-notes_of-in-notes.ensures
 
 pub returns-in_ok-serve_of-in-serve : goal.returns-in_ok-serve_of-in-serve
 returns-in_ok-serve_of-in-serve c = (c.in-serve.is, c.in_ok-serve_of-in-serve.ensures)

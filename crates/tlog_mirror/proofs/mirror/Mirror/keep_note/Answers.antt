@@ -33,7 +33,7 @@ invariant_of-self-in-Err g c =
           (sym c.in_ok-insert-in-Err.ensures.items)
           (inserted_well d origin kept c.self.inside.strings c.self.inside.known.remembered c.self.invariant.0 k
           at within gap said edge),
-      c.self.invariant.1,
+      (c.self.invariant.1.0, tt),
     )
 
 pub returns-in-Ok-clause-ok : goal.returns-in-Ok-clause-ok

@@ -11,5 +11,5 @@ invariant_of-result g c =
     let same : string_bytes c.in-Ok.origin ≡ c.args.origin.now = grind (arith) in (
       new_well g.H.TreeHash.digest (string_bytes c.in-Ok.origin) (subst IsOrigin (sym same) is) c.new.result.items
           c.new-2.result c.new-3.result.remembered c.new.ensures.items c.new-2.ensures c.new-3.ensures.remembered,
-      empty_known g.H.TreeHash.digest c.new-2.result c.new-3.result.built c.new-3.ensures.built,
+      (empty_known g.H.TreeHash.digest c.new-2.result c.new-3.result.built c.new-3.ensures.built, tt),
     )

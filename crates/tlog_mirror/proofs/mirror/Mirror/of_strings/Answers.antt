@@ -12,5 +12,5 @@ invariant_of-result g c =
       restored_well g.H.TreeHash.digest (string_bytes c.in-Ok.origin) c.args.strings (subst IsOrigin (sym same) is)
           c.iter-all.ensures.no_clash c.iter-all.ensures.tagged c.requires.short c.new.result.items c.new-2.result.remembered
           c.new.ensures.items c.new-2.ensures.remembered,
-      empty_known g.H.TreeHash.digest c.args.strings c.new-2.result.built c.new-2.ensures.built,
+      (empty_known g.H.TreeHash.digest c.args.strings c.new-2.result.built c.new-2.ensures.built, tt),
     )

@@ -21,7 +21,7 @@ invariant_of-self g c =
       settled_well g.H.TreeHash.digest
           (string_bytes c.self.inside.origin) c.self.inside.kept.items c.self.inside.strings c.self.inside.known.remembered
           c.settle_all.new.known.remembered c.self.invariant.0 c.as_slice-2.result.now exact c.settle_all.ensures.gains,
-      c.settle_all.ensures.known.built,
+      (c.settle_all.ensures.known.built, c.self.invariant.1.1),
     )
 
 pub returns-clause-done : goal.returns-clause-done

@@ -1,0 +1,6 @@
+mod Written
+mod Appended
+mod Commas
+mod Printed
+mod Tells
+mod Totals

@@ -1,0 +1,38 @@
+-- What a look at the clock comes to.
+use Rattle.std.proofs.Common.{◌≡◌, ℕ, List, Option, Some, None, Bool, true, ◌⊎◌, inl, inr}
+use Rattle.std.proofs.Common.{refl, sym, subst, ◌∙◌, ⊎_elim, arith}
+use Rattle.std.specs.Prelude.{is_some}
+use Rattle.std.proofs.lemmas.Bool.{cases_lt, false≢true}
+use Rattle.std.proofs.lemmas.List.{append-nil}
+use Rattle.byte_streams.specs.Streams.{AppendsPrefix}
+use Rattle.mirror_progress.specs.Telling.{Telling, IsDue, TellsAt, SameWork, told_line}
+
+due_or_not : (due : Option ℕ) (now : ℕ) → IsDue due now ⊎ (¬ IsDue due now)
+due_or_not None now = inr (λ h. h)
+due_or_not (Some due) now =
+    ⊎_elim (λ before. inr (λ after. omega (arith, before, after))) (λ after. inl after) (cases_lt now due)
+
+-- nothing is a prefix of each line
+pub appends_nothing : (known : Option (List ℕ)) (line : List ℕ) → AppendsPrefix known known line
+appends_nothing None line = (0, tt)
+appends_nothing (Some xs) line = (0, sym (append-nil xs))
+
+-- the same work is told by the same line
+same_line : {W : Type 0} (old new : Telling W) → SameWork old new → told_line old ≡ told_line new
+same_line old new same = rw (same.task, same.all, same.counts) refl
+
+-- a look at the clock writes a prefix of the one line
+pub tells_prefix : {W : Type 0} (contents : W → Option (List ℕ)) (now : ℕ) (old new : Telling W) →
+    TellsAt contents now old new → AppendsPrefix (contents old.writer) (contents new.writer) (told_line new)
+tells_prefix contents now old new told =
+    ⊎_elim
+    (λ due. subst (λ line. AppendsPrefix (contents old.writer) (contents new.writer) line)
+    (same_line old new told.same) (told.line due))
+    (λ early. subst (λ (t : Telling _). AppendsPrefix (contents old.writer) (contents t.writer) (told_line t))
+    (sym (told.early early)) (appends_nothing (contents old.writer) (told_line old)))
+    (due_or_not old.due now)
+
+-- who tells is not silent
+pub not_silent : (due : Option ℕ) (b : Bool) → b ≡ is_some due → b ≡ true → due ≡ None → ⊥
+not_silent None b p q r = false≢true (sym p ∙ q)
+not_silent (Some due) b p q r = cc

@@ -1,0 +1,16 @@
+-- What is counted of the calls of a source and of a shelf.
+use Rattle.std.specs.Prelude.{◌≡◌, ℕ, Option, Some, None, Result, Ok, Err}
+use Rattle.mirror_progress.specs.declared.counts.Counts.{Counts}
+use Rattle.mirror_progress.specs.Text.{with_file}
+
+-- a file that is found is counted, with its bytes; nothing else is
+abbrev pub CountsAnswer :
+    {X E : Type 0} → (X → ℕ) → Counts → Counts → Result (Option X) E → Type 0
+CountsAnswer len old new (Ok (Some bytes)) = new ≡ with_file old (len bytes)
+CountsAnswer len old new (Ok None) = new ≡ old
+CountsAnswer len old new (Err e) = new ≡ old
+
+-- a file that is put is counted, with its bytes; one that is not put is not
+abbrev pub CountsPut : {T E : Type 0} → ℕ → Counts → Counts → Result T E → Type 0
+CountsPut len old new (Ok x) = new ≡ with_file old len
+CountsPut len old new (Err e) = new ≡ old

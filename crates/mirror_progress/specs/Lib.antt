@@ -1,0 +1,4 @@
+pub mod Text
+pub mod Telling
+pub mod Counting
+pub mod Total

@@ -1,0 +1,36 @@
+//! What is counted.
+ghost use Rattle.std.specs.Prelude.{◌≡◌};
+
+/// How much was fetched or put: how many files, and of how many bytes in all. Each stays at its last value, 2^64 - 1.
+///
+/// ```text
+/// let mut counts = Counts::new();
+/// counts.add(96); // Counts { files: 1, bytes: 96 }
+/// ```
+#[derive(Debug, PartialEq, Eq, Clone, Copy)]
+pub struct Counts {
+    /// How many files.
+    pub files: u64,
+    /// How many bytes they have in all.
+    pub bytes: u64,
+}
+
+impl Counts {
+    ghost use Rattle.mirror_progress.specs.Text.{with_file};
+
+    /// Nothing is counted yet.
+    pub fn new() -> Counts
+        ensures files { result.files ≡ 0 }
+        ensures bytes { result.bytes ≡ 0 }
+    {
+        Counts { files: 0, bytes: 0 }
+    }
+
+    /// Counts a file of so many bytes.
+    pub fn add(&mut self, len: usize)
+        ensures { self.new ≡ with_file self.old len }
+    {
+        self.files = self.files.saturating_add(1);
+        self.bytes = self.bytes.saturating_add(len as u64);
+    }
+}

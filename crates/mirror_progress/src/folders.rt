@@ -1,0 +1,41 @@
+//! Folders into which long work may be told.
+use crate::task::Task;
+use mirror_folders::{DirShelf, MemShelf, NamedFolders};
+use std::fs::Files;
+
+/// Folders by their names, of which it can be told how many files were put. A `CountingShelf` tells it; the others tell
+/// nothing, and what is asked of them here changes nothing.
+///
+/// ```text
+/// folders.begin(Task::Export);
+/// folders.expect(7_833);
+/// folders.open("log")?;
+/// folders.put(&path, bytes)?; // once a second has passed: export: 3,200 of 7,833 files
+/// ```
+pub trait ToldFolders: NamedFolders {
+    ghost use Rattle.std.specs.Prelude.{◌≡◌};
+
+    /// Whether it is told how many files are put.
+    fn is_told(&self) -> bool {
+        false
+    }
+
+    /// From now on it is told how many files are put, by a line now and then, under the name of that command.
+    fn begin(&mut self, _task: Task)
+        ensures puts { Self.puts self.new ≡ Self.puts self.old }
+        ensures held { Self.held self.new ≡ Self.held self.old }
+        ensures failed { Self.failed self.new ≡ Self.failed self.old }
+    {}
+
+    /// So many files are to be put in all.
+    fn expect(&mut self, _files: u64)
+        ensures puts { Self.puts self.new ≡ Self.puts self.old }
+        ensures held { Self.held self.new ≡ Self.held self.old }
+        ensures failed { Self.failed self.new ≡ Self.failed self.old }
+    {}
+}
+
+// Of a folder that is not counted nothing is told.
+impl<'a, R: Files> ToldFolders for DirShelf<'a, R> {}
+
+impl ToldFolders for MemShelf {}

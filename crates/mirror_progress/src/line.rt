@@ -1,0 +1,222 @@
+//! The lines that tell how far the work is.
+ghost use Rattle.std.specs.Prelude.{◌≡◌, ◌∷◌, ◌++◌, IfOk, OnOk};
+ghost use Rattle.mirror_progress.specs.Text.{comma_before, with_commas, count_text, files_text, size_text, task_text, counts_text, progress_text, older_text, grown_text, pulled_text, line_of, IsLine};
+
+use crate::counts::Counts;
+use crate::task::Task;
+use std::alloc::{AllocError, Global};
+
+// How many columns a line has at most.
+const COLUMNS: usize = 79;
+
+/// How far the work of a command is, as one line of at most 80 bytes with its newline: how many files were fetched or
+/// put, and how many they are in all, or where that is not known how many bytes those have. The bytes are told in the
+/// largest decimal unit of which there is one, rounded down.
+///
+/// ```text
+/// progress_line(alloc, Task::Pull, None, counts)           // pull: 1,024 files, 23 MB
+/// progress_line(alloc, Task::Export, Some(7_833), counts)  // export: 3,200 of 7,833 files
+/// ```
+///
+/// # Errors
+///
+/// Memory was refused.
+pub fn progress_line(
+    alloc: Global,
+    task: Task,
+    all: Option<u64>,
+    counts: Counts,
+) -> Result<Vec<u8>, AllocError>
+    ensures text { IfOk result (λ line. line.items ≡ line_of (progress_text task all counts)) }
+    ensures line { IfOk result (λ line. IsLine line.items) }
+{
+    let mut line = Vec::new(alloc);
+    push_progress(alloc, &mut line, task, all, counts)?;
+    end_line(&mut line)?;
+    Ok(line)
+}
+
+/// What a pull came to, as such a line, where the largest checkpoint that was held before it had so many entries, none
+/// being held as one of no entries, and the one that was pulled has so many.
+///
+/// ```text
+/// pulled_line(alloc, 5_000, 5_300, counts)  // pull: 5,000 to 5,300 entries, 4 files, 91 kB
+/// pulled_line(alloc, 5_300, 5_000, counts)  // pull: checkpoint of 5,000 entries, older than one held of 5,300
+/// ```
+///
+/// # Errors
+///
+/// Memory was refused.
+pub fn pulled_line(
+    alloc: Global,
+    held: u64,
+    size: u64,
+    counts: Counts,
+) -> Result<Vec<u8>, AllocError>
+    ensures text { IfOk result (λ line. line.items ≡ line_of (pulled_text held size counts)) }
+    ensures line { IfOk result (λ line. IsLine line.items) }
+{
+    let mut line = Vec::new(alloc);
+    push_pulled(alloc, &mut line, held, size, counts)?;
+    end_line(&mut line)?;
+    Ok(line)
+}
+
+// Cuts a text to what a line has room for, and ends it.
+fn end_line(text: &mut Vec<u8>) -> Result<(), AllocError>
+    ensures { OnOk result (text.new.items ≡ line_of text.old.items) }
+{
+    text.truncate(COLUMNS);
+    text.push(b'\n')?;
+    Ok(())
+}
+
+fn push_progress(
+    alloc: Global,
+    text: &mut Vec<u8>,
+    task: Task,
+    all: Option<u64>,
+    counts: Counts,
+) -> Result<(), AllocError>
+    ensures { OnOk result (text.new.items ≡ text.old.items ++ progress_text task all counts) }
+{
+    push_task(text, task)?;
+    match all {
+        None => push_counts(alloc, text, counts),
+        Some(all) => {
+            push_count(alloc, text, counts.files)?;
+            text.extend_from_slice(b" of ")?;
+            push_files(alloc, text, all)
+        }
+    }
+}
+
+fn push_pulled(
+    alloc: Global,
+    text: &mut Vec<u8>,
+    held: u64,
+    size: u64,
+    counts: Counts,
+) -> Result<(), AllocError>
+    ensures { OnOk result (text.new.items ≡ text.old.items ++ pulled_text held size counts) }
+{
+    if size < held {
+        push_older(alloc, text, size, held)
+    } else {
+        push_grown(alloc, text, held, size, counts)
+    }
+}
+
+// That the checkpoint is older than one that is held.
+fn push_older(alloc: Global, text: &mut Vec<u8>, size: u64, held: u64) -> Result<(), AllocError>
+    ensures { OnOk result (text.new.items ≡ text.old.items ++ older_text size held) }
+{
+    text.extend_from_slice(b"pull: checkpoint of ")?;
+    push_count(alloc, text, size)?;
+    text.extend_from_slice(b" entries, older than one held of ")?;
+    push_count(alloc, text, held)
+}
+
+// From how many entries to how many the pull came, and how much it fetched.
+fn push_grown(
+    alloc: Global,
+    text: &mut Vec<u8>,
+    held: u64,
+    size: u64,
+    counts: Counts,
+) -> Result<(), AllocError>
+    ensures { OnOk result (text.new.items ≡ text.old.items ++ grown_text held size counts) }
+{
+    text.extend_from_slice(b"pull: ")?;
+    push_count(alloc, text, held)?;
+    text.extend_from_slice(b" to ")?;
+    push_count(alloc, text, size)?;
+    text.extend_from_slice(b" entries, ")?;
+    push_counts(alloc, text, counts)
+}
+
+fn push_task(text: &mut Vec<u8>, task: Task) -> Result<(), AllocError>
+    ensures { OnOk result (text.new.items ≡ text.old.items ++ task_text task) }
+{
+    match task {
+        Task::Build => text.extend_from_slice(b"build: "),
+        Task::Pull => text.extend_from_slice(b"pull: "),
+        Task::Export => text.extend_from_slice(b"export: "),
+    }
+}
+
+// How many files, and their bytes.
+fn push_counts(alloc: Global, text: &mut Vec<u8>, counts: Counts) -> Result<(), AllocError>
+    ensures { OnOk result (text.new.items ≡ text.old.items ++ counts_text counts) }
+{
+    push_files(alloc, text, counts.files)?;
+    text.extend_from_slice(b", ")?;
+    push_size(alloc, text, counts.bytes)
+}
+
+fn push_files(alloc: Global, text: &mut Vec<u8>, n: u64) -> Result<(), AllocError>
+    ensures { OnOk result (text.new.items ≡ text.old.items ++ files_text n) }
+{
+    if n == 1 {
+        text.extend_from_slice(b"1 file")
+    } else {
+        push_amount(alloc, text, n, b" files")
+    }
+}
+
+// So many bytes, in the largest unit of which there is one.
+fn push_size(alloc: Global, text: &mut Vec<u8>, n: u64) -> Result<(), AllocError>
+    ensures { OnOk result (text.new.items ≡ text.old.items ++ size_text n) }
+{
+    if n < 1_000 {
+        push_amount(alloc, text, n, b" B")
+    } else if n < 1_000_000 {
+        push_amount(alloc, text, n / 1_000, b" kB")
+    } else if n < 1_000_000_000 {
+        push_amount(alloc, text, n / 1_000_000, b" MB")
+    } else if n < 1_000_000_000_000 {
+        push_amount(alloc, text, n / 1_000_000_000, b" GB")
+    } else {
+        push_amount(alloc, text, n / 1_000_000_000_000, b" TB")
+    }
+}
+
+// A number, and what there is so much of.
+fn push_amount(alloc: Global, text: &mut Vec<u8>, n: u64, unit: &[u8]) -> Result<(), AllocError>
+    ensures { OnOk result (text.new.items ≡ text.old.items ++ (count_text n ++ unit.now)) }
+{
+    push_count(alloc, text, n)?;
+    text.extend_from_slice(unit)
+}
+
+// A number in decimal digits, in groups of three.
+fn push_count(alloc: Global, text: &mut Vec<u8>, n: u64) -> Result<(), AllocError>
+    ensures { OnOk result (text.new.items ≡ text.old.items ++ count_text n) }
+{
+    let digits = format!(in alloc; "{n}")?;
+    push_with_commas(text, digits.as_bytes())
+}
+
+// Digits in groups of three.
+#[tactic(auto, using(crate::proofs::Commas::commas_more))]
+fn push_with_commas(text: &mut Vec<u8>, digits: &[u8]) -> Result<(), AllocError>
+    ensures { OnOk result (text.new.items ≡ text.old.items ++ with_commas digits.now) }
+{
+    let mut rest = digits;
+    while let Some((digit, after)) = rest.split_first() {
+        push_digit(text, *digit, after.len())?;
+        rest = after;
+    }
+    Ok(())
+}
+
+// A digit that so many others follow, and the comma behind it.
+fn push_digit(text: &mut Vec<u8>, digit: u8, left: usize) -> Result<(), AllocError>
+    ensures { OnOk result (text.new.items ≡ text.old.items ++ digit ∷ comma_before left) }
+{
+    text.push(digit)?;
+    if left > 0 && left % 3 == 0 {
+        text.push(b',')?;
+    }
+    Ok(())
+}

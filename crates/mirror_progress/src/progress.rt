@@ -1,0 +1,176 @@
+//! What is told of long work, and when.
+ghost use Rattle.std.specs.Prelude.{◌≡◌, ℕ, ◌≤◌, ◌↔◌, None, Some, IsTrue, is_some, option_map};
+ghost use Rattle.std.specs.Duration.{as_nanos};
+ghost use Rattle.std.specs.Time.{instant_nanos};
+ghost use Rattle.byte_streams.specs.Streams.{AppendsPrefix};
+ghost use Rattle.mirror_progress.specs.Text.{with_file, line_of, progress_text, pulled_text};
+ghost use Rattle.mirror_progress.specs.Telling.{IsDue, IsSecondAfter, TellsAt, TellsOnce, told_line};
+
+use crate::counts::Counts;
+use crate::line::{progress_line, pulled_line};
+use crate::task::Task;
+use byte_streams::write_whole;
+use std::alloc::{AllocError, Global};
+use std::io::Write;
+use std::marker::Model;
+use std::time::{Clock, Duration, Instant};
+
+// A line may be written so many seconds after the last, or after the work began.
+const SECONDS: u64 = 1;
+
+/// Tells how far long work is, by a line now and then: none in the first second, and at most one a second.
+///
+/// It tells nothing until `begin`. Where the clock cannot be read, memory for a line is refused or the writer does not take
+/// it, the line is passed over.
+///
+/// ```text
+/// let mut progress = Progress::new(alloc, &rt, StandardError::new(&rt));
+/// progress.begin(Task::Export);
+/// progress.expect(7_833);
+/// progress.count(96); // once a second has passed: export: 3,200 of 7,833 files
+/// ```
+#[derive(Drop)]
+pub struct Progress<C: Clock + Drop, W: Write + Drop> {
+    alloc: Global,
+    clock: C,
+    writer: W,
+    task: Task,
+    all: Option<u64>,
+    counts: Counts,
+    due: Option<Instant>,
+}
+
+impl<C: Clock + Drop, W: Write + Drop> Model for Progress<C, W> {
+    ghost use Rattle.std.specs.Prelude.{option_map};
+    ghost use Rattle.std.specs.Time.{instant_nanos};
+    ghost use Rattle.mirror_progress.specs.Telling.{Telling};
+
+    ghost Value = { Telling W };
+
+    ghost view = { λ p. record { writer = p.writer; task = p.task; all = p.all; counts = p.counts; due = option_map instant_nanos p.due } };
+}
+
+// Whether a line may be written at that time.
+fn is_due(due: Option<Instant>, now: Instant) -> bool
+    ensures { IsTrue result ↔ IsDue (option_map instant_nanos due) (instant_nanos now) }
+{
+    match due {
+        None => false,
+        Some(due) => due.saturating_duration_since(now).is_zero(),
+    }
+}
+
+// When the next line may be written, where one was at that time or the work began.
+fn next_due(now: Instant) -> Option<Instant>
+    ensures { IsSecondAfter (instant_nanos now) (option_map instant_nanos result) }
+{
+    now.checked_add(Duration::from_secs(SECONDS))
+}
+
+// Writes a line, as far as the writer takes it.
+fn write_line<W: Write>(writer: &mut W, line: &[u8])
+    ensures { AppendsPrefix (W.contents writer.old) (W.contents writer.new) line.now }
+{
+    match write_whole(writer, line) {
+        Ok(()) | Err(_) => (),
+    }
+}
+
+impl<C: Clock + Drop, W: Write + Drop> Progress<C, W> {
+    /// It tells nothing yet. It takes no memory.
+    pub fn new(alloc: Global, clock: C, writer: W) -> Self
+        ensures writer { result.writer ≡ writer }
+        ensures silent { result.due ≡ None }
+        ensures files { result.counts.files ≡ 0 }
+        ensures bytes { result.counts.bytes ≡ 0 }
+    {
+        Progress {
+            alloc,
+            clock,
+            writer,
+            task: Task::Pull,
+            all: None,
+            counts: Counts::new(),
+            due: None,
+        }
+    }
+
+    /// Begins to tell of the work of a command, of which nothing is done yet.
+    pub fn begin(&mut self, task: Task)
+        ensures task { self.new.task ≡ task }
+        ensures all { self.new.all ≡ None }
+        ensures files { self.new.counts.files ≡ 0 }
+        ensures bytes { self.new.counts.bytes ≡ 0 }
+        ensures writer { self.new.writer ≡ self.old.writer }
+    {
+        self.task = task;
+        self.all = None;
+        self.counts = Counts::new();
+        self.due = match Instant::now(&self.clock) {
+            Ok(now) => next_due(now),
+            Err(_) => None,
+        };
+    }
+
+    /// Whether anything is told: from `begin` on, where the clock can be read.
+    pub fn is_told(&self) -> bool
+        ensures { result ≡ is_some self.now.due }
+    {
+        self.due.is_some()
+    }
+
+    /// Says how many files the work is in all.
+    pub fn expect(&mut self, all: u64)
+        ensures { self.new ≡ record self.old { all = Some all } }
+    {
+        self.all = Some(all);
+    }
+
+    /// How much is done.
+    pub fn counts(&self) -> Counts
+        ensures { result ≡ self.now.counts }
+    {
+        self.counts
+    }
+
+    /// Counts a file of so many bytes, and tells of it, if it is time.
+    pub fn count(&mut self, len: usize)
+        ensures counted { self.new.counts ≡ with_file self.old.counts len }
+        ensures told { TellsOnce W.contents self.old self.new }
+    {
+        self.counts.add(len);
+        if !self.is_told() {
+            return;
+        }
+        match Instant::now(&self.clock) {
+            Ok(now) => self.tell_at(now),
+            Err(_) => {}
+        }
+    }
+
+    /// Tells what a pull came to, whatever the time is: from how many entries of the largest checkpoint that was held to how
+    /// many of the one that was pulled, or that this is older.
+    pub fn tell_pulled(&mut self, held: u64, size: u64)
+        ensures counts { self.new.counts ≡ self.old.counts }
+        ensures line { AppendsPrefix (W.contents self.old.writer) (W.contents self.new.writer) (line_of (pulled_text held size self.old.counts)) }
+    {
+        match pulled_line(self.alloc, held, size, self.counts) {
+            Ok(line) => write_line(&mut self.writer, &line),
+            Err(_) => {}
+        }
+    }
+
+    // Tells how much is done, if it is time.
+    fn tell_at(&mut self, now: Instant)
+        ensures { TellsAt W.contents (instant_nanos now) self.old self.new }
+    {
+        if !is_due(self.due, now) {
+            return;
+        }
+        self.due = next_due(now);
+        match progress_line(self.alloc, self.task, self.all, self.counts) {
+            Ok(line) => write_line(&mut self.writer, &line),
+            Err(_) => {}
+        }
+    }
+}

@@ -1,0 +1,91 @@
+//! A shelf that is counted.
+ghost use Rattle.std.specs.Prelude.{◌≡◌, IfOk, length};
+ghost use Rattle.mirror_folders.specs.Shelf.{TellsPut, CountsFailures};
+ghost use Rattle.mirror_progress.specs.Counting.{CountsPut};
+
+use crate::folders::ToldFolders;
+use crate::progress::Progress;
+use crate::task::Task;
+use mirror_folders::{NamedFolders, Shelf, ShelfError};
+use std::alloc::AllocError;
+use std::io::Write;
+use std::time::Clock;
+use tlog_tiles::Path;
+
+/// A shelf that puts onto another, and counts it: each file that is put, and its bytes. To contracts it is that shelf: what
+/// was put and its failures are those (`counted_shelf_law`). Where the other stands for folders by their names, so does it.
+///
+/// ```text
+/// let mut shelf = CountingShelf::new(DirShelf::new(&rt, alloc, "log"), progress);
+/// export(alloc, &mirror, &mut shelf)?;
+/// shelf.progress.counts() // Counts { files: 3, bytes: 401 }
+/// ```
+#[derive(Drop)]
+pub struct CountingShelf<S: Shelf + Drop, C: Clock + Drop, W: Write + Drop> {
+    /// The shelf that is counted.
+    pub shelf: S,
+    /// What is counted, and where it is told.
+    pub progress: Progress<C, W>,
+}
+
+impl<S: Shelf + Drop, C: Clock + Drop, W: Write + Drop> CountingShelf<S, C, W> {
+    /// That shelf, and what is told of it.
+    pub fn new(shelf: S, progress: Progress<C, W>) -> Self
+        ensures shelf { result.shelf ≡ shelf }
+        ensures progress { result.progress ≡ progress }
+    {
+        CountingShelf { shelf, progress }
+    }
+}
+
+impl<S: Shelf + Drop, C: Clock + Drop, W: Write + Drop> Shelf for CountingShelf<S, C, W> {
+    ghost puts = { λ s. S.puts s.shelf };
+
+    ghost failed = { λ s. S.failed s.shelf };
+
+    fn has(&mut self, path: &Path) -> Result<bool, ShelfError> {
+        self.shelf.has(path)
+    }
+
+    fn put(&mut self, path: &Path, bytes: &[u8]) -> Result<(), ShelfError>
+        ensures told { TellsPut (S.puts self.old.shelf) (S.puts self.new.shelf) (path.now, bytes.now) result }
+        ensures counted { CountsFailures (S.failed self.old.shelf) (S.failed self.new.shelf) result }
+        ensures counts { CountsPut (length bytes.now) self.old.progress.counts self.new.progress.counts result }
+    {
+        match self.shelf.put(path, bytes) {
+            Ok(()) => {
+                self.progress.count(bytes.len());
+                Ok(())
+            }
+            Err(fault) => Err(fault),
+        }
+    }
+
+    fn failures(&self) -> u64 {
+        self.shelf.failures()
+    }
+}
+
+impl<S: NamedFolders + Drop, C: Clock + Drop, W: Write + Drop> NamedFolders
+    for CountingShelf<S, C, W> {
+    ghost held = { λ s. S.held s.shelf };
+
+    fn open(&mut self, name: &str) -> Result<(), AllocError> {
+        self.shelf.open(name)
+    }
+}
+
+impl<S: NamedFolders + Drop, C: Clock + Drop, W: Write + Drop> ToldFolders
+    for CountingShelf<S, C, W> {
+    fn is_told(&self) -> bool {
+        self.progress.is_told()
+    }
+
+    fn begin(&mut self, task: Task) {
+        self.progress.begin(task);
+    }
+
+    fn expect(&mut self, files: u64) {
+        self.progress.expect(files);
+    }
+}

@@ -1,0 +1,76 @@
+//! A source that is counted.
+ghost use Rattle.std.specs.Prelude.{◌≡◌, IfOk, option_map, vec_len};
+ghost use Rattle.mirror_sources.specs.Source.{TellsGet, CountsGet, StaysWithin};
+ghost use Rattle.mirror_progress.specs.Counting.{CountsAnswer};
+
+use crate::progress::Progress;
+use mirror_sources::{Source, SourceFault};
+use std::io::Write;
+use std::time::Clock;
+use tlog_tiles::Path;
+
+/// A source that gives what another gives, and counts it: each file that is found, and its bytes. To contracts it is that
+/// source: its answers, what it was asked for and its failures are those (`counted_source_law`).
+///
+/// ```text
+/// let mut source = CountingSource::new(source, progress);
+/// let pulled = pull(alloc, &mut mirror, &keys, &mut source)?;
+/// source.progress.counts() // Counts { files: 4, bytes: 91_224 }
+/// ```
+#[derive(Drop)]
+pub struct CountingSource<S: Source + Drop, C: Clock + Drop, W: Write + Drop> {
+    /// The source that is counted.
+    pub source: S,
+    /// What is counted, and where it is told.
+    pub progress: Progress<C, W>,
+}
+
+impl<S: Source + Drop, C: Clock + Drop, W: Write + Drop> CountingSource<S, C, W> {
+    /// That source, and what is told of it.
+    pub fn new(source: S, progress: Progress<C, W>) -> Self
+        ensures source { result.source ≡ source }
+        ensures progress { result.progress ≡ progress }
+    {
+        CountingSource { source, progress }
+    }
+
+    /// The source that was counted, which is counted no more.
+    pub fn into_source(self) -> S
+        ensures { result ≡ self.source }
+    {
+        let CountingSource {
+            source,
+            progress: _counted,
+        } = self;
+        source
+    }
+}
+
+impl<S: Source + Drop, C: Clock + Drop, W: Write + Drop> Source for CountingSource<S, C, W> {
+    ghost may_answer = { λ s. S.may_answer s.source };
+
+    ghost asked = { λ s. S.asked s.source };
+
+    ghost failed = { λ s. S.failed s.source };
+
+    fn get(&mut self, path: &Path) -> Result<Option<Vec<u8>>, SourceFault>
+        ensures answer { IfOk result (λ bytes. S.may_answer self.old.source path.now (option_map (λ v. v.items) bytes)) }
+        ensures later { StaysWithin (S.may_answer self.old.source) (S.may_answer self.new.source) }
+        ensures told { TellsGet (S.asked self.old.source) (S.asked self.new.source) path.now result }
+        ensures counted { CountsGet (S.failed self.old.source) (S.failed self.new.source) result }
+        ensures counts { CountsAnswer vec_len self.old.progress.counts self.new.progress.counts result }
+    {
+        match self.source.get(path) {
+            Ok(Some(bytes)) => {
+                self.progress.count(bytes.len());
+                Ok(Some(bytes))
+            }
+            Ok(None) => Ok(None),
+            Err(fault) => Err(fault),
+        }
+    }
+
+    fn failures(&self) -> u64 {
+        self.source.failures()
+    }
+}

@@ -1,0 +1,13 @@
+//! The commands whose work is told.
+
+/// A command whose work is told.
+/// `Task::Pull`, for example, tells of the files that it fetched.
+#[derive(Debug, Drop, PartialEq, Eq, Clone, Copy)]
+pub enum Task {
+    /// A log is built, and its files are put.
+    Build,
+    /// Files are fetched.
+    Pull,
+    /// Files are put.
+    Export,
+}

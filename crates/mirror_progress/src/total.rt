@@ -1,0 +1,65 @@
+//! How many files are put in all.
+ghost use Rattle.std.specs.Prelude.{◌≡◌, ◌≢◌, ◌↔◌, ◌+◌, ◌^◌, ◌≤◌, length, IsTrue};
+ghost use Rattle.tlog_shape.specs.Edge.{width_of, edge_index_of};
+ghost use Rattle.mirror_folders.specs.Since.{since_paths, width_at};
+ghost use Rattle.mirror_progress.specs.Total.{new_at, new_below, new_partial};
+
+use tlog_shape::{edge_index, edge_width};
+
+/// How many files an export puts of a log of so many entries, the checkpoint among them; where the folder has those of the
+/// first entries, as many as `since`, how many an update puts. A folder that is empty has those of no entries.
+///
+/// ```text
+/// files_to_put(1_000_000, 0)          // 7,832
+/// files_to_put(1_000_100, 1_000_000)  // 3: tile/0/x003/906.p/164, the bundle below it, and the checkpoint
+/// ```
+pub fn files_to_put(size: u64, since: u64) -> u64
+    ensures { result ≡ length (since_paths since size) }
+{
+    let mut tiles = 0;
+    for level in 0..8u32 {
+        tiles += new_files(size, since, level);
+    }
+    tiles + new_files(size, since, 0) + 1
+}
+
+// How many files of a level are put.
+#[tactic(auto, using(crate::proofs::Totals::new_fits))]
+fn new_files(size: u64, since: u64, level: u32) -> u64
+    requires { level ≤ 7 }
+    ensures files { result ≡ new_at since size level }
+    ensures few { result ≤ 2 ^ 57 }
+{
+    let full = edge_index(size, level).saturating_sub(edge_index(since, level));
+    full + new_edge(size, since, level)
+}
+
+// Whether the partial file of a level is put: 1 where it is.
+fn new_edge(size: u64, since: u64, level: u32) -> u64
+    requires { level ≤ 7 }
+    ensures { result ≡ new_partial since size level }
+{
+    let width = edge_width(size, level);
+    if width == 0 {
+        return 0;
+    }
+    if width == place_width(since, level, edge_index(size, level)) {
+        return 0;
+    }
+    1
+}
+
+// The width that the file of that level and index has in a tree of that size, 0 where there is none.
+fn place_width(size: u64, level: u32, index: u64) -> u32
+    requires { level ≤ 7 }
+    ensures { result ≡ width_at size level index }
+{
+    let full = edge_index(size, level);
+    if index < full {
+        return 256;
+    }
+    if index == full {
+        return edge_width(size, level);
+    }
+    0
+}

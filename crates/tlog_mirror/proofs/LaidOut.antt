@@ -1,0 +1,21 @@
+-- What is laid out is what is served.
+use Rattle.std.proofs.Common.{ℕ, List, Some}
+use Rattle.mirror_model.specs.View.{View}
+use Rattle.mirror_model.specs.Complete.{IsTreeOf}
+use Rattle.tlog_mirror.specs.Kept.{note_bytes}
+use Rattle.tlog_mirror.specs.LaidOut.{IsLaidOut}
+use Rattle.tlog_mirror.specs.Tops.{IsServedAs}
+use Rattle.tlog_mirror.specs.declared.kept.KeptNote.{KeptNote}
+
+-- the note that is served, with the entries of its tree as they were found
+pub laid_anew :
+    (digest : List ℕ → List ℕ) (v : View) (kept : KeptNote) (entries : List (List ℕ)) →
+    IsServedAs digest v (note_bytes kept) kept.size kept.root →
+    IsTreeOf digest v.strings kept.size kept.root entries → IsLaidOut digest v (Some (kept, entries))
+laid_anew digest v kept entries is tree = record {
+  holds = is.served.holds;
+  tree = tree;
+  greatest_size = is.served.greatest_size;
+  least_root = is.served.least_root;
+  least_note = is.served.least_note;
+}

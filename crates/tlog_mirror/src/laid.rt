@@ -1,0 +1,92 @@
+//! What is served, laid out in memory.
+ghost use Rattle.std.specs.Prelude.{◌≡◌, length, IfOk, IfSome, IfNone};
+ghost use Rattle.tlog_tiles.specs.Tiles.{IsTileWithin, tile_bytes, bundle_bytes};
+ghost use Rattle.tlog_mirror.specs.LaidOut.{IsLaidOut};
+
+use crate::kept::KeptNote;
+use crate::mirror::Mirror;
+use mirror_trees::files_of;
+use std::alloc::{AllocError, Global};
+use tlog_files::LogFiles;
+use tlog_hash::TreeHash;
+
+impl<H: TreeHash> Mirror<H> {
+    /// Lays out what is served, so that each of its tiles and bundles is one piece of memory: 43 bytes for each entry, and
+    /// the entry itself once more. It changes no answer.
+    ///
+    /// A take or a merge lets it go, unless it is refused before it comes to what is held. Nothing is laid out where nothing is
+    /// served, and where it would take more bytes than the strings that are held, as of 2^62 entries of which few nodes are
+    /// different.
+    ///
+    /// ```text
+    /// mirror.settle(alloc)?;
+    /// mirror.lay_out(alloc)?;
+    /// mirror.tile(alloc, 0, 0, 256)?   // a copy of one piece
+    /// ```
+    ///
+    /// # Errors
+    ///
+    /// Memory was refused. What is served is then looked up among the strings, as before.
+    pub fn lay_out(&mut self, alloc: Global) -> Result<(), AllocError>
+        ensures view { self.new.view ≡ self.old.view }
+        ensures remembered { self.new.remembered ≡ self.old.remembered }
+    {
+        if self.laid.is_none() {
+            let laid = self.laid_now(alloc)?;
+            self.laid = laid;
+        }
+        Ok(())
+    }
+
+    // What is served, laid out anew. None where nothing is served, or there is no room for it.
+    fn laid_now(&self, alloc: Global) -> Result<Option<(KeptNote, LogFiles<H>)>, AllocError>
+        ensures { IfOk result (λ laid. IsLaidOut H.digest self.now.view laid) }
+    {
+        if !self.has_room(alloc)? {
+            return Ok(None);
+        }
+        let Some(served) = self.served_note() else {
+            return Ok(None);
+        };
+        let Some(files) = files_of(alloc, &self.strings, served.size, &served.root)? else {
+            return Ok(None);
+        };
+        let note = served.copy(alloc)?;
+        Ok(Some((note, files)))
+    }
+}
+
+// The bytes of a tile of the files.
+pub(crate) fn laid_tile<H: TreeHash>(
+    alloc: Global,
+    files: &LogFiles<H>,
+    level: u32,
+    index: u64,
+    width: u32,
+) -> Result<Option<Vec<u8>>, AllocError>
+    ensures some { IfOk result (λ o. IfSome o (λ bytes. bytes.items ≡ tile_bytes H.digest files.now level index width)) }
+    ensures within { IfOk result (λ o. IfSome o (λ bytes. IsTileWithin (length files.now) level index width)) }
+    ensures none { IfOk result (λ o. IfNone o (¬ IsTileWithin (length files.now) level index width)) }
+{
+    let Some(piece) = files.tile(level, index, width) else {
+        return Ok(None);
+    };
+    Ok(Some(Vec::from_slice(alloc, piece)?))
+}
+
+// The bytes of a bundle of the files.
+pub(crate) fn laid_bundle<H: TreeHash>(
+    alloc: Global,
+    files: &LogFiles<H>,
+    index: u64,
+    width: u32,
+) -> Result<Option<Vec<u8>>, AllocError>
+    ensures some { IfOk result (λ o. IfSome o (λ bytes. bytes.items ≡ bundle_bytes files.now index width)) }
+    ensures within { IfOk result (λ o. IfSome o (λ bytes. IsTileWithin (length files.now) 0 index width)) }
+    ensures none { IfOk result (λ o. IfNone o (¬ IsTileWithin (length files.now) 0 index width)) }
+{
+    let Some(piece) = files.bundle(index, width) else {
+        return Ok(None);
+    };
+    Ok(Some(Vec::from_slice(alloc, piece)?))
+}

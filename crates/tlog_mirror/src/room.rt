@@ -1,0 +1,53 @@
+//! Whether there is room to lay out what is served.
+use crate::mirror::Mirror;
+use crate::top_ranges::TopRanges;
+use node_store::{Store, Tagged};
+use std::alloc::{AllocError, Global};
+use tlog_hash::TreeHash;
+use tlog_proof::Ranges;
+
+impl<H: TreeHash> Mirror<H> {
+    // Whether something is served that takes no more bytes, laid out, than the strings that are held. Entries that are all
+    // different do not. But a log can sign a head of 2^62 entries of which few nodes are different.
+    pub(crate) fn has_room(&self, alloc: Global) -> Result<bool, AllocError> {
+        let Some(top) = self.top_ranges() else {
+            return Ok(false);
+        };
+        is_within(alloc, &top, room_of(&self.strings))
+    }
+}
+
+// Whether all entries take so many bytes at most: each its own in its bundle, and some 40 more of hashes and places.
+fn is_within<H: TreeHash>(
+    alloc: Global,
+    top: &TopRanges<'_, H>,
+    most: u64,
+) -> Result<bool, AllocError> {
+    let size = top.size();
+    let mut left = most;
+    for index in 0..size / 256 + 1 {
+        let width = (size - 256 * index).min(256) as u32;
+        let Some(bundle) = top.bundle(alloc, index, width)? else {
+            return Ok(true);
+        };
+        let taken = (bundle.len() as u64).saturating_add(40 * u64::from(width));
+        if taken > left {
+            return Ok(false);
+        }
+        left -= taken;
+    }
+    Ok(true)
+}
+
+// How many bytes the strings take: an entry its own, a pair its two hashes, and each some 64 of its place.
+fn room_of<H: TreeHash>(strings: &Store<H>) -> u64 {
+    let mut room = 0u64;
+    for string in strings.iter() {
+        let bytes = match string {
+            Tagged::Leaf(entry) => entry.len() as u64,
+            Tagged::Pair(_, _) => 64,
+        };
+        room = room.saturating_add(bytes).saturating_add(64);
+    }
+    room
+}
