@@ -2,11 +2,11 @@
 ghost use Rattle.std.specs.Iterator.{YieldsFirstBy, item_count};
 ghost use Rattle.node_store.specs.Strings.{string_of};
 
+use crate::key::DigestKey;
 use crate::pool::{Slot, borrow_string};
 use crate::strings::Tagged;
 use std::collections::hash_map::Values;
 use std::marker::Model;
-use tlog_hash::Hash;
 
 /// Goes over the strings of a store, each once. The order is open.
 ///
@@ -14,7 +14,7 @@ use tlog_hash::Hash;
 /// is copied.
 #[derive(Drop)]
 pub struct Iter<'a> {
-    left: Values<'a, Hash, Slot>,
+    left: Values<'a, DigestKey, Slot>,
     pool: &'a [u8],
 }
 
@@ -35,7 +35,7 @@ impl<'a> Iter<'a> {
     ghost use Rattle.node_store.specs.Slots.{held_strings, AllWithin};
 
     // The strings of what is left, all of them within the pool.
-    pub(crate) fn new(left: Values<'a, Hash, Slot>, pool: &'a [u8]) -> Self
+    pub(crate) fn new(left: Values<'a, DigestKey, Slot>, pool: &'a [u8]) -> Self
         requires { AllWithin pool.now left }
         ensures { result ≡ held_strings pool.now left.entry }
     {

@@ -6,6 +6,7 @@ ghost use Rattle.std.specs.HashMap.{IsReordered, IsUnique, spare};
 ghost use Rattle.node_store.specs.Strings.{string_of};
 ghost use Rattle.node_store.specs.Slots.{bytes_at, held_string, end_of, IsSized, pooled_bytes};
 
+use crate::key::DigestKey;
 use crate::strings::Tagged;
 use std::alloc::AllocError;
 use std::collections::HashMap;
@@ -48,7 +49,7 @@ pub(crate) fn borrow_string<'a>(slot: &'a Slot, pool: &'a [u8]) -> Tagged<'a>
 
 // Makes room for a string that is new, and changes nothing else.
 pub(crate) fn make_room(
-    held: &mut HashMap<Hash, Slot>,
+    held: &mut HashMap<DigestKey, Slot>,
     pool: &mut Vec<u8>,
     string: Tagged,
 ) -> Result<(), AllocError>

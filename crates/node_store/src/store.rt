@@ -7,10 +7,11 @@ ghost use Rattle.node_store.specs.Slots.{AllKeyed};
 ghost use Rattle.tlog_hash.specs.Tree.{joined};
 
 use crate::iter::Iter;
+use crate::key::DigestKey;
 use crate::keyed::KeyedStrings;
 use crate::pool::{Slot, borrow_string, keep, make_room};
 use crate::strings::{Tagged, digest_of, is_same};
-use std::alloc::Global;
+use std::alloc::{AllocError, Global};
 use std::collections::HashMap;
 use std::marker::{Model, PhantomData};
 use thiserror::Error;
@@ -43,7 +44,7 @@ pub enum AddFault {
 // entries one after the other. So an entry costs no allocation of its own, and is borrowed in place.
 #[derive(Drop)]
 pub struct Store<H: TreeHash> {
-    held: HashMap<Hash, Slot>,
+    held: HashMap<DigestKey, Slot>,
     pool: Vec<u8>,
     by: PhantomData<H>,
 }
@@ -74,6 +75,21 @@ impl<H: TreeHash> Store<H> {
             pool: Vec::new(alloc),
             by: PhantomData,
         }
+    }
+
+    /// A store of no strings, with places for so many: adding them moves none that is held. The bytes of entries have no
+    /// room yet.
+    ///
+    /// # Errors
+    ///
+    /// Memory was refused.
+    pub fn with_capacity(alloc: Global, strings: usize) -> Result<Self, AllocError>
+        ensures { IfOk result (λ store. store ≡ set.empty) }
+    {
+        let held = HashMap::with_capacity(alloc, strings)?;
+        let pool = Vec::new(alloc);
+        let by = PhantomData;
+        Ok(Self { held, pool, by })
     }
 
     /// Adds a string. One that is held already is passed over, and takes no memory.
@@ -133,14 +149,14 @@ impl<H: TreeHash> Store<H> {
                     Err(AddFault::Collision)
                 }
             }
-            None => self.add_new(*digest, string),
+            None => self.add_new(digest, string),
         }
     }
 
     // Adds a string whose digest is new. All growth comes before any change.
-    fn add_new(&mut self, digest: Hash, string: Tagged) -> Result<(), AddFault>
-        requires digest { digest ≡ H.digest (string_of string) }
-        requires new { (s : List ℕ) → Has self.old s → H.digest s ≢ digest }
+    fn add_new(&mut self, digest: &Hash, string: Tagged) -> Result<(), AddFault>
+        requires digest { digest.now ≡ H.digest (string_of string) }
+        requires new { (s : List ℕ) → Has self.old s → H.digest s ≢ digest.now }
         ensures ok { OnOk result (self.new ≡ set.insert self.old (string_of string.entry)) }
         ensures err { OnErr result (self.new ≡ self.old) }
         ensures memory { result ≢ Err AddFault.Collision }
@@ -151,7 +167,7 @@ impl<H: TreeHash> Store<H> {
             return Err(AddFault::OutOfMemory);
         };
         let held = keep(&mut self.pool, string);
-        let Ok(_) = self.held.insert(digest, held) else {
+        let Ok(_) = self.held.insert(DigestKey::new(digest), held) else {
             unreachable!()
         };
         Ok(())
@@ -305,7 +321,7 @@ impl<H: TreeHash> Store<H> {
         ensures no_clash { NoClash H.digest self.now }
         ensures tagged { AllTagged self.now }
     {
-        match self.held.get(digest) {
+        match self.held.get(&DigestKey::new(digest)) {
             Some(slot) => Some(borrow_string(slot, self.pool.as_slice())),
             None => None,
         }
