@@ -42,10 +42,14 @@ pub fn is_built<H: TreeHash>(store: &Store<H>, known: &Known, size: u64, root: &
     is_built(store, known, size - k, &right)
 }
 
-// Whether that tree is held, as `is_built` answers it. What it finds held whole it notes among what is known, but for
-// trees of few entries, and does not walk into again. So its time goes by the number of different trees, and not by that
-// of entries. Memory may be refused; what was known before is known still.
-pub(crate) fn check_built<H: TreeHash>(
+/// Whether that tree is held, as `is_built` answers it. What it finds held whole it notes among what is known, but for
+/// trees of few entries, and no later walk goes into that again. So its time goes by the number of different trees, and
+/// not by that of entries.
+///
+/// # Errors
+///
+/// `AllocError` comes only where a growth was refused. What was known before is known still.
+pub fn check_built<H: TreeHash>(
     store: &Store<H>,
     known: &mut Known,
     size: u64,

@@ -9,7 +9,7 @@ use std::alloc::{AllocError, Global};
 use tlog_hash::Hash;
 
 // The number of entries from which on a tree that is found held is noted. A walk through a smaller one is short.
-pub(crate) const MANY: u64 = 256;
+pub(crate) const MANY: u64 = 32;
 
 /// What is known of the trees of a store, so that no walk goes into them.
 ///

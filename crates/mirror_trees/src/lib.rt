@@ -21,6 +21,7 @@ mod edge;
 mod files;
 mod known;
 mod laws;
+mod mark_key;
 mod marks;
 mod missing;
 mod prefix;
@@ -29,7 +30,7 @@ mod rows;
 mod settling;
 
 pub use building::{add_above, add_entries, add_row};
-pub use built::is_built;
+pub use built::{check_built, is_built};
 pub use bundle::entries_at;
 pub use edge::holds_edge;
 pub use files::files_of;

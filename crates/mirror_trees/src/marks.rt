@@ -3,6 +3,7 @@ ghost use Rattle.std.specs.Prelude.{◌≡◌, ◌↔◌, ℕ, List, IsTrue, OnO
 ghost use Rattle.std.specs.FinSet as set;
 ghost use Rattle.mirror_trees.specs.Known.{HasMark};
 
+use crate::mark_key::MarkKey;
 use std::alloc::{AllocError, Global};
 use std::collections::HashSet;
 use std::marker::Model;
@@ -17,7 +18,7 @@ use tlog_hash::Hash;
 /// ```
 #[derive(Drop)]
 pub struct Marks {
-    points: HashSet<(u64, Hash)>,
+    points: HashSet<MarkKey>,
 }
 
 impl Model for Marks {
@@ -51,7 +52,7 @@ impl Marks {
         ensures ok { OnOk result (self.new ≡ set.insert self.old (record { size = size; root = root.now })) }
         ensures err { OnErr result (self.new ≡ self.old) }
     {
-        let Ok(_) = self.points.insert((size, *root)) else {
+        let Ok(_) = self.points.insert(MarkKey::new(size, root)) else {
             return Err(AllocError);
         };
         Ok(())
@@ -68,6 +69,6 @@ impl Marks {
     pub fn contains(&self, size: u64, root: &Hash) -> bool
         ensures { IsTrue result ↔ HasMark self.now (record { size = size; root = root.now }) }
     {
-        self.points.contains(&(size, *root))
+        self.points.contains(&MarkKey::new(size, root))
     }
 }

@@ -6,5 +6,5 @@ use Rattle.mirror_trees.proofs.marks.Marks.add.Goals as goal
 
 pub returns-clause-ok : goal.returns-clause-ok
 returns-clause-ok c =
-    add_point c.self.inside.points.keys c.insert.new.self.keys (c.args.size, c.args.root.now) c.in-Ok.ensures.updates.0
-    ∙ ap (λ v. set.insert v (point_of (c.args.size, c.args.root.now))) c.self.view_is
+    add_point c.self.inside.points.keys c.insert.new.self.keys c.new.result c.in-Ok.ensures.updates.0
+    ∙ (λ i. set.insert (c.self.view_is i) (point_of (c.new.ensures i)))
