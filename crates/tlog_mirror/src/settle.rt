@@ -9,7 +9,7 @@ ghost use Rattle.tlog_mirror.specs.Settled.{GainsAny, HasSlicesOf};
 
 use crate::heads::points_of;
 use crate::mirror::Mirror;
-use mirror_trees::Known;
+use mirror_trees::{Known, check_built};
 use node_store::Store;
 use std::alloc::{AllocError, Global};
 use tlog_hash::{Hash, TreeHash};
@@ -35,6 +35,44 @@ impl<H: TreeHash> Mirror<H> {
         let heads = points_of(alloc, self.kept.as_slice())?;
         settle_all(&self.strings, &mut self.known, heads.as_slice())
     }
+
+    /// Notes of each head what is held of its tree, so that no later walk goes into that again. It changes no answer, and
+    /// remembers nothing.
+    ///
+    /// It is for a mirror that is asked once: it makes one walk and few notes, where `settle` makes two and remembers each
+    /// slice. Heads go by rising size, so that each costs a walk through what is new to it, and through few entries before.
+    ///
+    /// ```text
+    /// mirror.note_heads(alloc)?;
+    /// let heads = mirror.heads(alloc)?;
+    /// ```
+    ///
+    /// # Errors
+    ///
+    /// Memory was refused. What was noted before is noted still.
+    pub fn note_heads(&mut self, alloc: Global) -> Result<(), AllocError>
+        ensures view { self.new.view ≡ self.old.view }
+        ensures remembered { self.new.remembered ≡ self.old.remembered }
+    {
+        let heads = points_of(alloc, self.kept.as_slice())?;
+        note_all(&self.strings, &mut self.known, heads.as_slice())
+    }
+}
+
+// Notes what is held of these trees.
+fn note_all<H: TreeHash>(
+    store: &Store<H>,
+    known: &mut Known,
+    heads: &[(u64, Hash)],
+) -> Result<(), AllocError>
+    requires { AreKnown H.digest store.now known.old }
+    ensures known { AreKnown H.digest store.now known.new }
+    ensures remembered { known.new.remembered ≡ known.old.remembered }
+{
+    for head in heads {
+        let _ = check_built(store, known, head.0, &head.1)?;
+    }
+    Ok(())
 }
 
 // Remembers those of these trees that are held.

@@ -39,7 +39,9 @@ impl<H: TreeHash> Mirror<H> {
             Err(RowFault::RowLength) => return Err(TakeFault::RowLength),
             Err(RowFault::OutOfMemory) => return Err(TakeFault::OutOfMemory),
         };
-        let mut strings = Store::new(alloc);
+        let Ok(mut strings) = Store::with_capacity(alloc, row.len()) else {
+            return Err(TakeFault::OutOfMemory);
+        };
         match add_row::<H>(&mut strings, row.as_slice()) {
             Ok(_) => take_answer(self.add_strings(&strings)),
             Err(AddFault::Collision) => Err(TakeFault::Collision),
@@ -71,7 +73,9 @@ impl<H: TreeHash> Mirror<H> {
             Err(BundleFault::BundleLong) => return Err(TakeFault::BundleLong),
             Err(BundleFault::OutOfMemory) => return Err(TakeFault::OutOfMemory),
         };
-        let mut strings = Store::new(alloc);
+        let Ok(mut strings) = Store::with_capacity(alloc, 2 * width as usize) else {
+            return Err(TakeFault::OutOfMemory);
+        };
         match add_entries::<H>(&mut strings, entries.as_slice()) {
             Ok(_) => take_answer(self.add_strings(&strings)),
             Err(AddFault::Collision) => Err(TakeFault::Collision),

@@ -27,7 +27,7 @@ returns-in-Err-BundleLong-clause-takes g c = λ keys. (
 )
 
 pub add_entries-requires : goal.add_entries-requires
-add_entries-requires g c = empty_no_clash g.H.TreeHash.digest c.new-strings.result c.new-strings.ensures
+add_entries-requires g c = empty_no_clash g.H.TreeHash.digest c.in-Ok-with_capacity.strings c.in-Ok-with_capacity.ensures
 
 pub add_strings-requires-clause-short : goal.add_strings-requires-clause-short
 add_strings-requires-clause-short g c =
@@ -37,7 +37,7 @@ add_strings-requires-clause-short g c =
     gathered_short d item g.met.H.TreeHash.digest_length [] []
     (bundle_good c.args.width c.args.bytes.now w
     (map (λ e. e.now) c.in-Ok.entries.items) c.in-Ok.ensures) c.add_entries.new.store
-    (gathered c.new-strings.result c.add_entries.new.store _ _ c.new-strings.ensures c.in-Ok-add_entries.ensures.ok
+    (gathered c.in-Ok-with_capacity.strings c.add_entries.new.store _ _ c.in-Ok-with_capacity.ensures c.in-Ok-add_entries.ensures.ok
     (ap (λ (es : List (Bor (List ℕ))). strings d (map (λ e. e.now) es)) c.as_slice.ensures.value ∙
     bundle_strings_are d c.args.width c.args.bytes.now (map (λ e. e.now) c.in-Ok.entries.items) c.in-Ok.ensures))
 
@@ -49,7 +49,7 @@ returns-in-Ok-add_entries-clause-takes g c = λ keys.
     takes_added d item keys c.args.self.now.view
     (bundle_good c.args.width c.args.bytes.now w
     (map (λ e. e.now) c.in-Ok.entries.items) c.in-Ok.ensures) c.add_entries.new.store
-    (gathered c.new-strings.result c.add_entries.new.store _ _ c.new-strings.ensures c.in-Ok-add_entries.ensures.ok
+    (gathered c.in-Ok-with_capacity.strings c.add_entries.new.store _ _ c.in-Ok-with_capacity.ensures c.in-Ok-add_entries.ensures.ok
     (ap (λ (es : List (Bor (List ℕ))). strings d (map (λ e. e.now) es)) c.as_slice.ensures.value ∙
     bundle_strings_are d c.args.width c.args.bytes.now
     (map (λ e. e.now) c.in-Ok.entries.items) c.in-Ok.ensures)) refl c.add_strings.result c.take_answer.result c.take_answer.ensures
@@ -62,7 +62,7 @@ returns-in-Err-Collision-clause-takes g c = λ keys.
     let item = Bundle c.args.width c.args.bytes.now in
     takes_clashed d item keys c.args.self.now.view
     (bundle_good c.args.width c.args.bytes.now w
-    (map (λ e. e.now) c.in-Ok.entries.items) c.in-Ok.ensures) c.new-strings.result _ c.new-strings.ensures
+    (map (λ e. e.now) c.in-Ok.entries.items) c.in-Ok.ensures) c.in-Ok-with_capacity.strings _ c.in-Ok-with_capacity.ensures
     (ap (λ (es : List (Bor (List ℕ))). strings d (map (λ e. e.now) es)) c.as_slice.ensures.value ∙
     bundle_strings_are d c.args.width c.args.bytes.now (map (λ e. e.now) c.in-Ok.entries.items) c.in-Ok.ensures)
     (c.in-Err-Collision.ensures.collision (ap Err c.in-Err-Collision.field-0-is))

@@ -8,7 +8,7 @@ use Rattle.mirror_trees.proofs.EmptySets.{empty_no_clash}
 use Rattle.tlog_mirror.proofs.mirror.Mirror.take_tile.Goals as goal
 
 pub add_row-requires-clause-no_clash : goal.add_row-requires-clause-no_clash
-add_row-requires-clause-no_clash g c = empty_no_clash g.H.TreeHash.digest c.new-strings.result c.new-strings.ensures
+add_row-requires-clause-no_clash g c = empty_no_clash g.H.TreeHash.digest c.in-Ok-with_capacity.strings c.in-Ok-with_capacity.ensures
 
 pub add_strings-requires-clause-short : goal.add_strings-requires-clause-short
 add_strings-requires-clause-short g c =
@@ -17,7 +17,7 @@ add_strings-requires-clause-short g c =
     let item = Tile c.args.width c.args.bytes.now in
     gathered_short d item g.met.H.TreeHash.digest_length [] []
     (tile_good c.args.width c.args.bytes.now w c.in-Ok.row.items c.in-Ok.ensures) c.add_row.new.store
-    (gathered c.new-strings.result c.add_row.new.store _ _ c.new-strings.ensures c.in-Ok-add_row.ensures.ok
+    (gathered c.in-Ok-with_capacity.strings c.add_row.new.store _ _ c.in-Ok-with_capacity.ensures c.in-Ok-add_row.ensures.ok
     (ap (joins d) c.as_slice.ensures.value ∙
     tile_joins c.args.width c.args.bytes.now w d c.in-Ok.row.items c.in-Ok.ensures))
 
@@ -28,7 +28,7 @@ returns-in-Ok-add_row-clause-takes g c = λ keys.
     let item = Tile c.args.width c.args.bytes.now in
     takes_added d item keys c.args.self.now.view
     (tile_good c.args.width c.args.bytes.now w c.in-Ok.row.items c.in-Ok.ensures) c.add_row.new.store
-    (gathered c.new-strings.result c.add_row.new.store _ _ c.new-strings.ensures c.in-Ok-add_row.ensures.ok
+    (gathered c.in-Ok-with_capacity.strings c.add_row.new.store _ _ c.in-Ok-with_capacity.ensures c.in-Ok-add_row.ensures.ok
     (ap (joins d) c.as_slice.ensures.value ∙
     tile_joins c.args.width c.args.bytes.now w d c.in-Ok.row.items c.in-Ok.ensures)) refl c.add_strings.result
     c.take_answer.result c.take_answer.ensures c.add_strings.new.self.view c.add_strings.ensures.adds
@@ -40,7 +40,7 @@ returns-in-Err-Collision-clause-takes g c = λ keys.
     let item = Tile c.args.width c.args.bytes.now in
     takes_clashed d item keys c.args.self.now.view
     (tile_good c.args.width c.args.bytes.now w c.in-Ok.row.items c.in-Ok.ensures)
-    c.new-strings.result _ c.new-strings.ensures (ap (joins d) c.as_slice.ensures.value
+    c.in-Ok-with_capacity.strings _ c.in-Ok-with_capacity.ensures (ap (joins d) c.as_slice.ensures.value
     ∙ tile_joins c.args.width c.args.bytes.now w d c.in-Ok.row.items c.in-Ok.ensures)
     (c.in-Err-Collision.ensures.collision (ap Err c.in-Err-Collision.field-0-is))
 

@@ -1,0 +1,10 @@
+use Rattle.std.proofs.Common.{◌≡◌}
+use Rattle.mirror_trees.specs.Known.{AreKnown}
+use Rattle.tlog_mirror.proofs.settle.note_all.Given as goal
+
+-- what is known is held, and what is remembered stays
+abbrev pub invariant-loop-head : goal.invariant-loop-head
+invariant-loop-head g l = record {
+  known : AreKnown g.H.TreeHash.digest l.store l.known;
+  remembered : l.known.remembered ≡ l.fn.known.remembered;
+}
