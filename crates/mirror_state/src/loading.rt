@@ -234,12 +234,22 @@ fn add_listed<H: TreeHash>(
     Ok(())
 }
 
-// The set of the strings that are listed.
+// How many strings are listed. Each has its bytes in the text, so that no text makes room for more than it has.
+fn count_of(lists: &Lists) -> usize {
+    match lists {
+        Lists::Parted(_, _, pairs, entries) => pairs.len().saturating_add(entries.len()),
+        Lists::Tagged(_, _, strings) => strings.len(),
+    }
+}
+
+// The set of the strings that are listed, made at its final size.
 fn store_of<H: TreeHash>(alloc: Global, lists: &Lists) -> Result<Store<H>, AddFault>
     requires { AreListable (parts_of lists.now) }
     ensures { MakesStore H.digest (listed_strings (parts_of lists.now)) result }
 {
-    let mut store: Store<H> = Store::new(alloc);
+    let Ok(mut store) = Store::<H>::with_capacity(alloc, count_of(lists)) else {
+        return Err(AddFault::OutOfMemory);
+    };
     match add_lists(&mut store, lists) {
         Ok(()) => {}
         Err(fault) => return Err(fault),
