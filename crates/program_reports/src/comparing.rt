@@ -61,7 +61,7 @@ fn is_fork(one: &Compared) -> bool
 }
 
 /// Writes what `compare` tells of these heads, or where none are given of those that are held, and answers the exit
-/// status: 0, or 3 where one is told as a fork. The mirror settles first, so that no complete tree is walked twice.
+/// status: 0, or 3 where one is told as a fork. What is held of each head is noted first, so that no tree is walked twice.
 ///
 /// ```text
 /// print_comparison(alloc, &mut mirror, None, &mut output)?
@@ -83,7 +83,7 @@ pub fn print_comparison<H: TreeHash, W: Write>(
     ensures status { IfOk result (λ status. (status ≡ 0) ⊎ (status ≡ 3)) }
     ensures quiet { IfErr result (λ e. e ≢ AskFault.WriteFault → Keeps (W.contents output.old) (W.contents output.new)) }
 {
-    let report = match settled_comparison(alloc, mirror, heads) {
+    let report = match noted_comparison(alloc, mirror, heads) {
         Ok(report) => report,
         Err(fault) => return Err(AskFault::Report(fault)),
     };
@@ -93,15 +93,15 @@ pub fn print_comparison<H: TreeHash, W: Write>(
     }
 }
 
-// The report, of a mirror that settles first.
-fn settled_comparison<H: TreeHash>(
+// The report, of a mirror that notes first what is held of each head.
+fn noted_comparison<H: TreeHash>(
     alloc: Global,
     mirror: &mut Mirror<H>,
     heads: Option<&[(u64, Hash)]>,
 ) -> Result<Report, ReportFault>
     ensures { ReportsComparison H.digest mirror.old.view (option_map (λ given. given.now) heads.entry) result }
 {
-    match mirror.settle(alloc) {
+    match mirror.note_heads(alloc) {
         Ok(()) => compare_report(alloc, mirror, heads),
         Err(_) => Err(ReportFault::OutOfMemory),
     }

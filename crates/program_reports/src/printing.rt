@@ -23,7 +23,7 @@ pub(crate) fn write_report<W: Write>(output: &mut W, report: &Report) -> Result<
 }
 
 /// Writes the report on the question, of what the mirror holds, and answers the exit status: 0, or 3 where the answer is
-/// the other one. For heads, forks and proofs the mirror settles first, so that no complete tree is walked twice.
+/// the other one. For heads, forks and proofs the mirror notes first what is held of each head, so that no tree is walked twice.
 ///
 /// ```text
 /// print_report(alloc, &mut mirror, &Question::Forks, &mut output)?

@@ -28,31 +28,32 @@ pub enum Question {
     Proof(Ask),
 }
 
-// The report on heads and on what is served, of a mirror that settles first: so no complete tree is walked twice.
-fn settled_status<H: TreeHash>(alloc: Global, mirror: &mut Mirror<H>) -> Result<Report, AllocError>
+// The report on heads and on what is served, of a mirror that notes first what is held of each head: so no tree is walked
+// twice.
+fn noted_status<H: TreeHash>(alloc: Global, mirror: &mut Mirror<H>) -> Result<Report, AllocError>
     ensures { IfOk result (λ report. TellsStatus H.digest mirror.old.view report) }
 {
-    mirror.settle(alloc)?;
+    mirror.note_heads(alloc)?;
     status_report(alloc, mirror)
 }
 
 // The report on forks, likewise.
-fn settled_forks<H: TreeHash>(alloc: Global, mirror: &mut Mirror<H>) -> Result<Report, AllocError>
+fn noted_forks<H: TreeHash>(alloc: Global, mirror: &mut Mirror<H>) -> Result<Report, AllocError>
     ensures { IfOk result (λ report. TellsForks H.digest mirror.old.view report) }
 {
-    mirror.settle(alloc)?;
+    mirror.note_heads(alloc)?;
     forks_report(alloc, mirror)
 }
 
 // A proof of what is served, likewise.
-fn settled_proof<H: TreeHash>(
+fn noted_proof<H: TreeHash>(
     alloc: Global,
     mirror: &mut Mirror<H>,
     ask: Ask,
 ) -> Result<Report, ReportFault>
     ensures { ReportsProof H.digest mirror.old.view ask result }
 {
-    match mirror.settle(alloc) {
+    match mirror.note_heads(alloc) {
         Ok(()) => proof_report(alloc, mirror, ask),
         Err(_) => Err(ReportFault::OutOfMemory),
     }
@@ -67,9 +68,9 @@ pub(crate) fn report_on<H: TreeHash>(
     ensures { ReportsOn H.digest question.now mirror.old.view result }
 {
     match question {
-        Question::Status => Ok(settled_status(alloc, mirror)?),
+        Question::Status => Ok(noted_status(alloc, mirror)?),
         Question::Missing { size, root } => missing_report(alloc, mirror, *size, root),
-        Question::Forks => Ok(settled_forks(alloc, mirror)?),
-        Question::Proof(ask) => settled_proof(alloc, mirror, *ask),
+        Question::Forks => Ok(noted_forks(alloc, mirror)?),
+        Question::Proof(ask) => noted_proof(alloc, mirror, *ask),
     }
 }
