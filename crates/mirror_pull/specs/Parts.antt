@@ -1,10 +1,11 @@
 -- What the parts of a pull from an honest source come to. The contracts of private functions alone
 -- cite these words.
 use Rattle.std.specs.Prelude.{◌≡◌, ◌⊎◌, ℕ, ◌≤◌, ◌<◌, ◌^◌, List, [], ◌∷◌, ◌++◌, length, map}
-use Rattle.std.specs.Prelude.{take, Option, Contains}
+use Rattle.std.specs.Prelude.{take, Option, Contains, Bool, false, Result, MatchResult}
 use Rattle.tlog_hash.specs.Tree.{mth, strings}
 use Rattle.tlog_tiles.specs.declared.paths.Path.{Path}
 use Rattle.tlog_tiles.specs.declared.paths.Path.TheVariants.{Checkpoint, Tile, Entries}
+use Rattle.tlog_tiles.specs.Edge.{edge_of}
 use Rattle.tlog_tiles.specs.Tiles.{IsWithin}
 use Rattle.node_store.specs.Strings.{Has, HasAll}
 use Rattle.mirror_model.specs.View.{View}
@@ -16,7 +17,7 @@ use Rattle.mirror_model.specs.TrueLaws.{AreShort, IsWidest}
 use Rattle.mirror_sources.specs.Files.{full_of}
 use Rattle.mirror_sources.specs.Replies.{Reply, MayReply}
 use Rattle.mirror_sources.specs.Honest.{Gets, true_bytes, IsTrueAnswer}
-use Rattle.mirror_pull.specs.Asking.{AreFresh}
+use Rattle.mirror_pull.specs.Asking.{AreFresh, IsFresh}
 use Rattle.mirror_pull.specs.Honest.{NoClashAmong, AreFrontRounds, with_true}
 use Rattle.mirror_pull.specs.Replying.{with_replies}
 use Rattle.mirror_pull.specs.declared.fault.PullFault.{PullFault}
@@ -115,3 +116,47 @@ module _ (digest : List ℕ → List ℕ) (entries : List (List ℕ)) where
         (y : List ℕ) → Has w.strings y →
         Has v.strings y ⊎
         (Contains (strings digest entries) y ⊎ Contains (strings digest (take size entries)) y)
+
+-- ---- answers of parts of a pull from a source that is true for some entries: they go well, unless
+-- memory is refused or the source fails
+
+module _ (may : Path → Option (List ℕ) → Type 0) (before after : List Path) where
+  -- the row of a tile that was not asked for is its true bytes
+  abbrev pub FindsRowHonestly : Path → Result (List ℕ) PullFault → Type 0
+  FindsRowHonestly path result =
+      (digest : List ℕ → List ℕ) (entries : List (List ℕ)) → IsTrueSource digest entries may →
+      IsTilePath (length entries) path → IsFresh before path →
+      MatchResult result (λ row. IsTrueRow digest entries may path before after row) IsOutside
+
+  -- so are the rows of the edge of a size
+  abbrev pub FindsRowsHonestly : ℕ → Result (List (List ℕ)) PullFault → Type 0
+  FindsRowsHonestly size result =
+      (digest : List ℕ → List ℕ) (entries : List (List ℕ)) → IsTrueSource digest entries may →
+      size ≤ length entries → AreFresh before (edge_of size) →
+      MatchResult result (λ rows. AreTrueRows digest entries may (edge_of size) before after rows)
+      IsOutside
+
+  -- the true bytes at a path are found and taken
+  abbrev pub TakesPathHonestly : (List ℕ → List ℕ) → View → Path → View → Result Bool PullFault →
+      Type 0
+  TakesPathHonestly digest v path w result =
+      (entries : List (List ℕ)) (size : ℕ) → MayTake digest entries size may v before (path ∷ []) →
+      MatchResult result
+      (λ refused. (refused ≡ false) × TakesTrue digest entries may (path ∷ []) before after v w)
+      IsOutside
+
+  -- so are those at several paths
+  abbrev pub TakesPathsHonestly : (List ℕ → List ℕ) → View → List Path → View →
+      Result ℕ PullFault → Type 0
+  TakesPathsHonestly digest v paths w result =
+      (entries : List (List ℕ)) (size : ℕ) → MayTake digest entries size may v before paths →
+      MatchResult result
+      (λ refused. (refused ≡ 0) × TakesTrue digest entries may paths before after v w) IsOutside
+
+  -- the rounds fetch all that the tree of the first entries hashes, and refuse nothing
+  abbrev pub WorksHonestly : (List ℕ → List ℕ) → ℕ → List ℕ → View → View →
+      Result (ℕ × ℕ) PullFault → Type 0
+  WorksHonestly digest size root v w result =
+      (entries : List (List ℕ)) → MayWork digest entries size root may v before →
+      MatchResult result
+      (λ r. (r.1 ≡ 0) × HasWorked digest entries size may r.0 v w before after) IsOutside

@@ -3,13 +3,14 @@
 -- below "parts of a pull" is cited by the contracts of private functions alone.
 use Rattle.std.specs.Prelude.{◌≡◌, ◌≢◌, ◌⊎◌, ℕ, ◌+◌, ◌-◌, ◌*◌, ◌^◌, ◌≤◌, List, [], ◌∷◌, ◌++◌, length, take, min}
 use Rattle.std.specs.Prelude.{suc, Option, Some, None, Result, Ok, Err, Bool, true, false, Contains, ⊤}
+use Rattle.std.specs.Prelude.{IfOk, MatchResult}
 use Rattle.signed_note.specs.Keys.{Key}
 use Rattle.tlog_checkpoint.specs.declared.Checkpoint.{Checkpoint as Read}
 use Rattle.tlog_tiles.specs.declared.paths.Path.{Path}
 use Rattle.tlog_tiles.specs.declared.paths.Path.TheVariants.{Checkpoint}
 use Rattle.tlog_tiles.specs.Edge.{edge_of}
 use Rattle.mirror_model.specs.View.{View}
-use Rattle.mirror_model.specs.Heads.{IsOpenHead}
+use Rattle.mirror_model.specs.Heads.{HasHead, IsOpenHead}
 use Rattle.mirror_model.specs.Item.{IsGood, plus}
 use Rattle.mirror_model.specs.declared.items.Item.TheVariants as item
 use Rattle.mirror_model.specs.Listed.{ListsMissing}
@@ -257,3 +258,54 @@ pub record AreWorkedRounds (digest : List ℕ → List ℕ) (size : ℕ) (root :
   pub refused_is : refused ≡ min many (2 ^ 64 - 1)
   pub rounds_are : ArePullRounds digest size root asked v replies rounds many w
   pub ended : (rounds ≡ 8) ⊎ IsLeft digest size root (with_replies asked replies) w []
+
+-- what is left is listed, of a head that is held
+abbrev pub ListsLeft : {E : Type 0} → (List ℕ → List ℕ) → ℕ → List ℕ → List Path → View →
+    Result (List Path) E → Type 0
+ListsLeft digest size root asked v result =
+    IfOk result (λ left. HasHead v size root → IsLeft digest size root asked v left)
+
+-- ---- answers of parts of a pull, and what was replied
+
+module _ (may : Path → Option (List ℕ) → Type 0) (old new : Option (List Path))
+    (before after : List Path) where
+  -- what was found at a path was replied, or it was asked for before
+  abbrev pub AskFollows : Path → Result (Option (List ℕ)) PullFault → Type 0
+  AskFollows path result =
+      IfOk result (λ found. Gathers may old new before after (λ replies. Asks before path replies found))
+
+  -- the row of a path of the edge is of the replies, which at NoEdge give none
+  abbrev pub RowFollows : Path → Result (List ℕ) PullFault → Type 0
+  RowFollows path result =
+      MatchResult result
+      (λ row. Gathers may old new before after (λ replies. GivesRow before path replies row))
+      (λ e. e ≡ NoEdge → Gathers may old new before after (λ replies. GivesNoRow before path replies))
+
+  -- so are the rows of several paths
+  abbrev pub RowsFollow : List Path → Result (List (List ℕ)) PullFault → Type 0
+  RowsFollow paths result =
+      MatchResult result
+      (λ rows. Gathers may old new before after (λ replies. GivesRows before paths replies rows))
+      (λ e. e ≡ NoEdge → Gathers may old new before after (λ replies. GivesNoRows before paths replies))
+
+  -- what was replied for a path was taken or refused, of which the answer tells
+  abbrev pub PathFollows : (List ℕ → List ℕ) → View → Path → View → Result Bool PullFault → Type 0
+  PathFollows digest v path w result =
+      IfOk result
+      (λ refused. Gathers may old new before after
+      (λ replies. IsWorkedPath digest before v path refused w replies))
+
+  -- so was what was replied for several paths, and the answer tells how much was refused
+  abbrev pub PathsFollow : (List ℕ → List ℕ) → View → List Path → View → Result ℕ PullFault → Type 0
+  PathsFollow digest v paths w result =
+      IfOk result
+      (λ refused. Gathers may old new before after
+      (λ replies. IsWorkedList digest before v paths refused w replies))
+
+  -- so many rounds were worked for a head that is held, and so much was refused in them
+  abbrev pub RoundsFollow : (List ℕ → List ℕ) → ℕ → List ℕ → View → View →
+      Result (ℕ × ℕ) PullFault → Type 0
+  RoundsFollow digest size root v w result =
+      IfOk result
+      (λ r. HasHead v size root → Gathers may old new before after
+      (λ replies. AreWorkedRounds digest size root before v r.0 r.1 w replies))

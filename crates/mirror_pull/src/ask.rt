@@ -1,9 +1,10 @@
 //! Asking a source for paths, none twice.
 ghost use Rattle.std.specs.Prelude.{◌≡◌, ◌↔◌, IsTrue, IfOk, Contains, option_map, ◌++◌, ◌∷◌, []};
+ghost use Rattle.tlog_text.specs.Answers.{seen};
 ghost use Rattle.mirror_pull.specs.Asking.{AsksPaths, BlamesSource};
 ghost use Rattle.mirror_sources.specs.Files.{full_of, width_named};
 ghost use Rattle.mirror_pull.specs.Taking.{EndsBeforeHead, EndsAfterHead};
-ghost use Rattle.mirror_pull.specs.Replying.{Asks, Gathers};
+ghost use Rattle.mirror_pull.specs.Replying.{AskFollows};
 ghost use Rattle.mirror_sources.specs.Source.{StaysWithin};
 
 use crate::asked::AskedPaths;
@@ -50,14 +51,18 @@ pub(crate) fn ask<S: Source>(
     asked: &mut AskedPaths,
     path: Path,
 ) -> Result<Option<Vec<u8>>, PullFault>
-    ensures told { AsksPaths asked.old.items asked.new.items (S.asked source.old) (S.asked source.new) result }
+    ensures told { AsksPaths asked.old.items asked.new.items (S.asked source.old)
+        (S.asked source.new) result }
     ensures counted { BlamesSource (S.failed source.old) (S.failed source.new) result }
     ensures early { EndsBeforeHead result }
     ensures late { EndsAfterHead result }
     ensures later { StaysWithin (S.may_answer source.old) (S.may_answer source.new) }
-    ensures answer { IfOk result (λ bytes. (¬ Contains asked.old.items path) → S.may_answer source.old path (option_map (λ v. v.items) bytes)) }
-    ensures replied { IfOk result (λ bytes. Gathers (S.may_answer source.old) (S.asked source.old) (S.asked source.new) asked.old.items asked.new.items (λ replies. Asks asked.old.items path replies (option_map (λ v. v.items) bytes))) }
-    ensures grown { IfOk result (λ _. (¬ Contains asked.old.items path) → asked.new.items ≡ asked.old.items ++ path ∷ []) }
+    ensures answer { IfOk result (λ bytes. (¬ Contains asked.old.items path)
+        → S.may_answer source.old path (option_map (λ v. v.items) bytes)) }
+    ensures replied { AskFollows (S.may_answer source.old) (S.asked source.old) (S.asked source.new)
+        asked.old.items asked.new.items path (seen (option_map (λ v. v.items)) result) }
+    ensures grown { IfOk result (λ _. (¬ Contains asked.old.items path)
+        → asked.new.items ≡ asked.old.items ++ path ∷ []) }
 {
     if is_asked(asked, &path) {
         return Ok(None);

@@ -1,5 +1,5 @@
 //! Pulling a log from one source.
-ghost use Rattle.std.specs.Prelude.{◌≡◌, [], map, ⊤, MatchResult};
+ghost use Rattle.std.specs.Prelude.{[], map, IfErr};
 ghost use Rattle.mirror_model.specs.declared.items.Item.TheVariants.{Head};
 ghost use Rattle.mirror_pull.specs.Asking.{AddsSome, AsksPaths, BlamesSource};
 ghost use Rattle.mirror_pull.specs.Honest.{PullsHonestly};
@@ -42,8 +42,10 @@ fn take_rows<H: TreeHash>(
     note: &[u8],
     rows: &[Vec<u8>],
 ) -> Result<(), PullFault>
-    ensures takes { TakesHead H.digest (map (λ k. key k) keys.now) mirror.old.view (Head note.now (map (λ row. row.items) rows.now)) result mirror.new.view }
-    ensures judged { MatchResult result (λ _. ⊤) (λ e. RefusesHead H.digest mirror.old.view.origin (map (λ k. key k) keys.now) note.now (map (λ row. row.items) rows.now) e) }
+    ensures takes { TakesHead H.digest (map (λ k. key k) keys.now) mirror.old.view
+        (Head note.now (map (λ row. row.items) rows.now)) result mirror.new.view }
+    ensures judged { IfErr result (RefusesHead H.digest mirror.old.view.origin
+        (map (λ k. key k) keys.now) note.now (map (λ row. row.items) rows.now)) }
 {
     mirror.take_head_rows(alloc, keys, note, rows)?;
     Ok(())
@@ -75,12 +77,15 @@ pub fn pull<H: TreeHash, S: Source>(
     keys: &[Box<dyn Verifier>],
     source: &mut S,
 ) -> Result<Pulled, PullFault>
-    ensures outcome { PullsTo H.digest (map (λ k. key k) keys.now) mirror.old.view mirror.new.view result }
+    ensures outcome { PullsTo H.digest (map (λ k. key k) keys.now) mirror.old.view
+        mirror.new.view result }
     ensures once { AddsSome [] (S.asked source.old) (S.asked source.new) }
     ensures counted { BlamesSource (S.failed source.old) (S.failed source.new) result }
     ensures later { StaysWithin (S.may_answer source.old) (S.may_answer source.new) }
-    ensures replies { FollowsReplies H.digest (map (λ k. key k) keys.now) mirror.old.view mirror.new.view (S.may_answer source.old) (S.asked source.old) (S.asked source.new) result }
-    ensures honest { PullsHonestly H.digest (map (λ k. key k) keys.now) mirror.old.view mirror.new.view (S.may_answer source.old) (S.asked source.old) (S.asked source.new) result }
+    ensures replies { FollowsReplies H.digest (map (λ k. key k) keys.now) mirror.old.view
+        mirror.new.view (S.may_answer source.old) (S.asked source.old) (S.asked source.new) result }
+    ensures honest { PullsHonestly H.digest (map (λ k. key k) keys.now) mirror.old.view
+        mirror.new.view (S.may_answer source.old) (S.asked source.old) (S.asked source.new) result }
 {
     let mut asked = AskedPaths::new(alloc);
     let Some(note) = ask(source, &mut asked, Path::Checkpoint)? else {

@@ -1,12 +1,10 @@
 //! The rounds of a pull.
-ghost use Rattle.std.specs.Prelude.{◌≡◌, ◌↔◌, ◌<◌, ◌≤◌, ◌^◌, ℕ, List, [], ◌∷◌, length, get_or, map, false, IfOk, MatchResult, All, Contains};
-ghost use Rattle.tlog_tiles.specs.declared.paths.Path.TheVariants.{Checkpoint};
-ghost use Rattle.mirror_model.specs.Heads.{HasHead};
-ghost use Rattle.mirror_model.specs.TreeLaws.{IsOfSize};
+ghost use Rattle.std.specs.Prelude.{◌≡◌, ◌≤◌, ◌^◌, IfOk, All};
+ghost use Rattle.tlog_text.specs.Answers.{seen};
 ghost use Rattle.mirror_pull.specs.Asking.{AsksPaths, BlamesSource};
 ghost use Rattle.mirror_pull.specs.Taking.{EndsAfterHead, GainsStrings, IsTakeable, TakesItem, item_at};
-ghost use Rattle.mirror_pull.specs.Parts.{HasWorked, IsOutside, MayTake, MayWork, TakesTrue};
-ghost use Rattle.mirror_pull.specs.Replying.{AreWorkedRounds, Gathers, IsLeft, IsWorkedList, IsWorkedPath};
+ghost use Rattle.mirror_pull.specs.Parts.{TakesPathHonestly, TakesPathsHonestly, WorksHonestly};
+ghost use Rattle.mirror_pull.specs.Replying.{ListsLeft, PathFollows, PathsFollow, RoundsFollow};
 ghost use Rattle.mirror_pull.specs.Answering.{refused_of, refused_of_fault};
 ghost use Rattle.mirror_sources.specs.Source.{StaysWithin};
 
@@ -68,13 +66,17 @@ fn take_path<H: TreeHash, S: Source>(
     path: Path,
 ) -> Result<bool, PullFault>
     requires { IsTakeable path }
-    ensures told { AsksPaths asked.old.items asked.new.items (S.asked source.old) (S.asked source.new) result }
+    ensures told { AsksPaths asked.old.items asked.new.items (S.asked source.old)
+        (S.asked source.new) result }
     ensures counted { BlamesSource (S.failed source.old) (S.failed source.new) result }
     ensures later { StaysWithin (S.may_answer source.old) (S.may_answer source.new) }
     ensures late { EndsAfterHead result }
     ensures gains { GainsStrings mirror.old.view mirror.new.view }
-    ensures replied { IfOk result (λ refused. Gathers (S.may_answer source.old) (S.asked source.old) (S.asked source.new) asked.old.items asked.new.items (λ replies. IsWorkedPath H.digest asked.old.items mirror.old.view path refused mirror.new.view replies)) }
-    ensures honest { (entries : List (List ℕ)) (size : ℕ) → MayTake H.digest entries size (S.may_answer source.old) mirror.old.view asked.old.items (path ∷ []) → MatchResult result (λ refused. (refused ≡ false) × TakesTrue H.digest entries (S.may_answer source.old) (path ∷ []) asked.old.items asked.new.items mirror.old.view mirror.new.view) IsOutside }
+    ensures replied { PathFollows (S.may_answer source.old) (S.asked source.old)
+        (S.asked source.new) asked.old.items asked.new.items
+        H.digest mirror.old.view path mirror.new.view result }
+    ensures honest { TakesPathHonestly (S.may_answer source.old) asked.old.items asked.new.items
+        H.digest mirror.old.view path mirror.new.view result }
 {
     if let Some(bytes) = ask(source, asked, path)? {
         return take_found(alloc, mirror, path, &bytes);
@@ -96,13 +98,17 @@ fn work_round<H: TreeHash, S: Source>(
     paths: &[Path],
 ) -> Result<u64, PullFault>
     requires { All IsTakeable paths.now }
-    ensures told { AsksPaths asked.old.items asked.new.items (S.asked source.old) (S.asked source.new) result }
+    ensures told { AsksPaths asked.old.items asked.new.items (S.asked source.old)
+        (S.asked source.new) result }
     ensures counted { BlamesSource (S.failed source.old) (S.failed source.new) result }
     ensures later { StaysWithin (S.may_answer source.old) (S.may_answer source.new) }
     ensures late { EndsAfterHead result }
     ensures gains { GainsStrings mirror.old.view mirror.new.view }
-    ensures replied { IfOk result (λ refused. Gathers (S.may_answer source.old) (S.asked source.old) (S.asked source.new) asked.old.items asked.new.items (λ replies. IsWorkedList H.digest asked.old.items mirror.old.view paths.now refused mirror.new.view replies)) }
-    ensures honest { (entries : List (List ℕ)) (size : ℕ) → MayTake H.digest entries size (S.may_answer source.old) mirror.old.view asked.old.items paths.now → MatchResult result (λ refused. (refused ≡ 0) × TakesTrue H.digest entries (S.may_answer source.old) paths.now asked.old.items asked.new.items mirror.old.view mirror.new.view) IsOutside }
+    ensures replied { PathsFollow (S.may_answer source.old) (S.asked source.old)
+        (S.asked source.new) asked.old.items asked.new.items
+        H.digest mirror.old.view paths.now mirror.new.view result }
+    ensures honest { TakesPathsHonestly (S.may_answer source.old) asked.old.items asked.new.items
+        H.digest mirror.old.view paths.now mirror.new.view result }
 {
     let mut refused = 0u64;
     for path in paths {
@@ -123,7 +129,8 @@ fn paths_to_ask<H: TreeHash>(
 ) -> Result<Vec<Path>, AllocError>
     requires { size ≤ 256 ^ 8 }
     ensures takeable { IfOk result (λ paths. All IsTakeable paths.items) }
-    ensures left { IfOk result (λ paths. HasHead mirror.now.view size root.now → IsLeft H.digest size root.now asked.now.items mirror.now.view paths.items) }
+    ensures left { ListsLeft H.digest size root.now asked.now.items mirror.now.view
+        (seen (λ paths. paths.items) result) }
 {
     walk_law();
     let mut paths = Vec::new(alloc);
@@ -148,14 +155,18 @@ pub(crate) fn work<H: TreeHash, S: Source>(
     root: &Hash,
 ) -> Result<(u32, u64), PullFault>
     requires { size ≤ 256 ^ 8 }
-    ensures told { AsksPaths asked.old.items asked.new.items (S.asked source.old) (S.asked source.new) result }
+    ensures told { AsksPaths asked.old.items asked.new.items (S.asked source.old)
+        (S.asked source.new) result }
     ensures counted { BlamesSource (S.failed source.old) (S.failed source.new) result }
     ensures later { StaysWithin (S.may_answer source.old) (S.may_answer source.new) }
     ensures late { EndsAfterHead result }
     ensures gains { GainsStrings mirror.old.view mirror.new.view }
     ensures rounds { IfOk result (λ r. r.0 ≤ 8) }
-    ensures replied { IfOk result (λ r. HasHead mirror.old.view size root.now → Gathers (S.may_answer source.old) (S.asked source.old) (S.asked source.new) asked.old.items asked.new.items (λ replies. AreWorkedRounds H.digest size root.now asked.old.items mirror.old.view r.0 r.1 mirror.new.view replies)) }
-    ensures honest { (entries : List (List ℕ)) → MayWork H.digest entries size root.now (S.may_answer source.old) mirror.old.view asked.old.items → MatchResult result (λ r. (r.1 ≡ 0) × HasWorked H.digest entries size (S.may_answer source.old) r.0 mirror.old.view mirror.new.view asked.old.items asked.new.items) IsOutside }
+    ensures replied { RoundsFollow (S.may_answer source.old) (S.asked source.old)
+        (S.asked source.new) asked.old.items asked.new.items
+        H.digest size root.now mirror.old.view mirror.new.view result }
+    ensures honest { WorksHonestly (S.may_answer source.old) asked.old.items asked.new.items
+        H.digest size root.now mirror.old.view mirror.new.view result }
 {
     let mut refused = 0u64;
     for rounds in 0..8u32 {

@@ -1,7 +1,7 @@
 -- Entries as they are laid out in memory: the bytes of their levels, and themselves in the form of
 -- bundles with where each ends. The contracts of private functions alone cite these words.
 use Rattle.std.specs.Prelude.{◌≡◌, ℕ, ◌+◌, ◌-◌, ◌*◌, ◌/◌, ◌^◌, ◌<◌, ◌≤◌, List, [], ◌∷◌, length}
-use Rattle.std.specs.Prelude.{get_or}
+use Rattle.std.specs.Prelude.{get_or, All}
 use Rattle.tlog_hash.specs.Tree.{mth}
 use Rattle.tlog_hash.specs.Rows.{part, level_row}
 use Rattle.tlog_tiles.specs.Row.{row_text}
@@ -26,6 +26,31 @@ pub record HoldsFile (len index width : ℕ) : Type 0 where
   pub upto : width ≤ 256
   pub within : 256 * index + width ≤ len
 
+-- whichever hashes a row has, the bytes are those of a file's, which are among them
+abbrev pub IsRowPiece : List ℕ → ℕ → ℕ → List ℕ → Type 0
+IsRowPiece row index width bytes =
+    (hashes : List (List ℕ)) → All (λ hash. length hash ≡ 32) hashes → row ≡ row_text hashes →
+    HoldsFile (length hashes) index width × (bytes ≡ row_text (part (256 * index) width hashes))
+
+-- whichever hashes a row has, not all of a file's are among them
+abbrev pub LacksRowPiece : List ℕ → ℕ → ℕ → Type 0
+LacksRowPiece row index width =
+    (hashes : List (List ℕ)) → All (λ hash. length hash ≡ 32) hashes → row ≡ row_text hashes →
+    HoldsFile (length hashes) index width → ⊥
+
+-- whichever entries a text has, with these ends, the bytes are those of a file's, which are among
+-- them
+abbrev pub IsTextPiece : List ℕ → List ℕ → ℕ → ℕ → List ℕ → Type 0
+IsTextPiece text ends index width bytes =
+    (entries : List (List ℕ)) → text ≡ bundle_text entries → ends ≡ ends_of 0 entries →
+    HoldsFile (length entries) index width × (bytes ≡ bundle_text (part (256 * index) width entries))
+
+-- whichever entries have these ends, not all of a file's are among them
+abbrev pub LacksTextPiece : List ℕ → ℕ → ℕ → Type 0
+LacksTextPiece ends index width =
+    (entries : List (List ℕ)) → ends ≡ ends_of 0 entries →
+    HoldsFile (length entries) index width → ⊥
+
 module _ (digest : List ℕ → List ℕ) (entries : List (List ℕ)) where
   -- the hashes of all full ranges of 256^level entries
   abbrev pub full_row : ℕ → List (List ℕ)
@@ -42,3 +67,16 @@ module _ (digest : List ℕ → List ℕ) (entries : List (List ℕ)) where
     pub rows_are : AreFullRows 8 rows
     pub text_is : text ≡ bundle_text entries
     pub ends_are : ends ≡ ends_of 0 entries
+
+module _ (digest : List ℕ → List ℕ) where
+  -- the root is that of the entries whose full rows of the lowest two levels are these
+  abbrev pub IsRootOver : List (List ℕ) → List (List ℕ) → List ℕ → Type 0
+  IsRootOver leaves above root =
+      (entries : List (List ℕ)) → leaves ≡ full_row digest entries 0 →
+      above ≡ full_row digest entries 1 → root ≡ mth digest entries
+
+  -- so are the bytes of the full rows of all levels
+  abbrev pub AreRowsOver : List (List ℕ) → List (List ℕ) → List (List ℕ) → Type 0
+  AreRowsOver leaves above rows =
+      (entries : List (List ℕ)) → leaves ≡ full_row digest entries 0 →
+      above ≡ full_row digest entries 1 → AreFullRows digest entries 8 rows

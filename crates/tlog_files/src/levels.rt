@@ -1,8 +1,8 @@
 //! The hashes of a list's levels, each made from those of the level below.
-ghost use Rattle.std.specs.Prelude.{◌≡◌, ◌*◌, ◌/◌, ◌≤◌, ℕ, List, length, map, IfOk};
+ghost use Rattle.std.specs.Prelude.{◌≡◌, ◌*◌, ◌/◌, ◌≤◌, length, map, IfOk};
 ghost use Rattle.tlog_hash.specs.Rows.{ranges};
 ghost use Rattle.tlog_hash.specs.Tree.{fold_of, leaf_hash, mth};
-ghost use Rattle.tlog_files.specs.Layout.{full_row, AreFullRows};
+ghost use Rattle.tlog_files.specs.Layout.{AreFullRows, AreRowsOver, IsRootOver};
 
 use std::alloc::{AllocError, Global};
 use tlog_hash::{Hash, TreeHash, fold};
@@ -21,7 +21,8 @@ fn leaf_hashes<H: TreeHash>(alloc: Global, entries: &[&[u8]]) -> Result<Vec<Hash
 
 /// The hashes of the level above: each is that of 256 hashes. Hashes behind the last 256 have none.
 fn level_above<H: TreeHash>(alloc: Global, below: &[Hash]) -> Result<Vec<Hash>, AllocError>
-    ensures { IfOk result (λ row. row.items ≡ map (fold_of H.digest) (ranges 256 0 (length below.now / 256) below.now)) }
+    ensures { IfOk result (λ row. row.items
+        ≡ map (fold_of H.digest) (ranges 256 0 (length below.now / 256) below.now)) }
 {
     let mut row = Vec::new(alloc);
     for i in 0..below.len() / 256 {
@@ -33,7 +34,7 @@ fn level_above<H: TreeHash>(alloc: Global, below: &[Hash]) -> Result<Vec<Hash>, 
 /// The tree hash of the entries, from their leaf hashes and the hashes of the level above.
 fn root_of<H: TreeHash>(alloc: Global, leaves: &[Hash], above: &[Hash]) -> Result<Hash, AllocError>
     requires { 256 * length above.now ≤ length leaves.now }
-    ensures { IfOk result (λ root. (entries : List (List ℕ)) → leaves.now ≡ full_row H.digest entries 0 → above.now ≡ full_row H.digest entries 1 → root ≡ mth H.digest entries) }
+    ensures { IfOk result (IsRootOver H.digest leaves.now above.now) }
 {
     if leaves.is_empty() {
         return Ok(H::empty());
@@ -52,7 +53,8 @@ fn rows_from<H: TreeHash>(
     leaves: &[Hash],
     above: Vec<Hash>,
 ) -> Result<Vec<Vec<u8>>, AllocError>
-    ensures { IfOk result (λ rows. (entries : List (List ℕ)) → leaves.now ≡ full_row H.digest entries 0 → above.items ≡ full_row H.digest entries 1 → AreFullRows H.digest entries 8 (map (λ row. row.items) rows.items)) }
+    ensures { IfOk result (λ rows. AreRowsOver H.digest leaves.now above.items
+        (map (λ row. row.items) rows.items)) }
 {
     let mut rows = Vec::new(alloc);
     rows.push(write_row(alloc, leaves)?)?;
@@ -70,7 +72,8 @@ pub(crate) fn levels_of<H: TreeHash>(
     entries: &[&[u8]],
 ) -> Result<(Hash, Vec<Vec<u8>>), AllocError>
     ensures root { IfOk result (λ made. made.0 ≡ mth H.digest (map (λ e. e.now) entries.now)) }
-    ensures rows { IfOk result (λ made. AreFullRows H.digest (map (λ e. e.now) entries.now) 8 (map (λ row. row.items) made.1.items)) }
+    ensures rows { IfOk result (λ made. AreFullRows H.digest (map (λ e. e.now) entries.now) 8
+        (map (λ row. row.items) made.1.items)) }
 {
     let leaves = leaf_hashes::<H>(alloc, entries)?;
     let above = level_above::<H>(alloc, &leaves)?;

@@ -42,7 +42,8 @@ impl<H: TreeHash> Model for LogFiles<H> {
 
     ghost view = { λ a. entries_in 0 a.ends.items a.text.items };
 
-    ghost invariant = { λ a. IsLayout H.digest (entries_in 0 a.ends.items a.text.items) a.root (map (λ row. row.items) a.rows.items) a.text.items a.ends.items };
+    ghost invariant = { λ a. IsLayout H.digest (entries_in 0 a.ends.items a.text.items) a.root
+        (map (λ row. row.items) a.rows.items) a.text.items a.ends.items };
 }
 
 impl<H: TreeHash> LogFiles<H> {
@@ -73,7 +74,8 @@ impl<H: TreeHash> LogFiles<H> {
     ) -> Result<LogFiles<H>, AllocError>
         requires short { All (λ e. length e.now < 2 ^ 16) entries.now }
         requires root { root ≡ mth H.digest (map (λ e. e.now) entries.now) }
-        requires rows { AreFullRows H.digest (map (λ e. e.now) entries.now) 8 (map (λ row. row.items) rows.items) }
+        requires rows { AreFullRows H.digest (map (λ e. e.now) entries.now) 8
+            (map (λ row. row.items) rows.items) }
         ensures { IfOk result (λ files. files ≡ map (λ e. e.now) entries.now) }
     {
         let (text, ends) = bundles_of(alloc, entries)?;
@@ -104,7 +106,8 @@ impl<H: TreeHash> LogFiles<H> {
     /// `256 * index` on. `None` exactly where the tile is not within the entries, as for a level over 7 or a width
     /// outside 1 to 256. It takes no memory.
     pub fn tile(&self, level: u32, index: u64, width: u32) -> Option<&[u8]>
-        ensures some { IfSome result (λ bytes. bytes.now ≡ tile_bytes H.digest self.now level index width) }
+        ensures some { IfSome result (λ bytes. bytes.now
+            ≡ tile_bytes H.digest self.now level index width) }
         ensures within { IfSome result (λ bytes. IsTileWithin (length self.now) level index width) }
         ensures none { IfNone result (¬ IsTileWithin (length self.now) level index width) }
     {

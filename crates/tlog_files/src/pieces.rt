@@ -1,9 +1,8 @@
 //! Pieces of what is laid out.
-ghost use Rattle.std.specs.Prelude.{◌≡◌, ◌*◌, ◌≤◌, ℕ, List, All, length, take, IfSome, IfNone};
-ghost use Rattle.tlog_hash.specs.Rows.{part};
-ghost use Rattle.tlog_tiles.specs.Row.{row_text};
+ghost use Rattle.std.specs.Prelude.{◌≡◌, ◌*◌, ◌≤◌, ℕ, List, length, take, IfSome, IfNone};
 ghost use Rattle.tlog_tiles.specs.Bundle.{bundle_text};
-ghost use Rattle.tlog_files.specs.Layout.{ends_of, HoldsFile};
+ghost use Rattle.tlog_files.specs.Layout.{ends_of, HoldsFile, IsRowPiece, IsTextPiece};
+ghost use Rattle.tlog_files.specs.Layout.{LacksRowPiece, LacksTextPiece};
 
 /// The number of the first of a file, where a list of so many has all of the file.
 fn first_of(len: usize, index: u64, width: u32) -> Option<usize>
@@ -22,8 +21,8 @@ fn first_of(len: usize, index: u64, width: u32) -> Option<usize>
 
 /// The bytes of the hashes of a file, from those of its level.
 pub(crate) fn row_piece(row: &[u8], index: u64, width: u32) -> Option<&[u8]>
-    ensures some { IfSome result (λ bytes. (hashes : List (List ℕ)) → All (λ hash. length hash ≡ 32) hashes → row.now ≡ row_text hashes → HoldsFile (length hashes) index width × (bytes.now ≡ row_text (part (256 * index) width hashes))) }
-    ensures none { IfNone result ((hashes : List (List ℕ)) → All (λ hash. length hash ≡ 32) hashes → row.now ≡ row_text hashes → HoldsFile (length hashes) index width → ⊥) }
+    ensures some { IfSome result (λ bytes. IsRowPiece row.now index width bytes.now) }
+    ensures none { IfNone result (LacksRowPiece row.now index width) }
 {
     let Some(first) = first_of(row.len() / 32, index, width) else {
         return None;
@@ -39,9 +38,10 @@ pub(crate) fn text_piece<'a>(
     index: u64,
     width: u32,
 ) -> Option<&'a [u8]>
-    requires { (entries : List (List ℕ)) × (text.now ≡ bundle_text entries) × (ends.now ≡ ends_of 0 entries) }
-    ensures some { IfSome result (λ bytes. (entries : List (List ℕ)) → text.now ≡ bundle_text entries → ends.now ≡ ends_of 0 entries → HoldsFile (length entries) index width × (bytes.now ≡ bundle_text (part (256 * index) width entries))) }
-    ensures none { IfNone result ((entries : List (List ℕ)) → ends.now ≡ ends_of 0 entries → HoldsFile (length entries) index width → ⊥) }
+    requires { (entries : List (List ℕ)) × (text.now ≡ bundle_text entries)
+        × (ends.now ≡ ends_of 0 entries) }
+    ensures some { IfSome result (λ bytes. IsTextPiece text.now ends.now index width bytes.now) }
+    ensures none { IfNone result (LacksTextPiece ends.now index width) }
 {
     let Some(first) = first_of(ends.len(), index, width) else {
         return None;
@@ -55,7 +55,8 @@ pub(crate) fn text_piece<'a>(
 /// Where the entry of that number starts: where the one before it ends.
 fn start_of(ends: &[usize], at: usize) -> usize
     requires { at ≤ length ends.now }
-    ensures { (entries : List (List ℕ)) → ends.now ≡ ends_of 0 entries → result ≡ length (bundle_text (take at entries)) }
+    ensures { (entries : List (List ℕ)) → ends.now ≡ ends_of 0 entries
+        → result ≡ length (bundle_text (take at entries)) }
 {
     if at == 0 { 0 } else { ends[at - 1] }
 }

@@ -5,5 +5,6 @@ pub mod Steps
 pub mod Laws
 pub mod Answers
 pub mod Made
+pub mod Ranges
 pub mod Text
 pub mod Reading

@@ -1,6 +1,6 @@
 -- Steps of the two loops, each of which leaves what is still to be read of a path (RFC 9162,
 -- sections 2.1.3.2 and 2.1.4.2). The contracts of private functions alone cite these words.
-use Rattle.std.specs.Prelude.{◌≡◌, ℕ, ◌+◌, ◌*◌, ◌^◌, ◌<◌, ◌≤◌, List}
+use Rattle.std.specs.Prelude.{◌≡◌, ℕ, ◌+◌, ◌*◌, ◌^◌, ◌<◌, ◌≤◌, List, Some, reverse}
 use Rattle.tlog_hash.specs.Shape.{shape}
 use Rattle.tlog_proof.specs.Climb.{climb}
 use Rattle.tlog_proof.specs.Inclusion.{incl_in}
@@ -26,3 +26,11 @@ pub record HasBlocks (n m c s : ℕ) : Type 0 where
   pub upto : n ≤ (s + 1) * 2 ^ exponent
   pub above : (s + 1) * 2 ^ exponent < n + 2 ^ exponent
   pub first_is : m ≡ (c + 1) * 2 ^ exponent
+
+-- a path, the hash nearest to the leaf first, leads from leaf i of s + 1 to both roots, where the
+-- start is that leaf's hash in both trees
+abbrev pub LeadsToBoth : (List ℕ → List ℕ) → (i s : ℕ) → List ℕ → List (List ℕ) → List ℕ →
+    List ℕ → Type 0
+LeadsToBoth digest i s start path first_root second_root =
+    climb (both_right digest) (both_left digest) (shape (s + 1)) i (start, start) (reverse path)
+    ≡ Some (first_root, second_root)

@@ -3,12 +3,10 @@
 //! Neither takes memory, and neither adds, multiplies or shifts a number out of its 64 bits, whatever
 //! it is given. In the loops `node` and `end`, which the standard calls fn and sn, are the numbers of
 //! the node on the way and of the last node, in the level of the tree that is reached.
-ghost use Rattle.std.specs.Prelude.{◌≡◌, ◌↔◌, ◌<◌, ◌≤◌, ◌+◌, ◌%◌, [], IsTrue, true, reverse};
-ghost use Rattle.tlog_hash.specs.Shape.{shape};
-ghost use Rattle.tlog_proof.specs.Climb.{climb};
+ghost use Rattle.std.specs.Prelude.{◌≡◌, ◌↔◌, ◌<◌, ◌≤◌, ◌+◌, ◌%◌, [], IsTrue, true};
 ghost use Rattle.tlog_proof.specs.Inclusion.{IsInclusion};
-ghost use Rattle.tlog_proof.specs.Consistency.{both_right, both_left, cons, IsConsistency};
-ghost use Rattle.tlog_proof.specs.Steps.{KeepsIncl, KeepsBoth, HasBlocks};
+ghost use Rattle.tlog_proof.specs.Consistency.{cons, IsConsistency};
+ghost use Rattle.tlog_proof.specs.Steps.{KeepsIncl, KeepsBoth, HasBlocks, LeadsToBoth};
 
 use tlog_hash::{Hash, TreeHash};
 
@@ -62,7 +60,8 @@ pub fn check_consistency<H: TreeHash>(
     second_root: &Hash,
     path: &[Hash],
 ) -> bool
-    ensures { IsTrue result ↔ IsConsistency H.digest first first_root.now second second_root.now path.now }
+    ensures { IsTrue result
+        ↔ IsConsistency H.digest first first_root.now second second_root.now path.now }
 {
     if first == 0 || second < first {
         return false;
@@ -93,7 +92,8 @@ fn grows<H: TreeHash>(
 ) -> bool
     requires some { 0 < first }
     requires more { first < second }
-    ensures { IsTrue result ↔ (cons H.digest first second true first_root.now path.now ≡ Some (first_root.now, second_root.now)) }
+    ensures { IsTrue result ↔ (cons H.digest first second true first_root.now path.now
+        ≡ Some (first_root.now, second_root.now)) }
 {
     if path.len() == 0 {
         return false;
@@ -118,7 +118,8 @@ fn leads_to<H: TreeHash>(
     second_root: &Hash,
 ) -> bool
     requires { index ≤ last }
-    ensures { IsTrue result ↔ (climb (both_right H.digest) (both_left H.digest) (shape (last + 1)) index (start.now, start.now) (reverse path.now) ≡ Some (first_root.now, second_root.now)) }
+    ensures { IsTrue result
+        ↔ LeadsToBoth H.digest index last start.now path.now first_root.now second_root.now }
 {
     let mut node = index;
     let mut end = last;

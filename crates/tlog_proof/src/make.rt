@@ -1,11 +1,10 @@
 //! Paths of a list of which only the hashes of ranges are known.
-ghost use Rattle.std.specs.Prelude.{◌≡◌, ◌+◌, ◌<◌, ◌≤◌, ◌^◌, ◌++◌, ℕ, List, length, IfOk, IfErr, OnOk};
-ghost use Rattle.tlog_hash.specs.Tree.{mth};
-ghost use Rattle.tlog_hash.specs.Rows.{part};
+ghost use Rattle.std.specs.Prelude.{◌≡◌, ◌+◌, ◌<◌, ◌≤◌, ◌^◌, ℕ, List, IfOk, IfErr, OnOk};
 ghost use Rattle.tlog_proof.specs.Answers.{AnswersAs};
 ghost use Rattle.tlog_proof.specs.Inclusion.{path_of};
 ghost use Rattle.tlog_proof.specs.Consistency.{subproof_of};
 ghost use Rattle.tlog_proof.specs.Made.{inclusion_in, consistency_in};
+ghost use Rattle.tlog_proof.specs.Ranges.{AddsHashes, FailsForMemory, IsRangeHash, LacksRange};
 ghost use Rattle.tlog_proof.specs.declared.make.ProofFault.TheVariants.{OutOfMemory};
 
 use crate::ranges::Ranges;
@@ -57,7 +56,9 @@ pub fn inclusion<R: Ranges>(
     size: u64,
     index: u64,
 ) -> Result<Vec<Hash>, ProofFault>
-    ensures { (entries : List (List ℕ)) → R.lists ranges.now entries → AnswersAs ProofFault.OutOfMemory (λ v. v.items) result (inclusion_in R.digest entries size index) }
+    ensures { (entries : List (List ℕ)) → R.lists ranges.now entries
+        → AnswersAs ProofFault.OutOfMemory (λ v. v.items) result
+        (inclusion_in R.digest entries size index) }
 {
     if size > ranges.size() {
         return Err(ProofFault::NoSuchSize);
@@ -83,7 +84,9 @@ pub fn consistency<R: Ranges>(
     first: u64,
     second: u64,
 ) -> Result<Vec<Hash>, ProofFault>
-    ensures { (entries : List (List ℕ)) → R.lists ranges.now entries → AnswersAs ProofFault.OutOfMemory (λ v. v.items) result (consistency_in R.digest entries first second) }
+    ensures { (entries : List (List ℕ)) → R.lists ranges.now entries
+        → AnswersAs ProofFault.OutOfMemory (λ v. v.items) result
+        (consistency_in R.digest entries first second) }
 {
     if second > ranges.size() {
         return Err(ProofFault::NoSuchSize);
@@ -101,8 +104,8 @@ pub fn consistency<R: Ranges>(
 
 /// The tree hash of a range that is within the list.
 pub(crate) fn hash_of<R: Ranges>(ranges: &R, start: u64, len: u64) -> Result<Hash, ProofFault>
-    ensures ok { IfOk result (λ hash. (entries : List (List ℕ)) → R.lists ranges.now entries → (start + len ≤ length entries) × (hash ≡ mth R.digest (part start len entries))) }
-    ensures err { IfErr result (λ _. (entries : List (List ℕ)) → R.lists ranges.now entries → length entries < start + len) }
+    ensures ok { IfOk result (IsRangeHash (R.lists ranges.now) start len R.digest) }
+    ensures err { IfErr result (λ _. LacksRange (R.lists ranges.now) start len) }
 {
     match ranges.hash(start, len) {
         Some(hash) => Ok(hash),
@@ -120,8 +123,9 @@ fn add_path<R: Ranges>(
 ) -> Result<(), ProofFault>
     requires inside { index < len }
     requires fits { start + len < 2 ^ 64 }
-    ensures ok { OnOk result ((entries : List (List ℕ)) → R.lists ranges.now entries → start + len ≤ length entries → path.new.items ≡ path.old.items ++ path_of R.digest index (part start len entries)) }
-    ensures err { IfErr result (λ e. (entries : List (List ℕ)) → R.lists ranges.now entries → start + len ≤ length entries → e ≡ ProofFault.OutOfMemory) }
+    ensures ok { OnOk result (AddsHashes (R.lists ranges.now) start len (path_of R.digest index)
+        path.old.items path.new.items) }
+    ensures err { IfErr result (FailsForMemory (R.lists ranges.now) start len) }
 {
     if len == 1 {
         return Ok(());
@@ -151,8 +155,9 @@ fn add_subproof<R: Ranges>(
     requires some { 0 < first }
     requires within { first ≤ len }
     requires fits { start + len < 2 ^ 64 }
-    ensures ok { OnOk result ((entries : List (List ℕ)) → R.lists ranges.now entries → start + len ≤ length entries → path.new.items ≡ path.old.items ++ subproof_of R.digest first (part start len entries) held) }
-    ensures err { IfErr result (λ e. (entries : List (List ℕ)) → R.lists ranges.now entries → start + len ≤ length entries → e ≡ ProofFault.OutOfMemory) }
+    ensures ok { OnOk result (AddsHashes (R.lists ranges.now) start len
+        (λ es. subproof_of R.digest first es held) path.old.items path.new.items) }
+    ensures err { IfErr result (FailsForMemory (R.lists ranges.now) start len) }
 {
     if first == len {
         if !held {

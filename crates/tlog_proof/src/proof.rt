@@ -53,8 +53,11 @@ pub enum Proof {
 ///
 /// Those of `inclusion` or `consistency`, in their order.
 pub fn prove<R: Ranges>(alloc: Global, ranges: &R, ask: Ask) -> Result<Proof, ProofFault>
-    ensures answer { (entries : List (List ℕ)) → R.lists ranges.now entries → AnswersAs ProofFault.OutOfMemory (λ proof. proof) result (asked_proof R.digest entries ask) }
-    ensures writable { IfOk result (λ proof. (entries : List (List ℕ)) → R.lists ranges.now entries → length entries ≤ MAX_SIZE → IsWritableProof proof) }
+    ensures answer { (entries : List (List ℕ)) → R.lists ranges.now entries
+        → AnswersAs ProofFault.OutOfMemory (λ proof. proof) result
+        (asked_proof R.digest entries ask) }
+    ensures writable { IfOk result (λ proof. (entries : List (List ℕ))
+        → R.lists ranges.now entries → length entries ≤ MAX_SIZE → IsWritableProof proof) }
 {
     match ask {
         Ask::Inclusion { size, index } => {

@@ -1,9 +1,10 @@
 //! Proofs from text.
-ghost use Rattle.std.specs.Prelude.{◌≡◌, ◌≤◌, ℕ, List, [], length, IfSome, MatchOption, IfOk};
+ghost use Rattle.std.specs.Prelude.{◌≡◌, ◌≤◌, [], length, IfSome, IfOk};
 ghost use Rattle.std.specs.List.{AllByRecursion};
 ghost use Rattle.tlog_text.specs.Hash.{Is32Bytes};
 ghost use Rattle.tlog_proof.specs.Text.{LacksNewline, line, number_line, hash_line, path_lines, ReadsProof};
-ghost use Rattle.tlog_proof.specs.Reading.{FindsThat, AreProofLines, IsInclusionProof, IsConsistencyProof};
+ghost use Rattle.tlog_proof.specs.Reading.{AreProofLines, IsInclusionProof, IsConsistencyProof};
+ghost use Rattle.tlog_proof.specs.Reading.{FindsField, FindsHash, FindsNumber, FindsPath, FindsProof};
 
 use crate::fault::TextFault;
 use crate::limits::MAX_PATH;
@@ -35,7 +36,7 @@ pub fn read_text(alloc: Global, text: &str) -> Result<Proof, TextFault>
 // Reads the lines after the title of an inclusion proof.
 fn read_inclusion(alloc: Global, text: &str) -> Result<Proof, TextFault>
     ensures sound { IfOk result (λ proof. IsInclusionProof proof × AreProofLines text.now proof) }
-    ensures complete { (proof : Proof) → IsInclusionProof proof → AreProofLines text.now proof → FindsThat result (λ found. found ≡ proof) }
+    ensures complete { FindsProof IsInclusionProof text.now result }
 {
     let Some((size, rest)) = number_field(text, "size ") else {
         return Err(TextFault::BadProofText);
@@ -58,7 +59,7 @@ fn read_inclusion(alloc: Global, text: &str) -> Result<Proof, TextFault>
 // Reads the lines after the title of a consistency proof.
 fn read_consistency(alloc: Global, text: &str) -> Result<Proof, TextFault>
     ensures sound { IfOk result (λ proof. IsConsistencyProof proof × AreProofLines text.now proof) }
-    ensures complete { (proof : Proof) → IsConsistencyProof proof → AreProofLines text.now proof → FindsThat result (λ found. found ≡ proof) }
+    ensures complete { FindsProof IsConsistencyProof text.now result }
 {
     let Some((first, rest)) = number_field(text, "first ") else {
         return Err(TextFault::BadProofText);
@@ -80,16 +81,18 @@ fn read_consistency(alloc: Global, text: &str) -> Result<Proof, TextFault>
 
 // The value of the first line, which begins with that name, and what follows the line.
 fn field<'a>(text: &'a str, name: &str) -> Option<(&'a str, &'a str)>
-    ensures sound { IfSome result (λ r. LacksNewline r.0.now × (text.now ≡ line name.now r.0.now r.1.now)) }
-    ensures complete { (value rest : List ℕ) → LacksNewline value → text.now ≡ line name.now value rest → MatchOption result ⊥ (λ r. (r.0.now ≡ value) × (r.1.now ≡ rest)) }
+    ensures sound { IfSome result (λ r. LacksNewline r.0.now
+        × (text.now ≡ line name.now r.0.now r.1.now)) }
+    ensures complete { FindsField (λ r. r.0.now) (λ r. r.1.now) text.now name.now result }
 {
     text.strip_prefix(name)?.split_once('\n')
 }
 
 // The number of the first line, and what follows the line.
 fn number_field<'a>(text: &'a str, name: &str) -> Option<(u64, &'a str)>
-    ensures sound { IfSome result (λ r. (r.0 ≤ MAX_SIZE) × (text.now ≡ number_line name.now r.0 r.1.now)) }
-    ensures complete { (n : ℕ) (rest : List ℕ) → n ≤ MAX_SIZE → text.now ≡ number_line name.now n rest → MatchOption result ⊥ (λ r. (r.0 ≡ n) × (r.1.now ≡ rest)) }
+    ensures sound { IfSome result (λ r. (r.0 ≤ MAX_SIZE)
+        × (text.now ≡ number_line name.now r.0 r.1.now)) }
+    ensures complete { FindsNumber (λ r. r.0) (λ r. r.1.now) text.now name.now result }
 {
     let (digits, rest) = field(text, name)?;
     match read_number(digits, MAX_SIZE) {
@@ -101,7 +104,7 @@ fn number_field<'a>(text: &'a str, name: &str) -> Option<(u64, &'a str)>
 // The hash of the first line, and what follows the line.
 fn hash_field<'a>(text: &'a str, name: &str) -> Result<(Hash, &'a str), TextFault>
     ensures sound { IfOk result (λ r. Is32Bytes r.0 × (text.now ≡ hash_line name.now r.0 r.1.now)) }
-    ensures complete { (hash rest : List ℕ) → Is32Bytes hash → text.now ≡ hash_line name.now hash rest → FindsThat result (λ r. (r.0 ≡ hash) × (r.1.now ≡ rest)) }
+    ensures complete { FindsHash (λ r. r.0) (λ r. r.1.now) text.now name.now result }
 {
     let Some((encoded, rest)) = field(text, name) else {
         return Err(TextFault::BadProofText);
@@ -114,8 +117,9 @@ fn hash_field<'a>(text: &'a str, name: &str) -> Result<(Hash, &'a str), TextFaul
 
 // The hashes of all lines.
 fn path_fields(alloc: Global, text: &str) -> Result<HashPath, TextFault>
-    ensures sound { IfOk result (λ path. (text.now ≡ path_lines path []) × (length path ≤ MAX_PATH) × AllByRecursion Is32Bytes path) }
-    ensures complete { (path : List (List ℕ)) → AllByRecursion Is32Bytes path → length path ≤ MAX_PATH → text.now ≡ path_lines path [] → FindsThat result (λ found. found ≡ path) }
+    ensures sound { IfOk result (λ path. (text.now ≡ path_lines path []) × (length path ≤ MAX_PATH)
+        × AllByRecursion Is32Bytes path) }
+    ensures complete { FindsPath text.now result }
 {
     let mut path = Vec::new(alloc);
     let mut rest = text;

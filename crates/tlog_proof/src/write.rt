@@ -61,7 +61,8 @@ pub fn write_text(alloc: Global, proof: &Proof) -> Result<String, AllocError>
 
 // Adds the line of a number.
 fn add_number(text: &mut String, name: &str, n: u64) -> Result<(), AllocError>
-    ensures { OnOk result (string_bytes text.new ≡ string_bytes text.old ++ number_line name.now n []) }
+    ensures { OnOk result (string_bytes text.new
+        ≡ string_bytes text.old ++ number_line name.now n []) }
 {
     text.push_str(name)?;
     push_number(text, n)?;
@@ -70,7 +71,8 @@ fn add_number(text: &mut String, name: &str, n: u64) -> Result<(), AllocError>
 
 // Adds the line of a hash.
 fn add_hash(text: &mut String, name: &str, hash: &Hash) -> Result<(), AllocError>
-    ensures ok { OnOk result (string_bytes text.new ≡ string_bytes text.old ++ hash_line name.now hash.now []) }
+    ensures ok { OnOk result (string_bytes text.new
+        ≡ string_bytes text.old ++ hash_line name.now hash.now []) }
     ensures is_hash { Is32Bytes hash.now }
 {
     text.push_str(name)?;
@@ -81,7 +83,8 @@ fn add_hash(text: &mut String, name: &str, hash: &Hash) -> Result<(), AllocError
 
 // Adds the lines of a path.
 fn add_hashes(text: &mut String, path: &[Hash]) -> Result<(), AllocError>
-    ensures ok { OnOk result (string_bytes text.new ≡ string_bytes text.old ++ path_lines path.now []) }
+    ensures ok { OnOk result (string_bytes text.new
+        ≡ string_bytes text.old ++ path_lines path.now []) }
     ensures hashes { OnOk result (AllByRecursion Is32Bytes path.now) }
 {
     for hash in path {
