@@ -1,5 +1,5 @@
 -- Views that gain strings.
-use Rattle.std.proofs.Common.{◌≡◌, ◌⊎◌, ℕ, zero, suc, ◌+◌, ◌^◌, ◌<◌, ◌≤◌, ◌++◌, length, get_or, map, take, arith, List}
+use Rattle.std.proofs.Common.{◌≡◌, ◌⊎◌, ℕ, zero, suc, ◌^◌, ◌<◌, ◌≤◌, length, get_or, arith, List}
 use Rattle.std.proofs.Common.{[], ◌∷◌, Result, Ok, Err, Bool, true, false, refl, sym, ap, ◌∙◌, Option, subst, inl, inr}
 use Rattle.std.proofs.Common.{Contains}
 use Rattle.std.specs.FinSet as set
@@ -13,7 +13,7 @@ use Rattle.mirror_model.specs.Item.{notes_of, plus, IsGoodHead}
 use Rattle.mirror_model.specs.Heads.{IsOpenHead, IsHead, HasHead}
 use Rattle.mirror_model.specs.Listed.{ListsMissing}
 use Rattle.mirror_model.specs.TreeLaws.{IsOfSize, MissingIsOfSize}
-use Rattle.std.proofs.lemmas.List.{get_or_default, take_more, take-map, map-append, take_all, length-map}
+use Rattle.std.proofs.lemmas.List.{get_or_default}
 use Rattle.mirror_model.specs.Steps.{Takes, Exhausted}
 use Rattle.mirror_model.proofs.Views.{within_itself, within_trans, within_plus}
 use Rattle.mirror_model.proofs.StringSets.{has_right, has_cases, has_empty, listed_from_has, has_from_listed}

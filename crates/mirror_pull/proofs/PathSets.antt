@@ -1,31 +1,14 @@
 -- Paths in a set.
-use Rattle.std.proofs.Common.{◌≡◌, Bool, true, false, not, List, [], ◌∷◌, ◌++◌, Contains, refl, sym}
+use Rattle.std.proofs.Common.{◌≡◌, Bool, true, false, not, List, [], ◌∷◌, ◌++◌, Contains, sym}
 use Rattle.std.specs.HashSet.{HashSet, PutsKey, contains}
 use Rattle.std.specs.List.Sorted.{IsPermutation}
 use Rattle.std.proofs.lemmas.List.Sorted.{Contains-permutation, IsPermutation-cons, IsPermutation-sym, IsPermutation-to_front}
 use Rattle.std.proofs.lemmas.List.Sorted.{IsPermutation-trans}
+use Rattle.std.proofs.lemmas.Bool.{not-false}
 use Rattle.std.proofs.lemmas.Map.Views.{hash_set_contains_iff}
 use Rattle.tlog_tiles.specs.declared.paths.Path.{Path}
 use Rattle.tlog_tiles.specs.contracts.paths.PathPartialEq.TheImpl as path_eq
-use Rattle.mirror_trees.proofs.Orders.{IsDerived, exact, equivalence}
-
--- the equality of paths is that of their parts
-pub derived : IsDerived (path_eq.ghosts).eq
-derived = record {
-  tiles = λ l i w k j v. refl;
-  bundles = λ i w j v. refl;
-  checkpoints = refl;
-  tile_bundle = λ l i w j v. refl;
-  bundle_tile = λ l i w j v. refl;
-  tile_checkpoint = λ l i w. refl;
-  checkpoint_tile = λ l i w. refl;
-  bundle_checkpoint = λ i w. refl;
-  checkpoint_bundle = λ i w. refl;
-}
-
-not_false : (b : Bool) → false ≡ not b → b ≡ true
-not_false true e = refl
-not_false false e = e
+use Rattle.mirror_trees.proofs.Orders.{derived, exact, equivalence}
 
 -- a path that the list lacks is put into the set of the list
 pub put_new : {S : Type 0} (items : List Path) (old new : HashSet Path S) (path : Path) (added : Bool) →
@@ -37,4 +20,4 @@ put_new items old new path true lacks same is puts =
 put_new items old new path false lacks same is puts =
     let iff = hash_set_contains_iff (equivalence (path_eq.ghosts).eq derived) (exact (path_eq.ghosts).eq derived) old path in
     absurd (lacks (Contains-permutation old.keys items path (IsPermutation-sym items old.keys same)
-    (iff.0 (not_false (contains (path_eq.ghosts).eq old path) is))))
+    (iff.0 (not-false (contains (path_eq.ghosts).eq old path) (sym is)))))

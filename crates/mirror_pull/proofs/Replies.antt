@@ -1,7 +1,7 @@
 -- What the parts of a pull make of the replies, one part after another.
 use Rattle.std.proofs.Common.{◌≡◌, ℕ, suc, ◌+◌, ◌-◌, ◌*◌, ◌^◌, ◌<◌, ◌≤◌, min, List, [], ◌∷◌, ◌++◌, length}
 use Rattle.std.proofs.Common.{map, get_or, take, drop, arith, Option, Some, None, Bool, true, false, Contains, refl, sym, ◌∙◌}
-use Rattle.std.proofs.Common.{ap, subst, append_assoc, inl, inr, Result, Ok, Err}
+use Rattle.std.proofs.Common.{ap, subst, inl, inr, Result, Ok, Err}
 use Rattle.std.specs.Prelude.{IfOk}
 use Rattle.std.proofs.lemmas.List.{append-nil, map-append, take_all}
 use Rattle.std.proofs.Math.Seq.{split_at}
@@ -11,7 +11,7 @@ use Rattle.mirror_model.specs.View.{View}
 use Rattle.mirror_model.specs.Item.{plus}
 use Rattle.mirror_sources.specs.Files.{full_of, width_named}
 use Rattle.mirror_sources.specs.Source.{StaysWithin}
-use Rattle.mirror_sources.specs.Replies.{Reply, reply, paths_of, MayReply}
+use Rattle.mirror_sources.specs.Replies.{Reply, reply, paths_of}
 use Rattle.mirror_sources.specs.Told.{AddsTold}
 use Rattle.mirror_pull.specs.Taking.{TakesItem, EndsAfterHead, item_at}
 use Rattle.mirror_pull.specs.Replying.{Asks, AsksNew, AsksAgain, AsksPath, PathFound, PathNone, AsksList, ListNone}

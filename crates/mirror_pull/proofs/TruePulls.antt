@@ -32,7 +32,7 @@ use Rattle.mirror_model.proofs.Fetching.{plus_holds}
 use Rattle.mirror_sources.specs.Files.{full_of}
 use Rattle.mirror_sources.specs.Source.{StaysWithin}
 use Rattle.mirror_sources.specs.Told.{AddsTold}
-use Rattle.mirror_sources.specs.Replies.{Reply, reply, paths_of, MayReply}
+use Rattle.mirror_sources.specs.Replies.{Reply, paths_of}
 use Rattle.mirror_sources.specs.Honest.{IsHonest, true_bytes}
 use Rattle.mirror_pull.proofs.Askings.{paths_then, may_then, may_stays}
 use Rattle.mirror_pull.specs.Asking.{AreFresh, AddsTo}

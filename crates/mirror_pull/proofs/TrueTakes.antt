@@ -4,8 +4,8 @@ use Rattle.std.proofs.Common.{take, arith, length-take, Contains, Option, Some, 
 use Rattle.std.proofs.Common.{false, refl, sym, ◌∙◌, ap, subst, inl, inr}
 use Rattle.std.specs.Prelude.{MatchResult}
 use Rattle.std.specs.FinSet as set
-use Rattle.std.proofs.Common.{get_or, append_assoc}
-use Rattle.std.proofs.lemmas.List.{append-nil, take_all}
+use Rattle.std.proofs.Common.{get_or}
+use Rattle.std.proofs.lemmas.List.{take_all}
 use Rattle.std.proofs.lemmas.List.Elements.{All-take, Contains-get_or}
 use Rattle.tlog_hash.specs.Tree.{strings}
 use Rattle.tlog_tiles.specs.declared.paths.Path.{Path}
@@ -23,7 +23,7 @@ use Rattle.mirror_model.proofs.StringSets.{no_clash_within, clash_contradicts}
 use Rattle.mirror_model.proofs.TrueItems.{prefixes_serve_same, tiles_are_true, bundles_are_true, true_strings_within}
 use Rattle.mirror_model.proofs.Fetching.{plus_holds}
 use Rattle.mirror_sources.specs.Files.{full_of}
-use Rattle.mirror_sources.specs.Replies.{Reply, reply, MayReply}
+use Rattle.mirror_sources.specs.Replies.{Reply}
 use Rattle.mirror_sources.specs.Honest.{IsGone, Gets, GetsNone, GetsFound, GetsFull, true_bytes}
 use Rattle.mirror_pull.specs.Taking.{TakesItem, item_at}
 use Rattle.mirror_pull.specs.Honest.{NoClashAmong, true_item, with_true}

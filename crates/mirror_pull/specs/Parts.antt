@@ -1,6 +1,6 @@
 -- What the parts of a pull from an honest source come to. The contracts of private functions alone
 -- cite these words.
-use Rattle.std.specs.Prelude.{◌≡◌, ◌⊎◌, ℕ, ◌≤◌, ◌<◌, ◌^◌, List, [], ◌∷◌, ◌++◌, length, map}
+use Rattle.std.specs.Prelude.{◌≡◌, ◌⊎◌, ℕ, ◌≤◌, ◌<◌, ◌^◌, List, [], ◌∷◌, length, map}
 use Rattle.std.specs.Prelude.{take, Option, Contains, Bool, false, Result, MatchResult}
 use Rattle.tlog_hash.specs.Tree.{mth, strings}
 use Rattle.tlog_tiles.specs.declared.paths.Path.{Path}

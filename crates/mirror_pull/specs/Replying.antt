@@ -272,21 +272,24 @@ module _ (may : Path → Option (List ℕ) → Type 0) (old new : Option (List P
   -- what was found at a path was replied, or it was asked for before
   abbrev pub AskFollows : Path → Result (Option (List ℕ)) PullFault → Type 0
   AskFollows path result =
-      IfOk result (λ found. Gathers may old new before after (λ replies. Asks before path replies found))
+      IfOk result
+      (λ found. Gathers may old new before after (λ replies. Asks before path replies found))
 
   -- the row of a path of the edge is of the replies, which at NoEdge give none
   abbrev pub RowFollows : Path → Result (List ℕ) PullFault → Type 0
   RowFollows path result =
       MatchResult result
       (λ row. Gathers may old new before after (λ replies. GivesRow before path replies row))
-      (λ e. e ≡ NoEdge → Gathers may old new before after (λ replies. GivesNoRow before path replies))
+      (λ e. e ≡ NoEdge →
+      Gathers may old new before after (λ replies. GivesNoRow before path replies))
 
   -- so are the rows of several paths
   abbrev pub RowsFollow : List Path → Result (List (List ℕ)) PullFault → Type 0
   RowsFollow paths result =
       MatchResult result
       (λ rows. Gathers may old new before after (λ replies. GivesRows before paths replies rows))
-      (λ e. e ≡ NoEdge → Gathers may old new before after (λ replies. GivesNoRows before paths replies))
+      (λ e. e ≡ NoEdge →
+      Gathers may old new before after (λ replies. GivesNoRows before paths replies))
 
   -- what was replied for a path was taken or refused, of which the answer tells
   abbrev pub PathFollows : (List ℕ → List ℕ) → View → Path → View → Result Bool PullFault → Type 0

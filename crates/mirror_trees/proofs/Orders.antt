@@ -10,6 +10,7 @@ use Rattle.std.specs.Cmp.{then_total, back_total}
 use Rattle.std.specs.FinSet.{nat_cmp-IsAntisymmetric}
 use Rattle.tlog_tiles.specs.declared.paths.Path.{Path}
 use Rattle.tlog_tiles.specs.declared.paths.Path.TheVariants.{Checkpoint, Tile, Entries}
+use Rattle.tlog_tiles.specs.contracts.paths.PathPartialEq.TheImpl as path_eq
 use Rattle.mirror_model.specs.Front.{path_cmp}
 use Rattle.node_store.proofs.Sets.{same_bool}
 
@@ -115,6 +116,20 @@ pub record IsDerived (E : Path → Path → Bool) : Type 0 where
   pub checkpoint_tile : (l i w : ℕ) → E Checkpoint (Tile l i w) ≡ false
   pub bundle_checkpoint : (i w : ℕ) → E (Entries i w) Checkpoint ≡ false
   pub checkpoint_bundle : (i w : ℕ) → E Checkpoint (Entries i w) ≡ false
+
+-- the equality that is derived for paths is that of their parts
+pub derived : IsDerived (path_eq.ghosts).eq
+derived = record {
+  tiles = λ l i w k j v. refl;
+  bundles = λ i w j v. refl;
+  checkpoints = refl;
+  tile_bundle = λ l i w j v. refl;
+  bundle_tile = λ l i w j v. refl;
+  tile_checkpoint = λ l i w. refl;
+  checkpoint_tile = λ l i w. refl;
+  bundle_checkpoint = λ i w. refl;
+  checkpoint_bundle = λ i w. refl;
+}
 
 module _ (E : Path → Path → Bool) (d : IsDerived E) where
   never : {X : Type 0} (b : Bool) → b ≡ false → b ≡ true → X

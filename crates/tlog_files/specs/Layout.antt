@@ -43,7 +43,8 @@ LacksRowPiece row index width =
 abbrev pub IsTextPiece : List ℕ → List ℕ → ℕ → ℕ → List ℕ → Type 0
 IsTextPiece text ends index width bytes =
     (entries : List (List ℕ)) → text ≡ bundle_text entries → ends ≡ ends_of 0 entries →
-    HoldsFile (length entries) index width × (bytes ≡ bundle_text (part (256 * index) width entries))
+    HoldsFile (length entries) index width
+    × (bytes ≡ bundle_text (part (256 * index) width entries))
 
 -- whichever entries have these ends, not all of a file's are among them
 abbrev pub LacksTextPiece : List ℕ → ℕ → ℕ → Type 0

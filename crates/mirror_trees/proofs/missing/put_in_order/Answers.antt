@@ -5,21 +5,8 @@ use Rattle.std.proofs.lemmas.List.Kept.{IsStrictlySortedBy-dedup, Contains-dedup
 use Rattle.std.proofs.lemmas.List.Sorted.{answers_always, ranks_by, Contains-permutation, IsPermutation-sym}
 use Rattle.mirror_model.specs.Front.{path_cmp}
 use Rattle.tlog_tiles.specs.contracts.paths.PathPartialEq.TheImpl as path_eq
-use Rattle.mirror_trees.proofs.Orders.{path_total, IsDerived, exact, ties, equivalence}
+use Rattle.mirror_trees.proofs.Orders.{path_total, derived, exact, ties, equivalence}
 use Rattle.mirror_trees.proofs.missing.put_in_order.Goals as goal
-
-derived : IsDerived (path_eq.ghosts).eq
-derived = record {
-  tiles = λ l i w k j v. refl;
-  bundles = λ i w j v. refl;
-  checkpoints = refl;
-  tile_bundle = λ l i w j v. refl;
-  bundle_tile = λ l i w j v. refl;
-  tile_checkpoint = λ l i w. refl;
-  checkpoint_tile = λ l i w. refl;
-  bundle_checkpoint = λ i w. refl;
-  checkpoint_bundle = λ i w. refl;
-}
 
 pub returns-clause-sorted : goal.returns-clause-sorted
 returns-clause-sorted c =

@@ -2,8 +2,7 @@ use Rattle.std.proofs.Common.{sym, ap, ◌∙◌, subst, Contains}
 use Rattle.std.proofs.lemmas.List.Sorted.{Contains-permutation, IsPermutation-sym}
 use Rattle.std.proofs.lemmas.Map.Views.{hash_set_contains_iff}
 use Rattle.tlog_tiles.specs.contracts.paths.PathPartialEq.TheImpl as path_eq
-use Rattle.mirror_trees.proofs.Orders.{exact, equivalence}
-use Rattle.mirror_pull.proofs.PathSets.{derived}
+use Rattle.mirror_trees.proofs.Orders.{derived, exact, equivalence}
 use Rattle.mirror_pull.proofs.asked.AskedPaths.contains.Goals as goal
 
 pub returns : goal.returns

@@ -1,4 +1,4 @@
-use Rattle.std.proofs.Common.{sym, ap, ◌∙◌, subst, Contains, ◌∷◌, [], ◌++◌}
+use Rattle.std.proofs.Common.{sym, subst, Contains}
 use Rattle.std.specs.List.Sorted.{IsPermutation}
 use Rattle.mirror_pull.proofs.PathSets.{put_new}
 use Rattle.mirror_pull.proofs.asked.AskedPaths.push.Goals as goal
