@@ -32,7 +32,8 @@ pub fn export<H: TreeHash, S: Shelf>(
     shelf: &mut S,
 ) -> Result<(), ExportFault>
     ensures puts { Exports H.digest mirror.now.view (S.puts shelf.old) (S.puts shelf.new) result }
-    ensures nothing { (result ≡ Err ExportFault.NothingComplete) ↔ ServesNothing H.digest mirror.now.view }
+    ensures nothing { (result ≡ Err ExportFault.NothingComplete)
+        ↔ ServesNothing H.digest mirror.now.view }
 
     // After each put a shelf that had no checkpoint has one only if every tile and bundle of it stands there with true
     // bytes.

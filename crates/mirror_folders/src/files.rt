@@ -53,8 +53,8 @@ fn file_bytes<H: TreeHash>(
     path: Path,
 ) -> Result<Vec<u8>, AllocError>
     requires { IsWithin top.now.size path }
-    ensures { IfOk result (λ bytes. (entries : List (List ℕ)) → IsListOf H.digest top.now entries
-        → bytes.items ≡ served_bytes H.digest top.now.note entries path) }
+    ensures { IfOk result (λ bytes. (entries : List (List ℕ))
+        → IsListOf H.digest top.now entries → bytes.items ≡ served_bytes H.digest top.now.note entries path) }
 {
     match path {
         Path::Checkpoint => unreachable!(),
@@ -82,7 +82,8 @@ fn put_file<H: TreeHash, S: Shelf>(
 ) -> Result<(), ShelfError>
     requires { IsWithin top.now.size path }
     ensures told { (entries : List (List ℕ)) → IsListOf H.digest top.now entries
-        → AddsFiles (S.puts shelf.old) (S.puts shelf.new) (files_at H.digest top.now.note entries (path ∷ [])) result }
+        → AddsFiles (S.puts shelf.old) (S.puts shelf.new)
+        (files_at H.digest top.now.note entries (path ∷ [])) result }
     ensures counted { CountsFailures (S.failed shelf.old) (S.failed shelf.new) result }
 {
     let bytes = file_bytes(alloc, top, path)?;
@@ -154,7 +155,8 @@ fn put_kind<H: TreeHash, S: Shelf>(
     requires level { kind_level kind ≤ 7 }
     ensures told { (entries : List (List ℕ)) → IsListOf H.digest top.now entries
         → AddsFiles (S.puts shelf.old) (S.puts shelf.new)
-        (files_at H.digest top.now.note entries (filter (is_new since) (kind_paths top.now.size kind))) result }
+        (files_at H.digest top.now.note entries
+        (filter (is_new since) (kind_paths top.now.size kind))) result }
     ensures counted { CountsFailures (S.failed shelf.old) (S.failed shelf.new) result }
 {
     put_full(alloc, top, size, since, shelf, kind)?;
@@ -174,7 +176,8 @@ fn put_full<H: TreeHash, S: Shelf>(
     requires level { kind_level kind ≤ 7 }
     ensures told { (entries : List (List ℕ)) → IsListOf H.digest top.now entries
         → AddsFiles (S.puts shelf.old) (S.puts shelf.new)
-        (files_at H.digest top.now.note entries (filter (is_new since) (full_paths top.now.size kind))) result }
+        (files_at H.digest top.now.note entries
+        (filter (is_new since) (full_paths top.now.size kind))) result }
     ensures counted { CountsFailures (S.failed shelf.old) (S.failed shelf.new) result }
 {
     for index in 0..edge_index(size, level_at(kind)) {
@@ -196,7 +199,8 @@ fn put_partial<H: TreeHash, S: Shelf>(
     requires level { kind_level kind ≤ 7 }
     ensures told { (entries : List (List ℕ)) → IsListOf H.digest top.now entries
         → AddsFiles (S.puts shelf.old) (S.puts shelf.new)
-        (files_at H.digest top.now.note entries (filter (is_new since) (partial_path top.now.size kind))) result }
+        (files_at H.digest top.now.note entries
+        (filter (is_new since) (partial_path top.now.size kind))) result }
     ensures counted { CountsFailures (S.failed shelf.old) (S.failed shelf.new) result }
 {
     let level = level_at(kind);
@@ -224,7 +228,8 @@ fn put_tiles<H: TreeHash, S: Shelf>(
     requires size { size ≡ top.now.size }
     ensures told { (entries : List (List ℕ)) → IsListOf H.digest top.now entries
         → AddsFiles (S.puts shelf.old) (S.puts shelf.new)
-        (files_at H.digest top.now.note entries (filter (is_new since) (tile_paths top.now.size))) result }
+        (files_at H.digest top.now.note entries
+        (filter (is_new since) (tile_paths top.now.size))) result }
     ensures counted { CountsFailures (S.failed shelf.old) (S.failed shelf.new) result }
 {
     for level in 0..8u32 {
@@ -244,7 +249,8 @@ pub(crate) fn put_served<H: TreeHash, S: Shelf>(
 ) -> Result<(), ShelfError>
     requires size { size ≡ top.now.size }
     ensures told { (entries : List (List ℕ)) → IsListOf H.digest top.now entries
-        → AddsFiles (S.puts shelf.old) (S.puts shelf.new) (files_at H.digest top.now.note entries (since_paths since top.now.size)) result }
+        → AddsFiles (S.puts shelf.old) (S.puts shelf.new)
+        (files_at H.digest top.now.note entries (since_paths since top.now.size)) result }
     ensures counted { CountsFailures (S.failed shelf.old) (S.failed shelf.new) result }
 {
     put_tiles(alloc, top, size, since, shelf)?;

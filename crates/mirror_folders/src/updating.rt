@@ -44,8 +44,10 @@ pub fn update<H: TreeHash, S: Shelf>(
     checkpoint: &[u8],
     shelf: &mut S,
 ) -> Result<(), UpdateFault>
-    ensures puts { Updates H.digest mirror.now.view checkpoint.now (S.puts shelf.old) (S.puts shelf.new) result }
-    ensures nothing { (result ≡ Err UpdateFault.NothingComplete) ↔ ServesNothing H.digest mirror.now.view }
+    ensures puts { Updates H.digest mirror.now.view checkpoint.now (S.puts shelf.old)
+        (S.puts shelf.new) result }
+    ensures nothing { (result ≡ Err UpdateFault.NothingComplete)
+        ↔ ServesNothing H.digest mirror.now.view }
     ensures blamed { CountsUpdate (S.failed shelf.old) (S.failed shelf.new) result }
 {
     let Some(top) = mirror.top_ranges() else {

@@ -1,5 +1,8 @@
 -- What is counted of the calls of a source and of a shelf.
-use Rattle.std.specs.Prelude.{◌≡◌, ℕ, Option, Some, None, Result, Ok, Err}
+use Rattle.std.specs.Prelude.{◌≡◌, ◌↔◌, ℕ, List, Option, Some, None, Result, Ok, Err}
+use Rattle.signed_note.specs.Keys.{Key}
+use Rattle.tlog_tiles.specs.declared.paths.Path.{Path}
+use Rattle.mirror_sources.specs.Honest.{IsHonest}
 use Rattle.mirror_progress.specs.declared.counts.Counts.{Counts}
 use Rattle.mirror_progress.specs.Text.{with_file}
 
@@ -14,3 +17,12 @@ CountsAnswer len old new (Err e) = new ≡ old
 abbrev pub CountsPut : {T E : Type 0} → ℕ → Counts → Counts → Result T E → Type 0
 CountsPut len old new (Ok x) = new ≡ with_file old len
 CountsPut len old new (Err e) = new ≡ old
+
+-- sources of which these answers may come are honest for the same logs
+abbrev pub AreHonestAlike : (Path → Option (List ℕ) → Type 0) →
+    (Path → Option (List ℕ) → Type 0) → Type 0
+AreHonestAlike one other =
+    (digest : List ℕ → List ℕ) (entries : List (List ℕ)) (origin : List ℕ) (keys : List Key)
+    (note : List ℕ) (size : ℕ) →
+    IsHonest digest entries origin keys note size one
+    ↔ IsHonest digest entries origin keys note size other

@@ -152,7 +152,8 @@ impl<C: Clock + Drop, W: Write + Drop> Progress<C, W> {
     /// many of the one that was pulled, or that this is older.
     pub fn tell_pulled(&mut self, held: u64, size: u64)
         ensures counts { self.new.counts ≡ self.old.counts }
-        ensures line { AppendsPrefix (W.contents self.old.writer) (W.contents self.new.writer) (line_of (pulled_text held size self.old.counts)) }
+        ensures line { AppendsPrefix (W.contents self.old.writer) (W.contents self.new.writer)
+            (line_of (pulled_text held size self.old.counts)) }
     {
         match pulled_line(self.alloc, held, size, self.counts) {
             Ok(line) => write_line(&mut self.writer, &line),

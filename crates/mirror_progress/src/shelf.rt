@@ -48,9 +48,12 @@ impl<S: Shelf + Drop, C: Clock + Drop, W: Write + Drop> Shelf for CountingShelf<
     }
 
     fn put(&mut self, path: &Path, bytes: &[u8]) -> Result<(), ShelfError>
-        ensures told { TellsPut (S.puts self.old.shelf) (S.puts self.new.shelf) (path.now, bytes.now) result }
-        ensures counted { CountsFailures (S.failed self.old.shelf) (S.failed self.new.shelf) result }
-        ensures counts { CountsPut (length bytes.now) self.old.progress.counts self.new.progress.counts result }
+        ensures told { TellsPut (S.puts self.old.shelf) (S.puts self.new.shelf)
+            (path.now, bytes.now) result }
+        ensures counted { CountsFailures (S.failed self.old.shelf) (S.failed self.new.shelf)
+            result }
+        ensures counts { CountsPut (length bytes.now) self.old.progress.counts
+            self.new.progress.counts result }
     {
         match self.shelf.put(path, bytes) {
             Ok(()) => {

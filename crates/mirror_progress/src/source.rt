@@ -54,11 +54,14 @@ impl<S: Source + Drop, C: Clock + Drop, W: Write + Drop> Source for CountingSour
     ghost failed = { λ s. S.failed s.source };
 
     fn get(&mut self, path: &Path) -> Result<Option<Vec<u8>>, SourceFault>
-        ensures answer { IfOk result (λ bytes. S.may_answer self.old.source path.now (option_map (λ v. v.items) bytes)) }
+        ensures answer { IfOk result
+            (λ bytes. S.may_answer self.old.source path.now (option_map (λ v. v.items) bytes)) }
         ensures later { StaysWithin (S.may_answer self.old.source) (S.may_answer self.new.source) }
-        ensures told { TellsGet (S.asked self.old.source) (S.asked self.new.source) path.now result }
+        ensures told { TellsGet (S.asked self.old.source) (S.asked self.new.source) path.now
+            result }
         ensures counted { CountsGet (S.failed self.old.source) (S.failed self.new.source) result }
-        ensures counts { CountsAnswer vec_len self.old.progress.counts self.new.progress.counts result }
+        ensures counts { CountsAnswer vec_len self.old.progress.counts self.new.progress.counts
+            result }
     {
         match self.source.get(path) {
             Ok(Some(bytes)) => {

@@ -1,12 +1,13 @@
 -- What may be asked for, and how the target of a request names it (RFC 9110, section 3.1; RFC 9112,
 -- section 3.2.1; C2SP tlog-tiles, "Parameters"). Targets are compared byte for byte: nothing is
--- decoded. What stands below `/mirror/` is own.
-use Rattle.std.specs.Prelude.{◌≡◌, ℕ, ◌≤◌, List, ◌++◌, codes}
+-- decoded. What stands below `/mirror/` is own. `FindsTwo` is cited by the contract of a private
+-- function alone.
+use Rattle.std.specs.Prelude.{◌≡◌, ℕ, ◌≤◌, List, ◌++◌, codes, Option, MatchOption}
 use Rattle.hex.specs.Hex.{encode_lower}
 use Rattle.tlog_shape.specs.declared.TheConstants.{MAX_SIZE}
 use Rattle.tlog_text.specs.Number.{IsDecimal}
 use Rattle.tlog_text.specs.Hash.{Is32Bytes}
-use Rattle.tlog_tiles.specs.Path.{IsPath}
+use Rattle.tlog_tiles.specs.Path.{HasNoSlash, IsPath}
 use Rattle.tlog_tiles.specs.declared.paths.Path.{Path}
 use Rattle.tlog_proof.specs.declared.proof.Ask.TheVariants as ask
 use Rattle.mirror_server.specs.declared.resource.Resource.{Resource}
@@ -26,6 +27,13 @@ pub record IsHexHash (text hash : List ℕ) : Type 0 where
 -- the target is that beginning, and two texts with a slash between them
 abbrev pub HasTwo : List ℕ → List ℕ → List ℕ → List ℕ → Type 0
 HasTwo front target first second = target ≡ front ++ (first ++ (codes "/" ++ second))
+
+-- where the target has two such texts, and the first has no slash, they are found
+abbrev pub FindsTwo : {X : Type 0} → (X → List ℕ) → (X → List ℕ) → List ℕ → List ℕ → Option X →
+    Type 0
+FindsTwo first_of second_of front target result =
+    (first second : List ℕ) → HasNoSlash first → HasTwo front target first second →
+    MatchOption result ⊥ (λ found. (first_of found ≡ first) × (second_of found ≡ second))
 
 -- the target is that beginning, a number, a slash and another number
 pub record NamesNumbers (front target : List ℕ) (m n : ℕ) : Type 0 where

@@ -15,8 +15,10 @@ fn proof_bytes<H: TreeHash>(
     mirror: &Mirror<H>,
     ask: Ask,
 ) -> Result<Option<Vec<u8>>, AllocError>
-    ensures found { IfOk result (λ o. IfSome o (λ bytes. IsServedProofText H.digest mirror.now.view ask bytes.items)) }
-    ensures none { IfOk result (λ o. IfNone o ((bytes : List ℕ) → ¬ IsServedProofText H.digest mirror.now.view ask bytes)) }
+    ensures found { IfOk result (λ o.
+        IfSome o (λ bytes. IsServedProofText H.digest mirror.now.view ask bytes.items)) }
+    ensures none { IfOk result (λ o.
+        IfNone o ((bytes : List ℕ) → ¬ IsServedProofText H.digest mirror.now.view ask bytes)) }
 {
     let Some(top) = mirror.top_ranges() else {
         return Ok(None);
@@ -46,8 +48,10 @@ pub fn body_of<H: TreeHash>(
     mirror: &Mirror<H>,
     resource: &Resource,
 ) -> Result<Option<Vec<u8>>, AllocError>
-    ensures found { IfOk result (λ o. IfSome o (λ body. IsBody H.digest mirror.now.view resource.now body.items)) }
-    ensures none { IfOk result (λ o. IfNone o ((body : List ℕ) → ¬ IsBody H.digest mirror.now.view resource.now body)) }
+    ensures found { IfOk result (λ o.
+        IfSome o (λ body. IsBody H.digest mirror.now.view resource.now body.items)) }
+    ensures none { IfOk result (λ o.
+        IfNone o ((body : List ℕ) → ¬ IsBody H.digest mirror.now.view resource.now body)) }
 {
     match *resource {
         Resource::File(path) => mirror.file(alloc, &path),

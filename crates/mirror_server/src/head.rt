@@ -63,9 +63,12 @@ fn look_at(bytes: &[u8]) -> Look
 // Adds what one read gives, to so many bytes as a head may have.
 fn read_more<R: Read>(reader: &mut R, received: &mut Vec<u8>) -> Result<Turn, HttpFault>
     requires { vec_len received.old < MAX_HEAD_LEN }
-    ensures turn { IfOk result (ReadsOn (R.remaining reader.old) (R.remaining reader.new) received.old.items received.new.items) }
-    ensures limit { TakesAtMost (MAX_HEAD_LEN - vec_len received.old) (R.remaining reader.old) (R.remaining reader.new) }
-    ensures fault { IfErr result (λ e. e ≡ HttpFault.ReadFault → Keeps (R.remaining reader.old) (R.remaining reader.new)) }
+    ensures turn { IfOk result (ReadsOn (R.remaining reader.old) (R.remaining reader.new)
+        received.old.items received.new.items) }
+    ensures limit { TakesAtMost (MAX_HEAD_LEN - vec_len received.old) (R.remaining reader.old)
+        (R.remaining reader.new) }
+    ensures fault { IfErr result (λ e. e ≡ HttpFault.ReadFault
+        → Keeps (R.remaining reader.old) (R.remaining reader.new)) }
 {
     let mut chunk = [0u8; CHUNK];
     let room = chunk.len().min(MAX_HEAD_LEN - received.len());
@@ -89,9 +92,11 @@ fn read_more<R: Read>(reader: &mut R, received: &mut Vec<u8>) -> Result<Turn, Ht
 /// not read again once a whole head is there.
 pub fn read_head<R: Read>(alloc: Global, reader: &mut R) -> Result<(Seen, Vec<u8>), HttpFault>
     ensures within { IfOk result (λ r. LiesWithin (vec_len r.1) r.0) }
-    ensures seen { IfOk result (λ r. IfSome (R.remaining reader.old) (λ all. SeesIn all r.1.items r.0)) }
+    ensures seen { IfOk result (λ r.
+        IfSome (R.remaining reader.old) (λ all. SeesIn all r.1.items r.0)) }
     ensures limit { TakesAtMost MAX_HEAD_LEN (R.remaining reader.old) (R.remaining reader.new) }
-    ensures fault { IfErr result (λ e. e ≡ HttpFault.ReadFault → FailsBeforeHead (R.remaining reader.old) (R.remaining reader.new)) }
+    ensures fault { IfErr result (λ e. e ≡ HttpFault.ReadFault
+        → FailsBeforeHead (R.remaining reader.old) (R.remaining reader.new)) }
 {
     let mut received = Vec::new(alloc);
     for _ in 0..u64::MAX {

@@ -1,9 +1,9 @@
 //! What may be asked for.
-ghost use Rattle.std.specs.Prelude.{◌≡◌, ◌↔◌, ℕ, List, IfNone, IfSome, IsTrue, MatchOption, codes};
+ghost use Rattle.std.specs.Prelude.{◌≡◌, ◌↔◌, ℕ, List, IfNone, IfSome, IsTrue, codes};
 ghost use Rattle.hex.specs.Hex.{encode_lower};
 ghost use Rattle.tlog_text.specs.Hash.{Is32Bytes};
-ghost use Rattle.tlog_tiles.specs.Path.{HasNoSlash};
-ghost use Rattle.mirror_server.specs.Resource.{HasTwo, IsHexHash, IsNumber, Names, NamesFile, NamesHead, NamesNumbers};
+ghost use Rattle.mirror_server.specs.Resource.{FindsTwo, HasTwo, IsHexHash, IsNumber, Names};
+ghost use Rattle.mirror_server.specs.Resource.{NamesFile, NamesHead, NamesNumbers};
 
 use hex::FromHex;
 use tlog_hash::Hash;
@@ -31,7 +31,7 @@ pub enum Resource {
 // The two texts behind the prefix, of which the first has no slash.
 fn two_behind<'a>(target: &'a str, front: &str) -> Option<(&'a str, &'a str)>
     ensures found { IfSome result (λ x. HasTwo front.now target.now x.0.now x.1.now) }
-    ensures complete { (first second : List ℕ) → HasNoSlash first → HasTwo front.now target.now first second → MatchOption result ⊥ (λ x. (x.0.now ≡ first) × (x.1.now ≡ second)) }
+    ensures complete { FindsTwo (λ x. x.0.now) (λ x. x.1.now) front.now target.now result }
 {
     target.strip_prefix(front)?.split_once('/')
 }
@@ -94,7 +94,8 @@ fn hash_of(digits: &str) -> Option<Hash>
 // The size and the root that are asked what is missing of them.
 fn head_of(target: &str) -> Option<(u64, Hash)>
     ensures found { IfSome result (λ x. NamesHead (codes "/mirror/missing/") target.now x.0 x.1) }
-    ensures none { IfNone result ((n : ℕ) (root : List ℕ) → ¬ NamesHead (codes "/mirror/missing/") target.now n root) }
+    ensures none { IfNone result ((n : ℕ) (root : List ℕ)
+        → ¬ NamesHead (codes "/mirror/missing/") target.now n root) }
 {
     let Some((digits, hex_digits)) = two_behind(target, "/mirror/missing/") else {
         return None;

@@ -78,8 +78,10 @@ fn found_at<H: TreeHash>(
     mirror: &Mirror<H>,
     target: &str,
 ) -> Result<Option<Vec<u8>>, AllocError>
-    ensures found { IfOk result (λ o. IfSome o (λ reply. IsFound H.digest mirror.now.view target.now reply.items)) }
-    ensures none { IfOk result (λ o. IfNone o ((reply : List ℕ) → ¬ IsFound H.digest mirror.now.view target.now reply)) }
+    ensures found { IfOk result (λ o.
+        IfSome o (λ reply. IsFound H.digest mirror.now.view target.now reply.items)) }
+    ensures none { IfOk result (λ o.
+        IfNone o ((reply : List ℕ) → ¬ IsFound H.digest mirror.now.view target.now reply)) }
 {
     let Some(resource) = resource_of(target) else {
         return Ok(None);
@@ -103,7 +105,8 @@ fn reply_to_get<H: TreeHash>(
     mirror: &Mirror<H>,
     target: &[u8],
 ) -> Result<Vec<u8>, AllocError>
-    ensures { IfOk result (λ reply. IsReplyOf H.digest mirror.now.view (codes "GET") target.now reply.items) }
+    ensures { IfOk result
+        (λ reply. IsReplyOf H.digest mirror.now.view (codes "GET") target.now reply.items) }
 {
     match str::from_utf8(target) {
         Ok(text) => match found_at(alloc, mirror, text)? {
@@ -121,7 +124,8 @@ fn reply_to<H: TreeHash>(
     method: &[u8],
     target: &[u8],
 ) -> Result<Vec<u8>, AllocError>
-    ensures { IfOk result (λ reply. IsReplyOf H.digest mirror.now.view method.now target.now reply.items) }
+    ensures { IfOk result
+        (λ reply. IsReplyOf H.digest mirror.now.view method.now target.now reply.items) }
 {
     if is_get(method) {
         Ok(reply_to_get(alloc, mirror, target)?)
@@ -136,9 +140,11 @@ fn response<H: TreeHash, R: Read>(
     mirror: &Mirror<H>,
     reader: &mut R,
 ) -> Result<Vec<u8>, HttpFault>
-    ensures reply { IfOk result (λ reply. IfSome (R.remaining reader.old) (λ bytes. Response H.digest mirror.now.view bytes reply.items)) }
+    ensures reply { IfOk result (λ reply. IfSome (R.remaining reader.old)
+        (λ bytes. Response H.digest mirror.now.view bytes reply.items)) }
     ensures limit { TakesAtMost MAX_HEAD_LEN (R.remaining reader.old) (R.remaining reader.new) }
-    ensures fault { IfErr result (λ e. e ≡ HttpFault.ReadFault → FailsBeforeHead (R.remaining reader.old) (R.remaining reader.new)) }
+    ensures fault { IfErr result (λ e. e ≡ HttpFault.ReadFault
+        → FailsBeforeHead (R.remaining reader.old) (R.remaining reader.new)) }
 {
     let (seen, received) = read_head(alloc, reader)?;
     match seen {
@@ -176,10 +182,14 @@ pub fn answer<H: TreeHash, R: Read, W: Write>(
     reader: &mut R,
     writer: &mut W,
 ) -> Result<(), HttpFault>
-    ensures answer { IfSome (R.remaining reader.old) (λ bytes. AnswersClient H.digest mirror.now.view bytes (W.contents writer.old) (W.contents writer.new) result) }
-    ensures quiet { IfErr result (λ e. e ≢ HttpFault.WriteFault → Keeps (W.contents writer.old) (W.contents writer.new)) }
+    ensures answer { IfSome (R.remaining reader.old)
+        (λ bytes. AnswersClient H.digest mirror.now.view bytes (W.contents writer.old)
+        (W.contents writer.new) result) }
+    ensures quiet { IfErr result (λ e. e ≢ HttpFault.WriteFault
+        → Keeps (W.contents writer.old) (W.contents writer.new)) }
     ensures limit { TakesAtMost MAX_HEAD_LEN (R.remaining reader.old) (R.remaining reader.new) }
-    ensures fault { IfErr result (λ e. e ≡ HttpFault.ReadFault → FailsBeforeHead (R.remaining reader.old) (R.remaining reader.new)) }
+    ensures fault { IfErr result (λ e. e ≡ HttpFault.ReadFault
+        → FailsBeforeHead (R.remaining reader.old) (R.remaining reader.new)) }
 {
     let reply = match response(alloc, mirror, reader) {
         Ok(reply) => reply,

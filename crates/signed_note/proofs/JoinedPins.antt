@@ -5,6 +5,7 @@ use Rattle.std.specs.List.{list_any, HoldsAt}
 use Rattle.std.specs.Str.{bytes_eq}
 use Rattle.sha2.specs.Sha256.{sha256}
 use Rattle.std.proofs.Common.{⊎_elim}
+use Rattle.std.proofs.Math.Bool.{or_assoc, or_comm, or-false, and-or_distrib_left}
 use Rattle.std.proofs.lemmas.List.{map-append}
 use Rattle.std.proofs.lemmas.List.Elements.{Contains-append_left, Contains-append_right, Contains-append_cases}
 use Rattle.std.proofs.lemmas.List.Folds.{list_any-append}
@@ -19,27 +20,21 @@ use Rattle.signed_note.proofs.Trust.{list_any-map, list_any_same, opens_is}
 -- ---- tests
 
 or_last : (a b c : Bool) → ((a || b) || c) ≡ ((a || c) || b)
-or_last true true true = refl
-or_last true true false = refl
-or_last true false true = refl
-or_last true false false = refl
-or_last false true true = refl
-or_last false true false = refl
-or_last false false true = refl
-or_last false false false = refl
-
-or_assoc : (a b c : Bool) → (a || (b || c)) ≡ ((a || b) || c)
-or_assoc true b c = refl
-or_assoc false b c = refl
-
-or_false : (a : Bool) → (a || false) ≡ a
-or_false true = refl
-or_false false = refl
+or_last a b c = or_assoc a b c ∙ (ap (λ x. a || x) (or_comm b c) ∙ sym (or_assoc a c b))
 
 both_or : (a b x y : Bool) → (a && (b && (x || y))) ≡ ((a && (b && x)) || (a && (b && y)))
-both_or true true x y = refl
-both_or true false x y = refl
-both_or false b x y = refl
+both_or a b x y = ap (λ z. a && z) (and-or_distrib_left b x y) ∙ and-or_distrib_left a (b && x) (b && y)
+
+pin_moves : (a t r : Bool) → ((a || (t || false)) || r) ≡ (a || (t || r))
+pin_moves a t r = ap (λ x. (a || x) || r) (or-false t) ∙ or_assoc a t r
+
+pin_first : (a p t r : Bool) → (a || ((p || (t || false)) || r)) ≡ (a || (p || (t || r)))
+pin_first a p t r = ap (λ x. a || x) (pin_moves p t r)
+
+secret_first : (a p s r : Bool) → ((a || (s || false)) || (p || r)) ≡ (a || (p || (s || r)))
+secret_first a p s r =
+    pin_moves a s (p || r) ∙
+    ap (λ x. a || x) (sym (or_assoc s p r) ∙ (ap (λ x. x || r) (or_comm s p) ∙ or_assoc p s r))
 
 -- one element of a list in the place of another, which passes where that or one more does
 any_set : {X : Type 0} (p : X → Bool) (xs : List X) (at : ℕ) (new : X) (more : Bool) → at < length xs →
@@ -48,7 +43,7 @@ any_set p [] at new more l is = absurd (omega (arith, l))
 any_set p (x ∷ xs) zero new more l is =
     ap (λ b. b || list_any p xs) (is x) ∙ or_last (p x) more (list_any p xs)
 any_set p (x ∷ xs) (suc at) new more l is =
-    ap (λ b. p x || b) (any_set p xs at new more (omega (arith, l)) is) ∙ or_assoc (p x) (list_any p xs) more
+    ap (λ b. p x || b) (any_set p xs at new more (omega (arith, l)) is) ∙ sym (or_assoc (p x) (list_any p xs) more)
 
 -- ---- keys
 
@@ -100,7 +95,7 @@ joined_at items at new texts within same is text line =
     ∙ (any_set p items at new (p texts) within one
     ∙ sym (trusted_append text line (map pinned_key items) (pinned_key texts ∷ [])
     ∙ (ap (λ b. b || (p texts || false)) (list_any-map pinned_key (is_accepted_by text line) items)
-    ∙ ap (λ b. list_any p items || b) (or_false (p texts)))))
+    ∙ ap (λ b. list_any p items || b) (or-false (p texts)))))
 
 -- ---- the lines
 
@@ -115,19 +110,6 @@ pub record IsGathering (secrets : List KeyLine) (pins : List Pins) (rest lines :
 
 pub gathers_none : (lines : List KeyLine) → IsGathering [] [] lines lines
 gathers_none lines = record { alike = λ text line. refl; secrets_in = λ key h. inr h }
-
-secret_first : (a p s r : Bool) → ((a || (s || false)) || (p || r)) ≡ (a || (p || (s || r)))
-secret_first true p s r = refl
-secret_first false true true r = refl
-secret_first false true false r = refl
-secret_first false false true r = refl
-secret_first false false false r = refl
-
-pin_first : (a p t r : Bool) → (a || ((p || (t || false)) || r)) ≡ (a || (p || (t || r)))
-pin_first true p t r = refl
-pin_first false true t r = refl
-pin_first false false true r = refl
-pin_first false false false r = refl
 
 pub gathers_secret : (secrets grown : List KeyLine) (pins : List Pins) (rest left lines : List KeyLine) (key : Secret) →
     rest ≡ Hmac key ∷ left → grown ≡ secrets ++ Hmac key ∷ [] → IsGathering secrets pins rest lines →
@@ -196,7 +178,7 @@ all_gathered secrets pins rest lines none h =
           let a = trusted (map key_of secrets) in
           let p = trusted (map pinned_key pins) in
           trusted_append text line (map key_of secrets) (map pinned_key pins)
-          ∙ (ap (λ b. a || b) (sym (or_false p))
+          ∙ (ap (λ b. a || b) (sym (or-false p))
           ∙ (ap (λ b. a || (p || b)) (sym (none_trusted text line rest none)) ∙ h.alike text line));
       secrets_in = λ key inside.
           ⊎_elim (λ old. old) (λ waits. absurd (none_in rest key none waits)) (h.secrets_in key inside);
@@ -213,11 +195,6 @@ pub record IsJoining (keys : List KeyLine) (rest : List Pins) (secrets : List Ke
 
 pub joins_none : (secrets : List KeyLine) (pins : List Pins) → IsJoining secrets pins secrets pins
 joins_none secrets pins = record { alike = λ text line. refl; secrets_in = λ key h. h }
-
-pin_moves : (a t r : Bool) → ((a || (t || false)) || r) ≡ (a || (t || r))
-pin_moves true t r = refl
-pin_moves false true r = refl
-pin_moves false false r = refl
 
 pub joins_pins : (keys grown : List KeyLine) (rest left : List Pins) (secrets : List KeyLine) (all : List Pins)
     (pins : Pins) → rest ≡ pins ∷ left → AddsPins keys grown pins → IsJoining keys rest secrets all →
@@ -263,7 +240,7 @@ pub all_joined : (keys : List KeyLine) (rest : List Pins) (secrets : List KeyLin
     JoinsPins lines keys
 all_joined keys rest secrets pins lines none gathered h =
     let alike : AcceptsAlike (map key_of keys) (map key_of lines) =
-    λ text line. sym (or_false (is_trusted_by text line (map key_of keys)))
+    λ text line. sym (or-false (is_trusted_by text line (map key_of keys)))
     ∙ (ap (λ b. is_trusted_by text line (map key_of keys) || b) (sym (no_pins text line rest none))
     ∙ (h.alike text line ∙ (sym (trusted_append text line (map key_of secrets) (map pinned_key pins))
     ∙ gathered.alike text line))) in

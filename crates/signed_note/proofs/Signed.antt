@@ -17,6 +17,7 @@ use Rattle.signed_note.specs.Names.{newline, space, is_note_char, IsNoteText, Is
 use Rattle.tlog_text.specs.Hash.{base64_of}
 use Rattle.signed_note.specs.Notes.{SignatureParts, em_dash, signed_bytes, line_body, line_text, IsSignatureLine}
 use Rattle.signed_note.specs.Notes.{IsNote}
+use Rattle.signed_note.specs.Signing.{note_of_line}
 use Rattle.signed_note.specs.Notes.{IsLawfulText, Opens, is_accepted_by, signed_line}
 use Rattle.signed_note.specs.declared.limits.TheConstants.{MAX_NAME_LEN, MAX_TEXT_LEN}
 use Rattle.signed_note.proofs.Digests.{hmac_fits, length-hmac}
@@ -170,7 +171,7 @@ signed_opens text k =
 
 -- what is written is that note
 pub written : (items text name encoded : List ℕ) (k : Secret) →
-    items ≡ text ++ newline ∷ (em_dash ++ space ∷ (name ++ space ∷ (encoded ++ newline ∷ []))) → name ≡ k.name →
+    items ≡ note_of_line text name encoded → name ≡ k.name →
     encoded ≡ base64_of (signed_bytes (signed_line text k))
     → items ≡ text ++ newline ∷ line_text (signed_line text k)
 written items text name encoded k is named of =

@@ -33,7 +33,8 @@ impl Model for PinLines {
 impl PinLines {
     // Adds the digests of pinned texts.
     fn append(&mut self, texts: &PinnedTexts) -> Result<(), AllocError>
-        ensures { OnOk result (self.new ≡ record self.old { digests = self.old.digests ++ texts.now.digests }) }
+        ensures { OnOk result (self.new
+            ≡ record self.old { digests = self.old.digests ++ texts.now.digests }) }
     {
         self.digests.extend_from_slice(&texts.digests)
     }
@@ -42,7 +43,8 @@ impl PinLines {
 // Where the pins of the name and id of pinned texts are.
 fn place_of(gathered: &[PinLines], texts: &PinnedTexts) -> Option<usize>
     ensures within { IfSome result (λ at. at < length gathered.now) }
-    ensures found { IfSome result (HoldsAt (λ k. (k.name ≡ texts.now.name) × (k.id ≡ texts.now.id)) gathered.now) }
+    ensures found { IfSome result (HoldsAt (λ k. (k.name ≡ texts.now.name) × (k.id ≡ texts.now.id))
+        gathered.now) }
 {
     for at in 0..gathered.len() {
         let one = &gathered[at];
@@ -55,7 +57,8 @@ fn place_of(gathered: &[PinLines], texts: &PinnedTexts) -> Option<usize>
 
 // Adds pinned texts to those of their name and id, or behind all where there are none.
 fn gather(gathered: &mut Vec<PinLines>, texts: PinnedTexts) -> Result<(), AllocError>
-    ensures { OnOk result (AcceptsAlike (map pinned_key gathered.new.items) (map pinned_key gathered.old.items ++ pinned_key texts ∷ [])) }
+    ensures { OnOk result (AcceptsAlike (map pinned_key gathered.new.items)
+        (map pinned_key gathered.old.items ++ pinned_key texts ∷ [])) }
 {
     if let Some(at) = place_of(gathered, &texts) {
         return gathered[at].append(&texts);

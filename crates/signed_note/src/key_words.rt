@@ -14,8 +14,10 @@ use std::alloc::Global;
 /// The first line, without its newline, and what follows it.
 pub fn first_line(bytes: &[u8]) -> Option<(&[u8], &[u8])>
     ensures found { IfSome result (λ x. bytes.now ≡ x.0.now ++ newline ∷ x.1.now) }
-    ensures first { IfSome result (λ x. (i : ℕ) → i < length x.0.now → slice_index x.0.now i ≢ newline) }
-    ensures none { IfNone result ((i : ℕ) → i < length bytes.now → slice_index bytes.now i ≢ newline) }
+    ensures first { IfSome result (λ x. (i : ℕ) → i < length x.0.now
+        → slice_index x.0.now i ≢ newline) }
+    ensures none { IfNone result ((i : ℕ) → i < length bytes.now
+        → slice_index bytes.now i ≢ newline) }
 {
     let at = bytes.iter().position(|b| *b == b'\n')?;
     Some((&bytes[..at], &bytes[at + 1..]))
@@ -33,8 +35,10 @@ fn id_of(digits: &str) -> Option<u32>
 /// The name, the id and the other digits of a line after its first word.
 pub fn words_of(text: &str) -> Option<(&str, u32, &str)>
     ensures found { IfSome result (λ x. AreWords text.now x.0.now x.1 x.2.now) }
-    ensures first { IfSome result (λ x. (i : ℕ) → i < length x.0.now → slice_index x.0.now i ≢ space) }
-    ensures none { IfNone result ((name digits : List ℕ) (id : ℕ) → IsOwnName name → ¬ AreWords text.now name id digits) }
+    ensures first { IfSome result (λ x. (i : ℕ) → i < length x.0.now
+        → slice_index x.0.now i ≢ space) }
+    ensures none { IfNone result ((name digits : List ℕ) (id : ℕ) → IsOwnName name
+        → ¬ AreWords text.now name id digits) }
 {
     let (name, rest) = text.split_once(' ')?;
     let (id_digits, digits) = rest.split_once(' ')?;

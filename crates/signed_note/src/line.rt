@@ -68,9 +68,12 @@ impl SignatureLine {
 
 /// The name and the base64 of a line: what stands round the first space after the em dash.
 fn words_of(line: &str) -> Option<(&str, &str)>
-    ensures found { IfSome result (λ x. line.now ≡ em_dash ++ space ∷ (x.0.now ++ space ∷ x.1.now)) }
-    ensures first { IfSome result (λ x. (i : ℕ) → i < length x.0.now → slice_index x.0.now i ≢ space) }
-    ensures none { IfNone result ((name rest : List ℕ) → line.now ≢ em_dash ++ space ∷ (name ++ space ∷ rest)) }
+    ensures found { IfSome result (λ x. line.now
+        ≡ em_dash ++ space ∷ (x.0.now ++ space ∷ x.1.now)) }
+    ensures first { IfSome result (λ x. (i : ℕ) → i < length x.0.now
+        → slice_index x.0.now i ≢ space) }
+    ensures none { IfNone result ((name rest : List ℕ)
+        → line.now ≢ em_dash ++ space ∷ (name ++ space ∷ rest)) }
 {
     line.strip_prefix("\u{2014} ")?.split_once(' ')
 }

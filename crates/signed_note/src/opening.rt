@@ -32,7 +32,8 @@ fn is_trusted(text: &str, line: &SignatureLine, keys: &[Box<dyn Verifier>]) -> b
 
 /// Whether some line is a signature of one of the keys.
 fn opens(text: &str, lines: &[SignatureLine], keys: &[Box<dyn Verifier>]) -> bool
-    ensures { result ≡ list_any (λ line. list_any (λ k. is_accepted_by text.now line (key k)) keys.now) lines.now }
+    ensures { result ≡ list_any (λ line.
+        list_any (λ k. is_accepted_by text.now line (key k)) keys.now) lines.now }
 {
     for line in lines {
         if is_trusted(text, line, keys) {

@@ -4,8 +4,9 @@ ghost use Rattle.std.specs.Prelude.{◌≡◌, [], ◌∷◌, ◌++◌, IfOk, On
 ghost use Rattle.tlog_text.specs.Hash.{base64_of};
 ghost use Rattle.byteorder.specs.Endian.{big_bytes};
 ghost use Rattle.signed_note.specs.Keys.{secret_key};
-ghost use Rattle.signed_note.specs.Names.{newline, space};
-ghost use Rattle.signed_note.specs.Notes.{em_dash, IsLawfulText, IsNote, Opens, line_text, signed_line};
+ghost use Rattle.signed_note.specs.Names.{newline};
+ghost use Rattle.signed_note.specs.Notes.{IsLawfulText, IsNote, Opens, line_text, signed_line};
+ghost use Rattle.signed_note.specs.Signing.{note_of_line};
 
 use crate::mac_key::HmacKey;
 use crate::verifier::Verifier;
@@ -33,7 +34,7 @@ fn encoded_of(alloc: Global, bytes: &[u8]) -> Result<String, AllocError>
 
 /// A text, a blank line, and the line of a name and a base64.
 fn note_of(alloc: Global, text: &str, name: &str, encoded: &str) -> Result<String, AllocError>
-    ensures { IfOk result (λ t. string_bytes t ≡ text.now ++ (newline ∷ (em_dash ++ (space ∷ (name.now ++ (space ∷ (encoded.now ++ newline ∷ []))))))) }
+    ensures { IfOk result (λ t. string_bytes t ≡ note_of_line text.now name.now encoded.now) }
 {
     format!(in alloc; "{text}\n\u{2014} {name} {encoded}\n")
 }
@@ -49,9 +50,11 @@ fn note_of(alloc: Global, text: &str, name: &str, encoded: &str) -> Result<Strin
 /// Memory was refused.
 pub fn sign(alloc: Global, text: &str, key: &HmacKey) -> Result<Vec<u8>, AllocError>
     requires { IsLawfulText text.now }
-    ensures bytes { IfOk result (λ v. v.items ≡ text.now ++ newline ∷ line_text (signed_line text.now key.now)) }
+    ensures bytes { IfOk result (λ v. v.items
+        ≡ text.now ++ newline ∷ line_text (signed_line text.now key.now)) }
     ensures note { IfOk result (λ v. IsNote v.items text.now (signed_line text.now key.now ∷ [])) }
-    ensures opens { OnOk result (Opens text.now (signed_line text.now key.now ∷ []) (secret_key key.now ∷ [])) }
+    ensures opens { OnOk result (Opens text.now (signed_line text.now key.now ∷ [])
+        (secret_key key.now ∷ [])) }
 {
     let payload = payload_of(key.id(), &key.mac(text.as_bytes()));
     let encoded = encoded_of(alloc, &payload)?;

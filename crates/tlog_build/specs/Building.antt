@@ -1,6 +1,6 @@
--- A log built of entries (C2SP tlog-tiles). `ChecksOrigin` and `IsUnexported` are cited by the
--- contracts of private functions alone.
-use Rattle.std.specs.Prelude.{◌≡◌, ◌⊎◌, ℕ, List, length, Option, Result, Ok, Err, ⊤}
+-- A log built of entries (C2SP tlog-tiles). `ChecksOrigin`, `IsUnexported` and `FillsMirrorUnder` are
+-- cited by the contracts of private functions alone.
+use Rattle.std.specs.Prelude.{◌≡◌, ◌⊎◌, ℕ, List, length, Contains, Option, Result, Ok, Err, ⊤}
 use Rattle.std.specs.FinSet as set
 use Rattle.signed_note.specs.Keys.{Key}
 use Rattle.tlog_hash.specs.Tree.{mth, strings}
@@ -64,6 +64,10 @@ module _ (digest : List ℕ → List ℕ) where
     FillsMirror (Err OutOfMemory) = ⊤
     FillsMirror (Err fault) = ⊥
 
+    -- so is said where the log's key is among these keys, and no two strings of its tree collide
+    abbrev pub FillsMirrorUnder : List Key → Result View BuildFault → Type 0
+    FillsMirrorUnder keys result = Contains keys key → HasNoClashing entries → FillsMirror result
+
     -- what building the log puts onto a shelf: at Ok all its files, onto one that had no checkpoint
     abbrev pub BuildsLog : {T : Type 0} → Option (List Put) → Option (List Put) →
         Result T BuildFault → Type 0
@@ -77,3 +81,9 @@ module _ (digest : List ℕ → List ℕ) where
     BuildsLog old new (Err OutOfMemory) =
         KeepsTold old new ⊎ ((files : List Put) × AreLogFiles files × AddsPrefix old new files)
     BuildsLog old new (Err fault) = ⊥
+
+    -- so is said where the log's key is among these keys, and no two strings of its tree collide
+    abbrev pub BuildsLogUnder : {T : Type 0} → List Key → Option (List Put) → Option (List Put) →
+        Result T BuildFault → Type 0
+    BuildsLogUnder keys old new result =
+        Contains keys key → HasNoClashing entries → BuildsLog old new result

@@ -5,9 +5,9 @@ ghost use Rattle.mirror_model.specs.Origin.{IsOrigin};
 ghost use Rattle.mirror_model.specs.TrueLaws.{AreShort};
 ghost use Rattle.mirror_model.specs.View.{nothing};
 ghost use Rattle.signed_note.specs.Keys.{secret_key};
-ghost use Rattle.std.specs.Prelude.{Contains};
 ghost use Rattle.tlog_text.specs.Answers.{seen};
-ghost use Rattle.tlog_build.specs.Building.{BuildsLog, ChecksOrigin, FillsMirror, HasNoClashing, IsUnexported};
+ghost use Rattle.tlog_build.specs.Building.{BuildsLogUnder, ChecksOrigin, FillsMirrorUnder};
+ghost use Rattle.tlog_build.specs.Building.{IsUnexported};
 
 use crate::fault::BuildFault;
 use mirror_folders::{ExportFault, Shelf, export};
@@ -43,9 +43,12 @@ pub fn build_log<H: TreeHash, S: Shelf>(
     shelf: &mut S,
 ) -> Result<(), BuildFault>
     requires short { AreShort (map (λ e. e.items) entries.items) }
-    ensures builds { Contains (map (λ k. key k) keys.now) (secret_key signer) → HasNoClashing H.digest (map (λ e. e.items) entries.items) → BuildsLog H.digest origin.now (secret_key signer) (map (λ e. e.items) entries.items) (S.puts shelf.old) (S.puts shelf.new) result }
+    ensures builds { BuildsLogUnder H.digest origin.now (secret_key signer)
+        (map (λ e. e.items) entries.items) (map (λ k. key k) keys.now) (S.puts shelf.old)
+        (S.puts shelf.new) result }
     ensures bad_origin { result ≡ Err BuildFault.BadOrigin → ¬ IsOrigin origin.now }
-    ensures blamed { result ≡ Err (BuildFault.Export ExportFault.ShelfFault) → Rose (S.failed shelf.old) (S.failed shelf.new) }
+    ensures blamed { result ≡ Err (BuildFault.Export ExportFault.ShelfFault)
+        → Rose (S.failed shelf.old) (S.failed shelf.new) }
 {
     let mut mirror = empty::<H>(alloc, origin)?;
     put_log(alloc, origin, keys, signer, entries, &mut mirror, shelf)
@@ -64,9 +67,12 @@ fn put_log<H: TreeHash, S: Shelf>(
     requires origin { IsOrigin origin.now }
     requires short { AreShort (map (λ e. e.items) entries.items) }
     requires empty { mirror.old.view ≡ nothing origin.now }
-    ensures builds { Contains (map (λ k. key k) keys.now) (secret_key signer) → HasNoClashing H.digest (map (λ e. e.items) entries.items) → BuildsLog H.digest origin.now (secret_key signer) (map (λ e. e.items) entries.items) (S.puts shelf.old) (S.puts shelf.new) result }
+    ensures builds { BuildsLogUnder H.digest origin.now (secret_key signer)
+        (map (λ e. e.items) entries.items) (map (λ k. key k) keys.now) (S.puts shelf.old)
+        (S.puts shelf.new) result }
     ensures bad_origin { ¬ (result ≡ Err BuildFault.BadOrigin) }
-    ensures blamed { result ≡ Err (BuildFault.Export ExportFault.ShelfFault) → Rose (S.failed shelf.old) (S.failed shelf.new) }
+    ensures blamed { result ≡ Err (BuildFault.Export ExportFault.ShelfFault)
+        → Rose (S.failed shelf.old) (S.failed shelf.new) }
 {
     fill(alloc, origin, keys, signer, entries, mirror)?;
     export(alloc, mirror, shelf)?;
@@ -85,7 +91,9 @@ fn fill<H: TreeHash>(
     requires origin { IsOrigin origin.now }
     requires short { AreShort (map (λ e. e.items) entries.items) }
     requires empty { mirror.old.view ≡ nothing origin.now }
-    ensures fills { Contains (map (λ k. key k) keys.now) (secret_key signer) → HasNoClashing H.digest (map (λ e. e.items) entries.items) → FillsMirror H.digest origin.now (secret_key signer) (map (λ e. e.items) entries.items) (seen (λ _. mirror.new.view) result) }
+    ensures fills { FillsMirrorUnder H.digest origin.now (secret_key signer)
+        (map (λ e. e.items) entries.items) (map (λ k. key k) keys.now)
+        (seen (λ _. mirror.new.view) result) }
     ensures bad_origin { ¬ (result ≡ Err BuildFault.BadOrigin) }
     ensures unexported { IsUnexported result }
 {

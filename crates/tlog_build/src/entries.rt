@@ -86,7 +86,8 @@ fn entries_of(alloc: Global, bytes: &[u8]) -> Result<Vec<Vec<u8>>, EntriesFault>
 /// after 16,777,216 reads of at most 65,536 bytes. `BundleShort` comes exactly where the bytes are no
 /// such entries: they end within one. Either may be hidden by `OutOfMemory`.
 pub fn read_entries<R: Read>(alloc: Global, reader: &mut R) -> Result<Vec<Vec<u8>>, EntriesFault>
-    ensures answer { IfSome (R.remaining reader.old) (λ input. ReadsEntries input (seen (λ v. map (λ e. e.items) v.items) result)) }
+    ensures answer { IfSome (R.remaining reader.old)
+        (λ input. ReadsEntries input (seen (λ v. map (λ e. e.items) v.items) result)) }
     ensures limit { TakesAtMost MAX_READ_LEN (R.remaining reader.old) (R.remaining reader.new) }
     ensures short { IfOk result (λ v. All (λ e. length e < 2 ^ 16) (map (λ e. e.items) v.items)) }
 {
