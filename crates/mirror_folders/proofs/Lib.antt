@@ -6,6 +6,7 @@ pub mod Moments
 pub mod Exported
 pub mod AllFiles
 pub mod Filters
+pub mod PlaceWidths
 pub mod NewFiles
 pub mod Standing
 pub mod UpdateMoments

@@ -15,37 +15,10 @@ use Rattle.mirror_folders.specs.SinceLaws.{FilesOfSteps, FilesSinceAreNew}
 use Rattle.std.proofs.Math.Nat.{zero-div}
 use Rattle.mirror_folders.proofs.AllFiles.{files_are_all, full_widest, partial_widest, upto_hashes, widest_before}
 use Rattle.mirror_folders.proofs.AllFiles.{widest_last}
+use Rattle.mirror_folders.proofs.PlaceWidths.{width_full, width_edge, width_none}
 use Rattle.mirror_folders.proofs.Filters.{filter_all, filter_has, filter_is}
 
 -- ---- the width of a place
-
-past : (a b : ℕ) → b ≤ a → nat_lt a b ≡ false
-past a b le = by (nat_lt a b) refl
-  where
-    by : (t : Bool) → nat_lt a b ≡ t → nat_lt a b ≡ false
-    by false e = e
-    by true e = let lt = ltb-true a b e in absurd (omega arith)
-
-width_full : (m level index : ℕ) → index < edge_index_of m level → width_at m level index ≡ 256
-width_full m level index lt =
-    ap (λ (b : Bool). cond b 256 (cond (nat_eq index (edge_index_of m level)) (width_of m level) 0))
-    (lt-ltb index (edge_index_of m level) lt)
-
-width_last : (m level index : ℕ) → edge_index_of m level ≤ index →
-    width_at m level index ≡ cond (nat_eq index (edge_index_of m level)) (width_of m level) 0
-width_last m level index ge =
-    ap (λ (b : Bool). cond b 256 (cond (nat_eq index (edge_index_of m level)) (width_of m level) 0))
-    (past index (edge_index_of m level) ge)
-
-width_edge : (m level index : ℕ) → index ≡ edge_index_of m level → width_at m level index ≡ width_of m level
-width_edge m level index e =
-    width_last m level index (omega (arith, e))
-    ∙ ap (λ (b : Bool). cond b (width_of m level) 0) (eq-eqb index (edge_index_of m level) e)
-
-width_none : (m level index : ℕ) → edge_index_of m level ≤ index → nat_eq index (edge_index_of m level) ≡ false →
-    width_at m level index ≡ 0
-width_none m level index ge other =
-    width_last m level index ge ∙ ap (λ (b : Bool). cond b (width_of m level) 0) other
 
 -- a width that the place has is its widest
 has_widest : (m level index width : ℕ) → level ≤ 7 → 1 ≤ width → width ≡ width_at m level index →

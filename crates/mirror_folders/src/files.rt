@@ -12,7 +12,7 @@ use crate::shelf::{Shelf, ShelfError};
 use std::alloc::{AllocError, Global};
 use tlog_hash::TreeHash;
 use tlog_mirror::TopRanges;
-use tlog_shape::{edge_index, edge_width};
+use tlog_shape::{edge_index, edge_width, width_in};
 use tlog_tiles::Path;
 
 // The tiles of a level, or the bundles.
@@ -92,18 +92,12 @@ fn put_file<H: TreeHash, S: Shelf>(
 }
 
 // The width that the tile of that level and index has in a tree of that size, 0 where there is none.
+#[tactic(auto, using(crate::proofs::PlaceWidths::width_found))]
 fn place_width(size: u64, level: u32, index: u64) -> u32
     requires { level ≤ 7 }
     ensures { result ≡ width_at size level index }
 {
-    let full = edge_index(size, level);
-    if index < full {
-        return 256;
-    }
-    if index == full {
-        return edge_width(size, level);
-    }
-    0
+    width_in(size, level, index).unwrap_or(0)
 }
 
 // Whether a log of that size lacks the file, or it is the checkpoint.

@@ -11,6 +11,7 @@ use Rattle.tlog_tiles.specs.declared.paths.Path.{Path}
 use Rattle.tlog_tiles.specs.declared.paths.Path.TheVariants.{Checkpoint, Tile, Entries}
 use Rattle.mirror_folders.specs.Files.{tiles_below, tile_paths}
 use Rattle.mirror_folders.specs.Since.{is_new, since_paths, width_at}
+use Rattle.mirror_folders.proofs.PlaceWidths.{width_full, width_last}
 use Rattle.mirror_progress.specs.Total.{new_at, new_below, new_partial}
 
 sum_both : (a b c d : ℕ) → a ≡ c → b ≡ d → a + b ≡ c + d
@@ -38,18 +39,6 @@ kept_from test at from old new start (suc len) =
 
 -- ---- widths
 
-width_before : (m level index : ℕ) → index < edge_index_of m level → width_at m level index ≡ 256
-width_before m level index before =
-    ap (λ (b : Bool). cond b 256 (cond (nat_eq index (edge_index_of m level)) (width_of m level) 0))
-    (lt-ltb index (edge_index_of m level) before)
-
--- a place that is not before the edge has the width of the edge, or none
-width_after : (m level index : ℕ) → edge_index_of m level ≤ index →
-    width_at m level index ≡ cond (nat_eq index (edge_index_of m level)) (width_of m level) 0
-width_after m level index after =
-    ap (λ (b : Bool). cond b 256 (cond (nat_eq index (edge_index_of m level)) (width_of m level) 0))
-    (le-ltb index (edge_index_of m level) after)
-
 choice_below : (b : Bool) (width : ℕ) → width < 256 → cond b width 0 < 256
 choice_below true width small = small
 choice_below false width small = omega arith
@@ -61,7 +50,7 @@ not_full : (m level index : ℕ) → edge_index_of m level ≤ index → 256 ≡
 not_full m level index after full =
     let small = choice_below (nat_eq index (edge_index_of m level)) (width_of m level) (width_of_below m level) in
     let is : 256 ≡ cond (nat_eq index (edge_index_of m level)) (width_of m level) 0 =
-    full ∙ width_after m level index after
+    full ∙ width_last m level index after
     in
     omega (arith, is, small)
 
@@ -79,7 +68,7 @@ module _ (m n level : ℕ) (test : Path → Bool) (at : ℕ → ℕ → Path)
       ≡ edge_index_of n level - edge_index_of m level
   full_files =
       let old : (i : ℕ) → i < edge_index_of m level → test (at i 256) ≡ false = λ i before.
-      tells i 256 ∙ ap not (eq-eqb 256 (width_at m level i) (sym (width_before m level i before)))
+      tells i 256 ∙ ap not (eq-eqb 256 (width_at m level i) (sym (width_full m level i before)))
       in
       let new : (i : ℕ) → edge_index_of m level ≤ i → test (at i 256) ≡ true = λ i after.
       tells i 256 ∙ ap not (ne_eqb 256 (width_at m level i) (not_full m level i after))

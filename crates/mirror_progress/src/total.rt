@@ -4,7 +4,7 @@ ghost use Rattle.tlog_shape.specs.Edge.{width_of, edge_index_of};
 ghost use Rattle.mirror_folders.specs.Since.{since_paths, width_at};
 ghost use Rattle.mirror_progress.specs.Total.{new_at, new_below, new_partial};
 
-use tlog_shape::{edge_index, edge_width};
+use tlog_shape::{edge_index, edge_width, width_in};
 
 /// How many files an export puts of a log of so many entries, the checkpoint among them; where the folder has those of the
 /// first entries, as many as `since`, how many an update puts. A folder that is empty has those of no entries.
@@ -54,12 +54,5 @@ fn place_width(size: u64, level: u32, index: u64) -> u32
     requires { level ≤ 7 }
     ensures { result ≡ width_at size level index }
 {
-    let full = edge_index(size, level);
-    if index < full {
-        return 256;
-    }
-    if index == full {
-        return edge_width(size, level);
-    }
-    0
+    width_in(size, level, index).unwrap_or(0)
 }
