@@ -10,7 +10,7 @@ use Rattle.std.proofs.Math.Seq.{drop-cons}
 use Rattle.tlog_hash.specs.Tree.{mth, strings, joins, leaf_hash, fold_of}
 use Rattle.std.proofs.lemmas.Bool.Decides.{nat_tests}
 use Rattle.tlog_hash.specs.Rows.{part, ranges, level_row}
-use Rattle.tlog_hash.proofs.Trees.{mth-one}
+use Rattle.tlog_hash.proofs.LeafRanges.{rows_of_leaves}
 use Rattle.std.specs.Prelude.{not, ◌==◌, ◌-◌}
 use Rattle.tlog_shape.specs.Edge.{width_of, edge_index_of}
 use Rattle.mirror_model.specs.Edge.{edge_levels, edge_row, edge_rows, edge_strings, strings_from}
@@ -35,26 +35,6 @@ leaf_more w n xs y le c =
     subst (λ l. Contains (map f l) y) (take-append-drop w zs)
     (subst (λ l. Contains l y) (sym (map-append f (take w zs) (drop w zs)))
     (Contains-append_left (map f (take w zs)) (map f (drop w zs)) y c'))
-
--- the hashes of the lowest level are leaf hashes
-pub rows_of_leaves : (digest : List ℕ → List ℕ) (w first : ℕ) (es : List (List ℕ)) → first + w ≤ length es →
-    map (mth digest) (ranges 1 first w es) ≡ map (leaf_hash digest) (take w (drop first es))
-rows_of_leaves digest zero first es le = refl
-rows_of_leaves digest (suc w) first es le =
-    let x = get_or es first [] in
-    let lt : first < length es = omega arith in
-    let d : drop first es ≡ x ∷ drop (suc first) es = drop-cons es first [] lt in
-    let same : first * 1 ≡ first = omega arith in
-    let next : first + 1 ≡ suc first = omega arith in
-    let one : mth digest (take 1 (drop (first * 1) es)) ≡ leaf_hash digest x =
-    ap (λ n. mth digest (take 1 (drop n es))) same ∙
-    (ap (λ (l : List (List ℕ)). mth digest (take 1 l)) d ∙ mth-one digest x) in
-    let rest : map (mth digest) (ranges 1 (first + 1) w es) ≡ map (leaf_hash digest) (take w (drop (suc first) es)) =
-    rows_of_leaves digest w (first + 1) es (omega arith) ∙
-    ap (λ n. map (leaf_hash digest) (take w (drop n es))) next in
-    ap (λ (h : List ℕ). h ∷ map (mth digest) (ranges 1 (first + 1) w es)) one
-    ∙ (ap (λ (hs : List (List ℕ)). leaf_hash digest x ∷ hs) rest ∙
-    sym (ap (λ (l : List (List ℕ)). map (leaf_hash digest) (take (suc w) l)) d))
 
 pub filter_first : (p : ℕ → Bool) (x : ℕ) (xs : List ℕ) → p x ≡ true → filter p (x ∷ xs) ≡ x ∷ filter p xs
 filter_first p x xs e = ap (λ b. if b then x ∷ filter p xs else filter p xs) e

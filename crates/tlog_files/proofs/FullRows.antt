@@ -14,6 +14,7 @@ use Rattle.tlog_hash.specs.Tree.{fold_of, leaf_hash, mth}
 use Rattle.tlog_tiles.specs.Row.{row_text}
 use Rattle.tlog_tiles.proofs.TileLemmas.{row_folds, mth_size}
 use Rattle.tlog_hash.proofs.Trees.{mth-none, mth-one}
+use Rattle.tlog_hash.proofs.LeafRanges.{rows_of_leaves}
 use Rattle.tlog_hash.proofs.Folds.{length-ranges, joined_ranges, all_ranges, cut_push, cut_full, joined_push, mth-level}
 use Rattle.tlog_hash.specs.Blocks.{IsCut, joined_up}
 use Rattle.tlog_files.specs.Layout.{full_row, AreFullRows}
@@ -65,26 +66,6 @@ none_of (suc n) e = grind arith
 is_empty : {A : Type 0} (xs : List A) → length xs ≡ 0 → xs ≡ []
 is_empty [] e = refl
 is_empty (x ∷ xs) e = absurd (omega arith)
-
--- the hashes of the lowest level are leaf hashes
-rows_of_leaves : (digest : List ℕ → List ℕ) (w first : ℕ) (es : List (List ℕ)) → first + w ≤ length es →
-    map (mth digest) (ranges 1 first w es) ≡ map (leaf_hash digest) (take w (drop first es))
-rows_of_leaves digest zero first es le = refl
-rows_of_leaves digest (suc w) first es le =
-    let x = get_or es first [] in
-    let lt : first < length es = omega arith in
-    let d : drop first es ≡ x ∷ drop (suc first) es = drop-cons es first [] lt in
-    let same : first * 1 ≡ first = omega arith in
-    let next : first + 1 ≡ suc first = omega arith in
-    let one : mth digest (take 1 (drop (first * 1) es)) ≡ leaf_hash digest x =
-    ap (λ n. mth digest (take 1 (drop n es))) same ∙
-    (ap (λ (l : List (List ℕ)). mth digest (take 1 l)) d ∙ mth-one digest x) in
-    let rest : map (mth digest) (ranges 1 (first + 1) w es) ≡ map (leaf_hash digest) (take w (drop (suc first) es)) =
-    rows_of_leaves digest w (first + 1) es (omega arith) ∙
-    ap (λ n. map (leaf_hash digest) (take w (drop n es))) next in
-    ap (λ (h : List ℕ). h ∷ map (mth digest) (ranges 1 (first + 1) w es)) one
-    ∙ (ap (λ (hs : List (List ℕ)). leaf_hash digest x ∷ hs) rest ∙
-    sym (ap (λ (l : List (List ℕ)). map (leaf_hash digest) (take (suc w) l)) d))
 
 module _ (digest : List ℕ → List ℕ) (entries : List (List ℕ)) where
   -- a part of a level's hashes

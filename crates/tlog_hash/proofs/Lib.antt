@@ -6,3 +6,4 @@ pub mod Shapes
 pub mod PairStrings
 pub mod TreeLaws
 pub mod Sums
+pub mod LeafRanges
