@@ -9,3 +9,4 @@ mod ListedItems
 mod Gathered
 pub mod Putting
 mod Saved
+mod RefusedNotes

@@ -63,7 +63,7 @@ pub item_at : (items : List (Bor (List ℕ))) (i : ℕ) (d : Bor (List ℕ)) (e 
     get_or (bytes_of items) i e ≡ (get_or items i d).now
 item_at items i d e lt = get_or-map (λ (x : Bor (List ℕ)). x.now) items i d e lt
 
-same_len : (items : List (Bor (List ℕ))) → length (bytes_of items) ≡ length items
+pub same_len : (items : List (Bor (List ℕ))) → length (bytes_of items) ≡ length items
 same_len items = length-map items (λ (x : Bor (List ℕ)). x.now)
 
 -- so far they rise

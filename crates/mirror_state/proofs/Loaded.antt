@@ -22,6 +22,7 @@ use Rattle.mirror_state.specs.StateText.{Parts, Parted, Tagged, StateText, OldSt
 use Rattle.mirror_state.specs.Loading.{listed_origin, listed_notes, listed_strings, listed_view, IsStateString}
 use Rattle.mirror_state.specs.Loading.{HasState, HasStrings, HasOpenNotes, HasNoCollision, Loads}
 use Rattle.mirror_state.specs.LoadSteps.{AreListable, ChecksLists, ChecksNotes, KeepsNotes}
+use Rattle.mirror_state.specs.Refused.{IsFirstNot, RefusesUnheld}
 use Rattle.mirror_state.specs.declared.fault.LoadFault.{LoadFault}
 use Rattle.mirror_state.specs.declared.fault.LoadFault.TheVariants.{StateMagic, StateShort, StateLong, StateDigest}
 use Rattle.mirror_state.specs.declared.fault.LoadFault.TheVariants.{OtherOrigin, StateOrder, StateString, StateHead}
@@ -279,3 +280,24 @@ module _ (digest : List ℕ → List ℕ) (origin : List ℕ) (keys : List Key) 
           Loads digest origin keys bytes (Err fault)
       not_loaded fault h = not_kept digest origin keys bytes parts listed_here opened_here strings made.0 made.1 old
           old_is new fault (subst (λ ns. KeepsNotes digest old ns (Err fault) new) later_are h)
+
+      -- the first note that is not kept
+      pub unheld_first : (index : ℕ) (note : List ℕ) → IsFirstNot (HasEdge digest old) later index note →
+          RefusesUnheld digest origin keys bytes index note
+      unheld_first index note h =
+          let first : IsFirstNot (HasEdge digest old) (listed_notes parts) index note =
+          subst (λ ns. IsFirstNot (HasEdge digest old) ns index note) later_are h in
+          record {
+            parts = parts;
+            has_no_collision =
+                has_no_collision digest origin keys bytes parts listed_here opened_here strings made.0 made.1;
+            is_first = record {
+              passed = All-weaker (HasEdge digest old) (HasEdge digest (listed_view parts))
+                  (edge_over digest origin keys bytes parts listed_here opened_here strings made.0 made.1 old old_is)
+                  (take index (listed_notes parts)) first.passed;
+              is_there = first.is_there;
+              fails = λ e. first.fails
+                  (edge_under digest origin keys bytes parts listed_here opened_here strings made.0 made.1 old old_is
+                  note e);
+            };
+          }

@@ -9,3 +9,4 @@ pub mod LoadSteps
 pub mod Saving
 pub mod Putting
 pub mod Listing
+pub mod Refused

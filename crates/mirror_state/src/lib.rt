@@ -16,6 +16,7 @@ mod order;
 mod page;
 mod parts;
 mod put;
+mod refused;
 mod saving;
 
 pub use fault::{LoadFault, SaveFault};
@@ -24,4 +25,5 @@ pub use laws::{
     state_text_law,
 };
 pub use loading::{load, load_bytes};
+pub use refused::{RefusedNote, refused_note};
 pub use saving::save;

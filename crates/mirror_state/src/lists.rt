@@ -29,7 +29,7 @@ impl<'a> Lists<'a> {
     }
 
     // The notes.
-    pub(crate) fn notes(&self) -> &[&[u8]]
+    pub(crate) fn notes(&self) -> &[&'a [u8]]
         ensures { map (λ n. n.now) result.now ≡ listed_notes (parts_of self.now) }
     {
         match self {

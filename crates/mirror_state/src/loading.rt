@@ -243,7 +243,7 @@ fn count_of(lists: &Lists) -> usize {
 }
 
 // The set of the strings that are listed, made at its final size.
-fn store_of<H: TreeHash>(alloc: Global, lists: &Lists) -> Result<Store<H>, AddFault>
+pub(crate) fn store_of<H: TreeHash>(alloc: Global, lists: &Lists) -> Result<Store<H>, AddFault>
     requires { AreListable (parts_of lists.now) }
     ensures { MakesStore H.digest (listed_strings (parts_of lists.now)) result }
 {

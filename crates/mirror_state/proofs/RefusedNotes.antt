@@ -1,0 +1,214 @@
+-- Which note of a state text is why it is not loaded.
+use Rattle.std.proofs.Common.{◌≡◌, ◌≢◌, inl, inr, ℕ, ◌<◌, ◌^◌, true, false, List, [], length, take, All}
+use Rattle.std.proofs.Common.{get_or, Option, Some, None, Result, Ok, Err, Bor, refl, sym, ap, subst, ◌∙◌, arith}
+use Rattle.std.proofs.Common.{◌++◌, append_assoc, codes}
+use Rattle.std.specs.Prelude.{◌↔◌, IsTrue, IfOk, IfSome, IfNone, option_map}
+use Rattle.std.specs.FinSet as set
+use Rattle.std.proofs.lemmas.Option.{slice_get-get_or, slice_get_within}
+use Rattle.tlog_text.specs.Answers.{seen}
+use Rattle.node_store.specs.Strings.{Strings, NoClash}
+use Rattle.signed_note.specs.Keys.{Key}
+use Rattle.signed_note.specs.Notes.{NoteParts}
+use Rattle.signed_note.specs.Reading.{ReadsNote}
+use Rattle.signed_note.specs.declared.fault.NoteFault.{NoteFault}
+use Rattle.signed_note.specs.declared.fault.NoteFault.TheVariants as noting
+use Rattle.signed_note.proofs.OneReading as note
+use Rattle.tlog_checkpoint.specs.declared.Checkpoint.{Checkpoint}
+use Rattle.tlog_checkpoint.specs.declared.fault.CheckpointFault.{CheckpointFault}
+use Rattle.tlog_checkpoint.specs.declared.fault.CheckpointFault.TheVariants as reading
+use Rattle.tlog_checkpoint.specs.Grammar.{IsCheckpoint}
+use Rattle.tlog_checkpoint.specs.Reading.{ReadsCheckpoint}
+use Rattle.tlog_checkpoint.proofs.OneAnswer as checkpoint
+use Rattle.mirror_model.specs.Complete.{HasEdge}
+use Rattle.mirror_model.specs.Heads.{IsHead}
+use Rattle.mirror_model.specs.Refusals.{IsOpenCheckpoint, ReadsHead}
+use Rattle.mirror_model.specs.View.{View}
+use Rattle.mirror_model.specs.declared.fault.TakeFault.{TakeFault}
+use Rattle.mirror_model.specs.declared.fault.TakeFault.TheVariants as taking
+use Rattle.tlog_mirror.specs.Adding.{with_notes}
+use Rattle.tlog_mirror.specs.Restored.{IsOpenNote, KeepsHeld, strings_alone}
+use Rattle.tlog_mirror.specs.declared.fault.RestoreFault.{RestoreFault}
+use Rattle.tlog_mirror.specs.declared.fault.RestoreFault.TheVariants as restoring
+use Rattle.tlog_mirror.proofs.RestoredMirrors.{not_open, open_note}
+use Rattle.mirror_state.specs.StateText.{Parts, Parted, Tagged, AreParts}
+use Rattle.mirror_state.specs.Loading.{listed_notes, listed_strings, listed_view, HasStrings, Loads}
+use Rattle.mirror_state.specs.LoadLaws.{IsOfBytes}
+use Rattle.mirror_state.specs.LoadSteps.{ChecksLists}
+use Rattle.mirror_state.specs.Refused.{FindsAt, IsFirstNot, Refuses, RefusesNone}
+use Rattle.mirror_state.specs.declared.fault.LoadFault.{LoadFault}
+use Rattle.mirror_state.specs.declared.fault.LoadFault.TheVariants.{StateMagic, StateShort, StateLong, StateDigest}
+use Rattle.mirror_state.specs.declared.fault.LoadFault.TheVariants.{OtherOrigin, StateOrder, StateString, StateHead}
+use Rattle.mirror_state.specs.declared.fault.LoadFault.TheVariants.{Collision, StateEdge, ReadFault, OutOfMemory}
+use Rattle.mirror_state.proofs.ListedItems.{bytes_of, item_at, same_len, edge_moves_back, never_bad}
+use Rattle.mirror_state.proofs.Loaded.{loaded, unheld_first}
+use Rattle.mirror_state.proofs.OneLoad.{one_load}
+
+-- ---- the first of a list
+
+pub first_here : (P : List ℕ → Type 0) (items : List (Bor (List ℕ))) (i : ℕ) (d : Bor (List ℕ)) → i < length items →
+    All P (take i (bytes_of items)) → (P (get_or items i d).now → ⊥) →
+    IsFirstNot P (bytes_of items) i (get_or items i d).now
+first_here P items i d lt so_far fails = record {
+  passed = so_far;
+  is_there = slice_get-get_or (bytes_of items) i [] (omega (arith, same_len items, lt))
+      ∙ ap (λ (x : List ℕ). Some x) (item_at items i d [] lt);
+  fails = fails;
+}
+
+-- ---- notes that open
+
+module _ (note origin : List ℕ) (keys : List Key) where
+  pub opens : (checkpoint : Checkpoint) → IsOpenCheckpoint note origin keys checkpoint →
+      IsTrue true ↔ IsOpenNote origin keys note
+  opens checkpoint h = (λ t. open_note note origin keys checkpoint h, λ o. refl)
+
+  pub stays_closed : (fault : TakeFault) → fault ≢ taking.OutOfMemory → ReadsHead note origin keys (Err fault) →
+      IsTrue false ↔ IsOpenNote origin keys note
+  stays_closed fault memory h = (λ t. absurd (cc t), λ o. absurd (not_open note origin keys fault memory h o))
+
+pub all_open_at : {E : Type 0} (o origin : List ℕ) (keys : List Key) (notes : List (List ℕ))
+    (result : Result (Option (ℕ × Bor (List ℕ))) E) → o ≡ origin →
+    IfOk result (λ a. IfNone a (All (IsOpenNote o keys) notes)) →
+    IfOk result (λ a. IfNone a (All (IsOpenNote origin keys) notes))
+all_open_at o origin keys notes result is h =
+    subst (λ x. IfOk result (λ a. IfNone a (All (IsOpenNote x keys) notes))) is h
+
+-- ---- edges that are held
+
+module _ (digest : List ℕ → List ℕ) (old current new : View) (keys : List Key) (items : List (Bor (List ℕ))) (i : ℕ)
+    (d : Bor (List ℕ)) (lt : i < length items) (view_is : current ≡ with_notes old (take i (bytes_of items))) where
+  pub stays_unheld : All (IsOpenNote old.origin keys) (bytes_of items) → (fault : RestoreFault) →
+      fault ≢ restoring.OutOfMemory → KeepsHeld digest current keys (get_or items i d).now (Err fault) new →
+      HasEdge digest old (get_or items i d).now → ⊥
+  stays_unheld opened restoring.BadHead memory h e =
+      never_bad digest old current new keys items i d lt view_is opened restoring.BadHead h refl
+  stays_unheld opened restoring.UnheldEdge memory h e =
+      h.1 (edge_moves_back digest old current (get_or items i d).now (take i (bytes_of items)) view_is e)
+  stays_unheld opened restoring.OutOfMemory memory h e = absurd (memory refl)
+
+-- ---- what a note says
+
+pub says : (bytes text : List ℕ) (parts : NoteParts) (c : Checkpoint) → ReadsNote bytes (Ok parts) →
+    text ≡ parts.text → ReadsCheckpoint text (Ok c) → IsHead bytes c.origin c.size c.root
+says bytes text parts c n same h = record {
+  text = parts.text;
+  lines = parts.lines;
+  extensions = c.extensions;
+  is_note = n.1;
+  is_checkpoint = subst (λ t. IsCheckpoint t c.origin c.size c.root c.extensions) same h;
+}
+
+module _ (bytes origin : List ℕ) (size : ℕ) (root : List ℕ) (head : IsHead bytes origin size root) where
+  pub no_note : (fault : NoteFault) → fault ≢ noting.OutOfMemory → ReadsNote bytes (Err fault) → ⊥
+  no_note fault memory refused =
+      let one : Result NoteParts NoteFault =
+      Ok (record { bytes = bytes; text = head.text; lines = head.lines }) in
+      let other : Result NoteParts NoteFault = Err fault in
+      let same : one ≡ other =
+      note.one_answer bytes one other (λ e. cc e) (λ e. memory (cc e)) (refl, head.is_note) refused in
+      cc same
+
+  pub no_checkpoint : (parts : NoteParts) (text : List ℕ) (fault : CheckpointFault) → ReadsNote bytes (Ok parts) →
+      text ≡ parts.text → fault ≢ reading.OutOfMemory → ReadsCheckpoint text (Err fault) → ⊥
+  no_checkpoint parts text fault n is memory refused =
+      let texts = (note.notes_are_read bytes head.text parts.text head.lines parts.lines head.is_note n.1).0 in
+      let c : Checkpoint = record { origin = origin; size = size; root = root; extensions = head.extensions } in
+      let one : Result Checkpoint CheckpointFault = Ok c in
+      let other : Result Checkpoint CheckpointFault = Err fault in
+      let same : one ≡ other =
+      checkpoint.one_answer text one other (λ e. cc e) (λ e. memory (cc e))
+      (subst (λ t. IsCheckpoint t origin size root head.extensions) (texts ∙ sym is) head.is_checkpoint) refused in
+      cc same
+
+-- ---- bytes that are not refused for a note
+
+module _ (digest : List ℕ → List ℕ) (origin : List ℕ) (keys : List Key) (bytes : List ℕ) where
+  of_fault : (fault : LoadFault) → fault ≢ ReadFault → fault ≢ OutOfMemory →
+      IsOfBytes (Err fault)
+  of_fault fault read memory = record { was_read = λ e. read (cc e); has_memory = λ e. memory (cc e) }
+
+  other_answer : (a : Result View LoadFault) → IsOfBytes a → Loads digest origin keys bytes a → a ≢ Err StateHead →
+      a ≢ Err StateEdge → RefusesNone digest origin keys bytes
+  other_answer a m h no_head no_edge = record {
+    no_closed = λ bad. no_head (one_load digest origin keys bytes a (Err StateHead) m
+        (of_fault StateHead (λ e. cc e) (λ e. cc e)) h bad);
+    no_unheld = λ lacks. no_edge (one_load digest origin keys bytes a (Err StateEdge) m
+        (of_fault StateEdge (λ e. cc e) (λ e. cc e)) h lacks);
+  }
+
+  other_fault : (fault : LoadFault) → fault ≢ ReadFault → fault ≢ OutOfMemory → fault ≢ StateHead →
+      fault ≢ StateEdge → Loads digest origin keys bytes (Err fault) → RefusesNone digest origin keys bytes
+  other_fault fault read memory head edge h =
+      other_answer (Err fault) (of_fault fault read memory) h (λ e. head (cc e)) (λ e. edge (cc e))
+
+  pub lists_refused : (fault : LoadFault) → fault ≢ OutOfMemory → ChecksLists origin bytes (Err fault) →
+      RefusesNone digest origin keys bytes
+  lists_refused StateMagic m h = other_fault StateMagic (λ e. cc e) m (λ e. cc e) (λ e. cc e) h
+  lists_refused StateShort m h = other_fault StateShort (λ e. cc e) m (λ e. cc e) (λ e. cc e) h
+  lists_refused StateLong m h = other_fault StateLong (λ e. cc e) m (λ e. cc e) (λ e. cc e) h
+  lists_refused StateDigest m h = other_fault StateDigest (λ e. cc e) m (λ e. cc e) (λ e. cc e) h
+  lists_refused OtherOrigin m h = other_fault OtherOrigin (λ e. cc e) m (λ e. cc e) (λ e. cc e) h
+  lists_refused StateOrder m h = other_fault StateOrder (λ e. cc e) m (λ e. cc e) (λ e. cc e) h
+  lists_refused StateString m h = other_fault StateString (λ e. cc e) m (λ e. cc e) (λ e. cc e) h
+  lists_refused StateHead m h = absurd h
+  lists_refused Collision m h = absurd h
+  lists_refused StateEdge m h = absurd h
+  lists_refused ReadFault m h = absurd h
+  lists_refused OutOfMemory m h = absurd (m refl)
+
+  pub strings_clash : Loads digest origin keys bytes (Err Collision) → RefusesNone digest origin keys bytes
+  strings_clash h = other_fault Collision (λ e. cc e) (λ e. cc e) (λ e. cc e) (λ e. cc e) h
+
+  pub all_kept : (v : View) → Loads digest origin keys bytes (Ok v) → RefusesNone digest origin keys bytes
+  all_kept v h =
+      other_answer (Ok v) (record { was_read = λ e. cc e; has_memory = λ e. cc e }) h (λ e. cc e) (λ e. cc e)
+
+-- the first note whose edge is not held, or none
+module _ (digest : List ℕ → List ℕ) (origin : List ℕ) (keys : List Key) (bytes : List ℕ) (parts : Parts) (o : List ℕ)
+    (o_is : o ≡ origin) (listed : HasStrings o bytes parts) (notes : List (List ℕ))
+    (notes_are : notes ≡ listed_notes parts) (opened : All (IsOpenNote origin keys) notes) (strings : Strings)
+    (made : (strings ≡ set.from_list (listed_strings parts)) × NoClash digest strings) (old : View)
+    (old_is : old ≡ strings_alone origin strings) (later : List (List ℕ)) (later_are : later ≡ listed_notes parts) where
+  pub edges_judged : {E : Type 0} (result : Result (Option (ℕ × Bor (List ℕ))) E) →
+      IfOk result (λ a. IfSome a (λ x. IsFirstNot (HasEdge digest old) later x.0 x.1.now)) →
+      IfOk result (λ a. IfNone a (All (HasEdge digest old) later)) →
+      FindsAt digest origin keys bytes (seen (option_map (λ x. (x.0, x.1.now))) result)
+  edges_judged (Ok (Some x)) found none =
+      inr (unheld_first digest origin keys bytes parts o o_is listed notes notes_are opened strings made old old_is later
+      later_are (with_notes old later) x.0 x.1.now found)
+  edges_judged (Ok None) found none =
+      all_kept digest origin keys bytes (with_notes old later)
+      (loaded digest origin keys bytes parts o o_is listed notes notes_are opened strings made old old_is later later_are
+      (with_notes old later) (refl, none))
+  edges_judged (Err e) found none = tt
+
+-- ---- what is named
+
+-- there are fewer notes than a number of 64 bits can tell
+few_notes : (parts : Parts) → AreParts parts → length (listed_notes parts) < 2 ^ 64
+few_notes (Parted o notes pairs entries) fit = fit.notes_fit.count
+few_notes (Tagged o notes strings) fit = fit.notes_fit.count
+
+index_within : (P : List ℕ → Type 0) (parts : Parts) (index : ℕ) (note : List ℕ) → AreParts parts →
+    IsFirstNot P (listed_notes parts) index note → index < 18446744073709551615
+index_within P parts index note fit first =
+    let within = slice_get_within (listed_notes parts) index note first.is_there in
+    omega (arith, few_notes parts fit, within)
+
+pub index_fits : (digest : List ℕ → List ℕ) (origin : List ℕ) (keys : List Key) (bytes : List ℕ) (index : ℕ)
+    (note : List ℕ) → Refuses digest origin keys bytes index note → index < 18446744073709551615
+index_fits digest origin keys bytes index note (inl closed) =
+    index_within (IsOpenNote origin keys) closed.parts index note
+    closed.has_strings.has_order.has_origin.is_text.are_parts closed.is_first
+index_fits digest origin keys bytes index note (inr unheld) =
+    index_within (HasEdge digest (listed_view unheld.parts)) unheld.parts index note
+    unheld.has_no_collision.has_open_notes.has_strings.has_order.has_origin.is_text.are_parts unheld.is_first
+
+-- a name, as it is put together
+pub name_joined : (digits front : List ℕ) →
+    ((codes "checkpoint " ++ (digits ++ codes " ")) ++ front) ++ codes ".."
+    ≡ codes "checkpoint " ++ (digits ++ (codes " " ++ (front ++ codes "..")))
+name_joined digits front =
+    ap (λ (x : List ℕ). codes "checkpoint " ++ x)
+    (append_assoc (digits ++ codes " ") front (codes "..")
+    ∙ append_assoc digits (codes " ") (front ++ codes ".."))

@@ -1,0 +1,9 @@
+use Rattle.std.proofs.Common.{rules, ◌≢◌}
+use Rattle.mirror_model.specs.declared.fault.TakeFault.TheVariants as taking
+use Rattle.mirror_state.proofs.RefusedNotes.{stays_closed}
+use Rattle.mirror_state.proofs.refused.is_open.Goals as goal
+
+pub returns-in-Err : goal.returns-in-Err
+returns-in-Err g c =
+    let memory : c.in-Err.field-0 ≢ taking.OutOfMemory = search rules in
+    stays_closed c.args.note.now c.args.mirror.now.view.origin _ c.in-Err.field-0 memory c.in-Err.ensures

@@ -1,0 +1,221 @@
+//! Which note of a state text is why it is not loaded.
+ghost use Rattle.std.specs.Prelude.{◌≡◌, ◌↔◌, ◌<◌, ◌++◌, ℕ, List, map, take, option_map, string_bytes, All, IfNone, IfOk, IfSome, IsTrue, OnOk};
+ghost use Rattle.mirror_model.specs.Complete.{HasEdge};
+ghost use Rattle.mirror_model.specs.Heads.{IsHead};
+ghost use Rattle.tlog_mirror.specs.Restored.{IsOpenNote};
+ghost use Rattle.mirror_state.specs.Refused.{checkpoint_name, note_name, FindsAt, FindsRefused, IsFirstNot, NamesNote};
+ghost use Rattle.tlog_text.specs.Answers.{seen};
+ghost use Rattle.tlog_text.specs.Hash.{base64_of};
+
+use crate::fault::LoadFault;
+use crate::loading::{checked_lists, store_of};
+use base64::engine::general_purpose::STANDARD;
+use node_store::AddFault;
+use signed_note::{Note, NoteFault, Verifier};
+use std::alloc::{AllocError, Global};
+use tlog_checkpoint::{Checkpoint, CheckpointFault, read};
+use tlog_hash::{Hash, TreeHash};
+use tlog_mirror::{Mirror, RestoreFault, TakeFault};
+
+// So many bytes of a root are told.
+const FRONT_LEN: usize = 3;
+
+/// A note of a state text, for which the text is not loaded.
+#[derive(Debug, Drop, PartialEq, Eq, Clone, Copy)]
+pub enum RefusedNote {
+    /// A checkpoint of this size and root, whoever signed it and whichever log it is of.
+    Checkpoint(u64, Hash),
+    /// No checkpoint: the note of this number, of which the first is 1.
+    Note(usize),
+}
+
+impl RefusedNote {
+    /// `checkpoint 700 uzuW..`, by the size and the first three bytes of the root in base64, or `note 3`.
+    ///
+    /// # Errors
+    ///
+    /// Memory was refused.
+    pub fn name(&self, alloc: Global) -> Result<String, AllocError>
+        ensures { IfOk result (λ text. string_bytes text ≡ note_name self.now) }
+    {
+        match self {
+            RefusedNote::Checkpoint(size, root) => checkpoint_text(alloc, *size, root),
+            RefusedNote::Note(number) => format!(in alloc; "note {number}"),
+        }
+    }
+}
+
+// How a checkpoint is named.
+fn checkpoint_text(alloc: Global, size: u64, root: &Hash) -> Result<String, AllocError>
+    ensures { IfOk result (λ text. string_bytes text ≡ checkpoint_name size root.now) }
+{
+    let mut text = format!(in alloc; "checkpoint {size} ")?;
+    push_front(&mut text, root)?;
+    text.push_str("..")?;
+    Ok(text)
+}
+
+// Adds what a root begins with.
+#[tactic(auto, unfolding(tlog_text::specs::Hash::base64_of))]
+fn push_front(text: &mut String, root: &Hash) -> Result<(), AllocError>
+    ensures { OnOk result (string_bytes text.new ≡ string_bytes text.old ++ base64_of (take 3 root.now)) }
+{
+    STANDARD.encode_string(&root[..FRONT_LEN], text)
+}
+
+/// The note for which `load_bytes` answers `StateHead` or `StateEdge`: the first, in the order of the text, that does not
+/// open or, where all do, whose edge is not held. None where it answers neither. It takes as long as a load.
+///
+/// ```text
+/// refused_note::<Sha256Tree>(alloc, "example.com/log", &keys, &bytes)?   // a checkpoint, of 700 entries
+/// ```
+///
+/// # Errors
+///
+/// Memory was refused.
+pub fn refused_note<H: TreeHash>(
+    alloc: Global,
+    origin: &str,
+    keys: &[Box<dyn Verifier>],
+    bytes: &[u8],
+) -> Result<Option<RefusedNote>, AllocError>
+    ensures { FindsRefused H.digest origin.now (map (λ k. key k) keys.now) bytes.now result }
+{
+    match refused_at::<H>(alloc, origin, keys, bytes)? {
+        Some((index, note)) => Ok(Some(name_of(alloc, index, note)?)),
+        None => Ok(None),
+    }
+}
+
+// Where that note stands among the notes of the text, and its bytes.
+fn refused_at<'a, H: TreeHash>(
+    alloc: Global,
+    origin: &str,
+    keys: &[Box<dyn Verifier>],
+    bytes: &'a [u8],
+) -> Result<Option<(usize, &'a [u8])>, AllocError>
+    ensures { FindsAt H.digest origin.now (map (λ k. key k) keys.now) bytes.now (seen (option_map (λ x. (x.0, x.1.now))) result) }
+{
+    let lists = match checked_lists(alloc, origin.as_bytes(), bytes) {
+        Ok(lists) => lists,
+        Err(LoadFault::OutOfMemory) => return Err(AllocError),
+        Err(_) => return Ok(None),
+    };
+    match closed_note::<H>(alloc, origin, keys, lists.notes()) {
+        Ok(None) => {}
+        found => return found,
+    }
+    let strings = match store_of::<H>(alloc, &lists) {
+        Ok(strings) => strings,
+        Err(AddFault::Collision) => return Ok(None),
+        Err(AddFault::OutOfMemory) => return Err(AllocError),
+    };
+    let Ok(mut mirror) = Mirror::of_strings(alloc, origin, strings) else {
+        return Err(AllocError);
+    };
+    first_unheld(alloc, &mut mirror, keys, lists.notes())
+}
+
+// How a note at that index is named.
+fn name_of(alloc: Global, index: usize, note: &[u8]) -> Result<RefusedNote, AllocError>
+    requires { index < 18446744073709551615 }
+    ensures { IfOk result (λ name. NamesNote index note.now name) }
+{
+    match checkpoint_of(alloc, note)? {
+        Some(checkpoint) => {
+            let size = checkpoint.size;
+            let root = checkpoint.root;
+            Ok(RefusedNote::Checkpoint(size, root))
+        }
+        None => Ok(RefusedNote::Note(index + 1)),
+    }
+}
+
+// The checkpoint that a note's text is.
+fn checkpoint_of(alloc: Global, note: &[u8]) -> Result<Option<Checkpoint>, AllocError>
+    ensures found { IfOk result (λ o. IfSome o (λ c. IsHead note.now c.origin c.size c.root)) }
+    ensures none { IfOk result (λ o. IfNone o ((origin : List ℕ) (size : ℕ) (root : List ℕ) → ¬ IsHead note.now origin size root)) }
+{
+    let note = match Note::read(alloc, note) {
+        Ok(note) => note,
+        Err(NoteFault::OutOfMemory) => return Err(AllocError),
+        Err(_) => return Ok(None),
+    };
+    match read(alloc, note.text()) {
+        Ok(checkpoint) => Ok(Some(checkpoint)),
+        Err(CheckpointFault::OutOfMemory) => Err(AllocError),
+        Err(_) => Ok(None),
+    }
+}
+
+// The first of the notes that does not open as a checkpoint of that origin.
+fn closed_note<'n, H: TreeHash>(
+    alloc: Global,
+    origin: &str,
+    keys: &[Box<dyn Verifier>],
+    notes: &[&'n [u8]],
+) -> Result<Option<(usize, &'n [u8])>, AllocError>
+    ensures found { IfOk result (λ o. IfSome o (λ x. IsFirstNot (IsOpenNote origin.now (map (λ k. key k) keys.now)) (map (λ n. n.now) notes.now) x.0 x.1.now)) }
+    ensures none { IfOk result (λ o. IfNone o (All (IsOpenNote origin.now (map (λ k. key k) keys.now)) (map (λ n. n.now) notes.now))) }
+{
+    let Ok(mirror) = Mirror::<H>::new(alloc, origin) else {
+        return Err(AllocError);
+    };
+    first_closed(alloc, &mirror, keys, notes)
+}
+
+// The first of the notes that does not open as a checkpoint of the mirror's origin.
+fn first_closed<'n, H: TreeHash>(
+    alloc: Global,
+    mirror: &Mirror<H>,
+    keys: &[Box<dyn Verifier>],
+    notes: &[&'n [u8]],
+) -> Result<Option<(usize, &'n [u8])>, AllocError>
+    ensures found { IfOk result (λ o. IfSome o (λ x. IsFirstNot (IsOpenNote mirror.now.view.origin (map (λ k. key k) keys.now)) (map (λ n. n.now) notes.now) x.0 x.1.now)) }
+    ensures none { IfOk result (λ o. IfNone o (All (IsOpenNote mirror.now.view.origin (map (λ k. key k) keys.now)) (map (λ n. n.now) notes.now))) }
+{
+    for i in 0..notes.len() {
+        if !is_open(alloc, mirror, keys, notes[i])? {
+            return Ok(Some((i, notes[i])));
+        }
+    }
+    Ok(None)
+}
+
+// Whether a note opens as a checkpoint of the mirror's origin.
+fn is_open<H: TreeHash>(
+    alloc: Global,
+    mirror: &Mirror<H>,
+    keys: &[Box<dyn Verifier>],
+    note: &[u8],
+) -> Result<bool, AllocError>
+    ensures { IfOk result (λ opens. IsTrue opens ↔ IsOpenNote mirror.now.view.origin (map (λ k. key k) keys.now) note.now) }
+{
+    match mirror.check_head(alloc, keys, note) {
+        Ok(_) => {}
+        Err(TakeFault::OutOfMemory) => return Err(AllocError),
+        Err(_) => return Ok(false),
+    }
+    Ok(true)
+}
+
+// The first of the notes, which open, whose edge is not held.
+fn first_unheld<'n, H: TreeHash>(
+    alloc: Global,
+    mirror: &mut Mirror<H>,
+    keys: &[Box<dyn Verifier>],
+    notes: &[&'n [u8]],
+) -> Result<Option<(usize, &'n [u8])>, AllocError>
+    requires { All (IsOpenNote mirror.old.view.origin (map (λ k. key k) keys.now)) (map (λ n. n.now) notes.now) }
+    ensures found { IfOk result (λ o. IfSome o (λ x. IsFirstNot (HasEdge H.digest mirror.old.view) (map (λ n. n.now) notes.now) x.0 x.1.now)) }
+    ensures none { IfOk result (λ o. IfNone o (All (HasEdge H.digest mirror.old.view) (map (λ n. n.now) notes.now))) }
+{
+    for i in 0..notes.len() {
+        match mirror.keep_held_head(alloc, keys, notes[i]) {
+            Ok(()) => {}
+            Err(RestoreFault::OutOfMemory) => return Err(AllocError),
+            Err(_) => return Ok(Some((i, notes[i]))),
+        }
+    }
+    Ok(None)
+}
