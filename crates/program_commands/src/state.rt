@@ -6,7 +6,7 @@ ghost use Rattle.program_commands.specs.States.{BeginsWith, OpensFile, SavesFile
 
 use crate::fault::StateFault;
 use crate::origin::check_origin;
-use mirror_state::{load_bytes, save};
+use mirror_state::{LoadFault, load_bytes, refused_note, save};
 use program_files::{NamedFault, NamedFiles};
 use signed_note::Verifier;
 use std::alloc::{AllocError, Global};
@@ -22,7 +22,8 @@ use tlog_mirror::Mirror;
 /// # Errors
 ///
 /// The first that applies: `Origin`, as of `Mirror::new`; `File`, where the file is not read; `Load`, with the fault of
-/// `mirror_state::load_bytes`. `OutOfMemory` is told in each of them.
+/// `mirror_state::load_bytes`. `OutOfMemory` is told in each of them. Which note a `StateHead` or a `StateEdge` is about is
+/// told to the files.
 pub fn open_state<H: TreeHash, F: NamedFiles>(
     files: &F,
     alloc: Global,
@@ -42,7 +43,29 @@ pub fn open_state<H: TreeHash, F: NamedFiles>(
     };
     match load_bytes::<H>(alloc, origin, keys, &state) {
         Ok(mirror) => Ok(mirror),
-        Err(fault) => Err(StateFault::Load(fault)),
+        Err(fault) => {
+            tell_note::<H, F>(files, alloc, origin, keys, &state, fault);
+            Err(StateFault::Load(fault))
+        }
+    }
+}
+
+// Tells the files which note a state is refused for, if it is for one.
+fn tell_note<H: TreeHash, F: NamedFiles>(
+    files: &F,
+    alloc: Global,
+    origin: &str,
+    keys: &[Box<dyn Verifier>],
+    state: &[u8],
+    fault: LoadFault,
+) {
+    if !matches!(fault, LoadFault::StateHead | LoadFault::StateEdge) {
+        return;
+    }
+    if let Ok(Some(note)) = refused_note::<H>(alloc, origin, keys, state) {
+        if let Ok(name) = note.name(alloc) {
+            files.keep_reason(name);
+        }
     }
 }
 

@@ -119,4 +119,6 @@ impl NamedFiles for MemoryFiles {
     fn make_folder(&self, _name: &str) -> Result<(), NamedFault> {
         Ok(())
     }
+
+    fn keep_reason(&self, _reason: String) {}
 }

@@ -56,4 +56,8 @@ pub trait NamedFiles {
     /// `FileFault` where it cannot be made.
     fn make_folder(&self, name: &str) -> Result<(), NamedFault>
         ensures { TellsFolder (puts self.now) result };
+
+    /// Is told what is wrong with the bytes of a file that was read. Files that tell people of it keep it; contracts see
+    /// nothing of it.
+    fn keep_reason(&self, reason: String);
 }

@@ -36,7 +36,7 @@ pub struct FailedName {
 ///
 /// A file is replaced as `mirror_folders::replace_file` does. What is there and is no plain file, as a device, is
 /// written to as it is. A folder cannot be read or written, and an empty name is one of no file and of no folder.
-/// What the last `FileFault` came of is told by `take_failed`.
+/// What the last `FileFault` came of is told by `take_failed`, and what is wrong with bytes that were read by `take_reason`.
 ///
 /// ```text
 /// let files = SystemFiles::new(&rt, alloc);
@@ -47,6 +47,7 @@ pub struct SystemFiles<'a, R: Files> {
     files: &'a R,
     alloc: Global,
     failed: Cell<Option<FailedName>>,
+    reason: Cell<Option<String>>,
 }
 
 impl<'a, R: Files> SystemFiles<'a, R> {
@@ -56,12 +57,18 @@ impl<'a, R: Files> SystemFiles<'a, R> {
             files,
             alloc,
             failed: Cell::new(None),
+            reason: Cell::new(None),
         }
     }
 
     /// What the last `FileFault` came of, once; None where there was none, or where memory for the name was refused.
     pub fn take_failed(&self) -> Option<FailedName> {
         self.failed.take()
+    }
+
+    /// What was told last of bytes that were read, once.
+    pub fn take_reason(&self) -> Option<String> {
+        self.reason.take()
     }
 
     // Keeps what a file that is not had came of, and says that it is not had.
@@ -148,6 +155,10 @@ impl<'a, R: Files> NamedFiles for SystemFiles<'a, R> {
             Ok(()) => Ok(()),
             Err(e) => Err(self.refuse(name, e)),
         }
+    }
+
+    fn keep_reason(&self, reason: String) {
+        self.reason.set(Some(reason));
     }
 }
 
