@@ -1,15 +1,14 @@
 -- A full bundle in the place of a partial one.
-use Rattle.std.proofs.Common.{zero, suc, ◌≡◌, ◌⊎◌, ℕ, ◌+◌, ◌*◌, ◌/◌, ◌%◌, ◌^◌, ◌<◌, ◌≤◌, List, [], ◌∷◌, length, map}
-use Rattle.std.proofs.Common.{take, drop, get_or, length-take, Bool, true, false, refl, sym, ◌∙◌, ap, subst, inl, inr}
+use Rattle.std.proofs.Common.{suc, ◌≡◌, ◌⊎◌, ℕ, ◌+◌, ◌*◌, ◌/◌, ◌%◌, ◌^◌, ◌<◌, ◌≤◌, List, [], ◌∷◌, length, map}
+use Rattle.std.proofs.Common.{take, drop, length-take, Bool, true, false, sym, ◌∙◌, ap, subst, inl, inr}
 use Rattle.std.proofs.Common.{arith}
 use Rattle.std.specs.List.{Contains, filter}
 use Rattle.std.specs.Prelude.{if◌then◌else◌}
 use Rattle.std.proofs.lemmas.List.{drop-take, take-take, take-append-drop, map-append}
 use Rattle.std.proofs.lemmas.List.Elements.{Contains-append_left, Contains-append_cases}
-use Rattle.std.proofs.Math.Seq.{drop-cons}
-use Rattle.tlog_hash.specs.Tree.{mth, strings, joins, leaf_hash, fold_of}
+use Rattle.tlog_hash.specs.Tree.{strings, joins, leaf_hash, fold_of}
 use Rattle.std.proofs.lemmas.Bool.Decides.{nat_tests}
-use Rattle.tlog_hash.specs.Rows.{part, ranges, level_row}
+use Rattle.tlog_hash.specs.Rows.{part, level_row}
 use Rattle.tlog_hash.proofs.LeafRanges.{rows_of_leaves}
 use Rattle.std.specs.Prelude.{not, ◌==◌, ◌-◌}
 use Rattle.tlog_shape.specs.Edge.{width_of, edge_index_of}

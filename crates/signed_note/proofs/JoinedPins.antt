@@ -1,5 +1,5 @@
 -- Keys that accept the same, with pins of one name and id joined.
-use Rattle.std.proofs.Common.{◌≡◌, ◌⊎◌, inl, inr, ℕ, zero, suc, ◌+◌, ◌<◌, Bool, true, false, ◌||◌, ◌&&◌, List, [], ◌∷◌, ◌++◌}
+use Rattle.std.proofs.Common.{◌≡◌, ◌⊎◌, inl, inr, ℕ, zero, suc, ◌<◌, Bool, false, ◌||◌, ◌&&◌, List, [], ◌∷◌, ◌++◌}
 use Rattle.std.proofs.Common.{length, map, slice_set, slice_index_or, nat_eq, Contains, refl, sym, ap, ◌∙◌, arith, subst}
 use Rattle.std.specs.List.{list_any, HoldsAt}
 use Rattle.std.specs.Str.{bytes_eq}

@@ -4,7 +4,6 @@ use Rattle.std.proofs.Common.{drop, map, get_or, refl, sym, ap, ◌∙◌, subst
 use Rattle.std.proofs.Math.Nat.{div-mul-le_self, div-one, lt-div-mul-add, mul-div-le}
 use Rattle.std.proofs.lemmas.List.{take-map, drop-map, map-append, length-map, length-drop, take-append-drop, take_all}
 use Rattle.std.proofs.lemmas.List.{length-append, get_or_append_left, get_or_push, get_or-map}
-use Rattle.std.proofs.Math.Seq.{drop-cons}
 use Rattle.std.proofs.lemmas.List.Elements.{All-map}
 use Rattle.std.proofs.lemmas.Nat.{mul-le}
 use Rattle.std.proofs.lemmas.Bool.{cases_lt}
@@ -13,7 +12,7 @@ use Rattle.tlog_hash.specs.Rows.{part, ranges, level_row}
 use Rattle.tlog_hash.specs.Tree.{fold_of, leaf_hash, mth}
 use Rattle.tlog_tiles.specs.Row.{row_text}
 use Rattle.tlog_tiles.proofs.TileLemmas.{row_folds, mth_size}
-use Rattle.tlog_hash.proofs.Trees.{mth-none, mth-one}
+use Rattle.tlog_hash.proofs.Trees.{mth-none}
 use Rattle.tlog_hash.proofs.LeafRanges.{rows_of_leaves}
 use Rattle.tlog_hash.proofs.Folds.{length-ranges, joined_ranges, all_ranges, cut_push, cut_full, joined_push, mth-level}
 use Rattle.tlog_hash.specs.Blocks.{IsCut, joined_up}
