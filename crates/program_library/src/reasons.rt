@@ -66,12 +66,12 @@ fn of_name<R: Files>(
         "OutOfMemory" => None,
         "FileFault" => match of_files(alloc, files) {
             Some(why) => Some(why),
-            None => of_words(alloc, words, fault),
+            None => of_words(alloc, words, fault, files),
         },
         "ShelfFault" => of_folders(alloc, folders),
         "BadOrigin" => Why::of_thing(alloc, "--origin"),
         "WriteFault" => Why::of_thing(alloc, "standard output"),
-        _ => of_words(alloc, words, fault),
+        _ => of_words(alloc, words, fault, files),
     }
 }
 
@@ -149,8 +149,13 @@ fn part_of_state(fault: &StateFault, part: Part) -> Option<Part> {
     }
 }
 
-// What the words of the command name that the fault is about.
-fn of_words(alloc: Global, words: &[String], fault: &RunFault) -> Option<Why> {
+// What the words of the command name that the fault is about; of a state that was refused for a note, which note.
+fn of_words<R: Files>(
+    alloc: Global,
+    words: &[String],
+    fault: &RunFault,
+    files: &SystemFiles<'_, R>,
+) -> Option<Why> {
     let Some(part) = part_of(fault) else {
         return None;
     };
@@ -161,7 +166,10 @@ fn of_words(alloc: Global, words: &[String], fault: &RunFault) -> Option<Why> {
         Part::Input => Why::of_thing(alloc, "standard input"),
         Part::Checkpoint => of_checkpoint(alloc, &command),
         _ => match thing_of(&command, part) {
-            Some(thing) => Why::of_thing(alloc, thing),
+            Some(thing) => match files.take_reason() {
+                Some(reason) => Why::of_reason(alloc, thing, &reason),
+                None => Why::of_thing(alloc, thing),
+            },
             None => None,
         },
     }
