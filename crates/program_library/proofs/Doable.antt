@@ -1,10 +1,10 @@
 -- What words that ask for a command say of its numbers.
 use Rattle.std.proofs.Common.{ℕ, ◌≤◌, List, length, Option, Some, None, arith}
 use Rattle.program_words.specs.Commands.{Asks, IsCount, IsTakeWidth}
-use Rattle.program_words.specs.declared.command.Command.{Command as Order}
-use Rattle.program_words.specs.declared.command.Command.TheVariants as order
-use Rattle.program_words.specs.declared.command.Kind.{Kind}
-use Rattle.program_words.specs.declared.command.Kind.TheVariants as kind
+use Rattle.program_words.specs.declared.commands.Command.{Command as Order}
+use Rattle.program_words.specs.declared.commands.Command.TheVariants as order
+use Rattle.program_words.specs.declared.commands.take.Kind.{Kind}
+use Rattle.program_words.specs.declared.commands.take.Kind.TheVariants as kind
 use Rattle.program_library.specs.Done.{IsDoable}
 
 take_width : (word : Option (List ℕ)) (width : ℕ) → IsTakeWidth word width → (1 ≤ width) × (width ≤ 256)
@@ -17,20 +17,8 @@ some_file kind.Tile count h = omega (arith, h)
 some_file kind.Bundle count h = omega (arith, h)
 
 pub asked_doable : (words : List (List ℕ)) (c : Order) → Asks words c → IsDoable c
-asked_doable words (order.Root c) h = h.2.is_such.most_is
+asked_doable words (order.Root c) h = h.2.is_number.most_is
 asked_doable words (order.Take c) h =
     let width = take_width _ c.width h.2.width in
     (width.0, width.1, some_file c.kind (length c.files.items) h.2.count)
-asked_doable words order.Check h = tt
-asked_doable words (order.Build c) h = tt
-asked_doable words (order.Merge c) h = tt
-asked_doable words (order.Pull c) h = tt
-asked_doable words (order.Status c) h = tt
-asked_doable words (order.Missing c) h = tt
-asked_doable words (order.Forks c) h = tt
-asked_doable words (order.Compare c) h = tt
-asked_doable words (order.Prove c) h = tt
-asked_doable words (order.Export c) h = tt
-asked_doable words (order.Update c) h = tt
-asked_doable words (order.Notes c) h = tt
-asked_doable words (order.Serve c) h = tt
+asked_doable words other h = tt

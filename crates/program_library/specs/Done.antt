@@ -4,15 +4,15 @@ use Rattle.std.specs.Prelude.{◌≡◌, ◌≤◌, ℕ, List, length, Option, R
 use Rattle.std.specs.Prelude.{false, IfSome, map, option_map, ⊤}
 use Rattle.std.specs.Io.KnownBytes.{Keeps}
 use Rattle.signed_note.specs.Keys.{Key}
-use Rattle.program_words.specs.declared.command.Command.{Command as Order}
-use Rattle.program_words.specs.declared.command.Command.TheVariants as order
-use Rattle.program_words.specs.declared.command.Build.{Build as BuildWords}
-use Rattle.program_words.specs.declared.command.Merge.{Merge as MergeWords}
-use Rattle.program_words.specs.declared.command.Compare.{Compare as CompareWords}
-use Rattle.program_words.specs.declared.command.Export.{Export as FolderWords}
-use Rattle.program_words.specs.declared.command.Notes.{Notes as NotesWords}
-use Rattle.program_words.specs.declared.command.Pull.{Pull as PullWords}
-use Rattle.program_words.specs.declared.command.Serve.{Serve as ServeWords}
+use Rattle.program_words.specs.declared.commands.Command.{Command as Order}
+use Rattle.program_words.specs.declared.commands.Command.TheVariants as order
+use Rattle.program_words.specs.declared.commands.build.Build.{Build as BuildWords}
+use Rattle.program_words.specs.declared.commands.merge.Merge.{Merge as MergeWords}
+use Rattle.program_words.specs.declared.commands.compare.Compare.{Compare as CompareWords}
+use Rattle.program_words.specs.declared.commands.export.Export.{Export as FolderWords}
+use Rattle.program_words.specs.declared.commands.notes.Notes.{Notes as NotesWords}
+use Rattle.program_words.specs.declared.commands.pull.Pull.{Pull as PullWords}
+use Rattle.program_words.specs.declared.commands.serve.Serve.{Serve as ServeWords}
 use Rattle.mirror_folders.specs.Shelf.{Put}
 use Rattle.program_files.specs.Named.{NamedFile}
 use Rattle.program_reports.specs.declared.question.Question.TheVariants as question
@@ -28,10 +28,9 @@ use Rattle.program_commands.specs.declared.fault.ExportFileFault.{ExportFileFaul
 use Rattle.program_commands.specs.declared.fault.UpdateFileFault.{UpdateFileFault}
 use Rattle.program_commands.specs.declared.fault.NotesFault.{NotesFault}
 use Rattle.program_library.specs.declared.fault.RunFault.{RunFault}
-use Rattle.program_library.specs.declared.fault.RunFault.TheVariants.{Root, Check, Build, Take}
-use Rattle.program_library.specs.declared.fault.RunFault.TheVariants.{Merge, Pull, Status, Missing}
-use Rattle.program_library.specs.declared.fault.RunFault.TheVariants.{Forks, Prove, Export, Update, Notes}
-use Rattle.program_library.specs.declared.fault.RunFault.TheVariants.{Compare, Serve}
+use Rattle.program_library.specs.declared.fault.RunFault.TheVariants.{Work, Root, Check, Take}
+use Rattle.program_library.specs.declared.fault.RunFault.TheVariants.{Merge, Pull, Export, Update}
+use Rattle.program_library.specs.declared.fault.RunFault.TheVariants.{Notes, Serve}
 use Rattle.program_commands.specs.declared.root.RootFault.TheVariants as root
 use Rattle.program_commands.specs.declared.check.CheckFault.TheVariants as check
 use Rattle.program_library.specs.declared.fault.TellFault.{TellFault}
@@ -72,11 +71,7 @@ abbrev pub IsWriteFault : RunFault → Type 0
 IsWriteFault (Root root.WriteFault) = ⊤
 IsWriteFault (Check check.WriteFault) = ⊤
 IsWriteFault (Pull tell.WriteFault) = ⊤
-IsWriteFault (Status fault) = IsWriting fault
-IsWriteFault (Missing fault) = IsWriting fault
-IsWriteFault (Forks fault) = IsWriting fault
-IsWriteFault (Compare fault) = IsWriting fault
-IsWriteFault (Prove fault) = IsWriting fault
+IsWriteFault (Work fault) = IsWriting fault
 IsWriteFault (Serve fault) = ⊤
 IsWriteFault other = ⊥
 
@@ -157,7 +152,7 @@ module _ (digest : List ℕ → List ℕ) (keys : List Key) (key_bytes : List �
       IfSome input (λ bytes. AnswersCheck digest bytes old new (Err fault))
   Executes (order.Build c) input old new (Ok status) =
       BuildsOne c input done × Keeps old new × (status ≡ 0)
-  Executes (order.Build c) input old new (Err (Build fault)) =
+  Executes (order.Build c) input old new (Err (Work fault)) =
       BuildsOne c input (failed fault) × Keeps old new
   Executes (order.Take c) input old new (Ok status) =
       TakesWords digest keys c told left done × Keeps old new × (status ≡ 0)
@@ -172,28 +167,28 @@ module _ (digest : List ℕ → List ℕ) (keys : List Key) (key_bytes : List �
   Executes (order.Status c) input old new (Ok status) =
       AsksState digest keys told c.state.now c.log.origin.now question.Status old new
       (Ok status)
-  Executes (order.Status c) input old new (Err (Status fault)) =
+  Executes (order.Status c) input old new (Err (Work fault)) =
       AsksState digest keys told c.state.now c.log.origin.now question.Status old new
       (Err fault)
   Executes (order.Missing c) input old new (Ok status) =
       AsksState digest keys told c.mirror.state.now c.mirror.log.origin.now
       (question.Missing c.size c.root) old new (Ok status)
-  Executes (order.Missing c) input old new (Err (Missing fault)) =
+  Executes (order.Missing c) input old new (Err (Work fault)) =
       AsksState digest keys told c.mirror.state.now c.mirror.log.origin.now
       (question.Missing c.size c.root) old new (Err fault)
   Executes (order.Forks c) input old new (Ok status) =
       AsksState digest keys told c.state.now c.log.origin.now question.Forks old new
       (Ok status)
-  Executes (order.Forks c) input old new (Err (Forks fault)) =
+  Executes (order.Forks c) input old new (Err (Work fault)) =
       AsksState digest keys told c.state.now c.log.origin.now question.Forks old new
       (Err fault)
   Executes (order.Compare c) input old new (Ok status) = ComparesWords c old new (Ok status)
-  Executes (order.Compare c) input old new (Err (Compare fault)) =
+  Executes (order.Compare c) input old new (Err (Work fault)) =
       ComparesWords c old new (Err fault)
   Executes (order.Prove c) input old new (Ok status) =
       AsksState digest keys told c.mirror.state.now c.mirror.log.origin.now (question.Proof c.ask)
       old new (Ok status)
-  Executes (order.Prove c) input old new (Err (Prove fault)) =
+  Executes (order.Prove c) input old new (Err (Work fault)) =
       AsksState digest keys told c.mirror.state.now c.mirror.log.origin.now (question.Proof c.ask)
       old new (Err fault)
   Executes (order.Export c) input old new (Ok status) =

@@ -3,9 +3,9 @@ use Rattle.std.specs.Prelude.{◌≡◌, ℕ, List, ◌∷◌, map, Option, Resu
 use Rattle.std.specs.Prelude.{option_map}
 use Rattle.signed_note.specs.Keys.{Key}
 use Rattle.program_files.specs.Named.{NamedFile}
-use Rattle.program_words.specs.declared.command.Kind.{Kind}
-use Rattle.program_words.specs.declared.command.Kind.TheVariants as kind
-use Rattle.program_words.specs.declared.command.Take.{Take}
+use Rattle.program_words.specs.declared.commands.take.Kind.{Kind}
+use Rattle.program_words.specs.declared.commands.take.Kind.TheVariants as kind
+use Rattle.program_words.specs.declared.commands.take.Take.{Take}
 use Rattle.program_commands.specs.Takes.{LeavesTaken}
 use Rattle.program_commands.specs.declared.item.ItemFiles.{ItemFiles}
 use Rattle.program_commands.specs.declared.item.ItemFiles.TheVariants.{Head, Tile, Bundle}

@@ -11,7 +11,7 @@ use Rattle.mirror_folders.specs.Shelf.{Put}
 use Rattle.program_files.specs.Named.{NamedFile}
 use Rattle.program_files.specs.Named.{ReadsShort, HasContents}
 use Rattle.program_files.specs.declared.fault.NamedFault.{NamedFault}
-use Rattle.program_words.specs.declared.command.Command.{Command as Order}
+use Rattle.program_words.specs.declared.commands.Command.{Command as Order}
 use Rattle.program_words.specs.declared.fault.CommandFault.{CommandFault}
 use Rattle.program_words.specs.Commands.{Asks}
 use Rattle.program_words.specs.Readings.{HasKeys, HasNoKeys, Reads, ReadsKeyFile}

@@ -7,7 +7,7 @@ use crate::fault::WorkFault;
 use crate::told::tell_puts;
 use mirror_progress::{Task, ToldFolders};
 use program_commands::check_origin;
-use program_words::Build;
+use program_words::commands::build::Build;
 use signed_note::{Verifier, read_keys};
 use std::alloc::Global;
 use std::io::Read;

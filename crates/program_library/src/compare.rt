@@ -9,7 +9,7 @@ use crate::fault::WorkFault;
 use program_commands::{HeadFilesFault, open_state, read_heads};
 use program_files::NamedFiles;
 use program_reports::print_comparison;
-use program_words::Compare;
+use program_words::commands::compare::Compare;
 use signed_note::Verifier;
 use std::alloc::Global;
 use std::io::Write;

@@ -24,15 +24,15 @@ pub enum RunFault {
     /// A line of the key file is no key.
     #[error(transparent)]
     KeyLines(KeyFileFault),
+    /// A command that has no faults of its own was not done: `build`, `status`, `missing`, `forks`, `compare` and `prove`.
+    #[error(transparent)]
+    Work(WorkFault),
     /// `root` told no root.
     #[error(transparent)]
     Root(RootFault),
     /// `check` told no verdict.
     #[error(transparent)]
     Check(CheckFault),
-    /// `build` made no log.
-    #[error(transparent)]
-    Build(WorkFault),
     /// `take` wrote no state.
     #[error(transparent)]
     Take(TakeFilesFault),
@@ -42,21 +42,6 @@ pub enum RunFault {
     /// `pull` wrote no state, or did not tell of it.
     #[error(transparent)]
     Pull(TellFault),
-    /// `status` was not printed.
-    #[error(transparent)]
-    Status(WorkFault),
-    /// What is missing was not printed.
-    #[error(transparent)]
-    Missing(WorkFault),
-    /// Forks were not printed.
-    #[error(transparent)]
-    Forks(WorkFault),
-    /// What was compared was not printed.
-    #[error(transparent)]
-    Compare(WorkFault),
-    /// No proof was printed.
-    #[error(transparent)]
-    Prove(WorkFault),
     /// Not all was exported.
     #[error(transparent)]
     Export(ExportFileFault),

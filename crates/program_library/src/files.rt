@@ -20,7 +20,10 @@ use program_commands::{
     run_export, run_merge, run_notes, run_take, run_update,
 };
 use program_files::NamedFiles;
-use program_words::{Export, Kind, Merge, Notes, Take};
+use program_words::commands::export::Export;
+use program_words::commands::merge::Merge;
+use program_words::commands::notes::Notes;
+use program_words::commands::take::{Kind, Take};
 use signed_note::Verifier;
 use std::alloc::Global;
 use std::fs::Files;

@@ -104,12 +104,7 @@ enum Part {
 // What the fault is about.
 fn part_of(fault: &RunFault) -> Option<Part> {
     match fault {
-        RunFault::Build(fault)
-        | RunFault::Status(fault)
-        | RunFault::Missing(fault)
-        | RunFault::Forks(fault)
-        | RunFault::Compare(fault)
-        | RunFault::Prove(fault)
+        RunFault::Work(fault)
         | RunFault::Pull(TellFault::Work(fault))
         | RunFault::Serve(TellFault::Work(fault)) => part_of_work(fault),
         RunFault::Take(TakeFilesFault::State(fault))

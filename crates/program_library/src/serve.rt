@@ -12,7 +12,7 @@ use byte_streams::{TimedStream, write_whole};
 use mirror_server::{HttpFault, answer};
 use program_commands::open_state;
 use program_files::NamedFiles;
-use program_words::Serve;
+use program_words::commands::serve::Serve;
 use signed_note::Verifier;
 use std::alloc::{AllocError, Global};
 use std::io::{self, Write};

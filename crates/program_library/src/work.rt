@@ -68,7 +68,7 @@ where
         },
         Command::Build(build) => match run_build(folders, alloc, build, key_bytes, keys, input) {
             Ok(()) => Ok(0),
-            Err(fault) => Err(RunFault::Build(fault)),
+            Err(fault) => Err(RunFault::Work(fault)),
         },
         Command::Take(take) => match take_words(files, alloc, take, keys) {
             Ok(()) => Ok(0),
@@ -85,7 +85,7 @@ where
         Command::Status(args) => {
             match run_ask(files, alloc, args, keys, &Question::Status, output) {
                 Ok(status) => Ok(status),
-                Err(fault) => Err(RunFault::Status(fault)),
+                Err(fault) => Err(RunFault::Work(fault)),
             }
         }
         Command::Missing(missing) => {
@@ -95,22 +95,22 @@ where
             };
             match run_ask(files, alloc, &missing.mirror, keys, &question, output) {
                 Ok(status) => Ok(status),
-                Err(fault) => Err(RunFault::Missing(fault)),
+                Err(fault) => Err(RunFault::Work(fault)),
             }
         }
         Command::Forks(args) => match run_ask(files, alloc, args, keys, &Question::Forks, output) {
             Ok(status) => Ok(status),
-            Err(fault) => Err(RunFault::Forks(fault)),
+            Err(fault) => Err(RunFault::Work(fault)),
         },
         Command::Compare(compare) => match run_compare(files, alloc, compare, keys, output) {
             Ok(status) => Ok(status),
-            Err(fault) => Err(RunFault::Compare(fault)),
+            Err(fault) => Err(RunFault::Work(fault)),
         },
         Command::Prove(prove) => {
             let question = Question::Proof(prove.ask);
             match run_ask(files, alloc, &prove.mirror, keys, &question, output) {
                 Ok(status) => Ok(status),
-                Err(fault) => Err(RunFault::Prove(fault)),
+                Err(fault) => Err(RunFault::Work(fault)),
             }
         }
         Command::Export(export) => match export_words(files, folders, alloc, export, keys) {

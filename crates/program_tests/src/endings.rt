@@ -45,10 +45,7 @@ fn collisions_of_a_load(rt: HostRuntime) {
         RunFault::Serve(TellFault::Work(work())),
         RunFault::Pull(TellFault::Work(work())),
         RunFault::Export(ExportFileFault::State(state)),
-        RunFault::Status(work()),
-        RunFault::Missing(work()),
-        RunFault::Forks(work()),
-        RunFault::Prove(work()),
+        RunFault::Work(work()),
     ] {
         assert_told(&rt, rt.alloc(), fault, "tlogmirror: Collision\n");
     }
@@ -68,7 +65,7 @@ fn collisions_of_the_work(rt: HostRuntime) {
         (RunFault::Take(taken), collision),
         (RunFault::Merge(merged), collision),
         (RunFault::Pull(TellFault::Work(pulled)), collision),
-        (RunFault::Build(built), collision),
+        (RunFault::Work(built), collision),
         (RunFault::Root(RootFault::OutOfMemory), no_memory),
         (RunFault::Check(CheckFault::OutOfMemory), no_memory),
         (RunFault::Command(CommandFault::OutOfMemory), no_memory),

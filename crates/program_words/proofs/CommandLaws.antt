@@ -10,10 +10,9 @@ use Rattle.clap.specs.Simple.{argument_words, built, entered, label_of, names_of
 use Rattle.clap.specs.declared.error.kind.ErrorKind.TheVariants as kind
 use Rattle.clap.proofs.OnLiterals.{clap_on_literals}
 use Rattle.tlog_text.proofs.Decimals.{decimal_here}
-use Rattle.program_words.specs.App.{mirror_app}
-use Rattle.program_words.specs.Commands.{Asks, IsNumberIn, Says, faults, name_of}
+use Rattle.program_words.specs.Commands.{Asks, IsNumberIn, Says, faults, mirror_app, name_of}
 use Rattle.program_words.specs.Laws.{IsOneOf, LawfulWordsName, WordsAskForOneName, command_names}
-use Rattle.program_words.specs.declared.command.Command.TheVariants.{Root, Check}
+use Rattle.program_words.specs.declared.commands.Command.TheVariants.{Root, Check}
 
 abbrev pub root_words : Text → List Text
 root_words width = codes "root" ∷ codes "--width" ∷ width ∷ []
@@ -25,7 +24,7 @@ root_lawful = refl
 root_is : (n : ℕ) → IsNumberIn 0 256 n (codes "200") → Asks (root_words (codes "200")) (Root (record { width = n }))
 unfolding clap_on_literals
 root_is n w =
-    (_, record { lawful = root_lawful; named = refl }, record { value = codes "200"; given = refl; is_such = w })
+    (_, record { lawful = root_lawful; named = refl }, record { value = codes "200"; given = refl; is_number = w })
 
 pub root_asked : Asks (root_words (codes "200")) (Root (record { width = 200 }))
 root_asked = root_is 200 (record {

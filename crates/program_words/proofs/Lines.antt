@@ -10,10 +10,9 @@ use Rattle.clap.specs.declared.error.Error.{Error}
 use Rattle.clap.specs.declared.parser.matches.ArgMatches.{ArgMatches}
 use Rattle.clap.specs.declared.parser.matches.ArgMatches.TheViews.{out-ArgMatches, out-SubCommand}
 use Rattle.clap.specs.declared.parser.matches.SubCommand.{SubCommand}
-use Rattle.program_words.specs.App.{mirror_app}
-use Rattle.program_words.specs.Commands.{Calls, HasFlag, Says, faults, name_of}
+use Rattle.program_words.specs.Commands.{Calls, HasFlag, Says, faults, mirror_app, name_of}
 use Rattle.program_words.specs.Readings.{AsksNone, AsksWhy, ReadsPart, IsSaid, Reads, ReadsKeyFile, Tells}
-use Rattle.program_words.specs.declared.command.Command.{Command}
+use Rattle.program_words.specs.declared.commands.Command.{Command}
 use Rattle.program_words.specs.declared.fault.CommandFault.{CommandFault}
 use Rattle.program_words.specs.declared.fault.CommandFault.TheVariants.{Help, Words, BadArgument, OutOfMemory}
 

@@ -13,8 +13,8 @@ use Rattle.signed_note.proofs.Lacking.{Lacks, Lacks-from_reads}
 use Rattle.tlog_text.specs.Number.{IsDecimal}
 use Rattle.mirror_client.specs.Site.{slash, IsSitePrefix}
 use Rattle.program_words.specs.Commands.{IsEmptyOrSlash, IsNumberIn, IsPlace, IsServer, colon}
-use Rattle.program_words.specs.declared.command.Place.{Place}
-use Rattle.program_words.specs.declared.command.Place.TheVariants.{Folder, Server}
+use Rattle.program_words.specs.declared.place.Place.{Place}
+use Rattle.program_words.specs.declared.place.Place.TheVariants.{Folder, Server}
 use Rattle.program_words.proofs.Named.{apart}
 
 -- ---- cuts

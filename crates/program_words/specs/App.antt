@@ -1,7 +1,13 @@
--- The command line of the program: its commands and their options, in the words of `clap`.
-use Rattle.std.specs.Prelude.{[], Some, true, codes}
-use Rattle.clap.specs.Words.{App, Rule, Text, new_app, new_rule, with_rule, with_subcommand}
+-- What command lines are made of, in the words of `clap`: their options, and what commands share.
+-- `Commands` has the commands themselves. `argument_of`, `with_rules`, `IsParserOf` and `AreParsersOf`
+-- are cited by the contracts of private functions alone.
+use Rattle.std.specs.Prelude.{◌≡◌, List, [], ◌∷◌, Some, Result, IfOk, true, false, codes, ⊤}
+use Rattle.clap.specs.Words.{App, Rule, Text, app_of, new_app, new_rule, with_rule, with_subcommand}
 use Rattle.clap.specs.Simple.{new_shape}
+use Rattle.clap.specs.declared.builder.command.Command.{Command as Parser}
+use Rattle.clap.specs.declared.builder.command.Command.TheViews.{out-Command}
+use Rattle.program_words.specs.declared.parser.Argument.{Argument}
+use Rattle.program_words.specs.declared.parser.Argument.TheVariants as argument
 use Rattle.clap.specs.declared.builder.action.ArgAction.TheVariants.{Append, Set, SetTrue}
 
 -- ---- options
@@ -51,66 +57,9 @@ held_app name = with_rule (log_app name) (option_rule (codes "state"))
 abbrev pub made_app : Text → App
 made_app name = with_rule (log_app name) (option_rule (codes "out"))
 
--- `root --width W`
-abbrev pub root_app : App
-root_app = with_rule (new_app (codes "root")) (option_rule (codes "width"))
-
--- `check`
-abbrev pub check_app : App
-check_app = new_app (codes "check")
-
--- `build --origin O --keys K --dir D [--progress]`
-abbrev pub build_app : App
-build_app =
-    with_rule (with_rule (log_app (codes "build")) (option_rule (codes "dir"))) progress_rule
-
--- `take --origin O --keys K --out T [--state S] [--width W] KIND FILE...`
-abbrev pub take_app : App
-take_app = with_rule (with_rule (with_rule (with_rule (made_app (codes "take"))
-    (choice_rule (codes "state"))) (choice_rule (codes "width")))
-    (place_rule (codes "kind"))) (list_rule (codes "file"))
-
--- `merge --origin O --keys K --out T A B`
-abbrev pub merge_app : App
-merge_app =
-    with_rule (with_rule (made_app (codes "merge")) (place_rule (codes "a")))
-    (place_rule (codes "b"))
-
--- `pull --origin O --keys K --out T [--state S] [--keep] [--progress] KIND PLACE`
-abbrev pub pull_app : App
-pull_app = with_rule (with_rule (with_rule (with_rule (with_rule (made_app (codes "pull"))
-    (choice_rule (codes "state"))) (flag_rule (codes "keep"))) progress_rule)
-    (place_rule (codes "kind"))) (place_rule (codes "place"))
-
--- `missing --origin O --keys K --state S --size N --root ROOT`
-abbrev pub missing_app : App
-missing_app =
-    with_rule (with_rule (held_app (codes "missing")) (option_rule (codes "size")))
-    (option_rule (codes "root"))
-
--- `compare --origin O --keys K --state S [FILE...]`
-abbrev pub compare_app : App
-compare_app = with_rule (held_app (codes "compare")) (list_rule (codes "file"))
-
--- `prove --origin O --keys K --state S KIND A B`
-abbrev pub prove_app : App
-prove_app = with_rule (with_rule (with_rule (held_app (codes "prove"))
-    (place_rule (codes "kind"))) (place_rule (codes "a"))) (place_rule (codes "b"))
-
 -- `NAME --origin O --keys K --state S --dir D`
 abbrev pub folder_app : Text → App
 folder_app name = with_rule (held_app name) (option_rule (codes "dir"))
-
--- `export --origin O --keys K --state S --dir D [--update] [--progress]`
-abbrev pub export_app : App
-export_app =
-    with_rule (with_rule (folder_app (codes "export")) (flag_rule (codes "update"))) progress_rule
-
--- `serve --origin O --keys K --state S --port P --requests N`
-abbrev pub serve_app : App
-serve_app =
-    with_rule (with_rule (held_app (codes "serve")) (option_rule (codes "port")))
-    (option_rule (codes "requests"))
 
 -- ---- the program
 
@@ -132,20 +81,33 @@ program_app = record {
   subs = [];
 }
 
--- the commands that read standard input, and those that make a state
-abbrev pub making_app : App
-making_app =
-    with_subcommand
-    (with_subcommand (with_subcommand (with_subcommand (with_subcommand (with_subcommand program_app
-    root_app.top) check_app.top) build_app.top) take_app.top) merge_app.top) pull_app.top
+-- the command line with these commands below it, in this order
+abbrev pub with_commands : App → List App → App
+with_commands app [] = app
+with_commands app (c ∷ cs) = with_commands (with_subcommand app c.top) cs
 
--- the whole command line: those commands, and those that ask something of a state
-abbrev pub mirror_app : App
-mirror_app =
-    with_subcommand
-    (with_subcommand
-    (with_subcommand
-    (with_subcommand (with_subcommand (with_subcommand (with_subcommand (with_subcommand making_app
-    (held_app (codes "status")).top) missing_app.top) (held_app (codes "forks")).top)
-    compare_app.top) prove_app.top)
-    export_app.top) (folder_app (codes "notes")).top) serve_app.top
+-- ---- parsers
+
+-- the argument of a table, in the words of `clap`
+abbrev pub argument_of : Argument → Rule
+argument_of (argument.Option name value help) = option_rule name.now
+argument_of (argument.Choice name value help) = choice_rule name.now
+argument_of (argument.Flag name help) = flag_rule name.now
+argument_of (argument.Place name value help) = place_rule name.now
+argument_of (argument.List name value help) = list_rule name.now
+
+-- the command with these arguments besides, in this order
+abbrev pub with_rules : App → List Rule → App
+with_rules app [] = app
+with_rules app (r ∷ rs) = with_rules (with_rule app r) rs
+
+-- the parser is that of the command line, with no option that all commands share
+pub record IsParserOf (app : App) (parser : Parser) : Type 0 where
+  pub is_app : app_of parser ≡ app
+  pub local : (out-Command parser).has_globals ≡ false
+
+-- these are the parsers of the command lines, each if it is there
+abbrev pub AreParsersOf : {E : Type 0} → List App → List (Result Parser E) → Type 0
+AreParsersOf [] [] = ⊤
+AreParsersOf (app ∷ apps) (r ∷ results) = IfOk r (IsParserOf app) × AreParsersOf apps results
+AreParsersOf others results = ⊥

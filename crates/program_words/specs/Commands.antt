@@ -1,55 +1,39 @@
--- Which command the words of a command line ask for. `IsEmptyOrSlash` and `IsParserOf` are cited by
--- the contracts of private functions alone.
-use Rattle.std.specs.Prelude.{◌≡◌, ◌≢◌, ◌⊎◌, ℕ, ◌≤◌, List, [], ◌∷◌, ◌++◌, Option, Some, None, false}
+-- Which command the words of a command line ask for: the list of the commands, each with its command
+-- line and what its options say. `IsEmptyOrSlash` is cited by the contracts of private functions alone.
+use Rattle.std.specs.Prelude.{◌≡◌, ◌≢◌, ◌⊎◌, ℕ, ◌≤◌, List, [], ◌∷◌, ◌++◌, Option, Some, None}
 use Rattle.std.specs.Prelude.{length, map, option_map, unwrap_or, codes, slice_index, ◌<◌, ⊤}
 use Rattle.std.specs.Prelude.{◌↔◌, IsTrue}
-use Rattle.clap.specs.Words.{App, Kinds, Row, Text, all_of, app_of, fault_of, first_of}
-use Rattle.clap.specs.Words.{subcommand_of}
-use Rattle.clap.specs.declared.builder.command.Command.{Command as Parser}
-use Rattle.clap.specs.declared.builder.command.Command.TheViews.{out-Command}
+use Rattle.clap.specs.Words.{App, Kinds, Row, Text, all_of, fault_of, first_of, new_app}
+use Rattle.clap.specs.Words.{subcommand_of, with_rule}
 use Rattle.tlog_text.specs.Number.{IsDecimal}
 use Rattle.tlog_text.specs.Hash.{IsHashText}
 use Rattle.tlog_shape.specs.declared.TheConstants.{MAX_SIZE}
 use Rattle.tlog_proof.specs.declared.proof.Ask.{Ask}
 use Rattle.tlog_proof.specs.declared.proof.Ask.TheVariants.{Inclusion, Consistency}
 use Rattle.mirror_client.specs.Site.{IsHost, IsSitePrefix, slash}
-use Rattle.program_words.specs.App.{mirror_app}
-use Rattle.program_words.specs.declared.command.Command.{Command}
-use Rattle.program_words.specs.declared.command.Command.TheVariants as order
-use Rattle.program_words.specs.declared.command.Root.{Root as RootWords}
-use Rattle.program_words.specs.declared.command.Log.{Log}
-use Rattle.program_words.specs.declared.command.StateArgs.{StateArgs}
-use Rattle.program_words.specs.declared.command.OutputArgs.{OutputArgs}
-use Rattle.program_words.specs.declared.command.Build.{Build}
-use Rattle.program_words.specs.declared.command.Kind.{Kind}
-use Rattle.program_words.specs.declared.command.Kind.TheVariants.{Head, Tile, Bundle}
-use Rattle.program_words.specs.declared.command.Take.{Take}
-use Rattle.program_words.specs.declared.command.Merge.{Merge}
-use Rattle.program_words.specs.declared.command.Place.{Place}
-use Rattle.program_words.specs.declared.command.Place.TheVariants.{Folder, Server}
-use Rattle.program_words.specs.declared.command.Pull.{Pull}
-use Rattle.program_words.specs.declared.command.Missing.{Missing}
-use Rattle.program_words.specs.declared.command.Compare.{Compare}
-use Rattle.program_words.specs.declared.command.Prove.{Prove}
-use Rattle.program_words.specs.declared.command.Export.{Export}
-use Rattle.program_words.specs.declared.command.Notes.{Notes}
-use Rattle.program_words.specs.declared.command.Serve.{Serve}
-
--- ---- the command line
-
--- the parser is that of the command line, with no option that all commands share
-pub record IsParserOf (app : App) (parser : Parser) : Type 0 where
-  pub is_app : app_of parser ≡ app
-  pub local : (out-Command parser).has_globals ≡ false
-
--- what is wrong with the words as a command line, or what else than a command they ask for
-abbrev pub faults : List Text → Kinds
-faults words = fault_of mirror_app words
-
--- the words are a command line: they name a command, with these options
-pub record Calls (words : List Text) (name : Text) (options : List Row) : Type 0 where
-  pub lawful : faults words ≡ []
-  pub named : subcommand_of mirror_app words ≡ Some (name, options)
+use Rattle.program_words.specs.App.{choice_rule, flag_rule, folder_app, held_app, list_rule, log_app}
+use Rattle.program_words.specs.App.{made_app, option_rule, place_rule, program_app, progress_rule}
+use Rattle.program_words.specs.App.{with_commands}
+use Rattle.program_words.specs.declared.commands.Command.{Command}
+use Rattle.program_words.specs.declared.commands.Command.TheVariants as order
+use Rattle.program_words.specs.declared.commands.root.Root.{Root as RootWords}
+use Rattle.program_words.specs.declared.parts.Log.{Log}
+use Rattle.program_words.specs.declared.parts.StateArgs.{StateArgs}
+use Rattle.program_words.specs.declared.parts.OutputArgs.{OutputArgs}
+use Rattle.program_words.specs.declared.commands.build.Build.{Build}
+use Rattle.program_words.specs.declared.commands.take.Kind.{Kind}
+use Rattle.program_words.specs.declared.commands.take.Kind.TheVariants.{Head, Tile, Bundle}
+use Rattle.program_words.specs.declared.commands.take.Take.{Take}
+use Rattle.program_words.specs.declared.commands.merge.Merge.{Merge}
+use Rattle.program_words.specs.declared.place.Place.{Place}
+use Rattle.program_words.specs.declared.place.Place.TheVariants.{Folder, Server}
+use Rattle.program_words.specs.declared.commands.pull.Pull.{Pull}
+use Rattle.program_words.specs.declared.commands.missing.Missing.{Missing}
+use Rattle.program_words.specs.declared.commands.compare.Compare.{Compare}
+use Rattle.program_words.specs.declared.commands.prove.Prove.{Prove}
+use Rattle.program_words.specs.declared.commands.export.Export.{Export}
+use Rattle.program_words.specs.declared.commands.notes.Notes.{Notes}
+use Rattle.program_words.specs.declared.commands.serve.Serve.{Serve}
 
 -- ---- options
 
@@ -72,6 +56,12 @@ pub record IsNumberIn (least most n : ℕ) (word : Text) : Type 0 where
   pub number : IsDecimal word n
   pub least_is : least ≤ n
   pub most_is : n ≤ most
+
+-- the option has a value, which spells a number between these two
+pub record HasNumber (options : List Row) (name : Text) (least most n : ℕ) : Type 0 where
+  pub value : Text
+  pub given : Given options name value
+  pub is_number : IsNumberIn least most n value
 
 -- a size, or an index
 abbrev pub IsSize : ℕ → Text → Type 0
@@ -96,15 +86,42 @@ pub record IsOutputArgs (options : List Row) (args : OutputArgs) : Type 0 where
 
 -- ---- the commands
 
+-- -- root
+
+-- `root --width W`
+abbrev pub root_app : App
+root_app = with_rule (new_app (codes "root")) (option_rule (codes "width"))
+
 -- what the options of `root` say
 abbrev pub IsRoot : List Row → RootWords → Type 0
-IsRoot options root = HasValue options (codes "width") (IsNumberIn 0 256 root.width)
+IsRoot options root = HasNumber options (codes "width") 0 256 root.width
+
+-- -- check
+
+-- `check`
+abbrev pub check_app : App
+check_app = new_app (codes "check")
+
+-- -- build
+
+-- `build --origin O --keys K --dir D [--progress]`
+abbrev pub build_app : App
+build_app =
+    with_rule (with_rule (log_app (codes "build")) (option_rule (codes "dir"))) progress_rule
 
 -- what the options of `build` say
 pub record IsBuild (options : List Row) (build : Build) : Type 0 where
   pub log : IsLog options build.log
   pub folder : Given options (codes "dir") build.folder.now
   pub progress : IsTrue build.progress ↔ HasFlag options (codes "progress")
+
+-- -- take
+
+-- `take --origin O --keys K --out T [--state S] [--width W] KIND FILE...`
+abbrev pub take_app : App
+take_app = with_rule (with_rule (with_rule (with_rule (made_app (codes "take"))
+    (choice_rule (codes "state"))) (choice_rule (codes "width")))
+    (place_rule (codes "kind"))) (list_rule (codes "file"))
 
 -- the word that names what files hold
 abbrev pub kind_name : Kind → Text
@@ -132,11 +149,27 @@ pub record IsTake (options : List Row) (take : Take) : Type 0 where
   pub files : unwrap_or (all_of (codes "file") options) [] ≡ map (λ f. f.now) take.files.items
   pub count : IsCount take.kind (length take.files.items)
 
+-- -- merge
+
+-- `merge --origin O --keys K --out T A B`
+abbrev pub merge_app : App
+merge_app =
+    with_rule (with_rule (made_app (codes "merge")) (place_rule (codes "a")))
+    (place_rule (codes "b"))
+
 -- what the options of `merge` say
 pub record IsMerge (options : List Row) (merge : Merge) : Type 0 where
   pub mirror : IsOutputArgs options merge.mirror
   pub first : Given options (codes "a") merge.first.now
   pub second : Given options (codes "b") merge.second.now
+
+-- -- pull
+
+-- `pull --origin O --keys K --out T [--state S] [--keep] [--progress] KIND PLACE`
+abbrev pub pull_app : App
+pull_app = with_rule (with_rule (with_rule (with_rule (with_rule (made_app (codes "pull"))
+    (choice_rule (codes "state"))) (flag_rule (codes "keep"))) progress_rule)
+    (place_rule (codes "kind"))) (place_rule (codes "place"))
 
 -- the colon, U+003A
 abbrev pub colon : ℕ
@@ -176,16 +209,49 @@ pub record IsPull (options : List Row) (pull : Pull) : Type 0 where
   pub place : HasValue options (codes "kind")
       (λ kind. HasValue options (codes "place") (λ word. IsPlace kind word pull.place))
 
+-- -- status
+
+-- `status --origin O --keys K --state S`
+abbrev pub status_app : App
+status_app = held_app (codes "status")
+
+-- -- missing
+
+-- `missing --origin O --keys K --state S --size N --root ROOT`
+abbrev pub missing_app : App
+missing_app =
+    with_rule (with_rule (held_app (codes "missing")) (option_rule (codes "size")))
+    (option_rule (codes "root"))
+
 -- what the options of `missing` say
 pub record IsMissingAsk (options : List Row) (missing : Missing) : Type 0 where
   pub mirror : IsStateArgs options missing.mirror
-  pub size : HasValue options (codes "size") (IsSize missing.size)
+  pub size : HasNumber options (codes "size") 0 MAX_SIZE missing.size
   pub root : HasValue options (codes "root") (λ word. IsHashText word missing.root)
+
+-- -- forks
+
+-- `forks --origin O --keys K --state S`
+abbrev pub forks_app : App
+forks_app = held_app (codes "forks")
+
+-- -- compare
+
+-- `compare --origin O --keys K --state S [FILE...]`
+abbrev pub compare_app : App
+compare_app = with_rule (held_app (codes "compare")) (list_rule (codes "file"))
 
 -- what the options of `compare` say
 pub record IsCompare (options : List Row) (compare : Compare) : Type 0 where
   pub mirror : IsStateArgs options compare.mirror
   pub files : unwrap_or (all_of (codes "file") options) [] ≡ map (λ f. f.now) compare.files.items
+
+-- -- prove
+
+-- `prove --origin O --keys K --state S KIND A B`
+abbrev pub prove_app : App
+prove_app = with_rule (with_rule (with_rule (held_app (codes "prove"))
+    (place_rule (codes "kind"))) (place_rule (codes "a"))) (place_rule (codes "b"))
 
 -- the three words that ask for a proof
 abbrev pub IsAsk : Text → Text → Text → Ask → Type 0
@@ -200,24 +266,51 @@ pub record IsProve (options : List Row) (prove : Prove) : Type 0 where
       (λ kind. HasValue options (codes "a")
       (λ a. HasValue options (codes "b") (λ b. IsAsk kind a b prove.ask)))
 
+-- -- export
+
+-- `export --origin O --keys K --state S --dir D [--update] [--progress]`
+abbrev pub export_app : App
+export_app =
+    with_rule (with_rule (folder_app (codes "export")) (flag_rule (codes "update"))) progress_rule
+
 -- what the options of `export` say
 pub record IsExport (options : List Row) (export : Export) : Type 0 where
   pub mirror : IsStateArgs options export.mirror
   pub folder : Given options (codes "dir") export.folder.now
   pub progress : IsTrue export.progress ↔ HasFlag options (codes "progress")
 
+-- -- notes
+
+-- `notes --origin O --keys K --state S --dir D`
+abbrev pub notes_app : App
+notes_app = folder_app (codes "notes")
+
 -- what the options of `notes` say
 pub record IsNotes (options : List Row) (notes : Notes) : Type 0 where
   pub mirror : IsStateArgs options notes.mirror
   pub folder : Given options (codes "dir") notes.folder.now
 
+-- -- serve
+
+-- `serve --origin O --keys K --state S --port P --requests N`
+abbrev pub serve_app : App
+serve_app =
+    with_rule (with_rule (held_app (codes "serve")) (option_rule (codes "port")))
+    (option_rule (codes "requests"))
+
 -- what the options of `serve` say
 pub record IsServe (options : List Row) (serve : Serve) : Type 0 where
   pub mirror : IsStateArgs options serve.mirror
-  pub port : HasValue options (codes "port") (IsNumberIn 1 65535 serve.port)
-  pub requests : HasValue options (codes "requests") (IsSize serve.requests)
+  pub port : HasNumber options (codes "port") 1 65535 serve.port
+  pub requests : HasNumber options (codes "requests") 0 MAX_SIZE serve.requests
 
--- ---- all commands
+-- ---- the list of the commands
+
+-- their command lines, in the order in which `clap` tells of them
+abbrev pub command_apps : List App
+command_apps =
+    root_app ∷ check_app ∷ build_app ∷ take_app ∷ merge_app ∷ pull_app ∷ status_app ∷ missing_app
+    ∷ forks_app ∷ compare_app ∷ prove_app ∷ export_app ∷ notes_app ∷ serve_app ∷ []
 
 -- the word that names the command
 abbrev pub name_of : Command → Text
@@ -254,6 +347,21 @@ Says options (order.Export c) = IsExport options c × (¬ HasFlag options (codes
 Says options (order.Update c) = IsExport options c × HasFlag options (codes "update")
 Says options (order.Notes c) = IsNotes options c
 Says options (order.Serve c) = IsServe options c
+
+-- ---- the whole command line
+
+-- the program, and one of the commands
+abbrev pub mirror_app : App
+mirror_app = with_commands program_app command_apps
+
+-- what is wrong with the words as a command line, or what else than a command they ask for
+abbrev pub faults : List Text → Kinds
+faults words = fault_of mirror_app words
+
+-- the words are a command line: they name a command, with these options
+pub record Calls (words : List Text) (name : Text) (options : List Row) : Type 0 where
+  pub lawful : faults words ≡ []
+  pub named : subcommand_of mirror_app words ≡ Some (name, options)
 
 -- the words ask for the command
 abbrev pub Asks : List Text → Command → Type 0

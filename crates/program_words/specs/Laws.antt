@@ -1,16 +1,12 @@
 -- What is so of all words of a command line.
-use Rattle.std.specs.Prelude.{◌≡◌, ◌⊎◌, List, [], ◌∷◌, codes}
+use Rattle.std.specs.Prelude.{◌≡◌, ◌⊎◌, List, [], ◌∷◌, map}
 use Rattle.clap.specs.Words.{Row, Text}
-use Rattle.program_words.specs.declared.command.Command.{Command}
-use Rattle.program_words.specs.Commands.{Asks, Calls, Says, faults, name_of}
+use Rattle.program_words.specs.declared.commands.Command.{Command}
+use Rattle.program_words.specs.Commands.{Asks, Calls, Says, command_apps, faults, name_of}
 
 -- the names of the commands
 abbrev pub command_names : List Text
-command_names =
-    codes "root" ∷ codes "check" ∷ codes "build" ∷ codes "take" ∷ codes "merge" ∷ codes "pull"
-    ∷ codes "status"
-    ∷ codes "missing" ∷ codes "forks" ∷ codes "compare" ∷ codes "prove" ∷ codes "export"
-    ∷ codes "notes" ∷ codes "serve" ∷ []
+command_names = map (λ c. c.top.name) command_apps
 
 -- the text is one of these
 abbrev pub IsOneOf : List Text → Text → Type 0

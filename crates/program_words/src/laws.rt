@@ -7,7 +7,7 @@ ghost use Rattle.clap.specs.declared.error.kind.ErrorKind.TheVariants.{
 };
 ghost use Rattle.program_words.specs.Commands.{Asks, faults};
 ghost use Rattle.program_words.specs.Laws.{LawfulWordsName, WordsAskForOneName};
-ghost use Rattle.program_words.specs.declared.command.Command.TheVariants.{Root, Check};
+ghost use Rattle.program_words.specs.declared.commands.Command.TheVariants.{Root, Check};
 
 /// Some command lines, and what they ask for.
 pub fn words_example()

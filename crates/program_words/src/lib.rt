@@ -11,22 +11,19 @@
 //! ```
 #![tactic(auto)]
 
-mod command;
+pub mod commands;
 mod fault;
-mod help;
 mod laws;
 mod parser;
 mod parts;
 mod place;
-mod readers;
 mod why;
 mod words;
 
-pub use command::{
-    Build, Command, Compare, Export, Kind, Log, Merge, Missing, Notes, OutputArgs, Place, Prove,
-    Pull, Root, Serve, StateArgs, Take,
-};
+pub use commands::Command;
 pub use fault::CommandFault;
 pub use laws::{lawful_law, words_example};
+pub use parts::{Log, OutputArgs, StateArgs};
+pub use place::Place;
 pub use why::{asks_why, bad_argument};
 pub use words::{key_file, read_words};

@@ -1,18 +1,46 @@
 //! The parts that commands share: options, numbers, the log and the mirror.
-ghost use Rattle.std.specs.Prelude.{◌≡◌, ◌↔◌, IsTrue};
+ghost use Rattle.std.specs.Prelude.{◌≡◌, ◌↔◌, IsTrue, [], codes, map, unwrap_or};
 ghost use Rattle.std.specs.Str.{bytes_eq};
-ghost use Rattle.clap.specs.Words.{found_of, rows_of};
-ghost use Rattle.program_words.specs.Commands.{Given, HasFlag, HasValue, IsStateArgs, IsLog, IsOutputArgs, IsNumberIn};
+ghost use Rattle.clap.specs.Words.{all_of, found_of, rows_of};
+ghost use Rattle.tlog_text.specs.Answers.{seen};
+ghost use Rattle.program_words.specs.Commands.{Given, HasFlag, HasNumber, IsStateArgs, IsLog, IsOutputArgs, IsNumberIn};
 ghost use Rattle.program_words.specs.Readings.{ReadsPart};
 
-use crate::command::{Log, OutputArgs, StateArgs};
 use crate::fault::CommandFault;
 use clap::ArgMatches;
+use std::alloc::Global;
 use tlog_text::read_number;
+
+/// Whose mirror it is.
+#[derive(Debug, Drop, PartialEq, Eq, Clone, Copy)]
+pub struct Log<'a> {
+    /// The origin line of the log's checkpoints.
+    pub origin: &'a str,
+    /// The file of the keys that its checkpoints are opened with.
+    pub keys: &'a str,
+}
+
+/// A mirror that is kept in a file.
+#[derive(Debug, Drop, PartialEq, Eq, Clone, Copy)]
+pub struct StateArgs<'a> {
+    /// Whose mirror it is.
+    pub log: Log<'a>,
+    /// The file of its state.
+    pub state: &'a str,
+}
+
+/// A mirror that is to be written to a file.
+#[derive(Debug, Drop, PartialEq, Eq, Clone, Copy)]
+pub struct OutputArgs<'a> {
+    /// Whose mirror it is.
+    pub log: Log<'a>,
+    /// The file that its state is written to.
+    pub out: &'a str,
+}
 
 /// The value of an option that has to be there.
 pub(crate) fn word_of<'a>(found: &ArgMatches<'a>, name: &str) -> Result<&'a str, CommandFault>
-    ensures { ReadsPart (λ word. Given (rows_of (found_of found.now)) name.now word.now) result }
+    ensures { ReadsPart (Given (rows_of (found_of found.now)) name.now) (seen (λ word. word.now) result) }
 {
     match found.get_str(name) {
         Some(word) => Ok(word),
@@ -53,7 +81,7 @@ pub(crate) fn number_of(
     least: u64,
     most: u64,
 ) -> Result<u64, CommandFault>
-    ensures { ReadsPart (λ n. HasValue (rows_of (found_of found.now)) name.now (IsNumberIn least most n)) result }
+    ensures { ReadsPart (HasNumber (rows_of (found_of found.now)) name.now least most) result }
 {
     number_in(word_of(found, name)?, least, most)
 }
@@ -86,4 +114,17 @@ pub(crate) fn output_args<'a>(found: &ArgMatches<'a>) -> Result<OutputArgs<'a>, 
         log: log_of(found)?,
         out: word_of(found, "out")?,
     })
+}
+
+/// The files that are named, of which there may be none.
+pub(crate) fn files_of<'a>(
+    alloc: Global,
+    found: &ArgMatches<'a>,
+) -> Result<Vec<&'a str>, CommandFault>
+    ensures { ReadsPart (λ files. unwrap_or (all_of (codes "file") (rows_of (found_of found.now))) [] ≡ map (λ f. f.now) files.items) result }
+{
+    match found.get_strs("file") {
+        Some(files) => Ok(files.iter().copied().collect(alloc)?),
+        None => Ok(Vec::new(alloc)),
+    }
 }

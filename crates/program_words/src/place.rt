@@ -4,11 +4,28 @@ ghost use Rattle.program_words.specs.Commands.{IsEmptyOrSlash, IsHostAndPrefix, 
 ghost use Rattle.program_words.specs.Readings.{ReadsPart};
 ghost use Rattle.mirror_client.specs.Site.{slash};
 
-use crate::command::Place;
 use crate::fault::CommandFault;
 use crate::parts::number_in;
 use mirror_client::{Site, SiteFault};
 use std::alloc::Global;
+
+/// Where a log's files are fetched from.
+#[derive(Debug, Drop, PartialEq, Eq, Clone, Copy)]
+pub enum Place<'a> {
+    /// A folder.
+    Folder(&'a str),
+    /// A server of HTTP.
+    Server {
+        /// The host, as the Host field names it, with its port.
+        host: &'a str,
+        /// What stands before the paths of the files: nothing, or a path that begins with a slash.
+        prefix: &'a str,
+        /// The host that a connection is made to.
+        address: &'a str,
+        /// The port that a connection is made to, 1 to 65535.
+        port: u16,
+    },
+}
 
 // What stands before the first slash, and what follows, with that slash.
 fn host_and_prefix(word: &str) -> (&str, &str)

@@ -3,15 +3,11 @@ ghost use Rattle.std.specs.Prelude.{◌↔◌, IfOk, IsTrue, map, string_bytes};
 ghost use Rattle.clap.specs.Words.{found_of, rows_of};
 ghost use Rattle.program_words.specs.Readings.{AsksWhy};
 
+use crate::commands::{bad_word, parser};
 use crate::fault::CommandFault;
-use crate::parser::parser;
-use crate::parts::{has_flag, number_of, word_of};
-use crate::place::place_of;
-use crate::readers::{hash_of, kind_of, width_of};
+use crate::parts::has_flag;
 use crate::words::fault_of;
-use clap::ArgMatches;
 use std::alloc::Global;
-use tlog_shape::MAX_SIZE;
 
 /// Whether the words ask that a fault is told with what it is about: by the option `--why`, which every command has but
 /// `root` and `check`. No other option is judged.
@@ -50,80 +46,7 @@ pub fn bad_argument(alloc: Global, words: &[String]) -> Option<&'static str> {
         return None;
     };
     match matches.subcommand() {
-        Some((name, found)) => bad_of(alloc, name, found),
+        Some((name, found)) => bad_word(alloc, name, found),
         None => None,
     }
-}
-
-// The bad one of the words of this command.
-fn bad_of(alloc: Global, name: &str, found: &ArgMatches<'_>) -> Option<&'static str> {
-    match name {
-        "take" => bad_of_take(found),
-        "pull" => bad_of_pull(alloc, found),
-        "missing" => bad_of_missing(found),
-        "prove" => bad_of_prove(found),
-        "serve" => bad_of_serve(found),
-        _ => None,
-    }
-}
-
-// Where width and kind are well, there are too many files, or none.
-fn bad_of_take(found: &ArgMatches<'_>) -> Option<&'static str> {
-    if width_of(found).is_err() {
-        return Some("--width");
-    }
-    match word_of(found, "kind") {
-        Ok(kind) if kind_of(kind).is_ok() => Some("FILE"),
-        _ => Some("KIND"),
-    }
-}
-
-fn bad_of_pull(alloc: Global, found: &ArgMatches<'_>) -> Option<&'static str> {
-    let Ok(kind) = word_of(found, "kind") else {
-        return None;
-    };
-    let Ok(place) = word_of(found, "place") else {
-        return None;
-    };
-    if kind != "dir" && kind != "http" {
-        return Some("KIND");
-    }
-    match place_of(alloc, kind, place) {
-        Err(CommandFault::BadArgument) => Some("PLACE"),
-        _ => None,
-    }
-}
-
-fn bad_of_missing(found: &ArgMatches<'_>) -> Option<&'static str> {
-    if number_of(found, "size", 0, MAX_SIZE).is_err() {
-        return Some("--size");
-    }
-    match word_of(found, "root") {
-        Ok(root) if hash_of(root).is_ok() => None,
-        _ => Some("--root"),
-    }
-}
-
-fn bad_of_prove(found: &ArgMatches<'_>) -> Option<&'static str> {
-    match word_of(found, "kind") {
-        Ok("inclusion") | Ok("consistency") => {}
-        _ => return Some("KIND"),
-    }
-    if number_of(found, "a", 0, MAX_SIZE).is_err() {
-        return Some("A");
-    }
-    if number_of(found, "b", 0, MAX_SIZE).is_err() {
-        return Some("B");
-    }
-    None
-}
-
-fn bad_of_serve(found: &ArgMatches<'_>) -> Option<&'static str> {
-    if number_of(found, "port", 1, 65_535).is_err() {
-        return Some("--port");
-    }
-    if number_of(found, "requests", 0, MAX_SIZE).is_err() {
-        return Some("--requests");
-    }
-    None
 }

@@ -1,18 +1,11 @@
 //! The words of a command line, read.
 ghost use Rattle.std.specs.Prelude.{◌≡◌, map, option_map, string_bytes};
 ghost use Rattle.tlog_text.specs.Answers.{seen};
-ghost use Rattle.clap.specs.Words.{found_of, kind_of, rows_of};
-ghost use Rattle.program_words.specs.Readings.{ReadsPart, IsSaid, Reads, ReadsKeyFile, Tells};
+ghost use Rattle.clap.specs.Words.{kind_of};
+ghost use Rattle.program_words.specs.Readings.{Reads, ReadsKeyFile, Tells};
 
-use crate::command::Command;
+use crate::commands::{Command, command_of, parser};
 use crate::fault::CommandFault;
-use crate::parser::parser;
-use crate::parts::state_args;
-use crate::readers::{
-    build_of, compare_of, export_command, merge_of, missing_of, notes_of, prove_of, pull_of,
-    root_of, serve_of, take_of,
-};
-use clap::ArgMatches;
 use clap::error::ErrorKind;
 use std::alloc::Global;
 
@@ -32,33 +25,6 @@ pub(crate) fn fault_of(alloc: Global, error: clap::Error) -> CommandFault
             }
         }
         Err(_) => CommandFault::OutOfMemory,
-    }
-}
-
-// The command of this name and with these options.
-fn command_of<'a>(
-    alloc: Global,
-    name: &str,
-    found: &ArgMatches<'a>,
-) -> Result<Command<'a>, CommandFault>
-    ensures { ReadsPart (IsSaid name.now (rows_of (found_of found.now))) result }
-{
-    match name {
-        "root" => Ok(Command::Root(root_of(found)?)),
-        "check" => Ok(Command::Check),
-        "build" => Ok(Command::Build(build_of(found)?)),
-        "take" => Ok(Command::Take(take_of(alloc, found)?)),
-        "merge" => Ok(Command::Merge(merge_of(found)?)),
-        "pull" => Ok(Command::Pull(pull_of(alloc, found)?)),
-        "status" => Ok(Command::Status(state_args(found)?)),
-        "missing" => Ok(Command::Missing(missing_of(found)?)),
-        "forks" => Ok(Command::Forks(state_args(found)?)),
-        "compare" => Ok(Command::Compare(compare_of(alloc, found)?)),
-        "prove" => Ok(Command::Prove(prove_of(found)?)),
-        "export" => export_command(found),
-        "notes" => Ok(Command::Notes(notes_of(found)?)),
-        "serve" => Ok(Command::Serve(serve_of(found)?)),
-        _ => Err(CommandFault::BadArgument),
     }
 }
 

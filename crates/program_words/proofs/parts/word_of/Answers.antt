@@ -7,4 +7,4 @@ returns-in-Some c = given_some (found_of c.args.found.now) c.args.name.now c.in-
 
 pub returns-in-None : goal.returns-in-None
 returns-in-None c =
-    λ text given. given_none (found_of c.args.found.now) c.args.name.now text.now c.in-None.ensures given
+    λ text given. given_none (found_of c.args.found.now) c.args.name.now text c.in-None.ensures given

@@ -1,7 +1,0 @@
-use Rattle.std.proofs.Common.{codes}
-use Rattle.program_words.specs.App.{option_rule}
-use Rattle.program_words.proofs.parser.folder_parser.Goals as goal
-
-pub returns : goal.returns
-returns c =
-    c.with_argument.ensures _ (option_rule (codes "dir")) c.held_parser.ensures c.option-dir.ensures.rule c.option-dir.ensures.local

@@ -1,8 +1,0 @@
-use Rattle.std.proofs.Common.{codes}
-use Rattle.program_words.specs.App.{place_rule}
-use Rattle.program_words.proofs.parser.merge_parser.Goals as goal
-
-pub returns : goal.returns
-returns c =
-    let with_a = c.with_argument.ensures _ (place_rule (codes "a")) c.made_parser-parser.ensures c.place-a.ensures.rule c.place-a.ensures.local in
-    c.with_argument-2.ensures _ (place_rule (codes "b")) with_a c.place-b.ensures.rule c.place-b.ensures.local

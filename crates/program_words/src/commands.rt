@@ -1,0 +1,220 @@
+//! The list of the commands. Each has a file of its own, with what its options say, its parser, its help and its reader.
+ghost use Rattle.std.specs.Prelude.{◌≡◌, IfOk};
+ghost use Rattle.clap.specs.Words.{App, found_of, rows_of, with_subcommand};
+ghost use Rattle.program_words.specs.App.{AreParsersOf, IsParserOf, named_app, program_app};
+ghost use Rattle.program_words.specs.Commands.{command_apps, mirror_app};
+ghost use Rattle.program_words.specs.Readings.{IsSaid, ReadsPart};
+
+pub mod build;
+pub mod check;
+pub mod compare;
+pub mod export;
+pub mod forks;
+pub mod merge;
+pub mod missing;
+pub mod notes;
+pub mod prove;
+pub mod pull;
+pub mod root;
+pub mod serve;
+pub mod status;
+pub mod take;
+
+use crate::fault::CommandFault;
+use crate::parts::StateArgs;
+use clap::ArgMatches;
+use std::alloc::{AllocError, Global};
+
+/// The help of the program, by both words.
+const PROGRAM: &str = "\
+A mirror for one append-only transparency log in the C2SP tlog-tiles layout
+
+Usage: tlogmirror <COMMAND>
+
+Follow a log, in a state, which is one file:
+  pull     Fetches what the newest checkpoint lacks, from a folder or over plain HTTP
+  take     Takes a checkpoint, a tile or an entry bundle from files
+  merge    Makes one mirror of two
+Ask a state:
+  status   Prints its checkpoints, which of them are complete, and which is served
+  missing  Prints the paths that a checkpoint's tree lacks
+  forks    Prints which checkpoints contradict each other
+  compare  Prints which checkpoints contradict what is served
+  prove    Prints an inclusion or a consistency proof
+Publish what it holds:
+  export   Writes the log's files to a folder
+  serve    Answers over plain HTTP on 127.0.0.1
+  notes    Writes each signed note to a file of its own
+Without a state:
+  check    Reads a proof, and prints whether it holds
+  build    Makes a log of entries
+  root     Prints the tree hash of an entry bundle
+
+Options:
+  -h, --help     Print help; of a command -h prints its words, --help all of it
+  -V, --version  Print version
+
+Example: tlogmirror pull --origin example.com/log --keys examples/log.keys --out log.state dir examples/log
+
+Exit status: 0 done, 1 a fault, 2 words that ask for nothing that can be done, 3 a no: the proof does
+not hold, something is missing or partial, there are forks, nothing is complete.
+A fault is one line on standard error, 'tlogmirror: NAME'. With '--why', which all but root and check have,
+the line before it says what it is about. Those of files that most commands read:
+  FileFault    a file that was named cannot be read or written: see the path and the rights
+  BadKeyLine   a line of the key file is no key: 'hmac NAME ID SECRET' or 'pin NAME ID DIGEST'
+  BadOrigin    the origin is empty, too long, or has a control character
+  StateMagic   the file is no state: name the file that --out made
+  StateShort, StateLong, StateDigest
+               the state was cut or changed: take a copy of it
+  OtherOrigin  the state is of another log: give its own origin
+  StateOrder, StateString, StateEdge
+               the state was not made by this program: take a copy of it
+  StateHead    a note in the state does not verify under these keys: give those that it was made with
+And of any: Collision, two different strings share a digest, so keep the state and what was read;
+WriteFault, standard output could not be written, and a part may have been; OutOfMemory.
+
+Documents: README.md; docs/OPERATING.md, with each fault and what to do; docs/FORMATS.md.";
+
+/// A command, with what its options say.
+#[derive(Debug, Drop, PartialEq, Eq)]
+pub enum Command<'a> {
+    /// The tree hash of the bundle on standard input.
+    Root(root::Root),
+    /// Whether the proof on standard input holds.
+    Check,
+    /// A log of the entries on standard input.
+    Build(build::Build<'a>),
+    /// Files taken into a mirror.
+    Take(take::Take<'a>),
+    /// Two mirrors made one.
+    Merge(merge::Merge<'a>),
+    /// What is missing fetched.
+    Pull(pull::Pull<'a>),
+    /// The heads of a mirror.
+    Status(StateArgs<'a>),
+    /// What a head's tree lacks.
+    Missing(missing::Missing<'a>),
+    /// The forks between a mirror's heads.
+    Forks(StateArgs<'a>),
+    /// Checkpoints compared with what is served.
+    Compare(compare::Compare<'a>),
+    /// A proof of what is served.
+    Prove(prove::Prove<'a>),
+    /// What is served, as a folder.
+    Export(export::Export<'a>),
+    /// A folder brought up to date with what is served: `export --update`.
+    Update(export::Export<'a>),
+    /// The notes of a mirror, as files of a folder.
+    Notes(notes::Notes<'a>),
+    /// Answers over HTTP.
+    Serve(serve::Serve<'a>),
+}
+
+// The program by its name, with its help and its version.
+fn named_parser<'a>(alloc: Global) -> Result<clap::Command<'a>, AllocError>
+    ensures { IfOk result (IsParserOf named_app) }
+{
+    clap::Command::new(alloc, "tlogmirror")
+        .override_help(PROGRAM)
+        .version("0.4.0")
+        .bin_name("tlogmirror")
+}
+
+// The program, with no command yet.
+fn program_parser<'a>(alloc: Global) -> Result<clap::Command<'a>, AllocError>
+    ensures { IfOk result (IsParserOf program_app) }
+{
+    let program = named_parser(alloc)?
+        .no_binary_name(true)
+        .subcommand_required(true)
+        .disable_help_subcommand(true);
+    Ok(program)
+}
+
+// A parser with one more command below it, if there are both.
+fn with_command<'a>(
+    parser: Result<clap::Command<'a>, AllocError>,
+    below: Result<clap::Command<'a>, AllocError>,
+) -> Result<clap::Command<'a>, AllocError>
+    ensures { (a b : App) → IfOk parser.entry (IsParserOf a) → IfOk below.entry (IsParserOf b) → IfOk result (IsParserOf (with_subcommand a b.top)) }
+{
+    parser?.subcommand(below?)
+}
+
+// The program with these commands, if there are all.
+fn with_commands<'a>(
+    parser: Result<clap::Command<'a>, AllocError>,
+    below: [Result<clap::Command<'a>, AllocError>; 14],
+) -> Result<clap::Command<'a>, AllocError>
+    ensures { IfOk parser.entry (IsParserOf program_app) → AreParsersOf command_apps below.entry → IfOk result (IsParserOf mirror_app) }
+{
+    let mut made = parser;
+    for command in below {
+        made = with_command(made, command);
+    }
+    made
+}
+
+/// The parser of the program's command line.
+pub(crate) fn parser<'a>(alloc: Global) -> Result<clap::Command<'a>, AllocError>
+    ensures { IfOk result (IsParserOf mirror_app) }
+{
+    with_commands(
+        program_parser(alloc),
+        [
+            root::parser(alloc),
+            check::parser(alloc),
+            build::parser(alloc),
+            take::parser(alloc),
+            merge::parser(alloc),
+            pull::parser(alloc),
+            status::parser(alloc),
+            missing::parser(alloc),
+            forks::parser(alloc),
+            compare::parser(alloc),
+            prove::parser(alloc),
+            export::parser(alloc),
+            notes::parser(alloc),
+            serve::parser(alloc),
+        ],
+    )
+}
+
+/// The command of this name and with these options.
+pub(crate) fn command_of<'a>(
+    alloc: Global,
+    name: &str,
+    found: &ArgMatches<'a>,
+) -> Result<Command<'a>, CommandFault>
+    ensures { ReadsPart (IsSaid name.now (rows_of (found_of found.now))) result }
+{
+    match name {
+        "root" => root::read(found),
+        "check" => check::read(found),
+        "build" => build::read(found),
+        "take" => take::read(alloc, found),
+        "merge" => merge::read(found),
+        "pull" => pull::read(alloc, found),
+        "status" => status::read(found),
+        "missing" => missing::read(found),
+        "forks" => forks::read(found),
+        "compare" => compare::read(alloc, found),
+        "prove" => prove::read(found),
+        "export" => export::read(found),
+        "notes" => notes::read(found),
+        "serve" => serve::read(found),
+        _ => Err(CommandFault::BadArgument),
+    }
+}
+
+/// The bad one of the words of the command of this name.
+pub(crate) fn bad_word(alloc: Global, name: &str, found: &ArgMatches<'_>) -> Option<&'static str> {
+    match name {
+        "take" => take::bad_word(found),
+        "pull" => pull::bad_word(alloc, found),
+        "missing" => missing::bad_word(found),
+        "prove" => prove::bad_word(found),
+        "serve" => serve::bad_word(found),
+        _ => None,
+    }
+}

@@ -1,0 +1,46 @@
+//! `check`: whether the proof on standard input holds. It has no options.
+ghost use Rattle.std.specs.Prelude.{IfOk, codes};
+ghost use Rattle.clap.specs.Words.{found_of, rows_of};
+ghost use Rattle.program_words.specs.App.{IsParserOf};
+ghost use Rattle.program_words.specs.Commands.{check_app};
+ghost use Rattle.program_words.specs.Readings.{IsSaid, ReadsPart};
+
+use crate::commands::Command;
+use crate::fault::CommandFault;
+use crate::parser::plain_parser;
+use clap::ArgMatches;
+use std::alloc::{AllocError, Global};
+
+// What it reads, writes and may end with.
+const HELP: &str = "\
+The output is 'yes' where the proof holds, else 'no'. Who relies on a yes compares the roots in the
+text with checkpoints of the log.
+
+Exit status: 0 for a yes, 3 for a no, 1 a fault, 2 words that ask for nothing.
+Faults, on standard error:
+  BadProofText  the input is not the text of a proof: give it as it was made, to the last newline
+  ReadFault     standard input could not be read
+  WriteFault    standard output could not be written: a part may have been
+  OutOfMemory   there is not enough memory for the text
+
+Example: tlogmirror check <examples/inclusion-2-of-3.proof";
+
+/// Its parser.
+pub(crate) fn parser<'a>(alloc: Global) -> Result<clap::Command<'a>, AllocError>
+    ensures { IfOk result (IsParserOf check_app) }
+{
+    plain_parser(
+        alloc,
+        "check",
+        "Reads the text of a proof from standard input, and prints whether it holds: yes or no",
+        HELP,
+        &[],
+    )
+}
+
+/// The command.
+pub(crate) fn read<'a>(_found: &ArgMatches<'a>) -> Result<Command<'a>, CommandFault>
+    ensures { ReadsPart (IsSaid (codes "check") (rows_of (found_of _found.now))) result }
+{
+    Ok(Command::Check)
+}

@@ -1,0 +1,77 @@
+//! `compare`: checkpoints compared with what is served.
+ghost use Rattle.std.specs.Prelude.{IfOk, codes};
+ghost use Rattle.clap.specs.Words.{found_of, rows_of};
+ghost use Rattle.program_words.specs.App.{IsParserOf};
+ghost use Rattle.program_words.specs.Commands.{IsCompare, compare_app};
+ghost use Rattle.program_words.specs.Readings.{IsSaid, ReadsPart};
+
+use crate::commands::Command;
+use crate::fault::CommandFault;
+use crate::parser::{Argument, held_parser};
+use crate::parts::{StateArgs, files_of, state_args};
+use clap::ArgMatches;
+use std::alloc::{AllocError, Global};
+
+/// `compare`: checkpoints compared with what is served.
+#[derive(Debug, Drop, PartialEq, Eq)]
+pub struct Compare<'a> {
+    /// The mirror.
+    pub mirror: StateArgs<'a>,
+    /// The files of the notes that are compared; none for those that the mirror holds.
+    pub files: Vec<&'a str>,
+}
+
+// What it reads, writes and may end with.
+const HELP: &str = "\
+The output is a line for each checkpoint, of those in S by size, or of the FILEs in their order:
+'same SIZE ROOT' where as many of the served entries have its root, 'fork SIZE ROOT OWN' where they
+have another, OWN, and 'larger SIZE ROOT' where fewer are served. A FILE is a signed note alone. A fork
+is the operator's doing: keep the note, and 'prove consistency SIZE N', whose first root is OWN.
+
+Exit status: 0 no fork, 3 there are forks, 1 a fault, 2 words that ask for nothing.
+Faults of O, K and S: see 'tlogmirror --help'. Besides, on standard error:
+  NoteTooLong, NotText, NoSignatures, TooManySignatures, BadSignatureLine
+                      a FILE is no signed note
+  TooFewLines, EmptyLine, BadSize, SizeTooLarge, BadRoot
+                      the note is no checkpoint
+  OtherOrigin         the checkpoint may be the one of another log: give its own origin
+  NoTrustedSignature  no key of K signed the note: add the log's key or a pin
+  NothingComplete     no checkpoint is complete: pull what is missing first
+
+Example: tlogmirror compare --origin log.example --keys keys --state state told.note";
+
+/// Its parser.
+pub(crate) fn parser<'a>(alloc: Global) -> Result<clap::Command<'a>, AllocError>
+    ensures { IfOk result (IsParserOf compare_app) }
+{
+    held_parser(
+        alloc,
+        "compare",
+        "Prints which checkpoints contradict the served one, though their entries are gone",
+        HELP,
+        &[Argument::List(
+            "file",
+            "FILE",
+            "The signed notes that are compared; those of the state where none is named",
+        )],
+    )
+}
+
+// What its options say.
+fn compare_of<'a>(alloc: Global, found: &ArgMatches<'a>) -> Result<Compare<'a>, CommandFault>
+    ensures { ReadsPart (IsCompare (rows_of (found_of found.now))) result }
+{
+    let mirror = state_args(found)?;
+    let files = files_of(alloc, found)?;
+    Ok(Compare { mirror, files })
+}
+
+/// The command, by its options.
+pub(crate) fn read<'a>(alloc: Global, found: &ArgMatches<'a>) -> Result<Command<'a>, CommandFault>
+    ensures { ReadsPart (IsSaid (codes "compare") (rows_of (found_of found.now))) result }
+{
+    match compare_of(alloc, found) {
+        Ok(compare) => Ok(Command::Compare(compare)),
+        Err(fault) => Err(fault),
+    }
+}

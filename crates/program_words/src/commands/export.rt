@@ -1,0 +1,87 @@
+//! `export`, with `--update` too: what is served, written to a folder.
+ghost use Rattle.std.specs.Prelude.{IfOk, codes};
+ghost use Rattle.clap.specs.Words.{found_of, rows_of};
+ghost use Rattle.program_words.specs.App.{IsParserOf};
+ghost use Rattle.program_words.specs.Commands.{IsExport, export_app};
+ghost use Rattle.program_words.specs.Readings.{IsSaid, ReadsPart};
+
+use crate::commands::Command;
+use crate::fault::CommandFault;
+use crate::parser::{Argument, PROGRESS, held_parser};
+use crate::parts::{StateArgs, has_flag, state_args, word_of};
+use clap::ArgMatches;
+use std::alloc::{AllocError, Global};
+
+/// `export`, with `--update` too: what is served, written to a folder.
+#[derive(Debug, Drop, PartialEq, Eq, Clone, Copy)]
+pub struct Export<'a> {
+    /// The mirror.
+    pub mirror: StateArgs<'a>,
+    /// The folder.
+    pub folder: &'a str,
+    /// Whether it is told how far the work is.
+    pub progress: bool,
+}
+
+// What it reads, writes and may end with.
+const HELP: &str = "\
+Tiles and bundles are written before the checkpoint. Any web server can serve the folder.
+With --update D may have a checkpoint of this log: what it lacks is written, the checkpoint
+last, and no file is taken away. So a folder that is being served is whole at each moment.
+With --progress lines like 'export: 3,200 of 7,833 files' go to standard error, from the first second
+on.
+
+Exit status: 0 done, 1 a fault, 2 words that ask for nothing.
+Faults of O, K and S: see 'tlogmirror --help'. Then:
+  NothingComplete  no checkpoint is complete: pull what is missing first
+  ShelfInUse       D has a checkpoint: name another folder, or give --update
+  OtherLog         D has a checkpoint that S does not go on from: see status and forks
+  ShelfFault       D cannot be written: see the path, the rights and the room
+
+Example: tlogmirror export --origin log.example --keys keys --state state --dir copy";
+
+/// Its parser.
+pub(crate) fn parser<'a>(alloc: Global) -> Result<clap::Command<'a>, AllocError>
+    ensures { IfOk result (IsParserOf export_app) }
+{
+    held_parser(
+        alloc,
+        "export",
+        "Writes the files of the served checkpoint to a folder, as a log publishes them",
+        HELP,
+        &[
+            Argument::Option("dir", "D", "The folder that is written"),
+            Argument::Flag(
+                "update",
+                "Bring a folder up to date that has an older checkpoint of the log",
+            ),
+            Argument::Flag("progress", PROGRESS),
+        ],
+    )
+}
+
+// What its options say, but for `--update`.
+fn export_of<'a>(found: &ArgMatches<'a>) -> Result<Export<'a>, CommandFault>
+    ensures { ReadsPart (IsExport (rows_of (found_of found.now))) result }
+{
+    Ok(Export {
+        mirror: state_args(found)?,
+        folder: word_of(found, "dir")?,
+        progress: has_flag(found, "progress"),
+    })
+}
+
+/// The command, by its options, with or without `--update`.
+pub(crate) fn read<'a>(found: &ArgMatches<'a>) -> Result<Command<'a>, CommandFault>
+    ensures { ReadsPart (IsSaid (codes "export") (rows_of (found_of found.now))) result }
+{
+    let export = match export_of(found) {
+        Ok(export) => export,
+        Err(fault) => return Err(fault),
+    };
+    if has_flag(found, "update") {
+        Ok(Command::Update(export))
+    } else {
+        Ok(Command::Export(export))
+    }
+}

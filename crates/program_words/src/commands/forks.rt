@@ -1,0 +1,47 @@
+//! `forks`: the forks between a mirror's heads. It has the options of each command over a state alone.
+ghost use Rattle.std.specs.Prelude.{IfOk, codes};
+ghost use Rattle.clap.specs.Words.{found_of, rows_of};
+ghost use Rattle.program_words.specs.App.{IsParserOf};
+ghost use Rattle.program_words.specs.Commands.{forks_app};
+ghost use Rattle.program_words.specs.Readings.{IsSaid, ReadsPart};
+
+use crate::commands::Command;
+use crate::fault::CommandFault;
+use crate::parser::held_parser;
+use crate::parts::state_args;
+use clap::ArgMatches;
+use std::alloc::{AllocError, Global};
+
+// What it reads, writes and may end with.
+const HELP: &str = "\
+The output is 'fork SIZE ROOT SIZE ROOT' for each two checkpoints of one size with different roots, and
+for each two complete ones of which neither list of entries is a prefix of the other. A fork is the
+operator's doing: keep the state, and write both notes with 'notes'.
+
+Exit status: 0 none, 3 there are forks, 1 a fault, 2 words that ask for nothing.
+Faults of O, K and S: see 'tlogmirror --help'.
+
+Example: tlogmirror forks --origin log.example --keys keys --state state";
+
+/// Its parser.
+pub(crate) fn parser<'a>(alloc: Global) -> Result<clap::Command<'a>, AllocError>
+    ensures { IfOk result (IsParserOf forks_app) }
+{
+    held_parser(
+        alloc,
+        "forks",
+        "Prints which checkpoints contradict each other: of one size, or both complete",
+        HELP,
+        &[],
+    )
+}
+
+/// The command, by its options.
+pub(crate) fn read<'a>(found: &ArgMatches<'a>) -> Result<Command<'a>, CommandFault>
+    ensures { ReadsPart (IsSaid (codes "forks") (rows_of (found_of found.now))) result }
+{
+    match state_args(found) {
+        Ok(args) => Ok(Command::Forks(args)),
+        Err(fault) => Err(fault),
+    }
+}

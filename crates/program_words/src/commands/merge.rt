@@ -1,0 +1,71 @@
+//! `merge`: what a second mirror holds is taken into a first.
+ghost use Rattle.std.specs.Prelude.{IfOk, codes};
+ghost use Rattle.clap.specs.Words.{found_of, rows_of};
+ghost use Rattle.program_words.specs.App.{IsParserOf};
+ghost use Rattle.program_words.specs.Commands.{IsMerge, merge_app};
+ghost use Rattle.program_words.specs.Readings.{IsSaid, ReadsPart};
+
+use crate::commands::Command;
+use crate::fault::CommandFault;
+use crate::parser::{Argument, made_parser};
+use crate::parts::{OutputArgs, output_args, word_of};
+use clap::ArgMatches;
+use std::alloc::{AllocError, Global};
+
+/// `merge`: what a second mirror holds is taken into a first.
+#[derive(Debug, Drop, PartialEq, Eq, Clone, Copy)]
+pub struct Merge<'a> {
+    /// The mirror that comes of it.
+    pub mirror: OutputArgs<'a>,
+    /// The file of the first mirror's state.
+    pub first: &'a str,
+    /// The file of the second mirror's state.
+    pub second: &'a str,
+}
+
+// What it reads, writes and may end with.
+const HELP: &str = "\
+What B holds is taken into A. T may be A or B. A state of version 1 is written as version 2.
+
+Exit status: 0 done, 1 a fault, 2 words that ask for nothing.
+Faults of O, K, A, B and T: see 'tlogmirror --help'. A is read before B. Then:
+  Collision  two different strings share a digest: nothing was taken; keep both files
+
+Example: tlogmirror merge --origin log.example --keys keys --out both here there";
+
+/// Its parser.
+pub(crate) fn parser<'a>(alloc: Global) -> Result<clap::Command<'a>, AllocError>
+    ensures { IfOk result (IsParserOf merge_app) }
+{
+    made_parser(
+        alloc,
+        "merge",
+        "Makes one mirror of two, and writes its state",
+        HELP,
+        &[
+            Argument::Place("a", "A", "The file of the first state"),
+            Argument::Place("b", "B", "The file of the state that is taken into it"),
+        ],
+    )
+}
+
+// What its options say.
+fn merge_of<'a>(found: &ArgMatches<'a>) -> Result<Merge<'a>, CommandFault>
+    ensures { ReadsPart (IsMerge (rows_of (found_of found.now))) result }
+{
+    Ok(Merge {
+        mirror: output_args(found)?,
+        first: word_of(found, "a")?,
+        second: word_of(found, "b")?,
+    })
+}
+
+/// The command, by its options.
+pub(crate) fn read<'a>(found: &ArgMatches<'a>) -> Result<Command<'a>, CommandFault>
+    ensures { ReadsPart (IsSaid (codes "merge") (rows_of (found_of found.now))) result }
+{
+    match merge_of(found) {
+        Ok(merge) => Ok(Command::Merge(merge)),
+        Err(fault) => Err(fault),
+    }
+}

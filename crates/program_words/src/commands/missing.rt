@@ -1,0 +1,97 @@
+//! `missing`: what a head's tree lacks.
+ghost use Rattle.std.specs.Prelude.{IfOk, codes};
+ghost use Rattle.clap.specs.Words.{found_of, rows_of};
+ghost use Rattle.tlog_text.specs.Hash.{IsHashText};
+ghost use Rattle.program_words.specs.App.{IsParserOf};
+ghost use Rattle.program_words.specs.Commands.{IsMissingAsk, missing_app};
+ghost use Rattle.program_words.specs.Readings.{IsSaid, ReadsPart};
+
+use crate::commands::Command;
+use crate::fault::CommandFault;
+use crate::parser::{Argument, held_parser};
+use crate::parts::{StateArgs, number_of, state_args, word_of};
+use clap::ArgMatches;
+use std::alloc::{AllocError, Global};
+use tlog_hash::Hash;
+use tlog_shape::MAX_SIZE;
+use tlog_text::read_hash;
+
+/// `missing`: what a head's tree lacks.
+#[derive(Debug, Drop, PartialEq, Eq, Clone, Copy)]
+pub struct Missing<'a> {
+    /// The mirror.
+    pub mirror: StateArgs<'a>,
+    /// The head's size.
+    pub size: u64,
+    /// The head's root.
+    pub root: Hash,
+}
+
+// What it reads, writes and may end with.
+const HELP: &str = "\
+The output is one path a line, as a log publishes them; none where the checkpoint is complete.
+
+Exit status: 0 nothing is missing, 3 something is, 1 a fault, 2 words that ask for nothing, or N or
+ROOT is none (BadArgument).
+Faults of O, K and S: see 'tlogmirror --help'. Then:
+  NoSuchHead  no checkpoint has that size and root: 'status' prints those that are held
+
+Example: tlogmirror missing --origin log.example --keys keys --state state --size 3 --root ROOT";
+
+/// Its parser.
+pub(crate) fn parser<'a>(alloc: Global) -> Result<clap::Command<'a>, AllocError>
+    ensures { IfOk result (IsParserOf missing_app) }
+{
+    held_parser(
+        alloc,
+        "missing",
+        "Prints the paths that a checkpoint's tree lacks",
+        HELP,
+        &[
+            Argument::Option("size", "N", "The checkpoint's size"),
+            Argument::Option("root", "ROOT", "The checkpoint's root, in base64"),
+        ],
+    )
+}
+
+// The hash that the word spells in base64.
+fn hash_of(word: &str) -> Result<Hash, CommandFault>
+    ensures { ReadsPart (IsHashText word.now) result }
+{
+    match read_hash(word) {
+        Some(hash) => Ok(hash),
+        None => Err(CommandFault::BadArgument),
+    }
+}
+
+// What its options say.
+fn missing_of<'a>(found: &ArgMatches<'a>) -> Result<Missing<'a>, CommandFault>
+    ensures { ReadsPart (IsMissingAsk (rows_of (found_of found.now))) result }
+{
+    Ok(Missing {
+        mirror: state_args(found)?,
+        size: number_of(found, "size", 0, MAX_SIZE)?,
+        root: hash_of(word_of(found, "root")?)?,
+    })
+}
+
+/// The command, by its options.
+pub(crate) fn read<'a>(found: &ArgMatches<'a>) -> Result<Command<'a>, CommandFault>
+    ensures { ReadsPart (IsSaid (codes "missing") (rows_of (found_of found.now))) result }
+{
+    match missing_of(found) {
+        Ok(missing) => Ok(Command::Missing(missing)),
+        Err(fault) => Err(fault),
+    }
+}
+
+/// The option or the word that is bad, as help names it.
+pub(crate) fn bad_word(found: &ArgMatches<'_>) -> Option<&'static str> {
+    if number_of(found, "size", 0, MAX_SIZE).is_err() {
+        return Some("--size");
+    }
+    match word_of(found, "root") {
+        Ok(root) if hash_of(root).is_ok() => None,
+        _ => Some("--root"),
+    }
+}

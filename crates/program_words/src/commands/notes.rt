@@ -1,0 +1,66 @@
+//! `notes`: the notes of a mirror, written to a folder.
+ghost use Rattle.std.specs.Prelude.{IfOk, codes};
+ghost use Rattle.clap.specs.Words.{found_of, rows_of};
+ghost use Rattle.program_words.specs.App.{IsParserOf};
+ghost use Rattle.program_words.specs.Commands.{IsNotes, notes_app};
+ghost use Rattle.program_words.specs.Readings.{IsSaid, ReadsPart};
+
+use crate::commands::Command;
+use crate::fault::CommandFault;
+use crate::parser::{Argument, held_parser};
+use crate::parts::{StateArgs, state_args, word_of};
+use clap::ArgMatches;
+use std::alloc::{AllocError, Global};
+
+/// `notes`: the notes of a mirror, written to a folder.
+#[derive(Debug, Drop, PartialEq, Eq, Clone, Copy)]
+pub struct Notes<'a> {
+    /// The mirror.
+    pub mirror: StateArgs<'a>,
+    /// The folder.
+    pub folder: &'a str,
+}
+
+// What it reads, writes and may end with.
+const HELP: &str = "\
+Each note is written byte for byte as it came, to SIZE-ROOT-K.note: ROOT in lower case hexadecimal, K
+from 0 among the notes of one size and root. So both notes of a fork can be shown to anyone.
+
+Exit status: 0 done, 1 a fault, 2 words that ask for nothing.
+Faults of O, K and S: see 'tlogmirror --help'. Then:
+  FileFault  a note cannot be written, or a file of its name has other bytes
+
+Example: tlogmirror notes --origin log.example --keys keys --state state --dir notes";
+
+/// Its parser.
+pub(crate) fn parser<'a>(alloc: Global) -> Result<clap::Command<'a>, AllocError>
+    ensures { IfOk result (IsParserOf notes_app) }
+{
+    held_parser(
+        alloc,
+        "notes",
+        "Writes each signed note of a mirror to a file of its own",
+        HELP,
+        &[Argument::Option("dir", "D", "The folder that is written")],
+    )
+}
+
+// What its options say.
+fn notes_of<'a>(found: &ArgMatches<'a>) -> Result<Notes<'a>, CommandFault>
+    ensures { ReadsPart (IsNotes (rows_of (found_of found.now))) result }
+{
+    Ok(Notes {
+        mirror: state_args(found)?,
+        folder: word_of(found, "dir")?,
+    })
+}
+
+/// The command, by its options.
+pub(crate) fn read<'a>(found: &ArgMatches<'a>) -> Result<Command<'a>, CommandFault>
+    ensures { ReadsPart (IsSaid (codes "notes") (rows_of (found_of found.now))) result }
+{
+    match notes_of(found) {
+        Ok(notes) => Ok(Command::Notes(notes)),
+        Err(fault) => Err(fault),
+    }
+}

@@ -1,0 +1,112 @@
+//! `prove`: a proof of what is served.
+ghost use Rattle.std.specs.Prelude.{IfOk, codes};
+ghost use Rattle.clap.specs.Words.{found_of, rows_of};
+ghost use Rattle.program_words.specs.App.{IsParserOf};
+ghost use Rattle.program_words.specs.Commands.{IsAsk, IsProve, prove_app};
+ghost use Rattle.program_words.specs.Readings.{IsSaid, ReadsPart};
+
+use crate::commands::Command;
+use crate::fault::CommandFault;
+use crate::parser::{Argument, held_parser};
+use crate::parts::{StateArgs, number_in, number_of, state_args, word_of};
+use clap::ArgMatches;
+use std::alloc::{AllocError, Global};
+use tlog_proof::Ask;
+use tlog_shape::MAX_SIZE;
+
+/// `prove`: a proof of what is served.
+#[derive(Debug, Drop, PartialEq, Eq, Clone, Copy)]
+pub struct Prove<'a> {
+    /// The mirror.
+    pub mirror: StateArgs<'a>,
+    /// Of what.
+    pub ask: Ask,
+}
+
+// What it reads, writes and may end with.
+const HELP: &str = "\
+'inclusion SIZE INDEX' or 'consistency FIRST SECOND', of what the mirror serves. The output is the
+proof's text, which 'check' reads.
+
+Exit status: 0 done, 1 a fault, 2 words that ask for nothing, or that do not fit (BadArgument).
+Faults of O, K and S: see 'tlogmirror --help'. Then:
+  NothingComplete  no checkpoint is complete: pull what is missing first
+  NoSuchSize       a size is greater than the served one
+  NoSuchIndex      the index is not below the size
+  FirstIsZero      the smaller size is 0: every tree begins with the empty one
+  Backwards        the smaller size is the greater: turn them round
+
+Example: tlogmirror prove --origin log.example --keys keys --state state inclusion 3 2";
+
+/// Its parser.
+pub(crate) fn parser<'a>(alloc: Global) -> Result<clap::Command<'a>, AllocError>
+    ensures { IfOk result (IsParserOf prove_app) }
+{
+    held_parser(
+        alloc,
+        "prove",
+        "Prints a proof that an entry is in a tree, or that a tree is a prefix of another",
+        HELP,
+        &[
+            Argument::Place("kind", "KIND", "What is proved: inclusion or consistency"),
+            Argument::Place("a", "A", "The tree's size, or the smaller size"),
+            Argument::Place("b", "B", "The entry's index, or the greater size"),
+        ],
+    )
+}
+
+// What a proof is asked for, by the three words.
+fn ask_of(kind: &str, a: &str, b: &str) -> Result<Ask, CommandFault>
+    ensures { ReadsPart (IsAsk kind.now a.now b.now) result }
+{
+    match kind {
+        "inclusion" => Ok(Ask::Inclusion {
+            size: number_in(a, 0, MAX_SIZE)?,
+            index: number_in(b, 0, MAX_SIZE)?,
+        }),
+        "consistency" => Ok(Ask::Consistency {
+            first: number_in(a, 0, MAX_SIZE)?,
+            second: number_in(b, 0, MAX_SIZE)?,
+        }),
+        _ => Err(CommandFault::BadArgument),
+    }
+}
+
+// What its options say.
+fn prove_of<'a>(found: &ArgMatches<'a>) -> Result<Prove<'a>, CommandFault>
+    ensures { ReadsPart (IsProve (rows_of (found_of found.now))) result }
+{
+    let mirror = state_args(found)?;
+    let kind = word_of(found, "kind")?;
+    let a = word_of(found, "a")?;
+    let b = word_of(found, "b")?;
+    Ok(Prove {
+        mirror,
+        ask: ask_of(kind, a, b)?,
+    })
+}
+
+/// The command, by its options.
+pub(crate) fn read<'a>(found: &ArgMatches<'a>) -> Result<Command<'a>, CommandFault>
+    ensures { ReadsPart (IsSaid (codes "prove") (rows_of (found_of found.now))) result }
+{
+    match prove_of(found) {
+        Ok(prove) => Ok(Command::Prove(prove)),
+        Err(fault) => Err(fault),
+    }
+}
+
+/// The option or the word that is bad, as help names it.
+pub(crate) fn bad_word(found: &ArgMatches<'_>) -> Option<&'static str> {
+    match word_of(found, "kind") {
+        Ok("inclusion") | Ok("consistency") => {}
+        _ => return Some("KIND"),
+    }
+    if number_of(found, "a", 0, MAX_SIZE).is_err() {
+        return Some("A");
+    }
+    if number_of(found, "b", 0, MAX_SIZE).is_err() {
+        return Some("B");
+    }
+    None
+}

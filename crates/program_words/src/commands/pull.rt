@@ -1,0 +1,132 @@
+//! `pull`: what is missing is fetched.
+ghost use Rattle.std.specs.Prelude.{IfOk, codes};
+ghost use Rattle.clap.specs.Words.{found_of, rows_of};
+ghost use Rattle.program_words.specs.App.{IsParserOf};
+ghost use Rattle.program_words.specs.Commands.{IsPull, pull_app};
+ghost use Rattle.program_words.specs.Readings.{IsSaid, ReadsPart};
+
+use crate::commands::Command;
+use crate::fault::CommandFault;
+use crate::parser::{Argument, PROGRESS, made_parser};
+use crate::parts::{OutputArgs, has_flag, output_args, word_of};
+use crate::place::{Place, place_of};
+use clap::ArgMatches;
+use std::alloc::{AllocError, Global};
+
+/// `pull`: what is missing is fetched.
+#[derive(Debug, Drop, PartialEq, Eq, Clone, Copy)]
+pub struct Pull<'a> {
+    /// The mirror.
+    pub mirror: OutputArgs<'a>,
+    /// The file of the state that it begins with, if not with nothing.
+    pub state: Option<&'a str>,
+    /// Whether what was fetched is written where the place fails.
+    pub keep: bool,
+    /// Whether it is told how far the work is.
+    pub progress: bool,
+    /// Where from.
+    pub place: Place<'a>,
+}
+
+// What it reads, writes and may end with.
+const HELP: &str = "\
+The output is 'pulled SIZE ROOT rounds N refused N', and 'complete' or 'partial'. T is written for a
+partial pull too; a later pull with --state T goes on from it. An old checkpoint stays in the state.
+With --keep T is also written at Source, where anything was gained: give it to a first pull of a large
+log over a bad line, and call it again with --state T until it ends with 0.
+With --progress lines like 'pull: 1,024 files, 23 MB' go to standard error, from the first second on,
+and at its end 'pull: 5,000 to 5,300 entries, 4 files, 91 kB'.
+'http' is plain HTTP, with no TLS and no redirects: a proxy beside it ends HTTPS.
+
+Exit status: 0 complete, 3 partial, 1 a fault, 2 words that ask for nothing, or that do not fit
+(BadArgument).
+Faults of O, K, S and T: see 'tlogmirror --help'. Of the place:
+  NoCheckpoint        it has no checkpoint: see PLACE
+  NoEdge              it lacks a tile of the checkpoint's edge: try again, or another place
+  Source              it could not be read or did not answer: try again, with --keep to go on
+  NoteTooLong, NotText, NoSignatures, TooManySignatures, BadSignatureLine
+                      the checkpoint is no signed note
+  TooFewLines, EmptyLine, BadSize, SizeTooLarge, BadRoot
+                      the note is no checkpoint
+  OtherOrigin         the checkpoint is of another log, where it is not S that is
+  NoTrustedSignature  no key of K signed the checkpoint: add the log's key or a pin
+  EdgeLength, EdgeMismatch
+                      the tiles are not those of the checkpoint: another place may be honest
+  Collision           two different strings share a digest: T is not written; keep S and the log's files
+  WriteFault          standard output could not be written: T was written before
+
+Example: tlogmirror pull --origin log.example --keys keys --out state http log.example:80/2026";
+
+/// Its parser.
+pub(crate) fn parser<'a>(alloc: Global) -> Result<clap::Command<'a>, AllocError>
+    ensures { IfOk result (IsParserOf pull_app) }
+{
+    made_parser(
+        alloc,
+        "pull",
+        "Fetches what a log's newest checkpoint lacks, from a folder or over plain HTTP, and writes the mirror's state",
+        HELP,
+        &[
+            Argument::Choice(
+                "state",
+                "S",
+                "The file of the state to begin with; nothing where it is left out",
+            ),
+            Argument::Flag(
+                "keep",
+                "Write the state where the place fails too, as a first pull over a bad line wants it",
+            ),
+            Argument::Flag("progress", PROGRESS),
+            Argument::Place(
+                "kind",
+                "KIND",
+                "Where from: dir, or http, which is plain HTTP",
+            ),
+            Argument::Place(
+                "place",
+                "PLACE",
+                "The folder, or host:port with an optional /prefix",
+            ),
+        ],
+    )
+}
+
+// What its options say.
+fn pull_of<'a>(alloc: Global, found: &ArgMatches<'a>) -> Result<Pull<'a>, CommandFault>
+    ensures { ReadsPart (IsPull (rows_of (found_of found.now))) result }
+{
+    Ok(Pull {
+        mirror: output_args(found)?,
+        state: found.get_str("state"),
+        keep: has_flag(found, "keep"),
+        progress: has_flag(found, "progress"),
+        place: place_of(alloc, word_of(found, "kind")?, word_of(found, "place")?)?,
+    })
+}
+
+/// The command, by its options.
+pub(crate) fn read<'a>(alloc: Global, found: &ArgMatches<'a>) -> Result<Command<'a>, CommandFault>
+    ensures { ReadsPart (IsSaid (codes "pull") (rows_of (found_of found.now))) result }
+{
+    match pull_of(alloc, found) {
+        Ok(pull) => Ok(Command::Pull(pull)),
+        Err(fault) => Err(fault),
+    }
+}
+
+/// The option or the word that is bad, as help names it.
+pub(crate) fn bad_word(alloc: Global, found: &ArgMatches<'_>) -> Option<&'static str> {
+    let Ok(kind) = word_of(found, "kind") else {
+        return None;
+    };
+    let Ok(place) = word_of(found, "place") else {
+        return None;
+    };
+    if kind != "dir" && kind != "http" {
+        return Some("KIND");
+    }
+    match place_of(alloc, kind, place) {
+        Err(CommandFault::BadArgument) => Some("PLACE"),
+        _ => None,
+    }
+}
