@@ -11,7 +11,7 @@ use std::process::Abort;
 use std::test::Fail;
 
 // What is read. It ensures nothing, so that its callers are cheap to check.
-fn taken<R: Read>(
+fn read_bytes<R: Read>(
     alloc: Global,
     reader: &mut R,
     most: usize,
@@ -51,7 +51,7 @@ fn reads_by_turns(rt: HostRuntime) {
             rest: b"abcdef",
             turns,
         };
-        match taken(rt.alloc(), &mut reader, 100, u64::MAX) {
+        match read_bytes(rt.alloc(), &mut reader, 100, u64::MAX) {
             Ok(bytes) => assert!(rt; Ok(bytes.as_slice()) == want),
             Err(fault) => assert!(rt; Err(fault) == want),
         }
@@ -67,7 +67,7 @@ fn assert_front(
     len: usize,
 ) -> Result<(), Fail> {
     let mut reader = input;
-    let bytes = taken(alloc, &mut reader, most, u64::MAX)?;
+    let bytes = read_bytes(alloc, &mut reader, most, u64::MAX)?;
     assert!(rt; bytes.len() == len);
     assert!(rt; input.starts_with(bytes.as_slice()));
     assert!(rt; reader.len().saturating_add(len) == input.len());

@@ -51,7 +51,7 @@ pub(crate) fn lying_log<H: TreeHash>(
 }
 
 // What is told of a path.
-fn told<S: Source>(
+fn lying_answer<S: Source>(
     log: &mut S,
     other: &mut S,
     lie: Lie,
@@ -86,7 +86,7 @@ impl<H: TreeHash> Source for Liar<H> {
             return Err(SourceFault::Failed);
         }
         self.passes -= 1;
-        match told(&mut self.log, &mut self.other, self.lie, path) {
+        match lying_answer(&mut self.log, &mut self.other, self.lie, path) {
             Ok(found) => Ok(found),
             Err(_fault) => Err(SourceFault::OutOfMemory),
         }
