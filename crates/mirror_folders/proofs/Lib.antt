@@ -12,3 +12,4 @@ pub mod Standing
 pub mod UpdateMoments
 pub mod Points
 pub mod Updated
+pub mod PathLists

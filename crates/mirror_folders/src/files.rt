@@ -23,7 +23,7 @@ pub(crate) enum FileKind {
 }
 
 // The path of a file of that kind.
-fn path_at(kind: FileKind, index: u64, width: u32) -> Path
+pub(crate) fn path_at(kind: FileKind, index: u64, width: u32) -> Path
     ensures { result ≡ kind_path kind index width }
 {
     match kind {
@@ -37,7 +37,7 @@ fn path_at(kind: FileKind, index: u64, width: u32) -> Path
 }
 
 // The level that files of that kind lie at.
-fn level_at(kind: FileKind) -> u32
+pub(crate) fn level_at(kind: FileKind) -> u32
     ensures { result ≡ kind_level kind }
 {
     match kind {

@@ -81,8 +81,12 @@ impl<H: TreeHash> ListSource<H> {
         &self.asked
     }
 
-    /// The bytes at a path, where the path is within the list.
-    fn file_at(&self, path: Path) -> Option<&[u8]>
+    /// The bytes at a path, lent: what `get` copies. It takes no memory, and is not told among what was asked for.
+    ///
+    /// ```text
+    /// source.file_at(Path::Checkpoint)  // Some of the note
+    /// ```
+    pub fn file_at(&self, path: Path) -> Option<&[u8]>
         ensures { IsListAnswer H.digest self.now.entries self.now.note path (option_map (λ b. b.now) result) }
     {
         match path {

@@ -1,3 +1,3 @@
 mod EntryLists
 pub mod Logs
-pub mod Shelved
+mod PutPaths

@@ -1,19 +1,18 @@
--- A log built of entries (C2SP tlog-tiles). `ChecksOrigin`, `IsUnexported` and `FillsMirrorUnder` are
--- cited by the contracts of private functions alone.
+-- A log built of entries (C2SP tlog-tiles). `ChecksOrigin` and `PutsFiles` are cited by the
+-- contracts of private functions alone.
 use Rattle.std.specs.Prelude.{◌≡◌, ◌⊎◌, ℕ, List, length, Contains, Option, Result, Ok, Err, ⊤}
 use Rattle.std.specs.FinSet as set
 use Rattle.signed_note.specs.Keys.{Key}
 use Rattle.tlog_hash.specs.Tree.{mth, strings}
 use Rattle.tlog_tiles.specs.declared.paths.Path.TheVariants.{Checkpoint}
-use Rattle.node_store.specs.Strings.{Has, NoClash}
+use Rattle.node_store.specs.Strings.{NoClash}
 use Rattle.mirror_model.specs.Origin.{IsOrigin}
-use Rattle.mirror_model.specs.View.{View}
-use Rattle.mirror_model.specs.Complete.{IsComplete}
 use Rattle.mirror_sources.specs.ListSource.{OpensAnywhere}
 use Rattle.mirror_sources.specs.Told.{KeepsTold, AddsTold}
 use Rattle.mirror_folders.specs.Shelf.{Put, TellsNone, TellsSome}
 use Rattle.mirror_folders.specs.Files.{paths_of, files_at}
 use Rattle.mirror_folders.specs.Exports.{AddsPrefix}
+use Rattle.mirror_folders.specs.declared.fault.ExportFault.{ExportFault}
 use Rattle.mirror_folders.specs.declared.fault.ExportFault.TheVariants as export
 use Rattle.tlog_build.specs.declared.fault.BuildFault.{BuildFault}
 use Rattle.tlog_build.specs.declared.fault.BuildFault.TheVariants.{BadOrigin, Export}
@@ -26,11 +25,19 @@ ChecksOrigin origin (Err BadOrigin) = ¬ IsOrigin origin
 ChecksOrigin origin (Err OutOfMemory) = ⊤
 ChecksOrigin origin (Err fault) = ⊥
 
--- the answer comes from before the export: no shelf was asked for anything
-abbrev pub IsUnexported : {T : Type 0} → Result T BuildFault → Type 0
-IsUnexported (Ok x) = ⊤
-IsUnexported (Err (Export fault)) = ⊥
-IsUnexported (Err fault) = ⊤
+module _ (digest : List ℕ → List ℕ) (note : List ℕ) (entries : List (List ℕ)) where
+  -- what putting all files of the log of the entries under that note says, by its answer
+  abbrev pub PutsFiles : {T : Type 0} → Option (List Put) → Option (List Put) →
+      Result T ExportFault → Type 0
+  PutsFiles old new (Ok x) =
+      TellsNone old Checkpoint
+      × AddsTold old new (files_at digest note entries (paths_of (length entries)))
+  PutsFiles old new (Err export.NothingComplete) = ⊥
+  PutsFiles old new (Err export.ShelfInUse) = KeepsTold old new × TellsSome old Checkpoint
+  PutsFiles old new (Err export.ShelfFault) =
+      AddsPrefix old new (files_at digest note entries (paths_of (length entries)))
+  PutsFiles old new (Err export.OutOfMemory) =
+      AddsPrefix old new (files_at digest note entries (paths_of (length entries)))
 
 module _ (digest : List ℕ → List ℕ) where
   -- no two strings of the tree of the entries share a digest
@@ -47,26 +54,6 @@ module _ (digest : List ℕ → List ℕ) where
       pub note : List ℕ
       pub is_note : IsLogNote note
       pub files_are : files ≡ files_at digest note entries (paths_of (length entries))
-
-    -- a view that holds such a note, and nothing but what belongs to the log; its head is complete
-    pub record IsLogView (v : View) : Type 0 where
-      pub note : List ℕ
-      pub is_note : IsLogNote note
-      pub origin_is : v.origin ≡ origin
-      pub notes : (other : List ℕ) → Has v.notes other → other ≡ note
-      pub held : (y : List ℕ) → Has v.strings y → Has (set.from_list (strings digest entries)) y
-      pub complete : IsComplete digest v (length entries) (mth digest entries)
-
-    -- what each answer of making a view of the log says
-    abbrev pub FillsMirror : Result View BuildFault → Type 0
-    FillsMirror (Ok v) = IsLogView v
-    FillsMirror (Err BadOrigin) = ¬ IsOrigin origin
-    FillsMirror (Err OutOfMemory) = ⊤
-    FillsMirror (Err fault) = ⊥
-
-    -- so is said where the log's key is among these keys, and no two strings of its tree collide
-    abbrev pub FillsMirrorUnder : List Key → Result View BuildFault → Type 0
-    FillsMirrorUnder keys result = Contains keys key → HasNoClashing entries → FillsMirror result
 
     -- what building the log puts onto a shelf: at Ok all its files, onto one that had no checkpoint
     abbrev pub BuildsLog : {T : Type 0} → Option (List Put) → Option (List Put) →

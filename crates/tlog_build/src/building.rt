@@ -1,22 +1,24 @@
 //! A log built of entries.
-ghost use Rattle.std.specs.Prelude.{◌≡◌, IfOk, map};
+ghost use Rattle.std.specs.Prelude.{◌≡◌, ℕ, List, IfErr, IfOk, map};
 ghost use Rattle.mirror_sources.specs.Told.{Rose};
 ghost use Rattle.mirror_model.specs.Origin.{IsOrigin};
 ghost use Rattle.mirror_model.specs.TrueLaws.{AreShort};
 ghost use Rattle.mirror_model.specs.View.{nothing};
 ghost use Rattle.signed_note.specs.Keys.{secret_key};
-ghost use Rattle.tlog_text.specs.Answers.{seen};
-ghost use Rattle.tlog_build.specs.Building.{BuildsLogUnder, ChecksOrigin, FillsMirrorUnder};
-ghost use Rattle.tlog_build.specs.Building.{IsUnexported};
+ghost use Rattle.mirror_model.specs.Heads.{IsOpenHead};
+ghost use Rattle.mirror_pull.specs.declared.fault.PullFault.TheVariants.{OutOfMemory};
+ghost use Rattle.tlog_build.specs.Building.{BuildsLogUnder, ChecksOrigin};
 
 use crate::fault::BuildFault;
-use mirror_folders::{ExportFault, Shelf, export};
-use mirror_pull::pull;
+use crate::putting::put_files;
+use mirror_folders::{ExportFault, Shelf};
+use mirror_pull::PullFault;
 use mirror_sources::ListSource;
 use signed_note::{HmacKey, Verifier};
 use std::alloc::Global;
 use tlog_hash::TreeHash;
 use tlog_mirror::Mirror;
+use tlog_tiles::Path;
 
 /// Builds a log of entries, and puts it onto a shelf: every tile and bundle of theirs, and last a checkpoint that the key
 /// signed (C2SP tlog-tiles). The keys are those that the checkpoint is opened with, the signing key among them; each entry
@@ -31,9 +33,9 @@ use tlog_mirror::Mirror;
 /// # Errors
 ///
 /// The first that applies: `BadOrigin`, as of `Mirror::new`; `Pull`, which comes only where the signing key is not among
-/// the keys, or two strings of the entries' tree share a digest; `Export`, with `ShelfInUse` where a checkpoint is on the
-/// shelf, and `ShelfFault` where the shelf failed. What was put before stays. `OutOfMemory` where memory was refused, before
-/// any of them or after.
+/// the keys; `Export`, with `ShelfInUse` where a checkpoint is on the shelf, and `ShelfFault` where the shelf failed. What was
+/// put before stays. `OutOfMemory` where memory was refused, before any of them or after. Whether two of the entries' strings
+/// collide is not looked at.
 pub fn build_log<H: TreeHash, S: Shelf>(
     alloc: Global,
     origin: &str,
@@ -50,23 +52,24 @@ pub fn build_log<H: TreeHash, S: Shelf>(
     ensures blamed { result ≡ Err (BuildFault.Export ExportFault.ShelfFault)
         → Rose (S.failed shelf.old) (S.failed shelf.new) }
 {
-    let mut mirror = empty::<H>(alloc, origin)?;
-    put_log(alloc, origin, keys, signer, entries, &mut mirror, shelf)
+    let mirror = empty::<H>(alloc, origin)?;
+    put_log(alloc, origin, keys, signer, entries, &mirror, shelf)
 }
 
-// Puts the whole log of the entries onto the shelf, by way of a mirror that holds nothing.
+// Puts the whole log of the entries onto the shelf, if its checkpoint opens for a mirror that holds nothing. Each entry is
+// hashed once.
 fn put_log<H: TreeHash, S: Shelf>(
     alloc: Global,
     origin: &str,
     keys: &[Box<dyn Verifier>],
     signer: HmacKey,
     entries: Vec<Vec<u8>>,
-    mirror: &mut Mirror<H>,
+    mirror: &Mirror<H>,
     shelf: &mut S,
 ) -> Result<(), BuildFault>
     requires origin { IsOrigin origin.now }
     requires short { AreShort (map (λ e. e.items) entries.items) }
-    requires empty { mirror.old.view ≡ nothing origin.now }
+    requires empty { mirror.now.view ≡ nothing origin.now }
     ensures builds { BuildsLogUnder H.digest origin.now (secret_key signer)
         (map (λ e. e.items) entries.items) (map (λ k. key k) keys.now) (S.puts shelf.old)
         (S.puts shelf.new) result }
@@ -74,31 +77,28 @@ fn put_log<H: TreeHash, S: Shelf>(
     ensures blamed { result ≡ Err (BuildFault.Export ExportFault.ShelfFault)
         → Rose (S.failed shelf.old) (S.failed shelf.new) }
 {
-    fill(alloc, origin, keys, signer, entries, mirror)?;
-    export(alloc, mirror, shelf)?;
+    let size = entries.len() as u64;
+    let source: ListSource<H> = ListSource::new(alloc, origin, entries, signer)?;
+    check_note(alloc, keys, mirror, &source)?;
+    put_files(alloc, &source, size, shelf)?;
     Ok(())
 }
 
-// Pulls the whole log of the entries into a mirror that holds nothing.
-fn fill<H: TreeHash>(
+// Whether the log's checkpoint opens under the keys, as the mirror asks it.
+fn check_note<H: TreeHash>(
     alloc: Global,
-    origin: &str,
     keys: &[Box<dyn Verifier>],
-    signer: HmacKey,
-    entries: Vec<Vec<u8>>,
-    mirror: &mut Mirror<H>,
-) -> Result<(), BuildFault>
-    requires origin { IsOrigin origin.now }
-    requires short { AreShort (map (λ e. e.items) entries.items) }
-    requires empty { mirror.old.view ≡ nothing origin.now }
-    ensures fills { FillsMirrorUnder H.digest origin.now (secret_key signer)
-        (map (λ e. e.items) entries.items) (map (λ k. key k) keys.now)
-        (seen (λ _. mirror.new.view) result) }
-    ensures bad_origin { ¬ (result ≡ Err BuildFault.BadOrigin) }
-    ensures unexported { IsUnexported result }
+    mirror: &Mirror<H>,
+    source: &ListSource<H>,
+) -> Result<(), PullFault>
+    ensures { (size : ℕ) (root : List ℕ)
+        → IsOpenHead source.now.note mirror.now.view.origin (map (λ k. key k) keys.now) size root
+        → IfErr result (λ fault. fault ≡ OutOfMemory) }
 {
-    let mut source: ListSource<H> = ListSource::new(alloc, origin, entries, signer)?;
-    pull(alloc, mirror, keys, &mut source)?;
+    let Some(note) = source.file_at(Path::Checkpoint) else {
+        unreachable!()
+    };
+    mirror.check_head(alloc, keys, note)?;
     Ok(())
 }
 

@@ -10,6 +10,7 @@
 mod building;
 mod entries;
 mod fault;
+mod putting;
 mod signing;
 
 pub use building::build_log;
