@@ -1,6 +1,6 @@
 -- What words that ask for a command say of its numbers.
 use Rattle.std.proofs.Common.{ℕ, ◌≤◌, List, length, Option, Some, None, arith}
-use Rattle.program_words.specs.Commands.{Asks, IsCount, IsTakeWidth}
+use Rattle.program_words.specs.Commands.{Asks, IsCount, IsNumberGiven, IsTakeWidth}
 use Rattle.program_words.specs.declared.commands.Command.{Command as Order}
 use Rattle.program_words.specs.declared.commands.Command.TheVariants as order
 use Rattle.program_words.specs.declared.commands.take.Kind.{Kind}
@@ -11,13 +11,17 @@ take_width : (word : Option (List ℕ)) (width : ℕ) → IsTakeWidth word width
 take_width None width h = (omega (arith, h), omega (arith, h))
 take_width (Some word) width h = (h.least_is, h.most_is)
 
+most_given : (least most : ℕ) (word : Option (List ℕ)) (n : ℕ) → IsNumberGiven least most word n → n ≤ most
+most_given least most None n h = absurd h
+most_given least most (Some word) n h = h.most_is
+
 some_file : (kind : Kind) (count : ℕ) → IsCount kind count → 1 ≤ count
 some_file kind.Head count h = h
 some_file kind.Tile count h = omega (arith, h)
 some_file kind.Bundle count h = omega (arith, h)
 
 pub asked_doable : (words : List (List ℕ)) (c : Order) → Asks words c → IsDoable c
-asked_doable words (order.Root c) h = h.2.is_number.most_is
+asked_doable words (order.Root c) h = most_given 0 256 _ c.width h.2
 asked_doable words (order.Take c) h =
     let width = take_width _ c.width h.2.width in
     (width.0, width.1, some_file c.kind (length c.files.items) h.2.count)

@@ -24,7 +24,7 @@ root_lawful = refl
 root_is : (n : ℕ) → IsNumberIn 0 256 n (codes "200") → Asks (root_words (codes "200")) (Root (record { width = n }))
 unfolding clap_on_literals
 root_is n w =
-    (_, record { lawful = root_lawful; named = refl }, record { value = codes "200"; given = refl; is_number = w })
+    (_, record { lawful = root_lawful; named = refl }, w)
 
 pub root_asked : Asks (root_words (codes "200")) (Root (record { width = 200 }))
 root_asked = root_is 200 (record {

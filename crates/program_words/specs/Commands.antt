@@ -57,11 +57,14 @@ pub record IsNumberIn (least most n : ℕ) (word : Text) : Type 0 where
   pub least_is : least ≤ n
   pub most_is : n ≤ most
 
+-- there is a text, and it spells a number between these two
+abbrev pub IsNumberGiven : ℕ → ℕ → Option Text → ℕ → Type 0
+IsNumberGiven least most None n = ⊥
+IsNumberGiven least most (Some word) n = IsNumberIn least most n word
+
 -- the option has a value, which spells a number between these two
-pub record HasNumber (options : List Row) (name : Text) (least most n : ℕ) : Type 0 where
-  pub value : Text
-  pub given : Given options name value
-  pub is_number : IsNumberIn least most n value
+abbrev pub HasNumber : List Row → Text → ℕ → ℕ → ℕ → Type 0
+HasNumber options name least most n = IsNumberGiven least most (first_of name options) n
 
 -- a size, or an index
 abbrev pub IsSize : ℕ → Text → Type 0
