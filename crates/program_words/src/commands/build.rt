@@ -39,7 +39,6 @@ Faults, on standard error:
   ReadFault     standard input could not be read
   ShelfInUse    D has a checkpoint: name another folder
   ShelfFault    D cannot be written: see the path, the rights and the room
-  Collision     two different strings share a digest: nothing was taken; keep the input
   OutOfMemory   there is not enough memory
 
 Example: printf '\\0\\1a' | tlogmirror build --origin log.example --keys keys --dir log";
