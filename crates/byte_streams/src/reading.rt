@@ -25,9 +25,11 @@ pub fn read_all<R: Read>(
     most: usize,
     reads: u64,
 ) -> Result<Vec<u8>, StreamFault>
-    ensures bytes { IfOk result (λ v. IfSome (R.remaining reader.old) (λ input. v.items ≡ take most input)) }
+    ensures bytes { IfOk result (λ v. IfSome (R.remaining reader.old) (λ input. v.items
+        ≡ take most input)) }
     ensures bound { IfOk result (λ v. vec_len v ≤ most) }
-    ensures taken { IfOk result (λ v. Consumes (R.remaining reader.old) (R.remaining reader.new) v.items) }
+    ensures taken { IfOk result (λ v. Consumes (R.remaining reader.old) (R.remaining reader.new)
+        v.items) }
     ensures limit { TakesAtMost most (R.remaining reader.old) (R.remaining reader.new) }
     ensures fault { IfErr result (λ e. e ≢ StreamFault.WriteFault) }
 {

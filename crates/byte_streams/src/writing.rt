@@ -9,7 +9,8 @@ use std::io::{ErrorKind, Write};
 // Writes a prefix of the bytes: nothing where it was interrupted.
 fn write_some<W: Write>(writer: &mut W, bytes: &[u8]) -> Result<usize, StreamFault>
     ensures within { IfOk result (λ n. n ≤ length bytes.now) }
-    ensures ok { IfOk result (λ n. Appends (W.contents writer.old) (W.contents writer.new) (take n bytes.now)) }
+    ensures ok { IfOk result (λ n. Appends (W.contents writer.old) (W.contents writer.new)
+        (take n bytes.now)) }
     ensures err { OnErr result (Keeps (W.contents writer.old) (W.contents writer.new)) }
     ensures fault { IfErr result (λ e. e ≡ StreamFault.WriteFault) }
 {
@@ -35,7 +36,8 @@ fn write_some<W: Write>(writer: &mut W, bytes: &[u8]) -> Result<usize, StreamFau
 #[tactic(auto, using(crate::proofs::Writes::appends_more))]
 pub fn write_whole<W: Write>(writer: &mut W, bytes: &[u8]) -> Result<(), StreamFault>
     ensures ok { OnOk result (Appends (W.contents writer.old) (W.contents writer.new) bytes.now) }
-    ensures err { OnErr result (AppendsPrefix (W.contents writer.old) (W.contents writer.new) bytes.now) }
+    ensures err { OnErr result (AppendsPrefix (W.contents writer.old) (W.contents writer.new)
+        bytes.now) }
     ensures fault { IfErr result (λ e. e ≡ StreamFault.WriteFault) }
 {
     let mut at = 0;

@@ -59,7 +59,8 @@ fn length_of(digits: &[u8]) -> Option<u64>
 
 // The length with that field behind those before it.
 fn with_length(so_far: Length, name: &[u8], value: &[u8]) -> Length
-    ensures { (fields : List Field) → LengthIs fields so_far → LengthIs (fields ++ (name.now, value.now) ∷ []) result }
+    ensures { (fields : List Field) → LengthIs fields so_far
+        → LengthIs (fields ++ (name.now, value.now) ∷ []) result }
 {
     if !name.eq_ignore_ascii_case(b"content-length") {
         return so_far;
@@ -93,7 +94,8 @@ impl Framing {
 
     /// With that field behind those before it.
     pub fn with_field(self, name: &[u8], value: &[u8]) -> Framing
-        ensures { (fields : List Field) → FramingIs fields self → FramingIs (fields ++ (name.now, value.now) ∷ []) result }
+        ensures { (fields : List Field) → FramingIs fields self
+            → FramingIs (fields ++ (name.now, value.now) ∷ []) result }
     {
         Framing {
             coded: self.coded || is_coding(name, value),

@@ -28,7 +28,8 @@ fn framing_of(buf: &[u8], headers: &[HeaderSpan]) -> Framing
 fn head_of(front: &[u8]) -> Option<(u16, Framing, usize)>
     ensures found { IfSome result (λ r. (h : ResponseHead) × ReadsResponse front.now h (drop r.2 front.now) × (length h.fields ≤ MAX_FIELDS)
         × (r.0 ≡ status_code h) × FramingIs (fields_of h) r.1 × (r.2 ≤ length front.now)) }
-    ensures none { IfNone result ((h : ResponseHead) (rest : List ℕ) → ReadsResponse front.now h rest → ¬ (length h.fields ≤ MAX_FIELDS)) }
+    ensures none { IfNone result ((h : ResponseHead) (rest : List ℕ)
+        → ReadsResponse front.now h rest → ¬ (length h.fields ≤ MAX_FIELDS)) }
 {
     let mut headers = [EMPTY_HEADER_SPAN; MAX_FIELDS];
     match parse_response(front, &mut headers) {
@@ -42,7 +43,8 @@ fn head_of(front: &[u8]) -> Option<(u16, Framing, usize)>
 
 // The body, where the length that is given, if any, is the number of the bytes.
 fn whole_body(length: Length, rest: &[u8]) -> Result<Option<&[u8]>, ReplyFault>
-    ensures { (status : ℕ) (fields : List Field) → IsPlain status fields → LengthIs fields length → SaysOfBody status fields rest.now (seen option_copied result) }
+    ensures { (status : ℕ) (fields : List Field) → IsPlain status fields → LengthIs fields length
+        → SaysOfBody status fields rest.now (seen option_copied result) }
 {
     match length {
         Length::NotGiven => Ok(Some(rest)),
@@ -62,7 +64,8 @@ fn whole_body(length: Length, rest: &[u8]) -> Result<Option<&[u8]>, ReplyFault>
 
 // What a head of that status and those fields, and the bytes that follow it, are read as.
 fn body_after_head(status: u16, framing: Framing, rest: &[u8]) -> Result<Option<&[u8]>, ReplyFault>
-    ensures { (fields : List Field) → FramingIs fields framing → SaysOfBody status fields rest.now (seen option_copied result) }
+    ensures { (fields : List Field) → FramingIs fields framing → SaysOfBody status fields rest.now
+        (seen option_copied result) }
 {
     if status == 404 || status == 410 {
         return Ok(None);

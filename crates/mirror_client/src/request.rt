@@ -10,7 +10,10 @@ use tlog_tiles::Path;
 
 // The text of the request.
 fn request_of(alloc: Global, prefix: &str, path: &Path, host: &str) -> Result<String, AllocError>
-    ensures { IfOk result (λ text. string_bytes text ≡ codes "GET " ++ (prefix.now ++ slash ∷ (path_text path.now ++ (codes " HTTP/1.0" ++ (line_end ++ (codes "Host: " ++ (host.now ++ (line_end ++ fields_after_host)))))))) }
+    ensures { IfOk result (λ text. string_bytes text ≡ codes "GET "
+        ++ (prefix.now ++ slash ∷ (path_text path.now
+        ++ (codes " HTTP/1.0" ++ (line_end
+        ++ (codes "Host: " ++ (host.now ++ (line_end ++ fields_after_host)))))))) }
 {
     format!(in alloc;
         "GET {prefix}/{path} HTTP/1.0\r\nHost: {host}\r\nAccept-Encoding: identity\r\nConnection: close\r\n\r\n"

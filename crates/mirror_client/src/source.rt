@@ -40,9 +40,12 @@ fn send_request<W: Write>(
     site: &Site,
     path: &Path,
 ) -> Result<(), SourceFault>
-    ensures ok { OnOk result (Appends (W.contents writer.old) (W.contents writer.new) (request_text site.now path.now)) }
-    ensures err { OnErr result (AppendsPrefix (W.contents writer.old) (W.contents writer.new) (request_text site.now path.now)) }
-    ensures quiet { IfErr result (λ e. e ≢ SourceFault.Failed → Keeps (W.contents writer.old) (W.contents writer.new)) }
+    ensures ok { OnOk result (Appends (W.contents writer.old) (W.contents writer.new)
+        (request_text site.now path.now)) }
+    ensures err { OnErr result (AppendsPrefix (W.contents writer.old) (W.contents writer.new)
+        (request_text site.now path.now)) }
+    ensures quiet { IfErr result (λ e. e ≢ SourceFault.Failed → Keeps (W.contents writer.old)
+        (W.contents writer.new)) }
 {
     let Ok(request) = get_request(alloc, site, path) else {
         return Err(SourceFault::OutOfMemory);
@@ -61,8 +64,10 @@ fn receive_reply<R: Read>(
     reader: &mut R,
     reason: &mut Option<Reason>,
 ) -> Result<Option<Vec<u8>>, SourceFault>
-    ensures reply { IfOk result (λ answer. IfSome (R.remaining reader.old) (λ bytes. Receives bytes (Ok (option_map (λ v. v.items) answer)))) }
-    ensures bound { IfOk result (λ answer. IsShortAnswer MAX_REPLY_LEN (option_map (λ v. v.items) answer)) }
+    ensures reply { IfOk result (λ answer. IfSome (R.remaining reader.old)
+        (λ bytes. Receives bytes (Ok (option_map (λ v. v.items) answer)))) }
+    ensures bound { IfOk result (λ answer. IsShortAnswer MAX_REPLY_LEN
+        (option_map (λ v. v.items) answer)) }
     ensures limit { TakesAtMost MOST_TAKEN (R.remaining reader.old) (R.remaining reader.new) }
 {
     reply_body(alloc, read_all(alloc, reader, MOST_TAKEN, u64::MAX), reason)
@@ -164,7 +169,8 @@ impl<D: Dial + Drop> HttpSource<D> {
     // The body of the reply to one request. Why it failed is kept.
     fn fetch(&mut self, path: &Path) -> Result<Option<Vec<u8>>, SourceFault>
         ensures same { self.new ≡ self.old }
-        ensures bound { IfOk result (λ answer. IsShortAnswer MAX_REPLY_LEN (option_map (λ v. v.items) answer)) }
+        ensures bound { IfOk result
+            (λ answer. IsShortAnswer MAX_REPLY_LEN (option_map (λ v. v.items) answer)) }
     {
         let mut reason = None;
         let answer = match self.dial.dial() {
@@ -192,7 +198,8 @@ fn exchange<S: Read + Write + Drop>(
     path: &Path,
     reason: &mut Option<Reason>,
 ) -> Result<Option<Vec<u8>>, SourceFault>
-    ensures bound { IfOk result (λ answer. IsShortAnswer MAX_REPLY_LEN (option_map (λ v. v.items) answer)) }
+    ensures bound { IfOk result (λ answer. IsShortAnswer MAX_REPLY_LEN
+        (option_map (λ v. v.items) answer)) }
 {
     let mut stream = WatchedStream::new(stream);
     let answer = match send_request(alloc, &mut stream, site, path) {

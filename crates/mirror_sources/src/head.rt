@@ -20,7 +20,8 @@ pub(crate) fn head_note(
 ) -> Result<Vec<u8>, AllocError>
     requires origin { IsOrigin origin.now }
     requires size { size ≤ MAX_SIZE }
-    ensures { IfOk result (λ note. OpensAnywhere note.items origin.now (secret_key key.now) size root.now) }
+    ensures { IfOk result (λ note. OpensAnywhere note.items origin.now (secret_key key.now) size
+        root.now) }
 {
     let checkpoint = Checkpoint {
         origin: Line::new(String::from_str(alloc, origin)?),

@@ -59,8 +59,10 @@ impl<H: TreeHash> ListSource<H> {
     ) -> Result<ListSource<H>, AllocError>
         requires origin { IsOrigin origin.now }
         requires short { AreShort (map (λ e. e.items) entries.items) }
-        ensures entries { IfOk result (λ source. source.entries ≡ map (λ e. e.items) entries.items) }
-        ensures honest { IfOk result (λ source. IsHonestAnywhere H.digest source.entries origin.now (secret_key key) source.note) }
+        ensures entries { IfOk result (λ source. source.entries
+            ≡ map (λ e. e.items) entries.items) }
+        ensures honest { IfOk result (λ source. IsHonestAnywhere H.digest source.entries origin.now
+            (secret_key key) source.note) }
         ensures unasked { IfOk result (λ source. source.asked ≡ []) }
     {
         let lent = lent_entries(alloc, &entries)?;
@@ -87,7 +89,8 @@ impl<H: TreeHash> ListSource<H> {
     /// source.file_at(Path::Checkpoint)  // Some of the note
     /// ```
     pub fn file_at(&self, path: Path) -> Option<&[u8]>
-        ensures { IsListAnswer H.digest self.now.entries self.now.note path (option_map (λ b. b.now) result) }
+        ensures { IsListAnswer H.digest self.now.entries self.now.note path
+            (option_map (λ b. b.now) result) }
     {
         match path {
             Path::Checkpoint => Some(self.note.as_slice()),
@@ -102,7 +105,8 @@ impl<H: TreeHash> ListSource<H> {
 
     /// A copy of these bytes.
     fn copy_at(&self, path: Path) -> Result<Option<Vec<u8>>, AllocError>
-        ensures { IfOk result (λ bytes. IsListAnswer H.digest self.now.entries self.now.note path (option_map (λ v. v.items) bytes)) }
+        ensures { IfOk result (λ bytes. IsListAnswer H.digest self.now.entries self.now.note path
+            (option_map (λ v. v.items) bytes)) }
     {
         match self.file_at(path) {
             Some(bytes) => Ok(Some(Vec::from_slice(self.alloc, bytes)?)),

@@ -56,7 +56,8 @@ pub trait Source {
     ///
     /// `Failed` where the source failed, which is counted, and `OutOfMemory` where memory was refused.
     fn get(&mut self, path: &Path) -> Result<Option<Vec<u8>>, SourceFault>
-        ensures answer { IfOk result (λ bytes. may_answer self.old path.now (option_map (λ v. v.items) bytes)) }
+        ensures answer { IfOk result
+            (λ bytes. may_answer self.old path.now (option_map (λ v. v.items) bytes)) }
         ensures later { StaysWithin (may_answer self.old) (may_answer self.new) }
         ensures told { TellsGet (asked self.old) (asked self.new) path.now result }
         ensures counted { CountsGet (failed self.old) (failed self.new) result };

@@ -18,8 +18,10 @@ pub enum Form {
 
 // The item at the start, and the bytes behind it.
 pub(crate) fn item_at(form: Form, bytes: &[u8]) -> Option<(&[u8], &[u8])>
-    ensures found { IfSome result (λ x. IsItem form x.0.now × (bytes.now ≡ item_text form x.0.now ++ x.1.now)) }
-    ensures none { IfNone result ((item rest : List ℕ) → IsItem form item → ¬ (bytes.now ≡ item_text form item ++ rest)) }
+    ensures found { IfSome result (λ x. IsItem form x.0.now
+        × (bytes.now ≡ item_text form x.0.now ++ x.1.now)) }
+    ensures none { IfNone result ((item rest : List ℕ) → IsItem form item
+        → ¬ (bytes.now ≡ item_text form item ++ rest)) }
 {
     match form {
         Form::Short => short_at(bytes),
@@ -29,8 +31,10 @@ pub(crate) fn item_at(form: Form, bytes: &[u8]) -> Option<(&[u8], &[u8])>
 }
 
 fn short_at(bytes: &[u8]) -> Option<(&[u8], &[u8])>
-    ensures found { IfSome result (λ x. IsItem Form.Short x.0.now × (bytes.now ≡ item_text Form.Short x.0.now ++ x.1.now)) }
-    ensures none { IfNone result ((item rest : List ℕ) → IsItem Form.Short item → ¬ (bytes.now ≡ item_text Form.Short item ++ rest)) }
+    ensures found { IfSome result (λ x. IsItem Form.Short x.0.now
+        × (bytes.now ≡ item_text Form.Short x.0.now ++ x.1.now)) }
+    ensures none { IfNone result ((item rest : List ℕ) → IsItem Form.Short item
+        → ¬ (bytes.now ≡ item_text Form.Short item ++ rest)) }
 {
     if bytes.len() < 2 {
         return None;
@@ -44,8 +48,10 @@ fn short_at(bytes: &[u8]) -> Option<(&[u8], &[u8])>
 }
 
 fn long_at(bytes: &[u8]) -> Option<(&[u8], &[u8])>
-    ensures found { IfSome result (λ x. IsItem Form.Long x.0.now × (bytes.now ≡ item_text Form.Long x.0.now ++ x.1.now)) }
-    ensures none { IfNone result ((item rest : List ℕ) → IsItem Form.Long item → ¬ (bytes.now ≡ item_text Form.Long item ++ rest)) }
+    ensures found { IfSome result (λ x. IsItem Form.Long x.0.now
+        × (bytes.now ≡ item_text Form.Long x.0.now ++ x.1.now)) }
+    ensures none { IfNone result ((item rest : List ℕ) → IsItem Form.Long item
+        → ¬ (bytes.now ≡ item_text Form.Long item ++ rest)) }
 {
     if bytes.len() < 4 {
         return None;
@@ -59,8 +65,10 @@ fn long_at(bytes: &[u8]) -> Option<(&[u8], &[u8])>
 }
 
 fn hashes_at(bytes: &[u8]) -> Option<(&[u8], &[u8])>
-    ensures found { IfSome result (λ x. IsItem Form.Hashes x.0.now × (bytes.now ≡ item_text Form.Hashes x.0.now ++ x.1.now)) }
-    ensures none { IfNone result ((item rest : List ℕ) → IsItem Form.Hashes item → ¬ (bytes.now ≡ item_text Form.Hashes item ++ rest)) }
+    ensures found { IfSome result (λ x. IsItem Form.Hashes x.0.now
+        × (bytes.now ≡ item_text Form.Hashes x.0.now ++ x.1.now)) }
+    ensures none { IfNone result ((item rest : List ℕ) → IsItem Form.Hashes item
+        → ¬ (bytes.now ≡ item_text Form.Hashes item ++ rest)) }
 {
     if bytes.len() < 64 {
         return None;
@@ -75,8 +83,10 @@ fn items_at(
     count: u64,
     bytes: &[u8],
 ) -> Result<Option<(Vec<&[u8]>, &[u8])>, AllocError>
-    ensures found { IfOk result (λ o. IfSome o (λ x. HasItems form count bytes.now (map (λ i. i.now) x.0.items) x.1.now)) }
-    ensures none { IfOk result (λ o. IfNone o ((items : List (List ℕ)) (rest : List ℕ) → ¬ HasItems form count bytes.now items rest)) }
+    ensures found { IfOk result (λ o. IfSome o
+        (λ x. HasItems form count bytes.now (map (λ i. i.now) x.0.items) x.1.now)) }
+    ensures none { IfOk result (λ o. IfNone o ((items : List (List ℕ)) (rest : List ℕ)
+        → ¬ HasItems form count bytes.now items rest)) }
 {
     let mut items = Vec::new(alloc);
     let mut rest = bytes;
@@ -96,8 +106,10 @@ pub(crate) fn list_at(
     form: Form,
     bytes: &[u8],
 ) -> Result<Option<(Vec<&[u8]>, &[u8])>, AllocError>
-    ensures found { IfOk result (λ o. IfSome o (λ x. HasList form bytes.now (map (λ i. i.now) x.0.items) x.1.now)) }
-    ensures none { IfOk result (λ o. IfNone o ((items : List (List ℕ)) (rest : List ℕ) → ¬ HasList form bytes.now items rest)) }
+    ensures found { IfOk result (λ o. IfSome o
+        (λ x. HasList form bytes.now (map (λ i. i.now) x.0.items) x.1.now)) }
+    ensures none { IfOk result (λ o. IfNone o ((items : List (List ℕ)) (rest : List ℕ)
+        → ¬ HasList form bytes.now items rest)) }
 {
     if bytes.len() < 8 {
         return Ok(None);

@@ -77,7 +77,8 @@ fn all_entries<H: TreeHash>(alloc: Global, store: &Store<H>) -> Result<Vec<&[u8]
 // Puts entries in order, each once.
 fn sort_entries(entries: &mut Vec<&[u8]>)
     ensures rises { Rises (map (λ e. e.now) entries.new.items) }
-    ensures same { (e : List ℕ) → Contains (map (λ e. e.now) entries.new.items) e ↔ Contains (map (λ e. e.now) entries.old.items) e }
+    ensures same { (e : List ℕ) → Contains (map (λ e. e.now) entries.new.items) e
+        ↔ Contains (map (λ e. e.now) entries.old.items) e }
 {
     entries.sort_unstable();
     entries.dedup();
@@ -122,7 +123,8 @@ fn pair_of<'a>(left: &'a Hash, right: &'a Hash) -> (&'a Hash, &'a Hash)
 fn sort_pairs(pairs: &mut Vec<(&Hash, &Hash)>)
     requires { All IsSizedPair pairs.old.items }
     ensures rises { Rises (map pair_bytes pairs.new.items) }
-    ensures same { (p : List ℕ) → Contains (map pair_bytes pairs.new.items) p ↔ Contains (map pair_bytes pairs.old.items) p }
+    ensures same { (p : List ℕ) → Contains (map pair_bytes pairs.new.items) p
+        ↔ Contains (map pair_bytes pairs.old.items) p }
 {
     pairs.sort_unstable();
     pairs.dedup();

@@ -67,8 +67,11 @@ pub(crate) fn parted_at(
     bytes: &[u8],
 ) -> Result<Option<(Lists<'_>, &[u8])>, AllocError>
     ensures found { IfOk result (λ o. IfSome o (λ x. HasLists bytes.now (parts_of x.0) x.1.now)) }
-    ensures version { IfOk result (λ o. IfSome o (λ x. magic_of (parts_of x.0) ≡ codes "TLMIRR02")) }
-    ensures none { IfOk result (λ o. IfNone o ((origin : List ℕ) (notes pairs entries : List (List ℕ)) (rest : List ℕ) → ¬ HasLists bytes.now (Parted origin notes pairs entries) rest)) }
+    ensures version { IfOk result (λ o. IfSome o (λ x. magic_of (parts_of x.0)
+        ≡ codes "TLMIRR02")) }
+    ensures none { IfOk result (λ o. IfNone o
+        ((origin : List ℕ) (notes pairs entries : List (List ℕ)) (rest : List ℕ)
+        → ¬ HasLists bytes.now (Parted origin notes pairs entries) rest)) }
 {
     let Some((origin, after)) = item_at(Form::Short, bytes) else {
         return Ok(None);
@@ -91,8 +94,10 @@ pub(crate) fn tagged_at(
     bytes: &[u8],
 ) -> Result<Option<(Lists<'_>, &[u8])>, AllocError>
     ensures found { IfOk result (λ o. IfSome o (λ x. HasLists bytes.now (parts_of x.0) x.1.now)) }
-    ensures version { IfOk result (λ o. IfSome o (λ x. magic_of (parts_of x.0) ≡ codes "TLMIRR01")) }
-    ensures none { IfOk result (λ o. IfNone o ((origin : List ℕ) (notes strings : List (List ℕ)) (rest : List ℕ) → ¬ HasLists bytes.now (Tagged origin notes strings) rest)) }
+    ensures version { IfOk result (λ o. IfSome o (λ x. magic_of (parts_of x.0)
+        ≡ codes "TLMIRR01")) }
+    ensures none { IfOk result (λ o. IfNone o ((origin : List ℕ) (notes strings : List (List ℕ))
+        (rest : List ℕ) → ¬ HasLists bytes.now (Tagged origin notes strings) rest)) }
 {
     let Some((origin, after)) = item_at(Form::Short, bytes) else {
         return Ok(None);

@@ -42,7 +42,9 @@ pub fn load<H: TreeHash, R: Read>(
     reader: &mut R,
 ) -> Result<Mirror<H>, LoadFault>
     requires { IsOrigin origin.now }
-    ensures loads { IfSome (R.remaining reader.old) (λ bytes. Loads H.digest origin.now (map (λ k. key k) keys.now) bytes (seen (λ mirror. mirror.view) result)) }
+    ensures loads { IfSome (R.remaining reader.old)
+        (λ bytes. Loads H.digest origin.now (map (λ k. key k) keys.now) bytes
+        (seen (λ mirror. mirror.view) result)) }
     ensures remembered { IfOk result (λ mirror. mirror.remembered ≡ set.empty) }
 {
     let bytes = match read_all(alloc, reader, usize::MAX, READS) {
@@ -91,7 +93,8 @@ pub fn load_bytes<H: TreeHash>(
     bytes: &[u8],
 ) -> Result<Mirror<H>, LoadFault>
     requires { IsOrigin origin.now }
-    ensures loads { Loads H.digest origin.now (map (λ k. key k) keys.now) bytes.now (seen (λ mirror. mirror.view) result) }
+    ensures loads { Loads H.digest origin.now (map (λ k. key k) keys.now) bytes.now
+        (seen (λ mirror. mirror.view) result) }
     ensures remembered { IfOk result (λ mirror. mirror.remembered ≡ set.empty) }
 {
     let lists = match checked_lists(alloc, origin.as_bytes(), bytes) {
@@ -179,8 +182,10 @@ fn hash_of(bytes: &[u8]) -> Hash
 // Adds the string that is listed so.
 fn add_item<H: TreeHash>(store: &mut Store<H>, kind: Kind, item: &[u8]) -> Result<(), AddFault>
     requires { IsListable kind item.now }
-    ensures ok { OnOk result ((store.new ≡ set.insert store.old (tagged_as kind item.now)) × NoClash H.digest store.new) }
-    ensures collision { result ≡ Err AddFault.Collision → Clashes H.digest store.old (tagged_as kind item.now) }
+    ensures ok { OnOk result ((store.new ≡ set.insert store.old (tagged_as kind item.now))
+        × NoClash H.digest store.new) }
+    ensures collision { result ≡ Err AddFault.Collision
+        → Clashes H.digest store.old (tagged_as kind item.now) }
 {
     match kind {
         Kind::Entries => store.add(Tagged::Leaf(item)),
@@ -192,8 +197,10 @@ fn add_item<H: TreeHash>(store: &mut Store<H>, kind: Kind, item: &[u8]) -> Resul
 // Adds the string of a pair, two hashes.
 fn add_pair<H: TreeHash>(store: &mut Store<H>, pair: &[u8]) -> Result<(), AddFault>
     requires { length pair.now ≡ 64 }
-    ensures ok { OnOk result ((store.new ≡ set.insert store.old (1 ∷ pair.now)) × NoClash H.digest store.new) }
-    ensures collision { result ≡ Err AddFault.Collision → Clashes H.digest store.old (1 ∷ pair.now) }
+    ensures ok { OnOk result ((store.new ≡ set.insert store.old (1 ∷ pair.now))
+        × NoClash H.digest store.new) }
+    ensures collision { result ≡ Err AddFault.Collision
+        → Clashes H.digest store.old (1 ∷ pair.now) }
 {
     let (left, right) = pair.split_at(32);
     let left = hash_of(left);
@@ -204,7 +211,8 @@ fn add_pair<H: TreeHash>(store: &mut Store<H>, pair: &[u8]) -> Result<(), AddFau
 // Adds a string that stands with its tag.
 fn add_tagged<H: TreeHash>(store: &mut Store<H>, string: &[u8]) -> Result<(), AddFault>
     requires { IsStateString string.now }
-    ensures ok { OnOk result ((store.new ≡ set.insert store.old string.now) × NoClash H.digest store.new) }
+    ensures ok { OnOk result ((store.new ≡ set.insert store.old string.now)
+        × NoClash H.digest store.new) }
     ensures collision { result ≡ Err AddFault.Collision → Clashes H.digest store.old string.now }
 {
     let (tag, rest) = string.split_at(1);
@@ -223,7 +231,8 @@ fn add_listed<H: TreeHash>(
 ) -> Result<(), AddFault>
     requires listable { All (IsListable kind) (map (λ x. x.now) items.now) }
     requires no_clash { NoClash H.digest store.old }
-    ensures { AddsListed H.digest store.old (map (tagged_as kind) (map (λ x. x.now) items.now)) result store.new }
+    ensures { AddsListed H.digest store.old (map (tagged_as kind) (map (λ x. x.now) items.now))
+        result store.new }
 {
     for item in items {
         match add_item(store, kind, item) {
@@ -287,7 +296,8 @@ fn add_both<H: TreeHash>(
     requires entries { All (IsListable Kind.Entries) (map (λ x. x.now) entries.now) }
     requires pairs { All (IsListable Kind.Pairs) (map (λ x. x.now) pairs.now) }
     requires no_clash { NoClash H.digest store.old }
-    ensures { AddsListed H.digest store.old (map (λ e. 0 ∷ e) (map (λ x. x.now) entries.now) ++ map (λ p. 1 ∷ p) (map (λ x. x.now) pairs.now)) result store.new }
+    ensures { AddsListed H.digest store.old (map (λ e. 0 ∷ e) (map (λ x. x.now) entries.now)
+        ++ map (λ p. 1 ∷ p) (map (λ x. x.now) pairs.now)) result store.new }
 {
     match add_listed(store, Kind::Entries, entries) {
         Ok(()) => {}
@@ -329,7 +339,8 @@ fn check_notes<H: TreeHash>(
     keys: &[Box<dyn Verifier>],
     notes: &[&[u8]],
 ) -> Result<(), LoadFault>
-    ensures { ChecksNotes mirror.now.view.origin (map (λ k. key k) keys.now) (map (λ n. n.now) notes.now) result }
+    ensures { ChecksNotes mirror.now.view.origin (map (λ k. key k) keys.now)
+        (map (λ n. n.now) notes.now) result }
 {
     for note in notes {
         match check_note(alloc, mirror, keys, note) {
@@ -347,7 +358,8 @@ fn check_all<H: TreeHash>(
     keys: &[Box<dyn Verifier>],
     notes: &[&[u8]],
 ) -> Result<(), LoadFault>
-    ensures { ChecksNotes origin.now (map (λ k. key k) keys.now) (map (λ n. n.now) notes.now) result }
+    ensures { ChecksNotes origin.now (map (λ k. key k) keys.now) (map (λ n. n.now) notes.now)
+        result }
 {
     let Ok(mirror) = Mirror::<H>::new(alloc, origin) else {
         return Err(LoadFault::OutOfMemory);
@@ -362,8 +374,10 @@ fn keep_notes<H: TreeHash>(
     keys: &[Box<dyn Verifier>],
     notes: &[&[u8]],
 ) -> Result<(), LoadFault>
-    requires { All (IsOpenNote mirror.old.view.origin (map (λ k. key k) keys.now)) (map (λ n. n.now) notes.now) }
-    ensures keeps { KeepsNotes H.digest mirror.old.view (map (λ n. n.now) notes.now) result mirror.new.view }
+    requires { All (IsOpenNote mirror.old.view.origin (map (λ k. key k) keys.now))
+        (map (λ n. n.now) notes.now) }
+    ensures keeps { KeepsNotes H.digest mirror.old.view (map (λ n. n.now) notes.now) result
+        mirror.new.view }
     ensures remembered { mirror.new.remembered ≡ mirror.old.remembered }
 {
     for note in notes {

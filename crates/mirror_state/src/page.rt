@@ -33,7 +33,8 @@ impl Page {
 
 // Writes what is held back.
 fn flush<W: Write>(writer: &mut W, held: &mut Vec<u8>) -> Result<(), StreamFault>
-    ensures writes { Writes (W.contents writer.old) (W.contents writer.new) held.old.items held.new.items [] result }
+    ensures writes { Writes (W.contents writer.old) (W.contents writer.new) held.old.items
+        held.new.items [] result }
     ensures empty { OnOk result (held.new.items ≡ []) }
 {
     match write_whole(writer, held.as_slice()) {
@@ -46,7 +47,8 @@ fn flush<W: Write>(writer: &mut W, held: &mut Vec<u8>) -> Result<(), StreamFault
 
 // Writes what is held back where it is much.
 fn make_room<W: Write>(writer: &mut W, held: &mut Vec<u8>) -> Result<(), StreamFault>
-    ensures { Writes (W.contents writer.old) (W.contents writer.new) held.old.items held.new.items [] result }
+    ensures { Writes (W.contents writer.old) (W.contents writer.new) held.old.items held.new.items
+        [] result }
 {
     if held.len() < PAGE {
         return Ok(());
@@ -60,7 +62,8 @@ fn write_through<W: Write>(
     held: &mut Vec<u8>,
     piece: &[u8],
 ) -> Result<(), StreamFault>
-    ensures writes { Writes (W.contents writer.old) (W.contents writer.new) held.old.items held.new.items piece.now result }
+    ensures writes { Writes (W.contents writer.old) (W.contents writer.new) held.old.items
+        held.new.items piece.now result }
     ensures empty { OnOk result (held.new.items ≡ []) }
 {
     match flush(writer, held) {
@@ -72,7 +75,8 @@ fn write_through<W: Write>(
 
 // Holds the piece back. Where memory for it is refused it is written at once.
 fn hold<W: Write>(writer: &mut W, held: &mut Vec<u8>, piece: &[u8]) -> Result<(), StreamFault>
-    ensures { Writes (W.contents writer.old) (W.contents writer.new) held.old.items held.new.items piece.now result }
+    ensures { Writes (W.contents writer.old) (W.contents writer.new) held.old.items held.new.items
+        piece.now result }
 {
     match held.extend_from_slice(piece) {
         Ok(()) => Ok(()),
@@ -86,7 +90,8 @@ pub(crate) fn put<W: Write>(
     page: &mut Page,
     piece: &[u8],
 ) -> Result<(), StreamFault>
-    ensures { Puts (W.contents writer.old) (W.contents writer.new) page.old page.new piece.now result }
+    ensures { Puts (W.contents writer.old) (W.contents writer.new) page.old page.new piece.now
+        result }
 {
     page.digest.update(piece);
     match make_room(writer, &mut page.held) {

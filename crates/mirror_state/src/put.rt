@@ -17,7 +17,8 @@ pub(crate) fn put_short<W: Write>(
     item: &[u8],
 ) -> Result<(), StreamFault>
     requires { IsItem Form.Short item.now }
-    ensures { Puts (W.contents writer.old) (W.contents writer.new) page.old page.new (item_text Form.Short item.now) result }
+    ensures { Puts (W.contents writer.old) (W.contents writer.new) page.old page.new
+        (item_text Form.Short item.now) result }
 {
     let len = item.len() as u16;
     match put(writer, page, len.to_be_bytes().as_slice()) {
@@ -30,7 +31,8 @@ pub(crate) fn put_short<W: Write>(
 // Puts an item behind its length in four bytes.
 fn put_long<W: Write>(writer: &mut W, page: &mut Page, item: &[u8]) -> Result<(), StreamFault>
     requires { IsItem Form.Long item.now }
-    ensures { Puts (W.contents writer.old) (W.contents writer.new) page.old page.new (item_text Form.Long item.now) result }
+    ensures { Puts (W.contents writer.old) (W.contents writer.new) page.old page.new
+        (item_text Form.Long item.now) result }
 {
     let len = item.len() as u32;
     match put(writer, page, len.to_be_bytes().as_slice()) {
@@ -48,7 +50,8 @@ fn put_item<W: Write>(
     item: &[u8],
 ) -> Result<(), StreamFault>
     requires { IsItem form item.now }
-    ensures { Puts (W.contents writer.old) (W.contents writer.new) page.old page.new (item_text form item.now) result }
+    ensures { Puts (W.contents writer.old) (W.contents writer.new) page.old page.new
+        (item_text form item.now) result }
 {
     match form {
         Form::Short => put_short(writer, page, item),
@@ -65,7 +68,8 @@ fn put_items<W: Write>(
     items: &[&[u8]],
 ) -> Result<(), StreamFault>
     requires { All (IsItem form) (map (λ i. i.now) items.now) }
-    ensures { Puts (W.contents writer.old) (W.contents writer.new) page.old page.new (items_text form (map (λ i. i.now) items.now)) result }
+    ensures { Puts (W.contents writer.old) (W.contents writer.new) page.old page.new
+        (items_text form (map (λ i. i.now) items.now)) result }
 {
     for item in items {
         match put_item(writer, page, form, item) {
@@ -78,7 +82,8 @@ fn put_items<W: Write>(
 
 // Puts a number of items in eight bytes.
 fn put_count<W: Write>(writer: &mut W, page: &mut Page, count: usize) -> Result<(), StreamFault>
-    ensures { Puts (W.contents writer.old) (W.contents writer.new) page.old page.new (to_be_bytes w64 count) result }
+    ensures { Puts (W.contents writer.old) (W.contents writer.new) page.old page.new
+        (to_be_bytes w64 count) result }
 {
     let count = count as u64;
     put(writer, page, count.to_be_bytes().as_slice())
@@ -92,7 +97,8 @@ pub(crate) fn put_list<W: Write>(
     items: &[&[u8]],
 ) -> Result<(), StreamFault>
     requires { All (IsItem form) (map (λ i. i.now) items.now) }
-    ensures { Puts (W.contents writer.old) (W.contents writer.new) page.old page.new (list_text form (map (λ i. i.now) items.now)) result }
+    ensures { Puts (W.contents writer.old) (W.contents writer.new) page.old page.new
+        (list_text form (map (λ i. i.now) items.now)) result }
 {
     match put_count(writer, page, items.len()) {
         Ok(()) => {}
@@ -108,7 +114,8 @@ fn put_pair<W: Write>(
     left: &Hash,
     right: &Hash,
 ) -> Result<(), StreamFault>
-    ensures { Puts (W.contents writer.old) (W.contents writer.new) page.old page.new (left.now ++ right.now) result }
+    ensures { Puts (W.contents writer.old) (W.contents writer.new) page.old page.new
+        (left.now ++ right.now) result }
 {
     match put(writer, page, left.as_slice()) {
         Ok(()) => {}
@@ -123,7 +130,8 @@ fn put_each_pair<W: Write>(
     page: &mut Page,
     pairs: &[(&Hash, &Hash)],
 ) -> Result<(), StreamFault>
-    ensures { Puts (W.contents writer.old) (W.contents writer.new) page.old page.new (items_text Form.Hashes (map pair_bytes pairs.now)) result }
+    ensures { Puts (W.contents writer.old) (W.contents writer.new) page.old page.new
+        (items_text Form.Hashes (map pair_bytes pairs.now)) result }
 {
     for (left, right) in pairs {
         match put_pair(writer, page, left, right) {
@@ -140,7 +148,8 @@ pub(crate) fn put_pairs<W: Write>(
     page: &mut Page,
     pairs: &[(&Hash, &Hash)],
 ) -> Result<(), StreamFault>
-    ensures { Puts (W.contents writer.old) (W.contents writer.new) page.old page.new (list_text Form.Hashes (map pair_bytes pairs.now)) result }
+    ensures { Puts (W.contents writer.old) (W.contents writer.new) page.old page.new
+        (list_text Form.Hashes (map pair_bytes pairs.now)) result }
 {
     match put_count(writer, page, pairs.len()) {
         Ok(()) => {}

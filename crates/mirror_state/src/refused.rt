@@ -58,7 +58,8 @@ fn checkpoint_text(alloc: Global, size: u64, root: &Hash) -> Result<String, Allo
 // Adds what a root begins with.
 #[tactic(auto, unfolding(tlog_text::specs::Hash::base64_of))]
 fn push_front(text: &mut String, root: &Hash) -> Result<(), AllocError>
-    ensures { OnOk result (string_bytes text.new ≡ string_bytes text.old ++ base64_of (take 3 root.now)) }
+    ensures { OnOk result (string_bytes text.new ≡ string_bytes text.old
+        ++ base64_of (take 3 root.now)) }
 {
     STANDARD.encode_string(&root[..FRONT_LEN], text)
 }
@@ -94,7 +95,8 @@ fn refused_at<'a, H: TreeHash>(
     keys: &[Box<dyn Verifier>],
     bytes: &'a [u8],
 ) -> Result<Option<(usize, &'a [u8])>, AllocError>
-    ensures { FindsAt H.digest origin.now (map (λ k. key k) keys.now) bytes.now (seen (option_map (λ x. (x.0, x.1.now))) result) }
+    ensures { FindsAt H.digest origin.now (map (λ k. key k) keys.now) bytes.now
+        (seen (option_map (λ x. (x.0, x.1.now))) result) }
 {
     let lists = match checked_lists(alloc, origin.as_bytes(), bytes) {
         Ok(lists) => lists,
@@ -134,7 +136,8 @@ fn name_of(alloc: Global, index: usize, note: &[u8]) -> Result<RefusedNote, Allo
 // The checkpoint that a note's text is.
 fn checkpoint_of(alloc: Global, note: &[u8]) -> Result<Option<Checkpoint>, AllocError>
     ensures found { IfOk result (λ o. IfSome o (λ c. IsHead note.now c.origin c.size c.root)) }
-    ensures none { IfOk result (λ o. IfNone o ((origin : List ℕ) (size : ℕ) (root : List ℕ) → ¬ IsHead note.now origin size root)) }
+    ensures none { IfOk result (λ o. IfNone o ((origin : List ℕ) (size : ℕ) (root : List ℕ)
+        → ¬ IsHead note.now origin size root)) }
 {
     let note = match Note::read(alloc, note) {
         Ok(note) => note,
@@ -155,8 +158,11 @@ fn closed_note<'n, H: TreeHash>(
     keys: &[Box<dyn Verifier>],
     notes: &[&'n [u8]],
 ) -> Result<Option<(usize, &'n [u8])>, AllocError>
-    ensures found { IfOk result (λ o. IfSome o (λ x. IsFirstNot (IsOpenNote origin.now (map (λ k. key k) keys.now)) (map (λ n. n.now) notes.now) x.0 x.1.now)) }
-    ensures none { IfOk result (λ o. IfNone o (All (IsOpenNote origin.now (map (λ k. key k) keys.now)) (map (λ n. n.now) notes.now))) }
+    ensures found { IfOk result (λ o. IfSome o
+        (λ x. IsFirstNot (IsOpenNote origin.now (map (λ k. key k) keys.now))
+        (map (λ n. n.now) notes.now) x.0 x.1.now)) }
+    ensures none { IfOk result (λ o. IfNone o
+        (All (IsOpenNote origin.now (map (λ k. key k) keys.now)) (map (λ n. n.now) notes.now))) }
 {
     let Ok(mirror) = Mirror::<H>::new(alloc, origin) else {
         return Err(AllocError);
@@ -171,8 +177,12 @@ fn first_closed<'n, H: TreeHash>(
     keys: &[Box<dyn Verifier>],
     notes: &[&'n [u8]],
 ) -> Result<Option<(usize, &'n [u8])>, AllocError>
-    ensures found { IfOk result (λ o. IfSome o (λ x. IsFirstNot (IsOpenNote mirror.now.view.origin (map (λ k. key k) keys.now)) (map (λ n. n.now) notes.now) x.0 x.1.now)) }
-    ensures none { IfOk result (λ o. IfNone o (All (IsOpenNote mirror.now.view.origin (map (λ k. key k) keys.now)) (map (λ n. n.now) notes.now))) }
+    ensures found { IfOk result (λ o. IfSome o
+        (λ x. IsFirstNot (IsOpenNote mirror.now.view.origin (map (λ k. key k) keys.now))
+        (map (λ n. n.now) notes.now) x.0 x.1.now)) }
+    ensures none { IfOk result (λ o. IfNone o
+        (All (IsOpenNote mirror.now.view.origin (map (λ k. key k) keys.now))
+        (map (λ n. n.now) notes.now))) }
 {
     for i in 0..notes.len() {
         if !is_open(alloc, mirror, keys, notes[i])? {
@@ -189,7 +199,8 @@ fn is_open<H: TreeHash>(
     keys: &[Box<dyn Verifier>],
     note: &[u8],
 ) -> Result<bool, AllocError>
-    ensures { IfOk result (λ opens. IsTrue opens ↔ IsOpenNote mirror.now.view.origin (map (λ k. key k) keys.now) note.now) }
+    ensures { IfOk result (λ opens. IsTrue opens ↔ IsOpenNote mirror.now.view.origin
+        (map (λ k. key k) keys.now) note.now) }
 {
     match mirror.check_head(alloc, keys, note) {
         Ok(_) => {}
@@ -206,9 +217,12 @@ fn first_unheld<'n, H: TreeHash>(
     keys: &[Box<dyn Verifier>],
     notes: &[&'n [u8]],
 ) -> Result<Option<(usize, &'n [u8])>, AllocError>
-    requires { All (IsOpenNote mirror.old.view.origin (map (λ k. key k) keys.now)) (map (λ n. n.now) notes.now) }
-    ensures found { IfOk result (λ o. IfSome o (λ x. IsFirstNot (HasEdge H.digest mirror.old.view) (map (λ n. n.now) notes.now) x.0 x.1.now)) }
-    ensures none { IfOk result (λ o. IfNone o (All (HasEdge H.digest mirror.old.view) (map (λ n. n.now) notes.now))) }
+    requires { All (IsOpenNote mirror.old.view.origin (map (λ k. key k) keys.now))
+        (map (λ n. n.now) notes.now) }
+    ensures found { IfOk result (λ o. IfSome o (λ x. IsFirstNot (HasEdge H.digest mirror.old.view)
+        (map (λ n. n.now) notes.now) x.0 x.1.now)) }
+    ensures none { IfOk result (λ o. IfNone o
+        (All (HasEdge H.digest mirror.old.view) (map (λ n. n.now) notes.now))) }
 {
     for i in 0..notes.len() {
         match mirror.keep_held_head(alloc, keys, notes[i]) {

@@ -71,8 +71,11 @@ fn write_text<W: Write>(
     pairs: &[(&Hash, &Hash)],
     entries: &[&[u8]],
 ) -> Result<(), StreamFault>
-    requires { AreParted origin.now (map (λ n. n.now) notes.now) (map pair_bytes pairs.now) (map (λ e. e.now) entries.now) }
-    ensures { WritesText (W.contents writer.old) (W.contents writer.new) (state_text (Parted origin.now (map (λ n. n.now) notes.now) (map pair_bytes pairs.now) (map (λ e. e.now) entries.now))) result }
+    requires { AreParted origin.now (map (λ n. n.now) notes.now) (map pair_bytes pairs.now)
+        (map (λ e. e.now) entries.now) }
+    ensures { WritesText (W.contents writer.old) (W.contents writer.new)
+        (state_text (Parted origin.now (map (λ n. n.now) notes.now) (map pair_bytes pairs.now)
+        (map (λ e. e.now) entries.now))) result }
 {
     let mut page = Page::new(alloc);
     match put_body(writer, &mut page, origin, notes, pairs, entries) {
@@ -91,8 +94,11 @@ fn put_body<W: Write>(
     pairs: &[(&Hash, &Hash)],
     entries: &[&[u8]],
 ) -> Result<(), StreamFault>
-    requires { AreParted origin.now (map (λ n. n.now) notes.now) (map pair_bytes pairs.now) (map (λ e. e.now) entries.now) }
-    ensures { Puts (W.contents writer.old) (W.contents writer.new) page.old page.new (body_text (Parted origin.now (map (λ n. n.now) notes.now) (map pair_bytes pairs.now) (map (λ e. e.now) entries.now))) result }
+    requires { AreParted origin.now (map (λ n. n.now) notes.now) (map pair_bytes pairs.now)
+        (map (λ e. e.now) entries.now) }
+    ensures { Puts (W.contents writer.old) (W.contents writer.new) page.old page.new
+        (body_text (Parted origin.now (map (λ n. n.now) notes.now) (map pair_bytes pairs.now)
+        (map (λ e. e.now) entries.now))) result }
 {
     match put(writer, page, b"TLMIRR02".as_slice()) {
         Ok(()) => {}

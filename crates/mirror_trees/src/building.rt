@@ -26,8 +26,10 @@ pub fn add_row<H: TreeHash>(store: &mut Store<H>, row: &[Hash]) -> Result<Hash, 
     requires some { 0 < length row.now }
     requires no_clash { NoClash H.digest store.old }
     ensures hash { IfOk result (λ hash. hash ≡ fold_of H.digest row.now) }
-    ensures ok { OnOk result (store.new ≡ set.union store.old (set.from_list (joins H.digest row.now))) }
-    ensures collision { result ≡ Err AddFault.Collision → HasClash H.digest (set.union store.old (set.from_list (joins H.digest row.now))) }
+    ensures ok { OnOk result (store.new
+        ≡ set.union store.old (set.from_list (joins H.digest row.now))) }
+    ensures collision { result ≡ Err AddFault.Collision
+        → HasClash H.digest (set.union store.old (set.from_list (joins H.digest row.now))) }
     ensures gained { HasGained store.old (joins H.digest row.now) store.new }
     ensures no_clash { NoClash H.digest store.new }
 {
@@ -53,9 +55,13 @@ pub fn add_row<H: TreeHash>(store: &mut Store<H>, row: &[Hash]) -> Result<Hash, 
 pub fn add_entries<H: TreeHash>(store: &mut Store<H>, entries: &[&[u8]]) -> Result<Hash, AddFault>
     requires { NoClash H.digest store.old }
     ensures hash { IfOk result (λ hash. hash ≡ mth H.digest (map (λ e. e.now) entries.now)) }
-    ensures ok { OnOk result (store.new ≡ set.union store.old (set.from_list (strings H.digest (map (λ e. e.now) entries.now)))) }
-    ensures collision { result ≡ Err AddFault.Collision → HasClash H.digest (set.union store.old (set.from_list (strings H.digest (map (λ e. e.now) entries.now)))) }
-    ensures gained { HasGained store.old (strings H.digest (map (λ e. e.now) entries.now)) store.new }
+    ensures ok { OnOk result (store.new
+        ≡ set.union store.old (set.from_list (strings H.digest (map (λ e. e.now) entries.now)))) }
+    ensures collision { result ≡ Err AddFault.Collision
+        → HasClash H.digest (set.union store.old
+        (set.from_list (strings H.digest (map (λ e. e.now) entries.now)))) }
+    ensures gained { HasGained store.old (strings H.digest (map (λ e. e.now) entries.now))
+        store.new }
     ensures no_clash { NoClash H.digest store.new }
 {
     match entries {
@@ -87,10 +93,16 @@ pub fn add_above<H: TreeHash>(
     rows: Vec<Vec<Hash>>,
 ) -> Result<Hash, AddFault>
     requires { NoClash H.digest store.old }
-    ensures hash { IfOk result (λ hash. hash ≡ root_from H.digest start (map (λ row. row.items) rows.items)) }
-    ensures ok { OnOk result (store.new ≡ set.union store.old (set.from_list (strings_from H.digest start (map (λ row. row.items) rows.items)))) }
-    ensures collision { result ≡ Err AddFault.Collision → HasClash H.digest (set.union store.old (set.from_list (strings_from H.digest start (map (λ row. row.items) rows.items)))) }
-    ensures gained { HasGained store.old (strings_from H.digest start (map (λ row. row.items) rows.items)) store.new }
+    ensures hash { IfOk result (λ hash. hash
+        ≡ root_from H.digest start (map (λ row. row.items) rows.items)) }
+    ensures ok { OnOk result (store.new
+        ≡ set.union store.old (set.from_list
+        (strings_from H.digest start (map (λ row. row.items) rows.items)))) }
+    ensures collision { result ≡ Err AddFault.Collision
+        → HasClash H.digest (set.union store.old
+        (set.from_list (strings_from H.digest start (map (λ row. row.items) rows.items)))) }
+    ensures gained { HasGained store.old
+        (strings_from H.digest start (map (λ row. row.items) rows.items)) store.new }
     ensures no_clash { NoClash H.digest store.new }
 {
     let mut value = start;

@@ -28,8 +28,11 @@ pub fn entries_at<'a, H: TreeHash>(
 ) -> Result<Option<Vec<&'a [u8]>>, AllocError>
     requires clean { NoClash H.digest store.now }
     ensures within { IfOk result (λ o. IfSome o (λ lent. IsTileWithin size 0 index width)) }
-    ensures some { IfOk result (λ o. IfSome o (λ lent. (entries : List (List ℕ)) → IsTreeOf H.digest store.now size root.now entries → map (λ e. e.now) lent.items ≡ part (256 * index) width entries)) }
-    ensures none { IfOk result (λ o. IfNone o ((entries : List (List ℕ)) → IsTreeOf H.digest store.now size root.now entries → ¬ IsTileWithin size 0 index width)) }
+    ensures some { IfOk result (λ o. IfSome o (λ lent. (entries : List (List ℕ))
+        → IsTreeOf H.digest store.now size root.now entries → map (λ e. e.now) lent.items
+        ≡ part (256 * index) width entries)) }
+    ensures none { IfOk result (λ o. IfNone o ((entries : List (List ℕ))
+        → IsTreeOf H.digest store.now size root.now entries → ¬ IsTileWithin size 0 index width)) }
 {
     let Some(row) = row_at(alloc, store, size, root, 0, index, width)? else {
         return Ok(None);
@@ -43,8 +46,10 @@ pub(crate) fn entries_of<'a, H: TreeHash>(
     store: &'a Store<H>,
     row: &[Hash],
 ) -> Result<Option<Vec<&'a [u8]>>, AllocError>
-    ensures some { IfOk result (λ o. IfSome o (λ lent. AreLeaves H.digest store.now row.now (map (λ e. e.now) lent.items))) }
-    ensures none { IfOk result (λ o. IfNone o ((entries : List (List ℕ)) → ¬ AreLeaves H.digest store.now row.now entries)) }
+    ensures some { IfOk result (λ o. IfSome o (λ lent. AreLeaves H.digest store.now row.now
+        (map (λ e. e.now) lent.items))) }
+    ensures none { IfOk result (λ o. IfNone o ((entries : List (List ℕ))
+        → ¬ AreLeaves H.digest store.now row.now entries)) }
 {
     let mut lent = Vec::with_capacity(alloc, row.len())?;
     for hash in row {

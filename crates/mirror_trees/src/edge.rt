@@ -13,8 +13,10 @@ fn last_of_row<H: TreeHash>(store: &Store<H>, count: u64, hash: &Hash) -> Option
     requires some { 1 ≤ count }
     requires clean { NoClash H.digest store.now }
     ensures found { IfSome result (λ last. HasRow H.digest store.now count hash.now last) }
-    ensures only { IfSome result (λ last. (other : List ℕ) → HasRow H.digest store.now count hash.now other → other ≡ last) }
-    ensures none { IfNone result ((last : List ℕ) → ¬ HasRow H.digest store.now count hash.now last) }
+    ensures only { IfSome result (λ last. (other : List ℕ) → HasRow H.digest store.now count
+        hash.now other → other ≡ last) }
+    ensures none { IfNone result ((last : List ℕ) → ¬ HasRow H.digest store.now count hash.now
+        last) }
 {
     if count == 1 {
         return Some(*hash);
@@ -36,8 +38,10 @@ fn value_below<H: TreeHash>(store: &Store<H>, size: u64, root: &Hash, level: u32
     requires within { level ≤ 8 }
     requires clean { NoClash H.digest store.now }
     ensures found { IfSome result (λ value. LeadsUp H.digest store.now size level root.now value) }
-    ensures only { IfSome result (λ value. (other : List ℕ) → LeadsUp H.digest store.now size level root.now other → other ≡ value) }
-    ensures none { IfNone result ((value : List ℕ) → ¬ LeadsUp H.digest store.now size level root.now value) }
+    ensures only { IfSome result (λ value. (other : List ℕ) → LeadsUp H.digest store.now size level
+        root.now other → other ≡ value) }
+    ensures none { IfNone result ((value : List ℕ) → ¬ LeadsUp H.digest store.now size level
+        root.now value) }
 {
     if level == 8 {
         return Some(*root);

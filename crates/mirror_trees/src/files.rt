@@ -32,7 +32,8 @@ pub fn files_of<H: TreeHash>(
     requires clean { NoClash H.digest store.now }
     requires short { (entry : List ℕ) → Has store.now (0 ∷ entry) → length entry ≤ 65535 }
     requires held { IsBuilt H.digest store.now size root.now }
-    ensures { IfOk result (λ o. IsSomeAnd o (λ files. IsTreeOf H.digest store.now size root.now files)) }
+    ensures { IfOk result (λ o. IsSomeAnd o (λ files. IsTreeOf H.digest store.now size root.now
+        files)) }
 {
     let Some(leaves) = level_hashes(alloc, store, size, root, 0)? else {
         return Ok(None);
@@ -55,7 +56,8 @@ fn level_hashes<H: TreeHash>(
     level: u32,
 ) -> Result<Option<Vec<Hash>>, AllocError>
     requires { level ≤ 7 }
-    ensures { IfOk result (λ o. (entries : List (List ℕ)) → IsTreeOf H.digest store.now size root.now entries → IsSomeAnd o (λ row. row.items ≡ full_row H.digest entries level)) }
+    ensures { IfOk result (λ o. (entries : List (List ℕ)) → IsTreeOf H.digest store.now size
+        root.now entries → IsSomeAnd o (λ row. row.items ≡ full_row H.digest entries level)) }
 {
     let unit = unit_of(level);
     let count = size / unit;
@@ -78,7 +80,10 @@ fn rows_above<H: TreeHash>(
     root: &Hash,
     leaves: &[Hash],
 ) -> Result<Option<Vec<Vec<u8>>>, AllocError>
-    ensures { IfOk result (λ o. (entries : List (List ℕ)) → IsTreeOf H.digest store.now size root.now entries → leaves.now ≡ full_row H.digest entries 0 → IsSomeAnd o (λ rows. AreFullRows H.digest entries 8 (map (λ row. row.items) rows.items))) }
+    ensures { IfOk result (λ o. (entries : List (List ℕ)) → IsTreeOf H.digest store.now size
+        root.now entries → leaves.now ≡ full_row H.digest entries 0
+        → IsSomeAnd o (λ rows. AreFullRows H.digest entries 8
+        (map (λ row. row.items) rows.items))) }
 {
     let mut rows = Vec::new(alloc);
     rows.push(write_row(alloc, leaves)?)?;

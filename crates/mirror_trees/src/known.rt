@@ -40,7 +40,9 @@ impl Known {
 
     // Whether the tree of that size and hash is known to be held.
     pub(crate) fn contains(&self, size: u64, root: &Hash) -> bool
-        ensures { IsTrue result → HasMark self.now.remembered (record { size = size; root = root.now }) ⊎ HasMark self.now.built (record { size = size; root = root.now }) }
+        ensures { IsTrue result → HasMark self.now.remembered
+            (record { size = size; root = root.now })
+            ⊎ HasMark self.now.built (record { size = size; root = root.now }) }
     {
         self.remembered.contains(size, root) || is_noted(&self.built, size, root)
     }
@@ -55,7 +57,8 @@ pub(crate) fn is_noted(built: &Marks, size: u64, root: &Hash) -> bool
 
 // Notes a tree that is held, if it has many entries.
 pub(crate) fn note_built(built: &mut Marks, size: u64, root: &Hash) -> Result<(), AllocError>
-    ensures { (point : Point) → HasMark built.new point → (point ≡ record { size = size; root = root.now }) ⊎ HasMark built.old point }
+    ensures { (point : Point) → HasMark built.new point
+        → (point ≡ record { size = size; root = root.now }) ⊎ HasMark built.old point }
 {
     if size < MANY {
         return Ok(());

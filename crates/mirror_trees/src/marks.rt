@@ -49,7 +49,8 @@ impl Marks {
     ///
     /// `AllocError` comes only where a growth was refused. The set is as it was.
     pub fn add(&mut self, size: u64, root: &Hash) -> Result<(), AllocError>
-        ensures ok { OnOk result (self.new ≡ set.insert self.old (record { size = size; root = root.now })) }
+        ensures ok { OnOk result (self.new
+            ≡ set.insert self.old (record { size = size; root = root.now })) }
         ensures err { OnErr result (self.new ≡ self.old) }
     {
         let Ok(_) = self.points.insert(MarkKey::new(size, root)) else {

@@ -40,7 +40,8 @@ pub fn missing_of<H: TreeHash>(
     requires known { AreKnown H.digest store.now known.now }
     requires clean { NoClash H.digest store.now }
     ensures sorted { IfOk result (λ paths. IsStrictlySortedBy path_cmp paths.items) }
-    ensures exact { IfOk result (λ paths. (path : AnyPath) → Contains paths.items path ↔ IsMissing H.digest store.now size root.now path) }
+    ensures exact { IfOk result (λ paths. (path : AnyPath) → Contains paths.items path
+        ↔ IsMissing H.digest store.now size root.now path) }
 {
     let mut paths = all_lost(alloc, store, known, size, root)?;
     put_in_order(&mut paths);
@@ -57,7 +58,8 @@ fn all_lost<H: TreeHash>(
 ) -> Result<Vec<Path>, AllocError>
     requires known { AreKnown H.digest store.now known.now }
     requires clean { NoClash H.digest store.now }
-    ensures { IfOk result (λ paths. (path : AnyPath) → Contains paths.items path ↔ IsMissing H.digest store.now size root.now path) }
+    ensures { IfOk result (λ paths. (path : AnyPath) → Contains paths.items path
+        ↔ IsMissing H.digest store.now size root.now path) }
 {
     let mut paths = Vec::new(alloc);
     if size == 0 {
@@ -71,7 +73,8 @@ fn all_lost<H: TreeHash>(
 // Sorts paths, and leaves each once.
 fn put_in_order(paths: &mut Vec<Path>)
     ensures sorted { IsStrictlySortedBy path_cmp paths.new.items }
-    ensures same { (path : AnyPath) → Contains paths.new.items path ↔ Contains paths.old.items path }
+    ensures same { (path : AnyPath) → Contains paths.new.items path
+        ↔ Contains paths.old.items path }
 {
     paths.sort_unstable_by(|a, b| order(a, b));
     paths.dedup();
@@ -122,7 +125,9 @@ fn push_lost<H: TreeHash>(
     requires clean { NoClash H.digest store.now }
     requires some { 1 ≤ size }
     requires within { start + size ≤ total }
-    ensures adds { IfOk result (λ whole. (path : AnyPath) → Contains paths.new.items path ↔ (Contains paths.old.items path ⊎ IsLost H.digest store.now total start size root.now path)) }
+    ensures adds { IfOk result (λ whole. (path : AnyPath) → Contains paths.new.items path
+        ↔ (Contains paths.old.items path ⊎ IsLost H.digest store.now total start size root.now
+        path)) }
     ensures whole { IfOk result (λ whole. IsTrue whole → IsBuilt H.digest store.now size root.now) }
     ensures found { AreBuilt H.digest store.now found.new }
 {
@@ -169,7 +174,8 @@ fn push_lost<H: TreeHash>(
 
 // Adds a path that is not the last one.
 fn push_path(paths: &mut Vec<Path>, path: Path) -> Result<(), AllocError>
-    ensures { OnOk result ((other : AnyPath) → Contains paths.new.items other ↔ (Contains paths.old.items other ⊎ (other ≡ path))) }
+    ensures { OnOk result ((other : AnyPath) → Contains paths.new.items other
+        ↔ (Contains paths.old.items other ⊎ (other ≡ path))) }
 {
     if let Some(last) = paths.last() {
         if *last == path {

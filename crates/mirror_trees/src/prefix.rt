@@ -15,7 +15,9 @@ use tlog_shape::split;
 /// hash of another list's beginning. It takes no memory.
 pub fn is_prefix<H: TreeHash>(store: &Store<H>, small: (u64, &Hash), large: (u64, &Hash)) -> bool
     requires clean { NoClash H.digest store.now }
-    ensures { (first second : List (List ℕ)) → IsTreeOf H.digest store.now small.entry.0 small.entry.1.now first → IsTreeOf H.digest store.now large.entry.0 large.entry.1.now second → IsTrue result ↔ IsPrefix first second }
+    ensures { (first second : List (List ℕ)) → IsTreeOf H.digest store.now small.entry.0
+        small.entry.1.now first → IsTreeOf H.digest store.now large.entry.0 large.entry.1.now second
+        → IsTrue result ↔ IsPrefix first second }
 {
     let few = small.0;
     let many = large.0;

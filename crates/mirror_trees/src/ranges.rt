@@ -21,8 +21,10 @@ pub fn range_hash<H: TreeHash>(
     len: u64,
 ) -> Option<Hash>
     ensures within { IfSome result (λ h. start + len ≤ size) }
-    ensures some { IfSome result (λ h. (entries : List (List ℕ)) → IsTreeOf H.digest store.now size root.now entries → h ≡ mth H.digest (part start len entries)) }
-    ensures none { IfNone result ((entries : List (List ℕ)) → IsTreeOf H.digest store.now size root.now entries → ¬ (start + len ≤ size)) }
+    ensures some { IfSome result (λ h. (entries : List (List ℕ)) → IsTreeOf H.digest store.now size
+        root.now entries → h ≡ mth H.digest (part start len entries)) }
+    ensures none { IfNone result ((entries : List (List ℕ)) → IsTreeOf H.digest store.now size
+        root.now entries → ¬ (start + len ≤ size)) }
 {
     if start > size || len > size - start {
         return None;
@@ -39,8 +41,10 @@ fn hash_within<H: TreeHash>(
     len: u64,
 ) -> Option<Hash>
     requires { start + len ≤ size }
-    ensures some { IfSome result (λ h. (entries : List (List ℕ)) → IsTreeOf H.digest store.now size root.now entries → h ≡ mth H.digest (part start len entries)) }
-    ensures none { IfNone result ((entries : List (List ℕ)) → ¬ IsTreeOf H.digest store.now size root.now entries) }
+    ensures some { IfSome result (λ h. (entries : List (List ℕ)) → IsTreeOf H.digest store.now size
+        root.now entries → h ≡ mth H.digest (part start len entries)) }
+    ensures none { IfNone result ((entries : List (List ℕ)) → ¬ IsTreeOf H.digest store.now size
+        root.now entries) }
 {
     if len == 0 {
         return Some(H::empty());

@@ -31,8 +31,12 @@ pub fn row_at<H: TreeHash>(
     width: u32,
 ) -> Result<Option<Vec<Hash>>, AllocError>
     ensures within { IfOk result (λ o. IfSome o (λ row. IsTileWithin size level index width)) }
-    ensures some { IfOk result (λ o. IfSome o (λ row. (entries : List (List ℕ)) → IsTreeOf H.digest store.now size root.now entries → row.items ≡ level_row H.digest entries level (256 * index) width)) }
-    ensures none { IfOk result (λ o. IfNone o ((entries : List (List ℕ)) → IsTreeOf H.digest store.now size root.now entries → ¬ IsTileWithin size level index width)) }
+    ensures some { IfOk result (λ o. IfSome o (λ row. (entries : List (List ℕ))
+        → IsTreeOf H.digest store.now size root.now entries → row.items
+        ≡ level_row H.digest entries level (256 * index) width)) }
+    ensures none { IfOk result (λ o. IfNone o ((entries : List (List ℕ))
+        → IsTreeOf H.digest store.now size root.now entries → ¬ IsTileWithin size level index
+        width)) }
 {
     let Some(first) = first_of(size, level, index, width) else {
         return Ok(None);
@@ -64,7 +68,8 @@ pub(crate) fn unit_of(level: u32) -> u64
 
 // The number of a tile's first hash in its level, where the tile is within a tree of that size.
 fn first_of(size: u64, level: u32, index: u64, width: u32) -> Option<u64>
-    ensures some { IfSome result (λ first. (first ≡ 256 * index) × IsTileWithin size level index width) }
+    ensures some { IfSome result (λ first. (first ≡ 256 * index) × IsTileWithin size level index
+        width) }
     ensures none { IfNone result (¬ IsTileWithin size level index width) }
 {
     if level > 7 || width == 0 || width > 256 {
@@ -95,7 +100,9 @@ pub(crate) fn push_row<H: TreeHash>(
     requires power { IsPowerOfTwo unit }
     requires some { 1 ≤ count }
     requires within { (first + count) * unit ≤ size }
-    ensures { IfOk result (λ held. (entries : List (List ℕ)) → IsTreeOf H.digest store.now size root.now entries → IsTrue held × (row.new.items ≡ row.old.items ++ map (mth H.digest) (ranges unit first count entries))) }
+    ensures { IfOk result (λ held. (entries : List (List ℕ)) → IsTreeOf H.digest store.now size
+        root.now entries → IsTrue held
+        × (row.new.items ≡ row.old.items ++ map (mth H.digest) (ranges unit first count entries))) }
 {
     if size == unit {
         row.push(*root)?;

@@ -34,8 +34,10 @@ pub fn settle<H: TreeHash>(
     requires known { AreKnown H.digest store.now known.old }
     requires settled { AreSettled H.digest store.now known.old.remembered }
     ensures done { OnOk result (HasSlices H.digest store.now known.new.remembered size root.now) }
-    ensures at_least { (point : Point) → HasMark known.old.remembered point → HasMark known.new.remembered point }
-    ensures at_most { (point : Point) → HasMark known.new.remembered point → HasMark known.old.remembered point ⊎ IsSliceOf H.digest store.now size root.now point }
+    ensures at_least { (point : Point) → HasMark known.old.remembered point
+        → HasMark known.new.remembered point }
+    ensures at_most { (point : Point) → HasMark known.new.remembered point
+        → HasMark known.old.remembered point ⊎ IsSliceOf H.digest store.now size root.now point }
     ensures settled { AreSettled H.digest store.now known.new.remembered }
     ensures known { AreKnown H.digest store.now known.new }
 {

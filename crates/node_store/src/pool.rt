@@ -56,7 +56,8 @@ pub(crate) fn make_room(
     ensures same_pool { pool.new.items ≡ pool.old.items }
     ensures same_held { IsReordered (pointwise nat_eq) held.old held.new }
     ensures unique { IsUnique (pointwise nat_eq) held.new }
-    ensures pool_room { OnOk result (vec_len pool.new + length (pooled_bytes string.entry) ≤ vec_capacity pool.new) }
+    ensures pool_room { OnOk result (vec_len pool.new + length (pooled_bytes string.entry)
+        ≤ vec_capacity pool.new) }
     ensures held_room { OnOk result (0 < spare held.new) }
 {
     held.reserve(1)?;

@@ -101,7 +101,8 @@ impl<H: TreeHash> Store<H> {
     pub fn add(&mut self, string: Tagged) -> Result<(), AddFault>
         ensures ok { OnOk result (self.new ≡ set.insert self.old (string_of string.entry)) }
         ensures err { OnErr result (self.new ≡ self.old) }
-        ensures collision { (result ≡ Err AddFault.Collision) ↔ Clashes H.digest self.old (string_of string.entry) }
+        ensures collision { (result ≡ Err AddFault.Collision)
+            ↔ Clashes H.digest self.old (string_of string.entry) }
         ensures held { Has self.old (string_of string.entry) → IsOk result }
         ensures no_clash { NoClash H.digest self.new }
         ensures tagged { AllTagged self.new }
@@ -119,7 +120,8 @@ impl<H: TreeHash> Store<H> {
         ensures digest { IfOk result (λ hash. hash ≡ H.digest (string_of string.entry)) }
         ensures ok { OnOk result (self.new ≡ set.insert self.old (string_of string.entry)) }
         ensures err { OnErr result (self.new ≡ self.old) }
-        ensures collision { (result ≡ Err AddFault.Collision) ↔ Clashes H.digest self.old (string_of string.entry) }
+        ensures collision { (result ≡ Err AddFault.Collision)
+            ↔ Clashes H.digest self.old (string_of string.entry) }
         ensures held { Has self.old (string_of string.entry) → IsOk result }
         ensures no_clash { NoClash H.digest self.new }
         ensures tagged { AllTagged self.new }
@@ -136,7 +138,8 @@ impl<H: TreeHash> Store<H> {
         requires { digest.now ≡ H.digest (string_of string) }
         ensures ok { OnOk result (self.new ≡ set.insert self.old (string_of string.entry)) }
         ensures err { OnErr result (self.new ≡ self.old) }
-        ensures collision { (result ≡ Err AddFault.Collision) ↔ Clashes H.digest self.old (string_of string.entry) }
+        ensures collision { (result ≡ Err AddFault.Collision)
+            ↔ Clashes H.digest self.old (string_of string.entry) }
         ensures held { Has self.old (string_of string.entry) → IsOk result }
         ensures no_clash { NoClash H.digest self.new }
         ensures tagged { AllTagged self.new }
@@ -194,7 +197,8 @@ impl<H: TreeHash> Store<H> {
     /// digest is. It takes no memory.
     pub fn pair_of(&self, hash: &Hash) -> Option<(Hash, Hash)>
         ensures some { IfSome result (λ p. IsHeldAt H.digest self.now hash.now (joined p)) }
-        ensures none { IfNone result ((l r : List ℕ) → ¬ IsHeldAt H.digest self.now hash.now (1 ∷ l ++ r)) }
+        ensures none { IfNone result ((l r : List ℕ) → ¬ IsHeldAt H.digest self.now hash.now
+            (1 ∷ l ++ r)) }
         ensures no_clash { NoClash H.digest self.now }
     {
         match self.find(hash) {
@@ -207,7 +211,8 @@ impl<H: TreeHash> Store<H> {
     /// It is borrowed from the store, without a copy, and takes no memory.
     pub fn entry_of(&self, hash: &Hash) -> Option<&[u8]>
         ensures some { IfSome result (λ e. IsHeldAt H.digest self.now hash.now (0 ∷ e.now)) }
-        ensures none { IfNone result ((e : List ℕ) → ¬ IsHeldAt H.digest self.now hash.now (0 ∷ e)) }
+        ensures none { IfNone result ((e : List ℕ) → ¬ IsHeldAt H.digest self.now hash.now
+            (0 ∷ e)) }
         ensures no_clash { NoClash H.digest self.now }
     {
         match self.find(hash) {
@@ -243,7 +248,8 @@ impl<H: TreeHash> Store<H> {
     /// refused, the set lies between what it was and the union.
     pub fn add_all(&mut self, other: &Store<H>) -> Result<(), AddFault>
         ensures ok { OnOk result (self.new ≡ set.union self.old other.now) }
-        ensures collision { (result ≡ Err AddFault.Collision) ↔ ClashesWith H.digest self.old other.now }
+        ensures collision { (result ≡ Err AddFault.Collision) ↔ ClashesWith H.digest self.old
+            other.now }
         ensures kept { result ≡ Err AddFault.Collision → self.new ≡ self.old }
         ensures at_least { (s : List ℕ) → Has self.old s → Has self.new s }
         ensures at_most { (s : List ℕ) → Has self.new s → Has (set.union self.old other.now) s }

@@ -101,7 +101,8 @@ pub fn run_check<R: Read, W: Write>(
 ) -> Result<bool, CheckFault>
     ensures answer { IfSome (R.remaining reader.old) (λ input.
         AnswersCheck sha256 input (W.contents writer.old) (W.contents writer.new) result) }
-    ensures quiet { IfErr result (λ e. e ≢ CheckFault.WriteFault → Keeps (W.contents writer.old) (W.contents writer.new)) }
+    ensures quiet { IfErr result (λ e. e ≢ CheckFault.WriteFault → Keeps (W.contents writer.old)
+        (W.contents writer.new)) }
     ensures limit { TakesAtMost MAX_READ_LEN (R.remaining reader.old) (R.remaining reader.new) }
 {
     let verdict = verdict_of(alloc, reader)?;

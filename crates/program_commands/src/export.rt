@@ -31,7 +31,8 @@ pub fn run_export<H: TreeHash, F: NamedFiles, D: ToldFolders>(
     state: &str,
     folder: &str,
 ) -> Result<(), ExportFileFault>
-    ensures answer { ExportsFile H.digest origin.now (map (λ k. key k) keys.now) (F.puts files.now) state.now (D.held folders.old folder.now) (D.puts folders.old) (D.puts folders.new) result }
+    ensures answer { ExportsFile H.digest origin.now (map (λ k. key k) keys.now) (F.puts files.now)
+        state.now (D.held folders.old folder.now) (D.puts folders.old) (D.puts folders.new) result }
     ensures blamed { CountsFileExport (D.failed folders.old) (D.failed folders.new) result }
 {
     let mirror = match open_state::<H, F>(files, alloc, origin, keys, state) {

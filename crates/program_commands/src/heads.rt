@@ -29,7 +29,8 @@ pub fn read_heads<H: TreeHash, F: NamedFiles>(
     keys: &[Box<dyn Verifier>],
     names: &[&str],
 ) -> Result<Vec<(u64, Hash)>, HeadFilesFault>
-    ensures { ReadsHeads mirror.now.view.origin (map (λ k. key k) keys.now) (F.puts files.now) (map (λ name. name.now) names.now) (seen (λ heads. heads.items) result) }
+    ensures { ReadsHeads mirror.now.view.origin (map (λ k. key k) keys.now) (F.puts files.now)
+        (map (λ name. name.now) names.now) (seen (λ heads. heads.items) result) }
 {
     let notes = match read_files(files, alloc, names) {
         Ok(notes) => notes,
@@ -48,7 +49,8 @@ fn check_notes<H: TreeHash>(
     keys: &[Box<dyn Verifier>],
     notes: &[Vec<u8>],
 ) -> Result<Vec<(u64, Hash)>, TakeFault>
-    ensures { ChecksNotes mirror.now.view.origin (map (λ k. key k) keys.now) (map (λ note. note.items) notes.now) (seen (λ heads. heads.items) result) }
+    ensures { ChecksNotes mirror.now.view.origin (map (λ k. key k) keys.now)
+        (map (λ note. note.items) notes.now) (seen (λ heads. heads.items) result) }
 {
     let mut heads = Vec::new(alloc);
     for note in notes {

@@ -33,7 +33,8 @@ pub fn run_merge<H: TreeHash, F: NamedFiles>(
     second: &str,
     out: &str,
 ) -> Result<(), MergeFilesFault>
-    ensures { LeavesMerged H.digest origin.now (map (λ k. key k) keys.now) (F.puts files.old) first.now second.now out.now (F.puts files.new) result }
+    ensures { LeavesMerged H.digest origin.now (map (λ k. key k) keys.now) (F.puts files.old)
+        first.now second.now out.now (F.puts files.new) result }
 {
     let mirror = mirror_of_both::<H, F>(files, alloc, origin, keys, first, second)?;
     match write_state(files, alloc, out, &mirror) {
@@ -51,7 +52,8 @@ fn mirror_of_both<H: TreeHash, F: NamedFiles>(
     first: &str,
     second: &str,
 ) -> Result<Mirror<H>, MergeFilesFault>
-    ensures { MakesMerged H.digest origin.now (map (λ k. key k) keys.now) (F.puts files.now) first.now second.now (seen (λ mirror. mirror.view) result) }
+    ensures { MakesMerged H.digest origin.now (map (λ k. key k) keys.now) (F.puts files.now)
+        first.now second.now (seen (λ mirror. mirror.view) result) }
 {
     let mut mirror = match open_state::<H, F>(files, alloc, origin, keys, first) {
         Ok(mirror) => mirror,
@@ -72,7 +74,10 @@ fn merge_file<H: TreeHash, F: NamedFiles>(
     keys: &[Box<dyn Verifier>],
     second: &str,
 ) -> Result<(), MergeFilesFault>
-    ensures { (first : List ℕ) → OpensFile H.digest origin.now (map (λ k. key k) keys.now) (F.puts files.now) first (Ok mirror.old.view) → MakesMerged H.digest origin.now (map (λ k. key k) keys.now) (F.puts files.now) first second.now (seen (λ _. mirror.new.view) result) }
+    ensures { (first : List ℕ) → OpensFile H.digest origin.now (map (λ k. key k) keys.now)
+        (F.puts files.now) first (Ok mirror.old.view) → MakesMerged H.digest origin.now
+        (map (λ k. key k) keys.now) (F.puts files.now) first second.now
+        (seen (λ _. mirror.new.view) result) }
 {
     let other = match open_state::<H, F>(files, alloc, origin, keys, second) {
         Ok(other) => other,

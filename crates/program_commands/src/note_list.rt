@@ -47,7 +47,8 @@ fn head_of(alloc: Global, bytes: &[u8]) -> Result<HeadNote<'_>, AllocError>
 
 // How many of these are of that size and root.
 fn count_alike(others: &[HeadNote], head: &HeadNote) -> usize
-    ensures { result ≡ count_by (λ other. is_alike (head_note other) (head_note head.now)) others.now }
+    ensures { result ≡ count_by (λ other. is_alike (head_note other) (head_note head.now))
+        others.now }
 {
     others
         .iter()
@@ -69,7 +70,8 @@ fn file_of<'a>(
     before: &[HeadNote<'a>],
     head: &HeadNote<'a>,
 ) -> Result<NoteFile<'a>, AllocError>
-    ensures { IfOk result (λ file. note_file file ≡ file_after (map head_note before.now) (head_note head.now)) }
+    ensures { IfOk result (λ file. note_file file ≡ file_after (map head_note before.now)
+        (head_note head.now)) }
 {
     let number = count_alike(before, head);
     let name = name_of(alloc, head.size, &head.root, number)?;

@@ -34,7 +34,8 @@ pub fn run_notes<H: TreeHash, F: NamedFiles>(
     state: &str,
     folder: &str,
 ) -> Result<(), NotesFault>
-    ensures { WritesNotes H.digest origin.now (map (λ k. key k) keys.now) (F.puts files.old) state.now folder.now (F.puts files.new) result }
+    ensures { WritesNotes H.digest origin.now (map (λ k. key k) keys.now) (F.puts files.old)
+        state.now folder.now (F.puts files.new) result }
 {
     match open_state::<H, F>(files, alloc, origin, keys, state) {
         Ok(mirror) => write_notes(files, alloc, &mirror, folder),
@@ -49,7 +50,9 @@ fn write_notes<H: TreeHash, F: NamedFiles>(
     mirror: &Mirror<H>,
     folder: &str,
 ) -> Result<(), NotesFault>
-    ensures { (origin : List ℕ) (keys : List Key) (state : List ℕ) → OpensFile H.digest origin keys (F.puts files.old) state (Ok mirror.now.view) → WritesNotes H.digest origin keys (F.puts files.old) state folder.now (F.puts files.new) result }
+    ensures { (origin : List ℕ) (keys : List Key) (state : List ℕ) → OpensFile H.digest origin keys
+        (F.puts files.old) state (Ok mirror.now.view) → WritesNotes H.digest origin keys
+        (F.puts files.old) state folder.now (F.puts files.new) result }
 {
     let Ok(notes) = note_files(alloc, mirror) else {
         return Err(NotesFault::OutOfMemory);
@@ -71,7 +74,8 @@ fn put_notes<F: NamedFiles>(
     folder: &str,
     notes: &[NoteFile],
 ) -> Result<(), NamedFault>
-    ensures { PutsNotes folder.now (map note_file notes.now) (F.puts files.old) (F.puts files.new) result }
+    ensures { PutsNotes folder.now (map note_file notes.now) (F.puts files.old) (F.puts files.new)
+        result }
 {
     for note in notes {
         match put_note(files, alloc, folder, note) {
@@ -89,7 +93,8 @@ fn put_note<F: NamedFiles>(
     folder: &str,
     note: &NoteFile<'_>,
 ) -> Result<(), NamedFault>
-    ensures { PutsOne (F.puts files.old) (F.puts files.new) (in_folder folder.now (note_file note.now)) result }
+    ensures { PutsOne (F.puts files.old) (F.puts files.new)
+        (in_folder folder.now (note_file note.now)) result }
 {
     let Ok(place) = place_of(alloc, folder, &note.name) else {
         return Err(NamedFault::OutOfMemory);

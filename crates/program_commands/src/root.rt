@@ -87,7 +87,8 @@ fn root_report<H: TreeHash, R: Read>(
     reader: &mut R,
 ) -> Result<String, RootFault>
     requires { width ≤ 256 }
-    ensures text { IfSome (R.remaining reader.old) (λ input. MakesRoot H.digest width input (seen string_bytes result)) }
+    ensures text { IfSome (R.remaining reader.old)
+        (λ input. MakesRoot H.digest width input (seen string_bytes result)) }
     ensures limit { TakesAtMost MAX_READ_LEN (R.remaining reader.old) (R.remaining reader.new) }
 {
     let bytes = read_all(alloc, reader, MAX_READ_LEN, u64::MAX)?;
@@ -114,7 +115,8 @@ pub fn run_root<H: TreeHash, R: Read, W: Write>(
     requires { width ≤ 256 }
     ensures answer { IfSome (R.remaining reader.old) (λ input.
         AnswersRoot H.digest width input (W.contents writer.old) (W.contents writer.new) result) }
-    ensures quiet { IfErr result (λ e. e ≢ RootFault.WriteFault → Keeps (W.contents writer.old) (W.contents writer.new)) }
+    ensures quiet { IfErr result (λ e. e ≢ RootFault.WriteFault → Keeps (W.contents writer.old)
+        (W.contents writer.new)) }
     ensures limit { TakesAtMost MAX_READ_LEN (R.remaining reader.old) (R.remaining reader.new) }
 {
     let text = root_report::<H, R>(alloc, width, reader)?;

@@ -31,7 +31,8 @@ pub fn open_state<H: TreeHash, F: NamedFiles>(
     keys: &[Box<dyn Verifier>],
     name: &str,
 ) -> Result<Mirror<H>, StateFault>
-    ensures { OpensFile H.digest origin.now (map (λ k. key k) keys.now) (F.puts files.now) name.now (seen (λ mirror. mirror.view) result) }
+    ensures { OpensFile H.digest origin.now (map (λ k. key k) keys.now) (F.puts files.now) name.now
+        (seen (λ mirror. mirror.view) result) }
 {
     match check_origin(alloc, origin) {
         Ok(()) => {}
@@ -85,7 +86,8 @@ pub fn open_or_new<H: TreeHash, F: NamedFiles>(
     keys: &[Box<dyn Verifier>],
     state: Option<&str>,
 ) -> Result<Mirror<H>, StateFault>
-    ensures { BeginsWith H.digest origin.now (map (λ k. key k) keys.now) (F.puts files.now) (option_map (λ name. name.now) state.entry) (seen (λ mirror. mirror.view) result) }
+    ensures { BeginsWith H.digest origin.now (map (λ k. key k) keys.now) (F.puts files.now)
+        (option_map (λ name. name.now) state.entry) (seen (λ mirror. mirror.view) result) }
 {
     match state {
         Some(name) => open_state::<H, F>(files, alloc, origin, keys, name),

@@ -37,7 +37,8 @@ pub fn run_take<H: TreeHash, F: NamedFiles>(
     out: &str,
 ) -> Result<(), TakeFilesFault>
     requires { HasWidth item }
-    ensures { LeavesTaken H.digest origin.now (map (λ k. key k) keys.now) (F.puts files.old) (option_map (λ name. name.now) state.entry) item.entry out.now (F.puts files.new) result }
+    ensures { LeavesTaken H.digest origin.now (map (λ k. key k) keys.now) (F.puts files.old)
+        (option_map (λ name. name.now) state.entry) item.entry out.now (F.puts files.new) result }
 {
     let mirror = mirror_with_item::<H, F>(files, alloc, origin, keys, state, item)?;
     match write_state(files, alloc, out, &mirror) {
@@ -56,7 +57,9 @@ fn mirror_with_item<H: TreeHash, F: NamedFiles>(
     item: ItemFiles<'_>,
 ) -> Result<Mirror<H>, TakeFilesFault>
     requires { HasWidth item }
-    ensures { MakesTaken H.digest origin.now (map (λ k. key k) keys.now) (F.puts files.now) (option_map (λ name. name.now) state.entry) item.entry (seen (λ mirror. mirror.view) result) }
+    ensures { MakesTaken H.digest origin.now (map (λ k. key k) keys.now) (F.puts files.now)
+        (option_map (λ name. name.now) state.entry) item.entry
+        (seen (λ mirror. mirror.view) result) }
 {
     let mut mirror = match open_or_new::<H, F>(files, alloc, origin, keys, state) {
         Ok(mirror) => mirror,
@@ -77,7 +80,8 @@ fn take_item<H: TreeHash, F: NamedFiles>(
     item: ItemFiles<'_>,
 ) -> Result<(), TakeFilesFault>
     requires { HasWidth item }
-    ensures { TakesHeld H.digest (map (λ k. key k) keys.now) (F.puts files.now) mirror.old.view item.entry mirror.new.view result }
+    ensures { TakesHeld H.digest (map (λ k. key k) keys.now) (F.puts files.now) mirror.old.view
+        item.entry mirror.new.view result }
 {
     match item {
         ItemFiles::Head { note, rows } => take_head(files, alloc, mirror, keys, note, rows),
@@ -95,7 +99,8 @@ fn take_head<H: TreeHash, F: NamedFiles>(
     note: &str,
     rows: &[&str],
 ) -> Result<(), TakeFilesFault>
-    ensures { TakesHeld H.digest (map (λ k. key k) keys.now) (F.puts files.now) mirror.old.view (Head note.entry rows.entry) mirror.new.view result }
+    ensures { TakesHeld H.digest (map (λ k. key k) keys.now) (F.puts files.now) mirror.old.view
+        (Head note.entry rows.entry) mirror.new.view result }
 {
     let bytes = match files.read(note) {
         Ok(bytes) => bytes,
@@ -121,7 +126,8 @@ fn take_tile<H: TreeHash, F: NamedFiles>(
 ) -> Result<(), TakeFilesFault>
     requires least { 1 ≤ width }
     requires most { width ≤ 256 }
-    ensures { (keys : List Key) → TakesHeld H.digest keys (F.puts files.now) mirror.old.view (Tile width file.entry) mirror.new.view result }
+    ensures { (keys : List Key) → TakesHeld H.digest keys (F.puts files.now) mirror.old.view
+        (Tile width file.entry) mirror.new.view result }
 {
     let bytes = match files.read(file) {
         Ok(bytes) => bytes,
@@ -143,7 +149,8 @@ fn take_bundle<H: TreeHash, F: NamedFiles>(
 ) -> Result<(), TakeFilesFault>
     requires least { 1 ≤ width }
     requires most { width ≤ 256 }
-    ensures { (keys : List Key) → TakesHeld H.digest keys (F.puts files.now) mirror.old.view (Bundle width file.entry) mirror.new.view result }
+    ensures { (keys : List Key) → TakesHeld H.digest keys (F.puts files.now) mirror.old.view
+        (Bundle width file.entry) mirror.new.view result }
 {
     let bytes = match files.read(file) {
         Ok(bytes) => bytes,
@@ -161,7 +168,8 @@ pub(crate) fn read_files<F: NamedFiles>(
     alloc: Global,
     names: &[&str],
 ) -> Result<Vec<Vec<u8>>, NamedFault>
-    ensures { ReadsFiles (F.puts files.now) (map (λ name. name.now) names.now) (seen (λ held. map (λ bytes. bytes.items) held.items) result) }
+    ensures { ReadsFiles (F.puts files.now) (map (λ name. name.now) names.now)
+        (seen (λ held. map (λ bytes. bytes.items) held.items) result) }
 {
     let mut held = Vec::new(alloc);
     for name in names {

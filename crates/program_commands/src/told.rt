@@ -21,7 +21,8 @@ use tlog_proof::Ranges;
 /// checkpoint_size(alloc, note) // Some(3)
 /// ```
 pub fn checkpoint_size(alloc: Global, note: &[u8]) -> Option<u64>
-    ensures { IfSome result (λ size. (origin : List ℕ) × (root : List ℕ) × IsHead note.now origin size root) }
+    ensures { IfSome result (λ size. (origin : List ℕ) × (root : List ℕ)
+        × IsHead note.now origin size root) }
 {
     let Ok(note) = Note::read(alloc, note) else {
         return None;
@@ -81,9 +82,12 @@ pub(crate) fn export_told<H: TreeHash, D: ToldFolders>(
     mirror: &Mirror<H>,
     folders: &mut D,
 ) -> Result<(), ExportFault>
-    ensures puts { Exports H.digest mirror.now.view (D.puts folders.old) (D.puts folders.new) result }
-    ensures nothing { (result ≡ Err ExportFault.NothingComplete) ↔ ServesNothing H.digest mirror.now.view }
-    ensures last { CheckpointIsLast H.digest mirror.now.view (D.puts folders.old) (D.puts folders.new) }
+    ensures puts { Exports H.digest mirror.now.view (D.puts folders.old) (D.puts folders.new)
+        result }
+    ensures nothing { (result ≡ Err ExportFault.NothingComplete)
+        ↔ ServesNothing H.digest mirror.now.view }
+    ensures last { CheckpointIsLast H.digest mirror.now.view (D.puts folders.old)
+        (D.puts folders.new) }
     ensures blamed { CountsExport (D.failed folders.old) (D.failed folders.new) result }
 {
     expect_export(mirror, folders);
@@ -101,8 +105,10 @@ pub(crate) fn update_told<H: TreeHash, D: ToldFolders>(
     checkpoint: &[u8],
     folders: &mut D,
 ) -> Result<(), UpdateFault>
-    ensures puts { Updates H.digest mirror.now.view checkpoint.now (D.puts folders.old) (D.puts folders.new) result }
-    ensures nothing { (result ≡ Err UpdateFault.NothingComplete) ↔ ServesNothing H.digest mirror.now.view }
+    ensures puts { Updates H.digest mirror.now.view checkpoint.now (D.puts folders.old)
+        (D.puts folders.new) result }
+    ensures nothing { (result ≡ Err UpdateFault.NothingComplete)
+        ↔ ServesNothing H.digest mirror.now.view }
     ensures blamed { CountsUpdate (D.failed folders.old) (D.failed folders.new) result }
 {
     expect_update(alloc, mirror, checkpoint, folders);

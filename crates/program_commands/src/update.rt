@@ -37,7 +37,8 @@ fn update_folder<H: TreeHash, S: Source, D: ToldFolders>(
     source: &mut S,
     folder: &mut D,
 ) -> Result<(), UpdateFileFault>
-    ensures answer { UpdatesFolder H.digest mirror.now.view (S.may_answer source.old Checkpoint) (D.puts folder.old) (D.puts folder.new) result }
+    ensures answer { UpdatesFolder H.digest mirror.now.view (S.may_answer source.old Checkpoint)
+        (D.puts folder.old) (D.puts folder.new) result }
     ensures blamed { CountsFileUpdate (D.failed folder.old) (D.failed folder.new) result }
 {
     match source.get(&Path::Checkpoint) {
@@ -80,7 +81,9 @@ pub fn run_update<H: TreeHash, F: NamedFiles, S: Source, D: ToldFolders>(
     state: &str,
     folder: &str,
 ) -> Result<(), UpdateFileFault>
-    ensures answer { UpdatesFile H.digest origin.now (map (λ k. key k) keys.now) (F.puts files.now) state.now (S.may_answer source.old Checkpoint) (D.held folders.old folder.now) (D.puts folders.old) (D.puts folders.new) result }
+    ensures answer { UpdatesFile H.digest origin.now (map (λ k. key k) keys.now) (F.puts files.now)
+        state.now (S.may_answer source.old Checkpoint) (D.held folders.old folder.now)
+        (D.puts folders.old) (D.puts folders.new) result }
     ensures blamed { CountsFileUpdate (D.failed folders.old) (D.failed folders.new) result }
 {
     let mirror = match open_state::<H, F>(files, alloc, origin, keys, state) {

@@ -58,7 +58,8 @@ fn is_named(put: &(String, Vec<u8>), name: &str) -> bool
 
 // What was put last under the name.
 fn bytes_under<'a>(puts: &'a [(String, Vec<u8>)], name: &str) -> Option<&'a [u8]>
-    ensures { option_map (λ bytes. bytes.now) result ≡ contents_of (map (λ put. (string_bytes put.0, put.1.items)) puts.entry.now) name.now }
+    ensures { option_map (λ bytes. bytes.now) result
+        ≡ contents_of (map (λ put. (string_bytes put.0, put.1.items)) puts.entry.now) name.now }
 {
     let mut found: Option<&'a [u8]> = None;
     for put in puts {

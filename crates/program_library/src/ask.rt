@@ -28,9 +28,12 @@ pub(crate) fn run_ask<F: NamedFiles, W: Write>(
     question: &Question,
     output: &mut W,
 ) -> Result<u8, WorkFault>
-    ensures answer { AsksState sha256 (map (λ k. key k) keys.now) (F.puts files.now) args.now.state.now args.now.log.origin.now question.now (W.contents output.old) (W.contents output.new) result }
+    ensures answer { AsksState sha256 (map (λ k. key k) keys.now) (F.puts files.now)
+        args.now.state.now args.now.log.origin.now question.now (W.contents output.old)
+        (W.contents output.new) result }
     ensures status { IfOk result IsStatus }
-    ensures quiet { IfErr result (λ fault. (¬ IsWriting fault) → Keeps (W.contents output.old) (W.contents output.new)) }
+    ensures quiet { IfErr result (λ fault. (¬ IsWriting fault) → Keeps (W.contents output.old)
+        (W.contents output.new)) }
 {
     let mut mirror = match open_state::<Sha256Tree, F>(
         files,

@@ -28,7 +28,9 @@ pub(crate) fn run_build<D: ToldFolders, I: Read>(
     keys: &[Box<dyn Verifier>],
     input: &mut I,
 ) -> Result<(), WorkFault>
-    ensures { BuildsFrom sha256 build.now.log.origin.now (map (λ k. key k) keys.now) key_bytes.now (D.held folders.old build.now.folder.now) (D.puts folders.old) (D.puts folders.new) (I.remaining input.old) result }
+    ensures { BuildsFrom sha256 build.now.log.origin.now (map (λ k. key k) keys.now) key_bytes.now
+        (D.held folders.old build.now.folder.now) (D.puts folders.old) (D.puts folders.new)
+        (I.remaining input.old) result }
 {
     // The lines of keys were read before, so memory alone can be wanting.
     let Ok(lines) = read_keys(alloc, key_bytes) else {

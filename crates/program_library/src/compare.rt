@@ -30,9 +30,13 @@ pub(crate) fn run_compare<F: NamedFiles, W: Write>(
     keys: &[Box<dyn Verifier>],
     output: &mut W,
 ) -> Result<u8, WorkFault>
-    ensures answer { ComparesState sha256 (map (λ k. key k) keys.now) (F.puts files.now) compare.now.mirror.state.now compare.now.mirror.log.origin.now (map (λ name. name.now) compare.now.files.items) (W.contents output.old) (W.contents output.new) result }
+    ensures answer { ComparesState sha256 (map (λ k. key k) keys.now) (F.puts files.now)
+        compare.now.mirror.state.now compare.now.mirror.log.origin.now
+        (map (λ name. name.now) compare.now.files.items) (W.contents output.old)
+        (W.contents output.new) result }
     ensures status { IfOk result IsStatus }
-    ensures quiet { IfErr result (λ fault. (¬ IsWriting fault) → Keeps (W.contents output.old) (W.contents output.new)) }
+    ensures quiet { IfErr result (λ fault. (¬ IsWriting fault) → Keeps (W.contents output.old)
+        (W.contents output.new)) }
 {
     let args = &compare.mirror;
     let mut mirror = match open_state::<Sha256Tree, F>(
@@ -63,7 +67,8 @@ fn heads_of<H: TreeHash, F: NamedFiles>(
     keys: &[Box<dyn Verifier>],
     names: &[&str],
 ) -> Result<Option<Vec<(u64, Hash)>>, HeadFilesFault>
-    ensures { FindsHeads (map (λ k. key k) keys.now) (F.puts files.now) mirror.now.view.origin (map (λ name. name.now) names.now) (seen (option_map (λ heads. heads.items)) result) }
+    ensures { FindsHeads (map (λ k. key k) keys.now) (F.puts files.now) mirror.now.view.origin
+        (map (λ name. name.now) names.now) (seen (option_map (λ heads. heads.items)) result) }
 {
     if names.is_empty() {
         return Ok(None);

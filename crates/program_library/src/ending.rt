@@ -112,7 +112,8 @@ pub(crate) fn write_front<W: Write>(writer: &mut W, text: &[u8])
 /// Help that cannot be written is a fault: `tlogmirror: WriteFault` on the other stream, status 1.
 /// A fault that cannot be written leaves the status what it is.
 pub fn print_ending<O: Write, E: Write>(ending: &Ending, output: &mut O, errors: &mut E) -> u8
-    ensures { PrintsEnding ending.now result (O.contents output.old) (O.contents output.new) (E.contents errors.old) (E.contents errors.new) }
+    ensures { PrintsEnding ending.now result (O.contents output.old) (O.contents output.new)
+        (E.contents errors.old) (E.contents errors.new) }
 {
     let text = ending.text.as_bytes();
     match ending.stream {

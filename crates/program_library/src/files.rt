@@ -43,7 +43,8 @@ pub(crate) fn take_words<F: NamedFiles>(
     requires least { 1 ≤ take.now.width }
     requires most { take.now.width ≤ 256 }
     requires some { 1 ≤ length take.now.files.items }
-    ensures { TakesWords sha256 (map (λ k. key k) keys.now) take.now (F.puts files.old) (F.puts files.new) result }
+    ensures { TakesWords sha256 (map (λ k. key k) keys.now) take.now (F.puts files.old)
+        (F.puts files.new) result }
 {
     // The words name a file at least.
     let names = take.files.as_slice();
@@ -64,7 +65,8 @@ fn item_of<'a>(kind: Kind, width: u32, first: &'a str, rest: &'a [&'a str]) -> I
     requires least { 1 ≤ width }
     requires most { width ≤ 256 }
     ensures within { HasWidth result }
-    ensures item { AsksItem kind width (first.entry.now ∷ map (λ name. name.now) rest.entry.now) result }
+    ensures item { AsksItem kind width (first.entry.now ∷ map (λ name. name.now) rest.entry.now)
+        result }
 {
     match kind {
         Kind::Head => ItemFiles::Head {
@@ -87,7 +89,9 @@ pub(crate) fn merge_words<F: NamedFiles>(
     merge: &Merge<'_>,
     keys: &[Box<dyn Verifier>],
 ) -> Result<(), MergeFilesFault>
-    ensures { LeavesMerged sha256 merge.now.mirror.log.origin.now (map (λ k. key k) keys.now) (F.puts files.old) merge.now.first.now merge.now.second.now merge.now.mirror.out.now (F.puts files.new) result }
+    ensures { LeavesMerged sha256 merge.now.mirror.log.origin.now (map (λ k. key k) keys.now)
+        (F.puts files.old) merge.now.first.now merge.now.second.now merge.now.mirror.out.now
+        (F.puts files.new) result }
 {
     run_merge::<Sha256Tree, F>(
         files,
@@ -112,7 +116,9 @@ pub(crate) fn export_words<F: NamedFiles, D: ToldFolders>(
     export: &Export<'_>,
     keys: &[Box<dyn Verifier>],
 ) -> Result<(), ExportFileFault>
-    ensures { ExportsFile sha256 export.now.mirror.log.origin.now (map (λ k. key k) keys.now) (F.puts files.now) export.now.mirror.state.now (D.held folders.old export.now.folder.now) (D.puts folders.old) (D.puts folders.new) result }
+    ensures { ExportsFile sha256 export.now.mirror.log.origin.now (map (λ k. key k) keys.now)
+        (F.puts files.now) export.now.mirror.state.now (D.held folders.old export.now.folder.now)
+        (D.puts folders.old) (D.puts folders.new) result }
 {
     tell_puts(folders, export.progress, Task::Export);
     run_export::<Sha256Tree, F, D>(
@@ -140,7 +146,10 @@ pub(crate) fn update_words<R: Files, F: NamedFiles, D: ToldFolders>(
     keys: &[Box<dyn Verifier>],
     why: &mut Option<Why>,
 ) -> Result<(), UpdateFileFault>
-    ensures { UpdatesFile sha256 update.now.mirror.log.origin.now (map (λ k. key k) keys.now) (F.puts files.now) update.now.mirror.state.now (IsShortAnswer MAX_BUNDLE_LEN) (D.held folders.old update.now.folder.now) (D.puts folders.old) (D.puts folders.new) result }
+    ensures { UpdatesFile sha256 update.now.mirror.log.origin.now (map (λ k. key k) keys.now)
+        (F.puts files.now) update.now.mirror.state.now (IsShortAnswer MAX_BUNDLE_LEN)
+        (D.held folders.old update.now.folder.now) (D.puts folders.old) (D.puts folders.new)
+        result }
 {
     tell_puts(folders, update.progress, Task::Export);
     let mut source = DirSource::new(rt, alloc, update.folder);
@@ -172,7 +181,9 @@ pub(crate) fn notes_words<F: NamedFiles>(
     notes: &Notes<'_>,
     keys: &[Box<dyn Verifier>],
 ) -> Result<(), NotesFault>
-    ensures { WritesNotes sha256 notes.now.mirror.log.origin.now (map (λ k. key k) keys.now) (F.puts files.old) notes.now.mirror.state.now notes.now.folder.now (F.puts files.new) result }
+    ensures { WritesNotes sha256 notes.now.mirror.log.origin.now (map (λ k. key k) keys.now)
+        (F.puts files.old) notes.now.mirror.state.now notes.now.folder.now (F.puts files.new)
+        result }
 {
     run_notes::<Sha256Tree, F>(
         files,

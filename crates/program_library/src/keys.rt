@@ -17,7 +17,8 @@ pub(crate) fn key_bytes<F: NamedFiles>(
     alloc: Global,
     words: &[String],
 ) -> Result<Vec<u8>, RunFault>
-    ensures { FindsKeys (F.puts files.now) (map string_bytes words.now) (seen (λ bytes. bytes.items) result) }
+    ensures { FindsKeys (F.puts files.now) (map string_bytes words.now)
+        (seen (λ bytes. bytes.items) result) }
 {
     match program_words::key_file(alloc, words) {
         Ok(Some(name)) => match files.read(name) {

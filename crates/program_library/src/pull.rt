@@ -55,9 +55,13 @@ pub(crate) fn run_pull<
     output: &mut W,
     why: &mut Option<Why>,
 ) -> Result<u8, TellFault>
-    ensures answer { TellsPull sha256 words.now.mirror.log.origin.now (map (λ k. key k) keys.now) (option_map (λ name. name.now) words.now.state) (F.puts files.old) words.now.keep words.now.mirror.out.now (F.puts files.new) (W.contents output.old) (W.contents output.new) result }
+    ensures answer { TellsPull sha256 words.now.mirror.log.origin.now (map (λ k. key k) keys.now)
+        (option_map (λ name. name.now) words.now.state) (F.puts files.old) words.now.keep
+        words.now.mirror.out.now (F.puts files.new) (W.contents output.old) (W.contents output.new)
+        result }
     ensures status { IfOk result IsStatus }
-    ensures quiet { IfErr result (λ fault. fault ≢ TellFault.WriteFault → Keeps (W.contents output.old) (W.contents output.new)) }
+    ensures quiet { IfErr result (λ fault. fault ≢ TellFault.WriteFault
+        → Keeps (W.contents output.old) (W.contents output.new)) }
 {
     let origin = words.mirror.log.origin;
     let mut mirror = match open_or_new::<Sha256Tree, F>(files, alloc, origin, keys, words.state) {
@@ -79,9 +83,11 @@ fn tell_pulled<H: TreeHash, F: NamedFiles, W: Write>(
     pulled: &Pulled,
     output: &mut W,
 ) -> Result<u8, TellFault>
-    ensures answer { TellsPulled mirror.now.view pulled.now out.now (F.puts files.old) (F.puts files.new) (W.contents output.old) (W.contents output.new) result }
+    ensures answer { TellsPulled mirror.now.view pulled.now out.now (F.puts files.old)
+        (F.puts files.new) (W.contents output.old) (W.contents output.new) result }
     ensures status { IfOk result IsStatus }
-    ensures quiet { IfErr result (λ fault. fault ≢ TellFault.WriteFault → Keeps (W.contents output.old) (W.contents output.new)) }
+    ensures quiet { IfErr result (λ fault. fault ≢ TellFault.WriteFault
+        → Keeps (W.contents output.old) (W.contents output.new)) }
 {
     match write_state(files, alloc, out, mirror) {
         Ok(()) => {}
@@ -107,8 +113,11 @@ fn pull_kept<H: TreeHash, R: Files + Clock + Eprint + Net<Stream = TcpStream>, F
     mirror: &mut Mirror<H>,
     why: &mut Option<Why>,
 ) -> Result<Pulled, PullFault>
-    ensures pulls { PullsTo H.digest (map (λ k. key k) keys.now) mirror.old.view mirror.new.view result }
-    ensures early { IfErr result (λ fault. (written : Result (Unit {0}) NamedFault) × LeavesEarly words.now.keep words.now.mirror.out.now (F.puts files.old) (F.puts files.new) mirror.old.view mirror.new.view fault written) }
+    ensures pulls { PullsTo H.digest (map (λ k. key k) keys.now) mirror.old.view mirror.new.view
+        result }
+    ensures early { IfErr result (λ fault. (written : Result (Unit {0}) NamedFault)
+        × LeavesEarly words.now.keep words.now.mirror.out.now (F.puts files.old) (F.puts files.new)
+        mirror.old.view mirror.new.view fault written) }
     ensures lawful { IsLawful H.digest mirror.new.view }
     ensures same { OnOk result (F.puts files.new ≡ F.puts files.old) }
 {
@@ -138,7 +147,9 @@ fn keep_gained<H: TreeHash, F: NamedFiles>(
     before: &Holding,
     fault: PullFault,
 ) -> Result<(), NamedFault>
-    ensures { (start : View) → IsHolding start before.now → IsSubview start mirror.now.view → LeavesEarly words.now.keep words.now.mirror.out.now (F.puts files.old) (F.puts files.new) start mirror.now.view fault result }
+    ensures { (start : View) → IsHolding start before.now → IsSubview start mirror.now.view
+        → LeavesEarly words.now.keep words.now.mirror.out.now (F.puts files.old) (F.puts files.new)
+        start mirror.now.view fault result }
 {
     if words.keep && is_source(fault) && has_gained(mirror, before) {
         return write_state(files, alloc, words.mirror.out, mirror);
@@ -215,7 +226,8 @@ fn from_server<H: TreeHash, R: Clock + Eprint, N: Net<Stream = TcpStream> + Cloc
     port: u16,
     progress: bool,
 ) -> (Result<Pulled, PullFault>, Option<FailedGet>)
-    ensures { PullsTo H.digest (map (λ k. key k) keys.now) mirror.old.view mirror.new.view result.0 }
+    ensures { PullsTo H.digest (map (λ k. key k) keys.now) mirror.old.view mirror.new.view
+        result.0 }
 {
     let Ok(dial) = TcpDial::new(net, alloc, host, port) else {
         return (Err(PullFault::OutOfMemory), None);

@@ -40,9 +40,11 @@ pub fn run<R, I: Read, O: Write, E: Write>(
 ) -> Result<u8, RunFault>
 where
     R: Files + Clock + Eprint + Net<Stream = TcpStream, Listener = TcpListener>,
-    ensures answer { RunsKeyed sha256 None None (λ _. None) None None (map string_bytes words.now) (I.remaining input.old) (O.contents output.old) (O.contents output.new) result }
+    ensures answer { RunsKeyed sha256 None None (λ _. None) None None (map string_bytes words.now)
+        (I.remaining input.old) (O.contents output.old) (O.contents output.new) result }
     ensures status { IfOk result IsStatus }
-    ensures quiet { IfErr result (λ fault. (¬ IsWriteFault fault) → Keeps (O.contents output.old) (O.contents output.new)) }
+    ensures quiet { IfErr result (λ fault. (¬ IsWriteFault fault) → Keeps (O.contents output.old)
+        (O.contents output.new)) }
 {
     let mut files = SystemFiles::new(rt, alloc);
     let mut folders = folders_of(rt, alloc);
@@ -88,9 +90,12 @@ pub fn run_named<R, F: NamedFiles, D: ToldFolders, I: Read, O: Write, E: Write>(
 ) -> Result<u8, RunFault>
 where
     R: Files + Clock + Eprint + Net<Stream = TcpStream, Listener = TcpListener>,
-    ensures answer { RunsKeyed sha256 (F.puts files.old) (F.puts files.new) (D.held folders.old) (D.puts folders.old) (D.puts folders.new) (map string_bytes words.now) (I.remaining input.old) (O.contents output.old) (O.contents output.new) result }
+    ensures answer { RunsKeyed sha256 (F.puts files.old) (F.puts files.new) (D.held folders.old)
+        (D.puts folders.old) (D.puts folders.new) (map string_bytes words.now)
+        (I.remaining input.old) (O.contents output.old) (O.contents output.new) result }
     ensures status { IfOk result IsStatus }
-    ensures quiet { IfErr result (λ fault. (¬ IsWriteFault fault) → Keeps (O.contents output.old) (O.contents output.new)) }
+    ensures quiet { IfErr result (λ fault. (¬ IsWriteFault fault) → Keeps (O.contents output.old)
+        (O.contents output.new)) }
 {
     match key_bytes(files, alloc, words) {
         Ok(bytes) => run_keyed(
@@ -117,9 +122,12 @@ fn run_keyed<R, F: NamedFiles, D: ToldFolders, I: Read, O: Write, E: Write>(
 where
     R: Files + Clock + Eprint + Net<Stream = TcpStream, Listener = TcpListener>,
     requires { AreKeyBytes (F.puts files.old) (map string_bytes words.now) key_bytes.now }
-    ensures answer { RunsKeyed sha256 (F.puts files.old) (F.puts files.new) (D.held folders.old) (D.puts folders.old) (D.puts folders.new) (map string_bytes words.now) (I.remaining input.old) (O.contents output.old) (O.contents output.new) result }
+    ensures answer { RunsKeyed sha256 (F.puts files.old) (F.puts files.new) (D.held folders.old)
+        (D.puts folders.old) (D.puts folders.new) (map string_bytes words.now)
+        (I.remaining input.old) (O.contents output.old) (O.contents output.new) result }
     ensures status { IfOk result IsStatus }
-    ensures quiet { IfErr result (λ fault. (¬ IsWriteFault fault) → Keeps (O.contents output.old) (O.contents output.new)) }
+    ensures quiet { IfErr result (λ fault. (¬ IsWriteFault fault) → Keeps (O.contents output.old)
+        (O.contents output.new)) }
 {
     let lines = match read_keys(alloc, key_bytes) {
         Ok(lines) => lines,
@@ -179,9 +187,12 @@ pub fn run_words<R, I: Read, O: Write, E: Write>(
 ) -> Result<u8, RunFault>
 where
     R: Files + Clock + Eprint + Net<Stream = TcpStream, Listener = TcpListener>,
-    ensures answer { Runs sha256 (map (λ k. key k) keys.now) key_bytes.now None None (λ _. None) None None (map string_bytes words.now) (I.remaining input.old) (O.contents output.old) (O.contents output.new) result }
+    ensures answer { Runs sha256 (map (λ k. key k) keys.now) key_bytes.now None None (λ _. None)
+        None None (map string_bytes words.now) (I.remaining input.old) (O.contents output.old)
+        (O.contents output.new) result }
     ensures status { IfOk result IsStatus }
-    ensures quiet { IfErr result (λ fault. (¬ IsWriteFault fault) → Keeps (O.contents output.old) (O.contents output.new)) }
+    ensures quiet { IfErr result (λ fault. (¬ IsWriteFault fault) → Keeps (O.contents output.old)
+        (O.contents output.new)) }
 {
     let mut files = SystemFiles::new(rt, alloc);
     let mut folders = folders_of(rt, alloc);
@@ -223,9 +234,13 @@ pub fn run_words_over<R, F: NamedFiles, D: ToldFolders, I: Read, O: Write, E: Wr
 ) -> Result<u8, RunFault>
 where
     R: Files + Clock + Eprint + Net<Stream = TcpStream, Listener = TcpListener>,
-    ensures answer { Runs sha256 (map (λ k. key k) keys.now) key_bytes.now (F.puts files.old) (F.puts files.new) (D.held folders.old) (D.puts folders.old) (D.puts folders.new) (map string_bytes words.now) (I.remaining input.old) (O.contents output.old) (O.contents output.new) result }
+    ensures answer { Runs sha256 (map (λ k. key k) keys.now) key_bytes.now (F.puts files.old)
+        (F.puts files.new) (D.held folders.old) (D.puts folders.old) (D.puts folders.new)
+        (map string_bytes words.now) (I.remaining input.old) (O.contents output.old)
+        (O.contents output.new) result }
     ensures status { IfOk result IsStatus }
-    ensures quiet { IfErr result (λ fault. (¬ IsWriteFault fault) → Keeps (O.contents output.old) (O.contents output.new)) }
+    ensures quiet { IfErr result (λ fault. (¬ IsWriteFault fault) → Keeps (O.contents output.old)
+        (O.contents output.new)) }
 {
     match read_words(alloc, words) {
         Ok(command) => {

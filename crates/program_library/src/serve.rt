@@ -49,7 +49,9 @@ pub(crate) fn run_serve<R, F: NamedFiles, O: Write, E: Write>(
 ) -> Result<(), TellFault>
 where
     R: Clock + Net<Stream = TcpStream, Listener = TcpListener>,
-    ensures { ServesState sha256 (map (λ k. key k) keys.now) (F.puts files.now) serve.now.mirror.state.now serve.now.mirror.log.origin.now serve.now.port (O.contents output.old) (O.contents output.new) result }
+    ensures { ServesState sha256 (map (λ k. key k) keys.now) (F.puts files.now)
+        serve.now.mirror.state.now serve.now.mirror.log.origin.now serve.now.port
+        (O.contents output.old) (O.contents output.new) result }
 {
     let args = &serve.mirror;
     let mut mirror = match open_state::<Sha256Tree, F>(
@@ -179,7 +181,8 @@ fn fault_text(fault: HttpFault) -> &'static [u8]
 
 // Writes the line of the fault of a connection, as far as the stream takes it.
 fn print_fault<E: Write>(errors: &mut E, fault: HttpFault)
-    ensures { AppendsPrefix (E.contents errors.old) (E.contents errors.new) (fault_line (connection_fault fault)) }
+    ensures { AppendsPrefix (E.contents errors.old) (E.contents errors.new)
+        (fault_line (connection_fault fault)) }
 {
     write_front(errors, fault_text(fault));
 }

@@ -35,7 +35,8 @@ pub(crate) fn pull_from<H: TreeHash, S: Source + Drop, R: Clock + Eprint>(
     source: S,
     progress: bool,
 ) -> (Result<Pulled, PullFault>, S)
-    ensures { PullsTo H.digest (map (λ k. key k) keys.now) mirror.old.view mirror.new.view result.0 }
+    ensures { PullsTo H.digest (map (λ k. key k) keys.now) mirror.old.view mirror.new.view
+        result.0 }
 {
     if progress {
         pull_told(rt, alloc, mirror, keys, source)
@@ -51,7 +52,8 @@ fn pull_silent<H: TreeHash, S: Source + Drop>(
     keys: &[Box<dyn Verifier>],
     mut source: S,
 ) -> (Result<Pulled, PullFault>, S)
-    ensures { PullsTo H.digest (map (λ k. key k) keys.now) mirror.old.view mirror.new.view result.0 }
+    ensures { PullsTo H.digest (map (λ k. key k) keys.now) mirror.old.view mirror.new.view
+        result.0 }
 {
     let pulled = pull(alloc, mirror, keys, &mut source);
     (pulled, source)
@@ -77,7 +79,8 @@ fn pull_told<H: TreeHash, S: Source + Drop, R: Clock + Eprint>(
     keys: &[Box<dyn Verifier>],
     source: S,
 ) -> (Result<Pulled, PullFault>, S)
-    ensures { PullsTo H.digest (map (λ k. key k) keys.now) mirror.old.view mirror.new.view result.0 }
+    ensures { PullsTo H.digest (map (λ k. key k) keys.now) mirror.old.view mirror.new.view
+        result.0 }
 {
     let held = largest_size(alloc, mirror);
     let mut progress = Progress::new(alloc, rt, StandardError::new(rt));

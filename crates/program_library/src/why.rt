@@ -104,7 +104,8 @@ impl Why {
 /// Writes the line of what is known, where the words ask for it.
 #[tactic(auto, using(crate::proofs::Whys::nothing_told, crate::proofs::Whys::asked_told))]
 pub(crate) fn tell_why<E: Write>(alloc: Global, words: &[String], why: Option<Why>, errors: &mut E)
-    ensures { TellsWhy (map string_bytes words.now) (E.contents errors.old) (E.contents errors.new) }
+    ensures { TellsWhy (map string_bytes words.now) (E.contents errors.old)
+        (E.contents errors.new) }
 {
     if let Some(why) = why {
         if is_asked(alloc, words) {

@@ -48,11 +48,14 @@ pub(crate) fn run_command<R, F: NamedFiles, D: ToldFolders, I: Read, O: Write, E
 where
     R: Files + Clock + Eprint + Net<Stream = TcpStream, Listener = TcpListener>,
     requires { IsDoable command.now }
-    ensures answer { Executes sha256 (map (λ k. key k) keys.now) key_bytes.now (F.puts files.old) (F.puts files.new) (D.held folders.old) (D.puts folders.old) (D.puts folders.new) command.now (I.remaining input.old) (O.contents output.old) (O.contents output.new) result }
+    ensures answer { Executes sha256 (map (λ k. key k) keys.now) key_bytes.now (F.puts files.old)
+        (F.puts files.new) (D.held folders.old) (D.puts folders.old) (D.puts folders.new)
+        command.now (I.remaining input.old) (O.contents output.old) (O.contents output.new) result }
     ensures files { LeavesFiles command.now (F.puts files.old) (F.puts files.new) }
     ensures folders { LeavesFolders command.now (D.puts folders.old) (D.puts folders.new) }
     ensures status { IfOk result IsStatus }
-    ensures quiet { IfErr result (λ fault. (¬ IsWriteFault fault) → Keeps (O.contents output.old) (O.contents output.new)) }
+    ensures quiet { IfErr result (λ fault. (¬ IsWriteFault fault) → Keeps (O.contents output.old)
+        (O.contents output.new)) }
 {
     match command {
         Command::Root(root) => {

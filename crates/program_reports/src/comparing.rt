@@ -23,7 +23,8 @@ pub fn compare_report<H: TreeHash>(
     mirror: &Mirror<H>,
     heads: Option<&[(u64, Hash)]>,
 ) -> Result<Report, ReportFault>
-    ensures { ReportsComparison H.digest mirror.now.view (option_map (λ given. given.now) heads.entry) result }
+    ensures { ReportsComparison H.digest mirror.now.view
+        (option_map (λ given. given.now) heads.entry) result }
 {
     let found = match heads {
         Some(given) => mirror.compare(alloc, given)?,
@@ -79,9 +80,12 @@ pub fn print_comparison<H: TreeHash, W: Write>(
     heads: Option<&[(u64, Hash)]>,
     output: &mut W,
 ) -> Result<u8, AskFault>
-    ensures answer { AnswersCompared H.digest mirror.old.view (option_map (λ given. given.now) heads.entry) (W.contents output.old) (W.contents output.new) result }
+    ensures answer { AnswersCompared H.digest mirror.old.view
+        (option_map (λ given. given.now) heads.entry) (W.contents output.old)
+        (W.contents output.new) result }
     ensures status { IfOk result (λ status. (status ≡ 0) ⊎ (status ≡ 3)) }
-    ensures quiet { IfErr result (λ e. e ≢ AskFault.WriteFault → Keeps (W.contents output.old) (W.contents output.new)) }
+    ensures quiet { IfErr result (λ e. e ≢ AskFault.WriteFault → Keeps (W.contents output.old)
+        (W.contents output.new)) }
 {
     let report = match noted_comparison(alloc, mirror, heads) {
         Ok(report) => report,
@@ -99,7 +103,8 @@ fn noted_comparison<H: TreeHash>(
     mirror: &mut Mirror<H>,
     heads: Option<&[(u64, Hash)]>,
 ) -> Result<Report, ReportFault>
-    ensures { ReportsComparison H.digest mirror.old.view (option_map (λ given. given.now) heads.entry) result }
+    ensures { ReportsComparison H.digest mirror.old.view
+        (option_map (λ given. given.now) heads.entry) result }
 {
     match mirror.note_heads(alloc) {
         Ok(()) => compare_report(alloc, mirror, heads),

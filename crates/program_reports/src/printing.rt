@@ -16,8 +16,10 @@ use tlog_mirror::Mirror;
 
 // Writes the report's text, or a prefix of it.
 pub(crate) fn write_report<W: Write>(output: &mut W, report: &Report) -> Result<(), StreamFault>
-    ensures ok { OnOk result (Appends (W.contents output.old) (W.contents output.new) (printed report.now)) }
-    ensures err { OnErr result (AppendsPrefix (W.contents output.old) (W.contents output.new) (printed report.now)) }
+    ensures ok { OnOk result (Appends (W.contents output.old) (W.contents output.new)
+        (printed report.now)) }
+    ensures err { OnErr result (AppendsPrefix (W.contents output.old) (W.contents output.new)
+        (printed report.now)) }
 {
     write_whole(output, report.text.as_bytes())
 }
@@ -41,9 +43,11 @@ pub fn print_report<H: TreeHash, W: Write>(
     question: &Question,
     output: &mut W,
 ) -> Result<u8, AskFault>
-    ensures answer { AnswersQuestion H.digest question.now mirror.old.view (W.contents output.old) (W.contents output.new) result }
+    ensures answer { AnswersQuestion H.digest question.now mirror.old.view (W.contents output.old)
+        (W.contents output.new) result }
     ensures status { IfOk result (λ status. (status ≡ 0) ⊎ (status ≡ 3)) }
-    ensures quiet { IfErr result (λ e. e ≢ AskFault.WriteFault → Keeps (W.contents output.old) (W.contents output.new)) }
+    ensures quiet { IfErr result (λ e. e ≢ AskFault.WriteFault → Keeps (W.contents output.old)
+        (W.contents output.new)) }
 {
     let report = match report_on(alloc, mirror, question) {
         Ok(report) => report,

@@ -136,7 +136,8 @@ fn with_command<'a>(
     parser: Result<clap::Command<'a>, AllocError>,
     below: Result<clap::Command<'a>, AllocError>,
 ) -> Result<clap::Command<'a>, AllocError>
-    ensures { (a b : App) → IfOk parser.entry (IsParserOf a) → IfOk below.entry (IsParserOf b) → IfOk result (IsParserOf (with_subcommand a b.top)) }
+    ensures { (a b : App) → IfOk parser.entry (IsParserOf a) → IfOk below.entry (IsParserOf b)
+        → IfOk result (IsParserOf (with_subcommand a b.top)) }
 {
     parser?.subcommand(below?)
 }
@@ -146,7 +147,8 @@ fn with_commands<'a>(
     parser: Result<clap::Command<'a>, AllocError>,
     below: [Result<clap::Command<'a>, AllocError>; 14],
 ) -> Result<clap::Command<'a>, AllocError>
-    ensures { IfOk parser.entry (IsParserOf program_app) → AreParsersOf command_apps below.entry → IfOk result (IsParserOf mirror_app) }
+    ensures { IfOk parser.entry (IsParserOf program_app) → AreParsersOf command_apps below.entry
+        → IfOk result (IsParserOf mirror_app) }
 {
     let mut made = parser;
     for command in below {

@@ -11,7 +11,8 @@ ghost use Rattle.program_words.specs.declared.commands.Command.TheVariants.{Root
 
 /// Some command lines, and what they ask for.
 pub fn words_example()
-    ensures root { Asks (codes "root" ∷ codes "--width" ∷ codes "200" ∷ []) (Root (record { width = 200 })) }
+    ensures root { Asks (codes "root" ∷ codes "--width" ∷ codes "200" ∷ [])
+        (Root (record { width = 200 })) }
     ensures check { Asks (codes "check" ∷ []) Check }
     ensures no_width { faults (codes "root" ∷ []) ≡ MissingRequiredArgument ∷ [] }
     ensures help { faults (codes "root" ∷ codes "--help" ∷ []) ≡ DisplayHelp ∷ [] }

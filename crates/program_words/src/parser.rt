@@ -68,7 +68,8 @@ fn with_argument<'a>(
     parser: Result<clap::Command<'a>, AllocError>,
     argument: Arg<'a>,
 ) -> Result<clap::Command<'a>, AllocError>
-    ensures { (a : App) → IfOk parser.entry (IsParserOf a) → argument.entry.global ≡ false → IfOk result (IsParserOf (with_rule a (rule_of argument.entry))) }
+    ensures { (a : App) → IfOk parser.entry (IsParserOf a) → argument.entry.global ≡ false
+        → IfOk result (IsParserOf (with_rule a (rule_of argument.entry))) }
 {
     parser?.arg(argument)
 }
@@ -79,7 +80,8 @@ fn with_arguments<'a>(
     parser: Result<clap::Command<'a>, AllocError>,
     arguments: &[Argument<'a>],
 ) -> Result<clap::Command<'a>, AllocError>
-    ensures { (a : App) → IfOk parser.entry (IsParserOf a) → IfOk result (IsParserOf (with_rules a (map argument_of arguments.now))) }
+    ensures { (a : App) → IfOk parser.entry (IsParserOf a)
+        → IfOk result (IsParserOf (with_rules a (map argument_of arguments.now))) }
 {
     let mut made = parser;
     for given in arguments {
@@ -106,7 +108,8 @@ pub(crate) fn plain_parser<'a>(
     after: &'a str,
     arguments: &[Argument<'a>],
 ) -> Result<clap::Command<'a>, AllocError>
-    ensures { IfOk result (IsParserOf (with_rules (new_app name.entry.now) (map argument_of arguments.now))) }
+    ensures { IfOk result (IsParserOf
+        (with_rules (new_app name.entry.now) (map argument_of arguments.now))) }
 {
     with_arguments(alloc, Ok(command(alloc, name, about, after)), arguments)
 }
@@ -119,7 +122,8 @@ pub(crate) fn log_parser<'a>(
     after: &'a str,
     arguments: &[Argument<'a>],
 ) -> Result<clap::Command<'a>, AllocError>
-    ensures { IfOk result (IsParserOf (with_rules (log_app name.entry.now) (map argument_of arguments.now))) }
+    ensures { IfOk result (IsParserOf
+        (with_rules (log_app name.entry.now) (map argument_of arguments.now))) }
 {
     let log = plain_parser(
         alloc,
@@ -150,7 +154,8 @@ pub(crate) fn held_parser<'a>(
     after: &'a str,
     arguments: &[Argument<'a>],
 ) -> Result<clap::Command<'a>, AllocError>
-    ensures { IfOk result (IsParserOf (with_rules (held_app name.entry.now) (map argument_of arguments.now))) }
+    ensures { IfOk result (IsParserOf
+        (with_rules (held_app name.entry.now) (map argument_of arguments.now))) }
 {
     let held = log_parser(
         alloc,
@@ -170,7 +175,8 @@ pub(crate) fn made_parser<'a>(
     after: &'a str,
     arguments: &[Argument<'a>],
 ) -> Result<clap::Command<'a>, AllocError>
-    ensures { IfOk result (IsParserOf (with_rules (made_app name.entry.now) (map argument_of arguments.now))) }
+    ensures { IfOk result (IsParserOf
+        (with_rules (made_app name.entry.now) (map argument_of arguments.now))) }
 {
     let made = log_parser(
         alloc,

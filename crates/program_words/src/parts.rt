@@ -40,7 +40,8 @@ pub struct OutputArgs<'a> {
 
 /// The value of an option that has to be there.
 pub(crate) fn word_of<'a>(found: &ArgMatches<'a>, name: &str) -> Result<&'a str, CommandFault>
-    ensures { ReadsPart (Given (rows_of (found_of found.now)) name.now) (seen (λ word. word.now) result) }
+    ensures { ReadsPart (Given (rows_of (found_of found.now)) name.now)
+        (seen (λ word. word.now) result) }
 {
     match found.get_str(name) {
         Some(word) => Ok(word),
@@ -121,7 +122,8 @@ pub(crate) fn files_of<'a>(
     alloc: Global,
     found: &ArgMatches<'a>,
 ) -> Result<Vec<&'a str>, CommandFault>
-    ensures { ReadsPart (λ files. unwrap_or (all_of (codes "file") (rows_of (found_of found.now))) [] ≡ map (λ f. f.now) files.items) result }
+    ensures { ReadsPart (λ files. unwrap_or (all_of (codes "file") (rows_of (found_of found.now)))
+        [] ≡ map (λ f. f.now) files.items) result }
 {
     match found.get_strs("file") {
         Some(files) => Ok(files.iter().copied().collect(alloc)?),

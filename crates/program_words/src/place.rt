@@ -42,7 +42,8 @@ fn host_and_prefix(word: &str) -> (&str, &str)
 // What stands before the last colon, and what follows it.
 fn address_and_digits(host: &str) -> Option<(&str, &str)>
     ensures some { IfSome result (λ x. host.now ≡ x.0.now ++ colon ∷ x.1.now) }
-    ensures last { IfSome result (λ x. (i : ℕ) → i < length x.1.now → slice_index x.1.now i ≢ colon) }
+    ensures last { IfSome result (λ x. (i : ℕ) → i < length x.1.now
+        → slice_index x.1.now i ≢ colon) }
     ensures none { IfNone result ((i : ℕ) → i < length host.now → slice_index host.now i ≢ colon) }
 {
     host.rsplit_once(':')

@@ -19,7 +19,8 @@ fn put_path<H: TreeHash, S: Shelf>(
     path: Path,
 ) -> Result<(), ShelfError>
     requires { IsFileOf (length source.now.entries) path }
-    ensures told { AddsFiles (S.puts shelf.old) (S.puts shelf.new) (files_at H.digest source.now.note source.now.entries (path ∷ [])) result }
+    ensures told { AddsFiles (S.puts shelf.old) (S.puts shelf.new)
+        (files_at H.digest source.now.note source.now.entries (path ∷ [])) result }
     ensures counted { CountsFailures (S.failed shelf.old) (S.failed shelf.new) result }
 {
     let Some(bytes) = source.file_at(path) else {
@@ -35,7 +36,8 @@ fn put_paths<H: TreeHash, S: Shelf>(
     paths: &[Path],
 ) -> Result<(), ShelfError>
     requires { paths.now ≡ paths_of (length source.now.entries) }
-    ensures told { AddsFiles (S.puts shelf.old) (S.puts shelf.new) (files_at H.digest source.now.note source.now.entries paths.now) result }
+    ensures told { AddsFiles (S.puts shelf.old) (S.puts shelf.new)
+        (files_at H.digest source.now.note source.now.entries paths.now) result }
     ensures counted { CountsFailures (S.failed shelf.old) (S.failed shelf.new) result }
 {
     files_law();
@@ -53,7 +55,8 @@ pub(crate) fn put_files<H: TreeHash, S: Shelf>(
     shelf: &mut S,
 ) -> Result<(), ExportFault>
     requires { size ≡ length source.now.entries }
-    ensures puts { PutsFiles H.digest source.now.note source.now.entries (S.puts shelf.old) (S.puts shelf.new) result }
+    ensures puts { PutsFiles H.digest source.now.note source.now.entries (S.puts shelf.old)
+        (S.puts shelf.new) result }
     ensures blamed { CountsExport (S.failed shelf.old) (S.failed shelf.new) result }
 {
     files_law();

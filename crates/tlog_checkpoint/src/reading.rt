@@ -17,7 +17,8 @@ use std::alloc::{AllocError, Global};
 
 /// The text without the newline that ends it, if one does.
 fn without_last_newline(text: &str) -> Option<&str>
-    ensures { MatchOption result ((front : List ℕ) → text.now ≢ front ++ 10 ∷ []) (λ body. text.now ≡ body.now ++ 10 ∷ []) }
+    ensures { MatchOption result ((front : List ℕ) → text.now ≢ front ++ 10 ∷ []) (λ body. text.now
+        ≡ body.now ++ 10 ∷ []) }
 {
     text.strip_suffix('\n')
 }
@@ -65,7 +66,8 @@ fn checkpoint_of(
     root_line: &str,
     extensions: &[&str],
 ) -> Result<Checkpoint, CheckpointFault>
-    ensures { ReadsFields origin.now size_line.now root_line.now (map (λ line. line.now) extensions.now) result }
+    ensures { ReadsFields origin.now size_line.now root_line.now
+        (map (λ line. line.now) extensions.now) result }
 {
     let size = size_of(size_line)?;
     let root = root_of(root_line)?;
@@ -112,7 +114,8 @@ pub fn read(alloc: Global, text: &str) -> Result<Checkpoint, CheckpointFault>
     // What is read is a checkpoint of that text, and each refusal is the first that applies.
     ensures answer { ReadsCheckpoint text.now result }
     // The text of a checkpoint is read as that checkpoint, unless memory was refused.
-    ensures only { (c : Checkpoint) → IsCheckpoint text.now c.origin c.size c.root c.extensions → result ≢ Err CheckpointFault.OutOfMemory → result ≡ Ok c }
+    ensures only { (c : Checkpoint) → IsCheckpoint text.now c.origin c.size c.root c.extensions
+        → result ≢ Err CheckpointFault.OutOfMemory → result ≡ Ok c }
     // What was read can be written.
     ensures writable { IfOk result IsWritableCheckpoint }
 {

@@ -22,7 +22,8 @@ fn add_line(text: &mut String, line: &str) -> Result<(), AllocError>
 
 /// Adds the line of the size.
 fn add_size(text: &mut String, size: u64) -> Result<(), AllocError>
-    ensures ok { OnOk result (string_bytes text.new ≡ string_bytes text.old ++ ended (decimal size)) }
+    ensures ok { OnOk result (string_bytes text.new ≡ string_bytes text.old
+        ++ ended (decimal size)) }
     ensures spelled { OnOk result (IsDecimal (decimal size) size) }
 {
     push_number(text, size)?;
@@ -31,7 +32,8 @@ fn add_size(text: &mut String, size: u64) -> Result<(), AllocError>
 
 /// Adds the line of the root.
 fn add_root(text: &mut String, root: &Hash) -> Result<(), AllocError>
-    ensures ok { OnOk result (string_bytes text.new ≡ string_bytes text.old ++ ended (base64_of root.now)) }
+    ensures ok { OnOk result (string_bytes text.new ≡ string_bytes text.old
+        ++ ended (base64_of root.now)) }
     ensures spelled { OnOk result (IsHashText (base64_of root.now) root.now) }
 {
     push_hash(text, root)?;
@@ -40,7 +42,8 @@ fn add_root(text: &mut String, root: &Hash) -> Result<(), AllocError>
 
 /// Adds the lines, each with its newline.
 fn add_lines(text: &mut String, lines: &[String]) -> Result<(), AllocError>
-    ensures { OnOk result (string_bytes text.new ≡ string_bytes text.old ++ text_of (map string_bytes lines.now)) }
+    ensures { OnOk result (string_bytes text.new ≡ string_bytes text.old
+        ++ text_of (map string_bytes lines.now)) }
 {
     for line in lines {
         add_line(text, line.as_str())?;
@@ -58,7 +61,8 @@ fn add_lines(text: &mut String, lines: &[String]) -> Result<(), AllocError>
 /// Memory was refused.
 pub fn write(alloc: Global, checkpoint: &Checkpoint) -> Result<String, AllocError>
     requires { IsWritableCheckpoint checkpoint.now }
-    ensures { IfOk result (λ text. IsCheckpoint (string_bytes text) checkpoint.now.origin checkpoint.now.size checkpoint.now.root checkpoint.now.extensions) }
+    ensures { IfOk result (λ text. IsCheckpoint (string_bytes text) checkpoint.now.origin
+        checkpoint.now.size checkpoint.now.root checkpoint.now.extensions) }
 {
     let mut text = String::new(alloc);
     add_line(&mut text, checkpoint.origin.as_str())?;

@@ -42,7 +42,8 @@ fn is_ahead(size: u64, root: &Hash, best: &Option<(u64, Hash)>) -> bool
 
 // The first kept note of that size and root.
 pub(crate) fn first_with<'a>(kept: &'a [KeptNote], size: u64, root: &Hash) -> Option<&'a KeptNote>
-    ensures some { IfSome result (λ one. IsFirstWith kept.now (record { size = size; root = root.now }) one.now) }
+    ensures some { IfSome result (λ one. IsFirstWith kept.now
+        (record { size = size; root = root.now }) one.now) }
     ensures none { IfNone result (¬ HasKept kept.now (record { size = size; root = root.now })) }
 {
     for one in kept {

@@ -63,7 +63,9 @@ impl<H: TreeHash> Mirror<H> {
         alloc: Global,
         heads: &[(u64, Hash)],
     ) -> Result<Option<Vec<Compared>>, AllocError>
-        ensures some { IfOk result (λ o. IfSome o (λ compared. ReportsCompared H.digest self.now.view (map pair_point heads.now) compared.items)) }
+        ensures some { IfOk result
+            (λ o. IfSome o (λ compared. ReportsCompared H.digest self.now.view
+            (map pair_point heads.now) compared.items)) }
         ensures none { IfOk result (λ o. IfNone o (ServesNothing H.digest self.now.view)) }
     {
         let Some(top) = self.top_ranges() else {
@@ -83,7 +85,8 @@ impl<H: TreeHash> Mirror<H> {
     ///
     /// Memory was refused.
     pub fn compare_heads(&self, alloc: Global) -> Result<Option<Vec<Compared>>, AllocError>
-        ensures some { IfOk result (λ o. IfSome o (λ compared. ReportsHeld H.digest self.now.view compared.items)) }
+        ensures some { IfOk result
+            (λ o. IfSome o (λ compared. ReportsHeld H.digest self.now.view compared.items)) }
         ensures none { IfOk result (λ o. IfNone o (ServesNothing H.digest self.now.view)) }
     {
         let heads = points_of(alloc, self.kept.as_slice())?;
@@ -97,8 +100,10 @@ fn compare_all<H: TreeHash>(
     top: &TopRanges<'_, H>,
     heads: &[(u64, Hash)],
 ) -> Result<Vec<Compared>, AllocError>
-    ensures heads { IfOk result (λ compared. map compared_point compared.items ≡ map pair_point heads.now) }
-    ensures each { (entries : List (List ℕ)) → IsListOf H.digest top.now entries → IfOk result (λ compared. All (IsCompared H.digest entries) compared.items) }
+    ensures heads { IfOk result (λ compared. map compared_point compared.items
+        ≡ map pair_point heads.now) }
+    ensures each { (entries : List (List ℕ)) → IsListOf H.digest top.now entries
+        → IfOk result (λ compared. All (IsCompared H.digest entries) compared.items) }
 {
     let mut compared = Vec::with_capacity(alloc, heads.len())?;
     for head in heads {
@@ -110,7 +115,8 @@ fn compare_all<H: TreeHash>(
 // A head, compared with the list that the top stands for: by one hash of a range, found in one descent.
 fn compare_one<H: TreeHash>(top: &TopRanges<'_, H>, size: u64, root: &Hash) -> Compared
     ensures head { compared_point result ≡ record { size = size; root = root.now } }
-    ensures is { (entries : List (List ℕ)) → IsListOf H.digest top.now entries → IsCompared H.digest entries result }
+    ensures is { (entries : List (List ℕ)) → IsListOf H.digest top.now entries
+        → IsCompared H.digest entries result }
 {
     let root = *root;
     match top.hash(0, size) {
@@ -159,7 +165,8 @@ fn push_compared(text: &mut String, one: &Compared) -> Result<(), AllocError>
 
 // Adds a word, a size and a root, on a line of their own.
 fn push_line(text: &mut String, word: &str, size: u64, root: &Hash) -> Result<(), AllocError>
-    ensures { OnOk result (string_bytes text.new ≡ string_bytes text.old ++ (word.now ++ point_text size root.now ++ 10 ∷ [])) }
+    ensures { OnOk result (string_bytes text.new ≡ string_bytes text.old
+        ++ (word.now ++ point_text size root.now ++ 10 ∷ [])) }
 {
     text.push_str(word)?;
     push_point(text, size, root)?;
@@ -168,7 +175,8 @@ fn push_line(text: &mut String, word: &str, size: u64, root: &Hash) -> Result<()
 
 // Adds the line of a fork: its size and root, and the root of the served entries.
 fn push_fork(text: &mut String, size: u64, root: &Hash, own: &Hash) -> Result<(), AllocError>
-    ensures { OnOk result (string_bytes text.new ≡ string_bytes text.old ++ compared_line (Fork size root.now own.now)) }
+    ensures { OnOk result (string_bytes text.new ≡ string_bytes text.old
+        ++ compared_line (Fork size root.now own.now)) }
 {
     text.push_str("fork ")?;
     push_point(text, size, root)?;

@@ -29,8 +29,12 @@ pub(crate) fn take_edge<H: TreeHash>(
 ) -> Result<(), TakeFault>
     requires { NoClash H.digest store.old }
     ensures judged { JudgesEdge H.digest size root.now (map (λ row. row.now) edge.now) result }
-    ensures ok { OnOk result (store.new ≡ set.union store.old (set.from_list (edge_strings H.digest (map row_of (map (λ row. row.now) edge.now))))) }
-    ensures collision { result ≡ Err TakeFault.Collision → HasClash H.digest (set.union store.old (set.from_list (edge_strings H.digest (map row_of (map (λ row. row.now) edge.now))))) }
+    ensures ok { OnOk result (store.new
+        ≡ set.union store.old (set.from_list
+        (edge_strings H.digest (map row_of (map (λ row. row.now) edge.now))))) }
+    ensures collision { result ≡ Err TakeFault.Collision
+        → HasClash H.digest (set.union store.old
+        (set.from_list (edge_strings H.digest (map row_of (map (λ row. row.now) edge.now))))) }
     ensures no_clash { NoClash H.digest store.new }
 {
     let rows = match read_edge(alloc, size, edge) {
@@ -74,9 +78,14 @@ fn clash_of<H: TreeHash>(alloc: Global, size: u64, root: &Hash, edge: &[&[u8]]) 
 fn add_edge<H: TreeHash>(store: &mut Store<H>, mut rows: Vec<Vec<Hash>>) -> Result<Hash, AddFault>
     requires some { All (λ row. 0 < length row.items) rows.items }
     requires no_clash { NoClash H.digest store.old }
-    ensures hash { IfOk result (λ hash. hash ≡ edge_root H.digest (map (λ row. row.items) rows.items)) }
-    ensures ok { OnOk result (store.new ≡ set.union store.old (set.from_list (edge_strings H.digest (map (λ row. row.items) rows.items)))) }
-    ensures collision { result ≡ Err AddFault.Collision → HasClash H.digest (set.union store.old (set.from_list (edge_strings H.digest (map (λ row. row.items) rows.items)))) }
+    ensures hash { IfOk result (λ hash. hash
+        ≡ edge_root H.digest (map (λ row. row.items) rows.items)) }
+    ensures ok { OnOk result (store.new
+        ≡ set.union store.old (set.from_list
+        (edge_strings H.digest (map (λ row. row.items) rows.items)))) }
+    ensures collision { result ≡ Err AddFault.Collision
+        → HasClash H.digest (set.union store.old
+        (set.from_list (edge_strings H.digest (map (λ row. row.items) rows.items)))) }
     ensures no_clash { NoClash H.digest store.new }
 {
     if rows.is_empty() {
@@ -103,7 +112,8 @@ fn root_of<H: TreeHash>(mut rows: Vec<Vec<Hash>>) -> Result<Hash, AllocError>
 
 // The hash that rows lead to which stand above a value.
 fn root_above<H: TreeHash>(start: Hash, rows: Vec<Vec<Hash>>) -> Result<Hash, AllocError>
-    ensures { IfOk result (λ hash. hash ≡ root_from H.digest start (map (λ row. row.items) rows.items)) }
+    ensures { IfOk result (λ hash. hash
+        ≡ root_from H.digest start (map (λ row. row.items) rows.items)) }
 {
     let mut value = start;
     for mut row in rows {
@@ -115,7 +125,8 @@ fn root_above<H: TreeHash>(start: Hash, rows: Vec<Vec<Hash>>) -> Result<Hash, Al
 
 // The edge rows of a tree of that many entries, each as its hashes.
 fn read_edge(alloc: Global, size: u64, edge: &[&[u8]]) -> Result<Vec<Vec<Hash>>, TakeFault>
-    ensures reads { ReadsEdge size (map (λ row. row.now) edge.now) (seen (λ rows. map (λ row. row.items) rows.items) result) }
+    ensures reads { ReadsEdge size (map (λ row. row.now) edge.now)
+        (seen (λ rows. map (λ row. row.items) rows.items) result) }
     ensures some { IfOk result (λ rows. All (λ row. 0 < length row.items) rows.items) }
 {
     let Ok(widths) = partial_widths(alloc, size) else {
@@ -130,7 +141,8 @@ fn read_edge(alloc: Global, size: u64, edge: &[&[u8]]) -> Result<Vec<Vec<Hash>>,
 // Rows of these widths, each as its hashes.
 fn read_rows(alloc: Global, widths: &[u32], edge: &[&[u8]]) -> Result<Vec<Vec<Hash>>, TakeFault>
     requires { length edge.now ≡ length widths.now }
-    ensures { ReadsRows widths.now (map (λ row. row.now) edge.now) (seen (λ rows. map (λ row. row.items) rows.items) result) }
+    ensures { ReadsRows widths.now (map (λ row. row.now) edge.now)
+        (seen (λ rows. map (λ row. row.items) rows.items) result) }
 {
     let mut rows = Vec::new(alloc);
     for i in 0..widths.len() {

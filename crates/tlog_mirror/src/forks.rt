@@ -57,7 +57,8 @@ fn whole_of<H: TreeHash>(
     requires known { AreKnown H.digest store.now known.now }
     requires sorted { IsStrictlySortedBy by_point points.now }
     ensures sorted { IfOk result (λ whole. IsStrictlySortedBy by_point whole.items) }
-    ensures exact { IfOk result (λ whole. (p : ℕ × List ℕ) → Contains whole.items p ↔ (Contains points.now p × IsBuilt H.digest store.now p.0 p.1)) }
+    ensures exact { IfOk result (λ whole. (p : ℕ × List ℕ) → Contains whole.items p
+        ↔ (Contains points.now p × IsBuilt H.digest store.now p.0 p.1)) }
 {
     let heads = flag_heads(alloc, store, known, points)?;
     complete_of(alloc, heads.as_slice())
@@ -65,7 +66,8 @@ fn whole_of<H: TreeHash>(
 
 // The sizes and roots of those heads that are complete.
 fn complete_of(alloc: Global, heads: &[Head]) -> Result<Vec<(u64, Hash)>, AllocError>
-    ensures { IfOk result (λ points. points.items ≡ map head_pair (filter (λ head. head.complete) heads.now)) }
+    ensures { IfOk result (λ points. points.items
+        ≡ map head_pair (filter (λ head. head.complete) heads.now)) }
 {
     heads
         .iter()
@@ -86,8 +88,10 @@ fn forks_of<H: TreeHash>(
     requires sorted { IsStrictlySortedBy by_point points.now }
     requires rising { IsStrictlySortedBy by_point whole.now }
     requires built { All (λ p. IsBuilt H.digest store.now p.0 p.1) whole.now }
-    ensures sorted { IfOk result (λ forks. IsStrictlySortedBy pair_cmp (map fork_pair forks.items)) }
-    ensures exact { IfOk result (λ forks. (fork : AnyFork) → Contains forks.items fork ↔ (IsTwin points.now fork ⊎ IsDeparture H.digest store.now whole.now fork)) }
+    ensures sorted { IfOk result (λ forks. IsStrictlySortedBy pair_cmp
+        (map fork_pair forks.items)) }
+    ensures exact { IfOk result (λ forks. (fork : AnyFork) → Contains forks.items fork
+        ↔ (IsTwin points.now fork ⊎ IsDeparture H.digest store.now whole.now fork)) }
 {
     let mut forks = Vec::new(alloc);
     push_twins(&mut forks, points)?;
@@ -100,7 +104,8 @@ fn forks_of<H: TreeHash>(
 // Adds each two heads that have one size.
 fn push_twins(forks: &mut Vec<Fork>, points: &[(u64, Hash)]) -> Result<(), AllocError>
     requires { IsStrictlySortedBy by_point points.now }
-    ensures { OnOk result ((fork : AnyFork) → Contains forks.new.items fork ↔ (Contains forks.old.items fork ⊎ IsTwin points.now fork)) }
+    ensures { OnOk result ((fork : AnyFork) → Contains forks.new.items fork
+        ↔ (Contains forks.old.items fork ⊎ IsTwin points.now fork)) }
 {
     for at in 0..points.len() {
         push_twins_of(forks, &points[..at], points[at])?;
@@ -115,7 +120,8 @@ fn push_twins_of(
     head: (u64, Hash),
 ) -> Result<(), AllocError>
     requires { IsStrictlySortedBy by_point (before.now ++ head ∷ []) }
-    ensures { OnOk result ((fork : AnyFork) → Contains forks.new.items fork ↔ (Contains forks.old.items fork ⊎ IsTwinOf before.now head fork)) }
+    ensures { OnOk result ((fork : AnyFork) → Contains forks.new.items fork
+        ↔ (Contains forks.old.items fork ⊎ IsTwinOf before.now head fork)) }
 {
     for at in (0..before.len()).rev() {
         let small = before[at];
@@ -161,7 +167,8 @@ fn branch_of<H: TreeHash>(
     requires clean { NoClash H.digest store.now }
     requires built { IsBuilt H.digest store.now head.0 head.1 }
     requires branches { AreBranches H.digest store.now before.now }
-    requires later { (p : ℕ × List ℕ) → Contains (map (λ b. b.head) before.now) p → by_point p head ≡ IsLess }
+    requires later { (p : ℕ × List ℕ) → Contains (map (λ b. b.head) before.now) p → by_point p head
+        ≡ IsLess }
     ensures head { IfOk result (λ branch. branch.head ≡ head) }
     ensures branch { IfOk result (IsBranch H.digest store.now (map (λ b. b.head) before.now)) }
 {
@@ -203,7 +210,8 @@ fn push_apart(forks: &mut Vec<Fork>, branch: &Branch) -> Result<(), AllocError>
 // Sorts forks, and leaves each once.
 fn put_in_order(forks: &mut Vec<Fork>)
     ensures sorted { IsStrictlySortedBy pair_cmp (map fork_pair forks.new.items) }
-    ensures same { (fork : AnyFork) → Contains forks.new.items fork ↔ Contains forks.old.items fork }
+    ensures same { (fork : AnyFork) → Contains forks.new.items fork
+        ↔ Contains forks.old.items fork }
 {
     forks.sort_unstable_by(|a, b| order(a, b));
     forks.dedup();

@@ -16,7 +16,8 @@ pub(crate) fn read_head(
     keys: &[Box<dyn Verifier>],
     bytes: &[u8],
 ) -> Result<(Note, Checkpoint), TakeFault>
-    ensures reads { ReadsHead bytes.now origin.now (map (λ k. key k) keys.now) (seen (λ head. head.1) result) }
+    ensures reads { ReadsHead bytes.now origin.now (map (λ k. key k) keys.now)
+        (seen (λ head. head.1) result) }
     ensures note { IfOk result (λ head. head.0.bytes ≡ bytes.now) }
 {
     let note = match Note::read(alloc, bytes) {

@@ -76,7 +76,8 @@ fn head_of<H: TreeHash>(store: &Store<H>, known: &Known, size: u64, root: &Hash)
 // The sizes and roots of kept notes in order, each once.
 pub(crate) fn points_of(alloc: Global, kept: &[KeptNote]) -> Result<Vec<(u64, Hash)>, AllocError>
     ensures sorted { IfOk result (λ points. IsStrictlySortedBy by_point points.items) }
-    ensures exact { IfOk result (λ points. (p : ℕ × List ℕ) → Contains points.items p ↔ HasKept kept.now (pair_point p)) }
+    ensures exact { IfOk result (λ points. (p : ℕ × List ℕ) → Contains points.items p
+        ↔ HasKept kept.now (pair_point p)) }
 {
     let mut points = all_points(alloc, kept)?;
     put_in_order(&mut points);

@@ -35,7 +35,8 @@ impl KeptNote {
 // Where the note of those bytes is among kept notes that rise, or where it would go.
 pub(crate) fn place_of(kept: &[KeptNote], bytes: &[u8]) -> Result<usize, usize>
     ensures bound { IsSearchInRange result (length kept.now) }
-    ensures place { IsBinarySearchResult (λ k. slice_cmp nat_cmp (note_bytes k) bytes.now) kept.now result }
+    ensures place { IsBinarySearchResult (λ k. slice_cmp nat_cmp (note_bytes k) bytes.now) kept.now
+        result }
 {
     kept.binary_search_by(|k| compare_bytes(k, bytes))
 }

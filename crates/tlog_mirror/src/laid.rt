@@ -64,9 +64,12 @@ pub(crate) fn laid_tile<H: TreeHash>(
     index: u64,
     width: u32,
 ) -> Result<Option<Vec<u8>>, AllocError>
-    ensures some { IfOk result (λ o. IfSome o (λ bytes. bytes.items ≡ tile_bytes H.digest files.now level index width)) }
-    ensures within { IfOk result (λ o. IfSome o (λ bytes. IsTileWithin (length files.now) level index width)) }
-    ensures none { IfOk result (λ o. IfNone o (¬ IsTileWithin (length files.now) level index width)) }
+    ensures some { IfOk result (λ o. IfSome o (λ bytes. bytes.items ≡ tile_bytes H.digest files.now
+        level index width)) }
+    ensures within { IfOk result (λ o. IfSome o (λ bytes. IsTileWithin (length files.now) level
+        index width)) }
+    ensures none { IfOk result (λ o. IfNone o (¬ IsTileWithin (length files.now) level index
+        width)) }
 {
     let Some(piece) = files.tile(level, index, width) else {
         return Ok(None);
@@ -81,8 +84,10 @@ pub(crate) fn laid_bundle<H: TreeHash>(
     index: u64,
     width: u32,
 ) -> Result<Option<Vec<u8>>, AllocError>
-    ensures some { IfOk result (λ o. IfSome o (λ bytes. bytes.items ≡ bundle_bytes files.now index width)) }
-    ensures within { IfOk result (λ o. IfSome o (λ bytes. IsTileWithin (length files.now) 0 index width)) }
+    ensures some { IfOk result (λ o. IfSome o (λ bytes. bytes.items ≡ bundle_bytes files.now index
+        width)) }
+    ensures within { IfOk result (λ o. IfSome o (λ bytes. IsTileWithin (length files.now) 0 index
+        width)) }
     ensures none { IfOk result (λ o. IfNone o (¬ IsTileWithin (length files.now) 0 index width)) }
 {
     let Some(piece) = files.bundle(index, width) else {

@@ -24,7 +24,8 @@ impl<H: TreeHash> Mirror<H> {
     /// `OutOfMemory` where a growth was refused: the mirror then lies between what it was and what it would
     /// have been, it has a new note only where it has all strings of the other, and merging again completes it.
     pub fn merge(&mut self, alloc: Global, other: &Mirror<H>) -> Result<(), MergeFault>
-        ensures merges { Merges H.digest self.old.view other.now.view (merge_answer_of result) self.new.view }
+        ensures merges { Merges H.digest self.old.view other.now.view (merge_answer_of result)
+            self.new.view }
         ensures remembered { self.new.remembered ≡ self.old.remembered }
     {
         if self.origin() != other.origin() {
@@ -43,10 +44,14 @@ impl<H: TreeHash> Mirror<H> {
 
     // Enters notes, each in its place, one after the other.
     fn keep_notes(&mut self, alloc: Global, notes: &[KeptNote]) -> Result<(), AllocError>
-        requires said { All (λ k. IsHead (note_bytes k) self.old.view.origin k.size k.root) notes.now }
+        requires said { All (λ k. IsHead (note_bytes k) self.old.view.origin k.size k.root)
+            notes.now }
         requires edges { All (λ k. HasEdge H.digest self.old.view (note_bytes k)) notes.now }
-        ensures ok { OnOk result (self.new.view ≡ with_notes self.old.view (map note_bytes notes.now)) }
-        ensures err { OnErr result ((count : ℕ) × (self.new.view ≡ with_notes self.old.view (map note_bytes (take count notes.now)))) }
+        ensures ok { OnOk result (self.new.view
+            ≡ with_notes self.old.view (map note_bytes notes.now)) }
+        ensures err { OnErr result
+            ((count : ℕ) × (self.new.view
+            ≡ with_notes self.old.view (map note_bytes (take count notes.now)))) }
         ensures remembered { self.new.remembered ≡ self.old.remembered }
     {
         for kept in notes {

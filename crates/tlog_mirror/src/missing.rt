@@ -25,7 +25,9 @@ impl<H: TreeHash> Mirror<H> {
         root: &Hash,
     ) -> Result<Option<Vec<Path>>, AllocError>
         ensures head { IfOk result (λ o. IfSome o (λ paths. HasHead self.now.view size root.now)) }
-        ensures some { IfOk result (λ o. IfSome o (λ paths. ListsMissing H.digest self.now.view size root.now paths.items)) }
+        ensures some { IfOk result
+            (λ o. IfSome o (λ paths. ListsMissing H.digest self.now.view size root.now
+            paths.items)) }
         ensures none { IfOk result (λ o. IfNone o (¬ HasHead self.now.view size root.now)) }
     {
         if first_with(self.kept.as_slice(), size, root).is_none() {

@@ -75,8 +75,10 @@ pub fn play<H: TreeHash>(
     events: &[Event],
 ) -> Result<Vec<Result<(), TakeFault>>, AllocError>
     requires fits { Fits events.now (length world.old) }
-    ensures run { IfOk result (λ answers. Run H.digest (map (λ k. key k) keys.now) (views_of world.old) events.now (map answer_of answers.items) (views_of world.new)) }
-    ensures judged { IfOk result (λ answers. JudgesEvents H.digest (map (λ k. key k) keys.now) (origins_of world.old) events.now answers.items) }
+    ensures run { IfOk result (λ answers. Run H.digest (map (λ k. key k) keys.now)
+        (views_of world.old) events.now (map answer_of answers.items) (views_of world.new)) }
+    ensures judged { IfOk result (λ answers. JudgesEvents H.digest (map (λ k. key k) keys.now)
+        (origins_of world.old) events.now answers.items) }
     ensures err { OnErr result (world.new ≡ world.old) }
     ensures remembered { all_remembered world.new ≡ all_remembered world.old }
 {
@@ -98,9 +100,12 @@ pub fn play_again<H: TreeHash>(
 ) -> Result<Vec<Result<(), TakeFault>>, AllocError>
     requires fits { Fits events.now (length world.old) }
     requires some { 1 ≤ tries }
-    ensures run { IfOk result (λ answers. Run H.digest (map (λ k. key k) keys.now) (views_of world.old) events.now (map answer_of answers.items) (views_of world.new)) }
-    ensures tried { IfOk result (λ answers. RunsWithin H.digest (map (λ k. key k) keys.now) tries (views_of world.old) events.now (map answer_of answers.items) (views_of world.new)) }
-    ensures judged { IfOk result (λ answers. JudgesEvents H.digest (map (λ k. key k) keys.now) (origins_of world.old) events.now answers.items) }
+    ensures run { IfOk result (λ answers. Run H.digest (map (λ k. key k) keys.now)
+        (views_of world.old) events.now (map answer_of answers.items) (views_of world.new)) }
+    ensures tried { IfOk result (λ answers. RunsWithin H.digest (map (λ k. key k) keys.now) tries
+        (views_of world.old) events.now (map answer_of answers.items) (views_of world.new)) }
+    ensures judged { IfOk result (λ answers. JudgesEvents H.digest (map (λ k. key k) keys.now)
+        (origins_of world.old) events.now answers.items) }
     ensures err { OnErr result (world.new ≡ world.old) }
     ensures remembered { all_remembered world.new ≡ all_remembered world.old }
 {
@@ -124,8 +129,10 @@ fn apply_again<H: TreeHash>(
 ) -> Result<(), TakeFault>
     requires fits { IsFitting (length world.old) event.now }
     requires some { 1 ≤ tries }
-    ensures happens { HappensWithin H.digest (map (λ k. key k) keys.now) tries (views_of world.old) event.now (answer_of result) (views_of world.new) }
-    ensures judged { JudgesEvent H.digest (map (λ k. key k) keys.now) (origins_of world.old) event.now result }
+    ensures happens { HappensWithin H.digest (map (λ k. key k) keys.now) tries (views_of world.old)
+        event.now (answer_of result) (views_of world.new) }
+    ensures judged { JudgesEvent H.digest (map (λ k. key k) keys.now) (origins_of world.old)
+        event.now result }
     ensures origins { origins_of world.new ≡ origins_of world.old }
     ensures remembered { all_remembered world.new ≡ all_remembered world.old }
 {
@@ -146,8 +153,10 @@ fn apply<H: TreeHash>(
     event: &Event,
 ) -> Result<(), TakeFault>
     requires { IsFitting (length world.old) event.now }
-    ensures happens { Happens H.digest (map (λ k. key k) keys.now) (views_of world.old) event.now (answer_of result) (views_of world.new) }
-    ensures judged { JudgesEvent H.digest (map (λ k. key k) keys.now) (origins_of world.old) event.now result }
+    ensures happens { Happens H.digest (map (λ k. key k) keys.now) (views_of world.old) event.now
+        (answer_of result) (views_of world.new) }
+    ensures judged { JudgesEvent H.digest (map (λ k. key k) keys.now) (origins_of world.old)
+        event.now result }
     ensures origins { origins_of world.new ≡ origins_of world.old }
     ensures remembered { all_remembered world.new ≡ all_remembered world.old }
 {
@@ -167,8 +176,10 @@ fn take_at<H: TreeHash>(
 ) -> Result<(), TakeFault>
     requires target { target < length world.old }
     requires width { HasWidth item.now }
-    ensures takes { TakesAt H.digest (map (λ k. key k) keys.now) (views_of world.old) target item.now (answer_of result) (views_of world.new) }
-    ensures judged { JudgesEvent H.digest (map (λ k. key k) keys.now) (origins_of world.old) (Take target item.now) result }
+    ensures takes { TakesAt H.digest (map (λ k. key k) keys.now) (views_of world.old) target
+        item.now (answer_of result) (views_of world.new) }
+    ensures judged { JudgesEvent H.digest (map (λ k. key k) keys.now) (origins_of world.old)
+        (Take target item.now) result }
     ensures origins { origins_of world.new ≡ origins_of world.old }
     ensures remembered { all_remembered world.new ≡ all_remembered world.old }
 {
@@ -184,7 +195,8 @@ fn merge_at<H: TreeHash>(
 ) -> Result<(), TakeFault>
     requires target { target < length world.old }
     requires source { source < length world.old }
-    ensures merges { (keys : List Key) → MergesAt H.digest keys (views_of world.old) target source (answer_of result) (views_of world.new) }
+    ensures merges { (keys : List Key) → MergesAt H.digest keys (views_of world.old) target source
+        (answer_of result) (views_of world.new) }
     ensures judged { IsMergeAnswer result }
     ensures itself { target ≡ source → result ≡ Ok tt }
     ensures origins { origins_of world.new ≡ origins_of world.old }
@@ -204,7 +216,8 @@ fn merge_at<H: TreeHash>(
 // The answer of a merge among those of takes: its faults keep their names.
 fn answer_of_merge(answer: Result<(), MergeFault>) -> Result<(), TakeFault>
     ensures same { answer_of result ≡ merge_answer_of answer }
-    ensures names { MatchResult answer (λ done. result ≡ Ok done) (λ fault. result ≡ Err (take_fault_of fault)) }
+    ensures names { MatchResult answer (λ done. result ≡ Ok done) (λ fault. result
+        ≡ Err (take_fault_of fault)) }
 {
     match answer {
         Ok(()) => Ok(()),
@@ -215,7 +228,8 @@ fn answer_of_merge(answer: Result<(), MergeFault>) -> Result<(), TakeFault>
 impl<H: TreeHash> Mirror<H> {
     // The answer of a merge with itself, which changes nothing: a mirror's strings do not collide.
     fn merge_itself(&self) -> Result<(), TakeFault>
-        ensures merges { Merges H.digest self.now.view self.now.view (answer_of result) self.now.view }
+        ensures merges { Merges H.digest self.now.view self.now.view (answer_of result)
+            self.now.view }
         ensures done { result ≡ Ok tt }
     {
         let _held = self.strings.len();
@@ -230,8 +244,10 @@ impl<H: TreeHash> Mirror<H> {
         item: &Item,
     ) -> Result<(), TakeFault>
         requires { HasWidth item.now }
-        ensures takes { Takes H.digest (map (λ k. key k) keys.now) self.old.view item.now (answer_of result) self.new.view }
-        ensures judged { JudgesItem H.digest (map (λ k. key k) keys.now) self.old.view.origin item.now result }
+        ensures takes { Takes H.digest (map (λ k. key k) keys.now) self.old.view item.now
+            (answer_of result) self.new.view }
+        ensures judged { JudgesItem H.digest (map (λ k. key k) keys.now) self.old.view.origin
+            item.now result }
         ensures remembered { self.new.remembered ≡ self.old.remembered }
     {
         match item {

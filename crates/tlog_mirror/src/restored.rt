@@ -66,7 +66,8 @@ impl<H: TreeHash> Mirror<H> {
         keys: &[Box<dyn Verifier>],
         note: &[u8],
     ) -> Result<(), RestoreFault>
-        ensures keeps { KeepsHeld H.digest self.old.view (map (λ k. key k) keys.now) note.now result self.new.view }
+        ensures keeps { KeepsHeld H.digest self.old.view (map (λ k. key k) keys.now) note.now result
+            self.new.view }
         ensures remembered { self.new.remembered ≡ self.old.remembered }
     {
         let kept = match self.held_head(alloc, keys, note) {

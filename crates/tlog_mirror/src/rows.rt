@@ -28,8 +28,10 @@ impl<H: TreeHash> Mirror<H> {
         note: &[u8],
         rows: &[Vec<u8>],
     ) -> Result<(), TakeFault>
-        ensures takes { Takes H.digest (map (λ k. key k) keys.now) self.old.view (Head note.now (map (λ row. row.items) rows.now)) (answer_of result) self.new.view }
-        ensures judged { JudgesHead H.digest self.old.view.origin (map (λ k. key k) keys.now) note.now (map (λ row. row.items) rows.now) result }
+        ensures takes { Takes H.digest (map (λ k. key k) keys.now) self.old.view
+            (Head note.now (map (λ row. row.items) rows.now)) (answer_of result) self.new.view }
+        ensures judged { JudgesHead H.digest self.old.view.origin (map (λ k. key k) keys.now)
+            note.now (map (λ row. row.items) rows.now) result }
         ensures remembered { self.new.remembered ≡ self.old.remembered }
     {
         match slices_of(alloc, rows) {
@@ -41,7 +43,8 @@ impl<H: TreeHash> Mirror<H> {
 
 // The rows, each as a slice.
 fn slices_of<'a>(alloc: Global, rows: &'a [Vec<u8>]) -> Result<Vec<&'a [u8]>, AllocError>
-    ensures { IfOk result (λ slices. map (λ slice. slice.now) slices.items ≡ map (λ row. row.items) rows.entry.now) }
+    ensures { IfOk result (λ slices. map (λ slice. slice.now) slices.items
+        ≡ map (λ row. row.items) rows.entry.now) }
 {
     let mut slices: Vec<&'a [u8]> = Vec::new(alloc);
     for row in rows {

@@ -61,7 +61,8 @@ impl<H: TreeHash> Mirror<H> {
 
     // The note that is served.
     pub(crate) fn served_note(&self) -> Option<&KeptNote>
-        ensures some { IfSome result (λ kept. IsServedAs H.digest self.now.view kept.now.note.bytes kept.now.size kept.now.root) }
+        ensures some { IfSome result (λ kept. IsServedAs H.digest self.now.view kept.now.note.bytes
+            kept.now.size kept.now.root) }
         ensures none { IfNone result (ServesNothing H.digest self.now.view) }
     {
         match &self.laid {
@@ -72,7 +73,8 @@ impl<H: TreeHash> Mirror<H> {
 
     // The kept note that is served, looked for among all.
     fn found_note(&self) -> Option<&KeptNote>
-        ensures some { IfSome result (λ kept. IsServedAs H.digest self.now.view kept.now.note.bytes kept.now.size kept.now.root) }
+        ensures some { IfSome result (λ kept. IsServedAs H.digest self.now.view kept.now.note.bytes
+            kept.now.size kept.now.root) }
         ensures none { IfNone result (ServesNothing H.digest self.now.view) }
     {
         let Some(best) = best_of(&self.strings, &self.known, self.kept.as_slice()) else {
@@ -87,7 +89,8 @@ impl<H: TreeHash> Mirror<H> {
     /// memory.
     pub fn range_hash(&self, start: u64, len: u64) -> Option<Hash>
         ensures some { IfSome result (λ hash. IsRangeHash H.digest self.now.view start len hash) }
-        ensures none { IfNone result ((hash : List ℕ) → ¬ IsRangeHash H.digest self.now.view start len hash) }
+        ensures none { IfNone result ((hash : List ℕ) → ¬ IsRangeHash H.digest self.now.view start
+            len hash) }
     {
         let Some(top) = self.top_ranges() else {
             return None;
@@ -108,8 +111,12 @@ impl<H: TreeHash> Mirror<H> {
         index: u64,
         width: u32,
     ) -> Result<Option<Vec<u8>>, AllocError>
-        ensures some { IfOk result (λ o. IfSome o (λ bytes. IsServedTile H.digest self.now.view level index width bytes.items)) }
-        ensures none { IfOk result (λ o. IfNone o ((bytes : List ℕ) → ¬ IsServedTile H.digest self.now.view level index width bytes)) }
+        ensures some { IfOk result
+            (λ o. IfSome o (λ bytes. IsServedTile H.digest self.now.view level index width
+            bytes.items)) }
+        ensures none { IfOk result
+            (λ o. IfNone o ((bytes : List ℕ) → ¬ IsServedTile H.digest self.now.view level index
+            width bytes)) }
     {
         match &self.laid {
             Some(laid) => laid_tile(alloc, &laid.1, level, index, width),
@@ -125,8 +132,12 @@ impl<H: TreeHash> Mirror<H> {
         index: u64,
         width: u32,
     ) -> Result<Option<Vec<u8>>, AllocError>
-        ensures some { IfOk result (λ o. IfSome o (λ bytes. IsServedTile H.digest self.now.view level index width bytes.items)) }
-        ensures none { IfOk result (λ o. IfNone o ((bytes : List ℕ) → ¬ IsServedTile H.digest self.now.view level index width bytes)) }
+        ensures some { IfOk result
+            (λ o. IfSome o (λ bytes. IsServedTile H.digest self.now.view level index width
+            bytes.items)) }
+        ensures none { IfOk result
+            (λ o. IfNone o ((bytes : List ℕ) → ¬ IsServedTile H.digest self.now.view level index
+            width bytes)) }
     {
         let Some(top) = self.top_ranges() else {
             return Ok(None);
@@ -146,8 +157,12 @@ impl<H: TreeHash> Mirror<H> {
         index: u64,
         width: u32,
     ) -> Result<Option<Vec<u8>>, AllocError>
-        ensures some { IfOk result (λ o. IfSome o (λ bytes. IsServedBundle H.digest self.now.view index width bytes.items)) }
-        ensures none { IfOk result (λ o. IfNone o ((bytes : List ℕ) → ¬ IsServedBundle H.digest self.now.view index width bytes)) }
+        ensures some { IfOk result
+            (λ o. IfSome o (λ bytes. IsServedBundle H.digest self.now.view index width
+            bytes.items)) }
+        ensures none { IfOk result
+            (λ o. IfNone o ((bytes : List ℕ) → ¬ IsServedBundle H.digest self.now.view index width
+            bytes)) }
     {
         match &self.laid {
             Some(laid) => laid_bundle(alloc, &laid.1, index, width),
@@ -162,8 +177,12 @@ impl<H: TreeHash> Mirror<H> {
         index: u64,
         width: u32,
     ) -> Result<Option<Vec<u8>>, AllocError>
-        ensures some { IfOk result (λ o. IfSome o (λ bytes. IsServedBundle H.digest self.now.view index width bytes.items)) }
-        ensures none { IfOk result (λ o. IfNone o ((bytes : List ℕ) → ¬ IsServedBundle H.digest self.now.view index width bytes)) }
+        ensures some { IfOk result
+            (λ o. IfSome o (λ bytes. IsServedBundle H.digest self.now.view index width
+            bytes.items)) }
+        ensures none { IfOk result
+            (λ o. IfNone o ((bytes : List ℕ) → ¬ IsServedBundle H.digest self.now.view index width
+            bytes)) }
     {
         let Some(top) = self.top_ranges() else {
             return Ok(None);
@@ -182,8 +201,10 @@ impl<H: TreeHash> Mirror<H> {
     ///
     /// Memory was refused.
     pub fn file(&self, alloc: Global, path: &Path) -> Result<Option<Vec<u8>>, AllocError>
-        ensures some { IfOk result (λ o. IfSome o (λ bytes. Replies H.digest self.now.view path.now bytes.items)) }
-        ensures none { IfOk result (λ o. IfNone o ((bytes : List ℕ) → ¬ Replies H.digest self.now.view path.now bytes)) }
+        ensures some { IfOk result
+            (λ o. IfSome o (λ bytes. Replies H.digest self.now.view path.now bytes.items)) }
+        ensures none { IfOk result
+            (λ o. IfNone o ((bytes : List ℕ) → ¬ Replies H.digest self.now.view path.now bytes)) }
     {
         match *path {
             Path::Checkpoint => {

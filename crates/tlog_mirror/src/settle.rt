@@ -28,9 +28,12 @@ impl<H: TreeHash> Mirror<H> {
     /// may be.
     pub fn settle(&mut self, alloc: Global) -> Result<(), AllocError>
         ensures view { self.new.view ≡ self.old.view }
-        ensures done { OnOk result ((point : Point) → HasMark self.new.remembered point ↔ IsMark H.digest self.new.view point) }
-        ensures within { (point : Point) → HasMark self.new.remembered point → IsMark H.digest self.new.view point }
-        ensures kept { (point : Point) → HasMark self.old.remembered point → HasMark self.new.remembered point }
+        ensures done { OnOk result ((point : Point) → HasMark self.new.remembered point
+            ↔ IsMark H.digest self.new.view point) }
+        ensures within { (point : Point) → HasMark self.new.remembered point
+            → IsMark H.digest self.new.view point }
+        ensures kept { (point : Point) → HasMark self.old.remembered point
+            → HasMark self.new.remembered point }
     {
         let heads = points_of(alloc, self.kept.as_slice())?;
         settle_all(&self.strings, &mut self.known, heads.as_slice())
@@ -84,8 +87,10 @@ fn settle_all<H: TreeHash>(
     requires clean { NoClash H.digest store.now }
     requires known { AreKnown H.digest store.now known.old }
     requires settled { AreSettled H.digest store.now known.old.remembered }
-    ensures done { OnOk result (All (HasSlicesOf H.digest store.now known.new.remembered) heads.now) }
-    ensures gains { GainsAny H.digest store.now heads.now known.old.remembered known.new.remembered }
+    ensures done { OnOk result (All (HasSlicesOf H.digest store.now known.new.remembered)
+        heads.now) }
+    ensures gains { GainsAny H.digest store.now heads.now known.old.remembered
+        known.new.remembered }
     ensures known { AreKnown H.digest store.now known.new }
 {
     for head in heads {

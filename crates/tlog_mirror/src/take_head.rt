@@ -65,8 +65,10 @@ impl<H: TreeHash> Mirror<H> {
         note: &[u8],
         edge: &[&[u8]],
     ) -> Result<(), TakeFault>
-        ensures takes { Takes H.digest (map (λ k. key k) keys.now) self.old.view (Head note.now (map (λ row. row.now) edge.now)) (answer_of result) self.new.view }
-        ensures judged { JudgesHead H.digest self.old.view.origin (map (λ k. key k) keys.now) note.now (map (λ row. row.now) edge.now) result }
+        ensures takes { Takes H.digest (map (λ k. key k) keys.now) self.old.view
+            (Head note.now (map (λ row. row.now) edge.now)) (answer_of result) self.new.view }
+        ensures judged { JudgesHead H.digest self.old.view.origin (map (λ k. key k) keys.now)
+            note.now (map (λ row. row.now) edge.now) result }
         ensures remembered { self.new.remembered ≡ self.old.remembered }
     {
         let (note, checkpoint) = match read_head(alloc, self.origin(), keys, note) {
@@ -89,7 +91,9 @@ impl<H: TreeHash> Mirror<H> {
         requires short { (entry : List ℕ) → Has strings.now (0 ∷ entry) → length entry ≤ 65535 }
         requires said { IsHead kept.note.bytes self.old.view.origin kept.size kept.root }
         requires edge { HasEdge H.digest (with_strings self.old.view strings.now) kept.note.bytes }
-        ensures adds { Answers H.digest self.old.view (Unit {0}) (with_note (with_strings self.old.view strings.now) kept.note.bytes) (added result) self.new.view }
+        ensures adds { Answers H.digest self.old.view (Unit {0})
+            (with_note (with_strings self.old.view strings.now) kept.note.bytes) (added result)
+            self.new.view }
         ensures remembered { self.new.remembered ≡ self.old.remembered }
     {
         match self.add_strings(strings) {

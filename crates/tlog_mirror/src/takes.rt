@@ -30,7 +30,8 @@ impl<H: TreeHash> Mirror<H> {
     pub fn take_tile(&mut self, alloc: Global, width: u32, bytes: &[u8]) -> Result<(), TakeFault>
         requires some { 1 ≤ width }
         requires most { width ≤ 256 }
-        ensures takes { (keys : List Key) → Takes H.digest keys self.old.view (Tile width bytes.now) (answer_of result) self.new.view }
+        ensures takes { (keys : List Key) → Takes H.digest keys self.old.view (Tile width bytes.now)
+            (answer_of result) self.new.view }
         ensures judged { JudgesTile width bytes.now result }
         ensures remembered { self.new.remembered ≡ self.old.remembered }
     {
@@ -63,7 +64,8 @@ impl<H: TreeHash> Mirror<H> {
     pub fn take_bundle(&mut self, alloc: Global, width: u32, bytes: &[u8]) -> Result<(), TakeFault>
         requires some { 1 ≤ width }
         requires most { width ≤ 256 }
-        ensures takes { (keys : List Key) → Takes H.digest keys self.old.view (Bundle width bytes.now) (answer_of result) self.new.view }
+        ensures takes { (keys : List Key) → Takes H.digest keys self.old.view
+            (Bundle width bytes.now) (answer_of result) self.new.view }
         ensures judged { JudgesBundle width bytes.now result }
         ensures remembered { self.new.remembered ≡ self.old.remembered }
     {
@@ -87,7 +89,8 @@ impl<H: TreeHash> Mirror<H> {
     pub(crate) fn add_strings(&mut self, strings: &Store<H>) -> Result<(), AddFault>
         requires no_clash { NoClash H.digest strings.now }
         requires short { (entry : List ℕ) → Has strings.now (0 ∷ entry) → length entry ≤ 65535 }
-        ensures adds { Answers H.digest self.old.view (Unit {0}) (with_strings self.old.view strings.now) (added result) self.new.view }
+        ensures adds { Answers H.digest self.old.view (Unit {0})
+            (with_strings self.old.view strings.now) (added result) self.new.view }
         ensures remembered { self.new.remembered ≡ self.old.remembered }
     {
         self.laid = None;

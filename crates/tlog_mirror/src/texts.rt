@@ -60,7 +60,9 @@ impl<H: TreeHash> Mirror<H> {
         size: u64,
         root: &Hash,
     ) -> Result<Option<String>, AllocError>
-        ensures some { IfOk result (λ o. IfSome o (λ text. IsMissingText H.digest self.now.view size root.now (string_bytes text))) }
+        ensures some { IfOk result
+            (λ o. IfSome o (λ text. IsMissingText H.digest self.now.view size root.now
+            (string_bytes text))) }
         ensures none { IfOk result (λ o. IfNone o (¬ HasHead self.now.view size root.now)) }
     {
         let Some(paths) = self.missing(alloc, size, root)? else {
@@ -74,7 +76,8 @@ impl<H: TreeHash> Mirror<H> {
 
 // Adds a size and a root, with a space between.
 pub(crate) fn push_point(text: &mut String, size: u64, root: &Hash) -> Result<(), AllocError>
-    ensures { OnOk result (string_bytes text.new ≡ string_bytes text.old ++ point_text size root.now) }
+    ensures { OnOk result (string_bytes text.new ≡ string_bytes text.old
+        ++ point_text size root.now) }
 {
     push_number(text, size)?;
     text.push_str(" ")?;
@@ -96,7 +99,8 @@ fn push_head(text: &mut String, head: &Head) -> Result<(), AllocError>
 
 // Adds a line for each head.
 fn push_heads(text: &mut String, heads: &[Head]) -> Result<(), AllocError>
-    ensures { OnOk result (string_bytes text.new ≡ string_bytes text.old ++ flat_map head_line heads.now) }
+    ensures { OnOk result (string_bytes text.new ≡ string_bytes text.old
+        ++ flat_map head_line heads.now) }
 {
     for head in heads {
         push_head(text, head)?;
@@ -106,7 +110,8 @@ fn push_heads(text: &mut String, heads: &[Head]) -> Result<(), AllocError>
 
 // Adds the line of what is served.
 fn push_served(text: &mut String, served: &Option<(u64, Hash)>) -> Result<(), AllocError>
-    ensures { OnOk result (string_bytes text.new ≡ string_bytes text.old ++ served_line (option_map pair_point served.now)) }
+    ensures { OnOk result (string_bytes text.new ≡ string_bytes text.old
+        ++ served_line (option_map pair_point served.now)) }
 {
     match served {
         Some(point) => {
@@ -141,7 +146,8 @@ fn push_forks(text: &mut String, forks: &[Fork]) -> Result<(), AllocError>
 
 // Adds a line for each path.
 fn push_paths(alloc: Global, text: &mut String, paths: &[Path]) -> Result<(), AllocError>
-    ensures { OnOk result (string_bytes text.new ≡ string_bytes text.old ++ missing_text paths.now) }
+    ensures { OnOk result (string_bytes text.new ≡ string_bytes text.old
+        ++ missing_text paths.now) }
 {
     for path in paths {
         push_path(alloc, text, path)?;

@@ -66,9 +66,13 @@ impl<'a, H: TreeHash> TopRanges<'a, H> {
         index: u64,
         width: u32,
     ) -> Result<Option<Vec<u8>>, AllocError>
-        ensures some { IfOk result (λ o. IfSome o (λ bytes. (entries : List (List ℕ)) → IsListOf H.digest self.now entries → bytes.items ≡ tile_bytes H.digest entries level index width)) }
-        ensures within { IfOk result (λ o. IfSome o (λ bytes. IsTileWithin self.now.size level index width)) }
-        ensures none { IfOk result (λ o. IfNone o (¬ IsTileWithin self.now.size level index width)) }
+        ensures some { IfOk result
+            (λ o. IfSome o (λ bytes. (entries : List (List ℕ)) → IsListOf H.digest self.now entries
+            → bytes.items ≡ tile_bytes H.digest entries level index width)) }
+        ensures within { IfOk result
+            (λ o. IfSome o (λ bytes. IsTileWithin self.now.size level index width)) }
+        ensures none { IfOk result
+            (λ o. IfNone o (¬ IsTileWithin self.now.size level index width)) }
     {
         let Some(row) = row_at(
             alloc,
@@ -98,8 +102,11 @@ impl<'a, H: TreeHash> TopRanges<'a, H> {
         index: u64,
         width: u32,
     ) -> Result<Option<Vec<u8>>, AllocError>
-        ensures some { IfOk result (λ o. IfSome o (λ bytes. (entries : List (List ℕ)) → IsListOf H.digest self.now entries → bytes.items ≡ bundle_bytes entries index width)) }
-        ensures within { IfOk result (λ o. IfSome o (λ bytes. IsTileWithin self.now.size 0 index width)) }
+        ensures some { IfOk result
+            (λ o. IfSome o (λ bytes. (entries : List (List ℕ)) → IsListOf H.digest self.now entries
+            → bytes.items ≡ bundle_bytes entries index width)) }
+        ensures within { IfOk result
+            (λ o. IfSome o (λ bytes. IsTileWithin self.now.size 0 index width)) }
         ensures none { IfOk result (λ o. IfNone o (¬ IsTileWithin self.now.size 0 index width)) }
     {
         let Some(entries) = entries_at(alloc, self.strings, self.size, &self.root, index, width)?

@@ -72,7 +72,8 @@ pub fn tile_of_node(start: u64, size: u64) -> (u32, u64)
     requires { 2 ≤ size }
     ensures level { result.0 ≤ 7 }
     ensures tile { IsTileOfNode start size result.0 result.1 }
-    ensures range { IsPowerOfTwo size → start % size ≡ 0 → RangeHasNode result.0 result.1 start size }
+    ensures range { IsPowerOfTwo size → start % size ≡ 0 → RangeHasNode result.0 result.1 start
+        size }
 {
     let mut level = 0;
     let mut rest = (size - 1) >> 8;

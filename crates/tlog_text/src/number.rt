@@ -30,7 +30,8 @@ fn are_digits(text: &str) -> bool
 
 // Whether the text is decimal digits without leading zeros.
 fn is_decimal(text: &str) -> bool
-    ensures { MatchBool result (IsDecimal text.now (digits_value 10 text.now)) ((n : ℕ) → ¬ IsDecimal text.now n) }
+    ensures { MatchBool result (IsDecimal text.now (digits_value 10 text.now))
+        ((n : ℕ) → ¬ IsDecimal text.now n) }
 {
     let digits = text.as_bytes();
     if digits.is_empty() {

@@ -49,8 +49,10 @@ pub const MAX_BUNDLE_LEN: usize = 16_777_472;
 /// split_entry(&[0, 2, 97])      // None: one byte is lacking
 /// ```
 pub fn split_entry(bytes: &[u8]) -> Option<(&[u8], &[u8])>
-    ensures found { IfSome result (λ x. (length x.0.now < 2 ^ 16) × (bytes.now ≡ entry_text x.0.now ++ x.1.now)) }
-    ensures none { IfNone result ((entry rest : List ℕ) → length entry < 2 ^ 16 → ¬ (bytes.now ≡ entry_text entry ++ rest)) }
+    ensures found { IfSome result (λ x. (length x.0.now < 2 ^ 16)
+        × (bytes.now ≡ entry_text x.0.now ++ x.1.now)) }
+    ensures none { IfNone result ((entry rest : List ℕ) → length entry < 2 ^ 16
+        → ¬ (bytes.now ≡ entry_text entry ++ rest)) }
 {
     if bytes.len() < 2 {
         return None;
@@ -100,7 +102,8 @@ pub fn read_bundle(alloc: Global, width: u32, bytes: &[u8]) -> Result<Vec<&[u8]>
 pub fn write_bundle(alloc: Global, entries: &[&[u8]]) -> Result<Vec<u8>, AllocError>
     requires count { length entries.now ≤ 256 }
     requires fits { All (λ e. length e.now < 2 ^ 16) entries.now }
-    ensures { IfOk result (λ v. IsBundle (length entries.now) v.items (map (λ e. e.now) entries.now)) }
+    ensures { IfOk result (λ v. IsBundle (length entries.now) v.items
+        (map (λ e. e.now) entries.now)) }
 {
     let mut bytes = Vec::new(alloc);
     for entry in entries {

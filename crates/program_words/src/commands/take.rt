@@ -105,7 +105,8 @@ fn kind_of(word: &str) -> Result<Kind, CommandFault>
 
 // The width, which may be left out.
 fn width_of(found: &ArgMatches<'_>) -> Result<u32, CommandFault>
-    ensures { ReadsPart (IsTakeWidth (first_of (codes "width") (rows_of (found_of found.now)))) result }
+    ensures { ReadsPart (IsTakeWidth (first_of (codes "width") (rows_of (found_of found.now))))
+        result }
 {
     match found.get_str("width") {
         Some(word) => Ok(number_in(word, 1, 256)? as u32),

@@ -59,7 +59,8 @@ impl fmt::Display for Path {
 
 // Writes the index and the width.
 fn write_place<W: fmt::Write>(f: &mut fmt::Formatter<W>, index: u64, width: u32) -> fmt::Result
-    ensures { WritesOnOk W.write_str_gives f.old result (index_text index ++ width_text width) f.new }
+    ensures { WritesOnOk W.write_str_gives f.old result (index_text index ++ width_text width)
+        f.new }
 {
     write_groups(f, index / 1000)?;
     write_three(f, index)?;

@@ -18,7 +18,8 @@ pub enum Kind {
 
 // The bytes before the first slash, and those behind it.
 fn cut_first(bytes: &[u8]) -> Option<(&[u8], &[u8])>
-    ensures found { IfSome result (λ x. HasNoSlash x.0.now × (bytes.now ≡ x.0.now ++ 47 ∷ x.1.now)) }
+    ensures found { IfSome result (λ x. HasNoSlash x.0.now
+        × (bytes.now ≡ x.0.now ++ 47 ∷ x.1.now)) }
     ensures none { IfNone result (HasNoSlash bytes.now) }
 {
     for (at, byte) in bytes.iter().enumerate() {
@@ -31,7 +32,8 @@ fn cut_first(bytes: &[u8]) -> Option<(&[u8], &[u8])>
 
 // The bytes before the last slash, and those behind it.
 fn cut_last(bytes: &[u8]) -> Option<(&[u8], &[u8])>
-    ensures found { IfSome result (λ x. HasNoSlash x.1.now × (bytes.now ≡ x.0.now ++ 47 ∷ x.1.now)) }
+    ensures found { IfSome result (λ x. HasNoSlash x.1.now
+        × (bytes.now ≡ x.0.now ++ 47 ∷ x.1.now)) }
     ensures none { IfNone result (HasNoSlash bytes.now) }
 {
     for at in (0..bytes.len()).rev() {
@@ -96,7 +98,8 @@ pub fn width_part(tail: &[u8]) -> (&[u8], Option<&[u8]>)
 // The number of three digits at the start, and the bytes behind them.
 fn three_at(bytes: &[u8]) -> Option<(u64, &[u8])>
     ensures found { IfSome result (λ x. (x.0 < 1000) × (bytes.now ≡ three_digits x.0 ++ x.1.now)) }
-    ensures none { IfNone result ((group : ℕ) (rest : List ℕ) → group < 1000 → ¬ (bytes.now ≡ three_digits group ++ rest)) }
+    ensures none { IfNone result ((group : ℕ) (rest : List ℕ) → group < 1000
+        → ¬ (bytes.now ≡ three_digits group ++ rest)) }
 {
     match bytes {
         [
@@ -117,7 +120,8 @@ fn three_at(bytes: &[u8]) -> Option<(u64, &[u8])>
 // The number of the group at the start, which others follow, and the bytes behind it.
 fn group_at(bytes: &[u8]) -> Option<(u64, &[u8])>
     ensures found { IfSome result (λ x. (x.0 < 1000) × (bytes.now ≡ group_text x.0 ++ x.1.now)) }
-    ensures none { IfNone result ((group : ℕ) (rest : List ℕ) → group < 1000 → ¬ (bytes.now ≡ group_text group ++ rest)) }
+    ensures none { IfNone result ((group : ℕ) (rest : List ℕ) → group < 1000
+        → ¬ (bytes.now ≡ group_text group ++ rest)) }
 {
     let digits = strip_start(bytes, b"x")?;
     let (number, after) = three_at(digits)?;
