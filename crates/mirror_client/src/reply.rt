@@ -26,7 +26,8 @@ fn framing_of(buf: &[u8], headers: &[HeaderSpan]) -> Framing
 
 // The status of the head at the start, what it says of the body, and where what follows it begins.
 fn head_of(front: &[u8]) -> Option<(u16, Framing, usize)>
-    ensures found { IfSome result (λ r. (h : ResponseHead) × ReadsResponse front.now h (drop r.2 front.now) × (length h.fields ≤ MAX_FIELDS)
+    ensures found { IfSome result (λ r. (h : ResponseHead)
+        × ReadsResponse front.now h (drop r.2 front.now) × (length h.fields ≤ MAX_FIELDS)
         × (r.0 ≡ status_code h) × FramingIs (fields_of h) r.1 × (r.2 ≤ length front.now)) }
     ensures none { IfNone result ((h : ResponseHead) (rest : List ℕ)
         → ReadsResponse front.now h rest → ¬ (length h.fields ≤ MAX_FIELDS)) }
