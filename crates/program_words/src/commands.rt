@@ -32,7 +32,7 @@ A mirror for one append-only transparency log in the C2SP tlog-tiles layout
 Usage: tlogmirror <COMMAND>
 
 Follow a log, in a state, which is one file:
-  pull     Fetches what the newest checkpoint lacks, from a folder or over plain HTTP
+  pull     Fetches the newest checkpoint and what is missing of it, from a folder or over plain HTTP
   take     Takes a checkpoint, a tile or an entry bundle from files
   merge    Makes one mirror of two
 Ask a state:
@@ -47,7 +47,7 @@ Publish what it holds:
   notes    Writes each signed note to a file of its own
 Without a state:
   check    Reads a proof, and prints whether it holds
-  build    Makes a log of entries
+  build    Makes a log of entries, and signs its checkpoint
   root     Prints the tree hash of an entry bundle
 
 Options:

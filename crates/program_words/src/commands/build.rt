@@ -50,7 +50,7 @@ pub(crate) fn parser<'a>(alloc: Global) -> Result<clap::Command<'a>, AllocError>
     log_parser(
         alloc,
         "build",
-        "Makes a log of the entries on standard input, and writes its files to a folder",
+        "Makes a log of the entries on standard input, signs its checkpoint, and writes its files to a folder",
         HELP,
         &[
             Argument::Option("dir", "D", "The folder that the log is written to"),

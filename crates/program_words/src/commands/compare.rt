@@ -34,7 +34,7 @@ Faults of O, K and S: see 'tlogmirror --help'. Besides, on standard error:
                       a FILE is no signed note
   TooFewLines, EmptyLine, BadSize, SizeTooLarge, BadRoot
                       the note is no checkpoint
-  OtherOrigin         the checkpoint may be the one of another log: give its own origin
+  OtherOrigin         S or the checkpoint of a FILE is of another log
   NoTrustedSignature  no key of K signed the note: add the log's key or a pin
   NothingComplete     no checkpoint is complete: pull what is missing first
 

@@ -48,7 +48,7 @@ Faults of O, K, S and T: see 'tlogmirror --help'. Of the place:
                       the checkpoint is no signed note
   TooFewLines, EmptyLine, BadSize, SizeTooLarge, BadRoot
                       the note is no checkpoint
-  OtherOrigin         the checkpoint is of another log, where it is not S that is
+  OtherOrigin         S or the checkpoint is of another log
   NoTrustedSignature  no key of K signed the checkpoint: add the log's key or a pin
   EdgeLength, EdgeMismatch
                       the tiles are not those of the checkpoint: another place may be honest
@@ -64,7 +64,7 @@ pub(crate) fn parser<'a>(alloc: Global) -> Result<clap::Command<'a>, AllocError>
     made_parser(
         alloc,
         "pull",
-        "Fetches what a log's newest checkpoint lacks, from a folder or over plain HTTP, and writes the mirror's state",
+        "Fetches a log's newest checkpoint and what is missing of it, from a folder or over plain HTTP, and writes a state",
         HELP,
         &[
             Argument::Choice(

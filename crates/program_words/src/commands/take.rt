@@ -50,7 +50,7 @@ Faults of O, K, S and T: see 'tlogmirror --help'. Of the files:
                       the first file is no signed note
   TooFewLines, EmptyLine, BadSize, SizeTooLarge, BadRoot
                       the note is no checkpoint
-  OtherOrigin         the checkpoint is of another log, where it is not S that is
+  OtherOrigin         S or the checkpoint is of another log
   NoTrustedSignature  no key of K signed the note: add the log's key or a pin
   EdgeCount, EdgeLength, EdgeMismatch
                       the rows are not those of the note's tree
