@@ -1,5 +1,5 @@
 -- What is refused where a part is refused, and what `clap` finds of an option.
-use Rattle.std.proofs.Common.{◌≡◌, ◌∙◌, Bor, sym, ap, subst, true≢false, is_some, unwrap_or, option_map, List, Option}
+use Rattle.std.proofs.Common.{◌≡◌, ◌∙◌, sym, ap, subst, true≢false, is_some, unwrap_or, option_map, List, Option}
 use Rattle.std.proofs.Common.{Some, None, Result, Err, Bool, IsTrue, ◌↔◌, codes}
 use Rattle.std.specs.Str.{bytes_eq}
 use Rattle.std.proofs.lemmas.Slice.Eq.{bytes_eq-Decides}
@@ -8,7 +8,7 @@ use Rattle.clap.specs.declared.parser.matches.Found.{Found}
 use Rattle.clap.proofs.WalkLemmas.{first_value-rows, raw_values-rows}
 use Rattle.program_words.specs.declared.fault.CommandFault.{CommandFault}
 use Rattle.program_words.specs.declared.fault.CommandFault.TheVariants.{Help, Words, BadArgument, OutOfMemory}
-use Rattle.program_words.specs.Commands.{Given, HasFlag, HasValue}
+use Rattle.program_words.specs.Commands.{Given, HasFlag}
 use Rattle.program_words.specs.Readings.{ReadsPart}
 
 -- a whole that has a part is refused where the part is
@@ -46,24 +46,8 @@ pub listed : (f : Found) (name : Text) (texts : Option (List Text)) →
     texts ≡ option_map raw_values (matched_of f name) → all_of name (rows_of f) ≡ texts
 listed f name texts e = sym (raw_values-rows f name) ∙ sym e
 
--- an option has one value
-pub one_given : (options : List Row) (name text : Text) (IsSuch : Text → Type 0) → Given options name text →
-    HasValue options name IsSuch → IsSuch text
-one_given options name text IsSuch given h =
-    let same : Some h.value ≡ Some text = sym h.given ∙ given in
-    subst IsSuch (ap (λ o. unwrap_or o text) same) h.is_such
-
 -- the same, where the answer is the fault of the part
 pub refused_from : {X Y : Type 0} → (P : X → Type 0) (Q : Y → Type 0) (r : Result Y CommandFault) (e : CommandFault)
     → (x : CommandFault) × (r ≡ Err x) × (x ≡ e) → ReadsPart P (Err e) → ((y : Y) → Q y → (x : X) × P x)
     → ReadsPart Q r
 refused_from P Q r e p none part = rw (p.1, p.2) (refused_by P Q e none part)
-
--- an option that has to be there, and is not
-pub word_refused : {Y : Type 0} → (options : List Row) (name : Text) (Q : Y → Type 0) (r : Result Y CommandFault)
-    (e : CommandFault) → (x : CommandFault) × (r ≡ Err x) × (x ≡ e)
-    → ReadsPart (λ (w : Bor Text). Given options name w.now) (Err e)
-    → ((y : Y) → Q y → (text : Text) × Given options name text) → ReadsPart Q r
-word_refused options name Q r e p none part =
-    refused_from (λ (w : Bor Text). Given options name w.now) Q r e p none (λ y q. let t = part y q in
-    (record { ref_ptr = (0, 0); now = t.0 }, t.1))

@@ -1,8 +1,6 @@
 use Rattle.std.proofs.Common.{codes, option_map}
-use Rattle.std.proofs.lemmas.Result.{err_from_is_err_and}
-use Rattle.clap.specs.Words.{found_of, rows_of}
-use Rattle.program_words.specs.Commands.{IsPull}
-use Rattle.program_words.proofs.Refusing.{given_or_none, word_refused}
+use Rattle.clap.specs.Words.{found_of}
+use Rattle.program_words.proofs.Refusing.{given_or_none}
 use Rattle.program_words.proofs.commands.pull.pull_of.Goals as goal
 
 pub returns : goal.returns

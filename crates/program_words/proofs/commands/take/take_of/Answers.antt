@@ -1,7 +1,7 @@
 use Rattle.std.proofs.Common.{◌∙◌, codes, option_map, subst}
 use Rattle.std.proofs.lemmas.Result.{err_from_is_err_and}
 use Rattle.clap.specs.Words.{found_of, rows_of}
-use Rattle.program_words.specs.Commands.{Given, IsCount, IsOutputArgs, IsTake, kind_name}
+use Rattle.program_words.specs.Commands.{Given, IsCount, IsOutputArgs, IsTake}
 use Rattle.program_words.proofs.Refusing.{given_or_none, refused_from}
 use Rattle.program_words.proofs.commands.take.take_of.Goals as goal
 
