@@ -1,6 +1,6 @@
 -- Pieces of a text, put one after the other.
 use Rattle.std.proofs.Common.{◌≡◌, ℕ, zero, suc, ◌+◌, List, [], ◌∷◌, ◌++◌, length, take, drop, map, Result, Ok, Err}
-use Rattle.std.proofs.Common.{Option, Some, None, refl, sym, ap, subst, ◌∙◌, ◌<◌, append_assoc, get_or, arith}
+use Rattle.std.proofs.Common.{Option, Some, None, refl, sym, ap, subst, ◌∙◌, ◌<◌, append_assoc, get_or, arith, true≢false}
 use Rattle.std.proofs.lemmas.List.{append-nil}
 use Rattle.std.specs.List.{flat_map}
 use Rattle.std.proofs.Math.Seq.{take-append-add}
@@ -8,7 +8,7 @@ use Rattle.std.specs.Io.KnownBytes.{Appends}
 use Rattle.byte_streams.specs.Streams.{AppendsPrefix}
 use Rattle.byte_streams.specs.declared.fault.StreamFault.{StreamFault}
 use Rattle.sha2.specs.Sha256.{sha256}
-use Rattle.std.specs.Prelude.{OnOk, OnErr}
+use Rattle.std.specs.Prelude.{IsErr, OnOk, OnErr}
 use Rattle.sha2.specs.Hashers.{Holds256}
 use Rattle.sha2.specs.declared.Sha256.{Sha256}
 use Rattle.mirror_state.specs.declared.page.Page.{Page}
@@ -119,9 +119,11 @@ puts_then {old} {mid} {new} {page} {page'} {page''} {first} {second} {answer = E
 
 -- a piece fails, and what would have followed it is not put
 pub puts_short :
-    {old new : Option (List ℕ)} {page page' : Page} {first : List ℕ} {fault : StreamFault} (rest : List ℕ) →
-    Puts old new page page' first (Err fault) → Puts old new page page' (first ++ rest) (Err fault)
-puts_short {old} {new} {page} {page'} {first} {fault} rest p = record {
+    {old new : Option (List ℕ)} {page page' : Page} {first : List ℕ} {fault : StreamFault}
+    {answer : Result (Unit {0}) StreamFault} (rest : List ℕ) → IsErr answer →
+    Puts old new page page' first (Err fault) → Puts old new page page' (first ++ rest) answer
+puts_short {answer = Ok done} rest failed p = absurd (true≢false (sym failed))
+puts_short {old} {new} {page} {page'} {first} {fault} {answer = Err passed} rest failed p = record {
   writes = writes_short old new page.held.items page'.held.items first rest fault p.writes;
   hashes = tt;
 }
@@ -184,10 +186,11 @@ module _ {X : Type 0} (f : List ℕ → List ℕ) (g : X → List ℕ) where
 
   -- the next item fails, and those behind it are not put
   pub puts_last :
-      {old mid new : Option (List ℕ)} {page page' page'' : Page} {fault : StreamFault} (xs : List X) (i : ℕ) (d : X) →
-      i < length xs → Puts old mid page page' (flat_map f (map g (take i xs))) (Ok tt) →
+      {old mid new : Option (List ℕ)} {page page' page'' : Page} {fault : StreamFault}
+      {answer : Result (Unit {0}) StreamFault} (xs : List X) (i : ℕ) (d : X) → IsErr answer → i < length xs →
+      Puts old mid page page' (flat_map f (map g (take i xs))) (Ok tt) →
       Puts mid new page' page'' (f (g (get_or xs i d))) (Err fault) →
-      Puts old new page page'' (flat_map f (map g xs)) (Err fault)
-  puts_last xs i d lt before p =
+      Puts old new page page'' (flat_map f (map g xs)) answer
+  puts_last xs i d failed lt before p =
       rw (← text_split xs (i + 1), ← text_more xs i d lt)
-      (puts_short (flat_map f (map g (drop (i + 1) xs))) (puts_then before p))
+      (puts_short (flat_map f (map g (drop (i + 1) xs))) failed (puts_then before p))

@@ -97,14 +97,8 @@ pub fn load_bytes<H: TreeHash>(
         (seen (λ mirror. mirror.view) result) }
     ensures remembered { IfOk result (λ mirror. mirror.remembered ≡ set.empty) }
 {
-    let lists = match checked_lists(alloc, origin.as_bytes(), bytes) {
-        Ok(lists) => lists,
-        Err(fault) => return Err(fault),
-    };
-    match check_all::<H>(alloc, origin, keys, lists.notes()) {
-        Ok(()) => {}
-        Err(fault) => return Err(fault),
-    }
+    let lists = checked_lists(alloc, origin.as_bytes(), bytes)?;
+    check_all::<H>(alloc, origin, keys, lists.notes())?;
     let strings = match store_of::<H>(alloc, &lists) {
         Ok(strings) => strings,
         Err(AddFault::Collision) => return Err(LoadFault::Collision),
@@ -114,10 +108,7 @@ pub fn load_bytes<H: TreeHash>(
     let Ok(mut mirror) = Mirror::of_strings(alloc, origin, strings) else {
         return Err(LoadFault::OutOfMemory);
     };
-    match keep_notes(alloc, &mut mirror, keys, lists.notes()) {
-        Ok(()) => {}
-        Err(fault) => return Err(fault),
-    }
+    keep_notes(alloc, &mut mirror, keys, lists.notes())?;
     Ok(mirror)
 }
 
@@ -235,10 +226,7 @@ fn add_listed<H: TreeHash>(
         result store.new }
 {
     for item in items {
-        match add_item(store, kind, item) {
-            Ok(()) => {}
-            Err(fault) => return Err(fault),
-        }
+        add_item(store, kind, item)?;
     }
     Ok(())
 }
@@ -259,10 +247,7 @@ pub(crate) fn store_of<H: TreeHash>(alloc: Global, lists: &Lists) -> Result<Stor
     let Ok(mut store) = Store::<H>::with_capacity(alloc, count_of(lists)) else {
         return Err(AddFault::OutOfMemory);
     };
-    match add_lists(&mut store, lists) {
-        Ok(()) => {}
-        Err(fault) => return Err(fault),
-    }
+    add_lists(&mut store, lists)?;
     Ok(store)
 }
 
@@ -299,10 +284,7 @@ fn add_both<H: TreeHash>(
     ensures { AddsListed H.digest store.old (map (λ e. 0 ∷ e) (map (λ x. x.now) entries.now)
         ++ map (λ p. 1 ∷ p) (map (λ x. x.now) pairs.now)) result store.new }
 {
-    match add_listed(store, Kind::Entries, entries) {
-        Ok(()) => {}
-        Err(fault) => return Err(fault),
-    }
+    add_listed(store, Kind::Entries, entries)?;
     add_listed(store, Kind::Pairs, pairs)
 }
 
@@ -343,10 +325,7 @@ fn check_notes<H: TreeHash>(
         (map (λ n. n.now) notes.now) result }
 {
     for note in notes {
-        match check_note(alloc, mirror, keys, note) {
-            Ok(()) => {}
-            Err(fault) => return Err(fault),
-        }
+        check_note(alloc, mirror, keys, note)?;
     }
     Ok(())
 }

@@ -37,10 +37,7 @@ fn flush<W: Write>(writer: &mut W, held: &mut Vec<u8>) -> Result<(), StreamFault
         held.new.items [] result }
     ensures empty { OnOk result (held.new.items ≡ []) }
 {
-    match write_whole(writer, held.as_slice()) {
-        Ok(()) => {}
-        Err(fault) => return Err(fault),
-    }
+    write_whole(writer, held.as_slice())?;
     held.clear();
     Ok(())
 }
@@ -66,10 +63,7 @@ fn write_through<W: Write>(
         held.new.items piece.now result }
     ensures empty { OnOk result (held.new.items ≡ []) }
 {
-    match flush(writer, held) {
-        Ok(()) => {}
-        Err(fault) => return Err(fault),
-    }
+    flush(writer, held)?;
     write_whole(writer, piece)
 }
 
@@ -94,10 +88,7 @@ pub(crate) fn put<W: Write>(
         result }
 {
     page.digest.update(piece);
-    match make_room(writer, &mut page.held) {
-        Ok(()) => {}
-        Err(fault) => return Err(fault),
-    }
+    make_room(writer, &mut page.held)?;
     hold(writer, &mut page.held, piece)
 }
 

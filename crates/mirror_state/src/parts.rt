@@ -96,14 +96,8 @@ fn lists_at(alloc: Global, bytes: &[u8]) -> Result<(Lists<'_>, &[u8]), PartsFaul
 pub(crate) fn read_parts(alloc: Global, bytes: &[u8]) -> Result<Lists<'_>, PartsFault>
     ensures { ReadsParts bytes.now (seen parts_of result) }
 {
-    match lists_at(alloc, bytes) {
-        Err(fault) => Err(fault),
-        Ok((lists, end)) => {
-            let (body, _) = bytes.split_at(bytes.len() - end.len());
-            match check_end(body, end) {
-                Err(fault) => Err(fault),
-                Ok(()) => Ok(lists),
-            }
-        }
-    }
+    let (lists, end) = lists_at(alloc, bytes)?;
+    let (body, _) = bytes.split_at(bytes.len() - end.len());
+    check_end(body, end)?;
+    Ok(lists)
 }

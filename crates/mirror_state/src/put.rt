@@ -21,10 +21,7 @@ pub(crate) fn put_short<W: Write>(
         (item_text Form.Short item.now) result }
 {
     let len = item.len() as u16;
-    match put(writer, page, len.to_be_bytes().as_slice()) {
-        Ok(()) => {}
-        Err(fault) => return Err(fault),
-    }
+    put(writer, page, len.to_be_bytes().as_slice())?;
     put(writer, page, item)
 }
 
@@ -35,10 +32,7 @@ fn put_long<W: Write>(writer: &mut W, page: &mut Page, item: &[u8]) -> Result<()
         (item_text Form.Long item.now) result }
 {
     let len = item.len() as u32;
-    match put(writer, page, len.to_be_bytes().as_slice()) {
-        Ok(()) => {}
-        Err(fault) => return Err(fault),
-    }
+    put(writer, page, len.to_be_bytes().as_slice())?;
     put(writer, page, item)
 }
 
@@ -72,10 +66,7 @@ fn put_items<W: Write>(
         (items_text form (map (λ i. i.now) items.now)) result }
 {
     for item in items {
-        match put_item(writer, page, form, item) {
-            Ok(()) => {}
-            Err(fault) => return Err(fault),
-        }
+        put_item(writer, page, form, item)?;
     }
     Ok(())
 }
@@ -100,10 +91,7 @@ pub(crate) fn put_list<W: Write>(
     ensures { Puts (W.contents writer.old) (W.contents writer.new) page.old page.new
         (list_text form (map (λ i. i.now) items.now)) result }
 {
-    match put_count(writer, page, items.len()) {
-        Ok(()) => {}
-        Err(fault) => return Err(fault),
-    }
+    put_count(writer, page, items.len())?;
     put_items(writer, page, form, items)
 }
 
@@ -117,10 +105,7 @@ fn put_pair<W: Write>(
     ensures { Puts (W.contents writer.old) (W.contents writer.new) page.old page.new
         (left.now ++ right.now) result }
 {
-    match put(writer, page, left.as_slice()) {
-        Ok(()) => {}
-        Err(fault) => return Err(fault),
-    }
+    put(writer, page, left.as_slice())?;
     put(writer, page, right.as_slice())
 }
 
@@ -134,10 +119,7 @@ fn put_each_pair<W: Write>(
         (items_text Form.Hashes (map pair_bytes pairs.now)) result }
 {
     for (left, right) in pairs {
-        match put_pair(writer, page, left, right) {
-            Ok(()) => {}
-            Err(fault) => return Err(fault),
-        }
+        put_pair(writer, page, left, right)?;
     }
     Ok(())
 }
@@ -151,9 +133,6 @@ pub(crate) fn put_pairs<W: Write>(
     ensures { Puts (W.contents writer.old) (W.contents writer.new) page.old page.new
         (list_text Form.Hashes (map pair_bytes pairs.now)) result }
 {
-    match put_count(writer, page, pairs.len()) {
-        Ok(()) => {}
-        Err(fault) => return Err(fault),
-    }
+    put_count(writer, page, pairs.len())?;
     put_each_pair(writer, page, pairs)
 }

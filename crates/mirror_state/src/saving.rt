@@ -78,10 +78,7 @@ fn write_text<W: Write>(
         (map (λ e. e.now) entries.now))) result }
 {
     let mut page = Page::new(alloc);
-    match put_body(writer, &mut page, origin, notes, pairs, entries) {
-        Ok(()) => {}
-        Err(fault) => return Err(fault),
-    }
+    put_body(writer, &mut page, origin, notes, pairs, entries)?;
     finish(writer, &mut page)
 }
 
@@ -100,21 +97,9 @@ fn put_body<W: Write>(
         (body_text (Parted origin.now (map (λ n. n.now) notes.now) (map pair_bytes pairs.now)
         (map (λ e. e.now) entries.now))) result }
 {
-    match put(writer, page, b"TLMIRR02".as_slice()) {
-        Ok(()) => {}
-        Err(fault) => return Err(fault),
-    }
-    match put_short(writer, page, origin) {
-        Ok(()) => {}
-        Err(fault) => return Err(fault),
-    }
-    match put_list(writer, page, Form::Long, notes) {
-        Ok(()) => {}
-        Err(fault) => return Err(fault),
-    }
-    match put_pairs(writer, page, pairs) {
-        Ok(()) => {}
-        Err(fault) => return Err(fault),
-    }
+    put(writer, page, b"TLMIRR02".as_slice())?;
+    put_short(writer, page, origin)?;
+    put_list(writer, page, Form::Long, notes)?;
+    put_pairs(writer, page, pairs)?;
     put_list(writer, page, Form::Short, entries)
 }

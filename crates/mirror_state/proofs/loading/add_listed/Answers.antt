@@ -1,3 +1,4 @@
+use Rattle.std.proofs.lemmas.Result.{err_from_is_err_and}
 use Rattle.mirror_state.specs.LoadSteps.{IsListable, tagged_as}
 use Rattle.std.proofs.lemmas.List.Elements.{All-contains}
 use Rattle.mirror_state.proofs.ListedItems.{bytes_of, is_item, listed_more, listed_refused, listed_done}
@@ -12,18 +13,19 @@ add_item-requires g c =
     All-contains (IsListable c.args.kind) (bytes_of c.args.items.now) _ c.requires.listable
     (is_item (tagged_as c.args.kind) c.args.items.now c.loop-item.item-index _ c.loop-item-test.true)
 
-pub returns-in-Err : goal.returns-in-Err
-returns-in-Err g c =
-    listed_refused g.H.TreeHash.digest (tagged_as c.args.kind) c.args.items.now c.loop-item.item-index _
+pub returns-in_err-add_item : goal.returns-in_err-add_item
+returns-in_err-add_item g c =
+    let p = err_from_is_err_and c.from_residual.result c.from_residual.ensures.1 in
+    rw (p.1, p.2) (listed_refused g.H.TreeHash.digest (tagged_as c.args.kind) c.args.items.now c.loop-item.item-index _
     c.loop-item-test.true
-    c.args.store.now c.loop-item.store c.add_item.new.store c.loop-item.invariant.store c.in-Err.fault
-    c.in-Err.ensures.collision
+    c.args.store.now c.loop-item.store c.add_item.new.store c.loop-item.invariant.store c.in_err-add_item.field-0.0
+    c.in_err-add_item.ensures.collision)
 
 pub loop-item-preserved : goal.loop-item-preserved
 loop-item-preserved g c = record {
   store = listed_more (tagged_as c.args.kind) c.args.items.now c.loop-item.item-index _ c.loop-item-test.true
-      c.args.store.now c.loop-item.store c.add_item.new.store c.loop-item.invariant.store c.in-Ok.ensures.ok.0;
-  no_clash = c.in-Ok.ensures.ok.1;
+      c.args.store.now c.loop-item.store c.add_item.new.store c.loop-item.invariant.store c.in_ok-add_item.ensures.ok.0;
+  no_clash = c.in_ok-add_item.ensures.ok.1;
 }
 
 pub returns : goal.returns

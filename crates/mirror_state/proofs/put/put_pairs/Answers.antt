@@ -6,9 +6,9 @@ use Rattle.mirror_state.specs.Items.{items_text}
 use Rattle.mirror_state.proofs.Putting.{puts_short, puts_then}
 use Rattle.mirror_state.proofs.put.put_pairs.Goals as goal
 
-pub returns-in-Err : goal.returns-in-Err
-returns-in-Err g c =
-    rw length-map (puts_short (items_text Hashes (map pair_bytes c.args.pairs.now)) c.in-Err.ensures)
+pub returns-in_err-put_count : goal.returns-in_err-put_count
+returns-in_err-put_count g c =
+    rw length-map (puts_short (items_text Hashes (map pair_bytes c.args.pairs.now)) c.from_residual.ensures.0 c.in_err-put_count.ensures)
 
 pub returns : goal.returns
-returns g c = rw length-map (puts_then c.in-Ok.ensures c.put_each_pair.ensures)
+returns g c = rw length-map (puts_then c.in_ok-put_count.ensures c.put_each_pair.ensures)

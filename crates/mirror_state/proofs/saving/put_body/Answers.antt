@@ -19,32 +19,32 @@ pairs_text pairs entries = list_text Hashes (map pair_bytes pairs) ++ entries_te
 abbrev notes_text : List (Bor (List ℕ)) → List (Bor (List ℕ) × Bor (List ℕ)) → List (Bor (List ℕ)) → List ℕ
 notes_text notes pairs entries = list_text Long (items_in notes) ++ pairs_text pairs entries
 
-pub returns-in-Err : goal.returns-in-Err
-returns-in-Err g c =
+pub returns-in_err-put : goal.returns-in_err-put
+returns-in_err-put g c =
     puts_short
     (item_text Short c.args.origin.now ++ notes_text c.args.notes.now c.args.pairs.now c.args.entries.now)
-    (rw c.as_slice.ensures at c.in-Err.ensures)
+    c.from_residual.ensures.0 (rw c.as_slice.ensures at c.in_err-put.ensures)
 
-pub returns-in-Err-put_short : goal.returns-in-Err-put_short
-returns-in-Err-put_short g c =
-    puts_then (rw c.as_slice.ensures at c.in-Ok.ensures)
-    (puts_short (notes_text c.args.notes.now c.args.pairs.now c.args.entries.now) c.in-Err-put_short.ensures)
+pub returns-in_err-put_short : goal.returns-in_err-put_short
+returns-in_err-put_short g c =
+    puts_then (rw c.as_slice.ensures at c.in_ok-put.ensures)
+    (puts_short (notes_text c.args.notes.now c.args.pairs.now c.args.entries.now) c.from_residual-in_err-put_short.ensures.0 c.in_err-put_short.ensures)
 
-pub returns-in-Err-put_list : goal.returns-in-Err-put_list
-returns-in-Err-put_list g c =
-    puts_then (rw c.as_slice.ensures at c.in-Ok.ensures)
-    (puts_then c.in-Ok-put_short.ensures
-    (puts_short (pairs_text c.args.pairs.now c.args.entries.now) c.in-Err-put_list.ensures))
+pub returns-in_err-put_list : goal.returns-in_err-put_list
+returns-in_err-put_list g c =
+    puts_then (rw c.as_slice.ensures at c.in_ok-put.ensures)
+    (puts_then c.in_ok-put_short.ensures
+    (puts_short (pairs_text c.args.pairs.now c.args.entries.now) c.from_residual-in_err-put_list.ensures.0 c.in_err-put_list.ensures))
 
-pub returns-in-Err-put_pairs : goal.returns-in-Err-put_pairs
-returns-in-Err-put_pairs g c =
-    puts_then (rw c.as_slice.ensures at c.in-Ok.ensures)
-    (puts_then c.in-Ok-put_short.ensures
-    (puts_then c.in-Ok-put_list.ensures
-    (puts_short (entries_text c.args.entries.now) c.in-Err-put_pairs.ensures)))
+pub returns-in_err-put_pairs : goal.returns-in_err-put_pairs
+returns-in_err-put_pairs g c =
+    puts_then (rw c.as_slice.ensures at c.in_ok-put.ensures)
+    (puts_then c.in_ok-put_short.ensures
+    (puts_then c.in_ok-put_list.ensures
+    (puts_short (entries_text c.args.entries.now) c.from_residual-in_err-put_pairs.ensures.0 c.in_err-put_pairs.ensures)))
 
 pub returns : goal.returns
 returns g c =
-    puts_then (rw c.as_slice.ensures at c.in-Ok.ensures)
-    (puts_then c.in-Ok-put_short.ensures
-    (puts_then c.in-Ok-put_list.ensures (puts_then c.in-Ok-put_pairs.ensures c.put_list-2.ensures)))
+    puts_then (rw c.as_slice.ensures at c.in_ok-put.ensures)
+    (puts_then c.in_ok-put_short.ensures
+    (puts_then c.in_ok-put_list.ensures (puts_then c.in_ok-put_pairs.ensures c.put_list-2.ensures)))
