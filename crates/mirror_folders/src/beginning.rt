@@ -71,10 +71,7 @@ pub(crate) fn size_before<H: TreeHash>(
 ) -> Result<u64, UpdateFault>
     ensures { FindsSize H.digest top.now origin.now checkpoint.now result }
 {
-    let (size, root) = match read_point(alloc, origin, checkpoint) {
-        Ok(point) => point,
-        Err(fault) => return Err(fault),
-    };
+    let (size, root) = read_point(alloc, origin, checkpoint)?;
     match top.hash(0, size) {
         Some(hash) => {
             if is_same(&hash, &root) {

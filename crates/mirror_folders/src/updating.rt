@@ -53,10 +53,7 @@ pub fn update<H: TreeHash, S: Shelf>(
     let Some(top) = mirror.top_ranges() else {
         return Err(UpdateFault::NothingComplete);
     };
-    let since = match size_before(alloc, mirror.origin(), &top, checkpoint) {
-        Ok(since) => since,
-        Err(fault) => return Err(fault),
-    };
+    let since = size_before(alloc, mirror.origin(), &top, checkpoint)?;
     if is_same(checkpoint, top.note().bytes()) {
         return Ok(());
     }
