@@ -55,13 +55,9 @@ impl<S: Shelf + Drop, C: Clock + Drop, W: Write + Drop> Shelf for CountingShelf<
         ensures counts { CountsPut (length bytes.now) self.old.progress.counts
             self.new.progress.counts result }
     {
-        match self.shelf.put(path, bytes) {
-            Ok(()) => {
-                self.progress.count(bytes.len());
-                Ok(())
-            }
-            Err(fault) => Err(fault),
-        }
+        self.shelf.put(path, bytes)?;
+        self.progress.count(bytes.len());
+        Ok(())
     }
 
     fn failures(&self) -> u64 {

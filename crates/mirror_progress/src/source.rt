@@ -63,14 +63,11 @@ impl<S: Source + Drop, C: Clock + Drop, W: Write + Drop> Source for CountingSour
         ensures counts { CountsAnswer vec_len self.old.progress.counts self.new.progress.counts
             result }
     {
-        match self.source.get(path) {
-            Ok(Some(bytes)) => {
-                self.progress.count(bytes.len());
-                Ok(Some(bytes))
-            }
-            Ok(None) => Ok(None),
-            Err(fault) => Err(fault),
-        }
+        let Some(bytes) = self.source.get(path)? else {
+            return Ok(None);
+        };
+        self.progress.count(bytes.len());
+        Ok(Some(bytes))
     }
 
     fn failures(&self) -> u64 {
