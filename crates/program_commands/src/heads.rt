@@ -54,10 +54,7 @@ fn check_notes<H: TreeHash>(
 {
     let mut heads = Vec::new(alloc);
     for note in notes {
-        let checkpoint = match mirror.check_head(alloc, keys, note.as_slice()) {
-            Ok(checkpoint) => checkpoint,
-            Err(fault) => return Err(fault),
-        };
+        let checkpoint = mirror.check_head(alloc, keys, note.as_slice())?;
         let size = checkpoint.size;
         let root = checkpoint.root;
         match heads.push((size, root)) {

@@ -59,10 +59,8 @@ fn mirror_of_both<H: TreeHash, F: NamedFiles>(
         Ok(mirror) => mirror,
         Err(fault) => return Err(MergeFilesFault::First(fault)),
     };
-    match merge_file(files, alloc, &mut mirror, origin, keys, second) {
-        Ok(()) => Ok(mirror),
-        Err(fault) => Err(fault),
-    }
+    merge_file(files, alloc, &mut mirror, origin, keys, second)?;
+    Ok(mirror)
 }
 
 // Merges the mirror of the second file into that of a first.

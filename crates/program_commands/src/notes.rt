@@ -78,10 +78,7 @@ fn put_notes<F: NamedFiles>(
         result }
 {
     for note in notes {
-        match put_note(files, alloc, folder, note) {
-            Ok(()) => {}
-            Err(fault) => return Err(fault),
-        }
+        put_note(files, alloc, folder, note)?;
     }
     Ok(())
 }

@@ -21,8 +21,6 @@ pub fn check_origin(alloc: Global, origin: &str) -> Result<(), NewFault>
     ensures lawful { OnOk result (IsOrigin origin.now) }
     ensures bad_origin { result ≡ Err NewFault.BadOrigin → ¬ IsOrigin origin.now }
 {
-    match Mirror::<Sha256Tree>::new(alloc, origin) {
-        Ok(_) => Ok(()),
-        Err(fault) => Err(fault),
-    }
+    Mirror::<Sha256Tree>::new(alloc, origin)?;
+    Ok(())
 }

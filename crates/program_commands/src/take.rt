@@ -65,10 +65,8 @@ fn mirror_with_item<H: TreeHash, F: NamedFiles>(
         Ok(mirror) => mirror,
         Err(fault) => return Err(TakeFilesFault::State(fault)),
     };
-    match take_item(files, alloc, &mut mirror, keys, item) {
-        Ok(()) => Ok(mirror),
-        Err(fault) => Err(fault),
-    }
+    take_item(files, alloc, &mut mirror, keys, item)?;
+    Ok(mirror)
 }
 
 // Takes the item that files hold.
@@ -173,10 +171,7 @@ pub(crate) fn read_files<F: NamedFiles>(
 {
     let mut held = Vec::new(alloc);
     for name in names {
-        let bytes = match files.read(name) {
-            Ok(bytes) => bytes,
-            Err(fault) => return Err(fault),
-        };
+        let bytes = files.read(name)?;
         match held.push(bytes) {
             Ok(()) => {}
             Err(_) => return Err(NamedFault::OutOfMemory),
