@@ -1,10 +1,10 @@
 -- A log that is built of an input.
-use Rattle.std.proofs.Common.{◌≡◌, ℕ, List, Option, Some, Result, Contains, subst}
+use Rattle.std.proofs.Common.{◌≡◌, ℕ, List, Option, Some, Result, subst}
 use Rattle.std.specs.Prelude.{IfSome}
 use Rattle.signed_note.specs.Keys.{Key, Secret, secret_key}
 use Rattle.mirror_model.specs.Origin.{IsOrigin}
 use Rattle.mirror_folders.specs.Shelf.{Put}
-use Rattle.tlog_build.specs.Building.{BuildsLog, HasNoClashing}
+use Rattle.tlog_build.specs.Building.{BuildsLogUnder}
 use Rattle.tlog_build.specs.declared.fault.BuildFault.{BuildFault}
 use Rattle.tlog_build.specs.Entries.{AreEntries}
 use Rattle.program_library.specs.Builds.{BuildsInput, FindsSigner}
@@ -13,8 +13,7 @@ use Rattle.program_library.specs.Builds.{BuildsInput, FindsSigner}
 pub built : (digest : List ℕ → List ℕ) (origin : List ℕ) (keys : List Key) (key_bytes : List ℕ)
     (held before put opened : Option (List Put)) (signer : Secret) (entries : List (List ℕ))
     (answer : Result (Unit {0}) BuildFault) → FindsSigner key_bytes (Some signer) → IsOrigin origin → opened ≡ held →
-    (Contains keys (secret_key signer) → HasNoClashing digest entries →
-    BuildsLog digest origin (secret_key signer) entries opened put answer) →
+    BuildsLogUnder digest origin (secret_key signer) entries keys opened put answer →
     (input : Option (List ℕ)) → IfSome input (λ bytes. AreEntries bytes entries) →
     BuildsInput digest origin keys key_bytes held before put input answer
 built digest origin keys key_bytes held before put opened signer entries answer finds lawful is builds input reads =
@@ -24,7 +23,7 @@ built digest origin keys key_bytes held before put opened signer entries answer 
       is_origin = lawful;
       entries = entries;
       are_entries = reads;
-      builds = λ listed clear. subst
-          (λ (start : Option (List Put)). BuildsLog digest origin (secret_key signer) entries start put answer) is
-          (builds listed clear);
+      builds = subst
+          (λ (start : Option (List Put)). BuildsLogUnder digest origin (secret_key signer) entries keys start put answer)
+          is builds;
     }

@@ -1,6 +1,6 @@
 -- What each answer of `build` says of the key file, of the input, and of what was put into its
 -- folder.
-use Rattle.std.specs.Prelude.{◌≡◌, ℕ, List, Option, Some, None, Result, Ok, Err, Contains, IfSome, ⊤}
+use Rattle.std.specs.Prelude.{◌≡◌, ℕ, List, Option, Some, None, Result, Ok, Err, IfSome, ⊤}
 use Rattle.signed_note.specs.Keys.{Key, Secret, secret_key}
 use Rattle.signed_note.specs.KeyFiles.{IsKeyFile}
 use Rattle.signed_note.specs.declared.key_line.KeyLine.{KeyLine}
@@ -8,7 +8,7 @@ use Rattle.mirror_model.specs.Origin.{IsOrigin}
 use Rattle.tlog_mirror.specs.declared.fault.NewFault.{NewFault}
 use Rattle.tlog_mirror.specs.declared.fault.NewFault.TheVariants as made
 use Rattle.mirror_folders.specs.Shelf.{Put}
-use Rattle.tlog_build.specs.Building.{BuildsLog, HasNoClashing}
+use Rattle.tlog_build.specs.Building.{BuildsLogUnder}
 use Rattle.tlog_build.specs.Signing.{first_secret}
 use Rattle.tlog_build.specs.declared.fault.BuildFault.{BuildFault}
 use Rattle.program_commands.specs.Answers.{done, failed}
@@ -50,8 +50,7 @@ module _
     pub is_origin : IsOrigin origin
     pub entries : List (List ℕ)
     pub are_entries : IfSome input (λ bytes. AreEntries bytes entries)
-    pub builds : Contains keys (secret_key signer) → HasNoClashing digest entries →
-        BuildsLog digest origin (secret_key signer) entries held put answer
+    pub builds : BuildsLogUnder digest origin (secret_key signer) entries keys held put answer
 
   -- the input is no entries, where it is known, as the fault says; what comes before it is well
   pub record LacksEntries (input : Option (List ℕ)) (fault : EntriesFault) : Type 0 where
