@@ -1,23 +1,25 @@
 //! The work of each command.
-ghost use Rattle.std.specs.Prelude.{IfErr, IfOk, map};
+ghost use Rattle.std.specs.Prelude.{◌≡◌, IfErr, IfOk, IsErrAnd, MatchResult, map};
+ghost use Rattle.std.specs.Result.{ForErr, result_map_both};
 ghost use Rattle.std.specs.Io.KnownBytes.{Keeps};
 ghost use Rattle.sha2.specs.Sha256.{sha256};
-ghost use Rattle.program_library.specs.Done.{Executes, IsDoable, IsWriteFault, LeavesFiles, LeavesFolders};
+ghost use Rattle.program_library.specs.Done.{Executes, IsDoable, IsWriteFault, LeavesFiles, LeavesFolders, verdict_status};
 ghost use Rattle.program_library.specs.Works.{IsStatus};
 
 use crate::ask::run_ask;
 use crate::build::run_build;
 use crate::compare::run_compare;
-use crate::fault::RunFault;
+use crate::fault::{RunFault, WorkFault};
 use crate::files::{export_words, merge_words, notes_words, take_words, update_words};
 use crate::pull::run_pull;
 use crate::serve::run_serve;
 use crate::why::Why;
 use mirror_progress::ToldFolders;
-use program_commands::{run_check, run_root};
+use program_commands::{CheckFault, run_check, run_root};
 use program_files::NamedFiles;
 use program_reports::Question;
 use program_words::Command;
+use program_words::commands::missing::Missing;
 use signed_note::Verifier;
 use std::alloc::Global;
 use std::fs::Files;
@@ -59,82 +61,85 @@ where
 {
     match command {
         Command::Root(root) => {
-            match run_root::<Sha256Tree, I, O>(alloc, root.width, input, output) {
-                Ok(()) => Ok(0),
-                Err(fault) => Err(RunFault::Root(fault)),
-            }
+            let answer = run_root::<Sha256Tree, I, O>(alloc, root.width, input, output);
+            done(answer, RunFault::Root)
         }
-        Command::Check => match run_check(alloc, input, output) {
-            Ok(true) => Ok(0),
-            Ok(false) => Ok(3),
-            Err(fault) => Err(RunFault::Check(fault)),
-        },
-        Command::Build(build) => match run_build(folders, alloc, build, key_bytes, keys, input) {
-            Ok(()) => Ok(0),
-            Err(fault) => Err(RunFault::Work(fault)),
-        },
-        Command::Take(take) => match take_words(files, alloc, take, keys) {
-            Ok(()) => Ok(0),
-            Err(fault) => Err(RunFault::Take(fault)),
-        },
-        Command::Merge(merge) => match merge_words(files, alloc, merge, keys) {
-            Ok(()) => Ok(0),
-            Err(fault) => Err(RunFault::Merge(fault)),
-        },
-        Command::Pull(pull) => match run_pull(rt, files, alloc, pull, keys, output, why) {
-            Ok(status) => Ok(status),
-            Err(fault) => Err(RunFault::Pull(fault)),
-        },
-        Command::Status(args) => {
-            match run_ask(files, alloc, args, keys, &Question::Status, output) {
-                Ok(status) => Ok(status),
-                Err(fault) => Err(RunFault::Work(fault)),
-            }
+        Command::Check => verdict(run_check(alloc, input, output)),
+        Command::Build(build) => {
+            let answer = run_build(folders, alloc, build, key_bytes, keys, input);
+            done(answer, RunFault::Work)
         }
+        Command::Take(take) => done(take_words(files, alloc, take, keys), RunFault::Take),
+        Command::Merge(merge) => done(merge_words(files, alloc, merge, keys), RunFault::Merge),
+        Command::Pull(pull) => {
+            run_pull(rt, files, alloc, pull, keys, output, why).map_err(RunFault::Pull)
+        }
+        Command::Status(args) => work(run_ask(files, alloc, args, keys, &Question::Status, output)),
         Command::Missing(missing) => {
-            let question = Question::Missing {
-                size: missing.size,
-                root: missing.root,
-            };
-            match run_ask(files, alloc, &missing.mirror, keys, &question, output) {
-                Ok(status) => Ok(status),
-                Err(fault) => Err(RunFault::Work(fault)),
-            }
+            let question = missing_of(missing);
+            work(run_ask(files, alloc, &missing.mirror, keys, &question, output))
         }
-        Command::Forks(args) => match run_ask(files, alloc, args, keys, &Question::Forks, output) {
-            Ok(status) => Ok(status),
-            Err(fault) => Err(RunFault::Work(fault)),
-        },
-        Command::Compare(compare) => match run_compare(files, alloc, compare, keys, output) {
-            Ok(status) => Ok(status),
-            Err(fault) => Err(RunFault::Work(fault)),
-        },
+        Command::Forks(args) => work(run_ask(files, alloc, args, keys, &Question::Forks, output)),
+        Command::Compare(compare) => work(run_compare(files, alloc, compare, keys, output)),
         Command::Prove(prove) => {
             let question = Question::Proof(prove.ask);
-            match run_ask(files, alloc, &prove.mirror, keys, &question, output) {
-                Ok(status) => Ok(status),
-                Err(fault) => Err(RunFault::Work(fault)),
-            }
+            work(run_ask(files, alloc, &prove.mirror, keys, &question, output))
         }
-        Command::Export(export) => match export_words(files, folders, alloc, export, keys) {
-            Ok(()) => Ok(0),
-            Err(fault) => Err(RunFault::Export(fault)),
-        },
-        Command::Update(export) => match update_words(
-            rt, files, folders, alloc, export, keys, why,
-        ) {
-            Ok(()) => Ok(0),
-            Err(fault) => Err(RunFault::Update(fault)),
-        },
-        Command::Notes(notes) => match notes_words(files, alloc, notes, keys) {
-            Ok(()) => Ok(0),
-            Err(fault) => Err(RunFault::Notes(fault)),
-        },
-        Command::Serve(serve) => match run_serve(
-            rt, files, alloc, serve, keys, output, errors, why,
-        ) {
-            Ok(()) => Ok(0),
-            Err(fault) => Err(RunFault::Serve(fault)),
-        },
+        Command::Export(export) => {
+            let answer = export_words(files, folders, alloc, export, keys);
+            done(answer, RunFault::Export)
+        }
+        Command::Update(update) => {
+            let answer = update_words(rt, files, folders, alloc, update, keys, why);
+            done(answer, RunFault::Update)
+        }
+        Command::Notes(notes) => done(notes_words(files, alloc, notes, keys), RunFault::Notes),
+        Command::Serve(serve) => {
+            let answer = run_serve(rt, files, alloc, serve, keys, output, errors, why);
+            done(answer, RunFault::Serve)
+        }
+    }
+}
+
+// The status of a command that has no other than 0, or its fault under that name.
+fn done<E, F: FnOnce(E) -> RunFault>(answer: Result<(), E>, name: F) -> Result<u8, RunFault>
+    requires { ForErr answer (F.pre name) }
+    ensures { MatchResult answer (λ _. result ≡ Ok 0) (λ fault. IsErrAnd result
+        (F.post name fault)) }
+{
+    match answer {
+        Ok(()) => Ok(0),
+        Err(fault) => Err(name(fault)),
+    }
+}
+
+// The answer of a command that has no type of faults of its own.
+fn work(answer: Result<u8, WorkFault>) -> Result<u8, RunFault>
+    ensures { result ≡ result_map_both (λ status. status) (λ fault. RunFault.Work fault) answer }
+{
+    match answer {
+        Ok(status) => Ok(status),
+        Err(fault) => Err(RunFault::Work(fault)),
+    }
+}
+
+// The status of a verdict, or its fault.
+fn verdict(answer: Result<bool, CheckFault>) -> Result<u8, RunFault>
+    ensures { result ≡ result_map_both verdict_status (λ fault. RunFault.Check fault) answer }
+{
+    match answer {
+        Ok(true) => Ok(0),
+        Ok(false) => Ok(3),
+        Err(fault) => Err(RunFault::Check(fault)),
+    }
+}
+
+// What `missing` asks.
+fn missing_of(missing: &Missing<'_>) -> Question
+    ensures { result ≡ Question.Missing missing.now.size missing.now.root }
+{
+    Question::Missing {
+        size: missing.size,
+        root: missing.root,
     }
 }
