@@ -1,7 +1,7 @@
 use Rattle.std.proofs.Common.{rules, ◌++◌, take, drop, length, arith, ap, ◌∙◌, length-append, length-take, vec_len}
 use Rattle.std.proofs.KnownBytes.{Consumes-trans, Consumes-kept}
 use Rattle.std.proofs.lemmas.List.{take-append-le}
-use Rattle.byte_streams.proofs.ReadsLemmas.{consumes_more}
+use Rattle.byte_streams.proofs.ReadsLemmas.{all_of_read, consumes_more, first_of_read}
 use Rattle.byte_streams.proofs.reading.read_all.Goals as goal
 use Rattle.byte_streams.proofs.reading.read_all.Goals.{in-Ok+in_ok-extend_from_slice-in-Ok, in-Err+else-ne}
 
@@ -60,6 +60,35 @@ loop-preserved g c =
                 had c.loop.invariant.taken w.in-Err.ensures.bytes);
           }
     ]
+
+pub returns-then-room-eq0-clause-bytes : goal.returns-then-room-eq0-clause-bytes
+returns-then-room-eq0-clause-bytes g c =
+    first_of_read (g.R.Read.remaining c.args.reader.now) (g.R.Read.remaining c.loop.reader) c.loop.all.items c.args.most
+    c.loop.invariant.taken
+    (omega (
+      arith,
+      c.if-room-eq0.true,
+      c.min-room.ensures,
+      c.len.ensures,
+      c.loop.invariant.within,
+      c.loop.auto.chunk,
+      c.as_mut_slice-chunk.ensures.len,
+      c.in_ok-space.ensures.len,
+      c.min.ensures,
+    ))
+
+pub returns-in-Ok-eq0-clause-bytes : goal.returns-in-Ok-eq0-clause-bytes
+returns-in-Ok-eq0-clause-bytes g c =
+    let told = g.R.Read.remaining in
+    all_of_read (told c.args.reader.now) (told c.read.new.self) c.loop.all.items c.args.most (search rules)
+    (c.in-Ok-eq0.ensures.bytes.1 c.in-Ok-eq0.field-0-test
+    (omega (arith, c.if-room-eq0.false, c.read.auto.buf, length-take c.min-room.result c.loop.chunk, c.min-room.ensures)))
+    (omega (arith, c.loop.invariant.within))
+
+pub returns-then-len-most-clause-bytes : goal.returns-then-len-most-clause-bytes
+returns-then-len-most-clause-bytes g c =
+    first_of_read (g.R.Read.remaining c.args.reader.now) (g.R.Read.remaining c.loop.reader) c.loop.all.items c.args.most
+    c.loop.invariant.taken (omega (arith, c.len-2.ensures, c.if-len-most.true))
 
 pub returns-in-Ok-eq0-clause-limit : goal.returns-in-Ok-eq0-clause-limit
 returns-in-Ok-eq0-clause-limit g c =
