@@ -71,11 +71,17 @@ fn take_head_of_3<H: TreeHash>(alloc: Global, mirror: &mut Mirror<H>) -> Result<
     Ok(())
 }
 
+// The mirror takes that head, and then the bundle.
+fn take_3<H: TreeHash>(alloc: Global, mirror: &mut Mirror<H>) -> Result<(), Fail> {
+    take_head_of_3(alloc, mirror)?;
+    mirror.take_bundle(alloc, 3, b"\x00\x00\x00\x01\x00\x00\x01\x10")?;
+    Ok(())
+}
+
 // A mirror that is complete at the three entries.
 pub(crate) fn mirror_of_3<H: TreeHash>(alloc: Global) -> Result<Mirror<H>, Fail> {
     let mut mirror = Mirror::<H>::new(alloc, "ex")?;
-    take_head_of_3(alloc, &mut mirror)?;
-    mirror.take_bundle(alloc, 3, b"\x00\x00\x00\x01\x00\x00\x01\x10")?;
+    take_3(alloc, &mut mirror)?;
     Ok(mirror)
 }
 

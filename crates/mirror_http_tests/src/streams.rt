@@ -3,7 +3,7 @@ mod scripted;
 mod timed;
 
 use crate::streams::scripted::Turn::{Failed, Interrupted, Pass};
-use crate::streams::scripted::{EndlessReader, ScriptedReader, ScriptedWriter};
+use crate::streams::scripted::{EndlessReader, ScriptedReader, ScriptedWriter, Turn};
 use byte_streams::{CHUNK, StreamFault, read_all, write_whole};
 use std::alloc::Global;
 use std::io::Read;
@@ -33,7 +33,7 @@ fn fault_of<R: Read>(
     }
 }
 
-// What a reader of six bytes is read to by these turns: a byte a read, interrupted, and failing once.
+// A byte a read, interrupted, and failing once.
 #[test]
 fn reads_by_turns(rt: HostRuntime) {
     for (turns, want) in [
@@ -47,14 +47,19 @@ fn reads_by_turns(rt: HostRuntime) {
         (&[Pass(3), Failed, Pass(3)], Err(StreamFault::ReadFault)),
         (&[Pass(6), Failed], Err(StreamFault::ReadFault)),
     ] {
-        let mut reader = ScriptedReader {
-            rest: b"abcdef",
-            turns,
-        };
-        match read_bytes(rt.alloc(), &mut reader, 100, u64::MAX) {
-            Ok(bytes) => assert!(rt; Ok(bytes.as_slice()) == want),
-            Err(fault) => assert!(rt; Err(fault) == want),
-        }
+        assert_reads(&rt, rt.alloc(), turns, want);
+    }
+}
+
+// What a reader of six bytes is read to by these turns.
+fn assert_reads(rt: &impl Abort, alloc: Global, turns: &[Turn], want: Result<&[u8], StreamFault>) {
+    let mut reader = ScriptedReader {
+        rest: b"abcdef",
+        turns,
+    };
+    match read_bytes(alloc, &mut reader, 100, u64::MAX) {
+        Ok(bytes) => assert!(rt; Ok(bytes.as_slice()) == want),
+        Err(fault) => assert!(rt; Err(fault) == want),
     }
 }
 
@@ -115,7 +120,7 @@ fn assert_ends(rt: &impl Abort, alloc: Global, most: usize, reads: u64, want: Op
     assert!(rt; fault_of(alloc, &mut reader, most, reads) == want);
 }
 
-// What is written of six bytes by these turns: a byte a write, interrupted, failing, and taking nothing.
+// A byte a write, interrupted, failing, and taking nothing.
 #[test]
 fn writes_by_turns(rt: HostRuntime) {
     let fault = Err(StreamFault::WriteFault);
@@ -132,11 +137,22 @@ fn writes_by_turns(rt: HostRuntime) {
         (&[Pass(0), Pass(6)], fault, b""),
         (&[Pass(4), Pass(0), Pass(2)], fault, b"abcd"),
     ] {
-        let mut writer = ScriptedWriter {
-            taken: Vec::new(rt.alloc()),
-            turns,
-        };
-        assert!(rt; write_whole(&mut writer, b"abcdef") == want);
-        assert!(rt; writer.taken.as_slice() == front);
+        assert_writes(&rt, rt.alloc(), turns, want, front);
     }
+}
+
+// What is written of six bytes by these turns.
+fn assert_writes(
+    rt: &impl Abort,
+    alloc: Global,
+    turns: &[Turn],
+    want: Result<(), StreamFault>,
+    front: &[u8],
+) {
+    let mut writer = ScriptedWriter {
+        taken: Vec::new(alloc),
+        turns,
+    };
+    assert!(rt; write_whole(&mut writer, b"abcdef") == want);
+    assert!(rt; writer.taken.as_slice() == front);
 }

@@ -1,11 +1,12 @@
 //! Connections over TCP, over loopback in one process.
 use crate::served::{NOT_FOUND, answered, mirror_of_3};
-use byte_streams::{read_all, write_whole};
+use byte_streams::{TimedStream, read_all, write_whole};
 use mirror_http::{Dial, HttpSource, Site, TcpDial, get_request};
 use mirror_sources::{Source, SourceFault};
 use std::alloc::Global;
 use std::cell::Cell;
 use std::io;
+use std::io::{Read, Write};
 use std::net::{Ipv4Addr, Net, SocketAddr, TcpListener, TcpStream};
 use std::process::Abort;
 use std::rc::Rc;
@@ -29,8 +30,24 @@ fn asks_over_loopback<H: TreeHash>(
     mirror: &Mirror<H>,
 ) -> Result<(), Fail> {
     let listener = TcpListener::bind(net, "127.0.0.1:0")?;
+    let mut client = client_of(net, alloc, &listener)?;
+    asks_for_tile(alloc, &mut client)?;
+    answers_next(alloc, mirror, &listener)?;
+    finds_nothing(rt, alloc, &mut client)
+}
+
+// A connection to that listener.
+fn client_of(
+    net: &HostRuntime,
+    alloc: Global,
+    listener: &TcpListener,
+) -> Result<TimedStream<TcpStream, HostRuntime>, Fail> {
     let port = listener.local_addr()?.port();
-    let mut client = TcpDial::new(*net, alloc, "127.0.0.1", port)?.dial()?;
+    Ok(TcpDial::new(*net, alloc, "127.0.0.1", port)?.dial()?)
+}
+
+// Sends the request for a tile.
+fn asks_for_tile<W: Write>(alloc: Global, client: &mut W) -> Result<(), Fail> {
     let site = Site::new(alloc, "log.example", "")?;
     let path = Path::Tile {
         level: 0,
@@ -38,9 +55,13 @@ fn asks_over_loopback<H: TreeHash>(
         width: 5,
     };
     let request = get_request(alloc, &site, &path)?;
-    write_whole(&mut client, &request)?;
-    answers_next(alloc, mirror, &listener)?;
-    let reply = read_all(alloc, &mut client, 1_000, u64::MAX)?;
+    write_whole(client, &request)?;
+    Ok(())
+}
+
+// Reads that there is no such file.
+fn finds_nothing<R: Read>(rt: &impl Abort, alloc: Global, client: &mut R) -> Result<(), Fail> {
+    let reply = read_all(alloc, client, 1_000, u64::MAX)?;
     assert!(rt; reply.as_slice() == NOT_FOUND.as_bytes());
     Ok(())
 }
@@ -109,27 +130,38 @@ impl Net for StrangeNet {
 // At the first two addresses of the host nobody listens, and the third one answers.
 #[test]
 fn each_address_of_a_host_is_tried(rt: HostRuntime) -> Result<(), Fail> {
-    let looks = Rc::new(rt.alloc(), Cell::new(0))?;
     let listener = TcpListener::bind(&rt, "127.0.0.1:0")?;
-    let port = listener.local_addr()?.port();
-    let net = StrangeNet { rt, looks };
-    let mut dial = TcpDial::new(net, rt.alloc(), "log.example", port)?;
+    let mut dial = strange_dial(&rt, "log.example", &listener)?;
     assert!(rt; dial.dial().is_ok());
     Ok(())
+}
+
+// Connects over that network to the host, at the port of the listener.
+fn strange_dial(
+    rt: &HostRuntime,
+    host: &str,
+    listener: &TcpListener,
+) -> Result<TcpDial<StrangeNet>, Fail> {
+    let port = listener.local_addr()?.port();
+    let looks = Rc::new(rt.alloc(), Cell::new(0))?;
+    let net = StrangeNet { rt: *rt, looks };
+    Ok(TcpDial::new(net, rt.alloc(), host, port)?)
 }
 
 // A listener that accepts none: 59.9 seconds after the connection was made there are 0.1 left for the reply.
 #[test]
 fn a_log_that_never_answers(rt: HostRuntime) -> Result<(), Fail> {
-    let looks = Rc::new(rt.alloc(), Cell::new(0))?;
     let listener = TcpListener::bind(&rt, "127.0.0.1:0")?;
-    let port = listener.local_addr()?.port();
-    let net = StrangeNet { rt, looks };
-    let dial = TcpDial::new(net, rt.alloc(), "127.0.0.1", port)?;
+    let dial = strange_dial(&rt, "127.0.0.1", &listener)?;
     let site = Site::new(rt.alloc(), "log.example", "")?;
     let mut source = HttpSource::new(rt.alloc(), site, dial);
+    fails_once(&rt, &mut source);
+    Ok(())
+}
+
+// The source fails, and counts that.
+fn fails_once<S: Source>(rt: &impl Abort, source: &mut S) {
     let answer = source.get(&Path::Checkpoint);
     assert!(rt; matches!(answer, Err(SourceFault::Failed)));
     assert!(rt; source.failures() == 1);
-    Ok(())
 }

@@ -122,11 +122,23 @@ fn end_of_pull<H: TreeHash, S: Source>(
     Ok(pull(alloc, mirror, &keys, source))
 }
 
+// A source over C(n).
+fn list<H: TreeHash>(alloc: Global, n: u16) -> Result<ListSource<H>, Fail> {
+    let entries = numbers(alloc, n)?;
+    Ok(ListSource::new(alloc, "ex", entries, key(alloc)?)?)
+}
+
+// Pulls C(n) into a mirror.
+fn fill<H: TreeHash>(alloc: Global, mirror: &mut Mirror<H>, n: u16) -> Result<(), Fail> {
+    let mut source = list::<H>(alloc, n)?;
+    let _pulled = end_of_pull(alloc, mirror, &mut source)??;
+    Ok(())
+}
+
 // A mirror that is complete at C(n).
 fn mirror_of<H: TreeHash>(alloc: Global, n: u16) -> Result<Mirror<H>, Fail> {
     let mut mirror = Mirror::<H>::new(alloc, "ex")?;
-    let mut list = ListSource::<H>::new(alloc, "ex", numbers(alloc, n)?, key(alloc)?)?;
-    let _pulled = end_of_pull(alloc, &mut mirror, &mut list)??;
+    fill(alloc, &mut mirror, n)?;
     Ok(mirror)
 }
 
@@ -138,18 +150,49 @@ fn pull_over_http(rt: HostRuntime) -> Result<(), Fail> {
 }
 
 fn pulls_257<H: TreeHash>(rt: &impl Abort, alloc: Global, mirror: Mirror<H>) -> Result<(), Fail> {
+    let mirror = Rc::new(alloc, mirror)?;
     let dials = Rc::new(alloc, Cell::new(0))?;
+    let mut source = source_to(alloc, &mirror, &dials)?;
+    pulls_257_from::<H, _>(rt, alloc, &mut source)?;
+    assert!(rt; dials.get() == 5);
+    Ok(())
+}
+
+// A source over that mirror, whose connections are counted.
+fn source_to<H: TreeHash>(
+    alloc: Global,
+    mirror: &Rc<Mirror<H>>,
+    dials: &Rc<Cell<u64>>,
+) -> Result<HttpSource<MirrorDial<H>>, Fail> {
+    let site = Site::new(alloc, "log.example", "")?;
+    let dials = dials.clone()?;
+    let mirror = mirror.clone()?;
     let dial = MirrorDial {
         alloc,
-        mirror: Rc::new(alloc, mirror)?,
-        dials: dials.clone()?,
+        mirror,
+        dials,
     };
-    let site = Site::new(alloc, "log.example", "")?;
-    let mut source = HttpSource::new(alloc, site, dial);
-    let mut puller = Mirror::<H>::new(alloc, "ex")?;
-    let pulled = end_of_pull(alloc, &mut puller, &mut source)??;
+    Ok(HttpSource::new(alloc, site, dial))
+}
+
+// A new mirror pulls C(257) from that source, which does not fail.
+fn pulls_257_from<H: TreeHash, S: Source>(
+    rt: &impl Abort,
+    alloc: Global,
+    source: &mut S,
+) -> Result<(), Fail> {
+    let pulled = end_of_first_pull::<H, S>(alloc, source)??;
     assert!(rt; pulled.size == 257 && pulled.rounds == 1);
     assert!(rt; pulled.refused == 0 && pulled.complete);
-    assert!(rt; dials.get() == 5 && source.failures() == 0);
+    assert!(rt; source.failures() == 0);
     Ok(())
+}
+
+// How a new mirror's pull ends.
+fn end_of_first_pull<H: TreeHash, S: Source>(
+    alloc: Global,
+    source: &mut S,
+) -> Result<Result<Pulled, PullFault>, Fail> {
+    let mut puller = Mirror::<H>::new(alloc, "ex")?;
+    end_of_pull(alloc, &mut puller, source)
 }

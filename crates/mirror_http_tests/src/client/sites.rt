@@ -6,15 +6,19 @@ use std::process::Abort;
 use std::test::Fail;
 use tlog_tiles::Path;
 
-// The request for that file of the site is that text.
+// The site has that host and that prefix, and the request for that file of it is that text.
 fn assert_request(
     rt: &impl Abort,
     alloc: Global,
-    site: &Site,
+    host: &str,
+    prefix: &str,
     path: &Path,
     want: &str,
 ) -> Result<(), Fail> {
-    let request = get_request(alloc, site, path)?;
+    let site = Site::new(alloc, host, prefix)?;
+    assert!(rt; site.host() == host);
+    assert!(rt; site.prefix() == prefix);
+    let request = get_request(alloc, &site, path)?;
     assert!(rt; request.as_slice() == want.as_bytes());
     Ok(())
 }
@@ -26,21 +30,19 @@ fn client_requests(rt: HostRuntime) -> Result<(), Fail> {
         index: 1000,
         width: 5,
     };
-    let site = Site::new(rt.alloc(), "log.example", "/2026")?;
-    assert!(rt; site.host() == "log.example");
-    assert!(rt; site.prefix() == "/2026");
     assert_request(
         &rt,
         rt.alloc(),
-        &site,
+        "log.example",
+        "/2026",
         &path,
         "GET /2026/tile/0/x001/000.p/5 HTTP/1.0\r\nHost: log.example\r\nAccept-Encoding: identity\r\nConnection: close\r\n\r\n",
     )?;
-    let site = Site::new(rt.alloc(), "127.0.0.1:80", "")?;
     assert_request(
         &rt,
         rt.alloc(),
-        &site,
+        "127.0.0.1:80",
+        "",
         &Path::Checkpoint,
         "GET /checkpoint HTTP/1.0\r\nHost: 127.0.0.1:80\r\nAccept-Encoding: identity\r\nConnection: close\r\n\r\n",
     )

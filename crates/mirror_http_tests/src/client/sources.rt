@@ -52,7 +52,12 @@ fn a_reply_in_many_pieces(rt: HostRuntime) -> Result<(), Fail> {
     let mut reply = String::from_str(rt.alloc(), "HTTP/1.1 200 OK\r\n\r\n")?;
     push_times(&mut reply, "a", 70_000)?;
     let mut source = source_in_pieces(rt.alloc(), &reply)?;
+    assert_letters(&rt, &mut source, 70_000)
+}
+
+// The source gives so many bytes.
+fn assert_letters<S: Source>(rt: &impl Abort, source: &mut S, count: usize) -> Result<(), Fail> {
     let body = source.get(&Path::Checkpoint)?.ok_or("not found")?;
-    assert!(rt; body.len() == 70_000);
+    assert!(rt; body.len() == count);
     Ok(())
 }

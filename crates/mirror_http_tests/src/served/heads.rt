@@ -12,6 +12,15 @@ use tlog_mirror::Mirror;
 #[test]
 fn http_answers(rt: HostRuntime) -> Result<(), Fail> {
     let mirror = mirror_of_3::<Sha256Tree>(rt.alloc())?;
+    gets_answers(&rt, rt.alloc(), &mirror)
+}
+
+// Each of these requests gets its reply.
+fn gets_answers<H: TreeHash>(
+    rt: &impl Abort,
+    alloc: Global,
+    mirror: &Mirror<H>,
+) -> Result<(), Fail> {
     for (request, want) in [
         (BUNDLE_REQUEST, BUNDLE_REPLY),
         (
@@ -30,7 +39,7 @@ fn http_answers(rt: HostRuntime) -> Result<(), Fail> {
         (b"\r\n", BAD_REQUEST.as_bytes()),
         (b"", b""),
     ] {
-        gets(&rt, rt.alloc(), &mirror, request, want)?;
+        gets(rt, alloc, mirror, request, want)?;
     }
     Ok(())
 }
@@ -64,6 +73,15 @@ fn long_request(
 #[test]
 fn long_heads(rt: HostRuntime) -> Result<(), Fail> {
     let mirror = mirror_of_3::<Sha256Tree>(rt.alloc())?;
+    gets_of_long_heads(&rt, rt.alloc(), &mirror)
+}
+
+// Each of these long requests gets its reply.
+fn gets_of_long_heads<H: TreeHash>(
+    rt: &impl Abort,
+    alloc: Global,
+    mirror: &Mirror<H>,
+) -> Result<(), Fail> {
     for (fields, letters, behind, want) in [
         (64, 0, 0, NOT_FOUND),
         (65, 0, 0, BAD_REQUEST),
@@ -71,14 +89,8 @@ fn long_heads(rt: HostRuntime) -> Result<(), Fail> {
         (1, 8_192 - 26, 9_000, NOT_FOUND),
         (1, 8_192 - 25, 0, BAD_REQUEST),
     ] {
-        let request = long_request(rt.alloc(), fields, letters, behind)?;
-        gets(
-            &rt,
-            rt.alloc(),
-            &mirror,
-            request.as_bytes(),
-            want.as_bytes(),
-        )?;
+        let request = long_request(alloc, fields, letters, behind)?;
+        gets(rt, alloc, mirror, request.as_bytes(), want.as_bytes())?;
     }
     Ok(())
 }
@@ -86,15 +98,18 @@ fn long_heads(rt: HostRuntime) -> Result<(), Fail> {
 #[test]
 fn head_cuts(rt: HostRuntime) -> Result<(), Fail> {
     let mirror = mirror_of_3::<Sha256Tree>(rt.alloc())?;
+    gets_of_cuts(&rt, rt.alloc(), &mirror)
+}
+
+// Each front of a request is a bad one.
+fn gets_of_cuts<H: TreeHash>(
+    rt: &impl Abort,
+    alloc: Global,
+    mirror: &Mirror<H>,
+) -> Result<(), Fail> {
     let request = b"GET /checkpoint HTTP/1.1\r\nHost: x\r\n\r\n".as_slice();
     for len in 1..request.len() {
-        gets(
-            &rt,
-            rt.alloc(),
-            &mirror,
-            &request[..len],
-            BAD_REQUEST.as_bytes(),
-        )?;
+        gets(rt, alloc, mirror, &request[..len], BAD_REQUEST.as_bytes())?;
     }
     Ok(())
 }

@@ -50,8 +50,16 @@ const REQUESTS: [&str; 11] = [
 #[test]
 fn answer_again_after_want_of_memory(rt: HostRuntime) -> Result<(), Fail> {
     let mirror = mirror_of_3::<Sha256Tree>(rt.alloc())?;
+    answers_all_again(&rt, rt.alloc(), &mirror)
+}
+
+fn answers_all_again<H: TreeHash>(
+    rt: &impl Abort,
+    alloc: Global,
+    mirror: &Mirror<H>,
+) -> Result<(), Fail> {
     for request in REQUESTS {
-        answers_again(&rt, rt.alloc(), &mirror, request)?;
+        answers_again(rt, alloc, mirror, request)?;
     }
     Ok(())
 }

@@ -75,19 +75,28 @@ fn assert_answers<H: TreeHash>(
 #[test]
 fn one_byte_reads(rt: HostRuntime) -> Result<(), Fail> {
     let mirror = mirror_of_3::<Sha256Tree>(rt.alloc())?;
+    answers_bytes(&rt, rt.alloc(), &mirror);
+    Ok(())
+}
+
+fn answers_bytes<H: TreeHash>(rt: &impl Abort, alloc: Global, mirror: &Mirror<H>) {
     let reader = Pieces {
         rest: BUNDLE_REQUEST,
         most: 1,
         interruptions: 3,
         fails: false,
     };
-    assert_answers(&rt, rt.alloc(), &mirror, reader, Ok(()), BUNDLE_REPLY);
-    Ok(())
+    assert_answers(rt, alloc, mirror, reader, Ok(()), BUNDLE_REPLY);
 }
 
 #[test]
 fn no_read_after_head(rt: HostRuntime) -> Result<(), Fail> {
     let mirror = mirror_of_3::<Sha256Tree>(rt.alloc())?;
+    answers_at_head(&rt, rt.alloc(), &mirror);
+    Ok(())
+}
+
+fn answers_at_head<H: TreeHash>(rt: &impl Abort, alloc: Global, mirror: &Mirror<H>) {
     for most in [1, 7, 10_000] {
         let reader = Pieces {
             rest: BUNDLE_REQUEST,
@@ -95,14 +104,18 @@ fn no_read_after_head(rt: HostRuntime) -> Result<(), Fail> {
             interruptions: 0,
             fails: true,
         };
-        assert_answers(&rt, rt.alloc(), &mirror, reader, Ok(()), BUNDLE_REPLY);
+        assert_answers(rt, alloc, mirror, reader, Ok(()), BUNDLE_REPLY);
     }
-    Ok(())
 }
 
 #[test]
 fn endless_reader(rt: HostRuntime) -> Result<(), Fail> {
     let mirror = mirror_of_3::<Sha256Tree>(rt.alloc())?;
+    answers_no_cut(&rt, rt.alloc(), &mirror);
+    Ok(())
+}
+
+fn answers_no_cut<H: TreeHash>(rt: &impl Abort, alloc: Global, mirror: &Mirror<H>) {
     for len in [0, 1, 20] {
         let reader = Pieces {
             rest: &BUNDLE_REQUEST[..len],
@@ -111,9 +124,8 @@ fn endless_reader(rt: HostRuntime) -> Result<(), Fail> {
             fails: true,
         };
         let fault = Err(HttpFault::ReadFault);
-        assert_answers(&rt, rt.alloc(), &mirror, reader, fault, b"");
+        assert_answers(rt, alloc, mirror, reader, fault, b"");
     }
-    Ok(())
 }
 
 // So many letters.
@@ -123,16 +135,24 @@ fn letters_of(alloc: Global, count: usize) -> Result<Vec<u8>, AllocError> {
 
 #[test]
 fn bytes_without_a_head(rt: HostRuntime) -> Result<(), Fail> {
-    let letters = letters_of(rt.alloc(), 9_000)?;
     let mirror = mirror_of_3::<Sha256Tree>(rt.alloc())?;
+    refuses_letters(&rt, rt.alloc(), &mirror)
+}
+
+fn refuses_letters<H: TreeHash>(
+    rt: &impl Abort,
+    alloc: Global,
+    mirror: &Mirror<H>,
+) -> Result<(), Fail> {
+    let letters = letters_of(alloc, 9_000)?;
     let mut reader = Pieces {
         rest: &letters,
         most: 1,
         interruptions: 0,
         fails: true,
     };
-    let mut reply = Vec::new(rt.alloc());
-    assert!(rt; answered(rt.alloc(), &mirror, &mut reader, &mut reply) == Ok(()));
+    let mut reply = Vec::new(alloc);
+    assert!(rt; answered(alloc, mirror, &mut reader, &mut reply) == Ok(()));
     assert!(rt; reply.as_slice() == BAD_REQUEST.as_bytes());
     assert!(rt; reader.rest.len() == 9_000 - 8_192);
     Ok(())
@@ -153,8 +173,12 @@ fn assert_written<H: TreeHash>(rt: &impl Abort, alloc: Global, mirror: &Mirror<H
 #[test]
 fn failing_writer(rt: HostRuntime) -> Result<(), Fail> {
     let mirror = mirror_of_3::<Sha256Tree>(rt.alloc())?;
-    for most in 0..BUNDLE_REPLY.len() {
-        assert_written(&rt, rt.alloc(), &mirror, &BUNDLE_REPLY[..most]);
-    }
+    writes_fronts(&rt, rt.alloc(), &mirror);
     Ok(())
+}
+
+fn writes_fronts<H: TreeHash>(rt: &impl Abort, alloc: Global, mirror: &Mirror<H>) {
+    for most in 0..BUNDLE_REPLY.len() {
+        assert_written(rt, alloc, mirror, &BUNDLE_REPLY[..most]);
+    }
 }

@@ -1,5 +1,6 @@
 //! Streams with a deadline: in memory, under a clock of their own, and over loopback, under the system's.
 use byte_streams::{BoundsWaits, StreamFault, TimedStream, read_all, write_whole};
+use std::alloc::Global;
 use std::cell::Cell;
 use std::io;
 use std::io::{ErrorKind, Read, Write};
@@ -81,18 +82,30 @@ fn calls_up_to_a_deadline(rt: HostRuntime) -> Result<(), Fail> {
     let clock = Ticking { seconds: &seconds };
     // It is made at 100 seconds and ends at 107; the first call is made at 102.
     let mut stream = TimedStream::new(Patient { wait: &wait }, clock, Duration::from_secs(7))?;
-    let mut buf = [0u8; 8];
-    assert!(rt; stream.read(&mut buf)? == 1);
+    calls_in_time(&rt, &mut stream, &wait)?;
+    calls_too_late(&rt, &mut stream, &wait);
+    Ok(())
+}
+
+fn calls_in_time<S: Read + Write>(
+    rt: &impl Abort,
+    stream: &mut S,
+    wait: &Cell<Duration>,
+) -> io::Result<()> {
+    assert!(rt; stream.read(&mut [0u8; 8])? == 1);
     assert!(rt; wait.get().as_secs() == 5);
     assert!(rt; stream.write(b"abc")? == 1);
     assert!(rt; wait.get().as_secs() == 3);
     stream.flush()?;
     assert!(rt; wait.get().as_secs() == 1);
-    assert!(rt; timed_out(stream.read(&mut buf)));
+    Ok(())
+}
+
+fn calls_too_late<S: Read + Write>(rt: &impl Abort, stream: &mut S, wait: &Cell<Duration>) {
+    assert!(rt; timed_out(stream.read(&mut [0u8; 8])));
     assert!(rt; timed_out(stream.write(b"abc")));
     assert!(rt; timed_out(stream.flush()));
     assert!(rt; wait.get().as_secs() == 1);
-    Ok(())
 }
 
 // Both ends of a connection over loopback.
@@ -217,11 +230,21 @@ fn bytes_within_a_deadline(rt: HostRuntime) -> Result<(), Fail> {
     assert!(rt; TimedStream::new(&server, rt, Duration::MAX).is_err());
     let minute = Duration::from_secs(60);
     let mut client = TimedStream::new(client, rt, minute)?;
-    write_whole(&mut client, b"abc")?;
-    let mut reader = TimedStream::new(&server, rt, minute)?;
-    assert!(rt; read_all(rt.alloc(), &mut reader, 3, u64::MAX)?.as_slice() == b"abc".as_slice());
-    let mut writer = TimedStream::new(&server, rt, minute)?;
-    write_whole(&mut writer, b"de")?;
-    assert!(rt; read_all(rt.alloc(), &mut client, 2, u64::MAX)?.as_slice() == b"de".as_slice());
+    let mut server = TimedStream::new(&server, rt, minute)?;
+    assert_passes(&rt, rt.alloc(), &mut client, &mut server, b"abc")?;
+    assert_passes(&rt, rt.alloc(), &mut server, &mut client, b"de")
+}
+
+// What is written at one end is read at the other.
+fn assert_passes<W: Write, R: Read>(
+    rt: &impl Abort,
+    alloc: Global,
+    writer: &mut W,
+    reader: &mut R,
+    bytes: &[u8],
+) -> Result<(), Fail> {
+    write_whole(writer, bytes)?;
+    let read = read_all(alloc, reader, bytes.len(), u64::MAX)?;
+    assert!(rt; read.as_slice() == bytes);
     Ok(())
 }
