@@ -32,11 +32,21 @@ fn take_logs<H: TreeHash>(alloc: Global, mirror: &mut Mirror<H>) -> Result<(), F
 
 // The mirror has two complete heads, and tells that fork.
 fn tells_fork<H: TreeHash>(rt: &impl Abort, alloc: Global, mirror: &Mirror<H>) -> Result<(), Fail> {
+    has_two_heads(rt, alloc, mirror)?;
+    assert!(rt; forks_at_last(alloc, mirror)?.len() == 1);
+    assert!(rt; mirror.forks_text(alloc)?.as_str() == FORK);
+    Ok(())
+}
+
+// The mirror has two complete heads.
+fn has_two_heads<H: TreeHash>(
+    rt: &impl Abort,
+    alloc: Global,
+    mirror: &Mirror<H>,
+) -> Result<(), AllocError> {
     let heads = mirror.heads(alloc)?;
     assert!(rt; heads.len() == 2);
     assert!(rt; heads[0].complete && heads[1].complete);
-    assert!(rt; forks_at_last(alloc, mirror)?.len() == 1);
-    assert!(rt; mirror.forks_text(alloc)?.as_str() == FORK);
     Ok(())
 }
 

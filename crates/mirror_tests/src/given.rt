@@ -11,7 +11,7 @@ use tlog_mirror::{Mirror, TakeFault};
 
 // A key that accepts the signature 05 over every text.
 #[derive(Drop)]
-pub(crate) struct Five;
+struct Five;
 
 impl Verifier for Five {
     ghost key = { λ k. record { name = codes "good"; id = 16909060; accepts = λ text signature. bytes_eq signature (5 ∷ []) } };
@@ -29,16 +29,21 @@ impl Verifier for Five {
     }
 }
 
-// What a mirror answers to that note and these rows, under the key of these tests. As other helpers it ensures nothing, so
-// that its callers are cheap to check.
+// That key alone. As other helpers it ensures nothing, so that its callers are cheap to check.
+pub(crate) fn keys(alloc: Global) -> Result<Vec<Box<dyn Verifier>>, AllocError> {
+    let mut keys: Vec<Box<dyn Verifier>> = Vec::new(alloc);
+    keys.push(Box::new(alloc, Five)?)?;
+    Ok(keys)
+}
+
+// What a mirror answers to that note and these rows, under the key of these tests.
 pub(crate) fn answer_to_head<H: TreeHash>(
     alloc: Global,
     mirror: &mut Mirror<H>,
     note: &[u8],
     edge: &[&[u8]],
 ) -> Result<Result<(), TakeFault>, AllocError> {
-    let mut keys: Vec<Box<dyn Verifier>> = Vec::new(alloc);
-    keys.push(Box::new(alloc, Five)?)?;
+    let keys = keys(alloc)?;
     Ok(mirror.take_head(alloc, &keys, note, edge))
 }
 

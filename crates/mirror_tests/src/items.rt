@@ -10,16 +10,17 @@ use tlog_mirror::{Mirror, TakeFault};
 #[test]
 fn colliding_leaves(rt: HostRuntime) -> Result<(), Fail> {
     let mut mirror = Mirror::<SumTree>::new(rt.alloc(), "ex")?;
-    refuses(
-        &rt,
-        rt.alloc(),
-        &mut mirror,
-        2,
-        &[0, 2, 1, 2, 0, 2, 2, 1],
-        0,
-    );
-    mirror.take_bundle(rt.alloc(), 1, &[0, 2, 1, 2])?;
-    refuses(&rt, rt.alloc(), &mut mirror, 1, &[0, 2, 2, 1], 1);
+    refuses_leaves(&rt, rt.alloc(), &mut mirror)
+}
+
+fn refuses_leaves<H: TreeHash>(
+    rt: &impl Abort,
+    alloc: Global,
+    mirror: &mut Mirror<H>,
+) -> Result<(), Fail> {
+    refuses(rt, alloc, mirror, 2, &[0, 2, 1, 2, 0, 2, 2, 1], 0);
+    mirror.take_bundle(alloc, 1, &[0, 2, 1, 2])?;
+    refuses(rt, alloc, mirror, 1, &[0, 2, 2, 1], 1);
     Ok(())
 }
 
@@ -65,9 +66,17 @@ const HEAD_OF_TWO: &str =
 #[test]
 fn colliding_tiles_and_heads(rt: HostRuntime) -> Result<(), Fail> {
     let mut mirror = Mirror::<SumTree>::new(rt.alloc(), "ex")?;
-    refuses_row(&rt, rt.alloc(), &mut mirror, &[1, 2, 2, 1], HEAD_OF_FOUR, 0)?;
-    mirror.take_tile(rt.alloc(), 2, &row_of(rt.alloc(), &[1, 2])?)?;
-    refuses_row(&rt, rt.alloc(), &mut mirror, &[2, 1], HEAD_OF_TWO, 1)
+    refuses_rows(&rt, rt.alloc(), &mut mirror)
+}
+
+fn refuses_rows<H: TreeHash>(
+    rt: &impl Abort,
+    alloc: Global,
+    mirror: &mut Mirror<H>,
+) -> Result<(), Fail> {
+    refuses_row(rt, alloc, mirror, &[1, 2, 2, 1], HEAD_OF_FOUR, 0)?;
+    mirror.take_tile(alloc, 2, &row_of(alloc, &[1, 2])?)?;
+    refuses_row(rt, alloc, mirror, &[2, 1], HEAD_OF_TWO, 1)
 }
 
 // The row of the hashes that begin with these bytes, and have zeros behind.
@@ -103,15 +112,24 @@ fn refuses_row<H: TreeHash>(
 // A tile of each width, and a bundle of each width, is taken.
 #[test]
 fn each_width(rt: HostRuntime) -> Result<(), Fail> {
-    let mut mirror = Mirror::<SumTree>::new(rt.alloc(), "ex")?;
     let row = vec![in rt.alloc(); 0; 8_192]?;
     let entries = vec![in rt.alloc(); 0; 512]?;
-    takes_each_width(&rt, rt.alloc(), &mut mirror, &row, &entries)
+    takes_each_width::<SumTree>(&rt, rt.alloc(), &row, &entries)
 }
 
-// A tile and a bundle of each width are taken: the first bytes of a row of 256 hashes, and of a bundle of 256 entries of no
-// bytes. The mirror then holds a string for each width: that of the entry, and the join of each list of two entries or more.
+// A new mirror takes a tile and a bundle of each width: the first bytes of a row of 256 hashes, and of a bundle of 256 entries
+// of no bytes. It then holds a string for each width: that of the entry, and the join of each list of two entries or more.
 fn takes_each_width<H: TreeHash>(
+    rt: &impl Abort,
+    alloc: Global,
+    row: &[u8],
+    entries: &[u8],
+) -> Result<(), Fail> {
+    let mut mirror = Mirror::<H>::new(alloc, "ex")?;
+    takes_fronts(rt, alloc, &mut mirror, row, entries)
+}
+
+fn takes_fronts<H: TreeHash>(
     rt: &impl Abort,
     alloc: Global,
     mirror: &mut Mirror<H>,

@@ -44,10 +44,18 @@ fn count_of_files(count: u16) -> usize {
 #[test]
 fn laid_out_logs_grow(rt: HostRuntime) -> Result<(), Fail> {
     let mut mirror = Mirror::<Sha256Tree>::new(rt.alloc(), "ex")?;
-    mirror.lay_out(rt.alloc())?;
+    grows_from_nothing(&rt, rt.alloc(), &mut mirror)
+}
+
+fn grows_from_nothing<H: TreeHash>(
+    rt: &impl Abort,
+    alloc: Global,
+    mirror: &mut Mirror<H>,
+) -> Result<(), Fail> {
+    mirror.lay_out(alloc)?;
     assert!(rt; mirror.top().is_none());
     for count in [1, 3, 256, 257, 300] {
-        grows(&rt, rt.alloc(), &mut mirror, count)?;
+        grows(rt, alloc, mirror, count)?;
     }
     Ok(())
 }
@@ -86,11 +94,25 @@ fn serves_log<H: TreeHash>(
 #[test]
 fn held_logs_are_laid_out(rt: HostRuntime) -> Result<(), Fail> {
     for count in [1, 3, 256, 257, 300] {
-        let mut mirror = Mirror::<Sha256Tree>::new(rt.alloc(), "ex")?;
-        pull_log(rt.alloc(), &mut mirror, count)?;
-        has_laid_out(&rt, rt.alloc(), &mirror, count)?;
+        lays_out::<Sha256Tree>(&rt, rt.alloc(), count)?;
     }
     Ok(())
+}
+
+// A new mirror takes C(n), and has its files.
+fn lays_out<H: TreeHash>(rt: &impl Abort, alloc: Global, count: u16) -> Result<(), Fail> {
+    let mut mirror = Mirror::<H>::new(alloc, "ex")?;
+    lays_out_in(rt, alloc, &mut mirror, count)
+}
+
+fn lays_out_in<H: TreeHash>(
+    rt: &impl Abort,
+    alloc: Global,
+    mirror: &mut Mirror<H>,
+    count: u16,
+) -> Result<(), Fail> {
+    pull_log(alloc, mirror, count)?;
+    has_laid_out(rt, alloc, mirror, count)
 }
 
 // The tree of the one head that a mirror has, of C(n), has the files of C(n), and no others.

@@ -1,7 +1,7 @@
 //! Requests for memory that are refused. Each test is run once for each of its requests, with that one refused, as by
 //! `rt try --test --fail-alloc N`: where a take, a merge or a play is refused, a part of it may stand and no more, and
 //! the same once more completes it.
-use crate::given::{BUNDLE_OF_3, Five, HEAD_OF_3, answer_to_head, tile_of_3};
+use crate::given::{BUNDLE_OF_3, HEAD_OF_3, answer_to_head, keys, tile_of_3};
 use crate::plays::{are_done, are_merged, three_events, two_mirrors};
 use signed_note::Verifier;
 use std::alloc::{AllocError, Global};
@@ -14,8 +14,13 @@ use tlog_text::read_hash;
 #[test]
 fn takes_again_after_want_of_memory(rt: HostRuntime) -> Result<(), Fail> {
     let row = tile_of_3::<Sha256Tree>(rt.alloc())?;
-    takes_at_last::<Sha256Tree>(&rt, rt.alloc(), &row)?;
-    head_at_last::<Sha256Tree>(&rt, rt.alloc(), &row)?;
+    takes_all_at_last::<Sha256Tree>(&rt, rt.alloc(), &row)
+}
+
+// New mirrors take the tile and the bundle, and the head, of the three entries, whose leaf hashes are that row.
+fn takes_all_at_last<H: TreeHash>(rt: &impl Abort, alloc: Global, row: &[u8]) -> Result<(), Fail> {
+    takes_at_last::<H>(rt, alloc, row)?;
+    let _mirror = head_at_last::<H>(rt, alloc, row)?;
     Ok(())
 }
 
@@ -87,9 +92,14 @@ fn take_head_at_last<H: TreeHash>(
 #[test]
 fn merges_again_after_want_of_memory(rt: HostRuntime) -> Result<(), Fail> {
     let row = tile_of_3::<Sha256Tree>(rt.alloc())?;
-    let mut other = head_at_last::<Sha256Tree>(&rt, rt.alloc(), &row)?;
-    take_bundle_at_last(&rt, rt.alloc(), &mut other);
-    merges_at_last(&rt, rt.alloc(), &other)
+    merges_all_at_last::<Sha256Tree>(&rt, rt.alloc(), &row)
+}
+
+// A new mirror is merged with one that is complete at the three entries.
+fn merges_all_at_last<H: TreeHash>(rt: &impl Abort, alloc: Global, row: &[u8]) -> Result<(), Fail> {
+    let mut other = head_at_last::<H>(rt, alloc, row)?;
+    take_bundle_at_last(rt, alloc, &mut other);
+    merges_at_last(rt, alloc, &other)
 }
 
 // A new mirror is merged with that one.
@@ -123,10 +133,25 @@ fn merge_at_last<H: TreeHash>(
 
 #[test]
 fn plays_again_after_want_of_memory(rt: HostRuntime) -> Result<(), Fail> {
-    let events = three_events::<Sha256Tree>(rt.alloc())?;
-    let mut world = two_mirrors::<Sha256Tree>(rt.alloc())?;
-    play_at_last(&rt, rt.alloc(), &mut world, &events)?;
-    assert!(rt; are_merged(&world));
+    plays_at_last::<Sha256Tree>(&rt, rt.alloc())
+}
+
+// The three events happen to two mirrors.
+fn plays_at_last<H: TreeHash>(rt: &impl Abort, alloc: Global) -> Result<(), Fail> {
+    let events = three_events::<H>(alloc)?;
+    let mut world = two_mirrors::<H>(alloc)?;
+    merge_by_play(rt, alloc, &mut world, &events)
+}
+
+// Plays the three events, by which mirror 0 is complete and mirror 1 holds no head.
+fn merge_by_play<H: TreeHash>(
+    rt: &impl Abort,
+    alloc: Global,
+    world: &mut [Mirror<H>],
+    events: &[Event],
+) -> Result<(), Fail> {
+    play_at_last(rt, alloc, world, events)?;
+    assert!(rt; are_merged(world));
     Ok(())
 }
 
@@ -137,8 +162,7 @@ fn play_at_last<H: TreeHash>(
     world: &mut [Mirror<H>],
     events: &[Event],
 ) -> Result<(), Fail> {
-    let mut keys: Vec<Box<dyn Verifier>> = Vec::new(alloc);
-    keys.push(Box::new(alloc, Five)?)?;
+    let keys = keys(alloc)?;
     play_under(rt, alloc, world, &keys, events)
 }
 

@@ -1,5 +1,5 @@
 //! Plays of two mirrors.
-use crate::given::Five;
+use crate::given::keys;
 use signed_note::Verifier;
 use std::alloc::{AllocError, Global};
 use std::process::Abort;
@@ -85,12 +85,32 @@ pub(crate) fn are_done(answers: &[Result<(), TakeFault>], count: usize) -> bool 
 fn plays_three<H: TreeHash>(rt: &impl Abort, alloc: Global, tries: u32) -> Result<(), Fail> {
     let events = three_events::<H>(alloc)?;
     let mut world = two_mirrors::<H>(alloc)?;
-    let mut keys: Vec<Box<dyn Verifier>> = Vec::new(alloc);
-    keys.push(Box::new(alloc, Five)?)?;
-    let answers = answers_under(alloc, &mut world, &keys, &events, tries)?;
+    merge_by_events(rt, alloc, &mut world, &events, tries)
+}
+
+// The three events happen to those mirrors.
+fn merge_by_events<H: TreeHash>(
+    rt: &impl Abort,
+    alloc: Global,
+    world: &mut [Mirror<H>],
+    events: &[Event],
+    tries: u32,
+) -> Result<(), Fail> {
+    let answers = answers_of(alloc, world, events, tries)?;
     assert!(rt; are_done(&answers, 3));
-    assert!(rt; are_merged(&world));
+    assert!(rt; are_merged(world));
     Ok(())
+}
+
+// What the events are answered that happen under the key of these tests.
+fn answers_of<H: TreeHash>(
+    alloc: Global,
+    world: &mut [Mirror<H>],
+    events: &[Event],
+    tries: u32,
+) -> Result<Vec<Result<(), TakeFault>>, Fail> {
+    let keys = keys(alloc)?;
+    answers_under(alloc, world, &keys, events, tries)
 }
 
 // What the events are answered that happen under those keys.
@@ -127,8 +147,14 @@ fn merge_with_itself(rt: HostRuntime) -> Result<(), Fail> {
     merges_with_itself::<Sha256Tree>(&rt, rt.alloc())
 }
 
-// Mirror 0 takes a head, and mirror 1 a bundle; each is merged with itself.
 fn merges_with_itself<H: TreeHash>(rt: &impl Abort, alloc: Global) -> Result<(), Fail> {
+    let events = four_events::<H>(alloc)?;
+    let mut world = two_mirrors::<H>(alloc)?;
+    stay_apart(rt, alloc, &mut world, &events)
+}
+
+// Mirror 0 takes a head, and mirror 1 a bundle; each is merged with itself.
+fn four_events<H: TreeHash>(alloc: Global) -> Result<Vec<Event>, Fail> {
     let mut events = three_events::<H>(alloc)?;
     let _other = events.pop();
     for i in 0..2usize {
@@ -137,12 +163,19 @@ fn merges_with_itself<H: TreeHash>(rt: &impl Abort, alloc: Global) -> Result<(),
             source: i,
         })?;
     }
-    let mut world = two_mirrors::<H>(alloc)?;
-    let mut keys: Vec<Box<dyn Verifier>> = Vec::new(alloc);
-    keys.push(Box::new(alloc, Five)?)?;
-    let answers = answers_under(alloc, &mut world, &keys, &events, 0)?;
+    Ok(events)
+}
+
+// The four events happen to those mirrors.
+fn stay_apart<H: TreeHash>(
+    rt: &impl Abort,
+    alloc: Global,
+    world: &mut [Mirror<H>],
+    events: &[Event],
+) -> Result<(), Fail> {
+    let answers = answers_of(alloc, world, events, 0)?;
     assert!(rt; are_done(&answers, 4));
-    assert!(rt; are_apart(&world));
+    assert!(rt; are_apart(world));
     Ok(())
 }
 

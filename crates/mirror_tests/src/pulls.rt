@@ -122,10 +122,23 @@ fn gets_of_a_pull(rt: HostRuntime) -> Result<(), Fail> {
         (Lie::Silence, 0, 0, 1, Err(PullFault::NoCheckpoint)),
         (Lie::NoFiles, 0, 0, 3, Err(PullFault::NoEdge)),
     ] {
-        let mut source = lying_log::<Sha256Tree>(rt.alloc(), lie, from, count, gets as u64)?;
-        asks(&rt, rt.alloc(), &mut source, gets, end)?;
+        asks_liar::<Sha256Tree>(&rt, rt.alloc(), lie, from, count, gets, end)?;
     }
     Ok(())
+}
+
+// A new mirror's pull from the source of that lie asks so often, and ends so.
+fn asks_liar<H: TreeHash>(
+    rt: &impl Abort,
+    alloc: Global,
+    lie: Lie,
+    from: u16,
+    count: u16,
+    gets: usize,
+    want: Result<bool, PullFault>,
+) -> Result<(), Fail> {
+    let mut source = lying_log::<H>(alloc, lie, from, count, gets as u64)?;
+    asks(rt, alloc, &mut source, gets, want)
 }
 
 // A new mirror's pull from that source asks so often, and ends so: with a head that is complete or not, or by a fault.
@@ -136,8 +149,7 @@ fn asks<H: TreeHash>(
     gets: usize,
     want: Result<bool, PullFault>,
 ) -> Result<(), Fail> {
-    let mut mirror = Mirror::<H>::new(alloc, "ex")?;
-    let end = end_of_pull(alloc, &mut mirror, source)?;
+    let end = end_of_first_pull(alloc, source)?;
     assert!(rt;
         source.asked.len() == gets && source.failures == 0,
         "{gets}"
@@ -152,6 +164,15 @@ fn asks<H: TreeHash>(
     Ok(())
 }
 
+// How a new mirror's pull from that source ends.
+fn end_of_first_pull<H: TreeHash>(
+    alloc: Global,
+    source: &mut Liar<H>,
+) -> Result<Result<Pulled, PullFault>, Fail> {
+    let mut mirror = Mirror::<H>::new(alloc, "ex")?;
+    end_of_pull(alloc, &mut mirror, source)
+}
+
 // The row false-bundle: what a mirror that serves C(3) asks a source over C(257) for, whose first bundle is of other entries.
 #[test]
 fn gets_of_a_false_bundle(rt: HostRuntime) -> Result<(), Fail> {
@@ -160,11 +181,17 @@ fn gets_of_a_false_bundle(rt: HostRuntime) -> Result<(), Fail> {
 
 fn asks_false_bundle<H: TreeHash>(rt: &impl Abort, alloc: Global) -> Result<(), Fail> {
     let mut mirror = Mirror::<H>::new(alloc, "ex")?;
-    let mut first = list::<H>(alloc, 0, 3)?;
-    let held = end_of_pull(alloc, &mut mirror, &mut first)??;
-    assert!(rt; held.size == 3 && held.complete);
+    asks_false_bundle_over_3(rt, alloc, &mut mirror)
+}
+
+fn asks_false_bundle_over_3<H: TreeHash>(
+    rt: &impl Abort,
+    alloc: Global,
+    mirror: &mut Mirror<H>,
+) -> Result<(), Fail> {
+    pull_log(alloc, mirror, 3)?;
     let mut source = lying_log::<H>(alloc, Lie::FalseBundle, 1000, 256, 5)?;
-    asks_five(rt, alloc, &mut mirror, &mut source)
+    asks_five(rt, alloc, mirror, &mut source)
 }
 
 // The checkpoint, the two partial tiles at the edge of 257 entries, and the two bundles: nothing else is missing, since the

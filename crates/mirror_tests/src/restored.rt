@@ -1,5 +1,5 @@
 //! Mirrors that are made again of strings and notes.
-use crate::given::{Five, HEAD_OF_3, count_of_heads};
+use crate::given::{HEAD_OF_3, count_of_heads, keys};
 use node_store::Store;
 use signed_note::Verifier;
 use std::alloc::Global;
@@ -41,17 +41,9 @@ fn keeps_heads<H: TreeHash>(
     alloc: Global,
     mirror: &mut Mirror<H>,
 ) -> Result<(), Fail> {
-    let mut keys: Vec<Box<dyn Verifier>> = Vec::new(alloc);
-    answers(
-        rt,
-        alloc,
-        mirror,
-        &keys,
-        HEAD_OF_1,
-        Err(RestoreFault::BadHead),
-        0,
-    )?;
-    keys.push(Box::new(alloc, Five)?)?;
+    let bad_head = Err(RestoreFault::BadHead);
+    answers(rt, alloc, mirror, &[], HEAD_OF_1, bad_head, 0)?;
+    let keys = keys(alloc)?;
     for (note, want) in [
         (HEAD_OF_1, Ok(())),
         (HEAD_OF_1, Ok(())),
