@@ -18,8 +18,16 @@ const SAME: &str =
 #[test]
 fn same_under_collisions(rt: HostRuntime) -> Result<(), Fail> {
     let mut mirror = Mirror::<SumTree>::new(rt.alloc(), "ex")?;
-    take_logs(rt.alloc(), &mut mirror)?;
-    tells_same(&rt, rt.alloc(), &mirror)
+    takes_and_tells(&rt, rt.alloc(), &mut mirror)
+}
+
+fn takes_and_tells<H: TreeHash>(
+    rt: &impl Abort,
+    alloc: Global,
+    mirror: &mut Mirror<H>,
+) -> Result<(), Fail> {
+    take_logs(alloc, mirror)?;
+    tells_same(rt, alloc, mirror)
 }
 
 // Takes both heads, and the entries of the large log.
