@@ -82,9 +82,19 @@ fn failing_source(rt: HostRuntime) -> Result<(), Fail> {
 
 // A pull of C(257) that fails after so many gets, and then one that does not.
 fn fails_after<H: TreeHash>(rt: &impl Abort, alloc: Global, passes: u64) -> Result<(), Fail> {
-    let mut mirror = Mirror::<H>::new(alloc, "ex")?;
     let mut source = lying_log::<H>(alloc, Lie::Nothing, 0, 0, passes)?;
-    fails_once(rt, alloc, &mut mirror, &mut source, passes)
+    fails_first(rt, alloc, &mut source, passes)
+}
+
+// A new mirror's pull from that source fails, after so many gets, and then one does not.
+fn fails_first<H: TreeHash>(
+    rt: &impl Abort,
+    alloc: Global,
+    source: &mut Liar<H>,
+    passes: u64,
+) -> Result<(), Fail> {
+    let mut mirror = Mirror::<H>::new(alloc, "ex")?;
+    fails_once(rt, alloc, &mut mirror, source, passes)
 }
 
 // The mirror's pull from that source fails, after so many gets, and then one does not.
@@ -233,9 +243,18 @@ fn pull_again_after_want_of_memory(rt: HostRuntime) -> Result<(), Fail> {
 }
 
 fn pulls_at_last<H: TreeHash>(rt: &impl Abort, alloc: Global) -> Result<(), Fail> {
-    let mut mirror = Mirror::<H>::new(alloc, "ex")?;
     let mut source = list::<H>(alloc, 0, 300)?;
-    pulls_from(rt, alloc, &mut mirror, &mut source)
+    pulls_first::<H, _>(rt, alloc, &mut source)
+}
+
+// A new mirror's pull.
+fn pulls_first<H: TreeHash, S: Source>(
+    rt: &impl Abort,
+    alloc: Global,
+    source: &mut S,
+) -> Result<(), Fail> {
+    let mut mirror = Mirror::<H>::new(alloc, "ex")?;
+    pulls_from(rt, alloc, &mut mirror, source)
 }
 
 fn pulls_from<H: TreeHash, S: Source>(
