@@ -22,23 +22,25 @@ fn text_of(alloc: Global, checkpoint: &Checkpoint) -> Result<String, AllocError>
 }
 
 // Texts that no note has: without a newline at the end, with other line ends, and without a byte.
+const NONE: [(&str, CheckpointFault); 4] = [
+    (
+        "ex\n3\nrra8/idLcKFPsGel5VeCZNsPqbUa9eC6FZFY8yngbnc=",
+        CheckpointFault::TooFewLines,
+    ),
+    (
+        "ex\n3\nrra8/idLcKFPsGel5VeCZNsPqbUa9eC6FZFY8yngbnc=\r\n",
+        CheckpointFault::BadRoot,
+    ),
+    (
+        "ex\n3\r\nrra8/idLcKFPsGel5VeCZNsPqbUa9eC6FZFY8yngbnc=\n",
+        CheckpointFault::BadSize,
+    ),
+    ("", CheckpointFault::TooFewLines),
+];
+
 #[test]
 fn checkpoint_refusals(rt: HostRuntime) {
-    for (text, fault) in [
-        (
-            "ex\n3\nrra8/idLcKFPsGel5VeCZNsPqbUa9eC6FZFY8yngbnc=",
-            CheckpointFault::TooFewLines,
-        ),
-        (
-            "ex\n3\nrra8/idLcKFPsGel5VeCZNsPqbUa9eC6FZFY8yngbnc=\r\n",
-            CheckpointFault::BadRoot,
-        ),
-        (
-            "ex\n3\r\nrra8/idLcKFPsGel5VeCZNsPqbUa9eC6FZFY8yngbnc=\n",
-            CheckpointFault::BadSize,
-        ),
-        ("", CheckpointFault::TooFewLines),
-    ] {
+    for &(text, fault) in &NONE {
         let found = checkpoint_of(rt.alloc(), text).err();
         assert!(rt; found == Some(fault), "at {text}");
     }
@@ -66,16 +68,19 @@ fn made_by_hand(rt: HostRuntime) -> Result<(), Fail> {
     Ok(())
 }
 
+// Texts, and how many lines they have behind the root.
+const PINNED: [(&str, usize); 2] = [
+    ("ex\n3\nrra8/idLcKFPsGel5VeCZNsPqbUa9eC6FZFY8yngbnc=\n", 0),
+    (
+        "ex\n3\nrra8/idLcKFPsGel5VeCZNsPqbUa9eC6FZFY8yngbnc=\none\n\u{2014} two\r\n",
+        2,
+    ),
+];
+
 #[test]
 fn pinned_ed25519(rt: HostRuntime) -> Result<(), Fail> {
     let alloc = rt.alloc();
-    for (text, extensions) in [
-        ("ex\n3\nrra8/idLcKFPsGel5VeCZNsPqbUa9eC6FZFY8yngbnc=\n", 0),
-        (
-            "ex\n3\nrra8/idLcKFPsGel5VeCZNsPqbUa9eC6FZFY8yngbnc=\none\n\u{2014} two\r\n",
-            2,
-        ),
-    ] {
+    for &(text, extensions) in &PINNED {
         let checkpoint = checkpoint_of(alloc, text)?;
         assert!(rt; checkpoint.origin.as_str() == "ex");
         assert!(rt; checkpoint.size == 3);

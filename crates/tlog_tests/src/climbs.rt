@@ -2,7 +2,6 @@
 
 use crate::given::{LEAF_OF_00, LEAF_OF_10, LEAF_OF_NO_BYTES, ROOT_OF_TWO, hash};
 use std::alloc::Global;
-use std::test::Fail;
 use tlog_hash::{Hash, Sha256Tree, tree_hash};
 use tlog_proof::{ProofFault, Ranges, consistency, inclusion};
 use tlog_shape::MAX_SIZE;
@@ -24,6 +23,19 @@ fn grown<R: Ranges>(
     second: u64,
 ) -> Result<Vec<Hash>, ProofFault> {
     consistency(alloc, ranges, first, second)
+}
+
+// Whether a path is made, of just these hashes.
+fn is_path(path: Result<Vec<Hash>, ProofFault>, hashes: &[Hash]) -> bool {
+    match path {
+        Ok(path) => path.as_slice() == hashes,
+        Err(_) => false,
+    }
+}
+
+// How many hashes the path has that is made.
+fn len_of(path: Result<Vec<Hash>, ProofFault>) -> Result<usize, ProofFault> {
+    Ok(path?.len())
 }
 
 // A list in memory, of which each range is hashed anew.
@@ -54,45 +66,43 @@ impl<'a> Ranges for Entries<'a> {
 
 // The paths over the entries of no bytes, `00` and `10`, as the standard's recursion makes them.
 #[test]
-fn paths_of_three(rt: HostRuntime) -> Result<(), Fail> {
+fn paths_of_three(rt: HostRuntime) {
     let three = Entries {
         entries: &[b"", b"\x00", b"\x10"],
     };
-    for (index, first, last) in [
-        (0, LEAF_OF_00, LEAF_OF_10),
-        (1, LEAF_OF_NO_BYTES, LEAF_OF_10),
-    ] {
-        let path = included(rt.alloc(), &three, 3, index)?;
-        assert!(rt; path.as_slice() == [hash(&rt, first), hash(&rt, last)].as_slice());
-    }
-    let path = included(rt.alloc(), &three, 3, 2)?;
-    assert!(rt; path.as_slice() == [hash(&rt, ROOT_OF_TWO)].as_slice());
-    let path = grown(rt.alloc(), &three, 1, 3)?;
-    assert!(rt; path.as_slice() == [hash(&rt, LEAF_OF_00), hash(&rt, LEAF_OF_10)].as_slice());
-    let path = grown(rt.alloc(), &three, 2, 3)?;
-    assert!(rt; path.as_slice() == [hash(&rt, LEAF_OF_10)].as_slice());
-    assert!(rt; grown(rt.alloc(), &three, 3, 3)?.is_empty());
-    Ok(())
+    let (none, zero) = (hash(&rt, LEAF_OF_NO_BYTES), hash(&rt, LEAF_OF_00));
+    let (ten, two) = (hash(&rt, LEAF_OF_10), hash(&rt, ROOT_OF_TWO));
+    assert!(rt; is_path(included(rt.alloc(), &three, 3, 0), &[zero, ten]));
+    assert!(rt; is_path(included(rt.alloc(), &three, 3, 1), &[none, ten]));
+    assert!(rt; is_path(included(rt.alloc(), &three, 3, 2), &[two]));
+    assert!(rt; is_path(grown(rt.alloc(), &three, 1, 3), &[zero, ten]));
+    assert!(rt; is_path(grown(rt.alloc(), &three, 2, 3), &[ten]));
+    assert!(rt; is_path(grown(rt.alloc(), &three, 3, 3), &[]));
 }
 
 // Sizes and indices that three entries do not have.
+const BAD_INCLUSIONS: [(u64, u64, ProofFault); 3] = [
+    (4, 0, ProofFault::NoSuchSize),
+    (4, 4, ProofFault::NoSuchSize),
+    (3, 3, ProofFault::NoSuchIndex),
+];
+
+// Two sizes of which three entries do not have both, in that order.
+const BAD_CONSISTENCIES: [(u64, u64, ProofFault); 3] = [
+    (0, 4, ProofFault::NoSuchSize),
+    (0, 3, ProofFault::FirstIsZero),
+    (3, 2, ProofFault::Backwards),
+];
+
 #[test]
 fn path_refusals(rt: HostRuntime) {
     let three = Entries {
         entries: &[b"", b"\x00", b"\x10"],
     };
-    for (size, index, fault) in [
-        (4, 0, ProofFault::NoSuchSize),
-        (4, 4, ProofFault::NoSuchSize),
-        (3, 3, ProofFault::NoSuchIndex),
-    ] {
+    for &(size, index, fault) in &BAD_INCLUSIONS {
         assert!(rt; included(rt.alloc(), &three, size, index).err() == Some(fault));
     }
-    for (first, second, fault) in [
-        (0, 4, ProofFault::NoSuchSize),
-        (0, 3, ProofFault::FirstIsZero),
-        (3, 2, ProofFault::Backwards),
-    ] {
+    for &(first, second, fault) in &BAD_CONSISTENCIES {
         assert!(rt; grown(rt.alloc(), &three, first, second).err() == Some(fault));
     }
 }
@@ -117,10 +127,8 @@ impl Ranges for Same {
 
 // Proofs in trees of over 2^62 entries are made with ample memory.
 #[test]
-fn large_lists(rt: HostRuntime) -> Result<(), Fail> {
-    for (index, len) in [(0, 63), (MAX_SIZE - 1, 62)] {
-        assert!(rt; included(rt.alloc(), &Same, MAX_SIZE, index)?.len() == len);
-    }
-    assert!(rt; grown(rt.alloc(), &Same, (1 << 62) + 1, MAX_SIZE)?.len() == 64);
-    Ok(())
+fn large_lists(rt: HostRuntime) {
+    assert!(rt; len_of(included(rt.alloc(), &Same, MAX_SIZE, 0)) == Ok(63));
+    assert!(rt; len_of(included(rt.alloc(), &Same, MAX_SIZE, MAX_SIZE - 1)) == Ok(62));
+    assert!(rt; len_of(grown(rt.alloc(), &Same, (1 << 62) + 1, MAX_SIZE)) == Ok(64));
 }

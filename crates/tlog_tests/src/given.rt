@@ -1,6 +1,5 @@
-//! Hashes that were computed elsewhere, and lists of entries, that tests of more than one crate use.
+//! Hashes that were computed elsewhere, which tests of more than one crate use.
 
-use std::alloc::{AllocError, Global};
 use std::process::Abort;
 use tlog_hash::Hash;
 use tlog_text::read_hash;
@@ -26,22 +25,4 @@ pub(crate) fn hash(rt: &impl Abort, text: &str) -> Hash {
         panic!(rt; "no hash: {text}");
     };
     hash
-}
-
-// The numbers from the first up to the last, which is left out, each in two bytes, big-endian.
-pub(crate) fn numbers(alloc: Global, first: u16, last: u16) -> Result<Vec<[u8; 2]>, AllocError> {
-    let mut entries = Vec::new(alloc);
-    for number in first..last {
-        entries.push(number.to_be_bytes())?;
-    }
-    Ok(entries)
-}
-
-// The entries, lent.
-pub(crate) fn lent(alloc: Global, entries: &[[u8; 2]]) -> Result<Vec<&[u8]>, AllocError> {
-    let mut all = Vec::new(alloc);
-    for entry in entries {
-        all.push(entry.as_slice())?;
-    }
-    Ok(all)
 }

@@ -54,22 +54,25 @@ fn three_files(rt: HostRuntime) -> Result<(), Fail> {
     Ok(())
 }
 
+// The level, the index and the width of tiles, and for level 0 of bundles, that three entries do not have.
+const OUTSIDE: [(u32, u64, u32); 10] = [
+    (0, 0, 0),
+    (0, 0, 4),
+    (0, 0, 257),
+    (0, 1, 1),
+    (0, u64::MAX, 1),
+    (1, 0, 1),
+    (7, 0, 1),
+    (8, 0, 1),
+    (u32::MAX, 0, 1),
+    (0, 0, u32::MAX),
+];
+
 // No file is there.
 #[test]
 fn files_outside(rt: HostRuntime) -> Result<(), Fail> {
     let files = three(rt.alloc())?;
-    for (level, index, width) in [
-        (0, 0, 0),
-        (0, 0, 4),
-        (0, 0, 257),
-        (0, 1, 1),
-        (0, u64::MAX, 1),
-        (1, 0, 1),
-        (7, 0, 1),
-        (8, 0, 1),
-        (u32::MAX, 0, 1),
-        (0, 0, u32::MAX),
-    ] {
+    for &(level, index, width) in &OUTSIDE {
         assert!(rt;
             tile(&files, level, index, width).is_none(),
             "{level} {index} {width}"
@@ -81,19 +84,22 @@ fn files_outside(rt: HostRuntime) -> Result<(), Fail> {
     Ok(())
 }
 
+// How many entries of no bytes, the root, and the width of the second tile of level 0.
+const SIZES: [(usize, u8, u32); 7] = [
+    (0, 0, 0),
+    (1, 0, 0),
+    (2, 1, 0),
+    (255, 0xfe, 0),
+    (256, 0xff, 0),
+    (257, 0, 1),
+    (512, 0xff, 256),
+];
+
 // Of 256 entries on there is a hash of level 1, and from 257 on a second tile of level 0.
 #[test]
 fn sizes_of_tiles(rt: HostRuntime) -> Result<(), Fail> {
     let full = sum(0xff);
-    for (count, root, second) in [
-        (0, 0, 0),
-        (1, 0, 0),
-        (2, 1, 0),
-        (255, 0xfe, 0),
-        (256, 0xff, 0),
-        (257, 0, 1),
-        (512, 0xff, 256),
-    ] {
+    for &(count, root, second) in &SIZES {
         let files = empty_log(rt.alloc(), count)?;
         assert!(rt; files.size() == count as u64, "{count}");
         assert!(rt; files.root() == sum(root), "{count}");

@@ -71,7 +71,7 @@ fn keys(alloc: Global) -> Result<Vec<Box<dyn Verifier>>, Fail> {
 #[test]
 fn note_opens(rt: HostRuntime) -> Result<(), Fail> {
     let keys = keys(rt.alloc())?;
-    for (lines, opens) in OPENS {
+    for &(lines, opens) in &OPENS {
         let note = format!(in rt.alloc(); "x\n\n\ny\n\n{lines}")?;
         let read = note_of(rt.alloc(), note.as_bytes())?;
         assert!(rt; read.text() == "x\n\n\ny\n");
@@ -126,7 +126,7 @@ fn joined_pins_open_as_their_lines_do(rt: HostRuntime) -> Result<(), Fail> {
     assert!(rt; joined.len() == 4);
     let joined = boxed(rt.alloc(), joined)?;
     let apart = boxed(rt.alloc(), lines_of(rt.alloc())?)?;
-    for (text, line, opens) in PINNED {
+    for &(text, line, opens) in &PINNED {
         let note = format!(in rt.alloc(); "{text}\n\u{2014} {line}\n")?;
         let read = note_of(rt.alloc(), note.as_bytes())?;
         assert!(rt; answer(&read, &joined).is_ok() == opens, "{note}");

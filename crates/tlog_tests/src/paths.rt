@@ -22,35 +22,77 @@ fn tile(level: u32, index: u64, width: u32) -> Path {
     }
 }
 
+// Paths and their texts.
+const SPELLED: [(Path, &str); 9] = [
+    (
+        Path::Tile {
+            level: 0,
+            index: 0,
+            width: 256,
+        },
+        "tile/0/000",
+    ),
+    (
+        Path::Tile {
+            level: 0,
+            index: 999,
+            width: 256,
+        },
+        "tile/0/999",
+    ),
+    (
+        Path::Tile {
+            level: 0,
+            index: 1000,
+            width: 256,
+        },
+        "tile/0/x001/000",
+    ),
+    (
+        Path::Tile {
+            level: 0,
+            index: 1234067,
+            width: 256,
+        },
+        "tile/0/x001/x234/067",
+    ),
+    (
+        Path::Tile {
+            level: 0,
+            index: 36028797018963967,
+            width: 256,
+        },
+        "tile/0/x036/x028/x797/x018/x963/967",
+    ),
+    (
+        Path::Tile {
+            level: 7,
+            index: 0,
+            width: 255,
+        },
+        "tile/7/000.p/255",
+    ),
+    (Path::Checkpoint, "checkpoint"),
+    (
+        Path::Entries {
+            index: 67,
+            width: 256,
+        },
+        "tile/entries/067",
+    ),
+    (
+        Path::Entries {
+            index: 1000,
+            width: 5,
+        },
+        "tile/entries/x001/000.p/5",
+    ),
+];
+
 // Each path is printed as that text, which is read as that path.
 #[test]
 fn index_spelling(rt: HostRuntime) -> Result<(), Fail> {
-    for (path, text) in [
-        (tile(0, 0, 256), "tile/0/000"),
-        (tile(0, 999, 256), "tile/0/999"),
-        (tile(0, 1000, 256), "tile/0/x001/000"),
-        (tile(0, 1234067, 256), "tile/0/x001/x234/067"),
-        (
-            tile(0, 36028797018963967, 256),
-            "tile/0/x036/x028/x797/x018/x963/967",
-        ),
-        (tile(7, 0, 255), "tile/7/000.p/255"),
-        (Path::Checkpoint, "checkpoint"),
-        (
-            Path::Entries {
-                index: 67,
-                width: 256,
-            },
-            "tile/entries/067",
-        ),
-        (
-            Path::Entries {
-                index: 1000,
-                width: 5,
-            },
-            "tile/entries/x001/000.p/5",
-        ),
-    ] {
+    for &(path, text) in &SPELLED {
         assert!(rt; printed(rt.alloc(), &path)?.as_str() == text);
         assert!(rt; parsed(text) == Ok(path));
     }
@@ -73,26 +115,28 @@ fn path_kinds(rt: HostRuntime) -> Result<(), Fail> {
     Ok(())
 }
 
+// Texts of no path, and why.
+const REFUSALS: [(&str, PathFault); 12] = [
+    ("tile/0/x036/x028/x797/x018/x963/968", PathFault::BadIndex),
+    (
+        "tile/12/x036/x028/x797/x018/x963/968.p/300",
+        PathFault::BadLevel,
+    ),
+    ("tile/0/x000/001", PathFault::BadIndex),
+    ("tile/0/001.p/0", PathFault::BadWidth),
+    ("tile/0/001.p/256", PathFault::BadWidth),
+    ("tile/0/001.p/08", PathFault::BadWidth),
+    ("tile/8/000", PathFault::BadLevel),
+    ("tile/0", PathFault::Unknown),
+    ("tiles/0/000", PathFault::Unknown),
+    ("tile//000", PathFault::BadLevel),
+    ("tile/0/.p/1", PathFault::BadIndex),
+    ("tile/0/000.p/", PathFault::BadWidth),
+];
+
 #[test]
 fn path_refusals(rt: HostRuntime) {
-    let refusals = [
-        ("tile/0/x036/x028/x797/x018/x963/968", PathFault::BadIndex),
-        (
-            "tile/12/x036/x028/x797/x018/x963/968.p/300",
-            PathFault::BadLevel,
-        ),
-        ("tile/0/x000/001", PathFault::BadIndex),
-        ("tile/0/001.p/0", PathFault::BadWidth),
-        ("tile/0/001.p/256", PathFault::BadWidth),
-        ("tile/0/001.p/08", PathFault::BadWidth),
-        ("tile/8/000", PathFault::BadLevel),
-        ("tile/0", PathFault::Unknown),
-        ("tiles/0/000", PathFault::Unknown),
-        ("tile//000", PathFault::BadLevel),
-        ("tile/0/.p/1", PathFault::BadIndex),
-        ("tile/0/000.p/", PathFault::BadWidth),
-    ];
-    for (text, fault) in refusals {
+    for &(text, fault) in &REFUSALS {
         assert!(rt; parsed(text) == Err(fault), "at {text}");
     }
 }
@@ -118,38 +162,53 @@ fn edge_text(alloc: Global, size: u64) -> Result<String, AllocError> {
     Ok(text)
 }
 
-// The edges of trees of these sizes, edge-70000 and edge-gaps among them.
+// Sizes of trees and their edges, edge-70000 and edge-gaps among them.
+const EDGES: [(u64, &str); 6] = [
+    (70000, "tile/0/273.p/112\ntile/1/001.p/17\ntile/2/000.p/1\n"),
+    (131077, "tile/0/512.p/5\ntile/2/000.p/2\n"),
+    (773, "tile/0/003.p/5\ntile/1/000.p/3\n"),
+    (256, "tile/1/000.p/1\n"),
+    (0, ""),
+    (tlog_shape::MAX_SIZE, GREATEST_EDGE),
+];
+
 #[test]
 fn edge_70000_and_edge_gaps(rt: HostRuntime) -> Result<(), Fail> {
-    for (size, text) in [
-        (70000, "tile/0/273.p/112\ntile/1/001.p/17\ntile/2/000.p/1\n"),
-        (131077, "tile/0/512.p/5\ntile/2/000.p/2\n"),
-        (773, "tile/0/003.p/5\ntile/1/000.p/3\n"),
-        (256, "tile/1/000.p/1\n"),
-        (0, ""),
-        (tlog_shape::MAX_SIZE, GREATEST_EDGE),
-    ] {
+    for &(size, text) in &EDGES {
         assert!(rt; edge_text(rt.alloc(), size)?.as_str() == text);
     }
     Ok(())
 }
 
 // Each path before the next.
+const RISING: [Path; 6] = [
+    Path::Checkpoint,
+    Path::Tile {
+        level: 0,
+        index: 2,
+        width: 1,
+    },
+    Path::Tile {
+        level: 1,
+        index: 0,
+        width: 256,
+    },
+    Path::Tile {
+        level: 1,
+        index: 1,
+        width: 5,
+    },
+    Path::Entries { index: 0, width: 3 },
+    Path::Entries { index: 0, width: 4 },
+];
+
 #[test]
 fn paths_are_ordered(rt: HostRuntime) -> Result<(), Fail> {
-    let rising = [
-        Path::Checkpoint,
-        tile(0, 2, 1),
-        tile(1, 0, 256),
-        tile(1, 1, 5),
-        Path::Entries { index: 0, width: 3 },
-        Path::Entries { index: 0, width: 4 },
-    ];
     let mut paths = HashSet::new(rt.alloc());
-    for (i, path) in rising.iter().enumerate() {
+    for (i, path) in RISING.iter().enumerate() {
         assert!(rt; paths.insert(*path)?);
         assert!(rt; paths.contains(path));
-        for other in &rising[i + 1..] {
+        for other in &RISING[i + 1..] {
             assert!(rt; path < other);
             assert!(rt; !paths.contains(other));
         }

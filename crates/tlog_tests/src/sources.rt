@@ -34,39 +34,60 @@ fn file<H: TreeHash>(
     source.get(&path)
 }
 
-fn tile(level: u32, index: u64, width: u32) -> Path {
+// The paths of no file of that log.
+const OUTSIDE: [Path; 11] = [
     Path::Tile {
-        level,
-        index,
-        width,
-    }
-}
-
-fn bundle(index: u64, width: u32) -> Path {
-    Path::Entries { index, width }
-}
+        level: 0,
+        index: 0,
+        width: 0,
+    },
+    Path::Tile {
+        level: 0,
+        index: 0,
+        width: 4,
+    },
+    Path::Tile {
+        level: 0,
+        index: 0,
+        width: 257,
+    },
+    Path::Tile {
+        level: 0,
+        index: 1,
+        width: 1,
+    },
+    Path::Tile {
+        level: 0,
+        index: u64::MAX,
+        width: 1,
+    },
+    Path::Tile {
+        level: 1,
+        index: 0,
+        width: 1,
+    },
+    Path::Tile {
+        level: 8,
+        index: 0,
+        width: 1,
+    },
+    Path::Entries { index: 0, width: 0 },
+    Path::Entries { index: 0, width: 4 },
+    Path::Entries {
+        index: 0,
+        width: 256,
+    },
+    Path::Entries { index: 1, width: 1 },
+];
 
 // No file is there, and each path was asked for.
 #[test]
 fn paths_outside_the_list(rt: HostRuntime) -> Result<(), Fail> {
     let mut source = list::<Sha256Tree>(rt.alloc())?;
-    let outside = [
-        tile(0, 0, 0),
-        tile(0, 0, 4),
-        tile(0, 0, 257),
-        tile(0, 1, 1),
-        tile(0, u64::MAX, 1),
-        tile(1, 0, 1),
-        tile(8, 0, 1),
-        bundle(0, 0),
-        bundle(0, 4),
-        bundle(0, 256),
-        bundle(1, 1),
-    ];
-    for path in outside {
-        assert!(rt; file(&mut source, path)? == None, "{path}");
+    for path in &OUTSIDE {
+        assert!(rt; file(&mut source, *path)? == None, "{path}");
     }
-    assert!(rt; source.asked() == outside.as_slice());
+    assert!(rt; source.asked() == OUTSIDE.as_slice());
     assert!(rt; source.failures() == 0);
     Ok(())
 }

@@ -31,25 +31,30 @@ fn entries<'a, H: TreeHash>(
     entries_at(alloc, store, tree.0, &tree.1, index, width)
 }
 
-// Rows and bundles that the tree of three entries does not have.
+// The level, the index and the width of rows that the tree of three entries does not have.
+const NO_ROWS: [(u32, u64, u32); 8] = [
+    (0, 0, 4),
+    (0, 1, 1),
+    (1, 0, 1),
+    (0, 0, 0),
+    (0, 0, 257),
+    (8, 0, 1),
+    (0, u64::MAX, 256),
+    (7, u64::MAX, 256),
+];
+
+// The index and the width of bundles that it does not have.
+const NO_BUNDLES: [(u64, u32); 5] = [(0, 4), (1, 1), (0, 0), (0, 257), (u64::MAX, 1)];
+
 #[test]
 fn places_outside_a_tree(rt: HostRuntime) -> Result<(), Fail> {
     let (store, root) = stored::<Sha256Tree>(rt.alloc(), &[b"a", b"b", b"c"])?;
     let tree = (3, root);
-    for (level, index, width) in [
-        (0, 0, 4),
-        (0, 1, 1),
-        (1, 0, 1),
-        (0, 0, 0),
-        (0, 0, 257),
-        (8, 0, 1),
-        (0, u64::MAX, 256),
-        (7, u64::MAX, 256),
-    ] {
+    for &(level, index, width) in &NO_ROWS {
         let found = row(rt.alloc(), &store, &tree, (level, index, width))?;
         assert!(rt; found.is_none(), "{level} {index} {width}");
     }
-    for (index, width) in [(0, 4), (1, 1), (0, 0), (0, 257), (u64::MAX, 1)] {
+    for &(index, width) in &NO_BUNDLES {
         let found = entries(rt.alloc(), &store, &tree, index, width)?;
         assert!(rt; found.is_none(), "{index} {width}");
     }
