@@ -90,17 +90,20 @@ fn assert_exported<H: TreeHash>(
     assert!(rt; (shelf.failures == 0) == answer.is_ok());
 }
 
+// How many calls are done, the files put then, and the answer.
+const EXPORTS: [(u32, u32, Result<(), ExportFault>); 5] = [
+    (0, 0, Err(ExportFault::ShelfFault)),
+    (1, 0, Err(ExportFault::ShelfFault)),
+    (2, 1, Err(ExportFault::ShelfFault)),
+    (3, 2, Err(ExportFault::ShelfFault)),
+    (4, 2, Ok(())),
+];
+
 // The first call asks for the checkpoint, and the j-th put is the call after j others.
 #[test]
 fn failing_shelf(rt: HostRuntime) -> Result<(), Fail> {
     let mirror = mirror_of::<Sha256Tree>(rt.alloc(), COMPLETE)?;
-    for (passes, files, answer) in [
-        (0, 0, Err(ExportFault::ShelfFault)),
-        (1, 0, Err(ExportFault::ShelfFault)),
-        (2, 1, Err(ExportFault::ShelfFault)),
-        (3, 2, Err(ExportFault::ShelfFault)),
-        (4, 2, Ok(())),
-    ] {
+    for &(passes, files, answer) in &EXPORTS {
         assert_exported(&rt, rt.alloc(), &mirror, passes, files, answer);
     }
     Ok(())
@@ -153,16 +156,19 @@ fn assert_updated<H: TreeHash>(
     assert!(rt; (shelf.failures == 0) == answer.is_ok());
 }
 
+// The same of an update.
+const UPDATES: [(u32, u32, Result<(), UpdateFault>); 4] = [
+    (0, 0, Err(UpdateFault::ShelfFault)),
+    (1, 1, Err(UpdateFault::ShelfFault)),
+    (2, 2, Err(UpdateFault::ShelfFault)),
+    (3, 2, Ok(())),
+];
+
 // No call asks for a file that is there: the j-th put is the call after j others.
 #[test]
 fn failing_update(rt: HostRuntime) -> Result<(), Fail> {
     let mirror = mirror_of::<Sha256Tree>(rt.alloc(), COMPLETE)?;
-    for (passes, files, answer) in [
-        (0, 0, Err(UpdateFault::ShelfFault)),
-        (1, 1, Err(UpdateFault::ShelfFault)),
-        (2, 2, Err(UpdateFault::ShelfFault)),
-        (3, 2, Ok(())),
-    ] {
+    for &(passes, files, answer) in &UPDATES {
         assert_updated(&rt, rt.alloc(), &mirror, passes, files, answer);
     }
     Ok(())

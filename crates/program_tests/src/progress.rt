@@ -48,39 +48,44 @@ fn text_of(line: &[u8]) -> &str {
     std::str::from_utf8(line).unwrap_or("no text")
 }
 
+// How many files, how many bytes, of how many files, and the line.
+const PROGRESS: [(u64, u64, Option<u64>, &str); 10] = [
+    (0, 0, None, "pull: 0 files, 0 B\n"),
+    (1, 999, None, "pull: 1 file, 999 B\n"),
+    (2, 1_000, None, "pull: 2 files, 1 kB\n"),
+    (999, 999_999, None, "pull: 999 files, 999 kB\n"),
+    (1_000, 1_000_000, None, "pull: 1,000 files, 1 MB\n"),
+    (1_024, 23_999_999, None, "pull: 1,024 files, 23 MB\n"),
+    (
+        1_000_000,
+        999_999_999_999,
+        None,
+        "pull: 1,000,000 files, 999 GB\n",
+    ),
+    (
+        u64::MAX,
+        u64::MAX,
+        None,
+        "pull: 18,446,744,073,709,551,615 files, 18,446,744 TB\n",
+    ),
+    (3_200, 5, Some(7_833), "pull: 3,200 of 7,833 files\n"),
+    (0, 0, Some(1), "pull: 0 of 1 file\n"),
+];
+
+// What two files of three bytes are told as.
+const TASKS: [(Task, &str); 3] = [
+    (Task::Build, "build: 2 files, 3 B\n"),
+    (Task::Pull, "pull: 2 files, 3 B\n"),
+    (Task::Export, "export: 2 files, 3 B\n"),
+];
+
 #[test]
 fn progress_lines(rt: HostRuntime) -> Result<(), Fail> {
-    let most = u64::MAX;
-    for (files, bytes, all, want) in [
-        (0, 0, None, "pull: 0 files, 0 B\n"),
-        (1, 999, None, "pull: 1 file, 999 B\n"),
-        (2, 1_000, None, "pull: 2 files, 1 kB\n"),
-        (999, 999_999, None, "pull: 999 files, 999 kB\n"),
-        (1_000, 1_000_000, None, "pull: 1,000 files, 1 MB\n"),
-        (1_024, 23_999_999, None, "pull: 1,024 files, 23 MB\n"),
-        (
-            1_000_000,
-            999_999_999_999,
-            None,
-            "pull: 1,000,000 files, 999 GB\n",
-        ),
-        (
-            most,
-            most,
-            None,
-            "pull: 18,446,744,073,709,551,615 files, 18,446,744 TB\n",
-        ),
-        (3_200, 5, Some(7_833), "pull: 3,200 of 7,833 files\n"),
-        (0, 0, Some(1), "pull: 0 of 1 file\n"),
-    ] {
+    for &(files, bytes, all, want) in &PROGRESS {
         let line = progress_line(rt.alloc(), Task::Pull, all, Counts { files, bytes })?;
         assert!(&rt; text_of(&line) == want, "{want}");
     }
-    for (task, want) in [
-        (Task::Build, "build: 2 files, 3 B\n"),
-        (Task::Pull, "pull: 2 files, 3 B\n"),
-        (Task::Export, "export: 2 files, 3 B\n"),
-    ] {
+    for &(task, want) in &TASKS {
         let counts = Counts { files: 2, bytes: 3 };
         let line = progress_line(rt.alloc(), task, None, counts)?;
         assert!(&rt; text_of(&line) == want, "{want}");
@@ -88,41 +93,42 @@ fn progress_lines(rt: HostRuntime) -> Result<(), Fail> {
     Ok(())
 }
 
-// The last of them is cut, and has 80 bytes.
+// The sizes held and pulled, how many files, how many bytes, and the line: the last is cut, and has 80 bytes.
+const PULLED: [(u64, u64, u64, u64, &str); 5] = [
+    (
+        5_000,
+        5_300,
+        4,
+        91_224,
+        "pull: 5,000 to 5,300 entries, 4 files, 91 kB\n",
+    ),
+    (0, 3, 3, 424, "pull: 0 to 3 entries, 3 files, 424 B\n"),
+    (
+        5_300,
+        5_300,
+        1,
+        170,
+        "pull: 5,300 to 5,300 entries, 1 file, 170 B\n",
+    ),
+    (
+        5_300,
+        5_000,
+        1,
+        170,
+        "pull: checkpoint of 5,000 entries, older than one held of 5,300\n",
+    ),
+    (
+        0,
+        u64::MAX,
+        u64::MAX,
+        u64::MAX,
+        "pull: 0 to 18,446,744,073,709,551,615 entries, 18,446,744,073,709,551,615 files\n",
+    ),
+];
+
 #[test]
 fn pulled_lines(rt: HostRuntime) -> Result<(), Fail> {
-    let most = u64::MAX;
-    for (held, size, files, bytes, want) in [
-        (
-            5_000,
-            5_300,
-            4,
-            91_224,
-            "pull: 5,000 to 5,300 entries, 4 files, 91 kB\n",
-        ),
-        (0, 3, 3, 424, "pull: 0 to 3 entries, 3 files, 424 B\n"),
-        (
-            5_300,
-            5_300,
-            1,
-            170,
-            "pull: 5,300 to 5,300 entries, 1 file, 170 B\n",
-        ),
-        (
-            5_300,
-            5_000,
-            1,
-            170,
-            "pull: checkpoint of 5,000 entries, older than one held of 5,300\n",
-        ),
-        (
-            0,
-            most,
-            most,
-            most,
-            "pull: 0 to 18,446,744,073,709,551,615 entries, 18,446,744,073,709,551,615 files\n",
-        ),
-    ] {
+    for &(held, size, files, bytes, want) in &PULLED {
         let line = pulled_line(rt.alloc(), held, size, Counts { files, bytes })?;
         assert!(&rt; text_of(&line) == want, "{want}");
         assert!(&rt; line.len() <= 80, "{want}");
@@ -155,29 +161,32 @@ fn told_of<W: Write + Drop>(
     Ok(())
 }
 
+// What each look at the clock takes, whether the work begins, how many files it has, and what is told.
+const APART: [(Option<u64>, bool, u64, &str); 6] = [
+    (
+        Some(400),
+        true,
+        7,
+        "export: 3 of 7 files\nexport: 6 of 7 files\n",
+    ),
+    (
+        Some(1_000),
+        true,
+        2,
+        "export: 1 of 2 files\nexport: 2 of 2 files\n",
+    ),
+    (Some(999), true, 1, ""),
+    (Some(0), true, 9, ""),
+    (None, true, 9, ""),
+    (Some(5_000), false, 9, ""),
+];
+
 // Each look at the clock is 400 milliseconds after the one before. The work begins at the first, so a line may come from
 // the fourth on, which is that of the third file, and then at each third.
 #[test]
 fn lines_come_a_second_apart(rt: HostRuntime) -> Result<(), Fail> {
     let alloc = rt.alloc();
-    for (step, begins, files, want) in [
-        (
-            Some(400),
-            true,
-            7,
-            "export: 3 of 7 files\nexport: 6 of 7 files\n",
-        ),
-        (
-            Some(1_000),
-            true,
-            2,
-            "export: 1 of 2 files\nexport: 2 of 2 files\n",
-        ),
-        (Some(999), true, 1, ""),
-        (Some(0), true, 9, ""),
-        (None, true, 9, ""),
-        (Some(5_000), false, 9, ""),
-    ] {
+    for &(step, begins, files, want) in &APART {
         let mut lines = Vec::new(alloc);
         let clock = clock_with(step);
         assert!(&rt; told_of(&rt, alloc, &clock, &mut lines, begins, files) == Ok(()));
@@ -209,17 +218,20 @@ fn standard_error(rt: HostRuntime) -> Result<(), Fail> {
     Ok(())
 }
 
+// A size, the one that was put before, and how many files.
+const SIZES: [(u64, u64, u64); 7] = [
+    (0, 0, 1),
+    (3, 0, 3),
+    (256, 0, 4),
+    (257, 256, 3),
+    (5, 5, 1),
+    (1_000_000, 0, 7_832),
+    (1_000_100, 1_000_000, 3),
+];
+
 #[test]
 fn files_of_sizes(rt: HostRuntime) -> Result<(), Fail> {
-    for (size, since, want) in [
-        (0, 0, 1),
-        (3, 0, 3),
-        (256, 0, 4),
-        (257, 256, 3),
-        (5, 5, 1),
-        (1_000_000, 0, 7_832),
-        (1_000_100, 1_000_000, 3),
-    ] {
+    for &(size, since, want) in &SIZES {
         assert!(&rt; files_to_put(size, since) == want, "{size}");
     }
     Ok(())

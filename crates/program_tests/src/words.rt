@@ -49,19 +49,21 @@ fn has_key_file(alloc: Global, line: &str, name: Option<&str>) -> Result<bool, A
     }
 }
 
+const KEY_FILES: [(&str, Option<&str>); 4] = [
+    ("check", None),
+    ("root --width x", None),
+    ("status --origin o --keys k --state s", Some("k")),
+    (
+        "missing --origin o --keys k --state s --size x --root y",
+        Some("k"),
+    ),
+];
+
 // No other option is judged where the key file is found.
 #[test]
 fn names_of_key_files(rt: HostRuntime) -> Result<(), Fail> {
     let alloc = rt.alloc();
-    for (line, name) in [
-        ("check", None),
-        ("root --width x", None),
-        ("status --origin o --keys k --state s", Some("k")),
-        (
-            "missing --origin o --keys k --state s --size x --root y",
-            Some("k"),
-        ),
-    ] {
+    for &(line, name) in &KEY_FILES {
         assert!(rt; has_key_file(alloc, line, name)?, "{line}");
     }
     Ok(())
