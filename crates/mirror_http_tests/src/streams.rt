@@ -33,20 +33,23 @@ fn fault_of<R: Read>(
     }
 }
 
+// The turns of a reader of six bytes, and what it is read to.
+const READS: [(&[Turn], Result<&[u8], StreamFault>); 6] = [
+    (&[Pass(1); 7], Ok(b"abcdef")),
+    (&[Pass(1); 3], Ok(b"abc")),
+    (
+        &[Interrupted, Pass(2), Interrupted, Interrupted, Pass(4)],
+        Ok(b"abcdef"),
+    ),
+    (&[Failed, Pass(6)], Err(StreamFault::ReadFault)),
+    (&[Pass(3), Failed, Pass(3)], Err(StreamFault::ReadFault)),
+    (&[Pass(6), Failed], Err(StreamFault::ReadFault)),
+];
+
 // A byte a read, interrupted, and failing once.
 #[test]
 fn reads_by_turns(rt: HostRuntime) {
-    for (turns, want) in [
-        ([Pass(1); 7].as_slice(), Ok(b"abcdef".as_slice())),
-        (&[Pass(1); 3], Ok(b"abc")),
-        (
-            &[Interrupted, Pass(2), Interrupted, Interrupted, Pass(4)],
-            Ok(b"abcdef"),
-        ),
-        (&[Failed, Pass(6)], Err(StreamFault::ReadFault)),
-        (&[Pass(3), Failed, Pass(3)], Err(StreamFault::ReadFault)),
-        (&[Pass(6), Failed], Err(StreamFault::ReadFault)),
-    ] {
+    for &(turns, want) in &READS {
         assert_reads(&rt, rt.alloc(), turns, want);
     }
 }
@@ -120,23 +123,33 @@ fn assert_ends(rt: &impl Abort, alloc: Global, most: usize, reads: u64, want: Op
     assert!(rt; fault_of(alloc, &mut reader, most, reads) == want);
 }
 
+// The turns of a writer, how six bytes are written to it, and those that it took.
+const WRITES: [(&[Turn], Result<(), StreamFault>, &[u8]); 7] = [
+    (&[Pass(1); 6], Ok(()), b"abcdef"),
+    (
+        &[Interrupted, Pass(2), Interrupted, Interrupted, Pass(4)],
+        Ok(()),
+        b"abcdef",
+    ),
+    (&[], Err(StreamFault::WriteFault), b""),
+    (
+        &[Pass(1), Failed, Pass(5)],
+        Err(StreamFault::WriteFault),
+        b"a",
+    ),
+    (&[Pass(5), Failed], Err(StreamFault::WriteFault), b"abcde"),
+    (&[Pass(0), Pass(6)], Err(StreamFault::WriteFault), b""),
+    (
+        &[Pass(4), Pass(0), Pass(2)],
+        Err(StreamFault::WriteFault),
+        b"abcd",
+    ),
+];
+
 // A byte a write, interrupted, failing, and taking nothing.
 #[test]
 fn writes_by_turns(rt: HostRuntime) {
-    let fault = Err(StreamFault::WriteFault);
-    for (turns, want, front) in [
-        ([Pass(1); 6].as_slice(), Ok(()), b"abcdef".as_slice()),
-        (
-            &[Interrupted, Pass(2), Interrupted, Interrupted, Pass(4)],
-            Ok(()),
-            b"abcdef",
-        ),
-        (&[], fault, b""),
-        (&[Pass(1), Failed, Pass(5)], fault, b"a"),
-        (&[Pass(5), Failed], fault, b"abcde"),
-        (&[Pass(0), Pass(6)], fault, b""),
-        (&[Pass(4), Pass(0), Pass(2)], fault, b"abcd"),
-    ] {
+    for &(turns, want, front) in &WRITES {
         assert_writes(&rt, rt.alloc(), turns, want, front);
     }
 }

@@ -9,32 +9,35 @@ fn read(bytes: &[u8]) -> Result<Option<&[u8]>, ReplyFault> {
     read_reply(bytes)
 }
 
+// Replies, and what they are read as.
+const REPLIES: [(&str, Result<Option<&[u8]>, ReplyFault>); 7] = [
+    (
+        "HTTP/1.1 200 OK\r\nContent-Length: 3\r\n\r\nab",
+        Err(ReplyFault::BodyShort),
+    ),
+    (
+        "HTTP/1.1 200 OK\r\nContent-Length: 3\r\n\r\nabc",
+        Ok(Some(b"abc")),
+    ),
+    (
+        "HTTP/1.1 200 OK\r\nContent-Length: 3\r\n\r\nabcd",
+        Err(ReplyFault::BodyLong),
+    ),
+    (
+        "HTTP/1.1 200 OK\r\nTransfer-Encoding: chunked\r\n\r\nabc",
+        Err(ReplyFault::CodedReply),
+    ),
+    ("HTTP/1.1 404 Not Found\r\n\r\n", Ok(None)),
+    (
+        "HTTP/1.1 503 Service Unavailable\r\n\r\n",
+        Err(ReplyFault::OtherStatus(503)),
+    ),
+    ("", Err(ReplyFault::BadReply)),
+];
+
 #[test]
 fn client_replies(rt: HostRuntime) {
-    for (reply, want) in [
-        (
-            "HTTP/1.1 200 OK\r\nContent-Length: 3\r\n\r\nab",
-            Err(ReplyFault::BodyShort),
-        ),
-        (
-            "HTTP/1.1 200 OK\r\nContent-Length: 3\r\n\r\nabc",
-            Ok(Some(b"abc".as_slice())),
-        ),
-        (
-            "HTTP/1.1 200 OK\r\nContent-Length: 3\r\n\r\nabcd",
-            Err(ReplyFault::BodyLong),
-        ),
-        (
-            "HTTP/1.1 200 OK\r\nTransfer-Encoding: chunked\r\n\r\nabc",
-            Err(ReplyFault::CodedReply),
-        ),
-        ("HTTP/1.1 404 Not Found\r\n\r\n", Ok(None)),
-        (
-            "HTTP/1.1 503 Service Unavailable\r\n\r\n",
-            Err(ReplyFault::OtherStatus(503)),
-        ),
-        ("", Err(ReplyFault::BadReply)),
-    ] {
+    for &(reply, want) in &REPLIES {
         assert!(rt; read(reply.as_bytes()) == want, "{reply}");
     }
 }

@@ -56,25 +56,28 @@ fn fault_of(alloc: Global, host: &str, prefix: &str) -> Option<SiteFault> {
     }
 }
 
+// A host, a prefix, and why no site is made of them, if so.
+const SITES: [(&str, &str, Option<SiteFault>); 15] = [
+    ("", "", Some(SiteFault::BadHost)),
+    ("", "a", Some(SiteFault::BadHost)),
+    ("a b", "", Some(SiteFault::BadHost)),
+    ("a\r\n", "", Some(SiteFault::BadHost)),
+    ("a\u{7f}", "", Some(SiteFault::BadHost)),
+    ("é", "", Some(SiteFault::BadHost)),
+    ("a", "a", Some(SiteFault::BadPrefix)),
+    ("a", "/", Some(SiteFault::BadPrefix)),
+    ("a", "/a/", Some(SiteFault::BadPrefix)),
+    ("a", "/a b", Some(SiteFault::BadPrefix)),
+    ("a", "/a\n", Some(SiteFault::BadPrefix)),
+    ("a", "/é", Some(SiteFault::BadPrefix)),
+    ("!~", "", None),
+    ("a", "//a", None),
+    ("a", "/a?b=/c", None),
+];
+
 #[test]
 fn site_refusals(rt: HostRuntime) {
-    for (host, prefix, want) in [
-        ("", "", Some(SiteFault::BadHost)),
-        ("", "a", Some(SiteFault::BadHost)),
-        ("a b", "", Some(SiteFault::BadHost)),
-        ("a\r\n", "", Some(SiteFault::BadHost)),
-        ("a\u{7f}", "", Some(SiteFault::BadHost)),
-        ("é", "", Some(SiteFault::BadHost)),
-        ("a", "a", Some(SiteFault::BadPrefix)),
-        ("a", "/", Some(SiteFault::BadPrefix)),
-        ("a", "/a/", Some(SiteFault::BadPrefix)),
-        ("a", "/a b", Some(SiteFault::BadPrefix)),
-        ("a", "/a\n", Some(SiteFault::BadPrefix)),
-        ("a", "/é", Some(SiteFault::BadPrefix)),
-        ("!~", "", None),
-        ("a", "//a", None),
-        ("a", "/a?b=/c", None),
-    ] {
+    for &(host, prefix, want) in &SITES {
         assert!(rt;
             fault_of(rt.alloc(), host, prefix) == want,
             "{host} {prefix}"

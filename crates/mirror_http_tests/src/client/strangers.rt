@@ -63,21 +63,24 @@ fn replies_that_fail(rt: HostRuntime) -> Result<(), Fail> {
     Ok(())
 }
 
+// Replies, and the bytes that they bring, if any.
+const READ: [(&str, Option<&[u8]>); 5] = [
+    ("HTTP/1.1 404 Not Found\r\n\r\n", None),
+    (
+        "HTTP/1.1 410 Gone\r\nTransfer-Encoding: chunked\r\n\r\n",
+        None,
+    ),
+    ("HTTP/1.1 200\r\n\r\n", Some(b"")),
+    ("HTTP/1.0 200 OK\n\nabc", Some(b"abc")),
+    (
+        "HTTP/1.1 200 OK\r\nContent-Length: 3\r\ncontent-length: 03\r\n\r\nabc",
+        Some(b"abc"),
+    ),
+];
+
 #[test]
 fn replies_that_are_read(rt: HostRuntime) -> Result<(), Fail> {
-    for (reply, want) in [
-        ("HTTP/1.1 404 Not Found\r\n\r\n", None),
-        (
-            "HTTP/1.1 410 Gone\r\nTransfer-Encoding: chunked\r\n\r\n",
-            None,
-        ),
-        ("HTTP/1.1 200\r\n\r\n", Some(b"".as_slice())),
-        ("HTTP/1.0 200 OK\n\nabc", Some(b"abc")),
-        (
-            "HTTP/1.1 200 OK\r\nContent-Length: 3\r\ncontent-length: 03\r\n\r\nabc",
-            Some(b"abc"),
-        ),
-    ] {
+    for &(reply, want) in &READ {
         expect_got(&rt, reply, true, Ok(want))?;
     }
     Ok(())
