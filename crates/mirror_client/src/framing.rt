@@ -6,7 +6,7 @@ ghost use Rattle.mirror_client.specs.Reply.{Field, IsCoding, IsLength};
 ghost use Rattle.mirror_client.specs.Framing.{FramingIs, LengthIs};
 
 /// The length that the fields give the body.
-#[derive(Debug, PartialEq, Eq, Clone, Copy)]
+#[derive(Clone, Copy)]
 pub enum Length {
     /// No field gives one.
     NotGiven,
@@ -17,7 +17,7 @@ pub enum Length {
 }
 
 /// What the fields say of the body.
-#[derive(Debug, PartialEq, Eq, Clone, Copy)]
+#[derive(Clone, Copy)]
 pub struct Framing {
     /// Whether the body is in a coding.
     pub coded: bool,

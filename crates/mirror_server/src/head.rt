@@ -16,7 +16,7 @@ use std::io::{ErrorKind, Read};
 const CHUNK: usize = 1_024;
 
 /// What the bytes so far are.
-#[derive(Debug, PartialEq, Eq, Clone, Copy)]
+#[derive(Clone, Copy)]
 pub enum Look {
     /// A whole head stands at the start, with its method and its target at these places.
     Whole(Span, Span),
@@ -27,7 +27,7 @@ pub enum Look {
 }
 
 /// What one read gave.
-#[derive(Debug, PartialEq, Eq, Clone, Copy)]
+#[derive(Clone, Copy)]
 pub enum Turn {
     /// Some bytes.
     More,
@@ -38,7 +38,7 @@ pub enum Turn {
 }
 
 /// What came from a client.
-#[derive(Debug, PartialEq, Eq, Clone, Copy)]
+#[derive(Clone, Copy)]
 pub enum Seen {
     /// No byte.
     Nothing,

@@ -8,7 +8,7 @@ use crate::paths::MAX_INDEX;
 use tlog_text::read_number;
 
 // What the second segment of a path names.
-#[derive(Debug, PartialEq, Eq, Clone, Copy)]
+#[derive(Clone, Copy)]
 pub enum Kind {
     // Tiles of hashes, of that level.
     Hashes(u32),
