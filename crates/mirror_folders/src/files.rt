@@ -16,7 +16,7 @@ use tlog_shape::{edge_index, edge_width, width_in};
 use tlog_tiles::Path;
 
 // The tiles of a level, or the bundles.
-#[derive(Debug, PartialEq, Eq, Clone, Copy)]
+#[derive(Clone, Copy)]
 pub(crate) enum FileKind {
     Tiles(u32),
     Bundles,

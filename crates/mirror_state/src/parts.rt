@@ -8,25 +8,19 @@ ghost use Rattle.mirror_state.specs.declared.parts.PartsFault.TheVariants.{OutOf
 use crate::lists::{Lists, parted_at, tagged_at};
 use sha2::{Digest, Sha256};
 use std::alloc::{AllocError, Global};
-use thiserror::Error;
 
 /// Why bytes are not the text of a state, as far as they alone decide.
-#[derive(Debug, Drop, PartialEq, Eq, Clone, Copy, Error)]
+#[derive(Drop, Clone, Copy)]
 pub(crate) enum PartsFault {
     /// The bytes begin as a state text of neither version.
-    #[error("StateMagic")]
     StateMagic,
     /// A part that is counted, or the digest, does not fit into what is there.
-    #[error("StateShort")]
     StateShort,
     /// Bytes follow the digest.
-    #[error("StateLong")]
     StateLong,
     /// The digest is not that of the bytes before it.
-    #[error("StateDigest")]
     StateDigest,
     /// Memory was refused.
-    #[error("OutOfMemory")]
     OutOfMemory,
 }
 

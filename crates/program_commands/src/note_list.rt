@@ -19,7 +19,7 @@ pub struct NoteFile<'a> {
 }
 
 // A note, with the size and the root that it says.
-#[derive(Debug, Drop)]
+#[derive(Drop)]
 pub(crate) struct HeadNote<'a> {
     pub(crate) bytes: &'a [u8],
     pub(crate) size: u64,

@@ -76,7 +76,7 @@ WriteFault, standard output could not be written, and a part may have been; OutO
 Documents: README.md; docs/OPERATING.md, with each fault and what to do; docs/FORMATS.md.";
 
 /// A command, with what its options say.
-#[derive(Debug, Drop, PartialEq, Eq)]
+#[derive(Drop)]
 pub enum Command<'a> {
     /// The tree hash of the bundle on standard input.
     Root(root::Root),

@@ -12,7 +12,7 @@ use std::alloc::Global;
 use tlog_text::read_number;
 
 /// Whose mirror it is.
-#[derive(Debug, Drop, PartialEq, Eq, Clone, Copy)]
+#[derive(Drop, Clone, Copy)]
 pub struct Log<'a> {
     /// The origin line of the log's checkpoints.
     pub origin: &'a str,
@@ -21,7 +21,7 @@ pub struct Log<'a> {
 }
 
 /// A mirror that is kept in a file.
-#[derive(Debug, Drop, PartialEq, Eq, Clone, Copy)]
+#[derive(Drop, Clone, Copy)]
 pub struct StateArgs<'a> {
     /// Whose mirror it is.
     pub log: Log<'a>,
@@ -30,7 +30,7 @@ pub struct StateArgs<'a> {
 }
 
 /// A mirror that is to be written to a file.
-#[derive(Debug, Drop, PartialEq, Eq, Clone, Copy)]
+#[derive(Drop, Clone, Copy)]
 pub struct OutputArgs<'a> {
     /// Whose mirror it is.
     pub log: Log<'a>,

@@ -13,7 +13,7 @@ use clap::ArgMatches;
 use std::alloc::{AllocError, Global};
 
 /// `build`: a log of the entries on standard input.
-#[derive(Debug, Drop, PartialEq, Eq, Clone, Copy)]
+#[derive(Drop, Clone, Copy)]
 pub struct Build<'a> {
     /// The log that is made.
     pub log: Log<'a>,

@@ -13,7 +13,7 @@ use clap::ArgMatches;
 use std::alloc::{AllocError, Global};
 
 /// `compare`: checkpoints compared with what is served.
-#[derive(Debug, Drop, PartialEq, Eq)]
+#[derive(Drop)]
 pub struct Compare<'a> {
     /// The mirror.
     pub mirror: StateArgs<'a>,

@@ -13,7 +13,7 @@ use clap::ArgMatches;
 use std::alloc::{AllocError, Global};
 
 /// `export`, with `--update` too: what is served, written to a folder.
-#[derive(Debug, Drop, PartialEq, Eq, Clone, Copy)]
+#[derive(Drop, Clone, Copy)]
 pub struct Export<'a> {
     /// The mirror.
     pub mirror: StateArgs<'a>,

@@ -13,7 +13,7 @@ use clap::ArgMatches;
 use std::alloc::{AllocError, Global};
 
 /// `merge`: what a second mirror holds is taken into a first.
-#[derive(Debug, Drop, PartialEq, Eq, Clone, Copy)]
+#[derive(Drop, Clone, Copy)]
 pub struct Merge<'a> {
     /// The mirror that comes of it.
     pub mirror: OutputArgs<'a>,

@@ -17,7 +17,7 @@ use tlog_shape::MAX_SIZE;
 use tlog_text::read_hash;
 
 /// `missing`: what a head's tree lacks.
-#[derive(Debug, Drop, PartialEq, Eq, Clone, Copy)]
+#[derive(Drop, Clone, Copy)]
 pub struct Missing<'a> {
     /// The mirror.
     pub mirror: StateArgs<'a>,

@@ -13,7 +13,7 @@ use clap::ArgMatches;
 use std::alloc::{AllocError, Global};
 
 /// `notes`: the notes of a mirror, written to a folder.
-#[derive(Debug, Drop, PartialEq, Eq, Clone, Copy)]
+#[derive(Drop, Clone, Copy)]
 pub struct Notes<'a> {
     /// The mirror.
     pub mirror: StateArgs<'a>,

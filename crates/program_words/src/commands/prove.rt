@@ -15,7 +15,7 @@ use tlog_proof::Ask;
 use tlog_shape::MAX_SIZE;
 
 /// `prove`: a proof of what is served.
-#[derive(Debug, Drop, PartialEq, Eq, Clone, Copy)]
+#[derive(Drop, Clone, Copy)]
 pub struct Prove<'a> {
     /// The mirror.
     pub mirror: StateArgs<'a>,

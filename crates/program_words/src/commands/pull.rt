@@ -14,7 +14,7 @@ use clap::ArgMatches;
 use std::alloc::{AllocError, Global};
 
 /// `pull`: what is missing is fetched.
-#[derive(Debug, Drop, PartialEq, Eq, Clone, Copy)]
+#[derive(Drop, Clone, Copy)]
 pub struct Pull<'a> {
     /// The mirror.
     pub mirror: OutputArgs<'a>,

@@ -13,7 +13,7 @@ use clap::ArgMatches;
 use std::alloc::{AllocError, Global};
 
 /// `root`: the tree hash of the bundle on standard input.
-#[derive(Debug, Drop, PartialEq, Eq, Clone, Copy)]
+#[derive(Drop, Clone, Copy)]
 pub struct Root {
     /// How many entries the bundle has, 0 to 256.
     pub width: u32,

@@ -14,7 +14,7 @@ use std::alloc::{AllocError, Global};
 use tlog_shape::MAX_SIZE;
 
 /// `serve`: answers over HTTP.
-#[derive(Debug, Drop, PartialEq, Eq, Clone, Copy)]
+#[derive(Drop, Clone, Copy)]
 pub struct Serve<'a> {
     /// The mirror.
     pub mirror: StateArgs<'a>,

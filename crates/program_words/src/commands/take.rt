@@ -13,7 +13,7 @@ use clap::ArgMatches;
 use std::alloc::{AllocError, Global};
 
 /// What files hold.
-#[derive(Debug, Drop, PartialEq, Eq, Clone, Copy)]
+#[derive(Drop, Clone, Copy)]
 pub enum Kind {
     /// A signed note, and the rows of its size's edge.
     Head,
@@ -24,7 +24,7 @@ pub enum Kind {
 }
 
 /// `take`: what files hold is taken into a mirror.
-#[derive(Debug, Drop, PartialEq, Eq)]
+#[derive(Drop)]
 pub struct Take<'a> {
     /// The mirror.
     pub mirror: OutputArgs<'a>,
