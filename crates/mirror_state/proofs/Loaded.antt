@@ -1,6 +1,6 @@
 -- What is loaded: of lists that are in order, the view that they list.
 use Rattle.std.proofs.Common.{◌≡◌, ◌⊎◌, inl, inr, ℕ, ◌≤◌, List, [], ◌∷◌, length, map, take, drop, All, Err, sym, ap}
-use Rattle.std.proofs.Common.{subst, ◌∙◌, arith}
+use Rattle.std.proofs.Common.{refl, subst, ◌∙◌, arith}
 use Rattle.std.specs.FinSet as set
 use Rattle.std.proofs.lemmas.List.{take-append-drop, length-take-le, length-drop}
 use Rattle.std.proofs.lemmas.List.Elements.{All-contains, All-weaker}
@@ -47,6 +47,15 @@ entry_short : (entry : List ℕ) → IsStateString (0 ∷ entry) → length entr
 entry_short entry (inl e) = e.1
 entry_short entry (inr p) = absurd (let e = p.0 in omega (arith, e))
 
+-- of those that can be listed, entries are short
+pub listed_short : (parts : Parts) → AreListable parts → (entry : List ℕ) →
+    Has (set.from_list (listed_strings parts)) (0 ∷ entry) → length entry ≤ 65535
+listed_short (Parted o notes pairs entries) l = λ entry held.
+    All-contains (λ (e : List ℕ). length e ≤ 65535) entries entry l.0
+    (entry_in entries pairs entry (listed_from_has (both entries pairs) (0 ∷ entry) held))
+listed_short (Tagged o notes strings) l = λ entry held. entry_short entry
+    (All-contains IsStateString strings (0 ∷ entry) l (listed_from_has strings (0 ∷ entry) held))
+
 module _ (origin bytes : List ℕ) where
   -- they can be listed
   pub listable : (parts : Parts) → HasStrings origin bytes parts → AreListable parts
@@ -69,14 +78,9 @@ module _ (origin bytes : List ℕ) where
   all_tagged (Tagged o notes strings) h =
       λ q held. string_tagged q (All-contains IsStateString strings q h.tagged (listed_from_has strings q held))
 
-  pub all_short : (parts : Parts) → HasStrings origin bytes parts → (entry : List ℕ) →
+  all_short : (parts : Parts) → HasStrings origin bytes parts → (entry : List ℕ) →
       Has (set.from_list (listed_strings parts)) (0 ∷ entry) → length entry ≤ 65535
-  all_short (Parted o notes pairs entries) h = λ entry held.
-      let l = listable (Parted o notes pairs entries) h in
-      All-contains (λ (e : List ℕ). length e ≤ 65535) entries entry l.0
-      (entry_in entries pairs entry (listed_from_has (both entries pairs) (0 ∷ entry) held))
-  all_short (Tagged o notes strings) h = λ entry held. entry_short entry
-      (All-contains IsStateString strings (0 ∷ entry) h.tagged (listed_from_has strings (0 ∷ entry) held))
+  all_short parts h = listed_short parts (listable parts h)
 
   -- ---- the text of the view
 
@@ -151,7 +155,7 @@ lists_refused digest origin keys bytes OutOfMemory h = tt
 module _ (digest : List ℕ → List ℕ) (origin : List ℕ) (keys : List Key) (bytes : List ℕ) (parts : Parts)
     (listed : HasStrings origin bytes parts) where
   -- and so of the notes
-  pub notes_refused : (fault : LoadFault) → ChecksNotes origin keys (listed_notes parts) (Err fault) →
+  notes_refused : (fault : LoadFault) → ChecksNotes origin keys (listed_notes parts) (Err fault) →
       Loads digest origin keys bytes (Err fault)
   notes_refused StateMagic h = absurd h
   notes_refused StateShort h = absurd h
@@ -178,10 +182,6 @@ module _ (digest : List ℕ → List ℕ) (origin : List ℕ) (keys : List Key) 
         (clean : NoClash digest strings) where
       has_no_collision : HasNoCollision digest origin keys bytes parts
       has_no_collision = record { has_open_notes = has_open; no_clash = subst (NoClash digest) strings_are clean }
-
-      pub short : (entry : List ℕ) → Has strings (0 ∷ entry) → length entry ≤ 65535
-      short entry held =
-          all_short origin bytes parts listed entry (subst (λ (s : Strings). Has s (0 ∷ entry)) strings_are held)
 
       module _ (old : View) (old_is : old ≡ strings_alone origin strings) where
         -- the edge of a note is one over either
@@ -253,33 +253,32 @@ module _ (digest : List ℕ → List ℕ) (origin : List ℕ) (keys : List Key) 
 
 -- ---- the whole
 
-module _ (digest : List ℕ → List ℕ) (origin : List ℕ) (keys : List Key) (bytes : List ℕ) (parts : Parts) (o : List ℕ)
-    (o_is : o ≡ origin) (listed : HasStrings o bytes parts) (notes : List (List ℕ))
-    (notes_are : notes ≡ listed_notes parts) (opened : All (IsOpenNote origin keys) notes) where
-  listed_here : HasStrings origin bytes parts
-  listed_here = subst (λ x. HasStrings x bytes parts) o_is listed
+module _ (digest : List ℕ → List ℕ) (origin : List ℕ) (keys : List Key) (bytes : List ℕ) (parts : Parts)
+    (listed : HasStrings origin bytes parts) (notes : List (List ℕ)) (notes_are : notes ≡ listed_notes parts) where
+  pub notes_told : (fault : LoadFault) → ChecksNotes origin keys notes (Err fault) →
+      Loads digest origin keys bytes (Err fault)
+  notes_told fault h = notes_refused digest origin keys bytes parts listed fault
+      (subst (λ ns. ChecksNotes origin keys ns (Err fault)) notes_are h)
 
-  opened_here : All (IsOpenNote origin keys) (listed_notes parts)
-  opened_here = subst (All (IsOpenNote origin keys)) notes_are opened
+  module _ (opened : All (IsOpenNote origin keys) notes) where
+    opened_here : All (IsOpenNote origin keys) (listed_notes parts)
+    opened_here = subst (All (IsOpenNote origin keys)) notes_are opened
 
-  pub clash_told : HasClash digest (set.from_list (listed_strings parts)) →
-      Loads digest origin keys bytes (Err Collision)
-  clash_told clash = strings_clash digest origin keys bytes parts listed_here opened_here clash
+    pub clash_told : HasClash digest (set.from_list (listed_strings parts)) →
+        Loads digest origin keys bytes (Err Collision)
+    clash_told clash = strings_clash digest origin keys bytes parts listed opened_here clash
 
-  module _ (strings : Strings) (made : (strings ≡ set.from_list (listed_strings parts)) × NoClash digest strings) where
-    pub strings_short : (entry : List ℕ) → Has strings (0 ∷ entry) → length entry ≤ 65535
-    strings_short = short digest origin keys bytes parts listed_here opened_here strings made.0 made.1
-
-    module _ (old : View) (old_is : old ≡ strings_alone origin strings) (later : List (List ℕ))
+    module _ (old : View) (made : (old ≡ strings_alone origin (set.from_list (listed_strings parts)))
+        × NoClash digest (set.from_list (listed_strings parts))) (later : List (List ℕ))
         (later_are : later ≡ listed_notes parts) (new : View) where
       pub loaded : (new ≡ with_notes old later) × All (HasEdge digest old) later → HasState digest origin keys bytes new
-      loaded h = all_kept digest origin keys bytes parts listed_here opened_here strings made.0 made.1 old old_is new
+      loaded h = all_kept digest origin keys bytes parts listed opened_here _ refl made.1 old made.0 new
           (subst (λ ns. new ≡ with_notes old ns) later_are h.0) (subst (All (HasEdge digest old)) later_are h.1)
 
       pub not_loaded : (fault : LoadFault) → KeepsNotes digest old later (Err fault) new →
           Loads digest origin keys bytes (Err fault)
-      not_loaded fault h = not_kept digest origin keys bytes parts listed_here opened_here strings made.0 made.1 old
-          old_is new fault (subst (λ ns. KeepsNotes digest old ns (Err fault) new) later_are h)
+      not_loaded fault h = not_kept digest origin keys bytes parts listed opened_here _ refl made.1 old made.0 new fault
+          (subst (λ ns. KeepsNotes digest old ns (Err fault) new) later_are h)
 
       -- the first note that is not kept
       pub unheld_first : (index : ℕ) (note : List ℕ) → IsFirstNot (HasEdge digest old) later index note →
@@ -289,15 +288,13 @@ module _ (digest : List ℕ → List ℕ) (origin : List ℕ) (keys : List Key) 
           subst (λ ns. IsFirstNot (HasEdge digest old) ns index note) later_are h in
           record {
             parts = parts;
-            has_no_collision =
-                has_no_collision digest origin keys bytes parts listed_here opened_here strings made.0 made.1;
+            has_no_collision = has_no_collision digest origin keys bytes parts listed opened_here _ refl made.1;
             is_first = record {
               passed = All-weaker (HasEdge digest old) (HasEdge digest (listed_view parts))
-                  (edge_over digest origin keys bytes parts listed_here opened_here strings made.0 made.1 old old_is)
+                  (edge_over digest origin keys bytes parts listed opened_here _ refl made.1 old made.0)
                   (take index (listed_notes parts)) first.passed;
               is_there = first.is_there;
               fails = λ e. first.fails
-                  (edge_under digest origin keys bytes parts listed_here opened_here strings made.0 made.1 old old_is
-                  note e);
+                  (edge_under digest origin keys bytes parts listed opened_here _ refl made.1 old made.0 note e);
             };
           }

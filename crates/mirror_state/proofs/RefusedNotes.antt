@@ -73,6 +73,13 @@ pub all_open_at : {E : Type 0} (o origin : List ℕ) (keys : List Key) (notes : 
 all_open_at o origin keys notes result is h =
     subst (λ x. IfOk result (λ a. IfNone a (All (IsOpenNote x keys) notes))) is h
 
+pub one_closed_at : {E : Type 0} (o origin : List ℕ) (keys : List Key) (notes : List (List ℕ))
+    (result : Result (Option (ℕ × Bor (List ℕ))) E) → o ≡ origin →
+    IfOk result (λ a. IfSome a (λ x. IsFirstNot (IsOpenNote o keys) notes x.0 x.1.now)) →
+    IfOk result (λ a. IfSome a (λ x. IsFirstNot (IsOpenNote origin keys) notes x.0 x.1.now))
+one_closed_at o origin keys notes result is h =
+    subst (λ y. IfOk result (λ a. IfSome a (λ x. IsFirstNot (IsOpenNote y keys) notes x.0 x.1.now))) is h
+
 -- ---- edges that are held
 
 module _ (digest : List ℕ → List ℕ) (old current new : View) (keys : List Key) (items : List (Bor (List ℕ))) (i : ℕ)
@@ -163,22 +170,33 @@ module _ (digest : List ℕ → List ℕ) (origin : List ℕ) (keys : List Key) 
   all_kept v h =
       other_answer (Ok v) (record { was_read = λ e. cc e; has_memory = λ e. cc e }) h (λ e. cc e) (λ e. cc e)
 
+-- the first note that does not open
+pub closed_told : (digest : List ℕ → List ℕ) (origin : List ℕ) (keys : List Key) (bytes : List ℕ) (parts : Parts)
+    (listed : HasStrings origin bytes parts) (notes : List (List ℕ)) → notes ≡ listed_notes parts → (index : ℕ)
+    (note : List ℕ) → IsFirstNot (IsOpenNote origin keys) notes index note → Refuses digest origin keys bytes index note
+closed_told digest origin keys bytes parts listed notes notes_are index note first = inl (record {
+  parts = parts;
+  has_strings = listed;
+  is_first = subst (λ ns. IsFirstNot (IsOpenNote origin keys) ns index note) notes_are first;
+})
+
 -- the first note whose edge is not held, or none
-module _ (digest : List ℕ → List ℕ) (origin : List ℕ) (keys : List Key) (bytes : List ℕ) (parts : Parts) (o : List ℕ)
-    (o_is : o ≡ origin) (listed : HasStrings o bytes parts) (notes : List (List ℕ))
-    (notes_are : notes ≡ listed_notes parts) (opened : All (IsOpenNote origin keys) notes) (strings : Strings)
-    (made : (strings ≡ set.from_list (listed_strings parts)) × NoClash digest strings) (old : View)
-    (old_is : old ≡ strings_alone origin strings) (later : List (List ℕ)) (later_are : later ≡ listed_notes parts) where
+module _ (digest : List ℕ → List ℕ) (origin : List ℕ) (keys : List Key) (bytes : List ℕ) (parts : Parts)
+    (listed : HasStrings origin bytes parts) (notes : List (List ℕ)) (notes_are : notes ≡ listed_notes parts)
+    (opened : All (IsOpenNote origin keys) notes) (old : View)
+    (made : (old ≡ strings_alone origin (set.from_list (listed_strings parts)))
+    × NoClash digest (set.from_list (listed_strings parts))) (later : List (List ℕ))
+    (later_are : later ≡ listed_notes parts) where
   pub edges_judged : {E : Type 0} (result : Result (Option (ℕ × Bor (List ℕ))) E) →
       IfOk result (λ a. IfSome a (λ x. IsFirstNot (HasEdge digest old) later x.0 x.1.now)) →
       IfOk result (λ a. IfNone a (All (HasEdge digest old) later)) →
       FindsAt digest origin keys bytes (seen (option_map (λ x. (x.0, x.1.now))) result)
   edges_judged (Ok (Some x)) found none =
-      inr (unheld_first digest origin keys bytes parts o o_is listed notes notes_are opened strings made old old_is later
-      later_are (with_notes old later) x.0 x.1.now found)
+      inr (unheld_first digest origin keys bytes parts listed notes notes_are opened old made later later_are
+      (with_notes old later) x.0 x.1.now found)
   edges_judged (Ok None) found none =
       all_kept digest origin keys bytes (with_notes old later)
-      (loaded digest origin keys bytes parts o o_is listed notes notes_are opened strings made old old_is later later_are
+      (loaded digest origin keys bytes parts listed notes notes_are opened old made later later_are
       (with_notes old later) (refl, none))
   edges_judged (Err e) found none = tt
 

@@ -14,7 +14,7 @@ use Rattle.byte_streams.specs.declared.fault.StreamFault.TheVariants as streams
 use Rattle.node_store.specs.declared.store.AddFault.{AddFault}
 use Rattle.node_store.specs.declared.store.AddFault.TheVariants as adding
 use Rattle.tlog_mirror.specs.Adding.{with_notes}
-use Rattle.tlog_mirror.specs.Restored.{IsOpenNote}
+use Rattle.tlog_mirror.specs.Restored.{IsOpenNote, strings_alone}
 use Rattle.mirror_state.specs.StateText.{Parts, Parted, Tagged}
 use Rattle.mirror_state.specs.Reading.{ReadsParts}
 use Rattle.mirror_state.specs.declared.parts.PartsFault.{PartsFault}
@@ -94,6 +94,13 @@ abbrev pub MakesStore : (List ℕ → List ℕ) → List (List ℕ) → Result S
 MakesStore digest strings (Ok made) = (made ≡ set.from_list strings) × NoClash digest made
 MakesStore digest strings (Err adding.Collision) = HasClash digest (set.from_list strings)
 MakesStore digest strings (Err adding.OutOfMemory) = ⊤
+
+-- what each answer of making a mirror of strings, without notes, says of them
+abbrev pub MakesMirror : (List ℕ → List ℕ) → List ℕ → List (List ℕ) → Result View AddFault → Type 0
+MakesMirror digest origin strings (Ok made) =
+    (made ≡ strings_alone origin (set.from_list strings)) × NoClash digest (set.from_list strings)
+MakesMirror digest origin strings (Err adding.Collision) = HasClash digest (set.from_list strings)
+MakesMirror digest origin strings (Err adding.OutOfMemory) = ⊤
 
 -- ---- notes
 

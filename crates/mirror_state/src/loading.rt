@@ -1,11 +1,11 @@
 //! Loading a mirror from its state.
-ghost use Rattle.std.specs.Prelude.{◌≡◌, ◌↔◌, ◌<◌, ◌∷◌, ◌++◌, length, map, All, IfOk, IfSome, IsTrue, OnOk};
+ghost use Rattle.std.specs.Prelude.{◌≡◌, ◌↔◌, ◌<◌, ◌∷◌, ◌++◌, ℕ, List, length, map, All, IfOk, IfSome, IsTrue, OnOk};
 ghost use Rattle.std.specs.FinSet as set;
 ghost use Rattle.mirror_model.specs.Origin.{IsOrigin};
 ghost use Rattle.node_store.specs.Strings.{Clashes, NoClash};
 ghost use Rattle.tlog_mirror.specs.Restored.{IsOpenNote};
 ghost use Rattle.tlog_text.specs.Answers.{seen};
-ghost use Rattle.mirror_state.specs.LoadSteps.{AddsListed, AreListable, ChecksLists, ChecksNote, ChecksNotes, IsListable, KeepsNotes, MakesStore, load_fault_of, note_fault_of, stream_fault_of, tagged_as};
+ghost use Rattle.mirror_state.specs.LoadSteps.{AddsListed, AreListable, ChecksLists, ChecksNote, ChecksNotes, IsListable, KeepsNotes, MakesMirror, MakesStore, load_fault_of, note_fault_of, stream_fault_of, tagged_as};
 ghost use Rattle.mirror_state.specs.Loading.{HasStrings, IsStateString, Loads, listed_strings};
 ghost use Rattle.mirror_state.specs.Stands.{parts_of};
 
@@ -98,18 +98,56 @@ pub fn load_bytes<H: TreeHash>(
     ensures remembered { IfOk result (λ mirror. mirror.remembered ≡ set.empty) }
 {
     let lists = checked_lists(alloc, origin.as_bytes(), bytes)?;
+    let loaded = load_lists(alloc, origin, keys, &lists);
+    drop(lists);
+    loaded
+}
+
+// The mirror of what is listed in order.
+fn load_lists<H: TreeHash>(
+    alloc: Global,
+    origin: &str,
+    keys: &[Box<dyn Verifier>],
+    lists: &Lists,
+) -> Result<Mirror<H>, LoadFault>
+    requires { AreListable (parts_of lists.now) }
+    ensures loads { (bytes : List ℕ) → HasStrings origin.now bytes (parts_of lists.now)
+        → Loads H.digest origin.now (map (λ k. key k) keys.now) bytes
+        (seen (λ mirror. mirror.view) result) }
+    ensures remembered { IfOk result (λ mirror. mirror.remembered ≡ set.empty) }
+{
     check_all::<H>(alloc, origin, keys, lists.notes())?;
-    let strings = match store_of::<H>(alloc, &lists) {
-        Ok(strings) => strings,
+    let mut mirror = match mirror_of::<H>(alloc, origin, lists) {
+        Ok(mirror) => mirror,
         Err(AddFault::Collision) => return Err(LoadFault::Collision),
         Err(AddFault::OutOfMemory) => return Err(LoadFault::OutOfMemory),
     };
-    // The origin is lawful, so that nothing but `OutOfMemory` comes here.
-    let Ok(mut mirror) = Mirror::of_strings(alloc, origin, strings) else {
-        return Err(LoadFault::OutOfMemory);
-    };
-    keep_notes(alloc, &mut mirror, keys, lists.notes())?;
-    Ok(mirror)
+    match keep_notes(alloc, &mut mirror, keys, lists.notes()) {
+        Ok(()) => Ok(mirror),
+        Err(fault) => {
+            drop(mirror);
+            Err(fault)
+        }
+    }
+}
+
+// The mirror of the strings that are listed, without the notes.
+pub(crate) fn mirror_of<H: TreeHash>(
+    alloc: Global,
+    origin: &str,
+    lists: &Lists,
+) -> Result<Mirror<H>, AddFault>
+    requires { AreListable (parts_of lists.now) }
+    ensures makes { MakesMirror H.digest origin.now (listed_strings (parts_of lists.now))
+        (seen (λ mirror. mirror.view) result) }
+    ensures remembered { IfOk result (λ mirror. mirror.remembered ≡ set.empty) }
+{
+    let strings = store_of::<H>(alloc, lists)?;
+    match Mirror::of_strings(alloc, origin, strings) {
+        Ok(mirror) => Ok(mirror),
+        // The origin is lawful, so that nothing but `OutOfMemory` comes here.
+        Err(_) => Err(AddFault::OutOfMemory),
+    }
 }
 
 // How strings are listed.
@@ -240,7 +278,7 @@ fn count_of(lists: &Lists) -> usize {
 }
 
 // The set of the strings that are listed, made at its final size.
-pub(crate) fn store_of<H: TreeHash>(alloc: Global, lists: &Lists) -> Result<Store<H>, AddFault>
+fn store_of<H: TreeHash>(alloc: Global, lists: &Lists) -> Result<Store<H>, AddFault>
     requires { AreListable (parts_of lists.now) }
     ensures { MakesStore H.digest (listed_strings (parts_of lists.now)) result }
 {
@@ -343,7 +381,9 @@ fn check_all<H: TreeHash>(
     let Ok(mirror) = Mirror::<H>::new(alloc, origin) else {
         return Err(LoadFault::OutOfMemory);
     };
-    check_notes(alloc, &mirror, keys, notes)
+    let checked = check_notes(alloc, &mirror, keys, notes);
+    drop(mirror);
+    checked
 }
 
 // Keeps the notes, the edges of which are held.

@@ -3,12 +3,16 @@ ghost use Rattle.std.specs.Prelude.{◌≡◌, ◌↔◌, ◌<◌, ◌++◌, ℕ
 ghost use Rattle.mirror_model.specs.Complete.{HasEdge};
 ghost use Rattle.mirror_model.specs.Heads.{IsHead};
 ghost use Rattle.tlog_mirror.specs.Restored.{IsOpenNote};
+ghost use Rattle.mirror_state.specs.LoadSteps.{AreListable};
+ghost use Rattle.mirror_state.specs.Loading.{HasStrings};
 ghost use Rattle.mirror_state.specs.Refused.{checkpoint_name, note_name, FindsAt, FindsRefused, IsFirstNot, NamesNote};
+ghost use Rattle.mirror_state.specs.Stands.{parts_of};
 ghost use Rattle.tlog_text.specs.Answers.{seen};
 ghost use Rattle.tlog_text.specs.Hash.{base64_of};
 
 use crate::fault::LoadFault;
-use crate::loading::{checked_lists, store_of};
+use crate::lists::Lists;
+use crate::loading::{checked_lists, mirror_of};
 use base64::engine::general_purpose::STANDARD;
 use node_store::AddFault;
 use signed_note::{Note, NoteFault, Verifier};
@@ -98,24 +102,42 @@ fn refused_at<'a, H: TreeHash>(
     ensures { FindsAt H.digest origin.now (map (λ k. key k) keys.now) bytes.now
         (seen (option_map (λ x. (x.0, x.1.now))) result) }
 {
-    let lists = match checked_lists(alloc, origin.as_bytes(), bytes) {
-        Ok(lists) => lists,
-        Err(LoadFault::OutOfMemory) => return Err(AllocError),
-        Err(_) => return Ok(None),
-    };
-    match closed_note::<H>(alloc, origin, keys, lists.notes()) {
-        Ok(None) => {}
-        found => return found,
+    match checked_lists(alloc, origin.as_bytes(), bytes) {
+        Ok(lists) => {
+            let found = refused_in::<H>(alloc, origin, keys, &lists);
+            drop(lists);
+            found
+        }
+        Err(LoadFault::OutOfMemory) => Err(AllocError),
+        Err(_) => Ok(None),
     }
-    let strings = match store_of::<H>(alloc, &lists) {
-        Ok(strings) => strings,
-        Err(AddFault::Collision) => return Ok(None),
-        Err(AddFault::OutOfMemory) => return Err(AllocError),
-    };
-    let Ok(mut mirror) = Mirror::of_strings(alloc, origin, strings) else {
-        return Err(AllocError);
-    };
-    first_unheld(alloc, &mut mirror, keys, lists.notes())
+}
+
+// Where that note stands among the notes that are listed in order, and its bytes.
+fn refused_in<'a, H: TreeHash>(
+    alloc: Global,
+    origin: &str,
+    keys: &[Box<dyn Verifier>],
+    lists: &Lists<'a>,
+) -> Result<Option<(usize, &'a [u8])>, AllocError>
+    requires { AreListable (parts_of lists.now) }
+    ensures { (bytes : List ℕ) → HasStrings origin.now bytes (parts_of lists.now)
+        → FindsAt H.digest origin.now (map (λ k. key k) keys.now) bytes
+        (seen (option_map (λ x. (x.0, x.1.now))) result) }
+{
+    match closed_note::<H>(alloc, origin, keys, lists.notes())? {
+        Some(found) => return Ok(Some(found)),
+        None => {}
+    }
+    match mirror_of::<H>(alloc, origin, lists) {
+        Ok(mut mirror) => {
+            let found = first_unheld(alloc, &mut mirror, keys, lists.notes());
+            drop(mirror);
+            found
+        }
+        Err(AddFault::Collision) => Ok(None),
+        Err(AddFault::OutOfMemory) => Err(AllocError),
+    }
 }
 
 // How a note at that index is named.
@@ -167,7 +189,9 @@ fn closed_note<'n, H: TreeHash>(
     let Ok(mirror) = Mirror::<H>::new(alloc, origin) else {
         return Err(AllocError);
     };
-    first_closed(alloc, &mirror, keys, notes)
+    let found = first_closed(alloc, &mirror, keys, notes);
+    drop(mirror);
+    found
 }
 
 // The first of the notes that does not open as a checkpoint of the mirror's origin.

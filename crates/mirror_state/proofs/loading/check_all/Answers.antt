@@ -5,5 +5,5 @@ use Rattle.mirror_state.proofs.loading.check_all.Goals as goal
 
 pub returns : goal.returns
 returns g c =
-    notes_at c.in-Ok.mirror.view.origin c.args.origin.now _ _ c.check_notes.result
-    (ap (λ (v : View). v.origin) c.in-Ok.ensures.view) c.check_notes.ensures
+    notes_at c.in-Ok.mirror.view.origin c.args.origin.now _ _ c.check_notes-checked.result
+    (ap (λ (v : View). v.origin) c.in-Ok.ensures.view) c.check_notes-checked.ensures
