@@ -1,6 +1,9 @@
 //! The command `export`: what the mirror in a state file serves, put into a folder.
-ghost use Rattle.std.specs.Prelude.{map};
+ghost use Rattle.std.specs.Prelude.{ℕ, List, Option, map};
+ghost use Rattle.signed_note.specs.Keys.{Key};
+ghost use Rattle.program_files.specs.Named.{NamedFile};
 ghost use Rattle.program_commands.specs.Exported.{CountsFileExport, ExportsFile};
+ghost use Rattle.program_commands.specs.States.{OpensFile};
 
 use crate::fault::ExportFileFault;
 use crate::state::open_state;
@@ -10,6 +13,7 @@ use program_files::NamedFiles;
 use signed_note::Verifier;
 use std::alloc::Global;
 use tlog_hash::TreeHash;
+use tlog_mirror::Mirror;
 
 /// Puts all tiles, then all bundles, then the checkpoint that the mirror in the state file serves, into the folder.
 ///
@@ -35,15 +39,34 @@ pub fn run_export<H: TreeHash, F: NamedFiles, D: ToldFolders>(
         state.now (D.held folders.old folder.now) (D.puts folders.old) (D.puts folders.new) result }
     ensures blamed { CountsFileExport (D.failed folders.old) (D.failed folders.new) result }
 {
-    let mirror = match open_state::<H, F>(files, alloc, origin, keys, state) {
-        Ok(mirror) => mirror,
-        Err(fault) => return Err(ExportFileFault::State(fault)),
-    };
+    match open_state::<H, F>(files, alloc, origin, keys, state) {
+        Ok(mirror) => {
+            let done = export_into(alloc, &mirror, folders, folder);
+            drop(mirror);
+            done
+        }
+        Err(fault) => Err(ExportFileFault::State(fault)),
+    }
+}
+
+// Opens the folder, and puts what the mirror of a state file serves into it.
+fn export_into<H: TreeHash, D: ToldFolders>(
+    alloc: Global,
+    mirror: &Mirror<H>,
+    folders: &mut D,
+    folder: &str,
+) -> Result<(), ExportFileFault>
+    ensures answer { (origin : List ℕ) (keys : List Key) (told : Option (List NamedFile))
+        (state : List ℕ) → OpensFile H.digest origin keys told state (Ok mirror.now.view)
+        → ExportsFile H.digest origin keys told state (D.held folders.old folder.now)
+        (D.puts folders.old) (D.puts folders.new) result }
+    ensures blamed { CountsFileExport (D.failed folders.old) (D.failed folders.new) result }
+{
     match folders.open(folder) {
         Ok(()) => {}
         Err(_) => return Err(ExportFileFault::OutOfMemory),
     }
-    match export_told(alloc, &mirror, folders) {
+    match export_told(alloc, mirror, folders) {
         Ok(()) => Ok(()),
         Err(fault) => Err(ExportFileFault::Export(fault)),
     }

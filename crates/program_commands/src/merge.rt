@@ -37,7 +37,9 @@ pub fn run_merge<H: TreeHash, F: NamedFiles>(
         first.now second.now out.now (F.puts files.new) result }
 {
     let mirror = mirror_of_both::<H, F>(files, alloc, origin, keys, first, second)?;
-    match write_state(files, alloc, out, &mirror) {
+    let written = write_state(files, alloc, out, &mirror);
+    drop(mirror);
+    match written {
         Ok(()) => Ok(()),
         Err(fault) => Err(MergeFilesFault::Out(fault)),
     }
@@ -59,8 +61,13 @@ fn mirror_of_both<H: TreeHash, F: NamedFiles>(
         Ok(mirror) => mirror,
         Err(fault) => return Err(MergeFilesFault::First(fault)),
     };
-    merge_file(files, alloc, &mut mirror, origin, keys, second)?;
-    Ok(mirror)
+    match merge_file(files, alloc, &mut mirror, origin, keys, second) {
+        Ok(()) => Ok(mirror),
+        Err(fault) => {
+            drop(mirror);
+            Err(fault)
+        }
+    }
 }
 
 // Merges the mirror of the second file into that of a first.
@@ -81,7 +88,9 @@ fn merge_file<H: TreeHash, F: NamedFiles>(
         Ok(other) => other,
         Err(fault) => return Err(MergeFilesFault::Second(fault)),
     };
-    match mirror.merge(alloc, &other) {
+    let merged = mirror.merge(alloc, &other);
+    drop(other);
+    match merged {
         Ok(()) => Ok(()),
         Err(fault) => Err(MergeFilesFault::Merge(fault)),
     }

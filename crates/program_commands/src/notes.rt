@@ -38,7 +38,11 @@ pub fn run_notes<H: TreeHash, F: NamedFiles>(
         state.now folder.now (F.puts files.new) result }
 {
     match open_state::<H, F>(files, alloc, origin, keys, state) {
-        Ok(mirror) => write_notes(files, alloc, &mirror, folder),
+        Ok(mirror) => {
+            let done = write_notes(files, alloc, &mirror, folder);
+            drop(mirror);
+            done
+        }
         Err(fault) => Err(NotesFault::State(fault)),
     }
 }

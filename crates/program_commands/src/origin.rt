@@ -21,6 +21,6 @@ pub fn check_origin(alloc: Global, origin: &str) -> Result<(), NewFault>
     ensures lawful { OnOk result (IsOrigin origin.now) }
     ensures bad_origin { result ≡ Err NewFault.BadOrigin → ¬ IsOrigin origin.now }
 {
-    Mirror::<Sha256Tree>::new(alloc, origin)?;
+    drop(Mirror::<Sha256Tree>::new(alloc, origin)?);
     Ok(())
 }

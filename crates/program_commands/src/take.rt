@@ -41,7 +41,9 @@ pub fn run_take<H: TreeHash, F: NamedFiles>(
         (option_map (λ name. name.now) state.entry) item.entry out.now (F.puts files.new) result }
 {
     let mirror = mirror_with_item::<H, F>(files, alloc, origin, keys, state, item)?;
-    match write_state(files, alloc, out, &mirror) {
+    let written = write_state(files, alloc, out, &mirror);
+    drop(mirror);
+    match written {
         Ok(()) => Ok(()),
         Err(fault) => Err(TakeFilesFault::Out(fault)),
     }
@@ -65,8 +67,13 @@ fn mirror_with_item<H: TreeHash, F: NamedFiles>(
         Ok(mirror) => mirror,
         Err(fault) => return Err(TakeFilesFault::State(fault)),
     };
-    take_item(files, alloc, &mut mirror, keys, item)?;
-    Ok(mirror)
+    match take_item(files, alloc, &mut mirror, keys, item) {
+        Ok(()) => Ok(mirror),
+        Err(fault) => {
+            drop(mirror);
+            Err(fault)
+        }
+    }
 }
 
 // Takes the item that files hold.

@@ -1,6 +1,9 @@
 //! The command `export --update`: a folder brought up to date with what the mirror in a state file serves.
-ghost use Rattle.std.specs.Prelude.{map};
+ghost use Rattle.std.specs.Prelude.{ℕ, List, Option, map};
+ghost use Rattle.signed_note.specs.Keys.{Key};
 ghost use Rattle.tlog_tiles.specs.declared.paths.Path.TheVariants.{Checkpoint};
+ghost use Rattle.program_files.specs.Named.{NamedFile};
+ghost use Rattle.program_commands.specs.States.{OpensFile};
 ghost use Rattle.program_commands.specs.Updated.{CountsFileUpdate, NotRead, UpdatesFile, UpdatesFolder};
 
 use crate::fault::UpdateFileFault;
@@ -86,13 +89,32 @@ pub fn run_update<H: TreeHash, F: NamedFiles, S: Source, D: ToldFolders>(
         (D.puts folders.old) (D.puts folders.new) result }
     ensures blamed { CountsFileUpdate (D.failed folders.old) (D.failed folders.new) result }
 {
-    let mirror = match open_state::<H, F>(files, alloc, origin, keys, state) {
-        Ok(mirror) => mirror,
-        Err(fault) => return Err(UpdateFileFault::State(fault)),
-    };
-    match folders.open(folder) {
-        Ok(()) => {}
-        Err(_) => return Err(UpdateFileFault::OutOfMemory),
+    match open_state::<H, F>(files, alloc, origin, keys, state) {
+        Ok(mirror) => {
+            let done = update_into(alloc, &mirror, source, folders, folder);
+            drop(mirror);
+            done
+        }
+        Err(fault) => Err(UpdateFileFault::State(fault)),
     }
-    update_folder(alloc, &mirror, source, folders)
+}
+
+// Opens the folder, and brings it up to date with what the mirror of a state file serves.
+fn update_into<H: TreeHash, S: Source, D: ToldFolders>(
+    alloc: Global,
+    mirror: &Mirror<H>,
+    source: &mut S,
+    folders: &mut D,
+    folder: &str,
+) -> Result<(), UpdateFileFault>
+    ensures answer { (origin : List ℕ) (keys : List Key) (told : Option (List NamedFile))
+        (state : List ℕ) → OpensFile H.digest origin keys told state (Ok mirror.now.view)
+        → UpdatesFile H.digest origin keys told state (S.may_answer source.old Checkpoint)
+        (D.held folders.old folder.now) (D.puts folders.old) (D.puts folders.new) result }
+    ensures blamed { CountsFileUpdate (D.failed folders.old) (D.failed folders.new) result }
+{
+    match folders.open(folder) {
+        Ok(()) => update_folder(alloc, mirror, source, folders),
+        Err(_) => Err(UpdateFileFault::OutOfMemory),
+    }
 }

@@ -1,7 +1,4 @@
-use Rattle.program_commands.proofs.Updating.{from_folder}
 use Rattle.program_commands.proofs.update.run_update.Goals as goal
 
-pub returns-clause-answer : goal.returns-clause-answer
-returns-clause-answer g c =
-    rw (← c.in-Ok-open.ensures.opened) (from_folder g.H.TreeHash.digest _ _ _ _ _ _ _ _ c.in-Ok.mirror.view
-    c.in-Ok.ensures c.update_folder.result c.update_folder.ensures.answer)
+pub returns-in-Ok-clause-answer : goal.returns-in-Ok-clause-answer
+returns-in-Ok-clause-answer g c = c.update_into-done.ensures.answer _ _ _ _ c.in-Ok.ensures
