@@ -6,7 +6,7 @@ use Rattle.std.specs.Prelude.{◌↔◌, IsTrue, IfOk, IfSome, IfNone, option_ma
 use Rattle.std.specs.FinSet as set
 use Rattle.std.proofs.lemmas.Option.{slice_get-get_or, slice_get_within}
 use Rattle.tlog_text.specs.Answers.{seen}
-use Rattle.node_store.specs.Strings.{Strings, NoClash}
+use Rattle.node_store.specs.Strings.{NoClash}
 use Rattle.signed_note.specs.Keys.{Key}
 use Rattle.signed_note.specs.Notes.{NoteParts}
 use Rattle.signed_note.specs.Reading.{ReadsNote}

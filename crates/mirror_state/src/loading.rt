@@ -187,12 +187,15 @@ pub(crate) fn checked_lists<'a>(
         Err(fault) => return Err(load_fault(fault)),
     };
     if lists.origin() != origin {
+        drop(lists);
         return Err(LoadFault::OtherOrigin);
     }
     if !lists.all_rise() {
+        drop(lists);
         return Err(LoadFault::StateOrder);
     }
     if !lists.all_tagged_well() {
+        drop(lists);
         return Err(LoadFault::StateString);
     }
     Ok(lists)

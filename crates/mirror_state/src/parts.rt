@@ -9,18 +9,18 @@ use crate::lists::{Lists, parted_at, tagged_at};
 use sha2::{Digest, Sha256};
 use std::alloc::{AllocError, Global};
 
-/// Why bytes are not the text of a state, as far as they alone decide.
-#[derive(Drop, Clone, Copy)]
+// Why bytes are not the text of a state, as far as they alone decide.
+#[derive(Clone, Copy)]
 pub(crate) enum PartsFault {
-    /// The bytes begin as a state text of neither version.
+    // The bytes begin as a state text of neither version.
     StateMagic,
-    /// A part that is counted, or the digest, does not fit into what is there.
+    // A part that is counted, or the digest, does not fit into what is there.
     StateShort,
-    /// Bytes follow the digest.
+    // Bytes follow the digest.
     StateLong,
-    /// The digest is not that of the bytes before it.
+    // The digest is not that of the bytes before it.
     StateDigest,
-    /// Memory was refused.
+    // Memory was refused.
     OutOfMemory,
 }
 
