@@ -66,24 +66,27 @@ impl<'a, R: Files> DirSource<'a, R> {
         ensures { IfOk result (λ found. IfSome found (λ bytes. vec_len bytes ≤ MAX_BUNDLE_LEN)) }
     {
         let place = file_path(self.alloc, self.folder, path)?;
-        match open_file(self.files, place.as_str())? {
-            Some(mut file) => {
-                let bytes = read_whole(self.alloc, &mut file)?;
-                Ok(Some(bytes))
-            }
-            None => Ok(None),
-        }
+        read_opened(self.alloc, open_plain(self.files, place.as_str()))
     }
 }
 
-// The plain file at a path, None where there is none. What is no plain file is not opened: opening it could wait.
-fn open_file<R: Files>(files: &R, place: &str) -> io::Result<Option<R::File>> {
-    match open_plain(files, place) {
-        Ok(file) => Ok(Some(file)),
+// The bytes of a file that was opened, None where there is none.
+fn read_opened<F: io::Read + Drop>(
+    alloc: Global,
+    opened: io::Result<F>,
+) -> io::Result<Option<Vec<u8>>>
+    ensures { IfOk result (λ found. IfSome found (λ bytes. vec_len bytes ≤ MAX_BUNDLE_LEN)) }
+{
+    match opened {
+        Ok(mut file) => {
+            let bytes = read_whole(alloc, &mut file)?;
+            Ok(Some(bytes))
+        }
         Err(e) => { if is_missing(&e) { Ok(None) } else { Err(e) } }
     }
 }
 
+// The plain file at a path. What is no plain file is not opened: opening it could wait.
 fn open_plain<R: Files>(files: &R, place: &str) -> io::Result<R::File> {
     let about = fs::metadata(files, place)?;
     if !about.is_file() {
