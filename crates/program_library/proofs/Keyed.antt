@@ -5,10 +5,15 @@ use Rattle.signed_note.specs.KeyFiles.{ReadsKeys}
 use Rattle.signed_note.specs.declared.fault.KeyFileFault.{KeyFileFault}
 use Rattle.mirror_folders.specs.Shelf.{Put}
 use Rattle.program_files.specs.Named.{NamedFile}
+use Rattle.program_library.specs.Performing.{Ends}
 use Rattle.program_library.specs.Runs.{AreKeyBytes, FailsAtKeys, Runs, RunsKeyed, no_lines}
 use Rattle.program_library.specs.declared.fault.RunFault.{RunFault}
 use Rattle.program_library.specs.declared.fault.RunFault.TheVariants.{KeyLines}
 use Rattle.program_library.proofs.Written.{keeps_itself}
+
+-- nothing was written, and the run failed
+pub nothing_done : (now : Option (List ℕ)) (fault : RunFault) → Ends now now (Err fault)
+nothing_done now fault = record { status = tt; quiet = λ other. keeps_itself now }
 
 module _ (digest : List ℕ → List ℕ) (told : Option (List NamedFile)) (held : List ℕ → Option (List Put))
     (before : Option (List Put)) (words : List (List ℕ)) (input now : Option (List ℕ)) where

@@ -2,6 +2,7 @@ pub mod Works
 pub mod Pulls
 pub mod Builds
 pub mod Done
+pub mod Performing
 pub mod Runs
 pub mod RunLaws
 pub mod Endings

@@ -1,5 +1,5 @@
--- What a run of the program answers and writes. `FindsKeys` is cited by the contracts of private
--- functions alone.
+-- What a run of the program answers and writes. `FindsKeys`, `JoinsLines` and `ReadsJoined` are cited
+-- by the contracts of private functions alone.
 use Rattle.std.specs.Prelude.{◌≡◌, ◌⊎◌, ℕ, List, [], Option, Result, Ok, Err, map, ⊤}
 use Rattle.std.specs.Io.KnownBytes.{Keeps}
 use Rattle.signed_note.specs.Keys.{Key}
@@ -103,6 +103,17 @@ module _ (told : Option (List NamedFile)) (words : List (List ℕ)) where
   abbrev pub FindsKeys : Result (List ℕ) RunFault → Type 0
   FindsKeys (Ok bytes) = AreKeyBytes bytes
   FindsKeys (Err fault) = FailsAtKeys fault
+
+-- the bytes are those of a key file, whose lines come to these when their pins are joined
+pub record JoinsLines (bytes : List ℕ) (joined : List KeyLine) : Type 0 where
+  pub lines : List KeyLine
+  pub are_lines : IsKeyFile bytes lines
+  pub joins : JoinsPins lines joined
+
+-- what each answer of the reader of the joined lines says
+abbrev pub ReadsJoined : List ℕ → Result (List KeyLine) KeyFileFault → Type 0
+ReadsJoined bytes (Ok joined) = JoinsLines bytes joined
+ReadsJoined bytes (Err fault) = ReadsKeys bytes (no_lines fault)
 
 module _ (digest : List ℕ → List ℕ) (told left : Option (List NamedFile))
     (held : List ℕ → Option (List Put)) (before put : Option (List Put)) (words : List (List ℕ))

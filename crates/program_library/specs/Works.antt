@@ -1,5 +1,5 @@
 -- What each answer of a command over a state file says of it, and of what was written to standard
--- output. `connection_fault` is cited by the contracts of private functions alone.
+-- output. `ComparesView` and `connection_fault` are cited by the contracts of private functions alone.
 use Rattle.std.specs.Prelude.{◌≡◌, ◌≢◌, ◌⊎◌, ℕ, List, [], ◌++◌, Option, Some, None, Result, Ok, Err}
 use Rattle.std.specs.Prelude.{codes, ⊤}
 use Rattle.std.specs.Fmt.{decimal}
@@ -80,6 +80,22 @@ module _
       FindsHeads keys told v.origin files (Err fault)
   ComparesState (Err (Ask fault)) = OpensAndCompares (Err fault)
   ComparesState (Err other) = ⊥
+
+module _
+    (digest : List ℕ → List ℕ) (keys : List Key) (told : Option (List NamedFile))
+    (files : List (List ℕ)) (old new : Option (List ℕ)) where
+  -- heads are given, and what was answered and written is what a mirror of this view tells of them
+  pub record ComparesGiven (v : View) (answer : Result ℕ AskFault) : Type 0 where
+    pub heads : Option (List (ℕ × List ℕ))
+    pub given : FindsHeads keys told v.origin files (Ok heads)
+    pub answers : AnswersCompared digest v heads old new answer
+
+  -- what each answer of `compare` says of a mirror of this view
+  abbrev pub ComparesView : View → Result ℕ WorkFault → Type 0
+  ComparesView v (Ok status) = ComparesGiven v (Ok status)
+  ComparesView v (Err (Heads fault)) = FindsHeads keys told v.origin files (Err fault)
+  ComparesView v (Err (Ask fault)) = ComparesGiven v (Err fault)
+  ComparesView v (Err other) = ⊥
 
 -- ---- serve
 

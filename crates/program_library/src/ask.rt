@@ -1,5 +1,6 @@
 //! The commands `status`, `missing`, `forks` and `prove`: what is asked of the mirror in a state file.
-ghost use Rattle.std.specs.Prelude.{◌≢◌, IfErr, IfOk, map};
+ghost use Rattle.std.specs.Prelude.{◌≡◌, IfErr, IfOk, map};
+ghost use Rattle.std.specs.Result.{result_map_both};
 ghost use Rattle.std.specs.Io.KnownBytes.{Keeps};
 ghost use Rattle.sha2.specs.Sha256.{sha256};
 ghost use Rattle.program_library.specs.Works.{AsksState, IsStatus, IsWriting};
@@ -7,7 +8,7 @@ ghost use Rattle.program_library.specs.Works.{AsksState, IsStatus, IsWriting};
 use crate::fault::WorkFault;
 use program_commands::open_state;
 use program_files::NamedFiles;
-use program_reports::{Question, print_report};
+use program_reports::{AskFault, Question, print_report};
 use program_words::StateArgs;
 use signed_note::Verifier;
 use std::alloc::Global;
@@ -45,7 +46,14 @@ pub(crate) fn run_ask<F: NamedFiles, W: Write>(
         Ok(mirror) => mirror,
         Err(fault) => return Err(WorkFault::State(fault)),
     };
-    match print_report::<Sha256Tree, W>(alloc, &mut mirror, question, output) {
+    asked(print_report::<Sha256Tree, W>(alloc, &mut mirror, question, output))
+}
+
+/// The answer of a command, of what a reporter answers.
+pub(crate) fn asked(answer: Result<u8, AskFault>) -> Result<u8, WorkFault>
+    ensures { result ≡ result_map_both (λ status. status) (λ fault. WorkFault.Ask fault) answer }
+{
+    match answer {
         Ok(status) => Ok(status),
         Err(fault) => Err(WorkFault::Ask(fault)),
     }

@@ -3,8 +3,9 @@ ghost use Rattle.std.specs.Prelude.{◌≡◌, IfErr, IfOk, map, option_map};
 ghost use Rattle.std.specs.Io.KnownBytes.{Keeps};
 ghost use Rattle.sha2.specs.Sha256.{sha256};
 ghost use Rattle.tlog_text.specs.Answers.{seen};
-ghost use Rattle.program_library.specs.Works.{ComparesState, FindsHeads, IsStatus, IsWriting};
+ghost use Rattle.program_library.specs.Works.{ComparesState, ComparesView, FindsHeads, IsStatus, IsWriting};
 
+use crate::ask::asked;
 use crate::fault::WorkFault;
 use program_commands::{HeadFilesFault, open_state, read_heads};
 use program_files::NamedFiles;
@@ -49,14 +50,30 @@ pub(crate) fn run_compare<F: NamedFiles, W: Write>(
         Ok(mirror) => mirror,
         Err(fault) => return Err(WorkFault::State(fault)),
     };
-    let heads = match heads_of(files, alloc, &mirror, keys, compare.files.as_slice()) {
+    compare_mirror(files, alloc, &mut mirror, compare, keys, output)
+}
+
+// Prints what the mirror tells of the checkpoints in the files, or of those that it holds.
+fn compare_mirror<H: TreeHash, F: NamedFiles, W: Write>(
+    files: &F,
+    alloc: Global,
+    mirror: &mut Mirror<H>,
+    compare: &Compare<'_>,
+    keys: &[Box<dyn Verifier>],
+    output: &mut W,
+) -> Result<u8, WorkFault>
+    ensures answer { ComparesView H.digest (map (λ k. key k) keys.now) (F.puts files.now)
+        (map (λ name. name.now) compare.now.files.items) (W.contents output.old)
+        (W.contents output.new) mirror.old.view result }
+    ensures status { IfOk result IsStatus }
+    ensures quiet { IfErr result (λ fault. (¬ IsWriting fault) → Keeps (W.contents output.old)
+        (W.contents output.new)) }
+{
+    let heads = match heads_of(files, alloc, mirror, keys, compare.files.as_slice()) {
         Ok(heads) => heads,
         Err(fault) => return Err(WorkFault::Heads(fault)),
     };
-    match print_comparison::<Sha256Tree, W>(alloc, &mut mirror, lend(&heads), output) {
-        Ok(status) => Ok(status),
-        Err(fault) => Err(WorkFault::Ask(fault)),
-    }
+    asked(print_comparison(alloc, mirror, lend(&heads), output))
 }
 
 // The heads of the files, and none where no file is named.

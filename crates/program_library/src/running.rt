@@ -3,8 +3,10 @@ ghost use Rattle.std.specs.Prelude.{IfErr, IfOk, None, map, string_bytes};
 ghost use Rattle.std.specs.Io.KnownBytes.{Keeps};
 ghost use Rattle.sha2.specs.Sha256.{sha256};
 ghost use Rattle.program_library.specs.Done.{IsWriteFault};
+ghost use Rattle.program_library.specs.Performing.{Ends};
 ghost use Rattle.program_library.specs.Works.{IsStatus};
-ghost use Rattle.program_library.specs.Runs.{AreKeyBytes, Runs, RunsKeyed};
+ghost use Rattle.tlog_text.specs.Answers.{seen};
+ghost use Rattle.program_library.specs.Runs.{AreKeyBytes, ReadsJoined, Runs, RunsKeyed};
 
 use crate::fault::RunFault;
 use crate::keys::key_bytes;
@@ -60,6 +62,8 @@ where
     );
     let why = why_of(alloc, words, &answer, &files, &folders.shelf);
     tell_why(alloc, words, why, errors);
+    drop(folders);
+    drop(files);
     answer
 }
 
@@ -105,8 +109,21 @@ where
     }
 }
 
+// The lines of the key file's bytes, with the pins of one name and id joined.
+fn joined_lines(alloc: Global, key_bytes: &[u8]) -> Result<Vec<KeyLine>, KeyFileFault>
+    ensures { ReadsJoined key_bytes.now (seen (λ lines. lines.items) result) }
+{
+    let lines = match read_keys(alloc, key_bytes) {
+        Ok(lines) => lines,
+        Err(fault) => return Err(fault),
+    };
+    match join_pins(alloc, lines) {
+        Ok(lines) => Ok(lines),
+        Err(_) => Err(KeyFileFault::OutOfMemory),
+    }
+}
+
 // Executes the same with the bytes of the key file in hand.
-#[tactic(auto, using(crate::proofs::Keyed::lines_lack))]
 #[allow(clippy::too_many_arguments)]
 fn run_keyed<R, F: NamedFiles, D: ToldFolders, I: Read, O: Write, E: Write>(
     rt: &R,
@@ -122,19 +139,14 @@ fn run_keyed<R, F: NamedFiles, D: ToldFolders, I: Read, O: Write, E: Write>(
 where
     R: Files + Clock + Eprint + Net<Stream = TcpStream, Listener = TcpListener>,
     requires { AreKeyBytes (F.puts files.old) (map string_bytes words.now) key_bytes.now }
-    ensures answer { RunsKeyed sha256 (F.puts files.old) (F.puts files.new) (D.held folders.old)
+    ensures runs { RunsKeyed sha256 (F.puts files.old) (F.puts files.new) (D.held folders.old)
         (D.puts folders.old) (D.puts folders.new) (map string_bytes words.now)
         (I.remaining input.old) (O.contents output.old) (O.contents output.new) result }
-    ensures status { IfOk result IsStatus }
-    ensures quiet { IfErr result (λ fault. (¬ IsWriteFault fault) → Keeps (O.contents output.old)
-        (O.contents output.new)) }
+    ensures ends { Ends (O.contents output.old) (O.contents output.new) result }
 {
-    let lines = match read_keys(alloc, key_bytes) {
+    let lines = match joined_lines(alloc, key_bytes) {
         Ok(lines) => lines,
         Err(fault) => return Err(RunFault::KeyLines(fault)),
-    };
-    let Ok(lines) = join_pins(alloc, lines) else {
-        return Err(RunFault::KeyLines(KeyFileFault::OutOfMemory));
     };
     let mut keys: Vec<Box<dyn Verifier>> = Vec::new(alloc);
     for line in lines {
@@ -210,6 +222,8 @@ where
     );
     let why = why_of(alloc, words, &answer, &files, &folders.shelf);
     tell_why(alloc, words, why, errors);
+    drop(folders);
+    drop(files);
     answer
 }
 

@@ -64,11 +64,27 @@ where
         Ok(mirror) => mirror,
         Err(fault) => return Err(TellFault::Work(WorkFault::State(fault))),
     };
-    match make_ready(alloc, &mut mirror) {
-        Ok(()) => {}
-        Err(_) => return Err(TellFault::Work(WorkFault::OutOfMemory)),
+    serve_ready(rt, alloc, &mut mirror, serve, output, errors, why)
+}
+
+// Makes a mirror ready, and serves it.
+fn serve_ready<H: TreeHash, R, O: Write, E: Write>(
+    rt: &R,
+    alloc: Global,
+    mirror: &mut Mirror<H>,
+    serve: &Serve<'_>,
+    output: &mut O,
+    errors: &mut E,
+    why: &mut Option<Why>,
+) -> Result<(), TellFault>
+where
+    R: Clock + Net<Stream = TcpStream, Listener = TcpListener>,
+    ensures line { TellsPort serve.now.port (O.contents output.old) (O.contents output.new) result }
+{
+    match make_ready(alloc, mirror) {
+        Ok(()) => serve_mirror(rt, alloc, mirror, serve, output, errors, why),
+        Err(_) => Err(TellFault::Work(WorkFault::OutOfMemory)),
     }
-    serve_mirror(rt, alloc, &mirror, serve, output, errors, why)
 }
 
 // Settles a mirror, and lays out what it serves. Where memory is short for the latter it serves from its strings.

@@ -1,10 +1,9 @@
 //! The work of each command.
-ghost use Rattle.std.specs.Prelude.{◌≡◌, IfErr, IfOk, IsErrAnd, MatchResult, map};
+ghost use Rattle.std.specs.Prelude.{◌≡◌, IsErrAnd, MatchResult, map};
 ghost use Rattle.std.specs.Result.{ForErr, result_map_both};
-ghost use Rattle.std.specs.Io.KnownBytes.{Keeps};
 ghost use Rattle.sha2.specs.Sha256.{sha256};
-ghost use Rattle.program_library.specs.Done.{Executes, IsDoable, IsWriteFault, LeavesFiles, LeavesFolders, verdict_status};
-ghost use Rattle.program_library.specs.Works.{IsStatus};
+ghost use Rattle.program_library.specs.Done.{IsDoable, verdict_status};
+ghost use Rattle.program_library.specs.Performing.{Performs};
 
 use crate::ask::run_ask;
 use crate::build::run_build;
@@ -50,14 +49,9 @@ pub(crate) fn run_command<R, F: NamedFiles, D: ToldFolders, I: Read, O: Write, E
 where
     R: Files + Clock + Eprint + Net<Stream = TcpStream, Listener = TcpListener>,
     requires { IsDoable command.now }
-    ensures answer { Executes sha256 (map (λ k. key k) keys.now) key_bytes.now (F.puts files.old)
+    ensures { Performs sha256 (map (λ k. key k) keys.now) key_bytes.now (F.puts files.old)
         (F.puts files.new) (D.held folders.old) (D.puts folders.old) (D.puts folders.new)
         command.now (I.remaining input.old) (O.contents output.old) (O.contents output.new) result }
-    ensures files { LeavesFiles command.now (F.puts files.old) (F.puts files.new) }
-    ensures folders { LeavesFolders command.now (D.puts folders.old) (D.puts folders.new) }
-    ensures status { IfOk result IsStatus }
-    ensures quiet { IfErr result (λ fault. (¬ IsWriteFault fault) → Keeps (O.contents output.old)
-        (O.contents output.new)) }
 {
     match command {
         Command::Root(root) => {

@@ -1,141 +1,90 @@
--- What the answer of a command's own call says, it says under the command's name.
-use Rattle.std.proofs.Common.{◌≡◌, ◌≢◌, ℕ, List, [], Option, None, Result, Ok, Err, IfErr, IsErrAnd, MatchResult, ap, refl}
-use Rattle.std.specs.Result.{result_map_both}
-use Rattle.std.specs.Io.KnownBytes.{Keeps}
-use Rattle.signed_note.specs.Keys.{Key}
-use Rattle.program_files.specs.Named.{NamedFile}
-use Rattle.program_words.specs.declared.parts.StateArgs.{StateArgs}
-use Rattle.program_words.specs.declared.commands.Command.{Command as Order}
-use Rattle.program_words.specs.declared.commands.Command.TheVariants as order
-use Rattle.program_words.specs.declared.commands.compare.Compare.{Compare as CompareWords}
-use Rattle.program_words.specs.declared.commands.missing.Missing.{Missing as MissingWords}
-use Rattle.program_words.specs.declared.commands.prove.Prove.{Prove as ProveWords}
-use Rattle.program_words.specs.declared.commands.pull.Pull.{Pull as PullWords}
-use Rattle.program_words.specs.declared.commands.serve.Serve.{Serve as ServeWords}
-use Rattle.program_words.specs.declared.commands.take.Take.{Take as TakeWords}
-use Rattle.program_reports.specs.declared.question.Question.TheVariants as question
-use Rattle.program_commands.specs.declared.fault.TakeFilesFault.{TakeFilesFault}
-use Rattle.program_library.specs.declared.fault.RunFault.{RunFault}
-use Rattle.program_library.specs.declared.fault.RunFault.TheVariants.{Pull, Serve, Take, Work}
-use Rattle.program_library.specs.declared.fault.TellFault.{TellFault}
-use Rattle.program_library.specs.declared.fault.TellFault.TheVariants as tell
-use Rattle.program_library.specs.declared.fault.WorkFault.{WorkFault}
-use Rattle.program_library.specs.Done.{ComparesWords, Executes, IsWriteFault, PullsWords, ServesOne}
-use Rattle.program_library.specs.Named.{TakesWords}
-use Rattle.program_library.specs.Works.{AsksState}
-use Rattle.program_library.proofs.Written.{keeps_itself}
+use Rattle.program_library.proofs.Performing.{build_performs, check_performs, compare_performs, export_performs}
+use Rattle.program_library.proofs.Performing.{forks_performs, merge_performs, missing_performs, notes_performs}
+use Rattle.program_library.proofs.Performing.{prove_performs, pull_performs, root_performs, serve_performs}
+use Rattle.program_library.proofs.Performing.{status_performs, take_performs, update_performs}
 use Rattle.program_library.proofs.work.run_command.Goals as goal
 
--- an answer that is, case by case, another one under a name
-is_under : {X E : Type 0} (status : X → ℕ) (name : E → RunFault) (was : Result X E) (is : Result ℕ RunFault) →
-    MatchResult was (λ x. is ≡ Ok (status x)) (λ fault. IsErrAnd is (λ told. told ≡ name fault)) →
-    is ≡ result_map_both status name was
-is_under status name (Ok x) is h = h
-is_under status name (Err fault) (Ok y) h = absurd h
-is_under status name (Err fault) (Err told) h = ap Err h
+pub run_root-answer-requires : goal.run_root-answer-requires
+run_root-answer-requires g c = rw c.in-Root.is at c.requires
 
--- a pull that wrote nothing but at a write fault
-quiet_pull : (old new : Option (List ℕ)) (was : Result ℕ TellFault) →
-    IfErr was (λ fault. fault ≢ tell.WriteFault → Keeps old new) →
-    IfErr (result_map_both (λ status. status) (λ fault. Pull fault) was) (λ fault. (¬ IsWriteFault fault) → Keeps old new)
-quiet_pull old new (Ok status) h = tt
-quiet_pull old new (Err tell.WriteFault) h = λ other. absurd (other tt)
-quiet_pull old new (Err (tell.Work fault)) h = λ other. h (λ e. cc)
+pub returns-in-Root : goal.returns-in-Root
+returns-in-Root g c =
+    root_performs _ _ _ _ _ _ _ _ _ _ c.in-Root.root c.run_root-answer.result _ c.in-Root.is c.done.ensures
+    c.run_root-answer.ensures.answer c.run_root-answer.ensures.quiet
 
--- `Executes` at one command says nothing of what that command does not use
-module _ (digest : List ℕ → List ℕ) (keys : List Key) (told : Option (List NamedFile)) (old new : Option (List ℕ)) where
-  abbrev Does : Option (List NamedFile) → Order → Result ℕ RunFault → Type 0
-  Does left command answer =
-      Executes digest keys [] told left (λ _. None) None None command None old new answer
+pub returns-in-Check : goal.returns-in-Check
+returns-in-Check g c =
+    check_performs _ _ _ _ _ _ _ _ _ _ c.run_check.result _ c.in-Check.is c.verdict.ensures c.run_check.ensures.answer
+    c.run_check.ensures.quiet
 
-  does_take : (left : Option (List NamedFile)) (c : TakeWords) (was : Result (Unit {0}) TakeFilesFault) →
-      TakesWords digest keys c told left was → Keeps old new →
-      Does left (order.Take c) (result_map_both (λ _. 0) (λ fault. Take fault) was)
-  does_take left c (Ok x) h quiet = (h, quiet, refl)
-  does_take left c (Err fault) h quiet = (h, quiet)
+pub returns-in-Build : goal.returns-in-Build
+returns-in-Build g c =
+    build_performs _ _ _ _ _ _ _ _ _ _ c.in-Build.build c.run_build-answer.result _ c.in-Build.is
+    c.done-in-Build.ensures c.run_build-answer.ensures
 
-  does_pull : (left : Option (List NamedFile)) (c : PullWords) (was : Result ℕ TellFault) →
-      PullsWords digest keys [] told left (λ _. None) None None c old new was →
-      Does left (order.Pull c) (result_map_both (λ status. status) (λ fault. Pull fault) was)
-  does_pull left c (Ok status) h = h
-  does_pull left c (Err fault) h = h
+pub take_words-requires : goal.take_words-requires
+take_words-requires g c =
+    let h = rw c.in-Take.is at c.requires in record { least = h.0; most = h.1; some = h.2 }
 
-  does_status : (c : StateArgs) (was : Result ℕ WorkFault) →
-      AsksState digest keys told c.state.now c.log.origin.now question.Status old new was →
-      Does told (order.Status c) (result_map_both (λ status. status) (λ fault. Work fault) was)
-  does_status c (Ok status) h = h
-  does_status c (Err fault) h = h
+pub returns-in-Take : goal.returns-in-Take
+returns-in-Take g c =
+    take_performs _ _ _ _ _ _ _ _ _ _ c.in-Take.take c.take_words.result _ c.in-Take.is c.done-in-Take.ensures
+    c.take_words.ensures
 
-  does_missing : (c : MissingWords) (was : Result ℕ WorkFault) →
-      AsksState digest keys told c.mirror.state.now c.mirror.log.origin.now (question.Missing c.size c.root) old new was →
-      Does told (order.Missing c) (result_map_both (λ status. status) (λ fault. Work fault) was)
-  does_missing c (Ok status) h = h
-  does_missing c (Err fault) h = h
+pub returns-in-Merge : goal.returns-in-Merge
+returns-in-Merge g c =
+    merge_performs _ _ _ _ _ _ _ _ _ _ c.in-Merge.merge c.merge_words.result _ c.in-Merge.is c.done-in-Merge.ensures
+    c.merge_words.ensures
 
-  does_forks : (c : StateArgs) (was : Result ℕ WorkFault) →
-      AsksState digest keys told c.state.now c.log.origin.now question.Forks old new was →
-      Does told (order.Forks c) (result_map_both (λ status. status) (λ fault. Work fault) was)
-  does_forks c (Ok status) h = h
-  does_forks c (Err fault) h = h
+pub returns-in-Pull : goal.returns-in-Pull
+returns-in-Pull g c =
+    pull_performs _ _ _ _ _ _ _ _ _ _ _ c.in-Pull.pull c.run_pull.result _ c.in-Pull.is c.map_err.ensures.cases
+    c.run_pull.ensures.answer c.run_pull.ensures.status c.run_pull.ensures.quiet
 
-  does_compare : (c : CompareWords) (was : Result ℕ WorkFault) →
-      ComparesWords digest keys [] told told (λ _. None) None None c old new was →
-      Does told (order.Compare c) (result_map_both (λ status. status) (λ fault. Work fault) was)
-  does_compare c (Ok status) h = h
-  does_compare c (Err fault) h = h
+pub returns-in-Status : goal.returns-in-Status
+returns-in-Status g c =
+    status_performs _ _ _ _ _ _ _ _ _ _ c.in-Status.args c.run_ask.result _ c.in-Status.is c.work.ensures
+    c.run_ask.ensures.answer c.run_ask.ensures.status c.run_ask.ensures.quiet
 
-  does_prove : (c : ProveWords) (was : Result ℕ WorkFault) →
-      AsksState digest keys told c.mirror.state.now c.mirror.log.origin.now (question.Proof c.ask) old new was →
-      Does told (order.Prove c) (result_map_both (λ status. status) (λ fault. Work fault) was)
-  does_prove c (Ok status) h = h
-  does_prove c (Err fault) h = h
+pub returns-in-Missing : goal.returns-in-Missing
+returns-in-Missing g c =
+    missing_performs _ _ _ _ _ _ _ _ _ _ c.in-Missing.missing c.run_ask-in-Missing.result _ c.in-Missing.is
+    c.work-in-Missing.ensures (rw c.missing_of-question.ensures at c.run_ask-in-Missing.ensures.answer)
+    c.run_ask-in-Missing.ensures.status c.run_ask-in-Missing.ensures.quiet
 
-  does_serve : (c : ServeWords) (was : Result (Unit {0}) TellFault) →
-      ServesOne digest keys [] told told (λ _. None) None None c old new was →
-      Does told (order.Serve c) (result_map_both (λ _. 0) (λ fault. Serve fault) was)
-  does_serve c (Ok x) h = (h, refl)
-  does_serve c (Err fault) h = h
+pub returns-in-Forks : goal.returns-in-Forks
+returns-in-Forks g c =
+    forks_performs _ _ _ _ _ _ _ _ _ _ c.in-Forks.args c.run_ask-in-Forks.result _ c.in-Forks.is
+    c.work-in-Forks.ensures c.run_ask-in-Forks.ensures.answer c.run_ask-in-Forks.ensures.status
+    c.run_ask-in-Forks.ensures.quiet
 
-pub returns-in-Take-clause-answer : goal.returns-in-Take-clause-answer
-returns-in-Take-clause-answer g c =
-    rw (c.in-Take.is, is_under (λ _. 0) (λ fault. Take fault) c.take_words.result c.done-in-Take.result c.done-in-Take.ensures)
-    (does_take _ _ _ _ _ _ c.in-Take.take _ c.take_words.ensures (keeps_itself (g.O.Write.contents c.args.output.now)))
+pub returns-in-Compare : goal.returns-in-Compare
+returns-in-Compare g c =
+    compare_performs _ _ _ _ _ _ _ _ _ _ c.in-Compare.compare c.run_compare.result _ c.in-Compare.is
+    c.work-in-Compare.ensures c.run_compare.ensures.answer c.run_compare.ensures.status c.run_compare.ensures.quiet
 
-pub returns-in-Pull-clause-answer : goal.returns-in-Pull-clause-answer
-returns-in-Pull-clause-answer g c =
-    rw (c.in-Pull.is, is_under (λ status. status) (λ fault. Pull fault) c.run_pull.result c.map_err.result c.map_err.ensures.cases)
-    (does_pull _ _ _ _ _ _ c.in-Pull.pull _ c.run_pull.ensures.answer)
+pub returns-in-Prove : goal.returns-in-Prove
+returns-in-Prove g c =
+    prove_performs _ _ _ _ _ _ _ _ _ _ c.in-Prove.prove c.run_ask-in-Prove.result _ c.in-Prove.is
+    c.work-in-Prove.ensures c.run_ask-in-Prove.ensures.answer c.run_ask-in-Prove.ensures.status
+    c.run_ask-in-Prove.ensures.quiet
 
-pub returns-in-Pull-clause-quiet : goal.returns-in-Pull-clause-quiet
-returns-in-Pull-clause-quiet g c =
-    rw (is_under (λ status. status) (λ fault. Pull fault) c.run_pull.result c.map_err.result c.map_err.ensures.cases)
-    (quiet_pull _ _ _ c.run_pull.ensures.quiet)
+pub returns-in-Export : goal.returns-in-Export
+returns-in-Export g c =
+    export_performs _ _ _ _ _ _ _ _ _ _ c.in-Export.export c.export_words-answer.result _ c.in-Export.is
+    c.done-in-Export.ensures c.export_words-answer.ensures
 
-pub returns-in-Status-clause-answer : goal.returns-in-Status-clause-answer
-returns-in-Status-clause-answer g c =
-    rw (c.in-Status.is, c.work.ensures) (does_status _ _ _ _ _ c.in-Status.args _ c.run_ask.ensures.answer)
+pub returns-in-Update : goal.returns-in-Update
+returns-in-Update g c =
+    update_performs _ _ _ _ _ _ _ _ _ _ c.in-Update.update c.update_words-answer.result _ c.in-Update.is
+    c.done-in-Update.ensures c.update_words-answer.ensures
 
-pub returns-in-Missing-clause-answer : goal.returns-in-Missing-clause-answer
-returns-in-Missing-clause-answer g c =
-    rw (c.in-Missing.is, c.work-in-Missing.ensures)
-    (does_missing _ _ _ _ _ c.in-Missing.missing _ (rw c.missing_of-question.ensures at c.run_ask-in-Missing.ensures.answer))
+pub returns-in-Notes : goal.returns-in-Notes
+returns-in-Notes g c =
+    notes_performs _ _ _ _ _ _ _ _ _ _ c.in-Notes.notes c.notes_words.result _ c.in-Notes.is c.done-in-Notes.ensures
+    c.notes_words.ensures
 
-pub returns-in-Forks-clause-answer : goal.returns-in-Forks-clause-answer
-returns-in-Forks-clause-answer g c =
-    rw (c.in-Forks.is, c.work-in-Forks.ensures)
-    (does_forks _ _ _ _ _ c.in-Forks.args _ c.run_ask-in-Forks.ensures.answer)
-
-pub returns-in-Compare-clause-answer : goal.returns-in-Compare-clause-answer
-returns-in-Compare-clause-answer g c =
-    rw (c.in-Compare.is, c.work-in-Compare.ensures)
-    (does_compare _ _ _ _ _ c.in-Compare.compare _ c.run_compare.ensures.answer)
-
-pub returns-in-Prove-clause-answer : goal.returns-in-Prove-clause-answer
-returns-in-Prove-clause-answer g c =
-    rw (c.in-Prove.is, c.work-in-Prove.ensures)
-    (does_prove _ _ _ _ _ c.in-Prove.prove _ c.run_ask-in-Prove.ensures.answer)
-
-pub returns-in-Serve-clause-answer : goal.returns-in-Serve-clause-answer
-returns-in-Serve-clause-answer g c =
-    rw (c.in-Serve.is, is_under (λ _. 0) (λ fault. Serve fault) c.run_serve-answer.result c.done-in-Serve.result c.done-in-Serve.ensures)
-    (does_serve _ _ _ _ _ c.in-Serve.serve _ c.run_serve-answer.ensures)
+pub returns-in-Serve : goal.returns-in-Serve
+returns-in-Serve g c =
+    serve_performs _ _ _ _ _ _ _ _ _ _ c.in-Serve.serve c.run_serve-answer.result _ c.in-Serve.is
+    c.done-in-Serve.ensures c.run_serve-answer.ensures

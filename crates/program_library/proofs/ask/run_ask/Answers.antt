@@ -1,0 +1,18 @@
+use Rattle.program_library.proofs.Asking.{asked_quietly, asked_status, asks_state}
+use Rattle.program_library.proofs.Written.{keeps_itself}
+use Rattle.program_library.proofs.ask.run_ask.Goals as goal
+
+pub returns-in-Err : goal.returns-in-Err
+returns-in-Err g c = record {
+  answer = c.in-Err.ensures;
+  status = tt;
+  quiet = λ other. keeps_itself (g.W.Write.contents c.args.output.now);
+}
+
+pub returns : goal.returns
+returns g c = record {
+  answer = asks_state _ _ _ _ _ _ _ c.in-Ok.mirror.view c.in-Ok.ensures _ c.print_report.result c.asked.result
+      c.asked.ensures c.print_report.ensures.answer;
+  status = asked_status c.print_report.result c.asked.result c.asked.ensures c.print_report.ensures.status;
+  quiet = asked_quietly c.print_report.result c.asked.result _ _ c.asked.ensures c.print_report.ensures.quiet;
+}
