@@ -1,4 +1,4 @@
-use Rattle.std.proofs.Common.{Ok, Err, map, option_map}
+use Rattle.std.proofs.Common.{Ok, Err, option_map}
 use Rattle.program_library.proofs.Asking.{asked_quietly, asked_status, compares_view}
 use Rattle.program_library.proofs.Compares.{heads_same, names_same}
 use Rattle.program_library.proofs.Written.{keeps_itself}
