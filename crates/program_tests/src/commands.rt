@@ -1,12 +1,13 @@
 //! Commands over files in memory, questions over streams that fail, and two different entries of one digest.
-use crate::given::mirror_of;
-use crate::states::{COMPLETE, EMPTY, FIRST_SUM, SECOND_SUM};
+use crate::given::{complete, mirror_of};
+use crate::states::{EMPTY, FIRST_SUM, SECOND_SUM};
 use crate::streams::FailingWriter;
 use program_commands::{ItemFiles, MergeFilesFault, TakeFilesFault, run_merge, run_take};
 use program_files::{MemoryFiles, NamedFault, NamedFiles};
 use program_reports::{AskFault, Question, print_report};
 use std::alloc::Global;
 use std::io::Write;
+use std::process::Abort;
 use std::test::Fail;
 use tlog_hash::{Sha256Tree, SumTree, TreeHash};
 use tlog_mirror::{MergeFault, Mirror};
@@ -37,19 +38,30 @@ fn merge<H: TreeHash>(files: &mut MemoryFiles, alloc: Global) -> Result<(), Merg
 // put.
 #[test]
 fn colliding_files(rt: HostRuntime) -> Result<(), Fail> {
-    let alloc = rt.alloc();
-    let mut files = MemoryFiles::new(alloc);
-    put(&mut files, "bundle", &[0, 2, 1, 2])?;
-    put(&mut files, "second", SECOND_SUM)?;
-    take::<SumTree>(&mut files, alloc)?;
+    let mut files = MemoryFiles::new(rt.alloc());
+    collide::<SumTree>(&rt, rt.alloc(), &mut files)
+}
+
+fn collide<H: TreeHash>(
+    rt: &impl Abort,
+    alloc: Global,
+    files: &mut MemoryFiles,
+) -> Result<(), Fail> {
+    put(files, "bundle", &[0, 2, 1, 2])?;
+    put(files, "second", SECOND_SUM)?;
+    take::<H>(files, alloc)?;
     let collision = MergeFilesFault::Merge(MergeFault::Collision);
-    assert!(rt; merge::<SumTree>(&mut files, alloc) == Err(collision));
-    let puts = files.puts();
+    assert!(rt; merge::<H>(files, alloc) == Err(collision));
+    assert_first(rt, files.puts());
+    Ok(())
+}
+
+// Three files were put, and the state that was taken last.
+fn assert_first(rt: &impl Abort, puts: &[(String, Vec<u8>)]) {
     assert!(rt; puts.len() == 3);
-    let (name, bytes) = puts.last().ok_or("nothing put")?;
+    let (name, bytes) = &puts[2];
     assert!(rt; name.as_str() == "first");
     assert!(rt; bytes.as_slice() == FIRST_SUM);
-    Ok(())
 }
 
 // What the question about a mirror is answered with.
@@ -65,24 +77,46 @@ fn answer_of<H: TreeHash, W: Write>(
 // A writer gets as many bytes of the text as it has room for, and a fault.
 #[test]
 fn failing_writer(rt: HostRuntime) -> Result<(), Fail> {
-    let alloc = rt.alloc();
+    let mut empty = mirror_of::<Sha256Tree>(rt.alloc(), EMPTY)?;
+    fails_at_status(&rt, rt.alloc(), &mut empty);
+    drop(empty);
+    fails_of_three::<Sha256Tree>(&rt, rt.alloc())
+}
+
+fn fails_at_status<H: TreeHash>(rt: &impl Abort, alloc: Global, mirror: &mut Mirror<H>) {
+    assert_front(rt, alloc, mirror, Question::Status, "");
+    assert_front(rt, alloc, mirror, Question::Status, "o");
+    let front = "origin ex\nserved none";
+    assert_front(rt, alloc, mirror, Question::Status, front);
+}
+
+fn fails_of_three<H: TreeHash>(rt: &impl Abort, alloc: Global) -> Result<(), Fail> {
+    let mut mirror = complete::<H>(alloc)?;
+    fails_at_proofs(rt, alloc, &mut mirror);
+    drop(mirror);
+    Ok(())
+}
+
+fn fails_at_proofs<H: TreeHash>(rt: &impl Abort, alloc: Global, mirror: &mut Mirror<H>) {
     let inclusion = Question::Proof(Ask::Inclusion { size: 3, index: 2 });
+    assert_front(rt, alloc, mirror, inclusion, "inclusi");
     let consistency = Question::Proof(Ask::Consistency {
         first: 2,
         second: 3,
     });
-    for (question, state, front) in [
-        (Question::Status, EMPTY, ""),
-        (Question::Status, EMPTY, "o"),
-        (Question::Status, EMPTY, "origin ex\nserved none"),
-        (inclusion, COMPLETE, "inclusi"),
-        (consistency, COMPLETE, "consist"),
-    ] {
-        let mut mirror = mirror_of::<Sha256Tree>(alloc, state)?;
-        let mut writer = FailingWriter::new(alloc, front.len());
-        let answer = answer_of(alloc, &mut mirror, &question, &mut writer);
-        assert!(rt; answer == Err(AskFault::WriteFault));
-        assert!(rt; writer.taken.as_slice() == front.as_bytes());
-    }
-    Ok(())
+    assert_front(rt, alloc, mirror, consistency, "consist");
+}
+
+// A writer with room for that front of the answer gets it, and no more.
+fn assert_front<H: TreeHash>(
+    rt: &impl Abort,
+    alloc: Global,
+    mirror: &mut Mirror<H>,
+    question: Question,
+    front: &str,
+) {
+    let mut writer = FailingWriter::new(alloc, front.len());
+    let answer = answer_of(alloc, mirror, &question, &mut writer);
+    assert!(rt; answer == Err(AskFault::WriteFault));
+    assert!(rt; writer.taken.as_slice() == front.as_bytes());
 }

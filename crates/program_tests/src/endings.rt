@@ -15,9 +15,14 @@ use std::test::Fail;
 use tlog_build::BuildFault;
 use tlog_mirror::{MergeFault, TakeFault};
 
-// How a run ends by that fault, over these streams. It tells nothing of the calls, which makes the tests cheaper.
-fn ended<O: Write, E: Write>(alloc: Global, fault: RunFault, output: &mut O, errors: &mut E) -> u8 {
-    print_ending(&ending_of(alloc, Err(fault)), output, errors)
+// How a run ends by that answer, over these streams. It tells nothing of the calls, which makes the tests cheaper.
+pub(crate) fn ended<O: Write, E: Write>(
+    alloc: Global,
+    answer: Result<u8, RunFault>,
+    output: &mut O,
+    errors: &mut E,
+) -> u8 {
+    print_ending(&ending_of(alloc, answer), output, errors)
 }
 
 // A run that ends by that fault has the status 1, and this is all that is said.
@@ -25,30 +30,48 @@ fn assert_told(rt: &impl Abort, alloc: Global, fault: RunFault, line: &str) {
     let mut output = Vec::new(alloc);
     let mut errors = Vec::new(alloc);
     assert!(rt;
-        ended(alloc, fault, &mut output, &mut errors) == 1,
+        ended(alloc, Err(fault), &mut output, &mut errors) == 1,
         "{line}"
     );
     assert!(rt; output.len() == 0, "{line}");
     assert!(rt; errors.as_slice() == line.as_bytes());
 }
 
+// All that such a run says is that two strings collide.
+fn assert_collision(rt: &impl Abort, alloc: Global, fault: RunFault) {
+    assert_told(rt, alloc, fault, "tlogmirror: Collision\n");
+}
+
 // Two different strings of one digest, met where a state is loaded. No two such strings are known of SHA-256.
 #[test]
 fn collisions_of_a_load(rt: HostRuntime) {
     let state = StateFault::Load(LoadFault::Collision);
-    let work = || WorkFault::State(state);
-    for fault in [
+    assert_collision(
+        &rt,
+        rt.alloc(),
         RunFault::Take(TakeFilesFault::State(state)),
+    );
+    assert_collision(
+        &rt,
+        rt.alloc(),
         RunFault::Merge(MergeFilesFault::First(state)),
+    );
+    assert_collision(
+        &rt,
+        rt.alloc(),
         RunFault::Merge(MergeFilesFault::Second(state)),
-        RunFault::Notes(NotesFault::State(state)),
-        RunFault::Serve(TellFault::Work(work())),
-        RunFault::Pull(TellFault::Work(work())),
+    );
+    assert_collision(&rt, rt.alloc(), RunFault::Notes(NotesFault::State(state)));
+    let serve = RunFault::Serve(TellFault::Work(WorkFault::State(state)));
+    assert_collision(&rt, rt.alloc(), serve);
+    let pull = RunFault::Pull(TellFault::Work(WorkFault::State(state)));
+    assert_collision(&rt, rt.alloc(), pull);
+    assert_collision(
+        &rt,
+        rt.alloc(),
         RunFault::Export(ExportFileFault::State(state)),
-        RunFault::Work(work()),
-    ] {
-        assert_told(&rt, rt.alloc(), fault, "tlogmirror: Collision\n");
-    }
+    );
+    assert_collision(&rt, rt.alloc(), RunFault::Work(WorkFault::State(state)));
 }
 
 // The same met by the work itself, and `OutOfMemory`.
@@ -59,19 +82,17 @@ fn collisions_of_the_work(rt: HostRuntime) {
     let built = WorkFault::Build(BuildFault::Pull(fault));
     let taken = TakeFilesFault::Take(TakeFault::Collision);
     let merged = MergeFilesFault::Merge(MergeFault::Collision);
+    assert_collision(&rt, rt.alloc(), RunFault::Take(taken));
+    assert_collision(&rt, rt.alloc(), RunFault::Merge(merged));
+    assert_collision(&rt, rt.alloc(), RunFault::Pull(TellFault::Work(pulled)));
+    assert_collision(&rt, rt.alloc(), RunFault::Work(built));
     let no_memory = "tlogmirror: OutOfMemory\n";
-    let collision = "tlogmirror: Collision\n";
-    for (fault, line) in [
-        (RunFault::Take(taken), collision),
-        (RunFault::Merge(merged), collision),
-        (RunFault::Pull(TellFault::Work(pulled)), collision),
-        (RunFault::Work(built), collision),
-        (RunFault::Root(RootFault::OutOfMemory), no_memory),
-        (RunFault::Check(CheckFault::OutOfMemory), no_memory),
-        (RunFault::Command(CommandFault::OutOfMemory), no_memory),
-    ] {
-        assert_told(&rt, rt.alloc(), fault, line);
-    }
+    let fault = RunFault::Root(RootFault::OutOfMemory);
+    assert_told(&rt, rt.alloc(), fault, no_memory);
+    let fault = RunFault::Check(CheckFault::OutOfMemory);
+    assert_told(&rt, rt.alloc(), fault, no_memory);
+    let fault = RunFault::Command(CommandFault::OutOfMemory);
+    assert_told(&rt, rt.alloc(), fault, no_memory);
 }
 
 // Help that is cut is a fault of writing, which is told.
@@ -81,7 +102,7 @@ fn help_that_is_cut(rt: HostRuntime) -> Result<(), Fail> {
     let help = RunFault::Command(CommandFault::Help(String::from_str(alloc, "help")?));
     let mut full = FailingWriter::new(alloc, 2);
     let mut errors = Vec::new(alloc);
-    assert!(rt; ended(alloc, help, &mut full, &mut errors) == 1);
+    assert!(rt; ended(alloc, Err(help), &mut full, &mut errors) == 1);
     assert!(rt; full.taken.as_slice() == b"he".as_slice());
     assert!(rt; errors.as_slice() == b"tlogmirror: WriteFault\n".as_slice());
     Ok(())

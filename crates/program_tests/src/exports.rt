@@ -1,10 +1,10 @@
 //! What is put onto shelves in memory, and onto such that fail.
 ghost use Rattle.std.specs.Prelude.{◌≡◌, min, ◌+◌, ◌-◌, ◌^◌};
 
-use crate::given::mirror_of;
-use crate::states::{BUNDLE, COMPLETE, NOTE, ROW};
+use crate::given::complete;
+use crate::states::{BUNDLE, NOTE, ROW};
 use mirror_folders::{ExportFault, MemShelf, Shelf, ShelfError, UpdateFault, export, update};
-use std::alloc::Global;
+use std::alloc::{AllocError, Global};
 use std::process::Abort;
 use std::test::Fail;
 use tlog_hash::{Sha256Tree, TreeHash};
@@ -68,8 +68,32 @@ impl Shelf for Failing {
     }
 }
 
-// An export onto a shelf that does so many calls answers so, and the shelf has so many files then, and the checkpoint
-// only where all is done.
+fn shelf_of(passes: u32) -> Failing {
+    Failing {
+        passes,
+        files: 0,
+        has_checkpoint: false,
+        failures: 0,
+    }
+}
+
+// The shelf has so many files, and the checkpoint only where all is done.
+fn assert_put(rt: &impl Abort, shelf: &Failing, files: u32, is_done: bool) {
+    assert!(rt; shelf.files == files);
+    assert!(rt; shelf.has_checkpoint == is_done);
+    assert!(rt; (shelf.failures == 0) == is_done);
+}
+
+// What an export answers. It ensures nothing, so that its callers are cheap to check.
+pub(crate) fn put_onto<H: TreeHash, S: Shelf>(
+    alloc: Global,
+    mirror: &Mirror<H>,
+    shelf: &mut S,
+) -> Result<(), ExportFault> {
+    export(alloc, mirror, shelf)
+}
+
+// An export onto a shelf that does so many calls answers so, and the shelf has so many files then.
 fn assert_exported<H: TreeHash>(
     rt: &impl Abort,
     alloc: Global,
@@ -78,16 +102,9 @@ fn assert_exported<H: TreeHash>(
     files: u32,
     answer: Result<(), ExportFault>,
 ) {
-    let mut shelf = Failing {
-        passes,
-        files: 0,
-        has_checkpoint: false,
-        failures: 0,
-    };
-    assert!(rt; export(alloc, mirror, &mut shelf) == answer);
-    assert!(rt; shelf.files == files);
-    assert!(rt; shelf.has_checkpoint == answer.is_ok());
-    assert!(rt; (shelf.failures == 0) == answer.is_ok());
+    let mut shelf = shelf_of(passes);
+    assert!(rt; put_onto(alloc, mirror, &mut shelf) == answer);
+    assert_put(rt, &shelf, files, answer.is_ok());
 }
 
 // How many calls are done, the files put then, and the answer.
@@ -102,33 +119,48 @@ const EXPORTS: [(u32, u32, Result<(), ExportFault>); 5] = [
 // The first call asks for the checkpoint, and the j-th put is the call after j others.
 #[test]
 fn failing_shelf(rt: HostRuntime) -> Result<(), Fail> {
-    let mirror = mirror_of::<Sha256Tree>(rt.alloc(), COMPLETE)?;
-    for &(passes, files, answer) in &EXPORTS {
-        assert_exported(&rt, rt.alloc(), &mirror, passes, files, answer);
-    }
+    let mirror = complete::<Sha256Tree>(rt.alloc())?;
+    assert_exports(&rt, rt.alloc(), &mirror);
+    drop(mirror);
     Ok(())
+}
+
+fn assert_exports<H: TreeHash>(rt: &impl Abort, alloc: Global, mirror: &Mirror<H>) {
+    for &(passes, files, answer) in &EXPORTS {
+        assert_exported(rt, alloc, mirror, passes, files, answer);
+    }
 }
 
 // The three files are put, and none once more. (That a failure at the third leaves no checkpoint is a row of
 // `failing_shelf`, and that nothing is exported of an empty mirror one of `tests/states.runs`.)
 #[test]
 fn export_e3(rt: HostRuntime) -> Result<(), Fail> {
-    let mirror = mirror_of::<Sha256Tree>(rt.alloc(), COMPLETE)?;
-    let mut shelf = MemShelf::new(rt.alloc());
-    for answer in [Ok(()), Err(ExportFault::ShelfInUse)] {
-        assert!(rt; put_onto(rt.alloc(), &mirror, &mut shelf) == answer);
-        assert_files(&rt, rt.alloc(), shelf.puts())?;
-    }
-    Ok(())
+    let mirror = complete::<Sha256Tree>(rt.alloc())?;
+    let answer = exports_once(&rt, rt.alloc(), &mirror);
+    drop(mirror);
+    answer
 }
 
-// What an export answers.
-fn put_onto<H: TreeHash>(
+fn exports_once<H: TreeHash>(
+    rt: &impl Abort,
+    alloc: Global,
+    mirror: &Mirror<H>,
+) -> Result<(), Fail> {
+    let mut shelf = MemShelf::new(alloc);
+    exports_onto(rt, alloc, mirror, &mut shelf)
+}
+
+fn exports_onto<H: TreeHash>(
+    rt: &impl Abort,
     alloc: Global,
     mirror: &Mirror<H>,
     shelf: &mut MemShelf,
-) -> Result<(), ExportFault> {
-    export(alloc, mirror, shelf)
+) -> Result<(), Fail> {
+    assert!(rt; put_onto(alloc, mirror, shelf) == Ok(()));
+    assert_files(rt, alloc, shelf.puts())?;
+    assert!(rt; put_onto(alloc, mirror, shelf) == Err(ExportFault::ShelfInUse));
+    assert_files(rt, alloc, shelf.puts())?;
+    Ok(())
 }
 
 // The checkpoint of the log before it had entries, with a signature that nobody looks at.
@@ -144,16 +176,9 @@ fn assert_updated<H: TreeHash>(
     files: u32,
     answer: Result<(), UpdateFault>,
 ) {
-    let mut shelf = Failing {
-        passes,
-        files: 0,
-        has_checkpoint: false,
-        failures: 0,
-    };
-    assert!(rt; update(alloc, mirror, BEFORE, &mut shelf) == answer);
-    assert!(rt; shelf.files == files);
-    assert!(rt; shelf.has_checkpoint == answer.is_ok());
-    assert!(rt; (shelf.failures == 0) == answer.is_ok());
+    let mut shelf = shelf_of(passes);
+    assert!(rt; bring_up(alloc, mirror, BEFORE, &mut shelf) == answer);
+    assert_put(rt, &shelf, files, answer.is_ok());
 }
 
 // The same of an update.
@@ -167,19 +192,24 @@ const UPDATES: [(u32, u32, Result<(), UpdateFault>); 4] = [
 // No call asks for a file that is there: the j-th put is the call after j others.
 #[test]
 fn failing_update(rt: HostRuntime) -> Result<(), Fail> {
-    let mirror = mirror_of::<Sha256Tree>(rt.alloc(), COMPLETE)?;
-    for &(passes, files, answer) in &UPDATES {
-        assert_updated(&rt, rt.alloc(), &mirror, passes, files, answer);
-    }
+    let mirror = complete::<Sha256Tree>(rt.alloc())?;
+    assert_updates(&rt, rt.alloc(), &mirror);
+    drop(mirror);
     Ok(())
 }
 
+fn assert_updates<H: TreeHash>(rt: &impl Abort, alloc: Global, mirror: &Mirror<H>) {
+    for &(passes, files, answer) in &UPDATES {
+        assert_updated(rt, alloc, mirror, passes, files, answer);
+    }
+}
+
 // What an update answers.
-fn bring_up<H: TreeHash>(
+fn bring_up<H: TreeHash, S: Shelf>(
     alloc: Global,
     mirror: &Mirror<H>,
     checkpoint: &[u8],
-    shelf: &mut MemShelf,
+    shelf: &mut S,
 ) -> Result<(), UpdateFault> {
     update(alloc, mirror, checkpoint, shelf)
 }
@@ -187,15 +217,33 @@ fn bring_up<H: TreeHash>(
 // Nothing is put at bytes that are no note, nor at the note that is served; all three files since the empty log.
 #[test]
 fn update_e3(rt: HostRuntime) -> Result<(), Fail> {
-    let mirror = mirror_of::<Sha256Tree>(rt.alloc(), COMPLETE)?;
-    let mut shelf = MemShelf::new(rt.alloc());
-    let none: &[u8] = b"";
-    for (checkpoint, answer) in [(none, Err(UpdateFault::OtherLog)), (NOTE, Ok(()))] {
-        assert!(rt; bring_up(rt.alloc(), &mirror, checkpoint, &mut shelf) == answer);
-        assert!(rt; shelf.puts().is_empty());
-    }
-    assert!(rt; bring_up(rt.alloc(), &mirror, BEFORE, &mut shelf) == Ok(()));
-    assert_files(&rt, rt.alloc(), shelf.puts())?;
+    let mirror = complete::<Sha256Tree>(rt.alloc())?;
+    let answer = updates_once(&rt, rt.alloc(), &mirror);
+    drop(mirror);
+    answer
+}
+
+fn updates_once<H: TreeHash>(
+    rt: &impl Abort,
+    alloc: Global,
+    mirror: &Mirror<H>,
+) -> Result<(), Fail> {
+    let mut shelf = MemShelf::new(alloc);
+    updates_onto(rt, alloc, mirror, &mut shelf)
+}
+
+fn updates_onto<H: TreeHash>(
+    rt: &impl Abort,
+    alloc: Global,
+    mirror: &Mirror<H>,
+    shelf: &mut MemShelf,
+) -> Result<(), Fail> {
+    assert!(rt; bring_up(alloc, mirror, b"", shelf) == Err(UpdateFault::OtherLog));
+    assert!(rt; shelf.puts().is_empty());
+    assert!(rt; bring_up(alloc, mirror, NOTE, shelf) == Ok(()));
+    assert!(rt; shelf.puts().is_empty());
+    assert!(rt; bring_up(alloc, mirror, BEFORE, shelf) == Ok(()));
+    assert_files(rt, alloc, shelf.puts())?;
     Ok(())
 }
 
@@ -204,16 +252,23 @@ pub(crate) fn assert_files(
     rt: &impl Abort,
     alloc: Global,
     puts: &[(Path, Vec<u8>)],
-) -> Result<(), Fail> {
+) -> Result<(), AllocError> {
     assert!(rt; puts.len() == 3);
-    let files = [
-        ("tile/0/000.p/3", ROW),
-        ("tile/entries/000.p/3", BUNDLE),
-        ("checkpoint", NOTE),
-    ];
-    for ((path, bytes), (name, want)) in puts.iter().zip(files) {
-        assert!(rt; path.text(alloc)?.as_str() == name);
-        assert!(rt; bytes.as_slice() == want, "{name}");
-    }
+    assert_file(rt, alloc, &puts[0], "tile/0/000.p/3", ROW)?;
+    assert_file(rt, alloc, &puts[1], "tile/entries/000.p/3", BUNDLE)?;
+    assert_file(rt, alloc, &puts[2], "checkpoint", NOTE)
+}
+
+// What was put has that path, and these bytes.
+fn assert_file(
+    rt: &impl Abort,
+    alloc: Global,
+    put: &(Path, Vec<u8>),
+    name: &str,
+    want: &[u8],
+) -> Result<(), AllocError> {
+    assert!(rt; put.1.as_slice() == want, "{name}");
+    let path = put.0.text(alloc)?;
+    assert!(rt; path.as_str() == name);
     Ok(())
 }

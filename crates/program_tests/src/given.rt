@@ -1,9 +1,10 @@
 //! What the tests give: the key, and mirrors of states.
+use crate::states::COMPLETE;
 use mirror_state::{LoadFault, SaveFault, load, save};
 use program_commands::check_origin;
 use signed_note::{HmacKey, KeyFault, Verifier};
 use std::alloc::Global;
-use std::io::Read;
+use std::io::{Read, Write};
 use std::test::Fail;
 use tlog_hash::TreeHash;
 use tlog_mirror::Mirror;
@@ -38,9 +39,17 @@ pub(crate) fn mirror_of<H: TreeHash>(alloc: Global, mut text: &[u8]) -> Result<M
     Ok(load_example(alloc, &keys, &mut text)?)
 }
 
-// The text that is saved of a mirror.
-pub(crate) fn saved<H: TreeHash>(alloc: Global, mirror: &Mirror<H>) -> Result<Vec<u8>, SaveFault> {
-    let mut text = Vec::new(alloc);
-    save(alloc, mirror, &mut text)?;
-    Ok(text)
+// The mirror of the log of three entries. Its owners give it to `drop`: a drop in place has a step for each of its fields,
+// and is dear to check.
+pub(crate) fn complete<H: TreeHash>(alloc: Global) -> Result<Mirror<H>, Fail> {
+    mirror_of(alloc, COMPLETE)
+}
+
+// What saving a mirror answers. It ensures nothing, so that its callers are cheap to check.
+pub(crate) fn save_to<H: TreeHash, W: Write>(
+    alloc: Global,
+    mirror: &Mirror<H>,
+    writer: &mut W,
+) -> Result<(), SaveFault> {
+    save(alloc, mirror, writer)
 }

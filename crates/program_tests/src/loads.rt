@@ -1,8 +1,8 @@
 //! States that are cut, and readers and writers that fail.
-use crate::given::{keys, load_example, mirror_of};
+use crate::given::{complete, keys, load_example, save_to};
 use crate::states::COMPLETE;
 use crate::streams::{FailingWriter, Strange};
-use mirror_state::{LoadFault, SaveFault, save};
+use mirror_state::{LoadFault, SaveFault};
 use signed_note::Verifier;
 use std::alloc::Global;
 use std::io::Read;
@@ -23,6 +23,14 @@ fn fault_of<H: TreeHash, R: Read>(
 #[test]
 fn state_cuts(rt: HostRuntime) -> Result<(), Fail> {
     let keys = keys(rt.alloc())?;
+    refuses_cuts::<Sha256Tree>(&rt, rt.alloc(), &keys)
+}
+
+fn refuses_cuts<H: TreeHash>(
+    rt: &impl Abort,
+    alloc: Global,
+    keys: &[Box<dyn Verifier>],
+) -> Result<(), Fail> {
     for len in 0..COMPLETE.len() {
         let mut text = COMPLETE.get(..len).ok_or("no text")?;
         let fault = if len < 8 {
@@ -30,7 +38,7 @@ fn state_cuts(rt: HostRuntime) -> Result<(), Fail> {
         } else {
             LoadFault::StateShort
         };
-        let found = fault_of::<Sha256Tree, _>(rt.alloc(), &keys, &mut text);
+        let found = fault_of::<H, _>(alloc, keys, &mut text);
         assert!(rt; found == Some(fault));
     }
     Ok(())
@@ -48,12 +56,17 @@ fn endless_reader(rt: HostRuntime) {
 
 #[test]
 fn failing_writer(rt: HostRuntime) -> Result<(), Fail> {
-    let mirror = mirror_of::<Sha256Tree>(rt.alloc(), COMPLETE)?;
-    for room in 0..COMPLETE.len() {
-        assert_front(&rt, rt.alloc(), &mirror, room, Err(SaveFault::WriteFault));
-    }
-    assert_front(&rt, rt.alloc(), &mirror, COMPLETE.len(), Ok(()));
+    let mirror = complete::<Sha256Tree>(rt.alloc())?;
+    assert_fronts(&rt, rt.alloc(), &mirror);
+    drop(mirror);
     Ok(())
+}
+
+fn assert_fronts<H: TreeHash>(rt: &impl Abort, alloc: Global, mirror: &Mirror<H>) {
+    for room in 0..COMPLETE.len() {
+        assert_front(rt, alloc, mirror, room, Err(SaveFault::WriteFault));
+    }
+    assert_front(rt, alloc, mirror, COMPLETE.len(), Ok(()));
 }
 
 // A writer of so many bytes gets those of the text.
@@ -65,6 +78,6 @@ fn assert_front<H: TreeHash>(
     answer: Result<(), SaveFault>,
 ) {
     let mut writer = FailingWriter::new(alloc, room);
-    assert!(rt; save(alloc, mirror, &mut writer) == answer);
+    assert!(rt; save_to(alloc, mirror, &mut writer) == answer);
     assert!(rt; COMPLETE.get(..room) == Some(writer.taken.as_slice()));
 }

@@ -1,15 +1,16 @@
 //! Requests for memory that are refused, as by `rt try --test --fail-alloc N`: where a call was refused one, it did
 //! nothing, or what it put is no checkpoint; and the next call is right.
-use crate::exports::assert_files;
-use crate::given::{keys, load_example, mirror_of, saved};
+use crate::exports::{assert_files, put_onto};
+use crate::given::{complete, keys, load_example, save_to};
 use crate::states::{COMPLETE, NOTE};
-use mirror_folders::{DirShelf, DirSource, ExportFault, MemShelf, Shelf, export};
+use mirror_folders::{DirShelf, DirSource, ExportFault, MemShelf, Shelf};
 use mirror_sources::{Source, SourceFault};
-use mirror_state::{LoadFault, SaveFault, save};
+use mirror_state::{LoadFault, SaveFault};
 use signed_note::Verifier;
 use std::alloc::Global;
 use std::fs;
 use std::process::Abort;
+use std::rt::Files;
 use std::test::Fail;
 use tlog_hash::{Sha256Tree, TreeHash};
 use tlog_mirror::Mirror;
@@ -17,8 +18,9 @@ use tlog_tiles::Path;
 
 #[test]
 fn save_again_after_want_of_memory(rt: HostRuntime) -> Result<(), Fail> {
-    let mirror = mirror_of::<Sha256Tree>(rt.alloc(), COMPLETE)?;
+    let mirror = complete::<Sha256Tree>(rt.alloc())?;
     save_at_last(&rt, rt.alloc(), &mirror);
+    drop(mirror);
     Ok(())
 }
 
@@ -26,10 +28,10 @@ fn save_again_after_want_of_memory(rt: HostRuntime) -> Result<(), Fail> {
 fn save_at_last<H: TreeHash>(rt: &impl Abort, alloc: Global, mirror: &Mirror<H>) {
     let mut space = [0u8; 1_024];
     let mut writer = space.as_mut_slice();
-    let mut answer = save(alloc, mirror, &mut writer);
+    let mut answer = save_to(alloc, mirror, &mut writer);
     if answer == Err(SaveFault::OutOfMemory) {
         assert!(rt; writer.len() == 1_024);
-        answer = save(alloc, mirror, &mut writer);
+        answer = save_to(alloc, mirror, &mut writer);
     }
     assert!(rt; answer == Ok(()));
     let written = 1_024usize.saturating_sub(writer.len());
@@ -39,8 +41,17 @@ fn save_at_last<H: TreeHash>(rt: &impl Abort, alloc: Global, mirror: &Mirror<H>)
 #[test]
 fn load_again_after_want_of_memory(rt: HostRuntime) -> Result<(), Fail> {
     let keys = keys(rt.alloc())?;
-    let mirror = loaded_at_last::<Sha256Tree>(rt.alloc(), &keys)?;
-    save_at_last(&rt, rt.alloc(), &mirror);
+    loads_at_last::<Sha256Tree>(&rt, rt.alloc(), &keys)
+}
+
+fn loads_at_last<H: TreeHash>(
+    rt: &impl Abort,
+    alloc: Global,
+    keys: &[Box<dyn Verifier>],
+) -> Result<(), Fail> {
+    let mirror = loaded_at_last::<H>(alloc, keys)?;
+    save_at_last(rt, alloc, &mirror);
+    drop(mirror);
     Ok(())
 }
 
@@ -66,11 +77,11 @@ fn export_at_last<H: TreeHash, S: Shelf>(
     mirror: &Mirror<H>,
     shelf: &mut S,
 ) {
-    let mut answer = export(alloc, mirror, shelf);
+    let mut answer = put_onto(alloc, mirror, shelf);
     if answer == Err(ExportFault::OutOfMemory) {
         let found = shelf.has(&Path::Checkpoint);
         assert!(rt; found == Ok(false));
-        answer = export(alloc, mirror, shelf);
+        answer = put_onto(alloc, mirror, shelf);
     }
     assert!(rt; answer == Ok(()));
     assert!(rt; shelf.failures() == 0);
@@ -78,42 +89,68 @@ fn export_at_last<H: TreeHash, S: Shelf>(
 
 #[test]
 fn export_again_after_want_of_memory(rt: HostRuntime) -> Result<(), Fail> {
-    let mirror = mirror_of::<Sha256Tree>(rt.alloc(), COMPLETE)?;
-    let mut shelf = MemShelf::new(rt.alloc());
-    export_at_last(&rt, rt.alloc(), &mirror, &mut shelf);
-    // What the last of two exports put stands behind what the first did.
-    let first = shelf.puts().len().saturating_sub(3);
-    assert_files(
-        &rt,
-        rt.alloc(),
-        shelf.puts().get(first..).ok_or("fewer puts")?,
-    )
+    let mirror = complete::<Sha256Tree>(rt.alloc())?;
+    let answer = exports_at_last(&rt, rt.alloc(), &mirror);
+    drop(mirror);
+    answer
+}
+
+// What the last of two exports put stands behind what the first did.
+fn exports_at_last<H: TreeHash>(
+    rt: &impl Abort,
+    alloc: Global,
+    mirror: &Mirror<H>,
+) -> Result<(), Fail> {
+    let mut shelf = MemShelf::new(alloc);
+    export_at_last(rt, alloc, mirror, &mut shelf);
+    assert_last_files(rt, alloc, shelf.puts())
+}
+
+fn assert_last_files(rt: &impl Abort, alloc: Global, puts: &[(Path, Vec<u8>)]) -> Result<(), Fail> {
+    let first = puts.len().saturating_sub(3);
+    assert_files(rt, alloc, puts.get(first..).ok_or("fewer puts")?)?;
+    Ok(())
 }
 
 // `OutOfMemory`, and then ample memory, onto a folder, and of a file read from it.
 #[test]
 fn folder_again_after_want_of_memory(rt: HostRuntime) -> Result<(), Fail> {
     let folder = "want-of-memory";
-    let _left = fs::remove_dir_all(&rt, folder);
-    let mirror = mirror_of::<Sha256Tree>(rt.alloc(), COMPLETE)?;
-    export_at_last(
-        &rt,
-        rt.alloc(),
-        &mirror,
-        &mut DirShelf::new(&rt, rt.alloc(), folder),
-    );
-    read_at_last(&rt, &mut DirSource::new(&rt, rt.alloc(), folder))?;
-    fs::remove_dir_all(&rt, folder)?;
+    let _ = fs::remove_dir_all(&rt, folder);
+    let mirror = complete::<Sha256Tree>(rt.alloc())?;
+    export_into(&rt, rt.alloc(), &mirror, folder);
+    drop(mirror);
+    reads_and_removes(&rt, folder)
+}
+
+fn export_into<H: TreeHash, R: Abort + Files>(
+    rt: &R,
+    alloc: Global,
+    mirror: &Mirror<H>,
+    folder: &str,
+) {
+    let mut shelf = DirShelf::new(rt, alloc, folder);
+    export_at_last(rt, alloc, mirror, &mut shelf);
+}
+
+fn reads_and_removes<R: AllocGlobal + Abort + Files>(rt: &R, folder: &str) -> Result<(), Fail> {
+    read_from(rt, rt.alloc(), folder)?;
+    fs::remove_dir_all(rt, folder)?;
     Ok(())
+}
+
+fn read_from<R: Abort + Files>(rt: &R, alloc: Global, folder: &str) -> Result<(), SourceFault> {
+    let mut source = DirSource::new(rt, alloc, folder);
+    read_at_last(rt, &mut source)
 }
 
 // Reads the checkpoint from it.
 fn read_at_last<S: Source>(rt: &impl Abort, source: &mut S) -> Result<(), SourceFault> {
-    let mut note = source.get(&Path::Checkpoint);
-    if matches!(note, Err(SourceFault::OutOfMemory)) {
-        note = source.get(&Path::Checkpoint);
-    }
-    assert!(rt; note?.as_deref() == Some(NOTE));
+    let note = match source.get(&Path::Checkpoint) {
+        Err(SourceFault::OutOfMemory) => source.get(&Path::Checkpoint)?,
+        note => note?,
+    };
+    assert!(rt; note.as_deref() == Some(NOTE));
     assert!(rt; source.failures() == 0);
     Ok(())
 }

@@ -67,13 +67,16 @@ fn entries_in_more_than_4096_reads(rt: HostRuntime) -> Result<(), Fail> {
     Ok(())
 }
 
+// What is read before a fault.
+const FRONTS: [&[u8]; 5] = [&[], &[0, 0], &[0, 1], &[0, 0, 0, 0, 0], INCLUSION];
+
 // Whether the bytes before the fault are a bundle, entries or a proof, too few or too many: the fault comes first, and
 // nothing is written.
 #[test]
 fn failing_reader(rt: HostRuntime) {
     let alloc = rt.alloc();
     let mut output = Vec::new(alloc);
-    for bytes in [[].as_slice(), &[0, 0], &[0, 1], &[0, 0, 0, 0, 0], INCLUSION] {
+    for bytes in FRONTS {
         let root = root_of(alloc, bytes, true, &mut output);
         assert!(rt; root == Err(RootFault::ReadFault));
         let verdict = verdict_of(alloc, bytes, true, &mut output);

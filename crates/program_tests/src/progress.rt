@@ -147,17 +147,31 @@ fn told_of<W: Write + Drop>(
 ) -> Result<(), ShelfError> {
     let progress = Progress::new(alloc, clock, writer);
     let mut shelf = CountingShelf::new(MemShelf::new(alloc), progress);
+    tells(rt, &mut shelf, begins, files)
+}
+
+fn tells<C: Clock + Drop, W: Write + Drop>(
+    rt: &impl Abort,
+    shelf: &mut CountingShelf<MemShelf, C, W>,
+    begins: bool,
+    files: u64,
+) -> Result<(), ShelfError> {
     if begins {
         shelf.begin(Task::Export);
         shelf.expect(files);
     }
-    for index in 0..files {
-        shelf.put(&Path::Entries { index, width: 256 }, &[7; 100])?;
-    }
+    put_files(shelf, files)?;
     let counts = shelf.progress.counts();
     assert!(rt; counts.files == files);
     assert!(rt; counts.bytes == files.saturating_mul(100));
     assert!(rt; shelf.shelf.puts().len() as u64 == files);
+    Ok(())
+}
+
+fn put_files<S: Shelf>(shelf: &mut S, files: u64) -> Result<(), ShelfError> {
+    for index in 0..files {
+        shelf.put(&Path::Entries { index, width: 256 }, &[7; 100])?;
+    }
     Ok(())
 }
 

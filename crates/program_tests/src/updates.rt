@@ -21,9 +21,9 @@ fn building_fault<H: TreeHash>(
 // The signing key is not among the keys.
 #[test]
 fn logs_are_not_built(rt: HostRuntime) -> Result<(), Fail> {
-    let alloc = rt.alloc();
-    let mut shelf = MemShelf::new(alloc);
-    let fault = building_fault::<Sha256Tree>(alloc, key(alloc)?, &mut shelf);
+    let signer = key(rt.alloc())?;
+    let mut shelf = MemShelf::new(rt.alloc());
+    let fault = building_fault::<Sha256Tree>(rt.alloc(), signer, &mut shelf);
     let closed = BuildFault::Pull(PullFault::Head(TakeFault::NoTrustedSignature));
     assert!(rt; fault == Some(closed));
     assert!(rt; shelf.puts().len() == 0);
