@@ -18,7 +18,9 @@ const SAME: &str =
 #[test]
 fn same_under_collisions(rt: HostRuntime) -> Result<(), Fail> {
     let mut mirror = Mirror::<SumTree>::new(rt.alloc(), "ex")?;
-    takes_and_tells(&rt, rt.alloc(), &mut mirror)
+    let answer = takes_and_tells(&rt, rt.alloc(), &mut mirror);
+    drop(mirror);
+    answer
 }
 
 fn takes_and_tells<H: TreeHash>(

@@ -13,7 +13,9 @@ const FORK: &str =
 #[test]
 fn fork_under_collisions(rt: HostRuntime) -> Result<(), Fail> {
     let mut mirror = Mirror::<SumTree>::new(rt.alloc(), "ex")?;
-    takes_and_tells(&rt, rt.alloc(), &mut mirror)
+    let answer = takes_and_tells(&rt, rt.alloc(), &mut mirror);
+    drop(mirror);
+    answer
 }
 
 fn takes_and_tells<H: TreeHash>(

@@ -55,7 +55,17 @@ pub(crate) fn take_head<H: TreeHash>(
     edge: &[&[u8]],
 ) -> Result<(), Fail> {
     let note = format!(in alloc; "ex\n{head}\n\n\u{2014} good AQIDBAU=\n")?;
-    answer_to_head(alloc, mirror, note.as_bytes(), edge)??;
+    take_note(alloc, mirror, note.as_bytes(), edge)
+}
+
+// Takes that note over these rows.
+pub(crate) fn take_note<H: TreeHash>(
+    alloc: Global,
+    mirror: &mut Mirror<H>,
+    note: &[u8],
+    edge: &[&[u8]],
+) -> Result<(), Fail> {
+    answer_to_head(alloc, mirror, note, edge)??;
     Ok(())
 }
 
@@ -66,11 +76,26 @@ pub(crate) fn take_log<H: TreeHash>(
     head: &str,
     letters: &[u8],
 ) -> Result<(), Fail> {
+    let row = row_of_letters::<H>(alloc, letters)?;
+    take_head(alloc, mirror, head, &[row.as_slice()])
+}
+
+// The leaf hashes of entries of one byte each.
+fn row_of_letters<H: TreeHash>(alloc: Global, letters: &[u8]) -> Result<Vec<u8>, AllocError> {
     let mut row = Vec::new(alloc);
     for letter in letters {
         row.extend_from_slice(H::leaf(&[*letter]).as_slice())?;
     }
-    take_head(alloc, mirror, head, &[row.as_slice()])
+    Ok(row)
+}
+
+// The bundle of entries of one byte each.
+fn bundle_of_letters(alloc: Global, letters: &[u8]) -> Result<Vec<u8>, AllocError> {
+    let mut bytes = Vec::new(alloc);
+    for letter in letters {
+        bytes.extend_from_slice(&[0, 1, *letter])?;
+    }
+    Ok(bytes)
 }
 
 // Takes a bundle of entries of one byte each.
@@ -83,10 +108,7 @@ pub(crate) fn take_letters<H: TreeHash>(
     if width == 0 || width > 256 {
         return Err("no width of a bundle".into());
     }
-    let mut bytes = Vec::new(alloc);
-    for letter in letters {
-        bytes.extend_from_slice(&[0, 1, *letter])?;
-    }
+    let bytes = bundle_of_letters(alloc, letters)?;
     mirror.take_bundle(alloc, width as u32, &bytes)?;
     Ok(())
 }
@@ -113,4 +135,13 @@ pub(crate) fn count_of_heads<H: TreeHash>(
     mirror: &Mirror<H>,
 ) -> Result<usize, AllocError> {
     Ok(mirror.heads(alloc)?.len())
+}
+
+// What was made, where all was done to it. Else it is dropped: here and by `drop`, since a drop in place has a step for each
+// field of a mirror or a source, and is dear to check.
+pub(crate) fn kept<T: Drop>(made: T, answer: Result<(), Fail>) -> Result<T, Fail> {
+    match answer {
+        Ok(()) => Ok(made),
+        Err(fault) => Err(fault),
+    }
 }

@@ -10,7 +10,9 @@ use tlog_mirror::{Mirror, TakeFault};
 #[test]
 fn colliding_leaves(rt: HostRuntime) -> Result<(), Fail> {
     let mut mirror = Mirror::<SumTree>::new(rt.alloc(), "ex")?;
-    refuses_leaves(&rt, rt.alloc(), &mut mirror)
+    let answer = refuses_leaves(&rt, rt.alloc(), &mut mirror);
+    drop(mirror);
+    answer
 }
 
 fn refuses_leaves<H: TreeHash>(
@@ -36,6 +38,7 @@ fn colliding_join(rt: HostRuntime) -> Result<(), Fail> {
         &[0, 1, 1, 0, 1, 2, 0, 1, 4],
         0,
     );
+    drop(mirror);
     Ok(())
 }
 
@@ -66,7 +69,9 @@ const HEAD_OF_TWO: &str =
 #[test]
 fn colliding_tiles_and_heads(rt: HostRuntime) -> Result<(), Fail> {
     let mut mirror = Mirror::<SumTree>::new(rt.alloc(), "ex")?;
-    refuses_rows(&rt, rt.alloc(), &mut mirror)
+    let answer = refuses_rows(&rt, rt.alloc(), &mut mirror);
+    drop(mirror);
+    answer
 }
 
 fn refuses_rows<H: TreeHash>(
@@ -75,7 +80,8 @@ fn refuses_rows<H: TreeHash>(
     mirror: &mut Mirror<H>,
 ) -> Result<(), Fail> {
     refuses_row(rt, alloc, mirror, &[1, 2, 2, 1], HEAD_OF_FOUR, 0)?;
-    mirror.take_tile(alloc, 2, &row_of(alloc, &[1, 2])?)?;
+    let row = row_of(alloc, &[1, 2])?;
+    mirror.take_tile(alloc, 2, &row)?;
     refuses_row(rt, alloc, mirror, &[2, 1], HEAD_OF_TWO, 1)
 }
 
@@ -98,14 +104,34 @@ fn refuses_row<H: TreeHash>(
     note: &str,
     held: usize,
 ) -> Result<(), Fail> {
-    let width = hashes.len();
-    assert!(rt; width > 0 && width < 5);
     let row = row_of(alloc, hashes)?;
-    let answer = mirror.take_tile(alloc, width as u32, &row);
-    assert!(rt; answer == Err(TakeFault::Collision));
-    let answer = answer_to_head(alloc, mirror, note.as_bytes(), &[&row])?;
-    assert!(rt; answer == Err(TakeFault::Collision));
+    refuses_tile(rt, alloc, mirror, hashes.len(), &row);
+    refuses_head(rt, alloc, mirror, note, &row)?;
     assert!(rt; mirror.strings().len() == held && mirror.note_at(0).is_none());
+    Ok(())
+}
+
+fn refuses_tile<H: TreeHash>(
+    rt: &impl Abort,
+    alloc: Global,
+    mirror: &mut Mirror<H>,
+    width: usize,
+    row: &[u8],
+) {
+    assert!(rt; width > 0 && width < 5);
+    let answer = mirror.take_tile(alloc, width as u32, row);
+    assert!(rt; answer == Err(TakeFault::Collision));
+}
+
+fn refuses_head<H: TreeHash>(
+    rt: &impl Abort,
+    alloc: Global,
+    mirror: &mut Mirror<H>,
+    note: &str,
+    row: &[u8],
+) -> Result<(), AllocError> {
+    let answer = answer_to_head(alloc, mirror, note.as_bytes(), &[row])?;
+    assert!(rt; answer == Err(TakeFault::Collision));
     Ok(())
 }
 
@@ -126,7 +152,9 @@ fn takes_each_width<H: TreeHash>(
     entries: &[u8],
 ) -> Result<(), Fail> {
     let mut mirror = Mirror::<H>::new(alloc, "ex")?;
-    takes_fronts(rt, alloc, &mut mirror, row, entries)
+    let answer = takes_fronts(rt, alloc, &mut mirror, row, entries);
+    drop(mirror);
+    answer
 }
 
 fn takes_fronts<H: TreeHash>(

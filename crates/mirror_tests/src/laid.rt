@@ -5,8 +5,8 @@
 use crate::given::{take_head, tile_of_3};
 use crate::pulls::{list, pull_log};
 use crate::served::{mirror_of_3, serves_3};
-use crate::settle::doubled;
-use mirror_sources::Source;
+use crate::settle::{equal_row, take_equal};
+use mirror_sources::{Source, SourceFault};
 use mirror_trees::files_of;
 use std::alloc::{AllocError, Global};
 use std::process::Abort;
@@ -40,11 +40,16 @@ fn count_of_files(count: u16) -> usize {
     2 * count + count / 256
 }
 
+// The sizes of the logs.
+const COUNTS: [u16; 5] = [1, 3, 256, 257, 300];
+
 // Each log is taken by a mirror that has laid out the one before, the first of all nothing.
 #[test]
 fn laid_out_logs_grow(rt: HostRuntime) -> Result<(), Fail> {
     let mut mirror = Mirror::<Sha256Tree>::new(rt.alloc(), "ex")?;
-    grows_from_nothing(&rt, rt.alloc(), &mut mirror)
+    let answer = grows_from_nothing(&rt, rt.alloc(), &mut mirror);
+    drop(mirror);
+    answer
 }
 
 fn grows_from_nothing<H: TreeHash>(
@@ -54,8 +59,8 @@ fn grows_from_nothing<H: TreeHash>(
 ) -> Result<(), Fail> {
     mirror.lay_out(alloc)?;
     assert!(rt; mirror.top().is_none());
-    for count in [1, 3, 256, 257, 300] {
-        grows(rt, alloc, mirror, count)?;
+    for count in &COUNTS {
+        grows(rt, alloc, mirror, *count)?;
     }
     Ok(())
 }
@@ -80,21 +85,47 @@ fn serves_log<H: TreeHash>(
     mirror: &Mirror<H>,
     count: u16,
 ) -> Result<(), Fail> {
+    let paths = paths(alloc)?;
     let mut source = list::<H>(alloc, 0, count)?;
-    let mut found = 0usize;
-    for path in paths(alloc)? {
-        let file = mirror.file(alloc, &path)?;
-        assert!(rt; file == source.get(&path)?);
-        found = found.saturating_add(usize::from(file.is_some()));
-    }
-    assert!(rt; found == count_of_files(count));
+    let found = count_served(rt, alloc, mirror, &mut source, &paths);
+    drop(source);
+    assert!(rt; found? == count_of_files(count));
     Ok(())
+}
+
+// How many files of these paths there are. The mirror serves them as the source does.
+fn count_served<H: TreeHash, S: Source>(
+    rt: &impl Abort,
+    alloc: Global,
+    mirror: &Mirror<H>,
+    source: &mut S,
+    paths: &[Path],
+) -> Result<usize, SourceFault> {
+    let mut found = 0usize;
+    for path in paths {
+        let there = is_served(rt, alloc, mirror, source, path)?;
+        found = found.saturating_add(usize::from(there));
+    }
+    Ok(found)
+}
+
+fn is_served<H: TreeHash, S: Source>(
+    rt: &impl Abort,
+    alloc: Global,
+    mirror: &Mirror<H>,
+    source: &mut S,
+    path: &Path,
+) -> Result<bool, SourceFault> {
+    let want = source.get(path)?;
+    let file = mirror.file(alloc, path)?;
+    assert!(rt; file == want);
+    Ok(file.is_some())
 }
 
 #[test]
 fn held_logs_are_laid_out(rt: HostRuntime) -> Result<(), Fail> {
-    for count in [1, 3, 256, 257, 300] {
-        lays_out::<Sha256Tree>(&rt, rt.alloc(), count)?;
+    for count in &COUNTS {
+        lays_out::<Sha256Tree>(&rt, rt.alloc(), *count)?;
     }
     Ok(())
 }
@@ -102,7 +133,9 @@ fn held_logs_are_laid_out(rt: HostRuntime) -> Result<(), Fail> {
 // A new mirror takes C(n), and has its files.
 fn lays_out<H: TreeHash>(rt: &impl Abort, alloc: Global, count: u16) -> Result<(), Fail> {
     let mut mirror = Mirror::<H>::new(alloc, "ex")?;
-    lays_out_in(rt, alloc, &mut mirror, count)
+    let answer = lays_out_in(rt, alloc, &mut mirror, count);
+    drop(mirror);
+    answer
 }
 
 fn lays_out_in<H: TreeHash>(
@@ -124,9 +157,19 @@ fn has_laid_out<H: TreeHash>(
 ) -> Result<(), Fail> {
     let heads = mirror.heads(alloc)?;
     assert!(rt; heads.len() == 1);
-    let head = &heads[0];
-    let files = files_of_head(alloc, mirror, head.size, &head.root)?.ok_or("no files")?;
-    assert!(rt; files.size() == u64::from(count) && files.root() == head.root);
+    has_head_laid_out(rt, alloc, mirror, heads[0].size, &heads[0].root, count)
+}
+
+fn has_head_laid_out<H: TreeHash>(
+    rt: &impl Abort,
+    alloc: Global,
+    mirror: &Mirror<H>,
+    size: u64,
+    root: &Hash,
+    count: u16,
+) -> Result<(), Fail> {
+    let files = files_of_head(alloc, mirror, size, root)?.ok_or("no files")?;
+    assert!(rt; files.size() == u64::from(count) && files.root() == *root);
     has_files(rt, alloc, &files, count)
 }
 
@@ -150,20 +193,39 @@ fn has_files<H: TreeHash>(
     files: &LogFiles<H>,
     count: u16,
 ) -> Result<(), Fail> {
+    let paths = paths(alloc)?;
     let mut source = list::<H>(alloc, 0, count)?;
-    let mut found = 0usize;
-    for path in paths(alloc)? {
-        let want = source.get(&path)?;
-        match piece_at(files, &path) {
-            Some(piece) => {
-                assert!(rt; want.ok_or("no such file")?.as_slice() == piece);
-                found = found.saturating_add(1);
-            }
-            None => assert!(rt; want.is_none()),
-        }
-    }
-    assert!(rt; found == count_of_files(count));
+    let found = count_pieces(rt, files, &mut source, &paths);
+    drop(source);
+    assert!(rt; found? == count_of_files(count));
     Ok(())
+}
+
+// How many files of these paths there are. They are as the source has them.
+fn count_pieces<H: TreeHash, S: Source>(
+    rt: &impl Abort,
+    files: &LogFiles<H>,
+    source: &mut S,
+    paths: &[Path],
+) -> Result<usize, SourceFault> {
+    let mut found = 0usize;
+    for path in paths {
+        let there = is_piece(rt, files, source, path)?;
+        found = found.saturating_add(usize::from(there));
+    }
+    Ok(found)
+}
+
+fn is_piece<H: TreeHash, S: Source>(
+    rt: &impl Abort,
+    files: &LogFiles<H>,
+    source: &mut S,
+    path: &Path,
+) -> Result<bool, SourceFault> {
+    let want = source.get(path)?;
+    let piece = piece_at(files, path);
+    assert!(rt; want.as_deref() == piece);
+    Ok(piece.is_some())
 }
 
 // The file of that path.
@@ -183,7 +245,9 @@ fn piece_at<'a, H: TreeHash>(files: &'a LogFiles<H>, path: &Path) -> Option<&'a 
 fn lays_out_again_after_want_of_memory(rt: HostRuntime) -> Result<(), Fail> {
     let row = tile_of_3::<Sha256Tree>(rt.alloc())?;
     let mut mirror = mirror_of_3::<Sha256Tree>(rt.alloc(), &row)?;
-    lays_out_at_last(&rt, rt.alloc(), &mut mirror, &row)
+    let answer = lays_out_at_last(&rt, rt.alloc(), &mut mirror, &row);
+    drop(mirror);
+    answer
 }
 
 // Lays out the log of the three entries, whose leaf hashes are that row. It is served all the while.
@@ -204,7 +268,9 @@ fn lays_out_at_last<H: TreeHash>(
 #[test]
 fn a_huge_log_is_not_laid_out(rt: HostRuntime) -> Result<(), Fail> {
     let mut mirror = Mirror::<Sha256Tree>::new(rt.alloc(), "ex")?;
-    serves_huge_log(&rt, rt.alloc(), &mut mirror)
+    let answer = serves_huge_log(&rt, rt.alloc(), &mut mirror);
+    drop(mirror);
+    answer
 }
 
 // Takes the log, and serves the one tile of its highest level.
@@ -216,8 +282,18 @@ fn serves_huge_log<H: TreeHash>(
     let edge = equal_row::<H>(alloc, 7, 64)?;
     take_huge_log(alloc, mirror, &edge)?;
     mirror.lay_out(alloc)?;
-    let tile = mirror.tile(alloc, 7, 0, 64)?.ok_or("no tile")?;
-    assert!(rt; tile == edge);
+    serves_edge(rt, alloc, mirror, &edge)?;
+    Ok(())
+}
+
+fn serves_edge<H: TreeHash>(
+    rt: &impl Abort,
+    alloc: Global,
+    mirror: &Mirror<H>,
+    edge: &[u8],
+) -> Result<(), AllocError> {
+    let tile = mirror.tile(alloc, 7, 0, 64)?;
+    assert!(rt; tile.as_deref() == Some(edge));
     Ok(())
 }
 
@@ -229,21 +305,5 @@ fn take_huge_log<H: TreeHash>(
 ) -> Result<(), Fail> {
     let head = "4611686018427387904\nyvSihSlYLKAsS9ISsYuE9gwk0asP+HBifQara1F/gSE=";
     take_head(alloc, mirror, head, &[edge])?;
-    for level in 1..7u32 {
-        let row = equal_row::<H>(alloc, level, 256)?;
-        mirror.take_tile(alloc, 256, &row)?;
-    }
-    let bundle = vec![in alloc; 0u8; 512]?;
-    mirror.take_bundle(alloc, 256, &bundle)?;
-    Ok(())
-}
-
-// So many hashes of that level, each of entries of no bytes.
-fn equal_row<H: TreeHash>(alloc: Global, level: u32, width: u32) -> Result<Vec<u8>, AllocError> {
-    let hash = doubled::<H>(level.saturating_mul(8));
-    let mut row = Vec::new(alloc);
-    for _ in 0..width {
-        row.extend_from_slice(hash.as_slice())?;
-    }
-    Ok(row)
+    take_equal(alloc, mirror, 7)
 }

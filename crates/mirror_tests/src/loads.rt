@@ -27,15 +27,18 @@ impl Read for Counted {
     }
 }
 
+// What a reader gives a read, how often, how often it is read, and why it is refused.
+const READS: [(usize, u64, u64, LoadFault); 3] = [
+    (65_536, 1_100, 1_101, LoadFault::StateMagic),
+    (1, 16_777_215, 16_777_216, LoadFault::StateMagic),
+    (1, 16_777_216, 16_777_216, LoadFault::ReadFault),
+];
+
 // A reader that ends at its 16,777,216th read, and one of over 65 MB, is read to its end: what it gave is no state. One that has
 // not ended then is read no more often, and is a ReadFault.
 #[test]
 fn reads_of_a_load(rt: HostRuntime) -> Result<(), NewFault> {
-    for (most, left, reads, fault) in [
-        (65_536, 1_100, 1_101, LoadFault::StateMagic),
-        (1, 16_777_215, 16_777_216, LoadFault::StateMagic),
-        (1, 16_777_216, 16_777_216, LoadFault::ReadFault),
-    ] {
+    for &(most, left, reads, fault) in &READS {
         let mut reader = Counted {
             most,
             left,
@@ -73,6 +76,7 @@ fn fault_of<H: TreeHash, R: Read>(
     reader: &mut R,
 ) -> Result<Option<LoadFault>, NewFault> {
     // A mirror can be made of the origin: so it may be loaded.
-    let _made = Mirror::<H>::new(alloc, origin)?;
+    let made = Mirror::<H>::new(alloc, origin)?;
+    drop(made);
     Ok(load::<H, R>(alloc, origin, &[], reader).err())
 }

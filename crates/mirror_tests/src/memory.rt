@@ -1,14 +1,14 @@
 //! Requests for memory that are refused. Each test is run once for each of its requests, with that one refused, as by
 //! `rt try --test --fail-alloc N`: where a take, a merge or a play is refused, a part of it may stand and no more, and
 //! the same once more completes it.
-use crate::given::{BUNDLE_OF_3, HEAD_OF_3, answer_to_head, keys, tile_of_3};
-use crate::plays::{are_done, are_merged, three_events, two_mirrors};
+use crate::given::{BUNDLE_OF_3, HEAD_OF_3, answer_to_head, kept, keys, tile_of_3};
+use crate::plays::{answers_under, are_done, are_merged, three_events, two_mirrors};
 use signed_note::Verifier;
 use std::alloc::{AllocError, Global};
 use std::process::Abort;
 use std::test::Fail;
 use tlog_hash::{Sha256Tree, TreeHash};
-use tlog_mirror::{Event, MergeFault, Mirror, NewFault, TakeFault, fits, play};
+use tlog_mirror::{Event, MergeFault, Mirror, NewFault, TakeFault};
 use tlog_text::read_hash;
 
 #[test]
@@ -20,7 +20,8 @@ fn takes_again_after_want_of_memory(rt: HostRuntime) -> Result<(), Fail> {
 // New mirrors take the tile and the bundle, and the head, of the three entries, whose leaf hashes are that row.
 fn takes_all_at_last<H: TreeHash>(rt: &impl Abort, alloc: Global, row: &[u8]) -> Result<(), Fail> {
     takes_at_last::<H>(rt, alloc, row)?;
-    let _mirror = head_at_last::<H>(rt, alloc, row)?;
+    let mirror = head_at_last::<H>(rt, alloc, row)?;
+    drop(mirror);
     Ok(())
 }
 
@@ -29,6 +30,7 @@ fn takes_at_last<H: TreeHash>(rt: &impl Abort, alloc: Global, row: &[u8]) -> Res
     let mut mirror = Mirror::<H>::new(alloc, "ex")?;
     take_tile_at_last(rt, alloc, &mut mirror, row);
     take_bundle_at_last(rt, alloc, &mut mirror);
+    drop(mirror);
     Ok(())
 }
 
@@ -39,8 +41,8 @@ fn head_at_last<H: TreeHash>(
     row: &[u8],
 ) -> Result<Mirror<H>, Fail> {
     let mut mirror = Mirror::<H>::new(alloc, "ex")?;
-    take_head_at_last(rt, alloc, &mut mirror, row)?;
-    Ok(mirror)
+    let answer = take_head_at_last(rt, alloc, &mut mirror, row);
+    kept(mirror, answer)
 }
 
 // Takes the tile of the three entries, whose row has two joins.
@@ -99,7 +101,9 @@ fn merges_again_after_want_of_memory(rt: HostRuntime) -> Result<(), Fail> {
 fn merges_all_at_last<H: TreeHash>(rt: &impl Abort, alloc: Global, row: &[u8]) -> Result<(), Fail> {
     let mut other = head_at_last::<H>(rt, alloc, row)?;
     take_bundle_at_last(rt, alloc, &mut other);
-    merges_at_last(rt, alloc, &other)
+    let answer = merges_at_last(rt, alloc, &other);
+    drop(other);
+    answer
 }
 
 // A new mirror is merged with that one.
@@ -109,16 +113,37 @@ fn merges_at_last<H: TreeHash>(
     other: &Mirror<H>,
 ) -> Result<(), Fail> {
     let mut mirror = Mirror::<H>::new(alloc, "ex")?;
-    merge_at_last(rt, alloc, &mut mirror, other)
+    let answer = become_whole(rt, alloc, &mut mirror, other);
+    drop(mirror);
+    answer
 }
 
-// Merges a mirror that is empty with one of five strings and a note, which comes last. Both are complete then.
-fn merge_at_last<H: TreeHash>(
+// Both are complete then.
+fn become_whole<H: TreeHash>(
     rt: &impl Abort,
     alloc: Global,
     mirror: &mut Mirror<H>,
     other: &Mirror<H>,
 ) -> Result<(), Fail> {
+    merge_at_last(rt, alloc, mirror, other);
+    is_whole(rt, mirror)?;
+    is_whole(rt, other)
+}
+
+// A mirror is complete at the three entries.
+fn is_whole<H: TreeHash>(rt: &impl Abort, mirror: &Mirror<H>) -> Result<(), Fail> {
+    let root = read_hash("rra8/idLcKFPsGel5VeCZNsPqbUa9eC6FZFY8yngbnc=").ok_or("no hash")?;
+    assert!(rt; mirror.is_complete(3, &root));
+    Ok(())
+}
+
+// Merges a mirror that is empty with one of five strings and a note, which comes last.
+fn merge_at_last<H: TreeHash>(
+    rt: &impl Abort,
+    alloc: Global,
+    mirror: &mut Mirror<H>,
+    other: &Mirror<H>,
+) {
     let mut answer = mirror.merge(alloc, other);
     if answer == Err(MergeFault::OutOfMemory) {
         assert!(rt; mirror.note_at(0).is_none());
@@ -126,9 +151,6 @@ fn merge_at_last<H: TreeHash>(
     }
     assert!(rt; answer == Ok(()));
     assert!(rt; mirror.strings().len() == 5);
-    let root = read_hash("rra8/idLcKFPsGel5VeCZNsPqbUa9eC6FZFY8yngbnc=").ok_or("no hash")?;
-    assert!(rt; mirror.is_complete(3, &root) && other.is_complete(3, &root));
-    Ok(())
 }
 
 #[test]
@@ -174,21 +196,43 @@ fn play_under<H: TreeHash>(
     keys: &[Box<dyn Verifier>],
     events: &[Event],
 ) -> Result<(), Fail> {
-    if !fits(events, world.len()) {
-        return Err("events that do not fit".into());
+    if !is_played(rt, alloc, world, keys, events) {
+        let answers = answers_under(alloc, world, keys, events, 0)?;
+        assert!(rt; are_done(&answers, 3));
     }
-    match play(alloc, world, keys, events) {
-        Ok(answers) if are_done(&answers, 3) => return Ok(()),
-        Ok(answers) => assert!(rt; are_done_but_one(&answers)),
+    Ok(())
+}
+
+// Whether the three events happen at once.
+fn is_played<H: TreeHash>(
+    rt: &impl Abort,
+    alloc: Global,
+    world: &mut [Mirror<H>],
+    keys: &[Box<dyn Verifier>],
+    events: &[Event],
+) -> bool {
+    match answers_under(alloc, world, keys, events, 0) {
+        Ok(answers) => are_judged(rt, &answers),
         Err(AllocError) => {
-            for mirror in world.iter() {
-                assert!(rt; holds_nothing(mirror));
-            }
+            hold_nothing(rt, world);
+            false
         }
     }
-    let answers = play(alloc, world, keys, events)?;
-    assert!(rt; are_done(&answers, 3));
-    Ok(())
+}
+
+// Whether all events were done. Else one of them was refused memory.
+fn are_judged(rt: &impl Abort, answers: &[Result<(), TakeFault>]) -> bool {
+    if are_done(answers, 3) {
+        return true;
+    }
+    assert!(rt; are_done_but_one(answers));
+    false
+}
+
+fn hold_nothing<H: TreeHash>(rt: &impl Abort, world: &[Mirror<H>]) {
+    for mirror in world {
+        assert!(rt; holds_nothing(mirror));
+    }
 }
 
 // Whether three events were answered, one of them by `OutOfMemory` and the others by Ok.

@@ -9,7 +9,9 @@ use tlog_mirror::{MergeFault, Mirror};
 #[test]
 fn a_new_mirror_holds_nothing(rt: HostRuntime) -> Result<(), Fail> {
     let mut mirror = Mirror::<Sha256Tree>::new(rt.alloc(), "ex")?;
-    is_new(&rt, rt.alloc(), &mut mirror)
+    let answer = is_new(&rt, rt.alloc(), &mut mirror);
+    drop(mirror);
+    answer
 }
 
 // The mirror holds nothing, and takes nothing of one of another origin.

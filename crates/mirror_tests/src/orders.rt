@@ -29,7 +29,7 @@ fn all_orders(rt: HostRuntime) -> Result<(), Fail> {
 
 // In each order the text that is saved is this one, at two mirrors.
 fn all_save<H: TreeHash>(rt: &impl Abort, alloc: Global, text: &[u8]) -> Result<(), Fail> {
-    for order in ORDERS_OF_4 {
+    for &order in &ORDERS_OF_4 {
         for _ in 0..2u32 {
             saves::<H>(rt, alloc, order, text)?;
         }
@@ -52,8 +52,18 @@ fn saves<H: TreeHash>(
 // The text that is saved of a mirror which took the four items in that order, and then all of them again.
 fn saved_in_order<H: TreeHash>(alloc: Global, order: &str) -> Result<Vec<u8>, Fail> {
     let mut mirror = Mirror::<H>::new(alloc, "ex")?;
-    give_twice(alloc, &mut mirror, order)?;
-    saved(alloc, &mirror)
+    let text = saved_of_twice(alloc, &mut mirror, order);
+    drop(mirror);
+    text
+}
+
+fn saved_of_twice<H: TreeHash>(
+    alloc: Global,
+    mirror: &mut Mirror<H>,
+    order: &str,
+) -> Result<Vec<u8>, Fail> {
+    give_twice(alloc, mirror, order)?;
+    saved(alloc, mirror)
 }
 
 // The text that is saved of a mirror.

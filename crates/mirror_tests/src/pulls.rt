@@ -64,8 +64,20 @@ pub(crate) fn pull_log<H: TreeHash>(
     count: u16,
 ) -> Result<(), Fail> {
     let mut source = list::<H>(alloc, 0, count)?;
-    let pulled = end_of_pull(alloc, mirror, &mut source)??;
-    if pulled.size == u64::from(count) && pulled.complete {
+    let answer = pull_whole(alloc, mirror, &mut source, u64::from(count));
+    drop(source);
+    answer
+}
+
+// Pulls a log of so many entries.
+fn pull_whole<H: TreeHash, S: Source>(
+    alloc: Global,
+    mirror: &mut Mirror<H>,
+    source: &mut S,
+    size: u64,
+) -> Result<(), Fail> {
+    let pulled = end_of_pull(alloc, mirror, source)??;
+    if pulled.size == size && pulled.complete {
         Ok(())
     } else {
         Err("no whole pull".into())
@@ -83,7 +95,9 @@ fn failing_source(rt: HostRuntime) -> Result<(), Fail> {
 // A pull of C(257) that fails after so many gets, and then one that does not.
 fn fails_after<H: TreeHash>(rt: &impl Abort, alloc: Global, passes: u64) -> Result<(), Fail> {
     let mut source = lying_log::<H>(alloc, Lie::Nothing, 0, 0, passes)?;
-    fails_first(rt, alloc, &mut source, passes)
+    let answer = fails_first(rt, alloc, &mut source, passes);
+    drop(source);
+    answer
 }
 
 // A new mirror's pull from that source fails, after so many gets, and then one does not.
@@ -94,7 +108,9 @@ fn fails_first<H: TreeHash>(
     passes: u64,
 ) -> Result<(), Fail> {
     let mut mirror = Mirror::<H>::new(alloc, "ex")?;
-    fails_once(rt, alloc, &mut mirror, source, passes)
+    let answer = fails_once(rt, alloc, &mut mirror, source, passes);
+    drop(mirror);
+    answer
 }
 
 // The mirror's pull from that source fails, after so many gets, and then one does not.
@@ -113,25 +129,35 @@ fn fails_once<H: TreeHash>(
     let heads = count_of_heads(alloc, mirror)?;
     assert!(rt; (heads == 1) == (passes >= 3), "{passes}");
     source.passes = u64::MAX;
-    let again = end_of_pull(alloc, mirror, source)??;
-    assert!(rt;
-        again.size == 257 && again.refused == 0 && again.complete,
-        "{passes}"
-    );
+    pulls_257(rt, alloc, mirror, source)
+}
+
+// The mirror's pull from that source is of C(257), whole.
+fn pulls_257<H: TreeHash>(
+    rt: &impl Abort,
+    alloc: Global,
+    mirror: &mut Mirror<H>,
+    source: &mut Liar<H>,
+) -> Result<(), Fail> {
+    let pulled = end_of_pull(alloc, mirror, source)??;
+    assert!(rt; pulled.size == 257 && pulled.refused == 0 && pulled.complete);
     Ok(())
 }
+
+// A lie, the other list, how often it is asked, and whether the head is complete then.
+const GETS: [(Lie, u16, u16, usize, Result<bool, PullFault>); 5] = [
+    (Lie::Nothing, 0, 0, 5, Ok(true)),
+    (Lie::FalseBundle, 1000, 256, 5, Ok(false)),
+    (Lie::PartialsGone, 0, 512, 7, Ok(true)),
+    (Lie::Silence, 0, 0, 1, Err(PullFault::NoCheckpoint)),
+    (Lie::NoFiles, 0, 0, 3, Err(PullFault::NoEdge)),
+];
 
 // How often a new mirror's pull of C(257) asks, and how it ends: of the rows pull-257, at a source that would fail then, false-bundle
 // and partials-gone, and where nothing is given, or the checkpoint alone.
 #[test]
 fn gets_of_a_pull(rt: HostRuntime) -> Result<(), Fail> {
-    for (lie, from, count, gets, end) in [
-        (Lie::Nothing, 0, 0, 5, Ok(true)),
-        (Lie::FalseBundle, 1000, 256, 5, Ok(false)),
-        (Lie::PartialsGone, 0, 512, 7, Ok(true)),
-        (Lie::Silence, 0, 0, 1, Err(PullFault::NoCheckpoint)),
-        (Lie::NoFiles, 0, 0, 3, Err(PullFault::NoEdge)),
-    ] {
+    for &(lie, from, count, gets, end) in &GETS {
         asks_liar::<Sha256Tree>(&rt, rt.alloc(), lie, from, count, gets, end)?;
     }
     Ok(())
@@ -148,7 +174,9 @@ fn asks_liar<H: TreeHash>(
     want: Result<bool, PullFault>,
 ) -> Result<(), Fail> {
     let mut source = lying_log::<H>(alloc, lie, from, count, gets as u64)?;
-    asks(rt, alloc, &mut source, gets, want)
+    let answer = asks(rt, alloc, &mut source, gets, want);
+    drop(source);
+    answer
 }
 
 // A new mirror's pull from that source asks so often, and ends so: with a head that is complete or not, or by a fault.
@@ -180,7 +208,9 @@ fn end_of_first_pull<H: TreeHash>(
     source: &mut Liar<H>,
 ) -> Result<Result<Pulled, PullFault>, Fail> {
     let mut mirror = Mirror::<H>::new(alloc, "ex")?;
-    end_of_pull(alloc, &mut mirror, source)
+    let answer = end_of_pull(alloc, &mut mirror, source);
+    drop(mirror);
+    answer
 }
 
 // The row false-bundle: what a mirror that serves C(3) asks a source over C(257) for, whose first bundle is of other entries.
@@ -191,7 +221,9 @@ fn gets_of_a_false_bundle(rt: HostRuntime) -> Result<(), Fail> {
 
 fn asks_false_bundle<H: TreeHash>(rt: &impl Abort, alloc: Global) -> Result<(), Fail> {
     let mut mirror = Mirror::<H>::new(alloc, "ex")?;
-    asks_false_bundle_over_3(rt, alloc, &mut mirror)
+    let answer = asks_false_bundle_over_3(rt, alloc, &mut mirror);
+    drop(mirror);
+    answer
 }
 
 fn asks_false_bundle_over_3<H: TreeHash>(
@@ -201,11 +233,32 @@ fn asks_false_bundle_over_3<H: TreeHash>(
 ) -> Result<(), Fail> {
     pull_log(alloc, mirror, 3)?;
     let mut source = lying_log::<H>(alloc, Lie::FalseBundle, 1000, 256, 5)?;
-    asks_five(rt, alloc, mirror, &mut source)
+    let answer = asks_five(rt, alloc, mirror, &mut source);
+    drop(source);
+    answer
 }
 
 // The checkpoint, the two partial tiles at the edge of 257 entries, and the two bundles: nothing else is missing, since the
 // leaf hashes of a bundle give all nodes above them.
+const FIVE: [Path; 5] = [
+    Path::Checkpoint,
+    Path::Tile {
+        level: 0,
+        index: 1,
+        width: 1,
+    },
+    Path::Tile {
+        level: 1,
+        index: 0,
+        width: 1,
+    },
+    Path::Entries {
+        index: 0,
+        width: 256,
+    },
+    Path::Entries { index: 1, width: 1 },
+];
+
 fn asks_five<H: TreeHash>(
     rt: &impl Abort,
     alloc: Global,
@@ -214,25 +267,7 @@ fn asks_five<H: TreeHash>(
 ) -> Result<(), Fail> {
     let end = end_of_pull(alloc, mirror, source)??;
     assert!(rt; end.size == 257 && end.rounds == 1 && end.refused == 0 && !end.complete);
-    let five = [
-        Path::Checkpoint,
-        Path::Tile {
-            level: 0,
-            index: 1,
-            width: 1,
-        },
-        Path::Tile {
-            level: 1,
-            index: 0,
-            width: 1,
-        },
-        Path::Entries {
-            index: 0,
-            width: 256,
-        },
-        Path::Entries { index: 1, width: 1 },
-    ];
-    assert!(rt; source.asked.as_slice() == five.as_slice() && source.failures == 0);
+    assert!(rt; source.asked.as_slice() == FIVE.as_slice() && source.failures == 0);
     Ok(())
 }
 
@@ -244,7 +279,9 @@ fn pull_again_after_want_of_memory(rt: HostRuntime) -> Result<(), Fail> {
 
 fn pulls_at_last<H: TreeHash>(rt: &impl Abort, alloc: Global) -> Result<(), Fail> {
     let mut source = list::<H>(alloc, 0, 300)?;
-    pulls_first::<H, _>(rt, alloc, &mut source)
+    let answer = pulls_first::<H, _>(rt, alloc, &mut source);
+    drop(source);
+    answer
 }
 
 // A new mirror's pull.
@@ -254,7 +291,9 @@ fn pulls_first<H: TreeHash, S: Source>(
     source: &mut S,
 ) -> Result<(), Fail> {
     let mut mirror = Mirror::<H>::new(alloc, "ex")?;
-    pulls_from(rt, alloc, &mut mirror, source)
+    let answer = pulls_from(rt, alloc, &mut mirror, source);
+    drop(mirror);
+    answer
 }
 
 fn pulls_from<H: TreeHash, S: Source>(

@@ -23,7 +23,9 @@ fn a_head_is_kept_over_its_edge(rt: HostRuntime) -> Result<(), Fail> {
     refuses_origins(&rt, rt.alloc());
     let mut mirror = made_again(rt.alloc(), "ex")?;
     assert!(rt; mirror.origin() == "ex");
-    keeps_heads(&rt, rt.alloc(), &mut mirror)
+    let answer = keeps_heads(&rt, rt.alloc(), &mut mirror);
+    drop(mirror);
+    answer
 }
 
 // No mirror is made of a bad origin.
@@ -44,14 +46,19 @@ fn keeps_heads<H: TreeHash>(
     let bad_head = Err(RestoreFault::BadHead);
     answers(rt, alloc, mirror, &[], HEAD_OF_1, bad_head, 0)?;
     let keys = keys(alloc)?;
-    for (note, want) in [
-        (HEAD_OF_1, Ok(())),
-        (HEAD_OF_1, Ok(())),
-        (HEAD_OF_3, Err(RestoreFault::UnheldEdge)),
-    ] {
-        answers(rt, alloc, mirror, &keys, note, want, 1)?;
-    }
-    Ok(())
+    keeps_first(rt, alloc, mirror, &keys)
+}
+
+fn keeps_first<H: TreeHash>(
+    rt: &impl Abort,
+    alloc: Global,
+    mirror: &mut Mirror<H>,
+    keys: &[Box<dyn Verifier>],
+) -> Result<(), Fail> {
+    answers(rt, alloc, mirror, keys, HEAD_OF_1, Ok(()), 1)?;
+    answers(rt, alloc, mirror, keys, HEAD_OF_1, Ok(()), 1)?;
+    let unheld = Err(RestoreFault::UnheldEdge);
+    answers(rt, alloc, mirror, keys, HEAD_OF_3, unheld, 1)
 }
 
 // A mirror answers so to a head over what it holds, and then has so many heads.

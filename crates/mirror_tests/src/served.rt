@@ -1,6 +1,6 @@
 //! What a mirror serves of a part of its entries.
-use crate::given::{BUNDLE_OF_3, HEAD_OF_3, answer_to_head, tile_of_3};
-use std::alloc::Global;
+use crate::given::{BUNDLE_OF_3, HEAD_OF_3, kept, take_note, tile_of_3};
+use std::alloc::{AllocError, Global};
 use std::process::Abort;
 use std::test::Fail;
 use tlog_hash::{Sha256Tree, TreeHash};
@@ -10,19 +10,21 @@ use tlog_mirror::Mirror;
 fn small_trees(rt: HostRuntime) -> Result<(), Fail> {
     let row = tile_of_3::<Sha256Tree>(rt.alloc())?;
     let mirror = mirror_of_3::<Sha256Tree>(rt.alloc(), &row)?;
-    serves_3(&rt, rt.alloc(), &mirror, &row)
+    let answer = serves_3(&rt, rt.alloc(), &mirror, &row);
+    drop(mirror);
+    answer
 }
 
 // A mirror that took the head of the three entries, whose leaf hashes are that row, and then their bundle.
 pub(crate) fn mirror_of_3<H: TreeHash>(alloc: Global, row: &[u8]) -> Result<Mirror<H>, Fail> {
     let mut mirror = Mirror::<H>::new(alloc, "ex")?;
-    take_3(alloc, &mut mirror, row)?;
-    Ok(mirror)
+    let answer = take_3(alloc, &mut mirror, row);
+    kept(mirror, answer)
 }
 
 // Takes that head, and then the bundle.
 fn take_3<H: TreeHash>(alloc: Global, mirror: &mut Mirror<H>, row: &[u8]) -> Result<(), Fail> {
-    answer_to_head(alloc, mirror, HEAD_OF_3.as_bytes(), &[row])??;
+    take_note(alloc, mirror, HEAD_OF_3.as_bytes(), &[row])?;
     mirror.take_bundle(alloc, 3, BUNDLE_OF_3)?;
     Ok(())
 }
@@ -34,10 +36,33 @@ pub(crate) fn serves_3<H: TreeHash>(
     mirror: &Mirror<H>,
     row: &[u8],
 ) -> Result<(), Fail> {
-    let tile = mirror.tile(alloc, 0, 0, 3)?.ok_or("no tile")?;
-    assert!(rt; tile.as_slice() == row);
-    let bundle = mirror.bundle(alloc, 0, 2)?.ok_or("no bundle")?;
-    assert!(rt; bundle.as_slice() == b"\x00\x00\x00\x01\x00".as_slice());
-    assert!(rt; mirror.bundle(alloc, 0, 4)?.is_none());
+    serves_row(rt, alloc, mirror, row)?;
+    serves_bundle(rt, alloc, mirror, 2, Some(b"\x00\x00\x00\x01\x00"))?;
+    serves_bundle(rt, alloc, mirror, 4, None)?;
+    Ok(())
+}
+
+// Served is that row of three.
+fn serves_row<H: TreeHash>(
+    rt: &impl Abort,
+    alloc: Global,
+    mirror: &Mirror<H>,
+    row: &[u8],
+) -> Result<(), AllocError> {
+    let tile = mirror.tile(alloc, 0, 0, 3)?;
+    assert!(rt; tile.as_deref() == Some(row));
+    Ok(())
+}
+
+// Served is that bundle of so many entries, or none.
+fn serves_bundle<H: TreeHash>(
+    rt: &impl Abort,
+    alloc: Global,
+    mirror: &Mirror<H>,
+    width: u32,
+    want: Option<&[u8]>,
+) -> Result<(), AllocError> {
+    let bundle = mirror.bundle(alloc, 0, width)?;
+    assert!(rt; bundle.as_deref() == want);
     Ok(())
 }

@@ -32,7 +32,9 @@ fn settle<H: TreeHash>(alloc: Global, mirror: &mut Mirror<H>) -> Result<(), Allo
 #[test]
 fn settle_e3(rt: HostRuntime) -> Result<(), Fail> {
     let mut mirror = Mirror::<Sha256Tree>::new(rt.alloc(), "ex")?;
-    settles_e3(&rt, rt.alloc(), &mut mirror)
+    let answer = settles_e3(&rt, rt.alloc(), &mut mirror);
+    drop(mirror);
+    answer
 }
 
 // Settles a mirror that holds nothing, and then one of three numbers.
@@ -75,7 +77,9 @@ fn settles_numbers<H: TreeHash>(
 #[test]
 fn settle_two(rt: HostRuntime) -> Result<(), Fail> {
     let mut mirror = Mirror::<Sha256Tree>::new(rt.alloc(), "ex")?;
-    settles_two(&rt, rt.alloc(), &mut mirror)
+    let answer = settles_two(&rt, rt.alloc(), &mut mirror);
+    drop(mirror);
+    answer
 }
 
 // Settles a mirror of a long log, and then of two heads of it.
@@ -91,7 +95,7 @@ fn settles_two<H: TreeHash>(
 }
 
 // The tree hash of 2 to that power of entries of no bytes.
-pub(crate) fn doubled<H: TreeHash>(times: u32) -> Hash {
+fn doubled<H: TreeHash>(times: u32) -> Hash {
     let mut hash = H::leaf(b"");
     for _ in 0..times {
         hash = H::node(&hash, &hash);
@@ -104,20 +108,45 @@ fn take_equal_log<H: TreeHash>(alloc: Global, mirror: &mut Mirror<H>) -> Result<
     let edge = doubled::<H>(16);
     let head = "65536\n2DOJrJogf7fb3Ekvu1a5SC8ZFwaZ4iS+ZGlMyIWjoqI=";
     take_head(alloc, mirror, head, &[edge.as_slice()])?;
-    take_equal(alloc, mirror)
+    take_equal(alloc, mirror, 2)
 }
 
-// Takes a bundle of 256 entries of no bytes, and the tile above 256 such bundles.
-fn take_equal<H: TreeHash>(alloc: Global, mirror: &mut Mirror<H>) -> Result<(), Fail> {
-    let hash = doubled::<H>(8);
-    let mut row = Vec::new(alloc);
-    for _ in 0..256u32 {
-        row.extend_from_slice(hash.as_slice())?;
+// Takes the full tile of each level from 1 to below that one, over entries of no bytes, and a bundle of 256 of them.
+pub(crate) fn take_equal<H: TreeHash>(
+    alloc: Global,
+    mirror: &mut Mirror<H>,
+    top: u32,
+) -> Result<(), Fail> {
+    for level in 1..top {
+        take_equal_row(alloc, mirror, level)?;
     }
-    mirror.take_tile(alloc, 256, &row)?;
     let bundle = vec![in alloc; 0u8; 512]?;
     mirror.take_bundle(alloc, 256, &bundle)?;
     Ok(())
+}
+
+fn take_equal_row<H: TreeHash>(
+    alloc: Global,
+    mirror: &mut Mirror<H>,
+    level: u32,
+) -> Result<(), Fail> {
+    let row = equal_row::<H>(alloc, level, 256)?;
+    mirror.take_tile(alloc, 256, &row)?;
+    Ok(())
+}
+
+// So many hashes of that level, each of entries of no bytes.
+pub(crate) fn equal_row<H: TreeHash>(
+    alloc: Global,
+    level: u32,
+    width: u32,
+) -> Result<Vec<u8>, AllocError> {
+    let hash = doubled::<H>(level.saturating_mul(8));
+    let mut row = Vec::new(alloc);
+    for _ in 0..width {
+        row.extend_from_slice(hash.as_slice())?;
+    }
+    Ok(row)
 }
 
 // Takes the head of the first 257 of those entries.
