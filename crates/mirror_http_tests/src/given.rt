@@ -1,5 +1,6 @@
-//! Texts that the tests share.
+//! Texts that the tests share, and what they drop.
 use std::alloc::{AllocError, Global};
+use std::test::Fail;
 
 // The text, and behind it another so many times.
 pub(crate) fn push_times(text: &mut String, more: &str, times: usize) -> Result<(), AllocError> {
@@ -23,4 +24,13 @@ pub(crate) fn long_head(
     push_times(&mut head, "a", letters)?;
     head.push_str("\r\n\r\n")?;
     Ok(head)
+}
+
+// What was made, where all was done to it. Else it is dropped: here and by `drop`, since a drop in place has a step for each
+// field of a mirror or a source, and is dear to check.
+pub(crate) fn kept<T: Drop>(made: T, answer: Result<(), Fail>) -> Result<T, Fail> {
+    match answer {
+        Ok(()) => Ok(made),
+        Err(fault) => Err(fault),
+    }
 }

@@ -6,6 +6,7 @@ mod streams;
 ghost use Rattle.std.specs.Prelude.{codes, ◌∷◌, []};
 ghost use Rattle.std.specs.Str.{bytes_eq};
 
+use crate::given::kept;
 use mirror_http::{HttpFault, answer};
 use signed_note::Verifier;
 use std::alloc::{AllocError, Global};
@@ -81,8 +82,8 @@ fn take_3<H: TreeHash>(alloc: Global, mirror: &mut Mirror<H>) -> Result<(), Fail
 // A mirror that is complete at the three entries.
 pub(crate) fn mirror_of_3<H: TreeHash>(alloc: Global) -> Result<Mirror<H>, Fail> {
     let mut mirror = Mirror::<H>::new(alloc, "ex")?;
-    take_3(alloc, &mut mirror)?;
-    Ok(mirror)
+    let answer = take_3(alloc, &mut mirror);
+    kept(mirror, answer)
 }
 
 // Answers a client. It ensures nothing, so that its callers are cheap to check.

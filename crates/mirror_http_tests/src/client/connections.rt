@@ -19,7 +19,9 @@ use tlog_tiles::Path;
 #[test]
 fn tcp_loopback(rt: HostRuntime) -> Result<(), Fail> {
     let mirror = mirror_of_3::<Sha256Tree>(rt.alloc())?;
-    asks_over_loopback(&rt, &rt, rt.alloc(), &mirror)
+    let answer = asks_over_loopback(&rt, &rt, rt.alloc(), &mirror);
+    drop(mirror);
+    answer
 }
 
 // A client connects and sends its request, and leaves its side open; then it is accepted and answered; then it reads.

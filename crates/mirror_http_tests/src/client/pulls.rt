@@ -4,6 +4,7 @@
 ghost use Rattle.std.specs.Prelude.{map, IfOk};
 ghost use Rattle.mirror_model.specs.TrueLaws.{AreShort};
 
+use crate::given::kept;
 use crate::served::answered;
 use mirror_http::{Dial, HttpSource, Site};
 use mirror_pull::{PullFault, Pulled, pull};
@@ -131,15 +132,17 @@ fn list<H: TreeHash>(alloc: Global, n: u16) -> Result<ListSource<H>, Fail> {
 // Pulls C(n) into a mirror.
 fn fill<H: TreeHash>(alloc: Global, mirror: &mut Mirror<H>, n: u16) -> Result<(), Fail> {
     let mut source = list::<H>(alloc, n)?;
-    let _pulled = end_of_pull(alloc, mirror, &mut source)??;
+    let end = end_of_pull(alloc, mirror, &mut source);
+    drop(source);
+    let _pulled = end??;
     Ok(())
 }
 
 // A mirror that is complete at C(n).
 fn mirror_of<H: TreeHash>(alloc: Global, n: u16) -> Result<Mirror<H>, Fail> {
     let mut mirror = Mirror::<H>::new(alloc, "ex")?;
-    fill(alloc, &mut mirror, n)?;
-    Ok(mirror)
+    let answer = fill(alloc, &mut mirror, n);
+    kept(mirror, answer)
 }
 
 // A new mirror pulls over HTTP from that one, as pull-257 does from a list: by five gets, in one round.
@@ -194,5 +197,7 @@ fn end_of_first_pull<H: TreeHash, S: Source>(
     source: &mut S,
 ) -> Result<Result<Pulled, PullFault>, Fail> {
     let mut puller = Mirror::<H>::new(alloc, "ex")?;
-    end_of_pull(alloc, &mut puller, source)
+    let answer = end_of_pull(alloc, &mut puller, source);
+    drop(puller);
+    answer
 }

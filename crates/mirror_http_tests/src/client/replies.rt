@@ -109,7 +109,7 @@ fn unlikely_replies(rt: HostRuntime) {
         Err(ReplyFault::BodyShort),
     );
     assert_read(&rt, &CODED, Err(ReplyFault::CodedReply));
-    for (reply, status) in OTHERS {
+    for &(reply, status) in &OTHERS {
         assert_read(&rt, &[reply], Err(ReplyFault::OtherStatus(status)));
     }
 }

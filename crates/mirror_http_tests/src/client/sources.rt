@@ -13,24 +13,26 @@ fn source(alloc: Global, works: bool) -> Result<HttpSource<CannedDial>, Fail> {
     source_of(alloc, reply, true, works)
 }
 
-// The answer is those three bytes.
-fn assert_abc(rt: &impl Abort, answer: Result<Option<Vec<u8>>, SourceFault>) -> Result<(), Fail> {
-    let body = answer?.ok_or("not found")?;
-    assert!(rt; body.as_slice() == b"abc".as_slice());
-    Ok(())
-}
-
 // Where a request for memory is refused, as by `rt try --test --fail-alloc N`, that is no failure of the
 // source, and the next get is right.
 #[test]
 fn get_again_after_want_of_memory(rt: HostRuntime) -> Result<(), Fail> {
     let mut source = source(rt.alloc(), true)?;
-    let mut answer = source.get(&Path::Checkpoint);
-    if matches!(answer, Err(SourceFault::OutOfMemory)) {
-        assert!(rt; source.failures() == 0);
-        answer = source.get(&Path::Checkpoint);
-    }
-    assert_abc(&rt, answer)?;
+    let answer = assert_abc_at_last(&rt, &mut source);
+    drop(source);
+    answer?;
+    Ok(())
+}
+
+fn assert_abc_at_last<S: Source>(rt: &impl Abort, source: &mut S) -> Result<(), SourceFault> {
+    let body = match source.get(&Path::Checkpoint) {
+        Err(SourceFault::OutOfMemory) => {
+            assert!(rt; source.failures() == 0);
+            source.get(&Path::Checkpoint)?
+        }
+        answer => answer?,
+    };
+    assert!(rt; body.as_deref() == Some(b"abc".as_slice()));
     assert!(rt; source.failures() == 0);
     Ok(())
 }
@@ -52,7 +54,9 @@ fn a_reply_in_many_pieces(rt: HostRuntime) -> Result<(), Fail> {
     let mut reply = String::from_str(rt.alloc(), "HTTP/1.1 200 OK\r\n\r\n")?;
     push_times(&mut reply, "a", 70_000)?;
     let mut source = source_in_pieces(rt.alloc(), &reply)?;
-    assert_letters(&rt, &mut source, 70_000)
+    let answer = assert_letters(&rt, &mut source, 70_000);
+    drop(source);
+    answer
 }
 
 // The source gives so many bytes.

@@ -3,6 +3,7 @@ use crate::given::{long_head, push_times};
 use crate::served::{
     BAD_REQUEST, BUNDLE_REPLY, BUNDLE_REQUEST, NOT_ALLOWED, NOT_FOUND, mirror_of_3, reply_of,
 };
+use mirror_http::HttpFault;
 use std::alloc::{AllocError, Global};
 use std::process::Abort;
 use std::test::Fail;
@@ -12,34 +13,31 @@ use tlog_mirror::Mirror;
 #[test]
 fn http_answers(rt: HostRuntime) -> Result<(), Fail> {
     let mirror = mirror_of_3::<Sha256Tree>(rt.alloc())?;
-    gets_answers(&rt, rt.alloc(), &mirror)
+    let answer = gets_answers(&rt, rt.alloc(), &mirror);
+    drop(mirror);
+    answer?;
+    Ok(())
 }
+
+// Requests, and the replies that have no body.
+const ANSWERS: [(&str, &str); 6] = [
+    ("GET /tile/entries/000.p/4 HTTP/1.1\r\n\r\n", NOT_FOUND),
+    ("POST /tile/entries/000.p/2 HTTP/1.1\r\n\r\n", NOT_ALLOWED),
+    ("GET /checkpoint HTTP/1.1\r\n\r", BAD_REQUEST),
+    ("GET /checkpoint HTTP/1.1\r\nA: a\r\n", BAD_REQUEST),
+    ("\r\n", BAD_REQUEST),
+    ("", ""),
+];
 
 // Each of these requests gets its reply.
 fn gets_answers<H: TreeHash>(
     rt: &impl Abort,
     alloc: Global,
     mirror: &Mirror<H>,
-) -> Result<(), Fail> {
-    for (request, want) in [
-        (BUNDLE_REQUEST, BUNDLE_REPLY),
-        (
-            b"GET /tile/entries/000.p/4 HTTP/1.1\r\n\r\n",
-            NOT_FOUND.as_bytes(),
-        ),
-        (
-            b"POST /tile/entries/000.p/2 HTTP/1.1\r\n\r\n",
-            NOT_ALLOWED.as_bytes(),
-        ),
-        (b"GET /checkpoint HTTP/1.1\r\n\r", BAD_REQUEST.as_bytes()),
-        (
-            b"GET /checkpoint HTTP/1.1\r\nA: a\r\n",
-            BAD_REQUEST.as_bytes(),
-        ),
-        (b"\r\n", BAD_REQUEST.as_bytes()),
-        (b"", b""),
-    ] {
-        gets(rt, alloc, mirror, request, want)?;
+) -> Result<(), HttpFault> {
+    gets(rt, alloc, mirror, BUNDLE_REQUEST, BUNDLE_REPLY)?;
+    for &(request, want) in &ANSWERS {
+        gets(rt, alloc, mirror, request.as_bytes(), want.as_bytes())?;
     }
     Ok(())
 }
@@ -51,7 +49,7 @@ fn gets<H: TreeHash>(
     mirror: &Mirror<H>,
     request: &[u8],
     want: &[u8],
-) -> Result<(), Fail> {
+) -> Result<(), HttpFault> {
     let reply = reply_of(alloc, mirror, request)?;
     assert!(rt; reply.as_slice() == want, "{} bytes", request.len());
     Ok(())
@@ -73,8 +71,19 @@ fn long_request(
 #[test]
 fn long_heads(rt: HostRuntime) -> Result<(), Fail> {
     let mirror = mirror_of_3::<Sha256Tree>(rt.alloc())?;
-    gets_of_long_heads(&rt, rt.alloc(), &mirror)
+    let answer = gets_of_long_heads(&rt, rt.alloc(), &mirror);
+    drop(mirror);
+    answer
 }
+
+// Fields, letters and bytes behind the head of a request, and its reply.
+const LONG: [(usize, usize, usize, &str); 5] = [
+    (64, 0, 0, NOT_FOUND),
+    (65, 0, 0, BAD_REQUEST),
+    (1, 8_192 - 26, 0, NOT_FOUND),
+    (1, 8_192 - 26, 9_000, NOT_FOUND),
+    (1, 8_192 - 25, 0, BAD_REQUEST),
+];
 
 // Each of these long requests gets its reply.
 fn gets_of_long_heads<H: TreeHash>(
@@ -82,13 +91,7 @@ fn gets_of_long_heads<H: TreeHash>(
     alloc: Global,
     mirror: &Mirror<H>,
 ) -> Result<(), Fail> {
-    for (fields, letters, behind, want) in [
-        (64, 0, 0, NOT_FOUND),
-        (65, 0, 0, BAD_REQUEST),
-        (1, 8_192 - 26, 0, NOT_FOUND),
-        (1, 8_192 - 26, 9_000, NOT_FOUND),
-        (1, 8_192 - 25, 0, BAD_REQUEST),
-    ] {
+    for &(fields, letters, behind, want) in &LONG {
         let request = long_request(alloc, fields, letters, behind)?;
         gets(rt, alloc, mirror, request.as_bytes(), want.as_bytes())?;
     }
@@ -98,7 +101,10 @@ fn gets_of_long_heads<H: TreeHash>(
 #[test]
 fn head_cuts(rt: HostRuntime) -> Result<(), Fail> {
     let mirror = mirror_of_3::<Sha256Tree>(rt.alloc())?;
-    gets_of_cuts(&rt, rt.alloc(), &mirror)
+    let answer = gets_of_cuts(&rt, rt.alloc(), &mirror);
+    drop(mirror);
+    answer?;
+    Ok(())
 }
 
 // Each front of a request is a bad one.
@@ -106,7 +112,7 @@ fn gets_of_cuts<H: TreeHash>(
     rt: &impl Abort,
     alloc: Global,
     mirror: &Mirror<H>,
-) -> Result<(), Fail> {
+) -> Result<(), HttpFault> {
     let request = b"GET /checkpoint HTTP/1.1\r\nHost: x\r\n\r\n".as_slice();
     for len in 1..request.len() {
         gets(rt, alloc, mirror, &request[..len], BAD_REQUEST.as_bytes())?;

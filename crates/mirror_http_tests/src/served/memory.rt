@@ -8,6 +8,34 @@ use std::test::Fail;
 use tlog_hash::{Sha256Tree, TreeHash};
 use tlog_mirror::Mirror;
 
+// How much of the space is left behind the reply.
+fn left_behind<H: TreeHash>(
+    alloc: Global,
+    mirror: &Mirror<H>,
+    request: &str,
+    mut space: &mut [u8],
+) -> Result<usize, HttpFault> {
+    answered(alloc, mirror, &mut request.as_bytes(), &mut space)?;
+    Ok(space.len())
+}
+
+// The same, of a reply that is made again where memory was refused, when nothing was written.
+fn left_at_last<H: TreeHash>(
+    rt: &impl Abort,
+    alloc: Global,
+    mirror: &Mirror<H>,
+    request: &str,
+    mut space: &mut [u8],
+) -> usize {
+    let mut done = answered(alloc, mirror, &mut request.as_bytes(), &mut space);
+    if done == Err(HttpFault::OutOfMemory) {
+        assert!(rt; space.len() == 1_024);
+        done = answered(alloc, mirror, &mut request.as_bytes(), &mut space);
+    }
+    assert!(rt; done == Ok(()), "{request}");
+    space.len()
+}
+
 // Answers into so much space, and again where memory was refused. Either reply goes into space that is there: a
 // vector that is refused memory is a writer that fails.
 fn answers_again<H: TreeHash>(
@@ -15,21 +43,12 @@ fn answers_again<H: TreeHash>(
     alloc: Global,
     mirror: &Mirror<H>,
     request: &str,
-) -> Result<(), Fail> {
+) -> Result<(), HttpFault> {
     let mut want = [0u8; 1_024];
-    let mut rest = want.as_mut_slice();
-    answered(alloc, mirror, &mut request.as_bytes(), &mut rest)?;
-    let length = 1_024usize.saturating_sub(rest.len());
+    let left = left_behind(alloc, mirror, request, &mut want)?;
     let mut space = [0u8; 1_024];
-    let mut writer = space.as_mut_slice();
-    let mut done = answered(alloc, mirror, &mut request.as_bytes(), &mut writer);
-    if done == Err(HttpFault::OutOfMemory) {
-        assert!(rt; writer.len() == 1_024);
-        done = answered(alloc, mirror, &mut request.as_bytes(), &mut writer);
-    }
-    assert!(rt; done == Ok(()), "{request}");
-    let written = 1_024usize.saturating_sub(writer.len());
-    assert!(rt; written == length && space == want, "{request}");
+    let rest = left_at_last(rt, alloc, mirror, request, &mut space);
+    assert!(rt; rest == left && space == want, "{request}");
     Ok(())
 }
 
@@ -50,15 +69,18 @@ const REQUESTS: [&str; 11] = [
 #[test]
 fn answer_again_after_want_of_memory(rt: HostRuntime) -> Result<(), Fail> {
     let mirror = mirror_of_3::<Sha256Tree>(rt.alloc())?;
-    answers_all_again(&rt, rt.alloc(), &mirror)
+    let answer = answers_all_again(&rt, rt.alloc(), &mirror);
+    drop(mirror);
+    answer?;
+    Ok(())
 }
 
 fn answers_all_again<H: TreeHash>(
     rt: &impl Abort,
     alloc: Global,
     mirror: &Mirror<H>,
-) -> Result<(), Fail> {
-    for request in REQUESTS {
+) -> Result<(), HttpFault> {
+    for &request in &REQUESTS {
         answers_again(rt, alloc, mirror, request)?;
     }
     Ok(())

@@ -76,6 +76,7 @@ fn assert_answers<H: TreeHash>(
 fn one_byte_reads(rt: HostRuntime) -> Result<(), Fail> {
     let mirror = mirror_of_3::<Sha256Tree>(rt.alloc())?;
     answers_bytes(&rt, rt.alloc(), &mirror);
+    drop(mirror);
     Ok(())
 }
 
@@ -93,6 +94,7 @@ fn answers_bytes<H: TreeHash>(rt: &impl Abort, alloc: Global, mirror: &Mirror<H>
 fn no_read_after_head(rt: HostRuntime) -> Result<(), Fail> {
     let mirror = mirror_of_3::<Sha256Tree>(rt.alloc())?;
     answers_at_head(&rt, rt.alloc(), &mirror);
+    drop(mirror);
     Ok(())
 }
 
@@ -112,6 +114,7 @@ fn answers_at_head<H: TreeHash>(rt: &impl Abort, alloc: Global, mirror: &Mirror<
 fn endless_reader(rt: HostRuntime) -> Result<(), Fail> {
     let mirror = mirror_of_3::<Sha256Tree>(rt.alloc())?;
     answers_no_cut(&rt, rt.alloc(), &mirror);
+    drop(mirror);
     Ok(())
 }
 
@@ -136,7 +139,9 @@ fn letters_of(alloc: Global, count: usize) -> Result<Vec<u8>, AllocError> {
 #[test]
 fn bytes_without_a_head(rt: HostRuntime) -> Result<(), Fail> {
     let mirror = mirror_of_3::<Sha256Tree>(rt.alloc())?;
-    refuses_letters(&rt, rt.alloc(), &mirror)
+    let answer = refuses_letters(&rt, rt.alloc(), &mirror);
+    drop(mirror);
+    answer
 }
 
 fn refuses_letters<H: TreeHash>(
@@ -174,6 +179,7 @@ fn assert_written<H: TreeHash>(rt: &impl Abort, alloc: Global, mirror: &Mirror<H
 fn failing_writer(rt: HostRuntime) -> Result<(), Fail> {
     let mirror = mirror_of_3::<Sha256Tree>(rt.alloc())?;
     writes_fronts(&rt, rt.alloc(), &mirror);
+    drop(mirror);
     Ok(())
 }
 

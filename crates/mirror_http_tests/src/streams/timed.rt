@@ -1,4 +1,5 @@
 //! Streams with a deadline: in memory, under a clock of their own, and over loopback, under the system's.
+use crate::streams::fault_of;
 use byte_streams::{BoundsWaits, StreamFault, TimedStream, read_all, write_whole};
 use std::alloc::Global;
 use std::cell::Cell;
@@ -131,14 +132,24 @@ fn assert_in_time(rt: &impl Abort, clock: &HostRuntime, start: Instant) -> Resul
     Ok(())
 }
 
+// Of what comes from that stream less than so many bytes are there at the deadline.
+fn reads_too_few<S: Read + BoundsWaits + Drop>(
+    rt: &impl Abort,
+    clock: &HostRuntime,
+    stream: S,
+    most: usize,
+) -> Result<(), Fail> {
+    let start = Instant::now(clock)?;
+    let mut reader = TimedStream::new(stream, *clock, deadline())?;
+    let fault = fault_of(clock.alloc(), &mut reader, most, u64::MAX);
+    assert!(rt; fault == Some(StreamFault::ReadFault));
+    assert_in_time(rt, clock, start)
+}
+
 #[test]
 fn a_client_that_sends_nothing(rt: HostRuntime) -> Result<(), Fail> {
     let (_client, server) = connection(&rt)?;
-    let start = Instant::now(&rt)?;
-    let mut reader = TimedStream::new(&server, rt, deadline())?;
-    let answer = read_all(rt.alloc(), &mut reader, 100, u64::MAX);
-    assert!(rt; answer.map(|_| ()) == Err(StreamFault::ReadFault));
-    assert_in_time(&rt, &rt, start)
+    reads_too_few(&rt, &rt, &server, 100)
 }
 
 // A connection whose other end sends a byte now and then: 20 milliseconds before each read.
@@ -170,12 +181,7 @@ impl BoundsWaits for Trickle {
 #[test]
 fn a_client_that_sends_a_byte_now_and_then(rt: HostRuntime) -> Result<(), Fail> {
     let (client, server) = connection(&rt)?;
-    let start = Instant::now(&rt)?;
-    let slow = Trickle { client, server, rt };
-    let mut reader = TimedStream::new(slow, rt, deadline())?;
-    let answer = read_all(rt.alloc(), &mut reader, 1_000_000, u64::MAX);
-    assert!(rt; answer.map(|_| ()) == Err(StreamFault::ReadFault));
-    assert_in_time(&rt, &rt, start)
+    reads_too_few(&rt, &rt, Trickle { client, server, rt }, 1_000_000)
 }
 
 // Writes as much as the system keeps for a client that does not read, and then more.
@@ -186,14 +192,24 @@ fn write_on(writer: &mut impl Write, bytes: &[u8]) -> Result<(), StreamFault> {
     Ok(())
 }
 
+// Not all is taken by that stream at the deadline.
+fn takes_too_few<S: Write + BoundsWaits + Drop>(
+    rt: &impl Abort,
+    clock: &HostRuntime,
+    stream: S,
+) -> Result<(), Fail> {
+    let bytes = vec![in clock.alloc(); 0u8; 65_536]?;
+    let start = Instant::now(clock)?;
+    let mut writer = TimedStream::new(stream, *clock, deadline())?;
+    let answer = write_on(&mut writer, &bytes);
+    assert!(rt; answer == Err(StreamFault::WriteFault));
+    assert_in_time(rt, clock, start)
+}
+
 #[test]
 fn a_client_that_takes_nothing(rt: HostRuntime) -> Result<(), Fail> {
     let (_client, server) = connection(&rt)?;
-    let bytes = vec![in rt.alloc(); 0u8; 65_536]?;
-    let start = Instant::now(&rt)?;
-    let mut writer = TimedStream::new(&server, rt, deadline())?;
-    assert!(rt; write_on(&mut writer, &bytes) == Err(StreamFault::WriteFault));
-    assert_in_time(&rt, &rt, start)
+    takes_too_few(&rt, &rt, &server)
 }
 
 // A connection to a listener that accepts none: the system makes it, and nothing is ever sent or taken. The stream is
@@ -207,21 +223,13 @@ fn silent_server(rt: &HostRuntime) -> io::Result<(TcpListener, TcpStream)> {
 #[test]
 fn a_server_that_sends_nothing(rt: HostRuntime) -> Result<(), Fail> {
     let (_listener, client) = silent_server(&rt)?;
-    let start = Instant::now(&rt)?;
-    let mut client = TimedStream::new(client, rt, deadline())?;
-    let answer = read_all(rt.alloc(), &mut client, 100, u64::MAX);
-    assert!(rt; answer.map(|_| ()) == Err(StreamFault::ReadFault));
-    assert_in_time(&rt, &rt, start)
+    reads_too_few(&rt, &rt, client, 100)
 }
 
 #[test]
 fn a_server_that_takes_nothing(rt: HostRuntime) -> Result<(), Fail> {
     let (_listener, client) = silent_server(&rt)?;
-    let bytes = vec![in rt.alloc(); 0u8; 65_536]?;
-    let start = Instant::now(&rt)?;
-    let mut client = TimedStream::new(client, rt, deadline())?;
-    assert!(rt; write_on(&mut client, &bytes) == Err(StreamFault::WriteFault));
-    assert_in_time(&rt, &rt, start)
+    takes_too_few(&rt, &rt, client)
 }
 
 #[test]
