@@ -5,6 +5,7 @@ ghost use Rattle.tlog_checkpoint.specs.Grammar.{IsWritableCheckpoint};
 
 use crate::given::{ROOT_OF_THREE, hash};
 use std::alloc::{AllocError, Global};
+use std::process::Abort;
 use std::test::Fail;
 use tlog_checkpoint::{Checkpoint, CheckpointFault, Line, Lines, read, write};
 
@@ -57,14 +58,13 @@ fn made_by_hand(rt: HostRuntime) -> Result<(), Fail> {
         root: hash(&rt, ROOT_OF_THREE),
         extensions: Lines::new(lines),
     };
-    assert!(rt;
-        text_of(alloc, &checkpoint)?.as_str()
-            == "ex\n3\nrra8/idLcKFPsGel5VeCZNsPqbUa9eC6FZFY8yngbnc=\nmore\n"
-    );
     assert!(rt; checkpoint.origin.as_str() == "ex");
     let lines = checkpoint.extensions.as_slice();
     assert!(rt; lines.len() == 1);
     assert!(rt; lines[0].as_str() == "more");
+    let written = text_of(alloc, &checkpoint);
+    drop(checkpoint);
+    assert!(rt; written?.as_str() == "ex\n3\nrra8/idLcKFPsGel5VeCZNsPqbUa9eC6FZFY8yngbnc=\nmore\n");
     Ok(())
 }
 
@@ -79,14 +79,20 @@ const PINNED: [(&str, usize); 2] = [
 
 #[test]
 fn pinned_ed25519(rt: HostRuntime) -> Result<(), Fail> {
-    let alloc = rt.alloc();
     for &(text, extensions) in &PINNED {
-        let checkpoint = checkpoint_of(alloc, text)?;
-        assert!(rt; checkpoint.origin.as_str() == "ex");
-        assert!(rt; checkpoint.size == 3);
-        assert!(rt; checkpoint.root == hash(&rt, ROOT_OF_THREE));
-        assert!(rt; checkpoint.extensions.as_slice().len() == extensions);
-        assert!(rt; text_of(alloc, &checkpoint)?.as_str() == text);
+        let checkpoint = checkpoint_of(rt.alloc(), text)?;
+        assert_of_three(&rt, &checkpoint, extensions);
+        let written = text_of(rt.alloc(), &checkpoint);
+        drop(checkpoint);
+        assert!(rt; written?.as_str() == text);
     }
     Ok(())
+}
+
+// It is of the log of three entries, and has so many lines behind the root.
+fn assert_of_three(rt: &impl Abort, checkpoint: &Checkpoint, extensions: usize) {
+    assert!(rt; checkpoint.origin.as_str() == "ex");
+    assert!(rt; checkpoint.size == 3);
+    assert!(rt; checkpoint.root == hash(rt, ROOT_OF_THREE));
+    assert!(rt; checkpoint.extensions.as_slice().len() == extensions);
 }

@@ -4,6 +4,7 @@
 //! entries of no bytes has the hash n - 1, modulo 256.
 
 use std::alloc::Global;
+use std::process::Abort;
 use std::test::Fail;
 use tlog_files::LogFiles;
 use tlog_hash::{Hash, SumTree};
@@ -42,16 +43,18 @@ fn three_files(rt: HostRuntime) -> Result<(), Fail> {
     let files = three(rt.alloc())?;
     assert!(rt; files.size() == 3);
     assert!(rt; files.root() == sum(0x28)); // 1 + (1 + 61 + 0) + c5
-    let Some(row) = tile(&files, 0, 0, 3) else {
-        assert!(rt; false, "none");
-        return Ok(());
-    };
+    assert_row(&rt, tile(&files, 0, 0, 3).unwrap_or(&[]));
+    assert!(rt; bundle(&files, 0, 1) == Some(b"\x00\x01\x61".as_slice()));
+    assert!(rt; bundle(&files, 0, 2) == Some(b"\x00\x01\x61\x00\x00".as_slice()));
+    let whole = b"\x00\x01\x61\x00\x00\x00\x02\x62\x63".as_slice();
+    assert!(rt; bundle(&files, 0, 3) == Some(whole));
+    drop(files);
+    Ok(())
+}
+
+fn assert_row(rt: &impl Abort, row: &[u8]) {
     assert!(rt; row.len() == 96);
     assert!(rt; (row[0], row[32], row[64]) == (0x61, 0, 0xc5));
-    assert!(rt; bundle(&files, 0, 1) == Some([0, 1, 0x61].as_slice()));
-    assert!(rt; bundle(&files, 0, 2) == Some([0, 1, 0x61, 0, 0].as_slice()));
-    assert!(rt; bundle(&files, 0, 3) == Some([0, 1, 0x61, 0, 0, 0, 2, 0x62, 0x63].as_slice()));
-    Ok(())
 }
 
 // The level, the index and the width of tiles, and for level 0 of bundles, that three entries do not have.
@@ -81,6 +84,7 @@ fn files_outside(rt: HostRuntime) -> Result<(), Fail> {
             assert!(rt; bundle(&files, index, width).is_none(), "{index} {width}");
         }
     }
+    drop(files);
     Ok(())
 }
 
@@ -98,34 +102,29 @@ const SIZES: [(usize, u8, u32); 7] = [
 // Of 256 entries on there is a hash of level 1, and from 257 on a second tile of level 0.
 #[test]
 fn sizes_of_tiles(rt: HostRuntime) -> Result<(), Fail> {
-    let full = sum(0xff);
     for &(count, root, second) in &SIZES {
         let files = empty_log(rt.alloc(), count)?;
         assert!(rt; files.size() == count as u64, "{count}");
         assert!(rt; files.root() == sum(root), "{count}");
-        assert!(rt;
-            tile(&files, 0, 0, 256).is_some() == (count > 255),
-            "{count}"
-        );
-        assert!(rt;
-            bundle(&files, 0, 256).is_some() == (count > 255),
-            "{count}"
-        );
-        assert!(rt;
-            (tile(&files, 1, 0, 1) == Some(full.as_slice())) == (count > 255),
-            "{count}"
-        );
-        for width in [1, 2, 255, 256] {
-            let within = width <= second;
-            assert!(rt;
-                tile(&files, 0, 1, width).is_some() == within,
-                "{count} {width}"
-            );
-            assert!(rt;
-                bundle(&files, 1, width).is_some() == within,
-                "{count} {width}"
-            );
+        assert_full(&rt, &files, count > 255);
+        for width in &[1, 2, 255, 256] {
+            assert_second(&rt, &files, *width, *width <= second);
         }
+        drop(files);
     }
     Ok(())
+}
+
+// Whether the first tile and the first bundle are full, above which there is a hash of level 1.
+fn assert_full(rt: &impl Abort, files: &LogFiles<SumTree>, is_full: bool) {
+    assert!(rt; tile(files, 0, 0, 256).is_some() == is_full);
+    assert!(rt; bundle(files, 0, 256).is_some() == is_full);
+    let above = tile(files, 1, 0, 1) == Some(sum(0xff).as_slice());
+    assert!(rt; above == is_full, "{}", files.size());
+}
+
+// Whether the second tile and bundle have a file of that width.
+fn assert_second(rt: &impl Abort, files: &LogFiles<SumTree>, width: u32, is_within: bool) {
+    assert!(rt; tile(files, 0, 1, width).is_some() == is_within, "{width}");
+    assert!(rt; bundle(files, 1, width).is_some() == is_within, "{width}");
 }

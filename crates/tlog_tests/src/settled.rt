@@ -13,7 +13,9 @@ use tlog_hash::{Hash, Sha256Tree, TreeHash};
 #[test]
 fn settle_part(rt: HostRuntime) -> Result<(), Fail> {
     let mut store: Store<Sha256Tree> = empty_store(rt.alloc());
-    assert_part(&rt, rt.alloc(), &mut store)
+    let answer = assert_part(&rt, rt.alloc(), &mut store);
+    drop(store);
+    answer
 }
 
 // Of three entries, which are their numbers in two bytes, the first two are held.

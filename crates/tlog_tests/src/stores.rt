@@ -65,15 +65,23 @@ fn insert_gives_the_digest(rt: HostRuntime) {
     expect_inserted(&rt, &mut store, pair, three);
     assert!(rt; store.len() == 3);
     assert!(rt; !holds(&store, Tagged::Leaf(&[0])));
-    for (digest, entry, pair) in [
-        (none, Some(b"".as_slice()), None),
-        (ten, Some(b"\x10"), None),
-        (three, None, Some((two, ten))),
-        (two, None, None),
-    ] {
-        assert!(rt; entry_of(&store, &digest) == entry);
-        assert!(rt; pair_of(&store, &digest) == pair);
-    }
+    assert_found(&rt, &store, &none, Some(b""), None);
+    assert_found(&rt, &store, &ten, Some(b"\x10"), None);
+    assert_found(&rt, &store, &three, None, Some((two, ten)));
+    assert_found(&rt, &store, &two, None, None);
+    drop(store);
+}
+
+// What the store has of that digest.
+fn assert_found<H: TreeHash>(
+    rt: &impl Abort,
+    store: &Store<H>,
+    digest: &Hash,
+    entry: Option<&[u8]>,
+    pair: Option<(Hash, Hash)>,
+) {
+    assert!(rt; entry_of(store, digest) == entry);
+    assert!(rt; pair_of(store, digest) == pair);
 }
 
 // Under the digest that sums, the entries `01 02` and `02 01` collide.
@@ -89,25 +97,40 @@ fn colliding_leaves(rt: HostRuntime) {
     assert!(rt; store.len() == 1);
     assert!(rt; holds(&store, first) && !holds(&store, second));
     assert!(rt; entry_of(&store, &digest) == Some([1, 2].as_slice()));
+    drop(store);
 }
 
 #[test]
 fn adds_all(rt: HostRuntime) -> Result<(), Fail> {
     let mut left: Store<SumTree> = empty(rt.alloc());
     let mut right: Store<SumTree> = empty(rt.alloc());
-    add(&mut left, Tagged::Leaf(&[1]))?;
-    add(&mut left, Tagged::Leaf(&[2]))?;
-    add(&mut right, Tagged::Leaf(&[2]))?;
-    add(&mut right, Tagged::Leaf(&[3]))?;
-    assert!(rt; add_all(&mut left, &right) == Ok(()));
-    assert!(rt; add_all(&mut left, &right) == Ok(()));
-    assert!(rt; left.len() == 3);
-    add(&mut right, Tagged::Leaf(&[4]))?;
-    add(&mut right, Tagged::Leaf(&[0, 1]))?;
-    assert!(rt; add_all(&mut left, &right) == Err(AddFault::Collision));
-    assert!(rt; left.len() == 3);
-    assert!(rt; !holds(&left, Tagged::Leaf(&[4])));
+    let added = adds_right(&rt, &mut left, &mut right);
+    drop(left);
+    drop(right);
+    added?;
     Ok(())
+}
+
+fn adds_right<H: TreeHash>(
+    rt: &impl Abort,
+    left: &mut Store<H>,
+    right: &mut Store<H>,
+) -> Result<(), AddFault> {
+    add_two(left, &[1], &[2])?;
+    add_two(right, &[2], &[3])?;
+    assert!(rt; add_all(left, right) == Ok(()));
+    assert!(rt; add_all(left, right) == Ok(()));
+    assert!(rt; left.len() == 3);
+    add_two(right, &[4], &[0, 1])?;
+    assert!(rt; add_all(left, right) == Err(AddFault::Collision));
+    assert!(rt; left.len() == 3);
+    assert!(rt; !holds(left, Tagged::Leaf(&[4])));
+    Ok(())
+}
+
+fn add_two<H: TreeHash>(store: &mut Store<H>, first: &[u8], second: &[u8]) -> Result<(), AddFault> {
+    add(store, Tagged::Leaf(first))?;
+    add(store, Tagged::Leaf(second))
 }
 
 // Adds a string that is new. Where a growth is refused, as by `rt try --test --fail-alloc N`, nothing
@@ -146,4 +169,6 @@ fn refused_growth_changes_nothing(rt: HostRuntime) {
     }
     assert!(rt; added == Ok(()));
     assert!(rt; copy.len() == 20);
+    drop(copy);
+    drop(store);
 }
