@@ -1,5 +1,5 @@
 //! Replies to requests for a log's files (RFC 9112, sections 4 to 6).
-ghost use Rattle.std.specs.Prelude.{◌≡◌, ◌≤◌, ℕ, List, length, drop, map, take, All, IfSome, IfNone, option_copied};
+ghost use Rattle.std.specs.Prelude.{◌≡◌, ◌≤◌, ℕ, List, length, drop, map, All, IfSome, IfNone, option_copied};
 ghost use Rattle.httparse.specs.Grammar.{ResponseHead, ReadsResponse, status_code};
 ghost use Rattle.httparse.specs.Spans.{IsHeaderWithin, header_bytes};
 ghost use Rattle.tlog_text.specs.Answers.{seen};

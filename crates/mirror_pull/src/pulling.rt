@@ -1,7 +1,7 @@
 //! Pulling a log from one source.
 ghost use Rattle.std.specs.Prelude.{[], map, IfErr};
 ghost use Rattle.mirror_model.specs.declared.items.Item.TheVariants.{Head};
-ghost use Rattle.mirror_pull.specs.Asking.{AddsSome, AsksPaths, BlamesSource};
+ghost use Rattle.mirror_pull.specs.Asking.{AddsSome, BlamesSource};
 ghost use Rattle.mirror_pull.specs.Honest.{PullsHonestly};
 ghost use Rattle.mirror_pull.specs.Replying.{FollowsReplies, RefusesHead};
 ghost use Rattle.mirror_pull.specs.Taking.{PullsTo, TakesHead};

@@ -1,6 +1,6 @@
 //! Trees that are built in a store, in one pass from the leaves up: each string is hashed once, and what
 //! its hashing gives is the hash of the node above it.
-ghost use Rattle.std.specs.Prelude.{◌≡◌, ◌<◌, ◌∷◌, length, map, IfOk, OnOk};
+ghost use Rattle.std.specs.Prelude.{◌≡◌, ◌<◌, length, map, IfOk, OnOk};
 ghost use Rattle.std.specs.FinSet as set;
 ghost use Rattle.node_store.specs.Strings.{NoClash};
 ghost use Rattle.tlog_hash.specs.Tree.{fold_of, joins, mth, strings};

@@ -1,5 +1,5 @@
 //! Whether one held tree begins another.
-ghost use Rattle.std.specs.Prelude.{◌≡◌, ◌↔◌, ℕ, List, IsTrue};
+ghost use Rattle.std.specs.Prelude.{◌↔◌, ℕ, List, IsTrue};
 ghost use Rattle.node_store.specs.Strings.{NoClash};
 ghost use Rattle.mirror_model.specs.Complete.{IsTreeOf};
 ghost use Rattle.mirror_model.specs.Forks.{IsPrefix};

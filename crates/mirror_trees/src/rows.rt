@@ -1,7 +1,7 @@
 //! The hashes of a tile, and the entries of a bundle.
 ghost use Rattle.std.specs.Prelude.{◌≡◌, ◌*◌, ◌+◌, ◌++◌, ◌^◌, ◌≤◌, ℕ, List, map, IsTrue, IfOk, IfSome, IfNone};
 ghost use Rattle.tlog_hash.specs.Tree.{mth};
-ghost use Rattle.tlog_hash.specs.Rows.{level_row, part, ranges};
+ghost use Rattle.tlog_hash.specs.Rows.{level_row, ranges};
 ghost use Rattle.tlog_shape.specs.Split.{IsPowerOfTwo};
 ghost use Rattle.tlog_tiles.specs.Tiles.{IsTileWithin};
 ghost use Rattle.mirror_model.specs.Complete.{IsTreeOf};

@@ -1,5 +1,5 @@
 //! The line that tells why a command failed.
-ghost use Rattle.std.specs.Prelude.{◌≡◌, ◌++◌, ◌∷◌, [], IfOk, false, string_bytes};
+ghost use Rattle.std.specs.Prelude.{IfOk, false, string_bytes};
 ghost use Rattle.std.specs.Char.{is_control};
 ghost use Rattle.program_files.specs.Why.{IsWhyFront, IsWhyLine};
 

@@ -1,5 +1,5 @@
 //! The reports, a command each.
-ghost use Rattle.std.specs.Prelude.{IfOk, string_bytes};
+ghost use Rattle.std.specs.Prelude.{IfOk};
 ghost use Rattle.program_reports.specs.Reports.{ReportsMissing, ReportsProof, TellsForks, TellsNothing, TellsServed, TellsStatus};
 
 use crate::fault::ReportFault;

@@ -1,7 +1,6 @@
 //! Key files.
 
 ghost use Rattle.tlog_text.specs.Answers.{seen};
-ghost use Rattle.std.specs.Prelude.{◌≡◌};
 ghost use Rattle.signed_note.specs.KeyFiles.{IsSecretText, IsPinText, IsKeyLine, ReadsAs, ReadsKeys};
 
 use crate::fault::{KeyFault, KeyFileFault};

@@ -1,6 +1,6 @@
 //! Signature lines.
 
-ghost use Rattle.std.specs.Prelude.{◌≡◌, ◌≢◌, ℕ, ◌<◌, List, ◌∷◌, ◌++◌, length, IfSome, IfNone, IfOk, OnErr, slice_index};
+ghost use Rattle.std.specs.Prelude.{◌≡◌, ◌≢◌, ℕ, ◌<◌, List, ◌∷◌, ◌++◌, length, IfSome, IfNone, IfOk, slice_index};
 ghost use Rattle.tlog_text.specs.Answers.{seen};
 ghost use Rattle.signed_note.specs.Names.{space};
 ghost use Rattle.signed_note.specs.Notes.{em_dash};

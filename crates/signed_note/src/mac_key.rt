@@ -1,7 +1,6 @@
 //! Keys of a shared secret.
 
 ghost use Rattle.std.specs.Prelude.{◌≡◌};
-ghost use Rattle.std.specs.Str.{bytes_eq};
 ghost use Rattle.signed_note.specs.Keys.{secret_key};
 ghost use Rattle.signed_note.specs.Hmac.{hmac};
 ghost use Rattle.signed_note.specs.Names.{IsOwnName};

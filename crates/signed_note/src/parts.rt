@@ -1,6 +1,6 @@
 //! The parts of a note: its text, and the lines of its signature part.
 
-ghost use Rattle.std.specs.Prelude.{◌≡◌, ℕ, ◌+◌, ◌<◌, ◌≤◌, List, length, IfSome, IfNone, MatchOption};
+ghost use Rattle.std.specs.Prelude.{◌≡◌, ℕ, ◌+◌, ◌<◌, ◌≤◌, List, length, IfSome, IfNone};
 ghost use Rattle.tlog_text.specs.Answers.{seen};
 ghost use Rattle.signed_note.specs.Notes.{IsNoteSplit, IsBlank};
 ghost use Rattle.signed_note.specs.Reading.{line_count, ReadsSignatureLines};

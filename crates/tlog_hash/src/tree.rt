@@ -1,5 +1,5 @@
 //! Hashes of rows and of lists of entries.
-ghost use Rattle.std.specs.Prelude.{◌≡◌, ◌<◌, [], ◌∷◌, ◌++◌, length, map, IfOk, OnOk};
+ghost use Rattle.std.specs.Prelude.{◌≡◌, ◌<◌, [], ◌++◌, length, map, IfOk, OnOk};
 ghost use Rattle.tlog_hash.specs.Tree.{fold_of, mth, pairs_of};
 
 use crate::{Hash, TreeHash};

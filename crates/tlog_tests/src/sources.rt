@@ -1,6 +1,6 @@
 //! Lists that stand in for logs (`mirror_sources`).
 
-ghost use Rattle.std.specs.Prelude.{◌≡◌, map, IfOk};
+ghost use Rattle.std.specs.Prelude.{map, IfOk};
 ghost use Rattle.mirror_model.specs.TrueLaws.{AreShort};
 
 use mirror_sources::{ListSource, Source, SourceFault};

@@ -1,6 +1,6 @@
 //! What the tests of `mirror_trees` share.
 
-ghost use Rattle.std.specs.Prelude.{◌≡◌, IfOk};
+ghost use Rattle.std.specs.Prelude.{IfOk};
 ghost use Rattle.node_store.specs.Strings.{NoClash};
 ghost use Rattle.mirror_trees.specs.Slices.{AreSettled};
 

@@ -1,5 +1,5 @@
 //! The parts of a path's text, from left to right.
-ghost use Rattle.std.specs.Prelude.{◌≡◌, ◌≢◌, ◌<◌, ◌≤◌, ◌+◌, ◌*◌, ◌++◌, ◌∷◌, [], List, ℕ, IfNone, IfSome, MatchOption};
+ghost use Rattle.std.specs.Prelude.{◌≡◌, ◌<◌, ◌≤◌, ◌+◌, ◌*◌, ◌++◌, ◌∷◌, List, ℕ, IfNone, IfSome};
 ghost use Rattle.std.specs.Option.{SomeIff, option_copied};
 ghost use Rattle.tlog_tiles.specs.Path.{group_text, three_digits, HasNoSlash, HasWidthPart, IsBelowTile, IsIndex, IsKind, IsPartialWidth, IsWidthOf};
 ghost use Rattle.tlog_tiles.specs.Kind.{IsOfKind};
