@@ -8,6 +8,7 @@ pub mod MergedMirrors
 pub mod PlayedEvents
 pub mod JudgedEvents
 pub mod PlayedMerges
+pub mod OpenedNotes
 pub mod TakenHeads
 pub mod BestNotes
 pub mod ServedNotes
