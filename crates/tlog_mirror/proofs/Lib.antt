@@ -20,4 +20,5 @@ pub mod Departures
 pub mod FoundForks
 pub mod RestoredMirrors
 pub mod ComparedHeads
+pub mod ToldLines
 pub mod LaidOut
