@@ -8,7 +8,7 @@ use Rattle.std.specs.List.{Contains, flat_map}
 use Rattle.std.proofs.lemmas.List.Concat.{flat_map-append}
 use Rattle.std.specs.List.Sorted.{IsStrictlySortedBy}
 use Rattle.std.proofs.lemmas.Bool.{cases_lt}
-use Rattle.std.proofs.lemmas.List.{append-nil, map-append, take_more, take_all, get_or-append_right, take-append-le}
+use Rattle.std.proofs.lemmas.List.{append-nil, map-append, take_more, take_all, drop_all, get_or-append_right, take-append-le}
 use Rattle.std.proofs.lemmas.List.Elements.{Contains-append_left, Contains-append_right, Contains-append_cases}
 use Rattle.std.proofs.lemmas.List.Elements.{Contains-push, Contains-push_cases}
 use Rattle.node_store.specs.Strings.{Strings}
@@ -96,6 +96,15 @@ module _ (digest : List ℕ → List ℕ) (held : Strings) where
     ListsFrom at apart =
         (p : ℕ × List ℕ) →
         Contains apart p ↔ (Contains (map (λ b. b.head) (drop at before)) p × Departs digest held p head)
+
+    -- past the last one no head is, and none is listed
+    pub none_listed : (at : ℕ) → length before ≤ at → (apart : List (ℕ × List ℕ)) → apart ≡ [] → ListsFrom at apart
+    none_listed at upto apart none = subst (λ ps. ListsFrom at ps) (sym none) (λ p.
+        subst (λ (bs : List Branch). Contains [] p ↔ (Contains (map head_of bs) p × Departs digest held p head))
+        (sym (drop_all at before upto)) (
+          λ c. absurd (omega (arith, c.1)),
+          λ c. absurd (omega (arith, c.0.1)),
+        ))
 
     module _ (at : ℕ) (some : 0 < at) (fits : at ≤ length before) (one : Branch)
         (is : one ≡ slice_index_or before (at - 1) one) (b : Bool) (tells : Tells b one.head head)

@@ -8,6 +8,7 @@ pub mod MergedMirrors
 pub mod PlayedEvents
 pub mod JudgedEvents
 pub mod PlayedMerges
+pub mod OpenedNotes
 pub mod TakenHeads
 pub mod BestNotes
 pub mod ServedNotes
@@ -19,4 +20,5 @@ pub mod Departures
 pub mod FoundForks
 pub mod RestoredMirrors
 pub mod ComparedHeads
+pub mod ToldLines
 pub mod LaidOut

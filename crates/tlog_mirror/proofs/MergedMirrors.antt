@@ -3,7 +3,7 @@ use Rattle.std.proofs.Common.{◌≡◌, ℕ, ◌+◌, ◌<◌, List, [], ◌∷
 use Rattle.std.proofs.Common.{refl, sym, ap, subst, ◌∙◌, arith}
 use Rattle.std.specs.FinSet as set
 use Rattle.std.specs.List.{Contains}
-use Rattle.std.proofs.lemmas.List.{map-append, take_more, take_all, take-append-drop, get_or-map, length-map}
+use Rattle.std.proofs.lemmas.List.{map-append, take_more, take-append-drop, get_or-map, length-map}
 use Rattle.std.proofs.lemmas.List.Elements.{All-contains, Contains-append_left}
 use Rattle.node_store.specs.Strings.{Strings, Has, NoClash}
 use Rattle.mirror_model.specs.View.{View, union}
@@ -78,13 +78,6 @@ module _ (v : View) (kept : List KeptNote) (i : ℕ) (k : KeptNote) (lt : i < le
         subst (λ (w : View). HasEdge digest w (note_bytes k)) (sym before)
         (edge_moves digest v (with_notes v (first_notes i kept)) (note_bytes k) refl (λ q h. h)
         (All-contains (λ (x : KeptNote). HasEdge digest v (note_bytes x)) kept k edges is_listed))
-
--- all notes are there
-pub noted_all : (v new : View) (kept : List KeptNote) (i : ℕ) → i ≡ length kept →
-    new ≡ with_notes v (first_notes i kept) → new ≡ with_notes v (map note_bytes kept)
-noted_all v new kept i all is =
-    is ∙ ap (λ xs. with_notes v (map note_bytes xs))
-    (ap (λ n. take n kept) all ∙ take_all (length kept) kept (omega arith))
 
 -- ---- the merge
 

@@ -1,9 +1,9 @@
 -- What is remembered of the heads of a mirror, one after another.
-use Rattle.std.proofs.Common.{◌≡◌, ℕ, ◌+◌, ◌<◌, ◌≤◌, List, [], ◌∷◌, ◌++◌, length, take, get_or, Ok, Err, ◌⊎◌, inl, inr}
+use Rattle.std.proofs.Common.{◌≡◌, ℕ, ◌+◌, ◌<◌, ◌≤◌, List, [], ◌∷◌, ◌++◌, length, take, drop, get_or, Ok, Err, ◌⊎◌, inl, inr}
 use Rattle.std.proofs.Common.{sym, subst}
 use Rattle.std.specs.Prelude.{All, Result, OnOk, ◌↔◌}
 use Rattle.std.specs.List.{Contains}
-use Rattle.std.proofs.lemmas.List.{take_more, take_all}
+use Rattle.std.proofs.lemmas.List.{take_more, take_all, take-append-drop}
 use Rattle.std.proofs.lemmas.List.Elements.{All-push, All-weaker, All-contains, Contains-push, Contains-append_left}
 use Rattle.node_store.specs.Strings.{Strings}
 use Rattle.mirror_model.specs.View.{View}
@@ -59,6 +59,23 @@ module _ (digest : List ℕ → List ℕ) (held : Strings) where
       ];
       settled = settled;
     })
+
+  -- what the first heads add is among what all of them may add
+  pub gains_all : (heads : List (ℕ × List ℕ)) (i : ℕ) (u v : Points) → GainsAny digest held (take i heads) u v →
+      GainsAny digest held heads u v
+  gains_all heads i u v g = record {
+    at_least = g.at_least;
+    at_most = λ point h. elim (g.at_most point h) [
+      | inl old ↦ inl old
+      | inr s ↦ inr (record {
+        head = s.head;
+        is_one = subst (λ hs. Contains hs s.head) (take-append-drop i heads)
+            (Contains-append_left (take i heads) (drop i heads) s.head s.is_one);
+        slice = s.slice;
+      })
+    ];
+    settled = g.settled;
+  }
 
   pub all_done : (heads : List (ℕ × List ℕ)) (i : ℕ) → length heads ≤ i → (v : Points) →
       All (HasSlicesOf digest held v) (take i heads) → All (HasSlicesOf digest held v) heads

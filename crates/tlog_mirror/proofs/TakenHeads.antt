@@ -254,12 +254,29 @@ module _ (digest : List ℕ → List ℕ) (keys : List Key) (old : View) (note :
       fault_takes digest keys old note rows fault (note_judged digest note old.origin keys rows fault here)
       (λ is. absurd (subst (λ f. ReadsHead note old.origin keys (Err f)) is here))
 
+  pub note_judges : (fault : TakeFault) → ReadsHead note origin keys (Err fault) →
+      JudgesHead digest old.origin keys note rows (Err fault)
+  note_judges fault reads =
+      note_judged digest note old.origin keys rows fault
+      (subst (λ o. ReadsHead note o keys (Err fault)) same reads)
+
   module _ (checkpoint : Checkpoint) (opened : IsOpenCheckpoint note origin keys checkpoint) where
     here : IsOpenCheckpoint note old.origin keys checkpoint
     here = subst (λ o. IsOpenCheckpoint note o keys checkpoint) same opened
 
     abbrev edge : List (List ℕ)
     edge = edge_strings digest (map row_of rows)
+
+    pub edge_judges : (r : Result (Unit {0}) TakeFault) → JudgesEdge digest checkpoint.size checkpoint.root rows r →
+        JudgesHead digest old.origin keys note rows r
+    edge_judges r h = edge_judged note old.origin keys checkpoint here digest rows r h
+
+    pub whole_judges : HasEdgeRows digest checkpoint.size checkpoint.root rows → (answer : Result (Unit {0}) AddFault)
+        (result : Result (Unit {0}) TakeFault) → result ≡ taken_of answer →
+        JudgesHead digest old.origin keys note rows result
+    whole_judges good answer result is =
+        head_judged digest keys old note rows (open_is_good note old.origin keys checkpoint here digest rows good) answer
+        result is
 
     -- edge rows that are refused, or collide among themselves
     pub edge_takes :

@@ -88,13 +88,7 @@ pub(crate) fn points_of(alloc: Global, kept: &[KeptNote]) -> Result<Vec<(u64, Ha
 fn all_points(alloc: Global, kept: &[KeptNote]) -> Result<Vec<(u64, Hash)>, AllocError>
     ensures { IfOk result (λ points. points.items ≡ map (λ one. (one.size, one.root)) kept.now) }
 {
-    let mut points = Vec::with_capacity(alloc, kept.len())?;
-    for one in kept {
-        let size = one.size;
-        let root = one.root;
-        points.push((size, root))?;
-    }
-    Ok(points)
+    kept.iter().map(|one| (one.size, one.root)).collect(alloc)
 }
 
 // Sorts sizes and roots, and leaves each once.

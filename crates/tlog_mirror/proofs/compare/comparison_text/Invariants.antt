@@ -1,4 +1,4 @@
-use Rattle.std.proofs.Common.{◌≡◌, ◌++◌, take, string_bytes}
+use Rattle.std.proofs.Common.{◌≡◌, take, string_bytes}
 use Rattle.tlog_mirror.specs.Compared.{compared_text}
 use Rattle.tlog_mirror.proofs.compare.comparison_text.Given as goal
 

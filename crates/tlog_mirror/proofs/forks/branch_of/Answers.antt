@@ -1,5 +1,5 @@
-use Rattle.std.proofs.Common.{◌++◌, ◌∙◌, ap}
-use Rattle.tlog_mirror.proofs.Departures.{not_begun, begun, all_gone}
+use Rattle.std.proofs.Common.{◌++◌, ◌∙◌, length, ap, arith}
+use Rattle.tlog_mirror.proofs.Departures.{none_listed, not_begun, begun, all_gone}
 use Rattle.tlog_mirror.proofs.forks.branch_of.Goals as goal
 
 pub returns-then-is_prefix-clause-branch : goal.returns-then-is_prefix-clause-branch
@@ -23,3 +23,8 @@ returns-clause-branch g c =
     all_gone g.H.TreeHash.digest c.args.store.now c.args.before.now c.requires.branches c.args.head c.requires.built
     c.loop-at.at c.loop-at-test.false c.requires.later
     (record { head = c.args.head; apart = c.loop-at.apart }) (λ i. c.args.head) c.loop-at.invariant
+
+pub loop-at-init : goal.loop-at-init
+loop-at-init g c =
+    none_listed g.H.TreeHash.digest c.args.store.now c.args.before.now c.requires.branches c.args.head c.requires.built
+    (length c.args.before.now) (omega arith) c.new-apart.result.items c.new-apart.ensures.items

@@ -1,5 +1,5 @@
 use Rattle.std.proofs.Common.{◌≡◌, ℕ, ◌+◌, ◌<◌, List, [], ◌∷◌, ◌++◌, length, map, take, get_or, ap, ap₂, sym, ◌∙◌}
-use Rattle.std.proofs.lemmas.List.{map-append, take_more}
+use Rattle.std.proofs.lemmas.List.{map-append, take_more, take_all}
 use Rattle.std.proofs.lemmas.List.Elements.{All-push, All-same}
 use Rattle.mirror_model.specs.Reports.{head_point}
 use Rattle.tlog_mirror.specs.Best.{IsBuiltFlag, pair_point}
@@ -22,3 +22,8 @@ loop-point-preserved g c = record {
       (All-push (IsBuiltFlag g.H.TreeHash.digest c.args.store.now) _ _ c.loop-point.invariant.flags
       c.head_of.ensures.flag);
 }
+
+pub returns-clause-points : goal.returns-clause-points
+returns-clause-points g c =
+    c.loop-point.invariant.points ∙
+    ap (map pair_point) (take_all c.loop-point.point-index c.args.points.now c.loop-point-test.false)

@@ -1,5 +1,7 @@
 use Rattle.tlog_mirror.proofs.EdgeRows.{bytes_of}
+use Rattle.std.proofs.Common.{Err}
 use Rattle.tlog_mirror.proofs.TakenHeads.{note_takes, edge_takes, edge_short, head_edge, whole_takes}
+use Rattle.tlog_mirror.proofs.TakenHeads.{note_judges, edge_judges, whole_judges}
 use Rattle.mirror_trees.proofs.EmptySets.{empty_no_clash}
 use Rattle.tlog_mirror.proofs.mirror.Mirror.take_head.Goals as goal
 
@@ -39,3 +41,20 @@ returns-clause-takes g c =
     c.in-Ok-take_edge.ensures.judged c.new-strings.result c.take_edge.new.store c.new-strings.ensures
     c.in-Ok-take_edge.ensures.ok c.in-Ok.head.0.bytes c.in-Ok.ensures.note
     c.keep_head.result c.take_answer.result c.take_answer.ensures c.keep_head.new.self.view c.keep_head.ensures.adds
+
+pub returns-in-Err-clause-judged : goal.returns-in-Err-clause-judged
+returns-in-Err-clause-judged g c =
+    note_judges g.H.TreeHash.digest _ c.args.self.now.view c.args.note.now
+    (bytes_of c.args.edge.now) c.origin.result.now c.origin.ensures c.in-Err.fault c.in-Err.ensures.reads
+
+pub returns-in-Err-take_edge-clause-judged : goal.returns-in-Err-take_edge-clause-judged
+returns-in-Err-take_edge-clause-judged g c =
+    edge_judges g.H.TreeHash.digest _ c.args.self.now.view c.args.note.now
+    (bytes_of c.args.edge.now) c.origin.result.now c.origin.ensures c.in-Ok.head.1 c.in-Ok.ensures.reads
+    (Err c.in-Err-take_edge.fault) c.in-Err-take_edge.ensures.judged
+
+pub returns-clause-judged : goal.returns-clause-judged
+returns-clause-judged g c =
+    whole_judges g.H.TreeHash.digest _ c.args.self.now.view c.args.note.now
+    (bytes_of c.args.edge.now) c.origin.result.now c.origin.ensures c.in-Ok.head.1 c.in-Ok.ensures.reads
+    c.in-Ok-take_edge.ensures.judged c.keep_head.result c.take_answer.result c.take_answer.ensures
