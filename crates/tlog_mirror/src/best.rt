@@ -1,5 +1,5 @@
 //! Which of the kept notes is served.
-ghost use Rattle.std.specs.Prelude.{◌≡◌, ◌↔◌, ℕ, List, IsTrue, IfSome, IfNone};
+ghost use Rattle.std.specs.Prelude.{◌↔◌, IsTrue, IfSome, IfNone};
 ghost use Rattle.mirror_trees.specs.Known.{AreKnown};
 ghost use Rattle.tlog_mirror.specs.Best.{HasKept, IsAhead, IsBestOf, IsFirstWith};
 

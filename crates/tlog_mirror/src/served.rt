@@ -1,5 +1,5 @@
 //! What a mirror serves.
-ghost use Rattle.std.specs.Prelude.{◌≡◌, ◌↔◌, ℕ, List, IfOk, IfSome, IfNone, IsTrue};
+ghost use Rattle.std.specs.Prelude.{ℕ, List, IfOk, IfSome, IfNone};
 ghost use Rattle.mirror_model.specs.Served.{IsRangeHash, IsServedBundle, IsServedNote, IsServedTile, Replies};
 ghost use Rattle.mirror_model.specs.Reports.{SaysServed};
 ghost use Rattle.std.specs.Option.{option_map};

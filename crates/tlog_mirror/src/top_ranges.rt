@@ -1,7 +1,5 @@
 //! What is served, found once.
-ghost use Rattle.std.specs.Prelude.{◌≡◌, ◌↔◌, ℕ, List, IfOk, IfSome, IfNone};
-ghost use Rattle.tlog_hash.specs.Tree.{mth};
-ghost use Rattle.tlog_hash.specs.Rows.{part};
+ghost use Rattle.std.specs.Prelude.{◌≡◌, ℕ, List, IfOk, IfSome, IfNone};
 ghost use Rattle.tlog_tiles.specs.Tiles.{IsTileWithin, tile_bytes, bundle_bytes};
 ghost use Rattle.tlog_mirror.specs.Tops.{IsListOf};
 
