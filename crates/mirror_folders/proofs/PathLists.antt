@@ -1,5 +1,5 @@
 -- The paths of a log's files, as far as they are listed.
-use Rattle.std.proofs.Common.{◌≡◌, ℕ, ◌+◌, List, [], ◌∷◌, ◌++◌, map, sym, ap, ◌∙◌, append_assoc, zero-add, add-one}
+use Rattle.std.proofs.Common.{◌≡◌, ℕ, ◌+◌, List, [], ◌∷◌, ◌++◌, map, sym, ap, ◌∙◌, append_assoc, zero-add}
 use Rattle.std.proofs.lemmas.List.{append-nil}
 use Rattle.tlog_shape.specs.Edge.{edge_index_of}
 use Rattle.std.specs.List.{range_with_len}
@@ -38,10 +38,6 @@ module _ (n : ℕ) (kind : FileKind) (index : ℕ) (before now : List Path) (is_
   kind_full none =
       full_listed ∙ ap (λ (xs : List Path). before ++ xs)
       (sym (append-nil (full_paths n kind)) ∙ ap (λ (xs : List Path). full_paths n kind ++ xs) (sym none))
-
--- one level more
-pub level_more : (n level : ℕ) → tiles_below n level ++ kind_paths n (Tiles level) ≡ tiles_below n (level + 1)
-level_more n level = ap (tiles_below n) (sym (add-one level))
 
 all_levels : (n level : ℕ) → level ≡ 8 → tiles_below n level ≡ tile_paths n
 unfolding tile_paths
