@@ -68,6 +68,11 @@ path_is n size kind level index width path at_size at_level at_index at_width e 
     at_width ∙ (ap (λ s. width_of s level) at_size ∙ ap (width_of n) at_level) in
     e ∙ (λ k. kind_path kind (i k) (w k))
 
+pub index_is : (n size : ℕ) (kind : FileKind) (level index : ℕ) → size ≡ n → level ≡ kind_level kind →
+    index ≡ edge_index_of size level → index ≡ edge_index_of n (kind_level kind)
+index_is n size kind level index at_size at_level at_index =
+    at_index ∙ (ap (λ s. edge_index_of s level) at_size ∙ ap (edge_index_of n) at_level)
+
 pub width_is : (n size : ℕ) (kind : FileKind) (level width : ℕ) → size ≡ n → level ≡ kind_level kind →
     width ≡ width_of size level → width ≡ width_of n (kind_level kind)
 width_is n size kind level width at_size at_level at_width =

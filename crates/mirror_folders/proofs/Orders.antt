@@ -9,7 +9,9 @@ use Rattle.tlog_tiles.specs.declared.paths.Path.{Path}
 use Rattle.mirror_sources.specs.Told.{AddsTold}
 use Rattle.mirror_folders.specs.Shelf.{Put}
 use Rattle.mirror_folders.specs.Exports.{AddsPrefix}
-use Rattle.mirror_folders.specs.Files.{kind_paths, tiles_below, tile_paths}
+use Rattle.tlog_shape.specs.Edge.{edge_index_of}
+use Rattle.mirror_folders.specs.Files.{full_paths, kind_level, kind_path, kind_paths, tiles_below, tile_paths}
+use Rattle.mirror_folders.specs.declared.files.FileKind.{FileKind}
 use Rattle.mirror_folders.specs.declared.files.FileKind.TheVariants.{Tiles}
 use Rattle.mirror_folders.proofs.Prefixes.{files_then, files_more, files_front}
 
@@ -91,3 +93,9 @@ module _ (file : Path → Put) (keep : Path → Bool) (a b : Option (List Put)) 
       AddsTold a b (map file (filter keep (tile_paths n)))
   all_levels_put n level e p =
       subst (λ (l : List Path). AddsTold a b (map file (filter keep l))) (ap (tiles_below n) e ∙ sym (tiles_are n)) p
+
+  pub full_put : (n : ℕ) (kind : FileKind) (index : ℕ) → index ≡ edge_index_of n (kind_level kind) →
+      AddsTold a b (map file (filter keep (first_paths (λ i. kind_path kind i 256) index))) →
+      AddsTold a b (map file (filter keep (full_paths n kind)))
+  full_put n kind index e p =
+      subst (λ m. AddsTold a b (map file (filter keep (first_paths (λ i. kind_path kind i 256) m)))) e p

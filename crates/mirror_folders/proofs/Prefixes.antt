@@ -1,6 +1,6 @@
 -- Files that are put one after the other, all of them or a prefix.
 use Rattle.std.proofs.Common.{◌≡◌, ◌+◌, ◌<◌, ◌≤◌, List, [], ◌∷◌, ◌++◌, length, map, take, Option, Some, None, Result, Ok}
-use Rattle.std.proofs.Common.{Err, Bool, sym, ap, subst, ◌∙◌, append_assoc, length-append, arith}
+use Rattle.std.proofs.Common.{Err, Bool, true, false, cond, sym, ap, subst, ◌∙◌, append_assoc, length-append, arith}
 use Rattle.std.specs.List.{filter}
 use Rattle.std.proofs.lemmas.List.Elements.{filter-append}
 use Rattle.std.proofs.lemmas.List.{append-nil, take-append-le, map-append}
@@ -86,3 +86,12 @@ module _ (file : Path → Put) (keep : Path → Bool) where
 pub file_refused : (file : Path → Put) (a b : Option (List Put)) (path : Path) → KeepsTold a b →
     AddsPrefix a b (map file (path ∷ []))
 file_refused file a b path kept = front_none a b (map file (path ∷ [])) (omega arith) kept
+
+-- a file that is put only where it is to be
+module _ (file : Path → Put) (keep : Path → Bool) (a b : Option (List Put)) (path : Path) where
+  pub none_kept : keep path ≡ false → AddsTold a a (map file (filter keep (path ∷ [])))
+  none_kept e = subst (λ (t : Bool). AddsTold a a (map file (cond t (path ∷ []) []))) (sym e) (adds_none a)
+
+  pub one_kept : {T E : Type 0} (r : Result T E) → keep path ≡ true → AddsFiles a b (map file (path ∷ [])) r →
+      AddsFiles a b (map file (filter keep (path ∷ []))) r
+  one_kept r e p = subst (λ (t : Bool). AddsFiles a b (map file (cond t (path ∷ []) [])) r) (sym e) p

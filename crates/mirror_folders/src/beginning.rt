@@ -45,12 +45,17 @@ fn read_point(alloc: Global, origin: &str, bytes: &[u8]) -> Result<(u64, Hash), 
         Ok(note) => note,
         Err(fault) => return Err(note_fault(&fault)),
     };
-    let checkpoint = match read(alloc, note.text()) {
+    let read = read(alloc, note.text());
+    drop(note);
+    let checkpoint = match read {
         Ok(checkpoint) => checkpoint,
         Err(fault) => return Err(text_fault(&fault)),
     };
-    if is_of(&checkpoint, origin) {
-        Ok((checkpoint.size, checkpoint.root))
+    let is_of_log = is_of(&checkpoint, origin);
+    let point = (checkpoint.size, checkpoint.root);
+    drop(checkpoint);
+    if is_of_log {
+        Ok(point)
     } else {
         Err(UpdateFault::OtherLog)
     }

@@ -50,10 +50,65 @@ pub struct DirShelf<'a, R: Files> {
     folder: FolderName<'a>,
     failures: u64,
     last_failed: Option<FailedFile>,
+    recent: Recent,
+}
+
+// What was put into a folder of late. It stands apart from the shelf, which contracts see as its count of failures: writing
+// changes none of that.
+#[derive(Drop)]
+struct Recent {
     // What was put since the last checkpoint.
     unflushed: Vec<Path>,
     // What earlier runs left in the folder that was put into last.
     left: Leftovers,
+}
+
+impl Recent {
+    // Nothing was put yet. It takes no memory.
+    fn none(alloc: Global) -> Recent {
+        Recent {
+            unflushed: Vec::new(alloc),
+            left: Leftovers::none(alloc),
+        }
+    }
+
+    // Replaces the file of a path.
+    fn write<R: Files>(
+        &mut self,
+        files: &R,
+        alloc: Global,
+        folder: &str,
+        path: &Path,
+        bytes: &[u8],
+    ) -> io::Result<()> {
+        let place = file_path(alloc, folder, path)?;
+        let inner = folder_of(place.as_str());
+        fs::create_dir_all(files, inner)?;
+        self.left.turn_to(files, alloc, inner)?;
+        if *path == Path::Checkpoint {
+            self.write_last(files, alloc, folder, place.as_str(), bytes)
+        } else {
+            self.unflushed.push(*path)?;
+            put_whole(files, alloc, place.as_str(), bytes, &self.left, false)
+        }
+    }
+
+    // Replaces the checkpoint, once all is on the device that was put before it.
+    fn write_last<R: Files>(
+        &mut self,
+        files: &R,
+        alloc: Global,
+        folder: &str,
+        place: &str,
+        bytes: &[u8],
+    ) -> io::Result<()> {
+        flush_files(files, alloc, folder, self.unflushed.as_slice())?;
+        self.unflushed.clear();
+        put_whole(files, alloc, place, bytes, &self.left, true)?;
+        // The checkpoint stands: what the system says of its folder changes nothing.
+        let _flushed = flush_folder(files, folder_of(place));
+        Ok(())
+    }
 }
 
 impl<'a, R: Files> Model for DirShelf<'a, R> {
@@ -75,8 +130,7 @@ impl<'a, R: Files> DirShelf<'a, R> {
             folder: FolderName::Lent(folder),
             failures: 0,
             last_failed: None,
-            unflushed: Vec::new(alloc),
-            left: Leftovers::none(alloc),
+            recent: Recent::none(alloc),
         }
     }
 
@@ -97,48 +151,6 @@ impl<'a, R: Files> DirShelf<'a, R> {
             Ok(_) => Ok(true),
             Err(e) => { if is_missing(&e) { Ok(false) } else { Err(e) } }
         }
-    }
-
-    // Replaces the file at the path.
-    fn write(&mut self, path: &Path, bytes: &[u8]) -> io::Result<()>
-        ensures { self.new ≡ self.old }
-    {
-        let place = file_path(self.alloc, self.folder.text(), path)?;
-        let folder = folder_of(place.as_str());
-        fs::create_dir_all(self.files, folder)?;
-        if !self.left.are_of(folder) {
-            self.left = Leftovers::of(self.files, self.alloc, folder)?;
-        }
-        if *path == Path::Checkpoint {
-            self.write_last(place.as_str(), bytes)
-        } else {
-            self.unflushed.push(*path)?;
-            put_whole(
-                self.files,
-                self.alloc,
-                place.as_str(),
-                bytes,
-                &self.left,
-                false,
-            )
-        }
-    }
-
-    // Replaces the checkpoint, once all is on the device that was put before it.
-    fn write_last(&mut self, place: &str, bytes: &[u8]) -> io::Result<()>
-        ensures { self.new ≡ self.old }
-    {
-        flush_files(
-            self.files,
-            self.alloc,
-            self.folder.text(),
-            self.unflushed.as_slice(),
-        )?;
-        self.unflushed = Vec::new(self.alloc);
-        put_whole(self.files, self.alloc, place, bytes, &self.left, true)?;
-        // The checkpoint stands: what the system says of its folder changes nothing.
-        let _flushed = flush_folder(self.files, folder_of(place));
-        Ok(())
     }
 
     // What an error of the system at that file is to the shelf; a failure is counted and kept.
@@ -165,7 +177,11 @@ impl<'a, R: Files> Shelf for DirShelf<'a, R> {
     }
 
     fn put(&mut self, path: &Path, bytes: &[u8]) -> Result<(), ShelfError> {
-        match self.write(path, bytes) {
+        let folder = self.folder.text();
+        match self
+            .recent
+            .write(self.files, self.alloc, folder, path, bytes)
+        {
             Ok(()) => Ok(()),
             Err(e) => Err(self.fault(path, e)),
         }
@@ -180,8 +196,7 @@ impl<'a, R: Files> NamedFolders for DirShelf<'a, R> {
     fn open(&mut self, name: &str) -> Result<(), AllocError> {
         let name = String::from_str(self.alloc, name)?;
         self.folder = FolderName::Copied(name);
-        self.unflushed = Vec::new(self.alloc);
-        self.left = Leftovers::none(self.alloc);
+        self.recent = Recent::none(self.alloc);
         Ok(())
     }
 }

@@ -4,7 +4,7 @@ ghost use Rattle.std.specs.List.{filter};
 ghost use Rattle.tlog_tiles.specs.Tiles.{IsWithin};
 ghost use Rattle.tlog_mirror.specs.Tops.{IsListOf};
 ghost use Rattle.mirror_folders.specs.Exports.{AddsFiles};
-ghost use Rattle.mirror_folders.specs.Files.{served_bytes, files_at, full_paths, kind_paths, kind_level, partial_path, kind_path, tile_paths};
+ghost use Rattle.mirror_folders.specs.Files.{served_bytes, files_at, kind_paths, kind_level, kind_path};
 ghost use Rattle.mirror_folders.specs.Shelf.{CountsFailures};
 ghost use Rattle.mirror_folders.specs.Since.{is_new, since_paths, width_at};
 
@@ -87,8 +87,9 @@ fn put_file<H: TreeHash, S: Shelf>(
     ensures counted { CountsFailures (S.failed shelf.old) (S.failed shelf.new) result }
 {
     let bytes = file_bytes(alloc, top, path)?;
-    shelf.put(&path, &bytes)?;
-    Ok(())
+    let put = shelf.put(&path, &bytes);
+    drop(bytes);
+    put
 }
 
 // The width that the tile of that level and index has in a tree of that size, 0 where there is none.
@@ -136,7 +137,7 @@ fn put_new<H: TreeHash, S: Shelf>(
     put_file(alloc, top, shelf, path)
 }
 
-// Puts the files of a kind: the full ones by rising index, then the partial one.
+// Puts the files of a kind: the full ones by rising index, then the partial one, where there is one.
 fn put_kind<H: TreeHash, S: Shelf>(
     alloc: Global,
     top: &TopRanges<'_, H>,
@@ -153,83 +154,16 @@ fn put_kind<H: TreeHash, S: Shelf>(
         (filter (is_new since) (kind_paths top.now.size kind))) result }
     ensures counted { CountsFailures (S.failed shelf.old) (S.failed shelf.new) result }
 {
-    put_full(alloc, top, size, since, shelf, kind)?;
-    put_partial(alloc, top, size, since, shelf, kind)
-}
-
-// Puts the full files of a kind, by rising index.
-fn put_full<H: TreeHash, S: Shelf>(
-    alloc: Global,
-    top: &TopRanges<'_, H>,
-    size: u64,
-    since: u64,
-    shelf: &mut S,
-    kind: FileKind,
-) -> Result<(), ShelfError>
-    requires size { size ≡ top.now.size }
-    requires level { kind_level kind ≤ 7 }
-    ensures told { (entries : List (List ℕ)) → IsListOf H.digest top.now entries
-        → AddsFiles (S.puts shelf.old) (S.puts shelf.new)
-        (files_at H.digest top.now.note entries
-        (filter (is_new since) (full_paths top.now.size kind))) result }
-    ensures counted { CountsFailures (S.failed shelf.old) (S.failed shelf.new) result }
-{
-    for index in 0..edge_index(size, level_at(kind)) {
+    let level = level_at(kind);
+    let edge = edge_index(size, level);
+    for index in 0..edge {
         put_new(alloc, top, since, shelf, path_at(kind, index, 256))?;
     }
-    Ok(())
-}
-
-// Puts the partial file of a kind, where there is one.
-fn put_partial<H: TreeHash, S: Shelf>(
-    alloc: Global,
-    top: &TopRanges<'_, H>,
-    size: u64,
-    since: u64,
-    shelf: &mut S,
-    kind: FileKind,
-) -> Result<(), ShelfError>
-    requires size { size ≡ top.now.size }
-    requires level { kind_level kind ≤ 7 }
-    ensures told { (entries : List (List ℕ)) → IsListOf H.digest top.now entries
-        → AddsFiles (S.puts shelf.old) (S.puts shelf.new)
-        (files_at H.digest top.now.note entries
-        (filter (is_new since) (partial_path top.now.size kind))) result }
-    ensures counted { CountsFailures (S.failed shelf.old) (S.failed shelf.new) result }
-{
-    let level = level_at(kind);
     let width = edge_width(size, level);
     if width == 0 {
         return Ok(());
     }
-    put_new(
-        alloc,
-        top,
-        since,
-        shelf,
-        path_at(kind, edge_index(size, level), width),
-    )
-}
-
-// Puts every tile, by rising level and index.
-fn put_tiles<H: TreeHash, S: Shelf>(
-    alloc: Global,
-    top: &TopRanges<'_, H>,
-    size: u64,
-    since: u64,
-    shelf: &mut S,
-) -> Result<(), ShelfError>
-    requires size { size ≡ top.now.size }
-    ensures told { (entries : List (List ℕ)) → IsListOf H.digest top.now entries
-        → AddsFiles (S.puts shelf.old) (S.puts shelf.new)
-        (files_at H.digest top.now.note entries
-        (filter (is_new since) (tile_paths top.now.size))) result }
-    ensures counted { CountsFailures (S.failed shelf.old) (S.failed shelf.new) result }
-{
-    for level in 0..8u32 {
-        put_kind(alloc, top, size, since, shelf, FileKind::Tiles(level))?;
-    }
-    Ok(())
+    put_new(alloc, top, since, shelf, path_at(kind, edge, width))
 }
 
 // Puts every tile, then every bundle, but for those that the first entries, as many as `since`, have too; then the
@@ -247,7 +181,9 @@ pub(crate) fn put_served<H: TreeHash, S: Shelf>(
         (files_at H.digest top.now.note entries (since_paths since top.now.size)) result }
     ensures counted { CountsFailures (S.failed shelf.old) (S.failed shelf.new) result }
 {
-    put_tiles(alloc, top, size, since, shelf)?;
+    for level in 0..8u32 {
+        put_kind(alloc, top, size, since, shelf, FileKind::Tiles(level))?;
+    }
     put_kind(alloc, top, size, since, shelf, FileKind::Bundles)?;
     shelf.put(&Path::Checkpoint, top.note().bytes())?;
     Ok(())

@@ -40,9 +40,17 @@ impl Leftovers {
         })
     }
 
-    // Whether they are those of that folder.
-    pub(crate) fn are_of(&self, folder: &str) -> bool {
-        self.folder.as_str() == folder
+    // Makes them those of that folder, if they are not.
+    pub(crate) fn turn_to<R: Files>(
+        &mut self,
+        files: &R,
+        alloc: Global,
+        folder: &str,
+    ) -> Result<(), AllocError> {
+        if self.folder.as_str() != folder {
+            *self = Leftovers::of(files, alloc, folder)?;
+        }
+        Ok(())
     }
 
     // Takes away those of a file that are older than a day, where the system lets it.
@@ -107,17 +115,26 @@ fn temporary_names<R: Files>(
     let mut names = Vec::new(alloc);
     // By the slash a link to a folder is followed.
     let place = format!(in alloc; "{folder}/")?;
-    let Ok(mut listing) = files.open_dir(place.as_str()) else {
-        return Ok(names);
-    };
+    if let Ok(mut listing) = files.open_dir(place.as_str()) {
+        read_temporary(alloc, &mut listing, &mut names)?;
+    }
+    Ok(names)
+}
+
+// Adds the names of temporary files that a folder lists, as far as it can be read.
+fn read_temporary<D: Read>(
+    alloc: Global,
+    listing: &mut D,
+    names: &mut Vec<String>,
+) -> Result<(), AllocError> {
     let mut space = vec![in alloc; 0u8; CHUNK]?;
     for _ in 0..u64::MAX {
         match listing.read(&mut space) {
             Ok(0) | Err(_) => break,
-            Ok(count) => push_temporary(alloc, &space[..count], &mut names)?,
+            Ok(count) => push_temporary(alloc, &space[..count], names)?,
         }
     }
-    Ok(names)
+    Ok(())
 }
 
 // Adds the names of temporary files among names that each end by a NUL.

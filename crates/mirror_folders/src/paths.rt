@@ -1,54 +1,27 @@
 //! The paths of all files of a log, in the order in which they are put.
-ghost use Rattle.std.specs.Prelude.{◌≡◌, ◌++◌, ◌≤◌, [], IfOk, OnOk};
-ghost use Rattle.mirror_folders.specs.Files.{full_paths, kind_level, kind_paths, partial_path, paths_of, tile_paths};
+ghost use Rattle.std.specs.Prelude.{◌≡◌, ◌++◌, ◌≤◌, IfOk, OnOk};
+ghost use Rattle.mirror_folders.specs.Files.{kind_level, kind_paths, paths_of};
 
 use crate::files::{FileKind, level_at, path_at};
 use std::alloc::{AllocError, Global};
 use tlog_shape::{edge_index, edge_width};
 use tlog_tiles::Path;
 
-// Adds the full files of a kind, by rising index.
-fn push_full(paths: &mut Vec<Path>, size: u64, kind: FileKind) -> Result<(), AllocError>
-    requires { kind_level kind ≤ 7 }
-    ensures { OnOk result (paths.new.items ≡ paths.old.items ++ full_paths size kind) }
-{
-    for index in 0..edge_index(size, level_at(kind)) {
-        paths.push(path_at(kind, index, 256))?;
-    }
-    Ok(())
-}
-
-// Adds the partial file of a kind, where there is one.
-fn push_partial(paths: &mut Vec<Path>, size: u64, kind: FileKind) -> Result<(), AllocError>
-    requires { kind_level kind ≤ 7 }
-    ensures { OnOk result (paths.new.items ≡ paths.old.items ++ partial_path size kind) }
-{
-    let level = level_at(kind);
-    let width = edge_width(size, level);
-    if width == 0 {
-        return Ok(());
-    }
-    paths.push(path_at(kind, edge_index(size, level), width))?;
-    Ok(())
-}
-
-// Adds the files of a kind.
+// Adds the files of a kind: the full ones by rising index, then the partial one, where there is one.
 fn push_kind(paths: &mut Vec<Path>, size: u64, kind: FileKind) -> Result<(), AllocError>
     requires { kind_level kind ≤ 7 }
     ensures { OnOk result (paths.new.items ≡ paths.old.items ++ kind_paths size kind) }
 {
-    push_full(paths, size, kind)?;
-    push_partial(paths, size, kind)
-}
-
-// Adds every tile, by rising level and index, to no paths.
-fn push_tiles(paths: &mut Vec<Path>, size: u64) -> Result<(), AllocError>
-    requires { paths.old.items ≡ [] }
-    ensures { OnOk result (paths.new.items ≡ tile_paths size) }
-{
-    for level in 0..8u32 {
-        push_kind(paths, size, FileKind::Tiles(level))?;
+    let level = level_at(kind);
+    let edge = edge_index(size, level);
+    for index in 0..edge {
+        paths.push(path_at(kind, index, 256))?;
     }
+    let width = edge_width(size, level);
+    if width == 0 {
+        return Ok(());
+    }
+    paths.push(path_at(kind, edge, width))?;
     Ok(())
 }
 
@@ -66,7 +39,9 @@ pub fn log_paths(alloc: Global, size: u64) -> Result<Vec<Path>, AllocError>
     ensures { IfOk result (λ paths. paths.items ≡ paths_of size) }
 {
     let mut paths = Vec::new(alloc);
-    push_tiles(&mut paths, size)?;
+    for level in 0..8u32 {
+        push_kind(&mut paths, size, FileKind::Tiles(level))?;
+    }
     push_kind(&mut paths, size, FileKind::Bundles)?;
     paths.push(Path::Checkpoint)?;
     Ok(paths)

@@ -14,10 +14,10 @@ returns-in-Err-read c =
     rw c.text_fault.ensures (not_a_checkpoint c.args.bytes.now c.args.origin.now c.text.result.now c.in-Ok.note.lines is
     c.in-Err-read.fault c.in-Err-read.ensures.answer)
 
-pub returns : goal.returns
-returns c =
+pub returns-else-is_of_log : goal.returns-else-is_of_log
+returns-else-is_of_log c =
     let is = subst (λ t. IsNote c.args.bytes.now t c.in-Ok.note.lines) (sym c.text.ensures) c.in-Ok.ensures.1 in
     let checkpoint = c.in-Ok-read.checkpoint in
     head_is c.args.bytes.now c.args.origin.now c.text.result.now c.in-Ok.note.lines is checkpoint.size checkpoint.root
     checkpoint.extensions checkpoint.origin c.in-Ok-read.ensures.answer
-    (λ same. false≢true (sym c.if-is_of.false ∙ c.is_of.ensures.1 same))
+    (λ same. false≢true (sym c.if-is_of_log.false ∙ c.is_of-is_of_log.ensures.1 same))

@@ -4,7 +4,7 @@ use Rattle.mirror_folders.specs.Since.{is_new}
 use Rattle.tlog_mirror.specs.Tops.{IsListOf}
 use Rattle.mirror_sources.specs.Told.{AddsTold}
 use Rattle.mirror_folders.specs.Files.{files_at, kind_path}
-use Rattle.mirror_folders.proofs.files.put_full.Given as goal
+use Rattle.mirror_folders.proofs.files.put_kind.Given as goal
 
 abbrev pub invariant-loop-index : goal.invariant-loop-index
 invariant-loop-index g l = record {

@@ -1,7 +1,7 @@
 use Rattle.std.proofs.Common.{◌≡◌, ◌++◌, map}
 use Rattle.std.specs.List.{range_with_len}
 use Rattle.mirror_folders.specs.Files.{kind_path}
-use Rattle.mirror_folders.proofs.paths.push_full.Given as goal
+use Rattle.mirror_folders.proofs.paths.push_kind.Given as goal
 
 abbrev pub invariant-loop-index : goal.invariant-loop-index
 invariant-loop-index l = record {

@@ -1,0 +1,6 @@
+use Rattle.std.proofs.Common.{ap, ◌∙◌}
+use Rattle.mirror_sources.specs.Told.{one_more}
+use Rattle.mirror_folders.proofs.dir_source.DirSourceSource.get.Goals as goal
+
+pub returns-else-eq-clause-counted : goal.returns-else-eq-clause-counted
+returns-else-eq-clause-counted g c = c.count_failure-self-inside.ensures ∙ ap one_more c.self.view_is
