@@ -35,16 +35,7 @@ pub trait ToldFolders: NamedFolders {
     {}
 }
 
-// Of a folder that is not counted nothing is told. The methods stand here as the trait has them, since each that is taken over
-// from the trait takes a check two seconds at this type.
-impl<'a, R: Files> ToldFolders for DirShelf<'a, R> {
-    fn is_told(&self) -> bool {
-        false
-    }
-
-    fn begin(&mut self, _task: Task) {}
-
-    fn expect(&mut self, _files: u64) {}
-}
+// Of a folder that is not counted nothing is told.
+impl<'a, R: Files> ToldFolders for DirShelf<'a, R> {}
 
 impl ToldFolders for MemShelf {}
