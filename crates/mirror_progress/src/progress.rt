@@ -1,10 +1,9 @@
 //! What is told of long work, and when.
-ghost use Rattle.std.specs.Prelude.{◌≡◌, ℕ, ◌≤◌, ◌↔◌, None, Some, IsTrue, is_some, option_map};
-ghost use Rattle.std.specs.Duration.{as_nanos};
+ghost use Rattle.std.specs.Prelude.{◌≡◌, ◌↔◌, None, Some, IsTrue, is_some, option_map};
 ghost use Rattle.std.specs.Time.{instant_nanos};
 ghost use Rattle.byte_streams.specs.Streams.{AppendsPrefix};
-ghost use Rattle.mirror_progress.specs.Text.{with_file, line_of, progress_text, pulled_text};
-ghost use Rattle.mirror_progress.specs.Telling.{IsDue, IsSecondAfter, TellsAt, TellsOnce, told_line};
+ghost use Rattle.mirror_progress.specs.Text.{with_file, line_of, pulled_text};
+ghost use Rattle.mirror_progress.specs.Telling.{IsDue, IsSecondAfter, TellsAt, TellsOnce};
 
 use crate::counts::Counts;
 use crate::line::{progress_line, pulled_line};

@@ -1,5 +1,5 @@
 //! A shelf that is counted.
-ghost use Rattle.std.specs.Prelude.{◌≡◌, IfOk, length};
+ghost use Rattle.std.specs.Prelude.{◌≡◌, length};
 ghost use Rattle.mirror_folders.specs.Shelf.{TellsPut, CountsFailures};
 ghost use Rattle.mirror_progress.specs.Counting.{CountsPut};
 

@@ -1,8 +1,7 @@
 //! How many files are put in all.
-ghost use Rattle.std.specs.Prelude.{◌≡◌, ◌≢◌, ◌↔◌, ◌+◌, ◌^◌, ◌≤◌, length, IsTrue};
-ghost use Rattle.tlog_shape.specs.Edge.{width_of, edge_index_of};
+ghost use Rattle.std.specs.Prelude.{◌≡◌, ◌+◌, ◌^◌, ◌≤◌, length};
 ghost use Rattle.mirror_folders.specs.Since.{since_paths, width_at};
-ghost use Rattle.mirror_progress.specs.Total.{new_at, new_below, new_partial};
+ghost use Rattle.mirror_progress.specs.Total.{new_at, new_partial};
 
 use tlog_shape::{edge_index, edge_width, width_in};
 
