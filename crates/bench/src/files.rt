@@ -76,18 +76,20 @@ fn load_told<H: TreeHash, R: AllocGlobal + CpuClock + Print + Eprint>(
 fn load_count<H: TreeHash>(alloc: Global, text: &[u8]) -> anyhow::Result<usize> {
     let mut keys: Vec<Box<dyn Verifier>> = Vec::new(alloc);
     keys.push(Box::new(alloc, key(alloc)?)?)?;
-    let loaded: Mirror<H> = load_under(alloc, keys.as_slice(), text)?;
-    Ok(loaded.strings().len())
+    Ok(load_under::<H>(alloc, keys.as_slice(), text)?)
 }
 
-// The mirror of a state text, under those keys.
+// The same, under those keys.
 fn load_under<H: TreeHash>(
     alloc: Global,
     keys: &[Box<dyn Verifier>],
     text: &[u8],
-) -> Result<Mirror<H>, LoadFault> {
+) -> Result<usize, LoadFault> {
     let mut reader = text;
-    load(alloc, ORIGIN, keys, &mut reader)
+    let mirror: Mirror<H> = load(alloc, ORIGIN, keys, &mut reader)?;
+    let strings = mirror.strings().len();
+    drop(mirror);
+    Ok(strings)
 }
 
 // Exports the mirror onto a shelf in memory.
@@ -106,6 +108,9 @@ fn export_told<H: TreeHash, R: AllocGlobal + CpuClock + Print + Eprint>(
 // Exports the mirror onto a shelf in memory, and answers how many files that are.
 fn export_count<H: TreeHash>(alloc: Global, mirror: &Mirror<H>) -> Result<usize, ExportFault> {
     let mut shelf = MemShelf::new(alloc);
-    export(alloc, mirror, &mut shelf)?;
-    Ok(shelf.puts().len())
+    let answer = export(alloc, mirror, &mut shelf);
+    let files = shelf.puts().len();
+    drop(shelf);
+    answer?;
+    Ok(files)
 }

@@ -57,7 +57,9 @@ fn measure_one<H: TreeHash, R: AllocGlobal + CpuClock + Files + Print + Eprint>(
     count: u32,
 ) -> anyhow::Result<()> {
     let mut mirror = list::empty::<H>(rt.alloc())?;
-    measure_mirror(rt, &mut mirror, subject, count)
+    let answer = measure_mirror(rt, &mut mirror, subject, count);
+    drop(mirror);
+    answer
 }
 
 // Measures a subject of which an empty mirror is a part.

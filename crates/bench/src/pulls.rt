@@ -59,24 +59,43 @@ fn made_told<H: TreeHash, R: AllocGlobal + CpuClock + Eprint>(
 {
     let start = now(rt)?;
     let source = source_of::<H>(rt.alloc(), entries)?;
-    tell_since(rt, "  a source over them, ns", start, hashing)?;
-    Ok(source)
+    match tell_since(rt, "  a source over them, ns", start, hashing) {
+        Ok(()) => Ok(source),
+        Err(fault) => {
+            drop(source);
+            Err(fault.into())
+        }
+    }
 }
 
-// Pulls a log of so many entries, walks it and settles it, and tells what memory it takes.
+// Pulls a log of so many entries, walks it and settles it.
 fn pull_first<H: TreeHash, R: AllocGlobal + CpuClock + Files + Print + Eprint>(
     rt: &R,
     mirror: &mut Mirror<H>,
     count: u32,
 ) -> anyhow::Result<()> {
     let (mut source, hashing, root) = source_told::<H, R>(rt, count)?;
+    let answer = pull_from(rt, mirror, &mut source, count, &root, hashing);
+    drop(source);
+    answer
+}
+
+// Pulls all that the source has, of so many entries and that root, walks it and settles it, and tells what memory that takes.
+fn pull_from<H: TreeHash, R: AllocGlobal + CpuClock + Files + Print + Eprint>(
+    rt: &R,
+    mirror: &mut Mirror<H>,
+    source: &mut ListSource<H>,
+    count: u32,
+    root: &Hash,
+    hashing: u128,
+) -> anyhow::Result<()> {
     let before = resident_bytes(rt);
-    pull_told(rt, mirror, &mut source, hashing)?;
+    pull_told(rt, mirror, source, hashing)?;
     let pulled = resident_bytes(rt).saturating_sub(before);
-    walk_told(rt, mirror, u64::from(count), &root, hashing)?;
+    walk_told(rt, mirror, u64::from(count), root, hashing)?;
     settle_told(rt, mirror, hashing)?;
     let settled = resident_bytes(rt).saturating_sub(before);
-    walk_told(rt, mirror, u64::from(count), &root, hashing)?;
+    walk_told(rt, mirror, u64::from(count), root, hashing)?;
     tell_memory(rt, count, pulled, settled)
 }
 
@@ -106,7 +125,9 @@ fn grow<H: TreeHash, R: AllocGlobal + CpuClock + Print + Eprint>(
     count: u32,
 ) -> anyhow::Result<()> {
     let (mut source, hashing, _root) = source_told::<H, R>(rt, count)?;
-    pull_told(rt, mirror, &mut source, hashing)?;
+    let pulled = pull_told(rt, mirror, &mut source, hashing);
+    drop(source);
+    pulled?;
     settle_told(rt, mirror, hashing)
 }
 
@@ -215,5 +236,7 @@ pub(crate) fn fill<H: TreeHash>(
     count: u32,
 ) -> anyhow::Result<Hash> {
     let mut source = source_of::<H>(alloc, entries_of(alloc, count)?)?;
-    Ok(pull_all(alloc, mirror, &mut source)?.root)
+    let pulled = pull_all(alloc, mirror, &mut source);
+    drop(source);
+    Ok(pulled?.root)
 }

@@ -17,8 +17,10 @@ const TIMES: u32 = 1000;
 // How many hashes a full tile has, and entries a full bundle.
 const WIDTH: u32 = 256;
 
+// What a reply begins with that carries what was asked for.
+const FOUND: &[u8] = b"HTTP/1.1 200 OK\r\n";
+
 // A kind of parts.
-#[derive(Clone, Copy)]
 enum Kind {
     Tiles,
     Bundles,
@@ -26,8 +28,10 @@ enum Kind {
     Checkpoints,
 }
 
+// Each of them.
+const KINDS: [Kind; 4] = [Kind::Tiles, Kind::Bundles, Kind::Proofs, Kind::Checkpoints];
+
 // What is asked for: a file of the log, or a proof of inclusion.
-#[derive(Clone, Copy)]
 enum Part {
     File(Path),
     Proof { size: u64, index: u64 },
@@ -86,10 +90,10 @@ fn measure_kinds<H: TreeHash, R: AllocGlobal + CpuClock + Print + Eprint>(
     count: u32,
     look_ups: u128,
 ) -> anyhow::Result<()> {
-    measure_kind(rt, mirror, Kind::Tiles, count, look_ups)?;
-    measure_kind(rt, mirror, Kind::Bundles, count, look_ups)?;
-    measure_kind(rt, mirror, Kind::Proofs, count, look_ups)?;
-    measure_kind(rt, mirror, Kind::Checkpoints, count, look_ups)
+    for kind in &KINDS {
+        measure_kind(rt, mirror, kind, count, look_ups)?;
+    }
+    Ok(())
 }
 
 // The time of as many look-ups as parts are asked for, from that of a walk: it looks up each entry, and each pair.
@@ -100,55 +104,31 @@ fn look_ups_of(walking: u128, count: u32) -> u128 {
     )
 }
 
-// Asks for the parts of one kind, and for the replies that carry them.
+// Asks for the parts of one kind, and then for the replies that carry them, and tells the time of each and how many are given.
 fn measure_kind<H: TreeHash, R: AllocGlobal + CpuClock + Print + Eprint>(
     rt: &R,
     mirror: &Mirror<H>,
-    kind: Kind,
+    kind: &Kind,
     count: u32,
     look_ups: u128,
 ) -> anyhow::Result<()> {
     let name = name_of(kind);
     eprintln!(rt; "  {name}:")?;
-    let given = given_told(rt, mirror, kind, count, look_ups)?;
-    let answered = answered_told(rt, mirror, kind, count, look_ups)?;
-    println!(rt; "{name}: {given} given, {answered} answered")?;
-    Ok(())
-}
-
-// Asks for the parts of a kind, tells the time that it took, and answers how many are given.
-fn given_told<H: TreeHash, R: AllocGlobal + CpuClock + Eprint>(
-    rt: &R,
-    mirror: &Mirror<H>,
-    kind: Kind,
-    count: u32,
-    look_ups: u128,
-) -> anyhow::Result<u32> {
     let start = now(rt)?;
     let given = count_given(rt.alloc(), mirror, kind, count)?;
     tell_since(rt, "    asked of the mirror, ns", start, look_ups)?;
-    Ok(given)
-}
-
-// Answers requests for the parts of a kind, tells the time that it took, and answers how many are given.
-fn answered_told<H: TreeHash, R: AllocGlobal + CpuClock + Eprint>(
-    rt: &R,
-    mirror: &Mirror<H>,
-    kind: Kind,
-    count: u32,
-    look_ups: u128,
-) -> anyhow::Result<u32> {
     let start = now(rt)?;
     let answered = count_answered(rt.alloc(), mirror, kind, count)?;
     tell_since(rt, "    answered to a client, ns", start, look_ups)?;
-    Ok(answered)
+    println!(rt; "{name}: {given} given, {answered} answered")?;
+    Ok(())
 }
 
 // Asks for the parts of a kind, and counts those that are given.
 fn count_given<H: TreeHash>(
     alloc: Global,
     mirror: &Mirror<H>,
-    kind: Kind,
+    kind: &Kind,
     count: u32,
 ) -> Result<u32, AllocError> {
     let mut given = 0u32;
@@ -164,7 +144,7 @@ fn count_given<H: TreeHash>(
 fn count_answered<H: TreeHash>(
     alloc: Global,
     mirror: &Mirror<H>,
-    kind: Kind,
+    kind: &Kind,
     count: u32,
 ) -> anyhow::Result<u32> {
     let mut answered = 0u32;
@@ -177,7 +157,7 @@ fn count_answered<H: TreeHash>(
 }
 
 // What the parts of a kind are called.
-fn name_of(kind: Kind) -> &'static str {
+fn name_of(kind: &Kind) -> &'static str {
     match kind {
         Kind::Tiles => "full tiles",
         Kind::Bundles => "full bundles",
@@ -187,7 +167,7 @@ fn name_of(kind: Kind) -> &'static str {
 }
 
 // The part of that number, spread over a log of so many entries.
-fn part_of(kind: Kind, count: u32, number: u32) -> Part {
+fn part_of(kind: &Kind, count: u32, number: u32) -> Part {
     match kind {
         Kind::Tiles => Part::File(Path::Tile {
             level: 0,
@@ -258,7 +238,7 @@ fn is_proof_given<H: TreeHash>(alloc: Global, mirror: &Mirror<H>, size: u64, ind
 fn is_answered<H: TreeHash>(alloc: Global, mirror: &Mirror<H>, part: Part) -> anyhow::Result<bool> {
     let request = request_of(alloc, part)?;
     let reply = reply_to(alloc, mirror, request.as_bytes())?;
-    Ok(is_found(reply.as_slice()))
+    Ok(reply.as_slice().starts_with(FOUND))
 }
 
 // The reply to the bytes of a client.
@@ -271,11 +251,6 @@ fn reply_to<H: TreeHash>(
     let mut reply = Vec::new(alloc);
     answer(alloc, mirror, &mut reader, &mut reply)?;
     Ok(reply)
-}
-
-// Whether the reply says that what was asked for is behind it.
-fn is_found(reply: &[u8]) -> bool {
-    reply.starts_with(b"HTTP/1.1 200 OK\r\n".as_slice())
 }
 
 // The request for it.

@@ -95,14 +95,3 @@ pub(crate) fn answered<H: TreeHash, R: Read, W: Write>(
 ) -> Result<(), HttpFault> {
     answer(alloc, mirror, reader, writer)
 }
-
-// The whole reply to these bytes.
-fn reply_of<H: TreeHash>(
-    alloc: Global,
-    mirror: &Mirror<H>,
-    mut request: &[u8],
-) -> Result<Vec<u8>, HttpFault> {
-    let mut reply = Vec::new(alloc);
-    answered(alloc, mirror, &mut request, &mut reply)?;
-    Ok(reply)
-}

@@ -10,6 +10,9 @@ const SMALL: &str = "3\nPgAAAAAAAAAAAAAAAAAAAAAAAAAAAAAAAAAAAAAAAAA=";
 
 const LARGE: &str = "4\nowAAAAAAAAAAAAAAAAAAAAAAAAAAAAAAAAAAAAAAAAA=";
 
+// The entries of the large log, a byte each.
+const LETTERS: &[u8] = b"\x14\x1e\x0a\x64";
+
 const SAME: &str =
     "same 3 PgAAAAAAAAAAAAAAAAAAAAAAAAAAAAAAAAAAAAAAAAA=\nsame 4 owAAAAAAAAAAAAAAAAAAAAAAAAAAAAAAAAAAAAAAAAA=\n";
 
@@ -23,22 +26,16 @@ fn same_under_collisions(rt: HostRuntime) -> Result<(), Fail> {
     answer
 }
 
+// A mirror that takes both heads, and the entries of the large log, tells both as the same.
 fn takes_and_tells<H: TreeHash>(
     rt: &impl Abort,
     alloc: Global,
     mirror: &mut Mirror<H>,
 ) -> Result<(), Fail> {
-    take_logs(alloc, mirror)?;
+    take_log(alloc, mirror, SMALL, b"\x01\x02\x39")?;
+    take_log(alloc, mirror, LARGE, LETTERS)?;
+    take_letters(alloc, mirror, LETTERS)?;
     tells_same(rt, alloc, mirror)
-}
-
-// Takes both heads, and the entries of the large log.
-fn take_logs<H: TreeHash>(alloc: Global, mirror: &mut Mirror<H>) -> Result<(), Fail> {
-    let first: &[u8] = &[1, 2, 0x39];
-    let second: &[u8] = &[0x14, 0x1e, 0x0a, 0x64];
-    take_log(alloc, mirror, SMALL, first)?;
-    take_log(alloc, mirror, LARGE, second)?;
-    take_letters(alloc, mirror, second)
 }
 
 // Both heads are told as the same.

@@ -6,6 +6,18 @@ use std::test::Fail;
 use tlog_hash::{SumTree, TreeHash};
 use tlog_mirror::{Fork, Mirror};
 
+// The heads of two logs, and their entries, a byte each.
+const LOGS: [(&str, &[u8]); 2] = [
+    (
+        "3\nPgAAAAAAAAAAAAAAAAAAAAAAAAAAAAAAAAAAAAAAAAA=",
+        b"\x01\x02\x39",
+    ),
+    (
+        "4\nowAAAAAAAAAAAAAAAAAAAAAAAAAAAAAAAAAAAAAAAAA=",
+        b"\x14\x1e\x0a\x64",
+    ),
+];
+
 const FORK: &str =
     "fork 3 PgAAAAAAAAAAAAAAAAAAAAAAAAAAAAAAAAAAAAAAAAA= 4 owAAAAAAAAAAAAAAAAAAAAAAAAAAAAAAAAAAAAAAAAA=\n";
 
@@ -18,42 +30,23 @@ fn fork_under_collisions(rt: HostRuntime) -> Result<(), Fail> {
     answer
 }
 
+// A mirror that takes both logs tells the fork.
 fn takes_and_tells<H: TreeHash>(
     rt: &impl Abort,
     alloc: Global,
     mirror: &mut Mirror<H>,
 ) -> Result<(), Fail> {
-    take_logs(alloc, mirror)?;
-    tells_fork(rt, alloc, mirror)
-}
-
-// Takes both logs.
-fn take_logs<H: TreeHash>(alloc: Global, mirror: &mut Mirror<H>) -> Result<(), Fail> {
-    let small = "3\nPgAAAAAAAAAAAAAAAAAAAAAAAAAAAAAAAAAAAAAAAAA=";
-    let large = "4\nowAAAAAAAAAAAAAAAAAAAAAAAAAAAAAAAAAAAAAAAAA=";
-    let first: &[u8] = &[1, 2, 0x39];
-    let second: &[u8] = &[0x14, 0x1e, 0x0a, 0x64];
-    for (head, letters) in [(small, first), (large, second)] {
+    for &(head, letters) in &LOGS {
         take_log(alloc, mirror, head, letters)?;
         take_letters(alloc, mirror, letters)?;
     }
-    Ok(())
+    tells_fork(rt, alloc, mirror)
 }
 
 // The mirror has two complete heads, and tells that fork.
 fn tells_fork<H: TreeHash>(rt: &impl Abort, alloc: Global, mirror: &Mirror<H>) -> Result<(), Fail> {
-    has_two_heads(rt, alloc, mirror)?;
     assert!(rt; forks_at_last(alloc, mirror)?.len() == 1);
     assert!(rt; mirror.forks_text(alloc)?.as_str() == FORK);
-    Ok(())
-}
-
-// The mirror has two complete heads.
-fn has_two_heads<H: TreeHash>(
-    rt: &impl Abort,
-    alloc: Global,
-    mirror: &Mirror<H>,
-) -> Result<(), AllocError> {
     let heads = mirror.heads(alloc)?;
     assert!(rt; heads.len() == 2);
     assert!(rt; heads[0].complete && heads[1].complete);

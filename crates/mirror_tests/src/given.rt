@@ -76,26 +76,11 @@ pub(crate) fn take_log<H: TreeHash>(
     head: &str,
     letters: &[u8],
 ) -> Result<(), Fail> {
-    let row = row_of_letters::<H>(alloc, letters)?;
-    take_head(alloc, mirror, head, &[row.as_slice()])
-}
-
-// The leaf hashes of entries of one byte each.
-fn row_of_letters<H: TreeHash>(alloc: Global, letters: &[u8]) -> Result<Vec<u8>, AllocError> {
     let mut row = Vec::new(alloc);
     for letter in letters {
         row.extend_from_slice(H::leaf(&[*letter]).as_slice())?;
     }
-    Ok(row)
-}
-
-// The bundle of entries of one byte each.
-fn bundle_of_letters(alloc: Global, letters: &[u8]) -> Result<Vec<u8>, AllocError> {
-    let mut bytes = Vec::new(alloc);
-    for letter in letters {
-        bytes.extend_from_slice(&[0, 1, *letter])?;
-    }
-    Ok(bytes)
+    take_head(alloc, mirror, head, &[row.as_slice()])
 }
 
 // Takes a bundle of entries of one byte each.
@@ -108,7 +93,10 @@ pub(crate) fn take_letters<H: TreeHash>(
     if width == 0 || width > 256 {
         return Err("no width of a bundle".into());
     }
-    let bytes = bundle_of_letters(alloc, letters)?;
+    let mut bytes = Vec::new(alloc);
+    for letter in letters {
+        bytes.extend_from_slice(&[0, 1, *letter])?;
+    }
     mirror.take_bundle(alloc, width as u32, &bytes)?;
     Ok(())
 }

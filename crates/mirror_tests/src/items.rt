@@ -105,33 +105,13 @@ fn refuses_row<H: TreeHash>(
     held: usize,
 ) -> Result<(), Fail> {
     let row = row_of(alloc, hashes)?;
-    refuses_tile(rt, alloc, mirror, hashes.len(), &row);
-    refuses_head(rt, alloc, mirror, note, &row)?;
-    assert!(rt; mirror.strings().len() == held && mirror.note_at(0).is_none());
-    Ok(())
-}
-
-fn refuses_tile<H: TreeHash>(
-    rt: &impl Abort,
-    alloc: Global,
-    mirror: &mut Mirror<H>,
-    width: usize,
-    row: &[u8],
-) {
+    let width = hashes.len();
     assert!(rt; width > 0 && width < 5);
-    let answer = mirror.take_tile(alloc, width as u32, row);
+    let answer = mirror.take_tile(alloc, width as u32, &row);
     assert!(rt; answer == Err(TakeFault::Collision));
-}
-
-fn refuses_head<H: TreeHash>(
-    rt: &impl Abort,
-    alloc: Global,
-    mirror: &mut Mirror<H>,
-    note: &str,
-    row: &[u8],
-) -> Result<(), AllocError> {
-    let answer = answer_to_head(alloc, mirror, note.as_bytes(), &[row])?;
+    let answer = answer_to_head(alloc, mirror, note.as_bytes(), &[row.as_slice()])?;
     assert!(rt; answer == Err(TakeFault::Collision));
+    assert!(rt; mirror.strings().len() == held && mirror.note_at(0).is_none());
     Ok(())
 }
 

@@ -103,58 +103,33 @@ fn count_served<H: TreeHash, S: Source>(
 ) -> Result<usize, SourceFault> {
     let mut found = 0usize;
     for path in paths {
-        let there = is_served(rt, alloc, mirror, source, path)?;
-        found = found.saturating_add(usize::from(there));
+        let want = source.get(path)?;
+        let file = mirror.file(alloc, path)?;
+        assert!(rt; file == want);
+        found = found.saturating_add(usize::from(file.is_some()));
     }
     Ok(found)
-}
-
-fn is_served<H: TreeHash, S: Source>(
-    rt: &impl Abort,
-    alloc: Global,
-    mirror: &Mirror<H>,
-    source: &mut S,
-    path: &Path,
-) -> Result<bool, SourceFault> {
-    let want = source.get(path)?;
-    let file = mirror.file(alloc, path)?;
-    assert!(rt; file == want);
-    Ok(file.is_some())
 }
 
 #[test]
 fn held_logs_are_laid_out(rt: HostRuntime) -> Result<(), Fail> {
     for count in &COUNTS {
-        lays_out::<Sha256Tree>(&rt, rt.alloc(), *count)?;
+        let mut mirror = Mirror::<Sha256Tree>::new(rt.alloc(), "ex")?;
+        let answer = lays_out(&rt, rt.alloc(), &mut mirror, *count);
+        drop(mirror);
+        answer?;
     }
     Ok(())
 }
 
-// A new mirror takes C(n), and has its files.
-fn lays_out<H: TreeHash>(rt: &impl Abort, alloc: Global, count: u16) -> Result<(), Fail> {
-    let mut mirror = Mirror::<H>::new(alloc, "ex")?;
-    let answer = lays_out_in(rt, alloc, &mut mirror, count);
-    drop(mirror);
-    answer
-}
-
-fn lays_out_in<H: TreeHash>(
+// A new mirror takes C(n). The tree of its one head has the files of C(n), and no others.
+fn lays_out<H: TreeHash>(
     rt: &impl Abort,
     alloc: Global,
     mirror: &mut Mirror<H>,
     count: u16,
 ) -> Result<(), Fail> {
     pull_log(alloc, mirror, count)?;
-    has_laid_out(rt, alloc, mirror, count)
-}
-
-// The tree of the one head that a mirror has, of C(n), has the files of C(n), and no others.
-fn has_laid_out<H: TreeHash>(
-    rt: &impl Abort,
-    alloc: Global,
-    mirror: &Mirror<H>,
-    count: u16,
-) -> Result<(), Fail> {
     let heads = mirror.heads(alloc)?;
     assert!(rt; heads.len() == 1);
     has_head_laid_out(rt, alloc, mirror, heads[0].size, &heads[0].root, count)
@@ -170,7 +145,9 @@ fn has_head_laid_out<H: TreeHash>(
 ) -> Result<(), Fail> {
     let files = files_of_head(alloc, mirror, size, root)?.ok_or("no files")?;
     assert!(rt; files.size() == u64::from(count) && files.root() == *root);
-    has_files(rt, alloc, &files, count)
+    let answer = has_files(rt, alloc, &files, count);
+    drop(files);
+    answer
 }
 
 // The files of the tree of a complete head.
@@ -210,22 +187,12 @@ fn count_pieces<H: TreeHash, S: Source>(
 ) -> Result<usize, SourceFault> {
     let mut found = 0usize;
     for path in paths {
-        let there = is_piece(rt, files, source, path)?;
-        found = found.saturating_add(usize::from(there));
+        let want = source.get(path)?;
+        let piece = piece_at(files, path);
+        assert!(rt; want.as_deref() == piece);
+        found = found.saturating_add(usize::from(piece.is_some()));
     }
     Ok(found)
-}
-
-fn is_piece<H: TreeHash, S: Source>(
-    rt: &impl Abort,
-    files: &LogFiles<H>,
-    source: &mut S,
-    path: &Path,
-) -> Result<bool, SourceFault> {
-    let want = source.get(path)?;
-    let piece = piece_at(files, path);
-    assert!(rt; want.as_deref() == piece);
-    Ok(piece.is_some())
 }
 
 // The file of that path.
@@ -273,37 +240,20 @@ fn a_huge_log_is_not_laid_out(rt: HostRuntime) -> Result<(), Fail> {
     answer
 }
 
-// Takes the log, and serves the one tile of its highest level.
+// The head of 2^62 entries of no bytes.
+const HUGE_HEAD: &str = "4611686018427387904\nyvSihSlYLKAsS9ISsYuE9gwk0asP+HBifQara1F/gSE=";
+
+// Takes the head, and of each level below its edge a tile or a bundle, and serves the one tile of its highest level.
 fn serves_huge_log<H: TreeHash>(
     rt: &impl Abort,
     alloc: Global,
     mirror: &mut Mirror<H>,
 ) -> Result<(), Fail> {
     let edge = equal_row::<H>(alloc, 7, 64)?;
-    take_huge_log(alloc, mirror, &edge)?;
+    take_head(alloc, mirror, HUGE_HEAD, &[edge.as_slice()])?;
+    take_equal(alloc, mirror, 7)?;
     mirror.lay_out(alloc)?;
-    serves_edge(rt, alloc, mirror, &edge)?;
-    Ok(())
-}
-
-fn serves_edge<H: TreeHash>(
-    rt: &impl Abort,
-    alloc: Global,
-    mirror: &Mirror<H>,
-    edge: &[u8],
-) -> Result<(), AllocError> {
     let tile = mirror.tile(alloc, 7, 0, 64)?;
-    assert!(rt; tile.as_deref() == Some(edge));
+    assert!(rt; tile.as_deref() == Some(edge.as_slice()));
     Ok(())
-}
-
-// Takes the head of 2^62 entries of no bytes, whose edge is that row, and of each level below a tile or a bundle.
-fn take_huge_log<H: TreeHash>(
-    alloc: Global,
-    mirror: &mut Mirror<H>,
-    edge: &[u8],
-) -> Result<(), Fail> {
-    let head = "4611686018427387904\nyvSihSlYLKAsS9ISsYuE9gwk0asP+HBifQara1F/gSE=";
-    take_head(alloc, mirror, head, &[edge])?;
-    take_equal(alloc, mirror, 7)
 }

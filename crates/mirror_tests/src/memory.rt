@@ -14,13 +14,8 @@ use tlog_text::read_hash;
 #[test]
 fn takes_again_after_want_of_memory(rt: HostRuntime) -> Result<(), Fail> {
     let row = tile_of_3::<Sha256Tree>(rt.alloc())?;
-    takes_all_at_last::<Sha256Tree>(&rt, rt.alloc(), &row)
-}
-
-// New mirrors take the tile and the bundle, and the head, of the three entries, whose leaf hashes are that row.
-fn takes_all_at_last<H: TreeHash>(rt: &impl Abort, alloc: Global, row: &[u8]) -> Result<(), Fail> {
-    takes_at_last::<H>(rt, alloc, row)?;
-    let mirror = head_at_last::<H>(rt, alloc, row)?;
+    takes_at_last::<Sha256Tree>(&rt, rt.alloc(), &row)?;
+    let mirror = head_at_last::<Sha256Tree>(&rt, rt.alloc(), &row)?;
     drop(mirror);
     Ok(())
 }
@@ -94,19 +89,14 @@ fn take_head_at_last<H: TreeHash>(
 #[test]
 fn merges_again_after_want_of_memory(rt: HostRuntime) -> Result<(), Fail> {
     let row = tile_of_3::<Sha256Tree>(rt.alloc())?;
-    merges_all_at_last::<Sha256Tree>(&rt, rt.alloc(), &row)
-}
-
-// A new mirror is merged with one that is complete at the three entries.
-fn merges_all_at_last<H: TreeHash>(rt: &impl Abort, alloc: Global, row: &[u8]) -> Result<(), Fail> {
-    let mut other = head_at_last::<H>(rt, alloc, row)?;
-    take_bundle_at_last(rt, alloc, &mut other);
-    let answer = merges_at_last(rt, alloc, &other);
+    let mut other = head_at_last::<Sha256Tree>(&rt, rt.alloc(), &row)?;
+    take_bundle_at_last(&rt, rt.alloc(), &mut other);
+    let answer = merges_at_last(&rt, rt.alloc(), &other);
     drop(other);
     answer
 }
 
-// A new mirror is merged with that one.
+// A new mirror is merged with that one, which is complete at the three entries.
 fn merges_at_last<H: TreeHash>(
     rt: &impl Abort,
     alloc: Global,
@@ -118,14 +108,20 @@ fn merges_at_last<H: TreeHash>(
     answer
 }
 
-// Both are complete then.
+// A mirror that is empty is merged with one of five strings and a note, which comes last. Both are complete then.
 fn become_whole<H: TreeHash>(
     rt: &impl Abort,
     alloc: Global,
     mirror: &mut Mirror<H>,
     other: &Mirror<H>,
 ) -> Result<(), Fail> {
-    merge_at_last(rt, alloc, mirror, other);
+    let mut answer = mirror.merge(alloc, other);
+    if answer == Err(MergeFault::OutOfMemory) {
+        assert!(rt; mirror.note_at(0).is_none());
+        answer = mirror.merge(alloc, other);
+    }
+    assert!(rt; answer == Ok(()));
+    assert!(rt; mirror.strings().len() == 5);
     is_whole(rt, mirror)?;
     is_whole(rt, other)
 }
@@ -137,101 +133,54 @@ fn is_whole<H: TreeHash>(rt: &impl Abort, mirror: &Mirror<H>) -> Result<(), Fail
     Ok(())
 }
 
-// Merges a mirror that is empty with one of five strings and a note, which comes last.
-fn merge_at_last<H: TreeHash>(
-    rt: &impl Abort,
-    alloc: Global,
-    mirror: &mut Mirror<H>,
-    other: &Mirror<H>,
-) {
-    let mut answer = mirror.merge(alloc, other);
-    if answer == Err(MergeFault::OutOfMemory) {
-        assert!(rt; mirror.note_at(0).is_none());
-        answer = mirror.merge(alloc, other);
-    }
-    assert!(rt; answer == Ok(()));
-    assert!(rt; mirror.strings().len() == 5);
-}
-
 #[test]
 fn plays_again_after_want_of_memory(rt: HostRuntime) -> Result<(), Fail> {
     plays_at_last::<Sha256Tree>(&rt, rt.alloc())
 }
 
-// The three events happen to two mirrors.
+// The three events happen to two mirrors, by which mirror 0 is complete and mirror 1 holds no head.
 fn plays_at_last<H: TreeHash>(rt: &impl Abort, alloc: Global) -> Result<(), Fail> {
+    let keys = keys(alloc)?;
     let events = three_events::<H>(alloc)?;
     let mut world = two_mirrors::<H>(alloc)?;
-    merge_by_play(rt, alloc, &mut world, &events)
-}
-
-// Plays the three events, by which mirror 0 is complete and mirror 1 holds no head.
-fn merge_by_play<H: TreeHash>(
-    rt: &impl Abort,
-    alloc: Global,
-    world: &mut [Mirror<H>],
-    events: &[Event],
-) -> Result<(), Fail> {
-    play_at_last(rt, alloc, world, events)?;
-    assert!(rt; are_merged(world));
+    play_at_last(rt, alloc, &mut world, &keys, &events)?;
+    assert!(rt; are_merged(&world));
     Ok(())
 }
 
-// Plays the three events under the key of these tests.
-fn play_at_last<H: TreeHash>(
-    rt: &impl Abort,
-    alloc: Global,
-    world: &mut [Mirror<H>],
-    events: &[Event],
-) -> Result<(), Fail> {
-    let keys = keys(alloc)?;
-    play_under(rt, alloc, world, &keys, events)
-}
-
 // Plays the three events. A play that is refused as a whole leaves all as it was, an event that is refused answers so.
-fn play_under<H: TreeHash>(
+fn play_at_last<H: TreeHash>(
     rt: &impl Abort,
     alloc: Global,
     world: &mut [Mirror<H>],
     keys: &[Box<dyn Verifier>],
     events: &[Event],
 ) -> Result<(), Fail> {
-    if !is_played(rt, alloc, world, keys, events) {
+    let done = match answers_under(alloc, world, keys, events, 0) {
+        Ok(answers) => are_judged(rt, &answers),
+        Err(AllocError) => {
+            hold_nothing(rt, world);
+            false
+        }
+    };
+    if !done {
         let answers = answers_under(alloc, world, keys, events, 0)?;
         assert!(rt; are_done(&answers, 3));
     }
     Ok(())
 }
 
-// Whether the three events happen at once.
-fn is_played<H: TreeHash>(
-    rt: &impl Abort,
-    alloc: Global,
-    world: &mut [Mirror<H>],
-    keys: &[Box<dyn Verifier>],
-    events: &[Event],
-) -> bool {
-    match answers_under(alloc, world, keys, events, 0) {
-        Ok(answers) => are_judged(rt, &answers),
-        Err(AllocError) => {
-            hold_nothing(rt, world);
-            false
-        }
-    }
-}
-
 // Whether all events were done. Else one of them was refused memory.
 fn are_judged(rt: &impl Abort, answers: &[Result<(), TakeFault>]) -> bool {
-    if are_done(answers, 3) {
-        return true;
-    }
-    assert!(rt; are_done_but_one(answers));
-    false
+    let done = are_done(answers, 3);
+    assert!(rt; done || are_done_but_one(answers));
+    done
 }
 
+// The mirrors hold neither a string nor a note.
 fn hold_nothing<H: TreeHash>(rt: &impl Abort, world: &[Mirror<H>]) {
     for mirror in world {
-        assert!(rt; holds_nothing(mirror));
+        assert!(rt; mirror.strings().len() == 0 && mirror.note_at(0).is_none());
     }
 }
 
@@ -246,9 +195,4 @@ fn are_done_but_one(answers: &[Result<(), TakeFault>]) -> bool {
         }
     }
     refused == 1 && answers.len() == 3
-}
-
-// Whether a mirror holds neither a string nor a note.
-fn holds_nothing<H: TreeHash>(mirror: &Mirror<H>) -> bool {
-    mirror.strings().len() == 0 && mirror.note_at(0).is_none()
 }

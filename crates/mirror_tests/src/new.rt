@@ -19,8 +19,12 @@ fn is_new<H: TreeHash>(rt: &impl Abort, alloc: Global, mirror: &mut Mirror<H>) -
     holds_nothing(rt, mirror);
     serves_nothing(rt, mirror);
     tells_nothing(rt, alloc, mirror)?;
+    // Of the row merge-completes: a mirror of another origin is refused, and nothing changes.
     let other = Mirror::<H>::new(alloc, "ey")?;
-    refuses_merge(rt, alloc, mirror, &other);
+    let answer = mirror.merge(alloc, &other);
+    drop(other);
+    assert!(rt; answer == Err(MergeFault::OtherOrigin));
+    holds_nothing(rt, mirror);
     Ok(())
 }
 
@@ -46,15 +50,4 @@ fn tells_nothing<H: TreeHash>(
     assert!(rt; mirror.bundle(alloc, 0, 1)?.is_none());
     assert!(rt; mirror.missing(alloc, 0, &H::empty())?.is_none());
     Ok(())
-}
-
-// Of the row merge-completes: a mirror of another origin is refused, and nothing changes.
-fn refuses_merge<H: TreeHash>(
-    rt: &impl Abort,
-    alloc: Global,
-    mirror: &mut Mirror<H>,
-    other: &Mirror<H>,
-) {
-    assert!(rt; mirror.merge(alloc, other) == Err(MergeFault::OtherOrigin));
-    holds_nothing(rt, mirror);
 }

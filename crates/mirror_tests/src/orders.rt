@@ -31,21 +31,10 @@ fn all_orders(rt: HostRuntime) -> Result<(), Fail> {
 fn all_save<H: TreeHash>(rt: &impl Abort, alloc: Global, text: &[u8]) -> Result<(), Fail> {
     for &order in &ORDERS_OF_4 {
         for _ in 0..2u32 {
-            saves::<H>(rt, alloc, order, text)?;
+            let other = saved_in_order::<H>(alloc, order)?;
+            assert!(rt; other.as_slice() == text, "{order}");
         }
     }
-    Ok(())
-}
-
-// The text that is saved in that order is this one.
-fn saves<H: TreeHash>(
-    rt: &impl Abort,
-    alloc: Global,
-    order: &str,
-    text: &[u8],
-) -> Result<(), Fail> {
-    let other = saved_in_order::<H>(alloc, order)?;
-    assert!(rt; other.as_slice() == text, "{order}");
     Ok(())
 }
 
@@ -62,25 +51,14 @@ fn saved_of_twice<H: TreeHash>(
     mirror: &mut Mirror<H>,
     order: &str,
 ) -> Result<Vec<u8>, Fail> {
-    give_twice(alloc, mirror, order)?;
-    saved(alloc, mirror)
-}
-
-// The text that is saved of a mirror.
-fn saved<H: TreeHash>(alloc: Global, mirror: &Mirror<H>) -> Result<Vec<u8>, Fail> {
-    let mut text = Vec::new(alloc);
-    save(alloc, mirror, &mut text)?;
-    Ok(text)
-}
-
-// The mirror takes the four items in that order, and then all of them again.
-fn give_twice<H: TreeHash>(alloc: Global, mirror: &mut Mirror<H>, order: &str) -> Result<(), Fail> {
     for _ in 0..2u32 {
         for number in order.as_bytes() {
             give_item(alloc, mirror, *number)?;
         }
     }
-    Ok(())
+    let mut text = Vec::new(alloc);
+    save(alloc, mirror, &mut text)?;
+    Ok(text)
 }
 
 // The mirror takes the item of that number.

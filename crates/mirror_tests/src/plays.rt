@@ -95,33 +95,24 @@ pub(crate) fn are_done(answers: &[Result<(), TakeFault>], count: usize) -> bool 
 // The three events happen to two mirrors, each tried as often as that, or once by `play`.
 fn plays_three<H: TreeHash>(rt: &impl Abort, alloc: Global, tries: u32) -> Result<(), Fail> {
     let events = three_events::<H>(alloc)?;
-    let mut world = two_mirrors::<H>(alloc)?;
-    merge_by_events(rt, alloc, &mut world, &events, tries)
-}
-
-// The three events happen to those mirrors.
-fn merge_by_events<H: TreeHash>(
-    rt: &impl Abort,
-    alloc: Global,
-    world: &mut [Mirror<H>],
-    events: &[Event],
-    tries: u32,
-) -> Result<(), Fail> {
-    let answers = answers_of(alloc, world, events, tries)?;
-    assert!(rt; are_done(&answers, 3));
-    assert!(rt; are_merged(world));
+    let world = played::<H>(rt, alloc, &events, 3, tries)?;
+    assert!(rt; are_merged(&world));
     Ok(())
 }
 
-// What the events are answered that happen under the key of these tests.
-fn answers_of<H: TreeHash>(
+// Two mirrors to which so many events happened under the key of these tests, all answered by Ok.
+fn played<H: TreeHash>(
+    rt: &impl Abort,
     alloc: Global,
-    world: &mut [Mirror<H>],
     events: &[Event],
+    count: usize,
     tries: u32,
-) -> Result<Vec<Result<(), TakeFault>>, AllocError> {
+) -> Result<Vec<Mirror<H>>, Fail> {
     let keys = keys(alloc)?;
-    answers_under(alloc, world, &keys, events, tries)
+    let mut world = two_mirrors::<H>(alloc)?;
+    let answers = answers_under(alloc, &mut world, &keys, events, tries)?;
+    assert!(rt; are_done(&answers, count));
+    Ok(world)
 }
 
 // What the events are answered that happen under those keys. Events that do not fit have no answers.
@@ -160,8 +151,9 @@ fn merge_with_itself(rt: HostRuntime) -> Result<(), Fail> {
 
 fn merges_with_itself<H: TreeHash>(rt: &impl Abort, alloc: Global) -> Result<(), Fail> {
     let events = four_events::<H>(alloc)?;
-    let mut world = two_mirrors::<H>(alloc)?;
-    stay_apart(rt, alloc, &mut world, &events)
+    let world = played::<H>(rt, alloc, &events, 4, 0)?;
+    assert!(rt; are_apart(&world));
+    Ok(())
 }
 
 // Mirror 0 takes a head, and mirror 1 a bundle; each is merged with itself.
@@ -174,19 +166,6 @@ fn four_events<H: TreeHash>(alloc: Global) -> Result<Vec<Event>, AllocError> {
         })?;
     }
     Ok(events)
-}
-
-// The four events happen to those mirrors.
-fn stay_apart<H: TreeHash>(
-    rt: &impl Abort,
-    alloc: Global,
-    world: &mut [Mirror<H>],
-    events: &[Event],
-) -> Result<(), Fail> {
-    let answers = answers_of(alloc, world, events, 0)?;
-    assert!(rt; are_done(&answers, 4));
-    assert!(rt; are_apart(world));
-    Ok(())
 }
 
 // Whether mirror 0 holds the head and no string, and mirror 1 the string of the bundle and no head.

@@ -64,20 +64,10 @@ pub(crate) fn pull_log<H: TreeHash>(
     count: u16,
 ) -> Result<(), Fail> {
     let mut source = list::<H>(alloc, 0, count)?;
-    let answer = pull_whole(alloc, mirror, &mut source, u64::from(count));
+    let end = end_of_pull(alloc, mirror, &mut source);
     drop(source);
-    answer
-}
-
-// Pulls a log of so many entries.
-fn pull_whole<H: TreeHash, S: Source>(
-    alloc: Global,
-    mirror: &mut Mirror<H>,
-    source: &mut S,
-    size: u64,
-) -> Result<(), Fail> {
-    let pulled = end_of_pull(alloc, mirror, source)??;
-    if pulled.size == size && pulled.complete {
+    let pulled = end??;
+    if pulled.size == u64::from(count) && pulled.complete {
         Ok(())
     } else {
         Err("no whole pull".into())
@@ -87,20 +77,15 @@ fn pull_whole<H: TreeHash, S: Source>(
 #[test]
 fn failing_source(rt: HostRuntime) -> Result<(), Fail> {
     for passes in 0..5u64 {
-        fails_after::<Sha256Tree>(&rt, rt.alloc(), passes)?;
+        let mut source = lying_log::<Sha256Tree>(rt.alloc(), Lie::Nothing, 0, 0, passes)?;
+        let answer = fails_first(&rt, rt.alloc(), &mut source, passes);
+        drop(source);
+        answer?;
     }
     Ok(())
 }
 
-// A pull of C(257) that fails after so many gets, and then one that does not.
-fn fails_after<H: TreeHash>(rt: &impl Abort, alloc: Global, passes: u64) -> Result<(), Fail> {
-    let mut source = lying_log::<H>(alloc, Lie::Nothing, 0, 0, passes)?;
-    let answer = fails_first(rt, alloc, &mut source, passes);
-    drop(source);
-    answer
-}
-
-// A new mirror's pull from that source fails, after so many gets, and then one does not.
+// A new mirror's pull of C(257) from that source fails, after so many gets, and then one does not.
 fn fails_first<H: TreeHash>(
     rt: &impl Abort,
     alloc: Global,
@@ -129,16 +114,6 @@ fn fails_once<H: TreeHash>(
     let heads = count_of_heads(alloc, mirror)?;
     assert!(rt; (heads == 1) == (passes >= 3), "{passes}");
     source.passes = u64::MAX;
-    pulls_257(rt, alloc, mirror, source)
-}
-
-// The mirror's pull from that source is of C(257), whole.
-fn pulls_257<H: TreeHash>(
-    rt: &impl Abort,
-    alloc: Global,
-    mirror: &mut Mirror<H>,
-    source: &mut Liar<H>,
-) -> Result<(), Fail> {
     let pulled = end_of_pull(alloc, mirror, source)??;
     assert!(rt; pulled.size == 257 && pulled.refused == 0 && pulled.complete);
     Ok(())
@@ -158,25 +133,12 @@ const GETS: [(Lie, u16, u16, usize, Result<bool, PullFault>); 5] = [
 #[test]
 fn gets_of_a_pull(rt: HostRuntime) -> Result<(), Fail> {
     for &(lie, from, count, gets, end) in &GETS {
-        asks_liar::<Sha256Tree>(&rt, rt.alloc(), lie, from, count, gets, end)?;
+        let mut source = lying_log::<Sha256Tree>(rt.alloc(), lie, from, count, gets as u64)?;
+        let answer = asks(&rt, rt.alloc(), &mut source, gets, end);
+        drop(source);
+        answer?;
     }
     Ok(())
-}
-
-// A new mirror's pull from the source of that lie asks so often, and ends so.
-fn asks_liar<H: TreeHash>(
-    rt: &impl Abort,
-    alloc: Global,
-    lie: Lie,
-    from: u16,
-    count: u16,
-    gets: usize,
-    want: Result<bool, PullFault>,
-) -> Result<(), Fail> {
-    let mut source = lying_log::<H>(alloc, lie, from, count, gets as u64)?;
-    let answer = asks(rt, alloc, &mut source, gets, want);
-    drop(source);
-    answer
 }
 
 // A new mirror's pull from that source asks so often, and ends so: with a head that is complete or not, or by a fault.
@@ -216,12 +178,8 @@ fn end_of_first_pull<H: TreeHash>(
 // The row false-bundle: what a mirror that serves C(3) asks a source over C(257) for, whose first bundle is of other entries.
 #[test]
 fn gets_of_a_false_bundle(rt: HostRuntime) -> Result<(), Fail> {
-    asks_false_bundle::<Sha256Tree>(&rt, rt.alloc())
-}
-
-fn asks_false_bundle<H: TreeHash>(rt: &impl Abort, alloc: Global) -> Result<(), Fail> {
-    let mut mirror = Mirror::<H>::new(alloc, "ex")?;
-    let answer = asks_false_bundle_over_3(rt, alloc, &mut mirror);
+    let mut mirror = Mirror::<Sha256Tree>::new(rt.alloc(), "ex")?;
+    let answer = asks_false_bundle_over_3(&rt, rt.alloc(), &mut mirror);
     drop(mirror);
     answer
 }
@@ -274,12 +232,8 @@ fn asks_five<H: TreeHash>(
 // A pull of 300 entries, and a second one where the first was refused memory, as by `rt try --test --fail-alloc N`.
 #[test]
 fn pull_again_after_want_of_memory(rt: HostRuntime) -> Result<(), Fail> {
-    pulls_at_last::<Sha256Tree>(&rt, rt.alloc())
-}
-
-fn pulls_at_last<H: TreeHash>(rt: &impl Abort, alloc: Global) -> Result<(), Fail> {
-    let mut source = list::<H>(alloc, 0, 300)?;
-    let answer = pulls_first::<H, _>(rt, alloc, &mut source);
+    let mut source = list::<Sha256Tree>(rt.alloc(), 0, 300)?;
+    let answer = pulls_first::<Sha256Tree, _>(&rt, rt.alloc(), &mut source);
     drop(source);
     answer
 }

@@ -36,21 +36,10 @@ pub(crate) fn serves_3<H: TreeHash>(
     mirror: &Mirror<H>,
     row: &[u8],
 ) -> Result<(), Fail> {
-    serves_row(rt, alloc, mirror, row)?;
-    serves_bundle(rt, alloc, mirror, 2, Some(b"\x00\x00\x00\x01\x00"))?;
-    serves_bundle(rt, alloc, mirror, 4, None)?;
-    Ok(())
-}
-
-// Served is that row of three.
-fn serves_row<H: TreeHash>(
-    rt: &impl Abort,
-    alloc: Global,
-    mirror: &Mirror<H>,
-    row: &[u8],
-) -> Result<(), AllocError> {
     let tile = mirror.tile(alloc, 0, 0, 3)?;
     assert!(rt; tile.as_deref() == Some(row));
+    serves_bundle(rt, alloc, mirror, 2, Some(b"\x00\x00\x00\x01\x00"))?;
+    serves_bundle(rt, alloc, mirror, 4, None)?;
     Ok(())
 }
 

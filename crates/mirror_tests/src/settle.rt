@@ -37,7 +37,7 @@ fn settle_e3(rt: HostRuntime) -> Result<(), Fail> {
     answer
 }
 
-// Settles a mirror that holds nothing, and then one of three numbers.
+// Settles a mirror that holds nothing, then one of the head of three numbers, and one that has these too, once and again.
 fn settles_e3<H: TreeHash>(
     rt: &impl Abort,
     alloc: Global,
@@ -46,7 +46,16 @@ fn settles_e3<H: TreeHash>(
     settles(rt, alloc, mirror, 0)?;
     take_number_head(alloc, mirror)?;
     settles(rt, alloc, mirror, 0)?;
-    settles_numbers(rt, alloc, mirror)
+    mirror.take_bundle(
+        alloc,
+        3,
+        b"\x00\x02\x00\x00\x00\x02\x00\x01\x00\x02\x00\x02",
+    )?;
+    assert!(rt; mirror.remembered() == 0);
+    for _ in 0..2u32 {
+        settles(rt, alloc, mirror, 5)?;
+    }
+    Ok(())
 }
 
 // Takes the head of the numbers 0 to 2, each in two bytes.
@@ -59,19 +68,10 @@ fn take_number_head<H: TreeHash>(alloc: Global, mirror: &mut Mirror<H>) -> Resul
     take_head(alloc, mirror, head, &[row.as_slice()])
 }
 
-// Settles a mirror of that head with the numbers, once and again.
-fn settles_numbers<H: TreeHash>(
-    rt: &impl Abort,
-    alloc: Global,
-    mirror: &mut Mirror<H>,
-) -> Result<(), Fail> {
-    mirror.take_bundle(alloc, 3, &[0, 2, 0, 0, 0, 2, 0, 1, 0, 2, 0, 2])?;
-    assert!(rt; mirror.remembered() == 0);
-    for _ in 0..2u32 {
-        settles(rt, alloc, mirror, 5)?;
-    }
-    Ok(())
-}
+// The head of 65,536 entries of no bytes, and that of the first 257 of them.
+const FIRST_HEAD: &str = "65536\n2DOJrJogf7fb3Ekvu1a5SC8ZFwaZ4iS+ZGlMyIWjoqI=";
+
+const SECOND_HEAD: &str = "257\nJFw1mL/gcns20/IeaJ7u6DxGhgx36kbwtSs7P57BU6Y=";
 
 // And settle-65536, of the first head. Of the second head only the whole list is new.
 #[test]
@@ -82,15 +82,24 @@ fn settle_two(rt: HostRuntime) -> Result<(), Fail> {
     answer
 }
 
-// Settles a mirror of a long log, and then of two heads of it.
+// Settles a mirror of a long log, of which it has the head and the bundles, and then of two heads of it.
 fn settles_two<H: TreeHash>(
     rt: &impl Abort,
     alloc: Global,
     mirror: &mut Mirror<H>,
 ) -> Result<(), Fail> {
-    take_equal_log(alloc, mirror)?;
+    let leaf = doubled::<H>(0);
+    let bundle = doubled::<H>(8);
+    let edge = doubled::<H>(16);
+    take_head(alloc, mirror, FIRST_HEAD, &[edge.as_slice()])?;
+    take_equal(alloc, mirror, 2)?;
     settles(rt, alloc, mirror, 17)?;
-    take_second_head(alloc, mirror)?;
+    take_head(
+        alloc,
+        mirror,
+        SECOND_HEAD,
+        &[leaf.as_slice(), bundle.as_slice()],
+    )?;
     settles(rt, alloc, mirror, 18)
 }
 
@@ -103,14 +112,6 @@ fn doubled<H: TreeHash>(times: u32) -> Hash {
     hash
 }
 
-// Takes the head of 65,536 entries of no bytes, and 256 bundles of them.
-fn take_equal_log<H: TreeHash>(alloc: Global, mirror: &mut Mirror<H>) -> Result<(), Fail> {
-    let edge = doubled::<H>(16);
-    let head = "65536\n2DOJrJogf7fb3Ekvu1a5SC8ZFwaZ4iS+ZGlMyIWjoqI=";
-    take_head(alloc, mirror, head, &[edge.as_slice()])?;
-    take_equal(alloc, mirror, 2)
-}
-
 // Takes the full tile of each level from 1 to below that one, over entries of no bytes, and a bundle of 256 of them.
 pub(crate) fn take_equal<H: TreeHash>(
     alloc: Global,
@@ -118,20 +119,11 @@ pub(crate) fn take_equal<H: TreeHash>(
     top: u32,
 ) -> Result<(), Fail> {
     for level in 1..top {
-        take_equal_row(alloc, mirror, level)?;
+        let row = equal_row::<H>(alloc, level, 256)?;
+        mirror.take_tile(alloc, 256, &row)?;
     }
     let bundle = vec![in alloc; 0u8; 512]?;
     mirror.take_bundle(alloc, 256, &bundle)?;
-    Ok(())
-}
-
-fn take_equal_row<H: TreeHash>(
-    alloc: Global,
-    mirror: &mut Mirror<H>,
-    level: u32,
-) -> Result<(), Fail> {
-    let row = equal_row::<H>(alloc, level, 256)?;
-    mirror.take_tile(alloc, 256, &row)?;
     Ok(())
 }
 
@@ -147,12 +139,4 @@ pub(crate) fn equal_row<H: TreeHash>(
         row.extend_from_slice(hash.as_slice())?;
     }
     Ok(row)
-}
-
-// Takes the head of the first 257 of those entries.
-fn take_second_head<H: TreeHash>(alloc: Global, mirror: &mut Mirror<H>) -> Result<(), Fail> {
-    let head = "257\nJFw1mL/gcns20/IeaJ7u6DxGhgx36kbwtSs7P57BU6Y=";
-    let leaf = doubled::<H>(0);
-    let edge = doubled::<H>(8);
-    take_head(alloc, mirror, head, &[leaf.as_slice(), edge.as_slice()])
 }

@@ -65,16 +65,11 @@ fn changed(
     is_mended: bool,
 ) -> Result<Vec<u8>, Fail> {
     let mut text = Vec::from_slice(alloc, bytes)?;
-    change(&mut text, at, by)?;
+    *text.get_mut(at).ok_or("no byte")? ^= by;
     if !is_mended {
         return Ok(text);
     }
     Ok(sealed(alloc, &text)?)
-}
-
-fn change(text: &mut [u8], at: usize, by: u8) -> Result<(), Fail> {
-    *text.get_mut(at).ok_or("no byte")? ^= by;
-    Ok(())
 }
 
 // Counts the fates of the bytes, with the byte there changed to each of the 255 others.
@@ -89,14 +84,10 @@ fn count_fates<H: TreeHash>(
 ) -> Result<(), Fail> {
     for by in 1..=255 {
         let text = changed(alloc, bytes, at, by, is_mended)?;
-        count(counts, fate_of::<H>(rt, alloc, keys, &text)?)?;
+        let fate = fate_of::<H>(rt, alloc, keys, &text)?;
+        let count = counts.get_mut(place_of(fate)).ok_or("no place")?;
+        *count = count.saturating_add(1);
     }
-    Ok(())
-}
-
-fn count(counts: &mut [u32; 10], fate: Option<LoadFault>) -> Result<(), Fail> {
-    let count = counts.get_mut(place_of(fate)).ok_or("no place")?;
-    *count = count.saturating_add(1);
     Ok(())
 }
 

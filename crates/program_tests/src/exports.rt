@@ -93,20 +93,6 @@ pub(crate) fn put_onto<H: TreeHash, S: Shelf>(
     export(alloc, mirror, shelf)
 }
 
-// An export onto a shelf that does so many calls answers so, and the shelf has so many files then.
-fn assert_exported<H: TreeHash>(
-    rt: &impl Abort,
-    alloc: Global,
-    mirror: &Mirror<H>,
-    passes: u32,
-    files: u32,
-    answer: Result<(), ExportFault>,
-) {
-    let mut shelf = shelf_of(passes);
-    assert!(rt; put_onto(alloc, mirror, &mut shelf) == answer);
-    assert_put(rt, &shelf, files, answer.is_ok());
-}
-
 // How many calls are done, the files put then, and the answer.
 const EXPORTS: [(u32, u32, Result<(), ExportFault>); 5] = [
     (0, 0, Err(ExportFault::ShelfFault)),
@@ -125,9 +111,12 @@ fn failing_shelf(rt: HostRuntime) -> Result<(), Fail> {
     Ok(())
 }
 
+// An export onto a shelf that does so many calls answers so, and the shelf has so many files then.
 fn assert_exports<H: TreeHash>(rt: &impl Abort, alloc: Global, mirror: &Mirror<H>) {
     for &(passes, files, answer) in &EXPORTS {
-        assert_exported(rt, alloc, mirror, passes, files, answer);
+        let mut shelf = shelf_of(passes);
+        assert!(rt; put_onto(alloc, mirror, &mut shelf) == answer);
+        assert_put(rt, &shelf, files, answer.is_ok());
     }
 }
 
@@ -147,19 +136,13 @@ fn exports_once<H: TreeHash>(
     mirror: &Mirror<H>,
 ) -> Result<(), Fail> {
     let mut shelf = MemShelf::new(alloc);
-    exports_onto(rt, alloc, mirror, &mut shelf)
-}
-
-fn exports_onto<H: TreeHash>(
-    rt: &impl Abort,
-    alloc: Global,
-    mirror: &Mirror<H>,
-    shelf: &mut MemShelf,
-) -> Result<(), Fail> {
-    assert!(rt; put_onto(alloc, mirror, shelf) == Ok(()));
-    assert_files(rt, alloc, shelf.puts())?;
-    assert!(rt; put_onto(alloc, mirror, shelf) == Err(ExportFault::ShelfInUse));
-    assert_files(rt, alloc, shelf.puts())?;
+    assert!(rt; put_onto(alloc, mirror, &mut shelf) == Ok(()));
+    let first = assert_files(rt, alloc, shelf.puts());
+    assert!(rt; put_onto(alloc, mirror, &mut shelf) == Err(ExportFault::ShelfInUse));
+    let second = assert_files(rt, alloc, shelf.puts());
+    drop(shelf);
+    first?;
+    second?;
     Ok(())
 }
 
@@ -167,21 +150,7 @@ fn exports_onto<H: TreeHash>(
 const BEFORE: &[u8] =
     b"ex\n0\n47DEQpj8HBSa+/TImW+5JCeuQeRkm5NMpJWZG3hSuFU=\n\n\xe2\x80\x94 ex AAAAAQA=\n";
 
-// An update of a shelf that does so many calls, from the empty log on.
-fn assert_updated<H: TreeHash>(
-    rt: &impl Abort,
-    alloc: Global,
-    mirror: &Mirror<H>,
-    passes: u32,
-    files: u32,
-    answer: Result<(), UpdateFault>,
-) {
-    let mut shelf = shelf_of(passes);
-    assert!(rt; bring_up(alloc, mirror, BEFORE, &mut shelf) == answer);
-    assert_put(rt, &shelf, files, answer.is_ok());
-}
-
-// The same of an update.
+// The same of an update, from the empty log on.
 const UPDATES: [(u32, u32, Result<(), UpdateFault>); 4] = [
     (0, 0, Err(UpdateFault::ShelfFault)),
     (1, 1, Err(UpdateFault::ShelfFault)),
@@ -200,7 +169,9 @@ fn failing_update(rt: HostRuntime) -> Result<(), Fail> {
 
 fn assert_updates<H: TreeHash>(rt: &impl Abort, alloc: Global, mirror: &Mirror<H>) {
     for &(passes, files, answer) in &UPDATES {
-        assert_updated(rt, alloc, mirror, passes, files, answer);
+        let mut shelf = shelf_of(passes);
+        assert!(rt; bring_up(alloc, mirror, BEFORE, &mut shelf) == answer);
+        assert_put(rt, &shelf, files, answer.is_ok());
     }
 }
 
@@ -229,21 +200,14 @@ fn updates_once<H: TreeHash>(
     mirror: &Mirror<H>,
 ) -> Result<(), Fail> {
     let mut shelf = MemShelf::new(alloc);
-    updates_onto(rt, alloc, mirror, &mut shelf)
-}
-
-fn updates_onto<H: TreeHash>(
-    rt: &impl Abort,
-    alloc: Global,
-    mirror: &Mirror<H>,
-    shelf: &mut MemShelf,
-) -> Result<(), Fail> {
-    assert!(rt; bring_up(alloc, mirror, b"", shelf) == Err(UpdateFault::OtherLog));
+    assert!(rt; bring_up(alloc, mirror, b"", &mut shelf) == Err(UpdateFault::OtherLog));
     assert!(rt; shelf.puts().is_empty());
-    assert!(rt; bring_up(alloc, mirror, NOTE, shelf) == Ok(()));
+    assert!(rt; bring_up(alloc, mirror, NOTE, &mut shelf) == Ok(()));
     assert!(rt; shelf.puts().is_empty());
-    assert!(rt; bring_up(alloc, mirror, BEFORE, shelf) == Ok(()));
-    assert_files(rt, alloc, shelf.puts())?;
+    assert!(rt; bring_up(alloc, mirror, BEFORE, &mut shelf) == Ok(()));
+    let answer = assert_files(rt, alloc, shelf.puts());
+    drop(shelf);
+    answer?;
     Ok(())
 }
 

@@ -103,12 +103,11 @@ fn exports_at_last<H: TreeHash>(
 ) -> Result<(), Fail> {
     let mut shelf = MemShelf::new(alloc);
     export_at_last(rt, alloc, mirror, &mut shelf);
-    assert_last_files(rt, alloc, shelf.puts())
-}
-
-fn assert_last_files(rt: &impl Abort, alloc: Global, puts: &[(Path, Vec<u8>)]) -> Result<(), Fail> {
+    let puts = shelf.puts();
     let first = puts.len().saturating_sub(3);
-    assert_files(rt, alloc, puts.get(first..).ok_or("fewer puts")?)?;
+    let answer = assert_files(rt, alloc, &puts[first..]);
+    drop(shelf);
+    answer?;
     Ok(())
 }
 
@@ -131,17 +130,16 @@ fn export_into<H: TreeHash, R: Abort + Files>(
 ) {
     let mut shelf = DirShelf::new(rt, alloc, folder);
     export_at_last(rt, alloc, mirror, &mut shelf);
+    drop(shelf);
 }
 
 fn reads_and_removes<R: AllocGlobal + Abort + Files>(rt: &R, folder: &str) -> Result<(), Fail> {
-    read_from(rt, rt.alloc(), folder)?;
+    let mut source = DirSource::new(rt, rt.alloc(), folder);
+    let answer = read_at_last(rt, &mut source);
+    drop(source);
+    answer?;
     fs::remove_dir_all(rt, folder)?;
     Ok(())
-}
-
-fn read_from<R: Abort + Files>(rt: &R, alloc: Global, folder: &str) -> Result<(), SourceFault> {
-    let mut source = DirSource::new(rt, alloc, folder);
-    read_at_last(rt, &mut source)
 }
 
 // Reads the checkpoint from it.

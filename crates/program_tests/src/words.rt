@@ -159,7 +159,9 @@ fn run_over(
 #[test]
 fn folders_in_memory(rt: HostRuntime) -> Result<(), Fail> {
     let mut files = MemoryFiles::new(rt.alloc());
-    fills_folders(&rt, &rt, &mut files)
+    let answer = fills_folders(&rt, &rt, &mut files);
+    drop(files);
+    answer
 }
 
 fn fills_folders(rt: &impl Abort, host: &HostRuntime, files: &mut MemoryFiles) -> Result<(), Fail> {

@@ -67,8 +67,8 @@ impl Dial for CannedDial {
     }
 }
 
-// A source over such connections.
-fn source_over(
+// A source over such connections, of which each read gives at most so many bytes.
+pub(crate) fn source_over(
     alloc: Global,
     reply: &str,
     most: usize,
@@ -84,19 +84,4 @@ fn source_over(
     };
     let site = Site::new(alloc, "log.example", "/2026")?;
     Ok(HttpSource::new(alloc, site, dial))
-}
-
-// A source over connections that give as much of the reply as they are asked for.
-pub(crate) fn source_of(
-    alloc: Global,
-    reply: &str,
-    ends: bool,
-    works: bool,
-) -> Result<HttpSource<CannedDial>, Fail> {
-    source_over(alloc, reply, usize::MAX, ends, works)
-}
-
-// A source over connections that give a byte a read.
-pub(crate) fn source_in_pieces(alloc: Global, reply: &str) -> Result<HttpSource<CannedDial>, Fail> {
-    source_over(alloc, reply, 1, true, true)
 }

@@ -33,9 +33,9 @@ fn asks_over_loopback<H: TreeHash>(
 ) -> Result<(), Fail> {
     let listener = TcpListener::bind(net, "127.0.0.1:0")?;
     let mut client = client_of(net, alloc, &listener)?;
-    asks_for_tile(alloc, &mut client)?;
-    answers_next(alloc, mirror, &listener)?;
-    finds_nothing(rt, alloc, &mut client)
+    let answer = asks_for_tile(rt, alloc, mirror, &listener, &mut client);
+    drop(client);
+    answer
 }
 
 // A connection to that listener.
@@ -48,8 +48,14 @@ fn client_of(
     Ok(TcpDial::new(*net, alloc, "127.0.0.1", port)?.dial()?)
 }
 
-// Sends the request for a tile.
-fn asks_for_tile<W: Write>(alloc: Global, client: &mut W) -> Result<(), Fail> {
+// Sends the request for a tile, has it answered, and reads that there is no such file.
+fn asks_for_tile<H: TreeHash, S: Read + Write>(
+    rt: &impl Abort,
+    alloc: Global,
+    mirror: &Mirror<H>,
+    listener: &TcpListener,
+    client: &mut S,
+) -> Result<(), Fail> {
     let site = Site::new(alloc, "log.example", "")?;
     let path = Path::Tile {
         level: 0,
@@ -58,11 +64,7 @@ fn asks_for_tile<W: Write>(alloc: Global, client: &mut W) -> Result<(), Fail> {
     };
     let request = get_request(alloc, &site, &path)?;
     write_whole(client, &request)?;
-    Ok(())
-}
-
-// Reads that there is no such file.
-fn finds_nothing<R: Read>(rt: &impl Abort, alloc: Global, client: &mut R) -> Result<(), Fail> {
+    answers_next(alloc, mirror, listener)?;
     let reply = read_all(alloc, client, 1_000, u64::MAX)?;
     assert!(rt; reply.as_slice() == NOT_FOUND.as_bytes());
     Ok(())
@@ -134,7 +136,10 @@ impl Net for StrangeNet {
 fn each_address_of_a_host_is_tried(rt: HostRuntime) -> Result<(), Fail> {
     let listener = TcpListener::bind(&rt, "127.0.0.1:0")?;
     let mut dial = strange_dial(&rt, "log.example", &listener)?;
-    assert!(rt; dial.dial().is_ok());
+    let stream = dial.dial();
+    drop(dial);
+    assert!(rt; stream.is_ok());
+    drop(stream);
     Ok(())
 }
 
@@ -158,6 +163,7 @@ fn a_log_that_never_answers(rt: HostRuntime) -> Result<(), Fail> {
     let site = Site::new(rt.alloc(), "log.example", "")?;
     let mut source = HttpSource::new(rt.alloc(), site, dial);
     fails_once(&rt, &mut source);
+    drop(source);
     Ok(())
 }
 

@@ -156,7 +156,10 @@ fn pulls_257<H: TreeHash>(rt: &impl Abort, alloc: Global, mirror: Mirror<H>) -> 
     let mirror = Rc::new(alloc, mirror)?;
     let dials = Rc::new(alloc, Cell::new(0))?;
     let mut source = source_to(alloc, &mirror, &dials)?;
-    pulls_257_from::<H, _>(rt, alloc, &mut source)?;
+    let answer = pulls_257_from::<H, _>(rt, alloc, &mut source);
+    drop(source);
+    drop(mirror);
+    answer?;
     assert!(rt; dials.get() == 5);
     Ok(())
 }

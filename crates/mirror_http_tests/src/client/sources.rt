@@ -1,5 +1,5 @@
 //! A source over connections that give one reply.
-use crate::client::canned::{CannedDial, source_in_pieces, source_of};
+use crate::client::canned::{CannedDial, source_over};
 use crate::given::push_times;
 use mirror_http::HttpSource;
 use mirror_sources::{Source, SourceFault};
@@ -10,7 +10,7 @@ use tlog_tiles::Path;
 
 fn source(alloc: Global, works: bool) -> Result<HttpSource<CannedDial>, Fail> {
     let reply = "HTTP/1.1 200 OK\r\nContent-Length: 3\r\n\r\nabc";
-    source_of(alloc, reply, true, works)
+    source_over(alloc, reply, usize::MAX, true, works)
 }
 
 // Where a request for memory is refused, as by `rt try --test --fail-alloc N`, that is no failure of the
@@ -53,7 +53,7 @@ fn a_dial_that_fails_is_counted(rt: HostRuntime) -> Result<(), Fail> {
 fn a_reply_in_many_pieces(rt: HostRuntime) -> Result<(), Fail> {
     let mut reply = String::from_str(rt.alloc(), "HTTP/1.1 200 OK\r\n\r\n")?;
     push_times(&mut reply, "a", 70_000)?;
-    let mut source = source_in_pieces(rt.alloc(), &reply)?;
+    let mut source = source_over(rt.alloc(), &reply, 1, true, true)?;
     let answer = assert_letters(&rt, &mut source, 70_000);
     drop(source);
     answer

@@ -1,5 +1,5 @@
 //! Replies that a source gets of a server that it does not know.
-use crate::client::canned::source_of;
+use crate::client::canned::source_over;
 use mirror_sources::{Source, SourceFault};
 use std::process::Abort;
 use std::test::Fail;
@@ -13,7 +13,7 @@ fn expect_got(
     ends: bool,
     want: Result<Option<&[u8]>, SourceFault>,
 ) -> Result<(), Fail> {
-    let mut source = source_of(rt.alloc(), reply, ends, true)?;
+    let mut source = source_over(rt.alloc(), reply, usize::MAX, ends, true)?;
     assert_gets(rt, &mut source, reply, want);
     drop(source);
     Ok(())

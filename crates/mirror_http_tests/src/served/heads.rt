@@ -1,10 +1,10 @@
 //! Heads of requests: short ones, long ones, and such as are cut.
 use crate::given::{long_head, push_times};
 use crate::served::{
-    BAD_REQUEST, BUNDLE_REPLY, BUNDLE_REQUEST, NOT_ALLOWED, NOT_FOUND, mirror_of_3, reply_of,
+    BAD_REQUEST, BUNDLE_REPLY, BUNDLE_REQUEST, NOT_ALLOWED, NOT_FOUND, answered, mirror_of_3,
 };
 use mirror_http::HttpFault;
-use std::alloc::{AllocError, Global};
+use std::alloc::Global;
 use std::process::Abort;
 use std::test::Fail;
 use tlog_hash::{Sha256Tree, TreeHash};
@@ -50,22 +50,11 @@ fn gets<H: TreeHash>(
     request: &[u8],
     want: &[u8],
 ) -> Result<(), HttpFault> {
-    let reply = reply_of(alloc, mirror, request)?;
+    let mut reply = Vec::new(alloc);
+    let mut reader = request;
+    answered(alloc, mirror, &mut reader, &mut reply)?;
     assert!(rt; reply.as_slice() == want, "{} bytes", request.len());
     Ok(())
-}
-
-// A request of so many fields, whose last has a value of so many letters, and so many bytes behind its head. The request
-// line has 20 bytes, a field 4 and its letters, and the empty line 2.
-fn long_request(
-    alloc: Global,
-    fields: usize,
-    letters: usize,
-    behind: usize,
-) -> Result<String, AllocError> {
-    let mut request = long_head(alloc, "GET /none HTTP/1.1", fields, letters)?;
-    push_times(&mut request, "b", behind)?;
-    Ok(request)
 }
 
 #[test]
@@ -76,7 +65,8 @@ fn long_heads(rt: HostRuntime) -> Result<(), Fail> {
     answer
 }
 
-// Fields, letters and bytes behind the head of a request, and its reply.
+// How many fields a request has, how many letters the value of the last, and how many bytes are behind its head, and its reply. The
+// request line has 20 bytes, a field 4 and its letters, and the empty line 2.
 const LONG: [(usize, usize, usize, &str); 5] = [
     (64, 0, 0, NOT_FOUND),
     (65, 0, 0, BAD_REQUEST),
@@ -92,7 +82,8 @@ fn gets_of_long_heads<H: TreeHash>(
     mirror: &Mirror<H>,
 ) -> Result<(), Fail> {
     for &(fields, letters, behind, want) in &LONG {
-        let request = long_request(alloc, fields, letters, behind)?;
+        let mut request = long_head(alloc, "GET /none HTTP/1.1", fields, letters)?;
+        push_times(&mut request, "b", behind)?;
         gets(rt, alloc, mirror, request.as_bytes(), want.as_bytes())?;
     }
     Ok(())

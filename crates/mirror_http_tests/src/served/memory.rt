@@ -8,18 +8,7 @@ use std::test::Fail;
 use tlog_hash::{Sha256Tree, TreeHash};
 use tlog_mirror::Mirror;
 
-// How much of the space is left behind the reply.
-fn left_behind<H: TreeHash>(
-    alloc: Global,
-    mirror: &Mirror<H>,
-    request: &str,
-    mut space: &mut [u8],
-) -> Result<usize, HttpFault> {
-    answered(alloc, mirror, &mut request.as_bytes(), &mut space)?;
-    Ok(space.len())
-}
-
-// The same, of a reply that is made again where memory was refused, when nothing was written.
+// How much of the space is left behind the reply, which is made again where memory was refused, when nothing was written.
 fn left_at_last<H: TreeHash>(
     rt: &impl Abort,
     alloc: Global,
@@ -45,7 +34,9 @@ fn answers_again<H: TreeHash>(
     request: &str,
 ) -> Result<(), HttpFault> {
     let mut want = [0u8; 1_024];
-    let left = left_behind(alloc, mirror, request, &mut want)?;
+    let mut behind = want.as_mut_slice();
+    answered(alloc, mirror, &mut request.as_bytes(), &mut behind)?;
+    let left = behind.len();
     let mut space = [0u8; 1_024];
     let rest = left_at_last(rt, alloc, mirror, request, &mut space);
     assert!(rt; rest == left && space == want, "{request}");

@@ -1,7 +1,7 @@
 //! Readers and writers that give a byte a call, that are interrupted, and that fail.
 use crate::served::{BAD_REQUEST, BUNDLE_REPLY, BUNDLE_REQUEST, answered, mirror_of_3};
 use mirror_http::HttpFault;
-use std::alloc::{AllocError, Global};
+use std::alloc::Global;
 use std::io;
 use std::io::{ErrorKind, Read, Write};
 use std::process::Abort;
@@ -131,11 +131,6 @@ fn answers_no_cut<H: TreeHash>(rt: &impl Abort, alloc: Global, mirror: &Mirror<H
     }
 }
 
-// So many letters.
-fn letters_of(alloc: Global, count: usize) -> Result<Vec<u8>, AllocError> {
-    vec![in alloc; b'a'; count]
-}
-
 #[test]
 fn bytes_without_a_head(rt: HostRuntime) -> Result<(), Fail> {
     let mirror = mirror_of_3::<Sha256Tree>(rt.alloc())?;
@@ -149,7 +144,7 @@ fn refuses_letters<H: TreeHash>(
     alloc: Global,
     mirror: &Mirror<H>,
 ) -> Result<(), Fail> {
-    let letters = letters_of(alloc, 9_000)?;
+    let letters = vec![in alloc; b'a'; 9_000]?;
     let mut reader = Pieces {
         rest: &letters,
         most: 1,

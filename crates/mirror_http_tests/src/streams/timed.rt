@@ -142,6 +142,7 @@ fn reads_too_few<S: Read + BoundsWaits + Drop>(
     let start = Instant::now(clock)?;
     let mut reader = TimedStream::new(stream, *clock, deadline())?;
     let fault = fault_of(clock.alloc(), &mut reader, most, u64::MAX);
+    drop(reader);
     assert!(rt; fault == Some(StreamFault::ReadFault));
     assert_in_time(rt, clock, start)
 }
@@ -202,6 +203,7 @@ fn takes_too_few<S: Write + BoundsWaits + Drop>(
     let start = Instant::now(clock)?;
     let mut writer = TimedStream::new(stream, *clock, deadline())?;
     let answer = write_on(&mut writer, &bytes);
+    drop(writer);
     assert!(rt; answer == Err(StreamFault::WriteFault));
     assert_in_time(rt, clock, start)
 }

@@ -40,14 +40,21 @@ pub(crate) fn lying_log<H: TreeHash>(
     count: u16,
     passes: u64,
 ) -> Result<Liar<H>, Fail> {
-    Ok(Liar {
-        log: list(alloc, 0, 257)?,
-        other: list(alloc, from, count)?,
-        lie,
-        passes,
-        asked: Vec::new(alloc),
-        failures: 0,
-    })
+    let log = list(alloc, 0, 257)?;
+    match list(alloc, from, count) {
+        Ok(other) => Ok(Liar {
+            log,
+            other,
+            lie,
+            passes,
+            asked: Vec::new(alloc),
+            failures: 0,
+        }),
+        Err(fault) => {
+            drop(log);
+            Err(fault)
+        }
+    }
 }
 
 // What is told of a path.
