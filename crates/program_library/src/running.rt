@@ -64,9 +64,9 @@ fn run_on_system<R, I: Read, O: Write, E: Write>(
 ) -> Result<u8, RunFault>
 where
     R: Files + Clock + Eprint + Net<Stream = TcpStream, Listener = TcpListener>,
-    ensures in_hand { IfSome in_hand.entry (λ given. Runs sha256 (map (λ k. key k) given.1.now) given.0.now
-        None None (λ _. None) None None (map string_bytes words.now) (I.remaining input.old)
-        (O.contents output.old) (O.contents output.new) result) }
+    ensures in_hand { IfSome in_hand.entry (λ given. Runs sha256 (map (λ k. key k) given.1.now)
+        given.0.now None None (λ _. None) None None (map string_bytes words.now)
+        (I.remaining input.old) (O.contents output.old) (O.contents output.new) result) }
     ensures of_file { IfNone in_hand.entry (RunsKeyed sha256 None None (λ _. None) None None
         (map string_bytes words.now) (I.remaining input.old) (O.contents output.old)
         (O.contents output.new) result) }
@@ -107,10 +107,10 @@ fn run_with<R, F: NamedFiles, D: ToldFolders, I: Read, O: Write, E: Write>(
 ) -> Result<u8, RunFault>
 where
     R: Files + Clock + Eprint + Net<Stream = TcpStream, Listener = TcpListener>,
-    ensures in_hand { IfSome in_hand.entry (λ given. Runs sha256 (map (λ k. key k) given.1.now) given.0.now
-        (F.puts files.old) (F.puts files.new) (D.held folders.old) (D.puts folders.old)
-        (D.puts folders.new) (map string_bytes words.now) (I.remaining input.old)
-        (O.contents output.old) (O.contents output.new) result) }
+    ensures in_hand { IfSome in_hand.entry (λ given. Runs sha256 (map (λ k. key k) given.1.now)
+        given.0.now (F.puts files.old) (F.puts files.new) (D.held folders.old)
+        (D.puts folders.old) (D.puts folders.new) (map string_bytes words.now)
+        (I.remaining input.old) (O.contents output.old) (O.contents output.new) result) }
     ensures of_file { IfNone in_hand.entry (RunsKeyed sha256 (F.puts files.old) (F.puts files.new)
         (D.held folders.old) (D.puts folders.old) (D.puts folders.new) (map string_bytes words.now)
         (I.remaining input.old) (O.contents output.old) (O.contents output.new) result) }
