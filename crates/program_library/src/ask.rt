@@ -36,17 +36,14 @@ pub(crate) fn run_ask<F: NamedFiles, W: Write>(
     ensures quiet { IfErr result (λ fault. (¬ IsWriting fault) → Keeps (W.contents output.old)
         (W.contents output.new)) }
 {
-    let mut mirror = match open_state::<Sha256Tree, F>(
-        files,
-        alloc,
-        args.log.origin,
-        keys,
-        args.state,
-    ) {
-        Ok(mirror) => mirror,
-        Err(fault) => return Err(WorkFault::State(fault)),
-    };
-    asked(print_report::<Sha256Tree, W>(alloc, &mut mirror, question, output))
+    match open_state::<Sha256Tree, F>(files, alloc, args.log.origin, keys, args.state) {
+        Ok(mut mirror) => {
+            let answer = print_report::<Sha256Tree, W>(alloc, &mut mirror, question, output);
+            drop(mirror);
+            asked(answer)
+        }
+        Err(fault) => Err(WorkFault::State(fault)),
+    }
 }
 
 /// The answer of a command, of what a reporter answers.

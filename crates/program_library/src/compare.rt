@@ -40,17 +40,14 @@ pub(crate) fn run_compare<F: NamedFiles, W: Write>(
         (W.contents output.new)) }
 {
     let args = &compare.mirror;
-    let mut mirror = match open_state::<Sha256Tree, F>(
-        files,
-        alloc,
-        args.log.origin,
-        keys,
-        args.state,
-    ) {
-        Ok(mirror) => mirror,
-        Err(fault) => return Err(WorkFault::State(fault)),
-    };
-    compare_mirror(files, alloc, &mut mirror, compare, keys, output)
+    match open_state::<Sha256Tree, F>(files, alloc, args.log.origin, keys, args.state) {
+        Ok(mut mirror) => {
+            let answer = compare_mirror(files, alloc, &mut mirror, compare, keys, output);
+            drop(mirror);
+            answer
+        }
+        Err(fault) => Err(WorkFault::State(fault)),
+    }
 }
 
 // Prints what the mirror tells of the checkpoints in the files, or of those that it holds.

@@ -69,8 +69,15 @@ pub(crate) fn run_pull<
         Err(fault) => return Err(TellFault::Work(WorkFault::State(fault))),
     };
     match pull_kept(rt, files, alloc, words, keys, &mut mirror, why) {
-        Ok(pulled) => tell_pulled(files, alloc, words.mirror.out, &mirror, &pulled, output),
-        Err(fault) => Err(TellFault::Work(WorkFault::Pull(fault))),
+        Ok(pulled) => {
+            let answer = tell_pulled(files, alloc, words.mirror.out, &mirror, &pulled, output);
+            drop(mirror);
+            answer
+        }
+        Err(fault) => {
+            drop(mirror);
+            Err(TellFault::Work(WorkFault::Pull(fault)))
+        }
     }
 }
 

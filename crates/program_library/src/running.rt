@@ -1,5 +1,5 @@
 //! One run: the key file, the words, and the command that they ask for.
-ghost use Rattle.std.specs.Prelude.{IfErr, IfOk, None, map, string_bytes};
+ghost use Rattle.std.specs.Prelude.{IfErr, IfNone, IfOk, IfSome, None, map, string_bytes};
 ghost use Rattle.std.specs.Io.KnownBytes.{Keeps};
 ghost use Rattle.sha2.specs.Sha256.{sha256};
 ghost use Rattle.program_library.specs.Done.{IsWriteFault};
@@ -48,14 +48,39 @@ where
     ensures quiet { IfErr result (λ fault. (¬ IsWriteFault fault) → Keeps (O.contents output.old)
         (O.contents output.new)) }
 {
+    run_on_system(rt, alloc, words, None, input, output, errors)
+}
+
+// Executes the command over the files and folders of the system, with the bytes of a key file and its keys where they are in
+// hand, and else with those of the key file that the words name.
+fn run_on_system<R, I: Read, O: Write, E: Write>(
+    rt: &R,
+    alloc: Global,
+    words: &[String],
+    in_hand: Option<(&[u8], &[Box<dyn Verifier>])>,
+    input: &mut I,
+    output: &mut O,
+    errors: &mut E,
+) -> Result<u8, RunFault>
+where
+    R: Files + Clock + Eprint + Net<Stream = TcpStream, Listener = TcpListener>,
+    ensures in_hand { IfSome in_hand.entry (λ given. Runs sha256 (map (λ k. key k) given.1.now)
+        given.0.now None None (λ _. None) None None (map string_bytes words.now)
+        (I.remaining input.old) (O.contents output.old) (O.contents output.new) result) }
+    ensures of_file { IfNone in_hand.entry (RunsKeyed sha256 None None (λ _. None) None None
+        (map string_bytes words.now) (I.remaining input.old) (O.contents output.old)
+        (O.contents output.new) result) }
+    ensures ends { Ends (O.contents output.old) (O.contents output.new) result }
+{
     let mut files = SystemFiles::new(rt, alloc);
     let mut folders = folders_of(rt, alloc);
-    let answer = run_named(
+    let answer = run_with(
         rt,
         alloc,
         &mut files,
         &mut folders,
         words,
+        in_hand,
         input,
         output,
         errors,
@@ -65,6 +90,38 @@ where
     drop(folders);
     drop(files);
     answer
+}
+
+// Executes the command over these files and folders, with the same keys.
+#[allow(clippy::too_many_arguments)]
+fn run_with<R, F: NamedFiles, D: ToldFolders, I: Read, O: Write, E: Write>(
+    rt: &R,
+    alloc: Global,
+    files: &mut F,
+    folders: &mut D,
+    words: &[String],
+    in_hand: Option<(&[u8], &[Box<dyn Verifier>])>,
+    input: &mut I,
+    output: &mut O,
+    errors: &mut E,
+) -> Result<u8, RunFault>
+where
+    R: Files + Clock + Eprint + Net<Stream = TcpStream, Listener = TcpListener>,
+    ensures in_hand { IfSome in_hand.entry (λ given. Runs sha256 (map (λ k. key k) given.1.now)
+        given.0.now (F.puts files.old) (F.puts files.new) (D.held folders.old)
+        (D.puts folders.old) (D.puts folders.new) (map string_bytes words.now)
+        (I.remaining input.old) (O.contents output.old) (O.contents output.new) result) }
+    ensures of_file { IfNone in_hand.entry (RunsKeyed sha256 (F.puts files.old) (F.puts files.new)
+        (D.held folders.old) (D.puts folders.old) (D.puts folders.new) (map string_bytes words.now)
+        (I.remaining input.old) (O.contents output.old) (O.contents output.new) result) }
+    ensures ends { Ends (O.contents output.old) (O.contents output.new) result }
+{
+    match in_hand {
+        Some((key_bytes, keys)) => run_words_over(
+            rt, alloc, files, folders, words, key_bytes, keys, input, output, errors,
+        ),
+        None => run_named(rt, alloc, files, folders, words, input, output, errors),
+    }
 }
 
 // The folders of the system, of which it can be told on standard error how many files are put.
@@ -206,25 +263,15 @@ where
     ensures quiet { IfErr result (λ fault. (¬ IsWriteFault fault) → Keeps (O.contents output.old)
         (O.contents output.new)) }
 {
-    let mut files = SystemFiles::new(rt, alloc);
-    let mut folders = folders_of(rt, alloc);
-    let answer = run_words_over(
+    run_on_system(
         rt,
         alloc,
-        &mut files,
-        &mut folders,
         words,
-        key_bytes,
-        keys,
+        Some((key_bytes, keys)),
         input,
         output,
         errors,
-    );
-    let why = why_of(alloc, words, &answer, &files, &folders.shelf);
-    tell_why(alloc, words, why, errors);
-    drop(folders);
-    drop(files);
-    answer
+    )
 }
 
 /// Executes the same over any files and folders that have names.
@@ -232,7 +279,6 @@ where
 /// # Errors
 ///
 /// Those of `run_words`.
-#[tactic(auto, using(crate::proofs::Doable::asked_doable))]
 #[allow(clippy::too_many_arguments)]
 pub fn run_words_over<R, F: NamedFiles, D: ToldFolders, I: Read, O: Write, E: Write>(
     rt: &R,

@@ -54,17 +54,14 @@ where
         (O.contents output.old) (O.contents output.new) result }
 {
     let args = &serve.mirror;
-    let mut mirror = match open_state::<Sha256Tree, F>(
-        files,
-        alloc,
-        args.log.origin,
-        keys,
-        args.state,
-    ) {
-        Ok(mirror) => mirror,
-        Err(fault) => return Err(TellFault::Work(WorkFault::State(fault))),
-    };
-    serve_ready(rt, alloc, &mut mirror, serve, output, errors, why)
+    match open_state::<Sha256Tree, F>(files, alloc, args.log.origin, keys, args.state) {
+        Ok(mut mirror) => {
+            let answer = serve_ready(rt, alloc, &mut mirror, serve, output, errors, why);
+            drop(mirror);
+            answer
+        }
+        Err(fault) => Err(TellFault::Work(WorkFault::State(fault))),
+    }
 }
 
 // Makes a mirror ready, and serves it.

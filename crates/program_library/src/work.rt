@@ -1,6 +1,6 @@
 //! The work of each command.
 ghost use Rattle.std.specs.Prelude.{◌≡◌, IsErrAnd, MatchResult, map};
-ghost use Rattle.std.specs.Result.{ForErr, result_map_both};
+ghost use Rattle.std.specs.Result.{ForErr};
 ghost use Rattle.sha2.specs.Sha256.{sha256};
 ghost use Rattle.program_library.specs.Done.{IsDoable, verdict_status};
 ghost use Rattle.program_library.specs.Performing.{Performs};
@@ -109,7 +109,8 @@ fn done<E, F: FnOnce(E) -> RunFault>(answer: Result<(), E>, name: F) -> Result<u
 
 // The answer of a command that has no type of faults of its own.
 fn work(answer: Result<u8, WorkFault>) -> Result<u8, RunFault>
-    ensures { result ≡ result_map_both (λ status. status) (λ fault. RunFault.Work fault) answer }
+    ensures { MatchResult answer (λ status. result ≡ Ok status) (λ fault. IsErrAnd result
+        (λ told. told ≡ RunFault.Work fault)) }
 {
     match answer {
         Ok(status) => Ok(status),
@@ -119,7 +120,8 @@ fn work(answer: Result<u8, WorkFault>) -> Result<u8, RunFault>
 
 // The status of a verdict, or its fault.
 fn verdict(answer: Result<bool, CheckFault>) -> Result<u8, RunFault>
-    ensures { result ≡ result_map_both verdict_status (λ fault. RunFault.Check fault) answer }
+    ensures { MatchResult answer (λ verdict. result ≡ Ok (verdict_status verdict))
+        (λ fault. IsErrAnd result (λ told. told ≡ RunFault.Check fault)) }
 {
     match answer {
         Ok(true) => Ok(0),

@@ -1,7 +1,6 @@
 -- What the matches of a parser say of the words.
 use Rattle.std.proofs.Common.{◌≡◌, ◌∙◌, ap, sym, subst, inl, inr, List, [], option_map, unwrap_or, Option, Some, None}
-use Rattle.std.proofs.Common.{Result, Ok, Err, true≢false, is_some, refl, codes, Bool, false, IsTrue, ◌↔◌}
-use Rattle.std.proofs.lemmas.Bool.{false≢true}
+use Rattle.std.proofs.Common.{Result, Ok, Err, true≢false, is_some, refl, codes, Bool, IsTrue, ◌↔◌}
 use Rattle.std.specs.Prelude.{Box}
 use Rattle.std.specs.Box.{box_value}
 use Rattle.clap.specs.Words.{HasKind, HasMatchesOf, Row, Text, first_of, kind_of, subcommand_name_of, subcommand_rows}
@@ -11,7 +10,7 @@ use Rattle.clap.specs.declared.parser.matches.ArgMatches.{ArgMatches}
 use Rattle.clap.specs.declared.parser.matches.ArgMatches.TheViews.{out-ArgMatches, out-SubCommand}
 use Rattle.clap.specs.declared.parser.matches.SubCommand.{SubCommand}
 use Rattle.program_words.specs.Commands.{Calls, HasFlag, Says, faults, mirror_app, name_of}
-use Rattle.program_words.specs.Readings.{AsksNone, AsksWhy, ReadsPart, IsSaid, Reads, ReadsKeyFile, Tells}
+use Rattle.program_words.specs.Readings.{AsksWhy, IsSaid, Reads, ReadsKeyFile, ReadsPart, Tells, no_keys}
 use Rattle.program_words.specs.declared.commands.Command.{Command}
 use Rattle.program_words.specs.declared.fault.CommandFault.{CommandFault}
 use Rattle.program_words.specs.declared.fault.CommandFault.TheVariants.{Help, Words, BadArgument, OutOfMemory}
@@ -55,15 +54,9 @@ nothing_named words m name options matches r calls =
     let bad : None ≡ Some options = r ∙ ap (option_map (λ (p : Text × List Row). p.1)) same in
     true≢false (ap is_some (sym bad))
 
--- words that name no command ask for none
-pub nothing_called : (words : List Text) (m : ArgMatches) → HasMatchesOf mirror_app words m →
-    None ≡ option_map (λ p. p.1) (subcommand_rows_of m) → AsksNone words
-nothing_called words m matches r command asked =
-    nothing_named words m (name_of command) asked.0 matches r asked.1
-
 -- a fault of the parser, as the program tells it
 pub refused : (words : List Text) (e : Error) (fault : CommandFault) → HasKind (faults words) e →
-    Tells (kind_of e) fault → Reads words (Err fault)
+    Tells (kind_of e) fault → ReadsKeyFile words (no_keys fault)
 refused words e (Help text) (inl memory) told = absurd (elim told [ inl h ↦ cc | inr h ↦ cc ])
 refused words e (Help text) (inr among) told = (kind_of e, among, told)
 refused words e (Words text) (inl memory) told = absurd (told.0 memory)
@@ -71,13 +64,13 @@ refused words e (Words text) (inr among) told = (kind_of e, among, told.1)
 refused words e BadArgument h told = absurd told
 refused words e OutOfMemory h told = tt
 
--- the same, of the reader of the file of keys
-pub keys_refused : (words : List Text) (e : Error) (fault : CommandFault) → HasKind (faults words) e →
-    Tells (kind_of e) fault → ReadsKeyFile words (Err fault)
-keys_refused words e (Help text) h told = refused words e (Help text) h told
-keys_refused words e (Words text) h told = refused words e (Words text) h told
-keys_refused words e BadArgument h told = absurd told
-keys_refused words e OutOfMemory h told = tt
+-- the same, of the reader of the words
+pub read_refused : (words : List Text) (fault : CommandFault) → ReadsKeyFile words (no_keys fault) →
+    Reads words (Err fault)
+read_refused words (Help text) h = h
+read_refused words (Words text) h = h
+read_refused words BadArgument h = absurd h
+read_refused words OutOfMemory h = tt
 
 pub keys_read : (words : List Text) (name : Text) (options : List Row) (keys : Option Text) → Calls words name options →
     first_of (codes "keys") options ≡ keys → ReadsKeyFile words (Ok keys)
@@ -100,11 +93,4 @@ why_read words name options b calls flag = (
   λ asks.
       flag.1 (subst (λ (o : List Row). HasFlag o (codes "why")) (same_options words asks.name name asks.options options asks.calls calls)
       asks.given),
-)
-
-pub why_unread : (words : List Text) (m : ArgMatches) → HasMatchesOf mirror_app words m →
-    None ≡ option_map (λ p. p.1) (subcommand_rows_of m) → IsTrue false ↔ AsksWhy words
-why_unread words m matches r = (
-  λ t. absurd (false≢true t),
-  λ asks. absurd (nothing_named words m asks.name asks.options matches r asks.calls),
 )

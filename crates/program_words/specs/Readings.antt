@@ -1,5 +1,5 @@
--- What each answer of a reader of a command line says of the words. `ReadsPart`, `IsSaid` and `Tells`
--- are cited by the contracts of private functions alone.
+-- What each answer of a reader of a command line says of the words. `no_keys`, `ReadsPart`, `IsSaid` and
+-- `Tells` are cited by the contracts of private functions alone.
 use Rattle.std.specs.Prelude.{◌≡◌, ◌≢◌, ◌⊎◌, List, [], Option, Some, None, Result, Ok, Err, codes, ⊤}
 use Rattle.clap.specs.Words.{IsAmong, Row, Text, first_of}
 use Rattle.clap.specs.declared.error.kind.ErrorKind.{ErrorKind}
@@ -49,6 +49,10 @@ ReadsKeyFile words (Err (Help text)) = (k : ErrorKind) × IsAmong k (faults word
 ReadsKeyFile words (Err (Words text)) = (k : ErrorKind) × IsAmong k (faults words) × (¬ IsHelp k)
 ReadsKeyFile words (Err BadArgument) = ⊥
 ReadsKeyFile words (Err OutOfMemory) = ⊤
+
+-- the file of keys, where the words call no command
+abbrev pub no_keys : CommandFault → Result (Option Text) CommandFault
+no_keys fault = Err fault
 
 -- the words are a command line, whose command is to say why it fails
 pub record AsksWhy (words : List Text) : Type 0 where

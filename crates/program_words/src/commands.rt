@@ -139,7 +139,20 @@ fn with_command<'a>(
     ensures { (a b : App) → IfOk parser.entry (IsParserOf a) → IfOk below.entry (IsParserOf b)
         → IfOk result (IsParserOf (with_subcommand a b.top)) }
 {
-    parser?.subcommand(below?)
+    // What is there beside a failed one goes by `drop`, which is one step to the checker.
+    match parser {
+        Ok(parser) => match below {
+            Ok(below) => parser.subcommand(below),
+            Err(fault) => {
+                drop(parser);
+                Err(fault)
+            }
+        },
+        Err(fault) => {
+            drop(below);
+            Err(fault)
+        }
+    }
 }
 
 // The program with these commands, if there are all.

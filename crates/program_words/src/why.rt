@@ -1,12 +1,11 @@
 //! What `--why` wants of the words: whether it is there, and which of them is the bad argument.
 ghost use Rattle.std.specs.Prelude.{◌↔◌, IfOk, IsTrue, map, string_bytes};
-ghost use Rattle.clap.specs.Words.{found_of, rows_of};
 ghost use Rattle.program_words.specs.Readings.{AsksWhy};
 
-use crate::commands::{bad_word, parser};
+use crate::commands::bad_word;
 use crate::fault::CommandFault;
 use crate::parts::has_flag;
-use crate::words::fault_of;
+use crate::words::command_found;
 use std::alloc::Global;
 
 /// Whether the words ask that a fault is told with what it is about: by the option `--why`, which every command has but
@@ -22,13 +21,9 @@ use std::alloc::Global;
 pub fn asks_why(alloc: Global, words: &[String]) -> Result<bool, CommandFault>
     ensures { IfOk result (λ asked. IsTrue asked ↔ AsksWhy (map string_bytes words.now)) }
 {
-    let matches = match parser(alloc)?.try_get_matches_from(words) {
-        Ok(matches) => matches,
-        Err(error) => return Err(fault_of(alloc, error)),
-    };
-    match matches.subcommand() {
-        Some((_name, found)) => Ok(has_flag(found, "why")),
-        None => Ok(false),
+    match command_found(alloc, words) {
+        Ok((_name, found)) => Ok(has_flag(&found, "why")),
+        Err(fault) => Err(fault),
     }
 }
 
@@ -39,14 +34,8 @@ pub fn asks_why(alloc: Global, words: &[String]) -> Result<bool, CommandFault>
 /// bad_argument(alloc, &words)   // Some("--port")
 /// ```
 pub fn bad_argument(alloc: Global, words: &[String]) -> Option<&'static str> {
-    let Ok(parser) = parser(alloc) else {
-        return None;
-    };
-    let Ok(matches) = parser.try_get_matches_from(words) else {
-        return None;
-    };
-    match matches.subcommand() {
-        Some((name, found)) => bad_word(alloc, name, found),
-        None => None,
+    match command_found(alloc, words) {
+        Ok((name, found)) => bad_word(alloc, name, &found),
+        Err(_) => None,
     }
 }

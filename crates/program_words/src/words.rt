@@ -1,16 +1,18 @@
 //! The words of a command line, read.
-ghost use Rattle.std.specs.Prelude.{◌≡◌, map, option_map, string_bytes};
+ghost use Rattle.std.specs.Prelude.{IfErr, IfOk, map, option_map, string_bytes};
 ghost use Rattle.tlog_text.specs.Answers.{seen};
-ghost use Rattle.clap.specs.Words.{kind_of};
-ghost use Rattle.program_words.specs.Readings.{Reads, ReadsKeyFile, Tells};
+ghost use Rattle.clap.specs.Words.{found_of, kind_of, rows_of};
+ghost use Rattle.program_words.specs.Commands.{Calls};
+ghost use Rattle.program_words.specs.Readings.{Reads, ReadsKeyFile, Tells, no_keys};
 
 use crate::commands::{Command, command_of, parser};
 use crate::fault::CommandFault;
+use clap::ArgMatches;
 use clap::error::ErrorKind;
 use std::alloc::Global;
 
 // What an error of `clap` is to the program.
-pub(crate) fn fault_of(alloc: Global, error: clap::Error) -> CommandFault
+fn fault_of(alloc: Global, error: clap::Error) -> CommandFault
     ensures { Tells (kind_of error) result }
 {
     if error.kind() == ErrorKind::OutOfMemory {
@@ -28,6 +30,31 @@ pub(crate) fn fault_of(alloc: Global, error: clap::Error) -> CommandFault
     }
 }
 
+/// The name of the command that the words call, and what they give of its options. No option is judged.
+///
+/// # Errors
+///
+/// `Help` and `Words` come with the text of `clap`, `OutOfMemory` where memory was refused.
+pub(crate) fn command_found<'a>(
+    alloc: Global,
+    words: &'a [String],
+) -> Result<(&'a str, ArgMatches<'a>), CommandFault>
+    ensures called { IfOk result (λ found. Calls (map string_bytes words.now) found.0.now
+        (rows_of (found_of found.1))) }
+    ensures refused { IfErr result (λ fault. ReadsKeyFile (map string_bytes words.now)
+        (no_keys fault)) }
+{
+    let mut matches = match parser(alloc)?.try_get_matches_from(words) {
+        Ok(matches) => matches,
+        Err(error) => return Err(fault_of(alloc, error)),
+    };
+    match matches.remove_subcommand() {
+        Some((name, found)) => Ok((name, found)),
+        // It never comes here: words in which `clap` finds nothing wrong name a command.
+        None => Err(CommandFault::BadArgument),
+    }
+}
+
 /// The command that the words after the program's name ask for. It borrows from the words.
 ///
 /// # Errors
@@ -38,13 +65,9 @@ pub(crate) fn fault_of(alloc: Global, error: clap::Error) -> CommandFault
 pub fn read_words<'a>(alloc: Global, words: &'a [String]) -> Result<Command<'a>, CommandFault>
     ensures { Reads (map string_bytes words.now) result }
 {
-    let matches = match parser(alloc)?.try_get_matches_from(words) {
-        Ok(matches) => matches,
-        Err(error) => return Err(fault_of(alloc, error)),
-    };
-    match matches.subcommand() {
-        Some((name, found)) => command_of(alloc, name, found),
-        None => Err(CommandFault::BadArgument),
+    match command_found(alloc, words) {
+        Ok((name, found)) => command_of(alloc, name, &found),
+        Err(fault) => Err(fault),
     }
 }
 
@@ -59,13 +82,8 @@ pub fn read_words<'a>(alloc: Global, words: &'a [String]) -> Result<Command<'a>,
 pub fn key_file<'a>(alloc: Global, words: &'a [String]) -> Result<Option<&'a str>, CommandFault>
     ensures { ReadsKeyFile (map string_bytes words.now) (seen (option_map (λ k. k.now)) result) }
 {
-    let matches = match parser(alloc)?.try_get_matches_from(words) {
-        Ok(matches) => matches,
-        Err(error) => return Err(fault_of(alloc, error)),
-    };
-    match matches.subcommand() {
-        Some((_name, found)) => Ok(found.get_str("keys")),
-        // It never comes here: words in which `clap` finds nothing wrong name a command.
-        None => Err(CommandFault::BadArgument),
+    match command_found(alloc, words) {
+        Ok((_name, found)) => Ok(found.get_str("keys")),
+        Err(fault) => Err(fault),
     }
 }

@@ -116,12 +116,8 @@ pub(crate) fn read<'a>(alloc: Global, found: &ArgMatches<'a>) -> Result<Command<
 
 /// The option or the word that is bad, as help names it.
 pub(crate) fn bad_word(alloc: Global, found: &ArgMatches<'_>) -> Option<&'static str> {
-    let Ok(kind) = word_of(found, "kind") else {
-        return None;
-    };
-    let Ok(place) = word_of(found, "place") else {
-        return None;
-    };
+    let kind = found.get_str("kind")?;
+    let place = found.get_str("place")?;
     if kind != "dir" && kind != "http" {
         return Some("KIND");
     }

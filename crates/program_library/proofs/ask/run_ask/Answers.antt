@@ -9,10 +9,10 @@ returns-in-Err g c = record {
   quiet = λ other. keeps_itself (g.W.Write.contents c.args.output.now);
 }
 
-pub returns : goal.returns
-returns g c = record {
-  answer = asks_state _ _ _ _ _ _ _ c.in-Ok.mirror.view c.in-Ok.ensures _ c.print_report.result c.asked.result
-      c.asked.ensures c.print_report.ensures.answer;
-  status = asked_status c.print_report.result c.asked.result c.asked.ensures c.print_report.ensures.status;
-  quiet = asked_quietly c.print_report.result c.asked.result _ _ c.asked.ensures c.print_report.ensures.quiet;
+pub returns-in-Ok : goal.returns-in-Ok
+returns-in-Ok g c = record {
+  answer = asks_state _ _ _ _ _ _ _ c.in-Ok.mirror.view c.in-Ok.ensures _ c.print_report-answer.result c.asked.result
+      c.asked.ensures c.print_report-answer.ensures.answer;
+  status = asked_status c.print_report-answer.result c.asked.result c.asked.ensures c.print_report-answer.ensures.status;
+  quiet = asked_quietly c.print_report-answer.result c.asked.result _ _ c.asked.ensures c.print_report-answer.ensures.quiet;
 }

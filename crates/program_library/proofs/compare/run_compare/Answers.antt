@@ -9,10 +9,10 @@ returns-in-Err g c = record {
   quiet = λ other. keeps_itself (g.W.Write.contents c.args.output.now);
 }
 
-pub returns : goal.returns
-returns g c = record {
-  answer = compares_state _ _ _ _ _ _ _ c.in-Ok.mirror.view c.in-Ok.ensures _ c.compare_mirror.result
-      c.compare_mirror.ensures.answer;
-  status = c.compare_mirror.ensures.status;
-  quiet = c.compare_mirror.ensures.quiet;
+pub returns-in-Ok : goal.returns-in-Ok
+returns-in-Ok g c = record {
+  answer = compares_state _ _ _ _ _ _ _ c.in-Ok.mirror.view c.in-Ok.ensures _ c.compare_mirror-answer.result
+      c.compare_mirror-answer.ensures.answer;
+  status = c.compare_mirror-answer.ensures.status;
+  quiet = c.compare_mirror-answer.ensures.quiet;
 }

@@ -19,13 +19,13 @@ returns-in-Ok-pull_kept-clause-answer g c = inr record {
     lawful = c.in-Ok-pull_kept.ensures.lawful;
   };
   tells = subst (λ (told : Option (List NamedFile)). TellsPulled c.pull_kept.new.mirror.view
-      c.in-Ok-pull_kept.pulled c.args.words.now.mirror.out.now told (g.F.NamedFiles.puts c.tell_pulled.new.files)
-      (g.W.Write.contents c.args.output.now) (g.W.Write.contents c.tell_pulled.new.output) c.tell_pulled.result)
-      c.in-Ok-pull_kept.ensures.same c.tell_pulled.ensures.answer;
+      c.in-Ok-pull_kept.pulled c.args.words.now.mirror.out.now told (g.F.NamedFiles.puts c.tell_pulled-answer.new.files)
+      (g.W.Write.contents c.args.output.now) (g.W.Write.contents c.tell_pulled-answer.new.output) c.tell_pulled-answer.result)
+      c.in-Ok-pull_kept.ensures.same c.tell_pulled-answer.ensures.answer;
 }
 
-pub returns-clause-answer : goal.returns-clause-answer
-returns-clause-answer g c = inl (
+pub returns-in-Err-pull_kept-clause-answer : goal.returns-in-Err-pull_kept-clause-answer
+returns-in-Err-pull_kept-clause-answer g c = inl (
   record {
     view = c.pull_kept.new.mirror.view;
     pulls = record {
