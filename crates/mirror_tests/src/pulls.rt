@@ -4,7 +4,7 @@
 //! C(n) is the log of the numbers from 0 on, n of them, each in two bytes, big-endian.
 mod lying;
 
-ghost use Rattle.std.specs.Prelude.{◌≡◌, map, IfOk};
+ghost use Rattle.std.specs.Prelude.{map, IfOk};
 ghost use Rattle.mirror_model.specs.TrueLaws.{AreShort};
 
 use crate::given::count_of_heads;

@@ -1,5 +1,5 @@
 //! The list of the commands. Each has a file of its own, with what its options say, its parser, its help and its reader.
-ghost use Rattle.std.specs.Prelude.{◌≡◌, IfOk};
+ghost use Rattle.std.specs.Prelude.{IfOk};
 ghost use Rattle.clap.specs.Words.{App, found_of, rows_of, with_subcommand};
 ghost use Rattle.program_words.specs.App.{AreParsersOf, IsParserOf, named_app, program_app};
 ghost use Rattle.program_words.specs.Commands.{command_apps, mirror_app};
