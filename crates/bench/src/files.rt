@@ -2,7 +2,8 @@
 use crate::clock::{now, tell_since};
 use crate::list::{ORIGIN, entries_of, key};
 use crate::pulls::{fill, hash_told, settle};
-use mirror_folders::{ExportFault, MemShelf, export};
+use mirror_export::{ExportFault, export};
+use mirror_folders::MemShelf;
 use mirror_state::{LoadFault, load, save};
 use signed_note::Verifier;
 use std::alloc::Global;

@@ -1,8 +1,8 @@
 pub use Rattle.mirror_folders.specs.Shelf
-pub use Rattle.mirror_folders.specs.Files
-pub use Rattle.mirror_folders.specs.Exports
-pub use Rattle.mirror_folders.specs.Faults
-pub use Rattle.mirror_folders.specs.FileLaws
+pub use Rattle.mirror_export.specs.Files
+pub use Rattle.mirror_export.specs.Exports
+pub use Rattle.mirror_export.specs.Faults
+pub use Rattle.mirror_export.specs.FileLaws
 pub use Rattle.mirror_folders.specs.Places
 pub use Rattle.mirror_state.specs.Items
 pub use Rattle.mirror_state.specs.StateText

@@ -3,4 +3,3 @@ mod Appended
 mod Commas
 mod Printed
 mod Tells
-mod Totals

@@ -1,4 +1,3 @@
 pub mod Text
 pub mod Telling
 pub mod Counting
-pub mod Total

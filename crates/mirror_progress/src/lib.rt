@@ -21,7 +21,6 @@ mod progress;
 mod shelf;
 mod source;
 mod task;
-mod total;
 
 pub use counts::Counts;
 pub use errors::StandardError;
@@ -32,4 +31,3 @@ pub use progress::Progress;
 pub use shelf::CountingShelf;
 pub use source::CountingSource;
 pub use task::Task;
-pub use total::files_to_put;

@@ -4,9 +4,9 @@ use Rattle.signed_note.specs.Keys.{Key}
 use Rattle.mirror_model.specs.View.{View}
 use Rattle.tlog_mirror.specs.Tops.{ServesNothing}
 use Rattle.mirror_folders.specs.Shelf.{Put}
-use Rattle.mirror_folders.specs.Exports.{CheckpointIsLast, CountsExport, Exports}
-use Rattle.mirror_folders.specs.declared.fault.ExportFault.{ExportFault}
-use Rattle.mirror_folders.specs.declared.fault.ExportFault.TheVariants.{NothingComplete}
+use Rattle.mirror_export.specs.Exports.{CheckpointIsLast, CountsExport, Exports}
+use Rattle.mirror_export.specs.declared.fault.ExportFault.{ExportFault}
+use Rattle.mirror_export.specs.declared.fault.ExportFault.TheVariants.{NothingComplete}
 use Rattle.program_files.specs.Named.{NamedFile}
 use Rattle.program_commands.specs.Answers.{done, failed}
 use Rattle.program_commands.specs.States.{OpensFile}

@@ -25,7 +25,7 @@ use tlog_mirror::Mirror;
 /// # Errors
 ///
 /// In this order: `State`, those of `open_state`; `OutOfMemory`, where memory for the folder's name was refused; nothing is
-/// put then. `Export`, those of `mirror_folders::export`. What was put before a fault stays.
+/// put then. `Export`, those of `mirror_export::export`. What was put before a fault stays.
 pub fn run_export<H: TreeHash, F: NamedFiles, D: ToldFolders>(
     files: &F,
     folders: &mut D,

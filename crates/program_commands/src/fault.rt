@@ -1,5 +1,5 @@
 //! Why a command over named files is not done.
-use mirror_folders::{ExportFault, UpdateFault};
+use mirror_export::{ExportFault, UpdateFault};
 use mirror_state::LoadFault;
 use program_files::NamedFault;
 use thiserror::Error;

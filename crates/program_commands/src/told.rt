@@ -2,11 +2,11 @@
 ghost use Rattle.std.specs.Prelude.{◌≡◌, ◌↔◌, IfSome, List, ℕ};
 ghost use Rattle.mirror_model.specs.Heads.{IsHead};
 ghost use Rattle.tlog_mirror.specs.Tops.{ServesNothing};
-ghost use Rattle.mirror_folders.specs.Exports.{CheckpointIsLast, CountsExport, Exports};
-ghost use Rattle.mirror_folders.specs.Updates.{CountsUpdate, Updates};
+ghost use Rattle.mirror_export.specs.Exports.{CheckpointIsLast, CountsExport, Exports};
+ghost use Rattle.mirror_export.specs.Updates.{CountsUpdate, Updates};
 
-use mirror_folders::{ExportFault, UpdateFault, export, update};
-use mirror_progress::{ToldFolders, files_to_put};
+use mirror_export::{ExportFault, UpdateFault, export, files_to_put, update};
+use mirror_progress::ToldFolders;
 use signed_note::Note;
 use std::alloc::Global;
 use tlog_checkpoint::read;
@@ -72,7 +72,7 @@ fn expect_update<H: TreeHash, D: ToldFolders>(
     }
 }
 
-/// The same as `mirror_folders::export`. It says before how many files are to be put, where that is told.
+/// The same as `mirror_export::export`. It says before how many files are to be put, where that is told.
 ///
 /// # Errors
 ///
@@ -94,7 +94,7 @@ pub(crate) fn export_told<H: TreeHash, D: ToldFolders>(
     export(alloc, mirror, folders)
 }
 
-/// The same as `mirror_folders::update`. It says before how many files are to be put, where that is told.
+/// The same as `mirror_export::update`. It says before how many files are to be put, where that is told.
 ///
 /// # Errors
 ///

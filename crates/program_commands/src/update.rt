@@ -9,7 +9,7 @@ ghost use Rattle.program_commands.specs.Updated.{CountsFileUpdate, NotRead, Upda
 use crate::fault::UpdateFileFault;
 use crate::state::open_state;
 use crate::told::{export_told, update_told};
-use mirror_folders::UpdateFault;
+use mirror_export::UpdateFault;
 use mirror_progress::ToldFolders;
 use mirror_sources::{Source, SourceFault};
 use program_files::NamedFiles;
@@ -71,8 +71,8 @@ fn update_folder<H: TreeHash, S: Source, D: ToldFolders>(
 ///
 /// In this order: `State`, those of `open_state`; `OutOfMemory`, where memory for the folder's name was refused; nothing is
 /// put then. `Read` where the folder's checkpoint was not read: `NothingComplete` where nothing is served, else
-/// `ShelfFault` or `OutOfMemory`; nothing is put. `Update`, those of `mirror_folders::update`, where the folder has a
-/// checkpoint, and `Export`, those of `mirror_folders::export`, where it has none. What was put before a fault stays.
+/// `ShelfFault` or `OutOfMemory`; nothing is put. `Update`, those of `mirror_export::update`, where the folder has a
+/// checkpoint, and `Export`, those of `mirror_export::export`, where it has none. What was put before a fault stays.
 #[allow(clippy::too_many_arguments)]
 pub fn run_update<H: TreeHash, F: NamedFiles, S: Source, D: ToldFolders>(
     files: &F,

@@ -1,7 +1,8 @@
 //! What the fault of a run over the files of the system is about.
 use crate::fault::{RunFault, TellFault, WorkFault};
 use crate::why::Why;
-use mirror_folders::{DirShelf, ExportFault, UpdateFault};
+use mirror_export::{ExportFault, UpdateFault};
+use mirror_folders::DirShelf;
 use mirror_pull::PullFault;
 use program_commands::{
     ExportFileFault, HeadFilesFault, MergeFilesFault, NotesFault, StateFault, TakeFilesFault,

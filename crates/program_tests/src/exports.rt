@@ -3,7 +3,8 @@ ghost use Rattle.std.specs.Prelude.{◌≡◌, min, ◌+◌, ◌-◌, ◌^◌};
 
 use crate::given::complete;
 use crate::states::{BUNDLE, NOTE, ROW};
-use mirror_folders::{ExportFault, MemShelf, Shelf, ShelfError, UpdateFault, export, update};
+use mirror_export::{ExportFault, UpdateFault, export, update};
+use mirror_folders::{MemShelf, Shelf, ShelfError};
 use std::alloc::{AllocError, Global};
 use std::process::Abort;
 use std::test::Fail;

@@ -1,9 +1,9 @@
 //! The lines that tell how far long work is, what they count, and when they are written.
 use crate::streams::FailingWriter;
+use mirror_export::files_to_put;
 use mirror_folders::{MemShelf, Shelf, ShelfError};
 use mirror_progress::{
-    CountingShelf, Counts, Progress, StandardError, Task, ToldFolders, files_to_put, progress_line,
-    pulled_line,
+    CountingShelf, Counts, Progress, StandardError, Task, ToldFolders, progress_line, pulled_line,
 };
 use std::alloc::Global;
 use std::cell::Cell;

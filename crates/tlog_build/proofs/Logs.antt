@@ -14,9 +14,9 @@ use Rattle.mirror_sources.specs.Told.{KeepsTold}
 use Rattle.mirror_pull.specs.declared.fault.PullFault.{PullFault}
 use Rattle.mirror_pull.specs.declared.fault.PullFault.TheVariants as pull
 use Rattle.mirror_folders.specs.Shelf.{Put}
-use Rattle.mirror_folders.specs.Files.{files_at, paths_of}
-use Rattle.mirror_folders.specs.declared.fault.ExportFault.{ExportFault}
-use Rattle.mirror_folders.specs.declared.fault.ExportFault.TheVariants as export
+use Rattle.mirror_export.specs.Files.{files_at, paths_of}
+use Rattle.mirror_export.specs.declared.fault.ExportFault.{ExportFault}
+use Rattle.mirror_export.specs.declared.fault.ExportFault.TheVariants as export
 use Rattle.tlog_build.specs.Building.{IsLogNote, AreLogFiles, BuildsLog, PutsFiles}
 use Rattle.tlog_build.specs.Faults.{of_export, of_pull}
 

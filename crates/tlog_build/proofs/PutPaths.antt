@@ -4,13 +4,13 @@ use Rattle.std.proofs.Common.{◌∙◌, Contains, add-one, arith}
 use Rattle.std.proofs.Math.Seq.{take-suc}
 use Rattle.std.proofs.lemmas.List.{length-map, map-append, take-append-drop}
 use Rattle.tlog_tiles.specs.declared.paths.Path.TheVariants.{Checkpoint}
-use Rattle.mirror_folders.specs.Files.{paths_of}
-use Rattle.mirror_folders.specs.FileLaws.{FilesAreAll}
+use Rattle.mirror_export.specs.Files.{paths_of}
+use Rattle.mirror_export.specs.FileLaws.{FilesAreAll}
 use Rattle.tlog_tiles.specs.declared.paths.Path.{Path}
 use Rattle.mirror_sources.specs.Told.{AddsTold}
 use Rattle.mirror_folders.specs.Shelf.{Put}
-use Rattle.mirror_folders.specs.Exports.{AddsPrefix}
-use Rattle.mirror_folders.proofs.Prefixes.{adds_then, front_more, front_then}
+use Rattle.mirror_export.specs.Exports.{AddsPrefix}
+use Rattle.mirror_export.proofs.Prefixes.{adds_then, front_more, front_then}
 
 module _ (file : Path → Put) (a b c : Option (List Put)) (paths : List Path) (i : ℕ) (d : Path)
     (lt : i < length paths) where

@@ -10,10 +10,10 @@ use Rattle.mirror_model.specs.Origin.{IsOrigin}
 use Rattle.mirror_sources.specs.ListSource.{OpensAnywhere}
 use Rattle.mirror_sources.specs.Told.{KeepsTold, AddsTold}
 use Rattle.mirror_folders.specs.Shelf.{Put, TellsNone, TellsSome}
-use Rattle.mirror_folders.specs.Files.{paths_of, files_at}
-use Rattle.mirror_folders.specs.Exports.{AddsPrefix}
-use Rattle.mirror_folders.specs.declared.fault.ExportFault.{ExportFault}
-use Rattle.mirror_folders.specs.declared.fault.ExportFault.TheVariants as export
+use Rattle.mirror_export.specs.Files.{paths_of, files_at}
+use Rattle.mirror_export.specs.Exports.{AddsPrefix}
+use Rattle.mirror_export.specs.declared.fault.ExportFault.{ExportFault}
+use Rattle.mirror_export.specs.declared.fault.ExportFault.TheVariants as export
 use Rattle.tlog_build.specs.declared.fault.BuildFault.{BuildFault}
 use Rattle.tlog_build.specs.declared.fault.BuildFault.TheVariants.{BadOrigin, Export}
 use Rattle.tlog_build.specs.declared.fault.BuildFault.TheVariants.{OutOfMemory}

@@ -5,8 +5,8 @@ use Rattle.tlog_mirror.specs.declared.fault.NewFault.{NewFault}
 use Rattle.tlog_mirror.specs.declared.fault.NewFault.TheVariants as new
 use Rattle.mirror_pull.specs.declared.fault.PullFault.{PullFault}
 use Rattle.mirror_pull.specs.declared.fault.PullFault.TheVariants as pull
-use Rattle.mirror_folders.specs.declared.fault.ExportFault.{ExportFault}
-use Rattle.mirror_folders.specs.declared.fault.ExportFault.TheVariants as export
+use Rattle.mirror_export.specs.declared.fault.ExportFault.{ExportFault}
+use Rattle.mirror_export.specs.declared.fault.ExportFault.TheVariants as export
 use Rattle.tlog_build.specs.declared.entries.EntriesFault.{EntriesFault}
 use Rattle.tlog_build.specs.declared.entries.EntriesFault.TheVariants as entries
 use Rattle.tlog_build.specs.declared.fault.BuildFault.{BuildFault}

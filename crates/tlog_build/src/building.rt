@@ -11,7 +11,8 @@ ghost use Rattle.tlog_build.specs.Building.{BuildsLogUnder, ChecksOrigin};
 
 use crate::fault::BuildFault;
 use crate::putting::put_files;
-use mirror_folders::{ExportFault, Shelf};
+use mirror_export::ExportFault;
+use mirror_folders::Shelf;
 use mirror_pull::PullFault;
 use mirror_sources::ListSource;
 use signed_note::{HmacKey, Verifier};

@@ -3,7 +3,7 @@ ghost use Rattle.std.specs.Prelude.{◌≡◌};
 ghost use Rattle.tlog_build.specs.declared.fault.BuildFault.TheVariants.{OutOfMemory};
 ghost use Rattle.tlog_build.specs.Faults.{of_export, of_new, of_pull};
 
-use mirror_folders::ExportFault;
+use mirror_export::ExportFault;
 use mirror_pull::PullFault;
 use std::alloc::AllocError;
 use thiserror::Error;

@@ -1,6 +1,6 @@
 use Rattle.std.proofs.Common.{List, ℕ, option_map, subst}
 use Rattle.tlog_tiles.specs.declared.paths.Path.TheVariants.{Checkpoint}
-use Rattle.mirror_folders.specs.Updates.{Updates}
+use Rattle.mirror_export.specs.Updates.{Updates}
 use Rattle.program_commands.specs.Answers.{failed}
 use Rattle.program_commands.proofs.update.update_folder.Goals as goal
 

@@ -1,0 +1,131 @@
+-- What an export puts, by the answers of its parts.
+use Rattle.std.proofs.Common.{◌≡◌, ℕ, ◌-◌, ◌^◌, ◌<◌, List, [], ◌∷◌, ◌++◌, length, Option, Some, None, Result, Ok, Err}
+use Rattle.std.proofs.Common.{true, false, refl, sym, ap, subst, inl, inr, arith, length-append}
+use Rattle.std.proofs.lemmas.Bool.{false≢true, cases_lt}
+use Rattle.std.proofs.lemmas.List.{length-map}
+use Rattle.tlog_tiles.specs.declared.paths.Path.{Path}
+use Rattle.tlog_tiles.specs.declared.paths.Path.TheVariants.{Checkpoint}
+use Rattle.mirror_sources.specs.Told.{AddsTold, KeepsTold, Rose, one_more}
+use Rattle.mirror_model.specs.View.{View}
+use Rattle.tlog_mirror.specs.Tops.{Top, IsServedTop, ServesNothing}
+use Rattle.mirror_folders.specs.Shelf.{CountsFailures, Put, TellsHas, TellsNone, TellsSome}
+use Rattle.mirror_export.specs.Faults.{of_shelf}
+use Rattle.mirror_export.specs.Files.{file_at, files_at, kind_paths, paths_of, tile_paths, IsServedFiles}
+use Rattle.mirror_export.specs.Exports.{AddsPrefix, CountsExport, Exports, PutsPrefix}
+use Rattle.mirror_folders.specs.declared.shelf.ShelfError.{ShelfError}
+use Rattle.mirror_folders.specs.declared.shelf.ShelfError.TheVariants.{Failed, OutOfMemory}
+use Rattle.mirror_export.specs.declared.fault.ExportFault.{ExportFault}
+use Rattle.mirror_export.specs.declared.fault.ExportFault.TheVariants.{NothingComplete}
+use Rattle.mirror_export.specs.declared.files.FileKind.TheVariants.{Bundles}
+use Rattle.mirror_export.specs.Since.{files_since}
+use Rattle.mirror_export.proofs.NewFiles.{all_since_none}
+use Rattle.mirror_export.proofs.Prefixes.{adds_kept, adds_then, front_then}
+
+-- ---- what a shelf tells
+
+pub tells_none : (old : Option (List Put)) (path : Path) → TellsHas old path false → TellsNone old path
+tells_none None path h = tt
+tells_none (Some puts) path h = λ has. false≢true (h.1 has)
+
+pub tells_some : (old : Option (List Put)) (path : Path) → TellsHas old path true → TellsSome old path
+tells_some None path h = tt
+tells_some (Some puts) path h = h.0 refl
+
+pub same_told : (old : Option (List Put)) → KeepsTold old old
+same_told None = tt
+same_told (Some puts) = refl
+
+-- ---- its count
+
+pub one_more_rose : (old : ℕ) → Rose old (one_more old)
+one_more_rose old = elim (cases_lt old (2 ^ 64 - 1)) [ inl room ↦ inl (omega arith) | inr full ↦ inr (omega arith) ]
+
+pub count_of : (S T : Type 0) (old new : ℕ) (e : ShelfError) → CountsFailures {T = S} old new (Err e) →
+    CountsExport {T = T} old new (Err (of_shelf e))
+count_of S T old new Failed p = subst (λ n. Rose old n) (sym p) (one_more_rose old)
+count_of S T old new OutOfMemory p = p
+
+-- ---- what was put
+
+abbrev pub answer_of : (T : Type 0) → ExportFault → Result T ExportFault
+answer_of T fault = Err fault
+
+module _ (digest : List ℕ → List ℕ) (v : View) (top : Top) (is : IsServedTop digest v top) where
+  abbrev files : List Put
+  files = files_at digest top.note is.served.entries (paths_of top.size)
+
+  are_served : IsServedFiles digest v files
+  are_served = record {
+    note = top.note;
+    size = top.size;
+    root = top.root;
+    entries = is.served.entries;
+    served = is.served.served;
+    files_are = refl;
+  }
+
+  -- there is a checkpoint among the files
+  some : 0 < length files
+  some =
+      let front = tile_paths top.size ++ kind_paths top.size Bundles in
+      omega (
+        arith,
+        length-map (paths_of top.size) (file_at digest top.note is.served.entries),
+        length-append front (Checkpoint ∷ []),
+      )
+
+  -- since no entries all files are new
+  abbrev new_files : List Put
+  new_files = files_since digest top.note is.served.entries 0 top.size
+
+  all_new : new_files ≡ files
+  all_new = ap (files_at digest top.note is.served.entries) (all_since_none top.size)
+
+  pub all_put : {T : Type 0} (old middle new : Option (List Put)) (x : T) → KeepsTold old middle →
+      TellsNone old Checkpoint → AddsTold middle new (files_since digest top.note is.served.entries 0 top.size) →
+      Exports digest v old new (Ok x)
+  all_put old middle new x kept free p = record {
+    files = files;
+    are_served = are_served;
+    free = free;
+    told = adds_then old middle new [] files (adds_kept old middle kept)
+        (subst (λ (l : List Put). AddsTold middle new l) all_new p);
+  }
+
+  some_put : (old middle new : Option (List Put)) → KeepsTold old middle → TellsNone old Checkpoint →
+      AddsPrefix middle new files → PutsPrefix digest v old new
+  some_put old middle new kept free p =
+      record {
+        files = files;
+        are_served = are_served;
+        front = front_then old middle new [] files (adds_kept old middle kept) p;
+        free = λ _. free;
+      }
+
+  none_put : (old new : Option (List Put)) → KeepsTold old new → PutsPrefix digest v old new
+  none_put old new kept = record {
+    files = files;
+    are_served = are_served;
+    front = record { count = 0; short = some; told = adds_kept old new kept };
+    free = λ lt. absurd (omega arith);
+  }
+
+  pub cut_put : (T : Type 0) (old middle new : Option (List Put)) (e : ShelfError) → KeepsTold old middle →
+      TellsNone old Checkpoint → AddsPrefix middle new (files_since digest top.note is.served.entries 0 top.size) →
+      Exports digest v old new (answer_of T (of_shelf e))
+  cut_put T old middle new Failed kept free p =
+      some_put old middle new kept free (subst (λ (l : List Put). AddsPrefix middle new l) all_new p)
+  cut_put T old middle new OutOfMemory kept free p =
+      some_put old middle new kept free (subst (λ (l : List Put). AddsPrefix middle new l) all_new p)
+
+  pub not_put : (T : Type 0) (old new : Option (List Put)) (e : ShelfError) → KeepsTold old new →
+      Exports digest v old new (answer_of T (of_shelf e))
+  not_put T old new Failed kept = none_put old new kept
+  not_put T old new OutOfMemory kept = none_put old new kept
+
+  pub not_nothing : ServesNothing digest v → ⊥
+  not_nothing nothing = nothing top.note top.size top.root is.served.entries is.served.served
+
+pub other_fault : (T : Type 0) (e : ShelfError) → answer_of T (of_shelf e) ≡ answer_of T NothingComplete → ⊥
+other_fault T Failed p = cc
+other_fault T OutOfMemory p = cc

@@ -1,0 +1,15 @@
+pub mod FilePaths
+pub mod Prefixes
+pub mod Orders
+pub mod Moments
+pub mod Exported
+pub mod AllFiles
+pub mod Filters
+pub mod PlaceWidths
+pub mod NewFiles
+pub mod Standing
+pub mod UpdateMoments
+pub mod Points
+pub mod Updated
+pub mod PathLists
+pub mod Totals

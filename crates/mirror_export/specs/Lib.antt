@@ -1,0 +1,9 @@
+pub mod Files
+pub mod Exports
+pub mod Faults
+pub mod FileLaws
+pub mod Since
+pub mod SinceLaws
+pub mod Total
+pub mod Updates
+pub mod Beginnings

@@ -1,0 +1,32 @@
+-- The files that a log has and that its first entries did not have yet: what an update puts into a
+-- folder that has the files of those.
+use Rattle.std.specs.Prelude.{ℕ, Bool, true, not, List, ◌==◌, nat_lt, if◌then◌else◌}
+use Rattle.std.specs.List.{filter}
+use Rattle.tlog_shape.specs.Edge.{width_of, edge_index_of}
+use Rattle.tlog_tiles.specs.declared.paths.Path.{Path}
+use Rattle.tlog_tiles.specs.declared.paths.Path.TheVariants.{Checkpoint, Tile, Entries}
+use Rattle.mirror_folders.specs.Shelf.{Put}
+use Rattle.mirror_export.specs.Files.{files_at, paths_of}
+
+-- how many hashes the tile of that level and index has in a tree of m entries; 0 where there is
+-- none
+abbrev pub width_at : ℕ → ℕ → ℕ → ℕ
+width_at m level index =
+    if nat_lt index (edge_index_of m level) then 256
+    else if index == edge_index_of m level then width_of m level else 0
+
+-- whether a log of m entries lacks the file, or it is the checkpoint, which is put each time
+abbrev pub is_new : ℕ → Path → Bool
+is_new m Checkpoint = true
+is_new m (Tile level index width) = not (width == width_at m level index)
+is_new m (Entries index width) = not (width == width_at m 0 index)
+
+-- the files of a log of n entries that a log of m entries lacks, in their order, and last the
+-- checkpoint
+abbrev pub since_paths : ℕ → ℕ → List Path
+since_paths m n = filter (is_new m) (paths_of n)
+
+-- the files at these paths, of a log of n entries under that note
+abbrev pub files_since :
+    (List ℕ → List ℕ) → List ℕ → List (List ℕ) → ℕ → ℕ → List Put
+files_since digest note entries m n = files_at digest note entries (since_paths m n)

@@ -1,0 +1,69 @@
+-- Which files an update puts, and what stands in the folder at each moment of it: laws of the
+-- definitions.
+use Rattle.std.specs.Prelude.{◌≡◌, ◌≢◌, ◌⊎◌, ◌↔◌, ℕ, ◌≤◌, List, [], ◌∷◌, ◌++◌, length, take, Contains}
+use Rattle.tlog_tiles.specs.declared.paths.Path.{Path}
+use Rattle.tlog_tiles.specs.declared.paths.Path.TheVariants.{Checkpoint, Tile, Entries}
+use Rattle.mirror_folders.specs.Shelf.{Put, Stands}
+use Rattle.mirror_export.specs.Files.{paths_of, served_bytes}
+use Rattle.mirror_export.specs.Since.{files_since, since_paths}
+use Rattle.mirror_export.specs.Exports.{IsMoment}
+
+-- what is put since m entries are the files of the log that a log of m entries lacks, and the
+-- checkpoint; since none, all files
+pub record FilesSinceAre (m n : ℕ) : Type 0 where
+  pub new : (path : Path) → Contains (since_paths m n) path
+      ↔ (Contains (paths_of n) path × (Contains (paths_of m) path → path ≡ Checkpoint))
+  pub all : since_paths 0 n ≡ paths_of n
+
+-- the files of FilesSince are those that are new, and all of a log where none was there before
+abbrev pub FilesSinceAreNew : Type 0
+FilesSinceAreNew = (m n : ℕ) → FilesSinceAre m n
+
+-- what some logs have since they were shorter: one more entry begins a new tile and a new bundle;
+-- two more widen the tile and the bundle at the edge; the same size has its checkpoint alone
+pub record FilesOfSteps : Type 0 where
+  pub first :
+      since_paths 0 3 ≡ Tile 0 0 3 ∷ Entries 0 3 ∷ Checkpoint ∷ []
+  pub wider :
+      since_paths 3 5 ≡ Tile 0 0 5 ∷ Entries 0 5 ∷ Checkpoint ∷ []
+  pub full :
+      since_paths 255 256 ≡ Tile 0 0 256 ∷ Tile 1 0 1 ∷ Entries 0 256 ∷ Checkpoint ∷ []
+  pub begun :
+      since_paths 256 257 ≡ Tile 0 1 1 ∷ Entries 1 1 ∷ Checkpoint ∷ []
+  pub same : since_paths 257 257 ≡ Checkpoint ∷ []
+
+module _ (digest : List ℕ → List ℕ) where
+  -- every tile and bundle of a log of these entries stands with its true bytes
+  abbrev pub HoldsFiles : List (List ℕ) → List Put → Type 0
+  HoldsFiles entries puts =
+      (path : Path) → path ≢ Checkpoint → Contains (paths_of (length entries)) path →
+      Stands puts path (served_bytes digest [] entries path)
+
+  -- a whole log of these entries stands: its checkpoint with that note, and every tile and bundle
+  -- of it with true bytes
+  abbrev pub HoldsLog : List ℕ → List (List ℕ) → List Put → Type 0
+  HoldsLog note entries puts =
+      (path : Path) → Contains (paths_of (length entries)) path →
+      Stands puts path (served_bytes digest note entries path)
+
+  -- a moment of an update from the first m of these entries: their tiles and bundles stand still;
+  -- the log stands whole under its note, or the checkpoint is the one that stood before; and no
+  -- file's bytes have changed, where they were true or the file is none that is put
+  pub record IsWholeAt (note : List ℕ) (entries : List (List ℕ)) (m : ℕ) (old now : List Put)
+      : Type 0 where
+    pub first : HoldsFiles (take m entries) now
+    pub checkpoint : HoldsLog note entries now
+        ⊎ ((bytes : List ℕ) → Stands now Checkpoint bytes ↔ Stands old Checkpoint bytes)
+    pub kept :
+        (path : Path) (bytes : List ℕ) → path ≢ Checkpoint → Stands old path bytes →
+        (bytes ≡ served_bytes digest note entries path)
+        ⊎ (¬ Contains (since_paths m (length entries)) path) → Stands now path bytes
+
+-- where every tile and bundle of the first m entries stands, each moment of an update leaves a
+-- whole log, also if it is cut off; with m = 0 the folder may be empty, and this is an export
+abbrev pub UpdatesStayWhole : Type 0
+UpdatesStayWhole =
+    (digest : List ℕ → List ℕ) (note : List ℕ) (entries : List (List ℕ)) (m count : ℕ) →
+    m ≤ length entries → (old new now : List Put) → HoldsFiles digest (take m entries) old →
+    new ≡ old ++ take count (files_since digest note entries m (length entries)) →
+    IsMoment old new now → IsWholeAt digest note entries m old now

@@ -1,0 +1,90 @@
+//! How many entries a folder's checkpoint has, where what is served begins with them.
+ghost use Rattle.std.specs.Prelude.{◌≡◌, IsTrue, ◌↔◌};
+ghost use Rattle.mirror_export.specs.Beginnings.{FindsSize, ReadsPoint, of_note, of_text};
+
+use crate::fault::UpdateFault;
+use signed_note::{Note, NoteFault};
+use std::alloc::Global;
+use tlog_checkpoint::{Checkpoint, CheckpointFault, read};
+use tlog_hash::{Hash, TreeHash};
+use tlog_mirror::TopRanges;
+use tlog_proof::Ranges;
+
+// Why bytes that are no note are no checkpoint of the log.
+fn note_fault(fault: &NoteFault) -> UpdateFault
+    ensures { result ≡ of_note fault.now }
+{
+    match fault {
+        NoteFault::OutOfMemory => UpdateFault::OutOfMemory,
+        _ => UpdateFault::OtherLog,
+    }
+}
+
+// Why a text that is no checkpoint is none of the log.
+fn text_fault(fault: &CheckpointFault) -> UpdateFault
+    ensures { result ≡ of_text fault.now }
+{
+    match fault {
+        CheckpointFault::OutOfMemory => UpdateFault::OutOfMemory,
+        _ => UpdateFault::OtherLog,
+    }
+}
+
+fn is_of(checkpoint: &Checkpoint, origin: &str) -> bool
+    ensures { IsTrue result ↔ (checkpoint.now.origin ≡ origin.now) }
+{
+    checkpoint.origin.as_str() == origin
+}
+
+// The size and root of a checkpoint's note; `OtherLog` where the bytes are no note, or its text is no checkpoint of the
+// origin.
+fn read_point(alloc: Global, origin: &str, bytes: &[u8]) -> Result<(u64, Hash), UpdateFault>
+    ensures { ReadsPoint bytes.now origin.now result }
+{
+    let note = match Note::read(alloc, bytes) {
+        Ok(note) => note,
+        Err(fault) => return Err(note_fault(&fault)),
+    };
+    let read = read(alloc, note.text());
+    drop(note);
+    let checkpoint = match read {
+        Ok(checkpoint) => checkpoint,
+        Err(fault) => return Err(text_fault(&fault)),
+    };
+    let is_of_log = is_of(&checkpoint, origin);
+    let point = (checkpoint.size, checkpoint.root);
+    drop(checkpoint);
+    if is_of_log {
+        Ok(point)
+    } else {
+        Err(UpdateFault::OtherLog)
+    }
+}
+
+fn is_same(first: &Hash, second: &Hash) -> bool
+    ensures { IsTrue result ↔ (first.now ≡ second.now) }
+{
+    first == second
+}
+
+// The size of the checkpoint, where it is a note of the origin, and its root is that of the first so many entries.
+pub(crate) fn size_before<H: TreeHash>(
+    alloc: Global,
+    origin: &str,
+    top: &TopRanges<'_, H>,
+    checkpoint: &[u8],
+) -> Result<u64, UpdateFault>
+    ensures { FindsSize H.digest top.now origin.now checkpoint.now result }
+{
+    let (size, root) = read_point(alloc, origin, checkpoint)?;
+    match top.hash(0, size) {
+        Some(hash) => {
+            if is_same(&hash, &root) {
+                Ok(size)
+            } else {
+                Err(UpdateFault::OtherLog)
+            }
+        }
+        None => Err(UpdateFault::OtherLog),
+    }
+}

@@ -1,0 +1,54 @@
+//! A mirror exported onto a shelf.
+ghost use Rattle.std.specs.Prelude.{◌≡◌, ◌↔◌};
+ghost use Rattle.tlog_mirror.specs.Tops.{ServesNothing};
+ghost use Rattle.mirror_export.specs.Exports.{CheckpointIsLast, CountsExport, Exports};
+
+use crate::fault::ExportFault;
+use crate::files::put_served;
+use mirror_folders::Shelf;
+use std::alloc::Global;
+use tlog_hash::TreeHash;
+use tlog_mirror::Mirror;
+use tlog_proof::Ranges;
+use tlog_tiles::Path;
+
+/// Puts what a mirror serves onto a shelf, in the layout of C2SP tlog-tiles: all tiles of the served size by rising
+/// level and index, then all bundles, then the checkpoint. So a shelf that had no checkpoint has one only when all that
+/// belongs to it is there.
+///
+/// ```text
+/// let mut shelf = DirShelf::new(&rt, alloc, "log");
+/// export(alloc, &mirror, &mut shelf)?; // log/tile/0/000.p/3, log/tile/entries/000.p/3, log/checkpoint
+/// ```
+///
+/// # Errors
+///
+/// `NothingComplete` exactly where nothing is served, and `ShelfInUse` where a checkpoint is on the shelf; nothing is
+/// put then. `ShelfFault` where the shelf failed, and `OutOfMemory` where memory was refused; what was put before
+/// stays, which is never all of it.
+pub fn export<H: TreeHash, S: Shelf>(
+    alloc: Global,
+    mirror: &Mirror<H>,
+    shelf: &mut S,
+) -> Result<(), ExportFault>
+    ensures puts { Exports H.digest mirror.now.view (S.puts shelf.old) (S.puts shelf.new) result }
+    ensures nothing { (result ≡ Err ExportFault.NothingComplete)
+        ↔ ServesNothing H.digest mirror.now.view }
+
+    // After each put a shelf that had no checkpoint has one only if every tile and bundle of it stands there with true
+    // bytes.
+    ensures last { CheckpointIsLast H.digest mirror.now.view (S.puts shelf.old) (S.puts shelf.new) }
+
+    ensures blamed { CountsExport (S.failed shelf.old) (S.failed shelf.new) result }
+{
+    let Some(top) = mirror.top_ranges() else {
+        return Err(ExportFault::NothingComplete);
+    };
+    let in_use = shelf.has(&Path::Checkpoint)?;
+    if in_use {
+        return Err(ExportFault::ShelfInUse);
+    }
+    let size = top.size();
+    put_served(alloc, &top, size, 0, shelf)?;
+    Ok(())
+}

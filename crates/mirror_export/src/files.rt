@@ -1,0 +1,190 @@
+//! The files of what is served, put one after the other: all of them, or those that are new since it had fewer entries.
+ghost use Rattle.std.specs.Prelude.{◌≡◌, ◌≤◌, ℕ, List, [], ◌∷◌, IfOk};
+ghost use Rattle.std.specs.List.{filter};
+ghost use Rattle.tlog_tiles.specs.Tiles.{IsWithin};
+ghost use Rattle.tlog_mirror.specs.Tops.{IsListOf};
+ghost use Rattle.mirror_export.specs.Exports.{AddsFiles};
+ghost use Rattle.mirror_export.specs.Files.{served_bytes, files_at, kind_paths, kind_level, kind_path};
+ghost use Rattle.mirror_folders.specs.Shelf.{CountsFailures};
+ghost use Rattle.mirror_export.specs.Since.{is_new, since_paths, width_at};
+
+use mirror_folders::{Shelf, ShelfError};
+use std::alloc::{AllocError, Global};
+use tlog_hash::TreeHash;
+use tlog_mirror::TopRanges;
+use tlog_shape::{edge_index, edge_width, width_in};
+use tlog_tiles::Path;
+
+// The tiles of a level, or the bundles.
+#[derive(Clone, Copy)]
+pub(crate) enum FileKind {
+    Tiles(u32),
+    Bundles,
+}
+
+// The path of a file of that kind.
+pub(crate) fn path_at(kind: FileKind, index: u64, width: u32) -> Path
+    ensures { result ≡ kind_path kind index width }
+{
+    match kind {
+        FileKind::Tiles(level) => Path::Tile {
+            level,
+            index,
+            width,
+        },
+        FileKind::Bundles => Path::Entries { index, width },
+    }
+}
+
+// The level that files of that kind lie at.
+pub(crate) fn level_at(kind: FileKind) -> u32
+    ensures { result ≡ kind_level kind }
+{
+    match kind {
+        FileKind::Tiles(level) => level,
+        FileKind::Bundles => 0,
+    }
+}
+
+// The bytes of a tile or a bundle.
+fn file_bytes<H: TreeHash>(
+    alloc: Global,
+    top: &TopRanges<'_, H>,
+    path: Path,
+) -> Result<Vec<u8>, AllocError>
+    requires { IsWithin top.now.size path }
+    ensures { IfOk result (λ bytes. (entries : List (List ℕ))
+        → IsListOf H.digest top.now entries → bytes.items ≡ served_bytes H.digest top.now.note entries path) }
+{
+    match path {
+        Path::Checkpoint => unreachable!(),
+        Path::Tile {
+            level,
+            index,
+            width,
+        } => match top.tile(alloc, level, index, width)? {
+            Some(bytes) => Ok(bytes),
+            None => unreachable!(),
+        },
+        Path::Entries { index, width } => match top.bundle(alloc, index, width)? {
+            Some(bytes) => Ok(bytes),
+            None => unreachable!(),
+        },
+    }
+}
+
+// Puts a tile or a bundle.
+fn put_file<H: TreeHash, S: Shelf>(
+    alloc: Global,
+    top: &TopRanges<'_, H>,
+    shelf: &mut S,
+    path: Path,
+) -> Result<(), ShelfError>
+    requires { IsWithin top.now.size path }
+    ensures told { (entries : List (List ℕ)) → IsListOf H.digest top.now entries
+        → AddsFiles (S.puts shelf.old) (S.puts shelf.new)
+        (files_at H.digest top.now.note entries (path ∷ [])) result }
+    ensures counted { CountsFailures (S.failed shelf.old) (S.failed shelf.new) result }
+{
+    let bytes = file_bytes(alloc, top, path)?;
+    let put = shelf.put(&path, &bytes);
+    drop(bytes);
+    put
+}
+
+// The width that the tile of that level and index has in a tree of that size, 0 where there is none.
+#[tactic(auto, using(crate::proofs::PlaceWidths::width_found))]
+pub(crate) fn place_width(size: u64, level: u32, index: u64) -> u32
+    requires { level ≤ 7 }
+    ensures { result ≡ width_at size level index }
+{
+    width_in(size, level, index).unwrap_or(0)
+}
+
+// Whether a log of that size lacks the file, or it is the checkpoint.
+fn lacks(since: u64, path: &Path) -> bool
+    requires { (n : ℕ) × IsWithin n path.now }
+    ensures { result ≡ is_new since path.now }
+{
+    match path {
+        Path::Checkpoint => true,
+        Path::Tile {
+            level,
+            index,
+            width,
+        } => *width != place_width(since, *level, *index),
+        Path::Entries { index, width } => *width != place_width(since, 0, *index),
+    }
+}
+
+// Puts a tile or a bundle, where a log of the first entries, as many as `since`, lacks it.
+fn put_new<H: TreeHash, S: Shelf>(
+    alloc: Global,
+    top: &TopRanges<'_, H>,
+    since: u64,
+    shelf: &mut S,
+    path: Path,
+) -> Result<(), ShelfError>
+    requires { IsWithin top.now.size path }
+    ensures told { (entries : List (List ℕ)) → IsListOf H.digest top.now entries
+        → AddsFiles (S.puts shelf.old) (S.puts shelf.new)
+        (files_at H.digest top.now.note entries (filter (is_new since) (path ∷ []))) result }
+    ensures counted { CountsFailures (S.failed shelf.old) (S.failed shelf.new) result }
+{
+    if !lacks(since, &path) {
+        return Ok(());
+    }
+    put_file(alloc, top, shelf, path)
+}
+
+// Puts the files of a kind: the full ones by rising index, then the partial one, where there is one.
+fn put_kind<H: TreeHash, S: Shelf>(
+    alloc: Global,
+    top: &TopRanges<'_, H>,
+    size: u64,
+    since: u64,
+    shelf: &mut S,
+    kind: FileKind,
+) -> Result<(), ShelfError>
+    requires size { size ≡ top.now.size }
+    requires level { kind_level kind ≤ 7 }
+    ensures told { (entries : List (List ℕ)) → IsListOf H.digest top.now entries
+        → AddsFiles (S.puts shelf.old) (S.puts shelf.new)
+        (files_at H.digest top.now.note entries
+        (filter (is_new since) (kind_paths top.now.size kind))) result }
+    ensures counted { CountsFailures (S.failed shelf.old) (S.failed shelf.new) result }
+{
+    let level = level_at(kind);
+    let edge = edge_index(size, level);
+    for index in 0..edge {
+        put_new(alloc, top, since, shelf, path_at(kind, index, 256))?;
+    }
+    let width = edge_width(size, level);
+    if width == 0 {
+        return Ok(());
+    }
+    put_new(alloc, top, since, shelf, path_at(kind, edge, width))
+}
+
+// Puts every tile, then every bundle, but for those that the first entries, as many as `since`, have too; then the
+// checkpoint.
+pub(crate) fn put_served<H: TreeHash, S: Shelf>(
+    alloc: Global,
+    top: &TopRanges<'_, H>,
+    size: u64,
+    since: u64,
+    shelf: &mut S,
+) -> Result<(), ShelfError>
+    requires size { size ≡ top.now.size }
+    ensures told { (entries : List (List ℕ)) → IsListOf H.digest top.now entries
+        → AddsFiles (S.puts shelf.old) (S.puts shelf.new)
+        (files_at H.digest top.now.note entries (since_paths since top.now.size)) result }
+    ensures counted { CountsFailures (S.failed shelf.old) (S.failed shelf.new) result }
+{
+    for level in 0..8u32 {
+        put_kind(alloc, top, size, since, shelf, FileKind::Tiles(level))?;
+    }
+    put_kind(alloc, top, size, since, shelf, FileKind::Bundles)?;
+    shelf.put(&Path::Checkpoint, top.note().bytes())?;
+    Ok(())
+}

@@ -1,0 +1,24 @@
+//! A mirror exported onto a shelf in the layout of C2SP tlog-tiles, whole or as what is new since a checkpoint; the files of a log:
+//! their paths, and how many there are.
+//!
+//! ```text
+//! let mut shelf = DirShelf::new(&rt, alloc, "log");
+//! export(alloc, &mirror, &mut shelf)?; // log/tile/.., log/tile/entries/.., and last log/checkpoint
+//! ```
+#![tactic(auto)]
+
+mod beginning;
+mod exporting;
+mod fault;
+mod files;
+mod laws;
+mod paths;
+mod total;
+mod updating;
+
+pub use exporting::export;
+pub use fault::{ExportFault, UpdateFault};
+pub use laws::{files_law, files_since_example, files_since_law, update_law};
+pub use paths::log_paths;
+pub use total::files_to_put;
+pub use updating::update;
