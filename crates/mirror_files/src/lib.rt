@@ -9,7 +9,9 @@
 #![tactic(auto)]
 
 pub use mirror_export::{ExportFault, export, files_law};
-pub use mirror_folders::{DirShelf, DirSource, MemShelf, NamedFolders, Shelf, ShelfError, replace_file};
+pub use mirror_folders::{
+    DirShelf, DirSource, MemShelf, NamedFolders, Shelf, ShelfError, replace_file,
+};
 pub use mirror_state::{
     LoadFault, SaveFault, cut_law, load, load_law, loaded_text_law, old_state_law, one_answer_law,
     one_text_law, save, saved_law, state_text_law,
