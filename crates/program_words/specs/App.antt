@@ -1,13 +1,14 @@
 -- What command lines are made of, in the words of `clap`: their options, and what commands share.
--- `Commands` has the commands themselves. `argument_of`, `with_rules`, `IsParserOf` and `AreParsersOf`
--- are cited by the contracts of private functions alone.
-use Rattle.std.specs.Prelude.{◌≡◌, List, [], ◌∷◌, Some, Result, IfOk, true, false, codes, ⊤}
+-- `Commands` has the commands themselves. `argument_of`, `with_rules`, `line_app` and `IsParserOf` are
+-- cited by the contracts of private functions alone, `AreParsersOf` by none.
+use Rattle.std.specs.Prelude.{◌≡◌, List, [], ◌∷◌, Some, Result, IfOk, map, true, false, codes, ⊤}
 use Rattle.clap.specs.Words.{App, Rule, Text, app_of, new_app, new_rule, with_rule, with_subcommand}
 use Rattle.clap.specs.Simple.{new_shape}
 use Rattle.clap.specs.declared.builder.command.Command.{Command as Parser}
 use Rattle.clap.specs.declared.builder.command.Command.TheViews.{out-Command}
 use Rattle.program_words.specs.declared.parser.Argument.{Argument}
 use Rattle.program_words.specs.declared.parser.Argument.TheVariants as argument
+use Rattle.program_words.specs.declared.parser.CommandLine.{CommandLine}
 use Rattle.clap.specs.declared.builder.action.ArgAction.TheVariants.{Append, Set, SetTrue}
 
 -- ---- options
@@ -100,6 +101,10 @@ argument_of (argument.List name value help) = list_rule name.now
 abbrev pub with_rules : App → List Rule → App
 with_rules app [] = app
 with_rules app (r ∷ rs) = with_rules (with_rule app r) rs
+
+-- the command line, in the words of `clap`
+abbrev pub line_app : CommandLine → App
+line_app line = with_rules (new_app line.name.now) (map argument_of line.arguments.now)
 
 -- the parser is that of the command line, with no option that all commands share
 pub record IsParserOf (app : App) (parser : Parser) : Type 0 where

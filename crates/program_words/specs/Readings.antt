@@ -1,14 +1,16 @@
--- What each answer of a reader of a command line says of the words. `no_keys`, `ReadsPart`, `IsSaid` and
--- `Tells` are cited by the contracts of private functions alone.
+-- What each answer of a reader of a command line says of the words. `no_keys`, `ReadsPart`, `FindsPart`,
+-- `IsPlaceGiven`, `IsSaid` and `Tells` are cited by the contracts of private functions alone.
 use Rattle.std.specs.Prelude.{◌≡◌, ◌≢◌, ◌⊎◌, List, [], Option, Some, None, Result, Ok, Err, codes, ⊤}
 use Rattle.clap.specs.Words.{IsAmong, Row, Text, first_of}
 use Rattle.clap.specs.declared.error.kind.ErrorKind.{ErrorKind}
 use Rattle.clap.specs.declared.error.kind.ErrorKind.TheVariants as kind
 use Rattle.program_words.specs.declared.commands.Command.{Command}
+use Rattle.program_words.specs.declared.place.Place.{Place}
 use Rattle.program_words.specs.declared.fault.CommandFault.{CommandFault}
 use Rattle.program_words.specs.declared.fault.CommandFault.TheVariants.{Help, Words, BadArgument}
 use Rattle.program_words.specs.declared.fault.CommandFault.TheVariants.{OutOfMemory}
-use Rattle.program_words.specs.Commands.{Asks, Calls, Given, HasFlag, Says, faults, name_of}
+use Rattle.program_words.specs.Commands.{Asks, Calls, Given, HasFlag, HasValue, IsPlace, Says, faults}
+use Rattle.program_words.specs.Commands.{name_of}
 
 -- the words ask for no command
 abbrev pub AsksNone : List Text → Type 0
@@ -68,6 +70,16 @@ ReadsPart IsSuch (Err (Help text)) = ⊥
 ReadsPart IsSuch (Err (Words text)) = ⊥
 ReadsPart {X} IsSuch (Err BadArgument) = (x : X) → ¬ IsSuch x
 ReadsPart IsSuch (Err OutOfMemory) = ⊤
+
+-- the same of a reader that needs no memory: the part is so, or none is
+abbrev pub FindsPart : {X : Type 0} → (X → Type 0) → Option X → Type 0
+FindsPart IsSuch (Some x) = IsSuch x
+FindsPart {X} IsSuch None = (x : X) → ¬ IsSuch x
+
+-- the options name the place of `pull`
+abbrev pub IsPlaceGiven : List Row → Place → Type 0
+IsPlaceGiven options place =
+    HasValue options (codes "kind") (λ kind. HasValue options (codes "place") (λ word. IsPlace kind word place))
 
 -- the command has that name, and the options say it
 abbrev pub IsSaid : Text → List Row → Command → Type 0

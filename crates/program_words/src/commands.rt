@@ -1,8 +1,8 @@
-//! The list of the commands. Each has a file of its own, with what its options say, its parser, its help and its reader.
-ghost use Rattle.std.specs.Prelude.{IfOk};
+//! The list of the commands. Each has a file of its own, with what its options say, its command line, its help and its reader.
+ghost use Rattle.std.specs.Prelude.{IfOk, map};
 ghost use Rattle.clap.specs.Words.{App, found_of, rows_of, with_subcommand};
-ghost use Rattle.program_words.specs.App.{AreParsersOf, IsParserOf, named_app, program_app};
-ghost use Rattle.program_words.specs.Commands.{command_apps, mirror_app};
+ghost use Rattle.program_words.specs.App.{IsParserOf, line_app, named_app, program_app, with_commands};
+ghost use Rattle.program_words.specs.Commands.{mirror_app};
 ghost use Rattle.program_words.specs.Readings.{IsSaid, ReadsPart};
 
 pub mod build;
@@ -21,6 +21,7 @@ pub mod status;
 pub mod take;
 
 use crate::fault::CommandFault;
+use crate::parser::{CommandLine, parser_of};
 use crate::parts::StateArgs;
 use clap::ArgMatches;
 use std::alloc::{AllocError, Global};
@@ -131,41 +132,40 @@ fn program_parser<'a>(alloc: Global) -> Result<clap::Command<'a>, AllocError>
     Ok(program)
 }
 
-// A parser with one more command below it, if there are both.
+// A parser with one more command below it, if there is the parser.
 fn with_command<'a>(
+    alloc: Global,
     parser: Result<clap::Command<'a>, AllocError>,
-    below: Result<clap::Command<'a>, AllocError>,
+    line: &CommandLine<'a>,
 ) -> Result<clap::Command<'a>, AllocError>
-    ensures { (a b : App) → IfOk parser.entry (IsParserOf a) → IfOk below.entry (IsParserOf b)
-        → IfOk result (IsParserOf (with_subcommand a b.top)) }
+    ensures { (a : App) → IfOk parser.entry (IsParserOf a)
+        → IfOk result (IsParserOf (with_subcommand a (line_app line.now).top)) }
 {
-    // What is there beside a failed one goes by `drop`, which is one step to the checker.
     match parser {
-        Ok(parser) => match below {
+        Ok(parser) => match parser_of(alloc, line) {
             Ok(below) => parser.subcommand(below),
             Err(fault) => {
+                // By `drop`, which is one step to the checker.
                 drop(parser);
                 Err(fault)
             }
         },
-        Err(fault) => {
-            drop(below);
-            Err(fault)
-        }
+        Err(fault) => Err(fault),
     }
 }
 
-// The program with these commands, if there are all.
+// The program with these commands below it, in their order, if there are all.
 fn with_commands<'a>(
+    alloc: Global,
     parser: Result<clap::Command<'a>, AllocError>,
-    below: [Result<clap::Command<'a>, AllocError>; 14],
+    lines: &[&CommandLine<'a>],
 ) -> Result<clap::Command<'a>, AllocError>
-    ensures { IfOk parser.entry (IsParserOf program_app) → AreParsersOf command_apps below.entry
-        → IfOk result (IsParserOf mirror_app) }
+    ensures { (a : App) → IfOk parser.entry (IsParserOf a)
+        → IfOk result (IsParserOf (with_commands a (map (λ line. line_app line.now) lines.now))) }
 {
     let mut made = parser;
-    for command in below {
-        made = with_command(made, command);
+    for &line in lines {
+        made = with_command(alloc, made, line);
     }
     made
 }
@@ -174,25 +174,24 @@ fn with_commands<'a>(
 pub(crate) fn parser<'a>(alloc: Global) -> Result<clap::Command<'a>, AllocError>
     ensures { IfOk result (IsParserOf mirror_app) }
 {
-    with_commands(
-        program_parser(alloc),
-        [
-            root::parser(alloc),
-            check::parser(alloc),
-            build::parser(alloc),
-            take::parser(alloc),
-            merge::parser(alloc),
-            pull::parser(alloc),
-            status::parser(alloc),
-            missing::parser(alloc),
-            forks::parser(alloc),
-            compare::parser(alloc),
-            prove::parser(alloc),
-            export::parser(alloc),
-            notes::parser(alloc),
-            serve::parser(alloc),
-        ],
-    )
+    // Beside one another, and in no constant: one of them all would cost the checker a minute.
+    let lines = [
+        &root::LINE,
+        &check::LINE,
+        &build::LINE,
+        &take::LINE,
+        &merge::LINE,
+        &pull::LINE,
+        &status::LINE,
+        &missing::LINE,
+        &forks::LINE,
+        &compare::LINE,
+        &prove::LINE,
+        &export::LINE,
+        &notes::LINE,
+        &serve::LINE,
+    ];
+    with_commands(alloc, program_parser(alloc), &lines)
 }
 
 /// The command of this name and with these options.

@@ -1,13 +1,24 @@
-//! The parser of a command: its name, its arguments as a table, and its help.
+//! The parser of a command, from its command line: its name, its help, and its arguments as a table.
 ghost use Rattle.std.specs.Prelude.{◌≡◌, IfOk, false, map};
 ghost use Rattle.clap.specs.Words.{App, new_app, rule_of, with_rule};
-ghost use Rattle.program_words.specs.App.{IsParserOf, argument_of, argument_rule, held_app, log_app, made_app, with_rules};
+ghost use Rattle.program_words.specs.App.{IsParserOf, argument_of, argument_rule, line_app, with_rules};
 
 use clap::{Arg, ArgAction};
 use std::alloc::{AllocError, Global};
 
+/// The command line of a command.
+pub(crate) struct CommandLine<'a> {
+    /// The name of the command.
+    pub name: &'a str,
+    /// What it does, in a line.
+    pub about: &'a str,
+    /// What its long help says behind the arguments.
+    pub help: &'a str,
+    /// Its arguments, in their order.
+    pub arguments: &'a [Argument<'a>],
+}
+
 /// An argument of a command: its name, how help writes its value, and what help says of it.
-#[derive(Clone, Copy)]
 pub(crate) enum Argument<'a> {
     /// `--NAME VALUE`, which has to be there.
     Option(&'a str, &'a str, &'a str),
@@ -21,9 +32,52 @@ pub(crate) enum Argument<'a> {
     List(&'a str, &'a str, &'a str),
 }
 
-/// What help says of `--progress`, an option of each command whose work may be long.
-pub(crate) const PROGRESS: &str =
-    "Tell on standard error how far the work is, by a line a second at most";
+/// The origin of the log, of each command over one.
+pub(crate) const ORIGIN: Argument<'static> = Argument::Option(
+    "origin",
+    "O",
+    "The origin line of the log's checkpoints",
+);
+
+/// The keys of the log, of each command over one.
+pub(crate) const KEYS: Argument<'static> = Argument::Option(
+    "keys",
+    "K",
+    "The file of the keys that its checkpoints are opened with",
+);
+
+/// Whether a fault says what it is about, of each command over a log.
+pub(crate) const WHY: Argument<'static> = Argument::Flag(
+    "why",
+    "Say before a fault what it is about: a file, a reply, a word",
+);
+
+/// The state, of each command over a mirror that is kept in a file.
+pub(crate) const STATE: Argument<'static> = Argument::Option(
+    "state",
+    "S",
+    "The file of the mirror's state",
+);
+
+/// The state that comes of it, of each command that writes a mirror to a file.
+pub(crate) const OUT: Argument<'static> = Argument::Option(
+    "out",
+    "T",
+    "The file that the mirror's state is written to, whole or not at all",
+);
+
+/// The state that it may begin with, of such a command.
+pub(crate) const FIRST_STATE: Argument<'static> = Argument::Choice(
+    "state",
+    "S",
+    "The file of the state to begin with; nothing where it is left out",
+);
+
+/// Whether it is told how far the work is, of each command whose work may be long.
+pub(crate) const PROGRESS: Argument<'static> = Argument::Flag(
+    "progress",
+    "Tell on standard error how far the work is, by a line a second at most",
+);
 
 // What stands behind the options of a command under `-h`.
 const SHORT: &str = "\
@@ -65,13 +119,17 @@ fn arg_of<'a>(alloc: Global, given: &Argument<'a>) -> Arg<'a>
 
 // A parser with one more argument, if there is the parser.
 fn with_argument<'a>(
+    alloc: Global,
     parser: Result<clap::Command<'a>, AllocError>,
-    argument: Arg<'a>,
+    given: &Argument<'a>,
 ) -> Result<clap::Command<'a>, AllocError>
-    ensures { (a : App) → IfOk parser.entry (IsParserOf a) → argument.entry.global ≡ false
-        → IfOk result (IsParserOf (with_rule a (rule_of argument.entry))) }
+    ensures { (a : App) → IfOk parser.entry (IsParserOf a)
+        → IfOk result (IsParserOf (with_rule a (argument_of given.now))) }
 {
-    parser?.arg(argument)
+    match parser {
+        Ok(parser) => parser.arg(arg_of(alloc, given)),
+        Err(fault) => Err(fault),
+    }
 }
 
 // A parser with these arguments besides, in their order, if there is the parser.
@@ -85,109 +143,27 @@ fn with_arguments<'a>(
 {
     let mut made = parser;
     for given in arguments {
-        made = with_argument(made, arg_of(alloc, given));
+        made = with_argument(alloc, made, given);
     }
     made
 }
 
 // A command with no argument yet.
-fn command<'a>(alloc: Global, name: &'a str, about: &'a str, after: &'a str) -> clap::Command<'a>
-    ensures { IsParserOf (new_app name.entry.now) result }
+fn command<'a>(alloc: Global, line: &CommandLine<'a>) -> clap::Command<'a>
+    ensures { IsParserOf (new_app line.now.name.now) result }
 {
-    clap::Command::new(alloc, name)
-        .about(about)
+    clap::Command::new(alloc, line.name)
+        .about(line.about)
         .after_help(SHORT)
-        .after_long_help(after)
+        .after_long_help(line.help)
 }
 
-/// A command with these arguments. `after` is what its long help says behind the options.
-pub(crate) fn plain_parser<'a>(
+/// The parser of a command line.
+pub(crate) fn parser_of<'a>(
     alloc: Global,
-    name: &'a str,
-    about: &'a str,
-    after: &'a str,
-    arguments: &[Argument<'a>],
+    line: &CommandLine<'a>,
 ) -> Result<clap::Command<'a>, AllocError>
-    ensures { IfOk result (IsParserOf
-        (with_rules (new_app name.entry.now) (map argument_of arguments.now))) }
+    ensures { IfOk result (IsParserOf (line_app line.now)) }
 {
-    with_arguments(alloc, Ok(command(alloc, name, about, after)), arguments)
-}
-
-/// A command over a log, with these arguments behind its origin, its keys, and whether a fault says what it is about.
-pub(crate) fn log_parser<'a>(
-    alloc: Global,
-    name: &'a str,
-    about: &'a str,
-    after: &'a str,
-    arguments: &[Argument<'a>],
-) -> Result<clap::Command<'a>, AllocError>
-    ensures { IfOk result (IsParserOf
-        (with_rules (log_app name.entry.now) (map argument_of arguments.now))) }
-{
-    let log = plain_parser(
-        alloc,
-        name,
-        about,
-        after,
-        &[
-            Argument::Option("origin", "O", "The origin line of the log's checkpoints"),
-            Argument::Option(
-                "keys",
-                "K",
-                "The file of the keys that its checkpoints are opened with",
-            ),
-            Argument::Flag(
-                "why",
-                "Say before a fault what it is about: a file, a reply, a word",
-            ),
-        ],
-    );
-    with_arguments(alloc, log, arguments)
-}
-
-/// A command over a mirror that is kept in a file, with these arguments behind those that name it.
-pub(crate) fn held_parser<'a>(
-    alloc: Global,
-    name: &'a str,
-    about: &'a str,
-    after: &'a str,
-    arguments: &[Argument<'a>],
-) -> Result<clap::Command<'a>, AllocError>
-    ensures { IfOk result (IsParserOf
-        (with_rules (held_app name.entry.now) (map argument_of arguments.now))) }
-{
-    let held = log_parser(
-        alloc,
-        name,
-        about,
-        after,
-        &[Argument::Option("state", "S", "The file of the mirror's state")],
-    );
-    with_arguments(alloc, held, arguments)
-}
-
-/// A command that writes a mirror to a file, with these arguments behind those that name it.
-pub(crate) fn made_parser<'a>(
-    alloc: Global,
-    name: &'a str,
-    about: &'a str,
-    after: &'a str,
-    arguments: &[Argument<'a>],
-) -> Result<clap::Command<'a>, AllocError>
-    ensures { IfOk result (IsParserOf
-        (with_rules (made_app name.entry.now) (map argument_of arguments.now))) }
-{
-    let made = log_parser(
-        alloc,
-        name,
-        about,
-        after,
-        &[Argument::Option(
-            "out",
-            "T",
-            "The file that the mirror's state is written to, whole or not at all",
-        )],
-    );
-    with_arguments(alloc, made, arguments)
+    with_arguments(alloc, Ok(command(alloc, line)), line.arguments)
 }

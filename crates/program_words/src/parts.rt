@@ -1,14 +1,12 @@
 //! The parts that commands share: options, numbers, the log and the mirror.
-ghost use Rattle.std.specs.Prelude.{◌≡◌, ◌↔◌, IsTrue, [], codes, map, unwrap_or};
+ghost use Rattle.std.specs.Prelude.{◌≡◌, ◌↔◌, IfOk, IsTrue, [], codes, map, option_map, unwrap_or};
 ghost use Rattle.std.specs.Str.{bytes_eq};
 ghost use Rattle.clap.specs.Words.{all_of, found_of, rows_of};
-ghost use Rattle.tlog_text.specs.Answers.{seen};
 ghost use Rattle.program_words.specs.Commands.{Given, HasFlag, HasNumber, IsStateArgs, IsLog, IsOutputArgs, IsNumberIn};
-ghost use Rattle.program_words.specs.Readings.{ReadsPart};
+ghost use Rattle.program_words.specs.Readings.{FindsPart};
 
-use crate::fault::CommandFault;
 use clap::ArgMatches;
-use std::alloc::Global;
+use std::alloc::{AllocError, Global};
 use tlog_text::read_number;
 
 /// Whose mirror it is.
@@ -39,14 +37,11 @@ pub struct OutputArgs<'a> {
 }
 
 /// The value of an option that has to be there.
-pub(crate) fn word_of<'a>(found: &ArgMatches<'a>, name: &str) -> Result<&'a str, CommandFault>
-    ensures { ReadsPart (Given (rows_of (found_of found.now)) name.now)
-        (seen (λ word. word.now) result) }
+pub(crate) fn word_of<'a>(found: &ArgMatches<'a>, name: &str) -> Option<&'a str>
+    ensures { FindsPart (Given (rows_of (found_of found.now)) name.now)
+        (option_map (λ word. word.now) result) }
 {
-    match found.get_str(name) {
-        Some(word) => Ok(word),
-        None => Err(CommandFault::BadArgument),
-    }
+    found.get_str(name)
 }
 
 fn is_same(word: &str, other: &str) -> bool
@@ -66,52 +61,47 @@ pub(crate) fn has_flag(found: &ArgMatches<'_>, name: &str) -> bool
 }
 
 /// The number from `least` to `most` that the word spells.
-pub(crate) fn number_in(word: &str, least: u64, most: u64) -> Result<u64, CommandFault>
-    ensures { ReadsPart (λ n. IsNumberIn least most n word.now) result }
+pub(crate) fn number_in(word: &str, least: u64, most: u64) -> Option<u64>
+    ensures { FindsPart (λ n. IsNumberIn least most n word.now) result }
 {
     match read_number(word, most) {
-        Ok(n) if n >= least => Ok(n),
-        _ => Err(CommandFault::BadArgument),
+        Ok(n) if n >= least => Some(n),
+        _ => None,
     }
 }
 
 /// The number from `least` to `most` that an option has to spell.
-pub(crate) fn number_of(
-    found: &ArgMatches<'_>,
-    name: &str,
-    least: u64,
-    most: u64,
-) -> Result<u64, CommandFault>
-    ensures { ReadsPart (HasNumber (rows_of (found_of found.now)) name.now least most) result }
+pub(crate) fn number_of(found: &ArgMatches<'_>, name: &str, least: u64, most: u64) -> Option<u64>
+    ensures { FindsPart (HasNumber (rows_of (found_of found.now)) name.now least most) result }
 {
     number_in(word_of(found, name)?, least, most)
 }
 
 /// The origin and the keys.
-pub(crate) fn log_of<'a>(found: &ArgMatches<'a>) -> Result<Log<'a>, CommandFault>
-    ensures { ReadsPart (IsLog (rows_of (found_of found.now))) result }
+pub(crate) fn log_of<'a>(found: &ArgMatches<'a>) -> Option<Log<'a>>
+    ensures { FindsPart (IsLog (rows_of (found_of found.now))) result }
 {
-    Ok(Log {
+    Some(Log {
         origin: word_of(found, "origin")?,
         keys: word_of(found, "keys")?,
     })
 }
 
 /// The mirror that is kept in a file.
-pub(crate) fn state_args<'a>(found: &ArgMatches<'a>) -> Result<StateArgs<'a>, CommandFault>
-    ensures { ReadsPart (IsStateArgs (rows_of (found_of found.now))) result }
+pub(crate) fn state_args<'a>(found: &ArgMatches<'a>) -> Option<StateArgs<'a>>
+    ensures { FindsPart (IsStateArgs (rows_of (found_of found.now))) result }
 {
-    Ok(StateArgs {
+    Some(StateArgs {
         log: log_of(found)?,
         state: word_of(found, "state")?,
     })
 }
 
 /// The mirror that is to be written to a file.
-pub(crate) fn output_args<'a>(found: &ArgMatches<'a>) -> Result<OutputArgs<'a>, CommandFault>
-    ensures { ReadsPart (IsOutputArgs (rows_of (found_of found.now))) result }
+pub(crate) fn output_args<'a>(found: &ArgMatches<'a>) -> Option<OutputArgs<'a>>
+    ensures { FindsPart (IsOutputArgs (rows_of (found_of found.now))) result }
 {
-    Ok(OutputArgs {
+    Some(OutputArgs {
         log: log_of(found)?,
         out: word_of(found, "out")?,
     })
@@ -121,12 +111,12 @@ pub(crate) fn output_args<'a>(found: &ArgMatches<'a>) -> Result<OutputArgs<'a>, 
 pub(crate) fn files_of<'a>(
     alloc: Global,
     found: &ArgMatches<'a>,
-) -> Result<Vec<&'a str>, CommandFault>
-    ensures { ReadsPart (λ files. unwrap_or (all_of (codes "file") (rows_of (found_of found.now)))
-        [] ≡ map (λ f. f.now) files.items) result }
+) -> Result<Vec<&'a str>, AllocError>
+    ensures { IfOk result (λ files. unwrap_or (all_of (codes "file") (rows_of (found_of found.now)))
+        [] ≡ map (λ f. f.now) files.items) }
 {
     match found.get_strs("file") {
-        Some(files) => Ok(files.iter().copied().collect(alloc)?),
+        Some(files) => Vec::from_slice(alloc, files),
         None => Ok(Vec::new(alloc)),
     }
 }

@@ -1,13 +1,12 @@
 //! The place that a log's files are fetched from.
-ghost use Rattle.std.specs.Prelude.{◌≡◌, ◌≢◌, ◌++◌, ◌∷◌, ℕ, ◌<◌, IfNone, IfSome, codes, length, slice_index};
+ghost use Rattle.std.specs.Prelude.{◌≡◌, ◌≢◌, ◌++◌, ◌∷◌, ◌↔◌, ℕ, ◌<◌, IfNone, IfOk, IfSome, IsTrue, codes, length, slice_index};
 ghost use Rattle.program_words.specs.Commands.{IsEmptyOrSlash, IsHostAndPrefix, IsPlace, colon};
-ghost use Rattle.program_words.specs.Readings.{ReadsPart};
+ghost use Rattle.program_words.specs.Readings.{FindsPart};
 ghost use Rattle.mirror_client.specs.Site.{slash};
 
-use crate::fault::CommandFault;
 use crate::parts::number_in;
 use mirror_client::{Site, SiteFault};
-use std::alloc::Global;
+use std::alloc::{AllocError, Global};
 
 /// Where a log's files are fetched from.
 #[derive(Debug, Drop, PartialEq, Eq, Clone, Copy)]
@@ -50,31 +49,36 @@ fn address_and_digits(host: &str) -> Option<(&str, &str)>
 }
 
 // Whether a site may have this host and prefix.
-fn check_site(alloc: Global, host: &str, prefix: &str) -> Result<(), CommandFault>
-    ensures { ReadsPart (λ _. IsHostAndPrefix host.now prefix.now) result }
+fn is_site(alloc: Global, host: &str, prefix: &str) -> Result<bool, AllocError>
+    ensures { IfOk result (λ is. IsTrue is ↔ IsHostAndPrefix host.now prefix.now) }
 {
     match Site::new(alloc, host, prefix) {
-        Ok(_) => Ok(()),
-        Err(SiteFault::OutOfMemory) => Err(CommandFault::OutOfMemory),
-        Err(_) => Err(CommandFault::BadArgument),
+        Ok(_) => Ok(true),
+        Err(SiteFault::OutOfMemory) => Err(AllocError),
+        Err(_) => Ok(false),
     }
 }
 
 // The server that the word names.
-fn server_of<'a>(alloc: Global, word: &'a str) -> Result<Place<'a>, CommandFault>
-    ensures { ReadsPart (IsPlace (codes "http") word.now) result }
+fn server_of<'a>(alloc: Global, word: &'a str) -> Result<Option<Place<'a>>, AllocError>
+    ensures { IfOk result (FindsPart (IsPlace (codes "http") word.now)) }
 {
     let (host, prefix) = host_and_prefix(word);
-    check_site(alloc, host, prefix)?;
-    match address_and_digits(host) {
-        Some((address, digits)) => Ok(Place::Server {
-            host,
-            prefix,
-            address,
-            port: number_in(digits, 1, 65_535)? as u16,
-        }),
-        None => Err(CommandFault::BadArgument),
+    if !is_site(alloc, host, prefix)? {
+        return Ok(None);
     }
+    let Some((address, digits)) = address_and_digits(host) else {
+        return Ok(None);
+    };
+    let Some(port) = number_in(digits, 1, 65_535) else {
+        return Ok(None);
+    };
+    Ok(Some(Place::Server {
+        host,
+        prefix,
+        address,
+        port: port as u16,
+    }))
 }
 
 /// The place that the two words name: `dir` and a folder, or `http` and a server.
@@ -82,12 +86,12 @@ pub(crate) fn place_of<'a>(
     alloc: Global,
     kind: &str,
     word: &'a str,
-) -> Result<Place<'a>, CommandFault>
-    ensures { ReadsPart (IsPlace kind.now word.now) result }
+) -> Result<Option<Place<'a>>, AllocError>
+    ensures { IfOk result (FindsPart (IsPlace kind.now word.now)) }
 {
     match kind {
-        "dir" => Ok(Place::Folder(word)),
+        "dir" => Ok(Some(Place::Folder(word))),
         "http" => server_of(alloc, word),
-        _ => Err(CommandFault::BadArgument),
+        _ => Ok(None),
     }
 }

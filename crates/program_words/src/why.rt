@@ -22,7 +22,11 @@ pub fn asks_why(alloc: Global, words: &[String]) -> Result<bool, CommandFault>
     ensures { IfOk result (λ asked. IsTrue asked ↔ AsksWhy (map string_bytes words.now)) }
 {
     match command_found(alloc, words) {
-        Ok((_name, found)) => Ok(has_flag(&found, "why")),
+        Ok((_name, found)) => {
+            let asked = Ok(has_flag(&found, "why"));
+            drop(found);
+            asked
+        }
         Err(fault) => Err(fault),
     }
 }
@@ -35,7 +39,11 @@ pub fn asks_why(alloc: Global, words: &[String]) -> Result<bool, CommandFault>
 /// ```
 pub fn bad_argument(alloc: Global, words: &[String]) -> Option<&'static str> {
     match command_found(alloc, words) {
-        Ok((name, found)) => bad_word(alloc, name, &found),
+        Ok((name, found)) => {
+            let word = bad_word(alloc, name, &found);
+            drop(found);
+            word
+        }
         Err(_) => None,
     }
 }

@@ -12,8 +12,8 @@ use clap::error::ErrorKind;
 use std::alloc::Global;
 
 // What an error of `clap` is to the program.
-fn fault_of(alloc: Global, error: clap::Error) -> CommandFault
-    ensures { Tells (kind_of error) result }
+fn fault_of(alloc: Global, error: &clap::Error) -> CommandFault
+    ensures { Tells (kind_of error.now) result }
 {
     if error.kind() == ErrorKind::OutOfMemory {
         return CommandFault::OutOfMemory;
@@ -46,9 +46,15 @@ pub(crate) fn command_found<'a>(
 {
     let mut matches = match parser(alloc)?.try_get_matches_from(words) {
         Ok(matches) => matches,
-        Err(error) => return Err(fault_of(alloc, error)),
+        Err(error) => {
+            let fault = fault_of(alloc, &error);
+            drop(error);
+            return Err(fault);
+        }
     };
-    match matches.remove_subcommand() {
+    let called = matches.remove_subcommand();
+    drop(matches);
+    match called {
         Some((name, found)) => Ok((name, found)),
         // It never comes here: words in which `clap` finds nothing wrong name a command.
         None => Err(CommandFault::BadArgument),
@@ -66,7 +72,11 @@ pub fn read_words<'a>(alloc: Global, words: &'a [String]) -> Result<Command<'a>,
     ensures { Reads (map string_bytes words.now) result }
 {
     match command_found(alloc, words) {
-        Ok((name, found)) => command_of(alloc, name, &found),
+        Ok((name, found)) => {
+            let command = command_of(alloc, name, &found);
+            drop(found);
+            command
+        }
         Err(fault) => Err(fault),
     }
 }
@@ -83,7 +93,11 @@ pub fn key_file<'a>(alloc: Global, words: &'a [String]) -> Result<Option<&'a str
     ensures { ReadsKeyFile (map string_bytes words.now) (seen (option_map (λ k. k.now)) result) }
 {
     match command_found(alloc, words) {
-        Ok((_name, found)) => Ok(found.get_str("keys")),
+        Ok((_name, found)) => {
+            let keys = Ok(found.get_str("keys"));
+            drop(found);
+            keys
+        }
         Err(fault) => Err(fault),
     }
 }

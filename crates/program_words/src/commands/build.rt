@@ -1,16 +1,14 @@
 //! `build`: a log of the entries on standard input.
-ghost use Rattle.std.specs.Prelude.{IfOk, codes};
+ghost use Rattle.std.specs.Prelude.{codes};
 ghost use Rattle.clap.specs.Words.{found_of, rows_of};
-ghost use Rattle.program_words.specs.App.{IsParserOf};
-ghost use Rattle.program_words.specs.Commands.{IsBuild, build_app};
-ghost use Rattle.program_words.specs.Readings.{IsSaid, ReadsPart};
+ghost use Rattle.program_words.specs.Commands.{IsBuild};
+ghost use Rattle.program_words.specs.Readings.{FindsPart, IsSaid, ReadsPart};
 
 use crate::commands::Command;
 use crate::fault::CommandFault;
-use crate::parser::{Argument, PROGRESS, log_parser};
+use crate::parser::{Argument, CommandLine, KEYS, ORIGIN, PROGRESS, WHY};
 use crate::parts::{Log, has_flag, log_of, word_of};
 use clap::ArgMatches;
-use std::alloc::{AllocError, Global};
 
 /// `build`: a log of the entries on standard input.
 #[derive(Drop, Clone, Copy)]
@@ -43,27 +41,25 @@ Faults, on standard error:
 
 Example: printf '\\0\\1a' | tlogmirror build --origin log.example --keys keys --dir log";
 
-/// Its parser.
-pub(crate) fn parser<'a>(alloc: Global) -> Result<clap::Command<'a>, AllocError>
-    ensures { IfOk result (IsParserOf build_app) }
-{
-    log_parser(
-        alloc,
-        "build",
-        "Makes a log of the entries on standard input, signs its checkpoint, and writes its files to a folder",
-        HELP,
-        &[
-            Argument::Option("dir", "D", "The folder that the log is written to"),
-            Argument::Flag("progress", PROGRESS),
-        ],
-    )
-}
+/// Its command line.
+pub(crate) const LINE: CommandLine<'static> = CommandLine {
+    name: "build",
+    about: "Makes a log of the entries on standard input, signs its checkpoint, and writes its files to a folder",
+    help: HELP,
+    arguments: &[
+        ORIGIN,
+        KEYS,
+        WHY,
+        Argument::Option("dir", "D", "The folder that the log is written to"),
+        PROGRESS,
+    ],
+};
 
 // What its options say.
-fn build_of<'a>(found: &ArgMatches<'a>) -> Result<Build<'a>, CommandFault>
-    ensures { ReadsPart (IsBuild (rows_of (found_of found.now))) result }
+fn build_of<'a>(found: &ArgMatches<'a>) -> Option<Build<'a>>
+    ensures { FindsPart (IsBuild (rows_of (found_of found.now))) result }
 {
-    Ok(Build {
+    Some(Build {
         log: log_of(found)?,
         folder: word_of(found, "dir")?,
         progress: has_flag(found, "progress"),
@@ -75,7 +71,7 @@ pub(crate) fn read<'a>(found: &ArgMatches<'a>) -> Result<Command<'a>, CommandFau
     ensures { ReadsPart (IsSaid (codes "build") (rows_of (found_of found.now))) result }
 {
     match build_of(found) {
-        Ok(build) => Ok(Command::Build(build)),
-        Err(fault) => Err(fault),
+        Some(build) => Ok(Command::Build(build)),
+        None => Err(CommandFault::BadArgument),
     }
 }

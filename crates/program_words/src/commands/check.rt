@@ -1,15 +1,12 @@
 //! `check`: whether the proof on standard input holds. It has no options.
-ghost use Rattle.std.specs.Prelude.{IfOk, codes};
+ghost use Rattle.std.specs.Prelude.{codes};
 ghost use Rattle.clap.specs.Words.{found_of, rows_of};
-ghost use Rattle.program_words.specs.App.{IsParserOf};
-ghost use Rattle.program_words.specs.Commands.{check_app};
 ghost use Rattle.program_words.specs.Readings.{IsSaid, ReadsPart};
 
 use crate::commands::Command;
 use crate::fault::CommandFault;
-use crate::parser::plain_parser;
+use crate::parser::CommandLine;
 use clap::ArgMatches;
-use std::alloc::{AllocError, Global};
 
 // What it reads, writes and may end with.
 const HELP: &str = "\
@@ -25,18 +22,13 @@ Faults, on standard error:
 
 Example: tlogmirror check <examples/inclusion-2-of-3.proof";
 
-/// Its parser.
-pub(crate) fn parser<'a>(alloc: Global) -> Result<clap::Command<'a>, AllocError>
-    ensures { IfOk result (IsParserOf check_app) }
-{
-    plain_parser(
-        alloc,
-        "check",
-        "Reads the text of a proof from standard input, and prints whether it holds: yes or no",
-        HELP,
-        &[],
-    )
-}
+/// Its command line.
+pub(crate) const LINE: CommandLine<'static> = CommandLine {
+    name: "check",
+    about: "Reads the text of a proof from standard input, and prints whether it holds: yes or no",
+    help: HELP,
+    arguments: &[],
+};
 
 /// The command.
 pub(crate) fn read<'a>(_found: &ArgMatches<'a>) -> Result<Command<'a>, CommandFault>

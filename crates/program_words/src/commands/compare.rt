@@ -1,16 +1,14 @@
 //! `compare`: checkpoints compared with what is served.
-ghost use Rattle.std.specs.Prelude.{IfOk, codes};
+ghost use Rattle.std.specs.Prelude.{codes};
 ghost use Rattle.clap.specs.Words.{found_of, rows_of};
-ghost use Rattle.program_words.specs.App.{IsParserOf};
-ghost use Rattle.program_words.specs.Commands.{IsCompare, compare_app};
 ghost use Rattle.program_words.specs.Readings.{IsSaid, ReadsPart};
 
 use crate::commands::Command;
 use crate::fault::CommandFault;
-use crate::parser::{Argument, held_parser};
+use crate::parser::{Argument, CommandLine, KEYS, ORIGIN, STATE, WHY};
 use crate::parts::{StateArgs, files_of, state_args};
 use clap::ArgMatches;
-use std::alloc::{AllocError, Global};
+use std::alloc::Global;
 
 /// `compare`: checkpoints compared with what is served.
 #[derive(Drop)]
@@ -40,38 +38,31 @@ Faults of O, K and S: see 'tlogmirror --help'. Besides, on standard error:
 
 Example: tlogmirror compare --origin log.example --keys keys --state state told.note";
 
-/// Its parser.
-pub(crate) fn parser<'a>(alloc: Global) -> Result<clap::Command<'a>, AllocError>
-    ensures { IfOk result (IsParserOf compare_app) }
-{
-    held_parser(
-        alloc,
-        "compare",
-        "Prints which checkpoints contradict the served one, though their entries are gone",
-        HELP,
-        &[Argument::List(
+/// Its command line.
+pub(crate) const LINE: CommandLine<'static> = CommandLine {
+    name: "compare",
+    about: "Prints which checkpoints contradict the served one, though their entries are gone",
+    help: HELP,
+    arguments: &[
+        ORIGIN,
+        KEYS,
+        WHY,
+        STATE,
+        Argument::List(
             "file",
             "FILE",
             "The signed notes that are compared; those of the state where none is named",
-        )],
-    )
-}
-
-// What its options say.
-fn compare_of<'a>(alloc: Global, found: &ArgMatches<'a>) -> Result<Compare<'a>, CommandFault>
-    ensures { ReadsPart (IsCompare (rows_of (found_of found.now))) result }
-{
-    let mirror = state_args(found)?;
-    let files = files_of(alloc, found)?;
-    Ok(Compare { mirror, files })
-}
+        ),
+    ],
+};
 
 /// The command, by its options.
 pub(crate) fn read<'a>(alloc: Global, found: &ArgMatches<'a>) -> Result<Command<'a>, CommandFault>
     ensures { ReadsPart (IsSaid (codes "compare") (rows_of (found_of found.now))) result }
 {
-    match compare_of(alloc, found) {
-        Ok(compare) => Ok(Command::Compare(compare)),
-        Err(fault) => Err(fault),
-    }
+    let Some(mirror) = state_args(found) else {
+        return Err(CommandFault::BadArgument);
+    };
+    let files = files_of(alloc, found)?;
+    Ok(Command::Compare(Compare { mirror, files }))
 }

@@ -1,16 +1,14 @@
 //! `export`, with `--update` too: what is served, written to a folder.
-ghost use Rattle.std.specs.Prelude.{IfOk, codes};
+ghost use Rattle.std.specs.Prelude.{codes};
 ghost use Rattle.clap.specs.Words.{found_of, rows_of};
-ghost use Rattle.program_words.specs.App.{IsParserOf};
-ghost use Rattle.program_words.specs.Commands.{IsExport, export_app};
-ghost use Rattle.program_words.specs.Readings.{IsSaid, ReadsPart};
+ghost use Rattle.program_words.specs.Commands.{IsExport};
+ghost use Rattle.program_words.specs.Readings.{FindsPart, IsSaid, ReadsPart};
 
 use crate::commands::Command;
 use crate::fault::CommandFault;
-use crate::parser::{Argument, PROGRESS, held_parser};
+use crate::parser::{Argument, CommandLine, KEYS, ORIGIN, PROGRESS, STATE, WHY};
 use crate::parts::{StateArgs, has_flag, state_args, word_of};
 use clap::ArgMatches;
-use std::alloc::{AllocError, Global};
 
 /// `export`, with `--update` too: what is served, written to a folder.
 #[derive(Drop, Clone, Copy)]
@@ -40,31 +38,30 @@ Faults of O, K and S: see 'tlogmirror --help'. Then:
 
 Example: tlogmirror export --origin log.example --keys keys --state state --dir copy";
 
-/// Its parser.
-pub(crate) fn parser<'a>(alloc: Global) -> Result<clap::Command<'a>, AllocError>
-    ensures { IfOk result (IsParserOf export_app) }
-{
-    held_parser(
-        alloc,
-        "export",
-        "Writes the files of the served checkpoint to a folder, as a log publishes them",
-        HELP,
-        &[
-            Argument::Option("dir", "D", "The folder that is written"),
-            Argument::Flag(
-                "update",
-                "Bring a folder up to date that has an older checkpoint of the log",
-            ),
-            Argument::Flag("progress", PROGRESS),
-        ],
-    )
-}
+/// Its command line.
+pub(crate) const LINE: CommandLine<'static> = CommandLine {
+    name: "export",
+    about: "Writes the files of the served checkpoint to a folder, as a log publishes them",
+    help: HELP,
+    arguments: &[
+        ORIGIN,
+        KEYS,
+        WHY,
+        STATE,
+        Argument::Option("dir", "D", "The folder that is written"),
+        Argument::Flag(
+            "update",
+            "Bring a folder up to date that has an older checkpoint of the log",
+        ),
+        PROGRESS,
+    ],
+};
 
 // What its options say, but for `--update`.
-fn export_of<'a>(found: &ArgMatches<'a>) -> Result<Export<'a>, CommandFault>
-    ensures { ReadsPart (IsExport (rows_of (found_of found.now))) result }
+fn export_of<'a>(found: &ArgMatches<'a>) -> Option<Export<'a>>
+    ensures { FindsPart (IsExport (rows_of (found_of found.now))) result }
 {
-    Ok(Export {
+    Some(Export {
         mirror: state_args(found)?,
         folder: word_of(found, "dir")?,
         progress: has_flag(found, "progress"),
@@ -75,9 +72,8 @@ fn export_of<'a>(found: &ArgMatches<'a>) -> Result<Export<'a>, CommandFault>
 pub(crate) fn read<'a>(found: &ArgMatches<'a>) -> Result<Command<'a>, CommandFault>
     ensures { ReadsPart (IsSaid (codes "export") (rows_of (found_of found.now))) result }
 {
-    let export = match export_of(found) {
-        Ok(export) => export,
-        Err(fault) => return Err(fault),
+    let Some(export) = export_of(found) else {
+        return Err(CommandFault::BadArgument);
     };
     if has_flag(found, "update") {
         Ok(Command::Update(export))

@@ -1,16 +1,13 @@
 //! `forks`: the forks between a mirror's heads. It has the options of each command over a state alone.
-ghost use Rattle.std.specs.Prelude.{IfOk, codes};
+ghost use Rattle.std.specs.Prelude.{codes};
 ghost use Rattle.clap.specs.Words.{found_of, rows_of};
-ghost use Rattle.program_words.specs.App.{IsParserOf};
-ghost use Rattle.program_words.specs.Commands.{forks_app};
 ghost use Rattle.program_words.specs.Readings.{IsSaid, ReadsPart};
 
 use crate::commands::Command;
 use crate::fault::CommandFault;
-use crate::parser::held_parser;
+use crate::parser::{CommandLine, KEYS, ORIGIN, STATE, WHY};
 use crate::parts::state_args;
 use clap::ArgMatches;
-use std::alloc::{AllocError, Global};
 
 // What it reads, writes and may end with.
 const HELP: &str = "\
@@ -23,25 +20,20 @@ Faults of O, K and S: see 'tlogmirror --help'.
 
 Example: tlogmirror forks --origin log.example --keys keys --state state";
 
-/// Its parser.
-pub(crate) fn parser<'a>(alloc: Global) -> Result<clap::Command<'a>, AllocError>
-    ensures { IfOk result (IsParserOf forks_app) }
-{
-    held_parser(
-        alloc,
-        "forks",
-        "Prints which checkpoints contradict each other: of one size, or both complete",
-        HELP,
-        &[],
-    )
-}
+/// Its command line.
+pub(crate) const LINE: CommandLine<'static> = CommandLine {
+    name: "forks",
+    about: "Prints which checkpoints contradict each other: of one size, or both complete",
+    help: HELP,
+    arguments: &[ORIGIN, KEYS, WHY, STATE],
+};
 
 /// The command, by its options.
 pub(crate) fn read<'a>(found: &ArgMatches<'a>) -> Result<Command<'a>, CommandFault>
     ensures { ReadsPart (IsSaid (codes "forks") (rows_of (found_of found.now))) result }
 {
     match state_args(found) {
-        Ok(args) => Ok(Command::Forks(args)),
-        Err(fault) => Err(fault),
+        Some(args) => Ok(Command::Forks(args)),
+        None => Err(CommandFault::BadArgument),
     }
 }

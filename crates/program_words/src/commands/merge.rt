@@ -1,16 +1,14 @@
 //! `merge`: what a second mirror holds is taken into a first.
-ghost use Rattle.std.specs.Prelude.{IfOk, codes};
+ghost use Rattle.std.specs.Prelude.{codes};
 ghost use Rattle.clap.specs.Words.{found_of, rows_of};
-ghost use Rattle.program_words.specs.App.{IsParserOf};
-ghost use Rattle.program_words.specs.Commands.{IsMerge, merge_app};
-ghost use Rattle.program_words.specs.Readings.{IsSaid, ReadsPart};
+ghost use Rattle.program_words.specs.Commands.{IsMerge};
+ghost use Rattle.program_words.specs.Readings.{FindsPart, IsSaid, ReadsPart};
 
 use crate::commands::Command;
 use crate::fault::CommandFault;
-use crate::parser::{Argument, made_parser};
+use crate::parser::{Argument, CommandLine, KEYS, ORIGIN, OUT, WHY};
 use crate::parts::{OutputArgs, output_args, word_of};
 use clap::ArgMatches;
-use std::alloc::{AllocError, Global};
 
 /// `merge`: what a second mirror holds is taken into a first.
 #[derive(Drop, Clone, Copy)]
@@ -33,27 +31,26 @@ Faults of O, K, A, B and T: see 'tlogmirror --help'. A is read before B. Then:
 
 Example: tlogmirror merge --origin log.example --keys keys --out both here there";
 
-/// Its parser.
-pub(crate) fn parser<'a>(alloc: Global) -> Result<clap::Command<'a>, AllocError>
-    ensures { IfOk result (IsParserOf merge_app) }
-{
-    made_parser(
-        alloc,
-        "merge",
-        "Makes one mirror of two, and writes its state",
-        HELP,
-        &[
-            Argument::Place("a", "A", "The file of the first state"),
-            Argument::Place("b", "B", "The file of the state that is taken into it"),
-        ],
-    )
-}
+/// Its command line.
+pub(crate) const LINE: CommandLine<'static> = CommandLine {
+    name: "merge",
+    about: "Makes one mirror of two, and writes its state",
+    help: HELP,
+    arguments: &[
+        ORIGIN,
+        KEYS,
+        WHY,
+        OUT,
+        Argument::Place("a", "A", "The file of the first state"),
+        Argument::Place("b", "B", "The file of the state that is taken into it"),
+    ],
+};
 
 // What its options say.
-fn merge_of<'a>(found: &ArgMatches<'a>) -> Result<Merge<'a>, CommandFault>
-    ensures { ReadsPart (IsMerge (rows_of (found_of found.now))) result }
+fn merge_of<'a>(found: &ArgMatches<'a>) -> Option<Merge<'a>>
+    ensures { FindsPart (IsMerge (rows_of (found_of found.now))) result }
 {
-    Ok(Merge {
+    Some(Merge {
         mirror: output_args(found)?,
         first: word_of(found, "a")?,
         second: word_of(found, "b")?,
@@ -65,7 +62,7 @@ pub(crate) fn read<'a>(found: &ArgMatches<'a>) -> Result<Command<'a>, CommandFau
     ensures { ReadsPart (IsSaid (codes "merge") (rows_of (found_of found.now))) result }
 {
     match merge_of(found) {
-        Ok(merge) => Ok(Command::Merge(merge)),
-        Err(fault) => Err(fault),
+        Some(merge) => Ok(Command::Merge(merge)),
+        None => Err(CommandFault::BadArgument),
     }
 }

@@ -1,17 +1,14 @@
 //! `missing`: what a head's tree lacks.
-ghost use Rattle.std.specs.Prelude.{IfOk, codes};
+ghost use Rattle.std.specs.Prelude.{codes};
 ghost use Rattle.clap.specs.Words.{found_of, rows_of};
-ghost use Rattle.tlog_text.specs.Hash.{IsHashText};
-ghost use Rattle.program_words.specs.App.{IsParserOf};
-ghost use Rattle.program_words.specs.Commands.{IsMissingAsk, missing_app};
-ghost use Rattle.program_words.specs.Readings.{IsSaid, ReadsPart};
+ghost use Rattle.program_words.specs.Commands.{IsMissingAsk};
+ghost use Rattle.program_words.specs.Readings.{FindsPart, IsSaid, ReadsPart};
 
 use crate::commands::Command;
 use crate::fault::CommandFault;
-use crate::parser::{Argument, held_parser};
+use crate::parser::{Argument, CommandLine, KEYS, ORIGIN, STATE, WHY};
 use crate::parts::{StateArgs, number_of, state_args, word_of};
 use clap::ArgMatches;
-use std::alloc::{AllocError, Global};
 use tlog_hash::Hash;
 use tlog_shape::MAX_SIZE;
 use tlog_text::read_hash;
@@ -38,40 +35,29 @@ Faults of O, K and S: see 'tlogmirror --help'. Then:
 
 Example: tlogmirror missing --origin log.example --keys keys --state state --size 3 --root ROOT";
 
-/// Its parser.
-pub(crate) fn parser<'a>(alloc: Global) -> Result<clap::Command<'a>, AllocError>
-    ensures { IfOk result (IsParserOf missing_app) }
-{
-    held_parser(
-        alloc,
-        "missing",
-        "Prints the paths that a checkpoint's tree lacks",
-        HELP,
-        &[
-            Argument::Option("size", "N", "The checkpoint's size"),
-            Argument::Option("root", "ROOT", "The checkpoint's root, in base64"),
-        ],
-    )
-}
-
-// The hash that the word spells in base64.
-fn hash_of(word: &str) -> Result<Hash, CommandFault>
-    ensures { ReadsPart (IsHashText word.now) result }
-{
-    match read_hash(word) {
-        Some(hash) => Ok(hash),
-        None => Err(CommandFault::BadArgument),
-    }
-}
+/// Its command line.
+pub(crate) const LINE: CommandLine<'static> = CommandLine {
+    name: "missing",
+    about: "Prints the paths that a checkpoint's tree lacks",
+    help: HELP,
+    arguments: &[
+        ORIGIN,
+        KEYS,
+        WHY,
+        STATE,
+        Argument::Option("size", "N", "The checkpoint's size"),
+        Argument::Option("root", "ROOT", "The checkpoint's root, in base64"),
+    ],
+};
 
 // What its options say.
-fn missing_of<'a>(found: &ArgMatches<'a>) -> Result<Missing<'a>, CommandFault>
-    ensures { ReadsPart (IsMissingAsk (rows_of (found_of found.now))) result }
+fn missing_of<'a>(found: &ArgMatches<'a>) -> Option<Missing<'a>>
+    ensures { FindsPart (IsMissingAsk (rows_of (found_of found.now))) result }
 {
-    Ok(Missing {
+    Some(Missing {
         mirror: state_args(found)?,
         size: number_of(found, "size", 0, MAX_SIZE)?,
-        root: hash_of(word_of(found, "root")?)?,
+        root: read_hash(word_of(found, "root")?)?,
     })
 }
 
@@ -80,18 +66,18 @@ pub(crate) fn read<'a>(found: &ArgMatches<'a>) -> Result<Command<'a>, CommandFau
     ensures { ReadsPart (IsSaid (codes "missing") (rows_of (found_of found.now))) result }
 {
     match missing_of(found) {
-        Ok(missing) => Ok(Command::Missing(missing)),
-        Err(fault) => Err(fault),
+        Some(missing) => Ok(Command::Missing(missing)),
+        None => Err(CommandFault::BadArgument),
     }
 }
 
 /// The option or the word that is bad, as help names it.
 pub(crate) fn bad_word(found: &ArgMatches<'_>) -> Option<&'static str> {
-    if number_of(found, "size", 0, MAX_SIZE).is_err() {
+    if number_of(found, "size", 0, MAX_SIZE).is_none() {
         return Some("--size");
     }
     match word_of(found, "root") {
-        Ok(root) if hash_of(root).is_ok() => None,
+        Some(root) if read_hash(root).is_some() => None,
         _ => Some("--root"),
     }
 }

@@ -1,16 +1,14 @@
 //! `notes`: the notes of a mirror, written to a folder.
-ghost use Rattle.std.specs.Prelude.{IfOk, codes};
+ghost use Rattle.std.specs.Prelude.{codes};
 ghost use Rattle.clap.specs.Words.{found_of, rows_of};
-ghost use Rattle.program_words.specs.App.{IsParserOf};
-ghost use Rattle.program_words.specs.Commands.{IsNotes, notes_app};
-ghost use Rattle.program_words.specs.Readings.{IsSaid, ReadsPart};
+ghost use Rattle.program_words.specs.Commands.{IsNotes};
+ghost use Rattle.program_words.specs.Readings.{FindsPart, IsSaid, ReadsPart};
 
 use crate::commands::Command;
 use crate::fault::CommandFault;
-use crate::parser::{Argument, held_parser};
+use crate::parser::{Argument, CommandLine, KEYS, ORIGIN, STATE, WHY};
 use crate::parts::{StateArgs, state_args, word_of};
 use clap::ArgMatches;
-use std::alloc::{AllocError, Global};
 
 /// `notes`: the notes of a mirror, written to a folder.
 #[derive(Drop, Clone, Copy)]
@@ -32,24 +30,25 @@ Faults of O, K and S: see 'tlogmirror --help'. Then:
 
 Example: tlogmirror notes --origin log.example --keys keys --state state --dir notes";
 
-/// Its parser.
-pub(crate) fn parser<'a>(alloc: Global) -> Result<clap::Command<'a>, AllocError>
-    ensures { IfOk result (IsParserOf notes_app) }
-{
-    held_parser(
-        alloc,
-        "notes",
-        "Writes each signed note of a mirror to a file of its own",
-        HELP,
-        &[Argument::Option("dir", "D", "The folder that is written")],
-    )
-}
+/// Its command line.
+pub(crate) const LINE: CommandLine<'static> = CommandLine {
+    name: "notes",
+    about: "Writes each signed note of a mirror to a file of its own",
+    help: HELP,
+    arguments: &[
+        ORIGIN,
+        KEYS,
+        WHY,
+        STATE,
+        Argument::Option("dir", "D", "The folder that is written"),
+    ],
+};
 
 // What its options say.
-fn notes_of<'a>(found: &ArgMatches<'a>) -> Result<Notes<'a>, CommandFault>
-    ensures { ReadsPart (IsNotes (rows_of (found_of found.now))) result }
+fn notes_of<'a>(found: &ArgMatches<'a>) -> Option<Notes<'a>>
+    ensures { FindsPart (IsNotes (rows_of (found_of found.now))) result }
 {
-    Ok(Notes {
+    Some(Notes {
         mirror: state_args(found)?,
         folder: word_of(found, "dir")?,
     })
@@ -60,7 +59,7 @@ pub(crate) fn read<'a>(found: &ArgMatches<'a>) -> Result<Command<'a>, CommandFau
     ensures { ReadsPart (IsSaid (codes "notes") (rows_of (found_of found.now))) result }
 {
     match notes_of(found) {
-        Ok(notes) => Ok(Command::Notes(notes)),
-        Err(fault) => Err(fault),
+        Some(notes) => Ok(Command::Notes(notes)),
+        None => Err(CommandFault::BadArgument),
     }
 }

@@ -1,16 +1,14 @@
 //! `prove`: a proof of what is served.
-ghost use Rattle.std.specs.Prelude.{IfOk, codes};
+ghost use Rattle.std.specs.Prelude.{codes};
 ghost use Rattle.clap.specs.Words.{found_of, rows_of};
-ghost use Rattle.program_words.specs.App.{IsParserOf};
-ghost use Rattle.program_words.specs.Commands.{IsAsk, IsProve, prove_app};
-ghost use Rattle.program_words.specs.Readings.{IsSaid, ReadsPart};
+ghost use Rattle.program_words.specs.Commands.{IsAsk, IsProve};
+ghost use Rattle.program_words.specs.Readings.{FindsPart, IsSaid, ReadsPart};
 
 use crate::commands::Command;
 use crate::fault::CommandFault;
-use crate::parser::{Argument, held_parser};
+use crate::parser::{Argument, CommandLine, KEYS, ORIGIN, STATE, WHY};
 use crate::parts::{StateArgs, number_in, number_of, state_args, word_of};
 use clap::ArgMatches;
-use std::alloc::{AllocError, Global};
 use tlog_proof::Ask;
 use tlog_shape::MAX_SIZE;
 
@@ -38,49 +36,48 @@ Faults of O, K and S: see 'tlogmirror --help'. Then:
 
 Example: tlogmirror prove --origin log.example --keys keys --state state inclusion 3 2";
 
-/// Its parser.
-pub(crate) fn parser<'a>(alloc: Global) -> Result<clap::Command<'a>, AllocError>
-    ensures { IfOk result (IsParserOf prove_app) }
-{
-    held_parser(
-        alloc,
-        "prove",
-        "Prints a proof that an entry is in a tree, or that a tree is a prefix of another",
-        HELP,
-        &[
-            Argument::Place("kind", "KIND", "What is proved: inclusion or consistency"),
-            Argument::Place("a", "A", "The tree's size, or the smaller size"),
-            Argument::Place("b", "B", "The entry's index, or the greater size"),
-        ],
-    )
-}
+/// Its command line.
+pub(crate) const LINE: CommandLine<'static> = CommandLine {
+    name: "prove",
+    about: "Prints a proof that an entry is in a tree, or that a tree is a prefix of another",
+    help: HELP,
+    arguments: &[
+        ORIGIN,
+        KEYS,
+        WHY,
+        STATE,
+        Argument::Place("kind", "KIND", "What is proved: inclusion or consistency"),
+        Argument::Place("a", "A", "The tree's size, or the smaller size"),
+        Argument::Place("b", "B", "The entry's index, or the greater size"),
+    ],
+};
 
 // What a proof is asked for, by the three words.
-fn ask_of(kind: &str, a: &str, b: &str) -> Result<Ask, CommandFault>
-    ensures { ReadsPart (IsAsk kind.now a.now b.now) result }
+fn ask_of(kind: &str, a: &str, b: &str) -> Option<Ask>
+    ensures { FindsPart (IsAsk kind.now a.now b.now) result }
 {
     match kind {
-        "inclusion" => Ok(Ask::Inclusion {
+        "inclusion" => Some(Ask::Inclusion {
             size: number_in(a, 0, MAX_SIZE)?,
             index: number_in(b, 0, MAX_SIZE)?,
         }),
-        "consistency" => Ok(Ask::Consistency {
+        "consistency" => Some(Ask::Consistency {
             first: number_in(a, 0, MAX_SIZE)?,
             second: number_in(b, 0, MAX_SIZE)?,
         }),
-        _ => Err(CommandFault::BadArgument),
+        _ => None,
     }
 }
 
 // What its options say.
-fn prove_of<'a>(found: &ArgMatches<'a>) -> Result<Prove<'a>, CommandFault>
-    ensures { ReadsPart (IsProve (rows_of (found_of found.now))) result }
+fn prove_of<'a>(found: &ArgMatches<'a>) -> Option<Prove<'a>>
+    ensures { FindsPart (IsProve (rows_of (found_of found.now))) result }
 {
     let mirror = state_args(found)?;
     let kind = word_of(found, "kind")?;
     let a = word_of(found, "a")?;
     let b = word_of(found, "b")?;
-    Ok(Prove {
+    Some(Prove {
         mirror,
         ask: ask_of(kind, a, b)?,
     })
@@ -91,21 +88,21 @@ pub(crate) fn read<'a>(found: &ArgMatches<'a>) -> Result<Command<'a>, CommandFau
     ensures { ReadsPart (IsSaid (codes "prove") (rows_of (found_of found.now))) result }
 {
     match prove_of(found) {
-        Ok(prove) => Ok(Command::Prove(prove)),
-        Err(fault) => Err(fault),
+        Some(prove) => Ok(Command::Prove(prove)),
+        None => Err(CommandFault::BadArgument),
     }
 }
 
 /// The option or the word that is bad, as help names it.
 pub(crate) fn bad_word(found: &ArgMatches<'_>) -> Option<&'static str> {
     match word_of(found, "kind") {
-        Ok("inclusion") | Ok("consistency") => {}
+        Some("inclusion") | Some("consistency") => {}
         _ => return Some("KIND"),
     }
-    if number_of(found, "a", 0, MAX_SIZE).is_err() {
+    if number_of(found, "a", 0, MAX_SIZE).is_none() {
         return Some("A");
     }
-    if number_of(found, "b", 0, MAX_SIZE).is_err() {
+    if number_of(found, "b", 0, MAX_SIZE).is_none() {
         return Some("B");
     }
     None

@@ -1,13 +1,12 @@
 //! `pull`: what is missing is fetched.
 ghost use Rattle.std.specs.Prelude.{IfOk, codes};
 ghost use Rattle.clap.specs.Words.{found_of, rows_of};
-ghost use Rattle.program_words.specs.App.{IsParserOf};
-ghost use Rattle.program_words.specs.Commands.{IsPull, pull_app};
-ghost use Rattle.program_words.specs.Readings.{IsSaid, ReadsPart};
+ghost use Rattle.program_words.specs.Commands.{IsPull};
+ghost use Rattle.program_words.specs.Readings.{FindsPart, IsPlaceGiven, IsSaid, ReadsPart};
 
 use crate::commands::Command;
 use crate::fault::CommandFault;
-use crate::parser::{Argument, PROGRESS, made_parser};
+use crate::parser::{Argument, CommandLine, FIRST_STATE, KEYS, ORIGIN, OUT, PROGRESS, WHY};
 use crate::parts::{OutputArgs, has_flag, output_args, word_of};
 use crate::place::{Place, place_of};
 use clap::ArgMatches;
@@ -57,60 +56,71 @@ Faults of O, K, S and T: see 'tlogmirror --help'. Of the place:
 
 Example: tlogmirror pull --origin log.example --keys keys --out state http log.example:80/2026";
 
-/// Its parser.
-pub(crate) fn parser<'a>(alloc: Global) -> Result<clap::Command<'a>, AllocError>
-    ensures { IfOk result (IsParserOf pull_app) }
+/// Its command line.
+pub(crate) const LINE: CommandLine<'static> = CommandLine {
+    name: "pull",
+    about: "Fetches a log's newest checkpoint and what is missing of it, from a folder or over plain HTTP, and writes a state",
+    help: HELP,
+    arguments: &[
+        ORIGIN,
+        KEYS,
+        WHY,
+        OUT,
+        FIRST_STATE,
+        Argument::Flag(
+            "keep",
+            "Write the state where the place fails too, as a first pull over a bad line wants it",
+        ),
+        PROGRESS,
+        Argument::Place(
+            "kind",
+            "KIND",
+            "Where from: dir, or http, which is plain HTTP",
+        ),
+        Argument::Place(
+            "place",
+            "PLACE",
+            "The folder, or host:port with an optional /prefix",
+        ),
+    ],
+};
+
+// The place that its words name.
+fn place_given<'a>(alloc: Global, found: &ArgMatches<'a>) -> Result<Option<Place<'a>>, AllocError>
+    ensures { IfOk result (FindsPart (IsPlaceGiven (rows_of (found_of found.now)))) }
 {
-    made_parser(
-        alloc,
-        "pull",
-        "Fetches a log's newest checkpoint and what is missing of it, from a folder or over plain HTTP, and writes a state",
-        HELP,
-        &[
-            Argument::Choice(
-                "state",
-                "S",
-                "The file of the state to begin with; nothing where it is left out",
-            ),
-            Argument::Flag(
-                "keep",
-                "Write the state where the place fails too, as a first pull over a bad line wants it",
-            ),
-            Argument::Flag("progress", PROGRESS),
-            Argument::Place(
-                "kind",
-                "KIND",
-                "Where from: dir, or http, which is plain HTTP",
-            ),
-            Argument::Place(
-                "place",
-                "PLACE",
-                "The folder, or host:port with an optional /prefix",
-            ),
-        ],
-    )
+    match (word_of(found, "kind"), word_of(found, "place")) {
+        (Some(kind), Some(word)) => place_of(alloc, kind, word),
+        _ => Ok(None),
+    }
 }
 
 // What its options say.
-fn pull_of<'a>(alloc: Global, found: &ArgMatches<'a>) -> Result<Pull<'a>, CommandFault>
-    ensures { ReadsPart (IsPull (rows_of (found_of found.now))) result }
+fn pull_of<'a>(alloc: Global, found: &ArgMatches<'a>) -> Result<Option<Pull<'a>>, AllocError>
+    ensures { IfOk result (FindsPart (IsPull (rows_of (found_of found.now)))) }
 {
-    Ok(Pull {
-        mirror: output_args(found)?,
+    let Some(mirror) = output_args(found) else {
+        return Ok(None);
+    };
+    let Some(place) = place_given(alloc, found)? else {
+        return Ok(None);
+    };
+    Ok(Some(Pull {
+        mirror,
         state: found.get_str("state"),
         keep: has_flag(found, "keep"),
         progress: has_flag(found, "progress"),
-        place: place_of(alloc, word_of(found, "kind")?, word_of(found, "place")?)?,
-    })
+        place,
+    }))
 }
 
 /// The command, by its options.
 pub(crate) fn read<'a>(alloc: Global, found: &ArgMatches<'a>) -> Result<Command<'a>, CommandFault>
     ensures { ReadsPart (IsSaid (codes "pull") (rows_of (found_of found.now))) result }
 {
-    match pull_of(alloc, found) {
-        Ok(pull) => Ok(Command::Pull(pull)),
-        Err(fault) => Err(fault),
+    match pull_of(alloc, found)? {
+        Some(pull) => Ok(Command::Pull(pull)),
+        None => Err(CommandFault::BadArgument),
     }
 }
 
@@ -122,7 +132,7 @@ pub(crate) fn bad_word(alloc: Global, found: &ArgMatches<'_>) -> Option<&'static
         return Some("KIND");
     }
     match place_of(alloc, kind, place) {
-        Err(CommandFault::BadArgument) => Some("PLACE"),
+        Ok(None) => Some("PLACE"),
         _ => None,
     }
 }

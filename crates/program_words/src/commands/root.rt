@@ -1,16 +1,14 @@
 //! `root`: the tree hash of the bundle on standard input.
-ghost use Rattle.std.specs.Prelude.{IfOk, codes};
+ghost use Rattle.std.specs.Prelude.{codes};
 ghost use Rattle.clap.specs.Words.{found_of, rows_of};
-ghost use Rattle.program_words.specs.App.{IsParserOf};
-ghost use Rattle.program_words.specs.Commands.{IsRoot, root_app};
-ghost use Rattle.program_words.specs.Readings.{IsSaid, ReadsPart};
+ghost use Rattle.program_words.specs.Commands.{IsRoot};
+ghost use Rattle.program_words.specs.Readings.{FindsPart, IsSaid, ReadsPart};
 
 use crate::commands::Command;
 use crate::fault::CommandFault;
-use crate::parser::{Argument, plain_parser};
+use crate::parser::{Argument, CommandLine};
 use crate::parts::number_of;
 use clap::ArgMatches;
-use std::alloc::{AllocError, Global};
 
 /// `root`: the tree hash of the bundle on standard input.
 #[derive(Drop, Clone, Copy)]
@@ -34,24 +32,19 @@ Faults, on standard error:
 
 Example: printf '\\0\\0' | tlogmirror root --width 1";
 
-/// Its parser.
-pub(crate) fn parser<'a>(alloc: Global) -> Result<clap::Command<'a>, AllocError>
-    ensures { IfOk result (IsParserOf root_app) }
-{
-    plain_parser(
-        alloc,
-        "root",
-        "Reads an entry bundle from standard input, and prints its size and its tree hash",
-        HELP,
-        &[Argument::Option("width", "W", "How many entries the bundle has, 0 to 256")],
-    )
-}
+/// Its command line.
+pub(crate) const LINE: CommandLine<'static> = CommandLine {
+    name: "root",
+    about: "Reads an entry bundle from standard input, and prints its size and its tree hash",
+    help: HELP,
+    arguments: &[Argument::Option("width", "W", "How many entries the bundle has, 0 to 256")],
+};
 
 // What its options say.
-fn root_of(found: &ArgMatches<'_>) -> Result<Root, CommandFault>
-    ensures { ReadsPart (IsRoot (rows_of (found_of found.now))) result }
+fn root_of(found: &ArgMatches<'_>) -> Option<Root>
+    ensures { FindsPart (IsRoot (rows_of (found_of found.now))) result }
 {
-    Ok(Root {
+    Some(Root {
         width: number_of(found, "width", 0, 256)? as u32,
     })
 }
@@ -61,7 +54,7 @@ pub(crate) fn read<'a>(found: &ArgMatches<'a>) -> Result<Command<'a>, CommandFau
     ensures { ReadsPart (IsSaid (codes "root") (rows_of (found_of found.now))) result }
 {
     match root_of(found) {
-        Ok(root) => Ok(Command::Root(root)),
-        Err(fault) => Err(fault),
+        Some(root) => Ok(Command::Root(root)),
+        None => Err(CommandFault::BadArgument),
     }
 }

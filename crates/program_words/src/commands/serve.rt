@@ -1,16 +1,14 @@
 //! `serve`: answers over HTTP.
-ghost use Rattle.std.specs.Prelude.{IfOk, codes};
+ghost use Rattle.std.specs.Prelude.{codes};
 ghost use Rattle.clap.specs.Words.{found_of, rows_of};
-ghost use Rattle.program_words.specs.App.{IsParserOf};
-ghost use Rattle.program_words.specs.Commands.{IsServe, serve_app};
-ghost use Rattle.program_words.specs.Readings.{IsSaid, ReadsPart};
+ghost use Rattle.program_words.specs.Commands.{IsServe};
+ghost use Rattle.program_words.specs.Readings.{FindsPart, IsSaid, ReadsPart};
 
 use crate::commands::Command;
 use crate::fault::CommandFault;
-use crate::parser::{Argument, held_parser};
+use crate::parser::{Argument, CommandLine, KEYS, ORIGIN, STATE, WHY};
 use crate::parts::{StateArgs, number_of, state_args};
 use clap::ArgMatches;
-use std::alloc::{AllocError, Global};
 use tlog_shape::MAX_SIZE;
 
 /// `serve`: answers over HTTP.
@@ -41,27 +39,26 @@ Faults of O, K and S: see 'tlogmirror --help'. Then:
 
 Example: tlogmirror serve --origin log.example --keys keys --state state --port 8080 --requests 100";
 
-/// Its parser.
-pub(crate) fn parser<'a>(alloc: Global) -> Result<clap::Command<'a>, AllocError>
-    ensures { IfOk result (IsParserOf serve_app) }
-{
-    held_parser(
-        alloc,
-        "serve",
-        "Answers over plain HTTP what the mirror serves",
-        HELP,
-        &[
-            Argument::Option("port", "P", "The port on 127.0.0.1, 1 to 65535"),
-            Argument::Option("requests", "N", "How many connections are answered"),
-        ],
-    )
-}
+/// Its command line.
+pub(crate) const LINE: CommandLine<'static> = CommandLine {
+    name: "serve",
+    about: "Answers over plain HTTP what the mirror serves",
+    help: HELP,
+    arguments: &[
+        ORIGIN,
+        KEYS,
+        WHY,
+        STATE,
+        Argument::Option("port", "P", "The port on 127.0.0.1, 1 to 65535"),
+        Argument::Option("requests", "N", "How many connections are answered"),
+    ],
+};
 
 // What its options say.
-fn serve_of<'a>(found: &ArgMatches<'a>) -> Result<Serve<'a>, CommandFault>
-    ensures { ReadsPart (IsServe (rows_of (found_of found.now))) result }
+fn serve_of<'a>(found: &ArgMatches<'a>) -> Option<Serve<'a>>
+    ensures { FindsPart (IsServe (rows_of (found_of found.now))) result }
 {
-    Ok(Serve {
+    Some(Serve {
         mirror: state_args(found)?,
         port: number_of(found, "port", 1, 65_535)? as u16,
         requests: number_of(found, "requests", 0, MAX_SIZE)?,
@@ -73,17 +70,17 @@ pub(crate) fn read<'a>(found: &ArgMatches<'a>) -> Result<Command<'a>, CommandFau
     ensures { ReadsPart (IsSaid (codes "serve") (rows_of (found_of found.now))) result }
 {
     match serve_of(found) {
-        Ok(serve) => Ok(Command::Serve(serve)),
-        Err(fault) => Err(fault),
+        Some(serve) => Ok(Command::Serve(serve)),
+        None => Err(CommandFault::BadArgument),
     }
 }
 
 /// The option or the word that is bad, as help names it.
 pub(crate) fn bad_word(found: &ArgMatches<'_>) -> Option<&'static str> {
-    if number_of(found, "port", 1, 65_535).is_err() {
+    if number_of(found, "port", 1, 65_535).is_none() {
         return Some("--port");
     }
-    if number_of(found, "requests", 0, MAX_SIZE).is_err() {
+    if number_of(found, "requests", 0, MAX_SIZE).is_none() {
         return Some("--requests");
     }
     None

@@ -1,13 +1,12 @@
 //! `take`: what files hold is taken into a mirror.
-ghost use Rattle.std.specs.Prelude.{◌≡◌, ◌↔◌, IsTrue, IfOk, codes};
+ghost use Rattle.std.specs.Prelude.{◌↔◌, IfOk, IsTrue, codes};
 ghost use Rattle.clap.specs.Words.{first_of, found_of, rows_of};
-ghost use Rattle.program_words.specs.App.{IsParserOf};
-ghost use Rattle.program_words.specs.Commands.{IsCount, IsTake, IsTakeWidth, kind_name, take_app};
-ghost use Rattle.program_words.specs.Readings.{IsSaid, ReadsPart};
+ghost use Rattle.program_words.specs.Commands.{Given, IsCount, IsTake, IsTakeWidth, kind_name};
+ghost use Rattle.program_words.specs.Readings.{FindsPart, IsSaid, ReadsPart};
 
 use crate::commands::Command;
 use crate::fault::CommandFault;
-use crate::parser::{Argument, made_parser};
+use crate::parser::{Argument, CommandLine, FIRST_STATE, KEYS, ORIGIN, OUT, WHY};
 use crate::parts::{OutputArgs, files_of, number_in, output_args, word_of};
 use clap::ArgMatches;
 use std::alloc::{AllocError, Global};
@@ -61,56 +60,52 @@ Faults of O, K, S and T: see 'tlogmirror --help'. Of the files:
 
 Example: tlogmirror take --origin log.example --keys keys --out state bundle log/tile/entries/000.p/3 --width 3";
 
-/// Its parser.
-pub(crate) fn parser<'a>(alloc: Global) -> Result<clap::Command<'a>, AllocError>
-    ensures { IfOk result (IsParserOf take_app) }
-{
-    made_parser(
-        alloc,
-        "take",
-        "Takes what files hold into a mirror, and writes the mirror's state",
-        HELP,
-        &[
-            Argument::Choice(
-                "state",
-                "S",
-                "The file of the state to begin with; nothing where it is left out",
-            ),
-            Argument::Choice(
-                "width",
-                "W",
-                "How many hashes or entries the file has, 1 to 256; 256 where it is left out",
-            ),
-            Argument::Place("kind", "KIND", "What the files hold: head, tile or bundle"),
-            Argument::List(
-                "file",
-                "FILE",
-                "The files: one; for a head the note, then the edge rows",
-            ),
-        ],
-    )
-}
+/// Its command line.
+pub(crate) const LINE: CommandLine<'static> = CommandLine {
+    name: "take",
+    about: "Takes what files hold into a mirror, and writes the mirror's state",
+    help: HELP,
+    arguments: &[
+        ORIGIN,
+        KEYS,
+        WHY,
+        OUT,
+        FIRST_STATE,
+        Argument::Choice(
+            "width",
+            "W",
+            "How many hashes or entries the file has, 1 to 256; 256 where it is left out",
+        ),
+        Argument::Place("kind", "KIND", "What the files hold: head, tile or bundle"),
+        Argument::List(
+            "file",
+            "FILE",
+            "The files: one; for a head the note, then the edge rows",
+        ),
+    ],
+};
 
 // What files hold, by the word for it.
-fn kind_of(word: &str) -> Result<Kind, CommandFault>
-    ensures { ReadsPart (λ kind. word.now ≡ kind_name kind) result }
+fn kind_of(found: &ArgMatches<'_>) -> Option<Kind>
+    ensures { FindsPart (λ kind. Given (rows_of (found_of found.now)) (codes "kind")
+        (kind_name kind)) result }
 {
-    match word {
-        "head" => Ok(Kind::Head),
-        "tile" => Ok(Kind::Tile),
-        "bundle" => Ok(Kind::Bundle),
-        _ => Err(CommandFault::BadArgument),
+    match word_of(found, "kind")? {
+        "head" => Some(Kind::Head),
+        "tile" => Some(Kind::Tile),
+        "bundle" => Some(Kind::Bundle),
+        _ => None,
     }
 }
 
 // The width, which may be left out.
-fn width_of(found: &ArgMatches<'_>) -> Result<u32, CommandFault>
-    ensures { ReadsPart (IsTakeWidth (first_of (codes "width") (rows_of (found_of found.now))))
+fn width_of(found: &ArgMatches<'_>) -> Option<u32>
+    ensures { FindsPart (IsTakeWidth (first_of (codes "width") (rows_of (found_of found.now))))
         result }
 {
     match found.get_str("width") {
-        Some(word) => Ok(number_in(word, 1, 256)? as u32),
-        None => Ok(256),
+        Some(word) => Some(number_in(word, 1, 256)? as u32),
+        None => Some(256),
     }
 }
 
@@ -125,42 +120,50 @@ fn is_count(kind: Kind, count: usize) -> bool
 }
 
 // What its options say.
-fn take_of<'a>(alloc: Global, found: &ArgMatches<'a>) -> Result<Take<'a>, CommandFault>
-    ensures { ReadsPart (IsTake (rows_of (found_of found.now))) result }
+fn take_of<'a>(alloc: Global, found: &ArgMatches<'a>) -> Result<Option<Take<'a>>, AllocError>
+    ensures { IfOk result (FindsPart (IsTake (rows_of (found_of found.now)))) }
 {
-    let mirror = output_args(found)?;
-    let width = width_of(found)?;
-    let kind = kind_of(word_of(found, "kind")?)?;
+    let Some(mirror) = output_args(found) else {
+        return Ok(None);
+    };
+    let Some(width) = width_of(found) else {
+        return Ok(None);
+    };
+    let Some(kind) = kind_of(found) else {
+        return Ok(None);
+    };
     let files = files_of(alloc, found)?;
-    if !is_count(kind, files.len()) {
-        return Err(CommandFault::BadArgument);
+    if is_count(kind, files.len()) {
+        Ok(Some(Take {
+            mirror,
+            state: found.get_str("state"),
+            width,
+            kind,
+            files,
+        }))
+    } else {
+        drop(files);
+        Ok(None)
     }
-    Ok(Take {
-        mirror,
-        state: found.get_str("state"),
-        width,
-        kind,
-        files,
-    })
 }
 
 /// The command, by its options.
 pub(crate) fn read<'a>(alloc: Global, found: &ArgMatches<'a>) -> Result<Command<'a>, CommandFault>
     ensures { ReadsPart (IsSaid (codes "take") (rows_of (found_of found.now))) result }
 {
-    match take_of(alloc, found) {
-        Ok(take) => Ok(Command::Take(take)),
-        Err(fault) => Err(fault),
+    match take_of(alloc, found)? {
+        Some(take) => Ok(Command::Take(take)),
+        None => Err(CommandFault::BadArgument),
     }
 }
 
 /// Where width and kind are well, there are too many files, or none.
 pub(crate) fn bad_word(found: &ArgMatches<'_>) -> Option<&'static str> {
-    if width_of(found).is_err() {
+    if width_of(found).is_none() {
         return Some("--width");
     }
-    match word_of(found, "kind") {
-        Ok(kind) if kind_of(kind).is_ok() => Some("FILE"),
-        _ => Some("KIND"),
+    if kind_of(found).is_none() {
+        return Some("KIND");
     }
+    Some("FILE")
 }

@@ -1,50 +1,37 @@
-use Rattle.std.proofs.Common.{◌≡◌, ◌∷◌, [], List, IfOk, refl, sym, subst, Result}
-use Rattle.std.proofs.lemmas.List.{nil_from_length}
-use Rattle.std.specs.Array.Iter.{array_into_iter_items}
+use Rattle.std.proofs.Common.{◌≡◌, ◌∙◌, ℕ, ◌+◌, ◌<◌, Bor, List, length, map, drop, get_or, refl, sym, subst, IfOk}
+use Rattle.std.proofs.lemmas.List.{at_drop_all, at_drop_more}
 use Rattle.clap.specs.Words.{App, with_subcommand}
-use Rattle.clap.specs.declared.builder.command.Command.{Command as Parser}
-use Rattle.program_words.specs.App.{AreParsersOf, IsParserOf, program_app, with_commands}
-use Rattle.program_words.specs.Commands.{command_apps, mirror_app}
+use Rattle.program_words.specs.App.{IsParserOf, line_app, with_commands}
+use Rattle.program_words.specs.declared.parser.CommandLine.{CommandLine}
 use Rattle.program_words.proofs.commands.with_commands.Goals as goal
 
--- the parser is of some command line, and these are the parsers that it lacks
-IsOnWay : {E : Type 0} → Result Parser E → List (Result Parser E) → Type 0
-IsOnWay made left = (app : App) × (rest : List App) × IfOk made (IsParserOf app) × AreParsersOf rest left
-    × (with_commands app rest ≡ mirror_app)
+apps : List (Bor CommandLine) → List App
+apps lines = map (λ line. line_app line.now) lines
 
-one_more : {E : Type 0} → (made below new : Result Parser E) (left : List (Result Parser E)) → IsOnWay made (below ∷ left)
-    → ((a b : App) → IfOk made (IsParserOf a) → IfOk below (IsParserOf b) → IfOk new (IsParserOf (with_subcommand a b.top)))
-    → IsOnWay new left
-unfolding IsOnWay
-one_more made below new left (app, [], is, are, same) step = absurd are
-one_more made below new left (app, a ∷ rest, is, are, same) step =
-    (with_subcommand app a.top, rest, step app a is are.0, are.1, same)
+-- one more command, and one less that is left
+one_more : (app whole : App) (lines : List (Bor CommandLine)) (i : ℕ) (line : Bor CommandLine) → i < length lines →
+    with_commands app (apps (drop i lines)) ≡ whole →
+    with_commands (with_subcommand app (line_app (get_or lines i line).now).top) (apps (drop (i + 1) lines)) ≡ whole
+unfolding apps
+one_more app whole lines i line more before =
+    sym (at_drop_more (λ l. with_commands app (apps l)) lines i line more) ∙ before
 
-all_there : {E : Type 0} → (made : Result Parser E) → IsOnWay made [] → IfOk made (IsParserOf mirror_app)
-unfolding IsOnWay
-all_there made (app, [], is, are, same) = subst (λ a. IfOk made (IsParserOf a)) same is
-all_there made (app, a ∷ rest, is, are, same) = absurd are
+pub loop-line-init : goal.loop-line-init
+loop-line-init c = λ a is. (a, is, refl)
 
-pub loop-command-init : goal.loop-command-init
-loop-command-init c = λ parser below. (
-  program_app,
-  command_apps,
-  parser,
-  subst (AreParsersOf command_apps) (sym c.into_iter-command-iterator.ensures.into_iter_gives.0) below,
-  refl,
-)
-
-pub loop-command-preserved : goal.loop-command-preserved
-unfolding IsOnWay
-loop-command-preserved c = λ parser below.
-    let before : IsOnWay c.loop-command.made (c.in-Some.command ∷ array_into_iter_items c.next.new.self) =
-    subst (IsOnWay c.loop-command.made) c.in-Some.ensures.steps (c.loop-command.invariant parser below) in
-    one_more _ _ _ _ before c.with_command-made.ensures
+pub loop-line-preserved : goal.loop-line-preserved
+unfolding apps
+loop-line-preserved c = λ a is.
+    let before = c.loop-line.invariant a is in (
+      _,
+      c.with_command-made.ensures before.0 before.1,
+      one_more before.0 _ c.args.lines.now c.loop-line.line-index _ c.loop-line-test.true before.2,
+    )
 
 pub returns : goal.returns
-unfolding IsOnWay
-returns c = λ parser below.
-    let empty = nil_from_length (array_into_iter_items c.loop-command.command-iterator) c.in-None.ensures.steps.0 in
-    let end : IsOnWay c.loop-command.made [] =
-    subst (IsOnWay c.loop-command.made) empty (c.loop-command.invariant parser below) in
-    all_there _ end
+unfolding apps
+returns c = λ a is.
+    let before = c.loop-line.invariant a is in
+    let none = at_drop_all (λ l. with_commands before.0 (apps l)) c.args.lines.now c.loop-line.line-index
+    c.loop-line-test.false in
+    subst (λ (app : App). IfOk c.loop-line.made (IsParserOf app)) (sym none ∙ before.2) before.1

@@ -1,13 +1,10 @@
-use Rattle.std.proofs.Common.{◌≡◌, IfOk, List}
-use Rattle.std.specs.Array.Iter.{array_into_iter_items}
+use Rattle.std.proofs.Common.{◌≡◌, IfOk, map, drop}
 use Rattle.clap.specs.Words.{App}
-use Rattle.program_words.specs.App.{AreParsersOf, IsParserOf, program_app, with_commands}
-use Rattle.program_words.specs.Commands.{command_apps, mirror_app}
+use Rattle.program_words.specs.App.{IsParserOf, line_app, with_commands}
 use Rattle.program_words.proofs.commands.with_commands.Given as goal
 
--- the parser is of some command line, and what is left are the parsers that it lacks
-abbrev pub invariant-loop-command : goal.invariant-loop-command
-invariant-loop-command l =
-    IfOk l.fn.parser (IsParserOf program_app) → AreParsersOf command_apps l.fn.below → (app : App) × (rest : List App)
-    × IfOk l.made (IsParserOf app) × AreParsersOf rest (array_into_iter_items l.command-iterator)
-    × (with_commands app rest ≡ mirror_app)
+abbrev pub invariant-loop-line : goal.invariant-loop-line
+invariant-loop-line l = (a : App) → IfOk l.fn.parser (IsParserOf a) →
+    (b : App) × IfOk l.made (IsParserOf b)
+    × (with_commands b (map (λ line. line_app line.now) (drop l.line-index l.lines))
+    ≡ with_commands a (map (λ line. line_app line.now) l.lines))

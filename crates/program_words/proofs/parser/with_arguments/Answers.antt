@@ -1,18 +1,16 @@
-use Rattle.std.proofs.Common.{◌≡◌, ◌∙◌, ℕ, ◌+◌, ◌<◌, List, length, map, drop, get_or, ap, refl, sym, subst, IfOk}
+use Rattle.std.proofs.Common.{◌≡◌, ◌∙◌, ℕ, ◌+◌, ◌<◌, List, length, map, drop, get_or, refl, sym, subst, IfOk}
 use Rattle.std.proofs.lemmas.List.{at_drop_all, at_drop_more}
-use Rattle.clap.specs.Words.{App, Rule, rule_of, with_rule}
+use Rattle.clap.specs.Words.{App, with_rule}
 use Rattle.program_words.specs.App.{IsParserOf, argument_of, with_rules}
 use Rattle.program_words.specs.declared.parser.Argument.{Argument}
 use Rattle.program_words.proofs.parser.with_arguments.Goals as goal
 
 -- one more argument, and one less that is left
-one_more : (app whole : App) (arguments : List Argument) (i : ℕ) (given : Argument) (rule : Rule) →
-    i < length arguments → rule ≡ argument_of (get_or arguments i given) →
+one_more : (app whole : App) (arguments : List Argument) (i : ℕ) (given : Argument) → i < length arguments →
     with_rules app (map argument_of (drop i arguments)) ≡ whole →
-    with_rules (with_rule app rule) (map argument_of (drop (i + 1) arguments)) ≡ whole
-one_more app whole arguments i given rule more is before =
-    ap (λ r. with_rules (with_rule app r) (map argument_of (drop (i + 1) arguments))) is
-    ∙ (sym (at_drop_more (λ l. with_rules app (map argument_of l)) arguments i given more) ∙ before)
+    with_rules (with_rule app (argument_of (get_or arguments i given))) (map argument_of (drop (i + 1) arguments)) ≡ whole
+one_more app whole arguments i given more before =
+    sym (at_drop_more (λ l. with_rules app (map argument_of l)) arguments i given more) ∙ before
 
 pub loop-given-init : goal.loop-given-init
 loop-given-init c = λ a is. (a, is, refl)
@@ -20,10 +18,9 @@ loop-given-init c = λ a is. (a, is, refl)
 pub loop-given-preserved : goal.loop-given-preserved
 loop-given-preserved c = λ a is.
     let before = c.loop-given.invariant a is in (
-      with_rule before.0 (rule_of c.arg_of.result),
-      c.with_argument-made.ensures before.0 before.1 c.arg_of.ensures.local,
-      one_more before.0 _ c.args.arguments.now c.loop-given.given-index _ _ c.loop-given-test.true c.arg_of.ensures.rule
-          before.2,
+      _,
+      c.with_argument-made.ensures before.0 before.1,
+      one_more before.0 _ c.args.arguments.now c.loop-given.given-index _ c.loop-given-test.true before.2,
     )
 
 pub returns : goal.returns

@@ -1,15 +1,19 @@
-use Rattle.std.proofs.Common.{◌≡◌, ◌∙◌, ap, sym, codes, map, rules, unwrap_or, None, Some, List, ℕ, Bor, []}
-use Rattle.clap.specs.Words.{found_of}
+use Rattle.std.proofs.Common.{◌≡◌, ◌∙◌, ap, sym, codes, map, unwrap_or, None, Some, List, ℕ, Bor, []}
+use Rattle.std.proofs.lemmas.Result.{IfOk-weaker}
+use Rattle.clap.specs.Words.{all_of, found_of, rows_of}
 use Rattle.program_words.proofs.Refusing.{listed}
 use Rattle.program_words.proofs.parts.files_of.Goals as goal
 
-pub returns-in_ok-collect-in-Some : goal.returns-in_ok-collect-in-Some
-returns-in_ok-collect-in-Some c =
-    let items : c.in_ok-collect-in-Some.field-0.items ≡ c.in-Some.files.now = search rules in
+pub returns-in-Some : goal.returns-in-Some
+returns-in-Some c =
     let texts = λ (xs : List (Bor (List ℕ))). map (λ v. v.now) xs in
+    IfOk-weaker c.from_slice.result (λ v. v.items ≡ c.in-Some.files.now)
+    (λ v. unwrap_or (all_of (codes "file") (rows_of (found_of c.args.found.now))) [] ≡ texts v.items)
+    (λ v items.
     ap (λ o. unwrap_or o [])
     (listed (found_of c.args.found.now) (codes "file") (Some (texts c.in-Some.files.now)) c.in-Some.ensures)
-    ∙ ap texts (sym items)
+    ∙ ap texts (sym items))
+    c.from_slice.ensures.items
 
 pub returns-in-None : goal.returns-in-None
 returns-in-None c =

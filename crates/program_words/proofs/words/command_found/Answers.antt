@@ -9,7 +9,7 @@ returns-in-Err c =
     let words = map string_bytes c.args.words.now in
     let faults = subst (λ (a : App). is_simple_and_free a ≡ true → HasKind (fault_of a words) c.in-Err.error)
     c.in_ok-parser.ensures.is_app c.in-Err.ensures.kinds in
-    record { called = tt; refused = refused words c.in-Err.error c.fault_of.result (faults refl) c.fault_of.ensures }
+    record { called = tt; refused = refused words c.in-Err.error c.fault_of-fault.result (faults refl) c.fault_of-fault.ensures }
 
 pub returns-in-Some : goal.returns-in-Some
 returns-in-Some c =
@@ -23,8 +23,8 @@ returns-in-Some c =
       refused = tt;
     }
 
-pub returns : goal.returns
-returns c =
+pub returns-in-None : goal.returns-in-None
+returns-in-None c =
     let words = map string_bytes c.args.words.now in
     let app = c.in_ok-parser.ensures.is_app in
     let lawful = subst (λ (a : App). is_simple_and_free a ≡ true → fault_of a words ≡ []) app c.in-Ok.ensures.kinds in

@@ -1,12 +1,10 @@
 use Rattle.std.proofs.Common.{◌≡◌, List, codes, refl}
 use Rattle.clap.specs.Words.{Row, found_of, rows_of}
 use Rattle.program_words.specs.Commands.{IsProve, Says, name_of}
-use Rattle.program_words.specs.Readings.{IsSaid}
 use Rattle.program_words.specs.declared.commands.Command.{Command}
 use Rattle.program_words.specs.declared.commands.Command.TheVariants as order
 use Rattle.program_words.specs.declared.commands.prove.Prove.{Prove}
 use Rattle.program_words.proofs.Named.{apart}
-use Rattle.program_words.proofs.Refusing.{refused_by}
 use Rattle.program_words.proofs.commands.prove.read.Goals as goal
 
 -- the commands of this name
@@ -15,8 +13,7 @@ named : (options : List Row) (command : Command) → codes "prove" ≡ name_of c
 named options (order.Prove c) same says = (c, says)
 named options other same says = absurd (apart (codes "prove") (codes "prove") (name_of other) refl same refl)
 
-pub returns-in-Err : goal.returns-in-Err
-returns-in-Err c =
+pub returns-in-None : goal.returns-in-None
+returns-in-None c =
     let options = rows_of (found_of c.args.found.now) in
-    refused_by (IsProve options) (IsSaid (codes "prove") options) c.in-Err.fault c.in-Err.ensures
-    (λ command said. named options command said.0 said.1)
+    λ command said. let of = named options command said.0 said.1 in c.in-None.ensures of.0 of.1
