@@ -174,7 +174,7 @@ fn with_commands<'a>(
 pub(crate) fn parser<'a>(alloc: Global) -> Result<clap::Command<'a>, AllocError>
     ensures { IfOk result (IsParserOf mirror_app) }
 {
-    // Beside one another, and in no constant: one of them all would cost the checker a minute.
+    // An array in the body, and no constant: at one of all fourteen the checker stops at its limit.
     let lines = [
         &root::LINE,
         &check::LINE,
