@@ -1,23 +1,19 @@
 //! A log of numbered entries.
-ghost use Rattle.std.specs.Prelude.{◌≡◌, [], ◌∷◌, codes, length, map, IfOk};
-ghost use Rattle.signed_note.specs.Reading.{MakesSecret};
+ghost use Rattle.std.specs.Prelude.{◌≡◌, length, map, IfOk};
 ghost use Rattle.mirror_model.specs.TrueLaws.{AreShort};
 
-use crate::clock::{now, since};
+use crate::clock::now;
 use mirror_sources::ListSource;
 use signed_note::{HmacKey, KeyFault};
 use std::alloc::{AllocError, Global};
 use std::time::CpuClock;
 use tlog_hash::{Hash, TreeHash, tree_hash};
-use tlog_mirror::{Mirror, NewFault};
 
 /// The origin of the log.
 pub(crate) const ORIGIN: &str = "bench";
 
 /// The key that the log signs with: of its origin's name, id 1, the secret `00`.
-pub(crate) fn key(alloc: Global) -> Result<HmacKey, KeyFault>
-    ensures { MakesSecret (codes "bench") 1 (0 ∷ []) result }
-{
+pub(crate) fn key(alloc: Global) -> Result<HmacKey, KeyFault> {
     HmacKey::new(alloc, ORIGIN, 1, &[0])
 }
 
@@ -43,23 +39,18 @@ pub(crate) fn entries_of(alloc: Global, count: u32) -> Result<Vec<Vec<u8>>, Allo
     Ok(entries)
 }
 
-/// The tree hash of the entries, and the time that it took.
+/// The time that hashing the tree of the entries takes, and its hash.
 pub(crate) fn hash_tree<H: TreeHash, R: AllocGlobal + CpuClock>(
     rt: &R,
     entries: &[Vec<u8>],
-) -> anyhow::Result<(u128, Hash)> {
+) -> Result<(u128, Hash), AllocError> {
     let mut lent: Vec<&[u8]> = Vec::new(rt.alloc());
     for entry in entries {
         lent.push(entry.as_slice())?;
     }
-    let start = now(rt)?;
+    let start = now(rt);
     let root = tree_hash::<H>(lent.as_slice());
-    Ok((since(rt, start)?, root))
-}
-
-/// A mirror that holds nothing.
-pub(crate) fn empty<H: TreeHash>(alloc: Global) -> Result<Mirror<H>, NewFault> {
-    Mirror::new(alloc, ORIGIN)
+    Ok((now(rt).saturating_sub(start), root))
 }
 
 /// A source over the entries.

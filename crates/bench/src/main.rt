@@ -13,70 +13,90 @@ mod list;
 mod pulls;
 mod served;
 
+use crate::list::{ORIGIN, key};
+use signed_note::Verifier;
 use std::env;
 use std::rt::Files;
 use std::time::CpuClock;
 use tlog_hash::{Sha256Tree, TreeHash};
 use tlog_mirror::Mirror;
 
-// The count, where no argument says it.
-const DEFAULT_COUNT: u32 = 1000;
+// How many entries the log grows by.
+const GROWTH: u32 = 256;
 
 fn main(rt: HostRuntime) -> anyhow::Result<()> {
-    let mut words = env::args(&rt)?.skip(1);
+    let mut words = env::args(&rt)?;
+    let _name = words.next();
     let subject = words.next();
-    let count = match words.next() {
-        Some(word) => word.as_str().parse::<u32>()?,
-        None => DEFAULT_COUNT,
-    };
-    let subject = match &subject {
-        Some(word) => word.as_str(),
-        None => "all",
-    };
-    measure::<Sha256Tree, HostRuntime>(&rt, subject, count)
+    let count = words.next();
+    drop(words);
+    measure::<Sha256Tree, HostRuntime>(
+        &rt,
+        subject.as_deref().unwrap_or("all"),
+        count.as_deref().unwrap_or("1000"),
+    )
 }
 
-// Measures a subject, or all of them.
+// Measures a subject of a log of so many entries, or all of them.
 fn measure<H: TreeHash, R: AllocGlobal + CpuClock + Files + Print + Eprint>(
     rt: &R,
     subject: &str,
-    count: u32,
+    count: &str,
 ) -> anyhow::Result<()> {
-    if subject != "all" {
-        return measure_one::<H, R>(rt, subject, count);
-    }
-    measure_one::<H, R>(rt, "pulls", count)?;
-    measure_one::<H, R>(rt, "served", count)?;
-    measure_one::<H, R>(rt, "files", count)
-}
-
-// Measures a subject, from an empty mirror on.
-fn measure_one<H: TreeHash, R: AllocGlobal + CpuClock + Files + Print + Eprint>(
-    rt: &R,
-    subject: &str,
-    count: u32,
-) -> anyhow::Result<()> {
-    let mut mirror = list::empty::<H>(rt.alloc())?;
-    let answer = measure_mirror(rt, &mut mirror, subject, count);
+    let count = count.parse::<u32>()?;
+    let mut mirror = Mirror::<H>::new(rt.alloc(), ORIGIN)?;
+    let answer = measure_keyed(rt, &mut mirror, subject, count);
     drop(mirror);
     answer
 }
 
-// Measures a subject of which an empty mirror is a part.
-fn measure_mirror<H: TreeHash, R: AllocGlobal + CpuClock + Files + Print + Eprint>(
+// The same of an empty mirror, under the key that the log signs with.
+fn measure_keyed<H: TreeHash, R: AllocGlobal + CpuClock + Files + Print + Eprint>(
     rt: &R,
     mirror: &mut Mirror<H>,
     subject: &str,
     count: u32,
 ) -> anyhow::Result<()> {
-    if subject == "pulls" {
-        return pulls::measure_pulls(rt, mirror, count);
+    let mut keys: Vec<Box<dyn Verifier>> = Vec::new(rt.alloc());
+    keys.push(Box::new(rt.alloc(), key(rt.alloc())?)?)?;
+    let answer = measure_mirror(rt, mirror, keys.as_slice(), subject, count);
+    drop(keys);
+    answer
+}
+
+// Lets an empty mirror pull the log, and measures the subject by it, or each of them.
+fn measure_mirror<H: TreeHash, R: AllocGlobal + CpuClock + Files + Print + Eprint>(
+    rt: &R,
+    mirror: &mut Mirror<H>,
+    keys: &[Box<dyn Verifier>],
+    subject: &str,
+    count: u32,
+) -> anyhow::Result<()> {
+    let times = pulls::measure_pull(rt, mirror, keys, count)?;
+    if subject != "all" {
+        return measure_one(rt, mirror, keys, subject, count, times);
     }
-    if subject == "served" {
-        return served::measure_served(rt, mirror, count);
+    measure_one(rt, mirror, keys, "files", count, times)?;
+    measure_one(rt, mirror, keys, "served", count, times)?;
+    measure_one(rt, mirror, keys, "pulls", count, times)
+}
+
+// Measures a subject, where a tree's hashing and a walk through it take these times.
+fn measure_one<H: TreeHash, R: AllocGlobal + CpuClock + Files + Print + Eprint>(
+    rt: &R,
+    mirror: &mut Mirror<H>,
+    keys: &[Box<dyn Verifier>],
+    subject: &str,
+    count: u32,
+    (hashing, walking): (u128, u128),
+) -> anyhow::Result<()> {
+    match subject {
+        "files" => files::measure_files(rt, mirror, keys, hashing),
+        "served" => served::measure_served(rt, mirror, count, walking),
+        "pulls" => {
+            let _times = pulls::measure_pull(rt, mirror, keys, count.saturating_add(GROWTH))?;
+            Ok(())
+        }
+        _ => Ok(()),
     }
-    if subject == "files" {
-        return files::measure_files(rt, mirror, count);
-    }
-    Ok(())
 }

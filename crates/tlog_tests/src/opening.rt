@@ -5,9 +5,10 @@ ghost use Rattle.std.specs.Str.{bytes_eq};
 
 use crate::keys::{key_of, note_of};
 use signed_note::{
-    KeyFileFault, KeyLine, Note, OpenFault, PinnedTexts, Verifier, join_pins, open_note, read_keys,
+    KeyFileFault, KeyLine, OpenFault, PinnedTexts, Verifier, join_pins, open_note, read_keys,
 };
 use std::alloc::Global;
+use std::process::Abort;
 use std::test::Fail;
 
 // A key of the caller's own, which accepts the signature 05.
@@ -30,9 +31,18 @@ impl Verifier for Five {
     }
 }
 
-// Whether the note opens under the keys: the tests need no clause of it.
-fn answer(note: &Note, keys: &[Box<dyn Verifier>]) -> Result<(), OpenFault> {
-    open_note(note, keys)
+// Why the note of that text and these signature lines does not open under the keys, if so.
+fn fault_of(
+    rt: &impl Abort,
+    alloc: Global,
+    keys: &[Box<dyn Verifier>],
+    text: &str,
+    lines: &str,
+) -> Result<Option<OpenFault>, Fail> {
+    let note = format!(in alloc; "{text}\n{lines}")?;
+    let read = note_of(alloc, note.as_bytes())?;
+    assert!(rt; read.text() == text);
+    Ok(open_note(&read, keys).err())
 }
 
 // The text, an empty line and these signature lines: which of them open under a pin of no text, the key of RFC 4231's
@@ -72,15 +82,13 @@ fn keys(alloc: Global) -> Result<Vec<Box<dyn Verifier>>, Fail> {
 fn note_opens(rt: HostRuntime) -> Result<(), Fail> {
     let keys = keys(rt.alloc())?;
     for &(lines, opens) in &OPENS {
-        let note = format!(in rt.alloc(); "x\n\n\ny\n\n{lines}")?;
-        let read = note_of(rt.alloc(), note.as_bytes())?;
-        assert!(rt; read.text() == "x\n\n\ny\n");
-        let fault = if opens {
+        let fault = fault_of(&rt, rt.alloc(), &keys, "x\n\n\ny\n", lines)?;
+        let want = if opens {
             None
         } else {
             Some(OpenFault::NoTrustedSignature)
         };
-        assert!(rt; answer(&read, &keys).err() == fault, "{note}");
+        assert!(rt; fault == want, "{lines}");
     }
     Ok(())
 }
@@ -89,16 +97,16 @@ fn note_opens(rt: HostRuntime) -> Result<(), Fail> {
 const PINS: &[u8] =
     b"pin ex 00000001 87428fc522803d31065e7bce3cf03fe475096631e5e07bbd7a0fde60c4cf25c7\npin other 00000001 0263829989b6fd954f72baaf2fc64bc2e2f01d692d4de72986ea808f6e99813f\nhmac ex 00000001 4a656665\npin ex 00000001 a3a5e715f0cc574a73c3f9bebb6bc24f32ffd5b67b387244c2c909da779a1478\npin ex 00000002 8d74beec1be996322ad76813bafb92d40839895d6dd7ee808b17ca201eac98be\npin ex 00000001 a2bbdb2de53523b8099b37013f251546f3d65dbe7a0774fa41af0a4176992fd4\n";
 
-// Texts, the name and the id of a line, and whether a note of them opens under these keys.
+// Texts, a signature line, and whether a note of them opens under these keys.
 const PINNED: [(&str, &str, bool); 8] = [
-    ("a\n", "ex AAAAAQU=", true),
-    ("c\n", "ex AAAAAQU=", true),
-    ("e\n", "ex AAAAAQU=", true),
-    ("b\n", "ex AAAAAQU=", false),
-    ("b\n", "other AAAAAQU=", true),
-    ("a\n", "other AAAAAQU=", false),
-    ("d\n", "ex AAAAAgU=", true),
-    ("a\n", "ex AAAAAgU=", false),
+    ("a\n", "\u{2014} ex AAAAAQU=\n", true),
+    ("c\n", "\u{2014} ex AAAAAQU=\n", true),
+    ("e\n", "\u{2014} ex AAAAAQU=\n", true),
+    ("b\n", "\u{2014} ex AAAAAQU=\n", false),
+    ("b\n", "\u{2014} other AAAAAQU=\n", true),
+    ("a\n", "\u{2014} other AAAAAQU=\n", false),
+    ("d\n", "\u{2014} ex AAAAAgU=\n", true),
+    ("a\n", "\u{2014} ex AAAAAgU=\n", false),
 ];
 
 fn boxed(alloc: Global, lines: Vec<KeyLine>) -> Result<Vec<Box<dyn Verifier>>, Fail> {
@@ -127,10 +135,10 @@ fn joined_pins_open_as_their_lines_do(rt: HostRuntime) -> Result<(), Fail> {
     let joined = boxed(rt.alloc(), joined)?;
     let apart = boxed(rt.alloc(), lines_of(rt.alloc())?)?;
     for &(text, line, opens) in &PINNED {
-        let note = format!(in rt.alloc(); "{text}\n\u{2014} {line}\n")?;
-        let read = note_of(rt.alloc(), note.as_bytes())?;
-        assert!(rt; answer(&read, &joined).is_ok() == opens, "{note}");
-        assert!(rt; answer(&read, &apart).is_ok() == opens, "{note}");
+        let fault = fault_of(&rt, rt.alloc(), &joined, text, line)?;
+        assert!(rt; fault.is_none() == opens, "{text}{line}");
+        let fault = fault_of(&rt, rt.alloc(), &apart, text, line)?;
+        assert!(rt; fault.is_none() == opens, "{text}{line}");
     }
     Ok(())
 }

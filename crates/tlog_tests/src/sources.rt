@@ -85,16 +85,15 @@ const OUTSIDE: [Path; 11] = [
 #[test]
 fn paths_outside_the_list(rt: HostRuntime) -> Result<(), Fail> {
     let mut source = list::<Sha256Tree>(rt.alloc())?;
-    let answer = assert_outside(&rt, &mut source);
+    assert_outside(&rt, &mut source);
     drop(source);
-    answer
+    Ok(())
 }
 
-fn assert_outside<H: TreeHash>(rt: &impl Abort, source: &mut ListSource<H>) -> Result<(), Fail> {
+fn assert_outside<H: TreeHash>(rt: &impl Abort, source: &mut ListSource<H>) {
     for path in &OUTSIDE {
-        assert!(rt; file(source, *path)? == None, "{path}");
+        assert!(rt; matches!(file(source, *path), Ok(None)), "{path}");
     }
     assert!(rt; source.asked() == OUTSIDE.as_slice());
     assert!(rt; source.failures() == 0);
-    Ok(())
 }

@@ -58,77 +58,76 @@ impl Write for Narrow {
     }
 }
 
-// What is written for these pieces, and whether it is answered.
-fn assert_answers<H: TreeHash>(
-    rt: &impl Abort,
-    alloc: Global,
-    mirror: &Mirror<H>,
-    mut reader: Pieces,
-    want: Result<(), HttpFault>,
-    written: &[u8],
-) {
-    let mut reply = Vec::new(alloc);
-    assert!(rt; answered(alloc, mirror, &mut reader, &mut reply) == want);
-    assert!(rt; reply.as_slice() == written);
+// What a reader gives, at most how many bytes a read, after how many interruptions, and whether it fails then; whether it is
+// answered, and what is written.
+type Row = (
+    &'static [u8],
+    usize,
+    usize,
+    bool,
+    Result<(), HttpFault>,
+    &'static [u8],
+);
+
+const ONE_BYTE: [Row; 1] = [(BUNDLE_REQUEST, 1, 3, false, Ok(()), BUNDLE_REPLY)];
+
+const AT_HEAD: [Row; 3] = [
+    (BUNDLE_REQUEST, 1, 0, true, Ok(()), BUNDLE_REPLY),
+    (BUNDLE_REQUEST, 7, 0, true, Ok(()), BUNDLE_REPLY),
+    (BUNDLE_REQUEST, 10_000, 0, true, Ok(()), BUNDLE_REPLY),
+];
+
+// The first 0, 1 and 20 bytes of that request.
+const NO_HEAD: [Row; 3] = [
+    (b"", 1, 0, true, Err(HttpFault::ReadFault), b""),
+    (b"G", 1, 0, true, Err(HttpFault::ReadFault), b""),
+    (
+        b"GET /tile/entries/00",
+        1,
+        0,
+        true,
+        Err(HttpFault::ReadFault),
+        b"",
+    ),
+];
+
+// What is written for each of these readers, and whether it is answered.
+fn answers_readers<H: TreeHash>(rt: &impl Abort, alloc: Global, mirror: &Mirror<H>, rows: &[Row]) {
+    for &(rest, most, interruptions, fails, want, written) in rows {
+        let mut reader = Pieces {
+            rest,
+            most,
+            interruptions,
+            fails,
+        };
+        let mut reply = Vec::new(alloc);
+        assert!(rt; answered(alloc, mirror, &mut reader, &mut reply) == want);
+        assert!(rt; reply.as_slice() == written);
+    }
 }
 
 #[test]
 fn one_byte_reads(rt: HostRuntime) -> Result<(), Fail> {
     let mirror = mirror_of_3::<Sha256Tree>(rt.alloc())?;
-    answers_bytes(&rt, rt.alloc(), &mirror);
+    answers_readers(&rt, rt.alloc(), &mirror, &ONE_BYTE);
     drop(mirror);
     Ok(())
-}
-
-fn answers_bytes<H: TreeHash>(rt: &impl Abort, alloc: Global, mirror: &Mirror<H>) {
-    let reader = Pieces {
-        rest: BUNDLE_REQUEST,
-        most: 1,
-        interruptions: 3,
-        fails: false,
-    };
-    assert_answers(rt, alloc, mirror, reader, Ok(()), BUNDLE_REPLY);
 }
 
 #[test]
 fn no_read_after_head(rt: HostRuntime) -> Result<(), Fail> {
     let mirror = mirror_of_3::<Sha256Tree>(rt.alloc())?;
-    answers_at_head(&rt, rt.alloc(), &mirror);
+    answers_readers(&rt, rt.alloc(), &mirror, &AT_HEAD);
     drop(mirror);
     Ok(())
-}
-
-fn answers_at_head<H: TreeHash>(rt: &impl Abort, alloc: Global, mirror: &Mirror<H>) {
-    for most in [1, 7, 10_000] {
-        let reader = Pieces {
-            rest: BUNDLE_REQUEST,
-            most,
-            interruptions: 0,
-            fails: true,
-        };
-        assert_answers(rt, alloc, mirror, reader, Ok(()), BUNDLE_REPLY);
-    }
 }
 
 #[test]
 fn endless_reader(rt: HostRuntime) -> Result<(), Fail> {
     let mirror = mirror_of_3::<Sha256Tree>(rt.alloc())?;
-    answers_no_cut(&rt, rt.alloc(), &mirror);
+    answers_readers(&rt, rt.alloc(), &mirror, &NO_HEAD);
     drop(mirror);
     Ok(())
-}
-
-fn answers_no_cut<H: TreeHash>(rt: &impl Abort, alloc: Global, mirror: &Mirror<H>) {
-    for len in [0, 1, 20] {
-        let reader = Pieces {
-            rest: &BUNDLE_REQUEST[..len],
-            most: 1,
-            interruptions: 0,
-            fails: true,
-        };
-        let fault = Err(HttpFault::ReadFault);
-        assert_answers(rt, alloc, mirror, reader, fault, b"");
-    }
 }
 
 #[test]

@@ -241,20 +241,20 @@ fn bytes_within_a_deadline(rt: HostRuntime) -> Result<(), Fail> {
     let minute = Duration::from_secs(60);
     let mut client = TimedStream::new(client, rt, minute)?;
     let mut server = TimedStream::new(&server, rt, minute)?;
-    assert_passes(&rt, rt.alloc(), &mut client, &mut server, b"abc")?;
-    assert_passes(&rt, rt.alloc(), &mut server, &mut client, b"de")
+    assert!(rt; passes(rt.alloc(), &mut client, &mut server, b"abc"));
+    assert!(rt; passes(rt.alloc(), &mut server, &mut client, b"de"));
+    drop(client);
+    drop(server);
+    Ok(())
 }
 
-// What is written at one end is read at the other.
-fn assert_passes<W: Write, R: Read>(
-    rt: &impl Abort,
-    alloc: Global,
-    writer: &mut W,
-    reader: &mut R,
-    bytes: &[u8],
-) -> Result<(), Fail> {
-    write_whole(writer, bytes)?;
-    let read = read_all(alloc, reader, bytes.len(), u64::MAX)?;
-    assert!(rt; read.as_slice() == bytes);
-    Ok(())
+// Whether what is written at one end is read at the other.
+fn passes<W: Write, R: Read>(alloc: Global, writer: &mut W, reader: &mut R, bytes: &[u8]) -> bool {
+    if write_whole(writer, bytes).is_err() {
+        return false;
+    }
+    match read_all(alloc, reader, bytes.len(), u64::MAX) {
+        Ok(read) => read.as_slice() == bytes,
+        Err(_) => false,
+    }
 }

@@ -2,10 +2,9 @@ use Rattle.std.proofs.Common.{◌≤◌, ℕ, [], ◌∷◌, refl, lit<, lit≤}
 use lib.Utf8.{encode}
 use Rattle.std.proofs.lemmas.List.Elements.{All-nil, All-cons}
 use Rattle.mirror_model.specs.Origin.{IsOrigin}
-use Rattle.bench.proofs.files.load_under.Goals as goal
 
 -- `bench` is an origin
-bench_is_origin : IsOrigin (98 ∷ 101 ∷ 110 ∷ 99 ∷ 104 ∷ [])
+pub bench_is_origin : IsOrigin (98 ∷ 101 ∷ 110 ∷ 99 ∷ 104 ∷ [])
 unfolding encode
 bench_is_origin = record {
   utf8 = (98 ∷ 101 ∷ 110 ∷ 99 ∷ 104 ∷ [], (refl, refl));
@@ -17,6 +16,3 @@ bench_is_origin = record {
       (All-cons P 110 (99 ∷ 104 ∷ []) (lit≤ tt)
       (All-cons P 99 (104 ∷ []) (lit≤ tt) (All-cons P 104 [] (lit≤ tt) (All-nil P)))));
 }
-
-pub load-requires : goal.load-requires
-load-requires c _ = bench_is_origin
