@@ -1,0 +1,100 @@
+//! A look at a log, and the use of the library in one small program: it mirrors folders of one log in memory, one after the
+//! other, and prints what each pull came to, then the heads and what is served, then the forks.
+//!
+//! ```text
+//! look example.com/log examples/log.keys examples/log      # an origin, a key file, and folders
+//! ```
+//!
+//! It ends with status 0; with 1 at a fault, which is on standard error; with 2 where there are fewer words; and with 3 where
+//! nothing is served, or there is a fork.
+#![tactic(auto)]
+
+use byte_streams::write_whole;
+use mirror_folders::DirSource;
+use mirror_pull::pull;
+use program_reports::{Question, print_report, pulled_text};
+use signed_note::{KeyLine, Verifier, join_pins, read_keys};
+use std::alloc::Global;
+use std::io::Write;
+use std::process::ExitCode;
+use std::rt::Files;
+use std::{env, fs};
+use tlog_hash::{Sha256Tree, TreeHash};
+use tlog_mirror::Mirror;
+
+fn main(rt: HostRuntime) -> anyhow::Result<ExitCode> {
+    let words: Vec<String> = env::args(&rt)?.skip(1).collect(rt.alloc())?;
+    if words.len() < 3 {
+        eprintln!(&rt; "usage: look ORIGIN KEYS FOLDER..")?;
+        return Ok(ExitCode::from(2));
+    }
+    let lines = read_keys(rt.alloc(), &fs::read(&rt, words[1].as_str())?)?;
+    let mut output = rt.stdout();
+    let status = look::<Sha256Tree, HostRuntime, _>(
+        &rt,
+        &words[0],
+        lines,
+        &words[2..],
+        &mut output,
+    )?;
+    Ok(ExitCode::from(status))
+}
+
+// Looks at the folders under the keys of a key file. Pins of one name and id are one key.
+fn look<H: TreeHash, R: AllocGlobal + Files, W: Write>(
+    rt: &R,
+    origin: &str,
+    lines: Vec<KeyLine>,
+    folders: &[String],
+    output: &mut W,
+) -> anyhow::Result<u8> {
+    let alloc = rt.alloc();
+    let mut keys: Vec<Box<dyn Verifier>> = Vec::new(alloc);
+    for line in join_pins(alloc, lines)? {
+        match line {
+            KeyLine::Hmac(key) => keys.push(Box::new(alloc, key)?)?,
+            KeyLine::Pin(texts) => keys.push(Box::new(alloc, texts)?)?,
+        }
+    }
+    look_under::<H, R, W>(rt, origin, &keys, folders, output)
+}
+
+// Pulls from each folder into a new mirror, and prints what came of it.
+fn look_under<H: TreeHash, R: AllocGlobal + Files, W: Write>(
+    rt: &R,
+    origin: &str,
+    keys: &[Box<dyn Verifier>],
+    folders: &[String],
+    output: &mut W,
+) -> anyhow::Result<u8> {
+    let mut mirror = Mirror::<H>::new(rt.alloc(), origin)?;
+    for folder in folders {
+        pull_folder(rt, &mut mirror, keys, folder, output)?;
+    }
+    report(rt.alloc(), &mut mirror, output)
+}
+
+// Pulls what the mirror lacks from a folder, and prints what that came to.
+fn pull_folder<H: TreeHash, R: AllocGlobal + Files, W: Write>(
+    rt: &R,
+    mirror: &mut Mirror<H>,
+    keys: &[Box<dyn Verifier>],
+    folder: &str,
+    output: &mut W,
+) -> anyhow::Result<()> {
+    let alloc = rt.alloc();
+    let pulled = pull(alloc, mirror, keys, &mut DirSource::new(rt, alloc, folder))?;
+    write_whole(output, pulled_text(alloc, &pulled)?.as_bytes())?;
+    Ok(())
+}
+
+// Prints the heads and what is served, then the forks. The status is 3 where nothing is served, or there is a fork.
+fn report<H: TreeHash, W: Write>(
+    alloc: Global,
+    mirror: &mut Mirror<H>,
+    output: &mut W,
+) -> anyhow::Result<u8> {
+    let served = print_report(alloc, mirror, &Question::Status, output)?;
+    let forks = print_report(alloc, mirror, &Question::Forks, output)?;
+    Ok(served.max(forks))
+}
