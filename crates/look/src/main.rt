@@ -5,8 +5,8 @@
 //! look example.com/log examples/log.keys examples/log      # an origin, a key file, and folders
 //! ```
 //!
-//! It ends with status 0; with 1 at a fault, which is on standard error; with 2 where there are fewer words; and with 3 where
-//! nothing is served, or there is a fork.
+//! It ends with status 0; with 1 at a fault, which is on standard error below the file or folder that it is about; with 2 where
+//! there are fewer words; and with 3 where nothing is served, or there is a fork.
 #![tactic(auto)]
 
 use byte_streams::write_whole;
@@ -28,7 +28,8 @@ fn main(rt: HostRuntime) -> anyhow::Result<ExitCode> {
         eprintln!(&rt; "usage: look ORIGIN KEYS FOLDER..")?;
         return Ok(ExitCode::from(2));
     }
-    let lines = read_keys(rt.alloc(), &fs::read(&rt, words[1].as_str())?)?;
+    let bytes = told(&rt, &words[1], fs::read(&rt, words[1].as_str()))?;
+    let lines = told(&rt, &words[1], read_keys(rt.alloc(), &bytes))?;
     let mut output = rt.stdout();
     let status = look::<Sha256Tree, HostRuntime, _>(
         &rt,
@@ -40,8 +41,16 @@ fn main(rt: HostRuntime) -> anyhow::Result<ExitCode> {
     Ok(ExitCode::from(status))
 }
 
+// The answer; where it is a fault, the name of the file or folder is written to standard error first.
+fn told<T, E>(rt: &impl Eprint, name: &str, answer: Result<T, E>) -> Result<T, E> {
+    if answer.is_err() {
+        let _ = eprintln!(rt; "look: {name}");
+    }
+    answer
+}
+
 // Looks at the folders under the keys of a key file. Pins of one name and id are one key.
-fn look<H: TreeHash, R: AllocGlobal + Files, W: Write>(
+fn look<H: TreeHash, R: AllocGlobal + Files + Eprint, W: Write>(
     rt: &R,
     origin: &str,
     lines: Vec<KeyLine>,
@@ -60,7 +69,7 @@ fn look<H: TreeHash, R: AllocGlobal + Files, W: Write>(
 }
 
 // Pulls from each folder into a new mirror, and prints what came of it.
-fn look_under<H: TreeHash, R: AllocGlobal + Files, W: Write>(
+fn look_under<H: TreeHash, R: AllocGlobal + Files + Eprint, W: Write>(
     rt: &R,
     origin: &str,
     keys: &[Box<dyn Verifier>],
@@ -69,7 +78,8 @@ fn look_under<H: TreeHash, R: AllocGlobal + Files, W: Write>(
 ) -> anyhow::Result<u8> {
     let mut mirror = Mirror::<H>::new(rt.alloc(), origin)?;
     for folder in folders {
-        pull_folder(rt, &mut mirror, keys, folder, output)?;
+        let pulled = pull_folder(rt, &mut mirror, keys, folder, output);
+        told(rt, folder, pulled)?;
     }
     report(rt.alloc(), &mut mirror, output)
 }
