@@ -1,5 +1,5 @@
 //! Loading a mirror from its state.
-ghost use Rattle.std.specs.Prelude.{◌≡◌, ◌↔◌, ◌<◌, ◌∷◌, ◌++◌, ℕ, List, length, map, All, IfOk, IfSome, IsTrue, OnOk};
+ghost use Rattle.std.specs.Prelude.{◌≡◌, ◌≢◌, ◌↔◌, ◌<◌, ◌∷◌, ◌++◌, ℕ, List, Err, length, map, All, IfOk, IfSome, IsTrue, OnOk};
 ghost use Rattle.std.specs.FinSet as set;
 ghost use Rattle.mirror_model.specs.Origin.{IsOrigin};
 ghost use Rattle.node_store.specs.Strings.{Clashes, NoClash};
@@ -96,6 +96,7 @@ pub fn load_bytes<H: TreeHash>(
     ensures loads { Loads H.digest origin.now (map (λ k. key k) keys.now) bytes.now
         (seen (λ mirror. mirror.view) result) }
     ensures remembered { IfOk result (λ mirror. mirror.remembered ≡ set.empty) }
+    ensures fault { result ≢ Err LoadFault.ReadFault }
 {
     let lists = checked_lists(alloc, origin.as_bytes(), bytes)?;
     let loaded = load_lists(alloc, origin, keys, &lists);
@@ -115,6 +116,7 @@ fn load_lists<H: TreeHash>(
         → Loads H.digest origin.now (map (λ k. key k) keys.now) bytes
         (seen (λ mirror. mirror.view) result) }
     ensures remembered { IfOk result (λ mirror. mirror.remembered ≡ set.empty) }
+    ensures fault { result ≢ Err LoadFault.ReadFault }
 {
     check_all::<H>(alloc, origin, keys, lists.notes())?;
     let mut mirror = match mirror_of::<H>(alloc, origin, lists) {

@@ -84,6 +84,7 @@ pub fn print_comparison<H: TreeHash, W: Write>(
         (option_map (λ given. given.now) heads.entry) (W.contents output.old)
         (W.contents output.new) result }
     ensures status { IfOk result (λ status. (status ≡ 0) ⊎ (status ≡ 3)) }
+    ensures kept { mirror.new.view ≡ mirror.old.view }
     ensures quiet { IfErr result (λ e. e ≢ AskFault.WriteFault → Keeps (W.contents output.old)
         (W.contents output.new)) }
 {
@@ -103,8 +104,9 @@ fn noted_comparison<H: TreeHash>(
     mirror: &mut Mirror<H>,
     heads: Option<&[(u64, Hash)]>,
 ) -> Result<Report, ReportFault>
-    ensures { ReportsComparison H.digest mirror.old.view
+    ensures tells { ReportsComparison H.digest mirror.old.view
         (option_map (λ given. given.now) heads.entry) result }
+    ensures kept { mirror.new.view ≡ mirror.old.view }
 {
     match mirror.note_heads(alloc) {
         Ok(()) => compare_report(alloc, mirror, heads),

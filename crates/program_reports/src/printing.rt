@@ -46,6 +46,7 @@ pub fn print_report<H: TreeHash, W: Write>(
     ensures answer { AnswersQuestion H.digest question.now mirror.old.view (W.contents output.old)
         (W.contents output.new) result }
     ensures status { IfOk result (λ status. (status ≡ 0) ⊎ (status ≡ 3)) }
+    ensures kept { mirror.new.view ≡ mirror.old.view }
     ensures quiet { IfErr result (λ e. e ≢ AskFault.WriteFault → Keeps (W.contents output.old)
         (W.contents output.new)) }
 {

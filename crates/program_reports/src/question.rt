@@ -1,5 +1,5 @@
 //! What may be asked of a state, and the report that answers it.
-ghost use Rattle.std.specs.Prelude.{IfOk};
+ghost use Rattle.std.specs.Prelude.{◌≡◌, IfOk};
 ghost use Rattle.program_reports.specs.Reports.{ReportsProof, TellsForks, TellsStatus};
 ghost use Rattle.program_reports.specs.Questions.{ReportsOn};
 
@@ -31,7 +31,8 @@ pub enum Question {
 // The report on heads and on what is served, of a mirror that notes first what is held of each head: so no tree is walked
 // twice.
 fn noted_status<H: TreeHash>(alloc: Global, mirror: &mut Mirror<H>) -> Result<Report, AllocError>
-    ensures { IfOk result (λ report. TellsStatus H.digest mirror.old.view report) }
+    ensures tells { IfOk result (λ report. TellsStatus H.digest mirror.old.view report) }
+    ensures kept { mirror.new.view ≡ mirror.old.view }
 {
     mirror.note_heads(alloc)?;
     status_report(alloc, mirror)
@@ -39,7 +40,8 @@ fn noted_status<H: TreeHash>(alloc: Global, mirror: &mut Mirror<H>) -> Result<Re
 
 // The report on forks, likewise.
 fn noted_forks<H: TreeHash>(alloc: Global, mirror: &mut Mirror<H>) -> Result<Report, AllocError>
-    ensures { IfOk result (λ report. TellsForks H.digest mirror.old.view report) }
+    ensures tells { IfOk result (λ report. TellsForks H.digest mirror.old.view report) }
+    ensures kept { mirror.new.view ≡ mirror.old.view }
 {
     mirror.note_heads(alloc)?;
     forks_report(alloc, mirror)
@@ -51,7 +53,8 @@ fn noted_proof<H: TreeHash>(
     mirror: &mut Mirror<H>,
     ask: Ask,
 ) -> Result<Report, ReportFault>
-    ensures { ReportsProof H.digest mirror.old.view ask result }
+    ensures tells { ReportsProof H.digest mirror.old.view ask result }
+    ensures kept { mirror.new.view ≡ mirror.old.view }
 {
     match mirror.note_heads(alloc) {
         Ok(()) => proof_report(alloc, mirror, ask),
@@ -65,7 +68,8 @@ pub(crate) fn report_on<H: TreeHash>(
     mirror: &mut Mirror<H>,
     question: &Question,
 ) -> Result<Report, ReportFault>
-    ensures { ReportsOn H.digest question.now mirror.old.view result }
+    ensures tells { ReportsOn H.digest question.now mirror.old.view result }
+    ensures kept { mirror.new.view ≡ mirror.old.view }
 {
     match question {
         Question::Status => Ok(noted_status(alloc, mirror)?),

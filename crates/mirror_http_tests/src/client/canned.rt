@@ -14,10 +14,14 @@ pub(crate) struct Canned {
     at: usize,
     most: usize,
     ends: bool,
+    hears: bool,
 }
 
 impl Write for Canned {
     fn write(&mut self, buf: &[u8]) -> io::Result<usize> {
+        if !self.hears {
+            return Err(io::Error::from(ErrorKind::BrokenPipe));
+        }
         Ok(buf.len())
     }
 
@@ -49,6 +53,7 @@ pub(crate) struct CannedDial {
     most: usize,
     ends: bool,
     works: bool,
+    hears: bool,
 }
 
 impl Dial for CannedDial {
@@ -63,6 +68,7 @@ impl Dial for CannedDial {
             at: 0,
             most: self.most,
             ends: self.ends,
+            hears: self.hears,
         })
     }
 }
@@ -76,11 +82,32 @@ pub(crate) fn source_over(
     works: bool,
 ) -> Result<HttpSource<CannedDial>, Fail> {
     let reply = Rc::new(alloc, Vec::from_slice(alloc, reply.as_bytes())?)?;
+    over(alloc, reply, most, ends, works, true)
+}
+
+// A source over connections to which no byte can be written.
+pub(crate) fn source_that_is_deaf(
+    alloc: Global,
+    reply: &str,
+) -> Result<HttpSource<CannedDial>, Fail> {
+    let reply = Rc::new(alloc, Vec::from_slice(alloc, reply.as_bytes())?)?;
+    over(alloc, reply, usize::MAX, true, true, false)
+}
+
+fn over(
+    alloc: Global,
+    reply: Rc<Vec<u8>>,
+    most: usize,
+    ends: bool,
+    works: bool,
+    hears: bool,
+) -> Result<HttpSource<CannedDial>, Fail> {
     let dial = CannedDial {
         reply,
         most,
         ends,
         works,
+        hears,
     };
     let site = Site::new(alloc, "log.example", "/2026")?;
     Ok(HttpSource::new(alloc, site, dial))

@@ -1,5 +1,5 @@
 //! A source over connections that give one reply.
-use crate::client::canned::{CannedDial, source_over};
+use crate::client::canned::{CannedDial, source_over, source_that_is_deaf};
 use crate::given::push_times;
 use mirror_http::HttpSource;
 use mirror_sources::{Source, SourceFault};
@@ -45,6 +45,16 @@ fn a_dial_that_fails_is_counted(rt: HostRuntime) -> Result<(), Fail> {
         assert!(rt; matches!(answer, Err(SourceFault::Failed)));
     }
     assert!(rt; source.failures() == 2);
+    Ok(())
+}
+
+// A request that cannot be sent is a failure, and no file that is not there, though a reply could be read.
+#[test]
+fn a_request_that_is_not_sent_is_counted(rt: HostRuntime) -> Result<(), Fail> {
+    let mut source = source_that_is_deaf(rt.alloc(), "HTTP/1.1 404 Not Found\r\n\r\n")?;
+    let answer = source.get(&Path::Checkpoint);
+    assert!(rt; matches!(answer, Err(SourceFault::Failed)));
+    assert!(rt; source.failures() == 1);
     Ok(())
 }
 
