@@ -38,7 +38,7 @@ pub use fault::{KeyFault, KeyFileFault, NoteFault, OpenFault};
 pub use gathering::join_pins;
 pub use key_file::read_keys;
 pub use key_line::KeyLine;
-pub use laws::{notes_law, one_answer_law, one_key_answer_law};
+pub use laws::{limits_law, notes_law, one_answer_law, one_key_answer_law};
 pub use line::SignatureLine;
 pub use mac_key::HmacKey;
 pub use note::Note;

@@ -8,7 +8,7 @@ use Rattle.tlog_checkpoint.specs.declared.Checkpoint.{Checkpoint}
 use Rattle.tlog_checkpoint.specs.declared.fault.CheckpointFault.{CheckpointFault}
 use Rattle.tlog_checkpoint.specs.declared.fault.CheckpointFault.TheVariants.{TooFewLines, EmptyLine, BadSize}
 use Rattle.tlog_checkpoint.specs.declared.fault.CheckpointFault.TheVariants.{SizeTooLarge, BadRoot, OutOfMemory}
-use Rattle.tlog_checkpoint.specs.Lines.{HasLines, text_of, IsLine}
+use Rattle.tlog_checkpoint.specs.Lines.{HasLines, text_of, IsTextLine}
 use Rattle.tlog_checkpoint.specs.Grammar.{HasFields, IsFullLine}
 use Rattle.tlog_checkpoint.specs.Parts.{ReadsFields}
 use Rattle.tlog_checkpoint.specs.Reading.{ReadsCheckpoint, HasTooFewLines, HasEmptyLine}
@@ -44,7 +44,7 @@ module _ {R : Type 0} (now : R → List ℕ) where
   ]
 
   -- none is empty where none was found
-  all_full : (refs : List R) → has_empty refs ≡ false → AllByRecursion IsLine (map now refs) →
+  all_full : (refs : List R) → has_empty refs ≡ false → AllByRecursion IsTextLine (map now refs) →
       AllByRecursion IsFullLine (map now refs)
   all_full [] h lines = tt
   all_full (r ∷ refs) h lines =

@@ -4,7 +4,7 @@ use Rattle.std.proofs.Common.{append_assoc, inl, inr}
 use Rattle.std.specs.List.{list_all, AllByRecursion, slice_split, onto_first}
 use Rattle.std.proofs.lemmas.List.{append_cancel_right}
 use Rattle.std.proofs.lemmas.Bool.{cases_Bool, eqb-true, and_parts}
-use Rattle.tlog_checkpoint.specs.Lines.{is_newline, ended, text_of, IsLine, HasLines}
+use Rattle.tlog_checkpoint.specs.Lines.{is_newline, ended, text_of, IsTextLine, HasLines}
 
 -- a byte that is no newline
 not_true : (b : Bool) → not b ≡ true → b ≡ false
@@ -12,7 +12,7 @@ not_true true h = absurd cc
 not_true false h = refl
 
 -- the first line is cut off at its newline
-split_first : (line rest : List ℕ) → IsLine line →
+split_first : (line rest : List ℕ) → IsTextLine line →
     slice_split is_newline (line ++ 10 ∷ rest) ≡ line ∷ slice_split is_newline rest
 split_first [] rest h = refl
 split_first (b ∷ bs) rest h =
@@ -23,7 +23,7 @@ split_first (b ∷ bs) rest h =
     rw (here, later) refl
 
 -- the parts of a text of lines are the lines, and nothing after the last newline
-pub split-text_of : (lines : List (List ℕ)) → AllByRecursion IsLine lines →
+pub split-text_of : (lines : List (List ℕ)) → AllByRecursion IsTextLine lines →
     slice_split is_newline (text_of lines) ≡ lines ++ [] ∷ []
 split-text_of [] h = refl
 split-text_of (line ∷ lines) h =
@@ -44,8 +44,8 @@ text_of-onto_first b [] [] h = absurd cc
 text_of-onto_first b [] (x ∷ body) h = absurd cc
 text_of-onto_first b (part ∷ parts) body h = ap (λ (x : List ℕ). b ∷ x) h
 
-are_lines-onto_first : (b : ℕ) (parts : List (List ℕ)) → is_newline b ≡ false → AllByRecursion IsLine parts →
-    AllByRecursion IsLine (onto_first b parts)
+are_lines-onto_first : (b : ℕ) (parts : List (List ℕ)) → is_newline b ≡ false → AllByRecursion IsTextLine parts →
+    AllByRecursion IsTextLine (onto_first b parts)
 are_lines-onto_first b [] h p = (rw h refl, tt)
 are_lines-onto_first b (part ∷ parts) h p = (rw h p.0, p.1)
 
@@ -59,7 +59,7 @@ text_of-split (b ∷ bs) = elim (cases_Bool (is_newline b)) [
   | inr kept ↦ rw kept (text_of-onto_first b (slice_split is_newline bs) bs (text_of-split bs))
 ]
 
-pub are_lines-split : (body : List ℕ) → AllByRecursion IsLine (slice_split is_newline body)
+pub are_lines-split : (body : List ℕ) → AllByRecursion IsTextLine (slice_split is_newline body)
 are_lines-split [] = (refl, tt)
 are_lines-split (b ∷ bs) = elim (cases_Bool (is_newline b)) [
   | inl cut ↦ rw cut (refl, are_lines-split bs)

@@ -1,13 +1,13 @@
 -- One text, one checkpoint: the grammar's laws.
 use Rattle.std.proofs.Common.{◌≡◌, ℕ, ◌<◌, ◌^◌, arith, List, [], ◌∷◌, refl, sym, ◌∙◌}
 use Rattle.std.specs.List.{AllByRecursion}
-use Rattle.tlog_checkpoint.specs.Lines.{HasLines, text_of, IsLine}
+use Rattle.tlog_checkpoint.specs.Lines.{HasLines, text_of, IsTextLine}
 use Rattle.tlog_checkpoint.specs.Grammar.{HasFields, IsFullLine}
 use Rattle.tlog_checkpoint.specs.Laws.{CheckpointHasOneText, WhatIsReadIsWritable}
 use Rattle.tlog_checkpoint.proofs.LineLemmas.{one_lines}
 use Rattle.tlog_text.proofs.Decimals.{decimal_is}
 
-are_lines : (lines : List (List ℕ)) → AllByRecursion IsFullLine lines → AllByRecursion IsLine lines
+are_lines : (lines : List (List ℕ)) → AllByRecursion IsFullLine lines → AllByRecursion IsTextLine lines
 are_lines [] h = tt
 are_lines (line ∷ lines) h = (h.0.is_line, are_lines lines h.1)
 

@@ -2,7 +2,7 @@
 use Rattle.std.proofs.Common.{◌≡◌, ◌≢◌, ℕ, ◌<◌, List, [], ◌∷◌, ◌++◌, length, refl, sym, ◌∙◌, ap, subst, arith}
 use Rattle.std.proofs.Common.{append_assoc}
 use Rattle.tlog_checkpoint.specs.declared.Checkpoint.{Checkpoint}
-use Rattle.tlog_checkpoint.specs.Lines.{ended, text_of, IsLine}
+use Rattle.tlog_checkpoint.specs.Lines.{ended, text_of, IsTextLine}
 use Rattle.tlog_text.specs.Number.{IsDecimal}
 use Rattle.tlog_text.specs.Hash.{base64_of, IsHashText}
 use Rattle.tlog_checkpoint.specs.Laws.{EachWritableHasText}
@@ -21,7 +21,7 @@ decimal_full ds n is = record { not_empty = some_full ds is.numeral.0; is_line =
 pub root_full : (line root : List ℕ) → IsHashText line root → IsFullLine line
 root_full line root is =
     let some : 0 < length line = omega (arith, ap length is.is_base64, length-hash root is.is_hash) in
-    record { not_empty = some_full line some; is_line = subst IsLine (sym is.is_base64) (base64_lacks_newline root) }
+    record { not_empty = some_full line some; is_line = subst IsTextLine (sym is.is_base64) (base64_lacks_newline root) }
 
 -- a text that was made line by line
 pub joined_lines : (one two three text origin size root : List ℕ) (extensions : List (List ℕ)) → one ≡ ended origin →

@@ -4,14 +4,14 @@ use Rattle.std.specs.Prelude.{◌≡◌, ◌≢◌, ℕ, ◌≤◌, List, [], �
 use Rattle.std.specs.List.{AllByRecursion}
 use Rattle.tlog_shape.specs.declared.TheConstants.{MAX_SIZE}
 use Rattle.tlog_checkpoint.specs.declared.Checkpoint.{Checkpoint}
-use Rattle.tlog_checkpoint.specs.Lines.{IsLine, text_of}
+use Rattle.tlog_checkpoint.specs.Lines.{IsTextLine, text_of}
 use Rattle.tlog_text.specs.Number.{IsDecimal}
 use Rattle.tlog_text.specs.Hash.{IsHashText}
 
 -- a line that is not empty
 pub record IsFullLine (line : List ℕ) : Type 0 where
   pub not_empty : line ≢ []
-  pub is_line : IsLine line
+  pub is_line : IsTextLine line
 
 -- The text is at least three lines, and none of its lines is empty.
 pub record HasFields (text origin size root : List ℕ) (extensions : List (List ℕ)) : Type 0 where

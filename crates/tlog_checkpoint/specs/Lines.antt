@@ -15,10 +15,10 @@ abbrev pub text_of : List (List ℕ) → List ℕ
 text_of lines = flat_map ended lines
 
 -- bytes without a newline, which can be a line, also an empty one
-abbrev pub IsLine : List ℕ → Type 0
-IsLine line = IsTrue (list_all (λ byte. not (is_newline byte)) line)
+abbrev pub IsTextLine : List ℕ → Type 0
+IsTextLine line = IsTrue (list_all (λ byte. not (is_newline byte)) line)
 
 -- The text is these lines, and nothing stands after the last newline.
 pub record HasLines (text : List ℕ) (lines : List (List ℕ)) : Type 0 where
   pub is_text : text ≡ text_of lines
-  pub are_lines : AllByRecursion IsLine lines
+  pub are_lines : AllByRecursion IsTextLine lines

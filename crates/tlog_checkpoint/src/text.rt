@@ -36,6 +36,18 @@ impl Line {
     {
         self.text.as_str()
     }
+
+    /// The text of the line, given back without memory.
+    ///
+    /// ```text
+    /// read(alloc, text)?.origin.into_string()   // "ex", of a checkpoint whose first line is `ex`
+    /// ```
+    pub fn into_string(self) -> String
+        ensures { string_bytes result ≡ self }
+    {
+        let Line { text } = self;
+        text
+    }
 }
 
 impl PartialEq for Line {
@@ -82,6 +94,18 @@ impl Lines {
         ensures { map string_bytes result.now ≡ self.now }
     {
         self.lines.as_slice()
+    }
+
+    /// The lines, in order, given back without memory.
+    ///
+    /// ```text
+    /// for line in read(alloc, text)?.extensions.into_vec() { .. }   // each line as a `String`
+    /// ```
+    pub fn into_vec(self) -> Vec<String>
+        ensures { map string_bytes result.items ≡ self }
+    {
+        let Lines { lines } = self;
+        lines
     }
 }
 

@@ -8,8 +8,8 @@ use Rattle.tlog_proof.specs.declared.make.ProofFault.TheVariants.{OutOfMemory}
 
 module _ (lists : List (List ℕ) → Type 0) (start len : ℕ) where
   -- each list has the range, and this is its tree hash
-  abbrev pub IsRangeHash : (List ℕ → List ℕ) → List ℕ → Type 0
-  IsRangeHash digest hash =
+  abbrev pub HashesRange : (List ℕ → List ℕ) → List ℕ → Type 0
+  HashesRange digest hash =
       (entries : List (List ℕ)) → lists entries →
       (start + len ≤ length entries) × (hash ≡ mth digest (part start len entries))
 

@@ -84,3 +84,8 @@ pub record HasOneSpelling : Type 0 where
   pub one_text : (s t : List ℕ) (proof : Proof) → IsProofText s proof → IsProofText t proof → s ≡ t
   pub short : (text : List ℕ) (proof : Proof) → IsProofText text proof → length text ≤ MAX_TEXT_LEN
   pub longest : (text : List ℕ) (proof : Proof) → IsProofText text proof → length text ≤ 3365
+
+-- a path in a text has at most 64 hashes, and a reader may stop after 8,192 bytes
+pub record HasProofLimits : Type 0 where
+  pub path : MAX_PATH ≡ 64
+  pub text : MAX_TEXT_LEN ≡ 8192

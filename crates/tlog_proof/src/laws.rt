@@ -2,7 +2,7 @@
 //!
 //! A law is the contract of a function with an empty body: the proof is all that there is of it.
 ghost use Rattle.tlog_proof.specs.Laws.{PathEquations, ProofEquations, InclEquations, ConsEquations, PathsAreShort, MadeInclusionHolds, MadeConsistencyHolds, AcceptedInclusionShows, AcceptedConsistencyShows};
-ghost use Rattle.tlog_proof.specs.Text.{HasOneSpelling};
+ghost use Rattle.tlog_proof.specs.Text.{HasOneSpelling, HasProofLimits};
 
 /// Path meets the equations of RFC 6962, section 2.1.1, and nothing else does.
 pub fn path_law()
@@ -55,4 +55,9 @@ pub fn accepted_consistency_law()
 /// A text is one proof at most, a proof has one text, and no proof's text is longer than 8,192 bytes.
 pub fn text_law()
     ensures { HasOneSpelling }
+{}
+
+/// The path of a proof's text has at most 64 hashes, and `MAX_TEXT_LEN` is 8,192 bytes.
+pub fn limits_law()
+    ensures { HasProofLimits }
 {}

@@ -32,8 +32,8 @@ mod write;
 pub use check::{check_consistency, check_inclusion};
 pub use fault::TextFault;
 pub use laws::{
-    accepted_consistency_law, accepted_inclusion_law, cons_law, incl_law, made_consistency_law,
-    made_inclusion_law, path_law, path_length_law, proof_law, text_law,
+    accepted_consistency_law, accepted_inclusion_law, cons_law, incl_law, limits_law,
+    made_consistency_law, made_inclusion_law, path_law, path_length_law, proof_law, text_law,
 };
 pub use limits::MAX_TEXT_LEN;
 pub use make::{ProofFault, consistency, inclusion};

@@ -4,7 +4,7 @@ ghost use Rattle.tlog_proof.specs.Answers.{AnswersAs};
 ghost use Rattle.tlog_proof.specs.Inclusion.{path_of};
 ghost use Rattle.tlog_proof.specs.Consistency.{subproof_of};
 ghost use Rattle.tlog_proof.specs.Made.{inclusion_in, consistency_in};
-ghost use Rattle.tlog_proof.specs.Ranges.{AddsHashes, FailsForMemory, IsRangeHash, LacksRange};
+ghost use Rattle.tlog_proof.specs.Ranges.{AddsHashes, FailsForMemory, HashesRange, LacksRange};
 ghost use Rattle.tlog_proof.specs.declared.make.ProofFault.TheVariants.{OutOfMemory};
 
 use crate::ranges::Ranges;
@@ -104,7 +104,7 @@ pub fn consistency<R: Ranges>(
 
 /// The tree hash of a range that is within the list.
 pub(crate) fn hash_of<R: Ranges>(ranges: &R, start: u64, len: u64) -> Result<Hash, ProofFault>
-    ensures ok { IfOk result (IsRangeHash (R.lists ranges.now) start len R.digest) }
+    ensures ok { IfOk result (HashesRange (R.lists ranges.now) start len R.digest) }
     ensures err { IfErr result (λ _. LacksRange (R.lists ranges.now) start len) }
 {
     match ranges.hash(start, len) {

@@ -36,6 +36,18 @@ impl HashPath {
     {
         self.hashes.as_slice()
     }
+
+    /// The hashes, given back without memory.
+    ///
+    /// ```text
+    /// match proof { Proof::Inclusion { path, .. } => path.into_vec(), .. }   // the hashes, as a `Vec`
+    /// ```
+    pub fn into_vec(self) -> Vec<Hash>
+        ensures { result.items ≡ self }
+    {
+        let HashPath { hashes } = self;
+        hashes
+    }
 }
 
 impl PartialEq for HashPath {

@@ -1,6 +1,6 @@
 //! Where the hashes of a proof come from.
 ghost use Rattle.std.specs.Prelude.{◌≡◌, ℕ, List, length, IfSome, IfNone};
-ghost use Rattle.tlog_proof.specs.Ranges.{IsRangeHash, LacksRange};
+ghost use Rattle.tlog_proof.specs.Ranges.{HashesRange, LacksRange};
 
 use tlog_hash::Hash;
 
@@ -23,6 +23,6 @@ pub trait Ranges {
     /// The tree hash of the `len` entries from number `start` on, and None where the range is not
     /// within the list. A range of no entries within it has the hash of the empty list.
     fn hash(&self, start: u64, len: u64) -> Option<Hash>
-        ensures some { IfSome result (IsRangeHash (lists self.now) start len digest) }
+        ensures some { IfSome result (HashesRange (lists self.now) start len digest) }
         ensures none { IfNone result (LacksRange (lists self.now) start len) };
 }

@@ -1,5 +1,6 @@
--- What the standard says of the split.
-use Rattle.std.specs.Prelude.{ℕ, ◌<◌, ◌≤◌}
+-- What the standard says of the split, and how great a tree may be.
+use Rattle.std.specs.Prelude.{◌≡◌, ℕ, ◌+◌, ◌^◌, ◌<◌, ◌≤◌}
+use Rattle.tlog_shape.specs.declared.TheConstants.{MAX_SIZE}
 use Rattle.tlog_shape.specs.Split.{split_of, IsPowerOfTwo}
 
 -- k is the largest power of two smaller than n
@@ -11,3 +12,7 @@ pub record IsSplit (n k : ℕ) : Type 0 where
 -- the split of two or more is the one that the standard names
 abbrev pub SplitIsLargestPower : Type 0
 SplitIsLargestPower = (n : ℕ) → 2 ≤ n → IsSplit n (split_of n)
+
+-- the greatest size of a tree that the mirror takes is the greatest number of 63 bits
+abbrev pub GreatestSizeHas63Bits : Type 0
+GreatestSizeHas63Bits = MAX_SIZE + 1 ≡ 2 ^ 63

@@ -63,7 +63,16 @@ fn made_by_hand(rt: HostRuntime) -> Result<(), Fail> {
     assert!(rt; lines.len() == 1);
     assert!(rt; lines[0].as_str() == "more");
     let written = text_of(alloc, &checkpoint);
-    drop(checkpoint);
+    let Checkpoint {
+        origin,
+        extensions,
+        ..
+    } = checkpoint;
+    assert!(rt; origin.into_string().as_str() == "ex");
+    let lines = extensions.into_vec();
+    assert!(rt; lines.len() == 1);
+    assert!(rt; lines[0].as_str() == "more");
+    drop(lines);
     assert!(rt; written?.as_str() == "ex\n3\nrra8/idLcKFPsGel5VeCZNsPqbUa9eC6FZFY8yngbnc=\nmore\n");
     Ok(())
 }

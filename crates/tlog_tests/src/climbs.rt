@@ -2,8 +2,9 @@
 
 use crate::given::{LEAF_OF_00, LEAF_OF_10, LEAF_OF_NO_BYTES, ROOT_OF_TWO, hash};
 use std::alloc::Global;
+use std::test::Fail;
 use tlog_hash::{Hash, Sha256Tree, tree_hash};
-use tlog_proof::{ProofFault, Ranges, consistency, inclusion};
+use tlog_proof::{HashPath, ProofFault, Ranges, consistency, inclusion};
 use tlog_shape::MAX_SIZE;
 
 // The calls that make paths: the tests need no clause of them.
@@ -78,6 +79,18 @@ fn paths_of_three(rt: HostRuntime) {
     assert!(rt; is_path(grown(rt.alloc(), &three, 1, 3), &[zero, ten]));
     assert!(rt; is_path(grown(rt.alloc(), &three, 2, 3), &[ten]));
     assert!(rt; is_path(grown(rt.alloc(), &three, 3, 3), &[]));
+}
+
+// A path gives its hashes back.
+#[test]
+fn hashes_given_back(rt: HostRuntime) -> Result<(), Fail> {
+    let (zero, ten) = (hash(&rt, LEAF_OF_00), hash(&rt, LEAF_OF_10));
+    let mut hashes = Vec::new(rt.alloc());
+    hashes.push(zero)?;
+    hashes.push(ten)?;
+    let back = HashPath::new(hashes).into_vec();
+    assert!(rt; back.as_slice() == [zero, ten].as_slice());
+    Ok(())
 }
 
 // Sizes and indices that three entries do not have.
