@@ -7,7 +7,8 @@ use Rattle.tlog_tiles.specs.declared.paths.Path.{Path}
 use Rattle.tlog_tiles.specs.declared.paths.Path.TheVariants.{Checkpoint}
 use Rattle.mirror_sources.specs.Told.{AddsTold, KeepsTold, Rose, one_more}
 use Rattle.mirror_model.specs.View.{View}
-use Rattle.tlog_mirror.specs.Tops.{Top, IsServedTop, ServesNothing}
+use Rattle.mirror_model.specs.Reports.{SaysServed}
+use Rattle.tlog_mirror.specs.Tops.{Top, IsServedTop}
 use Rattle.mirror_folders.specs.Shelf.{CountsFailures, Put, TellsHas, TellsNone, TellsSome}
 use Rattle.mirror_export.specs.Faults.{of_shelf}
 use Rattle.mirror_export.specs.Files.{file_at, files_at, kind_paths, paths_of, tile_paths, IsServedFiles}
@@ -123,7 +124,7 @@ module _ (digest : List ℕ → List ℕ) (v : View) (top : Top) (is : IsServedT
   not_put T old new Failed kept = none_put old new kept
   not_put T old new OutOfMemory kept = none_put old new kept
 
-  pub not_nothing : ServesNothing digest v → ⊥
+  pub not_nothing : SaysServed digest v None → ⊥
   not_nothing nothing = nothing top.note top.size top.root is.served.entries is.served.served
 
 pub other_fault : (T : Type 0) (e : ShelfError) → answer_of T (of_shelf e) ≡ answer_of T NothingComplete → ⊥

@@ -1,6 +1,6 @@
 -- What an update puts, by the answers of its parts.
-use Rattle.std.proofs.Common.{◌≡◌, ◌≢◌, ℕ, ◌+◌, ◌<◌, ◌≤◌, List, length, Option, Result, Ok, Err, refl, sym, subst, ◌∙◌}
-use Rattle.std.proofs.Common.{inl, inr, arith}
+use Rattle.std.proofs.Common.{◌≡◌, ◌≢◌, ℕ, ◌+◌, ◌<◌, ◌≤◌, List, length, Option, None, Result, Ok, Err, refl, sym, subst}
+use Rattle.std.proofs.Common.{◌∙◌, inl, inr, arith}
 use Rattle.node_store.specs.Strings.{Strings}
 use Rattle.tlog_hash.specs.Tree.{mth}
 use Rattle.tlog_hash.specs.Rows.{part}
@@ -10,7 +10,8 @@ use Rattle.mirror_model.specs.Served.{IsCompleteNote, IsServedList}
 use Rattle.mirror_model.specs.Heads.{IsHead}
 use Rattle.mirror_model.proofs.HeadNotes.{head_once}
 use Rattle.mirror_model.proofs.OneLists.{at_most_both}
-use Rattle.tlog_mirror.specs.Tops.{Top, IsListOf, IsServedTop, ServesNothing}
+use Rattle.mirror_model.specs.Reports.{SaysServed}
+use Rattle.tlog_mirror.specs.Tops.{Top, IsListOf, IsServedTop}
 use Rattle.tlog_mirror.proofs.ServedParts.{list_of, listed}
 use Rattle.mirror_sources.specs.Told.{AddsTold, Rose}
 use Rattle.mirror_folders.specs.Shelf.{CountsFailures, Put}
@@ -146,7 +147,7 @@ module _ (digest : List ℕ → List ℕ) (v : View) (top : Top) (is : IsServedT
   not_counted T checkpoint n ShelfFault h = absurd h
   not_counted T checkpoint n OutOfMemory h = refl
 
-  pub not_nothing : ServesNothing digest v → ⊥
+  pub not_nothing : SaysServed digest v None → ⊥
   not_nothing nothing = nothing top.note top.size top.root is.served.entries is.served.served
 
   pub some_fault : (T : Type 0) (checkpoint : List ℕ) (fault : UpdateFault) →

@@ -1,6 +1,6 @@
 //! A mirror exported onto a shelf.
-ghost use Rattle.std.specs.Prelude.{◌≡◌, ◌↔◌};
-ghost use Rattle.tlog_mirror.specs.Tops.{ServesNothing};
+ghost use Rattle.std.specs.Prelude.{◌≡◌, ◌↔◌, None};
+ghost use Rattle.mirror_model.specs.Reports.{SaysServed};
 ghost use Rattle.mirror_export.specs.Exports.{CheckpointIsLast, CountsExport, Exports};
 
 use crate::fault::ExportFault;
@@ -33,7 +33,7 @@ pub fn export<H: TreeHash, S: Shelf>(
 ) -> Result<(), ExportFault>
     ensures puts { Exports H.digest mirror.now.view (S.puts shelf.old) (S.puts shelf.new) result }
     ensures nothing { (result ≡ Err ExportFault.NothingComplete)
-        ↔ ServesNothing H.digest mirror.now.view }
+        ↔ SaysServed H.digest mirror.now.view None }
 
     // After each put a shelf that had no checkpoint has one only if every tile and bundle of it stands there with true
     // bytes.

@@ -1,6 +1,6 @@
 //! A folder that has a checkpoint brought up to date.
-ghost use Rattle.std.specs.Prelude.{◌≡◌, ◌↔◌, IsTrue};
-ghost use Rattle.tlog_mirror.specs.Tops.{ServesNothing};
+ghost use Rattle.std.specs.Prelude.{◌≡◌, ◌↔◌, IsTrue, None};
+ghost use Rattle.mirror_model.specs.Reports.{SaysServed};
 ghost use Rattle.mirror_export.specs.Updates.{CountsUpdate, Updates};
 
 use crate::beginning::size_before;
@@ -47,7 +47,7 @@ pub fn update<H: TreeHash, S: Shelf>(
     ensures puts { Updates H.digest mirror.now.view checkpoint.now (S.puts shelf.old)
         (S.puts shelf.new) result }
     ensures nothing { (result ≡ Err UpdateFault.NothingComplete)
-        ↔ ServesNothing H.digest mirror.now.view }
+        ↔ SaysServed H.digest mirror.now.view None }
     ensures blamed { CountsUpdate (S.failed shelf.old) (S.failed shelf.new) result }
 {
     let Some(top) = mirror.top_ranges() else {

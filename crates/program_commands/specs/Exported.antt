@@ -1,8 +1,8 @@
 -- What the command `export` makes of a state file, and what it puts into the folder.
-use Rattle.std.specs.Prelude.{◌≡◌, ◌↔◌, ℕ, List, Option, Result, Ok, Err}
+use Rattle.std.specs.Prelude.{◌≡◌, ◌↔◌, ℕ, List, Option, None, Result, Ok, Err}
 use Rattle.signed_note.specs.Keys.{Key}
 use Rattle.mirror_model.specs.View.{View}
-use Rattle.tlog_mirror.specs.Tops.{ServesNothing}
+use Rattle.mirror_model.specs.Reports.{SaysServed}
 use Rattle.mirror_folders.specs.Shelf.{Put}
 use Rattle.mirror_export.specs.Exports.{CheckpointIsLast, CountsExport, Exports}
 use Rattle.mirror_export.specs.declared.fault.ExportFault.{ExportFault}
@@ -29,7 +29,7 @@ module _ (digest : List ℕ → List ℕ) (origin : List ℕ) (keys : List Key)
     pub view : View
     pub opened : OpensFile digest origin keys told name (Ok view)
     pub puts : Exports digest view held put answer
-    pub nothing : (answer ≡ Err NothingComplete) ↔ ServesNothing digest view
+    pub nothing : (answer ≡ Err NothingComplete) ↔ SaysServed digest view None
     pub last : CheckpointIsLast digest view held put
 
   -- what each answer of the command says: the file is opened first, and then the folder; nothing is

@@ -3,7 +3,7 @@
 use Rattle.std.specs.Prelude.{◌≡◌, ◌↔◌, ◌⊎◌, ℕ, List, Option, Some, None, Result, Ok, Err, ⊤}
 use Rattle.signed_note.specs.Keys.{Key}
 use Rattle.mirror_model.specs.View.{View}
-use Rattle.tlog_mirror.specs.Tops.{ServesNothing}
+use Rattle.mirror_model.specs.Reports.{SaysServed}
 use Rattle.mirror_folders.specs.Shelf.{Put}
 use Rattle.mirror_export.specs.Exports.{CheckpointIsLast, CountsExport, Exports}
 use Rattle.mirror_export.specs.Updates.{CountsUpdate, Updates}
@@ -30,9 +30,9 @@ CountsFileUpdate old new (Err (Export fault)) = CountsExport old new (failed fau
 module _ (digest : List ℕ → List ℕ) (v : View) where
   -- why a folder is not brought up to date whose checkpoint was not read
   abbrev pub NotRead : UpdateFault → Type 0
-  NotRead update.NothingComplete = ServesNothing digest v
+  NotRead update.NothingComplete = SaysServed digest v None
   NotRead update.OtherLog = ⊥
-  NotRead update.ShelfFault = ¬ ServesNothing digest v
+  NotRead update.ShelfFault = ¬ SaysServed digest v None
   NotRead update.OutOfMemory = ⊤
 
   module _ (may : Option (List ℕ) → Type 0) (held put : Option (List Put)) where
@@ -41,13 +41,13 @@ module _ (digest : List ℕ → List ℕ) (v : View) where
       pub checkpoint : List ℕ
       pub answered : may (Some checkpoint)
       pub puts : Updates digest v checkpoint held put answer
-      pub nothing : (answer ≡ Err update.NothingComplete) ↔ ServesNothing digest v
+      pub nothing : (answer ≡ Err update.NothingComplete) ↔ SaysServed digest v None
 
     -- the folder had no checkpoint, and an export with that answer put what it puts
     pub record ExportsNew (answer : Result (Unit {0}) ExportFault) : Type 0 where
       pub answered : may None
       pub puts : Exports digest v held put answer
-      pub nothing : (answer ≡ Err export.NothingComplete) ↔ ServesNothing digest v
+      pub nothing : (answer ≡ Err export.NothingComplete) ↔ SaysServed digest v None
       pub last : CheckpointIsLast digest v held put
 
     -- what is put into the folder, by the answer

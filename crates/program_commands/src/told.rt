@@ -1,7 +1,7 @@
 //! An export and an update of folders of which it may be told how many files are put, and of how many in all.
-ghost use Rattle.std.specs.Prelude.{◌≡◌, ◌↔◌, IfSome, List, ℕ};
+ghost use Rattle.std.specs.Prelude.{◌≡◌, ◌↔◌, IfSome, List, None, ℕ};
 ghost use Rattle.mirror_model.specs.Heads.{IsHead};
-ghost use Rattle.tlog_mirror.specs.Tops.{ServesNothing};
+ghost use Rattle.mirror_model.specs.Reports.{SaysServed};
 ghost use Rattle.mirror_export.specs.Exports.{CheckpointIsLast, CountsExport, Exports};
 ghost use Rattle.mirror_export.specs.Updates.{CountsUpdate, Updates};
 
@@ -85,7 +85,7 @@ pub(crate) fn export_told<H: TreeHash, D: ToldFolders>(
     ensures puts { Exports H.digest mirror.now.view (D.puts folders.old) (D.puts folders.new)
         result }
     ensures nothing { (result ≡ Err ExportFault.NothingComplete)
-        ↔ ServesNothing H.digest mirror.now.view }
+        ↔ SaysServed H.digest mirror.now.view None }
     ensures last { CheckpointIsLast H.digest mirror.now.view (D.puts folders.old)
         (D.puts folders.new) }
     ensures blamed { CountsExport (D.failed folders.old) (D.failed folders.new) result }
@@ -108,7 +108,7 @@ pub(crate) fn update_told<H: TreeHash, D: ToldFolders>(
     ensures puts { Updates H.digest mirror.now.view checkpoint.now (D.puts folders.old)
         (D.puts folders.new) result }
     ensures nothing { (result ≡ Err UpdateFault.NothingComplete)
-        ↔ ServesNothing H.digest mirror.now.view }
+        ↔ SaysServed H.digest mirror.now.view None }
     ensures blamed { CountsUpdate (D.failed folders.old) (D.failed folders.new) result }
 {
     expect_update(alloc, mirror, checkpoint, folders);

@@ -5,9 +5,9 @@ use Rattle.std.specs.List.{list_any}
 use Rattle.std.specs.Io.KnownBytes.{Appends}
 use Rattle.byte_streams.specs.Streams.{AppendsPrefix}
 use Rattle.mirror_model.specs.View.{View}
-use Rattle.tlog_mirror.specs.Best.{pair_point}
+use Rattle.mirror_trees.specs.Marked.{point_of}
 use Rattle.tlog_mirror.specs.Compared.{ReportsCompared, ReportsHeld, compared_text}
-use Rattle.tlog_mirror.specs.Tops.{ServesNothing}
+use Rattle.mirror_model.specs.Reports.{SaysServed}
 use Rattle.tlog_mirror.specs.declared.compare.Compared.{Compared}
 use Rattle.tlog_mirror.specs.declared.compare.Compared.TheVariants.{Fork}
 use Rattle.program_reports.specs.Reports.{printed}
@@ -31,7 +31,7 @@ module _ (digest : List ℕ → List ℕ) where
   -- the heads that were given, one for one, or else those of the view, are compared so
   abbrev pub ComparesHeads : View → Option (List (ℕ × List ℕ)) → List Compared → Type 0
   ComparesHeads v None compared = ReportsHeld digest v compared
-  ComparesHeads v (Some heads) compared = ReportsCompared digest v (map pair_point heads) compared
+  ComparesHeads v (Some heads) compared = ReportsCompared digest v (map point_of heads) compared
 
   -- the report of `compare`
   pub record TellsCompared (v : View) (heads : Option (List (ℕ × List ℕ))) (report : Printout)
@@ -45,7 +45,7 @@ module _ (digest : List ℕ → List ℕ) where
   abbrev pub ReportsComparison : View → Option (List (ℕ × List ℕ)) → Result Printout ReportFault →
       Type 0
   ReportsComparison v heads (Ok report) = TellsCompared v heads report
-  ReportsComparison v heads (Err NothingComplete) = ServesNothing digest v
+  ReportsComparison v heads (Err NothingComplete) = SaysServed digest v None
   ReportsComparison v heads (Err OutOfMemory) = ⊤
   ReportsComparison v heads (Err other) = ⊥
 

@@ -1,5 +1,7 @@
 -- Entries as they are laid out in memory: the bytes of their levels, and themselves in the form of
--- bundles with where each ends. The contracts of private functions alone cite these words.
+-- bundles with where each ends. `LogFiles` is seen as its `entries_in`, its invariant is `IsLayout`,
+-- and `LogFiles::from_rows` asks for `AreFullRows`. The contracts of private functions alone cite
+-- the other words.
 use Rattle.std.specs.Prelude.{◌≡◌, ℕ, ◌+◌, ◌-◌, ◌*◌, ◌/◌, ◌^◌, ◌<◌, ◌≤◌, List, [], ◌∷◌, length}
 use Rattle.std.specs.Prelude.{get_or, All}
 use Rattle.tlog_hash.specs.Tree.{mth}

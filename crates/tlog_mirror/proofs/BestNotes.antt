@@ -14,7 +14,8 @@ use Rattle.std.proofs.lemmas.Slice.Eq.{slice_eq-Decides}
 use Rattle.std.proofs.lemmas.Bool.Decides.{Decides-eqb}
 use Rattle.node_store.specs.Strings.{Strings}
 use Rattle.mirror_model.specs.Forks.{Point}
-use Rattle.tlog_mirror.specs.Best.{served_cmp, pair_point, kept_point, IsAhead, HasKept, IsBuiltAt, IsBestOf}
+use Rattle.mirror_trees.specs.Marked.{point_of}
+use Rattle.tlog_mirror.specs.Best.{served_cmp, kept_point, IsAhead, HasKept, IsBuiltAt, IsBestOf}
 use Rattle.tlog_mirror.specs.Best.{IsFirstWith}
 use Rattle.tlog_mirror.specs.declared.kept.KeptNote.{KeptNote}
 use Rattle.mirror_model.proofs.Listing.{head_or, later, here}
@@ -65,7 +66,7 @@ module _ (digest : List ℕ → List ℕ) (held : Strings) where
       built = built;
       first = λ other c b. elim (head_or one rest other c) [
         | inl same ↦ itself other same
-        | inr there ↦ upto served_total (kept_point one) (pair_point q) (kept_point other) (ap is_gt ahead)
+        | inr there ↦ upto served_total (kept_point one) (point_of q) (kept_point other) (ap is_gt ahead)
             (h.first other there b)
       ];
     }
@@ -86,8 +87,8 @@ module _ (digest : List ℕ → List ℕ) (held : Strings) where
       built = h.built;
       first = λ other c b. elim (head_or one rest other c) [
         | inl same ↦ elim not [
-          | inl behind ↦ ap (λ (k : KeptNote). is_gt (served_cmp (pair_point q) (kept_point k))) (sym same) ∙
-              not_before (kept_point one) (pair_point q) behind
+          | inl behind ↦ ap (λ (k : KeptNote). is_gt (served_cmp (point_of q) (kept_point k))) (sym same) ∙
+              not_before (kept_point one) (point_of q) behind
           | inr not_built ↦ absurd (not_built (subst (λ (k : KeptNote). Built (kept_point k)) (sym same) b))
         ]
         | inr there ↦ h.first other there b

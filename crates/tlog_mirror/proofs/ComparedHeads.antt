@@ -1,20 +1,22 @@
 -- Heads compared with a list of entries, and what is evidence of what.
 use Rattle.std.proofs.Common.{◌≡◌, ℕ, List, [], ◌∷◌, ◌++◌, map, take, get_or, sym, subst, refl}
 use Rattle.std.proofs.Common.{Option, Some, None, ap, ◌∙◌, arith}
-use Rattle.std.specs.Prelude.{◌≢◌, All, Result, Ok, Err, IfOk, IfSome}
-use Rattle.std.specs.List.{AllByRecursion}
+use Rattle.std.specs.Prelude.{◌≢◌, All, Result, Ok, Err, IfOk, IfSome, find, nat_eq, unwrap_or}
+use Rattle.std.specs.List.{AllByRecursion, Contains}
 use Rattle.std.proofs.Math.Seq.{take-append_seam}
 use Rattle.std.proofs.lemmas.List.{length-take-le}
-use Rattle.std.proofs.lemmas.List.Elements.{recursion_from_All}
+use Rattle.std.proofs.lemmas.List.Elements.{All-contains, All-from_recursion, recursion_from_All}
 use Rattle.tlog_shape.specs.Split.{split_of, power_within}
-use Rattle.tlog_hash.specs.Tree.{mth, fold_of, tree_of, tree_within}
+use Rattle.tlog_hash.specs.Tree.{mth, fold_of, joins, pairs_of, strings, tree_of, tree_within}
 use Rattle.tlog_hash.specs.Sum.{sum_digest}
 use Rattle.mirror_model.specs.View.{View}
 use Rattle.mirror_model.specs.Forks.{Point}
-use Rattle.mirror_model.specs.Examples.{large_list, sum_hash}
+use Rattle.mirror_model.specs.Examples.{large_list, small_list, sum_hash}
 use Rattle.mirror_model.specs.Listed.{ListsHeads}
+use Rattle.mirror_model.proofs.Examples.{is_forked}
 use Rattle.mirror_model.proofs.OneLists.{one_served, only}
-use Rattle.tlog_mirror.specs.Best.{pair_point}
+use Rattle.mirror_model.proofs.StringSets.{listed_from_has}
+use Rattle.mirror_trees.specs.Marked.{point_of}
 use Rattle.tlog_mirror.specs.Compared.{ComparesLarge, ForkIsNoPrefix, HeadsAreComparedOnce, IsCompared, ReportsCompared}
 use Rattle.tlog_mirror.specs.Compared.{ReportsHeld, SameIsPrefix, compared_point}
 use Rattle.tlog_mirror.specs.declared.compare.Compared.{Compared}
@@ -101,6 +103,22 @@ first_byte n m e = ap (λ (xs : List ℕ). get_or xs 0 0) e
 other_byte : sum_hash 51 ≡ sum_hash 9 → ⊥
 other_byte e = let wrong : 51 ≡ 9 = first_byte 51 9 e in omega (arith, wrong)
 
+-- the strings of both trees
+abbrev both : List (List ℕ)
+both = strings sum_digest small_list ++ strings sum_digest large_list
+
+-- the first of them whose digest has the same first byte
+abbrev with_digest : List ℕ → List ℕ
+with_digest hash = unwrap_or (find (λ s. nat_eq (get_or (sum_digest s) 0 0) (get_or hash 0 0)) both) []
+
+-- each is the only one with its digest
+one_each : (x : List ℕ) → Contains both x → x ≡ with_digest (sum_digest x)
+unfolding strings pairs_of joins fold_of tree_of tree_within split_of power_within sum_digest
+one_each x c =
+    All-contains (λ s. s ≡ with_digest (sum_digest s)) both x
+    (All-from_recursion (λ s. s ≡ with_digest (sum_digest s)) both
+    (refl, refl, refl, refl, refl, refl, refl, refl, refl, refl, refl, refl, tt)) c
+
 pub compares_large : ComparesLarge
 unfolding mth fold_of tree_of tree_within split_of power_within sum_digest
 compares_large = record {
@@ -111,6 +129,9 @@ compares_large = record {
   not_fork = λ own h. fork_of_root own h;
   not_other = λ h. other_root h;
   larger = omega arith;
+  not_prefix = is_forked.not_prefix;
+  no_clash = record { same = λ x y p q e. one_each x (listed_from_has both x p) ∙ ap with_digest e
+      ∙ sym (one_each y (listed_from_has both y q)) };
 }
   where
     fork_of_root : (own : List ℕ) → IsCompared sum_digest large_list (Fork 4 (sum_hash 163) own) → ⊥
@@ -122,10 +143,10 @@ compares_large = record {
 -- ---- the heads that are held
 
 pub held_reported : {A E : Type 0} (digest : List ℕ → List ℕ) (v : View) (items : A → List Compared)
-    (points : List (ℕ × List ℕ)) (r : Result (Option A) E) → ListsHeads v (map pair_point points) →
-    IfOk r (λ o. IfSome o (λ x. ReportsCompared digest v (map pair_point points) (items x))) →
+    (points : List (ℕ × List ℕ)) (r : Result (Option A) E) → ListsHeads v (map point_of points) →
+    IfOk r (λ o. IfSome o (λ x. ReportsCompared digest v (map point_of points) (items x))) →
     IfOk r (λ o. IfSome o (λ x. ReportsHeld digest v (items x)))
 held_reported digest v items points (Err e) listed h = h
 held_reported digest v items points (Ok None) listed h = h
 held_reported digest v items points (Ok (Some x)) listed h =
-    record { heads = map pair_point points; are_heads = listed; reports = h }
+    record { heads = map point_of points; are_heads = listed; reports = h }

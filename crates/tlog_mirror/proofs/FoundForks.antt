@@ -23,7 +23,8 @@ use Rattle.mirror_model.specs.declared.reports.Fork.{Fork}
 use Rattle.mirror_model.specs.declared.reports.Head.{Head}
 use Rattle.mirror_trees.proofs.Marking.{point_total, same_key}
 use Rattle.mirror_trees.proofs.PrefixSteps.{prefix_of_prefix}
-use Rattle.tlog_mirror.specs.Best.{HasKept, by_point, pair_point, IsBuiltFlag}
+use Rattle.mirror_trees.specs.Marked.{point_of}
+use Rattle.tlog_mirror.specs.Best.{HasKept, by_point, IsBuiltFlag}
 use Rattle.tlog_mirror.specs.Branches.{head_pair, IsTwin, IsDeparture}
 use Rattle.tlog_mirror.specs.Kept.{state_of, IsKeptWell}
 use Rattle.tlog_mirror.specs.declared.kept.KeptNote.{KeptNote}
@@ -70,14 +71,14 @@ forks_exact a b h =
 abbrev is_complete : Head → Bool
 is_complete head = head.complete
 
-same_pairs : (heads : List Head) (points : List (ℕ × List ℕ)) → map head_point heads ≡ map pair_point points →
+same_pairs : (heads : List Head) (points : List (ℕ × List ℕ)) → map head_point heads ≡ map point_of points →
     map head_pair heads ≡ points
 same_pairs [] [] e = refl
 same_pairs [] (p ∷ points) e = absurd (cc e)
 same_pairs (h ∷ heads) [] e = absurd (cc e)
 same_pairs (h ∷ heads) (p ∷ points) e =
-    let first : head_point h ≡ pair_point p = cc e in
-    let rest : map head_point heads ≡ map pair_point points = cc e in
+    let first : head_point h ≡ point_of p = cc e in
+    let rest : map head_point heads ≡ map point_of points = cc e in
     let s : h.size ≡ p.0 = ap (λ (q : Point). q.size) first in
     let r : h.root ≡ p.1 = ap (λ (q : Point). q.root) first in
     let tail = same_pairs heads points rest in
@@ -108,7 +109,7 @@ module _ {X : Type 0} (test : X → Bool) where
       at false is rest (inr there) = rest there
 
 module _ (digest : List ℕ → List ℕ) (held : Strings) (heads : List Head) (points : List (ℕ × List ℕ))
-    (same : map head_point heads ≡ map pair_point points) where
+    (same : map head_point heads ≡ map point_of points) where
   abbrev whole : List (ℕ × List ℕ)
   whole = map head_pair (filter is_complete heads)
 
@@ -156,7 +157,7 @@ module _ (digest : List ℕ → List ℕ) (held : Strings) (heads : List Head) (
 
 module _ (digest : List ℕ → List ℕ) (origin : List ℕ) (kept : List KeptNote) (strings : Strings) (remembered : Points)
     (ok : IsKeptWell digest origin kept strings remembered) (points whole : List (ℕ × List ℕ))
-    (exact : (p : ℕ × List ℕ) → Contains points p ↔ HasKept kept (pair_point p))
+    (exact : (p : ℕ × List ℕ) → Contains points p ↔ HasKept kept (point_of p))
     (are_whole : (p : ℕ × List ℕ) → Contains whole p ↔ (Contains points p × IsBuilt digest strings p.0 p.1)) where
   abbrev own : View
   own = (state_of origin kept strings remembered).view
@@ -167,7 +168,7 @@ module _ (digest : List ℕ → List ℕ) (origin : List ℕ) (kept : List KeptN
   listed : (p : ℕ × List ℕ) → HasHead own p.0 p.1 → Contains points p
   listed p h = (exact p).1 (kept_head digest origin kept strings remembered ok p.0 p.1 h)
 
-  are_apart : (a b : ℕ × List ℕ) → by_point a b ≡ Less → pair_point a ≢ pair_point b
+  are_apart : (a b : ℕ × List ℕ) → by_point a b ≡ Less → point_of a ≢ point_of b
   are_apart a b less same =
       let s : a.0 ≡ b.0 = ap (λ (q : Point). q.size) same in
       let r : a.1 ≡ b.1 = ap (λ (q : Point). q.root) same in
@@ -181,7 +182,7 @@ module _ (digest : List ℕ → List ℕ) (origin : List ℕ) (kept : List KeptN
       not ((prefix_of_prefix xs ys xs back short).0 (record { rest = []; is = append-nil xs }))
 
   abbrev Is : Fork → Type 0
-  Is f = IsFork digest own (pair_point f.small) (pair_point f.large) × (by_point f.small f.large ≡ Less)
+  Is f = IsFork digest own (point_of f.small) (point_of f.large) × (by_point f.small f.large ≡ Less)
 
   twin_is : (f : Fork) → IsTwin points f → Is f
   twin_is f w = (
@@ -221,7 +222,7 @@ module _ (digest : List ℕ → List ℕ) (origin : List ℕ) (kept : List KeptN
   is_found : (f : Fork) → Is f → IsTwin points f ⊎ IsDeparture digest strings whole f
   is_found f (i, less) = at i.conflict
     where
-      at : (f.small.0 ≡ f.large.0) ⊎ Disagree digest own (pair_point f.small) (pair_point f.large) →
+      at : (f.small.0 ≡ f.large.0) ⊎ Disagree digest own (point_of f.small) (point_of f.large) →
           IsTwin points f ⊎ IsDeparture digest strings whole f
       at (inl same) =
           inl (record { small = listed f.small i.first_held; large = listed f.large i.second_held; order = less }, same)

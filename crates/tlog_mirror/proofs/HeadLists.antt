@@ -22,14 +22,15 @@ use Rattle.mirror_model.specs.declared.reports.Head.{Head}
 use Rattle.mirror_trees.proofs.Marking.{point_total, point_same, same_key}
 use Rattle.mirror_trees.proofs.Orders.{equal_is}
 use Rattle.tlog_mirror.specs.Kept.{state_of, IsKeptWell}
-use Rattle.tlog_mirror.specs.Best.{HasKept, by_point, pair_point, IsBuiltFlag}
+use Rattle.mirror_trees.specs.Marked.{point_of}
+use Rattle.tlog_mirror.specs.Best.{HasKept, by_point, IsBuiltFlag}
 use Rattle.tlog_mirror.specs.declared.kept.KeptNote.{KeptNote}
 use Rattle.tlog_mirror.proofs.ServedNotes.{unmapped, head_from_kept, kept_head, with_head}
 
 -- ---- the order of sizes and roots, and the test that is equality
 
 pub pairs_total : IsTotalOrder by_point
-pairs_total = on_total pair_point point_total
+pairs_total = on_total point_of point_total
 
 pub pairs_tie : (a b : ℕ × List ℕ) → same_key a b ≡ eq_by_cmp by_point a b
 pairs_tie a b =
@@ -41,7 +42,7 @@ pairs_equivalence = subst IsEquivalence (λ i a b. sym (pairs_tie a b) i) (eq_by
 
 pub pairs_exact : (a b : ℕ × List ℕ) → same_key a b ≡ true → a ≡ b
 pairs_exact a b h =
-    let same = point_same (pair_point a) (pair_point b) (equal_is (by_point a b) (sym (pairs_tie a b) ∙ h)) in
+    let same = point_same (point_of a) (point_of b) (equal_is (by_point a b) (sym (pairs_tie a b) ∙ h)) in
     let s : a.0 ≡ b.0 = ap (λ (p : Point). p.size) same in
     let r : a.1 ≡ b.1 = ap (λ (p : Point). p.root) same in
     λ i. (s i, r i)
@@ -81,11 +82,11 @@ module _ {X Y : Type 0} (f : X → Y) (cmp : Y → Y → Ordering) where
 
 -- the sizes and roots of the notes that are kept
 pub kept_points : (kept : List KeptNote) (p : ℕ × List ℕ) →
-    Contains (map (λ (one : KeptNote). (one.size, one.root)) kept) p ↔ HasKept kept (pair_point p)
+    Contains (map (λ (one : KeptNote). (one.size, one.root)) kept) p ↔ HasKept kept (point_of p)
 kept_points kept p = (
   λ c. let s =
       source_of (λ (one : KeptNote). (one.size, one.root)) kept p c in record
-      { one = s.0; is_kept = s.1; is = ap pair_point s.2 },
+      { one = s.0; is_kept = s.1; is = ap point_of s.2 },
   λ h.
       let pair : ℕ × List ℕ = (h.one.size, h.one.root) in
       let s : h.one.size ≡ p.0 = ap (λ (q : Point). q.size) h.is in
@@ -101,26 +102,26 @@ module _ (digest : List ℕ → List ℕ) (origin : List ℕ) (kept : List KeptN
     (ok : IsKeptWell digest origin kept strings remembered) (old : State)
     (old_is : state_of origin kept strings remembered ≡ old) (points : List (ℕ × List ℕ))
     (sorted : IsStrictlySortedBy by_point points)
-    (exact : (p : ℕ × List ℕ) → Contains points p ↔ HasKept kept (pair_point p)) where
+    (exact : (p : ℕ × List ℕ) → Contains points p ↔ HasKept kept (point_of p)) where
   abbrev own : View
   own = (state_of origin kept strings remembered).view
 
-  head_listed : (point : Point) → Contains (map pair_point points) point → HasHead own point.size point.root
+  head_listed : (point : Point) → Contains (map point_of points) point → HasHead own point.size point.root
   head_listed point c =
-      let s = source_of pair_point points point c in
+      let s = source_of point_of points point c in
       let h = (exact s.0).0 s.1 in
       head_from_kept digest origin kept strings remembered ok point.size point.root (subst (HasKept kept) s.2 h)
 
-  listed_head : (point : Point) → HasHead own point.size point.root → Contains (map pair_point points) point
+  listed_head : (point : Point) → HasHead own point.size point.root → Contains (map point_of points) point
   listed_head point h =
       let k = kept_head digest origin kept strings remembered ok point.size point.root h in
-      mapped pair_point points (point.size, point.root) ((exact (point.size, point.root)).1 k)
+      mapped point_of points (point.size, point.root) ((exact (point.size, point.root)).1 k)
 
-  reports : (heads : List Head) → map head_point heads ≡ map pair_point points →
+  reports : (heads : List Head) → map head_point heads ≡ map point_of points →
       All (IsBuiltFlag digest strings) heads → ReportsHeads digest old.view heads
   reports heads same flags = record {
     lists = record {
-      sorted = subst (IsStrictlySortedBy point_cmp) (sym same) (sorted_out pair_point point_cmp points sorted);
+      sorted = subst (IsStrictlySortedBy point_cmp) (sym same) (sorted_out point_of point_cmp points sorted);
       exact = λ point. (
         λ c. subst (λ (o : State). HasHead o.view point.size point.root) old_is
             (head_listed point (subst (λ xs. Contains xs point) same c)),
@@ -137,16 +138,16 @@ module _ (digest : List ℕ → List ℕ) (origin : List ℕ) (kept : List KeptN
   }
 
   pub reported : {A E : Type 0} (items : A → List Head) (r : Result A E) →
-      IfOk r (λ heads. map head_point (items heads) ≡ map pair_point points) →
+      IfOk r (λ heads. map head_point (items heads) ≡ map point_of points) →
       IfOk r (λ heads. All (IsBuiltFlag digest strings) (items heads)) →
       IfOk r (λ heads. ReportsHeads digest old.view (items heads))
   reported items (Err e) p q = p
   reported items (Ok heads) p q = reports (items heads) p q
 
   -- the sizes and roots are those of the heads
-  pub listed_points : ListsHeads old.view (map pair_point points)
+  pub listed_points : ListsHeads old.view (map point_of points)
   listed_points = record {
-    sorted = sorted_out pair_point point_cmp points sorted;
+    sorted = sorted_out point_of point_cmp points sorted;
     exact = λ point. (
       λ c. subst (λ (o : State). HasHead o.view point.size point.root) old_is (head_listed point c),
       λ h. listed_head point (subst (λ (o : State). HasHead o.view point.size point.root) (sym old_is) h),

@@ -28,9 +28,11 @@ use Rattle.mirror_model.specs.Marks.{Points, State}
 use Rattle.mirror_model.proofs.StringSets.{listed_from_has, has_from_listed}
 use Rattle.mirror_model.proofs.HeadNotes.{head_once}
 use Rattle.tlog_mirror.specs.Kept.{state_of, note_bytes, IsKeptWell}
-use Rattle.tlog_mirror.specs.Best.{served_cmp, pair_point, kept_point, HasKept, IsBuiltAt, IsBest, IsBestOf}
+use Rattle.mirror_trees.specs.Marked.{point_of}
+use Rattle.tlog_mirror.specs.Best.{served_cmp, kept_point, HasKept, IsBuiltAt, IsBest, IsBestOf}
 use Rattle.tlog_mirror.specs.Best.{IsFirstWith}
-use Rattle.tlog_mirror.specs.Tops.{IsServedAs, ServesNothing}
+use Rattle.mirror_model.specs.Reports.{SaysServed}
+use Rattle.tlog_mirror.specs.Tops.{IsServedAs}
 use Rattle.tlog_mirror.specs.declared.kept.KeptNote.{KeptNote}
 use Rattle.tlog_mirror.proofs.BestNotes.{any_default}
 
@@ -201,7 +203,7 @@ module _ (digest : List ℕ → List ℕ) (origin : List ℕ) (kept : List KeptN
       };
     }
 
-  pub nothing_served : IsBestOf digest strings kept None → ServesNothing digest v
+  pub nothing_served : IsBestOf digest strings kept None → SaysServed digest v None
   nothing_served none note size root entries served =
       let k = kept_of note size root served.holds in
       none k.one (k.at, k.within, k.is_there)
@@ -238,21 +240,21 @@ module _ (digest : List ℕ → List ℕ) (origin : List ℕ) (kept : List KeptN
     (ok : IsKeptWell digest origin kept strings remembered) (old : State)
     (old_is : state_of origin kept strings remembered ≡ old) where
   pub first_served : (p : ℕ × List ℕ) (r : Option (Bor KeptNote)) → IsBestOf digest strings kept (Some p) →
-      IfSome r (λ one. IsFirstWith kept (pair_point p) one.now) →
+      IfSome r (λ one. IsFirstWith kept (point_of p) one.now) →
       IfSome r (λ one. IsServedAs digest old.view one.now.note.bytes one.now.size one.now.root)
   first_served p None best f = f
   first_served p (Some one) best f =
       subst (λ (o : State). IsServedAs digest o.view one.now.note.bytes one.now.size one.now.root) old_is
-      (is_served digest origin kept strings remembered ok (pair_point p) one.now best f)
+      (is_served digest origin kept strings remembered ok (point_of p) one.now best f)
 
   pub first_found : (p : ℕ × List ℕ) (r : Option (Bor KeptNote)) → IsBestOf digest strings kept (Some p) →
-      IfNone r (HasKept kept (pair_point p) → ⊥) → IfNone r (ServesNothing digest old.view)
+      IfNone r (HasKept kept (point_of p) → ⊥) → IfNone r (SaysServed digest old.view None)
   first_found p None best none = absurd (none best.has)
   first_found p (Some one) best none = none
 
-  pub none_served : IsBestOf digest strings kept None → ServesNothing digest old.view
+  pub none_served : IsBestOf digest strings kept None → SaysServed digest old.view None
   none_served none =
-      subst (λ (o : State). ServesNothing digest o.view) old_is
+      subst (λ (o : State). SaysServed digest o.view None) old_is
       (nothing_served digest origin kept strings remembered ok none)
 
   module _ (size : ℕ) (root : List ℕ) where

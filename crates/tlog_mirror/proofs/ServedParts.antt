@@ -16,7 +16,8 @@ use Rattle.mirror_model.specs.Served.{IsCompleteNote}
 use Rattle.mirror_model.proofs.StringSets.{all_from_held}
 use Rattle.mirror_model.proofs.FullBundles.{strings_leaf}
 use Rattle.mirror_model.proofs.OneLists.{serves_one, only}
-use Rattle.tlog_mirror.specs.Tops.{Top, IsWhole, IsListOf, IsServedAs, IsServedTop, ServesNothing, TopHasServed}
+use Rattle.mirror_model.specs.Reports.{SaysServed}
+use Rattle.tlog_mirror.specs.Tops.{Top, IsWhole, IsListOf, IsServedAs, IsServedTop, TopHasServed}
 use Rattle.tlog_mirror.specs.Tops.{ProofsAreServed}
 
 module _ (digest : List ℕ → List ℕ) (v : View) where
@@ -127,7 +128,7 @@ module _ (digest : List ℕ → List ℕ) (v : View) where
 
   -- ---- nothing
 
-  module _ (nothing : ServesNothing digest v) where
+  module _ (nothing : SaysServed digest v None) where
     nothing_listed : (es : List (List ℕ)) → IsServedList digest v es → ⊥
     nothing_listed es q = nothing q.note q.size q.root es q.served
 

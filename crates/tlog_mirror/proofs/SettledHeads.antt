@@ -12,7 +12,8 @@ use Rattle.mirror_model.specs.Marks.{Points, IsMark}
 use Rattle.mirror_trees.specs.Known.{HasMark}
 use Rattle.mirror_trees.specs.Slices.{HasSlices, IsSliceOf, AreSettled}
 use Rattle.mirror_trees.proofs.Settles.{marks_are_slices}
-use Rattle.tlog_mirror.specs.Best.{HasKept, pair_point}
+use Rattle.mirror_trees.specs.Marked.{point_of}
+use Rattle.tlog_mirror.specs.Best.{HasKept}
 use Rattle.tlog_mirror.specs.Kept.{state_of, IsKeptWell}
 use Rattle.tlog_mirror.specs.Settled.{HasSlicesOf, GainsAny}
 use Rattle.tlog_mirror.specs.declared.kept.KeptNote.{KeptNote}
@@ -85,7 +86,7 @@ module _ (digest : List ℕ → List ℕ) (held : Strings) where
 
 module _ (digest : List ℕ → List ℕ) (origin : List ℕ) (kept : List KeptNote) (strings : Strings)
     (remembered now : Points) (ok : IsKeptWell digest origin kept strings remembered) (heads : List (ℕ × List ℕ))
-    (exact : (p : ℕ × List ℕ) → Contains heads p ↔ HasKept kept (pair_point p))
+    (exact : (p : ℕ × List ℕ) → Contains heads p ↔ HasKept kept (point_of p))
     (gains : GainsAny digest strings heads remembered now) where
   abbrev view : View
   view = (state_of origin kept strings remembered).view

@@ -12,11 +12,8 @@ use Rattle.node_store.specs.Strings.{Strings}
 use Rattle.mirror_model.specs.Complete.{IsBuilt}
 use Rattle.mirror_model.specs.Forks.{Point, point_cmp}
 use Rattle.mirror_model.specs.declared.reports.Head.{Head}
+use Rattle.mirror_trees.specs.Marked.{point_of}
 use Rattle.tlog_mirror.specs.declared.kept.KeptNote.{KeptNote}
-
--- a size and a root, as code has them in a pair
-abbrev pub pair_point : ℕ × List ℕ → Point
-pair_point p = record { size = p.0; root = p.1 }
 
 -- the size and the root that a kept note says
 abbrev pub kept_point : KeptNote → Point
@@ -24,7 +21,7 @@ kept_point kept = record { size = kept.size; root = kept.root }
 
 -- the order of pairs of a size and a root: by size, and then by root
 abbrev pub by_point : ℕ × List ℕ → ℕ × List ℕ → Ordering
-by_point a b = point_cmp (pair_point a) (pair_point b)
+by_point a b = point_cmp (point_of a) (point_of b)
 
 -- which of two complete heads is served before the other: the one of the greater size, then the one
 -- of the lesser root
@@ -34,7 +31,7 @@ served_cmp a b = ordering_then (nat_cmp b.size a.size) (slice_cmp nat_cmp a.root
 -- the head is served before the one that was found, if one was
 abbrev pub IsAhead : Point → Option (ℕ × List ℕ) → Type 0
 IsAhead point None = ⊤
-IsAhead point (Some found) = served_cmp point (pair_point found) ≡ Less
+IsAhead point (Some found) = served_cmp point (point_of found) ≡ Less
 
 -- a kept note has that size and root
 pub record HasKept (kept : List KeptNote) (point : Point) : Type 0 where
@@ -62,7 +59,7 @@ module _ (digest : List ℕ → List ℕ) (held : Strings) where
   -- of which none is served before it
   abbrev pub IsBestOf : List KeptNote → Option (ℕ × List ℕ) → Type 0
   IsBestOf kept None = (other : KeptNote) → Contains kept other → ¬ IsBuiltAt (kept_point other)
-  IsBestOf kept (Some found) = IsBest kept (pair_point found)
+  IsBestOf kept (Some found) = IsBest kept (point_of found)
 
 -- the note is the first of the kept notes of that size and root
 pub record IsFirstWith (kept : List KeptNote) (point : Point) (one : KeptNote) : Type 0 where

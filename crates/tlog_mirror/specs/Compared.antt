@@ -1,6 +1,7 @@
 -- How heads compare with the entries that are served. It takes no entries of the head itself: so a
 -- checkpoint whose entries were taken away again is told too.
 use Rattle.std.specs.Prelude.{◌≡◌, ◌≢◌, ℕ, ◌<◌, ◌≤◌, List, [], ◌∷◌, ◌++◌, length, map, take, All, codes}
+use Rattle.std.specs.FinSet.{from_list}
 use Rattle.std.specs.List.{flat_map}
 use Rattle.tlog_text.specs.Hash.{base64_of}
 use Rattle.tlog_hash.specs.Tree.{mth, strings}
@@ -100,3 +101,10 @@ pub record ComparesLarge : Type 0 where
       (own : List ℕ) → ¬ IsCompared sum_digest large_list (Fork 4 (sum_hash 163) own)
   pub not_other : ¬ IsCompared sum_digest large_list (Fork 2 (sum_hash 9) (sum_hash 163))
   pub larger : IsCompared sum_digest large_list (Larger 5 (sum_hash 9))
+
+  -- small_list has the size and root of that `same`, and is no beginning of large_list, though no two
+  -- strings of their trees collide: those of the beginning's edge are in neither tree
+  pub not_prefix : ¬ IsPrefix small_list large_list
+  pub no_clash :
+      NoClash sum_digest
+      (from_list (strings sum_digest small_list ++ strings sum_digest large_list))

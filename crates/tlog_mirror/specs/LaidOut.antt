@@ -1,4 +1,5 @@
--- What is served, laid out in memory. The contracts of private functions alone cite this word.
+-- What is served, laid out in memory. The invariant of `Mirror` cites this word, and so do the
+-- contracts of private functions.
 use Rattle.std.specs.Prelude.{ℕ, List, Option, Some, None, ⊤}
 use Rattle.mirror_model.specs.View.{View}
 use Rattle.mirror_model.specs.Served.{Served}

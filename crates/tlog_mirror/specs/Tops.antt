@@ -52,12 +52,6 @@ module _ (digest : List ℕ → List ℕ) where
     pub strings_are : top.strings ≡ v.strings
     pub served : IsServedAs v top.note top.size top.root
 
-  -- the view serves nothing
-  abbrev pub ServesNothing : View → Type 0
-  ServesNothing v =
-      (note : List ℕ) (size : ℕ) (root : List ℕ) (entries : List (List ℕ)) →
-      ¬ Served digest v note size root entries
-
 -- the top of a lawful view stands for exactly the entries that are served
 abbrev pub TopHasServed : Type 0
 TopHasServed =

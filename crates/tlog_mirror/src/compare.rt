@@ -1,9 +1,10 @@
 //! Heads compared with what is served: a checkpoint that was shown once, though its entries cannot be had.
-ghost use Rattle.std.specs.Prelude.{◌≡◌, ◌++◌, ◌∷◌, [], ℕ, List, map, All, IfOk, IfSome, IfNone, OnOk, string_bytes};
+ghost use Rattle.std.specs.Prelude.{◌≡◌, ◌++◌, ◌∷◌, [], ℕ, List, map, All, IfOk, IfSome, IfNone, None, OnOk, string_bytes};
 ghost use Rattle.mirror_model.specs.Texts.{point_text};
-ghost use Rattle.tlog_mirror.specs.Best.{pair_point};
+ghost use Rattle.mirror_trees.specs.Marked.{point_of};
 ghost use Rattle.tlog_mirror.specs.Compared.{IsCompared, ReportsCompared, ReportsHeld, compared_line, compared_point, compared_text};
-ghost use Rattle.tlog_mirror.specs.Tops.{IsListOf, ServesNothing};
+ghost use Rattle.mirror_model.specs.Reports.{SaysServed};
+ghost use Rattle.tlog_mirror.specs.Tops.{IsListOf};
 ghost use Rattle.tlog_mirror.specs.declared.compare.Compared.TheVariants.{Fork};
 
 use crate::heads::points_of;
@@ -65,8 +66,8 @@ impl<H: TreeHash> Mirror<H> {
     ) -> Result<Option<Vec<Compared>>, AllocError>
         ensures some { IfOk result
             (λ o. IfSome o (λ compared. ReportsCompared H.digest self.now.view
-            (map pair_point heads.now) compared.items)) }
-        ensures none { IfOk result (λ o. IfNone o (ServesNothing H.digest self.now.view)) }
+            (map point_of heads.now) compared.items)) }
+        ensures none { IfOk result (λ o. IfNone o (SaysServed H.digest self.now.view None)) }
     {
         let Some(top) = self.top_ranges() else {
             return Ok(None);
@@ -87,7 +88,7 @@ impl<H: TreeHash> Mirror<H> {
     pub fn compare_heads(&self, alloc: Global) -> Result<Option<Vec<Compared>>, AllocError>
         ensures some { IfOk result
             (λ o. IfSome o (λ compared. ReportsHeld H.digest self.now.view compared.items)) }
-        ensures none { IfOk result (λ o. IfNone o (ServesNothing H.digest self.now.view)) }
+        ensures none { IfOk result (λ o. IfNone o (SaysServed H.digest self.now.view None)) }
     {
         let heads = points_of(alloc, self.kept.as_slice())?;
         self.compare(alloc, heads.as_slice())
@@ -101,7 +102,7 @@ fn compare_all<H: TreeHash>(
     heads: &[(u64, Hash)],
 ) -> Result<Vec<Compared>, AllocError>
     ensures heads { IfOk result (λ compared. map compared_point compared.items
-        ≡ map pair_point heads.now) }
+        ≡ map point_of heads.now) }
     ensures each { (entries : List (List ℕ)) → IsListOf H.digest top.now entries
         → IfOk result (λ compared. All (IsCompared H.digest entries) compared.items) }
 {

@@ -5,7 +5,8 @@ ghost use Rattle.std.specs.List.Sorted.{IsStrictlySortedBy};
 ghost use Rattle.mirror_model.specs.Complete.{IsComplete};
 ghost use Rattle.mirror_model.specs.Reports.{ReportsHeads, head_point};
 ghost use Rattle.mirror_trees.specs.Known.{AreKnown};
-ghost use Rattle.tlog_mirror.specs.Best.{HasKept, by_point, pair_point, IsBuiltFlag};
+ghost use Rattle.mirror_trees.specs.Marked.{point_of};
+ghost use Rattle.tlog_mirror.specs.Best.{HasKept, by_point, IsBuiltFlag};
 
 use crate::best::first_with;
 use crate::kept::KeptNote;
@@ -48,7 +49,7 @@ pub(crate) fn flag_heads<H: TreeHash>(
     points: &[(u64, Hash)],
 ) -> Result<Vec<Head>, AllocError>
     requires { AreKnown H.digest store.now known.now }
-    ensures points { IfOk result (λ heads. map head_point heads.items ≡ map pair_point points.now) }
+    ensures points { IfOk result (λ heads. map head_point heads.items ≡ map point_of points.now) }
     ensures flags { IfOk result (λ heads. All (IsBuiltFlag H.digest store.now) heads.items) }
 {
     let mut heads = Vec::with_capacity(alloc, points.len())?;
@@ -77,7 +78,7 @@ fn head_of<H: TreeHash>(store: &Store<H>, known: &Known, size: u64, root: &Hash)
 pub(crate) fn points_of(alloc: Global, kept: &[KeptNote]) -> Result<Vec<(u64, Hash)>, AllocError>
     ensures sorted { IfOk result (λ points. IsStrictlySortedBy by_point points.items) }
     ensures exact { IfOk result (λ points. (p : ℕ × List ℕ) → Contains points.items p
-        ↔ HasKept kept.now (pair_point p)) }
+        ↔ HasKept kept.now (point_of p)) }
 {
     let mut points = all_points(alloc, kept)?;
     put_in_order(&mut points);

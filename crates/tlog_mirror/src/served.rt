@@ -1,10 +1,10 @@
 //! What a mirror serves.
-ghost use Rattle.std.specs.Prelude.{ℕ, List, IfOk, IfSome, IfNone};
+ghost use Rattle.std.specs.Prelude.{ℕ, List, IfOk, IfSome, IfNone, None};
 ghost use Rattle.mirror_model.specs.Served.{IsRangeHash, IsServedBundle, IsServedNote, IsServedTile, Replies};
 ghost use Rattle.mirror_model.specs.Reports.{SaysServed};
 ghost use Rattle.std.specs.Option.{option_map};
-ghost use Rattle.tlog_mirror.specs.Best.{pair_point};
-ghost use Rattle.tlog_mirror.specs.Tops.{IsServedAs, IsServedTop, ServesNothing};
+ghost use Rattle.mirror_trees.specs.Marked.{point_of};
+ghost use Rattle.tlog_mirror.specs.Tops.{IsServedAs, IsServedTop};
 
 use crate::best::{best_of, first_with};
 use crate::kept::KeptNote;
@@ -23,7 +23,7 @@ impl<H: TreeHash> Mirror<H> {
     /// memory.
     pub fn top_ranges(&self) -> Option<TopRanges<'_, H>>
         ensures some { IfSome result (λ top. IsServedTop H.digest self.now.view top) }
-        ensures none { IfNone result (ServesNothing H.digest self.now.view) }
+        ensures none { IfNone result (SaysServed H.digest self.now.view None) }
     {
         let Some(kept) = self.served_note() else {
             return None;
@@ -40,7 +40,7 @@ impl<H: TreeHash> Mirror<H> {
     /// The checkpoint's note that is served, as `top_ranges` finds it. It takes no memory.
     pub fn top(&self) -> Option<&Note>
         ensures some { IfSome result (λ note. IsServedNote H.digest self.now.view note.now.bytes) }
-        ensures none { IfNone result (ServesNothing H.digest self.now.view) }
+        ensures none { IfNone result (SaysServed H.digest self.now.view None) }
     {
         let Some(kept) = self.served_note() else {
             return None;
@@ -50,7 +50,7 @@ impl<H: TreeHash> Mirror<H> {
 
     // The size and root that are served.
     pub(crate) fn served_point(&self) -> Option<(u64, Hash)>
-        ensures { SaysServed H.digest self.now.view (option_map pair_point result) }
+        ensures { SaysServed H.digest self.now.view (option_map point_of result) }
     {
         let Some(kept) = self.served_note() else {
             return None;
@@ -63,7 +63,7 @@ impl<H: TreeHash> Mirror<H> {
     pub(crate) fn served_note(&self) -> Option<&KeptNote>
         ensures some { IfSome result (λ kept. IsServedAs H.digest self.now.view kept.now.note.bytes
             kept.now.size kept.now.root) }
-        ensures none { IfNone result (ServesNothing H.digest self.now.view) }
+        ensures none { IfNone result (SaysServed H.digest self.now.view None) }
     {
         match &self.laid {
             Some(laid) => Some(&laid.0),
@@ -75,7 +75,7 @@ impl<H: TreeHash> Mirror<H> {
     fn found_note(&self) -> Option<&KeptNote>
         ensures some { IfSome result (λ kept. IsServedAs H.digest self.now.view kept.now.note.bytes
             kept.now.size kept.now.root) }
-        ensures none { IfNone result (ServesNothing H.digest self.now.view) }
+        ensures none { IfNone result (SaysServed H.digest self.now.view None) }
     {
         let Some(best) = best_of(&self.strings, &self.known, self.kept.as_slice()) else {
             return None;

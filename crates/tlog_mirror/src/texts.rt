@@ -4,7 +4,7 @@ ghost use Rattle.std.specs.Option.{option_map};
 ghost use Rattle.std.specs.List.{flat_map};
 ghost use Rattle.mirror_model.specs.Heads.{HasHead};
 ghost use Rattle.mirror_model.specs.Texts.{IsForksText, IsMissingText, IsStatusText, fork_line, forks_text, head_line, missing_text, path_line, point_text, served_line};
-ghost use Rattle.tlog_mirror.specs.Best.{pair_point};
+ghost use Rattle.mirror_trees.specs.Marked.{point_of};
 
 use crate::mirror::Mirror;
 use mirror_model::{Fork, Head};
@@ -111,7 +111,7 @@ fn push_heads(text: &mut String, heads: &[Head]) -> Result<(), AllocError>
 // Adds the line of what is served.
 fn push_served(text: &mut String, served: &Option<(u64, Hash)>) -> Result<(), AllocError>
     ensures { OnOk result (string_bytes text.new ≡ string_bytes text.old
-        ++ served_line (option_map pair_point served.now)) }
+        ++ served_line (option_map point_of served.now)) }
 {
     match served {
         Some(point) => {

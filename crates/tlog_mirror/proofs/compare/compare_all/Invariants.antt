@@ -1,13 +1,13 @@
 use Rattle.std.proofs.Common.{◌≡◌, ℕ, List, map, take}
 use Rattle.std.specs.Prelude.{All}
-use Rattle.tlog_mirror.specs.Best.{pair_point}
+use Rattle.mirror_trees.specs.Marked.{point_of}
 use Rattle.tlog_mirror.specs.Compared.{IsCompared, compared_point}
 use Rattle.tlog_mirror.specs.Tops.{IsListOf}
 use Rattle.tlog_mirror.proofs.compare.compare_all.Given as goal
 
 abbrev pub invariant-loop-head : goal.invariant-loop-head
 invariant-loop-head g l = record {
-  heads : map compared_point l.compared.items ≡ map pair_point (take l.head-index l.heads);
+  heads : map compared_point l.compared.items ≡ map point_of (take l.head-index l.heads);
   each : (entries : List (List ℕ)) → IsListOf g.H.TreeHash.digest l.top entries →
       All (IsCompared g.H.TreeHash.digest entries) l.compared.items;
 }

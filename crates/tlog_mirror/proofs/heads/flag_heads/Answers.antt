@@ -2,7 +2,8 @@ use Rattle.std.proofs.Common.{◌≡◌, ℕ, ◌+◌, ◌<◌, List, [], ◌∷
 use Rattle.std.proofs.lemmas.List.{map-append, take_more, take_all}
 use Rattle.std.proofs.lemmas.List.Elements.{All-push, All-same}
 use Rattle.mirror_model.specs.Reports.{head_point}
-use Rattle.tlog_mirror.specs.Best.{IsBuiltFlag, pair_point}
+use Rattle.mirror_trees.specs.Marked.{point_of}
+use Rattle.tlog_mirror.specs.Best.{IsBuiltFlag}
 use Rattle.tlog_mirror.proofs.heads.flag_heads.Goals as goal
 
 -- what was pushed is seen as the next of the other list
@@ -15,7 +16,7 @@ seen_more f g xs i d old new y within is before now =
 
 pub loop-point-preserved : goal.loop-point-preserved
 loop-point-preserved g c = record {
-  points = seen_more head_point pair_point c.args.points.now c.loop-point.point-index _ c.loop-point.heads.items
+  points = seen_more head_point point_of c.args.points.now c.loop-point.point-index _ c.loop-point.heads.items
       c.push.new.self.items c.head_of.result c.loop-point-test.true c.in_ok-push.ensures.items
       c.loop-point.invariant.points c.head_of.ensures.point;
   flags = All-same (IsBuiltFlag g.H.TreeHash.digest c.args.store.now) _ _ c.in_ok-push.ensures.items
@@ -26,4 +27,4 @@ loop-point-preserved g c = record {
 pub returns-clause-points : goal.returns-clause-points
 returns-clause-points g c =
     c.loop-point.invariant.points ∙
-    ap (map pair_point) (take_all c.loop-point.point-index c.args.points.now c.loop-point-test.false)
+    ap (map point_of) (take_all c.loop-point.point-index c.args.points.now c.loop-point-test.false)

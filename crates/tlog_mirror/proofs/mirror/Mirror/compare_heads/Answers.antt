@@ -1,7 +1,8 @@
 use Rattle.std.proofs.Common.{ℕ, List, subst}
 use Rattle.std.specs.Prelude.{◌↔◌, string_bytes}
 use Rattle.std.specs.List.{Contains}
-use Rattle.tlog_mirror.specs.Best.{HasKept, pair_point}
+use Rattle.mirror_trees.specs.Marked.{point_of}
+use Rattle.tlog_mirror.specs.Best.{HasKept}
 use Rattle.tlog_mirror.proofs.ComparedHeads.{held_reported}
 use Rattle.tlog_mirror.proofs.HeadLists.{listed_points}
 use Rattle.tlog_mirror.proofs.mirror.Mirror.compare_heads.Goals as goal
@@ -11,7 +12,7 @@ returns-clause-some g c =
     let points = c.in_ok-heads.heads.items in
     let exact =
     subst (λ kept. (p : ℕ × List ℕ) →
-    Contains points p ↔ HasKept kept (pair_point p)) c.as_slice.ensures.value c.in_ok-heads.ensures.exact in
+    Contains points p ↔ HasKept kept (point_of p)) c.as_slice.ensures.value c.in_ok-heads.ensures.exact in
     held_reported g.H.TreeHash.digest c.args.self.now.view (λ x. x.items) points c.compare.result
     (listed_points g.H.TreeHash.digest
     (string_bytes c.self.inside.origin) c.self.inside.kept.items c.self.inside.strings c.self.inside.known.remembered

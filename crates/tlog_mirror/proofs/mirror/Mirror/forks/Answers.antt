@@ -2,7 +2,8 @@ use Rattle.std.proofs.Common.{ℕ, List, subst}
 use Rattle.std.specs.Prelude.{◌↔◌, string_bytes}
 use Rattle.std.specs.List.{Contains}
 use Rattle.mirror_model.specs.Complete.{IsBuilt}
-use Rattle.tlog_mirror.specs.Best.{HasKept, pair_point}
+use Rattle.mirror_trees.specs.Marked.{point_of}
+use Rattle.tlog_mirror.specs.Best.{HasKept}
 use Rattle.tlog_mirror.proofs.FoundForks.{reports_forks}
 use Rattle.tlog_mirror.proofs.mirror.Mirror.forks.Goals as goal
 
@@ -12,7 +13,7 @@ returns g c =
     let whole = c.in_ok-whole.whole.items in
     let exact =
     subst (λ kept. (p : ℕ × List ℕ) →
-    Contains points p ↔ HasKept kept (pair_point p)) c.as_slice.ensures.value c.in_ok-points.ensures.exact in
+    Contains points p ↔ HasKept kept (point_of p)) c.as_slice.ensures.value c.in_ok-points.ensures.exact in
     let are_whole =
     subst (λ ps. (p : ℕ × List ℕ) →
     Contains whole p

@@ -2,7 +2,8 @@ use Rattle.std.proofs.Common.{ℕ, List, subst}
 use Rattle.std.specs.Prelude.{◌↔◌, string_bytes}
 use Rattle.std.specs.List.{Contains}
 use Rattle.tlog_mirror.proofs.KnownTrees.{all_known}
-use Rattle.tlog_mirror.specs.Best.{HasKept, pair_point}
+use Rattle.mirror_trees.specs.Marked.{point_of}
+use Rattle.tlog_mirror.specs.Best.{HasKept}
 use Rattle.tlog_mirror.proofs.HeadLists.{reported}
 use Rattle.tlog_mirror.proofs.mirror.Mirror.heads.Goals as goal
 
@@ -14,7 +15,7 @@ returns g c =
     let points = c.in_ok-points.points.items in
     let exact =
     subst (λ kept. (p : ℕ × List ℕ) →
-    Contains points p ↔ HasKept kept (pair_point p)) c.as_slice.ensures.value c.in_ok-points.ensures.exact in
+    Contains points p ↔ HasKept kept (point_of p)) c.as_slice.ensures.value c.in_ok-points.ensures.exact in
     reported g.H.TreeHash.digest
     (string_bytes c.self.inside.origin) c.self.inside.kept.items c.self.inside.strings c.self.inside.known.remembered
     c.self.invariant.0 c.args.self.now c.self.view_is
