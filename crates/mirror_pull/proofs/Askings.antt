@@ -8,7 +8,7 @@ use Rattle.mirror_sources.specs.Told.{AddsTold, KeepsTold}
 use Rattle.mirror_pull.specs.Asking.{IsOnce, Adds, AddsTo, AddsSome, AsksPaths}
 use Rattle.std.proofs.Common.{Vec, Global}
 use Rattle.mirror_sources.specs.Source.{TellsGet, StaysWithin}
-use Rattle.mirror_sources.specs.Replies.{Reply, paths_of, MayReply}
+use Rattle.mirror_sources.specs.Replies.{Reply, asked_paths, MayReply}
 use Rattle.mirror_pull.specs.Replying.{with_replies}
 use Rattle.mirror_pull.specs.Faults.{of_source}
 use Rattle.mirror_sources.specs.declared.source.SourceFault.{SourceFault}
@@ -104,13 +104,13 @@ from_none before a b e p = subst (λ (l : List Path). AddsSome l a b) e p
 
 -- ---- replies, one after another
 
-pub paths_then : (xs ys : List Reply) → paths_of (xs ++ ys) ≡ paths_of xs ++ paths_of ys
+pub paths_then : (xs ys : List Reply) → asked_paths (xs ++ ys) ≡ asked_paths xs ++ asked_paths ys
 paths_then xs ys = map-append (λ (r : Reply). r.path) xs ys
 
 pub with_then : (asked : List Path) (xs ys : List Reply) →
     with_replies asked (xs ++ ys) ≡ with_replies (with_replies asked xs) ys
 with_then asked xs ys =
-    ap (λ (l : List Path). asked ++ l) (paths_then xs ys) ∙ sym (append_assoc asked (paths_of xs) (paths_of ys))
+    ap (λ (l : List Path). asked ++ l) (paths_then xs ys) ∙ sym (append_assoc asked (asked_paths xs) (asked_paths ys))
 
 pub may_then : (may : Path → Option (List ℕ) → Type 0) (xs ys : List Reply) → MayReply may xs → MayReply may ys →
     MayReply may (xs ++ ys)

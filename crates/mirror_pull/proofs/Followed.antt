@@ -17,7 +17,7 @@ use Rattle.mirror_sources.specs.Replies.{Reply, reply}
 use Rattle.mirror_pull.specs.Answering.{of_take}
 use Rattle.mirror_pull.specs.Taking.{EndsBeforeHead, EndsAfterHead}
 use Rattle.mirror_pull.specs.Replying.{Asks, AsksNew, AsksAgain, GivesRows, Gathers, Replied, HasNoEdge}
-use Rattle.mirror_pull.specs.Replying.{HasBadNote, HasBadRows, IsPulledBy, FollowsReplies, RefusesHead, AreWorkedRounds}
+use Rattle.mirror_pull.specs.Replying.{HasRefusedNote, HasRefusedRows, IsPulledBy, FollowsReplies, RefusesHead, AreWorkedRounds}
 use Rattle.mirror_pull.specs.Replying.{ArePullRounds, with_replies}
 use Rattle.mirror_pull.specs.declared.pulling.Pulled.{Pulled}
 use Rattle.mirror_pull.specs.declared.fault.PullFault.{PullFault}
@@ -80,7 +80,7 @@ module _ (digest : List ℕ → List ℕ) (keys : List Key) (v w : View) (may : 
   follows_edge OutOfMemory early why = tt
 
   bad_note : (note : List ℕ) (f : TakeFault) → ReadsHead note v.origin keys (Err f) →
-      Replied digest keys v w may old new (reply Checkpoint (Some note) ∷ []) → HasBadNote digest keys v w may old new f
+      Replied digest keys v w may old new (reply Checkpoint (Some note) ∷ []) → HasRefusedNote digest keys v w may old new f
   bad_note note f reads replied = record { note = note; refused = reads; replied = replied }
 
   follows_note : (note : List ℕ) (f : TakeFault) → ReadsHead note v.origin keys (Err f) →
@@ -107,7 +107,7 @@ module _ (digest : List ℕ → List ℕ) (keys : List Key) (v w : View) (may : 
 
   pub follows_head : (note : List ℕ) (rows : List (List ℕ)) (e : PullFault) →
       RefusesHead digest v.origin keys note rows e →
-      ((f : TakeFault) → JudgesHead digest v.origin keys note rows (Err f) → HasBadRows digest keys v w may old new f) →
+      ((f : TakeFault) → JudgesHead digest v.origin keys note rows (Err f) → HasRefusedRows digest keys v w may old new f) →
       FollowsReplies digest keys v w may old new (Err e)
   follows_head note rows NoCheckpoint r why = absurd r
   follows_head note rows NoEdge r why = absurd r

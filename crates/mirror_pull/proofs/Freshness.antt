@@ -10,9 +10,9 @@ use Rattle.tlog_tiles.specs.Edge.{edge_of, level_of}
 use Rattle.tlog_tiles.proofs.EdgeLemmas.{edge_rises}
 use Rattle.mirror_sources.specs.Files.{full_of, width_named}
 use Rattle.mirror_sources.specs.Source.{StaysWithin}
-use Rattle.mirror_sources.specs.Replies.{Reply, paths_of}
+use Rattle.mirror_sources.specs.Replies.{Reply, asked_paths}
 use Rattle.mirror_sources.specs.Honest.{IsGone, Gets, GetsNone, GetsFound, GetsFull}
-use Rattle.mirror_pull.specs.Asking.{IsFresh, AreFresh, AsksEach, AsksNone, AsksOne, AsksTwo, AddsEach}
+use Rattle.mirror_pull.specs.Asking.{IsFresh, AreFresh}
 use Rattle.mirror_pull.specs.Parts.{GetsAll}
 use Rattle.mirror_pull.proofs.Askings.{with_then, may_then, may_stays}
 
@@ -49,13 +49,27 @@ gets_then n ps fs qs es xs ys (GetsFound path bytes {paths = ps'} {founds = fs'}
 gets_then n ps fs qs es xs ys (GetsFull path bytes {paths = ps'} {founds = fs'} {replies = xs'} gone g) h =
     GetsFull path bytes gone (gets_then n ps' fs' qs es xs' ys g h)
 
+-- each path of a list was asked for, in order, and behind some of them their full paths
+pub data AsksEach : List Path → List Path → Type 0 where
+  AsksNone : AsksEach [] []
+  AsksOne : (path : Path) {paths gets : List Path} → AsksEach paths gets →
+      AsksEach (path ∷ paths) (path ∷ gets)
+  AsksTwo : (path : Path) {paths gets : List Path} → AsksEach paths gets →
+      AsksEach (path ∷ paths) (path ∷ full_of path ∷ gets)
+
+-- the list of the paths asked for grew by these paths, and by full paths behind some of them
+pub record AddsEach (paths before after : List Path) : Type 0 where
+  pub gets : List Path
+  pub each : AsksEach paths gets
+  pub list : after ≡ before ++ gets
+
 pub each_then : (ps gs qs hs : List Path) → AsksEach ps gs → AsksEach qs hs → AsksEach (ps ++ qs) (gs ++ hs)
 each_then ps gs qs hs AsksNone h = h
 each_then ps gs qs hs (AsksOne path {paths = ps'} {gets = gs'} g) h = AsksOne path (each_then ps' gs' qs hs g h)
 each_then ps gs qs hs (AsksTwo path {paths = ps'} {gets = gs'} g) h = AsksTwo path (each_then ps' gs' qs hs g h)
 
 -- what was asked for is at the places of the paths
-pub gets_each_asked : (n : ℕ) (ps fs : List Path) (xs : List Reply) → Gets n ps xs fs → AsksEach ps (paths_of xs)
+pub gets_each_asked : (n : ℕ) (ps fs : List Path) (xs : List Reply) → Gets n ps xs fs → AsksEach ps (asked_paths xs)
 gets_each_asked n ps fs xs GetsNone = AsksNone
 gets_each_asked n ps fs xs (GetsFound path bytes {paths = ps'} {founds = fs'} {replies = xs'} g) =
     AsksOne path (gets_each_asked n ps' fs' xs' g)
@@ -147,13 +161,13 @@ gets_all_then n may later ps qs before mid after stays a b = record {
   are = gets_then n ps a.founds qs b.founds a.replies b.replies a.are b.are;
   may_reply = may_then may a.replies b.replies a.may_reply (may_stays may later b.replies stays b.may_reply);
   list = b.list ∙
-      (ap (λ (l : List Path). l ++ paths_of b.replies) a.list ∙ sym (with_then before a.replies b.replies));
+      (ap (λ (l : List Path). l ++ asked_paths b.replies) a.list ∙ sym (with_then before a.replies b.replies));
 }
 
 pub adds_of_gets : (n : ℕ) (may : Path → Option (List ℕ) → Type 0) (ps before after : List Path) →
     GetsAll n may ps before after → AddsEach ps before after
 adds_of_gets n may ps before after a = record {
-  gets = paths_of a.replies;
+  gets = asked_paths a.replies;
   each = gets_each_asked n ps a.founds a.replies a.are;
   list = a.list;
 }

@@ -6,6 +6,7 @@ pub mod HeadsRead
 pub mod Freshness
 pub mod Replies
 pub mod Followed
+pub mod RoundCounts
 pub mod TrueRows
 pub mod TrueTakes
 pub mod Orders

@@ -11,13 +11,13 @@ use Rattle.mirror_model.specs.View.{View}
 use Rattle.mirror_model.specs.Item.{plus}
 use Rattle.mirror_sources.specs.Files.{full_of, width_named}
 use Rattle.mirror_sources.specs.Source.{StaysWithin}
-use Rattle.mirror_sources.specs.Replies.{Reply, reply, paths_of}
+use Rattle.mirror_sources.specs.Replies.{Reply, reply, asked_paths}
 use Rattle.mirror_sources.specs.Told.{AddsTold}
 use Rattle.mirror_pull.specs.Taking.{TakesItem, EndsAfterHead, item_at}
 use Rattle.mirror_pull.specs.Replying.{Asks, AsksNew, AsksAgain, AsksPath, PathFound, PathNone, AsksList, ListNone}
 use Rattle.mirror_pull.specs.Replying.{ListNext, GivesRow, RowFound, RowCut, GivesRows, RowsNext, GivesNoRow}
-use Rattle.mirror_pull.specs.Replying.{GivesNoRows, Leaves, LeavesNone, LeavesOut, LeavesIn, TakesReplies, TakesEnd}
-use Rattle.mirror_pull.specs.Replying.{TakesNone, TakesGood, TakesBad, IsLeft, ArePullRounds, RoundsNone, RoundsNext}
+use Rattle.mirror_pull.specs.Replying.{GivesNoRows, AreUnasked, UnaskedNone, UnaskedOut, UnaskedIn, TakesReplies, TakesEnd}
+use Rattle.mirror_pull.specs.Replying.{TakesNone, TakesGood, TakesBad, IsLeftToAsk, ArePullRounds, RoundsNone, RoundsNext}
 use Rattle.mirror_pull.specs.Replying.{Gathers, IsWorkedPath, IsWorkedList, AreWorkedRounds, with_replies, one_if}
 use Rattle.mirror_pull.specs.declared.fault.PullFault.{PullFault}
 use Rattle.mirror_pull.specs.declared.fault.PullFault.TheVariants.{NoEdge}
@@ -53,14 +53,14 @@ module _ {may later : Path → Option (List ℕ) → Type 0} {a b c : Option (Li
       Gathers may a c before after R
   gathers_then R stays p q join =
       let list : after ≡ with_replies before (p.replies ++ q.replies) =
-      q.list ∙ (ap (λ (l : List Path). l ++ paths_of q.replies) p.list ∙ sym (with_then before p.replies q.replies)) in
+      q.list ∙ (ap (λ (l : List Path). l ++ asked_paths q.replies) p.list ∙ sym (with_then before p.replies q.replies)) in
       record {
         replies = p.replies ++ q.replies;
         are = join p.replies q.replies p.list list p.are q.are;
         may_reply = may_then may p.replies q.replies p.may_reply (may_stays may later q.replies stays q.may_reply);
         list = list;
         told = subst (AddsTold a c) (sym (paths_then p.replies q.replies))
-            (adds_told_then a b c (paths_of p.replies) (paths_of q.replies) p.told q.told);
+            (adds_told_then a b c (asked_paths p.replies) (asked_paths q.replies) p.told q.told);
       }
 
 -- ---- one path
@@ -221,41 +221,41 @@ module _ (may : Path → Option (List ℕ) → Type 0) (a b : Option (List Path)
 
 -- ---- what is left
 
-pub leaves_then : {asked ps ls qs ms : List Path} → Leaves asked ps ls → Leaves asked qs ms →
-    Leaves asked (ps ++ qs) (ls ++ ms)
-leaves_then LeavesNone q = q
-leaves_then (LeavesOut path has p) q = LeavesOut path has (leaves_then p q)
-leaves_then (LeavesIn path new p) q = LeavesIn path new (leaves_then p q)
+pub unasked_then : {asked ps ls qs ms : List Path} → AreUnasked asked ps ls → AreUnasked asked qs ms →
+    AreUnasked asked (ps ++ qs) (ls ++ ms)
+unasked_then UnaskedNone q = q
+unasked_then (UnaskedOut path has p) q = UnaskedOut path has (unasked_then p q)
+unasked_then (UnaskedIn path new p) q = UnaskedIn path new (unasked_then p q)
 
-pub leaves_in :
+pub unasked_in :
     (asked paths : List Path) (i : ℕ) (left more : List Path) → i < length paths →
-    more ≡ left ++ get_or paths i Checkpoint ∷ [] → Leaves asked (take i paths) left →
-    (Contains asked (get_or paths i Checkpoint) → ⊥) → Leaves asked (take (i + 1) paths) more
-leaves_in asked paths i left more lt grown p new =
-    subst (λ (l : List Path). Leaves asked l more) (sym (take_one paths i lt))
-    (subst (λ (l : List Path). Leaves asked (take i paths ++ get_or paths i Checkpoint ∷ []) l) (sym grown)
-    (leaves_then p (LeavesIn (get_or paths i Checkpoint) new LeavesNone)))
+    more ≡ left ++ get_or paths i Checkpoint ∷ [] → AreUnasked asked (take i paths) left →
+    (Contains asked (get_or paths i Checkpoint) → ⊥) → AreUnasked asked (take (i + 1) paths) more
+unasked_in asked paths i left more lt grown p new =
+    subst (λ (l : List Path). AreUnasked asked l more) (sym (take_one paths i lt))
+    (subst (λ (l : List Path). AreUnasked asked (take i paths ++ get_or paths i Checkpoint ∷ []) l) (sym grown)
+    (unasked_then p (UnaskedIn (get_or paths i Checkpoint) new UnaskedNone)))
 
-pub leaves_out :
+pub unasked_out :
     (asked paths : List Path) (i : ℕ) (left same : List Path) → i < length paths → same ≡ left →
-    Leaves asked (take i paths) left → Contains asked (get_or paths i Checkpoint) →
-    Leaves asked (take (i + 1) paths) same
-leaves_out asked paths i left same lt is p has =
-    subst (λ (l : List Path). Leaves asked l same) (sym (take_one paths i lt))
-    (subst (λ (l : List Path). Leaves asked (take i paths ++ get_or paths i Checkpoint ∷ []) l)
-    (append-nil left ∙ sym is) (leaves_then p (LeavesOut (get_or paths i Checkpoint) has LeavesNone)))
+    AreUnasked asked (take i paths) left → Contains asked (get_or paths i Checkpoint) →
+    AreUnasked asked (take (i + 1) paths) same
+unasked_out asked paths i left same lt is p has =
+    subst (λ (l : List Path). AreUnasked asked l same) (sym (take_one paths i lt))
+    (subst (λ (l : List Path). AreUnasked asked (take i paths ++ get_or paths i Checkpoint ∷ []) l)
+    (append-nil left ∙ sym is) (unasked_then p (UnaskedOut (get_or paths i Checkpoint) has UnaskedNone)))
 
 at_later : (x : Path) (xs : List Path) (y : Path) → Contains xs y → Contains (x ∷ xs) y
 at_later x xs y c = (suc c.0, omega (arith, c.1), c.2)
 
 -- where nothing of a list was asked for, all of it is left
-pub leaves_all : (asked paths left : List Path) → Leaves asked paths left →
+pub unasked_all : (asked paths left : List Path) → AreUnasked asked paths left →
     ((path : Path) → Contains paths path → Contains asked path → ⊥) → left ≡ paths
-leaves_all asked paths left LeavesNone none = refl
-leaves_all asked paths left (LeavesOut path {paths = ps} {left = ls} has p) none =
+unasked_all asked paths left UnaskedNone none = refl
+unasked_all asked paths left (UnaskedOut path {paths = ps} {left = ls} has p) none =
     absurd (none path (0, omega arith, refl) has)
-leaves_all asked paths left (LeavesIn path {paths = ps} {left = ls} new p) none =
-    ap (λ (l : List Path). path ∷ l) (leaves_all asked ps ls p (λ q c. none q (at_later path ps q c)))
+unasked_all asked paths left (UnaskedIn path {paths = ps} {left = ls} new p) none =
+    ap (λ (l : List Path). path ∷ l) (unasked_all asked ps ls p (λ q c. none q (at_later path ps q c)))
 
 -- ---- the edge
 
@@ -343,7 +343,7 @@ pub rounds_step :
     (digest : List ℕ → List ℕ) (size : ℕ) (root : List ℕ) (asked mid seen paths list : List Path) (v x w : View)
     (rounds n more m : ℕ) (xs ys : List Reply) → m ≡ min (n + more) (2 ^ 64 - 1) → mid ≡ with_replies asked xs →
     seen ≡ mid → list ≡ paths → 1 ≤ length paths →
-    AreRoundsSoFar digest size root asked v rounds n x xs → IsLeft digest size root seen x paths →
+    AreRoundsSoFar digest size root asked v rounds n x xs → IsLeftToAsk digest size root seen x paths →
     IsWorkedList digest mid x list more w ys →
     AreRoundsSoFar digest size root asked v (rounds + 1) m w (xs ++ ys)
 rounds_step digest size root asked mid seen paths list v x w rounds n more m xs ys is grown same listed some p left q =
@@ -357,7 +357,7 @@ rounds_step digest size root asked mid seen paths list v x w rounds n more m xs 
           (RoundsNext p.rounds_are
           (record {
             list = paths;
-            left = subst (λ (l : List Path). IsLeft digest size root l x paths) at left;
+            left = subst (λ (l : List Path). IsLeftToAsk digest size root l x paths) at left;
             some = some;
             asks = subst (λ (l : List Path). AsksList l paths ys) grown
                 (subst (λ (l : List Path). AsksList mid l ys) listed q.asks);
@@ -373,14 +373,14 @@ no_paths (p ∷ ps) e = absurd (omega (arith, e))
 pub rounds_ended :
     (digest : List ℕ → List ℕ) (size : ℕ) (root : List ℕ) (asked mid seen paths : List Path) (v w : View)
     (rounds n : ℕ) (xs : List Reply) → mid ≡ with_replies asked xs → seen ≡ mid → length paths ≡ 0 →
-    AreRoundsSoFar digest size root asked v rounds n w xs → IsLeft digest size root seen w paths →
+    AreRoundsSoFar digest size root asked v rounds n w xs → IsLeftToAsk digest size root seen w paths →
     AreWorkedRounds digest size root asked v rounds n w xs
 rounds_ended digest size root asked mid seen paths v w rounds n xs grown same none p left = record {
   many = p.many;
   refused_is = p.refused_is;
   rounds_are = p.rounds_are;
-  ended = inr (subst (λ (l : List Path). IsLeft digest size root (with_replies asked xs) w l) (no_paths paths none)
-      (subst (λ (l : List Path). IsLeft digest size root l w paths) (same ∙ grown) left));
+  ended = inr (subst (λ (l : List Path). IsLeftToAsk digest size root (with_replies asked xs) w l) (no_paths paths none)
+      (subst (λ (l : List Path). IsLeftToAsk digest size root l w paths) (same ∙ grown) left));
 }
 
 pub rounds_eight :

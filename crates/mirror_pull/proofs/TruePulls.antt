@@ -32,7 +32,7 @@ use Rattle.mirror_model.proofs.Fetching.{plus_holds}
 use Rattle.mirror_sources.specs.Files.{full_of}
 use Rattle.mirror_sources.specs.Source.{StaysWithin}
 use Rattle.mirror_sources.specs.Told.{AddsTold}
-use Rattle.mirror_sources.specs.Replies.{Reply, paths_of}
+use Rattle.mirror_sources.specs.Replies.{Reply, asked_paths}
 use Rattle.mirror_sources.specs.Honest.{IsHonest, true_bytes}
 use Rattle.mirror_pull.proofs.Askings.{paths_then, may_then, may_stays}
 use Rattle.mirror_pull.specs.Asking.{AreFresh, AddsTo}
@@ -124,7 +124,7 @@ pub edge_settled :
     GetsAll n may (edge_of size) asked after → (before : Path) → Contains after before → (path : Path) →
     full_of before ≡ full_of path → IsWithin size path → IsWidest size path → ⊥
 edge_settled n size may asked after is got before has path same within widest =
-    elim (Contains-append_cases asked (paths_of got.replies) before
+    elim (Contains-append_cases asked (asked_paths got.replies) before
     (subst (λ (l : List Path). Contains l before) got.list has)) [
       | inl old ↦ elim (cases_first Checkpoint [] before (subst (λ (l : List Path). Contains l before) is old)) [
         | inl e ↦ settled_checkpoint size path (ap full_of e ∙ same) within
@@ -132,7 +132,7 @@ edge_settled n size may asked after is got before has path same within widest =
       ]
       | inr new ↦
           (let place =
-          each_place (edge_of size) (paths_of got.replies)
+          each_place (edge_of size) (asked_paths got.replies)
           (gets_each_asked n (edge_of size) got.founds got.replies got.are) before new in
           settled_edge size place.path path ((edge_is size place.path).0 place.listed)
           (sym place.same ∙ same) within widest)
@@ -320,8 +320,8 @@ module _ (digest : List ℕ → List ℕ) (hash : IsDigest digest) (keys : List 
         told = subst (AddsTold old new)
             (sym (told.list ∙ ap (λ (l : List Path). l ++ told.more) is_none) ∙
             (working.list ∙
-            (ap (λ (l : List Path). l ++ paths_of working.replies)
-            (got.list ∙ ap (λ (l : List Path). l ++ paths_of got.replies) begun) ∙
+            (ap (λ (l : List Path). l ++ asked_paths working.replies)
+            (got.list ∙ ap (λ (l : List Path). l ++ asked_paths got.replies) begun) ∙
             ap (λ (l : List Path). Checkpoint ∷ l) (sym (paths_then got.replies working.replies))))) told.adds.told;
       }
 

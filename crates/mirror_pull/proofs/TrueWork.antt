@@ -22,13 +22,13 @@ use Rattle.mirror_model.proofs.TrueItems.{front_is_within, front_is_widest}
 use Rattle.mirror_model.proofs.Fetching.{missing_is_front_list, answered_is_not_again}
 use Rattle.mirror_model.proofs.Fronts.{front_empty}
 use Rattle.mirror_sources.specs.Source.{StaysWithin}
-use Rattle.mirror_sources.specs.Replies.{Reply, paths_of, MayReply}
+use Rattle.mirror_sources.specs.Replies.{Reply, asked_paths, MayReply}
 use Rattle.mirror_pull.specs.Asking.{IsFresh}
 use Rattle.mirror_pull.specs.Honest.{IsFrontRound, AreFrontRounds}
 use Rattle.mirror_pull.specs.Parts.{MayTake, MayWork, TakesTrue, HasWorked}
-use Rattle.mirror_pull.specs.Replying.{IsLeft, with_replies}
+use Rattle.mirror_pull.specs.Replying.{IsLeftToAsk, with_replies}
 use Rattle.mirror_pull.proofs.Askings.{with_then, may_then, may_stays}
-use Rattle.mirror_pull.proofs.Replies.{leaves_all}
+use Rattle.mirror_pull.proofs.Replies.{unasked_all}
 use Rattle.mirror_pull.proofs.Freshness.{each_place, gets_each_asked}
 use Rattle.mirror_pull.proofs.TrueRows.{source_stays}
 use Rattle.mirror_pull.proofs.TrueTakes.{InTrees, clean_gained, paths_only}
@@ -108,7 +108,7 @@ module _ (digest : List ℕ → List ℕ) (entries : List (List ℕ)) (size : �
         answered_is_not_again digest v.strings (take size entries) small m.edge path
         (m.fetched before has path same whole.0 whole.1) f
 
-    pub wanted_front : (paths : List Path) → IsLeft digest size root asked v paths →
+    pub wanted_front : (paths : List Path) → IsLeftToAsk digest size root asked v paths →
         ListsFront digest v (take size entries) paths
     wanted_front paths wanted =
         let lists : ListsMissing digest v (length (take size entries)) (mth digest (take size entries)) wanted.missing =
@@ -117,7 +117,7 @@ module _ (digest : List ℕ → List ℕ) (entries : List (List ℕ)) (size : �
         let fronts =
         missing_is_front_list digest m.source.hash v (take size entries) clean_first wanted.missing lists in
         let same =
-        leaves_all asked wanted.missing paths wanted.leaves
+        unasked_all asked wanted.missing paths wanted.unasked
         (λ path listed has. front_fresh path ((fronts.exact path).0 listed) path has refl) in
         subst (ListsFront digest v (take size entries)) (sym same) fronts
 
@@ -174,14 +174,14 @@ module _ (digest : List ℕ → List ℕ) (entries : List (List ℕ)) (size : �
               (edge_strings digest (edge_rows digest (take size entries))) grows.strings_are m.edge;
           fetched =
               λ before has path same within widest. elim
-              (Contains-append_cases asked (paths_of t.gets.replies) before
+              (Contains-append_cases asked (asked_paths t.gets.replies) before
               (subst (λ (l : List Path). Contains l before) t.gets.list has)) [
                 | inl old ↦ held_more v.strings w.strings (true_strings digest (take size entries) path)
                     grows.strings_are
                     (m.fetched before old path same within widest)
                 | inr got ↦
                     (let place =
-                    each_place paths (paths_of t.gets.replies)
+                    each_place paths (asked_paths t.gets.replies)
                     (gets_each_asked (length entries) paths t.gets.founds t.gets.replies t.gets.are) before got in
                     let f = (fronts.exact place.path).0 place.listed in
                     let is : place.path ≡ path =
@@ -196,7 +196,7 @@ module _ (digest : List ℕ → List ℕ) (entries : List (List ℕ)) (size : �
   module _ (may now : Path → Option (List ℕ) → Type 0) (v x : View) (before mid : List Path) (rounds : ℕ) where
     pub work_step :
         (later : Path → Option (List ℕ) → Type 0) (w : View) (after paths : List Path) → StaysWithin may now →
-        IsWorking digest entries size root may now rounds v x before mid → IsLeft digest size root mid x paths →
+        IsWorking digest entries size root may now rounds v x before mid → IsLeftToAsk digest size root mid x paths →
         1 ≤ length paths → StaysWithin now later → IsSubview x w →
         TakesTrue digest entries now paths mid after x w →
         IsWorking digest entries size root may later (rounds + 1) v w before after
@@ -218,7 +218,7 @@ module _ (digest : List ℕ → List ℕ) (entries : List (List ℕ)) (size : �
           may_reply = may_then may working.replies t.gets.replies working.may_reply
               (may_stays may now t.gets.replies began t.gets.may_reply);
           list = t.gets.list ∙
-              (ap (λ (l : List Path). l ++ paths_of t.gets.replies) working.list ∙
+              (ap (λ (l : List Path). l ++ asked_paths t.gets.replies) working.list ∙
               sym (with_then before working.replies t.gets.replies));
           strings =
               λ y h. elim
@@ -229,7 +229,7 @@ module _ (digest : List ℕ → List ℕ) (entries : List (List ℕ)) (size : �
         }
 
     pub work_done : (paths : List Path) → IsWorking digest entries size root may now rounds v x before mid →
-        IsLeft digest size root mid x paths → length paths ≡ 0 →
+        IsLeftToAsk digest size root mid x paths → length paths ≡ 0 →
         HasWorked digest entries size may rounds v x before mid
     work_done paths working wanted none = record {
       lists = working.lists;

@@ -1,5 +1,5 @@
--- What a pull asks of its source. `AddsEach`, `AddsTo`, `AreFresh`, `AsksPaths`, `IsFresh` and `PathList`
--- are cited by the contracts of private functions alone.
+-- What a pull asks of its source. `AddsTo`, `AreFresh`, `AsksPaths`, `IsFresh` and `PathList` are cited
+-- by the contracts of private functions alone.
 use Rattle.std.specs.Prelude.{◌≡◌, ◌≢◌, ℕ, List, [], ◌∷◌, ◌++◌, Option, Result, Ok, Err}
 use Rattle.std.specs.Prelude.{AllPairs, Contains}
 use Rattle.tlog_tiles.specs.declared.paths.Path.{Path}
@@ -59,17 +59,3 @@ IsFresh asked path = (before : Path) → Contains asked before → full_of befor
 pub record AreFresh (asked paths : List Path) : Type 0 where
   pub fresh : (path : Path) → Contains paths path → IsFresh asked path
   pub apart : AllPairs (λ a b. full_of a ≢ full_of b) paths
-
--- each path of a list was asked for, in order, and behind some of them their full paths
-pub data AsksEach : List Path → List Path → Type 0 where
-  AsksNone : AsksEach [] []
-  AsksOne : (path : Path) {paths gets : List Path} → AsksEach paths gets →
-      AsksEach (path ∷ paths) (path ∷ gets)
-  AsksTwo : (path : Path) {paths gets : List Path} → AsksEach paths gets →
-      AsksEach (path ∷ paths) (path ∷ full_of path ∷ gets)
-
--- the list of the paths asked for grew by these paths, and by full paths behind some of them
-pub record AddsEach (paths before after : List Path) : Type 0 where
-  pub gets : List Path
-  pub each : AsksEach paths gets
-  pub list : after ≡ before ++ gets

@@ -1,5 +1,6 @@
--- Laws of honest rounds.
-use Rattle.std.specs.Prelude.{ℕ, ◌^◌, ◌<◌, ◌≤◌, max, List, length, take}
+-- Laws of honest rounds, and of how many rounds a pull counts.
+use Rattle.std.specs.Prelude.{◌≡◌, ◌↔◌, ℕ, ◌^◌, ◌<◌, ◌≤◌, max, List, [], length, take, Option}
+use Rattle.signed_note.specs.Keys.{Key}
 use Rattle.tlog_shape.specs.Edge.{IsTop}
 use Rattle.tlog_tiles.specs.declared.paths.Path.{Path}
 use Rattle.node_store.specs.Strings.{HasAll}
@@ -12,6 +13,8 @@ use Rattle.mirror_model.specs.Listed.{ListsFront}
 use Rattle.mirror_sources.specs.Replies.{Reply}
 use Rattle.mirror_sources.specs.Honest.{Gets}
 use Rattle.mirror_pull.specs.Honest.{AreFrontRounds, with_true}
+use Rattle.mirror_pull.specs.Replying.{IsPulledBy}
+use Rattle.mirror_pull.specs.declared.pulling.Pulled.{Pulled}
 
 -- a round of a pull from an honest source is a round of fetching: it takes the front
 abbrev pub HonestRoundIsRound : Type 0
@@ -43,3 +46,12 @@ HonestRoundsAreFew =
     HasAll v.strings (edge_strings digest (edge_rows digest (take size entries))) →
     AreFrontRounds digest entries size v w lists replies →
     length lists ≤ max 1 top
+
+-- a pull that went well counts no round exactly where it asked for nothing behind the rows of the
+-- edge
+abbrev pub NoRoundAsksNothing : Type 0
+NoRoundAsksNothing =
+    (digest : List ℕ → List ℕ) (keys : List Key) (v w : View)
+    (may : Path → Option (List ℕ) → Type 0) (old new : Option (List Path)) (p : Pulled)
+    (pulled : IsPulledBy digest keys v w may old new p) →
+    (p.rounds ≡ 0) ↔ (pulled.replies ≡ [])

@@ -17,7 +17,7 @@ use Rattle.mirror_model.specs.Listed.{ListsMissing}
 use Rattle.mirror_model.specs.Refusals.{IsOpenCheckpoint, ReadsHead, JudgesHead}
 use Rattle.mirror_model.specs.declared.fault.TakeFault.{TakeFault}
 use Rattle.mirror_sources.specs.Files.{full_of, width_named}
-use Rattle.mirror_sources.specs.Replies.{Reply, reply, paths_of, MayReply}
+use Rattle.mirror_sources.specs.Replies.{Reply, reply, asked_paths, MayReply}
 use Rattle.mirror_sources.specs.Told.{AddsTold}
 use Rattle.mirror_pull.specs.Taking.{item_at}
 use Rattle.mirror_pull.specs.declared.fault.PullFault.{PullFault}
@@ -35,7 +35,7 @@ pub data Asks (asked : List Path) (path : Path) : List Reply → Option (List �
 
 -- the paths asked for, with those of some replies
 abbrev pub with_replies : List Path → List Reply → List Path
-with_replies asked replies = asked ++ paths_of replies
+with_replies asked replies = asked ++ asked_paths replies
 
 -- a path is asked for and, where it is not found and only there, its full path at once
 pub data AsksPath (asked : List Path) (path : Path) : List Reply → Type 0 where
@@ -97,12 +97,12 @@ pub record GivesNoRows (asked paths : List Path) (replies : List Reply) : Type 0
 -- ---- rounds
 
 -- the paths of a list that were not asked for, in order
-pub data Leaves (asked : List Path) : List Path → List Path → Type 0 where
-  LeavesNone : Leaves asked [] []
-  LeavesOut : (path : Path) {paths left : List Path} → Contains asked path →
-      Leaves asked paths left → Leaves asked (path ∷ paths) left
-  LeavesIn : (path : Path) {paths left : List Path} → (¬ Contains asked path) →
-      Leaves asked paths left → Leaves asked (path ∷ paths) (path ∷ left)
+pub data AreUnasked (asked : List Path) : List Path → List Path → Type 0 where
+  UnaskedNone : AreUnasked asked [] []
+  UnaskedOut : (path : Path) {paths left : List Path} → Contains asked path →
+      AreUnasked asked paths left → AreUnasked asked (path ∷ paths) left
+  UnaskedIn : (path : Path) {paths left : List Path} → (¬ Contains asked path) →
+      AreUnasked asked paths left → AreUnasked asked (path ∷ paths) (path ∷ left)
 
 -- of replies to gets of tiles and bundles, those that are valid are taken, and the others counted; a
 -- path that was not found counts for nothing
@@ -121,18 +121,18 @@ pub data TakesReplies (digest : List ℕ → List ℕ) : View → List Reply →
       TakesReplies digest v (reply path (Some bytes) ∷ replies) (suc refused) w
 
 -- what is missing of the head and was not asked for
-pub record IsLeft (digest : List ℕ → List ℕ) (size : ℕ) (root : List ℕ) (asked : List Path)
+pub record IsLeftToAsk (digest : List ℕ → List ℕ) (size : ℕ) (root : List ℕ) (asked : List Path)
     (v : View) (left : List Path) : Type 0 where
   pub missing : List Path
   pub lists : ListsMissing digest v size root missing
-  pub leaves : Leaves asked missing left
+  pub unasked : AreUnasked asked missing left
 
 -- one round: what is left of the head at its start, which is not empty, is asked for, and what
 -- comes is taken
 pub record IsPullRound (digest : List ℕ → List ℕ) (size : ℕ) (root : List ℕ) (asked : List Path)
     (v : View) (replies : List Reply) (refused : ℕ) (w : View) : Type 0 where
   pub list : List Path
-  pub left : IsLeft digest size root asked v list
+  pub left : IsLeftToAsk digest size root asked v list
   pub some : 1 ≤ length list
   pub asks : AsksList asked list replies
   pub takes : TakesReplies digest v replies refused w
@@ -153,7 +153,7 @@ module _ (digest : List ℕ → List ℕ) (keys : List Key) (v w : View)
   -- the source was asked for these paths and no others, and may have replied so
   pub record Replied (replies : List Reply) : Type 0 where
     pub may_reply : MayReply may replies
-    pub told : AddsTold old new (paths_of replies)
+    pub told : AddsTold old new (asked_paths replies)
 
   -- a pull that went well: the checkpoint and the rows of its edge were found and taken, then came
   -- so many rounds, after which nothing was left, or which were eight; the replies of all of them
@@ -169,7 +169,7 @@ module _ (digest : List ℕ → List ℕ) (keys : List Key) (v w : View)
     pub rounds : ArePullRounds digest p.size p.root (with_replies (Checkpoint ∷ []) edge)
         (plus digest v (item.Head note rows)) replies p.rounds many w
     pub ended : (p.rounds ≡ 8) ⊎
-        IsLeft digest p.size p.root
+        IsLeftToAsk digest p.size p.root
         (with_replies (with_replies (Checkpoint ∷ []) edge) replies) w []
     pub refused : p.refused ≡ min many (2 ^ 64 - 1)
     pub replied : Replied (reply Checkpoint (Some note) ∷ edge ++ replies)
@@ -184,13 +184,13 @@ module _ (digest : List ℕ → List ℕ) (keys : List Key) (v w : View)
     pub replied : Replied (reply Checkpoint (Some note) ∷ edge)
 
   -- the head's note was refused, and nothing was asked for behind it
-  pub record HasBadNote (f : TakeFault) : Type 0 where
+  pub record HasRefusedNote (f : TakeFault) : Type 0 where
     pub note : List ℕ
     pub refused : ReadsHead note v.origin keys (Err f)
     pub replied : Replied (reply Checkpoint (Some note) ∷ [])
 
   -- the head was refused with the rows of its edge
-  pub record HasBadRows (f : TakeFault) : Type 0 where
+  pub record HasRefusedRows (f : TakeFault) : Type 0 where
     pub note : List ℕ
     pub checkpoint : Read
     pub is_open : IsOpenCheckpoint note v.origin keys checkpoint
@@ -205,7 +205,7 @@ module _ (digest : List ℕ → List ℕ) (keys : List Key) (v w : View)
   FollowsReplies (Ok p) = IsPulledBy p
   FollowsReplies (Err NoCheckpoint) = Replied (reply Checkpoint None ∷ [])
   FollowsReplies (Err NoEdge) = HasNoEdge
-  FollowsReplies (Err (Head f)) = HasBadNote f ⊎ HasBadRows f
+  FollowsReplies (Err (Head f)) = HasRefusedNote f ⊎ HasRefusedRows f
   FollowsReplies (Err Source) = ⊤
   FollowsReplies (Err Collision) = ⊤
   FollowsReplies (Err OutOfMemory) = ⊤
@@ -219,7 +219,7 @@ pub record Gathers (may : Path → Option (List ℕ) → Type 0) (old new : Opti
   pub are : Are replies
   pub may_reply : MayReply may replies
   pub list : after ≡ with_replies before replies
-  pub told : AddsTold old new (paths_of replies)
+  pub told : AddsTold old new (asked_paths replies)
 
 -- a fault of a head says why it was refused
 abbrev pub RefusesHead : (List ℕ → List ℕ) → List ℕ → List Key → List ℕ → List (List ℕ) →
@@ -257,13 +257,13 @@ pub record AreWorkedRounds (digest : List ℕ → List ℕ) (size : ℕ) (root :
   pub many : ℕ
   pub refused_is : refused ≡ min many (2 ^ 64 - 1)
   pub rounds_are : ArePullRounds digest size root asked v replies rounds many w
-  pub ended : (rounds ≡ 8) ⊎ IsLeft digest size root (with_replies asked replies) w []
+  pub ended : (rounds ≡ 8) ⊎ IsLeftToAsk digest size root (with_replies asked replies) w []
 
 -- what is left is listed, of a head that is held
 abbrev pub ListsLeft : {E : Type 0} → (List ℕ → List ℕ) → ℕ → List ℕ → List Path → View →
     Result (List Path) E → Type 0
 ListsLeft digest size root asked v result =
-    IfOk result (λ left. HasHead v size root → IsLeft digest size root asked v left)
+    IfOk result (λ left. HasHead v size root → IsLeftToAsk digest size root asked v left)
 
 -- ---- answers of parts of a pull, and what was replied
 

@@ -12,8 +12,8 @@ abbrev pub reply : Path → Option (List ℕ) → Reply
 reply path found = record { path = path; found = found }
 
 -- the paths that were asked for
-abbrev pub paths_of : List Reply → List Path
-paths_of replies = map (λ r. r.path) replies
+abbrev pub asked_paths : List Reply → List Path
+asked_paths replies = map (λ r. r.path) replies
 
 -- replies that may come, each as the source may answer its path
 abbrev pub MayReply : (Path → Option (List ℕ) → Type 0) → List Reply → Type 0

@@ -7,8 +7,8 @@ use Rattle.std.proofs.lemmas.List.{take_all}
 use Rattle.mirror_pull.specs.Taking.{IsTakeable}
 use Rattle.mirror_pull.proofs.Gains.{missing_takeable}
 use Rattle.mirror_pull.proofs.rounds.paths_to_ask.Goals.{then-not-is_asked+in_ok-push, else-not-is_asked}
-use Rattle.mirror_pull.specs.Replying.{Leaves, LeavesNone}
-use Rattle.mirror_pull.proofs.Replies.{leaves_in, leaves_out}
+use Rattle.mirror_pull.specs.Replying.{AreUnasked, UnaskedNone}
+use Rattle.mirror_pull.proofs.Replies.{unasked_in, unasked_out}
 use Rattle.mirror_pull.proofs.rounds.paths_to_ask.Goals as goal
 
 pub loop-path-preserved : goal.loop-path-preserved
@@ -27,16 +27,16 @@ loop-path-preserved g c =
             takeable =
                 subst (All IsTakeable) (sym grown)
                 (All-push IsTakeable c.loop-path.paths.items _ c.loop-path.invariant.takeable item);
-            leaves = leaves_in c.args.asked.now.items c.deref-path-items.result.now c.loop-path.path-index
-                c.loop-path.paths.items _ c.loop-path-test.true grown c.loop-path.invariant.leaves
+            unasked = unasked_in c.args.asked.now.items c.deref-path-items.result.now c.loop-path.path-index
+                c.loop-path.paths.items _ c.loop-path-test.true grown c.loop-path.invariant.unasked
                 (λ has. let asked = w.if-not-is_asked.ensures.1 has in absurd cc);
           }
       | else-not-is_asked w ↦
           let kept = ap (λ v. v.items) w.paths-is in
           record {
             takeable = subst (All IsTakeable) (sym kept) c.loop-path.invariant.takeable;
-            leaves = leaves_out c.args.asked.now.items c.deref-path-items.result.now c.loop-path.path-index
-                c.loop-path.paths.items _ c.loop-path-test.true kept c.loop-path.invariant.leaves
+            unasked = unasked_out c.args.asked.now.items c.deref-path-items.result.now c.loop-path.path-index
+                c.loop-path.paths.items _ c.loop-path-test.true kept c.loop-path.invariant.unasked
                 (w.if-not-is_asked.ensures.0 refl);
           }
     ]
@@ -44,7 +44,7 @@ loop-path-preserved g c =
 pub loop-path-init : goal.loop-path-init
 loop-path-init g c = record {
   takeable = rw c.new-paths.ensures.items (λ k d lt. absurd (omega (arith, lt)));
-  leaves = rw c.new-paths.ensures.items LeavesNone;
+  unasked = rw c.new-paths.ensures.items UnaskedNone;
 }
 
 pub returns-clause-left : goal.returns-clause-left
@@ -55,7 +55,7 @@ returns-clause-left g c =
     record {
       missing = c.in-Some.missing.items;
       lists = m.some;
-      leaves = subst (λ (l : List Path). Leaves c.args.asked.now.items l c.loop-path.paths.items)
+      unasked = subst (λ (l : List Path). AreUnasked c.args.asked.now.items l c.loop-path.paths.items)
           (take_all c.loop-path.path-index c.deref-path-items.result.now c.loop-path-test.false ∙ at)
-          c.loop-path.invariant.leaves;
+          c.loop-path.invariant.unasked;
     }

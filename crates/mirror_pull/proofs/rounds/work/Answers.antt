@@ -3,7 +3,7 @@ use Rattle.std.proofs.lemmas.Result.{err_from_is_err_and}
 use Rattle.mirror_pull.proofs.Askings.{adds_some_then, adds_to_then, adds_to_none}
 use Rattle.mirror_pull.proofs.Gains.{stays_then, stays_itself, counts_err, gains_then, gains_itself}
 use Rattle.mirror_model.proofs.Views.{head_stays}
-use Rattle.mirror_pull.specs.Replying.{IsLeft}
+use Rattle.mirror_pull.specs.Replying.{IsLeftToAsk}
 use Rattle.mirror_pull.proofs.Replies.{AreRoundsSoFar, gathers_as, gathers_then, gathers_none, rounds_none, rounds_step}
 use Rattle.mirror_pull.proofs.Replies.{rounds_ended, rounds_eight}
 use Rattle.mirror_pull.proofs.Orders.{none_if, some_if}
@@ -68,7 +68,7 @@ loop-rounds-preserved g c =
       honest = λ entries m.
           let digest = g.H.TreeHash.digest in
           let before = c.loop-rounds.invariant.honest entries m in
-          let wants : IsLeft digest c.args.size c.args.root.now
+          let wants : IsLeftToAsk digest c.args.size c.args.root.now
           c.loop-rounds.asked.items c.loop-rounds.mirror.view c.in_ok-paths.paths.items =
           c.in_ok-paths.ensures.left before.1.next.head in
           let fronts =
@@ -123,7 +123,7 @@ returns-then-is_empty-clause-honest g c =
     let digest = g.H.TreeHash.digest in
     let may = g.S.Source.may_answer c.loop-rounds.source in
     let before = c.loop-rounds.invariant.honest entries m in
-    let wants : IsLeft digest c.args.size c.args.root.now c.loop-rounds.asked.items c.loop-rounds.mirror.view
+    let wants : IsLeftToAsk digest c.args.size c.args.root.now c.loop-rounds.asked.items c.loop-rounds.mirror.view
     c.in_ok-paths.paths.items = c.in_ok-paths.ensures.left before.1.next.head in (
       before.0,
       work_done digest entries c.args.size c.args.root.now (g.S.Source.may_answer c.args.source.now) may
@@ -149,7 +149,7 @@ returns-in_err-more-clause-honest g c =
     rw (p.1, p.2) (λ entries m.
     let digest = g.H.TreeHash.digest in
     let before = c.loop-rounds.invariant.honest entries m in
-    let wants : IsLeft digest c.args.size c.args.root.now c.loop-rounds.asked.items c.loop-rounds.mirror.view
+    let wants : IsLeftToAsk digest c.args.size c.args.root.now c.loop-rounds.asked.items c.loop-rounds.mirror.view
     c.in_ok-paths.paths.items = c.in_ok-paths.ensures.left before.1.next.head in
     let fronts =
     wanted_front digest entries c.args.size c.args.root.now
