@@ -117,7 +117,7 @@ unfolding strings pairs_of joins fold_of tree_of tree_within split_of power_with
 one_each x c =
     All-contains (λ s. s ≡ with_digest (sum_digest s)) both x
     (All-from_recursion (λ s. s ≡ with_digest (sum_digest s)) both
-    (refl, refl, refl, refl, refl, refl, refl, refl, refl, refl, refl, refl, tt)) c
+    (refl, (refl, (refl, (refl, (refl, (refl, (refl, (refl, (refl, (refl, (refl, (refl, tt))))))))))))) c
 
 pub compares_large : ComparesLarge
 unfolding mth fold_of tree_of tree_within split_of power_within sum_digest
@@ -130,8 +130,10 @@ compares_large = record {
   not_other = λ h. other_root h;
   larger = omega arith;
   not_prefix = is_forked.not_prefix;
-  no_clash = record { same = λ x y p q e. one_each x (listed_from_has both x p) ∙ ap with_digest e
-      ∙ sym (one_each y (listed_from_has both y q)) };
+  no_clash = record {
+    same = λ x y p q e. one_each x (listed_from_has both x p) ∙ ap with_digest e
+        ∙ sym (one_each y (listed_from_has both y q));
+  };
 }
   where
     fork_of_root : (own : List ℕ) → IsCompared sum_digest large_list (Fork 4 (sum_hash 163) own) → ⊥

@@ -101,7 +101,6 @@ pub record ComparesLarge : Type 0 where
       (own : List ℕ) → ¬ IsCompared sum_digest large_list (Fork 4 (sum_hash 163) own)
   pub not_other : ¬ IsCompared sum_digest large_list (Fork 2 (sum_hash 9) (sum_hash 163))
   pub larger : IsCompared sum_digest large_list (Larger 5 (sum_hash 9))
-
   -- small_list has the size and root of that `same`, and is no beginning of large_list, though no two
   -- strings of their trees collide: those of the beginning's edge are in neither tree
   pub not_prefix : ¬ IsPrefix small_list large_list

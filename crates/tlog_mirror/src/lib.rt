@@ -40,11 +40,11 @@ pub use compare::{Compared, comparison_text};
 pub use fault::{NewFault, RestoreFault};
 pub use laws::{compare_example, compare_law, served_list_law};
 pub use mirror::Mirror;
-pub use mirror_model::{Bytes, Event, Fork, Head, Item, MergeFault, Rows, TakeFault};
 pub use mirror_model::{
-    again_law, bundles_law, calls_example, clash_law, event_law, forks_law, growth_law, headline_law,
-    join_law, keeping_law, lists_law, part_law, plays_law, reports_law, retry_example, retry_law,
-    run_law, served_law,
+    Bytes, Event, Fork, Head, Item, MergeFault, Rows, TakeFault, again_law, bundles_law,
+    calls_example, clash_law, event_law, forks_law, growth_law, headline_law, join_law,
+    keeping_law, lists_law, part_law, plays_law, reports_law, retry_example, retry_law, run_law,
+    served_law,
 };
 pub use plays::{fits, play, play_again};
 pub use top_ranges::TopRanges;
