@@ -9,7 +9,8 @@ use Rattle.std.proofs.Math.Bool.{or_assoc, or_comm, or-false, and-or_distrib_lef
 use Rattle.std.proofs.lemmas.List.{map-append}
 use Rattle.std.proofs.lemmas.List.Elements.{Contains-append_left, Contains-append_right, Contains-append_cases}
 use Rattle.std.proofs.lemmas.List.Folds.{list_any-append}
-use Rattle.std.proofs.lemmas.List.Sorted.{list_any-IsPermutation}
+use Rattle.std.specs.List.Sorted.{IsPermutation}
+use Rattle.std.proofs.lemmas.List.Sorted.{list_any-IsPermutation, IsPermutation-map, Contains-permutation}
 use Rattle.signed_note.specs.Keys.{Key, Secret, Pins, ArePins, pinned_key}
 use Rattle.signed_note.specs.Notes.{SignatureParts, Opens, is_accepted_by}
 use Rattle.signed_note.specs.Verifiers.{key_of, is_trusted_by, AcceptsAlike, AddsPins, AreGathered, JoinsPins}
@@ -182,6 +183,17 @@ all_gathered secrets pins rest lines none h =
           ∙ (ap (λ b. a || (p || b)) (sym (none_trusted text line rest none)) ∙ h.alike text line));
       secrets_in = λ key inside.
           ⊎_elim (λ old. old) (λ waits. absurd (none_in rest key none waits)) (h.secrets_in key inside);
+    }
+
+-- what is gathered of lines is gathered of them in any order
+pub gathered_of : (secrets : List KeyLine) (pins : List Pins) (lines moved : List KeyLine) →
+    IsPermutation lines moved → AreGathered secrets pins moved → AreGathered secrets pins lines
+gathered_of secrets pins lines moved same h =
+    record {
+      alike = λ text line. h.alike text line
+          ∙ sym (list_any-IsPermutation (is_accepted_by text line) (map key_of lines) (map key_of moved)
+          (IsPermutation-map key_of lines moved same));
+      secrets_in = λ key inside. h.secrets_in key (Contains-permutation lines moved (Hmac key) same inside);
     }
 
 -- ---- the pins joined

@@ -1,7 +1,11 @@
--- The keys of the lines of a key file, with the pins of one name and id joined. `is_trusted_by` and
--- what follows it is cited by the contracts of private functions alone.
+-- The keys of the lines of a key file, with the pins of one name and id joined. `line_cmp`,
+-- `is_trusted_by` and what follows it are cited by the contracts of private functions alone.
 use Rattle.std.specs.Prelude.{◌≡◌, ◌↔◌, ℕ, List, [], ◌∷◌, ◌++◌, Bool, Contains, map}
 use Rattle.std.specs.List.{list_any}
+use Rattle.std.specs.Ordering.{nat_cmp, ordering_then}
+use Rattle.std.specs.Cmp.Lexicographic.{slice_cmp}
+use Rattle.std.specs.declared.cmp.Ordering.{Ordering}
+use Rattle.std.specs.declared.cmp.Ordering.TheVariants.{Less, Equal, Greater}
 use Rattle.signed_note.specs.Keys.{Key, Secret, Pins, ArePins, secret_key, pinned_key}
 use Rattle.signed_note.specs.Notes.{SignatureParts, Opens, is_accepted_by}
 use Rattle.signed_note.specs.declared.key_line.KeyLine.{KeyLine}
@@ -19,6 +23,13 @@ pub record JoinsPins (lines joined : List KeyLine) : Type 0 where
       (text : List ℕ) (signatures : List SignatureParts) →
       Opens text signatures (map key_of joined) ↔ Opens text signatures (map key_of lines)
   pub secrets : (key : Secret) → Contains lines (Hmac key) → Contains joined (Hmac key)
+
+-- the order in which lines are gathered: shared keys, all alike, and then pins by name and id
+abbrev pub line_cmp : KeyLine → KeyLine → Ordering
+line_cmp (Hmac a) (Hmac b) = Equal
+line_cmp (Hmac a) (Pin b) = Less
+line_cmp (Pin a) (Hmac b) = Greater
+line_cmp (Pin a) (Pin b) = ordering_then (slice_cmp nat_cmp a.name b.name) (nat_cmp a.id b.id)
 
 -- whether one of the keys accepts the line's signature over the text
 abbrev pub is_trusted_by : List ℕ → SignatureParts → List Key → Bool

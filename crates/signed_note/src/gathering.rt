@@ -3,11 +3,12 @@
 ghost use Rattle.std.specs.Prelude.{◌≡◌, ◌<◌, ◌∷◌, [], ◌++◌, IfOk, IfSome, OnOk, length, map};
 ghost use Rattle.std.specs.List.{HoldsAt};
 ghost use Rattle.signed_note.specs.Keys.{pinned_key};
-ghost use Rattle.signed_note.specs.Verifiers.{AcceptsAlike, AddsPins, AreGathered, JoinsPins};
+ghost use Rattle.signed_note.specs.Verifiers.{line_cmp, AcceptsAlike, AddsPins, AreGathered, JoinsPins};
 
 use crate::key_line::KeyLine;
 use crate::pinned::PinnedTexts;
 use std::alloc::{AllocError, Global};
+use std::cmp::Ordering;
 use std::marker::Model;
 
 // Pinned texts of one name and id, while lines are gathered: the digests stand in the order of the lines.
@@ -40,17 +41,32 @@ impl PinLines {
     }
 }
 
-// Where the pins of the name and id of pinned texts are.
+// Shared keys come first, all alike, and then pins by their name and id.
+fn order(a: &KeyLine, b: &KeyLine) -> Ordering
+    ensures { result ≡ line_cmp a.now b.now }
+{
+    match a {
+        KeyLine::Hmac(_) => match b {
+            KeyLine::Hmac(_) => Ordering::Equal,
+            KeyLine::Pin(_) => Ordering::Less,
+        },
+        KeyLine::Pin(one) => match b {
+            KeyLine::Hmac(_) => Ordering::Greater,
+            KeyLine::Pin(other) => one.name.cmp(&other.name).then(one.id.cmp(&other.id)),
+        },
+    }
+}
+
+// Where the pins of the name and id of pinned texts are. Lines are gathered in order, so only the last can be these.
 fn place_of(gathered: &[PinLines], texts: &PinnedTexts) -> Option<usize>
     ensures within { IfSome result (λ at. at < length gathered.now) }
     ensures found { IfSome result (HoldsAt (λ k. (k.name ≡ texts.now.name) × (k.id ≡ texts.now.id))
         gathered.now) }
 {
-    for at in 0..gathered.len() {
-        let one = &gathered[at];
-        if one.id == texts.id && one.name == texts.name {
-            return Some(at);
-        }
+    let at = gathered.len().checked_sub(1)?;
+    let last = &gathered[at];
+    if last.id == texts.id && last.name == texts.name {
+        return Some(at);
     }
     None
 }
@@ -68,13 +84,15 @@ fn gather(gathered: &mut Vec<PinLines>, texts: PinnedTexts) -> Result<(), AllocE
     Ok(())
 }
 
-// The shared keys of the lines, and their pins by name and id.
+// The shared keys of the lines, and their pins by name and id. Sorted lines of one name and id stand together.
 fn gather_all(
     alloc: Global,
     lines: Vec<KeyLine>,
 ) -> Result<(Vec<KeyLine>, Vec<PinLines>), AllocError>
     ensures { IfOk result (λ both. AreGathered both.0.items both.1.items lines.items) }
 {
+    let mut lines = lines;
+    lines.sort_by(|a, b| order(a, b))?;
     let mut secrets = Vec::new(alloc);
     let mut pins = Vec::new(alloc);
     for line in lines {

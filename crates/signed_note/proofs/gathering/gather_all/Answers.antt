@@ -1,9 +1,9 @@
 use Rattle.std.proofs.Common.{◌∷◌, ◌∙◌, ap, sym}
-use Rattle.signed_note.proofs.JoinedPins.{all_gathered, gathers_pin, gathers_secret}
+use Rattle.signed_note.proofs.JoinedPins.{all_gathered, gathered_of, gathers_pin, gathers_secret}
 use Rattle.signed_note.proofs.gathering.gather_all.Goals as goal
 
-pub loop-line-preserved-in-Continue-1 : goal.loop-line-preserved-in-Continue-1
-loop-line-preserved-in-Continue-1 c = (
+pub loop-line-preserved-in-Continue-branch-2 : goal.loop-line-preserved-in-Continue-branch-2
+loop-line-preserved-in-Continue-branch-2 c = (
   tt,
   tt,
   gathers_secret c.loop-line.secrets.items c.push.new.self.items c.loop-line.pins.items c.loop-line.line-iterator.rest.items
@@ -24,6 +24,8 @@ loop-line-preserved c = (
 
 pub returns : goal.returns
 returns c =
-    all_gathered c.loop-line.secrets.items c.loop-line.pins.items c.loop-line.line-iterator.rest.items c.args.lines.items
-    (sym c.loop-line.line-iterator.rest.ok.0 ∙ c.in-None.ensures.steps.0)
-    (rw c.into_iter-line-iterator.ensures.into_iter_gives.0 at c.loop-line.invariant.2)
+    gathered_of c.loop-line.secrets.items c.loop-line.pins.items c.args.lines.items c.sort_by.new.self.items
+    c.sort_by.ensures.permutation
+    (all_gathered c.loop-line.secrets.items c.loop-line.pins.items c.loop-line.line-iterator.rest.items
+    c.sort_by.new.self.items (sym c.loop-line.line-iterator.rest.ok.0 ∙ c.in-None.ensures.steps.0)
+    (rw c.into_iter-line-iterator.ensures.into_iter_gives.0 at c.loop-line.invariant.2))
