@@ -9,7 +9,7 @@ use Rattle.std.proofs.lemmas.Option.{none-some, same_Some}
 use Rattle.std.proofs.lemmas.Slice.Eq.{bytes_eq-Decides}
 use Rattle.program_files.specs.Named.{NamedFile}
 use Rattle.program_files.specs.Named.{ReadsShort, HasContents, TellsPresence, TellsReplace, contents_of}
-use Rattle.program_commands.specs.Notes.{HasSame, IsTold, PutsEach, PutsPrefix, PutsOnce, PutsOne}
+use Rattle.program_commands.specs.Notes.{HasSame, IsTold, PutsEach, PutsFront, PutsOnce, PutsOne}
 use Rattle.program_commands.specs.Notes.{TellsUnlike}
 use Rattle.program_commands.specs.NoteLaws.{KeepsFiles, NotesStand}
 use Rattle.program_files.specs.declared.fault.NamedFault.{NamedFault}
@@ -132,7 +132,7 @@ module _ {X : Type 0} (seen : X → NamedFile) (xs : List X) (i : ℕ) (x : X) (
 
   pub puts_front : (old between new : Option (List NamedFile)) (fault : NamedFault) →
       IsTold (PutsEach so_far) old between → PutsOne {T = Unit {0}} between new (seen x) (Err fault) →
-      PutsPrefix (map seen xs) old new fault
+      PutsFront (map seen xs) old new fault
   puts_front old between new fault each one =
       record {
         before =

@@ -25,9 +25,9 @@ module _ (origin : List ℕ) (keys : List Key) where
     pub refused : ReadsHead note origin keys (Err fault)
 
   -- the sizes and roots of the notes, or why the first that is refused is
-  abbrev pub ChecksNotes : List (List ℕ) → Result (List (ℕ × List ℕ)) TakeFault → Type 0
-  ChecksNotes notes (Ok heads) = AreOpen notes heads
-  ChecksNotes notes (Err fault) = RefusesNote notes fault
+  abbrev pub ChecksHeads : List (List ℕ) → Result (List (ℕ × List ℕ)) TakeFault → Type 0
+  ChecksHeads notes (Ok heads) = AreOpen notes heads
+  ChecksHeads notes (Err fault) = RefusesNote notes fault
 
   -- the sizes and roots of the notes in the files of these names; or why one is not read; or, where
   -- all are, why the first that is refused is

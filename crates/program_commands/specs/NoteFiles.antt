@@ -39,14 +39,14 @@ abbrev pub alike_count : List HeadNote → HeadNote → ℕ
 alike_count others head = count_by (λ other. is_alike other head) others
 
 -- `SIZE-ROOT-NUMBER.note`: the root as 64 hexadecimal digits in lower case
-abbrev pub note_name : ℕ → List ℕ → ℕ → List ℕ
-note_name size root number =
+abbrev pub note_file_name : ℕ → List ℕ → ℕ → List ℕ
+note_file_name size root number =
     decimal size
     ++ (codes "-" ++ (encode_lower root ++ (codes "-" ++ (decimal number ++ codes ".note"))))
 
 -- the file of a note that follows others: it is numbered from 0 among those of its size and root
 abbrev pub file_after : List HeadNote → HeadNote → NamedFile
-file_after before head = (note_name head.size head.root (alike_count before head), head.note)
+file_after before head = (note_file_name head.size head.root (alike_count before head), head.note)
 
 -- the files of notes that follow others
 abbrev pub files_after : List HeadNote → List HeadNote → List NamedFile

@@ -81,7 +81,7 @@ PutsOne old new file (Ok x) = IsTold (PutsOnce file) old new
 PutsOne old new file (Err fault) = KeepsTold old new × StopsAt old file fault
 
 -- a front of the files was put or left; the next one was not, and all stayed as it was then
-pub record PutsPrefix (files : List NamedFile) (old new : Option (List NamedFile))
+pub record PutsFront (files : List NamedFile) (old new : Option (List NamedFile))
     (fault : NamedFault) : Type 0 where
   pub before : List NamedFile
   pub file : NamedFile
@@ -96,7 +96,7 @@ pub record PutsPrefix (files : List NamedFile) (old new : Option (List NamedFile
 abbrev pub PutsNotes : {T : Type 0} → List ℕ → List NamedFile → Option (List NamedFile) →
     Option (List NamedFile) → Result T NamedFault → Type 0
 PutsNotes folder notes old new (Ok x) = IsTold (PutsEach (map (in_folder folder) notes)) old new
-PutsNotes folder notes old new (Err fault) = PutsPrefix (map (in_folder folder) notes) old new fault
+PutsNotes folder notes old new (Err fault) = PutsFront (map (in_folder folder) notes) old new fault
 
 -- the answer of a call that put the notes
 abbrev pub notes_put : Result (Unit {0}) NamedFault

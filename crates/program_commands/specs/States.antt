@@ -1,5 +1,5 @@
 -- What is made of state files, and what is left in them.
-use Rattle.std.specs.Prelude.{◌≡◌, ℕ, List, [], ◌∷◌, Option, Some, None, Result, Ok, Err, ⊤}
+use Rattle.std.specs.Prelude.{◌≡◌, ◌≢◌, ℕ, List, [], ◌∷◌, Option, Some, None, Result, Ok, Err, ⊤}
 use Rattle.mirror_sources.specs.Told.{AddsTold}
 use Rattle.signed_note.specs.Keys.{Key}
 use Rattle.mirror_model.specs.Origin.{IsOrigin}
@@ -7,6 +7,7 @@ use Rattle.mirror_model.specs.View.{View, nothing}
 use Rattle.mirror_state.specs.Loading.{Loads}
 use Rattle.mirror_state.specs.StateText.{StateText}
 use Rattle.mirror_state.specs.declared.fault.LoadFault.{LoadFault}
+use Rattle.mirror_state.specs.declared.fault.LoadFault.TheVariants.{ReadFault}
 use Rattle.tlog_mirror.specs.declared.fault.NewFault.TheVariants as made
 use Rattle.program_files.specs.Named.{NamedFile}
 use Rattle.program_files.specs.Named.{FailsToPut, ReadsFile, HasContents}
@@ -21,13 +22,15 @@ module _ (digest : List ℕ → List ℕ) (origin : List ℕ) (keys : List Key)
   LoadsFile name answer =
       (bytes : List ℕ) × HasContents told name bytes × Loads digest origin keys bytes answer
 
-  -- the origin is judged first, then the file is read, and then it is loaded
+  -- the origin is judged first, then the file is read, and then it is loaded: its bytes are there, so
+  -- that no read fails any more
   abbrev pub OpensFile : List ℕ → Result View StateFault → Type 0
   OpensFile name (Ok v) = IsOrigin origin × LoadsFile name (Ok v)
   OpensFile name (Err (Origin made.BadOrigin)) = ¬ IsOrigin origin
   OpensFile name (Err (Origin made.OutOfMemory)) = ⊤
   OpensFile name (Err (File fault)) = IsOrigin origin × ReadsFile told name (Err fault)
-  OpensFile name (Err (Load fault)) = IsOrigin origin × LoadsFile name (Err fault)
+  OpensFile name (Err (Load fault)) =
+      IsOrigin origin × LoadsFile name (Err fault) × (fault ≢ ReadFault)
 
   -- the mirror of a file, where one is named, and else one that holds nothing
   abbrev pub BeginsWith : Option (List ℕ) → Result View StateFault → Type 0

@@ -3,12 +3,14 @@ use Rattle.std.specs.Prelude.{◌≡◌, ◌≤◌, ℕ, List, [], ◌∷◌, ma
 use Rattle.mirror_sources.specs.Told.{KeepsTold}
 use Rattle.signed_note.specs.Keys.{Key}
 use Rattle.mirror_model.specs.Answered.{answer_of}
-use Rattle.mirror_model.specs.Steps.{Answer, Done, Takes}
+use Rattle.mirror_model.specs.Steps.{Takes}
 use Rattle.mirror_model.specs.View.{View}
+use Rattle.mirror_model.specs.declared.fault.TakeFault.{TakeFault}
 use Rattle.mirror_model.specs.declared.items.Item.{Item}
 use Rattle.mirror_model.specs.declared.items.Item.TheVariants as item
+use Rattle.tlog_mirror.specs.Plays.{JudgesItem}
 use Rattle.program_files.specs.Named.{NamedFile}
-use Rattle.program_commands.specs.Answers.{failed}
+use Rattle.program_commands.specs.Answers.{done, failed}
 use Rattle.program_files.specs.Named.{FailsToPut, FailsToRead, HasContents, HaveContents}
 use Rattle.program_commands.specs.States.{BeginsWith, WritesState}
 use Rattle.program_commands.specs.declared.item.ItemFiles.{ItemFiles}
@@ -17,11 +19,11 @@ use Rattle.program_commands.specs.declared.fault.TakeFilesFault.{TakeFilesFault}
 use Rattle.program_commands.specs.declared.fault.TakeFilesFault.TheVariants.{State, Item as Unread}
 use Rattle.program_commands.specs.declared.fault.TakeFilesFault.TheVariants.{Take, Out}
 
--- a width is one from 1 to 256
-abbrev pub HasWidth : ItemFiles → Type 0
-HasWidth (Head note rows) = ⊤
-HasWidth (Tile width file) = (1 ≤ width) × (width ≤ 256)
-HasWidth (Bundle width file) = (1 ≤ width) × (width ≤ 256)
+-- the width that stands beside the file of a tile or a bundle is one from 1 to 256
+abbrev pub NamesWidth : ItemFiles → Type 0
+NamesWidth (Head note rows) = ⊤
+NamesWidth (Tile width file) = (1 ≤ width) × (width ≤ 256)
+NamesWidth (Bundle width file) = (1 ≤ width) × (width ≤ 256)
 
 -- the files' names
 abbrev pub item_names : ItemFiles → List (List ℕ)
@@ -40,49 +42,49 @@ HoldItem told (Bundle width file) (item.Bundle size bytes) =
 HoldItem told files other = ⊥
 
 module _ (digest : List ℕ → List ℕ) (keys : List Key) (told : Option (List NamedFile)) where
-  -- the item that the files hold was taken so
-  pub record TakesOf (before : View) (files : ItemFiles) (answer : Answer) (after : View)
-      : Type 0 where
+  -- the item that the files hold was taken with that answer, which is the first refusal that applies
+  -- to an item of its kind
+  pub record TakesOf (before : View) (files : ItemFiles) (answer : Result (Unit {0}) TakeFault)
+      (after : View) : Type 0 where
     pub item : Item
     pub held : HoldItem told files item
-    pub takes : Takes digest keys before item answer after
+    pub takes : Takes digest keys before item (answer_of answer) after
+    pub judged : JudgesItem digest keys before.origin item answer
 
   -- the files are read, and then the item is taken
   abbrev pub TakesHeld : {T : Type 0} → View → ItemFiles → View → Result T TakeFilesFault → Type 0
-  TakesHeld before files after (Ok x) = TakesOf before files Done after
+  TakesHeld before files after (Ok x) = TakesOf before files done after
   TakesHeld before files after (Err (Unread fault)) = FailsToRead told (item_names files) fault
-  TakesHeld before files after (Err (Take fault)) =
-      TakesOf before files (answer_of (failed fault)) after
+  TakesHeld before files after (Err (Take fault)) = TakesOf before files (failed fault) after
   TakesHeld before files after (Err other) = ⊥
 
 module _ (digest : List ℕ → List ℕ) (origin : List ℕ) (keys : List Key)
     (told : Option (List NamedFile)) (state : Option (List ℕ)) (files : ItemFiles) where
-  -- a mirror was begun with, and the item that the files hold was taken into it so
-  pub record TakesBegun (answer : Answer) (after : View) : Type 0 where
+  -- a mirror was begun with, and the item that the files hold was taken into it with that answer
+  pub record TakesBegun (answer : Result (Unit {0}) TakeFault) (after : View) : Type 0 where
     pub before : View
     pub begun : BeginsWith digest origin keys told state (Ok before)
     pub taken : TakesOf digest keys told before files answer after
 
   -- a mirror was begun with
-  abbrev pub Begins : Type 0
-  Begins = (before : View) × BeginsWith digest origin keys told state (Ok before)
+  abbrev pub HasBegun : Type 0
+  HasBegun = (before : View) × BeginsWith digest origin keys told state (Ok before)
 
   -- the mirror with the item, or the first reason why there is none
   abbrev pub MakesTaken : Result View TakeFilesFault → Type 0
-  MakesTaken (Ok after) = TakesBegun Done after
+  MakesTaken (Ok after) = TakesBegun done after
   MakesTaken (Err (State fault)) = BeginsWith digest origin keys told state (Err fault)
-  MakesTaken (Err (Unread fault)) = Begins × FailsToRead told (item_names files) fault
-  MakesTaken (Err (Take fault)) =
-      (after : View) × TakesBegun (answer_of (failed fault)) after
+  MakesTaken (Err (Unread fault)) = HasBegun × FailsToRead told (item_names files) fault
+  MakesTaken (Err (Take fault)) = (after : View) × TakesBegun (failed fault) after
   MakesTaken (Err (Out fault)) = ⊥
 
   -- the new state was written to the file of that name; at a fault nothing was
   abbrev pub LeavesTaken : {T : Type 0} → List ℕ → Option (List NamedFile) →
       Result T TakeFilesFault → Type 0
   LeavesTaken out new (Ok x) =
-      (after : View) × TakesBegun Done after × WritesState after out told new
+      (after : View) × TakesBegun done after × WritesState after out told new
   LeavesTaken out new (Err (State fault)) = MakesTaken (Err (State fault)) × KeepsTold told new
   LeavesTaken out new (Err (Unread fault)) = MakesTaken (Err (Unread fault)) × KeepsTold told new
   LeavesTaken out new (Err (Take fault)) = MakesTaken (Err (Take fault)) × KeepsTold told new
   LeavesTaken out new (Err (Out fault)) =
-      ((after : View) × TakesBegun Done after) × FailsToPut told new fault
+      ((after : View) × TakesBegun done after) × FailsToPut told new fault

@@ -1,7 +1,7 @@
 //! The checkpoints that `compare` is given: files that each hold a signed note.
 ghost use Rattle.std.specs.Prelude.{map};
 ghost use Rattle.tlog_text.specs.Answers.{seen};
-ghost use Rattle.program_commands.specs.HeadFiles.{ChecksNotes, ReadsHeads};
+ghost use Rattle.program_commands.specs.HeadFiles.{ChecksHeads, ReadsHeads};
 
 use crate::fault::HeadFilesFault;
 use crate::take::read_files;
@@ -21,7 +21,7 @@ use tlog_mirror::{Mirror, TakeFault};
 /// # Errors
 ///
 /// In this order: `File`, where one of the files is not read; `Head`, with the fault of `Mirror::check_head` at the first
-/// note that has one.
+/// note that has one, whose file's name is told to the files.
 pub fn read_heads<H: TreeHash, F: NamedFiles>(
     files: &F,
     alloc: Global,
@@ -38,7 +38,29 @@ pub fn read_heads<H: TreeHash, F: NamedFiles>(
     };
     match check_notes(alloc, mirror, keys, notes.as_slice()) {
         Ok(heads) => Ok(heads),
-        Err(fault) => Err(HeadFilesFault::Head(fault)),
+        Err(fault) => {
+            tell_name(files, alloc, mirror, keys, names, notes.as_slice());
+            Err(HeadFilesFault::Head(fault))
+        }
+    }
+}
+
+// Tells the files the name of the first whose note is refused.
+fn tell_name<H: TreeHash, F: NamedFiles>(
+    files: &F,
+    alloc: Global,
+    mirror: &Mirror<H>,
+    keys: &[Box<dyn Verifier>],
+    names: &[&str],
+    notes: &[Vec<u8>],
+) {
+    for (name, note) in names.iter().zip(notes) {
+        if mirror.check_head(alloc, keys, note.as_slice()).is_err() {
+            if let Ok(name) = String::from_str(alloc, name) {
+                files.keep_reason(name);
+            }
+            return;
+        }
     }
 }
 
@@ -49,7 +71,7 @@ fn check_notes<H: TreeHash>(
     keys: &[Box<dyn Verifier>],
     notes: &[Vec<u8>],
 ) -> Result<Vec<(u64, Hash)>, TakeFault>
-    ensures { ChecksNotes mirror.now.view.origin (map (λ k. key k) keys.now)
+    ensures { ChecksHeads mirror.now.view.origin (map (λ k. key k) keys.now)
         (map (λ note. note.items) notes.now) (seen (λ heads. heads.items) result) }
 {
     let mut heads = Vec::new(alloc);

@@ -1,6 +1,6 @@
 //! The notes of a mirror as files.
 ghost use Rattle.std.specs.Prelude.{◌≡◌, IfOk, count_by, map, string_bytes};
-ghost use Rattle.program_commands.specs.NoteFiles.{IsHeadNote, ListsNoteFiles, file_after, head_note, is_alike, note_file, note_name};
+ghost use Rattle.program_commands.specs.NoteFiles.{IsHeadNote, ListsNoteFiles, file_after, head_note, is_alike, note_file, note_file_name};
 
 use signed_note::Note;
 use std::alloc::{AllocError, Global};
@@ -58,7 +58,7 @@ fn count_alike(others: &[HeadNote], head: &HeadNote) -> usize
 
 // `SIZE-ROOT-NUMBER.note`.
 fn name_of(alloc: Global, size: u64, root: &Hash, number: usize) -> Result<String, AllocError>
-    ensures { IfOk result (λ name. string_bytes name ≡ note_name size root.now number) }
+    ensures { IfOk result (λ name. string_bytes name ≡ note_file_name size root.now number) }
 {
     let root = hex::encode(alloc, root.as_slice())?;
     format!(in alloc; "{size}-{root}-{number}.note")

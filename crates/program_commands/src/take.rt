@@ -3,7 +3,7 @@ ghost use Rattle.std.specs.Prelude.{◌≤◌, List, map, option_map};
 ghost use Rattle.signed_note.specs.Keys.{Key};
 ghost use Rattle.tlog_text.specs.Answers.{seen};
 ghost use Rattle.program_files.specs.Named.{ReadsFiles};
-ghost use Rattle.program_commands.specs.Takes.{HasWidth, LeavesTaken, MakesTaken, TakesHeld};
+ghost use Rattle.program_commands.specs.Takes.{NamesWidth, LeavesTaken, MakesTaken, TakesHeld};
 ghost use Rattle.program_commands.specs.declared.item.ItemFiles.TheVariants.{Bundle, Head, Tile};
 
 use crate::fault::TakeFilesFault;
@@ -36,7 +36,7 @@ pub fn run_take<H: TreeHash, F: NamedFiles>(
     item: ItemFiles<'_>,
     out: &str,
 ) -> Result<(), TakeFilesFault>
-    requires { HasWidth item }
+    requires { NamesWidth item }
     ensures { LeavesTaken H.digest origin.now (map (λ k. key k) keys.now) (F.puts files.old)
         (option_map (λ name. name.now) state.entry) item.entry out.now (F.puts files.new) result }
 {
@@ -58,7 +58,7 @@ fn mirror_with_item<H: TreeHash, F: NamedFiles>(
     state: Option<&str>,
     item: ItemFiles<'_>,
 ) -> Result<Mirror<H>, TakeFilesFault>
-    requires { HasWidth item }
+    requires { NamesWidth item }
     ensures { MakesTaken H.digest origin.now (map (λ k. key k) keys.now) (F.puts files.now)
         (option_map (λ name. name.now) state.entry) item.entry
         (seen (λ mirror. mirror.view) result) }
@@ -84,7 +84,7 @@ fn take_item<H: TreeHash, F: NamedFiles>(
     keys: &[Box<dyn Verifier>],
     item: ItemFiles<'_>,
 ) -> Result<(), TakeFilesFault>
-    requires { HasWidth item }
+    requires { NamesWidth item }
     ensures { TakesHeld H.digest (map (λ k. key k) keys.now) (F.puts files.now) mirror.old.view
         item.entry mirror.new.view result }
 {

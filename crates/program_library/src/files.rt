@@ -7,7 +7,7 @@ ghost use Rattle.mirror_sources.specs.Source.{IsShortAnswer};
 ghost use Rattle.program_commands.specs.Exported.{ExportsFile};
 ghost use Rattle.program_commands.specs.Merges.{LeavesMerged};
 ghost use Rattle.program_commands.specs.Notes.{WritesNotes};
-ghost use Rattle.program_commands.specs.Takes.{HasWidth};
+ghost use Rattle.program_commands.specs.Takes.{NamesWidth};
 ghost use Rattle.program_commands.specs.Updated.{UpdatesFile};
 ghost use Rattle.program_library.specs.Named.{AsksItem, TakesWords};
 
@@ -64,7 +64,7 @@ pub(crate) fn take_words<F: NamedFiles>(
 fn item_of<'a>(kind: Kind, width: u32, first: &'a str, rest: &'a [&'a str]) -> ItemFiles<'a>
     requires least { 1 ≤ width }
     requires most { width ≤ 256 }
-    ensures within { HasWidth result }
+    ensures within { NamesWidth result }
     ensures item { AsksItem kind width (first.entry.now ∷ map (λ name. name.now) rest.entry.now)
         result }
 {

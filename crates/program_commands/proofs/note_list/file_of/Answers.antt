@@ -1,6 +1,6 @@
 use Rattle.std.proofs.Common.{◌≡◌, ℕ, List, map, ap, sym, ◌∙◌}
 use Rattle.program_files.specs.Named.{NamedFile}
-use Rattle.program_commands.specs.NoteFiles.{alike_count, head_note, is_alike, note_name}
+use Rattle.program_commands.specs.NoteFiles.{alike_count, head_note, is_alike, note_file_name}
 use Rattle.program_commands.proofs.NoteWalks.{count_by-map}
 use Rattle.program_commands.proofs.note_list.file_of.Goals as goal
 
@@ -11,4 +11,4 @@ returns c =
     let counted : c.count_alike-number.result ≡ alike_count (map head_note before) head =
     c.count_alike-number.ensures ∙ sym (count_by-map (λ other. is_alike other head) head_note before) in
     let named : List ℕ → NamedFile = λ name. (name, head.note) in
-    ap named (c.in_ok-name.ensures ∙ ap (note_name head.size head.root) counted)
+    ap named (c.in_ok-name.ensures ∙ ap (note_file_name head.size head.root) counted)

@@ -2,7 +2,7 @@ use Rattle.std.proofs.Common.{sym, subst}
 use Rattle.std.proofs.lemmas.Result.{err_from_is_err_and}
 use Rattle.std.proofs.lemmas.Simd.{map-map}
 use Rattle.program_commands.specs.NoteFiles.{note_file}
-use Rattle.program_commands.specs.Notes.{IsTold, PutsEach, PutsPrefix, in_folder}
+use Rattle.program_commands.specs.Notes.{IsTold, PutsEach, PutsFront, in_folder}
 use Rattle.program_commands.proofs.Putting.{puts_all, puts_front, puts_more}
 use Rattle.program_commands.proofs.notes.put_notes.Goals as goal
 
@@ -10,7 +10,7 @@ pub returns-in_err-put_note : goal.returns-in_err-put_note
 returns-in_err-put_note g c =
     let puts = g.F.NamedFiles.puts in
     let p = err_from_is_err_and c.from_residual.result c.from_residual.ensures.1 in
-    rw (p.1, p.2) (subst (λ files. PutsPrefix files (puts c.args.files.now) (puts c.put_note.new.files) c.in_err-put_note.field-0.0)
+    rw (p.1, p.2) (subst (λ files. PutsFront files (puts c.args.files.now) (puts c.put_note.new.files) c.in_err-put_note.field-0.0)
     (sym (map-map (in_folder c.args.folder.now) note_file c.args.notes.now))
     (puts_front
     (λ note. in_folder c.args.folder.now

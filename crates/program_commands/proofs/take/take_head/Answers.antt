@@ -14,6 +14,7 @@ returns-in-Ok-take_head_rows g c =
       item = item.Head c.deref.result.now (map (λ row. row.items) c.deref-2.result.now);
       held = (rw c.deref.ensures.value c.in-Ok.ensures.bytes, rw c.deref-2.ensures.value c.in-Ok-read_files.ensures);
       takes = c.in-Ok-take_head_rows.ensures.takes;
+      judged = c.in-Ok-take_head_rows.ensures.judged;
     }
 
 pub returns : goal.returns
@@ -22,4 +23,5 @@ returns g c =
       item = item.Head c.deref.result.now (map (λ row. row.items) c.deref-2.result.now);
       held = (rw c.deref.ensures.value c.in-Ok.ensures.bytes, rw c.deref-2.ensures.value c.in-Ok-read_files.ensures);
       takes = c.in-Err-take_head_rows.ensures.takes;
+      judged = c.in-Err-take_head_rows.ensures.judged;
     }

@@ -8,6 +8,7 @@ returns-in-Ok-take_tile g c keys =
       item = item.Tile c.args.width c.deref.result.now;
       held = (refl, rw c.deref.ensures.value c.in-Ok.ensures.bytes);
       takes = c.in-Ok-take_tile.ensures.takes keys;
+      judged = c.in-Ok-take_tile.ensures.judged;
     }
 
 pub returns : goal.returns
@@ -16,4 +17,5 @@ returns g c keys =
       item = item.Tile c.args.width c.deref.result.now;
       held = (refl, rw c.deref.ensures.value c.in-Ok.ensures.bytes);
       takes = c.in-Err-take_tile.ensures.takes keys;
+      judged = c.in-Err-take_tile.ensures.judged;
     }
