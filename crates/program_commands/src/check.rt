@@ -103,7 +103,7 @@ pub fn run_check<R: Read, W: Write>(
         AnswersCheck sha256 input (W.contents writer.old) (W.contents writer.new) result) }
     ensures quiet { IfErr result (λ e. e ≢ CheckFault.WriteFault → Keeps (W.contents writer.old)
         (W.contents writer.new)) }
-    ensures limit { TakesAtMost MAX_READ_LEN (R.remaining reader.old) (R.remaining reader.new) }
+    ensures limit { TakesAtMost 8193 (R.remaining reader.old) (R.remaining reader.new) }
 {
     let verdict = verdict_of(alloc, reader)?;
     write_whole(writer, text_of(verdict).as_bytes())?;

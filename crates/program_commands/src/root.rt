@@ -117,7 +117,7 @@ pub fn run_root<H: TreeHash, R: Read, W: Write>(
         AnswersRoot H.digest width input (W.contents writer.old) (W.contents writer.new) result) }
     ensures quiet { IfErr result (λ e. e ≢ RootFault.WriteFault → Keeps (W.contents writer.old)
         (W.contents writer.new)) }
-    ensures limit { TakesAtMost MAX_READ_LEN (R.remaining reader.old) (R.remaining reader.new) }
+    ensures limit { TakesAtMost 16777473 (R.remaining reader.old) (R.remaining reader.new) }
 {
     let text = root_report::<H, R>(alloc, width, reader)?;
     write_whole(writer, text.as_bytes())?;

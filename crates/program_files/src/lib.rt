@@ -9,12 +9,14 @@
 #![tactic(auto)]
 
 mod fault;
+mod laws;
 mod memory;
 mod named;
 mod system;
 mod why;
 
 pub use fault::NamedFault;
+pub use laws::limits_law;
 pub use memory::MemoryFiles;
 pub use named::{MAX_FILE_LEN, NamedFiles};
 pub use system::{FailedName, SystemFiles};

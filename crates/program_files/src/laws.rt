@@ -1,0 +1,11 @@
+//! The limits of public words, as numbers.
+ghost use Rattle.std.specs.Prelude.{◌≡◌};
+
+use crate::named::MAX_FILE_LEN;
+use crate::why::MAX_WHY_LEN;
+
+/// A named file, a state apart, has at most 16,777,472 bytes, and a line that says why at most 200.
+pub fn limits_law()
+    ensures file { MAX_FILE_LEN ≡ 16777472 }
+    ensures why { MAX_WHY_LEN ≡ 200 }
+{}
