@@ -1,5 +1,5 @@
 -- What is sent and received over a stream.
-use Rattle.std.proofs.Common.{◌≡◌, ℕ, ◌≤◌, List, ◌++◌, length, take, drop, Option, Some, None, Result, Ok, Err, sym, subst, ◌∙◌}
+use Rattle.std.proofs.Common.{◌≡◌, ℕ, ◌≤◌, List, length, take, drop, Option, Some, None, Result, Ok, Err, sym, subst, ◌∙◌}
 use Rattle.std.proofs.Common.{ap, arith, inl, inr}
 use Rattle.std.specs.Prelude.{IfErr, IfOk, IfSome}
 use Rattle.std.proofs.lemmas.List.{append-nil, length-append, length-drop, length-take, take_all}
@@ -8,7 +8,6 @@ use Rattle.byte_streams.specs.Streams.{AppendsPrefix}
 use Rattle.byte_streams.specs.declared.fault.StreamFault.{StreamFault}
 use Rattle.mirror_sources.specs.declared.source.SourceFault.{SourceFault}
 use Rattle.tlog_text.specs.Answers.{seen}
-use Rattle.mirror_client.specs.Reply.{ReadsReply}
 use Rattle.mirror_sources.specs.Source.{IsShortAnswer}
 use Rattle.mirror_client.specs.Source.{Receives, source_fault}
 use Rattle.mirror_client.specs.declared.limits.TheConstants.{MAX_HEAD_LEN, MAX_REPLY_LEN, MOST_TAKEN}

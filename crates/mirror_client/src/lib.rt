@@ -26,7 +26,7 @@ mod watched;
 
 pub use failed::{FailedGet, Reason};
 pub use fault::{ReplyFault, SiteFault};
-pub use laws::one_reply_law;
+pub use laws::{limits_law, one_reply_law};
 pub use limits::{MAX_FIELDS, MAX_HEAD_LEN, MAX_HOST_LEN, MAX_PREFIX_LEN, MAX_REPLY_LEN};
 pub use reply::read_reply;
 pub use request::get_request;

@@ -15,7 +15,7 @@ use crate::site::Site;
 use crate::watched::WatchedStream;
 use byte_streams::{StreamFault, read_all, write_whole};
 use mirror_sources::{Source, SourceFault};
-use std::alloc::Global;
+use std::alloc::{AllocError, Global};
 use std::io;
 use std::io::{ErrorKind, Read, Write};
 use std::marker::Model;
@@ -47,7 +47,23 @@ fn send_request<W: Write>(
     ensures quiet { IfErr result (λ e. e ≢ SourceFault.Failed → Keeps (W.contents writer.old)
         (W.contents writer.new)) }
 {
-    let Ok(request) = get_request(alloc, site, path) else {
+    write_request(writer, get_request(alloc, site, path))
+}
+
+// Writes the request, if there was memory for it. Where there was, `Failed` is the only fault.
+fn write_request<W: Write>(
+    writer: &mut W,
+    request: Result<Vec<u8>, AllocError>,
+) -> Result<(), SourceFault>
+    ensures ok { IfOk request (λ bytes. OnOk result (Appends (W.contents writer.old)
+        (W.contents writer.new) bytes.items)) }
+    ensures err { IfOk request (λ bytes. OnErr result (AppendsPrefix (W.contents writer.old)
+        (W.contents writer.new) bytes.items)) }
+    ensures fault { OnOk request (IfErr result (λ e. e ≡ SourceFault.Failed)) }
+    ensures refused { OnErr request (result ≡ Err SourceFault.OutOfMemory) }
+    ensures quiet { OnErr request (Keeps (W.contents writer.old) (W.contents writer.new)) }
+{
+    let Ok(request) = request else {
         return Err(SourceFault::OutOfMemory);
     };
     match write_whole(writer, &request) {
@@ -58,19 +74,24 @@ fn send_request<W: Write>(
 
 // Reads the reply that the reader gives up to its end, and gives the body, or None where the file is not
 // there (RFC 9112). Of a reply of more than 16,785,664 bytes one byte more is taken, and no others. What is wrong with a
-// reply goes into `reason`.
+// reply goes into `reason`. Where the request was not sent, that fault is the answer.
 fn receive_reply<R: Read>(
     alloc: Global,
     reader: &mut R,
+    sent: Result<(), SourceFault>,
     reason: &mut Option<Reason>,
 ) -> Result<Option<Vec<u8>>, SourceFault>
+    ensures unsent { IfErr sent (λ e. result ≡ Err e) }
     ensures reply { IfOk result (λ answer. IfSome (R.remaining reader.old)
         (λ bytes. Receives bytes (Ok (option_map (λ v. v.items) answer)))) }
     ensures bound { IfOk result (λ answer. IsShortAnswer MAX_REPLY_LEN
         (option_map (λ v. v.items) answer)) }
     ensures limit { TakesAtMost MOST_TAKEN (R.remaining reader.old) (R.remaining reader.new) }
 {
-    reply_body(alloc, read_all(alloc, reader, MOST_TAKEN, u64::MAX), reason)
+    match sent {
+        Ok(()) => reply_body(alloc, read_all(alloc, reader, MOST_TAKEN, u64::MAX), reason),
+        Err(fault) => Err(fault),
+    }
 }
 
 // The body of the reply whose bytes were read, if they were.
@@ -173,13 +194,7 @@ impl<D: Dial + Drop> HttpSource<D> {
             (λ answer. IsShortAnswer MAX_REPLY_LEN (option_map (λ v. v.items) answer)) }
     {
         let mut reason = None;
-        let answer = match self.dial.dial() {
-            Ok(stream) => exchange(self.alloc, stream, &self.site, path, &mut reason),
-            Err(error) => {
-                reason = Some(Reason::Connection(error));
-                Err(SourceFault::Failed)
-            }
-        };
+        let answer = exchange(self.alloc, self.dial.dial(), &self.site, path, &mut reason);
         if let Some(reason) = reason {
             self.last_failed = Some(FailedGet {
                 path: *path,
@@ -190,22 +205,28 @@ impl<D: Dial + Drop> HttpSource<D> {
     }
 }
 
-// One request over the stream, and the body of the reply to it. Where it is `Failed`, `reason` says why.
+// One request over the connection, if there is one, and the body of the reply to it. Where it is `Failed`,
+// `reason` says why.
 fn exchange<S: Read + Write + Drop>(
     alloc: Global,
-    stream: S,
+    dialled: io::Result<S>,
     site: &Site,
     path: &Path,
     reason: &mut Option<Reason>,
 ) -> Result<Option<Vec<u8>>, SourceFault>
+    ensures refused { OnErr dialled (result ≡ Err SourceFault.Failed) }
     ensures bound { IfOk result (λ answer. IsShortAnswer MAX_REPLY_LEN
         (option_map (λ v. v.items) answer)) }
 {
-    let mut stream = WatchedStream::new(stream);
-    let answer = match send_request(alloc, &mut stream, site, path) {
-        Ok(()) => receive_reply(alloc, &mut stream, reason),
-        Err(fault) => Err(fault),
+    let mut stream = match dialled {
+        Ok(stream) => WatchedStream::new(stream),
+        Err(error) => {
+            *reason = Some(Reason::Connection(error));
+            return Err(SourceFault::Failed);
+        }
     };
+    let sent = send_request(alloc, &mut stream, site, path);
+    let answer = receive_reply(alloc, &mut stream, sent, reason);
     if matches!(&answer, Err(SourceFault::Failed)) && reason.is_none() {
         *reason = Some(stream_reason(stream.error()));
     }

@@ -5,6 +5,7 @@ use Rattle.mirror_model.specs.Strings.{IsDigest}
 use Rattle.mirror_model.specs.View.{View}
 use Rattle.mirror_server.specs.Resource.{Names}
 use Rattle.mirror_server.specs.Response.{Response}
+use Rattle.mirror_server.specs.declared.limits.TheConstants.{MAX_HEAD_LEN, MAX_FIELDS}
 use Rattle.mirror_server.specs.declared.resource.Resource.{Resource}
 
 -- a target names one resource at most
@@ -30,3 +31,8 @@ EqualViewsReplyAlike =
     (digest : List ℕ → List ℕ) → IsDigest digest → (v w : View) → IsLawful digest v → v ≡ w →
     (bytes others first second : List ℕ) → bytes ≡ others → Response digest v bytes first →
     Response digest w others second → first ≡ second
+
+-- how many bytes and how many fields the head of a request has at most
+pub record HasServerLimits : Type 0 where
+  pub head : MAX_HEAD_LEN ≡ 8192
+  pub fields : MAX_FIELDS ≡ 64

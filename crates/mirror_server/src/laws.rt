@@ -1,7 +1,7 @@
 //! What the definitions say, as laws.
 //!
 //! A law is the contract of a function with an empty body: the proof is all that there is of it.
-ghost use Rattle.mirror_server.specs.Laws.{EqualViewsReplyAlike, ResponseIsOne, ResponseIsThere, TargetsNameOne};
+ghost use Rattle.mirror_server.specs.Laws.{EqualViewsReplyAlike, HasServerLimits, ResponseIsOne, ResponseIsThere, TargetsNameOne};
 
 /// A target names one resource at most.
 pub fn one_resource_law()
@@ -14,4 +14,9 @@ pub fn one_response_law()
     ensures one { ResponseIsOne }
     ensures there { ResponseIsThere }
     ensures alike { EqualViewsReplyAlike }
+{}
+
+/// The head of a request lies within 8,192 bytes, and has at most 64 fields.
+pub fn limits_law()
+    ensures { HasServerLimits }
 {}

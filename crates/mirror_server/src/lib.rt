@@ -19,7 +19,7 @@ mod resource;
 mod serve;
 
 pub use fault::HttpFault;
-pub use laws::{one_resource_law, one_response_law};
+pub use laws::{limits_law, one_resource_law, one_response_law};
 pub use limits::{MAX_FIELDS, MAX_HEAD_LEN};
 pub use resource::Resource;
 pub use serve::answer;
