@@ -5,4 +5,3 @@ mod pulls;
 mod replies;
 mod sites;
 mod sources;
-mod strangers;

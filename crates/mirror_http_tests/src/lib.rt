@@ -7,8 +7,6 @@
 #[cfg(test)]
 mod client;
 #[cfg(test)]
-mod given;
-#[cfg(test)]
 mod served;
 #[cfg(test)]
 mod streams;

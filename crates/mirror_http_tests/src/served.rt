@@ -6,7 +6,6 @@ mod streams;
 ghost use Rattle.std.specs.Prelude.{codes, ◌∷◌, []};
 ghost use Rattle.std.specs.Str.{bytes_eq};
 
-use crate::given::kept;
 use mirror_http::{HttpFault, answer};
 use signed_note::Verifier;
 use std::alloc::{AllocError, Global};
@@ -94,4 +93,13 @@ pub(crate) fn answered<H: TreeHash, R: Read, W: Write>(
     writer: &mut W,
 ) -> Result<(), HttpFault> {
     answer(alloc, mirror, reader, writer)
+}
+
+// What was made, where all was done to it. Else it is dropped: here and by `drop`, since a drop in place has a step for each
+// field of a mirror or a source, and is dear to check.
+pub(crate) fn kept<T: Drop>(made: T, answer: Result<(), Fail>) -> Result<T, Fail> {
+    match answer {
+        Ok(()) => Ok(made),
+        Err(fault) => Err(fault),
+    }
 }

@@ -8,7 +8,6 @@ use byte_streams::{CHUNK, StreamFault, read_all, write_whole};
 use std::alloc::Global;
 use std::io::Read;
 use std::process::Abort;
-use std::test::Fail;
 
 // What is read. It ensures nothing, so that its callers are cheap to check.
 fn read_bytes<R: Read>(
@@ -64,35 +63,6 @@ fn assert_reads(rt: &impl Abort, alloc: Global, turns: &[Turn], want: Result<&[u
         Ok(bytes) => assert!(rt; Ok(bytes.as_slice()) == want),
         Err(fault) => assert!(rt; Err(fault) == want),
     }
-}
-
-// Of the input the first `len` bytes are read where at most so many may be, and the others are left.
-fn assert_front(
-    rt: &impl Abort,
-    alloc: Global,
-    input: &[u8],
-    most: usize,
-    len: usize,
-) -> Result<(), Fail> {
-    let mut reader = input;
-    let bytes = read_bytes(alloc, &mut reader, most, u64::MAX)?;
-    assert!(rt; bytes.len() == len);
-    assert!(rt; input.starts_with(bytes.as_slice()));
-    assert!(rt; reader.len().saturating_add(len) == input.len());
-    Ok(())
-}
-
-#[test]
-fn a_limit_of_bytes(rt: HostRuntime) -> Result<(), Fail> {
-    for most in [0, 1, 5, 6] {
-        assert_front(&rt, rt.alloc(), b"abcdef", most, most)?;
-    }
-    let mut input = vec![in rt.alloc(); b'a'; 200_000]?;
-    input[65_536] = b'b';
-    for (most, len) in [(1_000_000, 200_000), (200_000, 200_000), (65_537, 65_537)] {
-        assert_front(&rt, rt.alloc(), &input, most, len)?;
-    }
-    Ok(())
 }
 
 #[test]

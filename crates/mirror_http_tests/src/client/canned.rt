@@ -6,14 +6,11 @@ use std::io::{ErrorKind, Read, Write};
 use std::rc::Rc;
 use std::test::Fail;
 
-// Takes all bytes, and gives the reply from that place on, at most so many bytes a read, once or with letters behind it
-// without end.
+// Gives the reply from that place on, and takes all bytes, or none.
 #[derive(Drop)]
 pub(crate) struct Canned {
     reply: Rc<Vec<u8>>,
     at: usize,
-    most: usize,
-    ends: bool,
     hears: bool,
 }
 
@@ -35,24 +32,17 @@ impl Read for Canned {
         let Some(rest) = self.reply.get(self.at..) else {
             return Ok(0);
         };
-        let count = rest.len().min(buf.len()).min(self.most);
+        let count = rest.len().min(buf.len());
         buf[..count].copy_from_slice(&rest[..count]);
         self.at += count;
-        if count == 0 && !self.ends {
-            buf.fill(b'a');
-            return Ok(buf.len());
-        }
         Ok(count)
     }
 }
 
-// Makes such connections, or none.
+// Makes such connections.
 #[derive(Drop)]
 pub(crate) struct CannedDial {
     reply: Rc<Vec<u8>>,
-    most: usize,
-    ends: bool,
-    works: bool,
     hears: bool,
 }
 
@@ -60,55 +50,22 @@ impl Dial for CannedDial {
     type Stream = Canned;
 
     fn dial(&mut self) -> io::Result<Canned> {
-        if !self.works {
-            return Err(io::Error::from(ErrorKind::Other));
-        }
         Ok(Canned {
             reply: self.reply.clone()?,
             at: 0,
-            most: self.most,
-            ends: self.ends,
             hears: self.hears,
         })
     }
 }
 
-// A source over such connections, of which each read gives at most so many bytes.
+// A source over such connections, to which bytes can be written or not.
 pub(crate) fn source_over(
     alloc: Global,
     reply: &str,
-    most: usize,
-    ends: bool,
-    works: bool,
-) -> Result<HttpSource<CannedDial>, Fail> {
-    let reply = Rc::new(alloc, Vec::from_slice(alloc, reply.as_bytes())?)?;
-    over(alloc, reply, most, ends, works, true)
-}
-
-// A source over connections to which no byte can be written.
-pub(crate) fn source_that_is_deaf(
-    alloc: Global,
-    reply: &str,
-) -> Result<HttpSource<CannedDial>, Fail> {
-    let reply = Rc::new(alloc, Vec::from_slice(alloc, reply.as_bytes())?)?;
-    over(alloc, reply, usize::MAX, true, true, false)
-}
-
-fn over(
-    alloc: Global,
-    reply: Rc<Vec<u8>>,
-    most: usize,
-    ends: bool,
-    works: bool,
     hears: bool,
 ) -> Result<HttpSource<CannedDial>, Fail> {
-    let dial = CannedDial {
-        reply,
-        most,
-        ends,
-        works,
-        hears,
-    };
+    let reply = Rc::new(alloc, Vec::from_slice(alloc, reply.as_bytes())?)?;
+    let dial = CannedDial { reply, hears };
     let site = Site::new(alloc, "log.example", "/2026")?;
     Ok(HttpSource::new(alloc, site, dial))
 }

@@ -1,15 +1,12 @@
 //! Connections over TCP, over loopback in one process.
 use crate::served::{NOT_FOUND, answered, mirror_of_3};
 use byte_streams::{TimedStream, read_all, write_whole};
-use mirror_http::{Dial, HttpSource, Site, TcpDial, get_request};
-use mirror_sources::{Source, SourceFault};
+use mirror_http::{Dial, Site, TcpDial, get_request};
 use std::alloc::Global;
-use std::cell::Cell;
 use std::io;
 use std::io::{Read, Write};
 use std::net::{Ipv4Addr, Net, SocketAddr, TcpListener, TcpStream};
 use std::process::Abort;
-use std::rc::Rc;
 use std::test::Fail;
 use std::time::{Clock, Duration};
 use tlog_hash::{Sha256Tree, TreeHash};
@@ -81,22 +78,15 @@ fn answers_next<H: TreeHash>(
     Ok(())
 }
 
-// The system's network, but each host has the addresses 127.0.0.2, 127.0.0.3 and 127.0.0.1, in this order, and the clock
-// stands at 0 when it is looked at first, and at 59.9 seconds from then on.
+// The system's network, but each host has the addresses 127.0.0.2, 127.0.0.3 and 127.0.0.1, in this order.
 #[derive(Clone, Drop)]
 struct StrangeNet {
     rt: HostRuntime,
-    looks: Rc<Cell<u64>>,
 }
 
 impl Clock for StrangeNet {
     fn monotonic(&self) -> io::Result<Duration> {
-        let looks = self.looks.get();
-        self.looks.set(looks.saturating_add(1));
-        if looks == 0 {
-            return Ok(Duration::ZERO);
-        }
-        Ok(Duration::from_millis(59_900))
+        self.rt.monotonic()
     }
 
     fn since_1970(&self) -> io::Result<Duration> {
@@ -135,7 +125,7 @@ impl Net for StrangeNet {
 #[test]
 fn each_address_of_a_host_is_tried(rt: HostRuntime) -> Result<(), Fail> {
     let listener = TcpListener::bind(&rt, "127.0.0.1:0")?;
-    let mut dial = strange_dial(&rt, "log.example", &listener)?;
+    let mut dial = strange_dial(&rt, &listener)?;
     let stream = dial.dial();
     drop(dial);
     assert!(rt; stream.is_ok());
@@ -143,33 +133,9 @@ fn each_address_of_a_host_is_tried(rt: HostRuntime) -> Result<(), Fail> {
     Ok(())
 }
 
-// Connects over that network to the host, at the port of the listener.
-fn strange_dial(
-    rt: &HostRuntime,
-    host: &str,
-    listener: &TcpListener,
-) -> Result<TcpDial<StrangeNet>, Fail> {
+// Connects over that network, at the port of the listener.
+fn strange_dial(rt: &HostRuntime, listener: &TcpListener) -> Result<TcpDial<StrangeNet>, Fail> {
     let port = listener.local_addr()?.port();
-    let looks = Rc::new(rt.alloc(), Cell::new(0))?;
-    let net = StrangeNet { rt: *rt, looks };
-    Ok(TcpDial::new(net, rt.alloc(), host, port)?)
-}
-
-// A listener that accepts none: 59.9 seconds after the connection was made there are 0.1 left for the reply.
-#[test]
-fn a_log_that_never_answers(rt: HostRuntime) -> Result<(), Fail> {
-    let listener = TcpListener::bind(&rt, "127.0.0.1:0")?;
-    let dial = strange_dial(&rt, "127.0.0.1", &listener)?;
-    let site = Site::new(rt.alloc(), "log.example", "")?;
-    let mut source = HttpSource::new(rt.alloc(), site, dial);
-    fails_once(&rt, &mut source);
-    drop(source);
-    Ok(())
-}
-
-// The source fails, and counts that.
-fn fails_once<S: Source>(rt: &impl Abort, source: &mut S) {
-    let answer = source.get(&Path::Checkpoint);
-    assert!(rt; matches!(answer, Err(SourceFault::Failed)));
-    assert!(rt; source.failures() == 1);
+    let net = StrangeNet { rt: *rt };
+    Ok(TcpDial::new(net, rt.alloc(), "log.example", port)?)
 }

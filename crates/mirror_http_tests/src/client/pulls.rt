@@ -4,8 +4,7 @@
 ghost use Rattle.std.specs.Prelude.{map, IfOk};
 ghost use Rattle.mirror_model.specs.TrueLaws.{AreShort};
 
-use crate::given::kept;
-use crate::served::answered;
+use crate::served::{answered, kept};
 use mirror_http::{Dial, HttpSource, Site};
 use mirror_pull::{PullFault, Pulled, pull};
 use mirror_sources::{ListSource, Source};

@@ -1,5 +1,4 @@
-//! Heads of requests: short ones, long ones, and such as are cut.
-use crate::given::{long_head, push_times};
+//! Heads of requests: short ones, and such as are cut.
 use crate::served::{
     BAD_REQUEST, BUNDLE_REPLY, BUNDLE_REQUEST, NOT_ALLOWED, NOT_FOUND, answered, mirror_of_3,
 };
@@ -47,38 +46,6 @@ fn gets<H: TreeHash>(
     let mut reader = request;
     assert!(rt; answered(alloc, mirror, &mut reader, &mut reply) == Ok(()));
     assert!(rt; reply.as_slice() == want, "{} bytes", request.len());
-}
-
-#[test]
-fn long_heads(rt: HostRuntime) -> Result<(), Fail> {
-    let mirror = mirror_of_3::<Sha256Tree>(rt.alloc())?;
-    let answer = gets_of_long_heads(&rt, rt.alloc(), &mirror);
-    drop(mirror);
-    answer
-}
-
-// How many fields a request has, how many letters the value of the last, and how many bytes are behind its head, and its reply. The
-// request line has 20 bytes, a field 4 and its letters, and the empty line 2.
-const LONG: [(usize, usize, usize, &str); 5] = [
-    (64, 0, 0, NOT_FOUND),
-    (65, 0, 0, BAD_REQUEST),
-    (1, 8_192 - 26, 0, NOT_FOUND),
-    (1, 8_192 - 26, 9_000, NOT_FOUND),
-    (1, 8_192 - 25, 0, BAD_REQUEST),
-];
-
-// Each of these long requests gets its reply.
-fn gets_of_long_heads<H: TreeHash>(
-    rt: &impl Abort,
-    alloc: Global,
-    mirror: &Mirror<H>,
-) -> Result<(), Fail> {
-    for &(fields, letters, behind, want) in &LONG {
-        let mut request = long_head(alloc, "GET /none HTTP/1.1", fields, letters)?;
-        push_times(&mut request, "b", behind)?;
-        gets(rt, alloc, mirror, request.as_bytes(), want.as_bytes());
-    }
-    Ok(())
 }
 
 #[test]

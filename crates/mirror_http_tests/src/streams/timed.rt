@@ -1,7 +1,5 @@
 //! Streams with a deadline: in memory, under a clock of their own, and over loopback, under the system's.
-use crate::streams::fault_of;
-use byte_streams::{BoundsWaits, StreamFault, TimedStream, read_all, write_whole};
-use std::alloc::Global;
+use byte_streams::{BoundsWaits, StreamFault, TimedStream, write_whole};
 use std::cell::Cell;
 use std::io;
 use std::io::{ErrorKind, Read, Write};
@@ -88,6 +86,15 @@ fn calls_up_to_a_deadline(rt: HostRuntime) -> Result<(), Fail> {
     Ok(())
 }
 
+#[test]
+fn a_deadline_behind_the_last_instant(rt: HostRuntime) {
+    let seconds = Cell::new(1);
+    let wait = Cell::new(Duration::ZERO);
+    let clock = Ticking { seconds: &seconds };
+    let stream = TimedStream::new(Patient { wait: &wait }, clock, Duration::MAX);
+    assert!(rt; stream.is_err());
+}
+
 fn calls_in_time<S: Read + Write>(
     rt: &impl Abort,
     stream: &mut S,
@@ -109,83 +116,15 @@ fn calls_too_late<S: Read + Write>(rt: &impl Abort, stream: &mut S, wait: &Cell<
     assert!(rt; wait.get().as_secs() == 1);
 }
 
-// Both ends of a connection over loopback.
-fn connection(rt: &HostRuntime) -> io::Result<(TcpStream, TcpStream)> {
+// A connection to a listener that accepts none: the system makes it, and nothing is ever taken. What a stream does whose other
+// end sends nothing, or a byte now and then, or reads nothing, stands in scripts/raw-runs.
+fn silent_server(rt: &HostRuntime) -> io::Result<(TcpListener, TcpStream)> {
     let listener = TcpListener::bind(rt, "127.0.0.1:0")?;
     let client = TcpStream::connect(rt, listener.local_addr()?)?;
-    let (server, _) = listener.accept()?;
-    Ok((client, server))
+    Ok((listener, client))
 }
 
-// How long the other end is waited for.
-fn deadline() -> Duration {
-    Duration::from_millis(200)
-}
-
-// The deadline has passed since then, and not much more: twenty seconds are for a busy machine.
-fn assert_in_time(rt: &impl Abort, clock: &HostRuntime, start: Instant) -> Result<(), Fail> {
-    let taken = start.elapsed(clock)?;
-    assert!(rt;
-        taken >= deadline() && taken < Duration::from_secs(20),
-        "{taken:?}"
-    );
-    Ok(())
-}
-
-// Of what comes from that stream less than so many bytes are there at the deadline.
-fn reads_too_few<S: Read + BoundsWaits + Drop>(
-    rt: &impl Abort,
-    clock: &HostRuntime,
-    stream: S,
-    most: usize,
-) -> Result<(), Fail> {
-    let start = Instant::now(clock)?;
-    let mut reader = TimedStream::new(stream, *clock, deadline())?;
-    let fault = fault_of(clock.alloc(), &mut reader, most, u64::MAX);
-    drop(reader);
-    assert!(rt; fault == Some(StreamFault::ReadFault));
-    assert_in_time(rt, clock, start)
-}
-
-#[test]
-fn a_client_that_sends_nothing(rt: HostRuntime) -> Result<(), Fail> {
-    let (_client, server) = connection(&rt)?;
-    reads_too_few(&rt, &rt, &server, 100)
-}
-
-// A connection whose other end sends a byte now and then: 20 milliseconds before each read.
-#[derive(Drop)]
-struct Trickle {
-    client: TcpStream,
-    server: TcpStream,
-    rt: HostRuntime,
-}
-
-impl Read for Trickle {
-    fn read(&mut self, buf: &mut [u8]) -> io::Result<usize> {
-        std::thread::sleep(&self.rt, Duration::from_millis(20));
-        self.client.write_all(b"a")?;
-        self.server.read(buf)
-    }
-}
-
-impl BoundsWaits for Trickle {
-    fn bound_reads(&self, wait: Duration) -> io::Result<()> {
-        self.server.bound_reads(wait)
-    }
-
-    fn bound_writes(&self, wait: Duration) -> io::Result<()> {
-        self.server.bound_writes(wait)
-    }
-}
-
-#[test]
-fn a_client_that_sends_a_byte_now_and_then(rt: HostRuntime) -> Result<(), Fail> {
-    let (client, server) = connection(&rt)?;
-    reads_too_few(&rt, &rt, Trickle { client, server, rt }, 1_000_000)
-}
-
-// Writes as much as the system keeps for a client that does not read, and then more.
+// Writes as much as the system keeps for a server that does not read, and then more.
 fn write_on(writer: &mut impl Write, bytes: &[u8]) -> Result<(), StreamFault> {
     for _ in 0..100_000 {
         write_whole(writer, bytes)?;
@@ -193,68 +132,21 @@ fn write_on(writer: &mut impl Write, bytes: &[u8]) -> Result<(), StreamFault> {
     Ok(())
 }
 
-// Not all is taken by that stream at the deadline.
-fn takes_too_few<S: Write + BoundsWaits + Drop>(
-    rt: &impl Abort,
-    clock: &HostRuntime,
-    stream: S,
-) -> Result<(), Fail> {
-    let bytes = vec![in clock.alloc(); 0u8; 65_536]?;
-    let start = Instant::now(clock)?;
-    let mut writer = TimedStream::new(stream, *clock, deadline())?;
-    let answer = write_on(&mut writer, &bytes);
-    drop(writer);
-    assert!(rt; answer == Err(StreamFault::WriteFault));
-    assert_in_time(rt, clock, start)
-}
-
-#[test]
-fn a_client_that_takes_nothing(rt: HostRuntime) -> Result<(), Fail> {
-    let (_client, server) = connection(&rt)?;
-    takes_too_few(&rt, &rt, &server)
-}
-
-// A connection to a listener that accepts none: the system makes it, and nothing is ever sent or taken. The stream is
-// owned, as that of a pull is.
-fn silent_server(rt: &HostRuntime) -> io::Result<(TcpListener, TcpStream)> {
-    let listener = TcpListener::bind(rt, "127.0.0.1:0")?;
-    let client = TcpStream::connect(rt, listener.local_addr()?)?;
-    Ok((listener, client))
-}
-
-#[test]
-fn a_server_that_sends_nothing(rt: HostRuntime) -> Result<(), Fail> {
-    let (_listener, client) = silent_server(&rt)?;
-    reads_too_few(&rt, &rt, client, 100)
-}
-
+// The deadline passes before all is taken, and the write ends then: twenty seconds are for a busy machine.
 #[test]
 fn a_server_that_takes_nothing(rt: HostRuntime) -> Result<(), Fail> {
+    let bytes = vec![in rt.alloc(); 0u8; 65_536]?;
     let (_listener, client) = silent_server(&rt)?;
-    takes_too_few(&rt, &rt, client)
-}
-
-#[test]
-fn bytes_within_a_deadline(rt: HostRuntime) -> Result<(), Fail> {
-    let (client, server) = connection(&rt)?;
-    assert!(rt; TimedStream::new(&server, rt, Duration::MAX).is_err());
-    let minute = Duration::from_secs(60);
-    let mut client = TimedStream::new(client, rt, minute)?;
-    let mut server = TimedStream::new(&server, rt, minute)?;
-    assert!(rt; passes(rt.alloc(), &mut client, &mut server, b"abc"));
-    assert!(rt; passes(rt.alloc(), &mut server, &mut client, b"de"));
-    drop(client);
-    drop(server);
+    let deadline = Duration::from_millis(200);
+    let start = Instant::now(&rt)?;
+    let mut writer = TimedStream::new(client, rt, deadline)?;
+    let answer = write_on(&mut writer, &bytes);
+    drop(writer);
+    let taken = start.elapsed(&rt)?;
+    assert!(rt; answer == Err(StreamFault::WriteFault));
+    assert!(rt;
+        taken >= deadline && taken < Duration::from_secs(20),
+        "{taken:?}"
+    );
     Ok(())
-}
-
-// Whether what is written at one end is read at the other.
-fn passes<W: Write, R: Read>(alloc: Global, writer: &mut W, reader: &mut R, bytes: &[u8]) -> bool {
-    if write_whole(writer, bytes).is_err() {
-        return false;
-    }
-    match read_all(alloc, reader, bytes.len(), u64::MAX) {
-        Ok(read) => read.as_slice() == bytes,
-        Err(_) => false,
-    }
 }
