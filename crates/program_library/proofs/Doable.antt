@@ -1,6 +1,6 @@
 -- What words that ask for a command say of its numbers.
 use Rattle.std.proofs.Common.{ℕ, ◌≤◌, List, length, Option, Some, None, arith}
-use Rattle.program_words.specs.Commands.{Asks, IsCount, IsNumberGiven, IsTakeWidth}
+use Rattle.program_words.specs.Commands.{AsksFor, IsCount, IsNumberGiven, IsTakeWidth}
 use Rattle.program_words.specs.declared.commands.Command.{Command as Order}
 use Rattle.program_words.specs.declared.commands.Command.TheVariants as order
 use Rattle.program_words.specs.declared.commands.take.Kind.{Kind}
@@ -20,7 +20,7 @@ some_file kind.Head count h = h
 some_file kind.Tile count h = omega (arith, h)
 some_file kind.Bundle count h = omega (arith, h)
 
-pub asked_doable : (words : List (List ℕ)) (c : Order) → Asks words c → IsDoable c
+pub asked_doable : (words : List (List ℕ)) (c : Order) → AsksFor words c → IsDoable c
 asked_doable words (order.Root c) h = most_given 0 256 _ c.width h.2
 asked_doable words (order.Take c) h =
     let width = take_width _ c.width h.2.width in

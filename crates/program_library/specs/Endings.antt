@@ -27,18 +27,18 @@ abbrev pub IsFaultLine : List ℕ → Type 0
 IsFaultLine text = (name : List ℕ) × (text ≡ fault_line name)
 
 -- the program ends with this status, and with this text on this stream
-pub record Ends (status : ℕ) (stream : Stream) (text : List ℕ) (told : Ending) : Type 0 where
+pub record IsEnding (status : ℕ) (stream : Stream) (text : List ℕ) (told : Ending) : Type 0 where
   pub status_is : told.status ≡ status
   pub stream_is : told.stream ≡ stream
   pub text_is : message_bytes told.text ≡ text
 
 -- what the program tells of each answer of a run
 abbrev pub TellsRun : Result ℕ RunFault → Ending → Type 0
-TellsRun (Ok status) told = Ends status Output [] told
-TellsRun (Err (Command (Help text))) told = Ends 0 Output (string_bytes text) told
-TellsRun (Err (Command (Words text))) told = Ends 2 Errors (string_bytes text) told
-TellsRun (Err (Command BadArgument)) told = Ends 2 Errors (fault_line (codes "BadArgument")) told
-TellsRun (Err fault) told = (name : List ℕ) × Ends 1 Errors (fault_line name) told
+TellsRun (Ok status) told = IsEnding status Output [] told
+TellsRun (Err (Command (Help text))) told = IsEnding 0 Output (string_bytes text) told
+TellsRun (Err (Command (Words text))) told = IsEnding 2 Errors (string_bytes text) told
+TellsRun (Err (Command BadArgument)) told = IsEnding 2 Errors (fault_line (codes "BadArgument")) told
+TellsRun (Err fault) told = (name : List ℕ) × IsEnding 1 Errors (fault_line name) told
 
 -- the text was written whole, and the status stays
 pub record SaysWhole (told : Ending) (status : ℕ) (output output' errors errors' : Option (List ℕ))

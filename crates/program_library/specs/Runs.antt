@@ -13,7 +13,7 @@ use Rattle.program_files.specs.Named.{ReadsShort, HasContents}
 use Rattle.program_files.specs.declared.fault.NamedFault.{NamedFault}
 use Rattle.program_words.specs.declared.commands.Command.{Command as Order}
 use Rattle.program_words.specs.declared.fault.CommandFault.{CommandFault}
-use Rattle.program_words.specs.Commands.{Asks}
+use Rattle.program_words.specs.Commands.{AsksFor}
 use Rattle.program_words.specs.Readings.{HasKeys, HasNoKeys, Reads, ReadsKeyFile}
 use Rattle.program_library.specs.declared.fault.RunFault.{RunFault}
 use Rattle.program_library.specs.declared.fault.RunFault.TheVariants.{Command, KeyFile, KeyLines}
@@ -27,13 +27,13 @@ module _ (digest : List ℕ → List ℕ) (keys : List Key) (key_bytes : List �
   pub record Obeys (words : List (List ℕ)) (input old new : Option (List ℕ))
       (answer : Result ℕ RunFault) : Type 0 where
     pub command : Order
-    pub asked : Asks words command
+    pub asked : AsksFor words command
     pub done : Executes digest keys key_bytes told left held before put command input old new answer
     pub files : LeavesFiles command told left
     pub folders : LeavesFolders command before put
 
   -- the words ask for no command: this is the answer, nothing was written, and no file was changed
-  pub record Refuses (words : List (List ℕ)) (old new : Option (List ℕ))
+  pub record RefusesWords (words : List (List ℕ)) (old new : Option (List ℕ))
       (answer : Result ℕ RunFault) : Type 0 where
     pub fault : CommandFault
     pub answer_is : answer ≡ Err (Command fault)
@@ -45,7 +45,7 @@ module _ (digest : List ℕ → List ℕ) (keys : List Key) (key_bytes : List �
   -- what the answer of a run says of the words, of the input, and of what was written
   abbrev pub Runs : List (List ℕ) → Option (List ℕ) → Option (List ℕ) → Option (List ℕ) →
       Result ℕ RunFault → Type 0
-  Runs words input old new answer = Refuses words old new answer ⊎ Obeys words input old new answer
+  Runs words input old new answer = RefusesWords words old new answer ⊎ Obeys words input old new answer
 
 -- ---- the key file
 

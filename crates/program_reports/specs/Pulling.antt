@@ -9,8 +9,8 @@ abbrev pub head_text : ℕ → List ℕ → List ℕ
 head_text size root = codes "pulled " ++ (decimal size ++ (codes " " ++ base64_of root))
 
 -- the rest of that line, ` rounds ROUNDS refused REFUSED`, with its newline
-abbrev pub counts_text : ℕ → ℕ → List ℕ
-counts_text rounds refused =
+abbrev pub rounds_text : ℕ → ℕ → List ℕ
+rounds_text rounds refused =
     codes " rounds " ++ (decimal rounds ++ (codes " refused " ++ (decimal refused ++ codes "\n")))
 
 -- the second line: whether the head that was pulled is complete
@@ -21,7 +21,7 @@ complete_text false = codes "partial\n"
 -- the two lines that tell what a pull came to, the root in standard base64
 abbrev pub pulled_lines : Pulled → List ℕ
 pulled_lines p =
-    head_text p.size p.root ++ (counts_text p.rounds p.refused ++ complete_text p.complete)
+    head_text p.size p.root ++ (rounds_text p.rounds p.refused ++ complete_text p.complete)
 
 -- the exit status that tells whether a head is complete: 3 where it is not
 abbrev pub status_of : Bool → ℕ

@@ -1,6 +1,6 @@
 //! What is told of a pull.
 ghost use Rattle.std.specs.Prelude.{◌≡◌, IfOk, string_bytes};
-ghost use Rattle.program_reports.specs.Pulling.{IsPulledStatus, counts_text, head_text, pulled_lines};
+ghost use Rattle.program_reports.specs.Pulling.{IsPulledStatus, rounds_text, head_text, pulled_lines};
 
 use mirror_pull::Pulled;
 use std::alloc::{AllocError, Global};
@@ -43,7 +43,7 @@ fn head_of(alloc: Global, size: u64, root: &Hash) -> Result<String, AllocError>
 
 // The rest of it.
 fn counts_of(alloc: Global, rounds: u32, refused: u64) -> Result<String, AllocError>
-    ensures { IfOk result (λ text. string_bytes text ≡ counts_text rounds refused) }
+    ensures { IfOk result (λ text. string_bytes text ≡ rounds_text rounds refused) }
 {
     format!(in alloc; " rounds {rounds} refused {refused}\n")
 }

@@ -10,7 +10,7 @@ use Rattle.clap.specs.Simple.{argument_words, built, entered, label_of, names_of
 use Rattle.clap.specs.declared.error.kind.ErrorKind.TheVariants as kind
 use Rattle.clap.proofs.OnLiterals.{clap_on_literals}
 use Rattle.tlog_text.proofs.Decimals.{decimal_here}
-use Rattle.program_words.specs.Commands.{Asks, IsNumberIn, Says, faults, mirror_app, name_of}
+use Rattle.program_words.specs.Commands.{AsksFor, IsNumberIn, Says, faults, mirror_app, name_of}
 use Rattle.program_words.specs.Laws.{IsOneOf, LawfulWordsName, WordsAskForOneName, command_names}
 use Rattle.program_words.specs.declared.commands.Command.TheVariants.{Root, Check}
 
@@ -21,12 +21,12 @@ root_lawful : faults (root_words (codes "200")) ≡ []
 unfolding clap_on_literals
 root_lawful = refl
 
-root_is : (n : ℕ) → IsNumberIn 0 256 n (codes "200") → Asks (root_words (codes "200")) (Root (record { width = n }))
+root_is : (n : ℕ) → IsNumberIn 0 256 n (codes "200") → AsksFor (root_words (codes "200")) (Root (record { width = n }))
 unfolding clap_on_literals
 root_is n w =
     (_, record { lawful = root_lawful; named = refl }, w)
 
-pub root_asked : Asks (root_words (codes "200")) (Root (record { width = 200 }))
+pub root_asked : AsksFor (root_words (codes "200")) (Root (record { width = 200 }))
 root_asked = root_is 200 (record {
   number = decimal_here (codes "200") (lit< tt) refl (λ two zero. cc);
   least_is = lit≤ tt;
@@ -41,7 +41,7 @@ check_named : subcommand_of mirror_app (codes "check" ∷ []) ≡ Some (codes "c
 unfolding clap_on_literals
 check_named = refl
 
-pub check_asked : Asks (codes "check" ∷ []) Check
+pub check_asked : AsksFor (codes "check" ∷ []) Check
 check_asked = ([], record { lawful = check_lawful; named = check_named }, tt)
 
 pub no_width : faults (codes "root" ∷ []) ≡ kind.MissingRequiredArgument ∷ []

@@ -1,7 +1,7 @@
 -- What command lines are made of, in the words of `clap`: their options, and what commands share.
 -- `Commands` has the commands themselves. `argument_of`, `with_rules`, `line_app` and `IsParserOf` are
--- cited by the contracts of private functions alone, `AreParsersOf` by none.
-use Rattle.std.specs.Prelude.{◌≡◌, List, [], ◌∷◌, Some, Result, IfOk, map, true, false, codes, ⊤}
+-- cited by the contracts of private functions alone.
+use Rattle.std.specs.Prelude.{◌≡◌, List, [], ◌∷◌, Some, map, true, false, codes}
 use Rattle.clap.specs.Words.{App, Rule, Text, app_of, new_app, new_rule, with_rule, with_subcommand}
 use Rattle.clap.specs.Simple.{new_shape}
 use Rattle.clap.specs.declared.builder.command.Command.{Command as Parser}
@@ -110,9 +110,3 @@ line_app line = with_rules (new_app line.name.now) (map argument_of line.argumen
 pub record IsParserOf (app : App) (parser : Parser) : Type 0 where
   pub is_app : app_of parser ≡ app
   pub local : (out-Command parser).has_globals ≡ false
-
--- these are the parsers of the command lines, each if it is there
-abbrev pub AreParsersOf : {E : Type 0} → List App → List (Result Parser E) → Type 0
-AreParsersOf [] [] = ⊤
-AreParsersOf (app ∷ apps) (r ∷ results) = IfOk r (IsParserOf app) × AreParsersOf apps results
-AreParsersOf others results = ⊥

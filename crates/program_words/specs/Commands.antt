@@ -367,6 +367,6 @@ pub record Calls (words : List Text) (name : Text) (options : List Row) : Type 0
   pub named : subcommand_of mirror_app words ≡ Some (name, options)
 
 -- the words ask for the command
-abbrev pub Asks : List Text → Command → Type 0
-Asks words command =
+abbrev pub AsksFor : List Text → Command → Type 0
+AsksFor words command =
     (options : List Row) × Calls words (name_of command) options × Says options command

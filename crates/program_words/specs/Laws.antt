@@ -2,7 +2,7 @@
 use Rattle.std.specs.Prelude.{◌≡◌, ◌⊎◌, List, [], ◌∷◌, map}
 use Rattle.clap.specs.Words.{Row, Text}
 use Rattle.program_words.specs.declared.commands.Command.{Command}
-use Rattle.program_words.specs.Commands.{Asks, Calls, Says, command_apps, faults, name_of}
+use Rattle.program_words.specs.Commands.{AsksFor, Calls, Says, command_apps, faults, name_of}
 
 -- the names of the commands
 abbrev pub command_names : List Text
@@ -20,5 +20,5 @@ LawfulWordsName = (words : List Text) → faults words ≡ []
 
 -- the commands that words ask for have one name, and the same options say them
 abbrev pub WordsAskForOneName : Type 0
-WordsAskForOneName = (words : List Text) (a b : Command) → Asks words a → Asks words b
+WordsAskForOneName = (words : List Text) (a b : Command) → AsksFor words a → AsksFor words b
     → (name_of a ≡ name_of b) × (options : List Row) × Says options a × Says options b

@@ -9,12 +9,12 @@ use Rattle.program_words.specs.declared.place.Place.{Place}
 use Rattle.program_words.specs.declared.fault.CommandFault.{CommandFault}
 use Rattle.program_words.specs.declared.fault.CommandFault.TheVariants.{Help, Words, BadArgument}
 use Rattle.program_words.specs.declared.fault.CommandFault.TheVariants.{OutOfMemory}
-use Rattle.program_words.specs.Commands.{Asks, Calls, Given, HasFlag, HasValue, IsPlace, Says, faults}
+use Rattle.program_words.specs.Commands.{AsksFor, Calls, Given, HasFlag, HasValue, IsPlace, Says, faults}
 use Rattle.program_words.specs.Commands.{name_of}
 
 -- the words ask for no command
 abbrev pub AsksNone : List Text → Type 0
-AsksNone words = (command : Command) → ¬ Asks words command
+AsksNone words = (command : Command) → ¬ AsksFor words command
 
 -- help, or the version
 abbrev pub IsHelp : ErrorKind → Type 0
@@ -22,7 +22,7 @@ IsHelp k = (k ≡ kind.DisplayHelp) ⊎ (k ≡ kind.DisplayVersion)
 
 -- what each answer of the reader of a command line says of the words
 abbrev pub Reads : List Text → Result Command CommandFault → Type 0
-Reads words (Ok command) = Asks words command
+Reads words (Ok command) = AsksFor words command
 Reads words (Err (Help text)) = (k : ErrorKind) × IsAmong k (faults words) × IsHelp k
 Reads words (Err (Words text)) = (k : ErrorKind) × IsAmong k (faults words) × (¬ IsHelp k)
 Reads words (Err BadArgument) = (faults words ≡ []) × AsksNone words

@@ -5,15 +5,15 @@ ghost use Rattle.clap.specs.declared.error.kind.ErrorKind.TheVariants.{
   DisplayVersion,
   MissingRequiredArgument,
 };
-ghost use Rattle.program_words.specs.Commands.{Asks, faults};
+ghost use Rattle.program_words.specs.Commands.{AsksFor, faults};
 ghost use Rattle.program_words.specs.Laws.{LawfulWordsName, WordsAskForOneName};
 ghost use Rattle.program_words.specs.declared.commands.Command.TheVariants.{Root, Check};
 
 /// Some command lines, and what they ask for.
 pub fn words_example()
-    ensures root { Asks (codes "root" ∷ codes "--width" ∷ codes "200" ∷ [])
+    ensures root { AsksFor (codes "root" ∷ codes "--width" ∷ codes "200" ∷ [])
         (Root (record { width = 200 })) }
-    ensures check { Asks (codes "check" ∷ []) Check }
+    ensures check { AsksFor (codes "check" ∷ []) Check }
     ensures no_width { faults (codes "root" ∷ []) ≡ MissingRequiredArgument ∷ [] }
     ensures help { faults (codes "root" ∷ codes "--help" ∷ []) ≡ DisplayHelp ∷ [] }
     ensures version { faults (codes "--version" ∷ []) ≡ DisplayVersion ∷ [] }
