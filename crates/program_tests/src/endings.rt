@@ -1,6 +1,4 @@
-//! How a run ends by a fault that no run comes to, or over a stream that fails in mid-text: its status, and what it says on
-//! which stream.
-use crate::streams::FailingWriter;
+//! How a run ends by a fault that no run comes to: its status, and what it says on which stream.
 use mirror_pull::PullFault;
 use mirror_state::LoadFault;
 use program_commands::{
@@ -11,12 +9,11 @@ use program_words::CommandFault;
 use std::alloc::Global;
 use std::io::Write;
 use std::process::Abort;
-use std::test::Fail;
 use tlog_build::BuildFault;
 use tlog_mirror::{MergeFault, TakeFault};
 
 // How a run ends by that answer, over these streams. It tells nothing of the calls, which makes the tests cheaper.
-pub(crate) fn ended<O: Write, E: Write>(
+fn ended<O: Write, E: Write>(
     alloc: Global,
     answer: Result<u8, RunFault>,
     output: &mut O,
@@ -93,17 +90,4 @@ fn collisions_of_the_work(rt: HostRuntime) {
     assert_told(&rt, rt.alloc(), fault, no_memory);
     let fault = RunFault::Command(CommandFault::OutOfMemory);
     assert_told(&rt, rt.alloc(), fault, no_memory);
-}
-
-// Help that is cut is a fault of writing, which is told.
-#[test]
-fn help_that_is_cut(rt: HostRuntime) -> Result<(), Fail> {
-    let alloc = rt.alloc();
-    let help = RunFault::Command(CommandFault::Help(String::from_str(alloc, "help")?));
-    let mut full = FailingWriter::new(alloc, 2);
-    let mut errors = Vec::new(alloc);
-    assert!(rt; ended(alloc, Err(help), &mut full, &mut errors) == 1);
-    assert!(rt; full.taken.as_slice() == b"he".as_slice());
-    assert!(rt; errors.as_slice() == b"tlogmirror: WriteFault\n".as_slice());
-    Ok(())
 }

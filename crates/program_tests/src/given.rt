@@ -33,16 +33,12 @@ pub(crate) fn load_example<H: TreeHash, R: Read>(
     }
 }
 
-// The mirror of a state of origin `ex`, under the key of these tests.
-pub(crate) fn mirror_of<H: TreeHash>(alloc: Global, mut text: &[u8]) -> Result<Mirror<H>, Fail> {
-    let keys = keys(alloc)?;
-    Ok(load_example(alloc, &keys, &mut text)?)
-}
-
 // The mirror of the log of three entries. Its owners give it to `drop`: a drop in place has a step for each of its fields,
 // and is dear to check.
 pub(crate) fn complete<H: TreeHash>(alloc: Global) -> Result<Mirror<H>, Fail> {
-    mirror_of(alloc, COMPLETE)
+    let keys = keys(alloc)?;
+    let mut text = COMPLETE;
+    Ok(load_example(alloc, &keys, &mut text)?)
 }
 
 // What saving a mirror answers. It ensures nothing, so that its callers are cheap to check.

@@ -2,9 +2,8 @@
 //! own, since a crate's tests are checked together with the crate again.
 //!
 //! It holds what no run of the program can show of `mirror_state`, `mirror_folders`, `mirror_progress`, `tlog_build`, `program_files`,
-//! `program_commands`, `program_reports`, `program_words` and `program_library`: readers, writers and shelves that fail, refused
-//! memory, colliding digests, files in memory, each byte of a state changed, and a run that ends by a fault that no run comes
-//! to. All else is shown by transcripts (`tests/` at the top of the repository).
+//! `program_commands` and `program_library`: readers, writers and shelves that fail, refused memory, colliding digests, files in
+//! memory, each byte of a state changed, commands with keys in hand, and a run that ends by a fault that no run comes to. All else is shown by transcripts (`tests/` at the top of the repository).
 //!
 //! ```text
 //! rt test        // in this folder
@@ -22,6 +21,8 @@ mod exports;
 #[cfg(test)]
 mod given;
 #[cfg(test)]
+mod in_hand;
+#[cfg(test)]
 mod loads;
 #[cfg(test)]
 mod memory;
@@ -35,5 +36,3 @@ mod states;
 mod streams;
 #[cfg(test)]
 mod updates;
-#[cfg(test)]
-mod words;
