@@ -7,11 +7,13 @@
 
 use program_library::{RunFault, ending_of, print_ending, run};
 use program_words::CommandFault;
+use std::fs::File;
 use std::io::ErrorKind;
 use std::process::ExitCode;
 use std::{env, io};
 
 fn main(rt: HostRuntime) -> ExitCode {
+    let streams = [directory(&rt), directory(&rt), directory(&rt)];
     let answer = match words_of(&rt) {
         Ok(words) => run(
             &rt,
@@ -24,7 +26,15 @@ fn main(rt: HostRuntime) -> ExitCode {
         Err(fault) => Err(RunFault::Command(fault)),
     };
     let ending = ending_of(rt.alloc(), answer);
-    ExitCode::from(print_ending(&ending, &mut rt.stdout(), &mut rt.stderr()))
+    let status = print_ending(&ending, &mut rt.stdout(), &mut rt.stderr());
+    drop(streams);
+    ExitCode::from(status)
+}
+
+// A directory, opened. Where the program was started without a standard stream, it takes the number of that one: so no file and
+// no connection gets it, and each read and each write of the stream still fails.
+fn directory(rt: &HostRuntime) -> io::Result<File> {
+    File::open(rt, "/")
 }
 
 // The words after the program's name. One that is not UTF-8 is a bad argument.
