@@ -10,3 +10,4 @@ mod Asking
 mod Keeping
 mod PulledStates
 mod Whys
+mod Answering

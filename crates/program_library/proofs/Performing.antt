@@ -1,7 +1,7 @@
 -- What a command does, of what its call did: a command is executed by one call, and its answer is the call's, under a name.
 -- `follows` says so of any command; each has a lemma of three lines below, by which `run_command` is proved.
 use Rattle.std.proofs.Common.{◌≡◌, ◌≢◌, ℕ, List, Option, Result, Ok, Err, IfErr, IfOk, IsErrAnd, MatchResult}
-use Rattle.std.proofs.Common.{ap, inl, inr, refl, subst, sym, Bool, true, false}
+use Rattle.std.proofs.Common.{inl, inr, refl, subst, sym, Bool, true, false}
 use Rattle.std.specs.Prelude.{IfSome}
 use Rattle.std.specs.Io.KnownBytes.{Keeps}
 use Rattle.signed_note.specs.Keys.{Key}

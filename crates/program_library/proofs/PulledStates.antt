@@ -62,7 +62,7 @@ module _ (digest : List ℕ → List ℕ) (origin : List ℕ) (keys : List Key) 
   pulls_grow start v (Err pull.OutOfMemory) h = h
 
 pub pulled_states_are_loaded : PulledStatesAreLoaded
-pulled_states_are_loaded digest origin keys state told v answer text pulls is =
+pulled_states_are_loaded digest origin keys state place told v answer text pulls is =
     let begun = begins_open digest origin keys told state pulls.start pulls.begun in
     let grown = grown_open digest origin keys pulls.start v begun
     (pulls_grow digest origin keys pulls.start v answer pulls.pulls) in

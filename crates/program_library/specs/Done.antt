@@ -128,8 +128,8 @@ module _ (digest : List ℕ → List ℕ) (keys : List Key) (key_bytes : List �
   abbrev pub PullsWords : PullWords → Option (List ℕ) → Option (List ℕ) → Result ℕ TellFault →
       Type 0
   PullsWords c old new answer =
-      TellsPull digest c.mirror.log.origin.now keys (option_map (λ name. name.now) c.state) told
-      c.keep c.mirror.out.now left old new answer
+      TellsPull digest c.mirror.log.origin.now keys (option_map (λ name. name.now) c.state) c.place
+      told c.keep c.mirror.out.now left old new answer
 
   -- what an answer of `serve` says of its state file, and of what was written
   abbrev pub ServesOne : ServeWords → Option (List ℕ) → Option (List ℕ) →

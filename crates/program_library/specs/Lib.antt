@@ -6,5 +6,6 @@ pub mod Performing
 pub mod Runs
 pub mod RunLaws
 pub mod Endings
+pub mod Clients
 pub mod Named
 pub mod Whys

@@ -1,15 +1,20 @@
 -- What the command `pull` makes of a state file, what it leaves in the file that it writes, and
 -- what it prints.
-use Rattle.std.specs.Prelude.{◌≡◌, ◌≢◌, ◌⊎◌, ℕ, List, Option, Result, Ok, Err, Bool, IsTrue}
+use Rattle.std.specs.Prelude.{◌≡◌, ◌≢◌, ◌⊎◌, ℕ, List, Option, None, Result, Ok, Err, Bool, IsTrue}
 use Rattle.std.specs.Io.KnownBytes.{Appends, Keeps}
 use Rattle.byte_streams.specs.Streams.{AppendsPrefix}
 use Rattle.signed_note.specs.Keys.{Key}
 use Rattle.mirror_model.specs.Complete.{IsLawful}
 use Rattle.mirror_model.specs.View.{View}
+use Rattle.mirror_sources.specs.Source.{IsShortAnswer}
+use Rattle.mirror_pull.specs.Replying.{FollowsReplies}
 use Rattle.mirror_pull.specs.Taking.{PullsTo}
 use Rattle.mirror_pull.specs.declared.fault.PullFault.{PullFault}
 use Rattle.mirror_pull.specs.declared.fault.PullFault.TheVariants.{Source}
+use Rattle.mirror_pull.specs.declared.fault.PullFault.TheVariants as pull
 use Rattle.mirror_pull.specs.declared.pulling.Pulled.{Pulled}
+use Rattle.program_words.specs.declared.place.Place.{Place}
+use Rattle.program_words.specs.declared.place.Place.TheVariants.{Folder, Server}
 use Rattle.program_reports.specs.Pulling.{IsPulledStatus, pulled_lines}
 use Rattle.program_files.specs.Named.{NamedFile}
 use Rattle.program_files.specs.Named.{FailsToPut}
@@ -48,14 +53,29 @@ module _ (keep : Bool) (out : List ℕ) (told left : Option (List NamedFile)) wh
     pub nothing : IsKept keep fault → v ≡ start → left ≡ told
     pub other : (¬ IsKept keep fault) → left ≡ told
 
+-- how many bytes a reply of a place has at most: of a folder those of the longest bundle, of a
+-- server 8,192 more
+abbrev pub most_replied : Place → ℕ
+most_replied (Folder folder) = 16_777_472
+most_replied (Server host prefix address port) = 16_785_664
+
+-- unless memory was refused, the answer of a pull from the view `start` to this one follows from
+-- replies of at most so many bytes each
+abbrev pub FollowsShortReplies : (List ℕ → List ℕ) → List Key → ℕ → View → View →
+    Result Pulled PullFault → Type 0
+FollowsShortReplies digest keys most start v answer =
+    answer ≢ Err pull.OutOfMemory →
+    FollowsReplies digest keys start v (λ path found. IsShortAnswer most found) None None answer
+
 module _ (digest : List ℕ → List ℕ) (origin : List ℕ) (keys : List Key)
-    (state : Option (List ℕ)) (told : Option (List NamedFile)) where
-  -- a pull from some source began with the mirror of the file that is named, or where none is with
-  -- one that holds nothing, and came to this view, which is lawful, with this answer
+    (state : Option (List ℕ)) (place : Place) (told : Option (List NamedFile)) where
+  -- a pull from the place began with the mirror of the file that is named, or where none is with one
+  -- that holds nothing, and came to this view, which is lawful, with this answer
   pub record PullsFromFile (v : View) (answer : Result Pulled PullFault) : Type 0 where
     pub start : View
     pub begun : BeginsWith digest origin keys told state (Ok start)
     pub pulls : PullsTo digest keys start v answer
+    pub follows : FollowsShortReplies digest keys (most_replied place) start v answer
     pub lawful : IsLawful digest v
 
   module _ (keep : Bool) (out : List ℕ) (left : Option (List NamedFile))

@@ -10,6 +10,7 @@ use Rattle.mirror_state.specs.StateText.{StateText}
 use Rattle.mirror_pull.specs.declared.fault.PullFault.{PullFault}
 use Rattle.mirror_pull.specs.declared.pulling.Pulled.{Pulled}
 use Rattle.program_files.specs.Named.{NamedFile}
+use Rattle.program_words.specs.declared.place.Place.{Place}
 use Rattle.program_library.specs.Builds.{FindsSigner}
 use Rattle.program_library.specs.Pulls.{PullsFromFile}
 
@@ -27,7 +28,7 @@ SignersAreKeys =
 abbrev pub PulledStatesAreLoaded : Type 0
 PulledStatesAreLoaded =
     (digest : List ℕ → List ℕ) (origin : List ℕ) (keys : List Key) (state : Option (List ℕ))
-    (told : Option (List NamedFile)) (v : View) (answer : Result Pulled PullFault)
-    (text : List ℕ) →
-    PullsFromFile digest origin keys state told v answer →
+    (place : Place) (told : Option (List NamedFile)) (v : View)
+    (answer : Result Pulled PullFault) (text : List ℕ) →
+    PullsFromFile digest origin keys state place told v answer →
     StateText v text → Loads digest origin keys text (Ok v)

@@ -10,6 +10,7 @@
 
 mod ask;
 mod build;
+mod clients;
 mod compare;
 mod ending;
 mod fault;

@@ -7,7 +7,8 @@ ghost use Rattle.mirror_model.specs.View.{View, IsSubview};
 ghost use Rattle.mirror_pull.specs.Taking.{PullsTo};
 ghost use Rattle.mirror_pull.specs.declared.fault.PullFault.TheVariants.{Source};
 ghost use Rattle.program_commands.specs.Gained.{IsHolding};
-ghost use Rattle.program_library.specs.Pulls.{LeavesEarly, TellsPull, TellsPulled};
+ghost use Rattle.mirror_client.specs.declared.limits.TheConstants.{MAX_REPLY_LEN};
+ghost use Rattle.program_library.specs.Pulls.{FollowsShortReplies, LeavesEarly, TellsPull, TellsPulled, most_replied};
 ghost use Rattle.program_library.specs.Works.{IsStatus};
 
 use crate::fault::{TellFault, WorkFault};
@@ -56,9 +57,9 @@ pub(crate) fn run_pull<
     why: &mut Option<Why>,
 ) -> Result<u8, TellFault>
     ensures answer { TellsPull sha256 words.now.mirror.log.origin.now (map (λ k. key k) keys.now)
-        (option_map (λ name. name.now) words.now.state) (F.puts files.old) words.now.keep
-        words.now.mirror.out.now (F.puts files.new) (W.contents output.old) (W.contents output.new)
-        result }
+        (option_map (λ name. name.now) words.now.state) words.now.place (F.puts files.old)
+        words.now.keep words.now.mirror.out.now (F.puts files.new) (W.contents output.old)
+        (W.contents output.new) result }
     ensures status { IfOk result IsStatus }
     ensures quiet { IfErr result (λ fault. fault ≢ TellFault.WriteFault
         → Keeps (W.contents output.old) (W.contents output.new)) }
@@ -122,6 +123,8 @@ fn pull_kept<H: TreeHash, R: Files + Clock + Eprint + Net<Stream = TcpStream>, F
 ) -> Result<Pulled, PullFault>
     ensures pulls { PullsTo H.digest (map (λ k. key k) keys.now) mirror.old.view mirror.new.view
         result }
+    ensures follows { FollowsShortReplies H.digest (map (λ k. key k) keys.now)
+        (most_replied words.now.place) mirror.old.view mirror.new.view result }
     ensures early { IfErr result (λ fault. (written : Result (Unit {0}) NamedFault)
         × LeavesEarly words.now.keep words.now.mirror.out.now (F.puts files.old) (F.puts files.new)
         mirror.old.view mirror.new.view fault written) }
@@ -180,7 +183,10 @@ fn from_place<'a, H: TreeHash, R: Files + Clock + Eprint + Net<Stream = TcpStrea
     words: &'a Pull<'a>,
     why: &mut Option<Why>,
 ) -> Result<Pulled, PullFault>
-    ensures { PullsTo H.digest (map (λ k. key k) keys.now) mirror.old.view mirror.new.view result }
+    ensures pulls { PullsTo H.digest (map (λ k. key k) keys.now) mirror.old.view mirror.new.view
+        result }
+    ensures follows { FollowsShortReplies H.digest (map (λ k. key k) keys.now)
+        (most_replied words.now.place) mirror.old.view mirror.new.view result }
 {
     match &words.place {
         Place::Folder(folder) => {
@@ -233,8 +239,10 @@ fn from_server<H: TreeHash, R: Clock + Eprint, N: Net<Stream = TcpStream> + Cloc
     port: u16,
     progress: bool,
 ) -> (Result<Pulled, PullFault>, Option<FailedGet>)
-    ensures { PullsTo H.digest (map (λ k. key k) keys.now) mirror.old.view mirror.new.view
+    ensures pulls { PullsTo H.digest (map (λ k. key k) keys.now) mirror.old.view mirror.new.view
         result.0 }
+    ensures follows { FollowsShortReplies H.digest (map (λ k. key k) keys.now) MAX_REPLY_LEN
+        mirror.old.view mirror.new.view result.0 }
 {
     let Ok(dial) = TcpDial::new(net, alloc, host, port) else {
         return (Err(PullFault::OutOfMemory), None);

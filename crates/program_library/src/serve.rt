@@ -2,14 +2,16 @@
 ghost use Rattle.std.specs.Prelude.{◌≡◌, IfOk, map, string_bytes};
 ghost use Rattle.sha2.specs.Sha256.{sha256};
 ghost use Rattle.byte_streams.specs.Streams.{AppendsPrefix};
+ghost use Rattle.program_library.specs.Clients.{AnswersClients};
 ghost use Rattle.program_library.specs.Endings.{fault_line};
 ghost use Rattle.program_library.specs.Works.{ServesState, TellsPort, connection_fault, listening_text};
 
+use crate::clients::Clients;
 use crate::ending::write_front;
 use crate::fault::{TellFault, WorkFault};
 use crate::why::Why;
-use byte_streams::{TimedStream, write_whole};
-use mirror_server::{HttpFault, answer};
+use byte_streams::write_whole;
+use mirror_server::HttpFault;
 use program_commands::open_state;
 use program_files::NamedFiles;
 use program_words::commands::serve::Serve;
@@ -18,15 +20,8 @@ use std::alloc::{AllocError, Global};
 use std::io::{self, Write};
 use std::net::{Ipv4Addr, Net, TcpListener, TcpStream};
 use std::rt::Clock;
-use std::time::Duration;
 use tlog_hash::{Sha256Tree, TreeHash};
 use tlog_mirror::Mirror;
-
-// A client has so many seconds to send the head of its request.
-const HEAD_SECONDS: u64 = 10;
-
-// A client has so many seconds for all, so that 60 are left for the reply at least.
-const ALL_SECONDS: u64 = 70;
 
 /// Answers as many connections as are asked for, one after the other, from the mirror in the state file. A fault of
 /// one is written to `errors`, and the next is answered.
@@ -85,7 +80,9 @@ where
 }
 
 // Settles a mirror, and lays out what it serves. Where memory is short for the latter it serves from its strings.
-fn make_ready<H: TreeHash>(alloc: Global, mirror: &mut Mirror<H>) -> Result<(), AllocError> {
+fn make_ready<H: TreeHash>(alloc: Global, mirror: &mut Mirror<H>) -> Result<(), AllocError>
+    ensures kept { mirror.new.view ≡ mirror.old.view }
+{
     mirror.settle(alloc)?;
     match mirror.lay_out(alloc) {
         Ok(()) => {}
@@ -108,7 +105,7 @@ where
     R: Clock + Net<Stream = TcpStream, Listener = TcpListener>,
     ensures line { TellsPort serve.now.port (O.contents output.old) (O.contents output.new) result }
 {
-    let listener = match TcpListener::bind(rt, (Ipv4Addr::LOCALHOST, serve.port)) {
+    let mut listener = match TcpListener::bind(rt, (Ipv4Addr::LOCALHOST, serve.port)) {
         Ok(listener) => listener,
         Err(error) => {
             *why = Why::of_port(alloc, serve.port, &error);
@@ -116,7 +113,7 @@ where
         }
     };
     tell_port(alloc, serve.port, output)?;
-    match serve_all(rt, alloc, mirror, &listener, serve.requests, errors) {
+    match serve_all(rt, alloc, mirror, &mut listener, serve.requests, errors) {
         Ok(()) => Ok(()),
         Err(error) => {
             *why = Why::of_port(alloc, serve.port, &error);
@@ -145,40 +142,25 @@ fn listening_line(alloc: Global, port: u16) -> Result<String, AllocError>
     format!(in alloc; "listening 127.0.0.1:{port}\n")
 }
 
-// Answers so many connections, one after the other, as long as they can be accepted.
-fn serve_all<H: TreeHash, C: Clock, E: Write>(
+// Answers so many clients, one after the other, as long as connections can be accepted.
+fn serve_all<H: TreeHash, C: Clock, S: Clients, E: Write>(
     clock: &C,
     alloc: Global,
     mirror: &Mirror<H>,
-    listener: &TcpListener,
+    clients: &mut S,
     requests: u64,
     errors: &mut E,
-) -> io::Result<()> {
+) -> io::Result<()>
+    ensures { AnswersClients H.digest mirror.now.view requests (S.exchanges clients.old)
+        (S.exchanges clients.new) result }
+{
     for _ in 0..requests {
-        let (stream, _) = listener.accept()?;
-        match answer_one(clock, alloc, mirror, &stream) {
+        match clients.answer_next(clock, alloc, mirror)? {
             Ok(()) => {}
             Err(fault) => print_fault(errors, fault),
         }
     }
     Ok(())
-}
-
-// Answers one connection, which is cut off in time, whatever its client does. Where there is no clock that is a
-// `ReadFault`.
-fn answer_one<H: TreeHash, C: Clock>(
-    clock: &C,
-    alloc: Global,
-    mirror: &Mirror<H>,
-    stream: &TcpStream,
-) -> Result<(), HttpFault> {
-    let Ok(mut reader) = TimedStream::new(stream, clock, Duration::from_secs(HEAD_SECONDS)) else {
-        return Err(HttpFault::ReadFault);
-    };
-    let Ok(mut writer) = TimedStream::new(stream, clock, Duration::from_secs(ALL_SECONDS)) else {
-        return Err(HttpFault::ReadFault);
-    };
-    answer(alloc, mirror, &mut reader, &mut writer)
 }
 
 // The line of the fault of a connection.

@@ -1,5 +1,6 @@
 //! How far the work is, told where the words ask for it.
 ghost use Rattle.std.specs.Prelude.{◌≡◌, map};
+ghost use Rattle.mirror_pull.specs.Replying.{FollowsReplies};
 ghost use Rattle.mirror_pull.specs.Taking.{PullsTo};
 
 use mirror_progress::{CountingSource, Progress, StandardError, Task, ToldFolders};
@@ -35,8 +36,10 @@ pub(crate) fn pull_from<H: TreeHash, S: Source + Drop, R: Clock + Eprint>(
     source: S,
     progress: bool,
 ) -> (Result<Pulled, PullFault>, S)
-    ensures { PullsTo H.digest (map (λ k. key k) keys.now) mirror.old.view mirror.new.view
+    ensures pulls { PullsTo H.digest (map (λ k. key k) keys.now) mirror.old.view mirror.new.view
         result.0 }
+    ensures replies { FollowsReplies H.digest (map (λ k. key k) keys.now) mirror.old.view
+        mirror.new.view (S.may_answer source) (S.asked source) (S.asked result.1) result.0 }
 {
     if progress {
         pull_told(rt, alloc, mirror, keys, source)
@@ -52,8 +55,10 @@ fn pull_silent<H: TreeHash, S: Source + Drop>(
     keys: &[Box<dyn Verifier>],
     mut source: S,
 ) -> (Result<Pulled, PullFault>, S)
-    ensures { PullsTo H.digest (map (λ k. key k) keys.now) mirror.old.view mirror.new.view
+    ensures pulls { PullsTo H.digest (map (λ k. key k) keys.now) mirror.old.view mirror.new.view
         result.0 }
+    ensures replies { FollowsReplies H.digest (map (λ k. key k) keys.now) mirror.old.view
+        mirror.new.view (S.may_answer source) (S.asked source) (S.asked result.1) result.0 }
 {
     let pulled = pull(alloc, mirror, keys, &mut source);
     (pulled, source)
@@ -79,8 +84,10 @@ fn pull_told<H: TreeHash, S: Source + Drop, R: Clock + Eprint>(
     keys: &[Box<dyn Verifier>],
     source: S,
 ) -> (Result<Pulled, PullFault>, S)
-    ensures { PullsTo H.digest (map (λ k. key k) keys.now) mirror.old.view mirror.new.view
+    ensures pulls { PullsTo H.digest (map (λ k. key k) keys.now) mirror.old.view mirror.new.view
         result.0 }
+    ensures replies { FollowsReplies H.digest (map (λ k. key k) keys.now) mirror.old.view
+        mirror.new.view (S.may_answer source) (S.asked source) (S.asked result.1) result.0 }
 {
     let held = largest_size(alloc, mirror);
     let mut progress = Progress::new(alloc, rt, StandardError::new(rt));

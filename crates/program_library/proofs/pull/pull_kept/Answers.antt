@@ -12,5 +12,5 @@ pub returns-in-Err-clause-early : goal.returns-in-Err-clause-early
 returns-in-Err-clause-early g c = (
   c.keep_gained.result,
   c.keep_gained.ensures c.args.mirror.now.view c.in-Ok.ensures.holds
-      (pulled_within g.H.TreeHash.digest _ c.args.mirror.now.view _ c.in-Err.fault c.in-Err.ensures),
+      (pulled_within g.H.TreeHash.digest _ c.args.mirror.now.view _ c.in-Err.fault c.in-Err.ensures.pulls),
 )

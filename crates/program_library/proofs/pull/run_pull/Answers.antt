@@ -16,6 +16,7 @@ returns-in-Ok-pull_kept-clause-answer g c = inr record {
     start = c.in-Ok.mirror.view;
     begun = c.in-Ok.ensures;
     pulls = c.in-Ok-pull_kept.ensures.pulls;
+    follows = c.in-Ok-pull_kept.ensures.follows;
     lawful = c.in-Ok-pull_kept.ensures.lawful;
   };
   tells = subst (λ (told : Option (List NamedFile)). TellsPulled c.pull_kept.new.mirror.view
@@ -32,6 +33,7 @@ returns-in-Err-pull_kept-clause-answer g c = inl (
       start = c.in-Ok.mirror.view;
       begun = c.in-Ok.ensures;
       pulls = c.in-Err-pull_kept.ensures.pulls;
+      follows = c.in-Err-pull_kept.ensures.follows;
       lawful = c.in-Err-pull_kept.ensures.lawful;
     };
     written = c.in-Err-pull_kept.ensures.early.0;
