@@ -97,6 +97,7 @@ enum Part {
     State,
     Second,
     Item,
+    Note,
     Folder,
     Checkpoint,
     Input,
@@ -127,7 +128,7 @@ fn part_of_work(fault: &WorkFault) -> Option<Part> {
     match fault {
         WorkFault::NoSigningKey => Some(Part::Keys),
         WorkFault::State(fault) => part_of_state(fault, Part::State),
-        WorkFault::Heads(HeadFilesFault::Head(_)) => Some(Part::Item),
+        WorkFault::Heads(HeadFilesFault::Head(_)) => Some(Part::Note),
         WorkFault::Entries(_) => Some(Part::Input),
         WorkFault::Pull(PullFault::NoCheckpoint) | WorkFault::Pull(PullFault::Head(_)) => {
             Some(Part::Checkpoint)
@@ -161,6 +162,7 @@ fn of_words<R: Files>(
     match part {
         Part::Input => Why::of_thing(alloc, "standard input"),
         Part::Checkpoint => of_checkpoint(alloc, &command),
+        Part::Note => of_note(alloc, files),
         _ => match thing_of(&command, part) {
             Some(thing) => match files.take_reason() {
                 Some(reason) => Why::of_reason(alloc, thing, &reason),
@@ -168,6 +170,14 @@ fn of_words<R: Files>(
             },
             None => None,
         },
+    }
+}
+
+// The file whose note was refused: `read_heads` told its name to the files.
+fn of_note<R: Files>(alloc: Global, files: &SystemFiles<'_, R>) -> Option<Why> {
+    match files.take_reason() {
+        Some(name) => Why::of_thing(alloc, &name),
+        None => None,
     }
 }
 
@@ -211,10 +221,7 @@ fn thing_of<'a>(command: &Command<'a>, part: Part) -> Option<&'a str> {
         Command::Missing(missing) => Some(missing.mirror.state),
         Command::Prove(prove) => Some(prove.mirror.state),
         Command::Serve(serve) => Some(serve.mirror.state),
-        Command::Compare(compare) => match part {
-            Part::State => Some(compare.mirror.state),
-            _ => only(compare.files.as_slice()),
-        },
+        Command::Compare(compare) => Some(compare.mirror.state),
         Command::Export(export) | Command::Update(export) => match part {
             Part::State => Some(export.mirror.state),
             _ => Some(export.folder),
