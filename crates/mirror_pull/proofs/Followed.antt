@@ -1,6 +1,6 @@
 -- What a pull answers follows from the replies: the parts of a pull, put together.
 use Rattle.std.proofs.Common.{◌≡◌, ℕ, List, [], ◌∷◌, ◌++◌, arith, Option}
-use Rattle.std.proofs.Common.{Some, Bool, Err, Contains, refl, ◌∙◌, ap, subst, inl, inr}
+use Rattle.std.proofs.Common.{Some, None, Bool, Err, Contains, refl, sym, ◌∙◌, ap, subst, inl, inr}
 use Rattle.signed_note.specs.Keys.{Key}
 use Rattle.tlog_tiles.specs.declared.paths.Path.{Path}
 use Rattle.tlog_tiles.specs.declared.paths.Path.TheVariants.{Checkpoint}
@@ -9,22 +9,28 @@ use Rattle.mirror_model.specs.View.{View}
 use Rattle.mirror_model.specs.Heads.{IsOpenHead}
 use Rattle.mirror_model.specs.Item.{plus}
 use Rattle.mirror_model.specs.declared.items.Item.TheVariants as item
-use Rattle.mirror_model.specs.Refusals.{ReadsHead, JudgesHead}
+use Rattle.mirror_model.specs.Steps.{Answer, Clashed, Exhausted, Takes}
+use Rattle.mirror_model.specs.Refusals.{IsOpenCheckpoint, ReadsHead, JudgesHead}
 use Rattle.mirror_model.specs.declared.fault.TakeFault.{TakeFault}
 use Rattle.mirror_model.specs.declared.fault.TakeFault.TheVariants as take
 use Rattle.mirror_sources.specs.Source.{StaysWithin}
 use Rattle.mirror_sources.specs.Replies.{Reply, reply}
 use Rattle.mirror_pull.specs.Answering.{of_take}
-use Rattle.mirror_pull.specs.Taking.{EndsBeforeHead, EndsAfterHead}
+use Rattle.tlog_checkpoint.specs.declared.Checkpoint.{Checkpoint as Read}
+use Rattle.mirror_pull.specs.Taking.{EndsBeforeHead, EndsAfterHead, TakesHead}
 use Rattle.mirror_pull.specs.Replying.{Asks, AsksNew, AsksAgain, GivesRows, Gathers, Replied, HasNoEdge}
 use Rattle.mirror_pull.specs.Replying.{HasRefusedNote, HasRefusedRows, IsPulledBy, FollowsReplies, RefusesHead, AreWorkedRounds}
-use Rattle.mirror_pull.specs.Replying.{ArePullRounds, with_replies}
+use Rattle.mirror_pull.specs.Replying.{ArePullRounds, with_replies, IsInRows, IsInRounds, IsUnanswered, MemoryRefused}
+use Rattle.mirror_pull.specs.Replying.{StopsTaking, EndsWith, IsBeforeHead, AtCheckpoint, BehindCheckpoint, InEdge}
+use Rattle.mirror_pull.specs.Replying.{GivesHead, EndsEarly, EndsAsking, EndsClashed, EndsExhausted, EndsTaking}
+use Rattle.mirror_pull.specs.Replying.{ComesNext}
 use Rattle.mirror_pull.specs.declared.pulling.Pulled.{Pulled}
 use Rattle.mirror_pull.specs.declared.fault.PullFault.{PullFault}
 use Rattle.mirror_pull.specs.declared.fault.PullFault.TheVariants.{NoCheckpoint, NoEdge, Head, Source, Collision}
 use Rattle.mirror_pull.specs.declared.fault.PullFault.TheVariants.{OutOfMemory}
 use Rattle.mirror_pull.proofs.Askings.{with_then}
 use Rattle.mirror_pull.proofs.Replies.{gathers_then}
+use Rattle.mirror_pull.proofs.Early.{ends_then, unanswered_then, stops_then}
 
 -- ---- the checkpoint
 
@@ -52,69 +58,86 @@ module _ (digest : List ℕ → List ℕ) (keys : List Key) (v w : View) (may : 
 
   -- ---- faults
 
-  pub follows_outside : (e : PullFault) → EndsBeforeHead {T = Bool} (Err e) → EndsAfterHead {T = Bool} (Err e) →
-      FollowsReplies digest keys v w may old new (Err e)
-  follows_outside NoCheckpoint early late = absurd early
-  follows_outside NoEdge early late = absurd late
-  follows_outside (Head f) early late = absurd early
-  follows_outside Source early late = tt
-  follows_outside Collision early late = tt
-  follows_outside OutOfMemory early late = tt
-
   pub follows_late : (e : PullFault) → EndsAfterHead {T = Bool} (Err e) →
-      FollowsReplies digest keys v w may old new (Err e)
-  follows_late NoCheckpoint late = absurd late
-  follows_late NoEdge late = absurd late
-  follows_late (Head f) late = absurd late
-  follows_late Source late = tt
-  follows_late Collision late = tt
-  follows_late OutOfMemory late = tt
+      EndsWith may old new (EndsEarly digest keys v w e) → FollowsReplies digest keys v w may old new (Err e)
+  follows_late NoCheckpoint late ends = absurd late
+  follows_late NoEdge late ends = absurd late
+  follows_late (Head f) late ends = absurd late
+  follows_late Source late ends = ends
+  follows_late Collision late ends = ends
+  follows_late OutOfMemory late ends = ends
 
   pub follows_edge : (e : PullFault) → EndsBeforeHead {T = Bool} (Err e) →
-      (e ≡ NoEdge → HasNoEdge digest keys v w may old new) → FollowsReplies digest keys v w may old new (Err e)
-  follows_edge NoCheckpoint early why = absurd early
-  follows_edge NoEdge early why = why refl
-  follows_edge (Head f) early why = absurd early
-  follows_edge Source early why = tt
-  follows_edge Collision early why = tt
-  follows_edge OutOfMemory early why = tt
+      (e ≡ NoEdge → HasNoEdge digest keys v w may old new) →
+      ((e ≡ NoEdge → ⊥) → EndsWith may old new (EndsEarly digest keys v w e)) →
+      FollowsReplies digest keys v w may old new (Err e)
+  follows_edge NoCheckpoint early why ends = absurd early
+  follows_edge NoEdge early why ends = why refl
+  follows_edge (Head f) early why ends = absurd early
+  follows_edge Source early why ends = ends (λ e. cc e)
+  follows_edge Collision early why ends = absurd early
+  follows_edge OutOfMemory early why ends = ends (λ e. cc e)
 
   bad_note : (note : List ℕ) (f : TakeFault) → ReadsHead note v.origin keys (Err f) →
       Replied digest keys v w may old new (reply Checkpoint (Some note) ∷ []) → HasRefusedNote digest keys v w may old new f
   bad_note note f reads replied = record { note = note; refused = reads; replied = replied }
 
-  follows_note : (note : List ℕ) (f : TakeFault) → ReadsHead note v.origin keys (Err f) →
+  memory_note : w ≡ v → (note : List ℕ) → Replied digest keys v w may old new (reply Checkpoint (Some note) ∷ []) →
+      EndsWith may old new (EndsEarly digest keys v w OutOfMemory)
+  memory_note kept note replied = record {
+    replies = reply Checkpoint (Some note) ∷ [];
+    tried = [];
+    are = EndsAsking kept (MemoryRefused {next = None} (BehindCheckpoint note));
+    may_reply = replied.may_reply;
+    told = replied.told;
+  }
+
+  follows_note : w ≡ v → (note : List ℕ) (f : TakeFault) → ReadsHead note v.origin keys (Err f) →
       Replied digest keys v w may old new (reply Checkpoint (Some note) ∷ []) →
       FollowsReplies digest keys v w may old new (Err (of_take f))
-  follows_note note (take.Note f) r p = inl (bad_note note (take.Note f) r p)
-  follows_note note (take.Checkpoint f) r p = inl (bad_note note (take.Checkpoint f) r p)
-  follows_note note take.OtherOrigin r p = inl (bad_note note take.OtherOrigin r p)
-  follows_note note take.NoTrustedSignature r p = inl (bad_note note take.NoTrustedSignature r p)
-  follows_note note take.EdgeCount r p = absurd r
-  follows_note note take.EdgeLength r p = absurd r
-  follows_note note take.EdgeMismatch r p = absurd r
-  follows_note note take.RowLength r p = absurd r
-  follows_note note take.BundleShort r p = absurd r
-  follows_note note take.BundleLong r p = absurd r
-  follows_note note take.Collision r p = tt
-  follows_note note take.OutOfMemory r p = tt
+  follows_note kept note (take.Note f) r p = inl (bad_note note (take.Note f) r p)
+  follows_note kept note (take.Checkpoint f) r p = inl (bad_note note (take.Checkpoint f) r p)
+  follows_note kept note take.OtherOrigin r p = inl (bad_note note take.OtherOrigin r p)
+  follows_note kept note take.NoTrustedSignature r p = inl (bad_note note take.NoTrustedSignature r p)
+  follows_note kept note take.EdgeCount r p = absurd r
+  follows_note kept note take.EdgeLength r p = absurd r
+  follows_note kept note take.EdgeMismatch r p = absurd r
+  follows_note kept note take.RowLength r p = absurd r
+  follows_note kept note take.BundleShort r p = absurd r
+  follows_note kept note take.BundleLong r p = absurd r
+  follows_note kept note take.Collision r p = absurd r
+  follows_note kept note take.OutOfMemory r p = memory_note kept note p
 
-  pub follows_taken : (taken note : List ℕ) (f : TakeFault) → taken ≡ note → ReadsHead taken v.origin keys (Err f) →
+  pub follows_taken : w ≡ v → (taken note : List ℕ) (f : TakeFault) → taken ≡ note → ReadsHead taken v.origin keys (Err f) →
       Replied digest keys v w may old new (reply Checkpoint (Some note) ∷ []) →
       FollowsReplies digest keys v w may old new (Err (of_take f))
-  follows_taken taken note f same reads replied =
-      follows_note note f (subst (λ (n : List ℕ). ReadsHead n v.origin keys (Err f)) same reads) replied
+  follows_taken kept taken note f same reads replied =
+      follows_note kept note f (subst (λ (n : List ℕ). ReadsHead n v.origin keys (Err f)) same reads) replied
 
-  pub follows_head : (note : List ℕ) (rows : List (List ℕ)) (e : PullFault) →
-      RefusesHead digest v.origin keys note rows e →
-      ((f : TakeFault) → JudgesHead digest v.origin keys note rows (Err f) → HasRefusedRows digest keys v w may old new f) →
+  head_read : (note taken : List ℕ) (rows shown : List (List ℕ)) (answer : Answer) → taken ≡ note → shown ≡ rows →
+      Takes digest keys v (item.Head taken shown) answer w → Takes digest keys v (item.Head note rows) answer w
+  head_read note taken rows shown answer same are t =
+      subst (λ (r : List (List ℕ)). Takes digest keys v (item.Head note r) answer w) are
+      (subst (λ (n : List ℕ). Takes digest keys v (item.Head n shown) answer w) same t)
+
+  pub follows_head : (note taken : List ℕ) (rows shown : List (List ℕ)) (e : PullFault) → taken ≡ note →
+      shown ≡ rows → RefusesHead digest v.origin keys note rows e →
+      TakesHead {T = Bool} digest keys v (item.Head taken shown) (Err e) w →
+      ((f : TakeFault) → JudgesHead digest v.origin keys note rows (Err f) →
+      HasRefusedRows digest keys v w may old new f) →
+      ((Are : List Reply → List Path → Type 0) →
+      ((xs : List Reply) → GivesHead v.origin keys note rows xs → Are xs []) → EndsWith may old new Are) →
       FollowsReplies digest keys v w may old new (Err e)
-  follows_head note rows NoCheckpoint r why = absurd r
-  follows_head note rows NoEdge r why = absurd r
-  follows_head note rows (Head f) r why = inr (why f r)
-  follows_head note rows Source r why = absurd r
-  follows_head note rows Collision r why = tt
-  follows_head note rows OutOfMemory r why = tt
+  follows_head note taken rows shown NoCheckpoint same are r t why ends = absurd r
+  follows_head note taken rows shown NoEdge same are r t why ends = absurd r
+  follows_head note taken rows shown (Head f) same are r t why ends = inr (why f r)
+  follows_head note taken rows shown Source same are r t why ends = absurd r
+  follows_head note taken rows shown Collision same are r t why ends =
+      ends (EndsEarly digest keys v w Collision) (λ xs given. EndsClashed note rows given
+      (head_read note taken rows shown Clashed same are t))
+  follows_head note taken rows shown OutOfMemory same are r t why ends =
+      ends (EndsEarly digest keys v w OutOfMemory) (λ xs given. EndsExhausted note rows given
+      (head_read note taken rows shown Exhausted same are t))
 
 -- what taking a head answers is why a pull refuses it
 refuses_head : (digest : List ℕ → List ℕ) (origin : List ℕ) (keys : List Key) (note : List ℕ)
@@ -170,7 +193,74 @@ module _ (may later : Path → Option (List ℕ) → Type 0) (a b c : Option (Li
         list = list ∙ (with_then none xs ys ∙ ap (λ (l : List Path). with_replies l ys) at);
       })
 
+-- ---- a pull that ends early
+
+pub at_checkpoint : (origin : List ℕ) (keys : List Key) (none : List Path) (rs : List Reply) (next : Option Path) →
+    ComesNext none Checkpoint rs next → IsBeforeHead origin keys rs next
+at_checkpoint origin keys none rs next c =
+    subst (λ (ys : List Reply). IsBeforeHead origin keys ys next) (sym c.1)
+    (subst (λ (n : Option Path). IsBeforeHead origin keys [] n) (sym c.2) AtCheckpoint)
+
+module _ (may later : Path → Option (List ℕ) → Type 0) (a b c : Option (List Path)) (none middle : List Path)
+    (note : List ℕ) (stays : StaysWithin may later) where
+  -- no answer came for the edge
+  pub edge_unanswered : (origin : List ℕ) (keys : List Key) (checkpoint : Read) (found : Option (List ℕ))
+      (e : PullFault) → IsOpenCheckpoint note origin keys checkpoint → none ≡ [] → found ≡ Some note →
+      Gathers may a b none middle (λ xs. Asks none Checkpoint xs found) →
+      EndsWith later b c (IsUnanswered (IsInRows middle (edge_of checkpoint.size)) e) →
+      EndsWith may a c (IsUnanswered (IsBeforeHead origin keys) e)
+  edge_unanswered origin keys checkpoint found e opens is same p q =
+      ends_then {P = λ xs. Asks none Checkpoint xs found} (IsUnanswered (IsBeforeHead origin keys) e) stays p q
+      (λ xs ys tried grown asks u.
+      let first : xs ≡ reply Checkpoint (Some note) ∷ [] =
+      first_is none xs found is asks ∙ ap (λ (o : Option (List ℕ)). reply Checkpoint o ∷ []) same in
+      let at : middle ≡ Checkpoint ∷ [] =
+      grown ∙ (ap (λ (l : List Path). with_replies l xs) is ∙ ap (λ (rs : List Reply). with_replies [] rs) first) in
+      unanswered_then xs (λ rs next r.
+      subst (λ (zs : List Reply). IsBeforeHead origin keys (zs ++ rs) next) (sym first)
+      (InEdge note checkpoint opens
+      (subst (λ (l : List Path). IsInRows l (edge_of checkpoint.size) rs next) at r))) u)
+
+  -- the rounds ended early
+  pub rounds_stop : (digest : List ℕ → List ℕ) (keys : List Key) (v x w : View) (checkpoint : Read)
+      (rows : List (List ℕ)) (e : PullFault) → x ≡ plus digest v (item.Head note rows) →
+      IsOpenCheckpoint note v.origin keys checkpoint →
+      Gathers may a b none middle
+      (IsBehind note (λ xs. GivesRows (Checkpoint ∷ []) (edge_of checkpoint.size) xs rows) middle) →
+      EndsWith later b c
+      (λ xs tried. StopsTaking digest (IsInRounds digest checkpoint.size checkpoint.root middle x) e xs tried w) →
+      EndsWith may a c (EndsEarly digest keys v w e)
+  rounds_stop digest keys v x w checkpoint rows e begun opened p q =
+      ends_then
+      {P = IsBehind note (λ xs. GivesRows (Checkpoint ∷ []) (edge_of checkpoint.size) xs rows) middle}
+      (EndsEarly digest keys v w e) stays p q (λ xs ys tried grown behind stops.
+      EndsTaking (stops_then xs (λ rs y next r. record {
+        note = note;
+        rows = rows;
+        first = reply Checkpoint (Some note) ∷ behind.edge;
+        gives = record {
+          checkpoint = checkpoint;
+          is_open = opened;
+          edge = behind.edge;
+          given = behind.are;
+          replies_are = refl;
+        };
+        rest = rs;
+        rounds = subst
+            (λ (l : List Path). IsInRounds digest checkpoint.size checkpoint.root l
+            (plus digest v (item.Head note rows)) rs y next)
+            behind.list
+            (subst (λ (z : View). IsInRounds digest checkpoint.size checkpoint.root middle z rs y next) begun r);
+        replies_are = ap (λ (l : List Reply). l ++ rs) behind.replies_are;
+      }) stops))
+
 -- ---- a pull that went well
+
+pub head_taken :
+    (digest : List ℕ → List ℕ) (v x : View) (note taken : List ℕ) (rows shown : List (List ℕ)) → taken ≡ note →
+    shown ≡ rows → x ≡ plus digest v (item.Head taken shown) → x ≡ plus digest v (item.Head note rows)
+head_taken digest v x note taken rows shown same are is =
+    is ∙ ((λ i. plus digest v (item.Head (same i) shown)) ∙ (λ i. plus digest v (item.Head note (are i))))
 
 -- replies to the rounds, behind those to the checkpoint and the edge
 pub record IsAll (note : List ℕ) (AreEdge : List Reply → Type 0) (Are : List Path → List Reply → Type 0)
@@ -205,8 +295,7 @@ pub pulled_by :
     (λ asked rest. AreWorkedRounds digest p.size p.root asked x p.rounds p.refused w rest)) →
     IsPulledBy digest keys v w may old new p
 pulled_by digest keys v x w may old new none after note taken rows shown p same are is opened g =
-    let begun : x ≡ plus digest v (item.Head note rows) =
-    is ∙ ((λ i. plus digest v (item.Head (same i) shown)) ∙ (λ i. plus digest v (item.Head note (are i)))) in
+    let begun = head_taken digest v x note taken rows shown same are is in
     let all = g.are in
     record {
       note = note;

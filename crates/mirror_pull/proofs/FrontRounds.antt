@@ -48,7 +48,7 @@ first_or_later x xs y zero lt e = inl e
 first_or_later x xs y (suc k) lt e = inr (k, omega (arith, lt), e)
 
 -- the bytes of each path were found at the path or, where its file may be gone, at the full path
-gets_each : (n : ℕ) (list founds : List Path) (xs : List Reply) → Gets n list xs founds → (path : Path) → Contains list path →
+pub gets_each : (n : ℕ) (list founds : List Path) (xs : List Reply) → Gets n list xs founds → (path : Path) → Contains list path →
     Contains founds path ⊎ (IsGone n path × Contains founds (full_of path))
 gets_each n list founds xs GetsNone path c = absurd (contains_none path c)
 gets_each n list founds xs (GetsFound p bytes {paths = ps} {founds = fs} {replies = xs'} g) path c =
@@ -78,7 +78,7 @@ gets_each n list founds xs (GetsFull p bytes {paths = ps} {founds = fs} {replies
 -- ---- what is held after true bytes were taken
 
 module _ (digest : List ℕ → List ℕ) (entries : List (List ℕ)) where
-  true_grows : (founds : List Path) (v : View) → view.IsSubview v (with_true digest entries v founds)
+  pub true_grows : (founds : List Path) (v : View) → view.IsSubview v (with_true digest entries v founds)
   true_grows [] v = within_itself v
   true_grows (path ∷ paths) v =
       let next = plus digest v (true_item digest entries path) in
@@ -114,7 +114,7 @@ module _ (digest : List ℕ → List ℕ) (hash : IsDigest digest) (entries : Li
   held_edge : HoldsAll v.strings (edge_strings digest (edge_rows digest (take size entries)))
   held_edge = holds_from_held v.strings (edge_strings digest (edge_rows digest (take size entries))) edge
 
-  answer :
+  pub answer :
       (path : Path) → IsFront digest v.strings (take size entries) path →
       Contains founds path ⊎ (IsGone (length entries) path × Contains founds (full_of path)) →
       HoldsAll (with_true digest entries v founds).strings (true_strings digest (take size entries) path)

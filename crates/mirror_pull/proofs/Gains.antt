@@ -89,8 +89,8 @@ pub gains_item : (digest : List ℕ → List ℕ) (v w : View) (path : Path) (by
 gains_item digest v w path bytes (Ok true) t = gains_same v w t.1
 gains_item digest v w path bytes (Ok false) t =
     subst (λ (x : View). GainsStrings v x) (sym t.2) (gains_plus digest v path bytes)
-gains_item digest v w path bytes (Err Collision) t = gains_same v w t.1
-gains_item digest v w path bytes (Err OutOfMemory) t = t
+gains_item digest v w path bytes (Err Collision) t = gains_same v w t.2
+gains_item digest v w path bytes (Err OutOfMemory) t = gains_exhausted digest [] v w path bytes t
 gains_item digest v w path bytes (Err NoCheckpoint) t = absurd t
 gains_item digest v w path bytes (Err NoEdge) t = absurd t
 gains_item digest v w path bytes (Err (Head f)) t = absurd t
@@ -109,8 +109,8 @@ takes_fault digest v w path bytes take.EdgeMismatch t = t
 takes_fault digest v w path bytes take.RowLength t = t
 takes_fault digest v w path bytes take.BundleShort t = t
 takes_fault digest v w path bytes take.BundleLong t = t
-takes_fault digest v w path bytes take.Collision t = (t.1, t.2)
-takes_fault digest v w path bytes take.OutOfMemory t = gains_exhausted digest [] v w path bytes t
+takes_fault digest v w path bytes take.Collision t = t
+takes_fault digest v w path bytes take.OutOfMemory t = t
 
 -- what a take answers is what a pull makes of it
 pub takes_item : (digest : List ℕ → List ℕ) (v w : View) (path : Path) (bytes : List ℕ)
@@ -235,8 +235,8 @@ takes_head_err digest keys v w note rows take.EdgeMismatch t = (tt, t.0, t.1)
 takes_head_err digest keys v w note rows take.RowLength t = (tt, t.0, t.1)
 takes_head_err digest keys v w note rows take.BundleShort t = (tt, t.0, t.1)
 takes_head_err digest keys v w note rows take.BundleLong t = (tt, t.0, t.1)
-takes_head_err digest keys v w note rows take.Collision t = (t.1, t.2)
-takes_head_err digest keys v w note rows take.OutOfMemory t = grows_exhausted digest keys v w note rows t
+takes_head_err digest keys v w note rows take.Collision t = t
+takes_head_err digest keys v w note rows take.OutOfMemory t = t
 
 -- a pull that has gained a note, and then strings
 pub grows_then : (keys : List Key) (v w x : View) → Grows keys v w → GainsStrings w x → Grows keys v x
@@ -270,8 +270,8 @@ outcome_head digest keys v w note rows NoCheckpoint t = absurd t
 outcome_head digest keys v w note rows NoEdge t = absurd t
 outcome_head digest keys v w note rows (Head f) t = (t.0, t.2)
 outcome_head digest keys v w note rows Source t = absurd t
-outcome_head digest keys v w note rows Collision t = grows_same keys v w t.1
-outcome_head digest keys v w note rows OutOfMemory t = t
+outcome_head digest keys v w note rows Collision t = grows_same keys v w t.2
+outcome_head digest keys v w note rows OutOfMemory t = grows_exhausted digest keys v w note rows t
 
 pub outcome_early : (digest : List ℕ → List ℕ) (keys : List Key) (v : View) (e : PullFault) →
     EndsBeforeHead {T = Bool} (Err e) → PullsTo digest keys v v (Err e)

@@ -5,6 +5,7 @@ pub mod FrontRounds
 pub mod HeadsRead
 pub mod Freshness
 pub mod Replies
+pub mod Early
 pub mod Followed
 pub mod RoundCounts
 pub mod TrueRows
@@ -14,3 +15,6 @@ pub mod TrueWork
 pub mod TruePulls
 pub mod BegunPulls
 pub mod Growth
+pub mod Repeated
+pub mod TrueReplies
+pub mod LeftPulls

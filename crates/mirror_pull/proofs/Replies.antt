@@ -1,8 +1,7 @@
 -- What the parts of a pull make of the replies, one part after another.
 use Rattle.std.proofs.Common.{◌≡◌, ℕ, suc, ◌+◌, ◌-◌, ◌*◌, ◌^◌, ◌<◌, ◌≤◌, min, List, [], ◌∷◌, ◌++◌, length}
 use Rattle.std.proofs.Common.{map, get_or, take, drop, arith, Option, Some, None, Bool, true, false, Contains, refl, sym, ◌∙◌}
-use Rattle.std.proofs.Common.{ap, subst, inl, inr, Result, Ok, Err}
-use Rattle.std.specs.Prelude.{IfOk}
+use Rattle.std.proofs.Common.{ap, subst, inl, inr, Ok, Err}
 use Rattle.std.proofs.lemmas.List.{append-nil, map-append, take_all}
 use Rattle.std.proofs.Math.Seq.{split_at}
 use Rattle.tlog_tiles.specs.declared.paths.Path.{Path}
@@ -175,10 +174,10 @@ module _ (may later : Path → Option (List ℕ) → Type 0) (a b c : Option (Li
 
   -- a path of a round that was not found, and its full path was or was not
   pub full_worked :
-      (digest : List ℕ → List ℕ) (v w : View) (bytes taken : List ℕ) (r : Result Bool PullFault) →
-      second ≡ Some bytes → taken ≡ bytes → TakesItem digest v (item_at full taken) r w →
-      IfOk r (λ refused. Gathers may a c before after (λ xs. IsWorkedPath digest before v path refused w xs))
-  full_worked digest v w bytes taken (Ok refused) is same t =
+      (digest : List ℕ → List ℕ) (v w : View) (bytes taken : List ℕ) (refused : Bool) → second ≡ Some bytes →
+      taken ≡ bytes → TakesItem digest v (item_at full taken) (Ok refused) w →
+      Gathers may a c before after (λ xs. IsWorkedPath digest before v path refused w xs)
+  full_worked digest v w bytes taken refused is same t =
       gathers_then {P = λ xs. Asks before path xs first} {Q = λ xs. Asks middle full xs second}
       (λ xs. IsWorkedPath digest before v path refused w xs) stays p q (λ xs ys grown list m n. record {
         asks = PathNone (asks_found before path xs first None none m)
@@ -186,7 +185,6 @@ module _ (may later : Path → Option (List ℕ) → Type 0) (a b c : Option (Li
         takes = takes_then (one_if refused) (omega arith) (takes_not digest v before path xs first none m)
             (takes_asked digest v w middle full ys second bytes taken refused is same n t);
       })
-  full_worked digest v w bytes taken (Err e) is same t = tt
 
   pub none_worked : (digest : List ℕ → List ℕ) (v : View) → second ≡ None →
       Gathers may a c before after (λ xs. IsWorkedPath digest before v path false v xs)
@@ -208,16 +206,15 @@ module _ (may : Path → Option (List ℕ) → Type 0) (a b : Option (List Path)
       (λ xs list m. RowFound (asks_found before path xs found (Some bytes) is m))
 
   pub found_worked :
-      (digest : List ℕ → List ℕ) (v w : View) (taken : List ℕ) (r : Result Bool PullFault) → taken ≡ bytes →
-      TakesItem digest v (item_at path taken) r w →
-      IfOk r (λ refused. Gathers may a b before after (λ xs. IsWorkedPath digest before v path refused w xs))
-  found_worked digest v w taken (Ok refused) same t =
+      (digest : List ℕ → List ℕ) (v w : View) (taken : List ℕ) (refused : Bool) → taken ≡ bytes →
+      TakesItem digest v (item_at path taken) (Ok refused) w →
+      Gathers may a b before after (λ xs. IsWorkedPath digest before v path refused w xs)
+  found_worked digest v w taken refused same t =
       gathers_as {P = λ xs. Asks before path xs found} {Q = λ xs. IsWorkedPath digest before v path refused w xs} p
       (λ xs list m. record {
         asks = PathFound (asks_found before path xs found (Some bytes) is m);
         takes = takes_asked digest v w before path xs found bytes taken refused is same m t;
       })
-  found_worked digest v w taken (Err e) same t = tt
 
 -- ---- what is left
 

@@ -1,5 +1,5 @@
 -- Each round of a pull asks for something.
-use Rattle.std.proofs.Common.{◌≡◌, ℕ, suc, List, [], ◌∷◌, ◌++◌, length, get_or, arith, Option, Some, None, Contains}
+use Rattle.std.proofs.Common.{◌≡◌, ℕ, List, [], ◌∷◌, ◌++◌, length, get_or, arith, Option, Some, None, Contains}
 use Rattle.std.proofs.Common.{refl, sym, ap, subst, inl, inr}
 use Rattle.std.proofs.lemmas.List.{append-nil}
 use Rattle.std.proofs.lemmas.List.Elements.{Contains-push_cases, Contains-get_or}
@@ -81,7 +81,7 @@ module _ (digest : List ℕ → List ℕ) (size : ℕ) (root : List ℕ) where
   no_reply asked v w all rounds many (RoundsNext {rounds = n} before round) none = absurd (omega (arith, none))
 
 pub no_round_asks_nothing : NoRoundAsksNothing
-no_round_asks_nothing digest keys v w may old new p pulled = (
-  no_reply digest p.size p.root _ _ w pulled.replies p.rounds pulled.many pulled.rounds,
-  λ none. no_round digest p.size p.root _ _ w pulled.replies p.rounds pulled.many pulled.rounds (ap length none),
+no_round_asks_nothing digest size root asked v w replies rounds refused are = (
+  no_reply digest size root asked v w replies rounds refused are,
+  λ none. no_round digest size root asked v w replies rounds refused are (ap length none),
 )

@@ -208,7 +208,7 @@ module _ (digest : List ℕ → List ℕ) (hash : IsDigest digest) (keys : List 
         go Collision t =
             absurd (clash_contradicts digest (with_head digest entries v note size).strings
             (plus_clean digest entries size v
-            (item.Head note (edge_bytes digest (take size entries))) head_strings clean) t.0)
+            (item.Head note (edge_bytes digest (take size entries))) head_strings clean) t.1)
         go OutOfMemory t = inl refl
 
     -- after which the rounds may go on

@@ -201,7 +201,7 @@ item_taken digest entries may v w path found before after (Ok true) got is good 
 item_taken digest entries may v w path found before after (Ok false) got is good clean t =
     (refl, record { gets = got; taken = t.2 ∙ ap (with_true digest entries v) (sym is) })
 item_taken digest entries may v w path found before after (Err Collision) got is good clean t =
-    absurd (clash_contradicts digest (plus digest v (true_item digest entries found)).strings clean t.0)
+    absurd (clash_contradicts digest (plus digest v (true_item digest entries found)).strings clean t.1)
 item_taken digest entries may v w path found before after (Err OutOfMemory) got is good clean t = inl refl
 item_taken digest entries may v w path found before after (Err NoCheckpoint) got is good clean t = absurd t
 item_taken digest entries may v w path found before after (Err NoEdge) got is good clean t = absurd t
@@ -218,10 +218,10 @@ module _ (digest : List ℕ → List ℕ) (entries : List (List ℕ)) (size : �
   pub path_fresh : IsFresh before path
   path_fresh = m.fresh.fresh path here
 
-  path_within : IsWithin (length entries) path
+  pub path_within : IsWithin (length entries) path
   path_within = within_more size (length entries) m.within path (m.paths_are path here).0
 
-  path_gone : may path None → IsGone (length entries) path
+  pub path_gone : may path None → IsGone (length entries) path
   path_gone none = is_gone digest entries may m.source path path_within none
 
   pub path_found :
@@ -274,7 +274,7 @@ module _ (digest : List ℕ → List ℕ) (entries : List (List ℕ)) (size : �
 
 -- ---- one path after another
 
-taken_then : (digest : List ℕ → List ℕ) (entries : List (List ℕ)) (fs es : List Path) (v : View) →
+pub taken_then : (digest : List ℕ → List ℕ) (entries : List (List ℕ)) (fs es : List Path) (v : View) →
     with_true digest entries v (fs ++ es) ≡ with_true digest entries (with_true digest entries v fs) es
 taken_then digest entries [] es v = refl
 taken_then digest entries (f ∷ fs) es v = taken_then digest entries fs es (plus digest v (true_item digest entries f))

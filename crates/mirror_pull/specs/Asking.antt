@@ -1,6 +1,6 @@
 -- What a pull asks of its source. `AddsTo`, `AreFresh`, `AsksPaths`, `IsFresh` and `PathList` are cited
 -- by the contracts of private functions alone.
-use Rattle.std.specs.Prelude.{◌≡◌, ◌≢◌, ℕ, List, [], ◌∷◌, ◌++◌, Option, Result, Ok, Err}
+use Rattle.std.specs.Prelude.{◌≡◌, ◌≢◌, ℕ, List, ◌++◌, Option, Result, Ok, Err}
 use Rattle.std.specs.Prelude.{AllPairs, Contains}
 use Rattle.tlog_tiles.specs.declared.paths.Path.{Path}
 use Rattle.mirror_sources.specs.Files.{full_of}

@@ -1,6 +1,5 @@
 -- Laws of honest rounds, and of how many rounds a pull counts.
-use Rattle.std.specs.Prelude.{◌≡◌, ◌↔◌, ℕ, ◌^◌, ◌<◌, ◌≤◌, max, List, [], length, take, Option}
-use Rattle.signed_note.specs.Keys.{Key}
+use Rattle.std.specs.Prelude.{◌≡◌, ◌↔◌, ℕ, ◌^◌, ◌<◌, ◌≤◌, max, List, [], length, take}
 use Rattle.tlog_shape.specs.Edge.{IsTop}
 use Rattle.tlog_tiles.specs.declared.paths.Path.{Path}
 use Rattle.node_store.specs.Strings.{HasAll}
@@ -13,8 +12,7 @@ use Rattle.mirror_model.specs.Listed.{ListsFront}
 use Rattle.mirror_sources.specs.Replies.{Reply}
 use Rattle.mirror_sources.specs.Honest.{Gets}
 use Rattle.mirror_pull.specs.Honest.{AreFrontRounds, with_true}
-use Rattle.mirror_pull.specs.Replying.{IsPulledBy}
-use Rattle.mirror_pull.specs.declared.pulling.Pulled.{Pulled}
+use Rattle.mirror_pull.specs.Replying.{ArePullRounds}
 
 -- a round of a pull from an honest source is a round of fetching: it takes the front
 abbrev pub HonestRoundIsRound : Type 0
@@ -47,11 +45,10 @@ HonestRoundsAreFew =
     AreFrontRounds digest entries size v w lists replies →
     length lists ≤ max 1 top
 
--- a pull that went well counts no round exactly where it asked for nothing behind the rows of the
--- edge
+-- rounds of a pull are none exactly where nothing was asked for in them, behind the rows of the edge
 abbrev pub NoRoundAsksNothing : Type 0
 NoRoundAsksNothing =
-    (digest : List ℕ → List ℕ) (keys : List Key) (v w : View)
-    (may : Path → Option (List ℕ) → Type 0) (old new : Option (List Path)) (p : Pulled)
-    (pulled : IsPulledBy digest keys v w may old new p) →
-    (p.rounds ≡ 0) ↔ (pulled.replies ≡ [])
+    (digest : List ℕ → List ℕ) (size : ℕ) (root : List ℕ) (asked : List Path) (v w : View)
+    (replies : List Reply) (rounds refused : ℕ) →
+    ArePullRounds digest size root asked v replies rounds refused w →
+    (rounds ≡ 0) ↔ (replies ≡ [])

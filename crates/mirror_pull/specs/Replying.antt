@@ -14,6 +14,7 @@ use Rattle.mirror_model.specs.Heads.{HasHead, IsOpenHead}
 use Rattle.mirror_model.specs.Item.{IsGood, plus}
 use Rattle.mirror_model.specs.declared.items.Item.TheVariants as item
 use Rattle.mirror_model.specs.Listed.{ListsMissing}
+use Rattle.mirror_model.specs.Steps.{Takes, Clashed, Exhausted}
 use Rattle.mirror_model.specs.Refusals.{IsOpenCheckpoint, ReadsHead, JudgesHead}
 use Rattle.mirror_model.specs.declared.fault.TakeFault.{TakeFault}
 use Rattle.mirror_sources.specs.Files.{full_of, width_named}
@@ -146,7 +147,144 @@ pub data ArePullRounds (digest : List ℕ → List ℕ) (size : ℕ) (root : Lis
       IsPullRound digest size root (with_replies asked first) x second more w →
       ArePullRounds digest size root asked v (first ++ second) (suc rounds) (refused + more) w
 
+-- ---- where a pull may end early
+
+-- of the gets for these paths none was answered by bytes yet, and this one comes next, if any: that of
+-- the first path or, since nothing was found there, of its full path
+pub data AsksNext (asked : List Path) : List Path → List Reply → Option Path → Type 0 where
+  NextNone : (paths : List Path) → AsksNext asked paths [] None
+  NextPath : (path : Path) (paths : List Path) → (¬ Contains asked path) →
+      AsksNext asked (path ∷ paths) [] (Some path)
+  NextFull : {replies : List Reply} (path : Path) (paths : List Path) →
+      Asks asked path replies None → (¬ Contains (with_replies asked replies) (full_of path)) →
+      AsksNext asked (path ∷ paths) replies (Some (full_of path))
+
+-- some first ones of these paths of the edge have their rows, and this get comes next, if any
+pub record IsInRows (asked paths : List Path) (replies : List Reply) (next : Option Path)
+    : Type 0 where
+  pub before : List Path
+  pub after : List Path
+  pub paths_are : paths ≡ before ++ after
+  pub first : List Reply
+  pub second : List Reply
+  pub rows : List (List ℕ)
+  pub given : GivesRows asked before first rows
+  pub asks : AsksNext (with_replies asked first) after second next
+  pub replies_are : replies ≡ first ++ second
+
+-- some first ones of the paths of a round were asked for, what came was taken, and this get comes
+-- next, if any
+pub record IsInRound (digest : List ℕ → List ℕ) (asked paths : List Path) (v : View)
+    (replies : List Reply) (w : View) (next : Option Path) : Type 0 where
+  pub before : List Path
+  pub after : List Path
+  pub paths_are : paths ≡ before ++ after
+  pub first : List Reply
+  pub second : List Reply
+  pub refused : ℕ
+  pub asked_first : AsksList asked before first
+  pub asks : AsksNext (with_replies asked first) after second next
+  pub replies_are : replies ≡ first ++ second
+  pub takes : TakesReplies digest v replies refused w
+
+-- fewer than eight rounds are over, and behind them another one may be under way
+pub data IsInRounds (digest : List ℕ → List ℕ) (size : ℕ) (root : List ℕ) (asked : List Path)
+    (v : View) : List Reply → View → Option Path → Type 0 where
+  RoundsOver : {replies : List Reply} {rounds refused : ℕ} {w : View} → rounds ≤ 7 →
+      ArePullRounds digest size root asked v replies rounds refused w →
+      IsInRounds digest size root asked v replies w None
+  RoundUnder : {first second : List Reply} {rounds refused : ℕ} {x w : View} {next : Option Path}
+      (list : List Path) → rounds ≤ 7 →
+      ArePullRounds digest size root asked v first rounds refused x →
+      IsLeftToAsk digest size root (with_replies asked first) x list →
+      IsInRound digest (with_replies asked first) list x second w next →
+      IsInRounds digest size root asked v (first ++ second) w next
+
+-- an end without an answer, after these replies, and the path that was tried for: the get that comes
+-- next failed, or memory was refused, in a get or between two; such a get is not recorded
+pub data IsUnanswered (At : List Reply → Option Path → Type 0)
+    : PullFault → List Reply → List Path → Type 0 where
+  GetFailed : {replies : List Reply} {path : Path} → At replies (Some path) →
+      IsUnanswered At Source replies (path ∷ [])
+  MemoryRefused : {replies : List Reply} {next : Option Path} → At replies next →
+      IsUnanswered At OutOfMemory replies []
+
+-- an end in the rounds: without an answer, or by the last reply, whose item is valid and collides
+-- with what is held, or whose take was refused memory
+pub data StopsTaking (digest : List ℕ → List ℕ) (At : List Reply → View → Option Path → Type 0)
+    : PullFault → List Reply → List Path → View → Type 0 where
+  StopsAsking : {fault : PullFault} {replies : List Reply} {tried : List Path} {w : View} →
+      IsUnanswered (λ rs next. At rs w next) fault replies tried →
+      StopsTaking digest At fault replies tried w
+  StopsClashed : {replies : List Reply} {x w : View} (path : Path) (bytes : List ℕ) →
+      At replies x (Some path) → Takes digest [] x (item_at path bytes) Clashed w →
+      StopsTaking digest At Collision (replies ++ reply path (Some bytes) ∷ []) [] w
+  StopsExhausted : {replies : List Reply} {x w : View} (path : Path) (bytes : List ℕ) →
+      At replies x (Some path) → Takes digest [] x (item_at path bytes) Exhausted w →
+      StopsTaking digest At OutOfMemory (replies ++ reply path (Some bytes) ∷ []) [] w
+
+-- the source may have replied so, and was asked for the paths of these replies and for those that
+-- were tried for
+pub record EndsWith (may : Path → Option (List ℕ) → Type 0) (old new : Option (List Path))
+    (Are : List Reply → List Path → Type 0) : Type 0 where
+  pub replies : List Reply
+  pub tried : List Path
+  pub are : Are replies tried
+  pub may_reply : MayReply may replies
+  pub told : AddsTold old new (asked_paths replies ++ tried)
+
 -- ---- a pull
+
+-- how far a pull came before its head was taken, and the get that comes next, if any: that of the
+-- checkpoint, none behind it, or that of a row of its edge, where it opens
+pub data IsBeforeHead (origin : List ℕ) (keys : List Key) : List Reply → Option Path → Type 0 where
+  AtCheckpoint : IsBeforeHead origin keys [] (Some Checkpoint)
+  BehindCheckpoint : (note : List ℕ) →
+      IsBeforeHead origin keys (reply Checkpoint (Some note) ∷ []) None
+  InEdge : {edge : List Reply} {next : Option Path} (note : List ℕ) (checkpoint : Read) →
+      IsOpenCheckpoint note origin keys checkpoint →
+      IsInRows (Checkpoint ∷ []) (edge_of checkpoint.size) edge next →
+      IsBeforeHead origin keys (reply Checkpoint (Some note) ∷ edge) next
+
+-- the checkpoint was found, opens, and has all rows of its edge
+pub record GivesHead (origin : List ℕ) (keys : List Key) (note : List ℕ) (rows : List (List ℕ))
+    (replies : List Reply) : Type 0 where
+  pub checkpoint : Read
+  pub is_open : IsOpenCheckpoint note origin keys checkpoint
+  pub edge : List Reply
+  pub given : GivesRows (Checkpoint ∷ []) (edge_of checkpoint.size) edge rows
+  pub replies_are : replies ≡ reply Checkpoint (Some note) ∷ edge
+
+-- how far a pull came once its head was taken, with the view and the get that comes next, if any
+pub record IsBehindHead (digest : List ℕ → List ℕ) (keys : List Key) (v : View)
+    (replies : List Reply) (w : View) (next : Option Path) : Type 0 where
+  pub note : List ℕ
+  pub rows : List (List ℕ)
+  pub first : List Reply
+  pub gives : GivesHead v.origin keys note rows first
+  pub rest : List Reply
+  pub rounds : IsInRounds digest gives.checkpoint.size gives.checkpoint.root (asked_paths first)
+      (plus digest v (item.Head note rows)) rest w next
+  pub replies_are : replies ≡ first ++ rest
+
+-- how a pull ends early, by its fault: before its head, whose rows were asked for, by the take of its
+-- head, or in its rounds
+pub data EndsEarly (digest : List ℕ → List ℕ) (keys : List Key) (v w : View)
+    : PullFault → List Reply → List Path → Type 0 where
+  EndsAsking : {fault : PullFault} {replies : List Reply} {tried : List Path} → w ≡ v →
+      IsUnanswered (IsBeforeHead v.origin keys) fault replies tried →
+      EndsEarly digest keys v w fault replies tried
+  EndsClashed : {replies : List Reply} (note : List ℕ) (rows : List (List ℕ)) →
+      GivesHead v.origin keys note rows replies →
+      Takes digest keys v (item.Head note rows) Clashed w →
+      EndsEarly digest keys v w Collision replies []
+  EndsExhausted : {replies : List Reply} (note : List ℕ) (rows : List (List ℕ)) →
+      GivesHead v.origin keys note rows replies →
+      Takes digest keys v (item.Head note rows) Exhausted w →
+      EndsEarly digest keys v w OutOfMemory replies []
+  EndsTaking : {fault : PullFault} {replies : List Reply} {tried : List Path} →
+      StopsTaking digest (IsBehindHead digest keys v) fault replies tried w →
+      EndsEarly digest keys v w fault replies tried
 
 module _ (digest : List ℕ → List ℕ) (keys : List Key) (v w : View)
     (may : Path → Option (List ℕ) → Type 0) (old new : Option (List Path)) where
@@ -206,9 +344,9 @@ module _ (digest : List ℕ → List ℕ) (keys : List Key) (v w : View)
   FollowsReplies (Err NoCheckpoint) = Replied (reply Checkpoint None ∷ [])
   FollowsReplies (Err NoEdge) = HasNoEdge
   FollowsReplies (Err (Head f)) = HasRefusedNote f ⊎ HasRefusedRows f
-  FollowsReplies (Err Source) = ⊤
-  FollowsReplies (Err Collision) = ⊤
-  FollowsReplies (Err OutOfMemory) = ⊤
+  FollowsReplies (Err Source) = EndsWith may old new (EndsEarly digest keys v w Source)
+  FollowsReplies (Err Collision) = EndsWith may old new (EndsEarly digest keys v w Collision)
+  FollowsReplies (Err OutOfMemory) = EndsWith may old new (EndsEarly digest keys v w OutOfMemory)
 
 -- ---- parts of a pull
 
@@ -220,6 +358,17 @@ pub record Gathers (may : Path → Option (List ℕ) → Type 0) (old new : Opti
   pub may_reply : MayReply may replies
   pub list : after ≡ with_replies before replies
   pub told : AddsTold old new (asked_paths replies)
+
+-- this get comes next, and nothing was replied behind those before
+abbrev pub ComesNext : List Path → Path → List Reply → Option Path → Type 0
+ComesNext asked path replies next =
+    (¬ Contains asked path) × (replies ≡ []) × (next ≡ Some path)
+
+-- a path was not found, if it was asked for, and its next get comes
+abbrev pub IsInPath : (List ℕ → List ℕ) → List Path → View → Path → List Reply → View →
+    Option Path → Type 0
+IsInPath digest asked v path replies w next =
+    AsksNext asked (path ∷ []) replies next × TakesReplies digest v replies 0 w
 
 -- a fault of a head says why it was refused
 abbrev pub RefusesHead : (List ℕ → List ℕ) → List ℕ → List Key → List ℕ → List (List ℕ) →
@@ -269,46 +418,59 @@ ListsLeft digest size root asked v result =
 
 module _ (may : Path → Option (List ℕ) → Type 0) (old new : Option (List Path))
     (before after : List Path) where
-  -- what was found at a path was replied, or it was asked for before
+  -- what was found at a path was replied, or it was asked for before; a fault says that its get
+  -- was not answered
   abbrev pub AskFollows : Path → Result (Option (List ℕ)) PullFault → Type 0
   AskFollows path result =
-      IfOk result
+      MatchResult result
       (λ found. Gathers may old new before after (λ replies. Asks before path replies found))
+      (λ e. EndsWith may old new (IsUnanswered (ComesNext before path) e))
 
-  -- the row of a path of the edge is of the replies, which at NoEdge give none
+  -- the row of a path of the edge is of the replies, which at NoEdge give none; another fault says
+  -- that a get for it was not answered
   abbrev pub RowFollows : Path → Result (List ℕ) PullFault → Type 0
   RowFollows path result =
       MatchResult result
       (λ row. Gathers may old new before after (λ replies. GivesRow before path replies row))
-      (λ e. e ≡ NoEdge →
-      Gathers may old new before after (λ replies. GivesNoRow before path replies))
+      (λ e. (e ≡ NoEdge → Gathers may old new before after
+      (λ replies. GivesNoRow before path replies)) ×
+      (e ≢ NoEdge → EndsWith may old new (IsUnanswered (AsksNext before (path ∷ [])) e)))
 
   -- so are the rows of several paths
   abbrev pub RowsFollow : List Path → Result (List (List ℕ)) PullFault → Type 0
   RowsFollow paths result =
       MatchResult result
       (λ rows. Gathers may old new before after (λ replies. GivesRows before paths replies rows))
-      (λ e. e ≡ NoEdge →
-      Gathers may old new before after (λ replies. GivesNoRows before paths replies))
+      (λ e. (e ≡ NoEdge → Gathers may old new before after
+      (λ replies. GivesNoRows before paths replies)) ×
+      (e ≢ NoEdge → EndsWith may old new (IsUnanswered (IsInRows before paths) e)))
 
-  -- what was replied for a path was taken or refused, of which the answer tells
+  -- what was replied for a path was taken or refused, which the answer tells; a fault says how that
+  -- ended early
   abbrev pub PathFollows : (List ℕ → List ℕ) → View → Path → View → Result Bool PullFault → Type 0
   PathFollows digest v path w result =
-      IfOk result
+      MatchResult result
       (λ refused. Gathers may old new before after
       (λ replies. IsWorkedPath digest before v path refused w replies))
+      (λ e. EndsWith may old new
+      (λ replies tried. StopsTaking digest (IsInPath digest before v path) e replies tried w))
 
   -- so was what was replied for several paths, and the answer tells how much was refused
   abbrev pub PathsFollow : (List ℕ → List ℕ) → View → List Path → View → Result ℕ PullFault → Type 0
   PathsFollow digest v paths w result =
-      IfOk result
+      MatchResult result
       (λ refused. Gathers may old new before after
       (λ replies. IsWorkedList digest before v paths refused w replies))
+      (λ e. EndsWith may old new
+      (λ replies tried. StopsTaking digest (IsInRound digest before paths v) e replies tried w))
 
   -- so many rounds were worked for a head that is held, and so much was refused in them
   abbrev pub RoundsFollow : (List ℕ → List ℕ) → ℕ → List ℕ → View → View →
       Result (ℕ × ℕ) PullFault → Type 0
   RoundsFollow digest size root v w result =
-      IfOk result
-      (λ r. HasHead v size root → Gathers may old new before after
+      HasHead v size root →
+      MatchResult result
+      (λ r. Gathers may old new before after
       (λ replies. AreWorkedRounds digest size root before v r.0 r.1 w replies))
+      (λ e. EndsWith may old new (λ replies tried.
+      StopsTaking digest (IsInRounds digest size root before v) e replies tried w))

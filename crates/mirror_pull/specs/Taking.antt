@@ -6,12 +6,12 @@ use Rattle.tlog_tiles.specs.declared.paths.Path.{Path}
 use Rattle.tlog_tiles.specs.declared.paths.Path.TheVariants.{Checkpoint, Tile, Entries}
 use Rattle.node_store.specs.Strings.{Has, NoClash}
 use Rattle.mirror_model.specs.View.{View, IsSubview}
-use Rattle.mirror_model.specs.Strings.{HasClash}
 use Rattle.mirror_model.specs.Heads.{IsOpenHead, HasHead}
 use Rattle.mirror_model.specs.declared.items.Item.{Item}
 use Rattle.mirror_model.specs.declared.items.Item.TheVariants as item
 use Rattle.mirror_model.specs.Item.{IsGood, IsWidth, plus}
 use Rattle.mirror_model.specs.Complete.{IsComplete}
+use Rattle.mirror_model.specs.Steps.{Takes, Clashed, Exhausted}
 use Rattle.mirror_model.specs.declared.fault.TakeFault.{TakeFault}
 use Rattle.mirror_model.specs.declared.fault.TakeFault.TheVariants as take
 use Rattle.mirror_pull.specs.declared.fault.PullFault.{PullFault}
@@ -52,9 +52,8 @@ abbrev pub TakesItem : (List ℕ → List ℕ) → View → Item → Result Bool
 TakesItem digest old item (Ok true) new = (¬ IsGood digest old.origin [] item) × (new ≡ old)
 TakesItem digest old item (Ok false) new = IsGood digest old.origin [] item ×
     NoClash digest (plus digest old item).strings × (new ≡ plus digest old item)
-TakesItem digest old item (Err Collision) new = HasClash digest (plus digest old item).strings ×
-    (new ≡ old)
-TakesItem digest old item (Err OutOfMemory) new = GainsStrings old new
+TakesItem digest old item (Err Collision) new = Takes digest [] old item Clashed new
+TakesItem digest old item (Err OutOfMemory) new = Takes digest [] old item Exhausted new
 TakesItem digest old item (Err NoCheckpoint) new = ⊥
 TakesItem digest old item (Err NoEdge) new = ⊥
 TakesItem digest old item (Err (Head f)) new = ⊥
@@ -98,9 +97,8 @@ TakesHead digest keys old item (Err NoEdge) new = ⊥
 TakesHead digest keys old item (Err (Head f)) new = IsOfHead f ×
     (¬ IsGood digest old.origin keys item) × (new ≡ old)
 TakesHead digest keys old item (Err Source) new = ⊥
-TakesHead digest keys old item (Err Collision) new =
-    HasClash digest (plus digest old item).strings × (new ≡ old)
-TakesHead digest keys old item (Err OutOfMemory) new = Grows keys old new
+TakesHead digest keys old item (Err Collision) new = Takes digest keys old item Clashed new
+TakesHead digest keys old item (Err OutOfMemory) new = Takes digest keys old item Exhausted new
 
 -- a note of that size and root is held, and the answer tells whether that head is complete
 pub record IsPulled (digest : List ℕ → List ℕ) (v : View) (p : Pulled) : Type 0 where

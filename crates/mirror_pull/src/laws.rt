@@ -1,5 +1,6 @@
-//! Laws of honest rounds, of how many rounds a pull counts, and of what it keeps.
+//! Laws of honest rounds, of how many rounds a pull counts, of what it keeps, and of pulls again and again.
 ghost use Rattle.mirror_pull.specs.GrowthLaws.{PullsKeepHeads};
+ghost use Rattle.mirror_pull.specs.Repeated.{PullsFetchFilesOnce};
 ghost use Rattle.mirror_pull.specs.PullLaws.{HonestRoundIsRound, HonestRoundsAreFew, NoRoundAsksNothing};
 
 /// An honest round is one that takes the front.
@@ -13,7 +14,8 @@ pub fn front_rounds_law()
     ensures { HonestRoundsAreFew }
 {}
 
-/// A pull that went well counts no round exactly where it asked for nothing behind the rows of the edge.
+/// Rounds are none exactly where nothing was asked for in them, so a pull counts 0 of them exactly where it asks for
+/// nothing behind the rows of the edge.
 pub fn no_round_law()
     ensures { NoRoundAsksNothing }
 {}
@@ -22,4 +24,10 @@ pub fn no_round_law()
 /// no others while nothing collides; a fork stays one.
 pub fn pull_growth_law()
     ensures { PullsKeepHeads }
+{}
+
+/// Pulls of one log, one after another, fetch no file twice: together they fetch at most as many as the log has. So
+/// that many pulls at most are left by an honest source behind the edge with a file that they fetched.
+pub fn fetched_once_law()
+    ensures { PullsFetchFilesOnce }
 {}

@@ -16,6 +16,8 @@ mod pulling;
 mod rounds;
 
 pub use fault::PullFault;
-pub use laws::{front_round_law, front_rounds_law, no_round_law, pull_growth_law};
+pub use laws::{
+    fetched_once_law, front_round_law, front_rounds_law, no_round_law, pull_growth_law,
+};
 pub use mirror_sources::{ListSource, Source, SourceFault};
 pub use pulling::{Pulled, pull};

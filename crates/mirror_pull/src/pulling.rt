@@ -3,6 +3,7 @@ ghost use Rattle.std.specs.Prelude.{[], map, IfErr};
 ghost use Rattle.mirror_model.specs.declared.items.Item.TheVariants.{Head};
 ghost use Rattle.mirror_pull.specs.Asking.{AddsSome, BlamesSource};
 ghost use Rattle.mirror_pull.specs.Honest.{PullsHonestly};
+ghost use Rattle.mirror_pull.specs.Repeated.{KeepsHonestly};
 ghost use Rattle.mirror_pull.specs.Replying.{FollowsReplies, RefusesHead};
 ghost use Rattle.mirror_pull.specs.Taking.{PullsTo, TakesHead};
 ghost use Rattle.mirror_sources.specs.Source.{StaysWithin};
@@ -68,9 +69,9 @@ fn take_rows<H: TreeHash>(
 /// # Errors
 ///
 /// The mirror is as it was after these: `NoCheckpoint`, where the checkpoint is not found; `NoEdge`, where a row of the
-/// edge is not found, nor its full tile; `Head`, with the first refusal of `take_head` that applies. After the others
-/// the items taken so far stand: `Source`, where the source failed; `Collision`, where two different strings share a
-/// digest; `OutOfMemory`, where memory was refused.
+/// edge is not found, nor a full tile of 8,192 bytes; `Head`, with the first refusal of `take_head` that applies. After
+/// the others the items taken so far stand: `Source`, where the last get failed; `Collision`, where the last item is
+/// valid and collides with what is held, and is not taken; `OutOfMemory`, where memory was refused.
 pub fn pull<H: TreeHash, S: Source>(
     alloc: Global,
     mirror: &mut Mirror<H>,
@@ -85,6 +86,8 @@ pub fn pull<H: TreeHash, S: Source>(
     ensures replies { FollowsReplies H.digest (map (λ k. key k) keys.now) mirror.old.view
         mirror.new.view (S.may_answer source.old) (S.asked source.old) (S.asked source.new) result }
     ensures honest { PullsHonestly H.digest (map (λ k. key k) keys.now) mirror.old.view
+        mirror.new.view (S.may_answer source.old) (S.asked source.old) (S.asked source.new) result }
+    ensures kept { KeepsHonestly H.digest (map (λ k. key k) keys.now) mirror.old.view
         mirror.new.view (S.may_answer source.old) (S.asked source.old) (S.asked source.new) result }
 {
     let mut asked = AskedPaths::new(alloc);

@@ -5,6 +5,7 @@ use Rattle.mirror_pull.proofs.Gains.{early_of_source, late_of_source, stays_itse
 use Rattle.std.proofs.Common.{None}
 use Rattle.mirror_pull.specs.Replying.{Asks, AsksNew, AsksAgain}
 use Rattle.mirror_pull.proofs.Replies.{gathers_none}
+use Rattle.mirror_pull.proofs.Early.{ask_refused, ask_fails}
 use Rattle.mirror_pull.proofs.ask.ask.Goals as goal
 
 pub returns-in_err-push-clause-told : goal.returns-in_err-push-clause-told
@@ -119,12 +120,19 @@ returns-then-is_asked-clause-replied g c =
 pub returns-in_err-push-clause-replied : goal.returns-in_err-push-clause-replied
 returns-in_err-push-clause-replied g c =
     let p = err_from_is_err_and c.from_residual.result c.from_residual.ensures.1 in
-    rw p.1 tt
+    let fresh : Contains c.args.asked.now.items c.args.path → ⊥ =
+    λ has. let t = c.is_asked.ensures.1 has in absurd cc in
+    rw (p.1, p.2) (ask_refused (g.S.Source.may_answer c.args.source.now) c.args.asked.now.items c.args.path
+    (g.S.Source.asked c.args.source.now) fresh)
 
 pub returns-in_err-get-clause-replied : goal.returns-in_err-get-clause-replied
 returns-in_err-get-clause-replied g c =
     let p = err_from_is_err_and c.from_residual-in_err-get.result c.from_residual-in_err-get.ensures.1 in
-    rw p.1 tt
+    let fresh : Contains c.args.asked.now.items c.args.path → ⊥ =
+    λ has. let t = c.is_asked.ensures.1 has in absurd cc in
+    rw (p.1, p.2) (ask_fails (g.S.Source.may_answer c.args.source.now) c.args.asked.now.items c.args.path
+    (g.S.Source.asked c.args.source.now) (g.S.Source.asked c.get.new.self) c.in_err-get.field-0.0 fresh
+    c.in_err-get.ensures.told)
 
 pub returns-clause-replied : goal.returns-clause-replied
 returns-clause-replied g c =

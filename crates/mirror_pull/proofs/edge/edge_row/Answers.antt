@@ -1,4 +1,4 @@
-use Rattle.std.proofs.Common.{◌≡◌, ◌∙◌, subst, length, Some, None}
+use Rattle.std.proofs.Common.{◌≡◌, ◌∙◌, subst, length, Some, None, refl}
 use Rattle.tlog_tiles.specs.declared.paths.Path.{Path}
 use Rattle.mirror_sources.specs.Files.{full_of}
 use Rattle.std.proofs.lemmas.Result.{err_from_is_err_and}
@@ -9,6 +9,7 @@ use Rattle.mirror_pull.proofs.TrueRows.{source_stays, full_fresh, row_found as t
 use Rattle.mirror_pull.proofs.TrueRows.{is_gone, full_answers, full_length, gets_full, tile_within}
 use Rattle.std.proofs.Common.{sym, ap, option_map}
 use Rattle.mirror_pull.proofs.Replies.{row_cut, row_none, row_found, not_edge, never_none, some_same}
+use Rattle.mirror_pull.proofs.Early.{ends_as, unanswered_as, comes_first, row_unanswered}
 use Rattle.mirror_pull.proofs.edge.edge_row.Goals as goal
 
 pub returns-in_err-bytes-2-clause-told : goal.returns-in_err-bytes-2-clause-told
@@ -235,31 +236,46 @@ returns-clause-replied g c =
     (rw c.path_width.ensures at c.truncate.ensures.items)
 
 pub returns-in_default-2-clause-replied : goal.returns-in_default-2-clause-replied
-returns-in_default-2-clause-replied g c =
-    λ e. row_none (g.S.Source.may_answer c.args.source.now) (g.S.Source.may_answer c.ask.new.source)
-    (g.S.Source.asked c.args.source.now) (g.S.Source.asked c.ask.new.source) (g.S.Source.asked c.ask-2.new.source)
-    c.args.asked.now.items c.ask.new.asked.items c.ask-2.new.asked.items c.args.path c.full_path.result _ _
-    c.in_ok-bytes.ensures.later c.full_path.ensures (ap (option_map (λ v. v.items)) c.in_default.is)
-    c.in_ok-bytes.ensures.replied c.in_ok-bytes-2.ensures.replied
-    (λ b is long. never_none b (sym (ap (option_map (λ v. v.items)) c.in_default-2.is) ∙ is))
+returns-in_default-2-clause-replied g c = (
+  λ e. row_none (g.S.Source.may_answer c.args.source.now) (g.S.Source.may_answer c.ask.new.source)
+      (g.S.Source.asked c.args.source.now) (g.S.Source.asked c.ask.new.source) (g.S.Source.asked c.ask-2.new.source)
+      c.args.asked.now.items c.ask.new.asked.items c.ask-2.new.asked.items c.args.path c.full_path.result _ _
+      c.in_ok-bytes.ensures.later c.full_path.ensures (ap (option_map (λ v. v.items)) c.in_default.is)
+      c.in_ok-bytes.ensures.replied c.in_ok-bytes-2.ensures.replied
+      (λ b is long. never_none b (sym (ap (option_map (λ v. v.items)) c.in_default-2.is) ∙ is)),
+  λ other. absurd (other refl),
+)
 
 pub returns-then-len-ne-FULL_TILE-clause-replied : goal.returns-then-len-ne-FULL_TILE-clause-replied
-returns-then-len-ne-FULL_TILE-clause-replied g c =
-    λ e. row_none (g.S.Source.may_answer c.args.source.now) (g.S.Source.may_answer c.ask.new.source)
-    (g.S.Source.asked c.args.source.now) (g.S.Source.asked c.ask.new.source) (g.S.Source.asked c.ask-2.new.source)
-    c.args.asked.now.items c.ask.new.asked.items c.ask-2.new.asked.items c.args.path c.full_path.result _ _
-    c.in_ok-bytes.ensures.later c.full_path.ensures (ap (option_map (λ v. v.items)) c.in_default.is)
-    c.in_ok-bytes.ensures.replied c.in_ok-bytes-2.ensures.replied
-    (λ b is long. c.if-len-ne-FULL_TILE.true
-    (c.len.ensures ∙ (c.in-Some-2.bytes.ok.0 ∙
-    (ap length (some_same c.in-Some-2.bytes.items b (sym (ap (option_map (λ v. v.items)) c.in-Some-2.is) ∙ is)) ∙ long))))
+returns-then-len-ne-FULL_TILE-clause-replied g c = (
+  λ e. row_none (g.S.Source.may_answer c.args.source.now) (g.S.Source.may_answer c.ask.new.source)
+      (g.S.Source.asked c.args.source.now) (g.S.Source.asked c.ask.new.source) (g.S.Source.asked c.ask-2.new.source)
+      c.args.asked.now.items c.ask.new.asked.items c.ask-2.new.asked.items c.args.path c.full_path.result _ _
+      c.in_ok-bytes.ensures.later c.full_path.ensures (ap (option_map (λ v. v.items)) c.in_default.is)
+      c.in_ok-bytes.ensures.replied c.in_ok-bytes-2.ensures.replied
+      (λ b is long. c.if-len-ne-FULL_TILE.true
+      (c.len.ensures ∙ (c.in-Some-2.bytes.ok.0 ∙
+      (ap length (some_same c.in-Some-2.bytes.items b (sym (ap (option_map (λ v. v.items)) c.in-Some-2.is) ∙ is)) ∙ long)))),
+  λ other. absurd (other refl),
+)
 
 pub returns-in_err-bytes-clause-replied : goal.returns-in_err-bytes-clause-replied
 returns-in_err-bytes-clause-replied g c =
     let p = err_from_is_err_and c.from_residual.result c.from_residual.ensures.1 in
-    rw (p.1, p.2) (λ e. absurd (not_edge c.in_err-bytes.field-0.0 c.in_err-bytes.ensures.late e))
+    rw (p.1, p.2) (
+      λ e. absurd (not_edge c.in_err-bytes.field-0.0 c.in_err-bytes.ensures.late e),
+      λ other. ends_as c.in_err-bytes.ensures.replied
+          (λ xs tried u. unanswered_as (comes_first c.args.asked.now.items c.args.path) u),
+    )
 
 pub returns-in_err-bytes-2-clause-replied : goal.returns-in_err-bytes-2-clause-replied
 returns-in_err-bytes-2-clause-replied g c =
     let p = err_from_is_err_and c.from_residual-in_err-bytes-2.result c.from_residual-in_err-bytes-2.ensures.1 in
-    rw (p.1, p.2) (λ e. absurd (not_edge c.in_err-bytes-2.field-0.0 c.in_err-bytes-2.ensures.late e))
+    rw (p.1, p.2) (
+      λ e. absurd (not_edge c.in_err-bytes-2.field-0.0 c.in_err-bytes-2.ensures.late e),
+      λ other. row_unanswered (g.S.Source.may_answer c.args.source.now) (g.S.Source.may_answer c.ask.new.source)
+          (g.S.Source.asked c.args.source.now) (g.S.Source.asked c.ask.new.source) (g.S.Source.asked c.ask-2.new.source)
+          c.args.asked.now.items c.ask.new.asked.items c.ask-2.new.asked.items c.args.path c.full_path.result _
+          c.in_ok-bytes.ensures.later c.full_path.ensures (ap (option_map (λ v. v.items)) c.in_default.is)
+          c.in_ok-bytes.ensures.replied _ c.in_err-bytes-2.ensures.replied,
+    )

@@ -7,7 +7,10 @@ use Rattle.mirror_pull.proofs.Gains.{stays_then, stays_itself, counts_err}
 use Rattle.std.proofs.Common.{List, [], subst}
 use Rattle.std.proofs.lemmas.List.{take_all}
 use Rattle.tlog_tiles.specs.declared.paths.Path.{Path}
-use Rattle.mirror_pull.specs.Replying.{GivesRows, RowsNone, GivesNoRows}
+use Rattle.std.proofs.Common.{None}
+use Rattle.mirror_pull.specs.Replying.{GivesRows, RowsNone, GivesNoRows, IsInRows, IsUnanswered, MemoryRefused}
+use Rattle.mirror_pull.proofs.Early.{ends_then, ends_behind, ends_none, unanswered_then, in_rows, in_rows_after}
+use Rattle.mirror_pull.proofs.Early.{in_rows_none}
 use Rattle.mirror_pull.proofs.Replies.{gathers_as, gathers_then, gathers_none, edge_step, no_rows, memory_no_edge}
 use Rattle.mirror_pull.proofs.edge.edge_rows.Goals as goal
 
@@ -164,20 +167,47 @@ returns-clause-replied g c =
 pub returns-in_err-row-clause-replied : goal.returns-in_err-row-clause-replied
 returns-in_err-row-clause-replied g c =
     let p = err_from_is_err_and c.from_residual-in_err-row.result c.from_residual-in_err-row.ensures.1 in
-    rw (p.1, p.2)
-    (λ e. gathers_then (GivesNoRows c.args.asked.now.items (edge_of c.args.size)) c.loop-path.invariant.later
-    c.loop-path.invariant.replied (c.in_err-row.ensures.replied e)
-    (λ xs ys grown list a b. no_rows c.args.asked.now.items c.deref-path-items.result.now
-    (edge_of c.args.size) c.loop-path.path-index c.loop-path.asked.items xs ys
-    (map (λ row. row.items) c.loop-path.rows.items)
-    (c.deref-path-items.ensures.value ∙ c.in_ok-paths.ensures) c.loop-path-test.true grown a b))
+    let before = c.args.asked.now.items in
+    let ps = edge_of c.args.size in
+    let qs = c.deref-path-items.result.now in
+    let i = c.loop-path.path-index in
+    let mid = c.loop-path.asked.items in
+    let rows = map (λ row. row.items) c.loop-path.rows.items in
+    let same = c.deref-path-items.ensures.value ∙ c.in_ok-paths.ensures in
+    rw (p.1, p.2) (
+      λ e. gathers_then (GivesNoRows before ps) c.loop-path.invariant.later c.loop-path.invariant.replied
+          (c.in_err-row.ensures.replied.0 e)
+          (λ xs ys grown list a b. no_rows before qs ps i mid xs ys rows same c.loop-path-test.true grown a b),
+      λ other. ends_then (IsUnanswered (IsInRows before ps) c.in_err-row.field-0.0) c.loop-path.invariant.later
+          c.loop-path.invariant.replied (c.in_err-row.ensures.replied.1 other)
+          (λ xs ys tried grown a u. unanswered_then xs (λ rs next q.
+          in_rows before qs ps i mid xs rs rows same c.loop-path-test.true grown a next q) u),
+    )
 
 pub returns-in_err-push-clause-replied : goal.returns-in_err-push-clause-replied
 returns-in_err-push-clause-replied g c =
     let p = err_from_is_err_and c.from_residual-in_err-push.result c.from_residual-in_err-push.ensures.1 in
-    rw (p.1, p.2) (λ e. absurd (memory_no_edge e))
+    let before = c.args.asked.now.items in
+    let ps = edge_of c.args.size in
+    let qs = c.deref-path-items.result.now in
+    let i = c.loop-path.path-index in
+    let mid = c.loop-path.asked.items in
+    let rows = map (λ row. row.items) c.loop-path.rows.items in
+    let same = c.deref-path-items.ensures.value ∙ c.in_ok-paths.ensures in
+    rw (p.1, p.2) (
+      λ e. absurd (memory_no_edge e),
+      λ other. ends_behind
+          (gathers_then (λ xs. IsInRows before ps xs None) c.loop-path.invariant.later c.loop-path.invariant.replied
+          c.in_ok-row.ensures.replied
+          (λ xs ys grown list a b. in_rows_after before qs ps i mid xs ys rows same c.loop-path-test.true grown a _ b))
+          (λ xs list a. MemoryRefused {next = None} a),
+    )
 
 pub returns-in_err-paths-clause-replied : goal.returns-in_err-paths-clause-replied
 returns-in_err-paths-clause-replied g c =
     let p = err_from_is_err_and c.from_residual.result c.from_residual.ensures.1 in
-    rw (p.1, p.2) (λ e. absurd (memory_no_edge e))
+    rw (p.1, p.2) (
+      λ e. absurd (memory_no_edge e),
+      λ other. ends_none (g.S.Source.asked c.args.source.now)
+          (MemoryRefused {next = None} (in_rows_none c.args.asked.now.items (edge_of c.args.size))),
+    )

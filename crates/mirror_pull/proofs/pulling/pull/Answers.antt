@@ -13,9 +13,14 @@ use Rattle.mirror_pull.proofs.Gains.{outcome_early, outcome_head, outcome_late, 
 use Rattle.mirror_pull.proofs.Gains.{counts_err, outside, stays_then}
 use Rattle.mirror_pull.proofs.HeadsRead.{opened_head, honest_fault}
 use Rattle.mirror_model.proofs.Views.{within_itself}
-use Rattle.mirror_pull.specs.Replying.{GivesRows, GivesNoRows, AreWorkedRounds}
-use Rattle.mirror_pull.proofs.Followed.{replied_first, replied_of, follows_outside, follows_late, follows_edge}
+use Rattle.mirror_pull.specs.Replying.{GivesRows, GivesNoRows, AreWorkedRounds, EndsAsking}
+use Rattle.mirror_pull.proofs.Early.{ends_as, ends_behind, unanswered_as}
+use Rattle.mirror_pull.proofs.Followed.{replied_first, replied_of, follows_late, follows_edge, at_checkpoint}
 use Rattle.mirror_pull.proofs.Followed.{follows_taken, follows_head, behind_note, all_replies, pulled_by}
+use Rattle.mirror_pull.proofs.Followed.{edge_unanswered, rounds_stop, head_taken}
+use Rattle.std.proofs.Common.{Err}
+use Rattle.mirror_pull.specs.declared.fault.PullFault.TheVariants.{NoCheckpoint}
+use Rattle.mirror_pull.proofs.LeftPulls.{kept_honestly}
 use Rattle.mirror_pull.proofs.pulling.pull.Goals as goal
 
 pub returns-in_err-rows-clause-once : goal.returns-in_err-rows-clause-once
@@ -328,11 +333,12 @@ returns-in_err-checkpoint-clause-once g c =
 pub returns-in_err-note-clause-replies : goal.returns-in_err-note-clause-replies
 returns-in_err-note-clause-replies g c =
     let p = err_from_is_err_and c.from_residual.result c.from_residual.ensures.1 in
+    let v = c.args.mirror.now.view in
     rw (p.1, p.2)
-    (follows_outside g.H.TreeHash.digest _ c.args.mirror.now.view c.args.mirror.now.view
-    (g.S.Source.may_answer c.args.source.now) (g.S.Source.asked c.args.source.now)
-    (g.S.Source.asked c.ask.new.source)
-    c.in_err-note.field-0.0 c.in_err-note.ensures.early c.in_err-note.ensures.late)
+    (follows_late g.H.TreeHash.digest _ v v (g.S.Source.may_answer c.args.source.now)
+    (g.S.Source.asked c.args.source.now) (g.S.Source.asked c.ask.new.source)
+    c.in_err-note.field-0.0 c.in_err-note.ensures.late (ends_as c.in_err-note.ensures.replied (λ xs tried u.
+    EndsAsking refl (unanswered_as (at_checkpoint v.origin _ c.new-asked.result.items) u))))
 
 pub returns-in_default-clause-replies : goal.returns-in_default-clause-replies
 returns-in_default-clause-replies g c =
@@ -349,7 +355,7 @@ returns-in_err-checkpoint-clause-replies g c =
     (follows_taken g.H.TreeHash.digest _ c.args.mirror.now.view c.args.mirror.now.view
     (g.S.Source.may_answer c.args.source.now) (g.S.Source.asked c.args.source.now)
     (g.S.Source.asked c.ask.new.source)
-    c.deref.result.now c.in-Some.note.items c.in_err-checkpoint.field-0.0 c.deref.ensures.value
+    refl c.deref.result.now c.in-Some.note.items c.in_err-checkpoint.field-0.0 c.deref.ensures.value
     c.in_err-checkpoint.ensures
     (replied_first g.H.TreeHash.digest _ c.args.mirror.now.view c.args.mirror.now.view
     (g.S.Source.may_answer c.args.source.now) (g.S.Source.asked c.args.source.now)
@@ -369,7 +375,7 @@ returns-in_err-rows-clause-replies g c =
     behind_note (g.S.Source.may_answer c.args.source.now) (g.S.Source.may_answer c.ask.new.source)
     (g.S.Source.asked c.args.source.now) (g.S.Source.asked c.ask.new.source) (g.S.Source.asked c.edge_rows.new.source)
     c.new-asked.result.items c.ask.new.asked.items c.edge_rows.new.asked.items c.in-Some.note.items _ (λ asked xs. GivesNoRows asked (edge_of c.in_ok-checkpoint.checkpoint.size) xs) c.new-asked.ensures.items
-    (ap (option_map (λ v. v.items)) c.in-Some.is) c.in_ok-note.ensures.later c.in_ok-note.ensures.replied (c.in_err-rows.ensures.replied is) in
+    (ap (option_map (λ v. v.items)) c.in-Some.is) c.in_ok-note.ensures.later c.in_ok-note.ensures.replied (c.in_err-rows.ensures.replied.0 is) in
     record {
       note = c.in-Some.note.items;
       checkpoint = c.in_ok-checkpoint.checkpoint;
@@ -380,48 +386,90 @@ returns-in_err-rows-clause-replies g c =
           (g.S.Source.may_answer c.args.source.now) (g.S.Source.asked c.args.source.now)
           (g.S.Source.asked c.edge_rows.new.source)
           c.new-asked.result.items c.edge_rows.new.asked.items _ all _ all.are.replies_are;
-    }))
+    }) (λ other. ends_as
+    (edge_unanswered (g.S.Source.may_answer c.args.source.now) (g.S.Source.may_answer c.ask.new.source)
+    (g.S.Source.asked c.args.source.now) (g.S.Source.asked c.ask.new.source) (g.S.Source.asked c.edge_rows.new.source)
+    c.new-asked.result.items c.ask.new.asked.items c.in-Some.note.items c.in_ok-note.ensures.later
+    c.args.mirror.now.view.origin _ c.in_ok-checkpoint.checkpoint _ c.in_err-rows.field-0.0
+    (rw c.deref.ensures.value at c.in_ok-checkpoint.ensures) c.new-asked.ensures.items
+    (ap (option_map (λ v. v.items)) c.in-Some.is) c.in_ok-note.ensures.replied (c.in_err-rows.ensures.replied.1 other))
+    (λ xs tried u. EndsAsking refl u)))
 
 pub returns-in_err-take_rows-clause-replies : goal.returns-in_err-take_rows-clause-replies
 returns-in_err-take_rows-clause-replies g c =
     let p = err_from_is_err_and c.from_residual-in_err-take_rows.result c.from_residual-in_err-take_rows.ensures.1 in
     let same = c.deref-2.ensures.value in
     let are = ap (map (λ row. row.items)) c.deref-3.ensures.value in
-    rw (p.1, p.2)
-    (follows_head g.H.TreeHash.digest _ c.args.mirror.now.view c.take_rows.new.mirror.view
-    (g.S.Source.may_answer c.args.source.now) (g.S.Source.asked c.args.source.now)
-    (g.S.Source.asked c.edge_rows.new.source)
-    c.in-Some.note.items (map (λ row. row.items) c.in_ok-rows.rows.items)
-    c.in_err-take_rows.field-0.0 (rw (same, are) at c.in_err-take_rows.ensures.judged) (λ f judged.
+    let v = c.args.mirror.now.view in
+    let w = c.take_rows.new.mirror.view in
+    let note = c.in-Some.note.items in
+    let rows = map (λ row. row.items) c.in_ok-rows.rows.items in
+    let opens = rw c.deref.ensures.value at c.in_ok-checkpoint.ensures in
     let all =
     behind_note (g.S.Source.may_answer c.args.source.now) (g.S.Source.may_answer c.ask.new.source)
     (g.S.Source.asked c.args.source.now) (g.S.Source.asked c.ask.new.source) (g.S.Source.asked c.edge_rows.new.source)
-    c.new-asked.result.items c.ask.new.asked.items c.edge_rows.new.asked.items c.in-Some.note.items _
-    (λ asked xs. GivesRows asked (edge_of c.in_ok-checkpoint.checkpoint.size) xs
-    (map (λ row. row.items) c.in_ok-rows.rows.items)) c.new-asked.ensures.items
-    (ap (option_map (λ v. v.items)) c.in-Some.is) c.in_ok-note.ensures.later c.in_ok-note.ensures.replied c.in_ok-rows.ensures.replied in
-    record {
-      note = c.in-Some.note.items;
+    c.new-asked.result.items c.ask.new.asked.items c.edge_rows.new.asked.items note _
+    (λ asked xs. GivesRows asked (edge_of c.in_ok-checkpoint.checkpoint.size) xs rows) c.new-asked.ensures.items
+    (ap (option_map (λ v. v.items)) c.in-Some.is) c.in_ok-note.ensures.later c.in_ok-note.ensures.replied
+    c.in_ok-rows.ensures.replied in
+    rw (p.1, p.2)
+    (follows_head g.H.TreeHash.digest _ v w (g.S.Source.may_answer c.args.source.now)
+    (g.S.Source.asked c.args.source.now) (g.S.Source.asked c.edge_rows.new.source) note c.deref-2.result.now rows _
+    c.in_err-take_rows.field-0.0 same are (rw (same, are) at c.in_err-take_rows.ensures.judged)
+    c.in_err-take_rows.ensures.takes (λ f judged. record {
+      note = note;
       checkpoint = c.in_ok-checkpoint.checkpoint;
-      is_open = rw c.deref.ensures.value at c.in_ok-checkpoint.ensures;
+      is_open = opens;
       edge = all.are.edge;
-      rows = map (λ row. row.items) c.in_ok-rows.rows.items;
+      rows = rows;
       given = all.are.are;
       refused = judged;
-      replied = replied_of g.H.TreeHash.digest _ c.args.mirror.now.view c.take_rows.new.mirror.view
-          (g.S.Source.may_answer c.args.source.now) (g.S.Source.asked c.args.source.now)
-          (g.S.Source.asked c.edge_rows.new.source)
+      replied = replied_of g.H.TreeHash.digest _ v w (g.S.Source.may_answer c.args.source.now)
+          (g.S.Source.asked c.args.source.now) (g.S.Source.asked c.edge_rows.new.source)
           c.new-asked.result.items c.edge_rows.new.asked.items _ all _ all.are.replies_are;
-    }))
+    }) (λ Are given. ends_behind all (λ xs list behind. given xs (record {
+      checkpoint = c.in_ok-checkpoint.checkpoint;
+      is_open = opens;
+      edge = behind.edge;
+      given = behind.are;
+      replies_are = behind.replies_are;
+    }))))
 
 pub returns-in_err-rounds-clause-replies : goal.returns-in_err-rounds-clause-replies
 returns-in_err-rounds-clause-replies g c =
     let p = err_from_is_err_and c.from_residual-in_err-rounds.result c.from_residual-in_err-rounds.ensures.1 in
+    let digest = g.H.TreeHash.digest in
+    let may = g.S.Source.may_answer in
+    let v = c.args.mirror.now.view in
+    let x = c.take_rows.new.mirror.view in
+    let size = c.in_ok-checkpoint.checkpoint.size in
+    let root = c.in_ok-checkpoint.checkpoint.root in
+    let note = c.in-Some.note.items in
+    let rows = map (λ row. row.items) c.in_ok-rows.rows.items in
+    let opens = rw c.deref.ensures.value at c.in_ok-checkpoint.ensures in
+    let opened = opened_head _ _ _ c.in_ok-checkpoint.checkpoint opens in
+    let head =
+    has_head digest _ v x x c.deref-2.result.now note _ size root c.deref-2.ensures.value
+    c.in_ok-take_rows.ensures.takes.2 opened (within_itself x) in
+    let all =
+    behind_note (may c.args.source.now) (may c.ask.new.source) (g.S.Source.asked c.args.source.now)
+    (g.S.Source.asked c.ask.new.source) (g.S.Source.asked c.edge_rows.new.source)
+    c.new-asked.result.items c.ask.new.asked.items c.edge_rows.new.asked.items note _
+    (λ asked xs. GivesRows asked (edge_of size) xs rows) c.new-asked.ensures.items
+    (ap (option_map (λ v. v.items)) c.in-Some.is) c.in_ok-note.ensures.later c.in_ok-note.ensures.replied
+    c.in_ok-rows.ensures.replied in
     rw (p.1, p.2)
-    (follows_late g.H.TreeHash.digest _ c.args.mirror.now.view c.work.new.mirror.view
-    (g.S.Source.may_answer c.args.source.now) (g.S.Source.asked c.args.source.now)
-    (g.S.Source.asked c.work.new.source)
-    c.in_err-rounds.field-0.0 c.in_err-rounds.ensures.late)
+    (follows_late digest _ v c.work.new.mirror.view (may c.args.source.now) (g.S.Source.asked c.args.source.now)
+    (g.S.Source.asked c.work.new.source) c.in_err-rounds.field-0.0 c.in_err-rounds.ensures.late
+    (rounds_stop (may c.args.source.now) (may c.edge_rows.new.source) (g.S.Source.asked c.args.source.now)
+    (g.S.Source.asked c.edge_rows.new.source) (g.S.Source.asked c.work.new.source) c.new-asked.result.items
+    c.edge_rows.new.asked.items note
+    (stays_then (may c.args.source.now) (may c.ask.new.source) (may c.edge_rows.new.source) c.in_ok-note.ensures.later
+    c.in_ok-rows.ensures.later)
+    digest _ v x c.work.new.mirror.view c.in_ok-checkpoint.checkpoint rows c.in_err-rounds.field-0.0
+    (head_taken digest v x note c.deref-2.result.now rows _ c.deref-2.ensures.value
+    (ap (map (λ row. row.items)) c.deref-3.ensures.value) c.in_ok-take_rows.ensures.takes.2) opens all
+    (c.in_err-rounds.ensures.replied head)))
 
 pub returns-clause-replies : goal.returns-clause-replies
 returns-clause-replies g c =
@@ -454,3 +502,42 @@ returns-clause-replies g c =
     c.work.new.mirror.view xs)
     (stays_then (may c.args.source.now) (may c.ask.new.source) (may c.edge_rows.new.source) c.in_ok-note.ensures.later
     c.in_ok-rows.ensures.later) all (c.in_ok-rounds.ensures.replied head))
+
+pub returns-in_err-note-clause-kept : goal.returns-in_err-note-clause-kept
+returns-in_err-note-clause-kept g c =
+    kept_honestly g.H.TreeHash.digest g.met.H.TreeHash.digest_length _ c.args.mirror.now.view c.args.mirror.now.view
+    (g.S.Source.may_answer c.args.source.now) (g.S.Source.asked c.args.source.now)
+    (g.S.Source.asked c.ask.new.source) _ (returns-in_err-note-clause-replies g c)
+
+pub returns-in_default-clause-kept : goal.returns-in_default-clause-kept
+returns-in_default-clause-kept g c =
+    kept_honestly g.H.TreeHash.digest g.met.H.TreeHash.digest_length _ c.args.mirror.now.view c.args.mirror.now.view
+    (g.S.Source.may_answer c.args.source.now) (g.S.Source.asked c.args.source.now)
+    (g.S.Source.asked c.ask.new.source) (Err NoCheckpoint) (returns-in_default-clause-replies g c)
+
+pub returns-in_err-checkpoint-clause-kept : goal.returns-in_err-checkpoint-clause-kept
+returns-in_err-checkpoint-clause-kept g c =
+    kept_honestly g.H.TreeHash.digest g.met.H.TreeHash.digest_length _ c.args.mirror.now.view c.args.mirror.now.view
+    (g.S.Source.may_answer c.args.source.now) (g.S.Source.asked c.args.source.now)
+    (g.S.Source.asked c.ask.new.source) _ (returns-in_err-checkpoint-clause-replies g c)
+
+pub returns-in_err-rows-clause-kept : goal.returns-in_err-rows-clause-kept
+returns-in_err-rows-clause-kept g c =
+    kept_honestly g.H.TreeHash.digest g.met.H.TreeHash.digest_length _ c.args.mirror.now.view c.args.mirror.now.view
+    (g.S.Source.may_answer c.args.source.now) (g.S.Source.asked c.args.source.now)
+    (g.S.Source.asked c.edge_rows.new.source) _ (returns-in_err-rows-clause-replies g c)
+
+pub returns-in_err-take_rows-clause-kept : goal.returns-in_err-take_rows-clause-kept
+returns-in_err-take_rows-clause-kept g c =
+    kept_honestly g.H.TreeHash.digest g.met.H.TreeHash.digest_length _ c.args.mirror.now.view c.take_rows.new.mirror.view
+    (g.S.Source.may_answer c.args.source.now) (g.S.Source.asked c.args.source.now)
+    (g.S.Source.asked c.edge_rows.new.source) _ (returns-in_err-take_rows-clause-replies g c)
+
+pub returns-in_err-rounds-clause-kept : goal.returns-in_err-rounds-clause-kept
+returns-in_err-rounds-clause-kept g c =
+    kept_honestly g.H.TreeHash.digest g.met.H.TreeHash.digest_length _ c.args.mirror.now.view c.work.new.mirror.view
+    (g.S.Source.may_answer c.args.source.now) (g.S.Source.asked c.args.source.now)
+    (g.S.Source.asked c.work.new.source) _ (returns-in_err-rounds-clause-replies g c)
+
+pub returns-clause-kept : goal.returns-clause-kept
+returns-clause-kept g c = λ entries note size is clean. tt

@@ -5,7 +5,10 @@ use Rattle.mirror_pull.proofs.Gains.{gains_item, gains_itself, late_item, counts
 use Rattle.mirror_pull.proofs.Freshness.{fresh_unasked}
 use Rattle.mirror_pull.proofs.TrueTakes.{path_fresh, path_found, path_full_fresh, path_full, path_neither}
 use Rattle.std.proofs.Common.{ap, option_map}
-use Rattle.mirror_pull.proofs.Replies.{found_worked, full_worked, none_worked}
+use Rattle.mirror_pull.specs.Replying.{StopsAsking}
+use Rattle.mirror_pull.proofs.Replies.{none_worked}
+use Rattle.mirror_pull.proofs.Early.{ends_as, unanswered_as, comes_in_path, found_follows, full_follows}
+use Rattle.mirror_pull.proofs.Early.{full_unanswered}
 use Rattle.mirror_pull.proofs.rounds.take_path.Goals as goal
 
 pub returns-in_err-bytes-clause-late : goal.returns-in_err-bytes-clause-late
@@ -201,22 +204,22 @@ returns-in-None-clause-counted g c =
 
 pub returns-in-Some-clause-replied : goal.returns-in-Some-clause-replied
 returns-in-Some-clause-replied g c =
-    found_worked (g.S.Source.may_answer c.args.source.now) (g.S.Source.asked c.args.source.now)
+    found_follows (g.S.Source.may_answer c.args.source.now) (g.S.Source.asked c.args.source.now)
     (g.S.Source.asked c.ask.new.source) c.args.asked.now.items c.ask.new.asked.items c.args.path _
-    c.in-Some.bytes.items (ap (option_map (λ v. v.items)) c.in-Some.is) c.in_ok-bytes.ensures.replied
-    g.H.TreeHash.digest c.args.mirror.now.view c.take_found.new.mirror.view c.deref.result.now c.take_found.result
-    c.deref.ensures.value c.take_found.ensures
+    c.in-Some.bytes.items c.deref.result.now g.H.TreeHash.digest c.args.mirror.now.view c.take_found.new.mirror.view
+    c.take_found.result (ap (option_map (λ v. v.items)) c.in-Some.is) c.deref.ensures.value
+    c.in_ok-bytes.ensures.replied c.take_found.ensures
 
 pub returns-in-Some-2-clause-replied : goal.returns-in-Some-2-clause-replied
 returns-in-Some-2-clause-replied g c =
-    full_worked (g.S.Source.may_answer c.args.source.now) (g.S.Source.may_answer c.ask.new.source)
+    full_follows (g.S.Source.may_answer c.args.source.now) (g.S.Source.may_answer c.ask.new.source)
     (g.S.Source.asked c.args.source.now) (g.S.Source.asked c.ask.new.source) (g.S.Source.asked c.ask-2.new.source)
-    c.args.asked.now.items c.ask.new.asked.items c.ask-2.new.asked.items c.args.path c.full_path-full.result _ _
+    c.args.asked.now.items c.ask.new.asked.items c.ask-2.new.asked.items c.args.path c.full_path-full.result _
     c.in_ok-bytes.ensures.later c.full_path-full.ensures (ap (option_map (λ v. v.items)) c.in_default.is)
-    c.in_ok-bytes.ensures.replied c.in_ok-bytes-2.ensures.replied
-    g.H.TreeHash.digest c.args.mirror.now.view c.take_found-in-Some-2.new.mirror.view c.in-Some-2.bytes.items
-    c.deref-in-Some-2.result.now c.take_found-in-Some-2.result (ap (option_map (λ v. v.items)) c.in-Some-2.is)
-    c.deref-in-Some-2.ensures.value c.take_found-in-Some-2.ensures
+    c.in_ok-bytes.ensures.replied _ c.in-Some-2.bytes.items c.deref-in-Some-2.result.now
+    g.H.TreeHash.digest c.args.mirror.now.view c.take_found-in-Some-2.new.mirror.view c.take_found-in-Some-2.result
+    (ap (option_map (λ v. v.items)) c.in-Some-2.is) c.deref-in-Some-2.ensures.value c.in_ok-bytes-2.ensures.replied
+    c.take_found-in-Some-2.ensures
 
 pub returns-in-None-clause-replied : goal.returns-in-None-clause-replied
 returns-in-None-clause-replied g c =
@@ -230,9 +233,15 @@ returns-in-None-clause-replied g c =
 pub returns-in_err-bytes-clause-replied : goal.returns-in_err-bytes-clause-replied
 returns-in_err-bytes-clause-replied g c =
     let p = err_from_is_err_and c.from_residual.result c.from_residual.ensures.1 in
-    rw p.1 tt
+    rw (p.1, p.2) (ends_as c.in_err-bytes.ensures.replied (λ xs tried u. StopsAsking
+    (unanswered_as (comes_in_path g.H.TreeHash.digest c.args.asked.now.items c.args.mirror.now.view c.args.path) u)))
 
 pub returns-in_err-bytes-2-clause-replied : goal.returns-in_err-bytes-2-clause-replied
 returns-in_err-bytes-2-clause-replied g c =
     let p = err_from_is_err_and c.from_residual-in_err-bytes-2.result c.from_residual-in_err-bytes-2.ensures.1 in
-    rw p.1 tt
+    rw (p.1, p.2)
+    (full_unanswered (g.S.Source.may_answer c.args.source.now) (g.S.Source.may_answer c.ask.new.source)
+    (g.S.Source.asked c.args.source.now) (g.S.Source.asked c.ask.new.source) (g.S.Source.asked c.ask-2.new.source)
+    c.args.asked.now.items c.ask.new.asked.items c.ask-2.new.asked.items c.args.path c.full_path-full.result _
+    c.in_ok-bytes.ensures.later c.full_path-full.ensures (ap (option_map (λ v. v.items)) c.in_default.is)
+    c.in_ok-bytes.ensures.replied g.H.TreeHash.digest c.args.mirror.now.view _ c.in_err-bytes-2.ensures.replied)

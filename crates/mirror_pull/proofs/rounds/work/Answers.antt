@@ -3,7 +3,8 @@ use Rattle.std.proofs.lemmas.Result.{err_from_is_err_and}
 use Rattle.mirror_pull.proofs.Askings.{adds_some_then, adds_to_then, adds_to_none}
 use Rattle.mirror_pull.proofs.Gains.{stays_then, stays_itself, counts_err, gains_then, gains_itself}
 use Rattle.mirror_model.proofs.Views.{head_stays}
-use Rattle.mirror_pull.specs.Replying.{IsLeftToAsk}
+use Rattle.mirror_pull.specs.Replying.{IsLeftToAsk, IsInRounds, StopsTaking}
+use Rattle.mirror_pull.proofs.Early.{ends_then, ends_behind, stops_then, rounds_over, round_under}
 use Rattle.mirror_pull.proofs.Replies.{AreRoundsSoFar, gathers_as, gathers_then, gathers_none, rounds_none, rounds_step}
 use Rattle.mirror_pull.proofs.Replies.{rounds_ended, rounds_eight}
 use Rattle.mirror_pull.proofs.Orders.{none_if, some_if}
@@ -181,3 +182,28 @@ returns-clause-replied g c =
     gathers_as (c.loop-rounds.invariant.replied head) (λ xs grown p.
     rounds_eight g.H.TreeHash.digest c.args.size c.args.root.now c.args.asked.now.items c.args.mirror.now.view
     c.loop-rounds.mirror.view c.loop-rounds.rounds 8 c.loop-rounds.refused xs is refl p)
+
+pub returns-in_err-paths-clause-replied : goal.returns-in_err-paths-clause-replied
+returns-in_err-paths-clause-replied g c =
+    let p = err_from_is_err_and c.from_residual.result c.from_residual.ensures.1 in
+    rw (p.1, p.2) (λ head. ends_behind (c.loop-rounds.invariant.replied head) (λ xs grown a.
+    rounds_over g.H.TreeHash.digest c.args.size c.args.root.now c.args.asked.now.items c.args.mirror.now.view
+    c.loop-rounds.mirror.view c.loop-rounds.rounds c.loop-rounds.refused xs c.loop-rounds-test.true a))
+
+pub returns-in_err-more-clause-replied : goal.returns-in_err-more-clause-replied
+returns-in_err-more-clause-replied g c =
+    let digest = g.H.TreeHash.digest in
+    let p = err_from_is_err_and c.from_residual-in_err-more.result c.from_residual-in_err-more.ensures.1 in
+    rw (p.1, p.2) (λ head.
+    let x = c.loop-rounds.mirror.view in
+    let now =
+    head_stays c.args.mirror.now.view x c.loop-rounds.invariant.gains.grows c.args.size c.args.root.now head in
+    ends_then
+    (λ xs tried. StopsTaking digest
+    (IsInRounds digest c.args.size c.args.root.now c.args.asked.now.items c.args.mirror.now.view)
+    c.in_err-more.field-0.0 xs tried c.work_round.new.mirror.view)
+    c.loop-rounds.invariant.later (c.loop-rounds.invariant.replied head) c.in_err-more.ensures.replied
+    (λ xs ys tried grown a stops. stops_then xs (λ rs w next q.
+    round_under digest c.args.size c.args.root.now c.args.asked.now.items c.loop-rounds.asked.items
+    c.in_ok-paths.paths.items c.deref.result.now c.args.mirror.now.view x w c.loop-rounds.rounds c.loop-rounds.refused
+    xs rs next c.loop-rounds-test.true grown c.deref.ensures.value a (c.in_ok-paths.ensures.left now) q) stops))

@@ -3,7 +3,8 @@ use Rattle.std.proofs.lemmas.Result.{err_from_is_err_and}
 use Rattle.mirror_pull.proofs.Askings.{adds_some_then, adds_to_then, adds_to_none}
 use Rattle.mirror_pull.proofs.Gains.{stays_then, stays_itself, counts_err, gains_then, gains_itself}
 use Rattle.mirror_pull.proofs.TrueTakes.{round_next, round_step, round_none, round_whole}
-use Rattle.mirror_pull.specs.Replying.{IsWorkedList, one_if}
+use Rattle.mirror_pull.specs.Replying.{IsWorkedList, IsInRound, StopsTaking, one_if}
+use Rattle.mirror_pull.proofs.Early.{ends_then, stops_then, in_round}
 use Rattle.mirror_pull.proofs.Replies.{gathers_as, gathers_then, gathers_none, list_none, list_step, list_whole}
 use Rattle.mirror_pull.proofs.rounds.work_round.Goals.{then-branch, else-branch}
 use Rattle.mirror_pull.proofs.rounds.work_round.Goals as goal
@@ -136,4 +137,12 @@ returns-clause-replied g c =
 pub returns-in_err-take_path-clause-replied : goal.returns-in_err-take_path-clause-replied
 returns-in_err-take_path-clause-replied g c =
     let p = err_from_is_err_and c.from_residual.result c.from_residual.ensures.1 in
-    rw p.1 tt
+    rw (p.1, p.2) (ends_then
+    (λ xs tried. StopsTaking g.H.TreeHash.digest
+    (IsInRound g.H.TreeHash.digest c.args.asked.now.items c.args.paths.now c.args.mirror.now.view)
+    c.in_err-take_path.field-0.0 xs tried c.take_path.new.mirror.view)
+    c.loop-path.invariant.later c.loop-path.invariant.replied c.in_err-take_path.ensures.replied
+    (λ xs ys tried grown a stops. stops_then xs (λ rs w next q.
+    in_round g.H.TreeHash.digest c.args.asked.now.items c.loop-path.asked.items c.args.paths.now
+    c.loop-path.path-index c.args.mirror.now.view c.loop-path.mirror.view w c.loop-path.refused xs rs next
+    c.loop-path-test.true grown a q) stops))
