@@ -1,8 +1,9 @@
-//! Readers that give a few bytes a call, that are interrupted, and that fail behind the head.
+//! Readers and writers that give or take a few bytes a call, that are interrupted, and that fail.
 use crate::served::{BUNDLE_REPLY, BUNDLE_REQUEST, answered, mirror_of_3};
+use mirror_http::HttpFault;
 use std::alloc::Global;
 use std::io;
-use std::io::{ErrorKind, Read};
+use std::io::{ErrorKind, Read, Write};
 use std::process::Abort;
 use std::test::Fail;
 use tlog_hash::{Sha256Tree, TreeHash};
@@ -31,6 +32,29 @@ impl Read for Pieces<'_> {
         buf[..count].copy_from_slice(&self.rest[..count]);
         self.rest = &self.rest[count..];
         Ok(count)
+    }
+}
+
+// Takes so many bytes, a byte a call, and fails from then on.
+#[derive(Drop)]
+struct Narrow {
+    taken: Vec<u8>,
+    most: usize,
+}
+
+impl Write for Narrow {
+    fn write(&mut self, buf: &[u8]) -> io::Result<usize> {
+        match buf.first() {
+            Some(byte) if self.taken.len() < self.most => {
+                self.taken.push(*byte)?;
+                Ok(1)
+            }
+            _ => Err(io::Error::from(ErrorKind::Other)),
+        }
+    }
+
+    fn flush(&mut self) -> io::Result<()> {
+        Ok(())
     }
 }
 
@@ -70,4 +94,47 @@ fn no_read_after_head(rt: HostRuntime) -> Result<(), Fail> {
     }
     drop(mirror);
     Ok(())
+}
+
+#[test]
+fn endless_reader(rt: HostRuntime) -> Result<(), Fail> {
+    let mirror = mirror_of_3::<Sha256Tree>(rt.alloc())?;
+    fails_at_the_first_read(&rt, rt.alloc(), &mirror);
+    drop(mirror);
+    Ok(())
+}
+
+// The first read fails, and nothing is written.
+fn fails_at_the_first_read<H: TreeHash>(rt: &impl Abort, alloc: Global, mirror: &Mirror<H>) {
+    let mut reader = Pieces {
+        rest: b"",
+        most: 1,
+        interruptions: 0,
+        fails: true,
+    };
+    let mut reply = Vec::new(alloc);
+    assert!(rt; answered(alloc, mirror, &mut reader, &mut reply) == Err(HttpFault::ReadFault));
+    assert!(rt; reply.is_empty());
+}
+
+#[test]
+fn failing_writer(rt: HostRuntime) -> Result<(), Fail> {
+    let mirror = mirror_of_3::<Sha256Tree>(rt.alloc())?;
+    for most in 0..BUNDLE_REPLY.len() {
+        writes_front(&rt, rt.alloc(), &mirror, &BUNDLE_REPLY[..most]);
+    }
+    drop(mirror);
+    Ok(())
+}
+
+// A writer that takes so many bytes of the reply has just these.
+fn writes_front<H: TreeHash>(rt: &impl Abort, alloc: Global, mirror: &Mirror<H>, front: &[u8]) {
+    let mut writer = Narrow {
+        taken: Vec::new(alloc),
+        most: front.len(),
+    };
+    let mut reader = BUNDLE_REQUEST;
+    let fault = answered(alloc, mirror, &mut reader, &mut writer);
+    assert!(rt; fault == Err(HttpFault::WriteFault));
+    assert!(rt; writer.taken.as_slice() == front);
 }
