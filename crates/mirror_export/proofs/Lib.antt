@@ -8,8 +8,11 @@ pub mod Filters
 pub mod PlaceWidths
 pub mod NewFiles
 pub mod Standing
+pub mod FoundOnce
 pub mod UpdateMoments
 pub mod Points
 pub mod Updated
+pub mod UpdateSteps
+pub mod UpdateWhole
 pub mod PathLists
 pub mod Totals

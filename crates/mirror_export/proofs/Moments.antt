@@ -121,7 +121,7 @@ module _ (digest : List ℕ → List ℕ) (note : List ℕ) (entries : List (Lis
 
 -- ---- each moment
 
-has_after : (old so_far : List Put) (path : Path) → (HasPut old path → ⊥) → HasPut (old ++ so_far) path →
+pub has_after : (old so_far : List Put) (path : Path) → (HasPut old path → ⊥) → HasPut (old ++ so_far) path →
     HasPut so_far path
 has_after old so_far path none h =
     elim (Contains-append_cases (map (λ (put : Put). put.0) old) (map (λ (put : Put). put.0) so_far) path

@@ -9,7 +9,7 @@ use Rattle.tlog_tiles.specs.declared.paths.Path.TheVariants.{Checkpoint}
 use Rattle.mirror_export.specs.Files.{full_paths, kind_level, kind_path, kind_paths, partial_path, paths_of}
 use Rattle.mirror_export.specs.Files.{tiles_below, tile_paths}
 use Rattle.mirror_export.specs.declared.files.FileKind.{FileKind}
-use Rattle.mirror_export.specs.declared.files.FileKind.TheVariants.{Tiles, Bundles}
+use Rattle.mirror_export.specs.declared.files.FileKind.TheVariants.{Bundles}
 
 -- one full file more
 pub full_more : (before now : List Path) (kind : FileKind) (index : ℕ) →

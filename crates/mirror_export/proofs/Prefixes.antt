@@ -7,7 +7,8 @@ use Rattle.std.proofs.lemmas.List.{append-nil, take-append-le, map-append}
 use Rattle.std.proofs.Math.Seq.{take-append-add}
 use Rattle.tlog_tiles.specs.declared.paths.Path.{Path}
 use Rattle.mirror_sources.specs.Told.{AddsTold, KeepsTold}
-use Rattle.mirror_folders.specs.Shelf.{Put}
+use Rattle.mirror_folders.specs.Shelf.{Put, TellsPut}
+use Rattle.mirror_folders.specs.declared.shelf.ShelfError.{ShelfError}
 use Rattle.mirror_export.specs.Exports.{AddsFiles, AddsPrefix}
 
 pub adds_none : (a : Option (List Put)) → AddsTold a a []
@@ -86,6 +87,12 @@ module _ (file : Path → Put) (keep : Path → Bool) where
 pub file_refused : (file : Path → Put) (a b : Option (List Put)) (path : Path) → KeepsTold a b →
     AddsPrefix a b (map file (path ∷ []))
 file_refused file a b path kept = front_none a b (map file (path ∷ [])) (omega arith) kept
+
+-- a file that was put, or not
+pub put_result : {T : Type 0} (file : Path → Put) (a b : Option (List Put)) (path : Path) (r : Result T ShelfError) →
+    TellsPut a b (file path) r → AddsFiles a b (map file (path ∷ [])) r
+put_result file a b path (Ok x) p = p
+put_result file a b path (Err e) p = file_refused file a b path p
 
 -- a file that is put only where it is to be
 module _ (file : Path → Put) (keep : Path → Bool) (a b : Option (List Put)) (path : Path) where

@@ -10,7 +10,7 @@ use Rattle.std.proofs.lemmas.List.Elements.{Contains-append_cases, Contains-appe
 use Rattle.tlog_tiles.specs.declared.paths.Path.{Path}
 use Rattle.mirror_folders.specs.Shelf.{Put, HasPut, Stands}
 
-at_middle : {X : Type 0} (before after : List X) (x : X) → get_or (before ++ x ∷ after) (length before) x ≡ x
+pub at_middle : {X : Type 0} (before after : List X) (x : X) → get_or (before ++ x ∷ after) (length before) x ≡ x
 at_middle [] after x = refl
 at_middle (y ∷ before) after x = at_middle before after x
 

@@ -1,26 +1,42 @@
 -- A folder at each moment of an update.
 use Rattle.std.proofs.Common.{◌≡◌, ◌≢◌, ◌⊎◌, ℕ, ◌≤◌, List, [], ◌∷◌, ◌++◌, length, map, take, Bool, true, false}
-use Rattle.std.proofs.Common.{refl, sym, ap, subst, ◌∙◌, append_assoc, length-take, inl, inr, arith}
+use Rattle.std.proofs.Common.{Option, Some, None, refl, sym, ap, subst, ◌∙◌, append_assoc, length-take, inl, inr, arith}
 use Rattle.std.specs.List.{All, Contains, filter}
 use Rattle.std.proofs.lemmas.Bool.{cases_lt}
-use Rattle.std.proofs.lemmas.List.{append_cancel_left, map-append}
+use Rattle.std.proofs.lemmas.List.{append-nil, append_cancel_left, map-append, take_all}
 use Rattle.std.proofs.lemmas.List.Elements.{All-contains, All-contains_itself, All-filter, All-map, All-take, All-weaker}
 use Rattle.std.proofs.lemmas.List.Elements.{Contains-append_left, filter-append}
 use Rattle.tlog_tiles.specs.declared.paths.Path.{Path}
 use Rattle.tlog_tiles.specs.declared.paths.Path.TheVariants.{Checkpoint, Tile, Entries}
 use Rattle.mirror_model.proofs.TrueItems.{prefixes_serve_same}
-use Rattle.mirror_folders.specs.Shelf.{Put, HasPut, Stands}
+use Rattle.mirror_folders.specs.Shelf.{Put, HasPut, Stands, TellsRead}
 use Rattle.mirror_export.specs.Files.{file_at, kind_paths, paths_of, served_bytes, tile_paths}
 use Rattle.mirror_export.specs.FileLaws.{IsFileOf}
 use Rattle.mirror_export.specs.Exports.{IsMoment}
-use Rattle.mirror_export.specs.Since.{is_new, since_paths}
-use Rattle.mirror_export.specs.SinceLaws.{HoldsFiles, HoldsLog, IsWholeAt, UpdatesStayWhole}
+use Rattle.mirror_export.specs.Since.{files_since, is_new, since_paths}
+use Rattle.mirror_export.specs.SinceLaws.{HoldsFiles, HoldsFound, HoldsLog, IsWholeAt, UpdatesStayWhole}
 use Rattle.mirror_export.specs.declared.files.FileKind.TheVariants.{Bundles}
 use Rattle.mirror_export.proofs.AllFiles.{files_are_all}
 use Rattle.mirror_export.proofs.Filters.{filter_has}
+use Rattle.mirror_export.proofs.FoundOnce.{read_more}
 use Rattle.mirror_export.proofs.Moments.{front_files, long_is_all, short_has_none, stands_at}
 use Rattle.mirror_export.proofs.NewFiles.{files_since_are_new, old_is}
-use Rattle.mirror_export.proofs.Standing.{put_has, stands_before, stands_more}
+use Rattle.mirror_export.proofs.Standing.{stands_more}
+
+-- a checkpoint and the files of its entries are a log
+pub log_of : (digest : List ℕ → List ℕ) (entries : List (List ℕ)) (checkpoint : List ℕ) (puts : List Put) →
+    HoldsFiles digest entries puts → Stands puts Checkpoint checkpoint → HoldsLog digest checkpoint entries puts
+log_of digest entries checkpoint puts files stands Checkpoint listed = stands
+log_of digest entries checkpoint puts files stands (Tile level index width) listed =
+    files (Tile level index width) (λ e. cc e) listed
+log_of digest entries checkpoint puts files stands (Entries index width) listed =
+    files (Entries index width) (λ e. cc e) listed
+
+-- what was found stands
+found_stands : (digest : List ℕ → List ℕ) (entries : List (List ℕ)) (found : Option (List ℕ)) (puts : List Put) →
+    HoldsFiles digest entries puts → TellsRead (Some puts) Checkpoint found → HoldsFound digest found entries puts
+found_stands digest entries None puts files read = read
+found_stands digest entries (Some checkpoint) puts files read = log_of digest entries checkpoint puts files read
 
 module _ (digest : List ℕ → List ℕ) (note : List ℕ) (entries : List (List ℕ)) (m : ℕ) (le : m ≤ length entries) where
   abbrev n : ℕ
@@ -110,32 +126,40 @@ module _ (digest : List ℕ → List ℕ) (note : List ℕ) (entries : List (Lis
             (first path is.1 (subst (λ k. Contains (paths_of k) path) (sym long) ((files_are_all m path).1 is.0)))
 
     -- the checkpoint was not put
-    before : (HasPut at.so_far Checkpoint → ⊥) → (bytes : List ℕ) →
-        (Stands now Checkpoint bytes → Stands old Checkpoint bytes)
-        × (Stands old Checkpoint bytes → Stands now Checkpoint bytes)
-    before none bytes = (
-      λ stands. stands_before old at.so_far Checkpoint bytes
-          (subst (λ (l : List Put). Stands l Checkpoint bytes) at.now_is stands) none,
-      λ stands. subst (λ (l : List Put). Stands l Checkpoint bytes) (sym at.now_is)
-          (stands_more old at.so_far Checkpoint bytes stands
-          (λ other has. absurd (none (put_has at.so_far Checkpoint other has)))),
-    )
+    before : (found : Option (List ℕ)) → TellsRead (Some old) Checkpoint found → (HasPut at.so_far Checkpoint → ⊥) →
+        HoldsFound digest found (take m entries) now
+    before found read none =
+        found_stands digest (take m entries) found now first
+        (subst (λ (l : List Put). TellsRead (Some l) Checkpoint found) (sym at.now_is)
+        (read_more old Checkpoint at.so_far found none read))
 
-    moment : IsWholeAt digest note entries m old now
-    moment =
+    moment : (found : Option (List ℕ)) → TellsRead (Some old) Checkpoint found →
+        IsWholeAt digest note entries found m old now
+    moment found read =
         let parts : at.so_far ++ at.later ≡ take count (map file front ++ checkpoint ∷ []) =
         cut ∙ ap (take count) files_are in
         record {
           first = first;
-          checkpoint = elim (cases_lt (length (map file front)) (length at.so_far)) [
+          whole = elim (cases_lt (length (map file front)) (length at.so_far)) [
             | inl past ↦ inl (whole
                 (long_is_all (map file front) checkpoint no at.so_far at.later count parts past ∙ sym files_are))
-            | inr upto ↦ inr (before
+            | inr upto ↦ inr (before found read
                 (short_has_none (map file front) checkpoint no at.so_far at.later count parts upto))
           ];
           kept = kept;
         }
 
 pub updates_stay_whole : UpdatesStayWhole
-updates_stay_whole digest note entries m count le old new now holds e at =
-    moment digest note entries m le count old new now holds e at
+updates_stay_whole digest note entries found m count le old new now read holds e at =
+    moment digest note entries m le count old new now holds e at found read
+
+-- all files were put
+pub all_stand : (digest : List ℕ → List ℕ) (note : List ℕ) (entries : List (List ℕ)) (m : ℕ) → m ≤ length entries →
+    (old new : List Put) → HoldsFiles digest (take m entries) old →
+    new ≡ old ++ files_since digest note entries m (length entries) → HoldsLog digest note entries new
+all_stand digest note entries m le old new holds e =
+    let files = files_since digest note entries m (length entries) in
+    let same : take (length files) files ≡ files = take_all (length files) files (omega arith) in
+    let at : IsMoment old new new = record { so_far = files; later = []; now_is = e; new_is = sym (append-nil new) } in
+    whole digest note entries m le (length files) old new new holds
+    (e ∙ ap (λ (l : List Put). old ++ l) (sym same)) at refl

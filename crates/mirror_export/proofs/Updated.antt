@@ -1,31 +1,32 @@
 -- What an update puts, by the answers of its parts.
-use Rattle.std.proofs.Common.{◌≡◌, ◌≢◌, ℕ, ◌+◌, ◌<◌, ◌≤◌, List, length, Option, None, Result, Ok, Err, refl, sym, subst}
-use Rattle.std.proofs.Common.{◌∙◌, inl, inr, arith}
+use Rattle.std.proofs.Common.{◌≡◌, ℕ, ◌+◌, ◌<◌, ◌≤◌, List, length, Option, Some, None, Result, Ok, Err, refl, sym, subst, ◌∙◌}
+use Rattle.std.proofs.Common.{inl, inr, arith}
 use Rattle.node_store.specs.Strings.{Strings}
 use Rattle.tlog_hash.specs.Tree.{mth}
 use Rattle.tlog_hash.specs.Rows.{part}
 use Rattle.mirror_model.specs.View.{View}
 use Rattle.mirror_model.specs.Complete.{IsTreeOf}
-use Rattle.mirror_model.specs.Served.{IsCompleteNote, IsServedList}
+use Rattle.mirror_model.specs.Served.{IsCompleteNote, IsServedList, Served}
 use Rattle.mirror_model.specs.Heads.{IsHead}
 use Rattle.mirror_model.proofs.HeadNotes.{head_once}
 use Rattle.mirror_model.proofs.OneLists.{at_most_both}
 use Rattle.mirror_model.specs.Reports.{SaysServed}
 use Rattle.tlog_mirror.specs.Tops.{Top, IsListOf, IsServedTop}
 use Rattle.tlog_mirror.proofs.ServedParts.{list_of, listed}
-use Rattle.mirror_sources.specs.Told.{AddsTold, Rose}
-use Rattle.mirror_folders.specs.Shelf.{CountsFailures, Put}
+use Rattle.mirror_sources.specs.Told.{Rose}
+use Rattle.mirror_folders.specs.Shelf.{CountsError, Put}
 use Rattle.mirror_export.specs.Faults.{update_of_shelf}
 use Rattle.mirror_export.specs.Since.{files_since}
-use Rattle.mirror_export.specs.Exports.{AddsPrefix}
-use Rattle.mirror_export.specs.Beginnings.{Begins, FindsSize, ReadsPoint, TopGoesOn}
-use Rattle.mirror_export.specs.Updates.{CountsUpdate, GoesOnFrom, IsFilesSince, Updates}
+use Rattle.mirror_export.specs.Beginnings.{Begins, FindsSince, FindsSize, PutsPrefixTop, ReadsPoint, TopGoesOn}
+use Rattle.mirror_export.specs.Beginnings.{TopGoesOnFound, TopStandsOther, UpdatesTop}
+use Rattle.mirror_export.specs.Updates.{CountsUpdate, GoesOn, GoesOnFrom, IsFilesSince, PutsPrefixSince, StandsOther}
+use Rattle.mirror_export.specs.Updates.{Updates}
 use Rattle.mirror_folders.specs.declared.shelf.ShelfError.{ShelfError}
 use Rattle.mirror_folders.specs.declared.shelf.ShelfError.TheVariants.{Failed}
 use Rattle.mirror_folders.specs.declared.shelf.ShelfError.TheVariants as shelf
 use Rattle.mirror_export.specs.declared.fault.UpdateFault.{UpdateFault}
 use Rattle.mirror_export.specs.declared.fault.UpdateFault.TheVariants.{NothingComplete, OtherLog, ShelfFault, OutOfMemory}
-use Rattle.mirror_export.proofs.Exported.{one_more_rose, same_told}
+use Rattle.mirror_export.proofs.Exported.{one_more_rose}
 
 -- ---- the size that is found
 
@@ -72,47 +73,75 @@ module _ (digest : List ℕ → List ℕ) (top : Top) (origin checkpoint : List 
 
 -- ---- its count
 
-pub count_of : (S T : Type 0) (old new : ℕ) (e : ShelfError) → CountsFailures {T = S} old new (Err e) →
+pub count_of : (T : Type 0) (old new : ℕ) (e : ShelfError) → CountsError old new e →
     CountsUpdate {T = T} old new (Err (update_of_shelf e))
-count_of S T old new Failed p = subst (λ n. Rose old n) (sym p) (one_more_rose old)
-count_of S T old new shelf.OutOfMemory p = p
-
--- ---- what was put
+count_of T old new Failed p = subst (λ n. Rose old n) (sym p) (one_more_rose old)
+count_of T old new shelf.OutOfMemory p = p
 
 abbrev pub answer_of : (T : Type 0) → UpdateFault → Result T UpdateFault
 answer_of T fault = Err fault
 
-pub other_fault : (T : Type 0) (e : ShelfError) →
-    answer_of T (update_of_shelf e) ≡ answer_of T NothingComplete → ⊥
-other_fault T Failed p = cc
-other_fault T shelf.OutOfMemory p = cc
+pub not_counted : (digest : List ℕ → List ℕ) (T : Type 0) (top : Top) (origin : List ℕ) (found : Option (List ℕ))
+    (old new : ℕ) (fault : UpdateFault) → FindsSince digest top origin found (Err fault) → new ≡ old →
+    CountsUpdate old new (answer_of T fault)
+not_counted digest T top origin None old new fault h e = absurd h
+not_counted digest T top origin (Some checkpoint) old new NothingComplete h e = absurd h
+not_counted digest T top origin (Some checkpoint) old new OtherLog h e = e
+not_counted digest T top origin (Some checkpoint) old new ShelfFault h e = absurd h
+not_counted digest T top origin (Some checkpoint) old new OutOfMemory h e = e
+
+-- ---- what was put, by the top
+
+-- the size that was found
+pub top_goes_on : (digest : List ℕ → List ℕ) (top : Top) (origin : List ℕ) (found : Option (List ℕ)) (m : ℕ) →
+    FindsSince digest top origin found (Ok m) → TopGoesOnFound digest top origin found m
+top_goes_on digest top origin None m h = h
+top_goes_on digest top origin (Some checkpoint) m h = h
+
+-- ---- what was put, by what is served
 
 module _ (digest : List ℕ → List ℕ) (v : View) (top : Top) (is : IsServedTop digest v top) where
-  -- entries that are served are those of the top
-  served_listed : (es : List (List ℕ)) → IsServedList digest v es → IsListOf digest top es
-  served_listed es q =
+  -- what is served is the top
+  pub record IsTop (note : List ℕ) (size : ℕ) (entries : List (List ℕ)) : Type 0 where
+    pub note_is : top.note ≡ note
+    pub size_is : top.size ≡ size
+    pub listed : IsListOf digest top entries
+
+  pub served_top : (note : List ℕ) (size : ℕ) (root : List ℕ) (es : List (List ℕ)) → Served digest v note size root es →
+      IsTop note size es
+  served_top note size root es q =
       let p = is.served.served in
       let is_p : IsCompleteNote digest v top.note top.size top.root =
       record { holds = p.holds; built = record { entries = is.served.entries; is = p.tree } } in
-      let is_q : IsCompleteNote digest v q.note q.size q.root =
-      record { holds = q.served.holds; built = record { entries = es; is = q.served.tree } } in
-      let le : q.size ≤ top.size = p.greatest_size q.note q.size q.root is_q in
-      let ge : top.size ≤ q.size = q.served.greatest_size top.note top.size top.root is_p in
-      let size_is : top.size ≡ q.size = omega (arith, le, ge) in
-      let q_size : IsCompleteNote digest v q.note top.size q.root =
-      subst (λ m. IsCompleteNote digest v q.note m q.root) (sym size_is) is_q in
-      let p_size : IsCompleteNote digest v top.note q.size top.root =
+      let is_q : IsCompleteNote digest v note size root =
+      record { holds = q.holds; built = record { entries = es; is = q.tree } } in
+      let le : size ≤ top.size = p.greatest_size note size root is_q in
+      let ge : top.size ≤ size = q.greatest_size top.note top.size top.root is_p in
+      let size_is : top.size ≡ size = omega (arith, le, ge) in
+      let q_size : IsCompleteNote digest v note top.size root =
+      subst (λ m. IsCompleteNote digest v note m root) (sym size_is) is_q in
+      let p_size : IsCompleteNote digest v top.note size top.root =
       subst (λ m. IsCompleteNote digest v top.note m top.root) size_is is_p in
-      let root_is : top.root ≡ q.root =
-      at_most_both top.root q.root (p.least_root q.note q.root q_size) (q.served.least_root top.note top.root p_size)
-      in
-      subst (λ (s : Strings). IsTreeOf digest s top.size top.root es) (sym is.strings_are)
-      (subst (λ n. IsTreeOf digest v.strings n top.root es) (sym size_is)
-      (subst (λ r. IsTreeOf digest v.strings q.size r es) (sym root_is) q.served.tree))
+      let root_is : top.root ≡ root =
+      at_most_both top.root root (p.least_root note root q_size) (q.least_root top.note top.root p_size) in
+      let q_root : IsCompleteNote digest v note top.size top.root =
+      subst (λ h. IsCompleteNote digest v note top.size h) (sym root_is) q_size in
+      let p_root : IsCompleteNote digest v top.note size root =
+      subst (λ h. IsCompleteNote digest v top.note size h) root_is p_size in
+      record {
+        note_is = at_most_both top.note note (p.least_note note q_root) (q.least_note top.note p_root);
+        size_is = size_is;
+        listed = subst (λ (s : Strings). IsTreeOf digest s top.size top.root es) (sym is.strings_are)
+            (subst (λ n. IsTreeOf digest v.strings n top.root es) (sym size_is)
+            (subst (λ r. IsTreeOf digest v.strings size r es) (sym root_is) q.tree));
+      }
 
-  goes_on : (checkpoint : List ℕ) (m : ℕ) → TopGoesOn digest top v.origin checkpoint m →
-      GoesOnFrom digest v checkpoint m
-  goes_on checkpoint m h =
+  pub served_listed : (es : List (List ℕ)) → IsServedList digest v es → IsListOf digest top es
+  served_listed es q = (served_top q.note q.size q.root es q.served).listed
+
+  goes_on : (found : Option (List ℕ)) (m : ℕ) → TopGoesOnFound digest top v.origin found m → GoesOn digest v found m
+  goes_on None m h = h
+  goes_on (Some checkpoint) m h =
       let begins = h.begins is.served.entries (list_of digest v top is) in
       record {
         root = h.root;
@@ -125,80 +154,58 @@ module _ (digest : List ℕ → List ℕ) (v : View) (top : Top) (is : IsServedT
         };
       }
 
-  not_on : (checkpoint : List ℕ) →
-      ((m : ℕ) (root : List ℕ) (entries : List (List ℕ)) → IsHead checkpoint v.origin m root →
-      IsListOf digest top entries → Begins digest entries m root → ⊥) → (m : ℕ) → GoesOnFrom digest v checkpoint m → ⊥
+  not_on : (checkpoint : List ℕ) → FindsSize digest top v.origin checkpoint (Err OtherLog) →
+      (m : ℕ) → GoesOnFrom digest v checkpoint m → ⊥
   not_on checkpoint h m on =
       h m on.root on.begins.entries on.is_head (served_listed on.begins.entries on.begins.served)
       (record { within = on.begins.within; root_is = on.begins.hash_is })
 
-  -- no size was found
-  pub none_put : (T : Type 0) (checkpoint : List ℕ) (old : Option (List Put)) (fault : UpdateFault) →
-      FindsSize digest top v.origin checkpoint (Err fault) → Updates digest v checkpoint old old (answer_of T fault)
-  none_put T checkpoint old NothingComplete h = absurd h
-  none_put T checkpoint old OtherLog h = (same_told old, not_on checkpoint h)
-  none_put T checkpoint old ShelfFault h = absurd h
-  none_put T checkpoint old OutOfMemory h = inl (same_told old)
-
-  pub not_counted : (T : Type 0) (checkpoint : List ℕ) (n : ℕ) (fault : UpdateFault) →
-      FindsSize digest top v.origin checkpoint (Err fault) → CountsUpdate n n (answer_of T fault)
-  not_counted T checkpoint n NothingComplete h = absurd h
-  not_counted T checkpoint n OtherLog h = refl
-  not_counted T checkpoint n ShelfFault h = absurd h
-  not_counted T checkpoint n OutOfMemory h = refl
-
   pub not_nothing : SaysServed digest v None → ⊥
   not_nothing nothing = nothing top.note top.size top.root is.served.entries is.served.served
 
-  pub some_fault : (T : Type 0) (checkpoint : List ℕ) (fault : UpdateFault) →
-      FindsSize digest top v.origin checkpoint (Err fault) → answer_of T fault ≡ answer_of T NothingComplete → ⊥
-  some_fault T checkpoint NothingComplete h e = h
-  some_fault T checkpoint OtherLog h e = cc
-  some_fault T checkpoint ShelfFault h e = h
-  some_fault T checkpoint OutOfMemory h e = cc
+  abbrev E : List (List ℕ)
+  E = is.served.entries
 
-  module _ (checkpoint : List ℕ) (m : ℕ) (on : TopGoesOn digest top v.origin checkpoint m) where
-    are_since : IsFilesSince digest v checkpoint (files_since digest top.note is.served.entries m top.size)
-    are_since = record {
-      note = top.note;
-      size = top.size;
-      root = top.root;
-      entries = is.served.entries;
-      m = m;
-      served = is.served.served;
-      goes_on = goes_on checkpoint m on;
-      files_are = refl;
-    }
+  abbrev files : ℕ → List Put
+  files m = files_since digest top.note E m top.size
 
-    pub all_put : {T : Type 0} (old new : Option (List Put)) (x : T) → checkpoint ≢ top.note →
-        AddsTold old new (files_since digest top.note is.served.entries m top.size) →
-        Updates digest v checkpoint old new (Ok x)
-    unfolding are_since
-    all_put old new x other p = record {
-      files = files_since digest top.note is.served.entries m top.size;
-      are_since = are_since;
-      told = inl (other, p);
-    }
+  abbrev are_since : (found : Option (List ℕ)) (m : ℕ) → TopGoesOnFound digest top v.origin found m →
+      IsFilesSince digest v found (files m)
+  are_since found m on = record {
+    note = top.note;
+    size = top.size;
+    root = top.root;
+    entries = E;
+    m = m;
+    served = is.served.served;
+    goes_on = goes_on found m on;
+    files_are = refl;
+  }
 
-    pub none_new : {T : Type 0} (old : Option (List Put)) (x : T) → checkpoint ≡ top.note →
-        Updates digest v checkpoint old old (Ok x)
-    unfolding are_since
-    none_new old x same = record {
-      files = files_since digest top.note is.served.entries m top.size;
-      are_since = are_since;
-      told = inr (same, same_told old);
-    }
+  put_first : (old new : Option (List Put)) → PutsPrefixTop digest top v.origin E old new →
+      PutsPrefixSince digest v old new
+  put_first old new p = record {
+    found = p.found;
+    read = p.read;
+    files = files p.m;
+    are_since = are_since p.found p.m p.goes_on;
+    front = p.front;
+  }
 
-    pub cut_put : (T : Type 0) (old new : Option (List Put)) (e : ShelfError) →
-        AddsPrefix old new (files_since digest top.note is.served.entries m top.size) →
-        Updates digest v checkpoint old new (answer_of T (update_of_shelf e))
-    cut_put T old new Failed p = record {
-      files = files_since digest top.note is.served.entries m top.size;
-      are_since = are_since;
-      front = p;
-    }
-    cut_put T old new shelf.OutOfMemory p = inr (record {
-      files = files_since digest top.note is.served.entries m top.size;
-      are_since = are_since;
-      front = p;
-    })
+  stands_other : (old : Option (List Put)) → TopStandsOther digest top v.origin old → StandsOther digest v old
+  stands_other None h = tt
+  stands_other (Some puts) h = (h.0, h.1, not_on h.0 h.2)
+
+  pub updates_of : {T : Type 0} (old new : Option (List Put)) (r : Result T UpdateFault) →
+      UpdatesTop digest top v.origin E old new r → Updates digest v old new r
+  updates_of old new (Ok x) p = record {
+    found = p.found;
+    read = p.read;
+    files = files p.m;
+    are_since = are_since p.found p.m p.goes_on;
+    told = p.told;
+  }
+  updates_of old new (Err NothingComplete) p = absurd p
+  updates_of old new (Err OtherLog) p = (p.0, stands_other old p.1)
+  updates_of old new (Err ShelfFault) p = elim p [ inl kept ↦ inl kept | inr some ↦ inr (put_first old new some) ]
+  updates_of old new (Err OutOfMemory) p = elim p [ inl kept ↦ inl kept | inr some ↦ inr (put_first old new some) ]

@@ -1,13 +1,19 @@
--- What the parts of an update find of the folder's checkpoint. It is cited by the contracts of
--- private functions alone.
-use Rattle.std.specs.Prelude.{◌≡◌, ℕ, ◌+◌, ◌≤◌, List, length, Result, Ok, Err, ⊤}
+-- What the parts of an update find of the checkpoint that stands, and what they put. It is cited by
+-- the contracts of private functions alone.
+use Rattle.std.specs.Prelude.{◌≡◌, ◌≢◌, ◌⊎◌, ℕ, ◌+◌, ◌≤◌, List, [], ◌∷◌, length, Option, Some, None, ⊤}
+use Rattle.std.specs.Prelude.{Result, Ok, Err}
 use Rattle.tlog_hash.specs.Tree.{mth}
 use Rattle.tlog_hash.specs.Rows.{part}
 use Rattle.signed_note.specs.declared.fault.NoteFault.{NoteFault}
 use Rattle.signed_note.specs.declared.fault.NoteFault.TheVariants as noting
 use Rattle.tlog_checkpoint.specs.declared.fault.CheckpointFault.{CheckpointFault}
 use Rattle.tlog_checkpoint.specs.declared.fault.CheckpointFault.TheVariants as reading
+use Rattle.tlog_tiles.specs.declared.paths.Path.TheVariants.{Checkpoint}
 use Rattle.mirror_model.specs.Heads.{IsHead}
+use Rattle.mirror_sources.specs.Told.{KeepsTold, AddsTold}
+use Rattle.mirror_folders.specs.Shelf.{Put, Stands, TellsRead}
+use Rattle.mirror_export.specs.Exports.{AddsPrefix}
+use Rattle.mirror_export.specs.Since.{files_since}
 use Rattle.tlog_mirror.specs.Tops.{Top, IsListOf}
 use Rattle.mirror_export.specs.declared.fault.UpdateFault.{UpdateFault}
 use Rattle.mirror_export.specs.declared.fault.UpdateFault.TheVariants.{NothingComplete, OtherLog}
@@ -31,6 +37,17 @@ ReadsPoint bytes origin (Err OutOfMemory) = ⊤
 ReadsPoint bytes origin (Err NothingComplete) = ⊥
 ReadsPoint bytes origin (Err ShelfFault) = ⊥
 
+-- the checkpoint was put where what was found still stood; where another one stood, it was not
+abbrev pub PutsLast : {T : Type 0} → Option (List Put) → Option (List Put) → Option (List ℕ) →
+    List ℕ → Result T UpdateFault → Type 0
+PutsLast old new found note (Ok x) =
+    TellsRead old Checkpoint found × AddsTold old new ((Checkpoint, note) ∷ [])
+PutsLast old new found note (Err OtherLog) =
+    KeepsTold old new × (again : Option (List ℕ)) × TellsRead old Checkpoint again × (again ≢ found)
+PutsLast old new found note (Err ShelfFault) = KeepsTold old new
+PutsLast old new found note (Err OutOfMemory) = KeepsTold old new
+PutsLast old new found note (Err NothingComplete) = ⊥
+
 module _ (digest : List ℕ → List ℕ) where
   -- the first m entries have that root
   pub record Begins (entries : List (List ℕ)) (m : ℕ) (root : List ℕ) : Type 0 where
@@ -52,3 +69,53 @@ module _ (digest : List ℕ → List ℕ) where
   FindsSize top origin checkpoint (Err OutOfMemory) = ⊤
   FindsSize top origin checkpoint (Err NothingComplete) = ⊥
   FindsSize top origin checkpoint (Err ShelfFault) = ⊥
+
+  -- the size of the checkpoint that was found, 0 where none was
+  abbrev pub TopGoesOnFound : Top → List ℕ → Option (List ℕ) → ℕ → Type 0
+  TopGoesOnFound top origin None m = m ≡ 0
+  TopGoesOnFound top origin (Some checkpoint) m = TopGoesOn top origin checkpoint m
+
+  -- the same, or that the top does not go on from it
+  abbrev pub FindsSince : Top → List ℕ → Option (List ℕ) → Result ℕ UpdateFault → Type 0
+  FindsSince top origin None (Ok m) = m ≡ 0
+  FindsSince top origin None (Err fault) = ⊥
+  FindsSince top origin (Some checkpoint) result = FindsSize top origin checkpoint result
+
+  -- the files of the top since what stands were put, and none where that is its note
+  pub record PutsTop (top : Top) (origin : List ℕ) (entries : List (List ℕ))
+      (old new : Option (List Put)) : Type 0 where
+    pub found : Option (List ℕ)
+    pub read : TellsRead old Checkpoint found
+    pub m : ℕ
+    pub goes_on : TopGoesOnFound top origin found m
+    pub told : ((found ≢ Some top.note)
+        × AddsTold old new (files_since digest top.note entries m top.size))
+        ⊎ ((found ≡ Some top.note) × KeepsTold old new)
+
+  -- the first of these files were put, and not all of them
+  pub record PutsPrefixTop (top : Top) (origin : List ℕ) (entries : List (List ℕ))
+      (old new : Option (List Put)) : Type 0 where
+    pub found : Option (List ℕ)
+    pub read : TellsRead old Checkpoint found
+    pub m : ℕ
+    pub goes_on : TopGoesOnFound top origin found m
+    pub front : AddsPrefix old new (files_since digest top.note entries m top.size)
+
+  -- a checkpoint stands that the top does not go on from
+  abbrev pub TopStandsOther : Top → List ℕ → Option (List Put) → Type 0
+  TopStandsOther top origin None = ⊤
+  TopStandsOther top origin (Some puts) =
+      (checkpoint : List ℕ) × Stands puts Checkpoint checkpoint
+      × FindsSize top origin checkpoint (Err OtherLog)
+
+  -- what an update to a top of these entries puts, by its answer
+  abbrev pub UpdatesTop : {T : Type 0} → Top → List ℕ → List (List ℕ) → Option (List Put) →
+      Option (List Put) → Result T UpdateFault → Type 0
+  UpdatesTop top origin entries old new (Ok x) = PutsTop top origin entries old new
+  UpdatesTop top origin entries old new (Err OtherLog) =
+      KeepsTold old new × TopStandsOther top origin old
+  UpdatesTop top origin entries old new (Err ShelfFault) =
+      KeepsTold old new ⊎ PutsPrefixTop top origin entries old new
+  UpdatesTop top origin entries old new (Err OutOfMemory) =
+      KeepsTold old new ⊎ PutsPrefixTop top origin entries old new
+  UpdatesTop top origin entries old new (Err NothingComplete) = ⊥

@@ -1,12 +1,13 @@
 -- The files that a log has and that its first entries did not have yet: what an update puts into a
 -- folder that has the files of those.
-use Rattle.std.specs.Prelude.{ℕ, Bool, true, not, List, ◌==◌, nat_lt, if◌then◌else◌}
+use Rattle.std.specs.Prelude.{ℕ, Bool, true, not, List, ◌++◌, ◌==◌, nat_lt, if◌then◌else◌}
 use Rattle.std.specs.List.{filter}
 use Rattle.tlog_shape.specs.Edge.{width_of, edge_index_of}
 use Rattle.tlog_tiles.specs.declared.paths.Path.{Path}
 use Rattle.tlog_tiles.specs.declared.paths.Path.TheVariants.{Checkpoint, Tile, Entries}
 use Rattle.mirror_folders.specs.Shelf.{Put}
-use Rattle.mirror_export.specs.Files.{files_at, paths_of}
+use Rattle.mirror_export.specs.Files.{files_at, kind_paths, paths_of, tile_paths}
+use Rattle.mirror_export.specs.declared.files.FileKind.TheVariants.{Bundles}
 
 -- how many hashes the tile of that level and index has in a tree of m entries; 0 where there is
 -- none
@@ -25,6 +26,10 @@ is_new m (Entries index width) = not (width == width_at m 0 index)
 -- checkpoint
 abbrev pub since_paths : ℕ → ℕ → List Path
 since_paths m n = filter (is_new m) (paths_of n)
+
+-- those of these files that are tiles and bundles
+abbrev pub since_parts : ℕ → ℕ → List Path
+since_parts m n = filter (is_new m) (tile_paths n ++ kind_paths n Bundles)
 
 -- the files at these paths, of a log of n entries under that note
 abbrev pub files_since :

@@ -1,9 +1,10 @@
 -- Which files an update puts, and what stands in the folder at each moment of it: laws of the
 -- definitions.
 use Rattle.std.specs.Prelude.{◌≡◌, ◌≢◌, ◌⊎◌, ◌↔◌, ℕ, ◌≤◌, List, [], ◌∷◌, ◌++◌, length, take, Contains}
+use Rattle.std.specs.Prelude.{Option, Some, None}
 use Rattle.tlog_tiles.specs.declared.paths.Path.{Path}
 use Rattle.tlog_tiles.specs.declared.paths.Path.TheVariants.{Checkpoint, Tile, Entries}
-use Rattle.mirror_folders.specs.Shelf.{Put, Stands}
+use Rattle.mirror_folders.specs.Shelf.{Put, HasPut, Stands, TellsRead}
 use Rattle.mirror_export.specs.Files.{paths_of, served_bytes}
 use Rattle.mirror_export.specs.Since.{files_since, since_paths}
 use Rattle.mirror_export.specs.Exports.{IsMoment}
@@ -46,14 +47,19 @@ module _ (digest : List ℕ → List ℕ) where
       (path : Path) → Contains (paths_of (length entries)) path →
       Stands puts path (served_bytes digest note entries path)
 
+  -- what was found at the checkpoint's path stands there: a checkpoint, with every tile and bundle
+  -- of these entries, or nothing
+  abbrev pub HoldsFound : Option (List ℕ) → List (List ℕ) → List Put → Type 0
+  HoldsFound None entries puts = ¬ HasPut puts Checkpoint
+  HoldsFound (Some checkpoint) entries puts = HoldsLog checkpoint entries puts
+
   -- a moment of an update from the first m of these entries: their tiles and bundles stand still;
-  -- the log stands whole under its note, or the checkpoint is the one that stood before; and no
-  -- file's bytes have changed, where they were true or the file is none that is put
-  pub record IsWholeAt (note : List ℕ) (entries : List (List ℕ)) (m : ℕ) (old now : List Put)
-      : Type 0 where
+  -- the log stands whole under its note, or the first m entries under the checkpoint that was
+  -- found; and no file's bytes have changed, where they were true or the file is none that is put
+  pub record IsWholeAt (note : List ℕ) (entries : List (List ℕ)) (found : Option (List ℕ)) (m : ℕ)
+      (old now : List Put) : Type 0 where
     pub first : HoldsFiles (take m entries) now
-    pub checkpoint : HoldsLog note entries now
-        ⊎ ((bytes : List ℕ) → Stands now Checkpoint bytes ↔ Stands old Checkpoint bytes)
+    pub whole : HoldsLog note entries now ⊎ HoldsFound found (take m entries) now
     pub kept :
         (path : Path) (bytes : List ℕ) → path ≢ Checkpoint → Stands old path bytes →
         (bytes ≡ served_bytes digest note entries path)
@@ -63,7 +69,8 @@ module _ (digest : List ℕ → List ℕ) where
 -- whole log, also if it is cut off; with m = 0 the folder may be empty, and this is an export
 abbrev pub UpdatesStayWhole : Type 0
 UpdatesStayWhole =
-    (digest : List ℕ → List ℕ) (note : List ℕ) (entries : List (List ℕ)) (m count : ℕ) →
-    m ≤ length entries → (old new now : List Put) → HoldsFiles digest (take m entries) old →
+    (digest : List ℕ → List ℕ) (note : List ℕ) (entries : List (List ℕ))
+    (found : Option (List ℕ)) (m count : ℕ) → m ≤ length entries → (old new now : List Put) →
+    TellsRead (Some old) Checkpoint found → HoldsFiles digest (take m entries) old →
     new ≡ old ++ take count (files_since digest note entries m (length entries)) →
-    IsMoment old new now → IsWholeAt digest note entries m old now
+    IsMoment old new now → IsWholeAt digest note entries found m old now

@@ -1,12 +1,15 @@
--- What an update puts into a folder that has a checkpoint, whatever its answer.
-use Rattle.std.specs.Prelude.{◌≡◌, ◌≢◌, ◌⊎◌, ℕ, List, Option, Result, Ok, Err}
+-- What an update puts onto a shelf that can be read, whatever its answer, and what stands there at
+-- each moment.
+use Rattle.std.specs.Prelude.{◌≡◌, ◌≢◌, ◌⊎◌, ℕ, List, take, Option, Some, None, Result, Ok, Err, OnOk, ⊤}
+use Rattle.tlog_tiles.specs.declared.paths.Path.TheVariants.{Checkpoint}
 use Rattle.mirror_model.specs.View.{View}
 use Rattle.mirror_model.specs.Heads.{IsHead}
 use Rattle.mirror_model.specs.Served.{IsRangeHash, Served}
 use Rattle.mirror_sources.specs.Told.{KeepsTold, AddsTold, Rose}
-use Rattle.mirror_folders.specs.Shelf.{Put}
-use Rattle.mirror_export.specs.Exports.{AddsPrefix}
+use Rattle.mirror_folders.specs.Shelf.{Put, Stands, TellsRead}
+use Rattle.mirror_export.specs.Exports.{AddsPrefix, IsMoment}
 use Rattle.mirror_export.specs.Since.{files_since}
+use Rattle.mirror_export.specs.SinceLaws.{HoldsFiles, HoldsLog, IsWholeAt}
 use Rattle.mirror_export.specs.declared.fault.UpdateFault.{UpdateFault}
 use Rattle.mirror_export.specs.declared.fault.UpdateFault.TheVariants.{NothingComplete, OtherLog}
 use Rattle.mirror_export.specs.declared.fault.UpdateFault.TheVariants.{ShelfFault, OutOfMemory}
@@ -19,42 +22,77 @@ module _ (digest : List ℕ → List ℕ) where
     pub is_head : IsHead checkpoint v.origin m root
     pub begins : IsRangeHash digest v 0 m root
 
-  -- the files that what is served has since the checkpoint, its own checkpoint last
-  pub record IsFilesSince (v : View) (checkpoint : List ℕ) (files : List Put) : Type 0 where
+  -- what is served goes on from what was found: from a checkpoint, or where there was none from no
+  -- entries
+  abbrev pub GoesOn : View → Option (List ℕ) → ℕ → Type 0
+  GoesOn v None m = m ≡ 0
+  GoesOn v (Some checkpoint) m = GoesOnFrom v checkpoint m
+
+  -- the files that what is served has since what was found, its own checkpoint last
+  pub record IsFilesSince (v : View) (found : Option (List ℕ)) (files : List Put) : Type 0 where
     pub note : List ℕ
     pub size : ℕ
     pub root : List ℕ
     pub entries : List (List ℕ)
     pub m : ℕ
     pub served : Served digest v note size root entries
-    pub goes_on : GoesOnFrom v checkpoint m
+    pub goes_on : GoesOn v found m
     pub files_are : files ≡ files_since digest note entries m size
 
-  -- all of these files were put; none where the checkpoint is the note that is served, byte for
-  -- byte
-  pub record PutsSince (v : View) (checkpoint : List ℕ) (old new : Option (List Put)) : Type 0 where
+  -- all files since what stands at the checkpoint's path were put; none where that is the note that
+  -- is served, byte for byte
+  pub record PutsSince (v : View) (old new : Option (List Put)) : Type 0 where
+    pub found : Option (List ℕ)
+    pub read : TellsRead old Checkpoint found
     pub files : List Put
-    pub are_since : IsFilesSince v checkpoint files
-    pub told : ((checkpoint ≢ are_since.note) × AddsTold old new files)
-        ⊎ ((checkpoint ≡ are_since.note) × KeepsTold old new)
+    pub are_since : IsFilesSince v found files
+    pub told : ((found ≢ Some are_since.note) × AddsTold old new files)
+        ⊎ ((found ≡ Some are_since.note) × KeepsTold old new)
 
   -- the first of these files were put, and not all of them
-  pub record PutsPrefixSince (v : View) (checkpoint : List ℕ) (old new : Option (List Put))
-      : Type 0 where
+  pub record PutsPrefixSince (v : View) (old new : Option (List Put)) : Type 0 where
+    pub found : Option (List ℕ)
+    pub read : TellsRead old Checkpoint found
     pub files : List Put
-    pub are_since : IsFilesSince v checkpoint files
+    pub are_since : IsFilesSince v found files
     pub front : AddsPrefix old new files
 
+  -- a checkpoint stands that what is served goes on from at no size
+  abbrev pub StandsOther : View → Option (List Put) → Type 0
+  StandsOther v None = ⊤
+  StandsOther v (Some puts) =
+      (checkpoint : List ℕ) × Stands puts Checkpoint checkpoint
+      × ((m : ℕ) → ¬ GoesOnFrom v checkpoint m)
+
   -- what an update puts, by its answer
-  abbrev pub Updates : {T : Type 0} → View → List ℕ → Option (List Put) → Option (List Put) →
+  abbrev pub Updates : {T : Type 0} → View → Option (List Put) → Option (List Put) →
       Result T UpdateFault → Type 0
-  Updates v checkpoint old new (Ok x) = PutsSince v checkpoint old new
-  Updates v checkpoint old new (Err NothingComplete) = KeepsTold old new
-  Updates v checkpoint old new (Err OtherLog) =
-      KeepsTold old new × ((m : ℕ) → ¬ GoesOnFrom v checkpoint m)
-  Updates v checkpoint old new (Err ShelfFault) = PutsPrefixSince v checkpoint old new
-  Updates v checkpoint old new (Err OutOfMemory) =
-      KeepsTold old new ⊎ PutsPrefixSince v checkpoint old new
+  Updates v old new (Ok x) = PutsSince v old new
+  Updates v old new (Err NothingComplete) = KeepsTold old new
+  Updates v old new (Err OtherLog) = KeepsTold old new × StandsOther v old
+  Updates v old new (Err ShelfFault) = KeepsTold old new ⊎ PutsPrefixSince v old new
+  Updates v old new (Err OutOfMemory) = KeepsTold old new ⊎ PutsPrefixSince v old new
+
+  -- at each moment of an update a whole log stands, and at Ok the one that is served
+  pub record KeepsWhole {T : Type 0} (note : List ℕ) (entries : List (List ℕ))
+      (found : Option (List ℕ)) (m : ℕ) (old new : List Put) (answer : Result T UpdateFault)
+      : Type 0 where
+    pub moments : (now : List Put) → IsMoment old new now →
+        IsWholeAt digest note entries found m old now
+    pub done : OnOk answer (HoldsLog digest note entries new)
+
+  -- let what is served go on from what stands at the checkpoint's path, at a size of m, and let every
+  -- tile and bundle of the first m entries stand: then the update keeps it whole
+  abbrev pub StaysWhole : {T : Type 0} → View → Option (List Put) → Option (List Put) →
+      Result T UpdateFault → Type 0
+  StaysWhole v None new answer = ⊤
+  StaysWhole v (Some old) None answer = ⊥
+  StaysWhole v (Some old) (Some new) answer =
+      (found : Option (List ℕ)) (m : ℕ) (note : List ℕ) (size : ℕ) (root : List ℕ)
+      (entries : List (List ℕ)) →
+      TellsRead (Some old) Checkpoint found → GoesOn v found m →
+      Served digest v note size root entries → HoldsFiles digest (take m entries) old →
+      KeepsWhole note entries found m old new answer
 
 -- an update blames its shelf only where the shelf's count of failures rose, or stands at its last
 -- value

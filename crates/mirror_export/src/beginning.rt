@@ -1,6 +1,6 @@
 //! How many entries a folder's checkpoint has, where what is served begins with them.
-ghost use Rattle.std.specs.Prelude.{◌≡◌, IsTrue, ◌↔◌};
-ghost use Rattle.mirror_export.specs.Beginnings.{FindsSize, ReadsPoint, of_note, of_text};
+ghost use Rattle.std.specs.Prelude.{◌≡◌, IsTrue, ◌↔◌, option_map};
+ghost use Rattle.mirror_export.specs.Beginnings.{FindsSince, FindsSize, ReadsPoint, of_note, of_text};
 
 use crate::fault::UpdateFault;
 use signed_note::{Note, NoteFault};
@@ -68,7 +68,7 @@ fn is_same(first: &Hash, second: &Hash) -> bool
 }
 
 // The size of the checkpoint, where it is a note of the origin, and its root is that of the first so many entries.
-pub(crate) fn size_before<H: TreeHash>(
+fn size_before<H: TreeHash>(
     alloc: Global,
     origin: &str,
     top: &TopRanges<'_, H>,
@@ -86,5 +86,20 @@ pub(crate) fn size_before<H: TreeHash>(
             }
         }
         None => Err(UpdateFault::OtherLog),
+    }
+}
+
+// How many entries the log has whose checkpoint was found: none where there was no checkpoint.
+pub(crate) fn size_found<H: TreeHash>(
+    alloc: Global,
+    origin: &str,
+    top: &TopRanges<'_, H>,
+    found: &Option<Vec<u8>>,
+) -> Result<u64, UpdateFault>
+    ensures { FindsSince H.digest top.now origin.now (option_map (λ v. v.items) found.now) result }
+{
+    match found {
+        Some(checkpoint) => size_before(alloc, origin, top, checkpoint),
+        None => Ok(0),
     }
 }

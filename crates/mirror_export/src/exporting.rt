@@ -48,7 +48,6 @@ pub fn export<H: TreeHash, S: Shelf>(
     if in_use {
         return Err(ExportFault::ShelfInUse);
     }
-    let size = top.size();
-    put_served(alloc, &top, size, 0, shelf)?;
+    put_served(alloc, &top, top.size(), shelf)?;
     Ok(())
 }

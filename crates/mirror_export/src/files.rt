@@ -1,13 +1,14 @@
 //! The files of what is served, put one after the other: all of them, or those that are new since it had fewer entries.
-ghost use Rattle.std.specs.Prelude.{◌≡◌, ◌≤◌, ℕ, List, [], ◌∷◌, IfOk};
+ghost use Rattle.std.specs.Prelude.{◌≡◌, ◌≤◌, ℕ, List, [], ◌∷◌, length, IfOk, IfSome};
 ghost use Rattle.std.specs.List.{filter};
 ghost use Rattle.tlog_tiles.specs.Tiles.{IsWithin};
 ghost use Rattle.tlog_mirror.specs.Tops.{IsListOf};
 ghost use Rattle.mirror_export.specs.Exports.{AddsFiles};
 ghost use Rattle.mirror_export.specs.Files.{served_bytes, files_at, kind_paths, kind_level, kind_path};
 ghost use Rattle.mirror_folders.specs.Shelf.{CountsFailures};
-ghost use Rattle.mirror_export.specs.Since.{is_new, since_paths, width_at};
+ghost use Rattle.mirror_export.specs.Since.{is_new, since_parts, since_paths, width_at};
 
+use crate::total::files_to_put;
 use mirror_folders::{Shelf, ShelfError};
 use std::alloc::{AllocError, Global};
 use tlog_hash::TreeHash;
@@ -166,9 +167,19 @@ fn put_kind<H: TreeHash, S: Shelf>(
     put_new(alloc, top, since, shelf, path_at(kind, edge, width))
 }
 
-// Puts every tile, then every bundle, but for those that the first entries, as many as `since`, have too; then the
-// checkpoint.
-pub(crate) fn put_served<H: TreeHash, S: Shelf>(
+// Says how many files are put, the checkpoint among them.
+fn expect_files<S: Shelf>(shelf: &mut S, size: u64, since: u64)
+    ensures puts { S.puts shelf.new ≡ S.puts shelf.old }
+    ensures failed { S.failed shelf.new ≡ S.failed shelf.old }
+    ensures expected { IfSome (S.expected shelf.new)
+        (λ all. all ≡ length (since_paths since size)) }
+{
+    shelf.expect(files_to_put(size, since));
+}
+
+// Puts every tile, then every bundle, but for those that the first entries, as many as `since`, have too. It says before
+// how many files these are, with the checkpoint.
+pub(crate) fn put_parts<H: TreeHash, S: Shelf>(
     alloc: Global,
     top: &TopRanges<'_, H>,
     size: u64,
@@ -178,13 +189,29 @@ pub(crate) fn put_served<H: TreeHash, S: Shelf>(
     requires size { size ≡ top.now.size }
     ensures told { (entries : List (List ℕ)) → IsListOf H.digest top.now entries
         → AddsFiles (S.puts shelf.old) (S.puts shelf.new)
-        (files_at H.digest top.now.note entries (since_paths since top.now.size)) result }
+        (files_at H.digest top.now.note entries (since_parts since top.now.size)) result }
     ensures counted { CountsFailures (S.failed shelf.old) (S.failed shelf.new) result }
 {
+    expect_files(shelf, size, since);
     for level in 0..8u32 {
         put_kind(alloc, top, size, since, shelf, FileKind::Tiles(level))?;
     }
-    put_kind(alloc, top, size, since, shelf, FileKind::Bundles)?;
-    shelf.put(&Path::Checkpoint, top.note().bytes())?;
-    Ok(())
+    put_kind(alloc, top, size, since, shelf, FileKind::Bundles)
+}
+
+// Puts every tile, then every bundle, then the checkpoint.
+pub(crate) fn put_served<H: TreeHash, S: Shelf>(
+    alloc: Global,
+    top: &TopRanges<'_, H>,
+    size: u64,
+    shelf: &mut S,
+) -> Result<(), ShelfError>
+    requires size { size ≡ top.now.size }
+    ensures told { (entries : List (List ℕ)) → IsListOf H.digest top.now entries
+        → AddsFiles (S.puts shelf.old) (S.puts shelf.new)
+        (files_at H.digest top.now.note entries (since_paths 0 top.now.size)) result }
+    ensures counted { CountsFailures (S.failed shelf.old) (S.failed shelf.new) result }
+{
+    put_parts(alloc, top, size, 0, shelf)?;
+    shelf.put(&Path::Checkpoint, top.note().bytes())
 }

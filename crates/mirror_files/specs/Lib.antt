@@ -3,6 +3,9 @@ pub use Rattle.mirror_export.specs.Files
 pub use Rattle.mirror_export.specs.Exports
 pub use Rattle.mirror_export.specs.Faults
 pub use Rattle.mirror_export.specs.FileLaws
+pub use Rattle.mirror_export.specs.Since
+pub use Rattle.mirror_export.specs.SinceLaws
+pub use Rattle.mirror_export.specs.Updates
 pub use Rattle.mirror_folders.specs.Places
 pub use Rattle.mirror_state.specs.Items
 pub use Rattle.mirror_state.specs.StateText
@@ -15,3 +18,4 @@ pub use Rattle.mirror_state.specs.LoadSteps
 pub use Rattle.mirror_state.specs.Saving
 pub use Rattle.mirror_state.specs.Putting
 pub use Rattle.mirror_state.specs.Listing
+pub use Rattle.mirror_state.specs.Refused

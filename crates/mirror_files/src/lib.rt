@@ -1,5 +1,5 @@
-//! Files of a mirror and of a log: the text of a state, and a log as a folder. It has no code of its own: what is here
-//! comes from `mirror_state` and `mirror_folders`, its parts.
+//! Files of a mirror and of a log: the text of a state, a log as a folder, and a mirror exported into one. It has no code
+//! of its own: all that its parts `mirror_state`, `mirror_folders` and `mirror_export` give out is here.
 //!
 //! ```text
 //! let mirror: Mirror<Sha256Tree> = load(alloc, "example.com/log", &keys, &mut file)?;
@@ -8,11 +8,15 @@
 //! ```
 #![tactic(auto)]
 
-pub use mirror_export::{ExportFault, export, files_law};
+pub use mirror_export::{
+    ExportFault, UpdateFault, export, files_law, files_since_example, files_since_law,
+    files_to_put, log_paths, update, update_law,
+};
 pub use mirror_folders::{
-    DirShelf, DirSource, MemShelf, NamedFolders, Shelf, ShelfError, replace_file,
+    DirShelf, DirSource, FailedFile, FolderFiles, MemShelf, NamedFolders, ReadableShelf, Shelf,
+    ShelfError, replace_file,
 };
 pub use mirror_state::{
-    LoadFault, SaveFault, cut_law, load, load_law, loaded_text_law, old_state_law, one_answer_law,
-    one_text_law, save, saved_law, state_text_law,
+    LoadFault, RefusedNote, SaveFault, cut_law, load, load_bytes, load_law, loaded_text_law,
+    old_state_law, one_answer_law, one_text_law, refused_note, save, saved_law, state_text_law,
 };

@@ -32,6 +32,12 @@ abbrev pub TellsHas : Option (List Put) → Path → Bool → Type 0
 TellsHas None path answer = ⊤
 TellsHas (Some puts) path answer = IsTrue answer ↔ HasPut puts path
 
+-- the answer is what stands at the path: what was put there last, or None where nothing was put
+abbrev pub TellsRead : Option (List Put) → Path → Option (List ℕ) → Type 0
+TellsRead None path answer = ⊤
+TellsRead (Some puts) path None = ¬ HasPut puts path
+TellsRead (Some puts) path (Some bytes) = Stands puts path bytes
+
 -- nothing was put at the path, as far as the shelf tells
 abbrev pub TellsNone : Option (List Put) → Path → Type 0
 TellsNone None path = ⊤

@@ -7,8 +7,9 @@ use crate::flush::{flush_files, flush_folder};
 use crate::folders::NamedFolders;
 use crate::leftovers::Leftovers;
 use crate::place::{count_failure, file_path, folder_of, is_missing};
+use crate::reading::read_file;
 use crate::replace::put_whole;
-use crate::shelf::{Shelf, ShelfError};
+use crate::shelf::{ReadableShelf, Shelf, ShelfError};
 use std::alloc::{AllocError, Global};
 use std::fs::Files;
 use std::io::ErrorKind;
@@ -189,6 +190,17 @@ impl<'a, R: Files> Shelf for DirShelf<'a, R> {
 
     fn failures(&self) -> u64 {
         self.failures
+    }
+
+    fn expect(&mut self, _files: u64) {}
+}
+
+impl<'a, R: Files> ReadableShelf for DirShelf<'a, R> {
+    fn read(&mut self, path: &Path) -> Result<Option<Vec<u8>>, ShelfError> {
+        match read_file(self.files, self.alloc, self.folder.text(), path) {
+            Ok(found) => Ok(found),
+            Err(e) => Err(self.fault(path, e)),
+        }
     }
 }
 

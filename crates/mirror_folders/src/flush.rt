@@ -22,7 +22,7 @@ pub(crate) fn flush_folder<R: Files>(files: &R, folder: &str) -> io::Result<()> 
 }
 
 // Flushes a file. One that was taken away since needs it no more.
-fn flush_file<R: Files>(files: &R, place: &str) -> io::Result<()> {
+pub(crate) fn flush_file<R: Files>(files: &R, place: &str) -> io::Result<()> {
     match fs::open(files, place) {
         Ok(opened) => opened.sync_all(),
         Err(e) => { if is_missing(&e) { Ok(()) } else { Err(e) } }

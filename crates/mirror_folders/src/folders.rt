@@ -1,5 +1,5 @@
 //! Folders by their names.
-use crate::shelf::Shelf;
+use crate::shelf::ReadableShelf;
 use std::alloc::AllocError;
 
 /// A shelf that stands for one folder at a time: the one that was opened last.
@@ -9,7 +9,7 @@ use std::alloc::AllocError;
 /// shelf.open("log")?;
 /// shelf.put(&Path::Checkpoint, note)?; // log/checkpoint
 /// ```
-pub trait NamedFolders: Shelf {
+pub trait NamedFolders: ReadableShelf {
     ghost use Rattle.std.specs.Prelude.{◌≡◌, ℕ, List, Option, None, IfErr, IfOk};
     ghost use Rattle.mirror_folders.specs.Shelf.{Put};
 

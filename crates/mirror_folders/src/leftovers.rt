@@ -1,5 +1,5 @@
 //! Temporary files that runs left.
-use crate::place::name_of;
+use crate::temporary::{stem_of, stem_of_temporary};
 use std::alloc::{AllocError, Global};
 use std::fs::Files;
 use std::io::Read;
@@ -63,7 +63,7 @@ impl Leftovers {
     ) -> Result<(), AllocError> {
         let folder = self.folder.as_str();
         for name in &self.names {
-            if file_of(name) == Some(name_of(path)) {
+            if stem_of_temporary(name) == Some(stem_of(path)) {
                 let place = format!(in alloc; "{folder}/{name}")?;
                 if is_old(files, place.as_str(), now) {
                     let _gone = fs::remove_file(files, place.as_str());
@@ -72,24 +72,6 @@ impl Leftovers {
         }
         Ok(())
     }
-}
-
-// The name of the file that a temporary file is for, by the name of the temporary one: that with `.tmp` and a number
-// behind it.
-fn file_of(name: &str) -> Option<&str> {
-    match name.rsplit_once(".tmp") {
-        Some((file, number)) if is_number(number) => Some(file),
-        _ => None,
-    }
-}
-
-fn is_number(text: &str) -> bool {
-    for byte in text.as_bytes() {
-        if !byte.is_ascii_digit() {
-            return false;
-        }
-    }
-    !text.is_empty()
 }
 
 // Whether a plain file was written last more than a day before.
@@ -141,7 +123,7 @@ fn read_temporary<D: Read>(
 fn push_temporary(alloc: Global, listed: &[u8], names: &mut Vec<String>) -> Result<(), AllocError> {
     for bytes in listed.split(|byte| *byte == 0) {
         if let Ok(name) = std::str::from_utf8(bytes) {
-            if file_of(name).is_some() {
+            if stem_of_temporary(name).is_some() {
                 names.push(String::from_str(alloc, name)?)?;
             }
         }

@@ -1,9 +1,9 @@
 //! A shelf in memory.
-ghost use Rattle.std.specs.Prelude.{◌≡◌, ◌↔◌, [], map, IsTrue};
-ghost use Rattle.mirror_folders.specs.Shelf.{HasPut};
+ghost use Rattle.std.specs.Prelude.{◌≡◌, ◌↔◌, [], map, IsTrue, Some, option_map};
+ghost use Rattle.mirror_folders.specs.Shelf.{HasPut, TellsRead};
 
 use crate::folders::NamedFolders;
-use crate::shelf::{Shelf, ShelfError};
+use crate::shelf::{ReadableShelf, Shelf, ShelfError};
 use std::alloc::{AllocError, Global};
 use std::marker::Model;
 use tlog_tiles::Path;
@@ -68,6 +68,20 @@ fn is_put(puts: &[(Path, Vec<u8>)], path: &Path) -> bool
     false
 }
 
+// What was put last at the path.
+fn last_put<'a>(puts: &'a [(Path, Vec<u8>)], path: &Path) -> Option<&'a [u8]>
+    ensures { TellsRead (Some (map (λ put. (put.0, put.1.items)) puts.entry.now)) path.now
+        (option_map (λ bytes. bytes.now) result) }
+{
+    let mut last: Option<&'a [u8]> = None;
+    for put in puts {
+        if is_same(&put.0, path) {
+            last = Some(put.1.as_slice());
+        }
+    }
+    last
+}
+
 impl Shelf for MemShelf {
     ghost use Rattle.std.specs.Prelude.{Some};
 
@@ -91,6 +105,20 @@ impl Shelf for MemShelf {
 
     fn failures(&self) -> u64 {
         0
+    }
+
+    fn expect(&mut self, _files: u64) {}
+}
+
+impl ReadableShelf for MemShelf {
+    fn read(&mut self, path: &Path) -> Result<Option<Vec<u8>>, ShelfError> {
+        match last_put(&self.puts, path) {
+            Some(bytes) => match Vec::from_slice(self.alloc, bytes) {
+                Ok(bytes) => Ok(Some(bytes)),
+                Err(_) => Err(ShelfError::OutOfMemory),
+            },
+            None => Ok(None),
+        }
     }
 }
 

@@ -4,16 +4,18 @@ ghost use Rattle.std.specs.Prelude.{◌≢◌, [], IfOk};
 use crate::flush::flush_folder;
 use crate::leftovers::Leftovers;
 use crate::place::folder_of;
+use crate::temporary::temporary_path;
 use std::alloc::Global;
 use std::fs::{Files, OpenFile, OpenOptions, Permissions};
 use std::io::{ErrorKind, Write};
 use std::os::unix::fs::OpenOptionsExt;
 use std::{fs, io};
 
-/// Replaces a file whole: a temporary file beside it (the path with `.tmp` and a number behind it) is made, written,
+/// Replaces a file whole: a temporary file beside it (`.NAME.tlogmirror-0.tmp`, or a higher number) is made, written,
 /// flushed to the device, and renamed to the path; then its folder is flushed, where the system lets it. So whoever opens
 /// the path finds the old file or the new one, also where the run is cut off. The temporary file has a number that no
-/// other has, however many were left; those of this path that are older than a day are taken away.
+/// other has, however many were left; those of this name that are older than a day are taken away. Of a name of more than
+/// 200 bytes the first 200 stand in that of the temporary file.
 ///
 /// A file that is replaced keeps its permissions, and a new one has those of the process. A symbolic link at the path is
 /// replaced, not followed; the permissions are those of the file that it led to.
@@ -99,7 +101,7 @@ fn create_beside<R: Files>(
     private: bool,
 ) -> io::Result<(String, R::File)> {
     for number in 0..u64::MAX {
-        let beside = format!(in alloc; "{path}.tmp{number}")?;
+        let beside = temporary_path(alloc, path, number)?;
         match create_new(files, beside.as_str(), private) {
             Ok(file) => return Ok((beside, file)),
             Err(e) => {

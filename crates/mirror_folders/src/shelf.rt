@@ -29,7 +29,7 @@ impl From<AllocError> for ShelfError {
 /// Keeps the files of a log by their paths.
 /// `DirShelf` keeps them in a folder, a file for each path, as `tile/0/000`.
 pub trait Shelf {
-    ghost use Rattle.std.specs.Prelude.{◌≡◌, ℕ, List, Option, None, IfOk};
+    ghost use Rattle.std.specs.Prelude.{◌≡◌, ℕ, List, Option, None, IfOk, IfSome};
     ghost use Rattle.mirror_sources.specs.Told.{KeepsTold};
     ghost use Rattle.mirror_folders.specs.Shelf.{Put, TellsPut, TellsHas, CountsFailures};
 
@@ -38,6 +38,9 @@ pub trait Shelf {
 
     /// How many calls failed.
     ghost failed: { Self → ℕ };
+
+    /// How many files are to be put in all, where the shelf records it.
+    ghost expected: { Self → Option ℕ } = { λ _. None };
 
     /// Whether there is a file at the path.
     ///
@@ -61,4 +64,34 @@ pub trait Shelf {
     /// How many calls failed; the count stays at its last value, 2^64 - 1.
     fn failures(&self) -> u64
         ensures { result ≡ failed self.now };
+
+    /// So many files are to be put in all. What was put stays; a shelf that reports how far the work is has use for it.
+    fn expect(&mut self, files: u64)
+        ensures puts { puts self.new ≡ puts self.old }
+        ensures failed { failed self.new ≡ failed self.old }
+        ensures expected { IfSome (expected self.new) (λ all. all ≡ files) };
+}
+
+/// A shelf whose files can be read.
+/// `MemShelf` and `DirShelf` are: what stands there after a put is what was put.
+///
+/// ```text
+/// shelf.put(&Path::Checkpoint, b"a note")?;
+/// shelf.read(&Path::Checkpoint)? // Some(b"a note")
+/// ```
+pub trait ReadableShelf: Shelf {
+    ghost use Rattle.std.specs.Prelude.{IfOk, option_map};
+    ghost use Rattle.mirror_sources.specs.Told.{KeepsTold};
+    ghost use Rattle.mirror_folders.specs.Shelf.{TellsRead, CountsFailures};
+
+    /// The bytes of the file at the path, and None where there is no file.
+    ///
+    /// # Errors
+    ///
+    /// Those of `has`. What was put stays.
+    fn read(&mut self, path: &Path) -> Result<Option<Vec<u8>>, ShelfError>
+        ensures answer { IfOk result
+            (λ found. TellsRead (Self.puts self.old) path.now (option_map (λ v. v.items) found)) }
+        ensures same { KeepsTold (Self.puts self.old) (Self.puts self.new) }
+        ensures counted { CountsFailures (Self.failed self.old) (Self.failed self.new) result };
 }

@@ -15,20 +15,8 @@ use std::fs::Files;
 pub trait ToldFolders: NamedFolders {
     ghost use Rattle.std.specs.Prelude.{◌≡◌};
 
-    /// Whether it is told how many files are put.
-    fn is_told(&self) -> bool {
-        false
-    }
-
     /// From now on it is told how many files are put, by a line now and then, under the name of that command.
     fn begin(&mut self, _task: Task)
-        ensures puts { Self.puts self.new ≡ Self.puts self.old }
-        ensures held { Self.held self.new ≡ Self.held self.old }
-        ensures failed { Self.failed self.new ≡ Self.failed self.old }
-    {}
-
-    /// So many files are to be put in all.
-    fn expect(&mut self, _files: u64)
         ensures puts { Self.puts self.new ≡ Self.puts self.old }
         ensures held { Self.held self.new ≡ Self.held self.old }
         ensures failed { Self.failed self.new ≡ Self.failed self.old }

@@ -1,5 +1,5 @@
 //! What is told of long work, and when.
-ghost use Rattle.std.specs.Prelude.{◌≡◌, ◌↔◌, None, Some, IsTrue, is_some, option_map};
+ghost use Rattle.std.specs.Prelude.{◌≡◌, ◌↔◌, None, Some, IfOk, IsTrue, OnErr, is_some, option_map};
 ghost use Rattle.std.specs.Time.{instant_nanos};
 ghost use Rattle.byte_streams.specs.Streams.{AppendsPrefix};
 ghost use Rattle.mirror_progress.specs.Text.{with_file, line_of, pulled_text};
@@ -10,6 +10,7 @@ use crate::line::{progress_line, pulled_line};
 use crate::task::Task;
 use byte_streams::write_whole;
 use std::alloc::{AllocError, Global};
+use std::io;
 use std::io::Write;
 use std::marker::Model;
 use std::time::{Clock, Duration, Instant};
@@ -66,6 +67,18 @@ fn next_due(now: Instant) -> Option<Instant>
     now.checked_add(Duration::from_secs(SECONDS))
 }
 
+// When the first line may be written, where the clock gave that answer when the work began.
+fn first_due(begun: &io::Result<Instant>) -> Option<Instant>
+    ensures second { IfOk begun.now (λ now. IsSecondAfter (instant_nanos now)
+        (option_map instant_nanos result)) }
+    ensures none { OnErr begun.now (result ≡ None) }
+{
+    match begun {
+        Ok(now) => next_due(*now),
+        Err(_) => None,
+    }
+}
+
 // Writes a line, as far as the writer takes it.
 fn write_line<W: Write>(writer: &mut W, line: &[u8])
     ensures { AppendsPrefix (W.contents writer.old) (W.contents writer.new) line.now }
@@ -105,10 +118,7 @@ impl<C: Clock + Drop, W: Write + Drop> Progress<C, W> {
         self.task = task;
         self.all = None;
         self.counts = Counts::new();
-        self.due = match Instant::now(&self.clock) {
-            Ok(now) => next_due(now),
-            Err(_) => None,
-        };
+        self.due = first_due(&Instant::now(&self.clock));
     }
 
     /// Whether anything is told: from `begin` on, where the clock can be read.

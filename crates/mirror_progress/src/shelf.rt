@@ -1,12 +1,12 @@
 //! A shelf that is counted.
-ghost use Rattle.std.specs.Prelude.{◌≡◌, length};
+ghost use Rattle.std.specs.Prelude.{◌≡◌, Some, length};
 ghost use Rattle.mirror_folders.specs.Shelf.{TellsPut, CountsFailures};
 ghost use Rattle.mirror_progress.specs.Counting.{CountsPut};
 
 use crate::folders::ToldFolders;
 use crate::progress::Progress;
 use crate::task::Task;
-use mirror_folders::{NamedFolders, Shelf, ShelfError};
+use mirror_folders::{NamedFolders, ReadableShelf, Shelf, ShelfError};
 use std::alloc::AllocError;
 use std::io::Write;
 use std::time::Clock;
@@ -43,6 +43,8 @@ impl<S: Shelf + Drop, C: Clock + Drop, W: Write + Drop> Shelf for CountingShelf<
 
     ghost failed = { λ s. S.failed s.shelf };
 
+    ghost expected = { λ s. s.progress.all };
+
     fn has(&mut self, path: &Path) -> Result<bool, ShelfError> {
         self.shelf.has(path)
     }
@@ -63,6 +65,22 @@ impl<S: Shelf + Drop, C: Clock + Drop, W: Write + Drop> Shelf for CountingShelf<
     fn failures(&self) -> u64 {
         self.shelf.failures()
     }
+
+    fn expect(&mut self, files: u64)
+        ensures shelf { self.new.shelf ≡ self.old.shelf }
+        ensures all { self.new.progress.all ≡ Some files }
+        ensures puts { S.puts self.new.shelf ≡ S.puts self.old.shelf }
+        ensures failed { S.failed self.new.shelf ≡ S.failed self.old.shelf }
+    {
+        self.progress.expect(files);
+    }
+}
+
+impl<S: ReadableShelf + Drop, C: Clock + Drop, W: Write + Drop> ReadableShelf
+    for CountingShelf<S, C, W> {
+    fn read(&mut self, path: &Path) -> Result<Option<Vec<u8>>, ShelfError> {
+        self.shelf.read(path)
+    }
 }
 
 impl<S: NamedFolders + Drop, C: Clock + Drop, W: Write + Drop> NamedFolders
@@ -76,15 +94,7 @@ impl<S: NamedFolders + Drop, C: Clock + Drop, W: Write + Drop> NamedFolders
 
 impl<S: NamedFolders + Drop, C: Clock + Drop, W: Write + Drop> ToldFolders
     for CountingShelf<S, C, W> {
-    fn is_told(&self) -> bool {
-        self.progress.is_told()
-    }
-
     fn begin(&mut self, task: Task) {
         self.progress.begin(task);
-    }
-
-    fn expect(&mut self, files: u64) {
-        self.progress.expect(files);
     }
 }

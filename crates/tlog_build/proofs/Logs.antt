@@ -1,5 +1,5 @@
 -- The files of a log of entries, and what putting them comes to.
-use Rattle.std.proofs.Common.{◌≡◌, ℕ, List, length, take, Contains, ap, subst, sym, refl, arith, inl, inr, Option, Some, None, Ok, Err}
+use Rattle.std.proofs.Common.{◌≡◌, ℕ, List, length, Contains, ap, subst, sym, refl, arith, inl, inr, Option, Some, None, Ok, Err}
 use Rattle.std.proofs.lemmas.List.{take_all}
 use Rattle.signed_note.specs.Keys.{Key}
 use Rattle.tlog_hash.specs.Tree.{mth}

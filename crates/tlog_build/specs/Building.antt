@@ -1,11 +1,9 @@
 -- A log built of entries (C2SP tlog-tiles). `ChecksOrigin` and `PutsFiles` are cited by the
 -- contracts of private functions alone.
 use Rattle.std.specs.Prelude.{◌≡◌, ◌⊎◌, ℕ, List, length, Contains, Option, Result, Ok, Err, ⊤}
-use Rattle.std.specs.FinSet as set
 use Rattle.signed_note.specs.Keys.{Key}
-use Rattle.tlog_hash.specs.Tree.{mth, strings}
+use Rattle.tlog_hash.specs.Tree.{mth}
 use Rattle.tlog_tiles.specs.declared.paths.Path.TheVariants.{Checkpoint}
-use Rattle.node_store.specs.Strings.{NoClash}
 use Rattle.mirror_model.specs.Origin.{IsOrigin}
 use Rattle.mirror_sources.specs.ListSource.{OpensAnywhere}
 use Rattle.mirror_sources.specs.Told.{KeepsTold, AddsTold}
@@ -40,10 +38,6 @@ module _ (digest : List ℕ → List ℕ) (note : List ℕ) (entries : List (Lis
       AddsPrefix old new (files_at digest note entries (paths_of (length entries)))
 
 module _ (digest : List ℕ → List ℕ) where
-  -- no two strings of the tree of the entries share a digest
-  abbrev pub HasNoClashing : List (List ℕ) → Type 0
-  HasNoClashing entries = NoClash digest (set.from_list (strings digest entries))
-
   module _ (origin : List ℕ) (key : Key) (entries : List (List ℕ)) where
     -- the note is a checkpoint of all the entries, which opens under any keys that have the key
     abbrev pub IsLogNote : List ℕ → Type 0
@@ -69,8 +63,8 @@ module _ (digest : List ℕ → List ℕ) where
         KeepsTold old new ⊎ ((files : List Put) × AreLogFiles files × AddsPrefix old new files)
     BuildsLog old new (Err fault) = ⊥
 
-    -- so is said where the log's key is among these keys, and no two strings of its tree collide
+    -- so is said where the log's key is among these keys
     abbrev pub BuildsLogUnder : {T : Type 0} → List Key → Option (List Put) → Option (List Put) →
         Result T BuildFault → Type 0
     BuildsLogUnder keys old new result =
-        Contains keys key → HasNoClashing entries → BuildsLog old new result
+        Contains keys key → BuildsLog old new result

@@ -3,7 +3,7 @@ use Rattle.tlog_build.proofs.Logs.{log_opens, log_put, log_ended, log_refused}
 use Rattle.tlog_build.proofs.building.put_log.Goals as goal
 
 pub returns-clause-builds : goal.returns-clause-builds
-returns-clause-builds g c = λ has clean.
+returns-clause-builds g c = λ has.
     let s = c.in_ok-source.source in
     log_put g.H.TreeHash.digest c.args.origin.now _ _ s.entries s.note c.in_ok-source.ensures.entries
     c.in_ok-source.ensures.honest (g.S.Shelf.puts c.args.shelf.now) (g.S.Shelf.puts c.put_files.new.shelf)
@@ -13,7 +13,7 @@ pub returns-in_err-put_files-clause-builds : goal.returns-in_err-put_files-claus
 returns-in_err-put_files-clause-builds g c =
     let s = c.in_ok-source.source in
     let p = err_from_is_err_and c.from_residual-in_err-put_files.result c.from_residual-in_err-put_files.ensures.1 in
-    rw (p.1, p.2) (λ has clean.
+    rw (p.1, p.2) (λ has.
     log_ended g.H.TreeHash.digest c.args.origin.now _ _ s.entries s.note c.in_ok-source.ensures.entries
     c.in_ok-source.ensures.honest (g.S.Shelf.puts c.args.shelf.now) (g.S.Shelf.puts c.put_files.new.shelf)
     (Unit {0}) (Unit {0}) c.in_err-put_files.field-0.0 c.in_err-put_files.ensures.puts)
@@ -22,7 +22,7 @@ pub returns-in_err-check_note-clause-builds : goal.returns-in_err-check_note-cla
 returns-in_err-check_note-clause-builds g c =
     let s = c.in_ok-source.source in
     let p = err_from_is_err_and c.from_residual-in_err-check_note.result c.from_residual-in_err-check_note.ensures.1 in
-    rw (p.1, p.2) (λ has clean.
+    rw (p.1, p.2) (λ has.
     log_refused g.H.TreeHash.digest c.args.origin.now _ _ s.entries s.note c.in_ok-source.ensures.entries
     c.in_ok-source.ensures.honest (g.S.Shelf.puts c.args.shelf.now) (g.S.Shelf.puts c.args.shelf.now) (Unit {0})
     c.in_err-check_note.field-0.0

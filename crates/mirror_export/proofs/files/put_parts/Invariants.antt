@@ -4,7 +4,7 @@ use Rattle.mirror_export.specs.Since.{is_new}
 use Rattle.tlog_mirror.specs.Tops.{IsListOf}
 use Rattle.mirror_sources.specs.Told.{AddsTold}
 use Rattle.mirror_export.specs.Files.{files_at, tiles_below}
-use Rattle.mirror_export.proofs.files.put_served.Given as goal
+use Rattle.mirror_export.proofs.files.put_parts.Given as goal
 
 abbrev pub invariant-loop-level : goal.invariant-loop-level
 invariant-loop-level g l = record {

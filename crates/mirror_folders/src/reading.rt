@@ -1,0 +1,67 @@
+//! The files of a log that lie in a folder, read.
+ghost use Rattle.std.specs.Prelude.{◌+◌, ◌≤◌, IfOk, IfSome, take, vec_len};
+ghost use Rattle.byte_streams.specs.Streams.{TakesAtMost};
+ghost use Rattle.mirror_folders.specs.Places.{longest_file};
+
+use crate::place::{file_path, is_missing};
+use byte_streams::{StreamFault, read_all};
+use std::alloc::Global;
+use std::fs::Files;
+use std::io::ErrorKind;
+use std::{fs, io};
+use tlog_tiles::{MAX_BUNDLE_LEN, Path};
+
+// The bytes of the file at a path of the log in a folder, None where there is none.
+pub(crate) fn read_file<R: Files>(
+    files: &R,
+    alloc: Global,
+    folder: &str,
+    path: &Path,
+) -> io::Result<Option<Vec<u8>>>
+    ensures { IfOk result (λ found. IfSome found (λ bytes. vec_len bytes ≤ longest_file)) }
+{
+    let place = file_path(alloc, folder, path)?;
+    read_opened(alloc, open_plain(files, place.as_str()))
+}
+
+// The bytes of a file that was opened, None where there is none.
+fn read_opened<F: io::Read + Drop>(
+    alloc: Global,
+    opened: io::Result<F>,
+) -> io::Result<Option<Vec<u8>>>
+    ensures { IfOk result (λ found. IfSome found (λ bytes. vec_len bytes ≤ longest_file)) }
+{
+    match opened {
+        Ok(mut file) => {
+            let bytes = read_whole(alloc, &mut file)?;
+            Ok(Some(bytes))
+        }
+        Err(e) => { if is_missing(&e) { Ok(None) } else { Err(e) } }
+    }
+}
+
+// The plain file at a path. What is no plain file is not opened: opening it could wait.
+fn open_plain<R: Files>(files: &R, place: &str) -> io::Result<R::File> {
+    let about = fs::metadata(files, place)?;
+    if !about.is_file() {
+        return Err(io::Error::new(ErrorKind::InvalidInput, "it is no plain file"));
+    }
+    fs::open(files, place)
+}
+
+// All the bytes of a file, of which one more than the longest file has is read at most.
+fn read_whole<F: io::Read>(alloc: Global, file: &mut F) -> io::Result<Vec<u8>>
+    ensures short { IfOk result (λ bytes. vec_len bytes ≤ longest_file) }
+    ensures limit { TakesAtMost (longest_file + 1) (F.remaining file.old) (F.remaining file.new) }
+{
+    match read_all(alloc, file, MAX_BUNDLE_LEN + 1, u64::MAX) {
+        Ok(bytes) => {
+            if bytes.len() > MAX_BUNDLE_LEN {
+                return Err(io::Error::new(ErrorKind::FileTooLarge, "it has over 16,777,472 bytes"));
+            }
+            Ok(bytes)
+        }
+        Err(StreamFault::OutOfMemory) => Err(io::Error::from(ErrorKind::OutOfMemory)),
+        Err(_) => Err(io::Error::other("a read failed")),
+    }
+}
