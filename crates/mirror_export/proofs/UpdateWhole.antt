@@ -5,7 +5,8 @@ use Rattle.std.proofs.lemmas.List.{append-nil, take_all}
 use Rattle.tlog_tiles.specs.declared.paths.Path.TheVariants.{Checkpoint}
 use Rattle.mirror_model.specs.View.{View}
 use Rattle.mirror_model.proofs.HeadNotes.{head_once}
-use Rattle.tlog_mirror.specs.Tops.{Top, IsListOf, IsServedTop, ServesNothing}
+use Rattle.mirror_model.specs.Reports.{SaysServed}
+use Rattle.tlog_mirror.specs.Tops.{Top, IsListOf, IsServedTop}
 use Rattle.tlog_mirror.proofs.ServedParts.{list_of}
 use Rattle.mirror_sources.specs.Told.{KeepsTold}
 use Rattle.mirror_folders.specs.Shelf.{Put, Stands, TellsRead}
@@ -141,7 +142,7 @@ module _ (digest : List ℕ → List ℕ) (v : View) (top : Top) (is : IsServedT
       (keeps_whole old new found m entries read on same.listed holds T r (h entries same.listed))
 
 -- where nothing is served, nothing is said
-pub nothing_whole : {T : Type 0} (digest : List ℕ → List ℕ) (v : View) → ServesNothing digest v →
+pub nothing_whole : {T : Type 0} (digest : List ℕ → List ℕ) (v : View) → SaysServed digest v None →
     (old new : Option (List Put)) (r : Result T UpdateFault) → KeepsTold old new → StaysWhole digest v old new r
 nothing_whole digest v nothing None new r kept = tt
 nothing_whole digest v nothing (Some old) None r kept = kept

@@ -5,4 +5,3 @@ mod Sizes
 mod Cut
 mod CheckText
 pub mod HeadNotes
-mod Updating

@@ -7,7 +7,7 @@ ghost use Rattle.program_commands.specs.States.{OpensFile};
 
 use crate::fault::ExportFileFault;
 use crate::state::open_state;
-use crate::told::export_told;
+use mirror_export::export;
 use mirror_progress::ToldFolders;
 use program_files::NamedFiles;
 use signed_note::Verifier;
@@ -66,7 +66,7 @@ fn export_into<H: TreeHash, D: ToldFolders>(
         Ok(()) => {}
         Err(_) => return Err(ExportFileFault::OutOfMemory),
     }
-    match export_told(alloc, mirror, folders) {
+    match export(alloc, mirror, folders) {
         Ok(()) => Ok(()),
         Err(fault) => Err(ExportFileFault::Export(fault)),
     }

@@ -89,15 +89,9 @@ pub enum UpdateFileFault {
     /// Memory for the folder's name was refused.
     #[error("OutOfMemory")]
     OutOfMemory,
-    /// The folder's checkpoint was not read, or nothing is served.
-    #[error(transparent)]
-    Read(UpdateFault),
-    /// The folder has a checkpoint, and was not brought up to date.
+    /// The folder was not brought up to date.
     #[error(transparent)]
     Update(UpdateFault),
-    /// The folder has none, and not all was put into it.
-    #[error(transparent)]
-    Export(ExportFault),
 }
 
 /// Why not all notes were written, in the order in which they are found. It prints the name of the innermost variant.

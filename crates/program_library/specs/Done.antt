@@ -19,8 +19,6 @@ use Rattle.program_reports.specs.declared.question.Question.TheVariants as quest
 use Rattle.program_commands.specs.Answers.{done, failed}
 use Rattle.program_commands.specs.Exported.{ExportsFile}
 use Rattle.program_commands.specs.Updated.{UpdatesFile}
-use Rattle.mirror_sources.specs.Source.{IsShortAnswer}
-use Rattle.tlog_tiles.specs.declared.bundle.TheConstants.{MAX_BUNDLE_LEN}
 use Rattle.program_commands.specs.Merges.{LeavesMerged}
 use Rattle.program_commands.specs.Notes.{WritesNotes}
 use Rattle.program_commands.specs.declared.fault.MergeFilesFault.{MergeFilesFault}
@@ -109,8 +107,8 @@ module _ (digest : List ℕ → List ℕ) (keys : List Key) (key_bytes : List �
   -- name
   abbrev pub UpdatesOne : FolderWords → Result (Unit {0}) UpdateFileFault → Type 0
   UpdatesOne c answer =
-      UpdatesFile digest c.mirror.log.origin.now keys told c.mirror.state.now
-      (IsShortAnswer MAX_BUNDLE_LEN) (held c.folder.now) before put answer
+      UpdatesFile digest c.mirror.log.origin.now keys told c.mirror.state.now (held c.folder.now) before
+      put answer
 
   -- what an answer of `notes` says of its state file, and of the files in its folder
   abbrev pub WritesInto : NotesWords → Result (Unit {0}) NotesFault → Type 0

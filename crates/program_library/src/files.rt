@@ -2,8 +2,6 @@
 //! `notes`.
 ghost use Rattle.std.specs.Prelude.{◌≤◌, ◌∷◌, length, map};
 ghost use Rattle.sha2.specs.Sha256.{sha256};
-ghost use Rattle.tlog_tiles.specs.declared.bundle.TheConstants.{MAX_BUNDLE_LEN};
-ghost use Rattle.mirror_sources.specs.Source.{IsShortAnswer};
 ghost use Rattle.program_commands.specs.Exported.{ExportsFile};
 ghost use Rattle.program_commands.specs.Merges.{LeavesMerged};
 ghost use Rattle.program_commands.specs.Notes.{WritesNotes};
@@ -12,8 +10,6 @@ ghost use Rattle.program_commands.specs.Updated.{UpdatesFile};
 ghost use Rattle.program_library.specs.Named.{AsksItem, TakesWords};
 
 use crate::told::tell_puts;
-use crate::why::Why;
-use mirror_folders::DirSource;
 use mirror_progress::{Task, ToldFolders};
 use program_commands::{
     ExportFileFault, ItemFiles, MergeFilesFault, NotesFault, TakeFilesFault, UpdateFileFault,
@@ -26,7 +22,6 @@ use program_words::commands::notes::Notes;
 use program_words::commands::take::{Kind, Take};
 use signed_note::Verifier;
 use std::alloc::Global;
-use std::fs::Files;
 use tlog_hash::Sha256Tree;
 
 /// Takes the item into the mirror in the state file, or into one that holds nothing, and writes its state.
@@ -136,38 +131,28 @@ pub(crate) fn export_words<F: NamedFiles, D: ToldFolders>(
 ///
 /// # Errors
 ///
-/// Those of `run_update`. What it is about where the folder's checkpoint cannot be read goes into `why`.
-pub(crate) fn update_words<R: Files, F: NamedFiles, D: ToldFolders>(
-    rt: &R,
+/// Those of `run_update`.
+pub(crate) fn update_words<F: NamedFiles, D: ToldFolders>(
     files: &F,
     folders: &mut D,
     alloc: Global,
     update: &Export<'_>,
     keys: &[Box<dyn Verifier>],
-    why: &mut Option<Why>,
 ) -> Result<(), UpdateFileFault>
     ensures { UpdatesFile sha256 update.now.mirror.log.origin.now (map (λ k. key k) keys.now)
-        (F.puts files.now) update.now.mirror.state.now (IsShortAnswer MAX_BUNDLE_LEN)
-        (D.held folders.old update.now.folder.now) (D.puts folders.old) (D.puts folders.new)
-        result }
+        (F.puts files.now) update.now.mirror.state.now (D.held folders.old update.now.folder.now)
+        (D.puts folders.old) (D.puts folders.new) result }
 {
     tell_puts(folders, update.progress, Task::Export);
-    let mut source = DirSource::new(rt, alloc, update.folder);
-    let updated = run_update::<Sha256Tree, F, _, D>(
+    run_update::<Sha256Tree, F, D>(
         files,
-        &mut source,
         folders,
         alloc,
         update.mirror.log.origin,
         keys,
         update.mirror.state,
         update.folder,
-    );
-    if let Some(failed) = source.last_failed() {
-        let folder = update.folder;
-        *why = Why::of_file(alloc, folder, &failed);
-    }
-    updated
+    )
 }
 
 /// Writes the notes into the folder, which is made where it is missing.

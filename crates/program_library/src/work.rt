@@ -84,7 +84,7 @@ where
             done(answer, RunFault::Export)
         }
         Command::Update(update) => {
-            let answer = update_words(rt, files, folders, alloc, update, keys, why);
+            let answer = update_words(files, folders, alloc, update, keys);
             done(answer, RunFault::Update)
         }
         Command::Notes(notes) => done(notes_words(files, alloc, notes, keys), RunFault::Notes),

@@ -4,9 +4,9 @@ pub returns-in-Err-clause-answer : goal.returns-in-Err-clause-answer
 returns-in-Err-clause-answer g c = λ origin keys told state opened.
     ((c.args.mirror.now.view, opened), c.in-Err.ensures.same)
 
-pub returns-in-Ok-export_told-clause-answer : goal.returns-in-Ok-export_told-clause-answer
-returns-in-Ok-export_told-clause-answer g c = λ origin keys told state opened.
-    let done = c.in-Ok-export_told.ensures in
+pub returns-in-Ok-export-clause-answer : goal.returns-in-Ok-export-clause-answer
+returns-in-Ok-export-clause-answer g c = λ origin keys told state opened.
+    let done = c.in-Ok-export.ensures in
     rw (← c.in-Ok.ensures.opened) record {
       view = c.args.mirror.now.view;
       opened = opened;
@@ -15,9 +15,9 @@ returns-in-Ok-export_told-clause-answer g c = λ origin keys told state opened.
       last = done.last;
     }
 
-pub returns-in-Err-export_told-clause-answer : goal.returns-in-Err-export_told-clause-answer
-returns-in-Err-export_told-clause-answer g c = λ origin keys told state opened.
-    let failed = c.in-Err-export_told.ensures in
+pub returns-in-Err-export-clause-answer : goal.returns-in-Err-export-clause-answer
+returns-in-Err-export-clause-answer g c = λ origin keys told state opened.
+    let failed = c.in-Err-export.ensures in
     rw (← c.in-Ok.ensures.opened) record {
       view = c.args.mirror.now.view;
       opened = opened;

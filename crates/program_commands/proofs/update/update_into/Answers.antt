@@ -1,11 +1,27 @@
-use Rattle.program_commands.proofs.Updating.{from_folder}
 use Rattle.program_commands.proofs.update.update_into.Goals as goal
-
-pub returns-in-Ok-clause-answer : goal.returns-in-Ok-clause-answer
-returns-in-Ok-clause-answer g c = λ origin keys told state opened.
-    rw (← c.in-Ok.ensures.opened) (from_folder g.H.TreeHash.digest _ _ _ _ _ _ _ _ c.args.mirror.now.view
-    opened c.update_folder.result c.update_folder.ensures.answer)
 
 pub returns-in-Err-clause-answer : goal.returns-in-Err-clause-answer
 returns-in-Err-clause-answer g c = λ origin keys told state opened.
     ((c.args.mirror.now.view, opened), c.in-Err.ensures.same)
+
+pub returns-in-Ok-update-clause-answer : goal.returns-in-Ok-update-clause-answer
+returns-in-Ok-update-clause-answer g c = λ origin keys told state opened.
+    let done = c.in-Ok-update.ensures in
+    rw (← c.in-Ok.ensures.opened) record {
+      view = c.args.mirror.now.view;
+      opened = opened;
+      puts = done.puts;
+      nothing = done.nothing;
+      whole = done.whole;
+    }
+
+pub returns-in-Err-update-clause-answer : goal.returns-in-Err-update-clause-answer
+returns-in-Err-update-clause-answer g c = λ origin keys told state opened.
+    let failed = c.in-Err-update.ensures in
+    rw (← c.in-Ok.ensures.opened) record {
+      view = c.args.mirror.now.view;
+      opened = opened;
+      puts = failed.puts;
+      nothing = failed.nothing;
+      whole = failed.whole;
+    }
