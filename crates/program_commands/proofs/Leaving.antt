@@ -1,11 +1,16 @@
 -- What a command leaves in files, from what it made.
-use Rattle.std.proofs.Common.{ℕ, List, Option, Ok, Err}
+use Rattle.std.proofs.Common.{ℕ, List, Option, Result, Ok, Err}
 use Rattle.mirror_sources.specs.Told.{KeepsTold}
 use Rattle.signed_note.specs.Keys.{Key}
 use Rattle.mirror_model.specs.View.{View}
 use Rattle.program_files.specs.Named.{NamedFile}
 use Rattle.program_commands.specs.Takes.{LeavesTaken, MakesTaken, TakesHeld}
-use Rattle.program_commands.specs.States.{BeginsWith}
+use Rattle.program_files.specs.declared.fault.NamedFault.{NamedFault}
+use Rattle.program_commands.specs.States.{BeginsWith, OpensFile}
+use Rattle.program_commands.specs.NoteFiles.{HasHeads, HeadNote, files_of}
+use Rattle.program_commands.specs.Notes.{PutsHeads, PutsNotes, Reorders, WritesNotes, WritesThese, notes_put, notes_stopped}
+use Rattle.program_commands.specs.declared.fault.NotesFault.{NotesFault}
+use Rattle.program_commands.specs.declared.fault.NotesFault.TheVariants as notes
 use Rattle.program_commands.specs.Merges.{LeavesMerged, MakesMerged}
 use Rattle.program_commands.specs.declared.item.ItemFiles.{ItemFiles}
 use Rattle.program_commands.specs.declared.fault.TakeFilesFault.{TakeFilesFault}
@@ -47,3 +52,24 @@ module _ (digest : List ℕ → List ℕ) (origin : List ℕ) (keys : List Key) 
   begun_untaken before after (taking.Item fault) begun h = ((before, begun), h)
   begun_untaken before after (taking.Take fault) begun h = (after, record { before = before; begun = begun; taken = h })
   begun_untaken before after (taking.Out fault) begun h = absurd h
+
+module _ (digest : List ℕ → List ℕ) (origin : List ℕ) (keys : List Key) (told new : Option (List NamedFile))
+    (state folder : List ℕ) (view : View) (listed heads : List HeadNote)
+    (opened : OpensFile digest origin keys told state (Ok view)) (has : HasHeads view listed)
+    (order : Reorders told folder listed heads) where
+  abbrev Written : Result (Unit {0}) NamedFault → Type 0
+  Written answer = WritesThese digest origin keys told state folder new answer
+
+  written : (answer : Result (Unit {0}) NamedFault) → PutsNotes folder (files_of heads) told new answer → Written answer
+  written answer puts =
+      record { view = view; listed = listed; heads = heads; opened = opened; has = has; order = order; puts = puts }
+
+  -- the notes of a mirror that was opened were put in that order
+  pub written_heads : (r : Result (Unit {0}) NotesFault) → PutsHeads folder heads told new r →
+      WritesNotes digest origin keys told state folder new r
+  written_heads (Ok x) h = written notes_put h
+  written_heads (Err (notes.State fault)) h = absurd h
+  written_heads (Err notes.OutOfMemory) h = ((view, opened), h)
+  written_heads (Err (notes.Folder fault)) h = absurd h
+  written_heads (Err (notes.Note fault)) h = written (notes_stopped fault) h
+  written_heads (Err (notes.Flush fault)) h = (written notes_put h.0, h.1)

@@ -1,6 +1,7 @@
 mod Leaving
 mod Putting
 mod NoteWalks
+mod Reordering
 mod Sizes
 mod Cut
 mod CheckText

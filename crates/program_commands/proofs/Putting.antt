@@ -2,19 +2,19 @@
 use Rattle.std.proofs.Common.{◌≡◌, ℕ, ◌+◌, ◌<◌, ◌≤◌, zero, suc, List, [], ◌∷◌, ◌++◌, length, map, take, drop, get_or}
 use Rattle.std.proofs.Common.{Option, Some, None, Result, Ok, Err, Bool, true, false, refl, sym, ap, subst, ◌∙◌, inl}
 use Rattle.std.proofs.Common.{inr, arith}
-use Rattle.std.specs.Prelude.{if◌then◌else◌}
+use Rattle.std.specs.Prelude.{if◌then◌else◌, is_some}
 use Rattle.std.specs.Str.{bytes_eq}
 use Rattle.std.proofs.lemmas.List.{append_assoc, map-append, take_more, take_all, take-append-drop}
 use Rattle.std.proofs.lemmas.Option.{none-some, same_Some}
 use Rattle.std.proofs.lemmas.Slice.Eq.{bytes_eq-Decides}
 use Rattle.program_files.specs.Named.{NamedFile}
-use Rattle.program_files.specs.Named.{ReadsShort, HasContents, TellsPresence, TellsReplace, contents_of}
-use Rattle.program_commands.specs.Notes.{HasSame, IsTold, PutsEach, PutsFront, PutsOnce, PutsOne}
-use Rattle.program_commands.specs.Notes.{TellsUnlike}
+use Rattle.program_files.specs.Named.{FindsFile, HasContents, LacksFile, TellsReplace, contents_of}
+use Rattle.program_files.specs.declared.named.TheConstants.{MAX_FILE_LEN}
+use Rattle.program_commands.specs.Notes.{IsTold, PutsEach, PutsFront, PutsOnce, PutsOne, TellsOther}
 use Rattle.program_commands.specs.NoteLaws.{KeepsFiles, NotesStand}
 use Rattle.program_files.specs.declared.fault.NamedFault.{NamedFault}
 use Rattle.program_files.specs.declared.fault.NamedFault.TheVariants as named
-use Rattle.program_files.proofs.NamedLemmas.{kept_itself, newer_named, none_is, standing_push}
+use Rattle.program_files.proofs.NamedLemmas.{kept_itself, newer_named, standing_push}
 
 -- ---- what follows of puts
 
@@ -79,34 +79,45 @@ told_more files file (Some old) (Some between) (Some new) each once = each_push 
 -- ---- one note
 
 pub put_new : {T : Type 0} (old new : Option (List NamedFile)) (file : NamedFile) (r : Result T NamedFault) →
-    TellsPresence old file.0 false → TellsReplace old new file r → PutsOne old new file r
+    LacksFile old file.0 → TellsReplace old new file r → PutsOne old new file r
 put_new None new file (Ok x) absent told = tt
 put_new (Some old) None file (Ok x) absent told = absurd told
-put_new (Some old) (Some new) file (Ok x) absent told = inr (none_is (contents_of old file.0) (sym absent), told)
+put_new (Some old) (Some new) file (Ok x) absent told = inr (absent, told)
 put_new None new file (Err named.FileFault) absent told = (told.0, tt)
 put_new (Some old) new file (Err named.FileFault) absent told = absurd (none-some old (sym told.1))
 put_new old new file (Err named.OutOfMemory) absent told = (told.0, tt)
 
-pub put_same : {T : Type 0} (told : Option (List NamedFile)) (file : NamedFile) (r : Result T NamedFault) →
-    TellsPresence told file.0 true → HasSame told file r → PutsOne told told file r
-put_same None file (Ok x) present same = tt
-put_same (Some puts) file (Ok x) present same = inl (same, refl)
-put_same None file (Err named.FileFault) present same = (tt, tt)
-put_same (Some puts) file (Err named.FileFault) present same = (refl, record { present = sym present; differs = same })
-put_same told file (Err named.OutOfMemory) present same = (kept_itself told, tt)
-
--- a file that was not read
-pub unread_unlike : (told : Option (List NamedFile)) (file : NamedFile) (fault : NamedFault) →
-    ReadsShort told file.0 (Err fault) → HasSame {T = Unit {0}} told file (Err fault)
-unread_unlike None file named.FileFault h = tt
-unread_unlike (Some puts) file named.FileFault h = λ is. h file.1 is
-unread_unlike told file named.OutOfMemory h = tt
+pub put_same : {T : Type 0} (told : Option (List NamedFile)) (file : NamedFile) (there : List ℕ) (x : T) →
+    HasContents told file.0 there → there ≡ file.1 → PutsOne told told file (Ok x)
+put_same None file there x stands same = tt
+put_same (Some puts) file there x stands same = inl (stands ∙ ap Some same, refl)
 
 -- a file that has other bytes
-pub other_unlike : (told : Option (List NamedFile)) (file : NamedFile) (there : List ℕ) → HasContents told file.0 there →
-    (there ≡ file.1 → ⊥) → TellsUnlike told file
-other_unlike None file there stands other = tt
-other_unlike (Some puts) file there stands other = λ is. absurd (other (same_Some there file.1 (sym stands ∙ is)))
+pub other_told : (told : Option (List NamedFile)) (file : NamedFile) (there : List ℕ) → HasContents told file.0 there →
+    (there ≡ file.1 → ⊥) → TellsOther told file
+other_told None file there stands other = tt
+other_told (Some puts) file there stands other =
+    record {
+      present = ap is_some stands;
+      differs = λ is. absurd (other (same_Some there file.1 (sym stands ∙ is)));
+    }
+
+pub put_other : (told : Option (List NamedFile)) (file : NamedFile) (there : List ℕ) →
+    HasContents told file.0 there → (there ≡ file.1 → ⊥) → PutsOne {T = Unit {0}} told told file (Err named.FileFault)
+put_other told file there stands other = (kept_itself told, other_told told file there stands other)
+
+-- a file that is not read
+pub put_unread : (told : Option (List NamedFile)) (file : NamedFile) (fault : NamedFault) →
+    FindsFile told file.0 (Err fault) → PutsOne {T = Unit {0}} told told file (Err fault)
+put_unread None file named.FileFault long = (tt, tt)
+put_unread (Some puts) file named.FileFault long = (
+  refl,
+  record {
+    present = ap is_some long.1;
+    differs = λ is. subst (λ bytes. MAX_FILE_LEN < length bytes) (same_Some long.0 file.1 (sym long.1 ∙ is)) long.2;
+  },
+)
+put_unread told file named.OutOfMemory long = (kept_itself told, tt)
 
 -- ---- several notes
 

@@ -1,7 +1,7 @@
--- The notes of a mirror as files: their names, and their bytes. The names are own. `head_note` is
--- cited by the contracts of private functions alone.
+-- The notes of a mirror as files: their names, and their bytes. The names are own. `head_note` and
+-- `IsFileAt` are cited by the contracts of private functions alone.
 use Rattle.std.specs.Prelude.{◌≡◌, ℕ, List, [], ◌∷◌, ◌++◌, ◌==◌, ◌&&◌, map, Bool, All, count_by}
-use Rattle.std.specs.Prelude.{codes, string_bytes}
+use Rattle.std.specs.Prelude.{Some, codes, slice_get, string_bytes, take}
 use Rattle.std.specs.Fmt.{decimal}
 use Rattle.std.specs.Str.{bytes_eq}
 use Rattle.hex.specs.Hex.{encode_lower}
@@ -57,6 +57,12 @@ files_after before (head ∷ rest) =
 -- the files of notes, in their order, numbered from 0 among those of one size and root
 abbrev pub files_of : List HeadNote → List NamedFile
 files_of heads = files_after [] heads
+
+-- the file is that of the note at that index
+pub record IsFileAt (heads : List HeadNote) (index : ℕ) (file : NamedFile) : Type 0 where
+  pub head : HeadNote
+  pub is_there : slice_get heads index ≡ Some head
+  pub file_is : file ≡ file_after (take index heads) head
 
 -- the list has the notes of the view, by their bytes, each with what it says
 pub record HasHeads (v : View) (heads : List HeadNote) : Type 0 where

@@ -1,19 +1,21 @@
--- What the command `notes` puts into its folder.
+-- What the command `notes` puts into its folder. `PutsHeads` is cited by the contract of a private
+-- function alone.
 use Rattle.std.specs.Prelude.{◌≡◌, ◌⊎◌, ℕ, ◌<◌, List, [], ◌∷◌, ◌++◌, length, map, codes, true}
-use Rattle.std.specs.Prelude.{is_some, Option, Some, None, Result, Ok, Err, ⊤}
+use Rattle.std.specs.Prelude.{is_some, Contains, Option, Some, None, Result, Ok, Err, ⊤}
+use Rattle.std.specs.List.Sorted.{IsPermutation}
 use Rattle.mirror_sources.specs.Told.{KeepsTold}
 use Rattle.signed_note.specs.Keys.{Key}
 use Rattle.mirror_model.specs.View.{View}
 use Rattle.program_files.specs.Named.{NamedFile}
-use Rattle.program_commands.specs.NoteFiles.{ListsNoteFiles}
-use Rattle.program_files.specs.Named.{TellsFault, HasContents, contents_of}
+use Rattle.program_commands.specs.NoteFiles.{HeadNote, HasHeads, files_of}
+use Rattle.program_files.specs.Named.{TellsFault, contents_of}
 use Rattle.program_files.specs.declared.named.TheConstants.{MAX_FILE_LEN}
 use Rattle.program_commands.specs.States.{OpensFile}
 use Rattle.program_files.specs.declared.fault.NamedFault.{NamedFault}
 use Rattle.program_files.specs.declared.fault.NamedFault.TheVariants as named
 use Rattle.program_commands.specs.declared.fault.NotesFault.{NotesFault}
 use Rattle.program_commands.specs.declared.fault.NotesFault.TheVariants.{State, OutOfMemory, Folder}
-use Rattle.program_commands.specs.declared.fault.NotesFault.TheVariants.{Note}
+use Rattle.program_commands.specs.declared.fault.NotesFault.TheVariants.{Note, Flush}
 
 -- where the note of that name lies in a folder
 abbrev pub note_place : List ℕ → List ℕ → List ℕ
@@ -22,6 +24,10 @@ note_place folder name = folder ++ (codes "/" ++ name)
 -- the file, in a folder
 abbrev pub in_folder : List ℕ → NamedFile → NamedFile
 in_folder folder file = (note_place folder file.0, file.1)
+
+-- the files of notes in that order, in a folder
+abbrev pub files_in : List ℕ → List HeadNote → List NamedFile
+files_in folder heads = map (in_folder folder) (files_of heads)
 
 -- ---- files that record what was put
 
@@ -52,22 +58,19 @@ IsTold Holds None new = ⊤
 IsTold Holds (Some old) None = ⊥
 IsTold Holds (Some old) (Some new) = Holds old new
 
--- these are not the bytes of the file of that name, unless they are too long to be read
-abbrev pub TellsUnlike : Option (List NamedFile) → NamedFile → Type 0
-TellsUnlike None file = ⊤
-TellsUnlike (Some puts) file = contents_of puts file.0 ≡ Some file.1 → MAX_FILE_LEN < length file.1
-
 -- a file of that name has other bytes
 abbrev pub TellsOther : Option (List NamedFile) → NamedFile → Type 0
 TellsOther None file = ⊤
 TellsOther (Some puts) file = HasOther puts file
 
--- whether the file has these bytes
-abbrev pub HasSame : {T : Type 0} → Option (List NamedFile) → NamedFile → Result T NamedFault →
-    Type 0
-HasSame told file (Ok x) = HasContents told file.0 file.1
-HasSame told file (Err named.FileFault) = TellsUnlike told file
-HasSame told file (Err named.OutOfMemory) = ⊤
+-- the notes in another order, or in the same: in another only where, in the one before, a file of the
+-- name of a note has other bytes
+pub record Reorders (told : Option (List NamedFile)) (folder : List ℕ) (old new : List HeadNote)
+    : Type 0 where
+  pub same_notes : IsPermutation old new
+  pub reason :
+      (new ≡ old)
+      ⊎ ((file : NamedFile) × Contains (files_in folder old) file × TellsOther told file)
 
 -- why a note is not put
 abbrev pub StopsAt : Option (List NamedFile) → NamedFile → NamedFault → Type 0
@@ -106,19 +109,34 @@ notes_put = Ok tt
 abbrev pub notes_stopped : NamedFault → Result (Unit {0}) NamedFault
 notes_stopped fault = Err fault
 
+-- what each answer of putting the notes in that order says: they are put, and then flushed
+abbrev pub PutsHeads : {T : Type 0} → List ℕ → List HeadNote → Option (List NamedFile) →
+    Option (List NamedFile) → Result T NotesFault → Type 0
+PutsHeads folder heads old new (Ok x) = PutsNotes folder (files_of heads) old new notes_put
+PutsHeads folder heads old new (Err (State fault)) = ⊥
+PutsHeads folder heads old new (Err OutOfMemory) = KeepsTold old new
+PutsHeads folder heads old new (Err (Folder fault)) = ⊥
+PutsHeads folder heads old new (Err (Note fault)) =
+    PutsNotes folder (files_of heads) old new (notes_stopped fault)
+PutsHeads folder heads old new (Err (Flush fault)) =
+    PutsNotes folder (files_of heads) old new notes_put × TellsFault old fault
+
 module _ (digest : List ℕ → List ℕ) (origin : List ℕ) (keys : List Key)
     (told : Option (List NamedFile)) (state folder : List ℕ) (new : Option (List NamedFile)) where
   -- the state file was loaded
   abbrev pub OpensState : Type 0
   OpensState = (view : View) × OpensFile digest origin keys told state (Ok view)
 
-  -- the state file was loaded, and its notes were put so
+  -- the state file was loaded, and its notes were put so: in the order of `note_files`, but where a
+  -- file of the name of one has other bytes
   pub record WritesThese (answer : Result (Unit {0}) NamedFault) : Type 0 where
     pub view : View
-    pub notes : List NamedFile
+    pub listed : List HeadNote
+    pub heads : List HeadNote
     pub opened : OpensFile digest origin keys told state (Ok view)
-    pub listed : ListsNoteFiles view notes
-    pub puts : PutsNotes folder notes told new answer
+    pub has : HasHeads view listed
+    pub order : Reorders told folder listed heads
+    pub puts : PutsNotes folder (files_of heads) told new answer
 
   -- what each answer of `notes` says of its state file, and of what it put into the folder
   abbrev pub WritesNotes : {T : Type 0} → Result T NotesFault → Type 0
@@ -128,3 +146,4 @@ module _ (digest : List ℕ → List ℕ) (origin : List ℕ) (keys : List Key)
   WritesNotes (Err OutOfMemory) = OpensState × KeepsTold told new
   WritesNotes (Err (Folder fault)) = OpensState × TellsFault told fault × KeepsTold told new
   WritesNotes (Err (Note fault)) = WritesThese (notes_stopped fault)
+  WritesNotes (Err (Flush fault)) = WritesThese notes_put × TellsFault told fault

@@ -106,7 +106,10 @@ pub enum NotesFault {
     /// The folder was not made.
     #[error(transparent)]
     Folder(NamedFault),
-    /// A note was not written, or a file of its name has other bytes.
+    /// A note was not written, or what is under its name is no plain file or has other bytes.
     #[error(transparent)]
     Note(NamedFault),
+    /// All notes were written, and not flushed to the device.
+    #[error(transparent)]
+    Flush(NamedFault),
 }

@@ -1,6 +1,6 @@
 //! The notes of a mirror as files.
-ghost use Rattle.std.specs.Prelude.{◌≡◌, IfOk, count_by, map, string_bytes};
-ghost use Rattle.program_commands.specs.NoteFiles.{IsHeadNote, ListsNoteFiles, file_after, head_note, is_alike, note_file, note_file_name};
+ghost use Rattle.std.specs.Prelude.{◌≡◌, ◌<◌, IfOk, count_by, length, map, string_bytes};
+ghost use Rattle.program_commands.specs.NoteFiles.{HasHeads, IsFileAt, IsHeadNote, ListsNoteFiles, file_after, files_of, head_note, is_alike, note_file, note_file_name};
 
 use signed_note::Note;
 use std::alloc::{AllocError, Global};
@@ -81,6 +81,50 @@ fn file_of<'a>(
     })
 }
 
+// The file of the note at that index.
+pub(crate) fn file_at<'a>(
+    alloc: Global,
+    heads: &[HeadNote<'a>],
+    i: usize,
+) -> Result<NoteFile<'a>, AllocError>
+    requires { i < length heads.now }
+    ensures { IfOk result (λ file. IsFileAt (map head_note heads.now) i (note_file file)) }
+{
+    file_of(alloc, &heads[..i], &heads[i])
+}
+
+// The files of the notes, in their order.
+pub(crate) fn files_of<'a>(
+    alloc: Global,
+    heads: &[HeadNote<'a>],
+) -> Result<Vec<NoteFile<'a>>, AllocError>
+    ensures { IfOk result (λ files. map note_file files.items ≡ files_of (map head_note heads.now)) }
+{
+    let mut files = Vec::new(alloc);
+    for i in 0..heads.len() {
+        files.push(file_at(alloc, heads, i)?)?;
+    }
+    Ok(files)
+}
+
+// The notes that a mirror holds, in their order.
+pub(crate) fn head_notes<H: TreeHash>(
+    alloc: Global,
+    mirror: &Mirror<H>,
+) -> Result<Vec<HeadNote<'_>>, AllocError>
+    ensures { IfOk result (λ heads. HasHeads mirror.now.view (map head_note heads.items)) }
+{
+    let mut heads = Vec::new(alloc);
+    for i in 0..usize::MAX {
+        let Some(bytes) = mirror.note_at(i) else {
+            return Ok(heads);
+        };
+        heads.push(head_of(alloc, bytes)?)?;
+    }
+    // No memory holds so many.
+    Err(AllocError)
+}
+
 /// The notes that a mirror holds, as files: each note once, by their bytes, as they came.
 ///
 /// ```text
@@ -99,16 +143,6 @@ pub fn note_files<H: TreeHash>(
 ) -> Result<Vec<NoteFile<'_>>, AllocError>
     ensures { IfOk result (λ files. ListsNoteFiles mirror.now.view (map note_file files.items)) }
 {
-    let mut heads = Vec::new(alloc);
-    let mut files = Vec::new(alloc);
-    for i in 0..usize::MAX {
-        let Some(bytes) = mirror.note_at(i) else {
-            return Ok(files);
-        };
-        let head = head_of(alloc, bytes)?;
-        files.push(file_of(alloc, &heads, &head)?)?;
-        heads.push(head)?;
-    }
-    // No memory holds so many.
-    Err(AllocError)
+    let heads = head_notes(alloc, mirror)?;
+    files_of(alloc, &heads)
 }

@@ -1,12 +1,12 @@
 //! The command `notes`: each note of the mirror in a state file, as a file of its own.
-ghost use Rattle.std.specs.Prelude.{◌≡◌, ℕ, IfOk, List, map, string_bytes};
+ghost use Rattle.std.specs.Prelude.{◌≡◌, ◌<◌, ℕ, IfOk, IfSome, List, length, map, string_bytes};
 ghost use Rattle.signed_note.specs.Keys.{Key};
-ghost use Rattle.program_commands.specs.NoteFiles.{note_file};
-ghost use Rattle.program_commands.specs.Notes.{HasSame, PutsNotes, PutsOne, WritesNotes, in_folder, note_place};
+ghost use Rattle.program_commands.specs.NoteFiles.{head_note, note_file};
+ghost use Rattle.program_commands.specs.Notes.{PutsHeads, PutsNotes, PutsOne, Reorders, WritesNotes, in_folder, note_place};
 ghost use Rattle.program_commands.specs.States.{OpensFile};
 
 use crate::fault::NotesFault;
-use crate::note_list::{NoteFile, note_files};
+use crate::note_list::{HeadNote, NoteFile, file_at, files_of, head_notes};
 use crate::state::open_state;
 use program_files::{NamedFault, NamedFiles};
 use signed_note::Verifier;
@@ -15,7 +15,9 @@ use tlog_hash::TreeHash;
 use tlog_mirror::Mirror;
 
 /// Writes each note of the mirror in the state file into the folder, which is made where it is missing: as the file of
-/// the name that `note_files` gives it. One that is there with these bytes is left as it is.
+/// the name that `note_files` gives it. A note that is there under any number of its size and root is left as it is; the
+/// one that `note_files` gives that number gets another of the same size and root, which no note of the mirror has there.
+/// All are flushed to the device in the end.
 ///
 /// ```text
 /// run_notes::<Sha256Tree, _>(&mut files, alloc, "example.com/log", &keys, "log.state", "notes")?;
@@ -24,8 +26,8 @@ use tlog_mirror::Mirror;
 /// # Errors
 ///
 /// In this order: `State`, those of `open_state`; `OutOfMemory`, where memory for the list is refused; `Folder`, where the
-/// folder is not made; `Note`, with `FileFault` where a note is not written or a file of its name has other bytes. The
-/// notes before it are then written.
+/// folder is not made; `Note`, with `FileFault` where a note is not written, or what is under its name is no plain file or
+/// has other bytes, and the notes before it are then written; `Flush`, where all are written and not flushed.
 pub fn run_notes<H: TreeHash, F: NamedFiles>(
     files: &mut F,
     alloc: Global,
@@ -58,16 +60,114 @@ fn write_notes<H: TreeHash, F: NamedFiles>(
         (F.puts files.old) state (Ok mirror.now.view) → WritesNotes H.digest origin keys
         (F.puts files.old) state folder.now (F.puts files.new) result }
 {
-    let Ok(notes) = note_files(alloc, mirror) else {
+    let Ok(mut heads) = head_notes(alloc, mirror) else {
         return Err(NotesFault::OutOfMemory);
     };
     match files.make_folder(folder) {
         Ok(()) => {}
         Err(fault) => return Err(NotesFault::Folder(fault)),
     }
+    match order_as_found(files, alloc, folder, &mut heads) {
+        Ok(()) => put_heads(files, alloc, folder, &heads),
+        Err(AllocError) => Err(NotesFault::OutOfMemory),
+    }
+}
+
+// Puts the notes in an order in which their names are those of the files that have them: a note that lies there under
+// another number than its own keeps that, and the one of that number gets its own.
+fn order_as_found<F: NamedFiles>(
+    files: &F,
+    alloc: Global,
+    folder: &str,
+    heads: &mut [HeadNote],
+) -> Result<(), AllocError>
+    ensures { Reorders (F.puts files.now) folder.now (map head_note heads.old)
+        (map head_note heads.new) }
+{
+    for i in 0..heads.len() {
+        exchange_found(files, alloc, folder, heads, i)?;
+    }
+    Ok(())
+}
+
+// Exchanges a note with the one that the file under its name has.
+fn exchange_found<F: NamedFiles>(
+    files: &F,
+    alloc: Global,
+    folder: &str,
+    heads: &mut [HeadNote],
+    i: usize,
+) -> Result<(), AllocError>
+    requires { i < length heads.old }
+    ensures { Reorders (F.puts files.now) folder.now (map head_note heads.old)
+        (map head_note heads.new) }
+{
+    let file = file_at(alloc, heads, i)?;
+    let place = place_of(alloc, folder, &file.name)?;
+    match files.find(&place) {
+        Ok(Some(there)) => {
+            if there.as_slice() != file.bytes {
+                match index_of(heads, i, &there) {
+                    Some(j) => heads.swap(i, j),
+                    None => {}
+                }
+            }
+        }
+        Err(NamedFault::OutOfMemory) => return Err(AllocError),
+        // A file that is not read stops the notes where its own is put.
+        _ => {}
+    }
+    Ok(())
+}
+
+// The index of a note that has these bytes, of the size and root of the one at that index. Behind it is looked first:
+// there they are where one note came before all others.
+fn index_of(heads: &[HeadNote], i: usize, bytes: &[u8]) -> Option<usize>
+    requires { i < length heads.now }
+    ensures { IfSome result (λ j. j < length heads.now) }
+{
+    let head = &heads[i];
+    for j in i + 1..heads.len() {
+        if is_head(&heads[j], head, bytes) {
+            return Some(j);
+        }
+    }
+    for j in 0..i {
+        if is_head(&heads[j], head, bytes) {
+            return Some(j);
+        }
+    }
+    None
+}
+
+// Whether a note is of that one's size and root, and has these bytes.
+fn is_head(other: &HeadNote, head: &HeadNote, bytes: &[u8]) -> bool {
+    other.size == head.size && other.root == head.root && other.bytes == bytes
+}
+
+// Puts each of the notes into the folder, and flushes what was put.
+fn put_heads<F: NamedFiles>(
+    files: &mut F,
+    alloc: Global,
+    folder: &str,
+    heads: &[HeadNote],
+) -> Result<(), NotesFault>
+    ensures { PutsHeads folder.now (map head_note heads.now) (F.puts files.old) (F.puts files.new)
+        result }
+{
+    let Ok(notes) = files_of(alloc, heads) else {
+        return Err(NotesFault::OutOfMemory);
+    };
     match put_notes(files, alloc, folder, &notes) {
-        Ok(()) => Ok(()),
-        Err(fault) => Err(NotesFault::Note(fault)),
+        Ok(()) => match files.flush(folder) {
+            Ok(()) => Ok(()),
+            Err(fault) => Err(NotesFault::Flush(fault)),
+        },
+        Err(fault) => {
+            // What was put stands: why the notes end comes first.
+            let _flushed = files.flush(folder);
+            Err(NotesFault::Note(fault))
+        }
     }
 }
 
@@ -114,21 +214,15 @@ fn place_of(alloc: Global, folder: &str, name: &str) -> Result<String, AllocErro
 fn put_once<F: NamedFiles>(files: &mut F, name: &str, bytes: &[u8]) -> Result<(), NamedFault>
     ensures { PutsOne (F.puts files.old) (F.puts files.new) (name.now, bytes.now) result }
 {
-    if files.has(name) {
-        same_there(files, name, bytes)
-    } else {
-        files.replace(name, bytes)
-    }
-}
-
-// Ok where the file of that name, which is there, has these bytes.
-fn same_there<F: NamedFiles>(files: &F, name: &str, bytes: &[u8]) -> Result<(), NamedFault>
-    ensures { HasSame (F.puts files.now) (name.now, bytes.now) result }
-{
-    let there = files.read(name)?;
-    if there.as_slice() == bytes {
-        Ok(())
-    } else {
-        Err(NamedFault::FileFault)
+    match files.find(name) {
+        Ok(None) => files.put(name, bytes),
+        Ok(Some(there)) => {
+            if there.as_slice() == bytes {
+                Ok(())
+            } else {
+                Err(NamedFault::FileFault)
+            }
+        }
+        Err(fault) => Err(fault),
     }
 }

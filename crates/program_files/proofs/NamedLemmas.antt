@@ -1,11 +1,10 @@
 -- Files by their names: what stands after one more put, several files one after the other, what is kept.
 use Rattle.std.proofs.Common.{◌≡◌, ℕ, suc, ◌+◌, ◌<◌, ◌≤◌, List, [], ◌∷◌, ◌++◌, length, map, take, get_or, Option, Some}
 use Rattle.std.proofs.Common.{None, Err, Bool, true, false, refl, sym, ap, ◌∙◌, arith}
-use Rattle.std.specs.Prelude.{if◌then◌else◌, is_some, Contains}
+use Rattle.std.specs.Prelude.{if◌then◌else◌, Contains}
 use Rattle.std.specs.List.{AllZip}
 use Rattle.std.specs.Str.{bytes_eq}
 use Rattle.std.proofs.lemmas.List.{map-append, take_more, take_all, get_or-map, length-map}
-use Rattle.std.proofs.lemmas.Bool.{false≢true}
 use Rattle.mirror_sources.specs.Told.{KeepsTold}
 use Rattle.program_files.specs.Named.{NamedFile}
 use Rattle.program_files.specs.Named.{FailsToRead, ReadsShort, last_put, contents_of, HasContents, HaveContents}
@@ -55,10 +54,6 @@ pub standing_all : {X : Type 0} (seen : X → NamedFile) (xs : List X) (i : ℕ)
     contents_of (map seen (take i xs)) name ≡ contents_of (map seen xs) name
 standing_all seen xs i name le = ap (λ ys. contents_of (map seen ys) name) (take_all i xs le)
 
-pub none_is : {X : Type 0} (found : Option X) → is_some found ≡ false → found ≡ None
-none_is None e = refl
-none_is (Some x) e = absurd (false≢true (sym e))
-
 -- ---- several files
 
 zip_push : {A B : Type 0} (R : A → B → Type 0) (xs : List A) (ys : List B) (x : A) (y : B) → AllZip R xs ys → R x y →
@@ -81,7 +76,7 @@ tells_more told f g xs ys a names i d grown is lt before =
     rw (named, held)
     (zip_push (HasContents told) (map g (take i names)) (map f xs) (g (get_or names i d)) (f a) before is)
 
-pub named_here : {B : Type 0} (g : B → List ℕ) (names : List B) (i : ℕ) (d : B) → i < length names →
+pub named_here : {B C : Type 0} (g : B → C) (names : List B) (i : ℕ) (d : B) → i < length names →
     Contains (map g names) (g (get_or names i d))
 named_here g names i d lt = (i, omega (arith, length-map names g), get_or-map g names i d (g (get_or names i d)) lt)
 

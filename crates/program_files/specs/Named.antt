@@ -1,7 +1,7 @@
 -- Files by their names: what is told of them.
 use Rattle.std.specs.Prelude.{◌≡◌, ℕ, ◌<◌, List, [], ◌∷◌, length, Option, Some, None, Result, Ok}
 use Rattle.std.specs.Prelude.{Err}
-use Rattle.std.specs.Prelude.{Bool, is_some, if◌then◌else◌, Contains, ⊤}
+use Rattle.std.specs.Prelude.{if◌then◌else◌, Contains, ⊤}
 use Rattle.std.specs.List.{AllZip}
 use Rattle.std.specs.Str.{bytes_eq}
 use Rattle.mirror_sources.specs.Told.{AddsTold, KeepsTold}
@@ -41,10 +41,11 @@ TellsNoShort None name = ⊤
 TellsNoShort (Some puts) name =
     (bytes : List ℕ) → contents_of puts name ≡ Some bytes → MAX_FILE_LEN < length bytes
 
--- whether there is a file of that name
-abbrev pub TellsPresence : Option (List NamedFile) → List ℕ → Bool → Type 0
-TellsPresence None name answer = ⊤
-TellsPresence (Some puts) name answer = answer ≡ is_some (contents_of puts name)
+-- there is one that is too long to be read
+abbrev pub TellsLong : Option (List NamedFile) → List ℕ → Type 0
+TellsLong None name = ⊤
+TellsLong (Some puts) name =
+    (bytes : List ℕ) × (contents_of puts name ≡ Some bytes) × (MAX_FILE_LEN < length bytes)
 
 -- of files that record what was put memory alone can be wanting
 abbrev pub TellsFault : Option (List NamedFile) → NamedFault → Type 0
@@ -65,6 +66,14 @@ ReadsShort told name (Ok bytes) = HasContents told name bytes
 ReadsShort told name (Err FileFault) = TellsNoShort told name
 ReadsShort told name (Err OutOfMemory) = ⊤
 
+-- the bytes of a file that may not be too long, or that there is none
+abbrev pub FindsFile : Option (List NamedFile) → List ℕ → Result (Option (List ℕ)) NamedFault →
+    Type 0
+FindsFile told name (Ok None) = LacksFile told name
+FindsFile told name (Ok (Some bytes)) = HasContents told name bytes
+FindsFile told name (Err FileFault) = TellsLong told name
+FindsFile told name (Err OutOfMemory) = ⊤
+
 -- a file was not written: all is as it was
 abbrev pub FailsToPut : Option (List NamedFile) → Option (List NamedFile) → NamedFault → Type 0
 FailsToPut old new fault = KeepsTold old new × TellsFault old fault
@@ -75,7 +84,7 @@ abbrev pub TellsReplace : {T : Type 0} → Option (List NamedFile) → Option (L
 TellsReplace old new file (Ok x) = AddsTold old new (file ∷ [])
 TellsReplace old new file (Err fault) = FailsToPut old new fault
 
--- a folder is made, which tells nothing
+-- a folder is made, or flushed, which tells nothing
 abbrev pub TellsFolder : {T : Type 0} → Option (List NamedFile) → Result T NamedFault → Type 0
 TellsFolder told (Ok x) = ⊤
 TellsFolder told (Err fault) = TellsFault told fault

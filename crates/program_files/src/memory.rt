@@ -100,8 +100,19 @@ impl NamedFiles for MemoryFiles {
         }
     }
 
-    fn has(&self, name: &str) -> bool {
-        bytes_under(&self.puts, name).is_some()
+    fn find(&self, name: &str) -> Result<Option<Vec<u8>>, NamedFault> {
+        match bytes_under(&self.puts, name) {
+            Some(bytes) => {
+                if bytes.len() > MAX_FILE_LEN {
+                    return Err(NamedFault::FileFault);
+                }
+                match Vec::from_slice(self.alloc, bytes) {
+                    Ok(copy) => Ok(Some(copy)),
+                    Err(_) => Err(NamedFault::OutOfMemory),
+                }
+            }
+            None => Ok(None),
+        }
     }
 
     fn replace(&mut self, name: &str, bytes: &[u8]) -> Result<(), NamedFault> {
@@ -117,7 +128,15 @@ impl NamedFiles for MemoryFiles {
         }
     }
 
-    fn make_folder(&self, _name: &str) -> Result<(), NamedFault> {
+    fn make_folder(&mut self, _name: &str) -> Result<(), NamedFault> {
+        Ok(())
+    }
+
+    fn put(&mut self, name: &str, bytes: &[u8]) -> Result<(), NamedFault> {
+        self.replace(name, bytes)
+    }
+
+    fn flush(&mut self, _folder: &str) -> Result<(), NamedFault> {
         Ok(())
     }
 

@@ -11,10 +11,10 @@ pub const MAX_FILE_LEN: usize = MAX_BUNDLE_LEN;
 /// Those that record what was put do not fail: of them a file is not read only where there is none, or it is too long, or
 /// memory was refused.
 pub trait NamedFiles {
-    ghost use Rattle.std.specs.Prelude.{◌≤◌, Option, List, None, IfOk, vec_len};
+    ghost use Rattle.std.specs.Prelude.{◌≡◌, ◌≤◌, Option, List, None, IfOk, option_map, vec_len};
     ghost use Rattle.tlog_text.specs.Answers.{seen};
     ghost use Rattle.program_files.specs.Named.{NamedFile};
-    ghost use Rattle.program_files.specs.Named.{ReadsFile, ReadsShort, TellsFolder, TellsPresence, TellsReplace};
+    ghost use Rattle.program_files.specs.Named.{FindsFile, ReadsFile, ReadsShort, TellsFolder, TellsReplace};
     ghost use Rattle.program_files.specs.declared.named.TheConstants.{MAX_FILE_LEN};
 
     /// What was put, the oldest first, where it is recorded. What was put last under a name is what its file has.
@@ -37,9 +37,15 @@ pub trait NamedFiles {
     fn read_state(&self, name: &str) -> Result<Vec<u8>, NamedFault>
         ensures { ReadsFile (puts self.now) name.now (seen (λ bytes. bytes.items) result) };
 
-    /// Whether there is a file of that name.
-    fn has(&self, name: &str) -> bool
-        ensures { TellsPresence (puts self.now) name.now result };
+    /// The bytes of the plain file of that name, and None where nothing is there.
+    ///
+    /// # Errors
+    ///
+    /// `FileFault` where what is there is no plain file, cannot be read, or has more than 16,777,472 bytes; `OutOfMemory`
+    /// where memory was refused.
+    fn find(&self, name: &str) -> Result<Option<Vec<u8>>, NamedFault>
+        ensures { FindsFile (puts self.now) name.now
+            (seen (option_map (λ bytes. bytes.items)) result) };
 
     /// Replaces the file of that name whole, or makes it.
     ///
@@ -49,13 +55,31 @@ pub trait NamedFiles {
     fn replace(&mut self, name: &str, bytes: &[u8]) -> Result<(), NamedFault>
         ensures { TellsReplace (puts self.old) (puts self.new) (name.now, bytes.now) result };
 
-    /// Makes the folder of that name, where it is missing.
+    /// Makes the folder of that name, where it is missing, and opens it for `put`.
     ///
     /// # Errors
     ///
-    /// `FileFault` where it cannot be made.
-    fn make_folder(&self, name: &str) -> Result<(), NamedFault>
-        ensures { TellsFolder (puts self.now) result };
+    /// `FileFault` where it cannot be made, `OutOfMemory` where memory was refused.
+    fn make_folder(&mut self, name: &str) -> Result<(), NamedFault>
+        ensures made { TellsFolder (puts self.old) result }
+        ensures same { puts self.new ≡ puts self.old };
+
+    /// Puts the file of that name, which lies in the folder that was made last, as `replace` does; `flush` flushes it.
+    ///
+    /// # Errors
+    ///
+    /// Those of `replace`.
+    fn put(&mut self, name: &str, bytes: &[u8]) -> Result<(), NamedFault>
+        ensures { TellsReplace (puts self.old) (puts self.new) (name.now, bytes.now) result };
+
+    /// Flushes to the device what was put into the folder of that name since it was made.
+    ///
+    /// # Errors
+    ///
+    /// `FileFault` where it cannot be flushed, `OutOfMemory` where memory was refused. What was put stands.
+    fn flush(&mut self, folder: &str) -> Result<(), NamedFault>
+        ensures flushed { TellsFolder (puts self.old) result }
+        ensures same { puts self.new ≡ puts self.old };
 
     /// Is told what is wrong with the bytes of a file that was read. Files that tell people of it keep it; contracts see
     /// nothing of it.

@@ -7,7 +7,7 @@ ghost use Rattle.program_files.specs.declared.named.TheConstants.{MAX_FILE_LEN};
 use crate::fault::NamedFault;
 use crate::named::{MAX_FILE_LEN, NamedFiles};
 use byte_streams::{StreamFault, read_all};
-use mirror_folders::replace_file;
+use mirror_folders::{FolderFiles, replace_file};
 use std::alloc::Global;
 use std::cell::Cell;
 use std::fs::{Files, OpenOptions};
@@ -46,6 +46,8 @@ pub struct FailedName {
 pub struct SystemFiles<'a, R: Files> {
     files: &'a R,
     alloc: Global,
+    // The folder that was made last.
+    folder: Option<FolderFiles<'a, R>>,
     failed: Cell<Option<FailedName>>,
     reason: Cell<Option<String>>,
 }
@@ -56,6 +58,7 @@ impl<'a, R: Files> SystemFiles<'a, R> {
         SystemFiles {
             files,
             alloc,
+            folder: None,
             failed: Cell::new(None),
             reason: Cell::new(None),
         }
@@ -122,8 +125,11 @@ impl<'a, R: Files> NamedFiles for SystemFiles<'a, R> {
         }
     }
 
-    fn has(&self, name: &str) -> bool {
-        fs::metadata(self.files, name).is_ok()
+    fn find(&self, name: &str) -> Result<Option<Vec<u8>>, NamedFault> {
+        match find_short(self.files, self.alloc, name) {
+            Ok(found) => Ok(found),
+            Err(e) => Err(self.fault(name, e)),
+        }
     }
 
     fn replace(&mut self, name: &str, bytes: &[u8]) -> Result<(), NamedFault>
@@ -144,16 +150,41 @@ impl<'a, R: Files> NamedFiles for SystemFiles<'a, R> {
         }
     }
 
-    fn make_folder(&self, name: &str) -> Result<(), NamedFault>
+    fn make_folder(&mut self, name: &str) -> Result<(), NamedFault>
         ensures made { TellsFolder None result }
         ensures named { IfOk result (λ _. name.now ≢ []) }
     {
         if name.is_empty() {
             return Err(self.refuse(name, no_name()));
         }
-        match fs::create_dir_all(self.files, name) {
+        match made_folder(self.files, self.alloc, name) {
+            Ok(folder) => {
+                self.folder = Some(folder);
+                Ok(())
+            }
+            Err(e) => Err(self.fault(name, e)),
+        }
+    }
+
+    fn put(&mut self, name: &str, bytes: &[u8]) -> Result<(), NamedFault> {
+        let written = match &mut self.folder {
+            Some(folder) => folder.replace(name, bytes),
+            None => replace_file(self.files, self.alloc, name, bytes),
+        };
+        match written {
             Ok(()) => Ok(()),
-            Err(e) => Err(self.refuse(name, e)),
+            Err(e) => Err(self.fault(name, e)),
+        }
+    }
+
+    fn flush(&mut self, folder: &str) -> Result<(), NamedFault> {
+        let flushed = match &mut self.folder {
+            Some(opened) => opened.flush(),
+            None => Ok(()),
+        };
+        match flushed {
+            Ok(()) => Ok(()),
+            Err(e) => Err(self.fault(folder, e)),
         }
     }
 
@@ -171,6 +202,28 @@ fn read_short<R: Files>(files: &R, alloc: Global, name: &str) -> io::Result<Vec<
         Ok(bytes) => not_long(bytes),
         Err(fault) => Err(read_error(files, name, fault)),
     }
+}
+
+// The bytes of a plain file that is not too long, and None where nothing is there. What is no plain file is not opened:
+// opening it could wait.
+fn find_short<R: Files>(files: &R, alloc: Global, name: &str) -> io::Result<Option<Vec<u8>>> {
+    let Ok(about) = fs::metadata(files, name) else {
+        return Ok(None);
+    };
+    if !about.is_file() {
+        return Err(io::Error::new(ErrorKind::InvalidInput, "it is no plain file"));
+    }
+    Ok(Some(read_short(files, alloc, name)?))
+}
+
+// The folder of that name, which is made where it is missing.
+fn made_folder<'a, R: Files>(
+    files: &'a R,
+    alloc: Global,
+    name: &str,
+) -> io::Result<FolderFiles<'a, R>> {
+    fs::create_dir_all(files, name)?;
+    FolderFiles::of(files, alloc, name)
 }
 
 // The bytes, if there are not too many.

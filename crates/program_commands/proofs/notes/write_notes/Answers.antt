@@ -1,6 +1,9 @@
-use Rattle.std.proofs.Common.{map}
-use Rattle.program_commands.specs.NoteFiles.{note_file}
+use Rattle.std.proofs.Common.{◌≡◌, ◌++◌, length, map, take, drop, ap, ◌∙◌, arith}
+use Rattle.std.proofs.Math.Seq.{take-append_seam}
+use Rattle.program_commands.specs.NoteFiles.{head_note}
+use Rattle.program_commands.specs.Notes.{PutsHeads, Reorders}
 use Rattle.program_files.proofs.NamedLemmas.{kept_itself}
+use Rattle.program_commands.proofs.Leaving.{written_heads}
 use Rattle.program_commands.proofs.notes.write_notes.Goals as goal
 
 pub returns-in_default : goal.returns-in_default
@@ -10,26 +13,31 @@ returns-in_default g c = λ origin keys state opened.
 pub returns-in-Err : goal.returns-in-Err
 returns-in-Err g c = λ origin keys state opened. (
   (c.args.mirror.now.view, opened),
-  c.in-Err.ensures,
-  kept_itself (g.F.NamedFiles.puts c.args.files.now),
+  c.in-Err.ensures.made,
+  rw c.in-Err.ensures.same (kept_itself (g.F.NamedFiles.puts c.args.files.now)),
 )
 
-pub returns-in-Ok-put_notes : goal.returns-in-Ok-put_notes
-returns-in-Ok-put_notes g c = λ origin keys state opened.
-    record {
-      view = c.args.mirror.now.view;
-      notes = map note_file c.deref.result.now;
-      opened = opened;
-      listed = rw c.deref.ensures.value c.in-Ok.ensures;
-      puts = c.in-Ok-put_notes.ensures;
-    }
+pub returns-in-Ok-order_as_found : goal.returns-in-Ok-order_as_found
+returns-in-Ok-order_as_found g c = λ origin keys state opened.
+    let puts = g.F.NamedFiles.puts in
+    let listed = map head_note c.in-Ok.heads.items in
+    let heads = map head_note c.deref.result.now in
+    let taken = c.deref_mut.ensures.value in
+    let same = c.in-Ok-make_folder.ensures.same in
+    let moved = c.order_as_found.new.heads in
+    let rest = drop (length moved) c.in-Ok.heads.items in
+    let size : c.in-Ok.heads.len ≡ length moved = omega (arith, c.order_as_found.auto.heads, c.deref_mut.ensures.len) in
+    let back : c.deref.result.now ≡ moved =
+    c.deref.ensures.value ∙ (ap (λ n. take n (moved ++ rest)) size ∙ take-append_seam moved rest) in
+    let order : Reorders (puts c.args.files.now) c.args.folder.now listed heads =
+    rw (← same, ← taken, back) c.order_as_found.ensures in
+    let put : PutsHeads c.args.folder.now heads (puts c.args.files.now) (puts c.put_heads.new.files) c.put_heads.result =
+    rw (← same) c.put_heads.ensures in
+    written_heads g.H.TreeHash.digest origin keys (puts c.args.files.now) (puts c.put_heads.new.files) state
+    c.args.folder.now c.args.mirror.now.view listed heads opened c.in-Ok.ensures order c.put_heads.result put
 
 pub returns : goal.returns
-returns g c = λ origin keys state opened.
-    record {
-      view = c.args.mirror.now.view;
-      notes = map note_file c.deref.result.now;
-      opened = opened;
-      listed = rw c.deref.ensures.value c.in-Ok.ensures;
-      puts = c.in-Err-put_notes.ensures;
-    }
+returns g c = λ origin keys state opened. (
+  (c.args.mirror.now.view, opened),
+  rw c.in-Ok-make_folder.ensures.same (kept_itself (g.F.NamedFiles.puts c.args.files.now)),
+)
