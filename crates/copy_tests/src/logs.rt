@@ -1,0 +1,126 @@
+//! Logs in memory that places serve, and what a shelf holds.
+//!
+//! C(n) is the log of the numbers from 0 on, n of them, each in two bytes, big-endian, of the origin `ex`. F(n) is C(n) but
+//! for entry 2, which is the byte 78.
+ghost use Rattle.std.specs.Prelude.{◌<◌, ◌^◌, map, IfOk, length};
+ghost use Rattle.mirror_model.specs.TrueLaws.{AreShort};
+
+use mirror_copy::{BringFault, bring_copy};
+use mirror_folders::MemShelf;
+use mirror_sources::{ListSource, Source};
+use signed_note::HmacKey;
+use std::alloc::{AllocError, Global};
+use std::test::Fail;
+use tlog_hash::Sha256Tree;
+use tlog_tiles::Path;
+
+// An entry: its number in two bytes, or in a forked log the byte 78 as entry 2.
+fn entry(alloc: Global, number: u32, forked: bool) -> Result<Vec<u8>, AllocError>
+    ensures { IfOk result (λ e. length e.items < 2 ^ 16) }
+{
+    if forked && number == 2 {
+        return Vec::from_slice(alloc, &[0x78]);
+    }
+    let number = (number % 65536) as u16;
+    Vec::from_slice(alloc, &number.to_be_bytes())
+}
+
+// The first entries, so many of them.
+fn entries(alloc: Global, count: u32, forked: bool) -> Result<Vec<Vec<u8>>, AllocError>
+    ensures { IfOk result (λ entries. AreShort (map (λ e. e.items) entries.items)) }
+{
+    let mut entries = Vec::new(alloc);
+    for i in 0..count {
+        entries.push(entry(alloc, i, forked)?)?;
+    }
+    Ok(entries)
+}
+
+// A place that serves these entries.
+fn place_of(alloc: Global, count: u32, forked: bool) -> Result<ListSource<Sha256Tree>, Fail> {
+    let entries = entries(alloc, count, forked)?;
+    let key = HmacKey::new(alloc, "ex", 1, &[0])?;
+    Ok(ListSource::new(alloc, "ex", entries, key)?)
+}
+
+/// A place that serves C(n).
+pub(crate) fn log_of(alloc: Global, count: u32) -> Result<ListSource<Sha256Tree>, Fail> {
+    place_of(alloc, count, false)
+}
+
+/// A place that serves F(n).
+pub(crate) fn fork_of(alloc: Global, count: u32) -> Result<ListSource<Sha256Tree>, Fail> {
+    place_of(alloc, count, true)
+}
+
+/// The checkpoint of a log.
+pub(crate) fn note_of(alloc: Global, log: &ListSource<Sha256Tree>) -> Result<Vec<u8>, Fail> {
+    match log.file_at(Path::Checkpoint) {
+        Some(note) => Ok(Vec::from_slice(alloc, note)?),
+        None => Err("no checkpoint".into()),
+    }
+}
+
+/// Brings the shelf's copy to a checkpoint, from these places.
+pub(crate) fn bring<S: Source>(
+    alloc: Global,
+    shelf: &mut MemShelf,
+    places: &mut [S],
+    note: &[u8],
+) -> Result<u64, BringFault> {
+    bring_copy::<Sha256Tree, MemShelf, S>(alloc, "ex", shelf, places, note)
+}
+
+/// Brings the shelf's copy to C(n) from one place that serves it, and answers what it was asked for, a path a line.
+pub(crate) fn bring_log(
+    alloc: Global,
+    shelf: &mut MemShelf,
+    count: u32,
+    had: u64,
+) -> Result<String, Fail> {
+    let mut places = Vec::new(alloc);
+    let log = log_of(alloc, count)?;
+    let note = note_of(alloc, &log)?;
+    places.push(log)?;
+    let end = bring(alloc, shelf, &mut places, &note);
+    if end != Ok(had) {
+        return Err("the copy was not brought".into());
+    }
+    let mut asked = String::new(alloc);
+    for place in &places {
+        asked = lines_of(alloc, place.asked())?;
+    }
+    Ok(asked)
+}
+
+/// The paths, each in a line.
+pub(crate) fn lines_of(alloc: Global, paths: &[Path]) -> Result<String, Fail> {
+    let mut text = String::new(alloc);
+    for path in paths {
+        let line = format!(in alloc; "{path}\n")?;
+        text.push_str(&line)?;
+    }
+    Ok(text)
+}
+
+/// The paths of what was put from that number on, each in a line.
+pub(crate) fn put_lines(alloc: Global, shelf: &MemShelf, from: usize) -> Result<String, Fail> {
+    let mut paths = Vec::new(alloc);
+    for (i, put) in shelf.puts().iter().enumerate() {
+        if i >= from {
+            paths.push(put.0)?;
+        }
+    }
+    lines_of(alloc, &paths)
+}
+
+/// What stands at a path.
+pub(crate) fn standing<'a>(shelf: &'a MemShelf, path: &Path) -> Option<&'a [u8]> {
+    let mut found = None;
+    for put in shelf.puts() {
+        if put.0 == *path {
+            found = Some(put.1.as_slice());
+        }
+    }
+    found
+}

@@ -1,0 +1,83 @@
+-- Bringings that end before anything is put.
+use Rattle.std.proofs.Common.{◌≡◌, ℕ, ◌+◌, ◌*◌, ◌^◌, ◌≤◌, List, Option, Some, None, Result, Ok, Err, IfErr, sym, subst}
+use Rattle.std.proofs.Common.{◌∙◌}
+use Rattle.std.proofs.Math.Nat.{div-mul-le_self}
+use Rattle.tlog_shape.specs.Edge.{edge_index_of}
+use Rattle.mirror_sources.specs.Told.{KeepsTold}
+use Rattle.mirror_folders.specs.Shelf.{Put}
+use Rattle.mirror_copy.specs.Conflicts.{ConflictPutsNothing, IsConflict, IsNoConflict}
+use Rattle.mirror_copy.specs.declared.fault.BringFault.{BringFault}
+use Rattle.mirror_copy.specs.declared.fault.BringFault.TheVariants.{BadCheckpoint, CopyDamaged, NotLarger, Contradiction}
+use Rattle.mirror_copy.specs.declared.fault.BringFault.TheVariants.{Collision, NoFile, CopyInUse, ShelfFault, OutOfMemory}
+
+-- the tile in which the m entries end begins within them
+pub edge_start : (m level index : ℕ) → index ≡ edge_index_of m level → index * 256 ^ (level + 1) ≤ m
+edge_start m level index is = subst (λ k. k * 256 ^ (level + 1) ≤ m) (sym is) (div-mul-le_self m (256 ^ (level + 1)))
+
+pub kept_then : (x y z : Option (List Put)) → KeepsTold x y → KeepsTold y z → KeepsTold x z
+kept_then None y z p q = tt
+kept_then (Some xs) None z p q = absurd p
+kept_then (Some xs) (Some ys) None p q = q
+kept_then (Some xs) (Some ys) (Some zs) p q = q ∙ p
+
+pub early_other : (T : Type 0) (start m : ℕ) (x y : Option (List Put)) (e : BringFault) → IsNoConflict e →
+    ConflictPutsNothing {T = T} start m x y (Err e)
+early_other T start m x y BadCheckpoint h = tt
+early_other T start m x y CopyDamaged h = tt
+early_other T start m x y NotLarger h = tt
+early_other T start m x y CopyInUse h = tt
+early_other T start m x y Contradiction h = absurd h
+early_other T start m x y Collision h = absurd h
+early_other T start m x y NoFile h = tt
+early_other T start m x y ShelfFault h = tt
+early_other T start m x y OutOfMemory h = tt
+
+-- an answer whose fault is another
+pub early_result : {T : Type 0} (start m : ℕ) (x y : Option (List Put)) (r : Result T BringFault) → IfErr r IsNoConflict →
+    ConflictPutsNothing start m x y r
+early_result {T} start m x y (Ok a) h = tt
+early_result {T} start m x y (Err e) h = early_other T start m x y e h
+
+-- a fault of a later part, before which nothing was put if that part began within the m entries
+pub early_later : (S T : Type 0) (start later m : ℕ) (x y z : Option (List Put)) (e : BringFault) →
+    (later ≤ m → (start ≤ m) × KeepsTold x y) → ConflictPutsNothing {T = S} later m y z (Err e) → ConflictPutsNothing {T = T} start m x z (Err e)
+early_later S T start later m x y z Contradiction f h = ((f h.0).0, kept_then x y z (f h.0).1 h.1)
+early_later S T start later m x y z Collision f h = ((f h.0).0, kept_then x y z (f h.0).1 h.1)
+early_later S T start later m x y z BadCheckpoint f h = tt
+early_later S T start later m x y z CopyDamaged f h = tt
+early_later S T start later m x y z NotLarger f h = tt
+early_later S T start later m x y z CopyInUse f h = tt
+early_later S T start later m x y z NoFile f h = tt
+early_later S T start later m x y z ShelfFault f h = tt
+early_later S T start later m x y z OutOfMemory f h = tt
+
+-- at a conflict nothing was put
+pub conflict_keeps : {T : Type 0} (start m : ℕ) (x y : Option (List Put)) (r : Result T BringFault) →
+    ConflictPutsNothing start m x y r → IfErr r (λ e. IsConflict e → KeepsTold x y)
+conflict_keeps start m x y (Ok a) h = tt
+conflict_keeps start m x y (Err BadCheckpoint) h = λ c. absurd c
+conflict_keeps start m x y (Err CopyDamaged) h = λ c. absurd c
+conflict_keeps start m x y (Err NotLarger) h = λ c. absurd c
+conflict_keeps start m x y (Err Contradiction) h = λ c. h.1
+conflict_keeps start m x y (Err Collision) h = λ c. h.1
+conflict_keeps start m x y (Err NoFile) h = λ c. absurd c
+conflict_keeps start m x y (Err CopyInUse) h = λ c. absurd c
+conflict_keeps start m x y (Err ShelfFault) h = λ c. absurd c
+conflict_keeps start m x y (Err OutOfMemory) h = λ c. absurd c
+
+pub no_conflict : (e : BringFault) (P : Type 0) → IsNoConflict e → IsConflict e → P
+no_conflict BadCheckpoint P h c = absurd c
+no_conflict CopyDamaged P h c = absurd c
+no_conflict NotLarger P h c = absurd c
+no_conflict Contradiction P h c = absurd h
+no_conflict Collision P h c = absurd h
+no_conflict NoFile P h c = absurd c
+no_conflict CopyInUse P h c = absurd c
+no_conflict ShelfFault P h c = absurd c
+no_conflict OutOfMemory P h c = absurd c
+
+-- the same, where what was put before the call was kept
+pub conflict_later : {T : Type 0} (x y z : Option (List Put)) (r : Result T BringFault) → KeepsTold x y →
+    IfErr r (λ e. IsConflict e → KeepsTold y z) → IfErr r (λ e. IsConflict e → KeepsTold x z)
+conflict_later x y z (Ok a) k h = tt
+conflict_later x y z (Err e) k h = λ c. kept_then x y z k (h c)

@@ -1,0 +1,186 @@
+use Rattle.std.proofs.Common.{rules, ◌≡◌, ◌+◌, ◌*◌, ◌^◌, ◌<◌, ◌≤◌, ◌-◌, length, subst, sym, ap, ◌∙◌, arith, get_or, []}
+use Rattle.std.proofs.lemmas.List.{get_or_default}
+use Rattle.std.proofs.lemmas.Result.{err_from_is_err_and}
+use Rattle.tlog_tiles.specs.Row.{IsRow}
+use Rattle.tlog_tiles.specs.declared.paths.Path.TheVariants.{Tile}
+use Rattle.mirror_copy.specs.ReadShelf.{TellsStands}
+use Rattle.mirror_copy.specs.Growing.{IsRowBrought}
+use Rattle.mirror_copy.proofs.Growth.{left_none, left_then, brings_ok, kept_same}
+use Rattle.mirror_sources.specs.Told.{KeepsTold}
+use Rattle.mirror_copy.proofs.Earlier.{early_later}
+use Rattle.mirror_copy.proofs.TileRows.{first_child, so_far_first, so_far_known, so_far_more, so_far_left}
+use Rattle.mirror_copy.proofs.TileRows.{child_beyond, child_fits, child_small, row_fits, row_then, tile_brought, tile_left}
+use Rattle.mirror_copy.proofs.bring.+tiles.Goals as goal
+
+pub bring_row-returns-in_default-clause-brings : goal.bring_row-returns-in_default-clause-brings
+bring_row-returns-in_default-clause-brings g t c = λ known is.
+    left_none g.H.TreeHash.digest c.args.tip.now.size known (g.D.Shelf.puts c.args.shelf.now)
+    (g.D.Shelf.puts c.args.shelf.now) (kept_same (g.D.Shelf.puts c.args.shelf.now))
+
+pub bring_row-bring_tile-requires : goal.bring_row-bring_tile-requires
+bring_row-bring_tile-requires g t c κs within =
+    let sub : c.args.level ≡ c.args.level - 1 + 1 = let some = c.requires.above in omega arith in
+    let lt : c.loop-i.i < length c.args.row.now = omega arith in
+    let fits = child_fits c.args.level c.args.index (length c.args.row.now) c.loop-i.i lt c.requires.fits in
+    let past = child_beyond c.args.tip.now c.args.level c.args.index c.requires.beyond c.args.row.now
+    c.in-Some.first c.loop-i.i c.in-Some.ensures.first c.loop-i.auto.i in (
+      search rules,
+      (
+        search rules,
+        (
+          search rules,
+          (
+            search rules,
+            (
+              omega arith,
+              (
+                subst (λ l. (256 * c.args.index + c.loop-i.i + 1) * 256 ^ l ≤ 9223372036854775808) sub fits,
+                subst (λ l. c.args.tip.now.size < (256 * c.args.index + c.loop-i.i + 1) * 256 ^ l) sub past,
+              ),
+            ),
+          ),
+        ),
+      ),
+    )
+
+pub bring_row-overflow_add-index : goal.bring_row-overflow_add-index
+bring_row-overflow_add-index g t c =
+    let lt : c.loop-i.i < length c.args.row.now = omega arith in
+    let small = child_small c.args.level c.args.index (length c.args.row.now) c.loop-i.i lt c.requires.fits in
+    search rules
+
+pub bring_row-returns-in_err-bring_tile-clause-brings : goal.bring_row-returns-in_err-bring_tile-clause-brings
+bring_row-returns-in_err-bring_tile-clause-brings g t c = λ known is.
+    let p = err_from_is_err_and c.from_residual.result c.from_residual.ensures.1 in
+    let digest = g.H.TreeHash.digest in
+    let tip = c.args.tip.now in
+    let x = g.D.Shelf.puts c.args.shelf.now in
+    let y = g.D.Shelf.puts c.loop-i.shelf in
+    let z = g.D.Shelf.puts c.bring_tile.new.shelf in
+    let row = c.args.row.now in
+    let s = c.loop-i.invariant.brought known is in
+    rw p.1 (so_far_left tip c.args.level c.args.index c.requires.beyond c.requires.above c.requires.level digest row known
+    x y z c.loop-i.i s
+    (c.in_err-bring_tile.ensures.brings s.next
+    (so_far_known tip c.args.level c.args.index c.requires.beyond c.requires.above c.requires.level digest row known x y
+    c.loop-i.i (c.args.index * 256 ^ (c.args.level + 1)) is s)))
+
+pub bring_row-loop-i-init : goal.bring_row-loop-i-init
+bring_row-loop-i-init g t c = record {
+  early = λ same. kept_same (g.D.Shelf.puts c.args.shelf.now);
+  brought = λ known is.
+      so_far_first c.args.tip.now c.args.level c.args.index c.requires.beyond c.requires.above c.requires.level
+      g.H.TreeHash.digest c.args.row.now known (g.D.Shelf.puts c.args.shelf.now) c.in-Some.first is c.in-Some.ensures.first;
+}
+
+pub bring_row-loop-i-preserved : goal.bring_row-loop-i-preserved
+bring_row-loop-i-preserved g t c = record {
+  early = λ same. absurd (let le = c.loop-i.auto.i in omega arith);
+  brought = λ known is.
+      let digest = g.H.TreeHash.digest in
+      let tip = c.args.tip.now in
+      let x = g.D.Shelf.puts c.args.shelf.now in
+      let y = g.D.Shelf.puts c.loop-i.shelf in
+      let z = g.D.Shelf.puts c.bring_tile.new.shelf in
+      let row = c.args.row.now in
+      let s = c.loop-i.invariant.brought known is in
+      let past = child_beyond tip c.args.level c.args.index c.requires.beyond row
+      c.in-Some.first c.loop-i.i c.in-Some.ensures.first c.loop-i.auto.i in
+      let lt : c.loop-i.i < length row = omega arith in
+      let h = get_or row c.loop-i.i [] in
+      so_far_more tip c.args.level c.args.index c.requires.beyond c.requires.above c.requires.level digest row known x y z
+      c.loop-i.i h lt (get_or_default row c.loop-i.i [] h lt) past s
+      (c.in_ok-bring_tile.ensures.brings s.next
+      (so_far_known tip c.args.level c.args.index c.requires.beyond c.requires.above c.requires.level digest row known x y
+      c.loop-i.i (c.args.index * 256 ^ (c.args.level + 1)) is s));
+}
+
+pub bring_row-returns-clause-brings : goal.bring_row-returns-clause-brings
+bring_row-returns-clause-brings g t c = λ known is.
+    let tip = c.args.tip.now in
+    let end : c.loop-i.i ≡ length c.args.row.now = omega (arith, c.loop-i.auto.i-end c.in-Some.ensures.within) in
+    subst (λ n. IsRowBrought g.H.TreeHash.digest tip c.args.level c.args.index c.args.row.now known
+    (g.D.Shelf.puts c.args.shelf.now) (g.D.Shelf.puts c.loop-i.shelf) n) end (c.loop-i.invariant.brought known is)
+
+pub bring_tile-returns-in_err-found-clause-brings : goal.bring_tile-returns-in_err-found-clause-brings
+bring_tile-returns-in_err-found-clause-brings g t c = λ known is.
+    let p = err_from_is_err_and c.from_residual.result c.from_residual.ensures.1 in
+    rw p.1 (left_none g.H.TreeHash.digest c.args.tip.now.size known (g.D.Shelf.puts c.args.shelf.now)
+    (g.D.Shelf.puts c.find.new.shelf) c.find.ensures.same)
+
+pub bring_tile-bring_row-requires : goal.bring_tile-bring_row-requires
+bring_tile-bring_row-requires g t c κs within =
+    let long : length c.deref.result.now ≡ 256 = ap length c.deref.ensures.value ∙ c.in_ok-found.ensures.found.is_row.count in
+    let fits = row_fits c.args.level c.args.index (length c.deref.result.now) long c.requires.fits in (
+      search rules,
+      (
+        search rules,
+        (
+          search rules,
+          (search rules, (omega arith, (omega arith, (omega arith, (fits, c.requires.beyond))))),
+        ),
+      ),
+    )
+
+pub bring_tile-returns-in_err-bring_row-clause-brings : goal.bring_tile-returns-in_err-bring_row-clause-brings
+bring_tile-returns-in_err-bring_row-clause-brings g t c = λ known is.
+    let p = err_from_is_err_and c.from_residual-in_err-bring_row.result c.from_residual-in_err-bring_row.ensures.1 in
+    rw p.1 (left_then g.H.TreeHash.digest c.args.tip.now.size known (g.D.Shelf.puts c.args.shelf.now)
+    (g.D.Shelf.puts c.find.new.shelf) (g.D.Shelf.puts c.bring_row.new.shelf) c.find.ensures.same
+    (c.in_err-bring_row.ensures.brings known is))
+
+pub bring_tile-returns-clause-brings : goal.bring_tile-returns-clause-brings
+bring_tile-returns-clause-brings g t c = λ known is.
+    let digest = g.H.TreeHash.digest in
+    let tip = c.args.tip.now in
+    let level = c.args.level in
+    let index = c.args.index in
+    let x = g.D.Shelf.puts c.args.shelf.now in
+    let w = g.D.Shelf.puts c.find.new.shelf in
+    let y = g.D.Shelf.puts c.bring_row.new.shelf in
+    let z = g.D.Shelf.puts c.keep.new.shelf in
+    let row = c.in_ok-found.found.row.items in
+    let found = c.in_ok-found.ensures.found in
+    let some : 1 ≤ level = omega arith in
+    let upto : level ≤ 7 = omega arith in
+    let long : length row ≡ 256 = found.is_row.count in
+    let brought = subst (λ r. IsRowBrought digest tip level index r known w y (length r)) c.deref.ensures.value
+    (c.in_ok-bring_row.ensures.brings known is) in
+    let s = row_then digest tip level index row known x w y c.find.ensures.same
+    (subst (λ n. IsRowBrought digest tip level index row known w y n) long brought) in
+    let is_row = subst (λ bytes. IsRow 256 bytes row) (sym c.deref-2.ensures.value) found.is_row in
+    brings_ok digest tip level index c.args.hash.now known x z c.keep.result
+    (TellsStands y z (Tile level index 256) c.deref-2.result.now) c.keep.ensures.stands
+    (λ there. tile_brought tip level index c.requires.beyond some upto digest row known x y long s z c.deref-2.result.now
+    is_row c.keep.ensures.puts c.args.hash.now found.folds there)
+    (tile_left tip level index c.requires.beyond some upto digest row known x y long s z c.deref-2.result.now
+    is_row c.keep.ensures.puts)
+
+pub bring_row-returns-in_err-bring_tile-clause-early : goal.bring_row-returns-in_err-bring_tile-clause-early
+bring_row-returns-in_err-bring_tile-clause-early g t c =
+    let p = err_from_is_err_and c.from_residual.result c.from_residual.ensures.1 in
+    let m = c.args.tip.now.size in
+    let start = c.args.index * 256 ^ (c.args.level + 1) in
+    let later = (256 * c.args.index + c.loop-i.i) * 256 ^ (c.args.level - 1 + 1) in
+    let x = g.D.Shelf.puts c.args.shelf.now in
+    let y = g.D.Shelf.puts c.loop-i.shelf in
+    let z = g.D.Shelf.puts c.bring_tile.new.shelf in
+    let before : later ≤ m → (start ≤ m) × KeepsTold x y = λ within.
+    let h = first_child c.args.tip.now c.args.level c.args.index c.requires.beyond c.args.row.now c.in-Some.first
+    c.loop-i.i c.in-Some.ensures.first c.loop-i.auto.i c.requires.above within in
+    (h.1, c.loop-i.invariant.early h.0) in
+    rw (p.1, p.2) (early_later (Unit {0}) (Unit {0}) start later m x y z c.in_err-bring_tile.field-0.0 before
+    c.in_err-bring_tile.ensures.early)
+
+pub bring_row-returns-clause-none : goal.bring_row-returns-clause-none
+bring_row-returns-clause-none g t c = λ within.
+    let m = c.args.tip.now.size in
+    let end : length c.args.row.now ≡ c.loop-i.i = let most = c.loop-i.auto.i-end c.in-Some.ensures.within in omega arith in
+    let some = c.requires.above in
+    let up : c.args.level ≡ c.args.level - 1 + 1 = omega arith in
+    let all : (256 * c.args.index + c.loop-i.i) * 256 ^ (c.args.level - 1 + 1) ≤ m =
+    subst (λ l. (256 * c.args.index + c.loop-i.i) * 256 ^ l ≤ m) up
+    (subst (λ n. (256 * c.args.index + n) * 256 ^ c.args.level ≤ m) end within) in
+    let h = first_child c.args.tip.now c.args.level c.args.index c.requires.beyond c.args.row.now c.in-Some.first
+    c.loop-i.i c.in-Some.ensures.first c.loop-i.auto.i c.requires.above all in
+    c.loop-i.invariant.early h.0

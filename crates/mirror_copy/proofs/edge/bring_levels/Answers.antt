@@ -1,0 +1,102 @@
+use Rattle.std.proofs.Common.{◌≡◌, ◌+◌, ◌-◌, ◌*◌, ◌/◌, ◌^◌, ◌<◌, ◌≤◌, ℕ, List, length, subst, sym, ap, ◌∙◌, arith}
+use Rattle.std.proofs.lemmas.Result.{err_from_is_err_and}
+use Rattle.tlog_shape.specs.Edge.{edge_index_of}
+use Rattle.mirror_copy.proofs.Growth.{kept_same}
+use Rattle.mirror_copy.specs.Growing.{IsKnown, IsRowBrought}
+use Rattle.mirror_copy.specs.Edges.{IsEdgeBrought, row_at}
+use Rattle.mirror_copy.proofs.EdgeRows.{edge_first, edge_known, edge_left, edge_step, floor_mono, row_beyond, row_end, row_fits}
+use Rattle.mirror_copy.proofs.Earlier.{kept_then}
+use Rattle.mirror_copy.proofs.edge.bring_levels.Goals as goal
+
+pub loop-done-init : goal.loop-done-init
+loop-done-init g c = record {
+  early = λ within. kept_same (g.D.Shelf.puts c.args.shelf.now);
+  brought = λ known is.
+      edge_first g.H.TreeHash.digest c.args.tip.now c.args.edge.now known c.requires.widths (g.D.Shelf.puts c.args.shelf.now)
+      c.requires.size is;
+}
+
+pub bring_row-requires-clause-fits : goal.bring_row-requires-clause-fits
+bring_row-requires-clause-fits g c =
+    let level = 7 - c.loop-done.done in
+    let at : c.edge_index-index.result ≡ edge_index_of c.args.edge.now.size level =
+    c.edge_index-index.ensures ∙ ap (λ n. edge_index_of n level) c.size.ensures in
+    subst (λ k. (256 * k + length c.row.result.now) * 256 ^ level ≤ 9223372036854775808) (sym at)
+    (subst (λ (r : List (List ℕ)). (256 * edge_index_of c.args.edge.now.size level + length r) * 256 ^ level ≤ 9223372036854775808)
+    (sym c.row.ensures) (row_fits c.args.edge.now c.requires.widths level (omega arith) c.requires.size))
+
+pub bring_row-requires-clause-beyond : goal.bring_row-requires-clause-beyond
+bring_row-requires-clause-beyond g c =
+    let level = 7 - c.loop-done.done in
+    let at : c.edge_index-index.result ≡ edge_index_of c.args.edge.now.size level =
+    c.edge_index-index.ensures ∙ ap (λ n. edge_index_of n level) c.size.ensures in
+    subst (λ k. c.args.tip.now.size < (k + 1) * 256 ^ (level + 1)) (sym at)
+    (row_beyond c.args.edge.now c.requires.widths level (omega arith) c.args.tip.now.size c.requires.larger)
+
+pub returns-in_err-bring_row-clause-brings : goal.returns-in_err-bring_row-clause-brings
+returns-in_err-bring_row-clause-brings g c = λ known is.
+    let p = err_from_is_err_and c.from_residual.result c.from_residual.ensures.1 in
+    let digest = g.H.TreeHash.digest in
+    let tip = c.args.tip.now in
+    let edge = c.args.edge.now in
+    let x = g.D.Shelf.puts c.args.shelf.now in
+    let y = g.D.Shelf.puts c.loop-done.shelf in
+    let z = g.D.Shelf.puts c.bring_row.new.shelf in
+    let level = 7 - c.loop-done.done in
+    let low = 8 - c.loop-done.done in
+    let below : level ≡ low - 1 = omega arith in
+    let at : c.edge_index-index.result ≡ edge_index_of edge.size level =
+    c.edge_index-index.ensures ∙ ap (λ n. edge_index_of n level) c.size.ensures in
+    let s = c.loop-done.invariant.brought known is in
+    rw p.1 (edge_left digest tip edge known c.requires.widths x y z low s
+    (c.in_err-bring_row.ensures.brings s.next
+    (subst (λ k. IsKnown digest tip (k * 256 ^ (level + 1)) s.next) (sym at)
+    (edge_known digest tip edge known c.requires.widths x y low level 0 below is s))))
+
+pub loop-done-preserved : goal.loop-done-preserved
+loop-done-preserved g c = record {
+  early = λ within.
+      let level = 7 - c.loop-done.done in
+      let edge = c.args.edge.now in
+      let n = edge.size in
+      let m = c.args.tip.now.size in
+      let x = g.D.Shelf.puts c.args.shelf.now in
+      let y = g.D.Shelf.puts c.loop-done.shelf in
+      let z = g.D.Shelf.puts c.bring_row.new.shelf in
+      let next : 8 - (c.loop-done.done + 1) - 1 + 1 ≡ level = omega arith in
+      let this : level + 1 ≡ 8 - c.loop-done.done - 1 + 1 = omega arith in
+      let at : c.edge_index-index.result ≡ edge_index_of n level =
+      c.edge_index-index.ensures ∙ ap (λ k. edge_index_of k level) c.size.ensures in
+      let low : n / 256 ^ level * 256 ^ level ≤ m = subst (λ l. n / 256 ^ l * 256 ^ l ≤ m) next within in
+      let high : n / 256 ^ (level + 1) * 256 ^ (level + 1) ≤ m =
+      omega (arith, low, floor_mono n level (level + 1) (omega arith)) in
+      let all : (256 * edge_index_of n level + length (row_at edge level)) * 256 ^ level ≤ m =
+      omega (arith, low, row_end edge c.requires.widths level (omega arith)) in
+      let passed : (256 * c.edge_index-index.result + length c.row.result.now) * 256 ^ level ≤ m =
+      subst (λ k. (256 * k + length c.row.result.now) * 256 ^ level ≤ m) (sym at)
+      (subst (λ (r : List (List ℕ)). (256 * edge_index_of n level + length r) * 256 ^ level ≤ m) (sym c.row.ensures) all) in
+      kept_then x y z (c.loop-done.invariant.early (subst (λ l. n / 256 ^ l * 256 ^ l ≤ m) this high))
+      (c.in_ok-bring_row.ensures.none passed);
+  brought = λ known is.
+      let digest = g.H.TreeHash.digest in
+      let tip = c.args.tip.now in
+      let edge = c.args.edge.now in
+      let x = g.D.Shelf.puts c.args.shelf.now in
+      let y = g.D.Shelf.puts c.loop-done.shelf in
+      let z = g.D.Shelf.puts c.bring_row.new.shelf in
+      let level = 7 - c.loop-done.done in
+      let low = 8 - c.loop-done.done in
+      let below : level ≡ low - 1 = omega arith in
+      let at : c.edge_index-index.result ≡ edge_index_of edge.size level =
+      c.edge_index-index.ensures ∙ ap (λ n. edge_index_of n level) c.size.ensures in
+      let s = c.loop-done.invariant.brought known is in
+      let b = c.in_ok-bring_row.ensures.brings s.next
+      (subst (λ k. IsKnown digest tip (k * 256 ^ (level + 1)) s.next) (sym at)
+      (edge_known digest tip edge known c.requires.widths x y low level 0 below is s)) in
+      let placed = subst (λ k. IsRowBrought digest tip level k c.row.result.now s.next y z (length c.row.result.now)) at b in
+      let rowed = subst (λ r. IsRowBrought digest tip level (edge_index_of edge.size level) r s.next y z (length r))
+      c.row.ensures placed in
+      let next : level ≡ 8 - (c.loop-done.done + 1) = omega arith in
+      subst (λ k. IsEdgeBrought digest tip edge known k x z) next
+      (edge_step digest tip edge known c.requires.widths x y z low level below (omega arith) (omega arith) s rowed);
+}

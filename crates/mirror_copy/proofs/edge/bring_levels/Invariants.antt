@@ -1,0 +1,15 @@
+use Rattle.std.proofs.Common.{◌+◌, ◌-◌, ◌*◌, ◌^◌, ◌≤◌, ℕ, List}
+use Rattle.tlog_shape.specs.Edge.{edge_index_of}
+use Rattle.mirror_sources.specs.Told.{KeepsTold}
+use Rattle.mirror_copy.specs.Growing.{IsKnown}
+use Rattle.mirror_copy.specs.Edges.{IsEdgeBrought}
+use Rattle.mirror_copy.proofs.edge.bring_levels.Given as goal
+
+abbrev pub invariant-loop-done : goal.invariant-loop-done
+invariant-loop-done g l = record {
+  early : edge_index_of l.edge.size (8 - l.done - 1) * 256 ^ (8 - l.done - 1 + 1) ≤ l.tip.size →
+      KeepsTold (g.D.Shelf.puts l.fn.shelf) (g.D.Shelf.puts l.shelf);
+  brought : (known : List (List ℕ)) → IsKnown g.H.TreeHash.digest l.tip 0 known →
+      IsEdgeBrought g.H.TreeHash.digest l.tip l.edge known (8 - l.done) (g.D.Shelf.puts l.fn.shelf)
+      (g.D.Shelf.puts l.shelf);
+}

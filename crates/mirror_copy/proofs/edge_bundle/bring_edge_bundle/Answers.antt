@@ -1,0 +1,68 @@
+use Rattle.std.proofs.Common.{rules, ◌≡◌, ◌⊎◌, ◌≤◌, ℕ, List, [], ◌∷◌, length, take, subst, ap, ◌∙◌, arith}
+use Rattle.std.proofs.lemmas.Result.{err_from_is_err_and}
+use Rattle.tlog_shape.specs.Edge.{edge_index_of, width_of}
+use Rattle.tlog_tiles.specs.declared.paths.Path.TheVariants.{Entries}
+use Rattle.mirror_sources.specs.Told.{KeepsTold, AddsTold}
+use Rattle.mirror_copy.specs.ReadShelf.{TellsStands}
+use Rattle.mirror_copy.specs.Verified.{HasLeaves}
+use Rattle.mirror_copy.specs.Edges.{row_at}
+use Rattle.mirror_copy.proofs.Growth.{kept_same, left_none}
+use Rattle.mirror_copy.proofs.Finishing.{brings_last, last_left, last_none, last_some}
+use Rattle.mirror_copy.proofs.edge_bundle.bring_edge_bundle.Goals as goal
+
+pub returns-then-is_empty-clause-brings : goal.returns-then-is_empty-clause-brings
+returns-then-is_empty-clause-brings g c = λ known is.
+    let none : length c.row-row.result.now ≡ 0 = search rules in
+    last_none g.H.TreeHash.digest c.args.tip.now c.args.edge.now c.requires.widths c.requires.larger known is
+    (g.D.Shelf.puts c.args.shelf.now) (subst (λ (r : List (List ℕ)). length r ≡ 0) c.row-row.ensures none)
+
+pub returns-then-is_none-clause-brings : goal.returns-then-is_none-clause-brings
+returns-then-is_none-clause-brings g c = λ known is.
+    left_none g.H.TreeHash.digest c.args.tip.now.size known (g.D.Shelf.puts c.args.shelf.now)
+    (g.D.Shelf.puts c.args.shelf.now) (kept_same (g.D.Shelf.puts c.args.shelf.now))
+
+pub returns-in_err-bytes-clause-brings : goal.returns-in_err-bytes-clause-brings
+returns-in_err-bytes-clause-brings g c = λ known is.
+    let p = err_from_is_err_and c.from_residual.result c.from_residual.ensures.1 in
+    rw p.1 (left_none g.H.TreeHash.digest c.args.tip.now.size known (g.D.Shelf.puts c.args.shelf.now)
+    (g.D.Shelf.puts c.find_edge_bundle.new.shelf) c.find_edge_bundle.ensures.same)
+
+pub returns-then-not-goes_on-clause-brings : goal.returns-then-not-goes_on-clause-brings
+returns-then-not-goes_on-clause-brings g c = λ known is.
+    left_none g.H.TreeHash.digest c.args.tip.now.size known (g.D.Shelf.puts c.args.shelf.now)
+    (g.D.Shelf.puts c.find_edge_bundle.new.shelf) c.find_edge_bundle.ensures.same
+
+pub returns-clause-brings : goal.returns-clause-brings
+returns-clause-brings g c = λ known is.
+    let digest = g.H.TreeHash.digest in
+    let tip = c.args.tip.now in
+    let edge = c.args.edge.now in
+    let index = edge_index_of edge.size 0 in
+    let row = row_at edge 0 in
+    let width = length row in
+    let bytes = c.in_ok-bytes.bytes.items in
+    let x = g.D.Shelf.puts c.args.shelf.now in
+    let y = g.D.Shelf.puts c.find_edge_bundle.new.shelf in
+    let z = g.D.Shelf.puts c.keep.new.shelf in
+    let some : 1 ≤ length c.row-row.result.now = search rules in
+    let some_row = subst (λ (r : List (List ℕ)). 1 ≤ length r) c.row-row.ensures some in
+    let v = subst (λ (r : List (List ℕ)). HasLeaves digest (length r) bytes r) c.row-row.ensures c.in_ok-bytes.ensures.found in
+    let at : c.edge_index-index.result ≡ index = c.edge_index-index.ensures ∙ ap (λ n. edge_index_of n 0) c.size.ensures in
+    let there : c.edge_index-index.result ≡ edge_index_of tip.size 0 →
+    take (length tip.bundle) c.deref.result.now ≡ tip.bundle = search rules in
+    let goes_on = subst (λ b. index ≡ edge_index_of tip.size 0 → take (length tip.bundle) b ≡ tip.bundle) c.deref.ensures.value
+    (subst (λ k. k ≡ edge_index_of tip.size 0 → take (length tip.bundle) c.deref.result.now ≡ tip.bundle) at there) in
+    let width_is : width ≡ width_of edge.size 0 = c.requires.widths 0 (omega arith) in
+    let path : Entries c.edge_index-index.result (length c.row-row.result.now) ≡ Entries index width =
+    λ j. Entries (at j) (length (c.row-row.ensures j)) in
+    let puts = subst (λ p. (KeepsTold y z) ⊎ (AddsTold y z ((p, c.deref-2.result.now) ∷ []))) path c.keep.ensures.puts in
+    let puts_bytes = subst (λ b. (KeepsTold y z) ⊎ (AddsTold y z ((Entries index width, b) ∷ []))) c.deref-2.ensures.value puts in
+    brings_last digest tip.size edge known x z c.keep.result
+    (TellsStands y z (Entries c.edge_index-index.result (length c.row-row.result.now)) c.deref-2.result.now)
+    c.keep.ensures.stands
+    (λ stands. last_some digest tip edge c.requires.widths c.requires.larger known is width some_row width_is bytes v goes_on
+    x y z c.find_edge_bundle.ensures.same puts_bytes
+    (subst (λ b. TellsStands y z (Entries index width) b) c.deref-2.ensures.value
+    (subst (λ p. TellsStands y z p c.deref-2.result.now) path stands)))
+    (last_left digest tip edge c.requires.widths c.requires.larger known is width some_row width_is bytes v goes_on
+    x y z c.find_edge_bundle.ensures.same puts_bytes)

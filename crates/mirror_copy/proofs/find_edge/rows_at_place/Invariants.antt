@@ -1,0 +1,11 @@
+use Rattle.std.proofs.Common.{◌≡◌, ◌<◌, ℕ, [], length, get_or}
+use Rattle.tlog_shape.specs.Edge.{width_of}
+use Rattle.mirror_copy.proofs.RowLists.{items_of}
+use Rattle.mirror_copy.proofs.find_edge.rows_at_place.Given as goal
+
+-- the rows so far have their widths
+abbrev pub invariant-loop-level : goal.invariant-loop-level
+invariant-loop-level g l = record {
+  count : length l.rows.items ≡ l.level;
+  widths : (k : ℕ) → k < l.level → length (get_or (items_of l.rows.items) k []) ≡ width_of l.size k;
+}

@@ -1,0 +1,23 @@
+use Rattle.std.proofs.Common.{subst}
+use Rattle.mirror_model.specs.Heads.{IsHead}
+use Rattle.mirror_copy.proofs.WholeMoments.{empty_read, tip_made}
+use Rattle.mirror_copy.proofs.read_tip.read_tip.Goals as goal
+
+pub returns-in_default-clause-tip : goal.returns-in_default-clause-tip
+returns-in_default-clause-tip g c =
+    rw c.empty.ensures (empty_read g.H.TreeHash.digest c.args.origin.now (g.D.Shelf.puts c.args.shelf.now)
+    (rw c.in_default.is at c.in_ok-checkpoint.ensures.answer))
+
+pub returns-clause-tip : goal.returns-clause-tip
+returns-clause-tip g c =
+    let origin = c.args.origin.now in
+    let head = c.in-Some-2.head in
+    let bytes = c.in-Some.checkpoint.items in
+    let is_head = subst (λ b. IsHead b origin head.0 head.1) c.deref.ensures.value
+    (rw c.in-Some-2.is at c.in_ok-head.ensures.found) in
+    tip_made g.H.TreeHash.digest g.met.H.TreeHash.digest_length origin (g.D.Shelf.puts c.args.shelf.now)
+    (g.D.Shelf.puts c.read.new.self) (g.D.Shelf.puts c.edge_on_shelf.new.shelf) c.in_ok-checkpoint.ensures.same
+    c.in_ok-edge.ensures.same c.in-Some-3.edge c.in_ok-bundle.bundle.items bytes head.0 head.1
+    (rw c.in-Some.is at c.in_ok-checkpoint.ensures.answer) is_head (rw c.in-Some-3.is at c.in_ok-edge.ensures.read)
+    c.in_ok-bundle.ensures.bundle c.new.result c.new.ensures.size c.new.ensures.rows c.new.ensures.bundle
+    c.new.ensures.checkpoint

@@ -1,0 +1,51 @@
+use Rattle.std.proofs.Common.{refl}
+use Rattle.std.proofs.lemmas.Result.{err_from_is_err_and}
+use Rattle.mirror_copy.proofs.EdgeRows.{edge_known, edge_left}
+use Rattle.mirror_copy.proofs.Growth.{kept_same}
+use Rattle.mirror_copy.proofs.Finishing.{copy_brought, ends_brought, left_put, true_rows}
+use Rattle.mirror_copy.proofs.to_edge.bring_to_edge.Goals as goal
+
+pub returns-in_err-bring_edge_bundle-clause-brings : goal.returns-in_err-bring_edge_bundle-clause-brings
+returns-in_err-bring_edge_bundle-clause-brings g c = λ known is.
+    let p = err_from_is_err_and c.from_residual-in_err-bring_edge_bundle.result c.from_residual-in_err-bring_edge_bundle.ensures.1 in
+    let digest = g.H.TreeHash.digest in
+    let tip = c.args.tip.now in
+    let edge = c.args.edge.now in
+    let x = g.D.Shelf.puts c.args.shelf.now in
+    let y = g.D.Shelf.puts c.bring_levels.new.shelf in
+    let z = g.D.Shelf.puts c.bring_edge_bundle.new.shelf in
+    let e = c.in_ok-bring_levels.ensures.brings known is in
+    rw p.1 (edge_left digest tip edge known c.requires.widths x y z 1 e
+    (c.in_err-bring_edge_bundle.ensures.brings e.next (edge_known digest tip edge known c.requires.widths x y 1 0 0 refl is e)))
+
+pub returns-in_err-put_edge_tiles-clause-brings : goal.returns-in_err-put_edge_tiles-clause-brings
+returns-in_err-put_edge_tiles-clause-brings g c = λ known is.
+    let p = err_from_is_err_and c.from_residual-in_err-put_edge_tiles.result c.from_residual-in_err-put_edge_tiles.ensures.1 in
+    let digest = g.H.TreeHash.digest in
+    let tip = c.args.tip.now in
+    let edge = c.args.edge.now in
+    let x = g.D.Shelf.puts c.args.shelf.now in
+    let y = g.D.Shelf.puts c.bring_levels.new.shelf in
+    let z = g.D.Shelf.puts c.bring_edge_bundle.new.shelf in
+    let w = g.D.Shelf.puts c.put_edge_tiles.new.shelf in
+    let e = c.in_ok-bring_levels.ensures.brings known is in
+    let l = c.in_ok-bring_edge_bundle.ensures.brings e.next (edge_known digest tip edge known c.requires.widths x y 1 0 0 refl is e) in
+    rw p.1 (left_put digest tip edge known c.requires.widths x y z e l w w
+    (c.in_err-put_edge_tiles.ensures.puts l.next l.size_is (true_rows digest tip edge known c.requires.widths x y z e l)) (kept_same w))
+
+pub returns-clause-brings : goal.returns-clause-brings
+returns-clause-brings g c = λ known is.
+    let digest = g.H.TreeHash.digest in
+    let tip = c.args.tip.now in
+    let edge = c.args.edge.now in
+    let x = g.D.Shelf.puts c.args.shelf.now in
+    let y = g.D.Shelf.puts c.bring_levels.new.shelf in
+    let z = g.D.Shelf.puts c.bring_edge_bundle.new.shelf in
+    let w = g.D.Shelf.puts c.put_edge_tiles.new.shelf in
+    let v = g.D.Shelf.puts c.put_last.new.shelf in
+    let e = c.in_ok-bring_levels.ensures.brings known is in
+    let l = c.in_ok-bring_edge_bundle.ensures.brings e.next (edge_known digest tip edge known c.requires.widths x y 1 0 0 refl is e) in
+    let q = c.in_ok-put_edge_tiles.ensures.puts l.next l.size_is (true_rows digest tip edge known c.requires.widths x y z e l) in
+    ends_brought digest tip edge c.args.note.now known x w v c.put_last.result c.put_last.ensures.puts
+    (λ told. copy_brought digest tip edge c.args.note.now known c.requires.size c.requires.widths x y z w v e l q told)
+    (λ kept. left_put digest tip edge known c.requires.widths x y z e l w v q.gathers kept)

@@ -1,0 +1,46 @@
+-- What a bringing that ends by a contradiction or a collision has put: nothing.
+use Rattle.std.specs.Prelude.{ℕ, ◌≤◌, List, Option, Result, Ok, Err, ⊤}
+use Rattle.mirror_sources.specs.Told.{KeepsTold}
+use Rattle.mirror_folders.specs.Shelf.{Put}
+use Rattle.mirror_copy.specs.declared.fault.BringFault.{BringFault}
+use Rattle.mirror_copy.specs.declared.fault.BringFault.TheVariants.{BadCheckpoint, CopyDamaged, NotLarger}
+use Rattle.mirror_copy.specs.declared.fault.BringFault.TheVariants.{Contradiction, Collision, NoFile, CopyInUse}
+use Rattle.mirror_copy.specs.declared.fault.BringFault.TheVariants.{ShelfFault, OutOfMemory}
+
+-- the fault is neither a contradiction nor a collision
+abbrev pub IsNoConflict : BringFault → Type 0
+IsNoConflict BadCheckpoint = ⊤
+IsNoConflict CopyDamaged = ⊤
+IsNoConflict NotLarger = ⊤
+IsNoConflict Contradiction = ⊥
+IsNoConflict Collision = ⊥
+IsNoConflict NoFile = ⊤
+IsNoConflict CopyInUse = ⊤
+IsNoConflict ShelfFault = ⊤
+IsNoConflict OutOfMemory = ⊤
+
+-- the fault is a contradiction or a collision
+abbrev pub IsConflict : BringFault → Type 0
+IsConflict BadCheckpoint = ⊥
+IsConflict CopyDamaged = ⊥
+IsConflict NotLarger = ⊥
+IsConflict Contradiction = ⊤
+IsConflict Collision = ⊤
+IsConflict NoFile = ⊥
+IsConflict CopyInUse = ⊥
+IsConflict ShelfFault = ⊥
+IsConflict OutOfMemory = ⊥
+
+-- at a contradiction or a collision what was brought began within the first m entries, and nothing was put
+abbrev pub ConflictPutsNothing : {T : Type 0} → ℕ → ℕ → Option (List Put) → Option (List Put) →
+    Result T BringFault → Type 0
+ConflictPutsNothing start m old new (Ok x) = ⊤
+ConflictPutsNothing start m old new (Err BadCheckpoint) = ⊤
+ConflictPutsNothing start m old new (Err CopyDamaged) = ⊤
+ConflictPutsNothing start m old new (Err NotLarger) = ⊤
+ConflictPutsNothing start m old new (Err Contradiction) = (start ≤ m) × KeepsTold old new
+ConflictPutsNothing start m old new (Err Collision) = (start ≤ m) × KeepsTold old new
+ConflictPutsNothing start m old new (Err NoFile) = ⊤
+ConflictPutsNothing start m old new (Err CopyInUse) = ⊤
+ConflictPutsNothing start m old new (Err ShelfFault) = ⊤
+ConflictPutsNothing start m old new (Err OutOfMemory) = ⊤

@@ -1,0 +1,123 @@
+-- A copy brought to the edge of a larger tree.
+use Rattle.std.specs.Prelude.{◌≡◌, ◌≢◌, ℕ, ◌+◌, ◌-◌, ◌*◌, ◌^◌, ◌<◌, ◌≤◌, max, List, [], ◌∷◌, length, get_or, Option, Result, Ok, Err}
+use Rattle.tlog_shape.specs.Edge.{width_of, edge_index_of}
+use Rattle.tlog_hash.specs.Rows.{level_row}
+use Rattle.tlog_tiles.specs.declared.paths.Path.{Path}
+use Rattle.tlog_tiles.specs.declared.paths.Path.TheVariants.{Checkpoint, Tile, Entries}
+use Rattle.tlog_tiles.specs.Tiles.{IsWithin}
+use Rattle.mirror_sources.specs.Told.{AddsTold, KeepsTold}
+use Rattle.mirror_sources.specs.Honest.{true_bytes}
+use Rattle.mirror_folders.specs.Shelf.{Put}
+use Rattle.mirror_export.specs.FileLaws.{IsFileOf}
+use Rattle.mirror_copy.specs.ReadShelf.{TellsStands}
+use Rattle.mirror_copy.specs.Growing.{Tip, Gathers, HoldsBelow, IsCutShort}
+
+-- the edge of a tree: its size, and the rows of its partial tiles by their levels
+pub record Edge : Type 0 where
+  pub size : ℕ
+  pub rows : List (List (List ℕ))
+
+-- the row of a level
+abbrev pub row_at : Edge → ℕ → List (List ℕ)
+row_at edge level = get_or edge.rows level []
+
+-- each row has the width of its level
+abbrev pub HasWidths : Edge → Type 0
+HasWidths edge = (level : ℕ) → level ≤ 7 → length (row_at edge level) ≡ width_of edge.size level
+
+-- the path of the partial tile of a level
+abbrev pub edge_tile : Edge → ℕ → Path
+edge_tile edge level = Tile level (edge_index_of edge.size level) (width_of edge.size level)
+
+-- what putting the checkpoint last comes to, by its answer
+abbrev pub PutsLast : {T E : Type 0} → Option (List Put) → Option (List Put) → List ℕ → Result T E → Type 0
+PutsLast old new note (Ok x) = AddsTold old new ((Checkpoint, note) ∷ [])
+PutsLast old new note (Err e) = KeepsTold old new
+
+module _ (digest : List ℕ → List ℕ) where
+  -- the row of a level is true of the entries
+  abbrev pub IsTrueRow : Edge → List (List ℕ) → ℕ → Type 0
+  IsTrueRow edge entries level = row_at edge level
+      ≡ level_row digest entries level (256 * edge_index_of edge.size level) (width_of edge.size level)
+
+  -- all that lies below the rows of the levels from low on was brought, and these rows are true
+  pub record IsEdgeBrought (tip : Tip) (edge : Edge) (known : List (List ℕ)) (low : ℕ)
+      (old new : Option (List Put)) : Type 0 where
+    pub next : List (List ℕ)
+    pub gathers : Gathers digest tip.size known next old new
+    pub size_is : length next ≡ max tip.size (edge_index_of edge.size (low - 1) * 256 ^ (low - 1 + 1))
+    pub rows_are : (level : ℕ) → low ≤ level → level ≤ 7 → IsTrueRow edge next level
+    pub holds : (level : ℕ) → low ≤ level → level ≤ 7 → (k : ℕ) → k < width_of edge.size level →
+        HoldsBelow digest tip.size (level - 1) (256 * edge_index_of edge.size level + k) next old new
+
+  -- what bringing all below the edge comes to, by its answer
+  abbrev pub BringsEdge : {T E : Type 0} → Tip → Edge → List (List ℕ) →
+      Option (List Put) → Option (List Put) → Result T E → Type 0
+  BringsEdge tip edge known old new (Ok x) = IsEdgeBrought tip edge known 1 old new
+  BringsEdge tip edge known old new (Err e) = IsCutShort digest tip.size known old new
+
+  -- the partial bundle was brought, if there is one: all entries were gathered, and the lowest row is true
+  pub record IsEdgeBundleBrought (m : ℕ) (edge : Edge) (known : List (List ℕ)) (old new : Option (List Put))
+      : Type 0 where
+    pub next : List (List ℕ)
+    pub gathers : Gathers digest m known next old new
+    pub size_is : length next ≡ edge.size
+    pub row_is : IsTrueRow edge next 0
+    pub holds :
+        1 ≤ width_of edge.size 0 → let path =
+        Entries (edge_index_of edge.size 0) (width_of edge.size 0) in
+        TellsStands old new path (true_bytes digest next path)
+
+  -- what bringing the partial bundle comes to, by its answer
+  abbrev pub BringsEdgeBundle : {T E : Type 0} → ℕ → Edge → List (List ℕ) →
+      Option (List Put) → Option (List Put) → Result T E → Type 0
+  BringsEdgeBundle m edge known old new (Ok x) = IsEdgeBundleBrought m edge known old new
+  BringsEdgeBundle m edge known old new (Err e) = IsCutShort digest m known old new
+
+  -- the partial tiles of the levels below some stand with true bytes, but for those of the first m entries
+  pub record AreEdgeTilesPut (m : ℕ) (edge : Edge) (entries : List (List ℕ)) (old new : Option (List Put))
+      (below : ℕ) : Type 0 where
+    pub gathers : Gathers digest m entries entries old new
+    pub holds :
+        (level : ℕ) → level < below → 1 ≤ width_of edge.size level →
+        ¬ IsWithin m (edge_tile edge level) →
+        TellsStands old new (edge_tile edge level) (true_bytes digest entries (edge_tile edge level))
+
+  -- the partial tile of a level stands with true bytes, if there is one and the first m entries do not have it
+  pub record IsEdgeTilePut (m : ℕ) (edge : Edge) (entries : List (List ℕ)) (old new : Option (List Put))
+      (level : ℕ) : Type 0 where
+    pub gathers : Gathers digest m entries entries old new
+    pub holds :
+        1 ≤ width_of edge.size level → ¬ IsWithin m (edge_tile edge level) →
+        TellsStands old new (edge_tile edge level) (true_bytes digest entries (edge_tile edge level))
+
+  -- what putting a partial tile comes to, by its answer
+  abbrev pub PutsEdgeTile : {T E : Type 0} → ℕ → Edge → List (List ℕ) → Option (List Put) → Option (List Put) → ℕ →
+      Result T E → Type 0
+  PutsEdgeTile m edge entries old new level (Ok x) = IsEdgeTilePut m edge entries old new level
+  PutsEdgeTile m edge entries old new level (Err e) = Gathers digest m entries entries old new
+
+  -- what putting the partial tiles comes to, by its answer
+  abbrev pub PutsEdgeTiles : {T E : Type 0} → ℕ → Edge → List (List ℕ) → Option (List Put) → Option (List Put) →
+      Result T E → Type 0
+  PutsEdgeTiles m edge entries old new (Ok x) = AreEdgeTilesPut m edge entries old new 8
+  PutsEdgeTiles m edge entries old new (Err e) = Gathers digest m entries entries old new
+
+  -- a copy was brought to the edge: all its entries were gathered, and all its files stand that the first m
+  -- entries do not have, before the note was put
+  pub record IsCopyBrought (tip : Tip) (edge : Edge) (note : List ℕ) (known : List (List ℕ))
+      (old new : Option (List Put)) : Type 0 where
+    pub next : List (List ℕ)
+    pub before : Option (List Put)
+    pub gathers : Gathers digest tip.size known next old before
+    pub last : AddsTold before new ((Checkpoint, note) ∷ [])
+    pub size_is : length next ≡ edge.size
+    pub rows_are : (level : ℕ) → level ≤ 7 → IsTrueRow edge next level
+    pub holds : (path : Path) → path ≢ Checkpoint → IsFileOf edge.size path → ¬ IsWithin tip.size path →
+        TellsStands old before path (true_bytes digest next path)
+
+  -- what bringing a copy comes to, by its answer
+  abbrev pub BringsToEdge : {T E : Type 0} → Tip → Edge → List ℕ → List (List ℕ) →
+      Option (List Put) → Option (List Put) → Result T E → Type 0
+  BringsToEdge tip edge note known old new (Ok x) = IsCopyBrought tip edge note known old new
+  BringsToEdge tip edge note known old new (Err e) = IsCutShort digest tip.size known old new

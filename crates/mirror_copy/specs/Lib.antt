@@ -1,0 +1,10 @@
+pub mod Faults
+pub mod ReadShelf
+pub mod Verified
+pub mod Growing
+pub mod Asked
+pub mod Conflicts
+pub mod Copies
+pub mod Moments
+pub mod Edges
+pub mod Found

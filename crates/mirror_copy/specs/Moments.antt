@@ -1,0 +1,46 @@
+-- What stands on a shelf at each moment of a call that brings a copy to a checkpoint, and in the end.
+use Rattle.std.specs.Prelude.{◌≡◌, ◌⊎◌, ℕ, List, [], ◌++◌, length, Option, Some, None}
+use Rattle.tlog_tiles.specs.declared.paths.Path.TheVariants.{Checkpoint}
+use Rattle.mirror_folders.specs.Shelf.{Put, HasPut}
+use Rattle.mirror_export.specs.Exports.{IsMoment}
+use Rattle.mirror_export.specs.SinceLaws.{HoldsFiles}
+use Rattle.mirror_copy.specs.Copies.{IsCopy}
+
+-- so it is at each moment of a call that puts one file after the other
+abbrev pub AtEachMoment : List Put → Option (List Put) → (List Put → Type 0) → Type 0
+AtEachMoment old None so = ⊥
+AtEachMoment old (Some new) so = (now : List Put) → IsMoment old new now → so now
+
+-- so it is of what was put in the end
+abbrev pub InTheEnd : Option (List Put) → (List Put → Type 0) → Type 0
+InTheEnd None so = ⊥
+InTheEnd (Some new) so = so new
+
+module _ (digest : List ℕ → List ℕ) (origin note : List ℕ) where
+  -- under the note a copy stands of entries that begin with those, and each file of those, the checkpoint apart,
+  -- stands with its true bytes
+  pub record IsGrownCopy (entries : List (List ℕ)) (puts : List Put) : Type 0 where
+    pub more : List (List ℕ)
+    pub copy : IsCopy digest origin note (entries ++ more) puts
+    pub kept : HoldsFiles digest entries puts
+
+  -- at each moment of a call that brings a copy to the note: where a copy stood, it stands still, or a copy of it
+  -- grown under the note; where no checkpoint stood, none stands, or a copy under the note
+  pub record KeepsCopy (old new : Option (List Put)) : Type 0 where
+    pub copy : (held : List Put) → old ≡ Some held → (old_note : List ℕ) (entries : List (List ℕ)) →
+        IsCopy digest origin old_note entries held →
+        AtEachMoment held new (λ now. IsCopy digest origin old_note entries now ⊎ IsGrownCopy entries now)
+    pub none : (held : List Put) → old ≡ Some held → ¬ HasPut held Checkpoint →
+        AtEachMoment held new (λ now. ¬ HasPut now Checkpoint ⊎ IsGrownCopy [] now)
+
+  -- in the end a copy stands under the note: the one that stood before, grown, or where no checkpoint stood, a new one
+  pub record IsBroughtTo (old new : Option (List Put)) : Type 0 where
+    pub copy : (held : List Put) → old ≡ Some held → (old_note : List ℕ) (entries : List (List ℕ)) →
+        IsCopy digest origin old_note entries held → InTheEnd new (IsGrownCopy entries)
+    pub none : (held : List Put) → old ≡ Some held → ¬ HasPut held Checkpoint → InTheEnd new (IsGrownCopy [])
+
+-- how many entries the copy had that stood: none where no checkpoint stood
+pub record HadSize (digest : List ℕ → List ℕ) (origin : List ℕ) (old : Option (List Put)) (size : ℕ) : Type 0 where
+  pub copy : (held : List Put) → old ≡ Some held → (note : List ℕ) (entries : List (List ℕ)) →
+      IsCopy digest origin note entries held → size ≡ length entries
+  pub none : (held : List Put) → old ≡ Some held → ¬ HasPut held Checkpoint → size ≡ 0

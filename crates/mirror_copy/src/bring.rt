@@ -1,0 +1,130 @@
+//! Tiles brought from places, with all that lies below them.
+ghost use Rattle.std.specs.Prelude.{◌≡◌, ◌+◌, ◌*◌, ◌^◌, ◌<◌, ◌≤◌, ℕ, List, OnOk, length};
+ghost use Rattle.mirror_sources.specs.Told.{KeepsTold};
+ghost use Rattle.mirror_copy.specs.Conflicts.{ConflictPutsNothing};
+ghost use Rattle.mirror_copy.specs.Growing.{IsKnown, BringsRow, BringsTile};
+
+use crate::fault::BringFault;
+use crate::find::find;
+use crate::keep::keep;
+use crate::read_shelf::ReadableShelf;
+use crate::tip::CopyTip;
+use crate::verify::FullFile;
+use mirror_sources::Source;
+use std::alloc::Global;
+use tlog_hash::{Hash, TreeHash};
+use tlog_tiles::{Path, write_row};
+
+// Brings a full bundle, and its tile of level 0.
+fn bring_bundle<H: TreeHash, D: ReadableShelf, S: Source>(
+    alloc: Global,
+    shelf: &mut D,
+    places: &mut [S],
+    tip: &CopyTip,
+    index: u64,
+    hash: &Hash,
+) -> Result<(), BringFault>
+    requires fits { (index + 1) * 256 ≤ 2 ^ 63 }
+    requires beyond { tip.now.size < (index + 1) * 256 }
+    ensures early { ConflictPutsNothing (index * 256) tip.now.size (D.puts shelf.old)
+        (D.puts shelf.new) result }
+    ensures brings { (known : List (List ℕ)) → IsKnown H.digest tip.now (index * 256) known
+        → BringsTile H.digest tip.now 0 index hash.now known (D.puts shelf.old)
+        (D.puts shelf.new) result }
+{
+    let path = Path::Entries { index, width: 256 };
+    let found = find::<H, D, S>(alloc, shelf, places, FullFile::Bundle, &path, hash)?;
+    if tip.first_new(0, index, &found.row).is_none() {
+        return Err(BringFault::Contradiction);
+    }
+    if !tip.goes_on(index, &found.bytes) {
+        return Err(BringFault::Collision);
+    }
+    let bytes = write_row(alloc, &found.row)?;
+    keep(shelf, &path, &found.bytes)?;
+    keep(
+        shelf,
+        &Path::Tile {
+            level: 0,
+            index,
+            width: 256,
+        },
+        &bytes,
+    )
+}
+
+/// Brings a full tile: its row is found, all below it is brought from left to right, and then it is put.
+#[cycle(tiles)]
+fn bring_tile<H: TreeHash, D: ReadableShelf, S: Source>(
+    alloc: Global,
+    shelf: &mut D,
+    places: &mut [S],
+    tip: &CopyTip,
+    level: u32,
+    index: u64,
+    hash: &Hash,
+) -> Result<(), BringFault>
+    requires level { level ≤ 6 }
+    requires fits { (index + 1) * 256 ^ (level + 1) ≤ 2 ^ 63 }
+    requires beyond { tip.now.size < (index + 1) * 256 ^ (level + 1) }
+    ensures early { ConflictPutsNothing (index * 256 ^ (level + 1)) tip.now.size (D.puts shelf.old)
+        (D.puts shelf.new) result }
+    ensures brings { (known : List (List ℕ))
+        → IsKnown H.digest tip.now (index * 256 ^ (level + 1)) known
+        → BringsTile H.digest tip.now level index hash.now known (D.puts shelf.old)
+        (D.puts shelf.new) result }
+{
+    if level == 0 {
+        return bring_bundle::<H, D, S>(alloc, shelf, places, tip, index, hash);
+    }
+    let path = Path::Tile {
+        level,
+        index,
+        width: 256,
+    };
+    let found = find::<H, D, S>(alloc, shelf, places, FullFile::Tile, &path, hash)?;
+    bring_row::<H, D, S>(alloc, shelf, places, tip, level, index, &found.row)?;
+    keep(shelf, &path, &found.bytes)
+}
+
+/// Brings all below a row, full or at the edge, from left to right.
+#[cycle(tiles)]
+pub(crate) fn bring_row<H: TreeHash, D: ReadableShelf, S: Source>(
+    alloc: Global,
+    shelf: &mut D,
+    places: &mut [S],
+    tip: &CopyTip,
+    level: u32,
+    index: u64,
+    row: &[Hash],
+) -> Result<(), BringFault>
+    requires above { 1 ≤ level }
+    requires level { level ≤ 7 }
+    requires width { length row.now ≤ 256 }
+    requires fits { (256 * index + length row.now) * 256 ^ level ≤ 2 ^ 63 }
+    requires beyond { tip.now.size < (index + 1) * 256 ^ (level + 1) }
+    ensures none { (256 * index + length row.now) * 256 ^ level ≤ tip.now.size
+        → OnOk result (KeepsTold (D.puts shelf.old) (D.puts shelf.new)) }
+    ensures early { ConflictPutsNothing (index * 256 ^ (level + 1)) tip.now.size (D.puts shelf.old)
+        (D.puts shelf.new) result }
+    ensures brings { (known : List (List ℕ))
+        → IsKnown H.digest tip.now (index * 256 ^ (level + 1)) known
+        → BringsRow H.digest tip.now level index row.now known (D.puts shelf.old)
+        (D.puts shelf.new) result }
+{
+    let Some(first) = tip.first_new(level, index, row) else {
+        return Err(BringFault::Contradiction);
+    };
+    for i in first..row.len() as u64 {
+        bring_tile::<H, D, S>(
+            alloc,
+            shelf,
+            places,
+            tip,
+            level - 1,
+            256 * index + i,
+            &row[i as usize],
+        )?;
+    }
+    Ok(())
+}

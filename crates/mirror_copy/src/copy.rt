@@ -1,0 +1,156 @@
+//! A copy that stands on a shelf, brought to a checkpoint.
+ghost use Rattle.std.specs.Prelude.{◌≡◌, ◌↔◌, ◌<◌, ◌^◌, ℕ, None, Some, [], IfErr, IfOk, IsTrue, List, OnOk, option_map};
+ghost use Rattle.mirror_model.specs.Heads.{IsHead};
+ghost use Rattle.mirror_sources.specs.Told.{KeepsTold};
+ghost use Rattle.mirror_copy.specs.Conflicts.{IsConflict};
+ghost use Rattle.mirror_copy.specs.Found.{BringsFromTip};
+ghost use Rattle.mirror_copy.specs.Moments.{HadSize, IsBroughtTo, KeepsCopy};
+
+use crate::fault::BringFault;
+use crate::find_edge::find_edge;
+use crate::head::head_of;
+use crate::last::put_last;
+use crate::read_shelf::ReadableShelf;
+use crate::read_tip::read_tip;
+use crate::tip::CopyTip;
+use crate::to_edge::bring_to_edge;
+use mirror_sources::Source;
+use std::alloc::Global;
+use tlog_hash::{Hash, TreeHash};
+
+// A checkpoint that a copy may be brought to: a note, and the size and root that its text says.
+#[derive(Drop)]
+struct Candidate<'a> {
+    note: &'a [u8],
+    size: u64,
+    root: Hash,
+}
+
+// Whether it is the hash of the empty list.
+fn is_empty_root<H: TreeHash>(root: &Hash) -> bool
+    ensures { IsTrue result ↔ (root.now ≡ H.digest []) }
+{
+    *root == H::empty()
+}
+
+// Puts the checkpoint of a log of no entries onto a shelf that has none.
+fn put_empty<H: TreeHash, D: ReadableShelf>(
+    shelf: &mut D,
+    origin: &str,
+    tip: &CopyTip,
+    candidate: &Candidate<'_>,
+) -> Result<(), BringFault>
+    requires head { IsHead candidate.now.note.now origin.now candidate.now.size candidate.now.root }
+    requires empty { candidate.now.size ≡ 0 }
+    requires none { tip.now.checkpoint ≡ None }
+    ensures conflict { IfErr result (λ e. IsConflict e → KeepsTold (D.puts shelf.old)
+        (D.puts shelf.new)) }
+    ensures brings { BringsFromTip H.digest origin.now candidate.now.note.now tip.now
+        (D.puts shelf.old) (D.puts shelf.new) result }
+{
+    if !is_empty_root::<H>(&candidate.root) {
+        return Err(BringFault::Contradiction);
+    }
+    put_last(shelf, tip, candidate.note)
+}
+
+// Brings the copy with that tip to a larger checkpoint.
+fn bring_larger<H: TreeHash, D: ReadableShelf, S: Source>(
+    alloc: Global,
+    origin: &str,
+    shelf: &mut D,
+    places: &mut [S],
+    tip: &CopyTip,
+    candidate: &Candidate<'_>,
+) -> Result<(), BringFault>
+    requires head { IsHead candidate.now.note.now origin.now candidate.now.size candidate.now.root }
+    requires larger { tip.now.size < candidate.now.size }
+    ensures conflict { IfErr result (λ e. IsConflict e → KeepsTold (D.puts shelf.old)
+        (D.puts shelf.new)) }
+    ensures brings { BringsFromTip H.digest origin.now candidate.now.note.now tip.now
+        (D.puts shelf.old) (D.puts shelf.new) result }
+{
+    let edge = find_edge::<H, D, S>(alloc, shelf, places, candidate.size, &candidate.root)?;
+    let done = bring_to_edge::<H, D, S>(alloc, shelf, places, tip, &edge, candidate.note);
+    drop(edge);
+    done
+}
+
+// Brings the copy with that tip to a checkpoint.
+fn bring_from<H: TreeHash, D: ReadableShelf, S: Source>(
+    alloc: Global,
+    origin: &str,
+    shelf: &mut D,
+    places: &mut [S],
+    tip: &CopyTip,
+    candidate: &Candidate<'_>,
+) -> Result<(), BringFault>
+    requires head { IsHead candidate.now.note.now origin.now candidate.now.size candidate.now.root }
+    ensures conflict { IfErr result (λ e. IsConflict e → KeepsTold (D.puts shelf.old)
+        (D.puts shelf.new)) }
+    ensures brings { BringsFromTip H.digest origin.now candidate.now.note.now tip.now
+        (D.puts shelf.old) (D.puts shelf.new) result }
+{
+    if tip.size() < candidate.size {
+        return bring_larger::<H, D, S>(alloc, origin, shelf, places, tip, candidate);
+    }
+    if candidate.size == 0 && tip.checkpoint().is_none() {
+        return put_empty::<H, D>(shelf, origin, tip, candidate);
+    }
+    Err(BringFault::NotLarger)
+}
+
+/// Brings the copy that stands on a shelf to a larger checkpoint, and answers how many entries it had before.
+///
+/// The note is one whose text is a checkpoint of the origin. No signature is looked at: the caller has opened the note under the
+/// log's keys. Each file of the larger tree that the copy lacks is looked for on the shelf, then at the places, in their order, and
+/// counts only where it verifies: the edge rows lead to the checkpoint's root, a full tile folds to its hash in the row above it,
+/// and the leaf hashes of a bundle fold to their hash. A tile is put after what lies below it, and the checkpoint last. So at
+/// each moment a whole copy stands, whatever the places answer. What stands is never taken away, and is put again only where its
+/// bytes are false.
+///
+/// A shelf without a checkpoint is an empty copy. Only such a one is brought to a checkpoint of no entries.
+///
+/// ```text
+/// bring_copy::<Sha256Tree, MemShelf, ListSource<Sha256Tree>>(alloc, "ex", &mut shelf, &mut places, note)? // 257
+/// ```
+///
+/// # Errors
+///
+/// - `BadCheckpoint`: the bytes are no note whose text is a checkpoint of the origin.
+/// - `CopyDamaged`: the shelf has a checkpoint that is no such note, or not the edge rows and the partial bundle of its root.
+/// - `NotLarger`: the copy has as many entries or more.
+/// - `Contradiction`: the old rows are not in the larger tree. `Collision`: they are, and the old bundle is not. Nothing was put.
+/// - `NoFile`: neither the shelf nor a place has a file that verifies.
+/// - `CopyInUse`: when all other files stood, the shelf's checkpoint was another than at first, so another run put it.
+/// - `ShelfFault`: the shelf failed. `OutOfMemory`: memory was refused.
+pub fn bring_copy<H: TreeHash, D: ReadableShelf, S: Source>(
+    alloc: Global,
+    origin: &str,
+    shelf: &mut D,
+    places: &mut [S],
+    note: &[u8],
+) -> Result<u64, BringFault>
+    ensures had { IfOk result (λ size. HadSize H.digest origin.now (D.puts shelf.old) size) }
+    ensures conflict { IfErr result (λ e. IsConflict e → KeepsTold (D.puts shelf.old)
+        (D.puts shelf.new)) }
+    ensures whole { KeepsCopy H.digest origin.now note.now (D.puts shelf.old) (D.puts shelf.new) }
+    ensures brought { OnOk result (IsBroughtTo H.digest origin.now note.now
+        (D.puts shelf.old) (D.puts shelf.new)) }
+{
+    let Some(head) = head_of(alloc, origin, note)? else {
+        return Err(BringFault::BadCheckpoint);
+    };
+    let root = head.1;
+    let candidate = Candidate {
+        note,
+        size: head.0,
+        root,
+    };
+    let tip = read_tip::<H, D>(alloc, origin, shelf)?;
+    let had = tip.size();
+    let done = bring_from::<H, D, S>(alloc, origin, shelf, places, &tip, &candidate);
+    drop(tip);
+    done?;
+    Ok(had)
+}

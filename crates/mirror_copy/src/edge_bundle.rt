@@ -1,0 +1,131 @@
+//! The partial bundle at the edge.
+ghost use Rattle.std.specs.Prelude.{◌≡◌, ◌*◌, ◌^◌, ◌<◌, ◌≤◌, ℕ, List, IfErr, IfOk, IfSome, IsTrue, Some, length, option_map};
+ghost use Rattle.tlog_shape.specs.Edge.{edge_index_of};
+ghost use Rattle.mirror_sources.specs.Told.{KeepsTold};
+ghost use Rattle.mirror_copy.specs.Conflicts.{ConflictPutsNothing, IsNoConflict};
+ghost use Rattle.mirror_copy.specs.Verified.{HasLeaves};
+ghost use Rattle.mirror_copy.specs.Growing.{IsKnown};
+ghost use Rattle.mirror_copy.specs.Edges.{BringsEdgeBundle, HasWidths};
+
+use crate::edge::EdgeRows;
+use crate::fault::BringFault;
+use crate::keep::keep;
+use crate::place_files::get_partial;
+use crate::read_shelf::ReadableShelf;
+use crate::tip::{CopyTip, is_same_row};
+use crate::verify::leaves_of;
+use mirror_sources::Source;
+use std::alloc::Global;
+use tlog_hash::{Hash, TreeHash};
+use tlog_shape::edge_index;
+use tlog_tiles::Path;
+
+/// Bytes that were given, if they are a bundle with these leaf hashes.
+pub(crate) fn accept_edge_bundle<H: TreeHash>(
+    alloc: Global,
+    row: &[Hash],
+    given: Option<Vec<u8>>,
+) -> Result<Option<Vec<u8>>, BringFault>
+    requires { length row.now ≤ 256 }
+    ensures fault { IfErr result IsNoConflict }
+    ensures found { IfOk result (λ found. IfSome found
+        (λ bytes. HasLeaves H.digest (length row.now) bytes.items row.now)) }
+    ensures given { IfOk result (λ found. IfSome found (λ bytes. option_map
+        (λ v. v.items) given ≡ Some bytes.items)) }
+{
+    let Some(bytes) = given else {
+        return Ok(None);
+    };
+    match leaves_of::<H>(alloc, row.len() as u32, &bytes)? {
+        Some(leaves) => {
+            if is_same_row(&leaves, row) {
+                Ok(Some(bytes))
+            } else {
+                Ok(None)
+            }
+        }
+        None => Ok(None),
+    }
+}
+
+// The bundle as the places give it: of the first whose bundle verifies.
+fn edge_bundle_at_places<H: TreeHash, S: Source>(
+    alloc: Global,
+    places: &mut [S],
+    path: &Path,
+    row: &[Hash],
+) -> Result<Option<Vec<u8>>, BringFault>
+    requires { length row.now ≤ 256 }
+    ensures fault { IfErr result IsNoConflict }
+    ensures found { IfOk result (λ found. IfSome found
+        (λ bytes. HasLeaves H.digest (length row.now) bytes.items row.now)) }
+{
+    for place in places.iter_mut() {
+        let given = get_partial::<S>(alloc, place, path)?;
+        if let Some(found) = accept_edge_bundle::<H>(alloc, row, given)? {
+            return Ok(Some(found));
+        }
+    }
+    Ok(None)
+}
+
+// The bundle, from the shelf or else from a place.
+fn find_edge_bundle<H: TreeHash, D: ReadableShelf, S: Source>(
+    alloc: Global,
+    shelf: &mut D,
+    places: &mut [S],
+    path: &Path,
+    row: &[Hash],
+) -> Result<Vec<u8>, BringFault>
+    requires { length row.now ≤ 256 }
+    ensures found { IfOk result (λ bytes. HasLeaves H.digest (length row.now) bytes.items row.now) }
+    ensures fault { IfErr result IsNoConflict }
+    ensures same { KeepsTold (D.puts shelf.old) (D.puts shelf.new) }
+{
+    let given = shelf.read(path)?;
+    if let Some(found) = accept_edge_bundle::<H>(alloc, row, given)? {
+        return Ok(found);
+    }
+    match edge_bundle_at_places::<H, S>(alloc, places, path, row)? {
+        Some(found) => Ok(found),
+        None => Err(BringFault::NoFile),
+    }
+}
+
+/// Brings the partial bundle at the edge, if there is one.
+pub(crate) fn bring_edge_bundle<H: TreeHash, D: ReadableShelf, S: Source>(
+    alloc: Global,
+    shelf: &mut D,
+    places: &mut [S],
+    tip: &CopyTip,
+    edge: &EdgeRows,
+) -> Result<(), BringFault>
+    requires size { edge.now.size < 2 ^ 63 }
+    requires larger { tip.now.size < edge.now.size }
+    requires widths { HasWidths edge.now }
+    ensures early { ConflictPutsNothing (edge_index_of edge.now.size 0 * 256) tip.now.size
+        (D.puts shelf.old)
+        (D.puts shelf.new) result }
+    ensures brings { (known : List (List ℕ)) → IsKnown H.digest tip.now
+        (edge_index_of edge.now.size 0 * 256) known
+        → BringsEdgeBundle H.digest tip.now.size edge.now known (D.puts shelf.old)
+        (D.puts shelf.new) result }
+{
+    let row = edge.row(0);
+    if row.is_empty() {
+        return Ok(());
+    }
+    let index = edge_index(edge.size(), 0);
+    if tip.first_new(0, index, row).is_none() {
+        return Err(BringFault::Contradiction);
+    }
+    let path = Path::Entries {
+        index,
+        width: row.len() as u32,
+    };
+    let bytes = find_edge_bundle::<H, D, S>(alloc, shelf, places, &path, row)?;
+    if !tip.goes_on(index, &bytes) {
+        return Err(BringFault::Collision);
+    }
+    keep(shelf, &path, &bytes)
+}

@@ -1,0 +1,67 @@
+//! Why a bringing ends early.
+ghost use Rattle.std.specs.Prelude.{◌≡◌};
+ghost use Rattle.mirror_copy.specs.Faults.{of_shelf};
+ghost use Rattle.mirror_copy.specs.declared.fault.BringFault.TheVariants.{OutOfMemory};
+
+use mirror_folders::ShelfError;
+use std::alloc::{AllocError, AllocFailed};
+use thiserror::Error;
+
+/// Why a copy was not brought to a checkpoint. It prints its variant's name.
+#[derive(Debug, Drop, PartialEq, Eq, Clone, Copy, Error)]
+pub enum BringFault {
+    /// The bytes are no note whose text is a checkpoint of the origin.
+    #[error("BadCheckpoint")]
+    BadCheckpoint,
+    /// What stands on the shelf is no copy of a log of the origin.
+    #[error("CopyDamaged")]
+    CopyDamaged,
+    /// The copy has as many entries as the checkpoint, or more.
+    #[error("NotLarger")]
+    NotLarger,
+    /// A row of the larger tree does not begin with the copy's.
+    #[error("Contradiction")]
+    Contradiction,
+    /// The rows begin with the copy's, and the bundle does not begin with the bytes of the copy's.
+    #[error("Collision")]
+    Collision,
+    /// Neither the shelf nor a place has a file that verifies.
+    #[error("NoFile")]
+    NoFile,
+    /// Another checkpoint stands than the one that was read first.
+    #[error("CopyInUse")]
+    CopyInUse,
+    /// The shelf failed.
+    #[error("ShelfFault")]
+    ShelfFault,
+    /// Memory was refused.
+    #[error("OutOfMemory")]
+    OutOfMemory,
+}
+
+impl From<ShelfError> for BringFault {
+    ghost from_gives = { λ e f. f ≡ of_shelf e };
+
+    fn from(e: ShelfError) -> BringFault {
+        match e {
+            ShelfError::Failed => BringFault::ShelfFault,
+            ShelfError::OutOfMemory => BringFault::OutOfMemory,
+        }
+    }
+}
+
+impl From<AllocError> for BringFault {
+    ghost from_gives = { λ _ e. e ≡ OutOfMemory };
+
+    fn from(_e: AllocError) -> BringFault {
+        BringFault::OutOfMemory
+    }
+}
+
+impl<T: Drop> From<AllocFailed<T>> for BringFault {
+    ghost from_gives = { λ _ e. e ≡ OutOfMemory };
+
+    fn from(_e: AllocFailed<T>) -> BringFault {
+        BringFault::OutOfMemory
+    }
+}

@@ -1,0 +1,47 @@
+//! A verified file put where it does not stand yet.
+ghost use Rattle.std.specs.Prelude.{◌≡◌, ◌↔◌, ◌⊎◌, [], ◌∷◌, IfErr, IfOk, IsTrue, OnOk};
+ghost use Rattle.mirror_sources.specs.Told.{KeepsTold, AddsTold};
+ghost use Rattle.mirror_copy.specs.Conflicts.{IsNoConflict};
+ghost use Rattle.mirror_copy.specs.ReadShelf.{TellsStands};
+
+use crate::fault::BringFault;
+use crate::read_shelf::ReadableShelf;
+use tlog_tiles::Path;
+
+fn is_same(first: &[u8], second: &[u8]) -> bool
+    ensures { IsTrue result ↔ (first.now ≡ second.now) }
+{
+    first == second
+}
+
+// Whether the bytes stand at the path.
+fn stands<D: ReadableShelf>(shelf: &mut D, path: &Path, bytes: &[u8]) -> Result<bool, BringFault>
+    ensures fault { IfErr result IsNoConflict }
+    ensures same { KeepsTold (D.puts shelf.old) (D.puts shelf.new) }
+    ensures there { IfOk result (λ b. IsTrue b
+        → TellsStands (D.puts shelf.old) (D.puts shelf.new) path.now bytes.now) }
+{
+    match shelf.read(path)? {
+        Some(there) => Ok(is_same(&there, bytes)),
+        None => Ok(false),
+    }
+}
+
+/// Puts the file, if it does not stand yet.
+pub(crate) fn keep<D: ReadableShelf>(
+    shelf: &mut D,
+    path: &Path,
+    bytes: &[u8],
+) -> Result<(), BringFault>
+    ensures fault { IfErr result IsNoConflict }
+    ensures puts { KeepsTold (D.puts shelf.old) (D.puts shelf.new)
+        ⊎ AddsTold (D.puts shelf.old) (D.puts shelf.new) ((path.now, bytes.now) ∷ []) }
+    ensures stands { OnOk result
+        (TellsStands (D.puts shelf.old) (D.puts shelf.new) path.now bytes.now) }
+{
+    if stands(shelf, path, bytes)? {
+        return Ok(());
+    }
+    shelf.put(path, bytes)?;
+    Ok(())
+}

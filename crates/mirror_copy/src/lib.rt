@@ -1,0 +1,33 @@
+//! A copy of a log: a folder that any web server gives out as the log (C2SP tlog-tiles), brought to a larger checkpoint from
+//! places that are not trusted. It takes little memory, whatever the size of the log: each file is verified before it is put.
+//!
+//! ```text
+//! bring_copy::<Sha256Tree, MemShelf, ListSource<Sha256Tree>>(alloc, "ex", &mut shelf, &mut places, note)? // 257: how many entries it had
+//! ```
+#![tactic(auto)]
+
+mod bring;
+mod copy;
+mod edge;
+mod edge_bundle;
+mod edge_hash;
+mod fault;
+mod find;
+mod find_edge;
+mod head;
+mod keep;
+mod last;
+mod laws;
+mod place_files;
+mod read_shelf;
+mod read_tip;
+mod tip;
+mod to_edge;
+mod verify;
+
+pub use copy::bring_copy;
+pub use fault::BringFault;
+pub use laws::{
+    empty_tip_law, makes_copy_law, new_files_law, root_law, same_copy_law, stays_copy_law,
+};
+pub use read_shelf::ReadableShelf;

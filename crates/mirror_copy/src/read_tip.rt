@@ -1,0 +1,71 @@
+//! The tip of the copy that stands on a shelf.
+ghost use Rattle.std.specs.Prelude.{◌≡◌, IfErr, IfOk};
+ghost use Rattle.mirror_sources.specs.Told.{KeepsTold};
+ghost use Rattle.mirror_copy.specs.Conflicts.{IsNoConflict};
+ghost use Rattle.mirror_copy.specs.Edges.{HasWidths};
+ghost use Rattle.mirror_copy.specs.Found.{IsBundleRead, IsTipRead};
+
+use crate::edge::EdgeRows;
+use crate::edge_bundle::accept_edge_bundle;
+use crate::fault::BringFault;
+use crate::find_edge::edge_on_shelf;
+use crate::head::head_of;
+use crate::read_shelf::ReadableShelf;
+use crate::tip::CopyTip;
+use std::alloc::Global;
+use tlog_hash::TreeHash;
+use tlog_shape::edge_index;
+use tlog_tiles::Path;
+
+// The partial bundle at the edge as it stands on the shelf, with the leaf hashes of the lowest row; no bytes where there is none.
+fn bundle_on_shelf<H: TreeHash, D: ReadableShelf>(
+    alloc: Global,
+    shelf: &mut D,
+    edge: &EdgeRows,
+) -> Result<Vec<u8>, BringFault>
+    requires { HasWidths edge.now }
+    ensures fault { IfErr result IsNoConflict }
+    ensures same { KeepsTold (D.puts shelf.old) (D.puts shelf.new) }
+    ensures bundle { IfOk result (λ bytes. IsBundleRead
+        (D.puts shelf.old) edge.now.size bytes.items) }
+{
+    let row = edge.row(0);
+    if row.is_empty() {
+        return Ok(Vec::new(alloc));
+    }
+    let path = Path::Entries {
+        index: edge_index(edge.size(), 0),
+        width: row.len() as u32,
+    };
+    let given = shelf.read(&path)?;
+    match accept_edge_bundle::<H>(alloc, row, given)? {
+        Some(bytes) => Ok(bytes),
+        None => Err(BringFault::CopyDamaged),
+    }
+}
+
+/// The tip of the copy that stands on a shelf: its checkpoint is a note of the origin, the edge rows of its size lead to its root,
+/// and the partial bundle at the edge has the leaf hashes of the lowest row. No signature is looked at, and no other file is read.
+/// Where no checkpoint stands, the copy is empty.
+pub(crate) fn read_tip<H: TreeHash, D: ReadableShelf>(
+    alloc: Global,
+    origin: &str,
+    shelf: &mut D,
+) -> Result<CopyTip, BringFault>
+    ensures fault { IfErr result IsNoConflict }
+    ensures same { KeepsTold (D.puts shelf.old) (D.puts shelf.new) }
+    ensures tip { IfOk result (λ tip. IsTipRead H.digest origin.now (D.puts shelf.old) tip) }
+{
+    let Some(checkpoint) = shelf.read(&Path::Checkpoint)? else {
+        return Ok(CopyTip::empty(alloc));
+    };
+    let Some(head) = head_of(alloc, origin, &checkpoint)? else {
+        return Err(BringFault::CopyDamaged);
+    };
+    let root = head.1;
+    let Some(edge) = edge_on_shelf::<H, D>(alloc, shelf, head.0, &root)? else {
+        return Err(BringFault::CopyDamaged);
+    };
+    let bundle = bundle_on_shelf::<H, D>(alloc, shelf, &edge)?;
+    Ok(CopyTip::new(edge, bundle, checkpoint))
+}

@@ -1,0 +1,138 @@
+//! The right edge of the copy that stands before.
+ghost use Rattle.std.specs.Prelude.{◌≡◌, ◌≢◌, ◌↔◌, ◌≤◌, ◌⊎◌, [], IfNone, IfSome, IsFalse, IsTrue, Some, get_or, length, option_map, take};
+ghost use Rattle.tlog_shape.specs.Edge.{width_of, edge_index_of};
+ghost use Rattle.mirror_copy.specs.Growing.{empty_tip};
+
+use crate::edge::EdgeRows;
+use std::alloc::Global;
+use std::marker::Model;
+use tlog_hash::Hash;
+use tlog_shape::{edge_index, edge_width};
+
+/// The tip of a copy: its edge, the bytes of the partial bundle there, and the checkpoint that stood when they were read, None where
+/// there was none.
+#[derive(Drop)]
+pub(crate) struct CopyTip {
+    edge: EdgeRows,
+    bundle: Vec<u8>,
+    checkpoint: Option<Vec<u8>>,
+}
+
+impl Model for CopyTip {
+    ghost use Rattle.std.specs.Prelude.{option_map};
+    ghost use Rattle.mirror_copy.specs.Growing.{Tip};
+
+    ghost Value = { Tip };
+
+    ghost view = { λ a. record {
+      size = a.edge.size;
+      rows = a.edge.rows;
+      bundle = a.bundle.items;
+      checkpoint = option_map (λ v. v.items) a.checkpoint;
+    } };
+}
+
+pub(crate) fn is_same_row(first: &[Hash], second: &[Hash]) -> bool
+    ensures { IsTrue result ↔ (first.now ≡ second.now) }
+{
+    first == second
+}
+
+fn is_same(first: &[u8], second: &[u8]) -> bool
+    ensures { IsTrue result ↔ (first.now ≡ second.now) }
+{
+    first == second
+}
+
+// Whether the hashes begin with those.
+fn begins_with(row: &[Hash], old: &[Hash]) -> bool
+    ensures { IsTrue result → take (length old.now) row.now ≡ old.now }
+{
+    old.len() <= row.len() && is_same_row(&row[..old.len()], old)
+}
+
+// Whether the bytes begin with those.
+fn goes_on_from(bytes: &[u8], old: &[u8]) -> bool
+    ensures { IsTrue result → take (length old.now) bytes.now ≡ old.now }
+{
+    old.len() <= bytes.len() && is_same(&bytes[..old.len()], old)
+}
+
+impl CopyTip {
+    /// The tip of a copy with that edge and that partial bundle, under that checkpoint.
+    pub(crate) fn new(edge: EdgeRows, bundle: Vec<u8>, checkpoint: Vec<u8>) -> CopyTip
+        ensures size { result.size ≡ edge.size }
+        ensures rows { result.rows ≡ edge.rows }
+        ensures bundle { result.bundle ≡ bundle.items }
+        ensures checkpoint { result.checkpoint ≡ Some checkpoint.items }
+    {
+        CopyTip {
+            edge,
+            bundle,
+            checkpoint: Some(checkpoint),
+        }
+    }
+
+    /// The tip where there is no checkpoint.
+    pub(crate) fn empty(alloc: Global) -> CopyTip
+        ensures { result ≡ empty_tip }
+    {
+        CopyTip {
+            edge: EdgeRows::new(0, Vec::new(alloc)),
+            bundle: Vec::new(alloc),
+            checkpoint: None,
+        }
+    }
+
+    /// The checkpoint that stood.
+    pub(crate) fn checkpoint(&self) -> Option<&[u8]>
+        ensures { option_map (λ b. b.now) result ≡ self.now.checkpoint }
+    {
+        match &self.checkpoint {
+            Some(bytes) => Some(bytes.as_slice()),
+            None => None,
+        }
+    }
+
+    pub(crate) fn size(&self) -> u64
+        ensures { result ≡ self.now.size }
+    {
+        self.edge.size()
+    }
+
+    fn row(&self, level: u32) -> &[Hash]
+        ensures { result.now ≡ get_or self.now.rows level [] }
+    {
+        self.edge.row(level)
+    }
+
+    /// How many hashes of a tile are of the copy's entries alone; None where these are others than the copy's.
+    pub(crate) fn first_new(&self, level: u32, index: u64, row: &[Hash]) -> Option<u64>
+        requires level { level ≤ 7 }
+        ensures first { IfSome result (λ first. ((index ≡ edge_index_of self.now.size level)
+            × (first ≡ width_of self.now.size level) × (take first row.now ≡ get_or self.now.rows level []))
+            ⊎ ((index ≢ edge_index_of self.now.size level) × (first ≡ 0))) }
+        ensures none { IfNone result (index ≡ edge_index_of self.now.size level) }
+        ensures within { IfSome result (λ first. first ≤ length row.now) }
+    {
+        if index != edge_index(self.size(), level) {
+            return Some(0);
+        }
+        let width = edge_width(self.size(), level);
+        let old = self.row(level);
+        if old.len() as u64 == u64::from(width) && begins_with(row, old) {
+            Some(u64::from(width))
+        } else {
+            None
+        }
+    }
+
+    /// Whether a bundle begins with the bytes of the copy's partial one, if it is at its place.
+    pub(crate) fn goes_on(&self, index: u64, bytes: &[u8]) -> bool
+        ensures other { IsFalse result → index ≡ edge_index_of self.now.size 0 }
+        ensures same { IsTrue result → index ≡ edge_index_of self.now.size 0
+            → take (length self.now.bundle) bytes.now ≡ self.now.bundle }
+    {
+        index != edge_index(self.size(), 0) || goes_on_from(bytes, &self.bundle)
+    }
+}

@@ -1,0 +1,107 @@
+//! A copy brought to a larger checkpoint.
+ghost use Rattle.std.specs.Prelude.{◌≡◌, ◌↔◌, ◌^◌, ◌<◌, ◌≤◌, ℕ, IfErr, IsTrue, List, length};
+ghost use Rattle.tlog_shape.specs.Edge.{edge_index_of, width_of};
+ghost use Rattle.mirror_copy.specs.Conflicts.{ConflictPutsNothing, IsNoConflict};
+ghost use Rattle.mirror_copy.specs.Growing.{IsKnown};
+ghost use Rattle.mirror_copy.specs.Edges.{BringsToEdge, HasWidths, IsTrueRow, PutsEdgeTile, PutsEdgeTiles};
+
+use crate::edge::{EdgeRows, bring_levels};
+use crate::edge_bundle::bring_edge_bundle;
+use crate::fault::BringFault;
+use crate::keep::keep;
+use crate::last::put_last;
+use crate::read_shelf::ReadableShelf;
+use crate::tip::CopyTip;
+use mirror_sources::Source;
+use std::alloc::Global;
+use tlog_hash::TreeHash;
+use tlog_shape::{edge_index, edge_width};
+use tlog_tiles::{Path, write_row};
+
+// Whether the partial tile of a level is that of the old tip.
+fn is_old(size: u64, old_size: u64, level: u32) -> bool
+    requires { level ≤ 7 }
+    ensures { IsTrue result ↔ ((edge_index_of size level ≡ edge_index_of old_size level)
+        × (width_of size level ≡ width_of old_size level)) }
+{
+    edge_index(size, level) == edge_index(old_size, level)
+        && edge_width(size, level) == edge_width(old_size, level)
+}
+
+// Puts the partial tile of a level, if there is one that the old tip does not have.
+fn put_edge_tile<H: TreeHash, D: ReadableShelf>(
+    alloc: Global,
+    shelf: &mut D,
+    tip: &CopyTip,
+    edge: &EdgeRows,
+    level: u32,
+) -> Result<(), BringFault>
+    requires level { level ≤ 7 }
+    requires larger { tip.now.size < edge.now.size }
+    requires widths { HasWidths edge.now }
+    ensures fault { IfErr result IsNoConflict }
+    ensures puts { (entries : List (List ℕ)) → length entries ≡ edge.now.size
+        → IsTrueRow H.digest edge.now entries level
+        → PutsEdgeTile H.digest tip.now.size edge.now entries (D.puts shelf.old)
+        (D.puts shelf.new) level result }
+{
+    let row = edge.row(level);
+    if row.is_empty() {
+        return Ok(());
+    }
+    if is_old(edge.size(), tip.size(), level) {
+        return Ok(());
+    }
+    let path = Path::Tile {
+        level,
+        index: edge_index(edge.size(), level),
+        width: edge_width(edge.size(), level),
+    };
+    let bytes = write_row(alloc, row)?;
+    keep(shelf, &path, &bytes)
+}
+
+// Puts the partial tiles that the old tip does not have.
+fn put_edge_tiles<H: TreeHash, D: ReadableShelf>(
+    alloc: Global,
+    shelf: &mut D,
+    tip: &CopyTip,
+    edge: &EdgeRows,
+) -> Result<(), BringFault>
+    requires larger { tip.now.size < edge.now.size }
+    requires widths { HasWidths edge.now }
+    ensures fault { IfErr result IsNoConflict }
+    ensures puts { (entries : List (List ℕ)) → length entries ≡ edge.now.size
+        → ((level : ℕ) → level ≤ 7 → IsTrueRow H.digest edge.now entries level)
+        → PutsEdgeTiles H.digest tip.now.size edge.now entries (D.puts shelf.old)
+        (D.puts shelf.new) result }
+{
+    for level in 0..8u32 {
+        put_edge_tile::<H, D>(alloc, shelf, tip, edge, level)?;
+    }
+    Ok(())
+}
+
+/// Brings a copy to the tree of that edge, and puts its note last.
+pub(crate) fn bring_to_edge<H: TreeHash, D: ReadableShelf, S: Source>(
+    alloc: Global,
+    shelf: &mut D,
+    places: &mut [S],
+    tip: &CopyTip,
+    edge: &EdgeRows,
+    note: &[u8],
+) -> Result<(), BringFault>
+    requires size { edge.now.size < 2 ^ 63 }
+    requires larger { tip.now.size < edge.now.size }
+    requires widths { HasWidths edge.now }
+    ensures early { ConflictPutsNothing 0 tip.now.size (D.puts shelf.old)
+        (D.puts shelf.new) result }
+    ensures brings { (known : List (List ℕ)) → IsKnown H.digest tip.now 0 known
+        → BringsToEdge H.digest tip.now edge.now note.now known (D.puts shelf.old)
+        (D.puts shelf.new) result }
+{
+    bring_levels::<H, D, S>(alloc, shelf, places, tip, edge)?;
+    bring_edge_bundle::<H, D, S>(alloc, shelf, places, tip, edge)?;
+    put_edge_tiles::<H, D>(alloc, shelf, tip, edge)?;
+    put_last(shelf, tip, note)
+}
