@@ -14,7 +14,8 @@ use Rattle.mirror_sources.specs.Told.{KeepsTold, AddsTold}
 use Rattle.mirror_sources.specs.Honest.{true_bytes}
 use Rattle.mirror_folders.specs.Shelf.{Put, Stands}
 use Rattle.mirror_export.proofs.Standing.{stands_more}
-use Rattle.mirror_copy.specs.ReadShelf.{TellsRead, TellsStands}
+use Rattle.mirror_folders.specs.Shelf.{TellsRead}
+use Rattle.mirror_copy.specs.Standing.{TellsStands}
 use Rattle.mirror_copy.specs.Growing.{IsBelow, IsNewFile, Gathers, HoldsBelow}
 use Rattle.mirror_copy.proofs.Prefixes.{bytes_front}
 

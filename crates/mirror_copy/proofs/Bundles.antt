@@ -23,7 +23,7 @@ use Rattle.mirror_folders.specs.Shelf.{Put}
 use Rattle.mirror_copy.specs.Verified.{HasLeaves}
 use Rattle.mirror_copy.proofs.Growth.{gathers_keep, gathers_more, gathers_then, kept_adds}
 use Rattle.mirror_copy.proofs.Below.{below_bundle, stands_gathered, tells_earlier}
-use Rattle.mirror_copy.specs.ReadShelf.{TellsStands}
+use Rattle.mirror_copy.specs.Standing.{TellsStands}
 use Rattle.mirror_sources.specs.Honest.{true_bytes}
 use Rattle.mirror_copy.specs.Growing.{IsNewFile, Gathers, HoldsBelow, IsKnown, IsBrought, IsCutShort, Tip}
 

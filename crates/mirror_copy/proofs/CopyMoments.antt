@@ -21,7 +21,7 @@ use Rattle.mirror_model.specs.TrueLaws.{AreShort}
 use Rattle.mirror_sources.specs.Honest.{true_bytes}
 use Rattle.mirror_copy.specs.Growing.{IsNewFile, Gathers, Tip}
 use Rattle.mirror_copy.specs.Edges.{Edge, IsCopyBrought}
-use Rattle.mirror_copy.specs.ReadShelf.{TellsStands}
+use Rattle.mirror_copy.specs.Standing.{TellsStands}
 use Rattle.mirror_copy.proofs.Prefixes.{within_more}
 use Rattle.mirror_copy.proofs.Below.{stands_gathered, tells_earlier, tells_later, tells_put}
 use Rattle.mirror_copy.proofs.Growth.{kept_same}

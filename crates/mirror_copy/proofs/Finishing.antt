@@ -17,7 +17,7 @@ use Rattle.mirror_sources.specs.Told.{KeepsTold, AddsTold}
 use Rattle.mirror_sources.specs.Honest.{true_bytes}
 use Rattle.mirror_folders.specs.Shelf.{Put}
 use Rattle.mirror_export.specs.FileLaws.{IsFileOf, IsWidestIn}
-use Rattle.mirror_copy.specs.ReadShelf.{TellsStands}
+use Rattle.mirror_copy.specs.Standing.{TellsStands}
 use Rattle.mirror_copy.specs.Verified.{HasLeaves}
 use Rattle.mirror_copy.specs.Growing.{Gathers, IsBelow, IsKnown, IsCutShort, IsNewFile, Tip}
 use Rattle.mirror_copy.specs.Edges.{BringsToEdge, PutsLast, BringsEdgeBundle, PutsEdgeTile, Edge, HasWidths, IsCopyBrought, IsEdgeBrought, AreEdgeTilesPut, IsEdgeBundleBrought, IsEdgeTilePut, IsTrueRow}

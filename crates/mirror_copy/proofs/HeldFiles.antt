@@ -6,7 +6,7 @@ use Rattle.std.proofs.lemmas.List.Elements.{Contains-push_cases}
 use Rattle.tlog_tiles.specs.declared.paths.Path.{Path}
 use Rattle.mirror_folders.specs.Shelf.{Put, Stands}
 use Rattle.mirror_folders.proofs.Held.{held_more}
-use Rattle.mirror_copy.specs.ReadShelf.{TellsRead}
+use Rattle.mirror_folders.specs.Shelf.{TellsRead}
 
 module _ {X : Type 0} (seen : X → Put) (xs : List X) (path : Path) where
   more_is : (i : ℕ) (x : X) → i < length xs → x ≡ get_or xs i x →

@@ -8,7 +8,7 @@ use Rattle.tlog_tiles.specs.declared.paths.Path.{Path}
 use Rattle.mirror_sources.specs.Told.{KeepsTold}
 use Rattle.mirror_folders.specs.Shelf.{Put, Stands, HasPut}
 use Rattle.mirror_copy.specs.Found.{IsRowRead}
-use Rattle.mirror_copy.specs.ReadShelf.{TellsRead}
+use Rattle.mirror_folders.specs.Shelf.{TellsRead}
 
 abbrev pub items_of : List (Vec (List ℕ) Global) → List (List (List ℕ))
 items_of rows = map (λ row. row.items) rows

@@ -20,7 +20,7 @@ use Rattle.mirror_folders.specs.Shelf.{Put}
 use Rattle.mirror_copy.specs.Growing.{IsNewFile, Gathers, HoldsBelow, IsBelow, IsKnown, IsBrought, IsRowBrought, IsCutShort, Tip}
 use Rattle.mirror_copy.proofs.Prefixes.{level_row_front}
 use Rattle.mirror_copy.proofs.Below.{below_child, below_within, holds_gathered, tells_earlier}
-use Rattle.mirror_copy.specs.ReadShelf.{TellsStands}
+use Rattle.mirror_copy.specs.Standing.{TellsStands}
 use Rattle.mirror_sources.specs.Honest.{true_bytes}
 use Rattle.mirror_copy.proofs.Growth.{kept_adds, kept_same, gathers_keep, gathers_none, gathers_then, known_more}
 

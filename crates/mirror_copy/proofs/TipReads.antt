@@ -24,7 +24,7 @@ use Rattle.mirror_export.proofs.AllFiles.{files_are_all, partial_widest}
 use Rattle.mirror_copy.specs.Copies.{IsCopy}
 use Rattle.mirror_copy.specs.Found.{IsBundleRead, IsEdgeRead, IsRowRead, IsTipRead}
 use Rattle.mirror_copy.specs.Growing.{IsKnown, Tip}
-use Rattle.mirror_copy.specs.ReadShelf.{TellsRead}
+use Rattle.mirror_folders.specs.Shelf.{TellsRead}
 
 -- ---- one file stands at a path
 

@@ -29,7 +29,7 @@ use Rattle.mirror_copy.specs.Edges.{BringsToEdge, Edge, IsCopyBrought, PutsLast,
 use Rattle.mirror_copy.specs.Found.{IsBundleRead, IsEdgeRead, IsRowRead, IsTipRead, hash_of_edge}
 use Rattle.mirror_copy.specs.Growing.{Gathers, IsCutShort, IsKnown, IsNewFile, Tip, empty_tip}
 use Rattle.mirror_copy.specs.Moments.{AtEachMoment, HadSize, InTheEnd, IsBroughtTo, IsGrownCopy, KeepsCopy}
-use Rattle.mirror_copy.specs.ReadShelf.{TellsRead}
+use Rattle.mirror_folders.specs.Shelf.{TellsRead}
 use Rattle.mirror_copy.proofs.CopyMoments.{bringing_makes_copy, bringing_stays_copy, copy_files, new_files_keep_copies, not_file}
 use Rattle.mirror_copy.proofs.Growth.{gathers_none, kept_same, left_none}
 use Rattle.mirror_copy.proofs.Earlier.{kept_then}

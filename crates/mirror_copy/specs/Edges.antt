@@ -9,7 +9,7 @@ use Rattle.mirror_sources.specs.Told.{AddsTold, KeepsTold}
 use Rattle.mirror_sources.specs.Honest.{true_bytes}
 use Rattle.mirror_folders.specs.Shelf.{Put}
 use Rattle.mirror_export.specs.FileLaws.{IsFileOf}
-use Rattle.mirror_copy.specs.ReadShelf.{TellsStands}
+use Rattle.mirror_copy.specs.Standing.{TellsStands}
 use Rattle.mirror_copy.specs.Growing.{Tip, Gathers, HoldsBelow, IsCutShort}
 
 -- the edge of a tree: its size, and the rows of its partial tiles by their levels

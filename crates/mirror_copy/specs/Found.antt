@@ -11,7 +11,7 @@ use Rattle.mirror_copy.specs.Copies.{IsCopy}
 use Rattle.mirror_copy.specs.Edges.{Edge, HasWidths, row_at}
 use Rattle.mirror_copy.specs.Growing.{IsKnown, Tip}
 use Rattle.mirror_copy.specs.Moments.{IsBroughtTo, KeepsCopy}
-use Rattle.mirror_copy.specs.ReadShelf.{TellsRead}
+use Rattle.mirror_folders.specs.Shelf.{TellsRead}
 
 -- bytes that were given are a row of that width
 abbrev pub IsRowGiven : ℕ → Option (List ℕ) → List (List ℕ) → Type 0

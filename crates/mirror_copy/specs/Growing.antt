@@ -12,7 +12,7 @@ use Rattle.mirror_model.specs.TrueLaws.{AreShort}
 use Rattle.mirror_sources.specs.Told.{AddsTold}
 use Rattle.mirror_sources.specs.Honest.{true_bytes}
 use Rattle.mirror_folders.specs.Shelf.{Put}
-use Rattle.mirror_copy.specs.ReadShelf.{TellsStands}
+use Rattle.mirror_copy.specs.Standing.{TellsStands}
 
 -- the tip of a copy: how many entries it has, the rows of its partial tiles by their levels, the bytes of its
 -- partial bundle, and its checkpoint, where one stands

@@ -1,5 +1,5 @@
 pub mod Faults
-pub mod ReadShelf
+pub mod Standing
 pub mod Verified
 pub mod Growing
 pub mod Asked

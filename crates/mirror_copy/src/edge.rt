@@ -8,8 +8,8 @@ ghost use Rattle.mirror_copy.specs.Edges.{BringsEdge, HasWidths, row_at};
 
 use crate::bring::bring_row;
 use crate::fault::BringFault;
-use crate::read_shelf::ReadableShelf;
 use crate::tip::CopyTip;
+use mirror_folders::ReadableShelf;
 use mirror_sources::Source;
 use std::alloc::Global;
 use std::marker::Model;

@@ -7,8 +7,8 @@ ghost use Rattle.mirror_copy.specs.Conflicts.{IsNoConflict};
 ghost use Rattle.mirror_copy.specs.Verified.{Verifies};
 
 use crate::fault::BringFault;
-use crate::read_shelf::ReadableShelf;
 use crate::verify::{FullFile, verified};
+use mirror_folders::ReadableShelf;
 use mirror_sources::{Source, SourceFault};
 use std::alloc::Global;
 use tlog_hash::{Hash, TreeHash};

@@ -10,7 +10,7 @@ use crate::edge::EdgeRows;
 use crate::edge_hash::edge_hash;
 use crate::fault::BringFault;
 use crate::place_files::get_partial;
-use crate::read_shelf::ReadableShelf;
+use mirror_folders::ReadableShelf;
 use mirror_sources::Source;
 use std::alloc::Global;
 use tlog_hash::{Hash, TreeHash};

@@ -2,10 +2,10 @@
 ghost use Rattle.std.specs.Prelude.{◌≡◌, ◌↔◌, ◌⊎◌, [], ◌∷◌, IfErr, IfOk, IsTrue, OnOk};
 ghost use Rattle.mirror_sources.specs.Told.{KeepsTold, AddsTold};
 ghost use Rattle.mirror_copy.specs.Conflicts.{IsNoConflict};
-ghost use Rattle.mirror_copy.specs.ReadShelf.{TellsStands};
+ghost use Rattle.mirror_copy.specs.Standing.{TellsStands};
 
 use crate::fault::BringFault;
-use crate::read_shelf::ReadableShelf;
+use mirror_folders::ReadableShelf;
 use tlog_tiles::Path;
 
 fn is_same(first: &[u8], second: &[u8]) -> bool

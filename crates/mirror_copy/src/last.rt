@@ -4,8 +4,8 @@ ghost use Rattle.mirror_copy.specs.Conflicts.{IsNoConflict};
 ghost use Rattle.mirror_copy.specs.Edges.{PutsLast};
 
 use crate::fault::BringFault;
-use crate::read_shelf::ReadableShelf;
 use crate::tip::CopyTip;
+use mirror_folders::ReadableShelf;
 use tlog_tiles::Path;
 
 fn is_same(first: &[u8], second: &[u8]) -> bool

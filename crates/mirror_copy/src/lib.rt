@@ -19,7 +19,6 @@ mod keep;
 mod last;
 mod laws;
 mod place_files;
-mod read_shelf;
 mod read_tip;
 mod tip;
 mod to_edge;
@@ -30,4 +29,3 @@ pub use fault::BringFault;
 pub use laws::{
     empty_tip_law, makes_copy_law, new_files_law, root_law, same_copy_law, stays_copy_law,
 };
-pub use read_shelf::ReadableShelf;

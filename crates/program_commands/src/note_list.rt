@@ -98,7 +98,8 @@ pub(crate) fn files_of<'a>(
     alloc: Global,
     heads: &[HeadNote<'a>],
 ) -> Result<Vec<NoteFile<'a>>, AllocError>
-    ensures { IfOk result (λ files. map note_file files.items ≡ files_of (map head_note heads.now)) }
+    ensures { IfOk result (λ files. map note_file files.items
+        ≡ files_of (map head_note heads.now)) }
 {
     let mut files = Vec::new(alloc);
     for i in 0..heads.len() {

@@ -3,7 +3,7 @@ use Rattle.std.proofs.lemmas.List.{get_or_default}
 use Rattle.std.proofs.lemmas.Result.{err_from_is_err_and}
 use Rattle.tlog_tiles.specs.Row.{IsRow}
 use Rattle.tlog_tiles.specs.declared.paths.Path.TheVariants.{Tile}
-use Rattle.mirror_copy.specs.ReadShelf.{TellsStands}
+use Rattle.mirror_copy.specs.Standing.{TellsStands}
 use Rattle.mirror_copy.specs.Growing.{IsRowBrought}
 use Rattle.mirror_copy.proofs.Growth.{left_none, left_then, brings_ok, kept_same}
 use Rattle.mirror_sources.specs.Told.{KeepsTold}

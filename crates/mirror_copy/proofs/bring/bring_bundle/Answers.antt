@@ -4,7 +4,7 @@ use Rattle.tlog_shape.specs.Edge.{edge_index_of}
 use Rattle.tlog_tiles.specs.Row.{row_text}
 use Rattle.tlog_tiles.specs.declared.paths.Path.TheVariants.{Entries, Tile}
 use Rattle.mirror_sources.specs.Told.{KeepsTold, AddsTold}
-use Rattle.mirror_copy.specs.ReadShelf.{TellsStands}
+use Rattle.mirror_copy.specs.Standing.{TellsStands}
 use Rattle.mirror_copy.proofs.Growth.{left_none, brings_ok}
 use Rattle.mirror_copy.proofs.Bundles.{bundle_left, bundle_brought, tile_left}
 use Rattle.mirror_copy.proofs.bring.bring_bundle.Goals as goal
