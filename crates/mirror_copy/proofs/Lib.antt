@@ -15,4 +15,3 @@ pub mod RowLists
 pub mod TipReads
 pub mod WholeMoments
 pub mod SameCopies
-pub mod HeldFiles
