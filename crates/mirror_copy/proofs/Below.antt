@@ -16,7 +16,7 @@ use Rattle.mirror_folders.specs.Shelf.{Put, Stands}
 use Rattle.mirror_export.proofs.Standing.{stands_more}
 use Rattle.mirror_folders.specs.Shelf.{TellsRead}
 use Rattle.mirror_copy.specs.Standing.{TellsStands}
-use Rattle.mirror_copy.specs.Growing.{IsBelow, IsNewFile, Gathers, HoldsBelow}
+use Rattle.mirror_copy.specs.Growing.{IsBelow, IsNewFile, Obtains, HoldsBelow}
 use Rattle.mirror_copy.proofs.Prefixes.{bytes_front}
 
 -- ---- files below a tile
@@ -145,7 +145,7 @@ tells_later (Some xs) (Some ys) (Some zs) path bytes puts t same h =
 module _ (digest : List ℕ → List ℕ) (m : ℕ) where
   -- a file of the entries known stays true and stands, as more is gathered
   pub stands_gathered : (known next : List (List ℕ)) (x y z : Option (List Put)) (path : Path) →
-      Gathers digest m known next y z → IsWithin (length known) path →
+      Obtains digest m known next y z → IsWithin (length known) path →
       TellsStands x y path (true_bytes digest known path) → TellsStands x z path (true_bytes digest next path)
   stands_gathered known next x y z path g within h =
       let same : true_bytes digest next path ≡ true_bytes digest known path =
@@ -156,7 +156,7 @@ module _ (digest : List ℕ → List ℕ) (m : ℕ) where
 
   -- the same of all files below a tile
   pub holds_gathered : (level index : ℕ) (known next : List (List ℕ)) (x y z : Option (List Put)) → level ≤ 7 →
-      (index + 1) * 256 ^ (level + 1) ≤ length known → Gathers digest m known next y z →
+      (index + 1) * 256 ^ (level + 1) ≤ length known → Obtains digest m known next y z →
       HoldsBelow digest m level index known x y → HoldsBelow digest m level index next x z
   holds_gathered level index known next x y z upto le g h = λ path below new.
       stands_gathered known next x y z path g (below_within level index (length known) path upto le below)

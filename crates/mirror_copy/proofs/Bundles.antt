@@ -25,7 +25,7 @@ use Rattle.mirror_copy.proofs.Growth.{gathers_keep, gathers_more, gathers_then, 
 use Rattle.mirror_copy.proofs.Below.{below_bundle, stands_gathered, tells_earlier}
 use Rattle.mirror_copy.specs.Standing.{TellsStands}
 use Rattle.mirror_sources.specs.Honest.{true_bytes}
-use Rattle.mirror_copy.specs.Growing.{IsNewFile, Gathers, HoldsBelow, IsKnown, IsBrought, IsCutShort, Tip}
+use Rattle.mirror_copy.specs.Growing.{IsNewFile, Obtains, HoldsBelow, IsKnown, IsBrought, IsCutShort, Tip}
 
 module _ (digest : List ℕ → List ℕ) (tip : Tip) (index width : ℕ) (some_width : 1 ≤ width) (wide : width ≤ 256)
     (known : List (List ℕ)) (is : IsKnown digest tip (index * 256) known) (beyond : tip.size < 256 * index + width)
@@ -147,7 +147,7 @@ module _ (digest : List ℕ → List ℕ) (tip : Tip) (index width : ℕ) (some_
 
   module _ (x y z : Option (List Put)) (kept : KeepsTold x y)
       (puts : (KeepsTold y z) ⊎ (AddsTold y z ((Entries index width, bytes) ∷ []))) where
-    pub gathers_bundle : Gathers digest tip.size known next x z
+    pub gathers_bundle : Obtains digest tip.size known next x z
     gathers_bundle = gathers_then digest tip.size known next next x y z
         (gathers_more digest tip.size known more x y short_more kept)
         (gathers_keep digest tip.size next y z (Entries index width, bytes) puts new_bundle)
@@ -162,10 +162,10 @@ module _ (digest : List ℕ → List ℕ) (tip : Tip) (index width : ℕ) (some_
 
     module _ (w : Option (List Put)) (text : List ℕ) (text_is : text ≡ row_text row)
         (more_puts : (KeepsTold z w) ⊎ (AddsTold z w ((Tile 0 index width, text) ∷ []))) where
-      gathers_tile : Gathers digest tip.size next next z w
+      gathers_tile : Obtains digest tip.size next next z w
       gathers_tile = gathers_keep digest tip.size next z w (Tile 0 index width, text) more_puts (new_tile text text_is)
 
-      gathers_all : Gathers digest tip.size known next x w
+      gathers_all : Obtains digest tip.size known next x w
       gathers_all = gathers_then digest tip.size known next next x z w gathers_bundle gathers_tile
 
       pub tile_left : IsCutShort digest tip.size known x w

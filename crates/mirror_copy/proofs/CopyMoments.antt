@@ -19,7 +19,7 @@ use Rattle.tlog_hash.specs.Tree.{mth}
 use Rattle.mirror_model.specs.Heads.{IsHead}
 use Rattle.mirror_model.specs.TrueLaws.{AreShort}
 use Rattle.mirror_sources.specs.Honest.{true_bytes}
-use Rattle.mirror_copy.specs.Growing.{IsNewFile, Gathers, Tip}
+use Rattle.mirror_copy.specs.Growing.{IsNewFile, Obtains, Tip}
 use Rattle.mirror_copy.specs.Edges.{Edge, IsCopyBrought}
 use Rattle.mirror_copy.specs.Standing.{TellsStands}
 use Rattle.mirror_copy.proofs.Prefixes.{within_more}
@@ -39,7 +39,7 @@ not_file digest m next (Entries index width) bytes is h = h.new is.within
 
 module _ (digest : List ℕ → List ℕ) (origin note : List ℕ) (entries next : List (List ℕ)) (old new now : List Put)
     (copy : IsCopy digest origin note entries old)
-    (g : Gathers digest (length entries) entries next (Some old) (Some new)) (at : IsMoment old new now) where
+    (g : Obtains digest (length entries) entries next (Some old) (Some new)) (at : IsMoment old new now) where
   cut : at.so_far ++ at.later ≡ g.puts
   cut = append_cancel_left old (at.so_far ++ at.later) g.puts
       (sym (append_assoc old at.so_far at.later)

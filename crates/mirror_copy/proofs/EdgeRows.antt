@@ -12,7 +12,7 @@ use Rattle.tlog_tiles.proofs.EdgeLemmas.{hashes_of}
 use Rattle.mirror_sources.specs.Honest.{true_bytes}
 use Rattle.mirror_folders.specs.Shelf.{Put}
 use Rattle.mirror_copy.specs.Growing.{HoldsBelow, IsKnown, IsCutShort, IsRowBrought, Tip}
-use Rattle.mirror_copy.specs.Edges.{Edge, HasWidths, IsEdgeBrought, IsTrueRow, row_at}
+use Rattle.mirror_copy.specs.Edges.{Edge, HasWidths, IsEdgeBrought, RowIsTrue, row_at}
 use Rattle.mirror_copy.proofs.Prefixes.{level_row_front}
 use Rattle.mirror_copy.proofs.Growth.{gathers_none, gathers_then, kept_same, known_more}
 use Rattle.mirror_copy.proofs.Below.{holds_gathered, tells_earlier}
@@ -120,7 +120,7 @@ module _ (digest : List ℕ → List ℕ) (tip : Tip) (edge : Edge) (known : Lis
               (above_within x y low l some (omega arith) e))
           | inr here ↦
               let same : level ≡ l = omega arith in
-              subst (λ j. IsTrueRow digest edge b.next j) same
+              subst (λ j. RowIsTrue digest edge b.next j) same
               (sym (take_all (length row) row (omega arith)) ∙ (b.row_is
               ∙ ap (λ w. level_row digest b.next level (256 * edge_index_of n level) w) (widths level upto)))
         ];

@@ -19,8 +19,8 @@ use Rattle.mirror_folders.specs.Shelf.{Put}
 use Rattle.mirror_export.specs.FileLaws.{IsFileOf, IsWidestIn}
 use Rattle.mirror_copy.specs.Standing.{TellsStands}
 use Rattle.mirror_copy.specs.Verified.{HasLeaves}
-use Rattle.mirror_copy.specs.Growing.{Gathers, IsBelow, IsKnown, IsCutShort, IsNewFile, Tip}
-use Rattle.mirror_copy.specs.Edges.{BringsToEdge, PutsLast, BringsEdgeBundle, PutsEdgeTile, Edge, HasWidths, IsCopyBrought, IsEdgeBrought, AreEdgeTilesPut, IsEdgeBundleBrought, IsEdgeTilePut, IsTrueRow}
+use Rattle.mirror_copy.specs.Growing.{Obtains, IsBelow, IsKnown, IsCutShort, IsNewFile, Tip}
+use Rattle.mirror_copy.specs.Edges.{BringsToEdge, PutsNote, BringsEdgeBundle, PutsEdgeTile, Edge, HasWidths, IsCopyBrought, IsEdgeBrought, AreEdgeTilesPut, IsEdgeBundleBrought, IsEdgeTilePut, RowIsTrue}
 use Rattle.mirror_copy.specs.Edges.{edge_tile, row_at}
 use Rattle.mirror_copy.proofs.Prefixes.{level_row_front, within_more}
 use Rattle.mirror_copy.proofs.Growth.{gathers_keep, gathers_none, gathers_then, kept_same}
@@ -93,7 +93,7 @@ brings_last digest m edge known x y (Err e) P p f left = left
 
 pub puts_tile : (digest : List ℕ → List ℕ) (m : ℕ) (edge : Edge) (entries : List (List ℕ)) (x y : Option (List Put))
     (level : ℕ) {T E : Type 0} (r : Result T E) (P : Type 0) → OnOk r P → (P → IsEdgeTilePut digest m edge entries x y level) →
-    Gathers digest m entries entries x y → PutsEdgeTile digest m edge entries x y level r
+    Obtains digest m entries entries x y → PutsEdgeTile digest m edge entries x y level r
 puts_tile digest m edge entries x y level (Ok a) P p f left = f p
 puts_tile digest m edge entries x y level (Err e) P p f left = left
 
@@ -154,7 +154,7 @@ module _ (digest : List ℕ → List ℕ) (m : ℕ) (edge : Edge) (entries : Lis
       }
 
   module _ (y z : Option (List Put)) (level : ℕ) (upto : level ≤ 7) (some : 1 ≤ width_of edge.size level)
-      (new : IsWithin m (edge_tile edge level) → ⊥) (true_row : IsTrueRow digest edge entries level)
+      (new : IsWithin m (edge_tile edge level) → ⊥) (true_row : RowIsTrue digest edge entries level)
       (bytes : List ℕ) (is : bytes ≡ row_text (row_at edge level))
       (puts : (KeepsTold y z) ⊎ (AddsTold y z ((edge_tile edge level, bytes) ∷ []))) where
     is_new : IsNewFile digest m entries (edge_tile edge level, bytes)
@@ -164,7 +164,7 @@ module _ (digest : List ℕ → List ℕ) (m : ℕ) (edge : Edge) (entries : Lis
       bytes_are = is ∙ ap row_text true_row;
     }
 
-    pub gathers_tile : Gathers digest m entries entries y z
+    pub gathers_tile : Obtains digest m entries entries y z
     gathers_tile = gathers_keep digest m entries y z (edge_tile edge level, bytes) puts is_new
 
     pub tile_put : TellsStands y z (edge_tile edge level) bytes → IsEdgeTilePut digest m edge entries y z level
@@ -279,12 +279,12 @@ module _ (digest : List ℕ → List ℕ) (tip : Tip) (edge : Edge) (known : Lis
   abbrev m : ℕ
   m = tip.size
 
-  pub gathers_two : Gathers digest m known l.next x z
+  pub gathers_two : Obtains digest m known l.next x z
   gathers_two = gathers_then digest m known e.next l.next x y z e.gathers l.gathers
 
-  pub true_rows : (level : ℕ) → level ≤ 7 → IsTrueRow digest edge l.next level
+  pub true_rows : (level : ℕ) → level ≤ 7 → RowIsTrue digest edge l.next level
   true_rows level upto = elim (cases_lt 0 level) [
-    | inr none ↦ let same : 0 ≡ level = omega arith in subst (λ j. IsTrueRow digest edge l.next j) same l.row_is
+    | inr none ↦ let same : 0 ≡ level = omega arith in subst (λ j. RowIsTrue digest edge l.next j) same l.row_is
     | inl some ↦ e.rows_are level some upto
         ∙ sym (ap (λ (es : List (List ℕ)). level_row digest es level (256 * edge_index_of edge.size level) (width_of edge.size level))
         l.gathers.next_is
@@ -292,7 +292,7 @@ module _ (digest : List ℕ → List ℕ) (tip : Tip) (edge : Edge) (known : Lis
         (above_within digest tip edge known widths x y 1 level (omega arith) some e))
   ]
 
-  pub left_put : (w v : Option (List Put)) → Gathers digest m l.next l.next z w → KeepsTold w v → IsCutShort digest m known x v
+  pub left_put : (w v : Option (List Put)) → Obtains digest m l.next l.next z w → KeepsTold w v → IsCutShort digest m known x v
   left_put w v g kept = record {
     next = l.next;
     gathers = gathers_then digest m known l.next l.next x w v (gathers_then digest m known l.next l.next x z w gathers_two g)
@@ -303,7 +303,7 @@ module _ (digest : List ℕ → List ℕ) (tip : Tip) (edge : Edge) (note : List
     (small : edge.size < 9223372036854775808) (widths : HasWidths edge) (x y z w v : Option (List Put))
     (e : IsEdgeBrought digest tip edge known 1 x y) (l : IsEdgeBundleBrought digest tip.size edge e.next y z)
     (p : AreEdgeTilesPut digest tip.size edge l.next z w 8) (told : AddsTold w v ((Checkpoint, note) ∷ [])) where
-  two : Gathers digest tip.size known l.next x z
+  two : Obtains digest tip.size known l.next x z
   two = gathers_two digest tip edge known widths x y z e l
 
   longer : length e.next ≤ length l.next
@@ -408,7 +408,7 @@ module _ (digest : List ℕ → List ℕ) (tip : Tip) (edge : Edge) (note : List
 
 -- the answer of the last put decides
 pub ends_brought : (digest : List ℕ → List ℕ) (tip : Tip) (edge : Edge) (note : List ℕ) (known : List (List ℕ))
-    (x w v : Option (List Put)) {T E : Type 0} (r : Result T E) → PutsLast w v note r →
+    (x w v : Option (List Put)) {T E : Type 0} (r : Result T E) → PutsNote w v note r →
     (AddsTold w v ((Checkpoint, note) ∷ []) → IsCopyBrought digest tip edge note known x v) →
     (KeepsTold w v → IsCutShort digest tip.size known x v) → BringsToEdge digest tip edge note known x v r
 ends_brought digest tip edge note known x w v (Ok a) puts brought cut = brought puts

@@ -11,7 +11,7 @@ use Rattle.std.proofs.Math.Nat.{div-mul-le_self}
 use Rattle.mirror_model.specs.TrueLaws.{AreShort}
 use Rattle.mirror_sources.specs.Told.{AddsTold, KeepsTold}
 use Rattle.mirror_folders.specs.Shelf.{Put}
-use Rattle.mirror_copy.specs.Growing.{IsNewFile, Gathers, IsKnown, IsBrought, IsCutShort, BringsTile, Tip}
+use Rattle.mirror_copy.specs.Growing.{IsNewFile, Obtains, IsKnown, IsBrought, IsCutShort, BringsTile, Tip}
 use Rattle.mirror_copy.proofs.Prefixes.{bytes_front, within_more, level_row_front, part_front}
 
 pub kept_adds : (a b : Option (List Put)) → KeepsTold a b → AddsTold a b []
@@ -39,7 +39,7 @@ module _ (digest : List ℕ → List ℕ) (m : ℕ) where
   }
 
   pub gathers_none : (known : List (List ℕ)) (old new : Option (List Put)) → KeepsTold old new →
-      Gathers digest m known known old new
+      Obtains digest m known known old new
   gathers_none known old new kept = record {
     more = [];
     next_is = sym (append-nil known);
@@ -50,7 +50,7 @@ module _ (digest : List ℕ → List ℕ) (m : ℕ) where
   }
 
   pub gathers_put : (known : List (List ℕ)) (old new : Option (List Put)) (put : Put) → AddsTold old new (put ∷ []) →
-      IsNewFile digest m known put → Gathers digest m known known old new
+      IsNewFile digest m known put → Obtains digest m known known old new
   gathers_put known old new put told is = record {
     more = [];
     next_is = sym (append-nil known);
@@ -63,12 +63,12 @@ module _ (digest : List ℕ → List ℕ) (m : ℕ) where
   -- a file that was put, if it did not stand yet
   pub gathers_keep : (known : List (List ℕ)) (old new : Option (List Put)) (put : Put) →
       (KeepsTold old new) ⊎ (AddsTold old new (put ∷ [])) → IsNewFile digest m known put →
-      Gathers digest m known known old new
+      Obtains digest m known known old new
   gathers_keep known old new put (inl kept) is = gathers_none known old new kept
   gathers_keep known old new put (inr told) is = gathers_put known old new put told is
 
-  pub gathers_then : (a b c : List (List ℕ)) (x y z : Option (List Put)) → Gathers digest m a b x y →
-      Gathers digest m b c y z → Gathers digest m a c x z
+  pub gathers_then : (a b c : List (List ℕ)) (x y z : Option (List Put)) → Obtains digest m a b x y →
+      Obtains digest m b c y z → Obtains digest m a c x z
   gathers_then a b c x y z p q = record {
     more = p.more ++ q.more;
     next_is = q.next_is ∙ (ap (λ (l : List (List ℕ)). l ++ q.more) p.next_is ∙ append_assoc a p.more q.more);
@@ -94,7 +94,7 @@ module _ (digest : List ℕ → List ℕ) (m : ℕ) where
 
   -- entries that are known to be those of the log, before a file of them is put
   pub gathers_more : (known more : List (List ℕ)) (old new : Option (List Put)) → AreShort more →
-      KeepsTold old new → Gathers digest m known (known ++ more) old new
+      KeepsTold old new → Obtains digest m known (known ++ more) old new
   gathers_more known more old new short kept = record {
     more = more;
     next_is = refl;
@@ -125,7 +125,7 @@ module _ (digest : List ℕ → List ℕ) (tip : Tip) where
       omega (arith, h, div-mul-le_self m (256 ^ level))
 
   pub known_more : (start later : ℕ) (known next : List (List ℕ)) (x y : Option (List Put)) →
-      IsKnown digest tip start known → Gathers digest m known next x y → length next ≡ max m later →
+      IsKnown digest tip start known → Obtains digest m known next x y → length next ≡ max m later →
       IsKnown digest tip later next
   known_more start later known next x y is g size =
       let long = is.size_is in

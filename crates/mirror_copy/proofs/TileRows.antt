@@ -17,7 +17,7 @@ use Rattle.tlog_tiles.proofs.EdgeLemmas.{hashes_of}
 use Rattle.tlog_tiles.proofs.TileLemmas.{row_folds}
 use Rattle.mirror_sources.specs.Told.{KeepsTold, AddsTold}
 use Rattle.mirror_folders.specs.Shelf.{Put}
-use Rattle.mirror_copy.specs.Growing.{IsNewFile, Gathers, HoldsBelow, IsBelow, IsKnown, IsBrought, IsRowBrought, IsCutShort, Tip}
+use Rattle.mirror_copy.specs.Growing.{IsNewFile, Obtains, HoldsBelow, IsBelow, IsKnown, IsBrought, IsRowBrought, IsCutShort, Tip}
 use Rattle.mirror_copy.proofs.Prefixes.{level_row_front}
 use Rattle.mirror_copy.proofs.Below.{below_child, below_within, holds_gathered, tells_earlier}
 use Rattle.mirror_copy.specs.Standing.{TellsStands}
@@ -291,10 +291,10 @@ module _ (tip : Tip) (level index : ℕ) (beyond : tip.size < (index + 1) * 256 
 
       module _ (z : Option (List Put)) (bytes : List ℕ) (is : IsRow 256 bytes row)
           (puts : (KeepsTold y z) ⊎ (AddsTold y z ((Tile level index 256, bytes) ∷ []))) where
-        gathers_tile : Gathers digest m s.next s.next y z
+        gathers_tile : Obtains digest m s.next s.next y z
         gathers_tile = gathers_keep digest m s.next y z (Tile level index 256, bytes) puts (new_tile bytes is)
 
-        gathers_all : Gathers digest m known s.next x z
+        gathers_all : Obtains digest m known s.next x z
         gathers_all = gathers_then digest m known s.next s.next x y z s.gathers gathers_tile
 
         pub tile_left : IsCutShort digest m known x z

@@ -25,9 +25,9 @@ use Rattle.mirror_export.specs.SinceLaws.{HoldsFiles}
 use Rattle.mirror_export.proofs.AllFiles.{files_are_all, upto_hashes}
 use Rattle.mirror_export.proofs.Standing.{put_has, stands_more}
 use Rattle.mirror_copy.specs.Copies.{IsCopy}
-use Rattle.mirror_copy.specs.Edges.{BringsToEdge, Edge, IsCopyBrought, PutsLast, row_at}
+use Rattle.mirror_copy.specs.Edges.{BringsToEdge, Edge, IsCopyBrought, PutsNote, row_at}
 use Rattle.mirror_copy.specs.Found.{IsBundleRead, IsEdgeRead, IsRowRead, IsTipRead, hash_of_edge}
-use Rattle.mirror_copy.specs.Growing.{Gathers, IsCutShort, IsKnown, IsNewFile, Tip, empty_tip}
+use Rattle.mirror_copy.specs.Growing.{Obtains, IsCutShort, IsKnown, IsNewFile, Tip, empty_tip}
 use Rattle.mirror_copy.specs.Moments.{AtEachMoment, HadSize, InTheEnd, IsBroughtTo, IsGrownCopy, KeepsCopy}
 use Rattle.mirror_folders.specs.Shelf.{TellsRead}
 use Rattle.mirror_copy.proofs.CopyMoments.{bringing_makes_copy, bringing_stays_copy, copy_files, new_files_keep_copies, not_file}
@@ -140,7 +140,7 @@ module _ (digest : List ℕ → List ℕ) (origin note : List ℕ) (tip : Tip) (
       let is = t.copy old refl old_note entries copy in
       let b = cut entries is in
       new_files_keep_copies digest origin old_note entries b.next old new now copy
-      (subst (λ k. Gathers digest k entries b.next (Some old) (Some new)) (sym (size_known entries is)) b.gathers) at
+      (subst (λ k. Obtains digest k entries b.next (Some old) (Some new)) (sym (size_known entries is)) b.gathers) at
 
   cut_none : CutShort → (HasPut old Checkpoint → ⊥) → (now : List Put) → IsMoment old new now →
       HasPut now Checkpoint → ⊥
@@ -402,14 +402,14 @@ module _ (digest : List ℕ → List ℕ) (origin note : List ℕ) (tip : Tip) (
   empty_leads : hash_of_edge digest empty_edge ≡ root
   empty_leads = empty_edge_hash digest ∙ sym root_is
 
-  pub empty_whole : {T E : Type 0} (r : Result T E) → PutsLast x w note r → KeepsCopy digest origin note x w
+  pub empty_whole : {T E : Type 0} (r : Result T E) → PutsNote x w note r → KeepsCopy digest origin note x w
   empty_whole (Ok a) told =
       whole_brought digest origin note tip empty_edge root upto_none empty_head empty_leads x w t
       (empty_brought digest tip note x w (t.empty empty) told)
   empty_whole (Err e) kept =
       whole_cut digest origin note tip x w t (λ known k. left_none digest tip.size known x w kept)
 
-  pub empty_ends : {T E : Type 0} (r : Result T E) → PutsLast x w note r →
+  pub empty_ends : {T E : Type 0} (r : Result T E) → PutsNote x w note r →
       OnOk r (IsBroughtTo digest origin note x w)
   empty_ends (Ok a) told =
       brought_to digest origin note tip empty_edge root upto_none empty_head empty_leads x w t

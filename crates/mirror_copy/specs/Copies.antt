@@ -14,7 +14,7 @@ use Rattle.mirror_folders.specs.Shelf.{Put, Stands}
 use Rattle.mirror_export.specs.Files.{paths_of}
 use Rattle.mirror_export.specs.Exports.{IsMoment}
 use Rattle.mirror_export.specs.SinceLaws.{HoldsFiles, HoldsLog}
-use Rattle.mirror_copy.specs.Growing.{Gathers, IsKnown, Tip, empty_tip}
+use Rattle.mirror_copy.specs.Growing.{Obtains, IsKnown, Tip, empty_tip}
 use Rattle.mirror_copy.specs.Edges.{Edge, IsCopyBrought, row_at}
 
 module _ (digest : List ℕ → List ℕ) where
@@ -30,7 +30,7 @@ abbrev pub NewFilesKeepCopies : Type 0
 NewFilesKeepCopies =
     (digest : List ℕ → List ℕ) (origin note : List ℕ) (entries next : List (List ℕ)) (old new now : List Put) →
     IsCopy digest origin note entries old →
-    Gathers digest (length entries) entries next (Some old) (Some new) →
+    Obtains digest (length entries) entries next (Some old) (Some new) →
     IsMoment old new now → IsCopy digest origin note entries now
 
 -- a copy of the first entries was brought to an edge under a note that is a head of the entries then known:

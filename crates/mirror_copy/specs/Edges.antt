@@ -10,7 +10,7 @@ use Rattle.mirror_sources.specs.Honest.{true_bytes}
 use Rattle.mirror_folders.specs.Shelf.{Put}
 use Rattle.mirror_export.specs.FileLaws.{IsFileOf}
 use Rattle.mirror_copy.specs.Standing.{TellsStands}
-use Rattle.mirror_copy.specs.Growing.{Tip, Gathers, HoldsBelow, IsCutShort}
+use Rattle.mirror_copy.specs.Growing.{Tip, Obtains, HoldsBelow, IsCutShort}
 
 -- the edge of a tree: its size, and the rows of its partial tiles by their levels
 pub record Edge : Type 0 where
@@ -30,23 +30,23 @@ abbrev pub edge_tile : Edge → ℕ → Path
 edge_tile edge level = Tile level (edge_index_of edge.size level) (width_of edge.size level)
 
 -- what putting the checkpoint last comes to, by its answer
-abbrev pub PutsLast : {T E : Type 0} → Option (List Put) → Option (List Put) → List ℕ → Result T E → Type 0
-PutsLast old new note (Ok x) = AddsTold old new ((Checkpoint, note) ∷ [])
-PutsLast old new note (Err e) = KeepsTold old new
+abbrev pub PutsNote : {T E : Type 0} → Option (List Put) → Option (List Put) → List ℕ → Result T E → Type 0
+PutsNote old new note (Ok x) = AddsTold old new ((Checkpoint, note) ∷ [])
+PutsNote old new note (Err e) = KeepsTold old new
 
 module _ (digest : List ℕ → List ℕ) where
   -- the row of a level is true of the entries
-  abbrev pub IsTrueRow : Edge → List (List ℕ) → ℕ → Type 0
-  IsTrueRow edge entries level = row_at edge level
+  abbrev pub RowIsTrue : Edge → List (List ℕ) → ℕ → Type 0
+  RowIsTrue edge entries level = row_at edge level
       ≡ level_row digest entries level (256 * edge_index_of edge.size level) (width_of edge.size level)
 
   -- all that lies below the rows of the levels from low on was brought, and these rows are true
   pub record IsEdgeBrought (tip : Tip) (edge : Edge) (known : List (List ℕ)) (low : ℕ)
       (old new : Option (List Put)) : Type 0 where
     pub next : List (List ℕ)
-    pub gathers : Gathers digest tip.size known next old new
+    pub gathers : Obtains digest tip.size known next old new
     pub size_is : length next ≡ max tip.size (edge_index_of edge.size (low - 1) * 256 ^ (low - 1 + 1))
-    pub rows_are : (level : ℕ) → low ≤ level → level ≤ 7 → IsTrueRow edge next level
+    pub rows_are : (level : ℕ) → low ≤ level → level ≤ 7 → RowIsTrue edge next level
     pub holds : (level : ℕ) → low ≤ level → level ≤ 7 → (k : ℕ) → k < width_of edge.size level →
         HoldsBelow digest tip.size (level - 1) (256 * edge_index_of edge.size level + k) next old new
 
@@ -60,9 +60,9 @@ module _ (digest : List ℕ → List ℕ) where
   pub record IsEdgeBundleBrought (m : ℕ) (edge : Edge) (known : List (List ℕ)) (old new : Option (List Put))
       : Type 0 where
     pub next : List (List ℕ)
-    pub gathers : Gathers digest m known next old new
+    pub gathers : Obtains digest m known next old new
     pub size_is : length next ≡ edge.size
-    pub row_is : IsTrueRow edge next 0
+    pub row_is : RowIsTrue edge next 0
     pub holds :
         1 ≤ width_of edge.size 0 → let path =
         Entries (edge_index_of edge.size 0) (width_of edge.size 0) in
@@ -77,7 +77,7 @@ module _ (digest : List ℕ → List ℕ) where
   -- the partial tiles of the levels below some stand with true bytes, but for those of the first m entries
   pub record AreEdgeTilesPut (m : ℕ) (edge : Edge) (entries : List (List ℕ)) (old new : Option (List Put))
       (below : ℕ) : Type 0 where
-    pub gathers : Gathers digest m entries entries old new
+    pub gathers : Obtains digest m entries entries old new
     pub holds :
         (level : ℕ) → level < below → 1 ≤ width_of edge.size level →
         ¬ IsWithin m (edge_tile edge level) →
@@ -86,7 +86,7 @@ module _ (digest : List ℕ → List ℕ) where
   -- the partial tile of a level stands with true bytes, if there is one and the first m entries do not have it
   pub record IsEdgeTilePut (m : ℕ) (edge : Edge) (entries : List (List ℕ)) (old new : Option (List Put))
       (level : ℕ) : Type 0 where
-    pub gathers : Gathers digest m entries entries old new
+    pub gathers : Obtains digest m entries entries old new
     pub holds :
         1 ≤ width_of edge.size level → ¬ IsWithin m (edge_tile edge level) →
         TellsStands old new (edge_tile edge level) (true_bytes digest entries (edge_tile edge level))
@@ -95,13 +95,13 @@ module _ (digest : List ℕ → List ℕ) where
   abbrev pub PutsEdgeTile : {T E : Type 0} → ℕ → Edge → List (List ℕ) → Option (List Put) → Option (List Put) → ℕ →
       Result T E → Type 0
   PutsEdgeTile m edge entries old new level (Ok x) = IsEdgeTilePut m edge entries old new level
-  PutsEdgeTile m edge entries old new level (Err e) = Gathers digest m entries entries old new
+  PutsEdgeTile m edge entries old new level (Err e) = Obtains digest m entries entries old new
 
   -- what putting the partial tiles comes to, by its answer
   abbrev pub PutsEdgeTiles : {T E : Type 0} → ℕ → Edge → List (List ℕ) → Option (List Put) → Option (List Put) →
       Result T E → Type 0
   PutsEdgeTiles m edge entries old new (Ok x) = AreEdgeTilesPut m edge entries old new 8
-  PutsEdgeTiles m edge entries old new (Err e) = Gathers digest m entries entries old new
+  PutsEdgeTiles m edge entries old new (Err e) = Obtains digest m entries entries old new
 
   -- a copy was brought to the edge: all its entries were gathered, and all its files stand that the first m
   -- entries do not have, before the note was put
@@ -109,10 +109,10 @@ module _ (digest : List ℕ → List ℕ) where
       (old new : Option (List Put)) : Type 0 where
     pub next : List (List ℕ)
     pub before : Option (List Put)
-    pub gathers : Gathers digest tip.size known next old before
+    pub gathers : Obtains digest tip.size known next old before
     pub last : AddsTold before new ((Checkpoint, note) ∷ [])
     pub size_is : length next ≡ edge.size
-    pub rows_are : (level : ℕ) → level ≤ 7 → IsTrueRow edge next level
+    pub rows_are : (level : ℕ) → level ≤ 7 → RowIsTrue edge next level
     pub holds : (path : Path) → path ≢ Checkpoint → IsFileOf edge.size path → ¬ IsWithin tip.size path →
         TellsStands old before path (true_bytes digest next path)
 

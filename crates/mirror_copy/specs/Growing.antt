@@ -40,7 +40,7 @@ module _ (digest : List ℕ → List ℕ) where
     pub bytes_are : put.1 ≡ true_bytes digest entries put.0
 
   -- the entries next go on from those known, and what was put are new files of them, and no others
-  pub record Gathers (m : ℕ) (known next : List (List ℕ)) (old new : Option (List Put)) : Type 0 where
+  pub record Obtains (m : ℕ) (known next : List (List ℕ)) (old new : Option (List Put)) : Type 0 where
     pub more : List (List ℕ)
     pub next_is : next ≡ known ++ more
     pub short : AreShort more
@@ -68,7 +68,7 @@ module _ (digest : List ℕ → List ℕ) where
   pub record IsBrought (tip : Tip) (level index : ℕ) (hash : List ℕ) (known : List (List ℕ))
       (old new : Option (List Put)) : Type 0 where
     pub next : List (List ℕ)
-    pub gathers : Gathers tip.size known next old new
+    pub gathers : Obtains tip.size known next old new
     pub size_is : length next ≡ (index + 1) * 256 ^ (level + 1)
     pub hash_is : hash ≡ mth digest (part (index * 256 ^ (level + 1)) (256 ^ (level + 1)) next)
     pub holds : HoldsBelow tip.size level index next old new
@@ -78,7 +78,7 @@ module _ (digest : List ℕ → List ℕ) where
   pub record IsRowBrought (tip : Tip) (level index : ℕ) (row known : List (List ℕ))
       (old new : Option (List Put)) (count : ℕ) : Type 0 where
     pub next : List (List ℕ)
-    pub gathers : Gathers tip.size known next old new
+    pub gathers : Obtains tip.size known next old new
     pub size_is : length next ≡ max tip.size ((256 * index + count) * 256 ^ level)
     pub row_is : take count row ≡ level_row digest next level (256 * index) count
     pub holds : (k : ℕ) → k < count → HoldsBelow tip.size (level - 1) (256 * index + k) next old new
@@ -86,7 +86,7 @@ module _ (digest : List ℕ → List ℕ) where
   -- a bringing that ended early: some more entries were gathered
   pub record IsCutShort (m : ℕ) (known : List (List ℕ)) (old new : Option (List Put)) : Type 0 where
     pub next : List (List ℕ)
-    pub gathers : Gathers m known next old new
+    pub gathers : Obtains m known next old new
 
   -- what bringing a tile comes to, by its answer
   abbrev pub BringsTile : {T E : Type 0} → Tip → ℕ → ℕ → List ℕ → List (List ℕ) →

@@ -1,6 +1,6 @@
 //! Why a bringing ends early.
 ghost use Rattle.std.specs.Prelude.{◌≡◌};
-ghost use Rattle.mirror_copy.specs.Faults.{of_shelf};
+ghost use Rattle.mirror_copy.specs.Faults.{by_shelf};
 ghost use Rattle.mirror_copy.specs.declared.fault.BringFault.TheVariants.{OutOfMemory};
 
 use mirror_folders::ShelfError;
@@ -40,7 +40,7 @@ pub enum BringFault {
 }
 
 impl From<ShelfError> for BringFault {
-    ghost from_gives = { λ e f. f ≡ of_shelf e };
+    ghost from_gives = { λ e f. f ≡ by_shelf e };
 
     fn from(e: ShelfError) -> BringFault {
         match e {

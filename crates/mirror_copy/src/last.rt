@@ -1,7 +1,7 @@
 //! The checkpoint, which is put last.
 ghost use Rattle.std.specs.Prelude.{◌≡◌, ◌↔◌, IfErr, IsTrue};
 ghost use Rattle.mirror_copy.specs.Conflicts.{IsNoConflict};
-ghost use Rattle.mirror_copy.specs.Edges.{PutsLast};
+ghost use Rattle.mirror_copy.specs.Edges.{PutsNote};
 
 use crate::fault::BringFault;
 use crate::tip::CopyTip;
@@ -30,7 +30,7 @@ pub(crate) fn put_last<D: ReadableShelf>(
     note: &[u8],
 ) -> Result<(), BringFault>
     ensures fault { IfErr result IsNoConflict }
-    ensures puts { PutsLast (D.puts shelf.old) (D.puts shelf.new) note.now result }
+    ensures puts { PutsNote (D.puts shelf.old) (D.puts shelf.new) note.now result }
 {
     let now = shelf.read(&Path::Checkpoint)?;
     let same = match &now {

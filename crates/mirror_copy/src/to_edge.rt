@@ -3,7 +3,7 @@ ghost use Rattle.std.specs.Prelude.{◌≡◌, ◌↔◌, ◌^◌, ◌<◌, ◌�
 ghost use Rattle.tlog_shape.specs.Edge.{edge_index_of, width_of};
 ghost use Rattle.mirror_copy.specs.Conflicts.{ConflictPutsNothing, IsNoConflict};
 ghost use Rattle.mirror_copy.specs.Growing.{IsKnown};
-ghost use Rattle.mirror_copy.specs.Edges.{BringsToEdge, HasWidths, IsTrueRow, PutsEdgeTile, PutsEdgeTiles};
+ghost use Rattle.mirror_copy.specs.Edges.{BringsToEdge, HasWidths, RowIsTrue, PutsEdgeTile, PutsEdgeTiles};
 
 use crate::edge::{EdgeRows, bring_levels};
 use crate::edge_bundle::bring_edge_bundle;
@@ -41,7 +41,7 @@ fn put_edge_tile<H: TreeHash, D: ReadableShelf>(
     requires widths { HasWidths edge.now }
     ensures fault { IfErr result IsNoConflict }
     ensures puts { (entries : List (List ℕ)) → length entries ≡ edge.now.size
-        → IsTrueRow H.digest edge.now entries level
+        → RowIsTrue H.digest edge.now entries level
         → PutsEdgeTile H.digest tip.now.size edge.now entries (D.puts shelf.old)
         (D.puts shelf.new) level result }
 {
@@ -72,7 +72,7 @@ fn put_edge_tiles<H: TreeHash, D: ReadableShelf>(
     requires widths { HasWidths edge.now }
     ensures fault { IfErr result IsNoConflict }
     ensures puts { (entries : List (List ℕ)) → length entries ≡ edge.now.size
-        → ((level : ℕ) → level ≤ 7 → IsTrueRow H.digest edge.now entries level)
+        → ((level : ℕ) → level ≤ 7 → RowIsTrue H.digest edge.now entries level)
         → PutsEdgeTiles H.digest tip.now.size edge.now entries (D.puts shelf.old)
         (D.puts shelf.new) result }
 {

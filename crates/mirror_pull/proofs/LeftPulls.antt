@@ -28,7 +28,7 @@ use Rattle.mirror_sources.specs.Told.{AddsTold}
 use Rattle.mirror_sources.specs.Honest.{Gets, GetsNone, IsHonest}
 use Rattle.mirror_pull.specs.Honest.{AreFrontRounds, NoClashAmong, with_true}
 use Rattle.mirror_pull.specs.Parts.{MayTake, MayWork}
-use Rattle.mirror_pull.specs.Repeated.{FetchesFiles, KeepsFiles, KeepsHonestly}
+use Rattle.mirror_pull.specs.Repeated.{FetchesFiles, KeepsFound, KeepsHonestly}
 use Rattle.mirror_pull.specs.Replying.{Asks, AsksNew, AsksAgain, AsksNext, NextNone, NextPath, NextFull}
 use Rattle.mirror_pull.specs.Replying.{IsInRounds, RoundsOver, RoundUnder, IsUnanswered, GetFailed, MemoryRefused}
 use Rattle.mirror_pull.specs.Replying.{StopsTaking, StopsAsking, StopsClashed, StopsExhausted, EndsEarly, EndsAsking}
@@ -246,7 +246,7 @@ module _ (digest : List ℕ → List ℕ) (hash : IsDigest digest) (entries : Li
     (is : IsHonest digest entries v.origin keys note size may) (clean : NoClashAmong digest entries v size) where
   keeps : (replies : List Reply) (tried : List Path) → MayReply may replies →
       AddsTold old new (asked_paths replies ++ tried) → IsLeftBehind digest keys v w replies tried →
-      KeepsFiles digest entries note size v w old new
+      KeepsFound digest entries note size v w old new
   keeps replies tried mays told left =
       let b = left.at in
       let g = b.gives in
@@ -280,8 +280,8 @@ module _ (digest : List ℕ → List ℕ) (hash : IsDigest digest) (entries : Li
       (append_assoc (asked_paths r.replies) (asked_paths r.last) (left.path ∷ [])) ∙
       (sym (append_assoc (Checkpoint ∷ asked_paths edge) (asked_paths r.replies) last) ∙
       ap (λ (l : List Path). (Checkpoint ∷ l) ++ last) (sym (paths_then edge r.replies))))))) in
-      subst (λ (n : ℕ). KeepsFiles digest entries note n v w old new) started.honestly.size_is
-      (subst (λ (b : List ℕ). KeepsFiles digest entries b read.size v w old new) started.same (record {
+      subst (λ (n : ℕ). KeepsFound digest entries note n v w old new) started.honestly.size_is
+      (subst (λ (b : List ℕ). KeepsFound digest entries b read.size v w old new) started.same (record {
         edge = edge;
         edge_founds = rows.gets.founds;
         edge_gets = rows.gets.are;

@@ -50,7 +50,7 @@ PullsFetchFilesOnce =
 -- a pull that was left by its source, which is honest for the entries: behind the edge the gets for
 -- these files of the first of them were answered, all of which it keeps, and at most one more, of a
 -- partial path; then one get failed
-pub record KeepsFiles (digest : List ℕ → List ℕ) (entries : List (List ℕ)) (note : List ℕ)
+pub record KeepsFound (digest : List ℕ → List ℕ) (entries : List (List ℕ)) (note : List ℕ)
     (size : ℕ) (v w : View) (old new : Option (List Path)) : Type 0 where
   pub edge : List Reply
   pub edge_founds : List Path
@@ -74,4 +74,4 @@ KeepsHonestly digest keys v w may old new result =
     (entries : List (List ℕ)) (note : List ℕ) (size : ℕ) →
     IsHonest digest entries v.origin keys note size may →
     NoClashAmong digest entries v size →
-    IfErr result (λ e. e ≡ Source → (w ≡ v) ⊎ KeepsFiles digest entries note size v w old new)
+    IfErr result (λ e. e ≡ Source → (w ≡ v) ⊎ KeepsFound digest entries note size v w old new)
