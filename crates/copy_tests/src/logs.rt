@@ -25,7 +25,7 @@ fn entry(alloc: Global, number: u32, forked: bool) -> Result<Vec<u8>, AllocError
     Vec::from_slice(alloc, &number.to_be_bytes())
 }
 
-// The first entries, so many of them.
+// The first entries, as a list.
 fn entries(alloc: Global, count: u32, forked: bool) -> Result<Vec<Vec<u8>>, AllocError>
     ensures { IfOk result (λ entries. AreShort (map (λ e. e.items) entries.items)) }
 {

@@ -229,7 +229,7 @@ const TIP: [Path; 4] = [
     EDGE_BUNDLE,
 ];
 
-// A copy of C(600) of which a file is read that has another first byte is not brought further.
+// A copy of C(600) with another first byte in a file that is read is not brought further.
 #[test]
 fn copy_damaged(rt: HostRuntime) -> Result<(), Fail> {
     let alloc = rt.alloc();

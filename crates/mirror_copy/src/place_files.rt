@@ -23,7 +23,7 @@ fn full_of(path: &Path) -> Path {
     }
 }
 
-// The first entries of a bundle, so many of them; None where it has fewer.
+// The first `count` entries of a bundle; None where it has fewer.
 fn first_entries(bundle: &[u8], count: u32) -> Option<&[u8]> {
     let mut rest = bundle;
     for _ in 0..count {

@@ -122,7 +122,7 @@ pub(crate) fn head_notes<H: TreeHash>(
         };
         heads.push(head_of(alloc, bytes)?)?;
     }
-    // No memory holds so many.
+    // No memory holds that many.
     Err(AllocError)
 }
 

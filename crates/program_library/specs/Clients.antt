@@ -27,14 +27,14 @@ module _ (digest : List ℕ → List ℕ) (v : View) where
       IfSome old (λ before. (e : Exchange) × IsAnswer answer e × (new ≡ Some (before ++ e ∷ [])))
   AnswersNext old new (Err error) = new ≡ old
 
-  -- so many clients more were answered
+  -- that number of further clients was answered
   abbrev pub AnswersMore : ℕ → Option (List Exchange) → Option (List Exchange) → Type 0
   AnswersMore count old new =
       IfSome old
       (λ before. (more : List Exchange) × (length more ≡ count) × All IsAnswered more
       × (new ≡ Some (before ++ more)))
 
-  -- so many were; or fewer, and then no connection was accepted
+  -- all of them were; or fewer, and then no connection was accepted
   abbrev pub AnswersClients : {E : Type 0} → ℕ → Option (List Exchange) → Option (List Exchange) →
       Result (Unit {0}) E → Type 0
   AnswersClients count old new (Ok x) = AnswersMore count old new

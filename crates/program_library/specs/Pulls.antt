@@ -60,7 +60,7 @@ most_replied (Folder folder) = 16_777_472
 most_replied (Server host prefix address port) = 16_785_664
 
 -- unless memory was refused, the answer of a pull from the view `start` to this one follows from
--- replies of at most so many bytes each
+-- replies of at most that length each
 abbrev pub FollowsShortReplies : (List ℕ → List ℕ) → List Key → ℕ → View → View →
     Result Pulled PullFault → Type 0
 FollowsShortReplies digest keys most start v answer =

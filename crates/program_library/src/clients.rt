@@ -9,10 +9,10 @@ use std::time::Duration;
 use tlog_hash::TreeHash;
 use tlog_mirror::Mirror;
 
-// A client has so many seconds to send the head of its request.
+// The seconds that a client has to send the head of its request.
 const HEAD_SECONDS: u64 = 10;
 
-// A client has so many seconds for all, so that 60 are left for the reply at least.
+// The seconds that a client has for all, so that 60 are left for the reply at least.
 const ALL_SECONDS: u64 = 70;
 
 /// Clients that connect one after another. Each is answered once.

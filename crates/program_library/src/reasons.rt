@@ -173,7 +173,7 @@ fn of_words<R: Files>(
     }
 }
 
-// The file whose note was refused: `read_heads` told its name to the files.
+// The file whose note was refused: `read_heads` gave its name to the files.
 fn of_note<R: Files>(alloc: Global, files: &SystemFiles<'_, R>) -> Option<Why> {
     match files.take_reason() {
         Some(name) => Why::of_thing(alloc, &name),

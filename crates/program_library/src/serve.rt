@@ -142,7 +142,7 @@ fn listening_line(alloc: Global, port: u16) -> Result<String, AllocError>
     format!(in alloc; "listening 127.0.0.1:{port}\n")
 }
 
-// Answers so many clients, one after the other, as long as connections can be accepted.
+// Answers clients one after the other, as many as asked, while connections are accepted.
 fn serve_all<H: TreeHash, C: Clock, S: Clients, E: Write>(
     clock: &C,
     alloc: Global,
