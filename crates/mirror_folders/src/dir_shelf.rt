@@ -3,13 +3,14 @@ ghost use Rattle.std.specs.Prelude.{◌≡◌};
 ghost use Rattle.mirror_folders.specs.Shelf.{CountsError};
 
 use crate::failed::FailedFile;
-use crate::flush::{flush_files, flush_folder};
+use crate::flush::flush_folder;
 use crate::folders::NamedFolders;
 use crate::leftovers::Leftovers;
 use crate::place::{count_failure, file_path, folder_of, is_missing};
 use crate::reading::read_file;
 use crate::replace::put_whole;
 use crate::shelf::{ReadableShelf, Shelf, ShelfError};
+use crate::unflushed::Unflushed;
 use std::alloc::{AllocError, Global};
 use std::fs::Files;
 use std::io::ErrorKind;
@@ -35,8 +36,9 @@ impl<'a> FolderName<'a> {
 
 /// A folder as a shelf: a file lies at the folder's path, a slash, and the text of its path in the log. Folders that
 /// are missing are made, and a file is replaced whole, as by `replace_file`. What was put is flushed to the device, with
-/// the folders that it lies in, before a checkpoint is put, and not file by file: what is behind a checkpoint is on the
-/// device before that stands there. What a folder holds no contract says: contracts see how many calls failed.
+/// the folders that it lies in, before a checkpoint is put, so what is behind a checkpoint is on the device before that
+/// stands there. It is flushed in parts, of at most 1,024 files: memory does not grow with the log. What a folder holds no
+/// contract says: contracts see how many calls failed.
 ///
 /// A folder of the empty name has no files: each call fails.
 ///
@@ -58,8 +60,8 @@ pub struct DirShelf<'a, R: Files> {
 // changes none of that.
 #[derive(Drop)]
 struct Recent {
-    // What was put since the last checkpoint.
-    unflushed: Vec<Path>,
+    // What is to be flushed before the next checkpoint.
+    unflushed: Unflushed,
     // What earlier runs left in the folder that was put into last.
     left: Leftovers,
 }
@@ -68,7 +70,7 @@ impl Recent {
     // Nothing was put yet. It takes no memory.
     fn none(alloc: Global) -> Recent {
         Recent {
-            unflushed: Vec::new(alloc),
+            unflushed: Unflushed::none(alloc),
             left: Leftovers::none(alloc),
         }
     }
@@ -89,7 +91,7 @@ impl Recent {
         if *path == Path::Checkpoint {
             self.write_last(files, alloc, folder, place.as_str(), bytes)
         } else {
-            self.unflushed.push(*path)?;
+            self.unflushed.add(files, alloc, folder, path)?;
             put_whole(files, alloc, place.as_str(), bytes, &self.left, false)
         }
     }
@@ -103,8 +105,7 @@ impl Recent {
         place: &str,
         bytes: &[u8],
     ) -> io::Result<()> {
-        flush_files(files, alloc, folder, self.unflushed.as_slice())?;
-        self.unflushed.clear();
+        self.unflushed.flush_all(files, alloc, folder)?;
         put_whole(files, alloc, place, bytes, &self.left, true)?;
         // The checkpoint stands: what the system says of its folder changes nothing.
         let _flushed = flush_folder(files, folder_of(place));
@@ -182,6 +183,18 @@ impl<'a, R: Files> Shelf for DirShelf<'a, R> {
         match self
             .recent
             .write(self.files, self.alloc, folder, path, bytes)
+        {
+            Ok(()) => Ok(()),
+            Err(e) => Err(self.fault(path, e)),
+        }
+    }
+
+    fn flush_before_checkpoint(&mut self, path: &Path) -> Result<(), ShelfError> {
+        let folder = self.folder.text();
+        match self
+            .recent
+            .unflushed
+            .add(self.files, self.alloc, folder, path)
         {
             Ok(()) => Ok(()),
             Err(e) => Err(self.fault(path, e)),

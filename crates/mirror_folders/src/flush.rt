@@ -1,6 +1,7 @@
 //! Files and folders flushed to the device.
 use crate::place::{file_path, folder_of, is_missing};
 use std::alloc::Global;
+use std::collections::BTreeSet;
 use std::fs::{Files, OpenFile};
 use std::io::ErrorKind;
 use std::{fs, io};
@@ -29,47 +30,48 @@ pub(crate) fn flush_file<R: Files>(files: &R, place: &str) -> io::Result<()> {
     }
 }
 
-// Flushes files of a log that lie in a folder, then the folders that they lie in, each once for files in a row, and that
-// folder itself; last those above it, where the system lets it, since the folder may be new there.
+// Flushes files of a log that lie in a folder, then the folders in it that they lie in, each once.
 pub(crate) fn flush_files<R: Files>(
     files: &R,
     alloc: Global,
     folder: &str,
     paths: &[Path],
 ) -> io::Result<()> {
+    let mut inner = BTreeSet::new(alloc);
     for path in paths {
         let place = file_path(alloc, folder, path)?;
         flush_file(files, place.as_str())?;
+        add_between(alloc, &mut inner, folder, folder_of(place.as_str()))?;
     }
-    let mut last = String::new(alloc);
-    for path in paths {
-        let place = file_path(alloc, folder, path)?;
-        let inner = folder_of(place.as_str());
-        if inner != last.as_str() {
-            flush_between(files, folder, inner)?;
-            last = String::from_str(alloc, inner)?;
-        }
+    for place in &inner {
+        flush_folder(files, place.as_str())?;
     }
-    flush_folder(files, folder)?;
-    flush_above(files, folder_of(folder));
     Ok(())
 }
 
-// Flushes a folder, and those above it down to the outer one, which is not flushed.
-fn flush_between<R: Files>(files: &R, outer: &str, inner: &str) -> io::Result<()> {
+// Adds a folder, and those above it down to the outer one, which is not added. Above one that was added before all are.
+fn add_between(
+    alloc: Global,
+    folders: &mut BTreeSet<String>,
+    outer: &str,
+    inner: &str,
+) -> io::Result<()> {
     let mut folder = inner;
     for _ in 0..inner.len() {
         if folder.len() <= outer.len() {
             break;
         }
-        flush_folder(files, folder)?;
+        let is_new = folders.insert(String::from_str(alloc, folder)?)?;
+        if !is_new {
+            break;
+        }
         folder = folder_of(folder);
     }
     Ok(())
 }
 
 // Flushes a folder and all above it that its name names, where the system lets it.
-fn flush_above<R: Files>(files: &R, folder: &str) {
+pub(crate) fn flush_above<R: Files>(files: &R, folder: &str) {
     let mut above = folder;
     for _ in 0..folder.len() {
         let _flushed = flush_folder(files, above);

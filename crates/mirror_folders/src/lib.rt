@@ -22,6 +22,7 @@ mod reading;
 mod replace;
 mod shelf;
 mod temporary;
+mod unflushed;
 
 pub use dir_shelf::DirShelf;
 pub use dir_source::DirSource;

@@ -103,6 +103,10 @@ impl Shelf for MemShelf {
         }
     }
 
+    fn flush_before_checkpoint(&mut self, _path: &Path) -> Result<(), ShelfError> {
+        Ok(())
+    }
+
     fn failures(&self) -> u64 {
         0
     }

@@ -124,7 +124,9 @@ fn create_new<R: Files>(files: &R, path: &str, private: bool) -> io::Result<R::F
     options.open(files, path)
 }
 
-// Gives the file its permissions, and then writes all the bytes, down to the device where that is asked for.
+// Gives the file its permissions, and then writes all the bytes, down to the device where that is asked for. A file that is
+// flushed later is cut to no length before: ext4 and others begin to write such a one out once it is closed, and so a flush of
+// many has little to wait for.
 fn fill<F: Write + OpenFile>(
     file: &mut F,
     cleared: io::Result<()>,
@@ -135,6 +137,9 @@ fn fill<F: Write + OpenFile>(
     cleared?;
     if let Some(permissions) = had {
         file.set_permissions(permissions)?;
+    }
+    if !flushed {
+        let _cut = file.set_len(0);
     }
     file.write_all(bytes)?;
     file.flush()?;

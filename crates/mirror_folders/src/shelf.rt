@@ -61,6 +61,16 @@ pub trait Shelf {
         ensures told { TellsPut (puts self.old) (puts self.new) (path.now, bytes.now) result }
         ensures counted { CountsFailures (failed self.old) (failed self.new) result };
 
+    /// The file that stands at the path, as an earlier run may have put it, is relied on: it is flushed to the device
+    /// before a checkpoint is put, as what this shelf puts is. Where no file is there, nothing is flushed.
+    ///
+    /// # Errors
+    ///
+    /// Those of `has`. What was put stays.
+    fn flush_before_checkpoint(&mut self, path: &Path) -> Result<(), ShelfError>
+        ensures same { KeepsTold (puts self.old) (puts self.new) }
+        ensures counted { CountsFailures (failed self.old) (failed self.new) result };
+
     /// How many calls failed; the count stays at its last value, 2^64 - 1.
     fn failures(&self) -> u64
         ensures { result ≡ failed self.now };

@@ -62,6 +62,10 @@ impl<S: Shelf + Drop, C: Clock + Drop, W: Write + Drop> Shelf for CountingShelf<
         Ok(())
     }
 
+    fn flush_before_checkpoint(&mut self, path: &Path) -> Result<(), ShelfError> {
+        self.shelf.flush_before_checkpoint(path)
+    }
+
     fn failures(&self) -> u64 {
         self.shelf.failures()
     }

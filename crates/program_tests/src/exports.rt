@@ -68,6 +68,13 @@ impl Shelf for Failing {
         Ok(())
     }
 
+    fn flush_before_checkpoint(&mut self, _path: &Path) -> Result<(), ShelfError> {
+        if !self.passes() {
+            return Err(self.fail());
+        }
+        Ok(())
+    }
+
     fn failures(&self) -> u64 {
         self.failures
     }

@@ -1,0 +1,73 @@
+//! What is to be flushed before a checkpoint is put.
+ghost use Rattle.std.specs.Prelude.{◌≡◌, ◌≤◌, [], Contains, OnOk, length};
+
+use crate::flush::{flush_above, flush_files, flush_folder};
+use crate::place::folder_of;
+use std::alloc::Global;
+use std::fs::Files;
+use std::io;
+use tlog_tiles::Path;
+
+// How many files are noted at most.
+const MOST: usize = 1_024;
+
+// The files of a folder that are to be on the device before a checkpoint stands there, and that were not flushed yet: those
+// that were put, and those that an earlier run put. They are few, however long the log is.
+#[derive(Drop)]
+pub(crate) struct Unflushed {
+    paths: Vec<Path>,
+    ghost few: { length paths.items ≤ 1024 },
+}
+
+impl Unflushed {
+    // No file. It takes no memory.
+    pub(crate) fn none(alloc: Global) -> Unflushed
+        ensures { result.paths.items ≡ [] }
+    {
+        Unflushed {
+            paths: Vec::new(alloc),
+        }
+    }
+
+    // Notes a file. Where as many are noted as may be, those are flushed first.
+    pub(crate) fn add<R: Files>(
+        &mut self,
+        files: &R,
+        alloc: Global,
+        folder: &str,
+        path: &Path,
+    ) -> io::Result<()>
+        ensures noted { OnOk result (Contains self.new.paths.items path.now) }
+    {
+        if self.paths.len() >= MOST {
+            self.flush(files, alloc, folder)?;
+        }
+        self.paths.push(*path)?;
+        Ok(())
+    }
+
+    // Flushes the files that are noted, and the folders in that folder that they lie in.
+    fn flush<R: Files>(&mut self, files: &R, alloc: Global, folder: &str) -> io::Result<()>
+        ensures { OnOk result (self.new.paths.items ≡ []) }
+    {
+        flush_files(files, alloc, folder, self.paths.as_slice())?;
+        self.paths.clear();
+        Ok(())
+    }
+
+    // Flushes all that is noted, and the folder itself; last those above it, where the system lets it, since the folder may
+    // be new there.
+    pub(crate) fn flush_all<R: Files>(
+        &mut self,
+        files: &R,
+        alloc: Global,
+        folder: &str,
+    ) -> io::Result<()>
+        ensures { OnOk result (self.new.paths.items ≡ []) }
+    {
+        self.flush(files, alloc, folder)?;
+        flush_folder(files, folder)?;
+        flush_above(files, folder_of(folder));
+        Ok(())
+    }
+}
