@@ -20,7 +20,7 @@ use Rattle.tlog_tiles.proofs.TileLemmas.{row_folds}
 use Rattle.mirror_model.specs.TrueLaws.{AreShort}
 use Rattle.mirror_sources.specs.Told.{KeepsTold, AddsTold}
 use Rattle.mirror_folders.specs.Shelf.{Put}
-use Rattle.mirror_copy.specs.Verified.{HasLeaves}
+use Rattle.log_reader.specs.Verified.{HasLeaves}
 use Rattle.mirror_copy.proofs.Growth.{gathers_keep, gathers_more, gathers_then, kept_adds}
 use Rattle.mirror_copy.proofs.Below.{below_bundle, stands_gathered, tells_earlier}
 use Rattle.mirror_copy.specs.Standing.{TellsStands}

@@ -20,7 +20,8 @@ use Rattle.mirror_model.specs.Heads.{IsHead}
 use Rattle.mirror_model.specs.TrueLaws.{AreShort}
 use Rattle.mirror_sources.specs.Honest.{true_bytes}
 use Rattle.mirror_copy.specs.Growing.{IsNewFile, Obtains, Tip}
-use Rattle.mirror_copy.specs.Edges.{Edge, IsCopyBrought}
+use Rattle.log_reader.specs.EdgeRows.{Edge}
+use Rattle.mirror_copy.specs.Edges.{IsCopyBrought}
 use Rattle.mirror_copy.specs.Standing.{TellsStands}
 use Rattle.mirror_copy.proofs.Prefixes.{within_more}
 use Rattle.mirror_copy.proofs.Below.{stands_gathered, tells_earlier, tells_later, tells_put}

@@ -12,7 +12,8 @@ use Rattle.tlog_tiles.proofs.EdgeLemmas.{hashes_of}
 use Rattle.mirror_sources.specs.Honest.{true_bytes}
 use Rattle.mirror_folders.specs.Shelf.{Put}
 use Rattle.mirror_copy.specs.Growing.{HoldsBelow, IsKnown, IsCutShort, IsRowBrought, Tip}
-use Rattle.mirror_copy.specs.Edges.{Edge, HasWidths, IsEdgeBrought, RowIsTrue, row_at}
+use Rattle.log_reader.specs.EdgeRows.{Edge, HasWidths, RowIsTrue, row_at}
+use Rattle.mirror_copy.specs.Edges.{IsEdgeBrought}
 use Rattle.mirror_copy.proofs.Prefixes.{level_row_front}
 use Rattle.mirror_copy.proofs.Growth.{gathers_none, gathers_then, kept_same, known_more}
 use Rattle.mirror_copy.proofs.Below.{holds_gathered, tells_earlier}

@@ -18,10 +18,10 @@ use Rattle.mirror_sources.specs.Honest.{true_bytes}
 use Rattle.mirror_folders.specs.Shelf.{Put}
 use Rattle.mirror_export.specs.FileLaws.{IsFileOf, IsWidestIn}
 use Rattle.mirror_copy.specs.Standing.{TellsStands}
-use Rattle.mirror_copy.specs.Verified.{HasLeaves}
+use Rattle.log_reader.specs.Verified.{HasLeaves}
 use Rattle.mirror_copy.specs.Growing.{Obtains, IsBelow, IsKnown, IsCutShort, IsNewFile, Tip}
-use Rattle.mirror_copy.specs.Edges.{BringsToEdge, PutsNote, BringsEdgeBundle, PutsEdgeTile, Edge, HasWidths, IsCopyBrought, IsEdgeBrought, AreEdgeTilesPut, IsEdgeBundleBrought, IsEdgeTilePut, RowIsTrue}
-use Rattle.mirror_copy.specs.Edges.{edge_tile, row_at}
+use Rattle.log_reader.specs.EdgeRows.{Edge, HasWidths, RowIsTrue, edge_tile, row_at}
+use Rattle.mirror_copy.specs.Edges.{BringsToEdge, PutsNote, BringsEdgeBundle, PutsEdgeTile, IsCopyBrought, IsEdgeBrought, AreEdgeTilesPut, IsEdgeBundleBrought, IsEdgeTilePut}
 use Rattle.mirror_copy.proofs.Prefixes.{level_row_front, within_more}
 use Rattle.mirror_copy.proofs.Growth.{gathers_keep, gathers_none, gathers_then, kept_same}
 use Rattle.mirror_copy.proofs.Below.{below_within, stands_gathered, tells_earlier}

@@ -8,9 +8,6 @@ pub mod EdgeRows
 pub mod Finishing
 pub mod Roots
 pub mod Earlier
-pub mod Refusing
-pub mod HeadNotes
-pub mod EdgeHashes
 pub mod RowLists
 pub mod TipReads
 pub mod WholeMoments

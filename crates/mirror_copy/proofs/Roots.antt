@@ -5,7 +5,7 @@ use Rattle.tlog_shape.specs.Edge.{edge_index_of, width_of}
 use Rattle.tlog_hash.specs.Rows.{level_row}
 use Rattle.mirror_model.specs.Edge.{all_levels, edge_levels, edge_root, edge_row}
 use Rattle.mirror_model.proofs.EdgeRoots.{edge_root_is}
-use Rattle.mirror_copy.specs.Edges.{row_at}
+use Rattle.log_reader.specs.EdgeRows.{row_at}
 use Rattle.mirror_copy.specs.Copies.{BroughtRowsLeadToRoot}
 
 all_within : All (λ level. level ≤ 7) all_levels

@@ -25,8 +25,9 @@ use Rattle.mirror_export.specs.SinceLaws.{HoldsFiles}
 use Rattle.mirror_export.proofs.AllFiles.{files_are_all, upto_hashes}
 use Rattle.mirror_export.proofs.Standing.{put_has, stands_more}
 use Rattle.mirror_copy.specs.Copies.{IsCopy}
-use Rattle.mirror_copy.specs.Edges.{BringsToEdge, Edge, IsCopyBrought, PutsNote, row_at}
-use Rattle.mirror_copy.specs.Found.{IsBundleRead, IsEdgeRead, IsRowRead, IsTipRead, hash_of_edge}
+use Rattle.log_reader.specs.EdgeRows.{Edge, hash_of_edge, row_at}
+use Rattle.mirror_copy.specs.Edges.{BringsToEdge, IsCopyBrought, PutsNote}
+use Rattle.mirror_copy.specs.Found.{IsBundleRead, IsEdgeRead, IsRowRead, IsTipRead}
 use Rattle.mirror_copy.specs.Growing.{Obtains, IsCutShort, IsKnown, IsNewFile, Tip, empty_tip}
 use Rattle.mirror_copy.specs.Moments.{AtEachMoment, HadSize, InTheEnd, IsBroughtTo, IsGrownCopy, KeepsCopy}
 use Rattle.mirror_folders.specs.Shelf.{TellsRead}

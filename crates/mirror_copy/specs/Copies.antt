@@ -15,7 +15,8 @@ use Rattle.mirror_export.specs.Files.{paths_of}
 use Rattle.mirror_export.specs.Exports.{IsMoment}
 use Rattle.mirror_export.specs.SinceLaws.{HoldsFiles, HoldsLog}
 use Rattle.mirror_copy.specs.Growing.{Obtains, IsKnown, Tip, empty_tip}
-use Rattle.mirror_copy.specs.Edges.{Edge, IsCopyBrought, row_at}
+use Rattle.log_reader.specs.EdgeRows.{Edge, row_at}
+use Rattle.mirror_copy.specs.Edges.{IsCopyBrought}
 
 module _ (digest : List ℕ → List ℕ) where
   -- what was put is a copy of the entries under the note: each file of a log of them stands with its true bytes, the

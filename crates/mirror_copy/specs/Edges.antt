@@ -1,10 +1,10 @@
 -- A copy brought to the edge of a larger tree.
-use Rattle.std.specs.Prelude.{◌≡◌, ◌≢◌, ℕ, ◌+◌, ◌-◌, ◌*◌, ◌^◌, ◌<◌, ◌≤◌, max, List, [], ◌∷◌, length, get_or, Option, Result, Ok, Err}
+use Rattle.std.specs.Prelude.{◌≡◌, ◌≢◌, ℕ, ◌+◌, ◌-◌, ◌*◌, ◌^◌, ◌<◌, ◌≤◌, max, List, [], ◌∷◌, length, Option, Result, Ok, Err}
 use Rattle.tlog_shape.specs.Edge.{width_of, edge_index_of}
-use Rattle.tlog_hash.specs.Rows.{level_row}
 use Rattle.tlog_tiles.specs.declared.paths.Path.{Path}
 use Rattle.tlog_tiles.specs.declared.paths.Path.TheVariants.{Checkpoint, Tile, Entries}
 use Rattle.tlog_tiles.specs.Tiles.{IsWithin}
+use Rattle.log_reader.specs.EdgeRows.{Edge, HasWidths, RowIsTrue, edge_tile, row_at}
 use Rattle.mirror_sources.specs.Told.{AddsTold, KeepsTold}
 use Rattle.mirror_sources.specs.Honest.{true_bytes}
 use Rattle.mirror_folders.specs.Shelf.{Put}
@@ -12,41 +12,19 @@ use Rattle.mirror_export.specs.FileLaws.{IsFileOf}
 use Rattle.mirror_copy.specs.Standing.{TellsStands}
 use Rattle.mirror_copy.specs.Growing.{Tip, Obtains, HoldsBelow, IsCutShort}
 
--- the edge of a tree: its size, and the rows of its partial tiles by their levels
-pub record Edge : Type 0 where
-  pub size : ℕ
-  pub rows : List (List (List ℕ))
-
--- the row of a level
-abbrev pub row_at : Edge → ℕ → List (List ℕ)
-row_at edge level = get_or edge.rows level []
-
--- each row has the width of its level
-abbrev pub HasWidths : Edge → Type 0
-HasWidths edge = (level : ℕ) → level ≤ 7 → length (row_at edge level) ≡ width_of edge.size level
-
--- the path of the partial tile of a level
-abbrev pub edge_tile : Edge → ℕ → Path
-edge_tile edge level = Tile level (edge_index_of edge.size level) (width_of edge.size level)
-
 -- what putting the checkpoint last comes to, by its answer
 abbrev pub PutsNote : {T E : Type 0} → Option (List Put) → Option (List Put) → List ℕ → Result T E → Type 0
 PutsNote old new note (Ok x) = AddsTold old new ((Checkpoint, note) ∷ [])
 PutsNote old new note (Err e) = KeepsTold old new
 
 module _ (digest : List ℕ → List ℕ) where
-  -- the row of a level is true of the entries
-  abbrev pub RowIsTrue : Edge → List (List ℕ) → ℕ → Type 0
-  RowIsTrue edge entries level = row_at edge level
-      ≡ level_row digest entries level (256 * edge_index_of edge.size level) (width_of edge.size level)
-
   -- all that lies below the rows of the levels from low on was brought, and these rows are true
   pub record IsEdgeBrought (tip : Tip) (edge : Edge) (known : List (List ℕ)) (low : ℕ)
       (old new : Option (List Put)) : Type 0 where
     pub next : List (List ℕ)
     pub gathers : Obtains digest tip.size known next old new
     pub size_is : length next ≡ max tip.size (edge_index_of edge.size (low - 1) * 256 ^ (low - 1 + 1))
-    pub rows_are : (level : ℕ) → low ≤ level → level ≤ 7 → RowIsTrue edge next level
+    pub rows_are : (level : ℕ) → low ≤ level → level ≤ 7 → RowIsTrue digest edge next level
     pub holds : (level : ℕ) → low ≤ level → level ≤ 7 → (k : ℕ) → k < width_of edge.size level →
         HoldsBelow digest tip.size (level - 1) (256 * edge_index_of edge.size level + k) next old new
 
@@ -62,7 +40,7 @@ module _ (digest : List ℕ → List ℕ) where
     pub next : List (List ℕ)
     pub gathers : Obtains digest m known next old new
     pub size_is : length next ≡ edge.size
-    pub row_is : RowIsTrue edge next 0
+    pub row_is : RowIsTrue digest edge next 0
     pub holds :
         1 ≤ width_of edge.size 0 → let path =
         Entries (edge_index_of edge.size 0) (width_of edge.size 0) in
@@ -112,7 +90,7 @@ module _ (digest : List ℕ → List ℕ) where
     pub gathers : Obtains digest tip.size known next old before
     pub last : AddsTold before new ((Checkpoint, note) ∷ [])
     pub size_is : length next ≡ edge.size
-    pub rows_are : (level : ℕ) → level ≤ 7 → RowIsTrue edge next level
+    pub rows_are : (level : ℕ) → level ≤ 7 → RowIsTrue digest edge next level
     pub holds : (path : Path) → path ≢ Checkpoint → IsFileOf edge.size path → ¬ IsWithin tip.size path →
         TellsStands old before path (true_bytes digest next path)
 

@@ -1,22 +1,16 @@
--- What was read of a copy's edge, and the edge rows of a tree that lead to its root. It is cited by the contracts of
+-- What was read of a copy's edge. It is cited by the contracts of
 -- private functions alone.
-use Rattle.std.specs.Prelude.{◌≡◌, ◌≢◌, ℕ, ◌≤◌, List, [], map, Option, Some, None, Result, OnOk}
+use Rattle.std.specs.Prelude.{◌≡◌, ℕ, ◌≤◌, List, [], Option, Some, None, Result, OnOk}
 use Rattle.tlog_shape.specs.Edge.{width_of, edge_index_of}
 use Rattle.tlog_tiles.specs.declared.paths.Path.TheVariants.{Checkpoint, Tile, Entries}
 use Rattle.tlog_tiles.specs.Row.{IsRow}
-use Rattle.mirror_model.specs.Edge.{edge_levels, edge_root}
 use Rattle.mirror_sources.specs.Told.{KeepsTold}
 use Rattle.mirror_folders.specs.Shelf.{Put}
 use Rattle.mirror_copy.specs.Copies.{IsCopy}
-use Rattle.mirror_copy.specs.Edges.{Edge, HasWidths, row_at}
+use Rattle.log_reader.specs.EdgeRows.{Edge, HasWidths, row_at}
 use Rattle.mirror_copy.specs.Growing.{IsKnown, Tip}
 use Rattle.mirror_copy.specs.Moments.{IsBroughtTo, KeepsCopy}
 use Rattle.mirror_folders.specs.Shelf.{TellsRead}
-
--- bytes that were given are a row of that width
-abbrev pub IsRowGiven : ℕ → Option (List ℕ) → List (List ℕ) → Type 0
-IsRowGiven width None row = ⊥
-IsRowGiven width (Some bytes) row = IsRow width bytes row
 
 -- the row of a level of the edge of n entries is what stands on the shelf, where there is one
 pub record IsRowRead (puts : Option (List Put)) (n level : ℕ) (row : List (List ℕ)) : Type 0 where
@@ -35,26 +29,7 @@ pub record IsBundleRead (puts : Option (List Put)) (n : ℕ) (bytes : List ℕ) 
   pub none : width_of n 0 ≡ 0 → bytes ≡ []
   pub stands : 1 ≤ width_of n 0 → TellsRead puts (Entries (edge_index_of n 0) (width_of n 0)) (Some bytes)
 
--- the rows have the widths of the edge of n entries
-pub record IsEdgeOf (n : ℕ) (edge : Edge) : Type 0 where
-  pub size_is : edge.size ≡ n
-  pub widths : HasWidths edge
-
 module _ (digest : List ℕ → List ℕ) where
-  -- the hash that the rows of an edge lead to
-  abbrev pub hash_of_edge : Edge → List ℕ
-  hash_of_edge edge = edge_root digest (map (row_at edge) (edge_levels edge.size))
-
-  -- the hash that some rows lead to, the lowest level first, and None where there are no rows
-  abbrev pub IsHashOfRows : List (List (List ℕ)) → Option (List ℕ) → Type 0
-  IsHashOfRows rows None = rows ≡ []
-  IsHashOfRows rows (Some hash) = (rows ≢ []) × (edge_root digest rows ≡ hash)
-
-  -- the rows are an edge of n entries that leads to the root
-  pub record LeadsTo (n : ℕ) (root : List ℕ) (edge : Edge) : Type 0 where
-    pub is_edge : IsEdgeOf n edge
-    pub root_is : hash_of_edge edge ≡ root
-
   -- the tip is what stands on the shelf: of each copy that stands there it is the tip
   pub record IsTipRead (origin : List ℕ) (puts : Option (List Put)) (tip : Tip) : Type 0 where
     pub checkpoint : TellsRead puts Checkpoint tip.checkpoint

@@ -1,6 +1,5 @@
 pub mod Faults
 pub mod Standing
-pub mod Verified
 pub mod Growing
 pub mod Asked
 pub mod Conflicts

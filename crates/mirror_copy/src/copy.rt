@@ -8,11 +8,11 @@ ghost use Rattle.mirror_copy.specs.Moments.{HadSize, IsBroughtTo, KeepsCopy};
 
 use crate::fault::BringFault;
 use crate::find_edge::find_edge;
-use crate::head::head_of;
 use crate::last::put_last;
 use crate::read_tip::read_tip;
 use crate::tip::CopyTip;
 use crate::to_edge::bring_to_edge;
+use log_reader::head_of;
 use mirror_folders::ReadableShelf;
 use mirror_sources::Source;
 use std::alloc::Global;

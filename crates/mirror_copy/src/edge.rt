@@ -1,61 +1,21 @@
 //! A copy brought to the edge of a larger tree.
-ghost use Rattle.std.specs.Prelude.{◌≡◌, ◌*◌, ◌^◌, ◌<◌, ◌≤◌, ℕ, List, OnOk, map};
+ghost use Rattle.std.specs.Prelude.{◌≡◌, ◌*◌, ◌^◌, ◌<◌, ◌≤◌, ℕ, List, OnOk};
 ghost use Rattle.tlog_shape.specs.Edge.{edge_index_of};
 ghost use Rattle.mirror_sources.specs.Told.{KeepsTold};
 ghost use Rattle.mirror_copy.specs.Conflicts.{ConflictPutsNothing};
 ghost use Rattle.mirror_copy.specs.Growing.{IsKnown};
-ghost use Rattle.mirror_copy.specs.Edges.{BringsEdge, HasWidths, row_at};
+ghost use Rattle.log_reader.specs.EdgeRows.{HasWidths};
+ghost use Rattle.mirror_copy.specs.Edges.{BringsEdge};
 
 use crate::bring::bring_row;
 use crate::fault::BringFault;
 use crate::tip::CopyTip;
+use log_reader::EdgeRows;
 use mirror_folders::ReadableShelf;
 use mirror_sources::Source;
 use std::alloc::Global;
-use std::marker::Model;
-use tlog_hash::{Hash, TreeHash};
+use tlog_hash::TreeHash;
 use tlog_shape::edge_index;
-
-/// The right edge of a tree: its size, and the rows of its partial tiles by their levels. A level that has none has an empty row.
-#[derive(Drop)]
-pub(crate) struct EdgeRows {
-    size: u64,
-    rows: Vec<Vec<Hash>>,
-}
-
-impl Model for EdgeRows {
-    ghost use Rattle.std.specs.Prelude.{map};
-    ghost use Rattle.mirror_copy.specs.Edges.{Edge};
-
-    ghost Value = { Edge };
-
-    ghost view = { λ a. record { size = a.size; rows = map (λ row. row.items) a.rows.items } };
-}
-
-impl EdgeRows {
-    /// The edge of a tree of that size with these rows, the lowest level first.
-    pub(crate) fn new(size: u64, rows: Vec<Vec<Hash>>) -> EdgeRows
-        ensures size { result.size ≡ size }
-        ensures rows { result.rows ≡ map (λ row. row.items) rows.items }
-    {
-        EdgeRows { size, rows }
-    }
-
-    pub(crate) fn size(&self) -> u64
-        ensures { result ≡ self.now.size }
-    {
-        self.size
-    }
-
-    pub(crate) fn row(&self, level: u32) -> &[Hash]
-        ensures { result.now ≡ row_at self.now level }
-    {
-        match self.rows.get(level as usize) {
-            Some(row) => row.as_slice(),
-            None => &[],
-        }
-    }
-}
 
 /// Brings all that lies below the edge but for the partial bundle, from left to right.
 pub(crate) fn bring_levels<H: TreeHash, D: ReadableShelf, S: Source>(

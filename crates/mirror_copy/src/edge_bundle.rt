@@ -3,16 +3,16 @@ ghost use Rattle.std.specs.Prelude.{◌≡◌, ◌*◌, ◌^◌, ◌<◌, ◌≤
 ghost use Rattle.tlog_shape.specs.Edge.{edge_index_of};
 ghost use Rattle.mirror_sources.specs.Told.{KeepsTold};
 ghost use Rattle.mirror_copy.specs.Conflicts.{ConflictPutsNothing, IsNoConflict};
-ghost use Rattle.mirror_copy.specs.Verified.{HasLeaves};
+ghost use Rattle.log_reader.specs.Verified.{HasLeaves};
 ghost use Rattle.mirror_copy.specs.Growing.{IsKnown};
-ghost use Rattle.mirror_copy.specs.Edges.{BringsEdgeBundle, HasWidths};
+ghost use Rattle.log_reader.specs.EdgeRows.{HasWidths};
+ghost use Rattle.mirror_copy.specs.Edges.{BringsEdgeBundle};
 
-use crate::edge::EdgeRows;
 use crate::fault::BringFault;
 use crate::keep::keep;
 use crate::place_files::get_partial;
 use crate::tip::{CopyTip, is_same_row};
-use crate::verify::leaves_of;
+use log_reader::{EdgeRows, leaves_of};
 use mirror_folders::ReadableShelf;
 use mirror_sources::Source;
 use std::alloc::Global;

@@ -4,10 +4,10 @@ ghost use Rattle.mirror_sources.specs.Source.{StaysWithin};
 ghost use Rattle.mirror_sources.specs.Told.{KeepsTold};
 ghost use Rattle.mirror_copy.specs.Asked.{IsAskedInVain};
 ghost use Rattle.mirror_copy.specs.Conflicts.{IsNoConflict};
-ghost use Rattle.mirror_copy.specs.Verified.{Verifies};
+ghost use Rattle.log_reader.specs.Verified.{Verifies};
 
 use crate::fault::BringFault;
-use crate::verify::{FullFile, verified};
+use log_reader::{FullFile, verified};
 use mirror_folders::ReadableShelf;
 use mirror_sources::{Source, SourceFault};
 use std::alloc::Global;

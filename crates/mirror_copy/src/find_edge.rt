@@ -1,53 +1,19 @@
 //! The edge rows of a tree, all from the shelf or all from one place.
-ghost use Rattle.std.specs.Prelude.{◌≡◌, ◌↔◌, ◌≤◌, IfErr, IfNone, IfOk, IfSome, IsTrue, length, option_map};
+ghost use Rattle.std.specs.Prelude.{◌≡◌, ◌≤◌, IfErr, IfOk, IfSome, length};
 ghost use Rattle.tlog_shape.specs.Edge.{edge_index_of, width_of};
 ghost use Rattle.mirror_sources.specs.Told.{KeepsTold};
 ghost use Rattle.mirror_copy.specs.Conflicts.{IsNoConflict};
-ghost use Rattle.mirror_copy.specs.Edges.{HasWidths};
-ghost use Rattle.mirror_copy.specs.Found.{IsEdgeOf, IsEdgeRead, IsRowGiven, IsRowRead, LeadsTo, hash_of_edge};
+ghost use Rattle.log_reader.specs.EdgeRows.{IsEdgeOf, LeadsTo};
+ghost use Rattle.mirror_copy.specs.Found.{IsEdgeRead, IsRowRead};
 
-use crate::edge::EdgeRows;
-use crate::edge_hash::edge_hash;
 use crate::fault::BringFault;
 use crate::place_files::get_partial;
+use log_reader::{EdgeRows, edge_path, leads_to, row_given};
 use mirror_folders::ReadableShelf;
 use mirror_sources::Source;
 use std::alloc::Global;
 use tlog_hash::{Hash, TreeHash};
-use tlog_shape::{edge_index, edge_width};
-use tlog_tiles::{Path, RowFault, read_row};
-
-// The row of a tile of that width; None where no such bytes were given.
-fn row_given(
-    alloc: Global,
-    width: u32,
-    given: Option<Vec<u8>>,
-) -> Result<Option<Vec<Hash>>, BringFault>
-    ensures fault { IfErr result IsNoConflict }
-    ensures row { IfOk result (λ found. IfSome found
-        (λ row. IsRowGiven width (option_map (λ v. v.items) given) row.items)) }
-{
-    let Some(bytes) = given else {
-        return Ok(None);
-    };
-    match read_row(alloc, width, &bytes) {
-        Ok(row) => Ok(Some(row)),
-        Err(RowFault::RowLength) => Ok(None),
-        Err(RowFault::OutOfMemory) => Err(BringFault::OutOfMemory),
-    }
-}
-
-// The path of the partial tile of a level.
-fn edge_path(size: u64, level: u32) -> Path
-    requires { level ≤ 7 }
-    ensures { result ≡ Path.Tile level (edge_index_of size level) (width_of size level) }
-{
-    Path::Tile {
-        level,
-        index: edge_index(size, level),
-        width: edge_width(size, level),
-    }
-}
+use tlog_shape::edge_width;
 
 // The row of a level at a place, empty where the level has none; None where the place does not have it, or failed.
 fn row_at_place<S: Source>(
@@ -66,7 +32,7 @@ fn row_at_place<S: Source>(
         return Ok(Some(Vec::new(alloc)));
     }
     let given = get_partial(alloc, place, &edge_path(size, level))?;
-    row_given(alloc, width, given)
+    Ok(row_given(alloc, width, given)?)
 }
 
 // The edge rows at a place, asked for lowest level first, up to the first that it does not have.
@@ -106,7 +72,7 @@ fn row_on_shelf<D: ReadableShelf>(
         return Ok(Some(Vec::new(alloc)));
     }
     let given = shelf.read(&edge_path(size, level))?;
-    row_given(alloc, width, given)
+    Ok(row_given(alloc, width, given)?)
 }
 
 // The edge rows as they stand on the shelf, up to the first that does not stand there.
@@ -128,22 +94,6 @@ fn rows_on_shelf<D: ReadableShelf>(
         }
     }
     Ok(Some(EdgeRows::new(size, rows)))
-}
-
-fn is_same(first: &Hash, second: &Hash) -> bool
-    ensures { IsTrue result ↔ (first.now ≡ second.now) }
-{
-    first == second
-}
-
-// Whether the rows of an edge lead to the root.
-fn leads_to<H: TreeHash>(alloc: Global, edge: &EdgeRows, root: &Hash) -> Result<bool, BringFault>
-    requires { HasWidths edge.now }
-    ensures fault { IfErr result IsNoConflict }
-    ensures root { IfOk result (λ b. IsTrue b ↔ (hash_of_edge H.digest edge.now ≡ root.now)) }
-{
-    let hash = edge_hash::<H>(alloc, edge)?;
-    Ok(is_same(&hash, root))
 }
 
 /// The edge rows as they stand on the shelf, if they lead to the root.

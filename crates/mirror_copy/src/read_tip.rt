@@ -2,15 +2,14 @@
 ghost use Rattle.std.specs.Prelude.{◌≡◌, IfErr, IfOk};
 ghost use Rattle.mirror_sources.specs.Told.{KeepsTold};
 ghost use Rattle.mirror_copy.specs.Conflicts.{IsNoConflict};
-ghost use Rattle.mirror_copy.specs.Edges.{HasWidths};
+ghost use Rattle.log_reader.specs.EdgeRows.{HasWidths};
 ghost use Rattle.mirror_copy.specs.Found.{IsBundleRead, IsTipRead};
 
-use crate::edge::EdgeRows;
 use crate::edge_bundle::accept_edge_bundle;
 use crate::fault::BringFault;
 use crate::find_edge::edge_on_shelf;
-use crate::head::head_of;
 use crate::tip::CopyTip;
+use log_reader::{EdgeRows, head_of};
 use mirror_folders::ReadableShelf;
 use std::alloc::Global;
 use tlog_hash::TreeHash;

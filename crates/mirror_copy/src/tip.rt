@@ -3,7 +3,7 @@ ghost use Rattle.std.specs.Prelude.{◌≡◌, ◌≢◌, ◌↔◌, ◌≤◌, 
 ghost use Rattle.tlog_shape.specs.Edge.{width_of, edge_index_of};
 ghost use Rattle.mirror_copy.specs.Growing.{empty_tip};
 
-use crate::edge::EdgeRows;
+use log_reader::EdgeRows;
 use std::alloc::Global;
 use std::marker::Model;
 use tlog_hash::Hash;

@@ -3,14 +3,16 @@ ghost use Rattle.std.specs.Prelude.{◌≡◌, ◌↔◌, ◌^◌, ◌<◌, ◌�
 ghost use Rattle.tlog_shape.specs.Edge.{edge_index_of, width_of};
 ghost use Rattle.mirror_copy.specs.Conflicts.{ConflictPutsNothing, IsNoConflict};
 ghost use Rattle.mirror_copy.specs.Growing.{IsKnown};
-ghost use Rattle.mirror_copy.specs.Edges.{BringsToEdge, HasWidths, RowIsTrue, PutsEdgeTile, PutsEdgeTiles};
+ghost use Rattle.log_reader.specs.EdgeRows.{HasWidths, RowIsTrue};
+ghost use Rattle.mirror_copy.specs.Edges.{BringsToEdge, PutsEdgeTile, PutsEdgeTiles};
 
-use crate::edge::{EdgeRows, bring_levels};
+use crate::edge::bring_levels;
 use crate::edge_bundle::bring_edge_bundle;
 use crate::fault::BringFault;
 use crate::keep::keep;
 use crate::last::put_last;
 use crate::tip::CopyTip;
+use log_reader::EdgeRows;
 use mirror_folders::ReadableShelf;
 use mirror_sources::Source;
 use std::alloc::Global;

@@ -3,7 +3,8 @@ use Rattle.std.proofs.lemmas.Result.{err_from_is_err_and}
 use Rattle.tlog_shape.specs.Edge.{edge_index_of}
 use Rattle.mirror_copy.proofs.Growth.{kept_same}
 use Rattle.mirror_copy.specs.Growing.{IsKnown, IsRowBrought}
-use Rattle.mirror_copy.specs.Edges.{IsEdgeBrought, row_at}
+use Rattle.log_reader.specs.EdgeRows.{row_at}
+use Rattle.mirror_copy.specs.Edges.{IsEdgeBrought}
 use Rattle.mirror_copy.proofs.EdgeRows.{edge_first, edge_known, edge_left, edge_step, floor_mono, row_beyond, row_end, row_fits}
 use Rattle.mirror_copy.proofs.Earlier.{kept_then}
 use Rattle.mirror_copy.proofs.edge.bring_levels.Goals as goal

@@ -4,8 +4,8 @@ use Rattle.tlog_shape.specs.Edge.{edge_index_of, width_of}
 use Rattle.tlog_tiles.specs.declared.paths.Path.TheVariants.{Entries}
 use Rattle.mirror_sources.specs.Told.{KeepsTold, AddsTold}
 use Rattle.mirror_copy.specs.Standing.{TellsStands}
-use Rattle.mirror_copy.specs.Verified.{HasLeaves}
-use Rattle.mirror_copy.specs.Edges.{row_at}
+use Rattle.log_reader.specs.Verified.{HasLeaves}
+use Rattle.log_reader.specs.EdgeRows.{row_at}
 use Rattle.mirror_copy.proofs.Growth.{kept_same, left_none}
 use Rattle.mirror_copy.proofs.Finishing.{brings_last, last_left, last_none, last_some}
 use Rattle.mirror_copy.proofs.edge_bundle.bring_edge_bundle.Goals as goal

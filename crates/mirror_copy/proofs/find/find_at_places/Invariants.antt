@@ -1,6 +1,6 @@
 use Rattle.std.proofs.Common.{◌≡◌, ◌<◌, ◌≤◌, ℕ, List, get_or}
 use Rattle.mirror_sources.specs.Source.{StaysWithin}
-use Rattle.mirror_copy.specs.Verified.{Verifies}
+use Rattle.log_reader.specs.Verified.{Verifies}
 use Rattle.mirror_copy.specs.Asked.{IsAskedInVain}
 use Rattle.mirror_copy.proofs.find.find_at_places.Given as goal
 

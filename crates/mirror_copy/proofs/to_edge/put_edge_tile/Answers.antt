@@ -6,7 +6,7 @@ use Rattle.tlog_tiles.specs.Row.{row_text}
 use Rattle.tlog_tiles.specs.declared.paths.Path.TheVariants.{Tile}
 use Rattle.mirror_sources.specs.Told.{KeepsTold, AddsTold}
 use Rattle.mirror_copy.specs.Standing.{TellsStands}
-use Rattle.mirror_copy.specs.Edges.{row_at, edge_tile}
+use Rattle.log_reader.specs.EdgeRows.{edge_tile, row_at}
 use Rattle.mirror_copy.proofs.Growth.{gathers_none, kept_same}
 use Rattle.mirror_copy.proofs.Finishing.{gathers_tile, new_tile, old_tile, puts_tile, tile_old, tile_put}
 use Rattle.mirror_copy.proofs.to_edge.put_edge_tile.Goals as goal

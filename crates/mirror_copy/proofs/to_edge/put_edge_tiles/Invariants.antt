@@ -1,5 +1,6 @@
 use Rattle.std.proofs.Common.{◌≡◌, ◌≤◌, ℕ, List, length}
-use Rattle.mirror_copy.specs.Edges.{AreEdgeTilesPut, RowIsTrue}
+use Rattle.log_reader.specs.EdgeRows.{RowIsTrue}
+use Rattle.mirror_copy.specs.Edges.{AreEdgeTilesPut}
 use Rattle.mirror_copy.proofs.to_edge.put_edge_tiles.Given as goal
 
 abbrev pub invariant-loop-level : goal.invariant-loop-level

@@ -1,0 +1,3 @@
+pub mod Refusing
+pub mod HeadNotes
+pub mod EdgeHashes

@@ -1,0 +1,13 @@
+use Rattle.std.proofs.Common.{sym, ap, ◌∙◌}
+use Rattle.std.proofs.lemmas.Bool.{false≢true}
+use Rattle.tlog_hash.specs.Tree.{fold_of}
+use Rattle.log_reader.proofs.Refusing.{other_fold}
+use Rattle.log_reader.proofs.verify.verified.Goals as goal
+
+pub returns-else-is_same-clause-none : goal.returns-else-is_same-clause-none
+returns-else-is_same-clause-none g c =
+    let digest = g.H.TreeHash.digest in
+    other_fold digest c.args.kind c.args.hash.now c.args.bytes.now c.in-Some.row.items
+    (rw c.in-Some.is at c.in_ok-row.ensures.row)
+    (λ e. false≢true (sym c.if-is_same.false ∙ c.is_same.ensures.1
+    (c.fold-folded.ensures ∙ (ap (fold_of digest) c.deref.ensures.value ∙ e))))

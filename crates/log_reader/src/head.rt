@@ -1,0 +1,58 @@
+//! The size and root of a checkpoint's note.
+ghost use Rattle.std.specs.Prelude.{◌≡◌, ◌↔◌, ℕ, IfNone, IfOk, IfSome, IsTrue, List};
+ghost use Rattle.mirror_model.specs.Heads.{IsHead};
+
+use signed_note::{Note, NoteFault};
+use std::alloc::{AllocError, Global};
+use tlog_checkpoint::{Checkpoint, CheckpointFault, read};
+use tlog_hash::Hash;
+
+fn is_of(checkpoint: &Checkpoint, origin: &str) -> bool
+    ensures { IsTrue result ↔ (checkpoint.now.origin ≡ origin.now) }
+{
+    checkpoint.origin.as_str() == origin
+}
+
+// The checkpoint that a note's text is; None where the bytes are no such note.
+fn checkpoint_of(alloc: Global, bytes: &[u8]) -> Result<Option<Checkpoint>, AllocError>
+    ensures found { IfOk result (λ o. IfSome o (λ c. IsHead bytes.now c.origin c.size c.root)) }
+    ensures none { IfOk result (λ o. IfNone o ((origin : List ℕ) (size : ℕ) (root : List ℕ)
+        → ¬ IsHead bytes.now origin size root)) }
+{
+    let note = match Note::read(alloc, bytes) {
+        Ok(note) => note,
+        Err(NoteFault::OutOfMemory) => return Err(AllocError),
+        Err(_) => return Ok(None),
+    };
+    match read(alloc, note.text()) {
+        Ok(checkpoint) => Ok(Some(checkpoint)),
+        Err(CheckpointFault::OutOfMemory) => Err(AllocError),
+        Err(_) => Ok(None),
+    }
+}
+
+/// The size and root of a checkpoint of that origin; None where the bytes are no note whose text is one. No signature is looked at.
+///
+/// ```text
+/// head_of(alloc, "ex", note)?   // Some((257, root))
+/// ```
+///
+/// # Errors
+///
+/// Memory was refused.
+pub fn head_of(alloc: Global, origin: &str, bytes: &[u8]) -> Result<Option<(u64, Hash)>, AllocError>
+    ensures found { IfOk result (λ o. IfSome o
+        (λ head. IsHead bytes.now origin.now head.0 head.1)) }
+    ensures none { IfOk result (λ o. IfNone o ((size : ℕ) (root : List ℕ)
+        → ¬ IsHead bytes.now origin.now size root)) }
+{
+    match checkpoint_of(alloc, bytes)? {
+        Some(checkpoint) => {
+            let is_of_log = is_of(&checkpoint, origin);
+            let head = (checkpoint.size, checkpoint.root);
+            drop(checkpoint);
+            if is_of_log { Ok(Some(head)) } else { Ok(None) }
+        }
+        None => Ok(None),
+    }
+}

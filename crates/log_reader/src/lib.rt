@@ -1,0 +1,23 @@
+//! Verified reads of a transparency log (C2SP tlog-tiles) of which the size and the root are known.
+//!
+//! What is read counts only where it leads up to the root: the rows of the edge (`EdgeRows`, `leads_to`), a full tile or a bundle
+//! under its hash (`verified`), and the partial bundle by its leaf hashes (`leaves_of`).
+//!
+//! ```text
+//! let head = head_of(alloc, "ex", note)?;                        // Some((size, root)) of a checkpoint
+//! leads_to::<Sha256Tree>(alloc, &edge, &root)?                   // whether the edge's rows are those of the root
+//! verified::<Sha256Tree>(alloc, FullFile::Tile, &hash, &bytes)?  // Some(row), whose fold is the hash
+//! ```
+#![tactic(auto)]
+
+mod edge_root;
+mod edge_row;
+mod edge_rows;
+mod head;
+mod verify;
+
+pub use edge_root::{edge_hash, leads_to};
+pub use edge_row::{edge_path, row_given};
+pub use edge_rows::EdgeRows;
+pub use head::head_of;
+pub use verify::{FullFile, leaves_of, verified};

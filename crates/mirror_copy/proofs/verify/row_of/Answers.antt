@@ -1,9 +1,0 @@
-use Rattle.std.proofs.Common.{subst}
-use Rattle.mirror_copy.specs.Verified.{IsRowOf}
-use Rattle.mirror_copy.proofs.Refusing.{no_row}
-use Rattle.mirror_copy.proofs.verify.row_of.Goals as goal
-
-pub returns-in-Err-RowLength-clause-none : goal.returns-in-Err-RowLength-clause-none
-returns-in-Err-RowLength-clause-none g c = λ row is.
-    no_row g.H.TreeHash.digest c.args.bytes.now (rw c.in-Err-RowLength.field-0-is at c.in-Err-RowLength.ensures) row
-    (subst (λ k. IsRowOf g.H.TreeHash.digest k c.args.bytes.now row) c.in-Tile.is is)
