@@ -2,9 +2,9 @@
 use Rattle.std.specs.Prelude.{◌≡◌, ◌≢◌, ℕ, ◌+◌, ◌-◌, ◌*◌, ◌^◌, ◌<◌, ◌≤◌, max, List, [], ◌∷◌, length, Option, Result, Ok, Err}
 use Rattle.tlog_shape.specs.Edge.{width_of, edge_index_of}
 use Rattle.tlog_tiles.specs.declared.paths.Path.{Path}
-use Rattle.tlog_tiles.specs.declared.paths.Path.TheVariants.{Checkpoint, Tile, Entries}
+use Rattle.tlog_tiles.specs.declared.paths.Path.TheVariants.{Checkpoint, Entries}
 use Rattle.tlog_tiles.specs.Tiles.{IsWithin}
-use Rattle.log_reader.specs.EdgeRows.{Edge, HasWidths, RowIsTrue, edge_tile, row_at}
+use Rattle.log_reader.specs.EdgeRows.{Edge, RowIsTrue, edge_tile}
 use Rattle.mirror_sources.specs.Told.{AddsTold, KeepsTold}
 use Rattle.mirror_sources.specs.Honest.{true_bytes}
 use Rattle.mirror_folders.specs.Shelf.{Put}

@@ -7,7 +7,7 @@ use Rattle.tlog_tiles.specs.Row.{IsRow}
 use Rattle.mirror_sources.specs.Told.{KeepsTold}
 use Rattle.mirror_folders.specs.Shelf.{Put}
 use Rattle.mirror_copy.specs.Copies.{IsCopy}
-use Rattle.log_reader.specs.EdgeRows.{Edge, HasWidths, row_at}
+use Rattle.log_reader.specs.EdgeRows.{Edge, row_at}
 use Rattle.mirror_copy.specs.Growing.{IsKnown, Tip}
 use Rattle.mirror_copy.specs.Moments.{IsBroughtTo, KeepsCopy}
 use Rattle.mirror_folders.specs.Shelf.{TellsRead}

@@ -8,7 +8,7 @@ use crate::fault::BringFault;
 use crate::find::find;
 use crate::keep::keep;
 use crate::tip::CopyTip;
-use crate::verify::FullFile;
+use log_reader::FullFile;
 use mirror_folders::ReadableShelf;
 use mirror_sources::Source;
 use std::alloc::Global;
