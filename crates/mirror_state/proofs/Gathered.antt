@@ -1,10 +1,13 @@
 -- The strings of a store that have one tag, gathered and put in order.
-use Rattle.std.proofs.Common.{◌≡◌, ◌⊎◌, inl, inr, ℕ, zero, suc, ◌+◌, ◌≤◌, take, get_or, Some, None, List}
+use Rattle.std.proofs.Common.{◌≡◌, ◌⊎◌, inl, inr, ℕ, zero, suc, ◌+◌, ◌*◌, ◌<◌, ◌≤◌, take, drop, get_or, Some, None, List}
 use Rattle.std.proofs.Common.{[], ◌∷◌, ◌++◌, length, map, All, Bool, true, refl, sym, ap, subst, ◌∙◌, arith, nat_eq}
 use Rattle.std.specs.Prelude.{◌↔◌, ◌&&◌}
 use Rattle.std.specs.Borrow.{Bor}
-use Rattle.std.specs.Prelude.{slice_get}
-use Rattle.std.proofs.lemmas.List.{take_more}
+use Rattle.std.specs.Prelude.{slice_get, slice_index}
+use Rattle.std.specs.Int.{w64, from_be_bytes}
+use Rattle.base64.specs.GeneralPurpose.{IsBytes}
+use Rattle.std.proofs.lemmas.Bool.Decides.{nat_tests}
+use Rattle.std.proofs.lemmas.List.{take_more, length-take-le, take-append-drop}
 use Rattle.std.proofs.lemmas.Option.{slice_get_cases, slice_get_within, get_or_from_slice_get}
 use Rattle.mirror_model.proofs.Listing.{notes_are_listed_once, head_or, later as cons_later}
 use Rattle.mirror_model.specs.Listed.{ListsNotes}
@@ -17,7 +20,7 @@ use Rattle.std.specs.Ordering.{nat_cmp, ordering_then, eq_by_cmp}
 use Rattle.std.specs.declared.cmp.Ordering.{Ordering}
 use Rattle.std.specs.declared.cmp.Ordering.TheVariants.{Less, Equal, Greater}
 use Rattle.std.specs.Cmp.{IsTotalOrder, IsEquivalence, eq_by_cmp_equiv, unsigned_ties, both_tied, first_so, second_so}
-use Rattle.std.specs.Cmp.{then_total}
+use Rattle.std.specs.Cmp.{then_total, on_total, nat_cmp_total}
 use Rattle.std.specs.Cmp.Lexicographic.{slice_cmp, pointwise, lists_ties, on_texts}
 use Rattle.std.proofs.lemmas.List.Elements.{Contains-append_left, Contains-append_right, Contains-append_cases}
 use Rattle.std.proofs.lemmas.List.Elements.{recursion_from_All}
@@ -27,7 +30,7 @@ use Rattle.node_store.specs.Strings.{Strings, Has}
 use Rattle.mirror_model.proofs.StringSets.{listed_from_has, has_from_listed}
 use Rattle.mirror_state.specs.Listing.{HoldsEach}
 use Rattle.mirror_state.specs.Loading.{Rises}
-use Rattle.mirror_state.specs.Putting.{pair_bytes, IsSizedPair}
+use Rattle.mirror_state.specs.Putting.{KeyedPair, pair_bytes, with_bytes, IsKeyed}
 use Rattle.mirror_state.proofs.Listed.{nothing_in, mapped, from_mapped}
 use Rattle.node_store.proofs.Pools.{exact as exact_bytes}
 
@@ -173,24 +176,24 @@ entries_rise xs s = rises_by_bytes lent_bytes lent_cmp (λ x. Unit {0}) (λ x y 
 
 -- ---- pairs
 
-abbrev pub Pair : Type 0
+abbrev Pair : Type 0
 Pair = Bor (List ℕ) × Bor (List ℕ)
 
-abbrev pub pair_cmp : Pair → Pair → Ordering
+abbrev pair_cmp : Pair → Pair → Ordering
 pair_cmp a b = ordering_then (slice_cmp nat_cmp a.0.now b.0.now) (slice_cmp nat_cmp a.1.now b.1.now)
 
-abbrev pub pair_same : Pair → Pair → Bool
+abbrev pair_same : Pair → Pair → Bool
 pair_same a b = pointwise nat_eq a.0.now b.0.now && pointwise nat_eq a.1.now b.1.now
 
-pub pair_total : IsTotalOrder pair_cmp
+pair_total : IsTotalOrder pair_cmp
 pair_total = then_total (on_texts (λ (p : Pair). p.0.now)) (on_texts (λ (p : Pair). p.1.now))
 
-pub pair_ties : (a b : Pair) → pair_same a b ≡ eq_by_cmp pair_cmp a b
+pair_ties : (a b : Pair) → pair_same a b ≡ eq_by_cmp pair_cmp a b
 pair_ties a b = both_tied (pointwise nat_eq a.0.now b.0.now)
     (pointwise nat_eq a.1.now b.1.now) (slice_cmp nat_cmp a.0.now b.0.now) (slice_cmp nat_cmp a.1.now b.1.now)
     (lists_ties nat_cmp unsigned_ties a.0.now b.0.now) (lists_ties nat_cmp unsigned_ties a.1.now b.1.now)
 
-pub pair_exact : (a b : Pair) → pair_same a b ≡ true → pair_bytes a ≡ pair_bytes b
+pair_exact : (a b : Pair) → pair_same a b ≡ true → a.0.now ++ a.1.now ≡ b.0.now ++ b.1.now
 pair_exact a b h =
     let left = exact_bytes a.0.now b.0.now
     (first_so (pointwise nat_eq a.0.now b.0.now) (pointwise nat_eq a.1.now b.1.now) h) in
@@ -214,10 +217,96 @@ cat_cmp (x ∷ xs) (y ∷ ys) r s len =
     ap (λ (o : Ordering). ordering_then (nat_cmp x y) o) (cat_cmp xs ys r s (omega (arith, both)))
     ∙ sym (then_assoc (nat_cmp x y) (slice_cmp nat_cmp xs ys) (slice_cmp nat_cmp r s))
 
-pub pairs_rise : (xs : List Pair) → All IsSizedPair xs → IsStrictlySortedBy pair_cmp xs → Rises (map pair_bytes xs)
-pairs_rise xs sized s = rises_by_bytes pair_bytes pair_cmp IsSizedPair
-    (λ x y a b h. cat_cmp x.0.now y.0.now x.1.now y.1.now (a ∙ sym b) ∙ h) xs
-    (recursion_from_All IsSizedPair xs sized) s
+-- ---- pairs behind a number
+
+abbrev pub keyed_cmp : KeyedPair → KeyedPair → Ordering
+keyed_cmp a b = ordering_then (nat_cmp a.0 b.0) (pair_cmp a.1 b.1)
+
+abbrev pub keyed_same : KeyedPair → KeyedPair → Bool
+keyed_same a b = nat_eq a.0 b.0 && pair_same a.1 b.1
+
+pub keyed_total : IsTotalOrder keyed_cmp
+keyed_total = then_total (on_total (λ (p : KeyedPair). p.0) nat_cmp_total) (on_total (λ (p : KeyedPair). p.1) pair_total)
+
+pub keyed_ties : (a b : KeyedPair) → keyed_same a b ≡ eq_by_cmp keyed_cmp a b
+keyed_ties a b = both_tied (nat_eq a.0 b.0) (pair_same a.1 b.1) (nat_cmp a.0 b.0) (pair_cmp a.1 b.1)
+    (unsigned_ties a.0 b.0) (pair_ties a.1 b.1)
+
+pub keyed_exact : (a b : KeyedPair) → keyed_same a b ≡ true → pair_bytes a ≡ pair_bytes b
+keyed_exact a b h = pair_exact a.1 b.1 (second_so (nat_eq a.0 b.0) (pair_same a.1 b.1) h)
+
+-- a byte more is a place more
+place_cmp : (a b x y : ℕ) → x < 256 → y < 256 →
+    nat_cmp (256 * a + x) (256 * b + y) ≡ ordering_then (nat_cmp a b) (nat_cmp x y)
+place_cmp a b x y small small' = grind (arith, nat_tests)
+
+then_equal : (o : Ordering) → o ≡ ordering_then o Equal
+then_equal Less = refl
+then_equal Equal = refl
+then_equal Greater = refl
+
+with_cmp : (a b : ℕ) (xs ys : List ℕ) → length xs ≡ length ys → IsBytes xs → IsBytes ys →
+    nat_cmp (with_bytes a xs) (with_bytes b ys) ≡ ordering_then (nat_cmp a b) (slice_cmp nat_cmp xs ys)
+with_cmp a b [] [] len small small' = then_equal (nat_cmp a b)
+with_cmp a b [] (y ∷ ys) len small small' = absurd cc
+with_cmp a b (x ∷ xs) [] len small small' = absurd cc
+with_cmp a b (x ∷ xs) (y ∷ ys) len small small' =
+    let both : suc (length xs) ≡ suc (length ys) = len in
+    with_cmp (256 * a + x) (256 * b + y) xs ys (omega (arith, both)) (λ i. small (suc i)) (λ i. small' (suc i))
+    ∙ (ap (λ (o : Ordering). ordering_then o (slice_cmp nat_cmp xs ys)) (place_cmp a b x y (small 0) (small' 0))
+    ∙ then_assoc (nat_cmp a b) (nat_cmp x y) (slice_cmp nat_cmp xs ys))
+
+front_bytes : (k : ℕ) (xs : List ℕ) → IsBytes xs → IsBytes (take k xs)
+front_bytes zero xs small i = omega arith
+front_bytes (suc k) [] small i = omega arith
+front_bytes (suc k) (x ∷ xs) small zero = small 0
+front_bytes (suc k) (x ∷ xs) small (suc i) = front_bytes k xs (λ j. small (suc j)) i
+
+-- the number of eight bytes
+pub front_key : (xs : List ℕ) → 8 ≤ length xs →
+    from_be_bytes w64 (slice_index xs 0 ∷ slice_index xs 1 ∷ slice_index xs 2 ∷ slice_index xs 3 ∷ slice_index xs 4
+    ∷ slice_index xs 5 ∷ slice_index xs 6 ∷ slice_index xs 7 ∷ []) ≡ with_bytes 0 (take 8 xs)
+front_key (a ∷ b ∷ c ∷ d ∷ e ∷ f ∷ g ∷ h ∷ rest) long = omega arith
+front_key [] long = absurd (omega (arith, long))
+front_key (a ∷ []) long = absurd (omega (arith, long))
+front_key (a ∷ b ∷ []) long = absurd (omega (arith, long))
+front_key (a ∷ b ∷ c ∷ []) long = absurd (omega (arith, long))
+front_key (a ∷ b ∷ c ∷ d ∷ []) long = absurd (omega (arith, long))
+front_key (a ∷ b ∷ c ∷ d ∷ e ∷ []) long = absurd (omega (arith, long))
+front_key (a ∷ b ∷ c ∷ d ∷ e ∷ f ∷ []) long = absurd (omega (arith, long))
+front_key (a ∷ b ∷ c ∷ d ∷ e ∷ f ∷ g ∷ []) long = absurd (omega (arith, long))
+
+-- what a front decides is decided once more by the whole
+then_again : (o a b : Ordering) →
+    ordering_then o (ordering_then (ordering_then o a) b) ≡ ordering_then (ordering_then o a) b
+then_again Less a b = refl
+then_again Equal a b = refl
+then_again Greater a b = refl
+
+-- the number puts pairs into the order that their hashes do
+keyed_as_pair : (x y : KeyedPair) → IsKeyed x → IsKeyed y → keyed_cmp x y ≡ pair_cmp x.1 y.1
+keyed_as_pair x y f g =
+    let len : length (take 8 x.1.0.now) ≡ length (take 8 y.1.0.now) =
+    length-take-le 8 x.1.0.now (omega (arith, f.sized)) ∙ sym (length-take-le 8 y.1.0.now (omega (arith, g.sized))) in
+    let key : nat_cmp x.0 y.0 ≡ slice_cmp nat_cmp (take 8 x.1.0.now) (take 8 y.1.0.now) =
+    (λ i. nat_cmp (f.key_is i) (g.key_is i))
+    ∙ with_cmp 0 0 (take 8 x.1.0.now) (take 8 y.1.0.now) len
+    (front_bytes 8 x.1.0.now f.small) (front_bytes 8 y.1.0.now g.small) in
+    let left : slice_cmp nat_cmp x.1.0.now y.1.0.now
+    ≡ ordering_then (slice_cmp nat_cmp (take 8 x.1.0.now) (take 8 y.1.0.now))
+    (slice_cmp nat_cmp (drop 8 x.1.0.now) (drop 8 y.1.0.now)) =
+    (λ i. slice_cmp nat_cmp (sym (take-append-drop 8 x.1.0.now) i) (sym (take-append-drop 8 y.1.0.now) i))
+    ∙ cat_cmp (take 8 x.1.0.now) (take 8 y.1.0.now) (drop 8 x.1.0.now) (drop 8 y.1.0.now) len in
+    let right = slice_cmp nat_cmp x.1.1.now y.1.1.now in
+    (λ i. ordering_then (key i) (ordering_then (left i) right))
+    ∙ (then_again (slice_cmp nat_cmp (take 8 x.1.0.now) (take 8 y.1.0.now))
+    (slice_cmp nat_cmp (drop 8 x.1.0.now) (drop 8 y.1.0.now)) right
+    ∙ ap (λ (o : Ordering). ordering_then o right) (sym left))
+
+pub pairs_rise : (xs : List KeyedPair) → All IsKeyed xs → IsStrictlySortedBy keyed_cmp xs → Rises (map pair_bytes xs)
+pairs_rise xs keyed s = rises_by_bytes pair_bytes keyed_cmp IsKeyed
+    (λ x y a b h. cat_cmp x.1.0.now y.1.0.now x.1.1.now y.1.1.now (a.sized ∙ sym b.sized)
+    ∙ (sym (keyed_as_pair x y a b) ∙ h)) xs (recursion_from_All IsKeyed xs keyed) s
 
 -- ---- notes, one after another
 

@@ -1,8 +1,10 @@
 -- How a text is put together on its way to a writer. The contracts of private functions cite these
 -- words; what a saver answers needs none of them.
-use Rattle.std.specs.Prelude.{◌≡◌, ℕ, List, ◌++◌, length, Option, Result, Ok, Err, OnOk}
+use Rattle.std.specs.Prelude.{◌≡◌, ℕ, ◌+◌, ◌*◌, List, [], ◌∷◌, ◌++◌, length, take, Option, Result, Ok, Err}
+use Rattle.std.specs.Prelude.{OnOk}
 use Rattle.std.specs.Io.KnownBytes.{Appends}
 use Rattle.std.specs.Borrow.{Bor}
+use Rattle.base64.specs.GeneralPurpose.{IsBytes}
 use Rattle.sha2.specs.Sha256.{sha256}
 use Rattle.sha2.specs.Hashers.{Holds256}
 use Rattle.byte_streams.specs.Streams.{AppendsPrefix}
@@ -14,13 +16,25 @@ use Rattle.mirror_state.specs.declared.page.Page.{Page}
 abbrev pub state_text : Parts → List ℕ
 state_text parts = body_text parts ++ sha256 (body_text parts)
 
--- the bytes of two hashes
-abbrev pub pair_bytes : Bor (List ℕ) × Bor (List ℕ) → List ℕ
-pair_bytes pair = pair.0.now ++ pair.1.now
+-- two hashes behind a number, by which most are put in order
+abbrev pub KeyedPair : Type 0
+KeyedPair = ℕ × (Bor (List ℕ) × Bor (List ℕ))
 
--- the first of two hashes has 32 bytes, as the second is known to have
-abbrev pub IsSizedPair : Bor (List ℕ) × Bor (List ℕ) → Type 0
-IsSizedPair pair = length pair.0.now ≡ 32
+-- the bytes of two hashes
+abbrev pub pair_bytes : KeyedPair → List ℕ
+pair_bytes pair = pair.1.0.now ++ pair.1.1.now
+
+-- the number whose places to the base of 256 are those of a number, and then the bytes
+abbrev pub with_bytes : ℕ → List ℕ → ℕ
+with_bytes n [] = n
+with_bytes n (byte ∷ rest) = with_bytes (256 * n + byte) rest
+
+-- the number is that of the first eight bytes of the first hash, which has 32 bytes, as the second
+-- is known to have
+pub record IsKeyed (pair : KeyedPair) : Type 0 where
+  pub sized : length pair.1.0.now ≡ 32
+  pub small : IsBytes pair.1.0.now
+  pub key_is : pair.0 ≡ with_bytes 0 (take 8 pair.1.0.now)
 
 -- since the start a prefix of the text was written, and the rest of it is held back
 pub record IsUnderWay (start now : Option (List ℕ)) (held text : List ℕ) : Type 0 where

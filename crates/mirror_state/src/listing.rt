@@ -4,18 +4,22 @@ ghost use Rattle.std.specs.List.{Contains};
 ghost use Rattle.mirror_model.specs.Listed.{ListsNotes};
 ghost use Rattle.mirror_state.specs.Listing.{HoldsEach, ListsEach, ListsView};
 ghost use Rattle.mirror_state.specs.Loading.{Rises};
-ghost use Rattle.mirror_state.specs.Putting.{pair_bytes, IsSizedPair};
+ghost use Rattle.mirror_state.specs.Putting.{pair_bytes, IsKeyed};
 
 use node_store::{Store, Tagged};
 use std::alloc::{AllocError, Global};
 use tlog_hash::{Hash, TreeHash};
 use tlog_mirror::Mirror;
 
+/// Two hashes behind the first eight bytes of the first one, as a number: by it nearly all pairs are put in order, without
+/// a look at the hashes, which lie apart in memory.
+pub(crate) type KeyedPair<'a> = (u64, (&'a Hash, &'a Hash));
+
 /// What a mirror holds, each list in its order.
 #[derive(Drop)]
 pub(crate) struct Sorted<'a> {
     pub(crate) notes: Vec<&'a [u8]>,
-    pub(crate) pairs: Vec<(&'a Hash, &'a Hash)>,
+    pub(crate) pairs: Vec<KeyedPair<'a>>,
     pub(crate) entries: Vec<&'a [u8]>,
 }
 
@@ -85,7 +89,7 @@ fn sort_entries(entries: &mut Vec<&[u8]>)
 }
 
 // The pairs of a store.
-fn pairs_of<H: TreeHash>(alloc: Global, store: &Store<H>) -> Result<Vec<(&Hash, &Hash)>, AllocError>
+fn pairs_of<H: TreeHash>(alloc: Global, store: &Store<H>) -> Result<Vec<KeyedPair<'_>>, AllocError>
     ensures { IfOk result (λ pairs. ListsEach 1 store.now (map pair_bytes pairs.items)) }
 {
     let mut pairs = all_pairs(alloc, store)?;
@@ -94,12 +98,9 @@ fn pairs_of<H: TreeHash>(alloc: Global, store: &Store<H>) -> Result<Vec<(&Hash, 
 }
 
 // The pairs of a store, in any order.
-fn all_pairs<H: TreeHash>(
-    alloc: Global,
-    store: &Store<H>,
-) -> Result<Vec<(&Hash, &Hash)>, AllocError>
+fn all_pairs<H: TreeHash>(alloc: Global, store: &Store<H>) -> Result<Vec<KeyedPair<'_>>, AllocError>
     ensures each { IfOk result (λ pairs. HoldsEach 1 store.now (map pair_bytes pairs.items)) }
-    ensures sized { IfOk result (λ pairs. All IsSizedPair pairs.items) }
+    ensures keyed { IfOk result (λ pairs. All IsKeyed pairs.items) }
 {
     let mut pairs = Vec::new(alloc);
     for string in store.iter() {
@@ -111,17 +112,20 @@ fn all_pairs<H: TreeHash>(
     Ok(pairs)
 }
 
-// The two hashes, of which the left has 32 bytes.
-fn pair_of<'a>(left: &'a Hash, right: &'a Hash) -> (&'a Hash, &'a Hash)
+// The two hashes, behind the first eight bytes of the left one.
+fn pair_of<'a>(left: &'a Hash, right: &'a Hash) -> KeyedPair<'a>
     ensures bytes { pair_bytes result ≡ left.now ++ right.now }
-    ensures sized { IsSizedPair result }
+    ensures keyed { IsKeyed result }
 {
-    (left, right)
+    let key = u64::from_be_bytes([
+        left[0], left[1], left[2], left[3], left[4], left[5], left[6], left[7],
+    ]);
+    (key, (left, right))
 }
 
 // Puts pairs in order, each once.
-fn sort_pairs(pairs: &mut Vec<(&Hash, &Hash)>)
-    requires { All IsSizedPair pairs.old.items }
+fn sort_pairs(pairs: &mut Vec<KeyedPair<'_>>)
+    requires { All IsKeyed pairs.old.items }
     ensures rises { Rises (map pair_bytes pairs.new.items) }
     ensures same { (p : List ℕ) → Contains (map pair_bytes pairs.new.items) p
         ↔ Contains (map pair_bytes pairs.old.items) p }

@@ -5,6 +5,7 @@ ghost use Rattle.mirror_state.specs.Items.{item_text, items_text, list_text, IsI
 ghost use Rattle.mirror_state.specs.Putting.{pair_bytes, Puts};
 
 use crate::items::Form;
+use crate::listing::KeyedPair;
 use crate::page::{Page, put};
 use byte_streams::StreamFault;
 use std::io::Write;
@@ -113,12 +114,12 @@ fn put_pair<W: Write>(
 fn put_each_pair<W: Write>(
     writer: &mut W,
     page: &mut Page,
-    pairs: &[(&Hash, &Hash)],
+    pairs: &[KeyedPair<'_>],
 ) -> Result<(), StreamFault>
     ensures { Puts (W.contents writer.old) (W.contents writer.new) page.old page.new
         (items_text Form.Hashes (map pair_bytes pairs.now)) result }
 {
-    for (left, right) in pairs {
+    for (_, (left, right)) in pairs {
         put_pair(writer, page, left, right)?;
     }
     Ok(())
@@ -128,7 +129,7 @@ fn put_each_pair<W: Write>(
 pub(crate) fn put_pairs<W: Write>(
     writer: &mut W,
     page: &mut Page,
-    pairs: &[(&Hash, &Hash)],
+    pairs: &[KeyedPair<'_>],
 ) -> Result<(), StreamFault>
     ensures { Puts (W.contents writer.old) (W.contents writer.new) page.old page.new
         (list_text Form.Hashes (map pair_bytes pairs.now)) result }

@@ -7,13 +7,13 @@ ghost use Rattle.mirror_state.specs.StateText.{body_text, AreParted, Parted};
 
 use crate::fault::SaveFault;
 use crate::items::Form;
-use crate::listing::{Sorted, sort_all};
+use crate::listing::{KeyedPair, Sorted, sort_all};
 use crate::page::{Page, finish, put};
 use crate::put::{put_list, put_pairs, put_short};
 use byte_streams::StreamFault;
 use std::alloc::{AllocError, Global};
 use std::io::Write;
-use tlog_hash::{Hash, TreeHash};
+use tlog_hash::TreeHash;
 use tlog_mirror::Mirror;
 
 /// Writes the text of what a mirror holds, of version 2. It goes through a buffer, so that the writer needs none; it is
@@ -68,7 +68,7 @@ fn write_text<W: Write>(
     writer: &mut W,
     origin: &[u8],
     notes: &[&[u8]],
-    pairs: &[(&Hash, &Hash)],
+    pairs: &[KeyedPair<'_>],
     entries: &[&[u8]],
 ) -> Result<(), StreamFault>
     requires { AreParted origin.now (map (λ n. n.now) notes.now) (map pair_bytes pairs.now)
@@ -88,7 +88,7 @@ fn put_body<W: Write>(
     page: &mut Page,
     origin: &[u8],
     notes: &[&[u8]],
-    pairs: &[(&Hash, &Hash)],
+    pairs: &[KeyedPair<'_>],
     entries: &[&[u8]],
 ) -> Result<(), StreamFault>
     requires { AreParted origin.now (map (λ n. n.now) notes.now) (map pair_bytes pairs.now)

@@ -3,7 +3,7 @@ use Rattle.std.proofs.lemmas.List.{map_push}
 use Rattle.std.proofs.lemmas.List.Elements.{All-nil, All-push, All-same}
 use Rattle.std.specs.FinSet.{from_list}
 use Rattle.node_store.specs.Strings.{string_of}
-use Rattle.mirror_state.specs.Putting.{pair_bytes, IsSizedPair}
+use Rattle.mirror_state.specs.Putting.{pair_bytes, IsKeyed}
 use Rattle.mirror_state.proofs.Gathered.{HoldsPart, part_start, part_more, part_pass, part_end}
 use Rattle.mirror_state.proofs.listing.all_pairs.Goals as goal
 
@@ -15,7 +15,7 @@ loop-string-init g c =
           c.into_iter-string-iterator.result none
           (ap (λ (k : List (List ℕ)). from_list k) c.into_iter-string-iterator.ensures.into_iter_gives
           ∙ c.iter-string-items.ensures.all);
-      sized = rw c.new-pairs.ensures.items (All-nil IsSizedPair);
+      keyed = rw c.new-pairs.ensures.items (All-nil IsKeyed);
     }
 
 pub loop-string-preserved-in-Leaf : goal.loop-string-preserved-in-Leaf
@@ -24,7 +24,7 @@ loop-string-preserved-in-Leaf g c =
     record {
       part = part_pass 1 c.args.store.now (map pair_bytes c.loop-string.pairs.items) c.loop-string.string-iterator
           c.next.new.self c.loop-string.invariant.part (0 ∷ c.in-Leaf.field-0.now) (λ e same. cc same) left;
-      sized = c.loop-string.invariant.sized;
+      keyed = c.loop-string.invariant.keyed;
     }
 
 pub loop-string-preserved : goal.loop-string-preserved
@@ -38,8 +38,8 @@ loop-string-preserved g c =
       part = subst (λ (xs : List (List ℕ)). HoldsPart 1 c.args.store.now xs c.next.new.self) (sym items)
           (part_more 1 c.args.store.now (map pair_bytes c.loop-string.pairs.items) c.loop-string.string-iterator
           c.next.new.self c.loop-string.invariant.part (pair_bytes c.pair_of.result) left);
-      sized = All-same IsSizedPair _ _ c.in_ok-push-in-Pair.ensures.items (All-push IsSizedPair
-          c.loop-string.pairs.items c.pair_of.result c.loop-string.invariant.sized c.pair_of.ensures.sized);
+      keyed = All-same IsKeyed _ _ c.in_ok-push-in-Pair.ensures.items (All-push IsKeyed
+          c.loop-string.pairs.items c.pair_of.result c.loop-string.invariant.keyed c.pair_of.ensures.keyed);
     }
 
 pub returns-clause-each : goal.returns-clause-each

@@ -1,4 +1,10 @@
+use Rattle.std.proofs.Common.{◌∙◌, arith}
+use Rattle.mirror_state.proofs.Gathered.{front_key}
 use Rattle.mirror_state.proofs.listing.pair_of.Goals as goal
 
-pub returns-clause-sized : goal.returns-clause-sized
-returns-clause-sized c = c.told-left
+pub returns-clause-keyed : goal.returns-clause-keyed
+returns-clause-keyed c = record {
+  sized = c.told-left;
+  small = c.fits-left;
+  key_is = c.from_be_bytes-key.ensures ∙ front_key c.args.left.now (omega (arith, c.told-left));
+}

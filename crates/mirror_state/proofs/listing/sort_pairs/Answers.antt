@@ -1,18 +1,18 @@
 use Rattle.std.proofs.lemmas.List.Filters.{dedup_is, All-dedup}
 use Rattle.std.proofs.lemmas.List.Kept.{IsStrictlySortedBy-dedup}
 use Rattle.std.proofs.lemmas.List.Sorted.{All-permutation}
-use Rattle.mirror_state.specs.Putting.{pair_bytes, IsSizedPair}
-use Rattle.mirror_state.proofs.Gathered.{pair_total, pair_ties, pair_exact, pairs_rise, same_items}
+use Rattle.mirror_state.specs.Putting.{pair_bytes, IsKeyed}
+use Rattle.mirror_state.proofs.Gathered.{keyed_total, keyed_ties, keyed_exact, pairs_rise, same_items}
 use Rattle.mirror_state.proofs.listing.sort_pairs.Goals as goal
 
 pub returns-clause-rises : goal.returns-clause-rises
 returns-clause-rises c =
     let is = dedup_is _ _ _ c.dedup.ensures.filtered in
-    rw is (pairs_rise _ (All-dedup _ IsSizedPair c.sort_unstable.new.self.items (All-permutation IsSizedPair
+    rw is (pairs_rise _ (All-dedup _ IsKeyed c.sort_unstable.new.self.items (All-permutation IsKeyed
     c.args.pairs.now.items c.sort_unstable.new.self.items c.sort_unstable.ensures.permutation c.requires))
-    (IsStrictlySortedBy-dedup pair_total pair_ties _ c.sort_unstable.ensures.sorted))
+    (IsStrictlySortedBy-dedup keyed_total keyed_ties _ c.sort_unstable.ensures.sorted))
 
 pub returns-clause-same : goal.returns-clause-same
 returns-clause-same c = λ e.
-    same_items pair_bytes pair_total pair_ties pair_exact c.args.pairs.now.items c.sort_unstable.new.self.items
+    same_items pair_bytes keyed_total keyed_ties keyed_exact c.args.pairs.now.items c.sort_unstable.new.self.items
     c.dedup.new.self.items c.sort_unstable.ensures.permutation (dedup_is _ _ _ c.dedup.ensures.filtered) e

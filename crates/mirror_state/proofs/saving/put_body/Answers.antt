@@ -2,7 +2,7 @@ use Rattle.std.proofs.Common.{◌++◌, ℕ, List, map}
 use Rattle.std.specs.Borrow.{Bor}
 use Rattle.mirror_state.specs.declared.items.Form.TheVariants.{Short, Long, Hashes}
 use Rattle.mirror_state.specs.Items.{item_text, list_text}
-use Rattle.mirror_state.specs.Putting.{pair_bytes}
+use Rattle.mirror_state.specs.Putting.{KeyedPair, pair_bytes}
 use Rattle.mirror_state.proofs.Putting.{puts_short, puts_then}
 use Rattle.mirror_state.proofs.saving.put_body.Goals as goal
 
@@ -13,10 +13,10 @@ items_in items = map (λ (i : Bor (List ℕ)). i.now) items
 abbrev entries_text : List (Bor (List ℕ)) → List ℕ
 entries_text entries = list_text Short (items_in entries)
 
-abbrev pairs_text : List (Bor (List ℕ) × Bor (List ℕ)) → List (Bor (List ℕ)) → List ℕ
+abbrev pairs_text : List KeyedPair → List (Bor (List ℕ)) → List ℕ
 pairs_text pairs entries = list_text Hashes (map pair_bytes pairs) ++ entries_text entries
 
-abbrev notes_text : List (Bor (List ℕ)) → List (Bor (List ℕ) × Bor (List ℕ)) → List (Bor (List ℕ)) → List ℕ
+abbrev notes_text : List (Bor (List ℕ)) → List KeyedPair → List (Bor (List ℕ)) → List ℕ
 notes_text notes pairs entries = list_text Long (items_in notes) ++ pairs_text pairs entries
 
 pub returns-in_err-put : goal.returns-in_err-put
