@@ -1,12 +1,14 @@
 // peer: what Go's golang.org/x/mod/sumdb/tlog takes for the work of this repository's program. scripts/measure builds and runs it.
 //
-//	peer verify FOLDER          reads a log's folder, and checks each entry by the tiles and the checkpoint's root
+//	peer verify FOLDER          reads a log's folder file by file, and verifies each up to the checkpoint's root
+//	peer follow FOLDER COPY     so too, and writes what is new of it into COPY, the checkpoint last, all flushed by one syncfs
 //	peer build FOLDER <ENTRIES  writes the tiles, the bundles and the text of the checkpoint of entries, each behind its length in two bytes
 //	peer ask PORT N <PATHS      asks a server on this machine for each path, over a connection of its own, N at once, and prints the seconds
 package main
 
 import (
 	"bytes"
+	"crypto/sha256"
 	"encoding/base64"
 	"encoding/binary"
 	"fmt"
@@ -14,6 +16,7 @@ import (
 	"log"
 	"net"
 	"os"
+	"os/exec"
 	"path/filepath"
 	"strconv"
 	"strings"
@@ -38,74 +41,210 @@ func path(folder, kind string, index int64, width int) string {
 	return filepath.Join(folder, "tile", kind, name)
 }
 
-// folder reads the tiles of a log's folder.
-type folder struct{ name string }
-
-func (f folder) Height() int { return height }
-
-func (f folder) ReadTiles(tiles []tlog.Tile) ([][]byte, error) {
-	var all [][]byte
-	for _, tile := range tiles {
-		data, err := os.ReadFile(path(f.name, strconv.Itoa(tile.L), tile.N, tile.W))
-		if err != nil {
-			return nil, err
-		}
-		all = append(all, data)
-	}
-	return all, nil
-}
-
-func (f folder) SaveTiles(tiles []tlog.Tile, data [][]byte) {}
-
 // bundle cuts a bundle into its entries.
-func bundle(data []byte) [][]byte {
+func bundle(data []byte) ([][]byte, error) {
 	var entries [][]byte
 	for len(data) > 0 {
+		if len(data) < 2 || len(data) < 2+int(binary.BigEndian.Uint16(data)) {
+			return nil, fmt.Errorf("the last entry is cut off")
+		}
 		end := 2 + int(binary.BigEndian.Uint16(data))
 		entries = append(entries, data[2:end])
 		data = data[end:]
 	}
-	return entries
+	return entries, nil
 }
 
-// verify checks each entry of the folder.
-func verify(name string) error {
-	text, err := os.ReadFile(filepath.Join(name, "checkpoint"))
-	if err != nil {
-		return err
+// checkpoint reads the checkpoint of a folder. Its signatures are not looked at.
+func checkpoint(folder string) (text []byte, size int64, root tlog.Hash, err error) {
+	if text, err = os.ReadFile(filepath.Join(folder, "checkpoint")); err != nil {
+		return
 	}
 	lines := strings.Split(string(text), "\n")
-	size, err := strconv.ParseInt(lines[1], 10, 64)
+	if len(lines) < 4 {
+		err = fmt.Errorf("%s: no checkpoint", folder)
+		return
+	}
+	if size, err = strconv.ParseInt(lines[1], 10, 64); err != nil {
+		return
+	}
+	root, err = tlog.ParseHash(lines[2])
+	return
+}
+
+// edge is the right edge of a tree: of each level of tiles, the hashes of the last one, and how many full ones are before it.
+type edge struct {
+	rows [8][]tlog.Hash
+	full [8]int64
+}
+
+// top gives the hash above a power of two of hashes.
+func top(row []tlog.Hash) tlog.Hash {
+	if len(row) == 1 {
+		return row[0]
+	}
+	return tlog.NodeHash(top(row[:len(row)/2]), top(row[len(row)/2:]))
+}
+
+// root gives the hash of the whole tree. Its subtrees of a power of two come from the right, the smallest first.
+func (e *edge) root() tlog.Hash {
+	var all tlog.Hash
+	some := false
+	for _, row := range e.rows {
+		for end, width := len(row), 1; end > 0; width *= 2 {
+			if end&width == 0 {
+				continue
+			}
+			part := top(row[end-width : end])
+			if some {
+				part = tlog.NodeHash(part, all)
+			}
+			all, some = part, true
+			end -= width
+		}
+	}
+	if !some {
+		return sha256.Sum256(nil)
+	}
+	return all
+}
+
+// add adds a hash to a level, and hands on each tile that is full by that.
+func (e *edge) add(level int, hash tlog.Hash, tile func(level int) error) error {
+	e.rows[level] = append(e.rows[level], hash)
+	if len(e.rows[level]) < 1<<height {
+		return nil
+	}
+	if err := tile(level); err != nil {
+		return err
+	}
+	hash = top(e.rows[level])
+	e.rows[level] = e.rows[level][:0]
+	e.full[level]++
+	return e.add(level+1, hash, tile)
+}
+
+// copied reads the edge of a copy that is there, whose checkpoint it has to lead to. It is empty where there is no copy.
+func copied(to string) (e *edge, size int64, err error) {
+	e = &edge{}
+	_, size, root, err := checkpoint(to)
+	if os.IsNotExist(err) {
+		return e, 0, nil
+	}
+	if err != nil {
+		return nil, 0, err
+	}
+	for level := range e.rows {
+		hashes := size >> (height * level)
+		width := int(hashes % (1 << height))
+		e.full[level] = hashes >> height
+		if width == 0 {
+			continue
+		}
+		data, err := os.ReadFile(path(to, strconv.Itoa(level), hashes>>height, width))
+		if err != nil || len(data) != width*tlog.HashSize {
+			return nil, 0, fmt.Errorf("%s lacks its edge: %v", to, err)
+		}
+		for ; len(data) > 0; data = data[tlog.HashSize:] {
+			e.rows[level] = append(e.rows[level], *(*tlog.Hash)(data))
+		}
+	}
+	if e.root() != root {
+		return nil, 0, fmt.Errorf("the edge of %s does not lead to its checkpoint", to)
+	}
+	return e, size, nil
+}
+
+// follow reads a log's folder file by file, and verifies each file up to the root of its checkpoint. It writes what it read into the
+// folder `to`, which may have a copy of an older checkpoint, and the checkpoint last; nothing where `to` has no name.
+//
+// Nothing is taken from x/mod's TileHashReader: that of version 0.7 looks at no parent of the first full tiles that it is asked for.
+func follow(from, to string) error {
+	text, size, root, err := checkpoint(from)
 	if err != nil {
 		return err
 	}
-	root, err := tlog.ParseHash(lines[2])
-	if err != nil {
-		return err
+	e, done, err := &edge{}, int64(0), error(nil)
+	keep := func(string, []byte) error { return nil }
+	if to != "" {
+		if e, done, err = copied(to); err != nil {
+			return err
+		}
+		if size < done {
+			return fmt.Errorf("%s has %d entries already", to, done)
+		}
+		keep = func(name string, data []byte) error { return put(to+strings.TrimPrefix(name, from), data) }
 	}
-	reader := tlog.TileHashReader(tlog.Tree{N: size, Hash: root}, folder{name})
-	for first := int64(0); first < size; first += 1 << height {
+	// tile compares a tile of the folder with the hashes that the entries have.
+	tile := func(level int) error {
+		name := path(from, strconv.Itoa(level), e.full[level], len(e.rows[level]))
+		data, err := os.ReadFile(name)
+		if err != nil {
+			return err
+		}
+		if len(data) != len(e.rows[level])*tlog.HashSize {
+			return fmt.Errorf("%s has another length", name)
+		}
+		for i, hash := range e.rows[level] {
+			if *(*tlog.Hash)(data[i*tlog.HashSize:]) != hash {
+				return fmt.Errorf("%s differs at hash %d", name, i)
+			}
+		}
+		return keep(name, data)
+	}
+	var name string
+	var last []byte // the partial bundle, which is kept once the root is right
+	for first := done &^ (1<<height - 1); first < size; first += 1 << height {
 		width := int(min(1<<height, size-first))
-		data, err := os.ReadFile(path(name, "entries", first>>height, width))
+		name = path(from, "entries", first>>height, width)
+		data, err := os.ReadFile(name)
 		if err != nil {
 			return err
 		}
-		entries := bundle(data)
-		if len(entries) != width {
-			return fmt.Errorf("a bundle has %d entries", len(entries))
-		}
-		indexes := make([]int64, width)
-		for i := range indexes {
-			indexes[i] = tlog.StoredHashIndex(0, first+int64(i))
-		}
-		hashes, err := reader.ReadHashes(indexes)
-		if err != nil {
-			return err
+		entries, err := bundle(data)
+		if err != nil || len(entries) != width {
+			return fmt.Errorf("%s is no bundle of %d entries: %v", name, width, err)
 		}
 		for i, entry := range entries {
-			if tlog.RecordHash(entry) != hashes[i] {
-				return fmt.Errorf("entry %d has another hash", first+int64(i))
+			hash := tlog.RecordHash(entry)
+			if first+int64(i) >= done {
+				err = e.add(0, hash, tile)
+			} else if e.rows[0][i] != hash {
+				err = fmt.Errorf("entry %d is another one than in %s", first+int64(i), to)
 			}
+			if err != nil {
+				return err
+			}
+		}
+		if last = data; width == 1<<height {
+			last = nil
+			if err := keep(name, data); err != nil {
+				return err
+			}
+		}
+	}
+	if e.root() != root {
+		return fmt.Errorf("the entries have the root %v, and the checkpoint %v", e.root(), root)
+	}
+	for level, row := range e.rows {
+		if len(row) > 0 && size > done {
+			if err := tile(level); err != nil {
+				return err
+			}
+		}
+	}
+	if last != nil {
+		if err := keep(name, last); err != nil {
+			return err
+		}
+	}
+	if to != "" {
+		// All files are on the device before the checkpoint is.
+		if err := exec.Command("sync", "-f", to).Run(); err != nil {
+			return err
+		}
+		if err := put(filepath.Join(to, "checkpoint"), text); err != nil {
+			return err
 		}
 	}
 	fmt.Println(size, root)
@@ -133,7 +272,10 @@ func build(name string) error {
 	if err != nil {
 		return err
 	}
-	entries := bundle(input)
+	entries, err := bundle(input)
+	if err != nil {
+		return err
+	}
 	size := int64(len(entries))
 	var stored []tlog.Hash
 	reader := tlog.HashReaderFunc(func(indexes []int64) ([]tlog.Hash, error) {
@@ -242,13 +384,15 @@ func main() {
 	var err error
 	switch {
 	case len(os.Args) == 3 && os.Args[1] == "verify":
-		err = verify(os.Args[2])
+		err = follow(os.Args[2], "")
+	case len(os.Args) == 4 && os.Args[1] == "follow":
+		err = follow(os.Args[2], os.Args[3])
 	case len(os.Args) == 3 && os.Args[1] == "build":
 		err = build(os.Args[2])
 	case len(os.Args) == 4 && os.Args[1] == "ask":
 		err = ask(os.Args[2], os.Args[3])
 	default:
-		log.Fatal("usage: peer verify FOLDER | build FOLDER | ask PORT N")
+		log.Fatal("usage: peer verify FOLDER | follow FOLDER COPY | build FOLDER | ask PORT N")
 	}
 	if err != nil {
 		log.Fatal(err)
