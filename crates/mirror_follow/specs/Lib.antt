@@ -1,1 +1,4 @@
 pub mod Forks
+pub mod Candidates
+pub mod Gathering
+pub mod Asking

@@ -1,6 +1,15 @@
 //! A copy of a log followed: brought to the newest checkpoint that some places give, with the forks that they show.
 #![tactic(auto)]
 
+mod answer;
+mod ask;
+mod candidate;
+mod fault;
+mod gather;
+mod head;
 mod laws;
 
+pub use ask::ask_candidates;
+pub use candidate::Candidate;
+pub use fault::FollowFault;
 pub use laws::fork_line_law;

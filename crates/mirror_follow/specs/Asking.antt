@@ -1,0 +1,67 @@
+-- Places that are asked for their checkpoints, each once, and what they answer.
+use Rattle.std.specs.Prelude.{◌≡◌, ℕ, ◌<◌, ◌≤◌, ◌≢◌, List, [], ◌∷◌, length, get_or, Option, Some, None, Result, Ok, Err, ⊤}
+use Rattle.std.specs.List.Sorted.{IsSorted}
+use Rattle.signed_note.specs.Keys.{Key}
+use Rattle.tlog_tiles.specs.declared.paths.Path.{Path}
+use Rattle.tlog_tiles.specs.declared.paths.Path.TheVariants.{Checkpoint}
+use Rattle.mirror_sources.specs.Source.{StaysWithin}
+use Rattle.mirror_sources.specs.Told.{AddsTold, one_more}
+use Rattle.mirror_follow.specs.Candidates.{turn_cmp}
+use Rattle.mirror_follow.specs.Gathering.{AreCandidatesOf, IsFirstReason}
+use Rattle.mirror_follow.specs.declared.candidate.Candidate.{Candidate}
+use Rattle.mirror_follow.specs.declared.answer.PlaceAnswer.{PlaceAnswer}
+use Rattle.mirror_follow.specs.declared.answer.PlaceAnswer.TheVariants.{File, NotFound, Failed}
+use Rattle.mirror_follow.specs.declared.fault.FollowFault.{FollowFault}
+use Rattle.mirror_follow.specs.declared.fault.FollowFault.TheVariants.{NoCheckpoint, Head, Source, OutOfMemory}
+
+-- the value, or another where there is none
+abbrev pub option_or : {X : Type 0} → Option X → X → X
+option_or None other = other
+option_or (Some x) other = x
+
+-- what a place of which these answers may come says by its answer, where it failed so often before it and after it
+abbrev pub SaysAnswer : (Path → Option (List ℕ) → Type 0) → ℕ → ℕ → PlaceAnswer → Type 0
+SaysAnswer may old new (File bytes) = may Checkpoint (Some bytes.items) × (new ≡ old)
+SaysAnswer may old new NotFound = may Checkpoint None × (new ≡ old)
+SaysAnswer may old new Failed = new ≡ one_more old
+
+module _ {S : Type 0} (may : S → Path → Option (List ℕ) → Type 0) (failed : S → ℕ) (asked : S → Option (List Path)) where
+  -- a place was asked for its checkpoint once, and for nothing else, and this is its answer
+  pub record IsAnswer (old new : S) (answer : PlaceAnswer) : Type 0 where
+    pub told : AddsTold (asked old) (asked new) (Checkpoint ∷ [])
+    pub later : StaysWithin (may old) (may new)
+    pub says : SaysAnswer (may old) (failed old) (failed new) answer
+
+  -- each of the first places was asked once, as many as count, in their order, and the others were not asked
+  pub record AreAnswers (old new : List S) (answers : List PlaceAnswer) (count : ℕ) : Type 0 where
+    pub length_is : length new ≡ length old
+    pub count_is : length answers ≡ count
+    pub each : (k : ℕ) (place : S) (answer : PlaceAnswer) → k < count →
+        IsAnswer (get_or old k place) (get_or new k place) (get_or answers k answer)
+    pub others : (k : ℕ) (place : S) → count ≤ k → get_or new k place ≡ get_or old k place
+
+  -- each place was asked, and the candidates are exactly the notes that they gave and that open, in the order of turns
+  pub record GivesCandidates (origin : List ℕ) (keys : List Key) (old new : List S) (candidates : List Candidate)
+      : Type 0 where
+    pub answers : List PlaceAnswer
+    pub are_answers : AreAnswers old new answers (length old)
+    pub are_of : AreCandidatesOf origin keys answers candidates
+    pub some : candidates ≢ []
+    pub rising : IsSorted turn_cmp candidates
+
+  -- each place was asked, no answer is a note that opens, and the fault is the reason of the first; of no places it is
+  -- that there is no checkpoint
+  pub record GivesNone (origin : List ℕ) (keys : List Key) (old new : List S) (fault : FollowFault) : Type 0 where
+    pub answers : List PlaceAnswer
+    pub are_answers : AreAnswers old new answers (length old)
+    pub are_of : AreCandidatesOf origin keys answers []
+    pub reason : (first : Option FollowFault) × IsFirstReason origin keys answers first
+        × (fault ≡ option_or first NoCheckpoint)
+
+  -- what asking places for candidates comes to, by its answer
+  abbrev pub FindsCandidates : List ℕ → List Key → List S → List S → Result (List Candidate) FollowFault → Type 0
+  FindsCandidates origin keys old new (Ok candidates) = GivesCandidates origin keys old new candidates
+  FindsCandidates origin keys old new (Err NoCheckpoint) = GivesNone origin keys old new NoCheckpoint
+  FindsCandidates origin keys old new (Err (Head fault)) = GivesNone origin keys old new (Head fault)
+  FindsCandidates origin keys old new (Err Source) = GivesNone origin keys old new Source
+  FindsCandidates origin keys old new (Err OutOfMemory) = ⊤

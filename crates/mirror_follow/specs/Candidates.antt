@@ -1,0 +1,26 @@
+-- Candidates: notes that open, of checkpoints to which a copy may be brought, and the order in which they have their turn.
+use Rattle.std.specs.Prelude.{◌≡◌, ℕ, List, Result, Ok, Err}
+use Rattle.std.specs.Cmp.Lexicographic.{slice_cmp}
+use Rattle.std.specs.Ordering.{nat_cmp, ordering_then}
+use Rattle.std.specs.declared.cmp.Ordering.{Ordering}
+use Rattle.signed_note.specs.Keys.{Key}
+use Rattle.mirror_model.specs.Heads.{IsOpenHead}
+use Rattle.mirror_model.specs.Refusals.{ReadsHead}
+use Rattle.mirror_model.specs.declared.fault.TakeFault.{TakeFault}
+use Rattle.mirror_follow.specs.declared.candidate.Candidate.{Candidate}
+
+-- the candidate is that note, which opens under the keys, and whose text is a checkpoint of the origin, of that size and root
+pub record IsCandidateOf (note origin : List ℕ) (keys : List Key) (candidate : Candidate) : Type 0 where
+  pub note_is : candidate.note.items ≡ note
+  pub is_open : IsOpenHead note origin keys candidate.size.0 candidate.root
+
+-- what each answer of a judge of notes says: Ok, which candidate the note is; a fault, why it is none
+abbrev pub JudgesNote : List ℕ → List ℕ → List Key → Result Candidate TakeFault → Type 0
+JudgesNote note origin keys (Ok candidate) = IsCandidateOf note origin keys candidate
+JudgesNote note origin keys (Err fault) = ReadsHead note origin keys (Err fault)
+
+-- the order of turns: the greater size first, of one size the lesser root, and of one size and root the lesser note
+abbrev pub turn_cmp : Candidate → Candidate → Ordering
+turn_cmp a b =
+    ordering_then (nat_cmp b.size.0 a.size.0)
+    (ordering_then (slice_cmp nat_cmp a.root b.root) (slice_cmp nat_cmp a.note.items b.note.items))

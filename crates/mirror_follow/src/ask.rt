@@ -1,0 +1,92 @@
+//! Places asked for candidates.
+ghost use Rattle.std.specs.Prelude.{◌≡◌, ◌≢◌, ◌∷◌, [], ℕ, List, IfErr, IfOk, Option, get_or, length, map};
+ghost use Rattle.std.specs.List.Sorted.{IsPermutation, IsSorted};
+ghost use Rattle.tlog_text.specs.Answers.{seen};
+ghost use Rattle.mirror_follow.specs.Asking.{AreAnswers, FindsCandidates, IsAnswer, option_or};
+ghost use Rattle.mirror_follow.specs.Candidates.{turn_cmp};
+ghost use Rattle.mirror_follow.specs.Gathering.{Gathers};
+ghost use Rattle.mirror_follow.specs.declared.answer.PlaceAnswer.{PlaceAnswer};
+
+use crate::answer::PlaceAnswer;
+use crate::candidate::Candidate;
+use crate::fault::FollowFault;
+use crate::gather::Gathered;
+use mirror_sources::{Source, SourceFault};
+use signed_note::Verifier;
+use std::alloc::{AllocError, Global};
+use tlog_tiles::Path;
+
+// Asks a place for its checkpoint.
+fn ask<S: Source>(place: &mut S) -> Result<PlaceAnswer, AllocError>
+    ensures { IfOk result (λ answer. IsAnswer S.may_answer S.failed S.asked place.old place.new answer) }
+{
+    match place.get(&Path::Checkpoint) {
+        Ok(Some(bytes)) => Ok(PlaceAnswer::File(bytes)),
+        Ok(None) => Ok(PlaceAnswer::NotFound),
+        Err(SourceFault::Failed) => Ok(PlaceAnswer::Failed),
+        Err(SourceFault::OutOfMemory) => Err(AllocError),
+    }
+}
+
+// Asks each place once for its checkpoint.
+fn ask_each<S: Source>(
+    alloc: Global,
+    origin: &str,
+    keys: &[Box<dyn Verifier>],
+    places: &mut [S],
+) -> Result<Gathered, AllocError>
+    ensures { IfOk result (λ gathered. (answers : List PlaceAnswer)
+        × AreAnswers S.may_answer S.failed S.asked places.old places.new answers (length places.old)
+        × Gathers origin.now (map (λ k. key k) keys.now) answers gathered.candidates.items gathered.first) }
+{
+    let mut gathered = Gathered::new(alloc);
+    for i in 0..places.len() {
+        let answer = ask(&mut places[i])?;
+        gathered.take(alloc, origin, keys, answer)?;
+    }
+    Ok(gathered)
+}
+
+// The candidates that were gathered, in the order of turns; or why the first place gave none.
+fn in_turn(gathered: Gathered) -> Result<Vec<Candidate>, FollowFault>
+    ensures same { IfOk result (λ c. IsPermutation gathered.candidates.items c.items) }
+    ensures some { IfOk result (λ c. gathered.candidates.items ≢ []) }
+    ensures rising { IfOk result (λ c. IsSorted turn_cmp c.items) }
+    ensures none { IfErr result (λ f. gathered.candidates.items ≡ []) }
+    ensures fault { IfErr result (λ f. f ≡ option_or gathered.first FollowFault.NoCheckpoint) }
+{
+    let Gathered {
+        mut candidates,
+        first,
+    } = gathered;
+    if candidates.is_empty() {
+        return Err(first.unwrap_or(FollowFault::NoCheckpoint));
+    }
+    candidates.sort_unstable();
+    Ok(candidates)
+}
+
+/// The candidates that some places give: each is asked once for its checkpoint, in their order. What opens under the keys and is a
+/// checkpoint of the origin is a candidate. They stand in the order of their turns.
+///
+/// ```text
+/// ask_candidates(alloc, "ex", &keys, &mut places)? // of places over 3 and over 257 entries: that of 257, and that of 3
+/// ```
+///
+/// # Errors
+///
+/// Where no place gives a candidate, the reason of the first place: `NoCheckpoint`, where it has none; `Head`, with the first
+/// refusal that applies, where the bytes are no note that opens, or no checkpoint of the origin; `Source`, where the get failed. Of
+/// no places it is `NoCheckpoint`. `OutOfMemory` where memory was refused.
+pub fn ask_candidates<S: Source>(
+    alloc: Global,
+    origin: &str,
+    keys: &[Box<dyn Verifier>],
+    places: &mut [S],
+) -> Result<Vec<Candidate>, FollowFault>
+    ensures { FindsCandidates S.may_answer S.failed S.asked origin.now (map (λ k. key k) keys.now)
+        places.old places.new (seen (λ v. v.items) result) }
+{
+    let gathered = ask_each(alloc, origin, keys, places)?;
+    in_turn(gathered)
+}

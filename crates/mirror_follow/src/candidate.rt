@@ -1,0 +1,49 @@
+//! Candidates: notes that open, of checkpoints to which a copy may be brought.
+ghost use Rattle.std.specs.Prelude.{◌≡◌, map};
+ghost use Rattle.std.specs.List.Sorted.{IsPermutation, IsSorted};
+ghost use Rattle.mirror_follow.specs.Candidates.{JudgesNote, turn_cmp};
+
+use crate::head::open_head;
+use mirror_model::TakeFault;
+use signed_note::Verifier;
+use std::alloc::Global;
+use std::cmp::Reverse;
+use tlog_hash::Hash;
+
+/// A note that opens under the keys and whose text is a checkpoint of the origin. Candidates rise in the order in which they have
+/// their turn: the greatest size first, of one size the least root, and of one size and root the least note.
+#[derive(Debug, Drop, PartialEq, Eq, PartialOrd, Ord)]
+pub struct Candidate {
+    /// How many entries the log has.
+    pub size: Reverse<u64>,
+    /// The hash of its tree.
+    pub root: Hash,
+    /// The note.
+    pub note: Vec<u8>,
+}
+
+/// The candidate that a note is.
+pub(crate) fn candidate_of(
+    alloc: Global,
+    origin: &str,
+    keys: &[Box<dyn Verifier>],
+    note: Vec<u8>,
+) -> Result<Candidate, TakeFault>
+    ensures { JudgesNote note.items origin.now (map (λ k. key k) keys.now) result }
+{
+    let checkpoint = open_head(alloc, origin, keys, &note)?;
+    let root = checkpoint.root;
+    Ok(Candidate {
+        size: Reverse(checkpoint.size),
+        root,
+        note,
+    })
+}
+
+/// Brings candidates into the order in which they have their turn.
+pub(crate) fn order(candidates: &mut Vec<Candidate>)
+    ensures same { IsPermutation candidates.old.items candidates.new.items }
+    ensures rising { IsSorted turn_cmp candidates.new.items }
+{
+    candidates.sort_unstable();
+}

@@ -1,0 +1,96 @@
+//! The candidates of some places, gathered answer by answer.
+ghost use Rattle.std.specs.Prelude.{◌≡◌, ◌≢◌, ◌∷◌, ◌++◌, [], List, IfOk, None, OnOk, map};
+ghost use Rattle.mirror_follow.specs.Gathering.{Gathers, or_first};
+ghost use Rattle.mirror_follow.specs.declared.answer.PlaceAnswer.{PlaceAnswer};
+
+use crate::answer::PlaceAnswer;
+use crate::candidate::{Candidate, candidate_of};
+use crate::fault::FollowFault;
+use mirror_model::TakeFault;
+use signed_note::Verifier;
+use std::alloc::{AllocError, Global};
+
+// The reason that a note is no candidate.
+fn refused(fault: TakeFault) -> Result<FollowFault, AllocError>
+    ensures { IfOk result (λ f. (f ≡ FollowFault.Head fault) × (fault ≢ TakeFault.OutOfMemory)) }
+{
+    match fault {
+        TakeFault::OutOfMemory => Err(AllocError),
+        _ => Ok(FollowFault::Head(fault)),
+    }
+}
+
+/// The candidates so far, and why the first place that gave none gave none.
+#[derive(Drop)]
+pub(crate) struct Gathered {
+    pub(crate) candidates: Vec<Candidate>,
+    pub(crate) first: Option<FollowFault>,
+}
+
+impl Gathered {
+    /// None so far.
+    pub(crate) fn new(alloc: Global) -> Gathered
+        ensures candidates { result.candidates.items ≡ [] }
+        ensures first { result.first ≡ None }
+    {
+        Gathered {
+            candidates: Vec::new(alloc),
+            first: None,
+        }
+    }
+
+    // Passes over an answer that gives no candidate, for that reason.
+    fn pass_over(&mut self, fault: FollowFault)
+        ensures candidates { self.new.candidates.items ≡ self.old.candidates.items }
+        ensures first { self.new.first ≡ or_first self.old.first fault }
+    {
+        if self.first.is_none() {
+            self.first = Some(fault);
+        }
+    }
+
+    // Adds the candidate that a note is, if it is one.
+    fn take_note(
+        &mut self,
+        alloc: Global,
+        origin: &str,
+        keys: &[Box<dyn Verifier>],
+        note: Vec<u8>,
+    ) -> Result<(), AllocError>
+        ensures { OnOk result ((answers : List PlaceAnswer)
+            → Gathers origin.now (map (λ k. key k) keys.now) answers self.old.candidates.items self.old.first
+            → Gathers origin.now (map (λ k. key k) keys.now) (answers ++ PlaceAnswer.File note ∷ [])
+            self.new.candidates.items self.new.first) }
+    {
+        match candidate_of(alloc, origin, keys, note) {
+            Ok(candidate) => self.candidates.push(candidate)?,
+            Err(fault) => self.pass_over(refused(fault)?),
+        }
+        Ok(())
+    }
+
+    /// Takes the answer of the next place.
+    ///
+    /// # Errors
+    ///
+    /// Memory was refused.
+    pub(crate) fn take(
+        &mut self,
+        alloc: Global,
+        origin: &str,
+        keys: &[Box<dyn Verifier>],
+        answer: PlaceAnswer,
+    ) -> Result<(), AllocError>
+        ensures { OnOk result ((answers : List PlaceAnswer)
+            → Gathers origin.now (map (λ k. key k) keys.now) answers self.old.candidates.items self.old.first
+            → Gathers origin.now (map (λ k. key k) keys.now) (answers ++ answer ∷ [])
+            self.new.candidates.items self.new.first) }
+    {
+        match answer {
+            PlaceAnswer::File(note) => self.take_note(alloc, origin, keys, note)?,
+            PlaceAnswer::NotFound => self.pass_over(FollowFault::NoCheckpoint),
+            PlaceAnswer::Failed => self.pass_over(FollowFault::Source),
+        }
+        Ok(())
+    }
+}
