@@ -1,2 +1,6 @@
 pub mod EdgeRows
 pub mod Verified
+pub mod Faults
+pub mod Ways
+pub mod Proving
+pub mod Truth

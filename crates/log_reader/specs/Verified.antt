@@ -22,3 +22,13 @@ module _ (digest : List ℕ → List ℕ) where
   pub record Verifies (kind : FullFile) (hash bytes : List ℕ) (row : List (List ℕ)) : Type 0 where
     pub is_row : IsRowOf kind bytes row
     pub folds : fold_of digest row ≡ hash
+
+  -- the row of a full tile that verifies under the hash
+  pub record IsVerifiedRow (hash : List ℕ) (row : List (List ℕ)) : Type 0 where
+    pub bytes : List ℕ
+    pub verifies : Verifies Tile hash bytes row
+
+  -- the bytes of a full bundle that verifies under the hash
+  pub record IsVerifiedBundle (hash bytes : List ℕ) : Type 0 where
+    pub row : List (List ℕ)
+    pub verifies : Verifies Bundle hash bytes row

@@ -6,8 +6,8 @@ use crate::edge_rows::EdgeRows;
 use std::alloc::{AllocError, Global};
 use tlog_hash::{Hash, TreeHash, fold};
 
-// The hash of the rows so far, the lowest first, with one more above them.
-fn with_row<H: TreeHash>(
+/// The hash of the rows so far, the lowest first, with one more above them.
+pub(crate) fn with_row<H: TreeHash>(
     alloc: Global,
     below: Option<Hash>,
     row: &[Hash],

@@ -10,14 +10,28 @@
 //! ```
 #![tactic(auto)]
 
+mod bundle;
+mod consistency;
+mod edge_files;
 mod edge_root;
 mod edge_row;
 mod edge_rows;
+mod fault;
 mod head;
+mod inclusion;
+mod laws;
+mod node_hash;
+mod prefix;
+mod reader;
+mod tile;
 mod verify;
+mod walk;
 
 pub use edge_root::{edge_hash, leads_to};
 pub use edge_row::{edge_path, row_given};
 pub use edge_rows::EdgeRows;
+pub use fault::ReadFault;
 pub use head::head_of;
+pub use laws::shown_rows_law;
+pub use reader::LogReader;
 pub use verify::{FullFile, leaves_of, verified};

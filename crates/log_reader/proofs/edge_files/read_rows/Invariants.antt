@@ -1,0 +1,14 @@
+use Rattle.std.proofs.Common.{◌≡◌, ◌<◌, ℕ, [], length, get_or}
+use Rattle.tlog_shape.specs.Edge.{width_of}
+use Rattle.mirror_sources.specs.Source.{StaysWithin}
+use Rattle.log_reader.specs.Ways.{AreHashesOf}
+use Rattle.log_reader.proofs.RowLists.{items_of}
+use Rattle.log_reader.proofs.edge_files.read_rows.Given as goal
+
+-- the rows so far have their widths
+abbrev pub invariant-loop-level : goal.invariant-loop-level
+invariant-loop-level g l = record {
+  later : StaysWithin (g.S.Source.may_answer l.fn.source) (g.S.Source.may_answer l.source);
+  count : length l.rows.items ≡ l.level;
+  widths : (k : ℕ) → k < l.level → AreHashesOf (width_of l.size k) (get_or (items_of l.rows.items) k []);
+}

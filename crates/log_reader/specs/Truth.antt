@@ -1,0 +1,30 @@
+-- What is read of a tree is true of each list of entries of its size and root, where nothing that is hashed clashes.
+use Rattle.std.specs.Prelude.{◌≡◌, ℕ, ◌*◌, ◌^◌, ◌<◌, List, ◌++◌, length, map}
+use Rattle.std.specs.FinSet as set
+use Rattle.tlog_hash.specs.Tree.{mth, strings}
+use Rattle.tlog_hash.specs.Rows.{level_row}
+use Rattle.node_store.specs.Strings.{NoClash}
+use Rattle.mirror_model.specs.Edge.{edge_levels, edge_strings}
+use Rattle.mirror_model.specs.Strings.{IsDigest}
+use Rattle.log_reader.specs.EdgeRows.{Edge, hash_of_edge, row_at}
+use Rattle.log_reader.specs.Ways.{HasEdgeHashes, IsWay, row_of_way, way_strings}
+
+module _ (digest : List ℕ → List ℕ) where
+  -- the strings that folding the rows of an edge and of a way hashes
+  abbrev pub read_strings : Edge → List (List (List ℕ)) → List (List ℕ)
+  read_strings edge way = edge_strings digest (map (row_at edge) (edge_levels edge.size)) ++ way_strings digest way
+
+  -- the entries have the size and the root to which the edge leads, and no two different strings of their tree and of
+  -- what was read share a digest
+  pub record IsListClear (edge : Edge) (way : List (List (List ℕ))) (entries : List (List ℕ)) : Type 0 where
+    pub size_is : length entries ≡ edge.size
+    pub root_is : mth digest entries ≡ hash_of_edge digest edge
+    pub clear : NoClash digest (set.from_list (strings digest entries ++ read_strings edge way))
+
+-- a row that a way leads from up to the edge is the true one
+abbrev pub ShownRowsAreTrue : Type 0
+ShownRowsAreTrue =
+    (digest : List ℕ → List ℕ) → IsDigest digest → (edge : Edge) → HasEdgeHashes edge → edge.size < 2 ^ 64 →
+    (level index : ℕ) (way : List (List (List ℕ))) → IsWay digest edge level index way →
+    (entries : List (List ℕ)) → IsListClear digest edge way entries →
+    row_of_way edge level way ≡ level_row digest entries level (256 * index) (length (row_of_way edge level way))

@@ -1,0 +1,141 @@
+//! Bundles of a log, verified.
+ghost use Rattle.std.specs.Prelude.{◌≡◌, ◌↔◌, ◌*◌, ◌<◌, ◌≤◌, IfOk, IsTrue, length};
+ghost use Rattle.mirror_sources.specs.Source.{StaysWithin};
+ghost use Rattle.log_reader.specs.Verified.{HasLeaves, IsVerifiedBundle};
+ghost use Rattle.log_reader.specs.Ways.{IsShownBundle};
+
+use crate::fault::ReadFault;
+use crate::reader::LogReader;
+use crate::verify::{FullFile, leaves_of, verified};
+use mirror_sources::Source;
+use std::alloc::Global;
+use tlog_hash::{Hash, TreeHash};
+use tlog_shape::edge_index;
+use tlog_tiles::{Path, split_entry};
+
+// The bytes of a full bundle that has that hash.
+fn read_full<H: TreeHash, S: Source>(
+    alloc: Global,
+    source: &mut S,
+    index: u64,
+    hash: &Hash,
+) -> Result<Vec<u8>, ReadFault>
+    ensures bytes { IfOk result (λ bytes. IsVerifiedBundle H.digest hash.now bytes.items) }
+    ensures later { StaysWithin (S.may_answer source.old) (S.may_answer source.new) }
+{
+    let path = Path::Entries { index, width: 256 };
+    let Some(bytes) = source.get(&path)? else {
+        return Err(ReadFault::NoFile(path));
+    };
+    match verified::<H>(alloc, FullFile::Bundle, hash, &bytes)? {
+        Some(_row) => Ok(bytes),
+        None => Err(ReadFault::FalseFile(path)),
+    }
+}
+
+fn is_same_row(first: &[Hash], second: &[Hash]) -> bool
+    ensures { IsTrue result ↔ (first.now ≡ second.now) }
+{
+    first == second
+}
+
+// Whether the bytes are a bundle with these leaf hashes.
+fn has_leaves<H: TreeHash>(alloc: Global, row: &[Hash], bytes: &[u8]) -> Result<bool, ReadFault>
+    requires { length row.now ≤ 256 }
+    ensures { IfOk result (λ b. IsTrue b → HasLeaves H.digest (length row.now) bytes.now row.now) }
+{
+    match leaves_of::<H>(alloc, row.len() as u32, bytes)? {
+        Some(leaves) => Ok(is_same_row(&leaves, row)),
+        None => Ok(false),
+    }
+}
+
+// The first entries of a bundle; None where it has fewer.
+fn first_entries(bundle: &[u8], count: usize) -> Option<&[u8]> {
+    let mut rest = bundle;
+    for _ in 0..count {
+        let (_entry, after) = split_entry(rest)?;
+        rest = after;
+    }
+    bundle.get(..bundle.len().saturating_sub(rest.len()))
+}
+
+// The first entries of the full bundle, as many as the partial one has that a log may have deleted.
+fn read_part<S: Source>(
+    alloc: Global,
+    source: &mut S,
+    path: Path,
+    index: u64,
+    count: usize,
+) -> Result<Vec<u8>, ReadFault>
+    ensures { StaysWithin (S.may_answer source.old) (S.may_answer source.new) }
+{
+    let full = Path::Entries { index, width: 256 };
+    let Some(bytes) = source.get(&full)? else {
+        return Err(ReadFault::NoFile(path));
+    };
+    match first_entries(&bytes, count) {
+        Some(part) => Ok(Vec::from_slice(alloc, part)?),
+        None => Err(ReadFault::FalseFile(full)),
+    }
+}
+
+// The bytes of the bundle at the end of the log, which has the leaf hashes of the edge.
+fn read_end<H: TreeHash, S: Source>(
+    alloc: Global,
+    source: &mut S,
+    index: u64,
+    row: &[Hash],
+) -> Result<Vec<u8>, ReadFault>
+    requires { length row.now ≤ 256 }
+    ensures bytes { IfOk result (λ bytes. HasLeaves H.digest (length row.now) bytes.items row.now) }
+    ensures later { StaysWithin (S.may_answer source.old) (S.may_answer source.new) }
+{
+    let path = Path::Entries {
+        index,
+        width: row.len() as u32,
+    };
+    let bytes = match source.get(&path)? {
+        Some(bytes) => bytes,
+        None => read_part::<S>(alloc, source, path, index, row.len())?,
+    };
+    if has_leaves::<H>(alloc, row, &bytes)? {
+        Ok(bytes)
+    } else {
+        Err(ReadFault::FalseFile(path))
+    }
+}
+
+impl<H: TreeHash> LogReader<H> {
+    /// The bytes of a bundle (C2SP tlog-tiles, "Log Entries"): 256 entries from number `256 * index` on, or those that the log has
+    /// from there on. `read_bundle` of `tlog_tiles` parts them.
+    ///
+    /// ```text
+    /// reader.bundle(alloc, &mut source, 1)?   // of 257 entries the last one, after its length
+    /// ```
+    ///
+    /// # Errors
+    ///
+    /// Those of `row`, also of the bundle.
+    pub fn bundle<S: Source>(
+        &mut self,
+        alloc: Global,
+        source: &mut S,
+        index: u64,
+    ) -> Result<Vec<u8>, ReadFault>
+        requires { 256 * index < self.old.edge.size }
+        ensures edge { self.new.edge ≡ self.old.edge }
+        ensures root { self.new.root ≡ self.old.root }
+        ensures shown { IfOk result (λ bytes. IsShownBundle H.digest self.old.edge index bytes.items) }
+        ensures later { StaysWithin (S.may_answer source.old) (S.may_answer source.new) }
+    {
+        if index == edge_index(self.size(), 0) {
+            return read_end::<H, S>(alloc, source, index, self.edge().row(0));
+        }
+        let row = self.row(alloc, source, 1, index / 256)?;
+        match row.get((index % 256) as usize) {
+            Some(hash) => read_full::<H, S>(alloc, source, index, hash),
+            None => Err(ReadFault::NoFile(Path::Entries { index, width: 256 })),
+        }
+    }
+}

@@ -1,0 +1,98 @@
+//! Consistency proofs of a log, made of verified rows.
+ghost use Rattle.std.specs.Prelude.{◌≡◌, ◌+◌, ◌^◌, ◌<◌, ◌≤◌, IfOk};
+ghost use Rattle.tlog_proof.specs.Made.{Holds};
+ghost use Rattle.mirror_sources.specs.Source.{StaysWithin};
+ghost use Rattle.log_reader.specs.Proving.{IsConsistencyTo};
+
+use crate::fault::ReadFault;
+use crate::node_hash::node_hash;
+use crate::reader::LogReader;
+use mirror_sources::Source;
+use std::alloc::Global;
+use tlog_hash::{Hash, TreeHash};
+use tlog_proof::{HashPath, Proof, holds};
+use tlog_shape::split;
+
+// Adds the path from the first entries of a node to all of it: SUBPROOF of RFC 6962, section 2.1.2. Where all of it is the first
+// tree, `held` says that the checker knows its root.
+fn add_subproof<H: TreeHash, S: Source>(
+    alloc: Global,
+    reader: &mut LogReader<H>,
+    source: &mut S,
+    node: (u64, u64),
+    first: u64,
+    held: bool,
+    path: &mut Vec<Hash>,
+) -> Result<(), ReadFault>
+    requires some { 0 < first }
+    requires within { first ≤ node.1 }
+    requires fits { node.0 + node.1 ≤ reader.old.edge.size }
+    requires small { node.0 + node.1 < 2 ^ 64 }
+    ensures edge { reader.new.edge ≡ reader.old.edge }
+    ensures root { reader.new.root ≡ reader.old.root }
+    ensures later { StaysWithin (S.may_answer source.old) (S.may_answer source.new) }
+{
+    let (start, len) = node;
+    if first == len {
+        if !held {
+            path.push(node_hash::<H, S>(alloc, reader, source, start, len)?)?;
+        }
+        return Ok(());
+    }
+    let k = split(len);
+    let beside = if first <= k {
+        add_subproof::<H, S>(alloc, reader, source, (start, k), first, held, path)?;
+        node_hash::<H, S>(alloc, reader, source, start + k, len - k)?
+    } else {
+        let right = (start + k, len - k);
+        add_subproof::<H, S>(alloc, reader, source, right, first - k, false, path)?;
+        node_hash::<H, S>(alloc, reader, source, start, k)?
+    };
+    path.push(beside)?;
+    Ok(())
+}
+
+impl<H: TreeHash> LogReader<H> {
+    /// The proof that the tree of the first entries is a prefix of that of all (RFC 6962, section 2.1.2). It is checked before it is
+    /// handed out, so it holds, whatever the source gave. A proof to a smaller size is one of `prefix`.
+    ///
+    /// ```text
+    /// reader.consistency(alloc, &mut source, 257)?                                     // from 257 entries to all
+    /// reader.prefix(alloc, &mut source, 300)?.consistency(alloc, &mut source, 257)?    // from 257 to 300
+    /// ```
+    ///
+    /// # Errors
+    ///
+    /// Those of `row`; and `Collision`: the rows lead to the root, and the proof made of them does not hold.
+    pub fn consistency<S: Source>(
+        &mut self,
+        alloc: Global,
+        source: &mut S,
+        first: u64,
+    ) -> Result<Proof, ReadFault>
+        requires some { 0 < first }
+        requires within { first ≤ self.old.edge.size }
+        ensures edge { self.new.edge ≡ self.old.edge }
+        ensures root { self.new.root ≡ self.old.root }
+        ensures asked { IfOk result (IsConsistencyTo first self.old.edge.size self.old.root) }
+        ensures holds { IfOk result (Holds H.digest) }
+        ensures later { StaysWithin (S.may_answer source.old) (S.may_answer source.new) }
+    {
+        let first_root = self.prefix(alloc, source, first)?.root();
+        let second = self.size();
+        let mut path = Vec::new(alloc);
+        add_subproof::<H, S>(alloc, self, source, (0, second), first, true, &mut path)?;
+        let proof = Proof::Consistency {
+            first,
+            first_root,
+            second,
+            second_root: self.root(),
+            path: HashPath::new(path),
+        };
+        if holds::<H>(&proof) {
+            Ok(proof)
+        } else {
+            Err(ReadFault::Collision)
+        }
+    }
+}

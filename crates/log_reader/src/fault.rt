@@ -1,0 +1,57 @@
+//! Why a read of a log ends early.
+ghost use Rattle.std.specs.Prelude.{◌≡◌};
+ghost use Rattle.log_reader.specs.Faults.{by_source};
+ghost use Rattle.log_reader.specs.declared.fault.ReadFault.TheVariants.{OutOfMemory};
+
+use mirror_sources::SourceFault;
+use std::alloc::{AllocError, AllocFailed};
+use thiserror::Error;
+use tlog_tiles::Path;
+
+/// Why a read gave nothing. It prints its variant's name.
+/// `NoFile(Path::Entries { index: 1, width: 256 })` says that the source has no `tile/entries/001`.
+#[derive(Debug, Drop, PartialEq, Eq, Clone, Copy, Error)]
+pub enum ReadFault {
+    /// The source has no file there, and of a partial file no full one either.
+    #[error("NoFile")]
+    NoFile(Path),
+    /// The file that the source gave does not lead to the root. Of edge rows it is the lowest, and the checkpoint where there are none.
+    #[error("FalseFile")]
+    FalseFile(Path),
+    /// A proof made of rows that lead to the root does not hold: two strings of them share a digest.
+    #[error("Collision")]
+    Collision,
+    /// The source failed.
+    #[error("Source")]
+    Source,
+    /// Memory was refused.
+    #[error("OutOfMemory")]
+    OutOfMemory,
+}
+
+impl From<SourceFault> for ReadFault {
+    ghost from_gives = { λ e f. f ≡ by_source e };
+
+    fn from(e: SourceFault) -> ReadFault {
+        match e {
+            SourceFault::Failed => ReadFault::Source,
+            SourceFault::OutOfMemory => ReadFault::OutOfMemory,
+        }
+    }
+}
+
+impl From<AllocError> for ReadFault {
+    ghost from_gives = { λ _ e. e ≡ OutOfMemory };
+
+    fn from(_e: AllocError) -> ReadFault {
+        ReadFault::OutOfMemory
+    }
+}
+
+impl<T: Drop> From<AllocFailed<T>> for ReadFault {
+    ghost from_gives = { λ _ e. e ≡ OutOfMemory };
+
+    fn from(_e: AllocFailed<T>) -> ReadFault {
+        ReadFault::OutOfMemory
+    }
+}

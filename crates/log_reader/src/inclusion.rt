@@ -1,0 +1,113 @@
+//! Inclusion proofs of a log, made of verified rows.
+ghost use Rattle.std.specs.Prelude.{◌≡◌, ◌+◌, ◌^◌, ◌<◌, ◌≤◌, IfOk};
+ghost use Rattle.tlog_proof.specs.Made.{Holds};
+ghost use Rattle.mirror_sources.specs.Source.{StaysWithin};
+ghost use Rattle.log_reader.specs.Proving.{IsInclusionIn};
+
+use crate::fault::ReadFault;
+use crate::node_hash::node_hash;
+use crate::reader::LogReader;
+use mirror_sources::Source;
+use std::alloc::Global;
+use tlog_hash::{Hash, TreeHash};
+use tlog_proof::{HashPath, Proof, holds};
+use tlog_shape::split;
+
+// Adds the path for an index, counted from the start of a node, within that node: PATH of RFC 6962, section 2.1.1.
+fn add_path<H: TreeHash, S: Source>(
+    alloc: Global,
+    reader: &mut LogReader<H>,
+    source: &mut S,
+    node: (u64, u64),
+    index: u64,
+    path: &mut Vec<Hash>,
+) -> Result<(), ReadFault>
+    requires inside { index < node.1 }
+    requires fits { node.0 + node.1 ≤ reader.old.edge.size }
+    requires small { node.0 + node.1 < 2 ^ 64 }
+    ensures edge { reader.new.edge ≡ reader.old.edge }
+    ensures root { reader.new.root ≡ reader.old.root }
+    ensures later { StaysWithin (S.may_answer source.old) (S.may_answer source.new) }
+{
+    let (start, len) = node;
+    if len == 1 {
+        return Ok(());
+    }
+    let k = split(len);
+    let beside = if index < k {
+        add_path::<H, S>(alloc, reader, source, (start, k), index, path)?;
+        node_hash::<H, S>(alloc, reader, source, start + k, len - k)?
+    } else {
+        add_path::<H, S>(alloc, reader, source, (start + k, len - k), index - k, path)?;
+        node_hash::<H, S>(alloc, reader, source, start, k)?
+    };
+    path.push(beside)?;
+    Ok(())
+}
+
+impl<H: TreeHash> LogReader<H> {
+    /// The leaf hash of an entry.
+    ///
+    /// ```text
+    /// reader.leaf(alloc, &mut source, 2)?   // the digest of 0x00 || entry
+    /// ```
+    ///
+    /// # Errors
+    ///
+    /// Those of `row`.
+    pub fn leaf<S: Source>(
+        &mut self,
+        alloc: Global,
+        source: &mut S,
+        index: u64,
+    ) -> Result<Hash, ReadFault>
+        requires { index < self.old.edge.size }
+        ensures edge { self.new.edge ≡ self.old.edge }
+        ensures root { self.new.root ≡ self.old.root }
+        ensures later { StaysWithin (S.may_answer source.old) (S.may_answer source.new) }
+    {
+        node_hash::<H, S>(alloc, self, source, index, 1)
+    }
+
+    /// The proof that an entry is in the tree of all (RFC 6962, section 2.1.1). It is checked before it is handed out, so it holds,
+    /// whatever the source gave. A proof in a smaller tree is one of `prefix`.
+    ///
+    /// ```text
+    /// reader.inclusion(alloc, &mut source, 2)?                                     // of entry 2 among all
+    /// reader.prefix(alloc, &mut source, 3)?.inclusion(alloc, &mut source, 2)?      // among the first three
+    /// ```
+    ///
+    /// # Errors
+    ///
+    /// Those of `row`; and `Collision`: the rows lead to the root, and the proof made of them does not hold.
+    pub fn inclusion<S: Source>(
+        &mut self,
+        alloc: Global,
+        source: &mut S,
+        index: u64,
+    ) -> Result<Proof, ReadFault>
+        requires { index < self.old.edge.size }
+        ensures edge { self.new.edge ≡ self.old.edge }
+        ensures root { self.new.root ≡ self.old.root }
+        ensures asked { IfOk result (IsInclusionIn self.old.edge.size index self.old.root) }
+        ensures holds { IfOk result (Holds H.digest) }
+        ensures later { StaysWithin (S.may_answer source.old) (S.may_answer source.new) }
+    {
+        let size = self.size();
+        let leaf = self.leaf(alloc, source, index)?;
+        let mut path = Vec::new(alloc);
+        add_path::<H, S>(alloc, self, source, (0, size), index, &mut path)?;
+        let proof = Proof::Inclusion {
+            size,
+            index,
+            root: self.root(),
+            leaf,
+            path: HashPath::new(path),
+        };
+        if holds::<H>(&proof) {
+            Ok(proof)
+        } else {
+            Err(ReadFault::Collision)
+        }
+    }
+}

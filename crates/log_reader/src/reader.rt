@@ -1,0 +1,193 @@
+//! Where a reader stands in the tree of a log.
+ghost use Rattle.std.specs.Prelude.{◌≡◌, ◌≢◌, ◌↔◌, ◌+◌, ◌-◌, ◌/◌, ◌%◌, ◌<◌, ◌≤◌, [], ◌∷◌, IfOk, IfErr, IsTrue, OnOk, drop, map};
+ghost use Rattle.tlog_shape.specs.Edge.{edge_index_of};
+ghost use Rattle.mirror_sources.specs.Source.{StaysWithin};
+ghost use Rattle.log_reader.specs.EdgeRows.{hash_of_edge};
+ghost use Rattle.log_reader.specs.Ways.{HasEdgeHashes, IsRowUnder, IsShownRow, row_of_way};
+
+use crate::edge_files::read_edge;
+use crate::edge_rows::EdgeRows;
+use crate::fault::ReadFault;
+use mirror_sources::Source;
+use std::alloc::{AllocError, Global};
+use std::marker::{Model, PhantomData};
+use tlog_hash::{Hash, TreeHash};
+use tlog_shape::edge_index;
+
+/// Reads the files of a log of known size and root from a source that is not trusted.
+///
+/// What it gives leads up to the root: a full tile folds to its hash in the row above it, and so on up to the edge. It keeps the
+/// edge and the rows of the tiles above the last one that was read, so a read of what lies beside costs one file, and a read
+/// from left to right meets each file once. It holds at most one row a level beside the edge, whatever the size of the log.
+///
+/// Any source may serve any read: what one gave is as good as what another gave.
+///
+/// ```text
+/// let mut reader: LogReader<Sha256Tree> = LogReader::open(alloc, &mut source, size, &root)?;
+/// reader.row(alloc, &mut source, 0, 1)?           // the leaf hashes of the entries from 256 on
+/// reader.bundle(alloc, &mut source, 1)?           // the bytes of tile/entries/001, or of its partial file
+/// reader.prefix(alloc, &mut source, 257)?.root()  // the root when the log had 257 entries
+/// reader.consistency(alloc, &mut source, 257)?    // a proof from 257 entries to all, which holds
+/// ```
+#[derive(Drop)]
+pub struct LogReader<H: TreeHash> {
+    edge: EdgeRows,
+    root: Hash,
+    // The tile that was read last, and the rows from its own up to below the edge's, the lowest first; none for a tile of the edge.
+    level: u32,
+    index: u64,
+    rows: Vec<Vec<Hash>>,
+    by: PhantomData<H>,
+}
+
+impl<H: TreeHash> Model for LogReader<H> {
+    ghost use Rattle.std.specs.Prelude.{map};
+    ghost use Rattle.log_reader.specs.Ways.{Reader, IsReader};
+
+    ghost Value = { Reader };
+
+    ghost view = { λ a. record {
+      edge = a.edge;
+      root = a.root;
+      level = a.level;
+      index = a.index;
+      way = map (λ row. row.items) a.rows.items;
+    } };
+
+    ghost invariant = { λ a. IsReader H.digest (record {
+      edge = a.edge;
+      root = a.root;
+      level = a.level;
+      index = a.index;
+      way = map (λ row. row.items) a.rows.items;
+    }) };
+}
+
+impl<H: TreeHash> LogReader<H> {
+    /// Opens a log of that size and root, as those of a checkpoint. The rows of the edge are read, the lowest level first, the
+    /// full tile where a partial one is gone.
+    ///
+    /// ```text
+    /// LogReader::<Sha256Tree>::open(alloc, &mut source, 257, &root)?   // asks for tile/0/001.p/1 and tile/1/000.p/1
+    /// ```
+    ///
+    /// # Errors
+    ///
+    /// - `NoFile`: the source has neither a partial tile of the edge nor the full one.
+    /// - `FalseFile`: such a tile has another length, or the rows do not lead to the root.
+    /// - `Source`: the source failed. `OutOfMemory`: memory was refused.
+    pub fn open<S: Source>(
+        alloc: Global,
+        source: &mut S,
+        size: u64,
+        root: &Hash,
+    ) -> Result<LogReader<H>, ReadFault>
+        ensures size { IfOk result (λ reader. reader.edge.size ≡ size) }
+        ensures root { IfOk result (λ reader. reader.root ≡ root.now) }
+        ensures later { StaysWithin (S.may_answer source.old) (S.may_answer source.new) }
+    {
+        let edge = read_edge::<H, S>(alloc, source, size, root)?;
+        Ok(LogReader::over(alloc, edge, *root))
+    }
+
+    /// A reader of the log with that edge, which leads to the root.
+    pub(crate) fn over(alloc: Global, edge: EdgeRows, root: Hash) -> LogReader<H>
+        requires hashes { HasEdgeHashes edge }
+        requires leads { hash_of_edge H.digest edge ≡ root }
+        ensures edge { result.edge ≡ edge }
+        ensures root { result.root ≡ root }
+    {
+        let index = edge_index(edge.size(), 0);
+        LogReader {
+            edge,
+            root,
+            level: 0,
+            index,
+            rows: Vec::new(alloc),
+            by: PhantomData,
+        }
+    }
+
+    /// How many entries the log has.
+    pub fn size(&self) -> u64
+        ensures { result ≡ self.now.edge.size }
+    {
+        self.edge.size()
+    }
+
+    /// The tree hash of its entries.
+    pub fn root(&self) -> Hash
+        ensures root { result ≡ self.now.root }
+        ensures hashes { HasEdgeHashes self.now.edge }
+        ensures leads { hash_of_edge H.digest self.now.edge ≡ self.now.root }
+    {
+        self.root
+    }
+
+    /// The edge.
+    pub(crate) fn edge(&self) -> &EdgeRows
+        ensures edge { result.now ≡ self.now.edge }
+        ensures hashes { HasEdgeHashes self.now.edge }
+    {
+        &self.edge
+    }
+
+    /// Whether it stands at that tile.
+    pub(crate) fn is_at(&self, level: u32, index: u64) -> bool
+        ensures { IsTrue result ↔ ((self.now.level ≡ level) × (self.now.index ≡ index)) }
+    {
+        self.level == level && self.index == index
+    }
+
+    /// Whether it stands at a full tile below that level.
+    pub(crate) fn is_below(&self, level: u32) -> bool
+        ensures { IsTrue result ↔ ((self.now.level < level) × (self.now.way ≢ [])) }
+    {
+        self.level < level && !self.rows.is_empty()
+    }
+
+    /// The row of the tile where it stands.
+    pub(crate) fn here(&self) -> &[Hash]
+        ensures row { result.now ≡ row_of_way self.now.edge self.now.level self.now.way }
+        ensures shown { IsShownRow H.digest self.now.edge self.now.level self.now.index result.now }
+    {
+        match self.rows.first() {
+            Some(row) => row.as_slice(),
+            None => self.edge.row(self.level),
+        }
+    }
+
+    /// Goes up to the tile above.
+    pub(crate) fn up(&mut self)
+        requires { self.old.way ≢ [] }
+        ensures { self.new ≡ record self.old { level = self.old.level + 1; index = self.old.index / 256; way = drop 1 self.old.way } }
+    {
+        self.rows.remove(0);
+        self.level += 1;
+        self.index /= 256;
+    }
+
+    /// Goes to the tile of the edge.
+    pub(crate) fn to_edge(&mut self, level: u32)
+        requires { level ≤ 7 }
+        ensures { self.new ≡ record self.old { level = level; index = edge_index_of self.old.edge.size level; way = [] } }
+    {
+        self.rows.clear();
+        self.level = level;
+        self.index = edge_index(self.edge.size(), level);
+    }
+
+    /// Goes down to the tile of that index, which has that row.
+    pub(crate) fn down(&mut self, index: u64, row: Vec<Hash>) -> Result<(), AllocError>
+        requires level { 1 ≤ self.old.level }
+        requires below { index / 256 ≡ self.old.index }
+        requires row { IsRowUnder H.digest (row_of_way self.old.edge self.old.level self.old.way) (index % 256) row.items }
+        ensures ok { OnOk result (self.new ≡ record self.old { level = self.old.level - 1; index = index; way = row.items ∷ self.old.way }) }
+        ensures err { IfErr result (λ _. self.new ≡ self.old) }
+    {
+        self.rows.insert(0, row)?;
+        self.level -= 1;
+        self.index = index;
+        Ok(())
+    }
+}
