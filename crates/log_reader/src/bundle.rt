@@ -126,7 +126,8 @@ impl<H: TreeHash> LogReader<H> {
         requires { 256 * index < self.old.edge.size }
         ensures edge { self.new.edge ≡ self.old.edge }
         ensures root { self.new.root ≡ self.old.root }
-        ensures shown { IfOk result (λ bytes. IsShownBundle H.digest self.old.edge index bytes.items) }
+        ensures shown { IfOk result
+            (λ bytes. IsShownBundle H.digest self.old.edge index bytes.items) }
         ensures later { StaysWithin (S.may_answer source.old) (S.may_answer source.new) }
     {
         if index == edge_index(self.size(), 0) {

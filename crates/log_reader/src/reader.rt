@@ -160,7 +160,11 @@ impl<H: TreeHash> LogReader<H> {
     /// Goes up to the tile above.
     pub(crate) fn up(&mut self)
         requires { self.old.way ≢ [] }
-        ensures { self.new ≡ record self.old { level = self.old.level + 1; index = self.old.index / 256; way = drop 1 self.old.way } }
+        ensures { self.new ≡ record self.old {
+          level = self.old.level + 1;
+          index = self.old.index / 256;
+          way = drop 1 self.old.way;
+        } }
     {
         self.rows.remove(0);
         self.level += 1;
@@ -170,7 +174,11 @@ impl<H: TreeHash> LogReader<H> {
     /// Goes to the tile of the edge.
     pub(crate) fn to_edge(&mut self, level: u32)
         requires { level ≤ 7 }
-        ensures { self.new ≡ record self.old { level = level; index = edge_index_of self.old.edge.size level; way = [] } }
+        ensures { self.new ≡ record self.old {
+          level = level;
+          index = edge_index_of self.old.edge.size level;
+          way = [];
+        } }
     {
         self.rows.clear();
         self.level = level;
@@ -181,8 +189,13 @@ impl<H: TreeHash> LogReader<H> {
     pub(crate) fn down(&mut self, index: u64, row: Vec<Hash>) -> Result<(), AllocError>
         requires level { 1 ≤ self.old.level }
         requires below { index / 256 ≡ self.old.index }
-        requires row { IsRowUnder H.digest (row_of_way self.old.edge self.old.level self.old.way) (index % 256) row.items }
-        ensures ok { OnOk result (self.new ≡ record self.old { level = self.old.level - 1; index = index; way = row.items ∷ self.old.way }) }
+        requires row { IsRowUnder H.digest (row_of_way self.old.edge self.old.level self.old.way)
+            (index % 256) row.items }
+        ensures ok { OnOk result (self.new ≡ record self.old {
+          level = self.old.level - 1;
+          index = index;
+          way = row.items ∷ self.old.way;
+        }) }
         ensures err { IfErr result (λ _. self.new ≡ self.old) }
     {
         self.rows.insert(0, row)?;

@@ -107,7 +107,8 @@ impl<H: TreeHash> LogReader<H> {
         requires within { index ≤ edge_index_of self.old.edge.size level }
         ensures edge { self.new.edge ≡ self.old.edge }
         ensures root { self.new.root ≡ self.old.root }
-        ensures shown { IfOk result (λ row. IsShownRow H.digest self.old.edge level index row.items) }
+        ensures shown { IfOk result
+            (λ row. IsShownRow H.digest self.old.edge level index row.items) }
         ensures later { StaysWithin (S.may_answer source.old) (S.may_answer source.new) }
     {
         go_to::<H, S>(alloc, self, source, level, index)?;
