@@ -1,0 +1,31 @@
+use Rattle.std.proofs.Common.{Some, None, Vec, Global, ℕ}
+use Rattle.mirror_audit.specs.Edges.{IsFullGiven, IsGivenAt}
+use Rattle.mirror_audit.proofs.Given.{given_one, if_found, in_its_place, may_none, may_some, there}
+use Rattle.mirror_audit.proofs.part.get_part.Goals as goal
+
+pub returns-in-Some-clause-given : goal.returns-in-Some-clause-given
+returns-in-Some-clause-given g c =
+    let a = g.S.Source.may_answer c.args.source.now in
+    let b = g.S.Source.may_answer c.get.new.self in
+    let x = g.S.Source.asked c.args.source.now in
+    let y = g.S.Source.asked c.get.new.self in
+    there a b x y c.args.path c.in-Some.bytes.items
+    (given_one a b x y c.args.path (Some c.in-Some.bytes.items) c.in_ok-bytes.ensures.later
+    (may_some a c.args.path c.in_ok-bytes.field-0 c.in-Some.bytes c.in-Some.is c.in_ok-bytes.ensures.answer)
+    c.in_ok-bytes.ensures.told)
+
+pub returns-in-None-clause-given : goal.returns-in-None-clause-given
+returns-in-None-clause-given g c =
+    let a = g.S.Source.may_answer c.args.source.now in
+    let b = g.S.Source.may_answer c.get.new.self in
+    let d = g.S.Source.may_answer c.get_full_part.new.source in
+    let x = g.S.Source.asked c.args.source.now in
+    let y = g.S.Source.asked c.get.new.self in
+    let z = g.S.Source.asked c.get_full_part.new.source in
+    let path = c.args.path in
+    if_found (λ (v : Vec ℕ Global). IsFullGiven path v.items b d y z) (λ (v : Vec ℕ Global). IsGivenAt path v.items a d x z)
+    c.get_full_part.result
+    (λ v full. in_its_place a b d x y z path v.items c.requires
+    (given_one a b x y path None c.in_ok-bytes.ensures.later
+    (may_none a path c.in_ok-bytes.field-0 c.in-None.is c.in_ok-bytes.ensures.answer) c.in_ok-bytes.ensures.told) full)
+    c.get_full_part.ensures.given

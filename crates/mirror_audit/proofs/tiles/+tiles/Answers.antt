@@ -1,0 +1,69 @@
+use Rattle.std.proofs.Common.{rules, ◌≡◌, ◌+◌, ◌*◌, ◌<◌, ◌≤◌, [], length, get_or, OnOk, refl, sym, ap, subst, ◌∙◌, arith}
+use Rattle.std.proofs.lemmas.List.{get_or_default}
+use Rattle.mirror_audit.specs.Covering.{CoversRow, CoversTile}
+use Rattle.mirror_audit.proofs.Given.{on_ok}
+use Rattle.mirror_audit.proofs.TileRows.{child_fits, child_small, row_first, row_fits, row_more, tile_covers}
+use Rattle.mirror_audit.proofs.tiles.+tiles.Goals as goal
+
+pub audit_row-loop-i-init : goal.audit_row-loop-i-init
+audit_row-loop-i-init g t c = record {
+  counted = refl;
+  covers = row_first g.H.TreeHash.digest c.args.level c.args.index c.args.row.now (g.S.Source.may_answer c.args.source.now)
+      (g.S.Source.asked c.args.source.now);
+}
+
+pub audit_row-overflow_mul-index : goal.audit_row-overflow_mul-index
+audit_row-overflow_mul-index g t c =
+    let small = child_small c.args.level c.args.index (length c.args.row.now) c.loop-i.i c.loop-i-test.true c.requires.fits in
+    search rules
+
+pub audit_row-overflow_add-index : goal.audit_row-overflow_add-index
+audit_row-overflow_add-index g t c =
+    let small = child_small c.args.level c.args.index (length c.args.row.now) c.loop-i.i c.loop-i-test.true c.requires.fits in
+    search rules
+
+pub audit_row-loop-i-preserved : goal.audit_row-loop-i-preserved
+audit_row-loop-i-preserved g t c = record {
+  counted = c.in_ok-audit_tile.ensures.counted ∙ c.loop-i.invariant.counted;
+  covers =
+      let may = g.S.Source.may_answer in
+      let asked = g.S.Source.asked in
+      let row = c.args.row.now in
+      let i = c.loop-i.i in
+      let h = get_or row i [] in
+      row_more g.H.TreeHash.digest c.args.level c.args.index row (may c.args.source.now) (may c.loop-i.source)
+      (may c.audit_tile.new.source) (asked c.args.source.now) (asked c.loop-i.source) (asked c.audit_tile.new.source) i h
+      c.requires.above c.loop-i-test.true (get_or_default row i [] h c.loop-i-test.true) c.loop-i.invariant.covers
+      c.in_ok-audit_tile.ensures.covers;
+}
+
+pub audit_tile-returns-then-level-eq0-clause-covers : goal.audit_tile-returns-then-level-eq0-clause-covers
+audit_tile-returns-then-level-eq0-clause-covers g t c =
+    let may = g.S.Source.may_answer in
+    let asked = g.S.Source.asked in
+    let zero : 0 ≡ c.args.level = omega arith in
+    subst (λ l. OnOk c.audit_bundle.result (CoversTile g.H.TreeHash.digest l c.args.index c.args.hash.now
+    (may c.args.source.now) (may c.audit_bundle.new.source) (asked c.args.source.now) (asked c.audit_bundle.new.source)))
+    zero c.audit_bundle.ensures.covers
+
+pub audit_tile-audit_row-requires : goal.audit_tile-audit_row-requires
+audit_tile-audit_row-requires g t c κs within =
+    let long : length c.deref.result.now ≡ 256 = ap length c.deref.ensures.value ∙ c.in_ok-row.ensures.found.is_row.count in
+    let fits = row_fits c.args.level c.args.index (length c.deref.result.now) long c.requires.fits in
+    (search rules, (search rules, (search rules, (omega arith, (omega arith, fits)))))
+
+pub audit_tile-returns-clause-covers : goal.audit_tile-returns-clause-covers
+audit_tile-returns-clause-covers g t c =
+    let digest = g.H.TreeHash.digest in
+    let may = g.S.Source.may_answer in
+    let asked = g.S.Source.asked in
+    let level = c.args.level in
+    let index = c.args.index in
+    let row = c.in_ok-row.row.items in
+    let m = c.row_of.new.source in
+    let n = c.audit_row.new.source in
+    let some : 1 ≤ level = omega arith in
+    on_ok c.audit_row.result c.audit_row.ensures.covers
+    (λ below. tile_covers digest level index row (may c.args.source.now) (may m) (may n) (asked c.args.source.now) (asked m)
+    (asked n) c.args.hash.now some c.in_ok-row.ensures.found
+    (subst (λ r. CoversRow digest level index r (length r) (may m) (may n) (asked m) (asked n)) c.deref.ensures.value below))

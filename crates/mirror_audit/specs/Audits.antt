@@ -1,0 +1,45 @@
+-- What an audit says of a source: that it holds a whole log under a checkpoint (C2SP tlog-tiles). `IsHeadGiven` and `IsTreeGiven`
+-- are cited by the contracts of private functions alone.
+use Rattle.std.specs.Prelude.{◌≡◌, ℕ, List, [], ◌∷◌, length, Contains, Option, Some}
+use Rattle.signed_note.specs.Keys.{Key}
+use Rattle.tlog_hash.specs.Tree.{mth}
+use Rattle.tlog_tiles.specs.declared.paths.Path.{Path}
+use Rattle.tlog_tiles.specs.declared.paths.Path.TheVariants.{Checkpoint}
+use Rattle.mirror_model.specs.Heads.{IsOpenHead}
+use Rattle.mirror_model.specs.TrueLaws.{AreShort}
+use Rattle.mirror_sources.specs.Honest.{true_bytes}
+use Rattle.mirror_sources.specs.Replies.{Reply, reply}
+use Rattle.mirror_audit.specs.Answering.{AreGiven, IsHad, IsTreeFile}
+
+-- a note was given that opens under the keys, of a checkpoint of that origin, size and root
+pub record IsHeadGiven (origin : List ℕ) (keys : List Key) (size : ℕ) (root : List ℕ)
+    (may later : Path → Option (List ℕ) → Type 0) (old new : Option (List Path)) : Type 0 where
+  pub note : List ℕ
+  pub is_head : IsOpenHead note origin keys size root
+  pub given : AreGiven may later old new (reply Checkpoint (Some note) ∷ [])
+
+module _ (digest : List ℕ → List ℕ) where
+  -- the replies have each tile and bundle of the tree of these entries, with its true bytes
+  pub record IsWholeTree (size : ℕ) (root : List ℕ) (entries : List (List ℕ)) (replies : List Reply) : Type 0 where
+    pub size_is : length entries ≡ size
+    pub root_is : mth digest entries ≡ root
+    pub short : AreShort entries
+    pub files : (path : Path) → IsTreeFile size path → IsHad replies path (true_bytes digest entries path)
+
+  -- the source gave each tile and bundle of a tree of that size and root
+  pub record IsTreeGiven (size : ℕ) (root : List ℕ) (may later : Path → Option (List ℕ) → Type 0)
+      (old new : Option (List Path)) : Type 0 where
+    pub entries : List (List ℕ)
+    pub replies : List Reply
+    pub given : AreGiven may later old new replies
+    pub whole : IsWholeTree size root entries replies
+
+  -- the source gave a whole log of that size and root: a note of it that opens under the keys, and each tile and bundle
+  pub record IsAudited (origin : List ℕ) (keys : List Key) (size : ℕ) (root : List ℕ)
+      (may later : Path → Option (List ℕ) → Type 0) (old new : Option (List Path)) : Type 0 where
+    pub note : List ℕ
+    pub is_head : IsOpenHead note origin keys size root
+    pub entries : List (List ℕ)
+    pub replies : List Reply
+    pub given : AreGiven may later old new (reply Checkpoint (Some note) ∷ replies)
+    pub whole : IsWholeTree size root entries replies

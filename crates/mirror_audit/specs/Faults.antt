@@ -1,0 +1,40 @@
+-- The faults of an audit: which fault of what it calls each is, and when the source is blamed.
+use Rattle.std.specs.Prelude.{◌≡◌, ℕ, Result, Ok, Err}
+use Rattle.mirror_model.specs.declared.fault.TakeFault.{TakeFault}
+use Rattle.mirror_model.specs.declared.fault.TakeFault.TheVariants as take
+use Rattle.mirror_sources.specs.Told.{Rose}
+use Rattle.mirror_sources.specs.declared.source.SourceFault.{SourceFault}
+use Rattle.mirror_sources.specs.declared.source.SourceFault.TheVariants as source
+use Rattle.mirror_audit.specs.declared.fault.AuditFault.{AuditFault}
+use Rattle.mirror_audit.specs.declared.fault.AuditFault.TheVariants.{NoCheckpoint, Head, NoEdge, NoFile, FalseFile, Source, OutOfMemory}
+
+-- a refusal of the checkpoint among the faults of an audit
+abbrev pub of_head : TakeFault → AuditFault
+of_head (take.Note f) = Head (take.Note f)
+of_head (take.Checkpoint f) = Head (take.Checkpoint f)
+of_head take.OtherOrigin = Head take.OtherOrigin
+of_head take.NoTrustedSignature = Head take.NoTrustedSignature
+of_head take.EdgeCount = Head take.EdgeCount
+of_head take.EdgeLength = Head take.EdgeLength
+of_head take.EdgeMismatch = Head take.EdgeMismatch
+of_head take.RowLength = Head take.RowLength
+of_head take.BundleShort = Head take.BundleShort
+of_head take.BundleLong = Head take.BundleLong
+of_head take.Collision = Head take.Collision
+of_head take.OutOfMemory = OutOfMemory
+
+-- a fault of the source among those of an audit
+abbrev pub of_source : SourceFault → AuditFault
+of_source source.Failed = Source
+of_source source.OutOfMemory = OutOfMemory
+
+-- an audit blames its source only where the source's count of failures rose, or stands at its last value
+abbrev pub BlamesPlace : {T : Type 0} → ℕ → ℕ → Result T AuditFault → Type 0
+BlamesPlace old new (Ok x) = new ≡ old
+BlamesPlace old new (Err NoCheckpoint) = new ≡ old
+BlamesPlace old new (Err (Head f)) = new ≡ old
+BlamesPlace old new (Err NoEdge) = new ≡ old
+BlamesPlace old new (Err (NoFile path)) = new ≡ old
+BlamesPlace old new (Err (FalseFile path)) = new ≡ old
+BlamesPlace old new (Err Source) = Rose old new
+BlamesPlace old new (Err OutOfMemory) = new ≡ old

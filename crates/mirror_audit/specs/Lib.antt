@@ -1,0 +1,5 @@
+pub mod Faults
+pub mod Answering
+pub mod Audits
+pub mod Covering
+pub mod Edges

@@ -1,0 +1,68 @@
+//! A full bundle, and its tile of level 0.
+ghost use Rattle.std.specs.Prelude.{◌≡◌, ◌↔◌, ◌∷◌, [], ◌+◌, ◌*◌, ◌<◌, ◌^◌, IfOk, IsTrue, OnOk, Some, length};
+ghost use Rattle.mirror_sources.specs.Replies.{reply};
+ghost use Rattle.tlog_tiles.specs.Row.{row_text};
+ghost use Rattle.tlog_tiles.specs.declared.paths.Path.TheVariants.{Tile};
+ghost use Rattle.mirror_audit.specs.Answering.{AreGiven};
+ghost use Rattle.mirror_audit.specs.Covering.{CoversTile};
+ghost use Rattle.mirror_audit.specs.Faults.{BlamesPlace};
+
+use crate::ask::get_file;
+use crate::fault::AuditFault;
+use log_reader::{FullFile, verified};
+use mirror_sources::Source;
+use std::alloc::Global;
+use tlog_hash::{Hash, TreeHash};
+use tlog_tiles::{Path, write_row};
+
+fn is_same(first: &[u8], second: &[u8]) -> bool
+    ensures { IsTrue result ↔ (first.now ≡ second.now) }
+{
+    first == second
+}
+
+// Reads the full tile of level 0 of these leaf hashes.
+fn audit_leaves<S: Source>(
+    alloc: Global,
+    source: &mut S,
+    index: u64,
+    row: &[Hash],
+) -> Result<(), AuditFault>
+    ensures counted { BlamesPlace (S.failed source.old) (S.failed source.new) result }
+    ensures given { OnOk result (AreGiven (S.may_answer source.old)
+        (S.may_answer source.new) (S.asked source.old) (S.asked source.new)
+        (reply (Tile 0 index 256) (Some (row_text row.now)) ∷ [])) }
+{
+    let path = Path::Tile {
+        level: 0,
+        index,
+        width: 256,
+    };
+    let bytes = get_file(source, path)?;
+    let due = write_row(alloc, row)?;
+    if is_same(&bytes, &due) {
+        Ok(())
+    } else {
+        Err(AuditFault::FalseFile(path))
+    }
+}
+
+/// Reads a full bundle, whose leaf hashes fold to the hash, and its tile of level 0.
+pub(crate) fn audit_bundle<H: TreeHash, S: Source>(
+    alloc: Global,
+    source: &mut S,
+    index: u64,
+    hash: &Hash,
+) -> Result<(), AuditFault>
+    ensures counted { BlamesPlace (S.failed source.old) (S.failed source.new) result }
+    ensures covers { OnOk result (CoversTile H.digest 0 index hash.now (S.may_answer source.old)
+        (S.may_answer source.new) (S.asked source.old) (S.asked source.new)) }
+{
+    let path = Path::Entries { index, width: 256 };
+    let bytes = get_file(source, path)?;
+    let Some(row) = verified::<H>(alloc, FullFile::Bundle, hash, &bytes)? else {
+        return Err(AuditFault::FalseFile(path));
+    };
+    drop(bytes);
+    audit_leaves(alloc, source, index, &row)
+}

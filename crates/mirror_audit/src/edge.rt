@@ -1,0 +1,33 @@
+//! All that lies below the edge.
+ghost use Rattle.std.specs.Prelude.{◌^◌, ◌<◌, OnOk};
+ghost use Rattle.log_reader.specs.EdgeRows.{HasWidths};
+ghost use Rattle.mirror_audit.specs.Edges.{CoversLevels};
+ghost use Rattle.mirror_audit.specs.Faults.{BlamesPlace};
+
+use crate::fault::AuditFault;
+use crate::tiles::audit_row;
+use log_reader::EdgeRows;
+use mirror_sources::Source;
+use std::alloc::Global;
+use tlog_hash::TreeHash;
+use tlog_shape::edge_index;
+
+/// Reads all that lies below the edge but for the partial bundle, from left to right.
+pub(crate) fn audit_levels<H: TreeHash, S: Source>(
+    alloc: Global,
+    source: &mut S,
+    edge: &EdgeRows,
+) -> Result<(), AuditFault>
+    requires widths { HasWidths edge.now }
+    requires small { edge.now.size < 2 ^ 64 }
+    ensures counted { BlamesPlace (S.failed source.old) (S.failed source.new) result }
+    ensures covers { OnOk result (CoversLevels H.digest edge.now 1 (S.may_answer source.old)
+        (S.may_answer source.new) (S.asked source.old) (S.asked source.new)) }
+{
+    for done in 0..7u32 {
+        let level = 7 - done;
+        let index = edge_index(edge.size(), level);
+        audit_row::<H, S>(alloc, source, level, index, edge.row(level))?;
+    }
+    Ok(())
+}

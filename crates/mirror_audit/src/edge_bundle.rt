@@ -1,0 +1,61 @@
+//! The partial bundle at the edge.
+ghost use Rattle.std.specs.Prelude.{◌≡◌, ◌↔◌, ◌≤◌, IfOk, IsTrue, OnOk, length};
+ghost use Rattle.log_reader.specs.EdgeRows.{HasWidths};
+ghost use Rattle.log_reader.specs.Verified.{HasLeaves};
+ghost use Rattle.mirror_audit.specs.Edges.{CoversEdgeBundle};
+ghost use Rattle.mirror_audit.specs.Faults.{BlamesPlace};
+
+use crate::fault::AuditFault;
+use crate::part::get_part;
+use log_reader::{EdgeRows, leaves_of};
+use mirror_sources::Source;
+use std::alloc::{AllocError, Global};
+use tlog_hash::{Hash, TreeHash};
+use tlog_shape::edge_index;
+use tlog_tiles::Path;
+
+fn is_same_row(first: &[Hash], second: &[Hash]) -> bool
+    ensures { IsTrue result ↔ (first.now ≡ second.now) }
+{
+    first == second
+}
+
+// Whether the bytes are a bundle with these leaf hashes.
+fn is_bundle_of<H: TreeHash>(alloc: Global, row: &[Hash], bytes: &[u8]) -> Result<bool, AllocError>
+    requires { length row.now ≤ 256 }
+    ensures { IfOk result (λ b. IsTrue b → HasLeaves H.digest (length row.now) bytes.now row.now) }
+{
+    match leaves_of::<H>(alloc, row.len() as u32, bytes)? {
+        Some(leaves) => Ok(is_same_row(&leaves, row)),
+        None => Ok(false),
+    }
+}
+
+/// Reads the partial bundle, if there is one: its leaf hashes are the lowest row.
+pub(crate) fn audit_edge_bundle<H: TreeHash, S: Source>(
+    alloc: Global,
+    source: &mut S,
+    edge: &EdgeRows,
+) -> Result<(), AuditFault>
+    requires { HasWidths edge.now }
+    ensures counted { BlamesPlace (S.failed source.old) (S.failed source.new) result }
+    ensures covers { OnOk result (CoversEdgeBundle H.digest edge.now (S.may_answer source.old)
+        (S.may_answer source.new) (S.asked source.old) (S.asked source.new)) }
+{
+    let row = edge.row(0);
+    if row.is_empty() {
+        return Ok(());
+    }
+    let path = Path::Entries {
+        index: edge_index(edge.size(), 0),
+        width: row.len() as u32,
+    };
+    let Some(bytes) = get_part(source, path)? else {
+        return Err(AuditFault::NoFile(path));
+    };
+    let is_true = is_bundle_of::<H>(alloc, row, &bytes)?;
+    if !is_true {
+        return Err(AuditFault::FalseFile(path));
+    }
+    Ok(())
+}

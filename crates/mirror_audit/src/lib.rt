@@ -1,0 +1,22 @@
+//! A whole log at a source, read file by file and compared with its checkpoint (C2SP tlog-tiles), in constant memory.
+//!
+//! ```text
+//! let audited = audit::<Sha256Tree, ListSource<Sha256Tree>>(alloc, "ex", &keys, &mut source)?;
+//! audited.size // 600: each file of a log of so many entries stands there, with its true bytes
+//! ```
+#![tactic(auto)]
+
+mod ask;
+
+mod bundle;
+mod edge;
+mod edge_bundle;
+mod edge_rows;
+mod fault;
+mod head;
+mod log;
+mod part;
+mod tiles;
+
+pub use log::{Audited, audit};
+pub use fault::AuditFault;

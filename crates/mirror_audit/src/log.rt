@@ -1,0 +1,120 @@
+//! An audit of a whole log.
+ghost use Rattle.std.specs.Prelude.{◌^◌, ◌<◌, IfOk, OnOk, map};
+ghost use Rattle.log_reader.specs.EdgeRows.{HasWidths};
+ghost use Rattle.mirror_audit.specs.Audits.{IsAudited, IsHeadGiven, IsTreeGiven};
+ghost use Rattle.mirror_audit.specs.Edges.{CoversLog};
+ghost use Rattle.mirror_audit.specs.Faults.{BlamesPlace};
+
+use crate::edge::audit_levels;
+use crate::edge_bundle::audit_edge_bundle;
+use crate::edge_rows::read_edge;
+use crate::fault::AuditFault;
+use crate::head::open_head;
+use log_reader::EdgeRows;
+use mirror_sources::Source;
+use signed_note::Verifier;
+use std::alloc::Global;
+use tlog_hash::{Hash, TreeHash};
+use tlog_tiles::Path;
+
+/// The log that stands at a source, whole.
+#[derive(Debug, Drop, PartialEq, Eq, Clone, Copy)]
+pub struct Audited {
+    /// How many entries it has.
+    pub size: u64,
+    /// The root of its tree.
+    pub root: Hash,
+}
+
+// The size and root of the checkpoint.
+fn read_checkpoint<S: Source>(
+    alloc: Global,
+    origin: &str,
+    keys: &[Box<dyn Verifier>],
+    source: &mut S,
+) -> Result<Audited, AuditFault>
+    ensures counted { BlamesPlace (S.failed source.old) (S.failed source.new) result }
+    ensures given { IfOk result (λ a. IsHeadGiven origin.now (map (λ k. key k) keys.now) a.size a.root
+        (S.may_answer source.old) (S.may_answer source.new) (S.asked source.old)
+        (S.asked source.new)) }
+{
+    let Some(note) = source.get(&Path::Checkpoint)? else {
+        return Err(AuditFault::NoCheckpoint);
+    };
+    let checkpoint = open_head(alloc, origin, keys, &note)?;
+    let root = checkpoint.root;
+    Ok(Audited {
+        size: checkpoint.size,
+        root,
+    })
+}
+
+// Reads all files below the edge.
+fn audit_edge<H: TreeHash, S: Source>(
+    alloc: Global,
+    source: &mut S,
+    edge: &EdgeRows,
+) -> Result<(), AuditFault>
+    requires widths { HasWidths edge.now }
+    requires small { edge.now.size < 2 ^ 64 }
+    ensures counted { BlamesPlace (S.failed source.old) (S.failed source.new) result }
+    ensures covers { OnOk result (CoversLog H.digest edge.now (S.may_answer source.old)
+        (S.may_answer source.new) (S.asked source.old) (S.asked source.new)) }
+{
+    audit_levels::<H, S>(alloc, source, edge)?;
+    audit_edge_bundle::<H, S>(alloc, source, edge)
+}
+
+// Reads all tiles and bundles of a log of that size and root.
+fn audit_tree<H: TreeHash, S: Source>(
+    alloc: Global,
+    source: &mut S,
+    size: u64,
+    root: &Hash,
+) -> Result<(), AuditFault>
+    ensures counted { BlamesPlace (S.failed source.old) (S.failed source.new) result }
+    ensures given { OnOk result (IsTreeGiven H.digest size root.now
+        (S.may_answer source.old) (S.may_answer source.new) (S.asked source.old)
+        (S.asked source.new)) }
+{
+    let edge = read_edge::<H, S>(alloc, source, size, root)?;
+    let done = audit_edge::<H, S>(alloc, source, &edge);
+    drop(edge);
+    done
+}
+
+/// Reads a whole log at a source, file by file: each has to be there, with its true bytes (C2SP tlog-tiles, "Merkle Tree", "Log
+/// Entries" and "Partial Tiles"). Where a partial file is not there, its full one is asked for, which has to begin with it.
+///
+/// First comes the checkpoint, then the rows of the edge, the lowest first, which have to lead to the root. Then all below them
+/// is read from left to right: a tile of level 1 or above, which has to fold to its hash in the row above it, before what lies
+/// below it, and a bundle before its tile of level 0. Memory holds one bundle and one row a level, whatever the size of the log.
+///
+/// ```text
+/// let audited = audit::<Sha256Tree, ListSource<Sha256Tree>>(alloc, "ex", &keys, &mut source)?;
+/// audited.size // 600
+/// ```
+///
+/// # Errors
+///
+/// The first that is found ends the audit.
+/// - `NoCheckpoint`: there is no checkpoint. `Head`: it does not open under the keys, or is none of the origin (`TakeFault`).
+/// - `NoEdge`: a partial tile of the edge is not there, nor its full one.
+/// - `NoFile`: another file is not there. `FalseFile`: a file has other bytes than the log of that checkpoint. Where the rows of
+///   the edge do not lead to the root it is the lowest of them, and the checkpoint where it has no entries.
+/// - `Source`: the source failed. `OutOfMemory`: memory was refused.
+pub fn audit<H: TreeHash, S: Source>(
+    alloc: Global,
+    origin: &str,
+    keys: &[Box<dyn Verifier>],
+    source: &mut S,
+) -> Result<Audited, AuditFault>
+    ensures counted { BlamesPlace (S.failed source.old) (S.failed source.new) result }
+    ensures audited { IfOk result (λ a. IsAudited H.digest origin.now (map (λ k. key k) keys.now)
+        a.size a.root (S.may_answer source.old) (S.may_answer source.new) (S.asked source.old)
+        (S.asked source.new)) }
+{
+    let audited = read_checkpoint(alloc, origin, keys, source)?;
+    audit_tree::<H, S>(alloc, source, audited.size, &audited.root)?;
+    Ok(audited)
+}

@@ -1,0 +1,88 @@
+//! Full tiles, with all that lies below them.
+ghost use Rattle.std.specs.Prelude.{◌≡◌, ◌+◌, ◌*◌, ◌^◌, ◌<◌, ◌≤◌, IfOk, OnOk, length};
+ghost use Rattle.mirror_audit.specs.Covering.{CoversRow, CoversTile, IsRowFound};
+ghost use Rattle.mirror_audit.specs.Faults.{BlamesPlace};
+
+use crate::ask::get_file;
+use crate::bundle::audit_bundle;
+use crate::fault::AuditFault;
+use log_reader::{FullFile, verified};
+use mirror_sources::Source;
+use std::alloc::Global;
+use tlog_hash::{Hash, TreeHash};
+use tlog_tiles::Path;
+
+// The row of a full tile of level 1 or above, which folds to the hash.
+fn row_of<H: TreeHash, S: Source>(
+    alloc: Global,
+    source: &mut S,
+    path: Path,
+    hash: &Hash,
+) -> Result<Vec<Hash>, AuditFault>
+    ensures counted { BlamesPlace (S.failed source.old) (S.failed source.new) result }
+    ensures found { IfOk result (λ row. IsRowFound H.digest path hash.now row.items
+        (S.may_answer source.old) (S.may_answer source.new) (S.asked source.old)
+        (S.asked source.new)) }
+{
+    let bytes = get_file(source, path)?;
+    match verified::<H>(alloc, FullFile::Tile, hash, &bytes)? {
+        Some(row) => Ok(row),
+        None => Err(AuditFault::FalseFile(path)),
+    }
+}
+
+/// Reads a full tile, and then all below it, from left to right.
+#[cycle(tiles)]
+fn audit_tile<H: TreeHash, S: Source>(
+    alloc: Global,
+    source: &mut S,
+    level: u32,
+    index: u64,
+    hash: &Hash,
+) -> Result<(), AuditFault>
+    requires level { level ≤ 6 }
+    requires fits { (index + 1) * 256 ^ (level + 1) < 2 ^ 64 }
+    ensures counted { BlamesPlace (S.failed source.old) (S.failed source.new) result }
+    ensures covers { OnOk result (CoversTile H.digest level index hash.now (S.may_answer source.old)
+        (S.may_answer source.new) (S.asked source.old) (S.asked source.new)) }
+{
+    if level == 0 {
+        return audit_bundle::<H, S>(alloc, source, index, hash);
+    }
+    let path = Path::Tile {
+        level,
+        index,
+        width: 256,
+    };
+    let row = row_of::<H, S>(alloc, source, path, hash)?;
+    audit_row::<H, S>(alloc, source, level, index, &row)
+}
+
+/// Reads all below a row, full or at the edge, from left to right.
+#[cycle(tiles)]
+pub(crate) fn audit_row<H: TreeHash, S: Source>(
+    alloc: Global,
+    source: &mut S,
+    level: u32,
+    index: u64,
+    row: &[Hash],
+) -> Result<(), AuditFault>
+    requires above { 1 ≤ level }
+    requires level { level ≤ 7 }
+    requires fits { (256 * index + length row.now) * 256 ^ level < 2 ^ 64 }
+    ensures counted { BlamesPlace (S.failed source.old) (S.failed source.new) result }
+    ensures covers { OnOk result (CoversRow H.digest level index row.now (length row.now)
+        (S.may_answer source.old)
+        (S.may_answer source.new) (S.asked source.old) (S.asked source.new)) }
+{
+    for i in 0..row.len() as u64 {
+        audit_tile::<H, S>(
+            alloc,
+            source,
+            level - 1,
+            256 * index + i,
+            &row[i as usize],
+        )?;
+    }
+    Ok(())
+}
