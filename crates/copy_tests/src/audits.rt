@@ -71,7 +71,11 @@ fn keys(alloc: Global) -> Result<Vec<Box<dyn Verifier>>, Fail> {
 }
 
 // What an audit of C(600) with that file harmed comes to.
-fn audit_harmed(alloc: Global, path: Path, harm: Harm) -> Result<Result<Audited, AuditFault>, Fail> {
+fn audit_harmed(
+    alloc: Global,
+    path: Path,
+    harm: Harm,
+) -> Result<Result<Audited, AuditFault>, Fail> {
     let keys = keys(alloc)?;
     let mut source = Harmed {
         log: log_of(alloc, 600)?,
@@ -82,7 +86,8 @@ fn audit_harmed(alloc: Global, path: Path, harm: Harm) -> Result<Result<Audited,
 }
 
 // The files of C(600) in the order in which they are read.
-const PATHS: &str = "checkpoint\ntile/0/002.p/88\ntile/1/000.p/2\ntile/entries/000\ntile/0/000\ntile/entries/001\ntile/0/001\ntile/entries/002.p/88\n";
+const PATHS: &str =
+    "checkpoint\ntile/0/002.p/88\ntile/1/000.p/2\ntile/entries/000\ntile/0/000\ntile/entries/001\ntile/0/001\ntile/entries/002.p/88\n";
 
 // C(600) is whole, and each of its files is read once.
 #[test]
@@ -91,7 +96,13 @@ fn audit_c600(rt: HostRuntime) -> Result<(), Fail> {
     let keys = keys(alloc)?;
     let mut source = log_of(alloc, 600)?;
     let end = audit::<Sha256Tree, ListSource<Sha256Tree>>(alloc, "ex", &keys, &mut source);
-    assert!(&rt; end == Ok(Audited { size: 600, root: ROOT }), "{end:?}");
+    assert!(&rt;
+        end == Ok(Audited {
+            size: 600,
+            root: ROOT
+        }),
+        "{end:?}"
+    );
     let asked = lines_of(alloc, source.asked())?;
     assert!(&rt; asked.as_str() == PATHS, "{asked}");
     Ok(())
@@ -164,7 +175,10 @@ fn audit_of_a_false_edge(rt: HostRuntime) -> Result<(), Fail> {
         assert!(&rt; end == Err(AuditFault::Source), "{end:?}");
     }
     let end = audit_harmed(alloc, Path::Checkpoint, Harm::Changed)?;
-    assert!(&rt; end == Err(AuditFault::Head(TakeFault::OtherOrigin)), "{end:?}");
+    assert!(&rt;
+        end == Err(AuditFault::Head(TakeFault::OtherOrigin)),
+        "{end:?}"
+    );
     let end = audit_harmed(alloc, Path::Checkpoint, Harm::Gone)?;
     assert!(&rt; end == Err(AuditFault::NoCheckpoint), "{end:?}");
     Ok(())

@@ -20,12 +20,12 @@ same_block s i index some from to = elim (cases_lt i index) [
       let one : (i + 1) * s ≡ i * s + s = omega arith in
       absurd (omega (arith, far, one, from, some))
   | inr ge ↦ elim (cases_lt index i) [
-      | inl lt ↦
-          let far : (index + 1) * s ≤ i * s = mul-le (index + 1) s i s (omega arith) (omega arith) in
-          let one : (i + 1) * s ≡ i * s + s = omega arith in
-          absurd (omega (arith, far, one, to, some))
-      | inr le ↦ omega arith
-    ]
+    | inl lt ↦
+        let far : (index + 1) * s ≤ i * s = mul-le (index + 1) s i s (omega arith) (omega arith) in
+        let one : (i + 1) * s ≡ i * s + s = omega arith in
+        absurd (omega (arith, far, one, to, some))
+    | inr le ↦ omega arith
+  ]
 ]
 
 -- a block of a lower level lies on one side of the end of a block

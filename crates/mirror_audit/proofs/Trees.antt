@@ -63,11 +63,11 @@ full_block : (n level index width : ℕ) → n < 18446744073709551616 → level 
     IsBlock 6 0 (n / 256 * 256) level index width
 full_block n level index width small upto full = elim (cases_lt level 7) [
   | inl low ↦ record {
-      low = omega arith;
-      starts = omega arith;
-      ends = end_floor n 1 level index (omega arith) full.fits;
-      full = full.width_is;
-    }
+    low = omega arith;
+    starts = omega arith;
+    ends = end_floor n 1 level index (omega arith) full.fits;
+    full = full.width_is;
+  }
   | inr high ↦
       let at : level ≡ 7 = omega arith in
       let fits : (index + 1) * 256 ^ (7 + 1) ≤ n = subst (λ l. (index + 1) * 256 ^ (l + 1) ≤ n) at full.fits in

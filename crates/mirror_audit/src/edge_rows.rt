@@ -42,11 +42,7 @@ fn row_at_level<S: Source>(
 }
 
 // The rows of all levels, the lowest first.
-fn rows_of<S: Source>(
-    alloc: Global,
-    source: &mut S,
-    size: u64,
-) -> Result<EdgeRows, AuditFault>
+fn rows_of<S: Source>(alloc: Global, source: &mut S, size: u64) -> Result<EdgeRows, AuditFault>
     ensures counted { BlamesPlace (S.failed source.old) (S.failed source.new) result }
     ensures edge { IfOk result (λ edge. IsEdgeOf size edge) }
     ensures given { IfOk result (λ edge. AreRowsGiven size (row_at edge) 8

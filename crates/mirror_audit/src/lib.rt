@@ -7,7 +7,6 @@
 #![tactic(auto)]
 
 mod ask;
-
 mod bundle;
 mod edge;
 mod edge_bundle;
@@ -18,5 +17,5 @@ mod log;
 mod part;
 mod tiles;
 
-pub use log::{Audited, audit};
 pub use fault::AuditFault;
+pub use log::{Audited, audit};

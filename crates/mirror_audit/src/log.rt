@@ -34,8 +34,8 @@ fn read_checkpoint<S: Source>(
     source: &mut S,
 ) -> Result<Audited, AuditFault>
     ensures counted { BlamesPlace (S.failed source.old) (S.failed source.new) result }
-    ensures given { IfOk result (λ a. IsHeadGiven origin.now (map (λ k. key k) keys.now) a.size a.root
-        (S.may_answer source.old) (S.may_answer source.new) (S.asked source.old)
+    ensures given { IfOk result (λ a. IsHeadGiven origin.now (map (λ k. key k) keys.now)
+        a.size a.root (S.may_answer source.old) (S.may_answer source.new) (S.asked source.old)
         (S.asked source.new)) }
 {
     let Some(note) = source.get(&Path::Checkpoint)? else {

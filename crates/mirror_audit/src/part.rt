@@ -73,10 +73,7 @@ fn get_full_part<S: Source>(source: &mut S, path: Path) -> Result<Option<Vec<u8>
 
 /// The bytes of a partial file: as they are given, or else the first of the full file, which may stand in its place (C2SP
 /// tlog-tiles, "Partial Tiles"). None where neither is there.
-pub(crate) fn get_part<S: Source>(
-    source: &mut S,
-    path: Path,
-) -> Result<Option<Vec<u8>>, AuditFault>
+pub(crate) fn get_part<S: Source>(source: &mut S, path: Path) -> Result<Option<Vec<u8>>, AuditFault>
     requires { width_named path < 256 }
     ensures counted { BlamesPlace (S.failed source.old) (S.failed source.new) result }
     ensures given { IfOk result (λ found. IfSome found (λ bytes. IsGivenAt path bytes.items

@@ -76,13 +76,7 @@ pub(crate) fn audit_row<H: TreeHash, S: Source>(
         (S.may_answer source.new) (S.asked source.old) (S.asked source.new)) }
 {
     for i in 0..row.len() as u64 {
-        audit_tile::<H, S>(
-            alloc,
-            source,
-            level - 1,
-            256 * index + i,
-            &row[i as usize],
-        )?;
+        audit_tile::<H, S>(alloc, source, level - 1, 256 * index + i, &row[i as usize])?;
     }
     Ok(())
 }
