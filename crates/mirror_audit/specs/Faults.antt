@@ -1,5 +1,7 @@
--- The faults of an audit: which fault of what it calls each is, and when the source is blamed.
-use Rattle.std.specs.Prelude.{◌≡◌, ℕ, Result, Ok, Err}
+-- The faults of an audit: which fault of what it calls each is, and what each says of the source.
+use Rattle.std.specs.Prelude.{◌≡◌, ℕ, List, Option, None, Result, Ok, Err, ⊤}
+use Rattle.tlog_tiles.specs.declared.paths.Path.{Path}
+use Rattle.tlog_tiles.specs.declared.paths.Path.TheVariants.{Checkpoint}
 use Rattle.mirror_model.specs.declared.fault.TakeFault.{TakeFault}
 use Rattle.mirror_model.specs.declared.fault.TakeFault.TheVariants as take
 use Rattle.mirror_sources.specs.Told.{Rose}
@@ -38,3 +40,13 @@ BlamesPlace old new (Err (NoFile path)) = new ≡ old
 BlamesPlace old new (Err (FalseFile path)) = new ≡ old
 BlamesPlace old new (Err Source) = Rose old new
 BlamesPlace old new (Err OutOfMemory) = new ≡ old
+
+-- a fault says that something is missing only where the source may have answered so
+abbrev pub IsForAbsence : (Path → Option (List ℕ) → Type 0) → AuditFault → Type 0
+IsForAbsence may NoCheckpoint = may Checkpoint None
+IsForAbsence may (Head f) = ⊤
+IsForAbsence may NoEdge = (path : Path) × may path None
+IsForAbsence may (NoFile path) = may path None
+IsForAbsence may (FalseFile path) = ⊤
+IsForAbsence may Source = ⊤
+IsForAbsence may OutOfMemory = ⊤

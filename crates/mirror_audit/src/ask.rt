@@ -1,8 +1,8 @@
 //! One file of a source.
-ghost use Rattle.std.specs.Prelude.{◌∷◌, [], IfOk, Some};
+ghost use Rattle.std.specs.Prelude.{◌∷◌, [], IfErr, IfOk, Some};
 ghost use Rattle.mirror_sources.specs.Replies.{reply};
 ghost use Rattle.mirror_audit.specs.Answering.{AreGiven};
-ghost use Rattle.mirror_audit.specs.Faults.{BlamesPlace};
+ghost use Rattle.mirror_audit.specs.Faults.{BlamesPlace, IsForAbsence};
 
 use crate::fault::AuditFault;
 use mirror_sources::Source;
@@ -11,6 +11,7 @@ use tlog_tiles::Path;
 /// The bytes at a path.
 pub(crate) fn get_file<S: Source>(source: &mut S, path: Path) -> Result<Vec<u8>, AuditFault>
     ensures counted { BlamesPlace (S.failed source.old) (S.failed source.new) result }
+    ensures absent { IfErr result (IsForAbsence (S.may_answer source.old)) }
     ensures given { IfOk result (λ bytes. AreGiven (S.may_answer source.old)
         (S.may_answer source.new) (S.asked source.old) (S.asked source.new)
         (reply path (Some bytes.items) ∷ [])) }

@@ -1,11 +1,11 @@
 //! A full bundle, and its tile of level 0.
-ghost use Rattle.std.specs.Prelude.{◌≡◌, ◌↔◌, ◌∷◌, [], ◌+◌, ◌*◌, ◌<◌, ◌^◌, IfOk, IsTrue, OnOk, Some, length};
+ghost use Rattle.std.specs.Prelude.{◌≡◌, ◌↔◌, ◌∷◌, [], ◌+◌, ◌*◌, ◌<◌, ◌^◌, IfErr, IfOk, IsTrue, OnOk, Some, length};
 ghost use Rattle.mirror_sources.specs.Replies.{reply};
 ghost use Rattle.tlog_tiles.specs.Row.{row_text};
 ghost use Rattle.tlog_tiles.specs.declared.paths.Path.TheVariants.{Tile};
 ghost use Rattle.mirror_audit.specs.Answering.{AreGiven};
 ghost use Rattle.mirror_audit.specs.Covering.{CoversTile};
-ghost use Rattle.mirror_audit.specs.Faults.{BlamesPlace};
+ghost use Rattle.mirror_audit.specs.Faults.{BlamesPlace, IsForAbsence};
 
 use crate::ask::get_file;
 use crate::fault::AuditFault;
@@ -29,6 +29,7 @@ fn audit_leaves<S: Source>(
     row: &[Hash],
 ) -> Result<(), AuditFault>
     ensures counted { BlamesPlace (S.failed source.old) (S.failed source.new) result }
+    ensures absent { IfErr result (IsForAbsence (S.may_answer source.old)) }
     ensures given { OnOk result (AreGiven (S.may_answer source.old)
         (S.may_answer source.new) (S.asked source.old) (S.asked source.new)
         (reply (Tile 0 index 256) (Some (row_text row.now)) ∷ [])) }
@@ -55,6 +56,7 @@ pub(crate) fn audit_bundle<H: TreeHash, S: Source>(
     hash: &Hash,
 ) -> Result<(), AuditFault>
     ensures counted { BlamesPlace (S.failed source.old) (S.failed source.new) result }
+    ensures absent { IfErr result (IsForAbsence (S.may_answer source.old)) }
     ensures covers { OnOk result (CoversTile H.digest 0 index hash.now (S.may_answer source.old)
         (S.may_answer source.new) (S.asked source.old) (S.asked source.new)) }
 {

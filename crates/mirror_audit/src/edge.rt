@@ -1,8 +1,8 @@
 //! All that lies below the edge.
-ghost use Rattle.std.specs.Prelude.{◌^◌, ◌<◌, OnOk};
+ghost use Rattle.std.specs.Prelude.{◌^◌, ◌<◌, IfErr, OnOk};
 ghost use Rattle.log_reader.specs.EdgeRows.{HasWidths};
 ghost use Rattle.mirror_audit.specs.Edges.{CoversLevels};
-ghost use Rattle.mirror_audit.specs.Faults.{BlamesPlace};
+ghost use Rattle.mirror_audit.specs.Faults.{BlamesPlace, IsForAbsence};
 
 use crate::fault::AuditFault;
 use crate::tiles::audit_row;
@@ -21,6 +21,7 @@ pub(crate) fn audit_levels<H: TreeHash, S: Source>(
     requires widths { HasWidths edge.now }
     requires small { edge.now.size < 2 ^ 64 }
     ensures counted { BlamesPlace (S.failed source.old) (S.failed source.new) result }
+    ensures absent { IfErr result (IsForAbsence (S.may_answer source.old)) }
     ensures covers { OnOk result (CoversLevels H.digest edge.now 1 (S.may_answer source.old)
         (S.may_answer source.new) (S.asked source.old) (S.asked source.new)) }
 {

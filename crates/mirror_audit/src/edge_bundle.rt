@@ -1,9 +1,9 @@
 //! The partial bundle at the edge.
-ghost use Rattle.std.specs.Prelude.{◌≡◌, ◌↔◌, ◌≤◌, IfOk, IsTrue, OnOk, length};
+ghost use Rattle.std.specs.Prelude.{◌≡◌, ◌↔◌, ◌≤◌, IfErr, IfOk, IsTrue, OnOk, length};
 ghost use Rattle.log_reader.specs.EdgeRows.{HasWidths};
 ghost use Rattle.log_reader.specs.Verified.{HasLeaves};
 ghost use Rattle.mirror_audit.specs.Edges.{CoversEdgeBundle};
-ghost use Rattle.mirror_audit.specs.Faults.{BlamesPlace};
+ghost use Rattle.mirror_audit.specs.Faults.{BlamesPlace, IsForAbsence};
 
 use crate::fault::AuditFault;
 use crate::part::get_part;
@@ -39,6 +39,7 @@ pub(crate) fn audit_edge_bundle<H: TreeHash, S: Source>(
 ) -> Result<(), AuditFault>
     requires { HasWidths edge.now }
     ensures counted { BlamesPlace (S.failed source.old) (S.failed source.new) result }
+    ensures absent { IfErr result (IsForAbsence (S.may_answer source.old)) }
     ensures covers { OnOk result (CoversEdgeBundle H.digest edge.now (S.may_answer source.old)
         (S.may_answer source.new) (S.asked source.old) (S.asked source.new)) }
 {
@@ -50,8 +51,9 @@ pub(crate) fn audit_edge_bundle<H: TreeHash, S: Source>(
         index: edge_index(edge.size(), 0),
         width: row.len() as u32,
     };
-    let Some(bytes) = get_part(source, path)? else {
-        return Err(AuditFault::NoFile(path));
+    let bytes = match get_part(source, path)? {
+        Some(bytes) => bytes,
+        None => return Err(AuditFault::NoFile(path)),
     };
     let is_true = is_bundle_of::<H>(alloc, row, &bytes)?;
     if !is_true {

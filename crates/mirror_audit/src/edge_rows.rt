@@ -1,9 +1,9 @@
 //! The rows of the edge.
-ghost use Rattle.std.specs.Prelude.{◌≡◌, ◌≤◌, IfOk, length, get_or, []};
+ghost use Rattle.std.specs.Prelude.{◌≡◌, ◌≤◌, [], IfErr, IfOk, get_or, length};
 ghost use Rattle.tlog_shape.specs.Edge.{width_of};
 ghost use Rattle.log_reader.specs.EdgeRows.{LeadsTo, IsEdgeOf, row_at};
 ghost use Rattle.mirror_audit.specs.Edges.{AreRowsGiven, IsRowGivenAt};
-ghost use Rattle.mirror_audit.specs.Faults.{BlamesPlace};
+ghost use Rattle.mirror_audit.specs.Faults.{BlamesPlace, IsForAbsence};
 
 use crate::fault::AuditFault;
 use crate::part::get_part;
@@ -23,6 +23,7 @@ fn row_at_level<S: Source>(
 ) -> Result<Vec<Hash>, AuditFault>
     requires { level ≤ 7 }
     ensures counted { BlamesPlace (S.failed source.old) (S.failed source.new) result }
+    ensures absent { IfErr result (IsForAbsence (S.may_answer source.old)) }
     ensures given { IfOk result (λ row. IsRowGivenAt size level row.items
         (S.may_answer source.old) (S.may_answer source.new) (S.asked source.old)
         (S.asked source.new)) }
@@ -32,8 +33,9 @@ fn row_at_level<S: Source>(
         return Ok(Vec::new(alloc));
     }
     let path = edge_path(size, level);
-    let Some(bytes) = get_part(source, path)? else {
-        return Err(AuditFault::NoEdge);
+    let bytes = match get_part(source, path)? {
+        Some(bytes) => bytes,
+        None => return Err(AuditFault::NoEdge),
     };
     match row_given(alloc, width, Some(bytes))? {
         Some(row) => Ok(row),
@@ -44,6 +46,7 @@ fn row_at_level<S: Source>(
 // The rows of all levels, the lowest first.
 fn rows_of<S: Source>(alloc: Global, source: &mut S, size: u64) -> Result<EdgeRows, AuditFault>
     ensures counted { BlamesPlace (S.failed source.old) (S.failed source.new) result }
+    ensures absent { IfErr result (IsForAbsence (S.may_answer source.old)) }
     ensures edge { IfOk result (λ edge. IsEdgeOf size edge) }
     ensures given { IfOk result (λ edge. AreRowsGiven size (row_at edge) 8
         (S.may_answer source.old) (S.may_answer source.new) (S.asked source.old)
@@ -75,6 +78,7 @@ pub(crate) fn read_edge<H: TreeHash, S: Source>(
     root: &Hash,
 ) -> Result<EdgeRows, AuditFault>
     ensures counted { BlamesPlace (S.failed source.old) (S.failed source.new) result }
+    ensures absent { IfErr result (IsForAbsence (S.may_answer source.old)) }
     ensures leads { IfOk result (λ edge. LeadsTo H.digest size root.now edge) }
     ensures given { IfOk result (λ edge. AreRowsGiven size (row_at edge) 8
         (S.may_answer source.old) (S.may_answer source.new) (S.asked source.old)

@@ -1,9 +1,9 @@
 //! An audit of a whole log.
-ghost use Rattle.std.specs.Prelude.{◌^◌, ◌<◌, IfOk, OnOk, map};
+ghost use Rattle.std.specs.Prelude.{◌^◌, ◌<◌, IfErr, IfOk, OnOk, map};
 ghost use Rattle.log_reader.specs.EdgeRows.{HasWidths};
 ghost use Rattle.mirror_audit.specs.Audits.{IsAudited, IsHeadGiven, IsTreeGiven};
 ghost use Rattle.mirror_audit.specs.Edges.{CoversLog};
-ghost use Rattle.mirror_audit.specs.Faults.{BlamesPlace};
+ghost use Rattle.mirror_audit.specs.Faults.{BlamesPlace, IsForAbsence};
 
 use crate::edge::audit_levels;
 use crate::edge_bundle::audit_edge_bundle;
@@ -34,12 +34,14 @@ fn read_checkpoint<S: Source>(
     source: &mut S,
 ) -> Result<Audited, AuditFault>
     ensures counted { BlamesPlace (S.failed source.old) (S.failed source.new) result }
+    ensures absent { IfErr result (IsForAbsence (S.may_answer source.old)) }
     ensures given { IfOk result (λ a. IsHeadGiven origin.now (map (λ k. key k) keys.now)
         a.size a.root (S.may_answer source.old) (S.may_answer source.new) (S.asked source.old)
         (S.asked source.new)) }
 {
-    let Some(note) = source.get(&Path::Checkpoint)? else {
-        return Err(AuditFault::NoCheckpoint);
+    let note = match source.get(&Path::Checkpoint)? {
+        Some(note) => note,
+        None => return Err(AuditFault::NoCheckpoint),
     };
     let checkpoint = open_head(alloc, origin, keys, &note)?;
     let root = checkpoint.root;
@@ -58,6 +60,7 @@ fn audit_edge<H: TreeHash, S: Source>(
     requires widths { HasWidths edge.now }
     requires small { edge.now.size < 2 ^ 64 }
     ensures counted { BlamesPlace (S.failed source.old) (S.failed source.new) result }
+    ensures absent { IfErr result (IsForAbsence (S.may_answer source.old)) }
     ensures covers { OnOk result (CoversLog H.digest edge.now (S.may_answer source.old)
         (S.may_answer source.new) (S.asked source.old) (S.asked source.new)) }
 {
@@ -73,6 +76,7 @@ fn audit_tree<H: TreeHash, S: Source>(
     root: &Hash,
 ) -> Result<(), AuditFault>
     ensures counted { BlamesPlace (S.failed source.old) (S.failed source.new) result }
+    ensures absent { IfErr result (IsForAbsence (S.may_answer source.old)) }
     ensures given { OnOk result (IsTreeGiven H.digest size root.now
         (S.may_answer source.old) (S.may_answer source.new) (S.asked source.old)
         (S.asked source.new)) }
@@ -110,6 +114,7 @@ pub fn audit<H: TreeHash, S: Source>(
     source: &mut S,
 ) -> Result<Audited, AuditFault>
     ensures counted { BlamesPlace (S.failed source.old) (S.failed source.new) result }
+    ensures absent { IfErr result (IsForAbsence (S.may_answer source.old)) }
     ensures audited { IfOk result (λ a. IsAudited H.digest origin.now (map (λ k. key k) keys.now)
         a.size a.root (S.may_answer source.old) (S.may_answer source.new) (S.asked source.old)
         (S.asked source.new)) }

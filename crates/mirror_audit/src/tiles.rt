@@ -1,7 +1,7 @@
 //! Full tiles, with all that lies below them.
-ghost use Rattle.std.specs.Prelude.{◌≡◌, ◌+◌, ◌*◌, ◌^◌, ◌<◌, ◌≤◌, IfOk, OnOk, length};
+ghost use Rattle.std.specs.Prelude.{◌≡◌, ◌+◌, ◌*◌, ◌^◌, ◌<◌, ◌≤◌, IfErr, IfOk, OnOk, length};
 ghost use Rattle.mirror_audit.specs.Covering.{CoversRow, CoversTile, IsRowFound};
-ghost use Rattle.mirror_audit.specs.Faults.{BlamesPlace};
+ghost use Rattle.mirror_audit.specs.Faults.{BlamesPlace, IsForAbsence};
 
 use crate::ask::get_file;
 use crate::bundle::audit_bundle;
@@ -20,6 +20,7 @@ fn row_of<H: TreeHash, S: Source>(
     hash: &Hash,
 ) -> Result<Vec<Hash>, AuditFault>
     ensures counted { BlamesPlace (S.failed source.old) (S.failed source.new) result }
+    ensures absent { IfErr result (IsForAbsence (S.may_answer source.old)) }
     ensures found { IfOk result (λ row. IsRowFound H.digest path hash.now row.items
         (S.may_answer source.old) (S.may_answer source.new) (S.asked source.old)
         (S.asked source.new)) }
@@ -43,6 +44,7 @@ fn audit_tile<H: TreeHash, S: Source>(
     requires level { level ≤ 6 }
     requires fits { (index + 1) * 256 ^ (level + 1) < 2 ^ 64 }
     ensures counted { BlamesPlace (S.failed source.old) (S.failed source.new) result }
+    ensures absent { IfErr result (IsForAbsence (S.may_answer source.old)) }
     ensures covers { OnOk result (CoversTile H.digest level index hash.now (S.may_answer source.old)
         (S.may_answer source.new) (S.asked source.old) (S.asked source.new)) }
 {
@@ -71,6 +73,7 @@ pub(crate) fn audit_row<H: TreeHash, S: Source>(
     requires level { level ≤ 7 }
     requires fits { (256 * index + length row.now) * 256 ^ level < 2 ^ 64 }
     ensures counted { BlamesPlace (S.failed source.old) (S.failed source.new) result }
+    ensures absent { IfErr result (IsForAbsence (S.may_answer source.old)) }
     ensures covers { OnOk result (CoversRow H.digest level index row.now (length row.now)
         (S.may_answer source.old)
         (S.may_answer source.new) (S.asked source.old) (S.asked source.new)) }
