@@ -6,7 +6,7 @@ use Rattle.std.proofs.Math.Nat.{div-eq_of_lt}
 use Rattle.std.proofs.Math.Seq.{get_or-append_seam}
 use Rattle.std.proofs.lemmas.Bool.{cases_lt}
 use Rattle.std.proofs.lemmas.List.{append-nil, append_cancel_left, get_or_append_left, length-append, length-map, map-append, nil_from_length}
-use Rattle.std.proofs.lemmas.List.Elements.{All-cons, All-contains, All-map, All-nil, All-weaker, Contains-append_cases, Contains-append_left}
+use Rattle.std.proofs.lemmas.List.Elements.{All-append, All-cons, All-contains, All-map, All-nil, All-weaker, Contains-append_cases, Contains-append_left}
 use Rattle.tlog_shape.specs.Edge.{edge_index_of, width_of}
 use Rattle.tlog_shape.proofs.Levels.{level_positive}
 use Rattle.tlog_hash.specs.Rows.{level_row}
@@ -29,10 +29,10 @@ use Rattle.log_reader.specs.EdgeRows.{Edge, hash_of_edge, row_at}
 use Rattle.mirror_copy.specs.Edges.{BringsToEdge, IsCopyBrought, PutsNote}
 use Rattle.mirror_copy.specs.Found.{IsBundleRead, IsEdgeRead, IsRowRead, IsTipRead}
 use Rattle.mirror_copy.specs.Growing.{Obtains, IsCutShort, IsKnown, IsNewFile, Tip, empty_tip}
-use Rattle.mirror_copy.specs.Moments.{AtEachMoment, HadSize, InTheEnd, IsBroughtTo, IsGrownCopy, KeepsCopy}
+use Rattle.mirror_copy.specs.Moments.{AtEachMoment, HadSize, InTheEnd, IsBroughtTo, IsGrownCopy, KeepsCopy, PutsBeyond}
 use Rattle.mirror_folders.specs.Shelf.{TellsRead}
 use Rattle.mirror_copy.proofs.CopyMoments.{bringing_makes_copy, bringing_stays_copy, copy_files, new_files_keep_copies, not_file}
-use Rattle.mirror_copy.proofs.Growth.{gathers_none, kept_same, left_none}
+use Rattle.mirror_copy.proofs.Growth.{adds_then, gathers_none, kept_adds, kept_same, left_none}
 use Rattle.mirror_copy.proofs.Earlier.{kept_then}
 use Rattle.mirror_copy.proofs.Roots.{brought_root}
 use Rattle.mirror_copy.proofs.RowLists.{read_before, row_before}
@@ -258,6 +258,48 @@ module _ (digest : List ℕ → List ℕ) (origin note : List ℕ) (tip : Tip) (
           ])
     ]
 
+-- ---- what was put
+
+beyond_new : (digest : List ℕ → List ℕ) (m : ℕ) (next : List (List ℕ)) (put : Put) → IsNewFile digest m next put →
+    IsWithin m put.0 → ⊥
+beyond_new digest m next put new = new.new
+
+beyond_same : (n : ℕ) (held : List Put) (x w : Option (List Put)) → x ≡ Some held → KeepsTold x w →
+    PutsBeyond n held w
+beyond_same n held x w is kept = record {
+  puts = [];
+  told = kept_adds (Some held) w (subst (λ o. KeepsTold o w) is kept);
+  are_beyond = All-nil (λ (put : Put). ¬ IsWithin n put.0);
+}
+
+module _ (digest : List ℕ → List ℕ) (note : List ℕ) (tip : Tip) (held : List Put) (x w : Option (List Put))
+    (is : x ≡ Some held) (known : List (List ℕ)) (k : IsKnown digest tip 0 known) where
+  beyond_size : PutsBeyond tip.size held w → PutsBeyond (length known) held w
+  beyond_size b =
+      let size = k.size_is in
+      let same : tip.size ≡ length known = omega arith in subst (λ n. PutsBeyond n held w) same b
+
+  pub beyond_cut : IsCutShort digest tip.size known x w → PutsBeyond (length known) held w
+  beyond_cut cut = beyond_size (record {
+    puts = cut.gathers.puts;
+    told = subst (λ (o : Option (List Put)). AddsTold o w cut.gathers.puts) is cut.gathers.told;
+    are_beyond = All-weaker (IsNewFile digest tip.size cut.next) (λ (put : Put). ¬ IsWithin tip.size put.0)
+        (beyond_new digest tip.size cut.next) cut.gathers.puts cut.gathers.are_new;
+  })
+
+  pub beyond_brought : (edge : Edge) → IsCopyBrought digest tip edge note known x w → PutsBeyond (length known) held w
+  beyond_brought edge b = beyond_size (record {
+    puts = b.gathers.puts ++ (Checkpoint, note) ∷ [];
+    told = subst (λ (o : Option (List Put)). AddsTold o w (b.gathers.puts ++ (Checkpoint, note) ∷ [])) is
+        (adds_then x b.before w b.gathers.puts ((Checkpoint, note) ∷ []) b.gathers.told b.last);
+    are_beyond =
+        let P : Put → Type 0 = λ put. ¬ IsWithin tip.size put.0 in
+        All-append P b.gathers.puts ((Checkpoint, note) ∷ [])
+        (All-weaker (IsNewFile digest tip.size b.next) P (beyond_new digest tip.size b.next) b.gathers.puts
+        b.gathers.are_new)
+        (All-cons P (Checkpoint, note) [] (λ within. within) (All-nil P));
+  })
+
 -- ---- what a call comes to
 
 module _ (digest : List ℕ → List ℕ) (origin note : List ℕ) (tip : Tip) where
@@ -289,6 +331,12 @@ module _ (digest : List ℕ → List ℕ) (origin note : List ℕ) (tip : Tip) w
         (subst (λ o. IsTipRead digest origin o tip) is t)
         (λ known k. subst (λ o. IsCutShort digest tip.size known (Some held) o) new_is
         (subst (λ o. IsCutShort digest tip.size known o w) is (cut known k))) none now at));
+    beyond = λ held is old_note entries copy.
+        let k = t.copy held is old_note entries copy in
+        beyond_cut digest note tip held x w is entries k (cut entries k);
+    beyond_none = λ held is none.
+        let k = t.known (none_found held tip.checkpoint (subst (λ o. TellsRead o Checkpoint tip.checkpoint) is t.checkpoint) none) in
+        beyond_cut digest note tip held x w is [] k (cut [] k);
   }
 
   module _ (edge : Edge) (root : List ℕ) (upto : tip.size ≤ edge.size) (head : IsHead note origin edge.size root)
@@ -330,6 +378,12 @@ module _ (digest : List ℕ → List ℕ) (origin note : List ℕ) (tip : Tip) w
             (λ now. (HasPut now Checkpoint → ⊥) ⊎ IsGrownCopy digest origin note [] now)
             (λ new b now at. grown_none digest origin note tip edge held new root upto head leads [] k b now at none
             (none_held digest held));
+        beyond = λ held is old_note entries copy.
+            let k = t.copy held is old_note entries copy in
+            beyond_brought digest note tip held x w is entries k edge (brought entries k);
+        beyond_none = λ held is none.
+            let k = none_known held is none in
+            beyond_brought digest note tip held x w is [] k edge (brought [] k);
       }
 
       at_end : (held : List Put) → x ≡ Some held → (known : List (List ℕ)) → IsKnown digest tip 0 known →
@@ -437,7 +491,12 @@ module _ (digest : List ℕ → List ℕ) (origin note : List ℕ) (tip : Tip) (
 -- where nothing is recorded, nothing is said
 pub none_whole : (digest : List ℕ → List ℕ) (origin note : List ℕ) (w : Option (List Put)) →
     KeepsCopy digest origin note None w
-none_whole digest origin note w = record { copy = λ held is. absurd (cc is); none = λ held is. absurd (cc is) }
+none_whole digest origin note w = record {
+  copy = λ held is. absurd (cc is);
+  none = λ held is. absurd (cc is);
+  beyond = λ held is. absurd (cc is);
+  beyond_none = λ held is. absurd (cc is);
+}
 
 pub none_brought : (digest : List ℕ → List ℕ) (origin note : List ℕ) (w : Option (List Put)) →
     IsBroughtTo digest origin note None w
@@ -494,6 +553,8 @@ whole_same digest origin note x y k = record {
       (λ now. IsCopy digest origin old_note entries now ⊎ IsGrownCopy digest origin note entries now) (inl copy);
   none = λ held is none.
       at_kept x y held is k (λ now. (HasPut now Checkpoint → ⊥) ⊎ IsGrownCopy digest origin note [] now) (inl none);
+  beyond = λ held is old_note entries copy. beyond_same (length entries) held x y is k;
+  beyond_none = λ held is none. beyond_same 0 held x y is k;
 }
 
 -- ---- what is read of a shelf

@@ -1,6 +1,8 @@
 -- What stands on a shelf at each moment of a call that brings a copy to a checkpoint, and in the end.
-use Rattle.std.specs.Prelude.{◌≡◌, ◌⊎◌, ℕ, List, [], ◌++◌, length, Option, Some, None}
+use Rattle.std.specs.Prelude.{◌≡◌, ◌⊎◌, ℕ, All, List, [], ◌++◌, length, Option, Some, None}
 use Rattle.tlog_tiles.specs.declared.paths.Path.TheVariants.{Checkpoint}
+use Rattle.tlog_tiles.specs.Tiles.{IsWithin}
+use Rattle.mirror_sources.specs.Told.{AddsTold}
 use Rattle.mirror_folders.specs.Shelf.{Put, HasPut}
 use Rattle.mirror_export.specs.Exports.{IsMoment}
 use Rattle.mirror_export.specs.SinceLaws.{HoldsFiles}
@@ -16,6 +18,12 @@ abbrev pub InTheEnd : Option (List Put) → (List Put → Type 0) → Type 0
 InTheEnd None so = ⊥
 InTheEnd (Some new) so = so new
 
+-- what was put since is no file of a log of n entries or fewer
+pub record PutsBeyond (n : ℕ) (held : List Put) (new : Option (List Put)) : Type 0 where
+  pub puts : List Put
+  pub told : AddsTold (Some held) new puts
+  pub are_beyond : All (λ put. ¬ IsWithin n put.0) puts
+
 module _ (digest : List ℕ → List ℕ) (origin note : List ℕ) where
   -- under the note a copy stands of entries that begin with those, and each file of those, the checkpoint apart,
   -- stands with its true bytes
@@ -25,13 +33,17 @@ module _ (digest : List ℕ → List ℕ) (origin note : List ℕ) where
     pub kept : HoldsFiles digest entries puts
 
   -- at each moment of a call that brings a copy to the note: where a copy stood, it stands still, or a copy of it
-  -- grown under the note; where no checkpoint stood, none stands, or a copy under the note
+  -- grown under the note; where no checkpoint stood, none stands, or a copy under the note. No file of the old copy is
+  -- put again
   pub record KeepsCopy (old new : Option (List Put)) : Type 0 where
     pub copy : (held : List Put) → old ≡ Some held → (old_note : List ℕ) (entries : List (List ℕ)) →
         IsCopy digest origin old_note entries held →
         AtEachMoment held new (λ now. IsCopy digest origin old_note entries now ⊎ IsGrownCopy entries now)
     pub none : (held : List Put) → old ≡ Some held → ¬ HasPut held Checkpoint →
         AtEachMoment held new (λ now. ¬ HasPut now Checkpoint ⊎ IsGrownCopy [] now)
+    pub beyond : (held : List Put) → old ≡ Some held → (old_note : List ℕ) (entries : List (List ℕ)) →
+        IsCopy digest origin old_note entries held → PutsBeyond (length entries) held new
+    pub beyond_none : (held : List Put) → old ≡ Some held → ¬ HasPut held Checkpoint → PutsBeyond 0 held new
 
   -- in the end a copy stands under the note: the one that stood before, grown, or where no checkpoint stood, a new one
   pub record IsBroughtTo (old new : Option (List Put)) : Type 0 where
