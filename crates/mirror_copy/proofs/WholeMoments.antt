@@ -537,7 +537,7 @@ kept_moment held new now is at =
     ) in
     at.now_is ∙ (ap (λ (l : List Put). held ++ l) (nil_from_length at.so_far none) ∙ append-nil held)
 
-at_kept : (x y : Option (List Put)) (held : List Put) → x ≡ Some held → KeepsTold x y → (so : List Put → Type 0) →
+pub at_kept : (x y : Option (List Put)) (held : List Put) → x ≡ Some held → KeepsTold x y → (so : List Put → Type 0) →
     so held → AtEachMoment held y so
 at_kept None y held is k so h = absurd (cc is)
 at_kept (Some xs) None held is k so h = absurd k

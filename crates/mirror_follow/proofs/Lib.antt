@@ -3,3 +3,4 @@ pub mod ForkLines
 pub mod OpenedNotes
 pub mod Gathering
 pub mod Asking
+pub mod Runs

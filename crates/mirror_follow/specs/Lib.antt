@@ -2,3 +2,4 @@ pub mod Forks
 pub mod Candidates
 pub mod Gathering
 pub mod Asking
+pub mod Runs

@@ -18,7 +18,8 @@ use tlog_tiles::Path;
 
 // Asks a place for its checkpoint.
 fn ask<S: Source>(place: &mut S) -> Result<PlaceAnswer, AllocError>
-    ensures { IfOk result (λ answer. IsAnswer S.may_answer S.failed S.asked place.old place.new answer) }
+    ensures { IfOk result
+        (λ answer. IsAnswer S.may_answer S.failed S.asked place.old place.new answer) }
 {
     match place.get(&Path::Checkpoint) {
         Ok(Some(bytes)) => Ok(PlaceAnswer::File(bytes)),

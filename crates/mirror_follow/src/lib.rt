@@ -12,4 +12,4 @@ mod laws;
 pub use ask::ask_candidates;
 pub use candidate::Candidate;
 pub use fault::FollowFault;
-pub use laws::fork_line_law;
+pub use laws::{fork_line_law, run_law};

@@ -1,0 +1,301 @@
+-- Runs that bring a copy to one note after the other.
+use Rattle.std.proofs.Common.{◌≡◌, ◌≢◌, ◌⊎◌, ℕ, ◌≤◌, List, [], ◌++◌, length, take, drop, Option, Some, None, refl, sym, ap, subst, ◌∙◌, inl, inr, arith}
+use Rattle.std.proofs.Common.{All, append_assoc, length-append, take-append-drop}
+use Rattle.std.specs.Prelude.{Contains}
+use Rattle.std.proofs.Math.Seq.{take-append_seam}
+use Rattle.std.proofs.lemmas.Bool.{cases_lt}
+use Rattle.std.proofs.lemmas.List.{append-nil, append_cancel_left, take-append-le}
+use Rattle.std.proofs.lemmas.List.Elements.{All-append, All-contains, All-weaker, Contains-append_left}
+use Rattle.tlog_tiles.specs.declared.paths.Path.{Path}
+use Rattle.tlog_tiles.specs.declared.paths.Path.TheVariants.{Checkpoint, Tile, Entries}
+use Rattle.tlog_tiles.specs.Tiles.{IsWithin}
+use Rattle.mirror_sources.specs.Told.{AddsTold, KeepsTold}
+use Rattle.mirror_folders.specs.Shelf.{Put, HasPut, Stands}
+use Rattle.mirror_export.specs.Exports.{IsMoment}
+use Rattle.mirror_export.specs.FileLaws.{IsFileOf}
+use Rattle.mirror_export.specs.Files.{served_bytes}
+use Rattle.mirror_export.specs.SinceLaws.{HoldsFiles}
+use Rattle.mirror_export.proofs.AllFiles.{files_are_all}
+use Rattle.mirror_export.proofs.Standing.{stands_more}
+use Rattle.mirror_copy.specs.Copies.{IsCopy}
+use Rattle.mirror_copy.specs.Moments.{AtEachMoment, IsGrownCopy, KeepsCopy, PutsBeyond}
+use Rattle.mirror_copy.proofs.Growth.{adds_then}
+use Rattle.mirror_copy.proofs.Prefixes.{within_more}
+use Rattle.mirror_copy.proofs.WholeMoments.{at_kept, whole_same}
+use Rattle.mirror_follow.specs.Runs.{IsGrownUnder, KeepsCopies, RunsKeepCopies}
+
+-- ---- moments of two calls
+
+-- of two lists that are cut twice the shorter front begins the longer
+front_of : (a b c d : List Put) → a ++ b ≡ c ++ d → length a ≤ length c → c ≡ a ++ drop (length a) c
+front_of a b c d same le =
+    let begins : take (length a) c ≡ a =
+    sym (take-append-le (length a) c d le) ∙ (ap (take (length a)) (sym same) ∙ take-append_seam a b) in
+    sym (take-append-drop (length a) c) ∙ ap (λ (l : List Put). l ++ drop (length a) c) begins
+
+module _ (held first last mid new : List Put) (mid_is : mid ≡ held ++ first) (new_is : new ≡ mid ++ last)
+    (now : List Put) (at : IsMoment held new now) where
+  both : at.so_far ++ at.later ≡ first ++ last
+  both = append_cancel_left held (at.so_far ++ at.later) (first ++ last)
+      (sym (append_assoc held at.so_far at.later)
+      ∙ (ap (λ (l : List Put). l ++ at.later) (sym at.now_is)
+      ∙ (sym at.new_is ∙ (new_is ∙ (ap (λ (l : List Put). l ++ last) mid_is ∙ append_assoc held first last)))))
+
+  -- a moment of both calls is one of the first or of the second
+  moment_cases : IsMoment held mid now ⊎ IsMoment mid new now
+  moment_cases = elim (cases_lt (length first) (length at.so_far)) [
+    | inl more ↦
+        let e : at.so_far ≡ first ++ drop (length first) at.so_far =
+        front_of first last at.so_far at.later (sym both) (omega arith) in
+        inr (record {
+          so_far = drop (length first) at.so_far;
+          later = at.later;
+          now_is = at.now_is
+              ∙ (ap (λ (l : List Put). held ++ l) e
+              ∙ (sym (append_assoc held first (drop (length first) at.so_far))
+              ∙ ap (λ (l : List Put). l ++ drop (length first) at.so_far) (sym mid_is)));
+          new_is = at.new_is;
+        })
+    | inr upto ↦
+        let e : first ≡ at.so_far ++ drop (length at.so_far) first =
+        front_of at.so_far at.later first last both upto in
+        inl (record {
+          so_far = at.so_far;
+          later = drop (length at.so_far) first;
+          now_is = at.now_is;
+          new_is = mid_is
+              ∙ (ap (λ (l : List Put). held ++ l) e
+              ∙ (sym (append_assoc held at.so_far (drop (length at.so_far) first))
+              ∙ ap (λ (l : List Put). l ++ drop (length at.so_far) first) (sym at.now_is)));
+        })
+  ]
+
+-- what is so at each moment of both calls is so at each moment
+splice : (held mid first last : List Put) (w : Option (List Put)) (so : List Put → Type 0) → mid ≡ held ++ first →
+    AddsTold (Some mid) w last → ((now : List Put) → IsMoment held mid now → so now) → AtEachMoment mid w so →
+    AtEachMoment held w so
+splice held mid first last None so mid_is told f g = absurd g
+splice held mid first last (Some new) so mid_is told f g = λ now at.
+    elim (moment_cases held first last mid new mid_is told now at) [
+      | inl early ↦ f now early
+      | inr late ↦ g now late
+    ]
+
+-- the end is a moment
+end_is : (held mid puts : List Put) → mid ≡ held ++ puts → IsMoment held mid mid
+end_is held mid puts is = record { so_far = puts; later = []; now_is = is; new_is = sym (append-nil mid) }
+
+-- what is so at each moment, and more so
+at_each_weaker : (held : List Put) (w : Option (List Put)) (so also : List Put → Type 0) →
+    ((new now : List Put) → w ≡ Some new → IsMoment held new now → so now → also now) → AtEachMoment held w so →
+    AtEachMoment held w also
+at_each_weaker held None so also f g = absurd g
+at_each_weaker held (Some new) so also f g = λ now at. f new now refl at (g now at)
+
+-- ---- what stays put
+
+-- a file of some entries is within them
+file_within : (n : ℕ) (path : Path) → path ≢ Checkpoint → IsFileOf n path → IsWithin n path
+file_within n Checkpoint other file = absurd (other refl)
+file_within n (Tile level index width) other file = file.within
+file_within n (Entries index width) other file = file.within
+
+not_within : (n k : ℕ) → n ≤ k → (put : Put) → (IsWithin k put.0 → ⊥) → IsWithin n put.0 → ⊥
+not_within n k le put beyond within = beyond (within_more n k put.0 le within)
+
+-- what is put beyond more entries is put beyond fewer
+beyond_fewer : (n k : ℕ) (held : List Put) (w : Option (List Put)) → n ≤ k → PutsBeyond k held w → PutsBeyond n held w
+beyond_fewer n k held w le b = record {
+  puts = b.puts;
+  told = b.told;
+  are_beyond = All-weaker (λ (put : Put). ¬ IsWithin k put.0) (λ (put : Put). ¬ IsWithin n put.0) (not_within n k le) b.puts
+      b.are_beyond;
+}
+
+beyond_then : (n : ℕ) (held mid : List Put) (w : Option (List Put)) (b : PutsBeyond n held (Some mid)) →
+    PutsBeyond n mid w → PutsBeyond n held w
+beyond_then n held mid w b b' = record {
+  puts = b.puts ++ b'.puts;
+  told = adds_then (Some held) (Some mid) w b.puts b'.puts b.told b'.told;
+  are_beyond = All-append (λ (put : Put). ¬ IsWithin n put.0) b.puts b'.puts b.are_beyond b'.are_beyond;
+}
+
+-- the files of some entries stand while others are put
+files_stay : (digest : List ℕ → List ℕ) (entries : List (List ℕ)) (held puts new now : List Put) →
+    HoldsFiles digest entries held → new ≡ held ++ puts → All (λ put. ¬ IsWithin (length entries) put.0) puts →
+    IsMoment held new now → HoldsFiles digest entries now
+files_stay digest entries held puts new now files new_is beyond at path other listed =
+    let split : at.so_far ++ at.later ≡ puts =
+    append_cancel_left held (at.so_far ++ at.later) puts
+    (sym (append_assoc held at.so_far at.later)
+    ∙ (ap (λ (l : List Put). l ++ at.later) (sym at.now_is) ∙ (sym at.new_is ∙ new_is))) in
+    let within = file_within (length entries) path other ((files_are_all (length entries) path).0 listed) in
+    subst (λ (l : List Put). Stands l path (served_bytes digest [] entries path)) (sym at.now_is)
+    (stands_more held at.so_far path (served_bytes digest [] entries path) (files path other listed)
+    (λ bytes has. absurd (All-contains (λ (put : Put). ¬ IsWithin (length entries) put.0) puts (path, bytes) beyond
+    (subst (λ (l : List Put). Contains l (path, bytes)) split
+    (Contains-append_left at.so_far at.later (path, bytes) has)) within)))
+
+-- ---- one run after the other
+
+module _ (digest : List ℕ → List ℕ) (origin : List ℕ) (notes : List (List ℕ)) where
+  abbrev Grown : List (List ℕ) → List Put → Type 0
+  Grown entries puts = IsGrownUnder digest origin notes entries puts
+
+  -- a copy that has grown and grows once more has grown
+  grown_more : (entries more : List (List ℕ)) (now : List Put) → HoldsFiles digest entries now →
+      Grown (entries ++ more) now → Grown entries now
+  grown_more entries more now files g = record {
+    note = g.note;
+    listed = g.listed;
+    grown = record {
+      more = more ++ g.grown.more;
+      copy = subst (λ (l : List (List ℕ)). IsCopy digest origin g.note l now) (append_assoc entries more g.grown.more)
+          g.grown.copy;
+      kept = files;
+    };
+  }
+
+  module _ (mid : List Put) (w : Option (List Put)) (second : KeepsCopies digest origin notes (Some mid) w)
+      (entries : List (List ℕ)) (g : Grown entries mid) where
+    longer : length entries ≤ length (entries ++ g.grown.more)
+    longer = omega (arith, length-append entries g.grown.more)
+
+    -- what is put after a copy has grown
+    grown_beyond : PutsBeyond (length entries) mid w
+    grown_beyond = beyond_fewer (length entries) (length (entries ++ g.grown.more)) mid w longer
+        (second.beyond mid refl g.note (entries ++ g.grown.more) g.grown.copy)
+
+    stay : (new now : List Put) → w ≡ Some new → IsMoment mid new now → HoldsFiles digest entries now
+    stay new now is at =
+        files_stay digest entries mid grown_beyond.puts new now g.grown.kept
+        (subst (λ o. AddsTold (Some mid) o grown_beyond.puts) is grown_beyond.told) grown_beyond.are_beyond at
+
+    -- a copy that has grown stays so
+    grown_stays : AtEachMoment mid w (Grown entries)
+    grown_stays = at_each_weaker mid w
+        (λ now. IsCopy digest origin g.note (entries ++ g.grown.more) now ⊎ Grown (entries ++ g.grown.more) now)
+        (Grown entries)
+        (λ new now is at so. elim so [
+          | inl still ↦ record {
+            note = g.note;
+            listed = g.listed;
+            grown = record { more = g.grown.more; copy = still; kept = stay new now is at };
+          }
+          | inr more ↦ grown_more entries g.grown.more now (stay new now is at) more
+        ])
+        (second.copy mid refl g.note (entries ++ g.grown.more) g.grown.copy)
+
+  module _ (held mid : List Put) (w : Option (List Put)) (second : KeepsCopies digest origin notes (Some mid) w) where
+    module _ (note : List ℕ) (entries : List (List ℕ)) where
+      abbrev So : List Put → Type 0
+      So now = IsCopy digest origin note entries now ⊎ Grown entries now
+
+      copy_then : (b : PutsBeyond (length entries) held (Some mid)) →
+          ((now : List Put) → IsMoment held mid now → So now) → So mid →
+          AtEachMoment held w So × PutsBeyond (length entries) held w
+      copy_then b f (inl still) =
+          let b' = second.beyond mid refl note entries still in (
+            splice held mid b.puts b'.puts w So b.told b'.told f (second.copy mid refl note entries still),
+            beyond_then (length entries) held mid w b b',
+          )
+      copy_then b f (inr grown) =
+          let b' = grown_beyond mid w second entries grown in (
+            splice held mid b.puts b'.puts w So b.told b'.told f
+                (at_each_weaker mid w (Grown entries) So (λ new now is at so. inr so)
+                (grown_stays mid w second entries grown)),
+            beyond_then (length entries) held mid w b b',
+          )
+
+    abbrev SoNone : List Put → Type 0
+    SoNone now = (HasPut now Checkpoint → ⊥) ⊎ Grown [] now
+
+    none_then : (b : PutsBeyond 0 held (Some mid)) → ((now : List Put) → IsMoment held mid now → SoNone now) →
+        SoNone mid → AtEachMoment held w SoNone × PutsBeyond 0 held w
+    none_then b f (inl none) =
+        let b' = second.beyond_none mid refl none in (
+          splice held mid b.puts b'.puts w SoNone b.told b'.told f (second.none mid refl none),
+          beyond_then 0 held mid w b b',
+        )
+    none_then b f (inr grown) =
+        let b' = grown_beyond mid w second [] grown in (
+          splice held mid b.puts b'.puts w SoNone b.told b'.told f
+              (at_each_weaker mid w (Grown []) SoNone (λ new now is at so. inr so)
+              (grown_stays mid w second [] grown)),
+          beyond_then 0 held mid w b b',
+        )
+
+  module _ (old w : Option (List Put)) where
+    two_copy : (mid : Option (List Put)) → KeepsCopies digest origin notes old mid →
+        KeepsCopies digest origin notes mid w → (held : List Put) → old ≡ Some held → (note : List ℕ)
+        (entries : List (List ℕ)) → IsCopy digest origin note entries held →
+        AtEachMoment held w (λ now. IsCopy digest origin note entries now ⊎ Grown entries now)
+        × PutsBeyond (length entries) held w
+    two_copy None first second held is note entries copy = absurd (first.copy held is note entries copy)
+    two_copy (Some mid) first second held is note entries copy =
+        let b = first.beyond held is note entries copy in
+        let f = first.copy held is note entries copy in
+        copy_then held mid w second note entries b f (f mid (end_is held mid b.puts b.told))
+
+    two_none : (mid : Option (List Put)) → KeepsCopies digest origin notes old mid →
+        KeepsCopies digest origin notes mid w → (held : List Put) → old ≡ Some held → (HasPut held Checkpoint → ⊥) →
+        AtEachMoment held w (λ now. (HasPut now Checkpoint → ⊥) ⊎ Grown [] now) × PutsBeyond 0 held w
+    two_none None first second held is none = absurd (first.none held is none)
+    two_none (Some mid) first second held is none =
+        let b = first.beyond_none held is none in
+        let f = first.none held is none in
+        none_then held mid w second b f (f mid (end_is held mid b.puts b.told))
+
+    pub two_runs : (mid : Option (List Put)) → KeepsCopies digest origin notes old mid →
+        KeepsCopies digest origin notes mid w → KeepsCopies digest origin notes old w
+    two_runs mid first second = record {
+      copy = λ held is note entries copy. (two_copy mid first second held is note entries copy).0;
+      none = λ held is none. (two_none mid first second held is none).0;
+      beyond = λ held is note entries copy. (two_copy mid first second held is note entries copy).1;
+      beyond_none = λ held is none. (two_none mid first second held is none).1;
+    }
+
+  pub one_run : (note : List ℕ) (old w : Option (List Put)) → Contains notes note → KeepsCopy digest origin note old w →
+      KeepsCopies digest origin notes old w
+  one_run note old w listed k = record {
+    copy = λ held is old_note entries copy.
+        at_each_weaker held w
+        (λ now. IsCopy digest origin old_note entries now ⊎ IsGrownCopy digest origin note entries now)
+        (λ now. IsCopy digest origin old_note entries now ⊎ Grown entries now)
+        (λ new now e at so. elim so [
+          | inl still ↦ inl still
+          | inr grown ↦ inr (record { note = note; listed = listed; grown = grown })
+        ])
+        (k.copy held is old_note entries copy);
+    none = λ held is none.
+        at_each_weaker held w
+        (λ now. (HasPut now Checkpoint → ⊥) ⊎ IsGrownCopy digest origin note [] now)
+        (λ now. (HasPut now Checkpoint → ⊥) ⊎ Grown [] now)
+        (λ new now e at so. elim so [
+          | inl still ↦ inl still
+          | inr grown ↦ inr (record { note = note; listed = listed; grown = grown })
+        ])
+        (k.none held is none);
+    beyond = k.beyond;
+    beyond_none = k.beyond_none;
+  }
+
+  -- a call that puts nothing
+  pub no_run : (old w : Option (List Put)) → KeepsTold old w → KeepsCopies digest origin notes old w
+  no_run old w kept =
+      let k = whole_same digest origin [] old w kept in
+      record {
+        copy = λ held is note entries copy.
+            at_kept old w held is kept (λ now. IsCopy digest origin note entries now ⊎ Grown entries now) (inl copy);
+        none = λ held is none.
+            at_kept old w held is kept (λ now. (HasPut now Checkpoint → ⊥) ⊎ Grown [] now) (inl none);
+        beyond = k.beyond;
+        beyond_none = k.beyond_none;
+      }
+
+pub runs_keep_copies : RunsKeepCopies
+runs_keep_copies = record {
+  one = λ digest origin notes note old new listed k. one_run digest origin notes note old new listed k;
+  nothing = λ digest origin notes old new kept. no_run digest origin notes old new kept;
+  two = λ digest origin notes old mid new first second. two_runs digest origin notes old new mid first second;
+}

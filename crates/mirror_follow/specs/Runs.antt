@@ -1,0 +1,40 @@
+-- A copy that is brought to one note after the other: what stands at each moment.
+use Rattle.std.specs.Prelude.{◌≡◌, ◌⊎◌, ℕ, List, [], length, Contains, Option, Some}
+use Rattle.tlog_tiles.specs.declared.paths.Path.TheVariants.{Checkpoint}
+use Rattle.mirror_sources.specs.Told.{KeepsTold}
+use Rattle.mirror_folders.specs.Shelf.{Put, HasPut}
+use Rattle.mirror_copy.specs.Copies.{IsCopy}
+use Rattle.mirror_copy.specs.Moments.{AtEachMoment, IsGrownCopy, KeepsCopy, PutsBeyond}
+
+module _ (digest : List ℕ → List ℕ) (origin : List ℕ) (notes : List (List ℕ)) where
+  -- under one of the notes a copy stands of entries that begin with those, and each file of those, the checkpoint
+  -- apart, stands with its true bytes
+  pub record IsGrownUnder (entries : List (List ℕ)) (puts : List Put) : Type 0 where
+    pub note : List ℕ
+    pub listed : Contains notes note
+    pub grown : IsGrownCopy digest origin note entries puts
+
+  -- at each moment of a run that brings a copy to some of the notes: where a copy stood, it stands still, or a copy of
+  -- it grown under one of the notes; where no checkpoint stood, none stands, or a copy under one of the notes. No file
+  -- of the old copy is put again
+  pub record KeepsCopies (old new : Option (List Put)) : Type 0 where
+    pub copy : (held : List Put) → old ≡ Some held → (note : List ℕ) (entries : List (List ℕ)) →
+        IsCopy digest origin note entries held →
+        AtEachMoment held new (λ now. IsCopy digest origin note entries now ⊎ IsGrownUnder entries now)
+    pub none : (held : List Put) → old ≡ Some held → ¬ HasPut held Checkpoint →
+        AtEachMoment held new (λ now. ¬ HasPut now Checkpoint ⊎ IsGrownUnder [] now)
+    pub beyond : (held : List Put) → old ≡ Some held → (note : List ℕ) (entries : List (List ℕ)) →
+        IsCopy digest origin note entries held → PutsBeyond (length entries) held new
+    pub beyond_none : (held : List Put) → old ≡ Some held → ¬ HasPut held Checkpoint → PutsBeyond 0 held new
+
+-- a call that brings a copy to one of the notes is such a run; so is one that puts nothing; and so are two runs, one
+-- after the other
+pub record RunsKeepCopies : Type 0 where
+  pub one : (digest : List ℕ → List ℕ) (origin : List ℕ) (notes : List (List ℕ)) (note : List ℕ)
+      (old new : Option (List Put)) → Contains notes note → KeepsCopy digest origin note old new →
+      KeepsCopies digest origin notes old new
+  pub nothing : (digest : List ℕ → List ℕ) (origin : List ℕ) (notes : List (List ℕ)) (old new : Option (List Put)) →
+      KeepsTold old new → KeepsCopies digest origin notes old new
+  pub two : (digest : List ℕ → List ℕ) (origin : List ℕ) (notes : List (List ℕ)) (old mid new : Option (List Put)) →
+      KeepsCopies digest origin notes old mid → KeepsCopies digest origin notes mid new →
+      KeepsCopies digest origin notes old new
