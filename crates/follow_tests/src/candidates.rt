@@ -1,6 +1,6 @@
 //! The candidates that places give.
 use crate::logs::{Place, bare_place, failing_place, keys, place_of};
-use mirror_follow::{Candidate, FollowFault, ask_candidates};
+use mirror_follow::{Candidate, CandidateFault, ask_candidates};
 use mirror_model::TakeFault;
 use mirror_sources::Source;
 use std::alloc::Global;
@@ -30,10 +30,10 @@ const IN_TURN: [(u64, &str); 4] = [
 fn each_place_is_asked(rt: HostRuntime) -> Result<(), Fail> {
     let alloc = rt.alloc();
     let mut places = Vec::new(alloc);
-    places.push(failing_place())?;
+    places.push(failing_place(alloc))?;
     places.push(place_of(alloc, 3, false, 0)?)?;
     places.push(place_of(alloc, 300, true, 0)?)?;
-    places.push(bare_place())?;
+    places.push(bare_place(alloc))?;
     places.push(place_of(alloc, 600, false, 0)?)?;
     places.push(place_of(alloc, 300, false, 0)?)?;
     let found = ask_candidates(alloc, "ex", &keys(alloc)?, &mut places);
@@ -54,7 +54,7 @@ fn each_place_is_asked(rt: HostRuntime) -> Result<(), Fail> {
 }
 
 // Why there is no candidate at two places.
-fn reason(alloc: Global, first: Place, second: Place) -> Result<Option<FollowFault>, Fail> {
+fn reason(alloc: Global, first: Place, second: Place) -> Result<Option<CandidateFault>, Fail> {
     let mut places = Vec::new(alloc);
     places.push(first)?;
     places.push(second)?;
@@ -66,19 +66,19 @@ fn reason(alloc: Global, first: Place, second: Place) -> Result<Option<FollowFau
 #[test]
 fn the_first_reason(rt: HostRuntime) -> Result<(), Fail> {
     let alloc = rt.alloc();
-    let end = reason(alloc, bare_place(), failing_place())?;
-    assert!(&rt; end == Some(FollowFault::NoCheckpoint), "{end:?}");
-    let end = reason(alloc, failing_place(), bare_place())?;
-    assert!(&rt; end == Some(FollowFault::Source), "{end:?}");
-    let end = reason(alloc, place_of(alloc, 3, false, 1)?, bare_place())?;
+    let end = reason(alloc, bare_place(alloc), failing_place(alloc))?;
+    assert!(&rt; end == Some(CandidateFault::NoCheckpoint), "{end:?}");
+    let end = reason(alloc, failing_place(alloc), bare_place(alloc))?;
+    assert!(&rt; end == Some(CandidateFault::Source), "{end:?}");
+    let end = reason(alloc, place_of(alloc, 3, false, 1)?, bare_place(alloc))?;
     assert!(&rt;
-        end == Some(FollowFault::Head(TakeFault::NoTrustedSignature)),
+        end == Some(CandidateFault::Head(TakeFault::NoTrustedSignature)),
         "{end:?}"
     );
-    let end = reason(alloc, bare_place(), place_of(alloc, 3, false, 0)?)?;
+    let end = reason(alloc, bare_place(alloc), place_of(alloc, 3, false, 0)?)?;
     assert!(&rt; end == None, "{end:?}");
     let mut none: Vec<Place> = Vec::new(alloc);
     let end = ask_candidates(alloc, "ex", &keys(alloc)?, &mut none).err();
-    assert!(&rt; end == Some(FollowFault::NoCheckpoint), "{end:?}");
+    assert!(&rt; end == Some(CandidateFault::NoCheckpoint), "{end:?}");
     Ok(())
 }

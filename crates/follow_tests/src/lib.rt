@@ -5,3 +5,5 @@
 mod candidates;
 #[cfg(test)]
 mod logs;
+#[cfg(test)]
+mod turns;

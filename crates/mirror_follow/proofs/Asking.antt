@@ -16,8 +16,8 @@ use Rattle.mirror_follow.specs.Asking.{AreAnswers, FindsCandidates, GivesCandida
 use Rattle.mirror_follow.specs.Candidates.{turn_cmp}
 use Rattle.mirror_follow.specs.Gathering.{AreCandidatesOf, Gathers, IsGiven, note_of}
 use Rattle.mirror_follow.specs.declared.candidate.Candidate.{Candidate}
-use Rattle.mirror_follow.specs.declared.fault.FollowFault.{FollowFault}
-use Rattle.mirror_follow.specs.declared.fault.FollowFault.TheVariants as follow
+use Rattle.mirror_follow.specs.declared.fault.CandidateFault.{CandidateFault}
+use Rattle.mirror_follow.specs.declared.fault.CandidateFault.TheVariants as follow
 use Rattle.mirror_follow.specs.declared.answer.PlaceAnswer.{PlaceAnswer}
 
 module _ {S : Type 0} (may : S → Path → Option (List ℕ) → Type 0) (failed : S → ℕ) (asked : S → Option (List Path)) where
@@ -112,7 +112,7 @@ module _ {S : Type 0} (may : S → Path → Option (List ℕ) → Type 0) (faile
     }
 
     -- there is none
-    none_found : (gathered : List Candidate) (first : Option FollowFault) (fault : FollowFault) →
+    none_found : (gathered : List Candidate) (first : Option CandidateFault) (fault : CandidateFault) →
         Gathers origin keys answers gathered first → gathered ≡ [] → fault ≡ option_or first follow.NoCheckpoint →
         GivesNone may failed asked origin keys old new fault
     none_found gathered first fault g empty is = record {
@@ -122,8 +122,8 @@ module _ {S : Type 0} (may : S → Path → Option (List ℕ) → Type 0) (faile
       reason = (first, g.none empty, is);
     }
 
-    pub found : (gathered : List Candidate) (first : Option FollowFault) →
-        Gathers origin keys answers gathered first → (result : Result (Vec Candidate Global) FollowFault) →
+    pub found : (gathered : List Candidate) (first : Option CandidateFault) →
+        Gathers origin keys answers gathered first → (result : Result (Vec Candidate Global) CandidateFault) →
         IfOk result (λ c. IsPermutation gathered c.items) → IfOk result (λ c. gathered ≢ []) →
         IfOk result (λ c. IsSorted turn_cmp c.items) → IfErr result (λ f. gathered ≡ []) →
         IfErr result (λ f. f ≡ option_or first follow.NoCheckpoint) →

@@ -15,8 +15,8 @@ use Rattle.mirror_follow.specs.Gathering.{Gathers, Gave, IsFirstReason, IsGiven,
 use Rattle.mirror_follow.specs.declared.candidate.Candidate.{Candidate}
 use Rattle.mirror_follow.specs.declared.answer.PlaceAnswer.{PlaceAnswer}
 use Rattle.mirror_follow.specs.declared.answer.PlaceAnswer.TheVariants.{File, NotFound, Failed}
-use Rattle.mirror_follow.specs.declared.fault.FollowFault.{FollowFault}
-use Rattle.mirror_follow.specs.declared.fault.FollowFault.TheVariants as follow
+use Rattle.mirror_follow.specs.declared.fault.CandidateFault.{CandidateFault}
+use Rattle.mirror_follow.specs.declared.fault.CandidateFault.TheVariants as follow
 
 -- a list with one more is not empty
 not_empty : {X : Type 0} (xs : List X) (x : X) → xs ++ x ∷ [] ≡ [] → ⊥
@@ -34,7 +34,7 @@ module _ (origin : List ℕ) (keys : List Key) where
       (λ e. differs (cc e)) (λ e. cc e) in absurd (cc e)
 
   -- an answer that gives no candidate is no note that opens
-  no_note : (answer : PlaceAnswer) (fault : FollowFault) (note : List ℕ) (size : ℕ) (root : List ℕ) →
+  no_note : (answer : PlaceAnswer) (fault : CandidateFault) (note : List ℕ) (size : ℕ) (root : List ℕ) →
       IsReason origin keys answer fault → IsNote note answer → ¬ IsOpenHead note origin keys size root
   no_note (File bytes) fault note size root reason is is_open =
       not_open bytes.items size root reason.0 reason.1 reason.3
@@ -66,7 +66,7 @@ module _ (origin : List ℕ) (keys : List Key) where
     | inr last ↦ inr (subst (λ a. IsNote note a) (sym last) g.is_note)
   ]
 
-  first_more : (answers : List PlaceAnswer) (answer : PlaceAnswer) (first : Option FollowFault) (fault : FollowFault) →
+  first_more : (answers : List PlaceAnswer) (answer : PlaceAnswer) (first : Option CandidateFault) (fault : CandidateFault) →
       IsReason origin keys answer fault → IsFirstReason origin keys answers first →
       IsFirstReason origin keys (answers ++ answer ∷ []) (or_first first fault)
   first_more [] answer None fault reason is = reason
@@ -75,8 +75,8 @@ module _ (origin : List ℕ) (keys : List Key) where
   first_more (a ∷ answers) answer (Some f) fault reason is = is
 
   -- an answer that gives no candidate
-  pub gathers_none : (answers : List PlaceAnswer) (answer : PlaceAnswer) (fault : FollowFault)
-      (candidates : List Candidate) (first : Option FollowFault) → IsReason origin keys answer fault →
+  pub gathers_none : (answers : List PlaceAnswer) (answer : PlaceAnswer) (fault : CandidateFault)
+      (candidates : List Candidate) (first : Option CandidateFault) → IsReason origin keys answer fault →
       Gathers origin keys answers candidates first →
       Gathers origin keys (answers ++ answer ∷ []) candidates (or_first first fault)
   gathers_none answers answer fault candidates first reason g = record {
@@ -92,7 +92,7 @@ module _ (origin : List ℕ) (keys : List Key) where
 
   -- a note that opens
   pub gathers_one : (answers : List PlaceAnswer) (bytes : Vec ℕ Global) (candidates : List Candidate)
-      (first : Option FollowFault) (candidate : Candidate) →
+      (first : Option CandidateFault) (candidate : Candidate) →
       IsCandidateOf bytes.items origin keys candidate → Gathers origin keys answers candidates first →
       Gathers origin keys (answers ++ File bytes ∷ []) (candidates ++ candidate ∷ []) first
   gathers_one answers bytes candidates first candidate is g = record {
@@ -116,8 +116,8 @@ module _ (origin : List ℕ) (keys : List Key) where
   }
 
   -- an answer that was passed over
-  pub gathers_passed : (answers : List PlaceAnswer) (answer : PlaceAnswer) (fault : FollowFault)
-      (old new : List Candidate) (first last : Option FollowFault) → new ≡ old → last ≡ or_first first fault →
+  pub gathers_passed : (answers : List PlaceAnswer) (answer : PlaceAnswer) (fault : CandidateFault)
+      (old new : List Candidate) (first last : Option CandidateFault) → new ≡ old → last ≡ or_first first fault →
       IsReason origin keys answer fault → Gathers origin keys answers old first →
       Gathers origin keys (answers ++ answer ∷ []) new last
   gathers_passed answers answer fault old new first last same kept reason g =
@@ -127,7 +127,7 @@ module _ (origin : List ℕ) (keys : List Key) where
 
   -- a note that opens was added
   pub gathers_added : (answers : List PlaceAnswer) (bytes : Vec ℕ Global) (old new : List Candidate)
-      (first : Option FollowFault) (candidate : Candidate) → new ≡ old ++ candidate ∷ [] →
+      (first : Option CandidateFault) (candidate : Candidate) → new ≡ old ++ candidate ∷ [] →
       IsCandidateOf bytes.items origin keys candidate → Gathers origin keys answers old first →
       Gathers origin keys (answers ++ File bytes ∷ []) new first
   gathers_added answers bytes old new first candidate added is g =
@@ -151,7 +151,7 @@ module _ (origin : List ℕ) (keys : List Key) where
     none = λ empty. refl;
   }
 
-  pub gathers_new : (candidates : List Candidate) (first : Option FollowFault) → candidates ≡ [] → first ≡ None →
+  pub gathers_new : (candidates : List Candidate) (first : Option CandidateFault) → candidates ≡ [] → first ≡ None →
       Gathers origin keys [] candidates first
   gathers_new candidates first empty none =
       subst (λ l. Gathers origin keys [] l first) (sym empty)

@@ -1,11 +1,12 @@
 -- Runs that bring a copy to one note after the other.
 use Rattle.std.proofs.Common.{◌≡◌, ◌≢◌, ◌⊎◌, ℕ, ◌≤◌, List, [], ◌++◌, length, take, drop, Option, Some, None, refl, sym, ap, subst, ◌∙◌, inl, inr, arith}
-use Rattle.std.proofs.Common.{All, append_assoc, length-append, take-append-drop}
+use Rattle.std.proofs.Common.{◌<◌, get_or, map, All, append_assoc, length-append, take-append-drop}
 use Rattle.std.specs.Prelude.{Contains}
+use Rattle.std.proofs.Math.ListN.{get_or-map}
 use Rattle.std.proofs.Math.Seq.{take-append_seam}
 use Rattle.std.proofs.lemmas.Bool.{cases_lt}
-use Rattle.std.proofs.lemmas.List.{append-nil, append_cancel_left, take-append-le}
-use Rattle.std.proofs.lemmas.List.Elements.{All-append, All-contains, All-weaker, Contains-append_left}
+use Rattle.std.proofs.lemmas.List.{append-nil, append_cancel_left, length-map, take-append-le}
+use Rattle.std.proofs.lemmas.List.Elements.{Contains-get_or, All-append, All-contains, All-weaker, Contains-append_left}
 use Rattle.tlog_tiles.specs.declared.paths.Path.{Path}
 use Rattle.tlog_tiles.specs.declared.paths.Path.TheVariants.{Checkpoint, Tile, Entries}
 use Rattle.tlog_tiles.specs.Tiles.{IsWithin}
@@ -22,6 +23,8 @@ use Rattle.mirror_copy.specs.Moments.{AtEachMoment, IsGrownCopy, KeepsCopy, Puts
 use Rattle.mirror_copy.proofs.Growth.{adds_then}
 use Rattle.mirror_copy.proofs.Prefixes.{within_more}
 use Rattle.mirror_copy.proofs.WholeMoments.{at_kept, whole_same}
+use Rattle.mirror_follow.specs.Gathering.{note_of}
+use Rattle.mirror_follow.specs.declared.candidate.Candidate.{Candidate}
 use Rattle.mirror_follow.specs.Runs.{IsGrownUnder, KeepsCopies, RunsKeepCopies}
 
 -- ---- moments of two calls
@@ -299,3 +302,12 @@ runs_keep_copies = record {
   nothing = λ digest origin notes old new kept. no_run digest origin notes old new kept;
   two = λ digest origin notes old mid new first second. two_runs digest origin notes old new mid first second;
 }
+
+-- the note of a candidate of a list is one of their notes
+pub listed_note : (candidates : List Candidate) (i : ℕ) (candidate : Candidate) → i < length candidates →
+    candidate ≡ get_or candidates i candidate → Contains (map note_of candidates) (note_of candidate)
+listed_note candidates i candidate inside is =
+    let within : i < length (map note_of candidates) = omega (arith, length-map candidates note_of, inside) in
+    subst (λ n. Contains (map note_of candidates) n)
+    (get_or-map note_of candidates i candidate ∙ ap note_of (sym is))
+    (Contains-get_or (map note_of candidates) i (note_of candidate) within)

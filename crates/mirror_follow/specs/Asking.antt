@@ -11,8 +11,8 @@ use Rattle.mirror_follow.specs.Gathering.{AreCandidatesOf, IsFirstReason}
 use Rattle.mirror_follow.specs.declared.candidate.Candidate.{Candidate}
 use Rattle.mirror_follow.specs.declared.answer.PlaceAnswer.{PlaceAnswer}
 use Rattle.mirror_follow.specs.declared.answer.PlaceAnswer.TheVariants.{File, NotFound, Failed}
-use Rattle.mirror_follow.specs.declared.fault.FollowFault.{FollowFault}
-use Rattle.mirror_follow.specs.declared.fault.FollowFault.TheVariants.{NoCheckpoint, Head, Source, OutOfMemory}
+use Rattle.mirror_follow.specs.declared.fault.CandidateFault.{CandidateFault}
+use Rattle.mirror_follow.specs.declared.fault.CandidateFault.TheVariants.{NoCheckpoint, Head, Source, OutOfMemory}
 
 -- the value, or another where there is none
 abbrev pub option_or : {X : Type 0} → Option X → X → X
@@ -51,15 +51,15 @@ module _ {S : Type 0} (may : S → Path → Option (List ℕ) → Type 0) (faile
 
   -- each place was asked, no answer is a note that opens, and the fault is the reason of the first; of no places it is
   -- that there is no checkpoint
-  pub record GivesNone (origin : List ℕ) (keys : List Key) (old new : List S) (fault : FollowFault) : Type 0 where
+  pub record GivesNone (origin : List ℕ) (keys : List Key) (old new : List S) (fault : CandidateFault) : Type 0 where
     pub answers : List PlaceAnswer
     pub are_answers : AreAnswers old new answers (length old)
     pub are_of : AreCandidatesOf origin keys answers []
-    pub reason : (first : Option FollowFault) × IsFirstReason origin keys answers first
+    pub reason : (first : Option CandidateFault) × IsFirstReason origin keys answers first
         × (fault ≡ option_or first NoCheckpoint)
 
   -- what asking places for candidates comes to, by its answer
-  abbrev pub FindsCandidates : List ℕ → List Key → List S → List S → Result (List Candidate) FollowFault → Type 0
+  abbrev pub FindsCandidates : List ℕ → List Key → List S → List S → Result (List Candidate) CandidateFault → Type 0
   FindsCandidates origin keys old new (Ok candidates) = GivesCandidates origin keys old new candidates
   FindsCandidates origin keys old new (Err NoCheckpoint) = GivesNone origin keys old new NoCheckpoint
   FindsCandidates origin keys old new (Err (Head fault)) = GivesNone origin keys old new (Head fault)

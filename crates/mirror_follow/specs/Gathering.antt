@@ -9,8 +9,8 @@ use Rattle.mirror_follow.specs.Candidates.{IsCandidateOf}
 use Rattle.mirror_follow.specs.declared.candidate.Candidate.{Candidate}
 use Rattle.mirror_follow.specs.declared.answer.PlaceAnswer.{PlaceAnswer}
 use Rattle.mirror_follow.specs.declared.answer.PlaceAnswer.TheVariants.{File, NotFound, Failed}
-use Rattle.mirror_follow.specs.declared.fault.FollowFault.{FollowFault}
-use Rattle.mirror_follow.specs.declared.fault.FollowFault.TheVariants as follow
+use Rattle.mirror_follow.specs.declared.fault.CandidateFault.{CandidateFault}
+use Rattle.mirror_follow.specs.declared.fault.CandidateFault.TheVariants as follow
 
 -- an answer is that note
 abbrev pub IsNote : List ℕ → PlaceAnswer → Type 0
@@ -25,7 +25,7 @@ pub record Gave (answers : List PlaceAnswer) (note : List ℕ) : Type 0 where
   pub is_note : IsNote note answer
 
 -- the reason that is kept, after one more
-abbrev pub or_first : Option FollowFault → FollowFault → Option FollowFault
+abbrev pub or_first : Option CandidateFault → CandidateFault → Option CandidateFault
 or_first None fault = Some fault
 or_first (Some first) fault = Some first
 
@@ -35,14 +35,14 @@ note_of candidate = candidate.note.items
 
 module _ (origin : List ℕ) (keys : List Key) where
   -- why an answer gives no candidate
-  abbrev pub IsReason : PlaceAnswer → FollowFault → Type 0
+  abbrev pub IsReason : PlaceAnswer → CandidateFault → Type 0
   IsReason (File bytes) fault =
       (head : TakeFault) × (head ≢ OutOfMemory) × (fault ≡ follow.Head head) × ReadsHead bytes.items origin keys (Err head)
   IsReason NotFound fault = fault ≡ follow.NoCheckpoint
   IsReason Failed fault = fault ≡ follow.Source
 
   -- the reason of the first answer
-  abbrev pub IsFirstReason : List PlaceAnswer → Option FollowFault → Type 0
+  abbrev pub IsFirstReason : List PlaceAnswer → Option CandidateFault → Type 0
   IsFirstReason [] fault = fault ≡ None
   IsFirstReason (answer ∷ answers) None = ⊥
   IsFirstReason (answer ∷ answers) (Some fault) = IsReason answer fault
@@ -59,7 +59,7 @@ module _ (origin : List ℕ) (keys : List Key) where
         IsOpenHead note origin keys size root → Contains (map note_of candidates) note
 
   -- so far: the candidates of the answers, and where there are none, why the first answer gives none
-  pub record Gathers (answers : List PlaceAnswer) (candidates : List Candidate) (first : Option FollowFault)
+  pub record Gathers (answers : List PlaceAnswer) (candidates : List Candidate) (first : Option CandidateFault)
       : Type 0 where
     pub are_of : AreCandidatesOf answers candidates
     pub none : candidates ≡ [] → IsFirstReason answers first

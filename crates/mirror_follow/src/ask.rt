@@ -9,7 +9,7 @@ ghost use Rattle.mirror_follow.specs.declared.answer.PlaceAnswer.{PlaceAnswer};
 
 use crate::answer::PlaceAnswer;
 use crate::candidate::Candidate;
-use crate::fault::FollowFault;
+use crate::fault::CandidateFault;
 use crate::gather::Gathered;
 use mirror_sources::{Source, SourceFault};
 use signed_note::Verifier;
@@ -49,19 +49,19 @@ fn ask_each<S: Source>(
 }
 
 // The candidates that were gathered, in the order of turns; or why the first place gave none.
-fn in_turn(gathered: Gathered) -> Result<Vec<Candidate>, FollowFault>
+fn in_turn(gathered: Gathered) -> Result<Vec<Candidate>, CandidateFault>
     ensures same { IfOk result (λ c. IsPermutation gathered.candidates.items c.items) }
     ensures some { IfOk result (λ c. gathered.candidates.items ≢ []) }
     ensures rising { IfOk result (λ c. IsSorted turn_cmp c.items) }
     ensures none { IfErr result (λ f. gathered.candidates.items ≡ []) }
-    ensures fault { IfErr result (λ f. f ≡ option_or gathered.first FollowFault.NoCheckpoint) }
+    ensures fault { IfErr result (λ f. f ≡ option_or gathered.first CandidateFault.NoCheckpoint) }
 {
     let Gathered {
         mut candidates,
         first,
     } = gathered;
     if candidates.is_empty() {
-        return Err(first.unwrap_or(FollowFault::NoCheckpoint));
+        return Err(first.unwrap_or(CandidateFault::NoCheckpoint));
     }
     candidates.sort_unstable();
     Ok(candidates)
@@ -84,7 +84,7 @@ pub fn ask_candidates<S: Source>(
     origin: &str,
     keys: &[Box<dyn Verifier>],
     places: &mut [S],
-) -> Result<Vec<Candidate>, FollowFault>
+) -> Result<Vec<Candidate>, CandidateFault>
     ensures { FindsCandidates S.may_answer S.failed S.asked origin.now (map (λ k. key k) keys.now)
         places.old places.new (seen (λ v. v.items) result) }
 {

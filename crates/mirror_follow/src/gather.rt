@@ -5,18 +5,18 @@ ghost use Rattle.mirror_follow.specs.declared.answer.PlaceAnswer.{PlaceAnswer};
 
 use crate::answer::PlaceAnswer;
 use crate::candidate::{Candidate, candidate_of};
-use crate::fault::FollowFault;
+use crate::fault::CandidateFault;
 use mirror_model::TakeFault;
 use signed_note::Verifier;
 use std::alloc::{AllocError, Global};
 
 // The reason that a note is no candidate.
-fn refused(fault: TakeFault) -> Result<FollowFault, AllocError>
-    ensures { IfOk result (λ f. (f ≡ FollowFault.Head fault) × (fault ≢ TakeFault.OutOfMemory)) }
+fn refused(fault: TakeFault) -> Result<CandidateFault, AllocError>
+    ensures { IfOk result (λ f. (f ≡ CandidateFault.Head fault) × (fault ≢ TakeFault.OutOfMemory)) }
 {
     match fault {
         TakeFault::OutOfMemory => Err(AllocError),
-        _ => Ok(FollowFault::Head(fault)),
+        _ => Ok(CandidateFault::Head(fault)),
     }
 }
 
@@ -24,7 +24,7 @@ fn refused(fault: TakeFault) -> Result<FollowFault, AllocError>
 #[derive(Drop)]
 pub(crate) struct Gathered {
     pub(crate) candidates: Vec<Candidate>,
-    pub(crate) first: Option<FollowFault>,
+    pub(crate) first: Option<CandidateFault>,
 }
 
 impl Gathered {
@@ -40,7 +40,7 @@ impl Gathered {
     }
 
     // Passes over an answer that gives no candidate, for that reason.
-    fn pass_over(&mut self, fault: FollowFault)
+    fn pass_over(&mut self, fault: CandidateFault)
         ensures candidates { self.new.candidates.items ≡ self.old.candidates.items }
         ensures first { self.new.first ≡ or_first self.old.first fault }
     {
@@ -88,8 +88,8 @@ impl Gathered {
     {
         match answer {
             PlaceAnswer::File(note) => self.take_note(alloc, origin, keys, note)?,
-            PlaceAnswer::NotFound => self.pass_over(FollowFault::NoCheckpoint),
-            PlaceAnswer::Failed => self.pass_over(FollowFault::Source),
+            PlaceAnswer::NotFound => self.pass_over(CandidateFault::NoCheckpoint),
+            PlaceAnswer::Failed => self.pass_over(CandidateFault::Source),
         }
         Ok(())
     }

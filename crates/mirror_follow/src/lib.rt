@@ -8,8 +8,10 @@ mod fault;
 mod gather;
 mod head;
 mod laws;
+mod turns;
 
 pub use ask::ask_candidates;
 pub use candidate::Candidate;
-pub use fault::FollowFault;
+pub use fault::{CandidateFault, TurnFault};
 pub use laws::{fork_line_law, run_law};
+pub use turns::{Turn, take_turns};
