@@ -1,5 +1,5 @@
 -- The entries of a tree that is held whole, from all its leaf hashes.
-use Rattle.std.proofs.Common.{◌≡◌, ℕ, ◌*◌, ◌+◌, ◌/◌, ◌^◌, ◌<◌, ◌≤◌, List, [], ◌∷◌, length, map, take, ap, ◌∙◌, subst, arith}
+use Rattle.std.proofs.Common.{◌≡◌, ℕ, ◌*◌, ◌+◌, ◌^◌, ◌<◌, ◌≤◌, List, [], ◌∷◌, length, map, ap, ◌∙◌, subst, arith}
 use Rattle.std.proofs.Common.{All, Option, Some, None}
 use Rattle.std.specs.Prelude.{IsSomeAnd, IfNone}
 use Rattle.std.specs.List.{AllByRecursion}

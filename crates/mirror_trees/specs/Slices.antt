@@ -1,6 +1,6 @@
 -- The slices of a tree that is held, and sets of sizes and hashes that have them all. `Gains` is
 -- cited by the contracts of private functions alone.
-use Rattle.std.specs.Prelude.{◌≡◌, ◌⊎◌, ◌↔◌, ℕ, List, IsTrue}
+use Rattle.std.specs.Prelude.{◌≡◌, ◌⊎◌, ◌↔◌, ℕ, List}
 use Rattle.tlog_hash.specs.Tree.{tree_of, mth}
 use Rattle.tlog_hash.specs.Nodes.{Node, IsNode}
 use Rattle.tlog_hash.specs.Rows.{part}

@@ -17,6 +17,7 @@
 mod building;
 mod built;
 mod bundle;
+mod counting;
 mod edge;
 mod files;
 mod known;

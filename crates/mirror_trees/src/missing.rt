@@ -10,6 +10,7 @@ ghost use Rattle.mirror_model.specs.Complete.{IsBuilt};
 ghost use Rattle.mirror_trees.specs.Known.{AreBuilt, AreKnown};
 ghost use Rattle.mirror_trees.specs.Lost.{IsLost};
 
+use crate::counting::{Counts, count_lost};
 use crate::known::{Known, is_noted, note_built};
 use crate::marks::Marks;
 use crate::rows::unit_of;
@@ -27,9 +28,13 @@ use tlog_tiles::Path;
 /// fails there; at one entry it fails where no entry of the hash is held. It does not go into what is known, each of which
 /// is to be held, nor again into a tree of many entries that it found held whole.
 ///
+/// A tree of equal entries may stand at so many places that no memory has all paths. They are counted first, and the
+/// memory of the list is asked for at once.
+///
 /// # Errors
 ///
-/// `AllocError` comes only where a growth was refused.
+/// `AllocError` comes only where a growth was refused. Where the list is too long for the memory it comes before a path is
+/// made.
 pub fn missing_of<H: TreeHash>(
     alloc: Global,
     store: &Store<H>,
@@ -61,11 +66,13 @@ fn all_lost<H: TreeHash>(
     ensures { IfOk result (λ paths. (path : AnyPath) → Contains paths.items path
         ↔ IsMissing H.digest store.now size root.now path) }
 {
-    let mut paths = Vec::new(alloc);
     if size == 0 {
-        return Ok(paths);
+        return Ok(Vec::new(alloc));
     }
     let mut found = Marks::new(alloc);
+    let mut counts = Counts::new(alloc);
+    let count = count_lost(store, known, &mut found, &mut counts, size, root)?;
+    let mut paths = Vec::with_capacity(alloc, count as usize)?;
     push_lost(store, known, &mut found, size, 0, size, root, &mut paths)?;
     Ok(paths)
 }

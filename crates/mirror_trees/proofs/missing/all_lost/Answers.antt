@@ -11,7 +11,7 @@ none_in paths path is h = let len = ap length is in omega (arith, len, h.1)
 
 pub returns-then-size-eq0 : goal.returns-then-size-eq0
 returns-then-size-eq0 g c = λ path. (
-  λ h. absurd (none_in c.new-paths.result.items path c.new-paths.ensures.items h),
+  λ h. absurd (none_in c.new.result.items path c.new.ensures.items h),
   λ m. absurd
       (nothing_missing g.H.TreeHash.digest c.args.store.now c.args.root.now path
       (subst (λ n. IsMissing g.H.TreeHash.digest c.args.store.now n c.args.root.now path) c.if-size-eq0.true m)),
@@ -24,12 +24,12 @@ returns g c = λ path.
       λ h. elim
           (added.0 h) [
             | inl a ↦ absurd
-                (none_in c.new-paths.result.items path c.new-paths.ensures.items a)
+                (none_in c.in_ok-paths.paths.items path c.in_ok-paths.ensures.items a)
             | inr m ↦ same.0 m
           ],
       λ m. added.1 (inr (same.1 m)),
     )
 
-pub push_lost-requires-clause-found : goal.push_lost-requires-clause-found
-push_lost-requires-clause-found g c =
+pub count_lost-requires-clause-found : goal.count_lost-requires-clause-found
+count_lost-requires-clause-found g c =
     empty_known g.H.TreeHash.digest c.args.store.now c.new-found.result c.new-found.ensures

@@ -1,4 +1,4 @@
-use Rattle.std.proofs.Common.{ap, ◌∙◌}
+use Rattle.std.proofs.Common.{◌∙◌}
 use Rattle.std.specs.FinSet as set
 use Rattle.mirror_trees.proofs.Marking.{add_point}
 use Rattle.mirror_trees.specs.Marked.{point_of}
