@@ -47,10 +47,18 @@ fn takes_and_tells<H: TreeHash>(
 fn tells_fork<H: TreeHash>(rt: &impl Abort, alloc: Global, mirror: &Mirror<H>) -> Result<(), Fail> {
     assert!(rt; forks_at_last(alloc, mirror)?.len() == 1);
     assert!(rt; mirror.forks_text(alloc)?.as_str() == FORK);
+    assert!(rt; writes_fork(alloc, mirror)?);
     let heads = mirror.heads(alloc)?;
     assert!(rt; heads.len() == 2);
     assert!(rt; heads[0].complete && heads[1].complete);
     Ok(())
+}
+
+// Whether the line of that fork is written.
+fn writes_fork<H: TreeHash>(alloc: Global, mirror: &Mirror<H>) -> Result<bool, Fail> {
+    let mut written = Vec::new(alloc);
+    let forked = mirror.write_forks(alloc, &mut written)?;
+    Ok(forked && written.as_slice() == FORK.as_bytes())
 }
 
 // The forks. Where memory is refused, as by `rt try --test --fail-alloc N`, they are told once there is some.

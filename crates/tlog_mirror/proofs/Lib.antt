@@ -16,7 +16,10 @@ pub mod ServedParts
 pub mod HeadLists
 pub mod SettledHeads
 pub mod BranchSteps
-pub mod Departures
+pub mod AllForks
+pub mod CalmHeads
+pub mod SentPieces
+pub mod ForkSteps
 pub mod FoundForks
 pub mod RestoredMirrors
 pub mod ComparedHeads

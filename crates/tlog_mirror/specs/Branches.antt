@@ -1,38 +1,23 @@
--- How forks are found: complete heads by rising size and root, and what is kept of each of those
--- before it. The contracts of private functions alone cite these words.
-use Rattle.std.specs.Prelude.{◌≡◌, ◌↔◌, ℕ, ◌<◌, List, length, map, take, slice_index_or}
+-- How forks are found: heads by rising size and root, and what is kept of each of those before it.
+-- The contracts of private functions alone cite these words.
+use Rattle.std.specs.Prelude.{◌≡◌, ◌≢◌, ◌⊎◌, ℕ, suc, ◌-◌, ◌<◌, ◌≤◌, List, [], ◌∷◌, ◌++◌, length, take}
+use Rattle.std.specs.Prelude.{slice_index_or, slice_set, Bool, true, false, not, cond, ◌&&◌}
+use Rattle.std.specs.Prelude.{◌||◌, nat_eq, nat_lt, codes, string_bytes, IsTrue, ◌↔◌}
 use Rattle.std.specs.declared.cmp.Ordering.TheVariants.{Less}
 use Rattle.std.specs.List.{Contains}
 use Rattle.node_store.specs.Strings.{Strings}
 use Rattle.mirror_model.specs.Complete.{IsTreeOf, IsBuilt}
 use Rattle.mirror_model.specs.Forks.{IsPrefix}
+use Rattle.mirror_model.specs.Texts.{point_text}
 use Rattle.mirror_model.specs.declared.reports.Fork.{Fork}
-use Rattle.mirror_model.specs.declared.reports.Head.{Head}
 use Rattle.tlog_mirror.specs.Best.{by_point}
-use Rattle.tlog_mirror.specs.declared.forks.Branch.{Branch}
-
--- the size and root of a head, as a pair
-abbrev pub head_pair : Head → ℕ × List ℕ
-head_pair head = (head.size, head.root)
-
--- the forks of one head: it, as the larger, with each head from which it departs
-abbrev pub told_of : Branch → List Fork
-told_of branch = map (λ p. record { small = p; large = branch.head }) branch.apart.items
+use Rattle.tlog_mirror.specs.declared.branches.Branch.{Branch}
 
 -- the fork is of two of the heads, the lesser one first
 pub record IsPairOf (heads : List (ℕ × List ℕ)) (fork : Fork) : Type 0 where
   pub small : Contains heads fork.small
   pub large : Contains heads fork.large
   pub order : by_point fork.small fork.large ≡ Less
-
--- the fork is of two of the heads that have one size
-abbrev pub IsTwin : List (ℕ × List ℕ) → Fork → Type 0
-IsTwin heads fork = IsPairOf heads fork × (fork.small.0 ≡ fork.large.0)
-
--- the fork is of the head and one of those before it that has its size
-abbrev pub IsTwinOf : List (ℕ × List ℕ) → ℕ × List ℕ → Fork → Type 0
-IsTwinOf before head fork =
-    (Contains before fork.small × (fork.large ≡ head)) × (fork.small.0 ≡ head.0)
 
 module _ (digest : List ℕ → List ℕ) (held : Strings) where
   -- both trees are held, and the entries of the first do not begin those of the second
@@ -43,20 +28,103 @@ module _ (digest : List ℕ → List ℕ) (held : Strings) where
     pub second_tree : IsTreeOf digest held b.0 b.1 second
     pub not_prefix : ¬ IsPrefix first second
 
-  -- the fork is of two of the heads of which the second departs from the first
-  abbrev pub IsDeparture : List (ℕ × List ℕ) → Fork → Type 0
-  IsDeparture heads fork = IsPairOf heads fork × Departs fork.small fork.large
+  -- the entries of the first tree begin those of the second, where both are held
+  abbrev pub Precedes : ℕ × List ℕ → ℕ × List ℕ → Type 0
+  Precedes a b =
+      (first second : List (List ℕ)) → IsTreeOf digest held a.0 a.1 first →
+      IsTreeOf digest held b.0 b.1 second → IsPrefix first second
 
-  -- what is kept of a head on the way: its tree is held, it comes after the heads before it, and of
-  -- these just those are listed from which it departs
-  pub record IsBranch (before : List (ℕ × List ℕ)) (branch : Branch) : Type 0 where
-    pub built : IsBuilt digest held branch.head.0 branch.head.1
-    pub later : (p : ℕ × List ℕ) → Contains before p → by_point p branch.head ≡ Less
-    pub exact : (p : ℕ × List ℕ) →
-        Contains branch.apart.items p ↔ (Contains before p × Departs p branch.head)
+  -- of two heads that one log cannot both have: they have one size, or the second departs from the
+  -- first
+  abbrev pub Conflicts : ℕ × List ℕ → ℕ × List ℕ → Type 0
+  Conflicts a b = (a.0 ≡ b.0) ⊎ Departs a b
+
+  -- the fork is of two of the heads that conflict
+  abbrev pub IsForkOf : List (ℕ × List ℕ) → Fork → Type 0
+  IsForkOf heads fork = IsPairOf heads fork × Conflicts fork.small fork.large
+
+  -- what is kept of a head, after those before it: whether its tree is held; and if so, `after` is
+  -- one more than the place of the last of those whose tree is held and whose entries begin its own,
+  -- or 0 where there is none
+  pub record IsBranch (before : List Branch) (branch : Branch) : Type 0 where
+    pub whole : IsTrue branch.whole ↔ IsBuilt digest held branch.head.0 branch.head.1
+    pub fits : branch.after ≤ length before
+    pub last : (one : Branch) → branch.whole ≡ true → 0 < branch.after →
+        slice_index_or before (branch.after - 1) one ≡ one →
+        (one.whole ≡ true) × Precedes one.head branch.head
+    pub none : (k : ℕ) (one : Branch) → branch.whole ≡ true → branch.after ≤ k → k < length before →
+        slice_index_or before k one ≡ one → one.whole ≡ true → Departs one.head branch.head
 
   -- each branch of the list is one after those before it
   abbrev pub AreBranches : List Branch → Type 0
   AreBranches branches =
       (k : ℕ) (one : Branch) → k < length branches → slice_index_or branches k one ≡ one →
-      IsBranch (map (λ b. b.head) (take k branches)) one
+      IsBranch (take k branches) one
+
+-- the pieces of a line that tell a branch, as the smaller head of a fork and as the larger one
+pub record IsSpelled (branch : Branch) : Type 0 where
+  pub small : string_bytes branch.as_small
+      ≡ codes "fork " ++ point_text branch.head.0 branch.head.1 ++ 32 ∷ []
+  pub large : string_bytes branch.as_large ≡ point_text branch.head.0 branch.head.1 ++ 10 ∷ []
+
+-- whether the head at a place begins the one of which `after` is kept, by the marks of the heads
+-- between: each says whether the head at that place begins its own
+abbrev pub under_of : ℕ → List Bool → ℕ → Bool
+under_of at marks after = nat_lt at after && slice_index_or marks (after - 1) false
+
+-- whether two heads conflict, the first of which begins the second or does not
+abbrev pub apart_of : Branch → Branch → Bool → Bool
+apart_of a b under = nat_eq a.head.0 b.head.0 || (a.whole && (b.whole && not under))
+
+-- the fork of the two, if they conflict
+abbrev pub fork_of : Branch → Branch → Bool → List Fork
+fork_of a b under =
+    cond (apart_of a b under) (record { small = a.head; large = b.head } ∷ []) []
+
+-- the marks, once those of the branches of the list are set, of which the first is at the place next
+abbrev pub marked : ℕ → List Bool → ℕ → List Branch → List Bool
+marked at marks next [] = marks
+marked at marks next (b ∷ rest) =
+    marked at (slice_set marks next (under_of at marks b.after)) (suc next) rest
+
+-- the forks of the branch with those of the list, the first of which is at the place next
+abbrev pub forks_with : ℕ → Branch → List Bool → ℕ → List Branch → List Fork
+forks_with at a marks next [] = []
+forks_with at a marks next (b ∷ rest) =
+    fork_of a b (under_of at marks b.after)
+    ++ forks_with at a (slice_set marks next (under_of at marks b.after)) (suc next) rest
+
+-- the forks of the first branch of the list, which is at that place, with those behind it: none where
+-- it is calm
+abbrev pub forks_from : Bool → ℕ → List Bool → List Branch → List Fork
+forks_from true at marks rest = []
+forks_from false at marks [] = []
+forks_from false at marks (a ∷ rest) = forks_with at a (slice_set marks at true) (suc at) rest
+
+-- the marks after that
+abbrev pub marks_from : Bool → ℕ → List Bool → List Branch → List Bool
+marks_from true at marks rest = marks
+marks_from false at marks [] = marks
+marks_from false at marks (a ∷ rest) = marked at (slice_set marks at true) (suc at) rest
+
+-- the forks of the branches of the list, the first of which is at that place
+abbrev pub all_forks : List Bool → ℕ → List Bool → List Branch → List Fork
+all_forks calm at marks [] = []
+all_forks calm at marks (a ∷ rest) =
+    let quiet = slice_index_or calm at false in
+    forks_from quiet at marks (a ∷ rest)
+    ++ all_forks calm (suc at) (marks_from quiet at marks (a ∷ rest)) rest
+
+-- two branches have other sizes, and where the tree of the second is held, the last that begins it
+-- is at that place or behind it
+pub record AreCalmTwo (at : ℕ) (a b : Branch) : Type 0 where
+  pub sizes : a.head.0 ≢ b.head.0
+  pub begun : IsTrue b.whole → at < b.after
+
+-- each branch that is told as calm begins all those behind it whose trees are held, and none has its
+-- size
+abbrev pub AreCalm : List Branch → List Bool → Type 0
+AreCalm branches calm =
+    (at k : ℕ) (a b : Branch) → IsTrue (slice_index_or calm at false) → at < k →
+    k < length branches → slice_index_or branches at a ≡ a → slice_index_or branches k b ≡ b →
+    AreCalmTwo at a b

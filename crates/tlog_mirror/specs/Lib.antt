@@ -10,3 +10,5 @@ pub mod Settled
 pub mod Restored
 pub mod Plays
 pub mod Compared
+pub mod Pieces
+pub mod ForksWritten

@@ -1,32 +1,23 @@
 //! Forks: heads that one log, which only grows, cannot both have made.
-ghost use Rattle.std.specs.Prelude.{◌≡◌, ◌↔◌, ◌⊎◌, ◌++◌, ◌∷◌, [], ℕ, List, map, All, IfOk, OnOk};
-ghost use Rattle.std.specs.declared.cmp.Ordering.TheVariants.{Less as IsLess};
-ghost use Rattle.std.specs.List.{Contains, filter, flat_map};
-ghost use Rattle.std.specs.List.Sorted.{IsStrictlySortedBy};
-ghost use Rattle.node_store.specs.Strings.{NoClash};
-ghost use Rattle.mirror_model.specs.Complete.{IsBuilt};
-ghost use Rattle.mirror_model.specs.Listed.{pair_cmp};
-ghost use Rattle.mirror_model.specs.Reports.{ReportsForks, fork_pair};
-ghost use Rattle.mirror_model.specs.declared.reports.Fork.{Fork as AnyFork};
-ghost use Rattle.mirror_trees.specs.Known.{AreKnown};
-ghost use Rattle.tlog_mirror.specs.Best.{by_point};
-ghost use Rattle.tlog_mirror.specs.Branches.{AreBranches, IsBranch, IsDeparture, IsTwin, IsTwinOf, head_pair, told_of};
+ghost use Rattle.std.specs.Prelude.{◌≡◌, ◌≢◌, ◌≤◌, ◌<◌, ◌+◌, ◌++◌, ◌⊎◌, [], drop, length, All, IfErr, IfOk, IsTrue, ◌↔◌, OnErr, OnOk};
+ghost use Rattle.std.specs.Io.KnownBytes.{Appends};
+ghost use Rattle.byte_streams.specs.Streams.{AppendsPrefix};
+ghost use Rattle.mirror_model.specs.Reports.{ReportsForks};
+ghost use Rattle.mirror_model.specs.Texts.{fork_line, forks_text};
+ghost use Rattle.tlog_mirror.specs.Branches.{IsSpelled, all_forks, apart_of, fork_of, forks_from, marks_from, under_of};
+ghost use Rattle.tlog_mirror.specs.ForksWritten.{WritesForks};
+ghost use Rattle.tlog_mirror.specs.Pieces.{Sends};
 
-use crate::heads::{flag_heads, points_of};
+use crate::branches::{Branch, branches_of};
+use crate::calm::calm_of;
+use crate::heads::points_of;
 use crate::mirror::Mirror;
-use mirror_model::{Fork, Head};
-use mirror_trees::{Known, is_prefix};
-use node_store::Store;
+use crate::pieces::send;
+use byte_streams::{StreamFault, write_whole};
+use mirror_model::Fork;
 use std::alloc::{AllocError, Global};
-use std::cmp::Ordering;
-use tlog_hash::{Hash, TreeHash};
-
-// A complete head, with the complete heads before it whose entries do not begin its own.
-#[derive(Drop)]
-struct Branch {
-    head: (u64, Hash),
-    apart: Vec<(u64, Hash)>,
-}
+use std::io::Write;
+use tlog_hash::TreeHash;
 
 impl<H: TreeHash> Mirror<H> {
     /// The forks: each two heads that one log, which only grows, cannot both have made, once, by the smaller head
@@ -42,184 +33,241 @@ impl<H: TreeHash> Mirror<H> {
         ensures { IfOk result (λ forks. ReportsForks H.digest self.now.view forks.items) }
     {
         let points = points_of(alloc, self.kept.as_slice())?;
-        let whole = whole_of(alloc, &self.strings, &self.known, points.as_slice())?;
-        forks_of(alloc, &self.strings, points.as_slice(), whole.as_slice())
+        let branches = branches_of(alloc, &self.strings, &self.known, points.as_slice())?;
+        let mut marks = vec![in alloc; false; branches.len()]?;
+        let calm = calm_of(alloc, branches.as_slice())?;
+        list_forks(
+            alloc,
+            calm.as_slice(),
+            marks.as_mut_slice(),
+            branches.as_slice(),
+        )
+    }
+
+    /// Writes the forks, a line each, the smaller head first: `fork SIZE ROOT SIZE ROOT`, in the order of `forks`. Where
+    /// there is none it writes nothing. Whether there is one.
+    ///
+    /// The lines are written as they are made: memory is asked for by head and not by fork, and before the first byte is
+    /// written. It does not flush.
+    ///
+    /// ```text
+    /// let forked = mirror.write_forks(alloc, &mut output)?;
+    /// ```
+    ///
+    /// # Errors
+    ///
+    /// `OutOfMemory` where memory was refused; then nothing was written. `WriteFault` where a write failed or took no
+    /// byte; then a prefix of the lines was written. There is no other.
+    pub fn write_forks<W: Write>(&self, alloc: Global, output: &mut W) -> Result<bool, StreamFault>
+        ensures { WritesForks H.digest self.now.view (W.contents output.old) (W.contents output.new)
+            result }
+    {
+        let points = points_of(alloc, self.kept.as_slice())?;
+        let branches = branches_of(alloc, &self.strings, &self.known, points.as_slice())?;
+        let mut marks = vec![in alloc; false; branches.len()]?;
+        let calm = calm_of(alloc, branches.as_slice())?;
+        write_all(
+            alloc,
+            output,
+            calm.as_slice(),
+            marks.as_mut_slice(),
+            branches.as_slice(),
+        )
     }
 }
 
-// The heads of the list whose trees are held.
-fn whole_of<H: TreeHash>(
-    alloc: Global,
-    store: &Store<H>,
-    known: &Known,
-    points: &[(u64, Hash)],
-) -> Result<Vec<(u64, Hash)>, AllocError>
-    requires known { AreKnown H.digest store.now known.now }
-    requires sorted { IsStrictlySortedBy by_point points.now }
-    ensures sorted { IfOk result (λ whole. IsStrictlySortedBy by_point whole.items) }
-    ensures exact { IfOk result (λ whole. (p : ℕ × List ℕ) → Contains whole.items p
-        ↔ (Contains points.now p × IsBuilt H.digest store.now p.0 p.1)) }
+// Whether the head at a place begins the one of which `after` is kept.
+fn is_under(marks: &[bool], at: usize, after: usize) -> bool
+    requires { after ≤ length marks.now }
+    ensures { result ≡ under_of at marks.now after }
 {
-    let heads = flag_heads(alloc, store, known, points)?;
-    complete_of(alloc, heads.as_slice())
+    at < after && marks[after - 1]
 }
 
-// The sizes and roots of those heads that are complete.
-fn complete_of(alloc: Global, heads: &[Head]) -> Result<Vec<(u64, Hash)>, AllocError>
-    ensures { IfOk result (λ points. points.items
-        ≡ map head_pair (filter (λ head. head.complete) heads.now)) }
+// Whether two heads conflict, the first of which begins the second or does not.
+fn is_apart(a: &Branch, b: &Branch, under: bool) -> bool
+    ensures { result ≡ apart_of a.now b.now under }
 {
-    heads
-        .iter()
-        .filter(|head| head.complete)
-        .map(|head| (head.size, head.root))
-        .collect(alloc)
+    a.head.0 == b.head.0 || (a.whole && b.whole && !under)
 }
 
-// The forks of these heads: two of one size, and two of those whose trees are held of which the larger departs from
-// the smaller.
-fn forks_of<H: TreeHash>(
+// The forks of the heads. There is a mark for each head, whatever it is before.
+fn list_forks(
     alloc: Global,
-    store: &Store<H>,
-    points: &[(u64, Hash)],
-    whole: &[(u64, Hash)],
+    calm: &[bool],
+    marks: &mut [bool],
+    branches: &[Branch],
 ) -> Result<Vec<Fork>, AllocError>
-    requires clean { NoClash H.digest store.now }
-    requires sorted { IsStrictlySortedBy by_point points.now }
-    requires rising { IsStrictlySortedBy by_point whole.now }
-    requires built { All (λ p. IsBuilt H.digest store.now p.0 p.1) whole.now }
-    ensures sorted { IfOk result (λ forks. IsStrictlySortedBy pair_cmp
-        (map fork_pair forks.items)) }
-    ensures exact { IfOk result (λ forks. (fork : AnyFork) → Contains forks.items fork
-        ↔ (IsTwin points.now fork ⊎ IsDeparture H.digest store.now whole.now fork)) }
+    requires calm { length calm.now ≡ length branches.now }
+    requires marks { length marks.old ≡ length branches.now }
+    requires fits { All (λ b. b.after ≤ length branches.now) branches.now }
+    ensures { IfOk result (λ forks. forks.items ≡ all_forks calm.now 0 marks.old branches.now) }
 {
     let mut forks = Vec::new(alloc);
-    push_twins(&mut forks, points)?;
-    let branches = branches_of(alloc, store, whole)?;
-    push_departures(&mut forks, branches.as_slice())?;
-    put_in_order(&mut forks);
+    for at in 0..branches.len() {
+        push_forks(&mut forks, calm[at], marks, branches, at)?;
+    }
     Ok(forks)
 }
 
-// Adds each two heads that have one size.
-fn push_twins(forks: &mut Vec<Fork>, points: &[(u64, Hash)]) -> Result<(), AllocError>
-    requires { IsStrictlySortedBy by_point points.now }
-    ensures { OnOk result ((fork : AnyFork) → Contains forks.new.items fork
-        ↔ (Contains forks.old.items fork ⊎ IsTwin points.now fork)) }
-{
-    for at in 0..points.len() {
-        push_twins_of(forks, &points[..at], points[at])?;
-    }
-    Ok(())
-}
-
-// Adds a head with each of those before it that has its size: these are the last ones.
-fn push_twins_of(
+// Adds the forks of one head as the smaller one: of one that is calm there are none.
+fn push_forks(
     forks: &mut Vec<Fork>,
-    before: &[(u64, Hash)],
-    head: (u64, Hash),
+    calm: bool,
+    marks: &mut [bool],
+    branches: &[Branch],
+    at: usize,
 ) -> Result<(), AllocError>
-    requires { IsStrictlySortedBy by_point (before.now ++ head ∷ []) }
-    ensures { OnOk result ((fork : AnyFork) → Contains forks.new.items fork
-        ↔ (Contains forks.old.items fork ⊎ IsTwinOf before.now head fork)) }
+    requires within { at < length branches.now }
+    requires marks { length marks.old ≡ length branches.now }
+    requires fits { All (λ b. b.after ≤ length branches.now) branches.now }
+    ensures forks { OnOk result (forks.new.items ≡ forks.old.items
+        ++ forks_from calm at marks.old (drop at branches.now)) }
+    ensures marks { OnOk result (marks.new ≡ marks_from calm at marks.old (drop at branches.now)) }
 {
-    for at in (0..before.len()).rev() {
-        let small = before[at];
-        if small.0 != head.0 {
-            return Ok(());
-        }
-        forks.push(Fork { small, large: head })?;
+    if calm {
+        return Ok(());
+    }
+    let small = &branches[at];
+    marks[at] = true;
+    for next in at + 1..branches.len() {
+        let large = &branches[next];
+        let under = is_under(marks, at, large.after);
+        marks[next] = under;
+        push_fork(forks, small, large, under)?;
     }
     Ok(())
 }
 
-// Of heads whose trees are held, by rising size and root, each with those before it from which it departs.
-fn branches_of<H: TreeHash>(
+// Adds the fork of two heads, if they conflict.
+fn push_fork(
+    forks: &mut Vec<Fork>,
+    small: &Branch,
+    large: &Branch,
+    under: bool,
+) -> Result<(), AllocError>
+    ensures { OnOk result (forks.new.items ≡ forks.old.items
+        ++ fork_of small.now large.now under) }
+{
+    if !is_apart(small, large, under) {
+        return Ok(());
+    }
+    forks.push(Fork {
+        small: small.head,
+        large: large.head,
+    })?;
+    Ok(())
+}
+
+// Writes the forks of the heads. Whether there is one. There is a mark for each head, whatever it is before.
+fn write_all<W: Write>(
     alloc: Global,
-    store: &Store<H>,
-    heads: &[(u64, Hash)],
-) -> Result<Vec<Branch>, AllocError>
-    requires clean { NoClash H.digest store.now }
-    requires rising { IsStrictlySortedBy by_point heads.now }
-    requires built { All (λ p. IsBuilt H.digest store.now p.0 p.1) heads.now }
-    ensures heads { IfOk result (λ branches. map (λ b. b.head) branches.items ≡ heads.now) }
-    ensures each { IfOk result (λ branches. AreBranches H.digest store.now branches.items) }
+    output: &mut W,
+    calm: &[bool],
+    marks: &mut [bool],
+    branches: &[Branch],
+) -> Result<bool, StreamFault>
+    requires calm { length calm.now ≡ length branches.now }
+    requires marks { length marks.old ≡ length branches.now }
+    requires fits { All (λ b. b.after ≤ length branches.now) branches.now }
+    requires spelled { All IsSpelled branches.now }
+    ensures ok { OnOk result (Appends (W.contents output.old) (W.contents output.new)
+        (forks_text (all_forks calm.now 0 marks.old branches.now))) }
+    ensures err { OnErr result (AppendsPrefix (W.contents output.old) (W.contents output.new)
+        (forks_text (all_forks calm.now 0 marks.old branches.now))) }
+    ensures any { IfOk result (λ any. IsTrue any
+        ↔ (all_forks calm.now 0 marks.old branches.now ≢ [])) }
+    ensures fault { IfErr result (λ e. e ≡ StreamFault.WriteFault) }
 {
-    let mut branches: Vec<Branch> = Vec::with_capacity(alloc, heads.len())?;
-    for head in heads {
-        let branch = branch_of(alloc, store, branches.as_slice(), *head)?;
-        branches.push(branch)?;
+    let mut held = Vec::new(alloc);
+    let mut any = false;
+    for at in 0..branches.len() {
+        any = write_forks_of(output, &mut held, calm[at], marks, branches, at, any)?;
     }
-    Ok(branches)
+    write_whole(output, held.as_slice())?;
+    Ok(any)
 }
 
-// A head with those before it from which it departs.
-//
-// They are gone through from the last one on. The first whose entries begin its own is the end of it: from what is
-// before that one the head departs exactly where that one does. So there is one test for each fork that is told, and
-// one more.
-fn branch_of<H: TreeHash>(
-    alloc: Global,
-    store: &Store<H>,
-    before: &[Branch],
-    head: (u64, Hash),
-) -> Result<Branch, AllocError>
-    requires clean { NoClash H.digest store.now }
-    requires built { IsBuilt H.digest store.now head.0 head.1 }
-    requires branches { AreBranches H.digest store.now before.now }
-    requires later { (p : ℕ × List ℕ) → Contains (map (λ b. b.head) before.now) p → by_point p head
-        ≡ IsLess }
-    ensures head { IfOk result (λ branch. branch.head ≡ head) }
-    ensures branch { IfOk result (IsBranch H.digest store.now (map (λ b. b.head) before.now)) }
+// Writes the forks of one head as the smaller one: of one that is calm there are none. Whether there was a fork before, or
+// is one of these.
+fn write_forks_of<W: Write>(
+    output: &mut W,
+    held: &mut Vec<u8>,
+    calm: bool,
+    marks: &mut [bool],
+    branches: &[Branch],
+    at: usize,
+    before: bool,
+) -> Result<bool, StreamFault>
+    requires within { at < length branches.now }
+    requires marks { length marks.old ≡ length branches.now }
+    requires fits { All (λ b. b.after ≤ length branches.now) branches.now }
+    requires spelled { All IsSpelled branches.now }
+    ensures ok { OnOk result (Sends (W.contents output.old) (W.contents output.new) held.new.items
+        (held.old.items ++ forks_text (forks_from calm at marks.old (drop at branches.now)))) }
+    ensures err { OnErr result (AppendsPrefix (W.contents output.old) (W.contents output.new)
+        (held.old.items ++ forks_text (forks_from calm at marks.old (drop at branches.now)))) }
+    ensures marks { OnOk result (marks.new ≡ marks_from calm at marks.old (drop at branches.now)) }
+    ensures any { IfOk result (λ any. IsTrue any ↔ (IsTrue before
+        ⊎ (forks_from calm at marks.old (drop at branches.now) ≢ []))) }
+    ensures fault { IfErr result (λ e. e ≡ StreamFault.WriteFault) }
 {
-    let mut apart = Vec::new(alloc);
-    for at in (0..before.len()).rev() {
-        let one = &before[at];
-        if is_prefix(store, (one.head.0, &one.head.1), (head.0, &head.1)) {
-            apart.extend_from_slice(one.apart.as_slice())?;
-            return Ok(Branch { head, apart });
-        }
-        apart.push(one.head)?;
+    if calm {
+        return Ok(before);
     }
-    Ok(Branch { head, apart })
-}
-
-// Adds each head as a fork of those from which it departs.
-fn push_departures(forks: &mut Vec<Fork>, branches: &[Branch]) -> Result<(), AllocError>
-    ensures { OnOk result (forks.new.items ≡ forks.old.items ++ flat_map told_of branches.now) }
-{
-    for branch in branches {
-        push_apart(forks, branch)?;
+    let small = &branches[at];
+    let mut any = before;
+    marks[at] = true;
+    for next in at + 1..branches.len() {
+        let large = &branches[next];
+        let under = is_under(marks, at, large.after);
+        marks[next] = under;
+        any = write_fork(output, held, small, large, under, any)?;
     }
-    Ok(())
+    Ok(any)
 }
 
-// Adds a head as a fork of those from which it departs.
-fn push_apart(forks: &mut Vec<Fork>, branch: &Branch) -> Result<(), AllocError>
-    ensures { OnOk result (forks.new.items ≡ forks.old.items ++ told_of branch.now) }
+// Writes the fork of two heads, if they conflict. Whether there was a fork before, or is this one.
+fn write_fork<W: Write>(
+    output: &mut W,
+    held: &mut Vec<u8>,
+    small: &Branch,
+    large: &Branch,
+    under: bool,
+    before: bool,
+) -> Result<bool, StreamFault>
+    requires small { IsSpelled small.now }
+    requires large { IsSpelled large.now }
+    ensures ok { OnOk result (Sends (W.contents output.old) (W.contents output.new) held.new.items
+        (held.old.items ++ forks_text (fork_of small.now large.now under))) }
+    ensures err { OnErr result (AppendsPrefix (W.contents output.old) (W.contents output.new)
+        (held.old.items ++ forks_text (fork_of small.now large.now under))) }
+    ensures any { IfOk result (λ any. IsTrue any ↔ (IsTrue before
+        ⊎ (fork_of small.now large.now under ≢ []))) }
+    ensures fault { IfErr result (λ e. e ≡ StreamFault.WriteFault) }
 {
-    for small in branch.apart.as_slice() {
-        forks.push(Fork {
-            small: *small,
-            large: branch.head,
-        })?;
+    if !is_apart(small, large, under) {
+        return Ok(before);
     }
-    Ok(())
+    write_line(output, held, small, large)?;
+    Ok(true)
 }
 
-// Sorts forks, and leaves each once.
-fn put_in_order(forks: &mut Vec<Fork>)
-    ensures sorted { IsStrictlySortedBy pair_cmp (map fork_pair forks.new.items) }
-    ensures same { (fork : AnyFork) → Contains forks.new.items fork
-        ↔ Contains forks.old.items fork }
+// Writes the line of the fork of two heads.
+fn write_line<W: Write>(
+    output: &mut W,
+    held: &mut Vec<u8>,
+    small: &Branch,
+    large: &Branch,
+) -> Result<(), StreamFault>
+    requires small { IsSpelled small.now }
+    requires large { IsSpelled large.now }
+    ensures ok { OnOk result (Sends (W.contents output.old) (W.contents output.new) held.new.items
+        (held.old.items ++ fork_line (record { small = small.now.head; large = large.now.head }))) }
+    ensures err { OnErr result (AppendsPrefix (W.contents output.old) (W.contents output.new)
+        (held.old.items ++ fork_line (record { small = small.now.head; large = large.now.head }))) }
+    ensures fault { IfErr result (λ e. e ≡ StreamFault.WriteFault) }
 {
-    forks.sort_unstable_by(|a, b| order(a, b));
-    forks.dedup();
-}
-
-// By the smaller head, and then by the larger one.
-fn order(a: &Fork, b: &Fork) -> Ordering
-    ensures { result ≡ pair_cmp (fork_pair a.now) (fork_pair b.now) }
-{
-    a.small.cmp(&b.small).then(a.large.cmp(&b.large))
+    send(output, held, small.as_small.as_bytes())?;
+    send(output, held, large.as_large.as_bytes())
 }

@@ -13,6 +13,8 @@
 #![tactic(auto)]
 
 mod best;
+mod branches;
+mod calm;
 mod compare;
 mod edge;
 mod fault;
@@ -25,6 +27,7 @@ mod laws;
 mod merge;
 mod mirror;
 mod missing;
+mod pieces;
 mod plays;
 mod restored;
 mod room;

@@ -1,9 +1,0 @@
-use Rattle.std.proofs.Common.{◌≡◌, map, take}
-use Rattle.tlog_mirror.specs.Branches.{AreBranches}
-use Rattle.tlog_mirror.proofs.forks.branches_of.Given as goal
-
-abbrev pub invariant-loop-head : goal.invariant-loop-head
-invariant-loop-head g l = record {
-  heads : map (λ b. b.head) l.branches.items ≡ take l.head-index l.heads;
-  each : AreBranches g.H.TreeHash.digest l.store l.branches.items;
-}
