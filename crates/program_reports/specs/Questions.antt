@@ -1,9 +1,9 @@
 -- What a command that asks something of a mirror answers, and what it prints.
-use Rattle.std.specs.Prelude.{◌≡◌, ℕ, List, Option, Result, Ok, Err, ⊤}
+use Rattle.std.specs.Prelude.{ℕ, List, Option, Result, Ok, Err, ⊤}
 use Rattle.std.specs.Io.KnownBytes.{Appends}
 use Rattle.byte_streams.specs.Streams.{AppendsPrefix}
 use Rattle.mirror_model.specs.View.{View}
-use Rattle.program_reports.specs.Reports.{printed, TellsStatus, TellsForks}
+use Rattle.program_reports.specs.Reports.{printed, TellsStatus, TellsForks, TellsMissing, TellsProof}
 use Rattle.program_reports.specs.Reports.{ReportsMissing, ReportsProof}
 use Rattle.program_reports.specs.declared.fault.ReportFault.{ReportFault}
 use Rattle.program_reports.specs.declared.fault.ReportFault.TheVariants.{OutOfMemory}
@@ -14,35 +14,51 @@ use Rattle.program_reports.specs.declared.question.Question.TheVariants.{Forks, 
 use Rattle.program_reports.specs.declared.fault.AskFault.{AskFault}
 use Rattle.program_reports.specs.declared.fault.AskFault.TheVariants.{Report, WriteFault}
 
+-- what a text and an exit status tell of a view, as the answer to the question
+abbrev pub TellsAnswer : (List ℕ → List ℕ) → Question → View → List ℕ → ℕ → Type 0
+TellsAnswer digest Status v told ended = TellsStatus digest v told ended
+TellsAnswer digest (Missing size root) v told ended = TellsMissing digest v size root told ended
+TellsAnswer digest Forks v told ended = TellsForks digest v told ended
+TellsAnswer digest (Proof ask) v told ended = TellsProof digest v ask told ended
+
+-- why nothing is told
+abbrev pub TellsNoAnswer : (List ℕ → List ℕ) → Question → View → ReportFault → Type 0
+TellsNoAnswer digest Status v OutOfMemory = ⊤
+TellsNoAnswer digest Status v fault = ⊥
+TellsNoAnswer digest (Missing size root) v fault = ReportsMissing digest v size root (Err fault)
+TellsNoAnswer digest Forks v OutOfMemory = ⊤
+TellsNoAnswer digest Forks v fault = ⊥
+TellsNoAnswer digest (Proof ask) v fault = ReportsProof digest v ask (Err fault)
+
 -- what each answer of a reporter says of a view: the report on the question, or why there is none
 abbrev pub ReportsOn :
     (List ℕ → List ℕ) → Question → View → Result Printout ReportFault → Type 0
-ReportsOn digest Status v (Ok report) = TellsStatus digest v report
-ReportsOn digest Status v (Err OutOfMemory) = ⊤
-ReportsOn digest Status v (Err fault) = ⊥
-ReportsOn digest (Missing size root) v answer = ReportsMissing digest v size root answer
-ReportsOn digest Forks v (Ok report) = TellsForks digest v report
-ReportsOn digest Forks v (Err OutOfMemory) = ⊤
-ReportsOn digest Forks v (Err fault) = ⊥
-ReportsOn digest (Proof ask) v answer = ReportsProof digest v ask answer
+ReportsOn digest question v (Ok report) =
+    TellsAnswer digest question v (printed report) report.status
+ReportsOn digest question v (Err fault) = TellsNoAnswer digest question v fault
+
+-- the report on the question is made before it is printed: on any but forks
+abbrev pub IsMade : Question → Type 0
+IsMade Forks = ⊥
+IsMade question = ⊤
 
 module _ (digest : List ℕ → List ℕ) (question : Question) (v : View)
     (old new : Option (List ℕ)) where
-  -- the report was written whole, and the exit status is the report's
+  -- the answer was written whole, and the exit status is its own
   pub record PrintsReport (status : ℕ) : Type 0 where
-    pub report : Printout
-    pub reports : ReportsOn digest question v (Ok report)
-    pub written : Appends old new (printed report)
-    pub status_is : status ≡ report.status
+    pub told : List ℕ
+    pub tells : TellsAnswer digest question v told status
+    pub written : Appends old new told
 
-  -- a prefix of the report was written, as a write that failed leaves it
+  -- a prefix of the answer was written, as a write that failed leaves it
   pub record PrintsReportPrefix : Type 0 where
-    pub report : Printout
-    pub reports : ReportsOn digest question v (Ok report)
-    pub written : AppendsPrefix old new (printed report)
+    pub told : List ℕ
+    pub ended : ℕ
+    pub tells : TellsAnswer digest question v told ended
+    pub written : AppendsPrefix old new told
 
   -- what each answer of the command says of the view, and of what was written
   abbrev pub AnswersQuestion : Result ℕ AskFault → Type 0
   AnswersQuestion (Ok status) = PrintsReport status
-  AnswersQuestion (Err (Report fault)) = ReportsOn digest question v (Err fault)
+  AnswersQuestion (Err (Report fault)) = TellsNoAnswer digest question v fault
   AnswersQuestion (Err WriteFault) = PrintsReportPrefix

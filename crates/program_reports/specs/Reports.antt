@@ -39,36 +39,36 @@ module _ (digest : List ℕ → List ℕ) (v : View) where
       ((point : Point) × SaysServed digest v (Some point) × (status ≡ 0))
       ⊎ (SaysServed digest v None × (status ≡ 3))
 
-  -- the report of `status`
-  pub record TellsStatus (report : Report) : Type 0 where
-    pub text : IsStatusText digest v (printed report)
-    pub status : TellsServed report.status
+  -- the text and the exit status of `status`
+  pub record TellsStatus (told : List ℕ) (ended : ℕ) : Type 0 where
+    pub text : IsStatusText digest v told
+    pub status : TellsServed ended
 
-  -- the report of `forks`
-  pub record TellsForks (report : Report) : Type 0 where
-    pub text : IsForksText digest v (printed report)
-    pub status : TellsNothing (printed report) report.status
+  -- the text and the exit status of `forks`
+  pub record TellsForks (told : List ℕ) (ended : ℕ) : Type 0 where
+    pub text : IsForksText digest v told
+    pub status : TellsNothing told ended
 
-  -- the report of `missing`, for a head
-  pub record TellsMissing (size : ℕ) (root : List ℕ) (report : Report) : Type 0 where
-    pub text : IsMissingText digest v size root (printed report)
-    pub status : TellsNothing (printed report) report.status
+  -- the text and the exit status of `missing`, for a head
+  pub record TellsMissing (size : ℕ) (root : List ℕ) (told : List ℕ) (ended : ℕ) : Type 0 where
+    pub text : IsMissingText digest v size root told
+    pub status : TellsNothing told ended
 
   -- what each answer to `missing` says
   abbrev pub ReportsMissing : ℕ → List ℕ → Result Report ReportFault → Type 0
-  ReportsMissing size root (Ok report) = TellsMissing size root report
+  ReportsMissing size root (Ok report) = TellsMissing size root (printed report) report.status
   ReportsMissing size root (Err NoSuchHead) = ¬ HasHead v size root
   ReportsMissing size root (Err OutOfMemory) = ⊤
   ReportsMissing size root (Err other) = ⊥
 
-  -- the report of `prove`: the text of the proof of the entries that are served
-  pub record TellsProof (ask : Ask) (report : Report) : Type 0 where
+  -- the text and the exit status of `prove`: the proof of the entries that are served
+  pub record TellsProof (ask : Ask) (told : List ℕ) (ended : ℕ) : Type 0 where
     pub entries : List (List ℕ)
     pub served : IsServedList digest v entries
     pub proof : Proof
     pub made : asked_proof digest entries ask ≡ Ok proof
-    pub text : IsProofText (printed report) proof
-    pub status : report.status ≡ 0
+    pub text : IsProofText told proof
+    pub status : ended ≡ 0
 
   -- the proof that was asked for is refused, with that fault
   pub record RefusesProof (ask : Ask) (fault : ProofFault) : Type 0 where
@@ -78,7 +78,7 @@ module _ (digest : List ℕ → List ℕ) (v : View) where
 
   -- what each answer to `prove` says
   abbrev pub ReportsProof : Ask → Result Report ReportFault → Type 0
-  ReportsProof ask (Ok report) = TellsProof ask report
+  ReportsProof ask (Ok report) = TellsProof ask (printed report) report.status
   ReportsProof ask (Err NothingComplete) = SaysServed digest v None
   ReportsProof ask (Err OutOfMemory) = ⊤
   ReportsProof ask (Err NoSuchHead) = ⊥

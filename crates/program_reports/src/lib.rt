@@ -10,6 +10,7 @@
 
 mod comparing;
 mod fault;
+mod forks;
 mod printing;
 mod pulling;
 mod question;
@@ -20,4 +21,4 @@ pub use fault::{AskFault, ReportFault};
 pub use printing::print_report;
 pub use pulling::{pulled_status, pulled_text};
 pub use question::Question;
-pub use reports::{Report, forks_report, missing_report, proof_report, status_report};
+pub use reports::{Report, missing_report, proof_report, status_report};

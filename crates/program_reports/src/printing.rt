@@ -3,9 +3,10 @@ ghost use Rattle.std.specs.Prelude.{◌≡◌, ◌≢◌, ◌⊎◌, IfErr, IfOk
 ghost use Rattle.std.specs.Io.KnownBytes.{Appends, Keeps};
 ghost use Rattle.byte_streams.specs.Streams.{AppendsPrefix};
 ghost use Rattle.program_reports.specs.Reports.{printed};
-ghost use Rattle.program_reports.specs.Questions.{AnswersQuestion};
+ghost use Rattle.program_reports.specs.Questions.{AnswersQuestion, IsMade};
 
 use crate::fault::AskFault;
+use crate::forks::print_forks;
 use crate::question::{Question, report_on};
 use crate::reports::Report;
 use byte_streams::{StreamFault, write_whole};
@@ -26,6 +27,7 @@ pub(crate) fn write_report<W: Write>(output: &mut W, report: &Report) -> Result<
 
 /// Writes the report on the question, of what the mirror holds, and answers the exit status: 0, or 3 where the answer is
 /// the other one. For heads, forks and proofs the mirror notes first what is held of each head, so that no tree is walked twice.
+/// Forks are written as they are found, so that memory is asked for by head; the other reports are made whole.
 ///
 /// ```text
 /// print_report(alloc, &mut mirror, &Question::Forks, &mut output)?
@@ -36,13 +38,34 @@ pub(crate) fn write_report<W: Write>(output: &mut W, report: &Report) -> Result<
 ///
 /// The first that applies: `Report`, with `NoSuchHead`, `NothingComplete`, the refusal of the proof or `OutOfMemory`, as
 /// `ReportFault` says; `WriteFault`, where a write fails or takes no byte, and then a prefix of the report was
-/// written. Nothing is written before the whole report is made.
+/// written. Nothing is written before all memory was asked for.
 pub fn print_report<H: TreeHash, W: Write>(
     alloc: Global,
     mirror: &mut Mirror<H>,
     question: &Question,
     output: &mut W,
 ) -> Result<u8, AskFault>
+    ensures answer { AnswersQuestion H.digest question.now mirror.old.view (W.contents output.old)
+        (W.contents output.new) result }
+    ensures status { IfOk result (λ status. (status ≡ 0) ⊎ (status ≡ 3)) }
+    ensures kept { mirror.new.view ≡ mirror.old.view }
+    ensures quiet { IfErr result (λ e. e ≢ AskFault.WriteFault → Keeps (W.contents output.old)
+        (W.contents output.new)) }
+{
+    if let Question::Forks = question {
+        return print_forks(alloc, mirror, output);
+    }
+    print_made(alloc, mirror, question, output)
+}
+
+// Writes the report on a question that is not on forks.
+fn print_made<H: TreeHash, W: Write>(
+    alloc: Global,
+    mirror: &mut Mirror<H>,
+    question: &Question,
+    output: &mut W,
+) -> Result<u8, AskFault>
+    requires { IsMade question.now }
     ensures answer { AnswersQuestion H.digest question.now mirror.old.view (W.contents output.old)
         (W.contents output.new) result }
     ensures status { IfOk result (λ status. (status ≡ 0) ⊎ (status ≡ 3)) }

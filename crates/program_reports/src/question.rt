@@ -1,10 +1,10 @@
 //! What may be asked of a state, and the report that answers it.
 ghost use Rattle.std.specs.Prelude.{◌≡◌, IfOk};
-ghost use Rattle.program_reports.specs.Reports.{ReportsProof, TellsForks, TellsStatus};
-ghost use Rattle.program_reports.specs.Questions.{ReportsOn};
+ghost use Rattle.program_reports.specs.Reports.{ReportsProof, TellsStatus, printed};
+ghost use Rattle.program_reports.specs.Questions.{IsMade, ReportsOn};
 
 use crate::fault::ReportFault;
-use crate::reports::{Report, forks_report, missing_report, proof_report, status_report};
+use crate::reports::{Report, missing_report, proof_report, status_report};
 use std::alloc::{AllocError, Global};
 use tlog_hash::{Hash, TreeHash};
 use tlog_mirror::Mirror;
@@ -31,20 +31,12 @@ pub enum Question {
 // The report on heads and on what is served, of a mirror that notes first what is held of each head: so no tree is walked
 // twice.
 fn noted_status<H: TreeHash>(alloc: Global, mirror: &mut Mirror<H>) -> Result<Report, AllocError>
-    ensures tells { IfOk result (λ report. TellsStatus H.digest mirror.old.view report) }
+    ensures tells { IfOk result (λ report. TellsStatus H.digest mirror.old.view (printed report)
+        report.status) }
     ensures kept { mirror.new.view ≡ mirror.old.view }
 {
     mirror.note_heads(alloc)?;
     status_report(alloc, mirror)
-}
-
-// The report on forks, likewise.
-fn noted_forks<H: TreeHash>(alloc: Global, mirror: &mut Mirror<H>) -> Result<Report, AllocError>
-    ensures tells { IfOk result (λ report. TellsForks H.digest mirror.old.view report) }
-    ensures kept { mirror.new.view ≡ mirror.old.view }
-{
-    mirror.note_heads(alloc)?;
-    forks_report(alloc, mirror)
 }
 
 // A proof of what is served, likewise.
@@ -62,19 +54,20 @@ fn noted_proof<H: TreeHash>(
     }
 }
 
-// The report on the question.
+// The report on the question, which is not on forks.
 pub(crate) fn report_on<H: TreeHash>(
     alloc: Global,
     mirror: &mut Mirror<H>,
     question: &Question,
 ) -> Result<Report, ReportFault>
+    requires { IsMade question.now }
     ensures tells { ReportsOn H.digest question.now mirror.old.view result }
     ensures kept { mirror.new.view ≡ mirror.old.view }
 {
     match question {
         Question::Status => Ok(noted_status(alloc, mirror)?),
         Question::Missing { size, root } => missing_report(alloc, mirror, *size, root),
-        Question::Forks => Ok(noted_forks(alloc, mirror)?),
+        Question::Forks => unreachable!(),
         Question::Proof(ask) => noted_proof(alloc, mirror, *ask),
     }
 }

@@ -1,6 +1,6 @@
 //! The reports, a command each.
 ghost use Rattle.std.specs.Prelude.{IfOk};
-ghost use Rattle.program_reports.specs.Reports.{ReportsMissing, ReportsProof, TellsForks, TellsNothing, TellsServed, TellsStatus};
+ghost use Rattle.program_reports.specs.Reports.{ReportsMissing, ReportsProof, TellsNothing, TellsServed, TellsStatus, printed};
 
 use crate::fault::ReportFault;
 use std::alloc::{AllocError, Global};
@@ -23,7 +23,8 @@ pub struct Report {
 ///
 /// Memory was refused.
 pub fn status_report<H: TreeHash>(alloc: Global, mirror: &Mirror<H>) -> Result<Report, AllocError>
-    ensures { IfOk result (λ report. TellsStatus H.digest mirror.now.view report) }
+    ensures { IfOk result (λ report. TellsStatus H.digest mirror.now.view (printed report)
+        report.status) }
 {
     let text = mirror.status_text(alloc)?;
     let status = served_status(mirror);
@@ -38,19 +39,6 @@ fn served_status<H: TreeHash>(mirror: &Mirror<H>) -> u8
         Some(_) => 0,
         None => 3,
     }
-}
-
-/// `forks`: a line for each fork. The exit status is 3 where there is one.
-///
-/// # Errors
-///
-/// Memory was refused.
-pub fn forks_report<H: TreeHash>(alloc: Global, mirror: &Mirror<H>) -> Result<Report, AllocError>
-    ensures { IfOk result (λ report. TellsForks H.digest mirror.now.view report) }
-{
-    let text = mirror.forks_text(alloc)?;
-    let status = quiet_status(&text);
-    Ok(Report { text, status })
 }
 
 /// `missing`: the paths that are missing of the head of that size and root, a line each. The exit status is 3 where one is.
