@@ -5,3 +5,4 @@ pub mod RowLists
 pub mod Climbing
 pub mod OneRow
 pub mod Truths
+pub mod OpenedNotes

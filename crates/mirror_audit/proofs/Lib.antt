@@ -1,4 +1,3 @@
-pub mod OpenedNotes
 pub mod Given
 pub mod Ranges
 pub mod Covered

@@ -12,7 +12,6 @@ mod edge;
 mod edge_bundle;
 mod edge_rows;
 mod fault;
-mod head;
 mod log;
 mod part;
 mod tiles;

@@ -3,7 +3,7 @@ ghost use Rattle.std.specs.Prelude.{◌≡◌, map};
 ghost use Rattle.std.specs.List.Sorted.{IsPermutation, IsSorted};
 ghost use Rattle.mirror_follow.specs.Candidates.{JudgesNote, turn_cmp};
 
-use crate::head::open_head;
+use log_reader::open_head;
 use mirror_model::TakeFault;
 use signed_note::Verifier;
 use std::alloc::Global;

@@ -6,7 +6,6 @@ mod ask;
 mod candidate;
 mod fault;
 mod gather;
-mod head;
 mod laws;
 mod turns;
 

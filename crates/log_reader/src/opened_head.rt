@@ -32,9 +32,17 @@ fn checkpoint_of(
     }
 }
 
-/// The checkpoint of a note of that origin that opens under the keys. The first refusal that applies is answered, in the order of
-/// the faults.
-pub(crate) fn open_head(
+/// The checkpoint of a note of that origin that opens under the keys (C2SP signed-note, tlog-checkpoint).
+///
+/// ```text
+/// open_head(alloc, "ex", &keys, note)?.size   // 257
+/// ```
+///
+/// # Errors
+///
+/// The first that applies: `Note` where the bytes are no signed note, `Checkpoint` where its text is none, `OtherOrigin`, and
+/// `NoTrustedSignature` where no line is of a key. `OutOfMemory` where memory was refused.
+pub fn open_head(
     alloc: Global,
     origin: &str,
     keys: &[Box<dyn Verifier>],

@@ -1,8 +1,8 @@
 use Rattle.std.proofs.Common.{◌≡◌, rules, subst}
 use Rattle.tlog_checkpoint.specs.Grammar.{IsCheckpoint}
 use Rattle.mirror_model.specs.Refusals.{IsCheckpointNote}
-use Rattle.mirror_audit.proofs.OpenedNotes.{opened, not_opened}
-use Rattle.mirror_audit.proofs.head.checkpoint_of.Goals as goal
+use Rattle.log_reader.proofs.OpenedNotes.{opened, not_opened}
+use Rattle.log_reader.proofs.opened_head.checkpoint_of.Goals as goal
 
 pub returns-in-Ok-open_note : goal.returns-in-Ok-open_note
 returns-in-Ok-open_note g c =
