@@ -6,3 +6,4 @@ pub mod Climbing
 pub mod OneRow
 pub mod Truths
 pub mod OpenedNotes
+pub mod Prefixes

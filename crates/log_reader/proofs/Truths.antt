@@ -39,7 +39,7 @@ use Rattle.log_reader.proofs.OneRow.{only_row}
 
 -- ---- levels
 
-abbrev IsIn : ℕ → List ℕ → Type 0
+abbrev pub IsIn : ℕ → List ℕ → Type 0
 IsIn level [] = ⊥
 IsIn level (l ∷ ls) = (level ≡ l) ⊎ IsIn level ls
 
@@ -105,7 +105,7 @@ of_filter test level (l ∷ ls) m = elim (of_rest level l (filter test ls) (test
   | inr i ↦ inr (of_filter test level ls i)
 ]
 
-low_edge : (n level : ℕ) → IsIn level (edge_levels n) → level ≤ 7
+pub low_edge : (n level : ℕ) → IsIn level (edge_levels n) → level ≤ 7
 unfolding edge_levels
 low_edge n level m = low_all level (of_filter (λ l. not (width_of n l == 0)) level all_levels m)
 

@@ -1,13 +1,14 @@
 -- What is read of a tree is true of each list of entries of its size and root, where nothing that is hashed clashes.
-use Rattle.std.specs.Prelude.{◌≡◌, ℕ, ◌*◌, ◌^◌, ◌<◌, List, ◌++◌, length, map}
+use Rattle.std.specs.Prelude.{◌≡◌, ℕ, ◌*◌, ◌^◌, ◌<◌, ◌≤◌, List, ◌++◌, length, map, take}
 use Rattle.std.specs.FinSet as set
+use Rattle.tlog_shape.specs.Edge.{width_of}
 use Rattle.tlog_hash.specs.Tree.{mth, strings}
 use Rattle.tlog_hash.specs.Rows.{level_row}
 use Rattle.node_store.specs.Strings.{NoClash}
 use Rattle.mirror_model.specs.Edge.{edge_levels, edge_strings}
 use Rattle.mirror_model.specs.Strings.{IsDigest}
 use Rattle.log_reader.specs.EdgeRows.{Edge, hash_of_edge, row_at}
-use Rattle.log_reader.specs.Ways.{HasEdgeHashes, IsWay, row_of_way, way_strings}
+use Rattle.log_reader.specs.Ways.{HasEdgeHashes, IsShownEdge, IsWay, row_of_way, way_strings}
 
 module _ (digest : List ℕ → List ℕ) where
   -- the strings that folding the rows of an edge and of a way hashes
@@ -28,3 +29,13 @@ ShownRowsAreTrue =
     (level index : ℕ) (way : List (List (List ℕ))) → IsWay digest edge level index way →
     (entries : List (List ℕ)) → IsListClear digest edge way entries →
     row_of_way edge level way ≡ level_row digest entries level (256 * index) (length (row_of_way edge level way))
+
+-- a smaller edge that is shown leads to the tree hash of the first entries
+abbrev pub ShownPrefixesAreTrue : Type 0
+ShownPrefixesAreTrue =
+    (digest : List ℕ → List ℕ) → IsDigest digest → (edge first : Edge) → HasEdgeHashes edge → edge.size < 2 ^ 64 →
+    first.size ≤ edge.size → (shown : IsShownEdge digest edge first) → (entries : List (List ℕ)) →
+    length entries ≡ edge.size →
+    ((level : ℕ) (low : level ≤ 7) (some : 1 ≤ width_of first.size level) →
+    IsListClear digest edge ((shown level low).shown some).shown.way entries) →
+    hash_of_edge digest first ≡ mth digest (take first.size entries)

@@ -1,8 +1,14 @@
 //! Laws of the definitions that the contracts cite.
-ghost use Rattle.log_reader.specs.Truth.{ShownRowsAreTrue};
+ghost use Rattle.log_reader.specs.Truth.{ShownPrefixesAreTrue, ShownRowsAreTrue};
 
 /// A row that is shown is the true one of each list of entries of the tree's size and root, where no two different strings of the
 /// list's tree, of the edge and of the way share a digest.
 pub fn shown_rows_law()
     ensures { ShownRowsAreTrue }
+{}
+
+/// The root of a prefix is the tree hash of the first entries of each list of entries of the tree's size and root, where no two
+/// different strings of the list's tree, of the edge and of a way to one of the prefix's rows share a digest.
+pub fn shown_prefixes_law()
+    ensures { ShownPrefixesAreTrue }
 {}
