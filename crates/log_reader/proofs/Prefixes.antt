@@ -1,5 +1,5 @@
 -- The edge of the first entries is true, where the rows that it begins are.
-use Rattle.std.proofs.Common.{◌≡◌, ℕ, zero, suc, ◌+◌, ◌-◌, ◌*◌, ◌/◌, ◌^◌, ◌<◌, ◌≤◌, List, [], ◌∷◌, length, map, take, drop}
+use Rattle.std.proofs.Common.{◌≡◌, ℕ, zero, suc, ◌+◌, ◌-◌, ◌*◌, ◌^◌, ◌<◌, ◌≤◌, List, [], ◌∷◌, length, map, take, drop}
 use Rattle.std.proofs.Common.{inl, inr, refl, sym, ap, subst, ◌∙◌, arith, length-take}
 use Rattle.std.proofs.Math.Nat.{div-mul-le_self}
 use Rattle.std.proofs.lemmas.Bool.{cases_lt}
@@ -8,7 +8,7 @@ use Rattle.tlog_shape.specs.Edge.{edge_index_of, width_of}
 use Rattle.tlog_hash.specs.Tree.{mth}
 use Rattle.tlog_hash.specs.Rows.{level_row, part, ranges}
 use Rattle.tlog_tiles.proofs.EdgeLemmas.{hashes_of}
-use Rattle.mirror_model.specs.Edge.{edge_levels, edge_root, edge_row}
+use Rattle.mirror_model.specs.Edge.{edge_levels, edge_root}
 use Rattle.mirror_model.specs.Strings.{IsDigest}
 use Rattle.mirror_model.proofs.EdgeRoots.{edge_root_is}
 use Rattle.log_reader.specs.EdgeRows.{Edge, RowIsTrue, row_at}

@@ -1,6 +1,6 @@
 -- Rows that are shown are true.
 use Rattle.std.proofs.Common.{◌≡◌, ◌⊎◌, ℕ, zero, suc, ◌+◌, ◌*◌, ◌/◌, ◌%◌, ◌^◌, ◌<◌, ◌≤◌, Bool, true, false, cond, not, ◌==◌}
-use Rattle.std.proofs.Common.{All, List, [], ◌∷◌, ◌++◌, length, map, drop, get_or, inl, inr, refl, sym, ap, subst, ◌∙◌, arith}
+use Rattle.std.proofs.Common.{List, [], ◌∷◌, ◌++◌, length, map, drop, get_or, inl, inr, refl, sym, ap, subst, ◌∙◌, arith}
 use Rattle.std.specs.FinSet as set
 use Rattle.std.specs.List.{AllByRecursion, Contains, filter}
 use Rattle.std.proofs.Math.Nat.{div-mul-le_self}
@@ -15,13 +15,13 @@ use Rattle.tlog_hash.specs.Tree.{fold_of, joins, mth, strings, tree_of}
 use Rattle.tlog_hash.specs.Nodes.{IsJoin}
 use Rattle.tlog_hash.specs.Rows.{level_row, part, ranges}
 use Rattle.tlog_hash.proofs.Folds.{length-ranges}
-use Rattle.tlog_hash.proofs.NodeStrings.{from_joins, string_of_node, to_joins}
+use Rattle.tlog_hash.proofs.NodeStrings.{string_of_node, to_joins}
 use Rattle.tlog_tiles.specs.Row.{IsRow, row_text}
 use Rattle.tlog_tiles.proofs.EdgeLemmas.{hashes_of}
 use Rattle.tlog_tiles.proofs.RowLemmas.{length-row_text}
 use Rattle.tlog_tiles.proofs.TileLemmas.{mth_size, row_folds}
 use Rattle.node_store.specs.Strings.{Has, HasAll, NoClash, Strings}
-use Rattle.mirror_model.specs.Edge.{all_levels, edge_levels, edge_root, edge_row, edge_rows, edge_strings, edge_widths}
+use Rattle.mirror_model.specs.Edge.{all_levels, edge_levels, edge_root, edge_row, edge_rows, edge_strings}
 use Rattle.mirror_model.specs.Item.{HasEdgeRows, row_of}
 use Rattle.mirror_model.specs.Strings.{IsDigest}
 use Rattle.mirror_model.specs.TrueLaws.{edge_bytes}

@@ -1,4 +1,4 @@
-use Rattle.std.proofs.Common.{◌≡◌, ◌≤◌, ◌+◌, map, sym, ap, ◌∙◌, arith}
+use Rattle.std.proofs.Common.{◌≤◌, ◌+◌, map, sym, ap, ◌∙◌, arith}
 use Rattle.log_reader.proofs.Climbing.{way_lower}
 use Rattle.log_reader.proofs.reader.LogReader.up.Goals as goal
 
