@@ -15,7 +15,7 @@ use std::alloc::{AllocError, Global};
 use std::fs::Files;
 use std::io::ErrorKind;
 use std::marker::Model;
-use std::{fs, io};
+use std::{fs, io, mem};
 use tlog_tiles::Path;
 
 // The name of a folder: the caller's own, or a copy.
@@ -62,8 +62,10 @@ pub struct DirShelf<'a, R: Files> {
 struct Recent {
     // What is to be flushed before the next checkpoint.
     unflushed: Unflushed,
-    // What earlier runs left in the folder that was put into last.
+    // What earlier runs left in the folder that was put into last, and in the one before: tiles and bundles may be put by
+    // turns, and to list a folder costs more than to put a file.
     left: Leftovers,
+    before: Leftovers,
 }
 
 impl Recent {
@@ -72,7 +74,21 @@ impl Recent {
         Recent {
             unflushed: Unflushed::none(alloc),
             left: Leftovers::none(alloc),
+            before: Leftovers::none(alloc),
         }
+    }
+
+    // Turns to what earlier runs left in a folder.
+    fn turn_to<R: Files>(
+        &mut self,
+        files: &R,
+        alloc: Global,
+        folder: &str,
+    ) -> Result<(), AllocError> {
+        if !self.left.is_of(folder) {
+            mem::swap(&mut self.left, &mut self.before);
+        }
+        self.left.turn_to(files, alloc, folder)
     }
 
     // Replaces the file of a path.
@@ -87,7 +103,7 @@ impl Recent {
         let place = file_path(alloc, folder, path)?;
         let inner = folder_of(place.as_str());
         fs::create_dir_all(files, inner)?;
-        self.left.turn_to(files, alloc, inner)?;
+        self.turn_to(files, alloc, inner)?;
         if *path == Path::Checkpoint {
             self.write_last(files, alloc, folder, place.as_str(), bytes)
         } else {

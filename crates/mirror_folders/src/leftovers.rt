@@ -40,6 +40,11 @@ impl Leftovers {
         })
     }
 
+    // Whether they are those of that folder.
+    pub(crate) fn is_of(&self, folder: &str) -> bool {
+        self.folder.as_str() == folder
+    }
+
     // Makes them those of that folder, if they are not.
     pub(crate) fn turn_to<R: Files>(
         &mut self,
@@ -47,7 +52,7 @@ impl Leftovers {
         alloc: Global,
         folder: &str,
     ) -> Result<(), AllocError> {
-        if self.folder.as_str() != folder {
+        if !self.is_of(folder) {
             *self = Leftovers::of(files, alloc, folder)?;
         }
         Ok(())
