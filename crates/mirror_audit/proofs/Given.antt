@@ -1,7 +1,7 @@
 -- Replies, one after the other.
 use Rattle.std.proofs.Common.{◌≡◌, ◌⊎◌, inl, inr, ℕ, ◌<◌, List, [], ◌∷◌, ◌++◌, length, map, Option, Some, None}
 use Rattle.std.proofs.Common.{refl, sym, ap, subst, ◌∙◌, arith, append_assoc, take, drop, option_map, Vec, Global}
-use Rattle.std.proofs.Common.{Result, Ok, Err, OnOk, IfOk, IfSome}
+use Rattle.std.proofs.Common.{Result, Ok, Err, OnOk, IfNone, IfOk, IfSome}
 use Rattle.std.specs.List.{Contains}
 use Rattle.std.proofs.lemmas.List.{append-nil, map-append, take-append-drop}
 use Rattle.std.proofs.lemmas.List.Elements.{Contains-append_left, Contains-append_right}
@@ -137,3 +137,8 @@ cut_full a b x y path full len bytes whole at is g = record {
       subst (λ k. AreGiven a b x y (reply k (Some (bytes ++ drop len whole)) ∷ [])) at
       (subst (λ w. AreGiven a b x y (reply full (Some w) ∷ [])) all g);
 }
+
+pub if_none : {T E P Q : Type 0} (r : Result (Option T) E) → (P → Q) → IfOk r (λ o. IfNone o P) → IfOk r (λ o. IfNone o Q)
+if_none (Ok (Some t)) f p = tt
+if_none (Ok None) f p = f p
+if_none (Err e) f p = tt

@@ -4,6 +4,7 @@ use Rattle.tlog_tiles.specs.declared.paths.Path.{Path}
 use Rattle.tlog_tiles.specs.declared.paths.Path.TheVariants.{Checkpoint}
 use Rattle.mirror_model.specs.declared.fault.TakeFault.{TakeFault}
 use Rattle.mirror_model.specs.declared.fault.TakeFault.TheVariants as take
+use Rattle.mirror_sources.specs.Files.{full_of}
 use Rattle.mirror_sources.specs.Told.{Rose}
 use Rattle.mirror_sources.specs.declared.source.SourceFault.{SourceFault}
 use Rattle.mirror_sources.specs.declared.source.SourceFault.TheVariants as source
@@ -11,24 +12,24 @@ use Rattle.mirror_audit.specs.declared.fault.AuditFault.{AuditFault}
 use Rattle.mirror_audit.specs.declared.fault.AuditFault.TheVariants.{NoCheckpoint, Head, NoEdge, NoFile, FalseFile, Source, OutOfMemory}
 
 -- a refusal of the checkpoint among the faults of an audit
-abbrev pub of_head : TakeFault → AuditFault
-of_head (take.Note f) = Head (take.Note f)
-of_head (take.Checkpoint f) = Head (take.Checkpoint f)
-of_head take.OtherOrigin = Head take.OtherOrigin
-of_head take.NoTrustedSignature = Head take.NoTrustedSignature
-of_head take.EdgeCount = Head take.EdgeCount
-of_head take.EdgeLength = Head take.EdgeLength
-of_head take.EdgeMismatch = Head take.EdgeMismatch
-of_head take.RowLength = Head take.RowLength
-of_head take.BundleShort = Head take.BundleShort
-of_head take.BundleLong = Head take.BundleLong
-of_head take.Collision = Head take.Collision
-of_head take.OutOfMemory = OutOfMemory
+abbrev pub fault_of_head : TakeFault → AuditFault
+fault_of_head (take.Note f) = Head (take.Note f)
+fault_of_head (take.Checkpoint f) = Head (take.Checkpoint f)
+fault_of_head take.OtherOrigin = Head take.OtherOrigin
+fault_of_head take.NoTrustedSignature = Head take.NoTrustedSignature
+fault_of_head take.EdgeCount = Head take.EdgeCount
+fault_of_head take.EdgeLength = Head take.EdgeLength
+fault_of_head take.EdgeMismatch = Head take.EdgeMismatch
+fault_of_head take.RowLength = Head take.RowLength
+fault_of_head take.BundleShort = Head take.BundleShort
+fault_of_head take.BundleLong = Head take.BundleLong
+fault_of_head take.Collision = Head take.Collision
+fault_of_head take.OutOfMemory = OutOfMemory
 
 -- a fault of the source among those of an audit
-abbrev pub of_source : SourceFault → AuditFault
-of_source source.Failed = Source
-of_source source.OutOfMemory = OutOfMemory
+abbrev pub fault_of_source : SourceFault → AuditFault
+fault_of_source source.Failed = Source
+fault_of_source source.OutOfMemory = OutOfMemory
 
 -- an audit blames its source only where the source's count of failures rose, or stands at its last value
 abbrev pub BlamesPlace : {T : Type 0} → ℕ → ℕ → Result T AuditFault → Type 0
@@ -41,12 +42,17 @@ BlamesPlace old new (Err (FalseFile path)) = new ≡ old
 BlamesPlace old new (Err Source) = Rose old new
 BlamesPlace old new (Err OutOfMemory) = new ≡ old
 
+-- the source may have answered that neither the file nor its full one is there
+pub record MayLack (may : Path → Option (List ℕ) → Type 0) (path : Path) : Type 0 where
+  pub none : may path None
+  pub full : may (full_of path) None
+
 -- a fault says that something is missing only where the source may have answered so
 abbrev pub IsForAbsence : (Path → Option (List ℕ) → Type 0) → AuditFault → Type 0
 IsForAbsence may NoCheckpoint = may Checkpoint None
 IsForAbsence may (Head f) = ⊤
-IsForAbsence may NoEdge = (path : Path) × may path None
-IsForAbsence may (NoFile path) = may path None
+IsForAbsence may NoEdge = (path : Path) × MayLack may path
+IsForAbsence may (NoFile path) = MayLack may path
 IsForAbsence may (FalseFile path) = ⊤
 IsForAbsence may Source = ⊤
 IsForAbsence may OutOfMemory = ⊤

@@ -1,5 +1,6 @@
 //! One file of a source.
-ghost use Rattle.std.specs.Prelude.{◌∷◌, [], IfErr, IfOk, Some};
+ghost use Rattle.std.specs.Prelude.{◌≡◌, ◌∷◌, [], IfErr, IfOk, Some};
+ghost use Rattle.mirror_sources.specs.Files.{full_of};
 ghost use Rattle.mirror_sources.specs.Replies.{reply};
 ghost use Rattle.mirror_audit.specs.Answering.{AreGiven};
 ghost use Rattle.mirror_audit.specs.Faults.{BlamesPlace, IsForAbsence};
@@ -8,8 +9,9 @@ use crate::fault::AuditFault;
 use mirror_sources::Source;
 use tlog_tiles::Path;
 
-/// The bytes at a path.
+/// The bytes of a full file.
 pub(crate) fn get_file<S: Source>(source: &mut S, path: Path) -> Result<Vec<u8>, AuditFault>
+    requires { full_of path ≡ path }
     ensures counted { BlamesPlace (S.failed source.old) (S.failed source.new) result }
     ensures absent { IfErr result (IsForAbsence (S.may_answer source.old)) }
     ensures given { IfOk result (λ bytes. AreGiven (S.may_answer source.old)

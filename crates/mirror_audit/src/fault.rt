@@ -1,6 +1,6 @@
 //! Why an audit ends early.
 ghost use Rattle.std.specs.Prelude.{◌≡◌};
-ghost use Rattle.mirror_audit.specs.Faults.{of_head, of_source};
+ghost use Rattle.mirror_audit.specs.Faults.{fault_of_head, fault_of_source};
 ghost use Rattle.mirror_audit.specs.declared.fault.AuditFault.TheVariants.{OutOfMemory};
 
 use mirror_model::TakeFault;
@@ -37,7 +37,7 @@ pub enum AuditFault {
 }
 
 impl From<TakeFault> for AuditFault {
-    ghost from_gives = { λ f e. e ≡ of_head f };
+    ghost from_gives = { λ f e. e ≡ fault_of_head f };
 
     fn from(f: TakeFault) -> AuditFault {
         match f {
@@ -48,7 +48,7 @@ impl From<TakeFault> for AuditFault {
 }
 
 impl From<SourceFault> for AuditFault {
-    ghost from_gives = { λ f e. e ≡ of_source f };
+    ghost from_gives = { λ f e. e ≡ fault_of_source f };
 
     fn from(f: SourceFault) -> AuditFault {
         match f {

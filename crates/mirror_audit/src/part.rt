@@ -2,7 +2,7 @@
 ghost use Rattle.std.specs.Prelude.{◌≡◌, ◌<◌, ◌≤◌, IfErr, IfNone, IfOk, IfSome, None, length};
 ghost use Rattle.mirror_sources.specs.Files.{full_of, width_named};
 ghost use Rattle.mirror_audit.specs.Edges.{IsFullGiven, IsGivenAt};
-ghost use Rattle.mirror_audit.specs.Faults.{BlamesPlace, IsForAbsence};
+ghost use Rattle.mirror_audit.specs.Faults.{BlamesPlace, IsForAbsence, MayLack};
 
 use crate::fault::AuditFault;
 use mirror_sources::Source;
@@ -56,6 +56,8 @@ fn len_of_part(path: Path, full: &[u8]) -> Option<usize>
 
 // The first bytes of the full file in the place of a partial one. None where it is not there.
 fn get_full_part<S: Source>(source: &mut S, path: Path) -> Result<Option<Vec<u8>>, AuditFault>
+    ensures none { IfOk result (λ found. IfNone found
+        (S.may_answer source.old (full_of path) None)) }
     ensures counted { BlamesPlace (S.failed source.old) (S.failed source.new) result }
     ensures absent { IfErr result (IsForAbsence (S.may_answer source.old)) }
     ensures given { IfOk result (λ found. IfSome found (λ bytes. IsFullGiven path bytes.items
@@ -78,7 +80,7 @@ pub(crate) fn get_part<S: Source>(source: &mut S, path: Path) -> Result<Option<V
     requires { width_named path < 256 }
     ensures counted { BlamesPlace (S.failed source.old) (S.failed source.new) result }
     ensures absent { IfErr result (IsForAbsence (S.may_answer source.old)) }
-    ensures none { IfOk result (λ found. IfNone found (S.may_answer source.old path None)) }
+    ensures none { IfOk result (λ found. IfNone found (MayLack (S.may_answer source.old) path)) }
     ensures given { IfOk result (λ found. IfSome found (λ bytes. IsGivenAt path bytes.items
         (S.may_answer source.old) (S.may_answer source.new) (S.asked source.old)
         (S.asked source.new))) }

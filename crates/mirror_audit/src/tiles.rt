@@ -1,5 +1,6 @@
 //! Full tiles, with all that lies below them.
 ghost use Rattle.std.specs.Prelude.{◌≡◌, ◌+◌, ◌*◌, ◌^◌, ◌<◌, ◌≤◌, IfErr, IfOk, OnOk, length};
+ghost use Rattle.mirror_sources.specs.Files.{full_of};
 ghost use Rattle.mirror_audit.specs.Covering.{CoversRow, CoversTile, IsRowFound};
 ghost use Rattle.mirror_audit.specs.Faults.{BlamesPlace, IsForAbsence};
 
@@ -19,6 +20,7 @@ fn row_of<H: TreeHash, S: Source>(
     path: Path,
     hash: &Hash,
 ) -> Result<Vec<Hash>, AuditFault>
+    requires { full_of path ≡ path }
     ensures counted { BlamesPlace (S.failed source.old) (S.failed source.new) result }
     ensures absent { IfErr result (IsForAbsence (S.may_answer source.old)) }
     ensures found { IfOk result (λ row. IsRowFound H.digest path hash.now row.items

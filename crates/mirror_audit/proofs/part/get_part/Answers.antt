@@ -1,6 +1,7 @@
 use Rattle.std.proofs.Common.{Some, None, Vec, Global, ℕ}
+use Rattle.mirror_sources.specs.Files.{full_of}
 use Rattle.mirror_audit.specs.Edges.{IsFullGiven, IsGivenAt}
-use Rattle.mirror_audit.proofs.Given.{given_one, if_found, in_its_place, may_none, may_some, there}
+use Rattle.mirror_audit.proofs.Given.{given_one, if_found, if_none, in_its_place, may_none, may_some, there}
 use Rattle.mirror_audit.proofs.part.get_part.Goals as goal
 
 pub returns-in-Some-clause-given : goal.returns-in-Some-clause-given
@@ -29,3 +30,14 @@ returns-in-None-clause-given g c =
     (given_one a b x y path None c.in_ok-bytes.ensures.later
     (may_none a path c.in_ok-bytes.field-0 c.in-None.is c.in_ok-bytes.ensures.answer) c.in_ok-bytes.ensures.told) full)
     c.get_full_part.ensures.given
+
+pub returns-in-None-clause-none : goal.returns-in-None-clause-none
+returns-in-None-clause-none g c =
+    let a = g.S.Source.may_answer c.args.source.now in
+    let path = c.args.path in
+    if_none c.get_full_part.result
+    (λ full. record {
+      none = may_none a path c.in_ok-bytes.field-0 c.in-None.is c.in_ok-bytes.ensures.answer;
+      full = c.in_ok-bytes.ensures.later.stays (full_of path) None full;
+    })
+    c.get_full_part.ensures.none
