@@ -4,6 +4,12 @@
 #[cfg(test)]
 mod audits;
 #[cfg(test)]
+mod cut_shelf;
+#[cfg(test)]
+mod cuts;
+#[cfg(test)]
 mod logs;
+#[cfg(test)]
+mod places;
 #[cfg(test)]
 mod rows;

@@ -5,8 +5,9 @@
 ghost use Rattle.std.specs.Prelude.{◌<◌, ◌^◌, map, IfOk, length};
 ghost use Rattle.mirror_model.specs.TrueLaws.{AreShort};
 
-use mirror_copy::{BringFault, bring_copy};
-use mirror_folders::MemShelf;
+use mirror_copy::{BringFault, Places, bring_copy};
+use mirror_export::log_paths;
+use mirror_folders::{MemShelf, ReadableShelf};
 use mirror_sources::{ListSource, Source};
 use signed_note::HmacKey;
 use std::alloc::{AllocError, Global};
@@ -62,13 +63,13 @@ pub(crate) fn note_of(alloc: Global, log: &ListSource<Sha256Tree>) -> Result<Vec
 }
 
 /// Brings the shelf's copy to a checkpoint, from these places.
-pub(crate) fn bring<S: Source>(
+pub(crate) fn bring<D: ReadableShelf, S: Source + Drop>(
     alloc: Global,
-    shelf: &mut MemShelf,
-    places: &mut [S],
+    shelf: &mut D,
+    places: &mut Places<S>,
     note: &[u8],
 ) -> Result<u64, BringFault> {
-    bring_copy::<Sha256Tree, MemShelf, S>(alloc, "ex", shelf, places, note)
+    bring_copy::<Sha256Tree, D, S>(alloc, "ex", shelf, places, note)
 }
 
 /// Brings the shelf's copy to C(n) from one place that serves it, and answers what it was asked for, a path a line.
@@ -78,17 +79,17 @@ pub(crate) fn bring_log(
     count: u32,
     had: u64,
 ) -> Result<String, Fail> {
-    let mut places = Vec::new(alloc);
+    let mut places = Places::new(alloc);
     let log = log_of(alloc, count)?;
     let note = note_of(alloc, &log)?;
-    places.push(log)?;
+    places.add(log)?;
     let end = bring(alloc, shelf, &mut places, &note);
     if end != Ok(had) {
         return Err("the copy was not brought".into());
     }
     let mut asked = String::new(alloc);
-    for place in &places {
-        asked = lines_of(alloc, place.asked())?;
+    for place in places.list() {
+        asked = lines_of(alloc, place.source().asked())?;
     }
     Ok(asked)
 }
@@ -123,4 +124,19 @@ pub(crate) fn standing<'a>(shelf: &'a MemShelf, path: &Path) -> Option<&'a [u8]>
         }
     }
     found
+}
+
+/// Whether each file of C(n) stands with the bytes that the place serves.
+pub(crate) fn is_copy_of(
+    alloc: Global,
+    shelf: &MemShelf,
+    log: &ListSource<Sha256Tree>,
+    n: u64,
+) -> Result<bool, Fail> {
+    for path in &log_paths(alloc, n)? {
+        if standing(shelf, path) != log.file_at(*path) {
+            return Ok(false);
+        }
+    }
+    Ok(true)
 }

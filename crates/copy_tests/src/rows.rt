@@ -1,12 +1,10 @@
 //! Copies of small logs, brought step by step: what is asked for, what is put, and in which order.
-use crate::logs::{bring, bring_log, fork_of, log_of, note_of, put_lines, standing};
-use mirror_copy::BringFault;
-use mirror_export::log_paths;
+use crate::logs::{bring, bring_log, fork_of, is_copy_of, log_of, note_of, put_lines, standing};
+use crate::places::{Flaw, FlawedPlace};
+use mirror_copy::{BringFault, Places};
 use mirror_folders::{MemShelf, Shelf};
-use mirror_sources::{ListSource, Source, SourceFault};
 use std::alloc::Global;
 use std::test::Fail;
-use tlog_hash::Sha256Tree;
 use tlog_tiles::Path;
 
 // Whether the shelf's checkpoint has that line.
@@ -37,8 +35,8 @@ fn copy_3(rt: HostRuntime) -> Result<(), Fail> {
     assert!(&rt; has_line(&shelf, "8bnxZGS31f08aQe6Fx0eVantFhgeChNfXlXJNMPL5Ao="));
     let log = log_of(alloc, 3)?;
     let note = note_of(alloc, &log)?;
-    let mut places = Vec::new(alloc);
-    places.push(log)?;
+    let mut places = Places::new(alloc);
+    places.add(log)?;
     assert!(&rt; bring(alloc, &mut shelf, &mut places, &note) == Err(BringFault::NotLarger));
     assert!(&rt; shelf.puts().len() == 3);
     Ok(())
@@ -92,47 +90,13 @@ fn copy_fork_larger(rt: HostRuntime) -> Result<(), Fail> {
     let had = shelf.puts().len();
     let log = fork_of(alloc, 300)?;
     let note = note_of(alloc, &log)?;
-    let mut places = Vec::new(alloc);
-    places.push(log)?;
+    let mut places = Places::new(alloc);
+    places.add(log)?;
     let end = bring(alloc, &mut shelf, &mut places, &note);
     assert!(&rt; end == Err(BringFault::Contradiction), "{end:?}");
     assert!(&rt; shelf.puts().len() == had);
     assert!(&rt; has_line(&shelf, "Vtr95bs6bTEAwKWkpA8ePu37C9grbzipJ/t/5Cf4fos="));
     Ok(())
-}
-
-// A place that serves C(600) but for one file.
-#[derive(Drop)]
-struct Liar {
-    log: ListSource<Sha256Tree>,
-    path: Path,
-    bytes: Vec<u8>,
-}
-
-impl Source for Liar {
-    ghost failed = { λ _. 0 };
-
-    fn get(&mut self, path: &Path) -> Result<Option<Vec<u8>>, SourceFault> {
-        if *path == self.path {
-            Ok(Some(self.bytes.clone()?))
-        } else {
-            self.log.get(path)
-        }
-    }
-
-    fn failures(&self) -> u64 {
-        0
-    }
-}
-
-// A place over C(600) with zero bytes at a path.
-fn lying_place(alloc: Global, path: Path, len: usize) -> Result<Liar, Fail> {
-    let log = log_of(alloc, 600)?;
-    let mut bytes = Vec::new(alloc);
-    for _ in 0..len {
-        bytes.push(0)?;
-    }
-    Ok(Liar { log, path, bytes })
 }
 
 const BUNDLE: Path = Path::Entries {
@@ -145,58 +109,39 @@ const EDGE_BUNDLE: Path = Path::Entries {
     width: 88,
 };
 
+// Places over C(600) with these flaws.
+fn flawed(alloc: Global, count: u32, flaws: &[Flaw]) -> Result<Places<FlawedPlace>, Fail> {
+    let mut places = Places::new(alloc);
+    for flaw in flaws {
+        places.add(FlawedPlace::new(alloc, log_of(alloc, count)?, *flaw))?;
+    }
+    Ok(places)
+}
+
+const LIARS: [Flaw; 2] = [Flaw::Lies(BUNDLE), Flaw::Lies(EDGE_BUNDLE)];
+
 // Two places over C(600), one with 256 empty entries for bundle 1, the other with a false bundle at the edge: a copy of C(257) is
-// brought. With one of them alone it is not, and no checkpoint is put.
+// brought. With one of them alone it is not, and no checkpoint is put, nor onto an empty shelf.
 #[test]
 fn copy_two_places(rt: HostRuntime) -> Result<(), Fail> {
     let alloc = rt.alloc();
     let note = note_of(alloc, &log_of(alloc, 600)?)?;
     let mut shelf = MemShelf::new(alloc);
     let _first = bring_log(alloc, &mut shelf, 257, 0)?;
-    for path in [BUNDLE, EDGE_BUNDLE] {
-        let mut places = Vec::new(alloc);
-        places.push(lying_place(alloc, path, 512)?)?;
+    let mut empty = MemShelf::new(alloc);
+    for flaw in LIARS {
+        let mut places = flawed(alloc, 600, &[flaw])?;
         let end = bring(alloc, &mut shelf, &mut places, &note);
         assert!(&rt; end == Err(BringFault::NoFile), "{end:?}");
         assert!(&rt; has_line(&shelf, "Vtr95bs6bTEAwKWkpA8ePu37C9grbzipJ/t/5Cf4fos="));
+        let end = bring(alloc, &mut empty, &mut places, &note);
+        assert!(&rt; end == Err(BringFault::NoFile), "{end:?}");
+        assert!(&rt; standing(&empty, &Path::Checkpoint).is_none());
     }
-    let mut places = Vec::new(alloc);
-    places.push(lying_place(alloc, BUNDLE, 512)?)?;
-    places.push(lying_place(alloc, EDGE_BUNDLE, 512)?)?;
+    let mut places = flawed(alloc, 600, &LIARS)?;
     assert!(&rt; bring(alloc, &mut shelf, &mut places, &note) == Ok(257));
     assert!(&rt; is_copy_of(alloc, &shelf, &log_of(alloc, 600)?, 600)?);
     Ok(())
-}
-
-// A place that has lost the partial files, which their full ones stand for.
-#[derive(Drop)]
-struct FullFiles {
-    log: ListSource<Sha256Tree>,
-}
-
-impl Source for FullFiles {
-    ghost failed = { λ _. 0 };
-
-    fn get(&mut self, path: &Path) -> Result<Option<Vec<u8>>, SourceFault> {
-        match path {
-            Path::Tile { width, .. } => {
-                if *width < 256 {
-                    return Ok(None);
-                }
-            }
-            Path::Entries { width, .. } => {
-                if *width < 256 {
-                    return Ok(None);
-                }
-            }
-            Path::Checkpoint => {}
-        }
-        self.log.get(path)
-    }
-
-    fn failures(&self) -> u64 {
-        0
-    }
 }
 
 // From a place over C(512) that has full files alone a copy of C(3) is brought, whose files are cut from them.
@@ -204,10 +149,7 @@ impl Source for FullFiles {
 fn partial_files_are_gone(rt: HostRuntime) -> Result<(), Fail> {
     let alloc = rt.alloc();
     let note = note_of(alloc, &log_of(alloc, 3)?)?;
-    let mut places = Vec::new(alloc);
-    places.push(FullFiles {
-        log: log_of(alloc, 512)?,
-    })?;
+    let mut places = flawed(alloc, 512, &[Flaw::FullFilesAlone])?;
     let mut shelf = MemShelf::new(alloc);
     assert!(&rt; bring(alloc, &mut shelf, &mut places, &note) == Ok(0));
     assert!(&rt; is_copy_of(alloc, &shelf, &log_of(alloc, 3)?, 3)?);
@@ -235,8 +177,8 @@ fn copy_damaged(rt: HostRuntime) -> Result<(), Fail> {
     let alloc = rt.alloc();
     let log = log_of(alloc, 601)?;
     let note = note_of(alloc, &log)?;
-    let mut places = Vec::new(alloc);
-    places.push(log)?;
+    let mut places = Places::new(alloc);
+    places.add(log)?;
     for path in &TIP {
         let mut shelf = MemShelf::new(alloc);
         let _first = bring_log(alloc, &mut shelf, 600, 0)?;
@@ -253,21 +195,6 @@ fn copy_damaged(rt: HostRuntime) -> Result<(), Fail> {
         assert!(&rt; end == Err(BringFault::CopyDamaged), "{path} {end:?}");
     }
     Ok(())
-}
-
-// Whether each file of C(n) stands with the bytes that the place serves.
-fn is_copy_of(
-    alloc: Global,
-    shelf: &MemShelf,
-    log: &ListSource<Sha256Tree>,
-    n: u64,
-) -> Result<bool, Fail> {
-    for path in &log_paths(alloc, n)? {
-        if standing(shelf, path) != log.file_at(*path) {
-            return Ok(false);
-        }
-    }
-    Ok(true)
 }
 
 const SIZES: [u32; 5] = [0, 1, 255, 256, 257];

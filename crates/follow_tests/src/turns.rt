@@ -1,5 +1,6 @@
 //! Candidates that have their turn.
 use crate::logs::{Place, keys, place_of};
+use mirror_copy::Places;
 use mirror_folders::{MemShelf, ReadableShelf};
 use mirror_follow::{Candidate, Turn, ask_candidates, take_turns};
 use std::alloc::Global;
@@ -8,18 +9,27 @@ use tlog_hash::Sha256Tree;
 use tlog_tiles::Path;
 
 // The candidates of the places have their turn.
-fn follow(alloc: Global, shelf: &mut MemShelf, places: &mut Vec<Place>) -> Result<Vec<Turn>, Fail> {
-    let Ok(candidates) = ask_candidates(alloc, "ex", &keys(alloc)?, places) else {
+fn follow(
+    alloc: Global,
+    shelf: &mut MemShelf,
+    mut sources: Vec<Place>,
+) -> Result<(Vec<Turn>, Places<Place>), Fail> {
+    let Ok(candidates) = ask_candidates(alloc, "ex", &keys(alloc)?, &mut sources) else {
         return Err("no candidates".into());
     };
-    turns_of(alloc, shelf, places, &candidates)
+    let mut places = Places::new(alloc);
+    for source in sources {
+        places.add(source)?;
+    }
+    let turns = turns_of(alloc, shelf, &mut places, &candidates)?;
+    Ok((turns, places))
 }
 
 // What came of these turns.
 fn turns_of(
     alloc: Global,
     shelf: &mut MemShelf,
-    places: &mut [Place],
+    places: &mut Places<Place>,
     candidates: &[Candidate],
 ) -> Result<Vec<Turn>, Fail> {
     let turns = take_turns::<Sha256Tree, MemShelf, Place>(alloc, "ex", shelf, places, candidates);
@@ -45,7 +55,7 @@ fn shelf_of(alloc: Global, count: u32) -> Result<MemShelf, Fail> {
     let mut shelf = MemShelf::new(alloc);
     let mut places = Vec::new(alloc);
     places.push(place_of(alloc, count, false, 0)?)?;
-    let turns = follow(alloc, &mut shelf, &mut places)?;
+    let (turns, _places) = follow(alloc, &mut shelf, places)?;
     if turns.as_slice() == [Turn::Brought].as_slice() {
         Ok(shelf)
     } else {
@@ -61,15 +71,16 @@ fn copy_place_behind(rt: HostRuntime) -> Result<(), Fail> {
     let had = shelf.puts().len();
     let mut places = Vec::new(alloc);
     places.push(place_of(alloc, 3, false, 0)?)?;
-    let turns = follow(alloc, &mut shelf, &mut places)?;
+    let (turns, places) = follow(alloc, &mut shelf, places)?;
     assert!(&rt;
         turns.as_slice() == [Turn::NotLarger].as_slice(),
         "{turns:?}"
     );
     assert!(&rt; shelf.puts().len() == had);
-    assert_eq!(&rt; places.len(), 1);
-    let asked = places[0].asked(alloc)?;
-    assert!(&rt; asked.as_str() == "checkpoint\n", "{asked}");
+    for place in places.list() {
+        let asked = place.source().asked(alloc)?;
+        assert!(&rt; asked.as_str() == "checkpoint\n", "{asked}");
+    }
     Ok(())
 }
 
@@ -86,7 +97,7 @@ fn copy_falls_back(rt: HostRuntime) -> Result<(), Fail> {
     });
     places.push(liar)?;
     places.push(place_of(alloc, 300, false, 0)?)?;
-    let turns = follow(alloc, &mut shelf, &mut places)?;
+    let (turns, _places) = follow(alloc, &mut shelf, places)?;
     assert!(&rt;
         turns.as_slice() == [Turn::NotHad, Turn::Brought].as_slice(),
         "{turns:?}"
@@ -104,15 +115,17 @@ fn copy_fork_larger(rt: HostRuntime) -> Result<(), Fail> {
     let had = shelf.puts().len();
     let mut places = Vec::new(alloc);
     places.push(place_of(alloc, 300, true, 0)?)?;
-    let turns = follow(alloc, &mut shelf, &mut places)?;
+    let (turns, _places) = follow(alloc, &mut shelf, places)?;
     assert!(&rt;
         turns.as_slice() == [Turn::Contradicts].as_slice(),
         "{turns:?}"
     );
     assert!(&rt; shelf.puts().len() == had);
+    let mut places = Vec::new(alloc);
+    places.push(place_of(alloc, 300, true, 0)?)?;
     places.push(place_of(alloc, 300, false, 0)?)?;
     places.push(place_of(alloc, 300, false, 0)?)?;
-    let turns = follow(alloc, &mut shelf, &mut places)?;
+    let (turns, _places) = follow(alloc, &mut shelf, places)?;
     let due = [Turn::Brought, Turn::Repeated, Turn::NotLarger];
     assert!(&rt; turns.as_slice() == due.as_slice(), "{turns:?}");
     Ok(())

@@ -4,11 +4,13 @@ use Rattle.std.proofs.Common.{◌∙◌}
 use Rattle.std.proofs.Math.Nat.{div-mul-le_self}
 use Rattle.tlog_shape.specs.Edge.{edge_index_of}
 use Rattle.mirror_sources.specs.Told.{KeepsTold}
-use Rattle.mirror_folders.specs.Shelf.{Put}
+use Rattle.tlog_tiles.specs.declared.paths.Path.{Path}
+use Rattle.mirror_folders.specs.Shelf.{Put, Stands}
+use Rattle.mirror_copy.specs.Standing.{TellsStands}
 use Rattle.mirror_copy.specs.Conflicts.{ConflictPutsNothing, IsConflict, IsNoConflict}
 use Rattle.mirror_copy.specs.declared.fault.BringFault.{BringFault}
 use Rattle.mirror_copy.specs.declared.fault.BringFault.TheVariants.{BadCheckpoint, CopyDamaged, NotLarger, Contradiction}
-use Rattle.mirror_copy.specs.declared.fault.BringFault.TheVariants.{Collision, NoFile, CopyInUse, ShelfFault, OutOfMemory}
+use Rattle.mirror_copy.specs.declared.fault.BringFault.TheVariants.{Collision, NoFile, Source, CopyInUse, ShelfFault, OutOfMemory}
 
 -- the tile in which the m entries end begins within them
 pub edge_start : (m level index : ℕ) → index ≡ edge_index_of m level → index * 256 ^ (level + 1) ≤ m
@@ -20,12 +22,21 @@ kept_then (Some xs) None z p q = absurd p
 kept_then (Some xs) (Some ys) None p q = q
 kept_then (Some xs) (Some ys) (Some zs) p q = q ∙ p
 
+-- what stood stands while what was put is kept
+pub stands_kept : (x y z : Option (List Put)) (path : Path) (bytes : List ℕ) → TellsStands x y path bytes → KeepsTold y z →
+    TellsStands x z path bytes
+stands_kept None y z path bytes h k = tt
+stands_kept (Some xs) None z path bytes h k = absurd h
+stands_kept (Some xs) (Some ys) None path bytes h k = absurd k
+stands_kept (Some xs) (Some ys) (Some zs) path bytes h k = subst (λ (puts : List Put). Stands puts path bytes) (sym k) h
+
 pub early_other : (T : Type 0) (start m : ℕ) (x y : Option (List Put)) (e : BringFault) → IsNoConflict e →
     ConflictPutsNothing {T = T} start m x y (Err e)
 early_other T start m x y BadCheckpoint h = tt
 early_other T start m x y CopyDamaged h = tt
 early_other T start m x y NotLarger h = tt
 early_other T start m x y CopyInUse h = tt
+early_other T start m x y Source h = tt
 early_other T start m x y Contradiction h = absurd h
 early_other T start m x y Collision h = absurd h
 early_other T start m x y NoFile h = tt
@@ -47,6 +58,7 @@ early_later S T start later m x y z BadCheckpoint f h = tt
 early_later S T start later m x y z CopyDamaged f h = tt
 early_later S T start later m x y z NotLarger f h = tt
 early_later S T start later m x y z CopyInUse f h = tt
+early_later S T start later m x y z Source f h = tt
 early_later S T start later m x y z NoFile f h = tt
 early_later S T start later m x y z ShelfFault f h = tt
 early_later S T start later m x y z OutOfMemory f h = tt
@@ -62,6 +74,7 @@ conflict_keeps start m x y (Err Contradiction) h = λ c. h.1
 conflict_keeps start m x y (Err Collision) h = λ c. h.1
 conflict_keeps start m x y (Err NoFile) h = λ c. absurd c
 conflict_keeps start m x y (Err CopyInUse) h = λ c. absurd c
+conflict_keeps start m x y (Err Source) h = λ c. absurd c
 conflict_keeps start m x y (Err ShelfFault) h = λ c. absurd c
 conflict_keeps start m x y (Err OutOfMemory) h = λ c. absurd c
 
@@ -73,6 +86,7 @@ no_conflict Contradiction P h c = absurd h
 no_conflict Collision P h c = absurd h
 no_conflict NoFile P h c = absurd c
 no_conflict CopyInUse P h c = absurd c
+no_conflict Source P h c = absurd c
 no_conflict ShelfFault P h c = absurd c
 no_conflict OutOfMemory P h c = absurd c
 

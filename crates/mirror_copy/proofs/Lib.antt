@@ -1,3 +1,6 @@
+pub mod Asking
+pub mod Begun
+pub mod NewFulls
 pub mod Prefixes
 pub mod Growth
 pub mod Below

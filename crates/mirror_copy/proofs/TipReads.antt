@@ -18,8 +18,9 @@ use Rattle.tlog_tiles.proofs.TileLemmas.{served_is_read}
 use Rattle.mirror_model.specs.Heads.{IsHead}
 use Rattle.mirror_model.specs.Strings.{IsDigest}
 use Rattle.mirror_model.proofs.HeadNotes.{head_once}
-use Rattle.mirror_folders.specs.Shelf.{Put, Stands}
+use Rattle.mirror_folders.specs.Shelf.{HasPut, Put, Stands}
 use Rattle.mirror_export.specs.FileLaws.{IsFileOf}
+use Rattle.mirror_export.proofs.Standing.{put_has}
 use Rattle.mirror_export.proofs.AllFiles.{files_are_all, partial_widest}
 use Rattle.mirror_copy.specs.Copies.{IsCopy}
 use Rattle.mirror_copy.specs.Found.{IsBundleRead, IsEdgeRead, IsRowRead, IsTipRead}
@@ -66,6 +67,15 @@ stands_one puts path a b p q = elim (cases_lt (length p.before) (length q.before
   ]
 ]
 
+-- what stands there was put there
+pub stands_has : (puts : List Put) (path : Path) (bytes : List ℕ) → Stands puts path bytes → HasPut puts path
+stands_has puts path bytes s = put_has puts path bytes (
+  length s.before,
+  omega (arith, ap length s.puts_are, length-append s.before ((path, bytes) ∷ s.after)),
+  ap (λ (l : List Put). get_or l (length s.before) (path, bytes)) s.puts_are
+      ∙ get_or-append_seam s.before (path, bytes) s.after (path, bytes),
+)
+
 -- ---- the tip of a copy
 
 module _ (digest : List ℕ → List ℕ) (hash : IsDigest digest) (origin note : List ℕ) (entries : List (List ℕ))
@@ -85,8 +95,13 @@ module _ (digest : List ℕ → List ℕ) (hash : IsDigest digest) (origin note 
       (head_once note origin origin size n root (mth digest entries)
       (subst (λ b. IsHead b origin size root) (note_read bytes there) head) copy.is_head).size_is
 
+  read_one : (path : Path) (bytes other : List ℕ) → (HasPut held path → Stands held path bytes) → Stands held path other →
+      bytes ≡ other
+  read_one path bytes other there stands = stands_one held path bytes other (there (stands_has held path other stands)) stands
+
   row_true : (level width : ℕ) (bytes : List ℕ) (row : List (List ℕ)) → IsRow width bytes row → level ≤ 7 →
-      width ≢ 0 → width ≡ width_of n level → Stands held (Tile level (edge_index_of n level) width) bytes →
+      width ≢ 0 → width ≡ width_of n level → (HasPut held (Tile level (edge_index_of n level) width) →
+      Stands held (Tile level (edge_index_of n level) width) bytes) →
       row ≡ level_row digest entries level (256 * edge_index_of n level) width
   row_true level width bytes row is upto some width_is there =
       let index = edge_index_of n level in
@@ -94,7 +109,7 @@ module _ (digest : List ℕ → List ℕ) (hash : IsDigest digest) (origin note 
       let file : IsFileOf n path = subst (λ w. IsFileOf n (Tile level index w)) (sym width_is)
       (partial_widest n level upto (λ e. some (width_is ∙ e))) in
       let bytes_are : bytes ≡ tile_bytes digest entries level index width =
-      stands_one held path bytes (tile_bytes digest entries level index width) there
+      read_one path bytes (tile_bytes digest entries level index width) there
       (copy.holds path ((files_are_all n path).1 file)) in
       let true_row = (served_is_read digest hash entries copy.short).tile level index width in
       row_one row (level_row digest entries level (256 * index) width) is.sizes true_row.sizes
@@ -120,7 +135,7 @@ module _ (digest : List ℕ → List ℕ) (hash : IsDigest digest) (origin note 
     | inl some ↦
         let index = edge_index_of n 0 in
         let path = Entries index (width_of n 0) in
-        stands_one held path bytes (bundle_bytes entries index (width_of n 0)) (r.stands (omega arith))
+        read_one path bytes (bundle_bytes entries index (width_of n 0)) (r.stands (omega arith))
         (copy.holds path ((files_are_all n path).1 (partial_widest n 0 (omega arith) (λ e. omega arith))))
     | inr none ↦
         let zero_wide : width_of n 0 ≡ 0 = omega arith in

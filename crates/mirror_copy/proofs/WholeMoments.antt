@@ -3,7 +3,6 @@ use Rattle.std.proofs.Common.{◌≡◌, ◌≢◌, ◌⊎◌, ℕ, ◌+◌, ◌
 use Rattle.std.proofs.Common.{Option, Some, None, Result, Ok, Err, OnOk, refl, sym, ap, subst, ◌∙◌, append_assoc, inl, inr, arith, All}
 use Rattle.std.specs.List.{Contains}
 use Rattle.std.proofs.Math.Nat.{div-eq_of_lt}
-use Rattle.std.proofs.Math.Seq.{get_or-append_seam}
 use Rattle.std.proofs.lemmas.Bool.{cases_lt}
 use Rattle.std.proofs.lemmas.List.{append-nil, append_cancel_left, get_or_append_left, length-append, length-map, map-append, nil_from_length}
 use Rattle.std.proofs.lemmas.List.Elements.{All-append, All-cons, All-contains, All-map, All-nil, All-weaker, Contains-append_cases, Contains-append_left}
@@ -23,11 +22,11 @@ use Rattle.mirror_export.specs.FileLaws.{IsFileOf}
 use Rattle.mirror_export.specs.Exports.{IsMoment}
 use Rattle.mirror_export.specs.SinceLaws.{HoldsFiles}
 use Rattle.mirror_export.proofs.AllFiles.{files_are_all, upto_hashes}
-use Rattle.mirror_export.proofs.Standing.{put_has, stands_more}
+use Rattle.mirror_export.proofs.Standing.{stands_more}
 use Rattle.mirror_copy.specs.Copies.{IsCopy}
 use Rattle.log_reader.specs.EdgeRows.{Edge, hash_of_edge, row_at}
 use Rattle.mirror_copy.specs.Edges.{BringsToEdge, IsCopyBrought, PutsNote}
-use Rattle.mirror_copy.specs.Found.{IsBundleRead, IsEdgeRead, IsRowRead, IsTipRead}
+use Rattle.mirror_copy.specs.Found.{IsBundleRead, IsEdgeRead, IsRowRead, IsTipRead, TellsPartial}
 use Rattle.mirror_copy.specs.Growing.{Obtains, IsCutShort, IsKnown, IsNewFile, Tip, empty_tip}
 use Rattle.mirror_copy.specs.Moments.{AtEachMoment, HadSize, InTheEnd, IsBroughtTo, IsGrownCopy, KeepsCopy, PutsBeyond}
 use Rattle.mirror_folders.specs.Shelf.{TellsRead}
@@ -35,8 +34,8 @@ use Rattle.mirror_copy.proofs.CopyMoments.{bringing_makes_copy, bringing_stays_c
 use Rattle.mirror_copy.proofs.Growth.{adds_then, gathers_none, kept_adds, kept_same, left_none}
 use Rattle.mirror_copy.proofs.Earlier.{kept_then}
 use Rattle.mirror_copy.proofs.Roots.{brought_root}
-use Rattle.mirror_copy.proofs.RowLists.{read_before, row_before}
-use Rattle.mirror_copy.proofs.TipReads.{tip_read}
+use Rattle.mirror_copy.proofs.RowLists.{partial_before, row_before}
+use Rattle.mirror_copy.proofs.TipReads.{stands_has, tip_read}
 use Rattle.mirror_model.specs.Strings.{IsDigest}
 
 -- ---- puts at a moment
@@ -63,15 +62,6 @@ has_front so_far later puts last path same le has =
     ap (λ (l : List Path). get_or l k path) (map-append f so_far later)
     ∙ get_or_append_left (paths so_far) (paths later) path k has.1 in
     (k, in_puts, left ∙ (ap (λ (l : List Put). get_or (paths l) k path) (sym same) ∙ (right ∙ has.2)))
-
-stands_has : (puts : List Put) (path : Path) (bytes : List ℕ) → Stands puts path bytes → HasPut puts path
-stands_has puts path bytes h =
-    put_has puts path bytes (
-      length h.before,
-      omega (arith, ap length h.puts_are, length-append h.before ((path, bytes) ∷ h.after)),
-      ap (λ (l : List Put). get_or l (length h.before) (path, bytes)) h.puts_are
-          ∙ get_or-append_seam h.before (path, bytes) h.after (path, bytes),
-    )
 
 pub none_found : (puts : List Put) (answer : Option (List ℕ)) → TellsRead (Some puts) Checkpoint answer →
     (HasPut puts Checkpoint → ⊥) → answer ≡ None
@@ -596,7 +586,7 @@ module _ (digest : List ℕ → List ℕ) (hash : IsDigest digest) (origin : Lis
       let last' = subst (λ n. IsBundleRead z n bundle) rows.size_is last in
       subst (λ b. IsBundleRead x size b) (sym bundle_is) (record {
         none = last'.none;
-        stands = λ some. read_before x z (Entries (edge_index_of size 0) (width_of size 0)) (Some bundle)
+        stands = λ some. partial_before x z (Entries (edge_index_of size 0) (width_of size 0)) (Some bundle)
             (kept_then x y z kept kept') (last'.stands some);
       })
 
@@ -605,13 +595,13 @@ module _ (digest : List ℕ → List ℕ) (hash : IsDigest digest) (origin : Lis
 
 pub bundle_made : (x : Option (List Put)) (edge : Edge) (index width : ℕ) (given : Option (List ℕ)) (bytes : List ℕ) →
     index ≡ edge_index_of edge.size 0 → width ≡ width_of edge.size 0 → 1 ≤ width →
-    TellsRead x (Entries index width) given → given ≡ Some bytes → IsBundleRead x edge.size bytes
+    TellsPartial x (Entries index width) given → given ≡ Some bytes → IsBundleRead x edge.size bytes
 bundle_made x edge index width given bytes index_is width_is some there is = record {
   none = λ e. absurd (omega (arith, e, width_is, some));
   stands = λ wide.
-      subst (λ k. TellsRead x (Entries k (width_of edge.size 0)) (Some bytes)) index_is
-      (subst (λ k. TellsRead x (Entries index k) (Some bytes)) width_is
-      (subst (λ a. TellsRead x (Entries index width) a) is there));
+      subst (λ k. TellsPartial x (Entries k (width_of edge.size 0)) (Some bytes)) index_is
+      (subst (λ k. TellsPartial x (Entries index k) (Some bytes)) width_is
+      (subst (λ a. TellsPartial x (Entries index width) a) is there));
 }
 
 pub no_bundle : (x : Option (List Put)) (n : ℕ) (bytes : List ℕ) → bytes ≡ [] → width_of n 0 ≡ 0 →

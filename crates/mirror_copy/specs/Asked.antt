@@ -1,10 +1,50 @@
--- What is known of places that were asked for a path in vain.
-use Rattle.std.specs.Prelude.{◌≡◌, ◌⊎◌, ℕ, List, Option, IfSome}
+-- What places are asked for in a bringing, and what is known of one that was asked in vain.
+use Rattle.std.specs.Prelude.{◌≡◌, ◌⊎◌, ℕ, ◌-◌, ◌<◌, ◌≤◌, List, Option, IfSome}
+use Rattle.tlog_shape.specs.Edge.{edge_index_of, width_of}
 use Rattle.tlog_tiles.specs.declared.paths.Path.{Path}
-use Rattle.mirror_sources.specs.Told.{one_more}
+use Rattle.tlog_tiles.specs.declared.paths.Path.TheVariants.{Checkpoint, Tile, Entries}
+use Rattle.tlog_tiles.specs.Tiles.{IsWithin}
+use Rattle.mirror_sources.specs.Files.{full_of}
 
--- a place was asked for the path in vain: it failed, or an answer came that it may give and that is not good
+-- the place that is asked in that turn, if one is asked first and then the others in their order
+abbrev pub IsAskedInTurn : ℕ → ℕ → ℕ → Type 0
+IsAskedInTurn first turn place =
+    ((turn ≡ 0) × (place ≡ first))
+    ⊎ (((1 ≤ turn) × (turn ≤ first) × (place ≡ turn - 1)) ⊎ ((first < turn) × (place ≡ turn)))
+
+-- a place, which had failed so often before and after, was asked for the path in vain: it failed, or it was given up, or an
+-- answer came that it may give and that is not good
 abbrev pub IsAskedInVain : (Path → Option (List ℕ) → Type 0) → ℕ → ℕ → Path → (List ℕ → Type 0) → Type 0
 IsAskedInVain may old new path good =
-    (new ≡ one_more old)
+    ((old < new) ⊎ (8 ≤ old))
     ⊎ ((answer : Option (List ℕ)) × (may path answer) × IfSome answer (λ bytes. ¬ good bytes))
+
+-- the path, or its full one
+abbrev pub IsPathOrFull : Path → Path → Type 0
+IsPathOrFull path asked = (asked ≡ path) ⊎ (asked ≡ full_of path)
+
+-- the path of a partial tile at the edge of n entries, or its full one
+pub record IsEdgeTile (n : ℕ) (path : Path) : Type 0 where
+  pub level : ℕ
+  pub upto : level ≤ 7
+  pub some : 1 ≤ width_of n level
+  pub is : IsPathOrFull (Tile level (edge_index_of n level) (width_of n level)) path
+
+-- the path of the partial bundle at the edge of n entries, or its full one
+pub record IsEdgeBundle (n : ℕ) (path : Path) : Type 0 where
+  pub some : 1 ≤ width_of n 0
+  pub is : IsPathOrFull (Entries (edge_index_of n 0) (width_of n 0)) path
+
+-- a full tile of level 1 or above, or a full bundle, that is not wholly within the first m entries
+abbrev pub IsNewFull : ℕ → Path → Type 0
+IsNewFull m Checkpoint = ⊥
+IsNewFull m (Tile level index width) = (1 ≤ level) × (width ≡ 256) × (¬ IsWithin m (Tile level index width))
+IsNewFull m (Entries index width) = (width ≡ 256) × (¬ IsWithin m (Entries index width))
+
+-- what is asked for once the edge rows of n entries are known
+abbrev pub IsEdgeBundleOrNew : ℕ → ℕ → Path → Type 0
+IsEdgeBundleOrNew n m path = IsEdgeBundle n path ⊎ IsNewFull m path
+
+-- what a bringing from m entries to n asks for: the edge of n, and full files that are not wholly within the first m
+abbrev pub MayBeAsked : ℕ → ℕ → Path → Type 0
+MayBeAsked m n path = IsEdgeTile n path ⊎ IsEdgeBundleOrNew n m path

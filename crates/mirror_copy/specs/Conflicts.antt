@@ -4,7 +4,7 @@ use Rattle.mirror_sources.specs.Told.{KeepsTold}
 use Rattle.mirror_folders.specs.Shelf.{Put}
 use Rattle.mirror_copy.specs.declared.fault.BringFault.{BringFault}
 use Rattle.mirror_copy.specs.declared.fault.BringFault.TheVariants.{BadCheckpoint, CopyDamaged, NotLarger}
-use Rattle.mirror_copy.specs.declared.fault.BringFault.TheVariants.{Contradiction, Collision, NoFile, CopyInUse}
+use Rattle.mirror_copy.specs.declared.fault.BringFault.TheVariants.{Contradiction, Collision, NoFile, Source, CopyInUse}
 use Rattle.mirror_copy.specs.declared.fault.BringFault.TheVariants.{ShelfFault, OutOfMemory}
 
 -- the fault is neither a contradiction nor a collision
@@ -15,6 +15,7 @@ IsNoConflict NotLarger = ⊤
 IsNoConflict Contradiction = ⊥
 IsNoConflict Collision = ⊥
 IsNoConflict NoFile = ⊤
+IsNoConflict Source = ⊤
 IsNoConflict CopyInUse = ⊤
 IsNoConflict ShelfFault = ⊤
 IsNoConflict OutOfMemory = ⊤
@@ -27,6 +28,7 @@ IsConflict NotLarger = ⊥
 IsConflict Contradiction = ⊤
 IsConflict Collision = ⊤
 IsConflict NoFile = ⊥
+IsConflict Source = ⊥
 IsConflict CopyInUse = ⊥
 IsConflict ShelfFault = ⊥
 IsConflict OutOfMemory = ⊥
@@ -41,6 +43,7 @@ ConflictPutsNothing start m old new (Err NotLarger) = ⊤
 ConflictPutsNothing start m old new (Err Contradiction) = (start ≤ m) × KeepsTold old new
 ConflictPutsNothing start m old new (Err Collision) = (start ≤ m) × KeepsTold old new
 ConflictPutsNothing start m old new (Err NoFile) = ⊤
+ConflictPutsNothing start m old new (Err Source) = ⊤
 ConflictPutsNothing start m old new (Err CopyInUse) = ⊤
 ConflictPutsNothing start m old new (Err ShelfFault) = ⊤
 ConflictPutsNothing start m old new (Err OutOfMemory) = ⊤

@@ -1,23 +1,31 @@
 -- What was read of a copy's edge. It is cited by the contracts of
 -- private functions alone.
-use Rattle.std.specs.Prelude.{◌≡◌, ℕ, ◌≤◌, List, [], Option, Some, None, Result, OnOk}
+use Rattle.std.specs.Prelude.{◌≡◌, ⊤, ℕ, ◌≤◌, List, [], Option, Some, None, Result, OnOk}
 use Rattle.tlog_shape.specs.Edge.{width_of, edge_index_of}
+use Rattle.tlog_tiles.specs.declared.paths.Path.{Path}
 use Rattle.tlog_tiles.specs.declared.paths.Path.TheVariants.{Checkpoint, Tile, Entries}
 use Rattle.tlog_tiles.specs.Row.{IsRow}
 use Rattle.mirror_sources.specs.Told.{KeepsTold}
-use Rattle.mirror_folders.specs.Shelf.{Put}
+use Rattle.mirror_folders.specs.Shelf.{HasPut, Put, Stands}
 use Rattle.mirror_copy.specs.Copies.{IsCopy}
 use Rattle.log_reader.specs.EdgeRows.{Edge, row_at}
 use Rattle.mirror_copy.specs.Growing.{IsKnown, Tip}
 use Rattle.mirror_copy.specs.Moments.{IsBroughtTo, KeepsCopy}
 use Rattle.mirror_folders.specs.Shelf.{TellsRead}
 
+-- the answer is what stands at the path of a partial file, where something was put there; where nothing was, it may be
+-- cut from the full file
+abbrev pub TellsPartial : Option (List Put) → Path → Option (List ℕ) → Type 0
+TellsPartial None path answer = ⊤
+TellsPartial (Some puts) path None = ¬ HasPut puts path
+TellsPartial (Some puts) path (Some bytes) = HasPut puts path → Stands puts path bytes
+
 -- the row of a level of the edge of n entries is what stands on the shelf, where there is one
 pub record IsRowRead (puts : Option (List Put)) (n level : ℕ) (row : List (List ℕ)) : Type 0 where
   pub bytes : List ℕ
   pub is_row : IsRow (width_of n level) bytes row
   pub stands : 1 ≤ width_of n level →
-      TellsRead puts (Tile level (edge_index_of n level) (width_of n level)) (Some bytes)
+      TellsPartial puts (Tile level (edge_index_of n level) (width_of n level)) (Some bytes)
 
 -- the rows are those of the edge of n entries as they stand on the shelf
 pub record IsEdgeRead (puts : Option (List Put)) (n : ℕ) (edge : Edge) : Type 0 where
@@ -27,7 +35,7 @@ pub record IsEdgeRead (puts : Option (List Put)) (n : ℕ) (edge : Edge) : Type 
 -- the bytes are the partial bundle at the edge of n entries as it stands on the shelf, and none where there is none
 pub record IsBundleRead (puts : Option (List Put)) (n : ℕ) (bytes : List ℕ) : Type 0 where
   pub none : width_of n 0 ≡ 0 → bytes ≡ []
-  pub stands : 1 ≤ width_of n 0 → TellsRead puts (Entries (edge_index_of n 0) (width_of n 0)) (Some bytes)
+  pub stands : 1 ≤ width_of n 0 → TellsPartial puts (Entries (edge_index_of n 0) (width_of n 0)) (Some bytes)
 
 module _ (digest : List ℕ → List ℕ) where
   -- the tip is what stands on the shelf: of each copy that stands there it is the tip

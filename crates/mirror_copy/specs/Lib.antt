@@ -1,3 +1,4 @@
+pub mod PlaceGets
 pub mod Faults
 pub mod Standing
 pub mod Growing
@@ -7,3 +8,4 @@ pub mod Copies
 pub mod Moments
 pub mod Edges
 pub mod Found
+pub mod AskedForCopy

@@ -1,12 +1,16 @@
 //! Tiles brought from places, with all that lies below them.
-ghost use Rattle.std.specs.Prelude.{◌≡◌, ◌+◌, ◌*◌, ◌^◌, ◌<◌, ◌≤◌, ℕ, List, OnOk, length};
+ghost use Rattle.std.specs.Prelude.{◌≡◌, ◌+◌, ◌*◌, ◌^◌, ◌<◌, ◌≤◌, ℕ, List, IfErr, OnOk, length};
 ghost use Rattle.mirror_sources.specs.Told.{KeepsTold};
+ghost use Rattle.mirror_copy.specs.Asked.{IsNewFull};
+ghost use Rattle.mirror_copy.specs.Faults.{BlamesPlaces, CountsShelf};
+ghost use Rattle.mirror_copy.specs.PlaceGets.{AsksPlaces};
 ghost use Rattle.mirror_copy.specs.Conflicts.{ConflictPutsNothing};
 ghost use Rattle.mirror_copy.specs.Growing.{IsKnown, BringsRow, BringsTile};
 
 use crate::fault::BringFault;
 use crate::find::find;
 use crate::keep::keep;
+use crate::places::Places;
 use crate::tip::CopyTip;
 use log_reader::FullFile;
 use mirror_folders::ReadableShelf;
@@ -16,16 +20,20 @@ use tlog_hash::{Hash, TreeHash};
 use tlog_tiles::{Path, write_row};
 
 // Brings a full bundle, and its tile of level 0.
-fn bring_bundle<H: TreeHash, D: ReadableShelf, S: Source>(
+fn bring_bundle<H: TreeHash, D: ReadableShelf, S: Source + Drop>(
     alloc: Global,
     shelf: &mut D,
-    places: &mut [S],
+    places: &mut Places<S>,
     tip: &CopyTip,
     index: u64,
     hash: &Hash,
 ) -> Result<(), BringFault>
     requires fits { (index + 1) * 256 ≤ 2 ^ 63 }
     requires beyond { tip.now.size < (index + 1) * 256 }
+    ensures counted { CountsShelf (D.failed shelf.old) (D.failed shelf.new) result }
+    ensures asks { AsksPlaces S.may_answer S.failed S.asked (IsNewFull tip.now.size)
+        places.old places.new }
+    ensures blames { IfErr result (BlamesPlaces places.new) }
     ensures early { ConflictPutsNothing (index * 256) tip.now.size (D.puts shelf.old)
         (D.puts shelf.new) result }
     ensures brings { (known : List (List ℕ)) → IsKnown H.digest tip.now (index * 256) known
@@ -55,10 +63,10 @@ fn bring_bundle<H: TreeHash, D: ReadableShelf, S: Source>(
 
 /// Brings a full tile: its row is found, all below it is brought from left to right, and then it is put.
 #[cycle(tiles)]
-fn bring_tile<H: TreeHash, D: ReadableShelf, S: Source>(
+fn bring_tile<H: TreeHash, D: ReadableShelf, S: Source + Drop>(
     alloc: Global,
     shelf: &mut D,
-    places: &mut [S],
+    places: &mut Places<S>,
     tip: &CopyTip,
     level: u32,
     index: u64,
@@ -67,6 +75,10 @@ fn bring_tile<H: TreeHash, D: ReadableShelf, S: Source>(
     requires level { level ≤ 6 }
     requires fits { (index + 1) * 256 ^ (level + 1) ≤ 2 ^ 63 }
     requires beyond { tip.now.size < (index + 1) * 256 ^ (level + 1) }
+    ensures counted { CountsShelf (D.failed shelf.old) (D.failed shelf.new) result }
+    ensures asks { AsksPlaces S.may_answer S.failed S.asked (IsNewFull tip.now.size)
+        places.old places.new }
+    ensures blames { IfErr result (BlamesPlaces places.new) }
     ensures early { ConflictPutsNothing (index * 256 ^ (level + 1)) tip.now.size (D.puts shelf.old)
         (D.puts shelf.new) result }
     ensures brings { (known : List (List ℕ))
@@ -89,10 +101,10 @@ fn bring_tile<H: TreeHash, D: ReadableShelf, S: Source>(
 
 /// Brings all below a row, full or at the edge, from left to right.
 #[cycle(tiles)]
-pub(crate) fn bring_row<H: TreeHash, D: ReadableShelf, S: Source>(
+pub(crate) fn bring_row<H: TreeHash, D: ReadableShelf, S: Source + Drop>(
     alloc: Global,
     shelf: &mut D,
-    places: &mut [S],
+    places: &mut Places<S>,
     tip: &CopyTip,
     level: u32,
     index: u64,
@@ -105,6 +117,10 @@ pub(crate) fn bring_row<H: TreeHash, D: ReadableShelf, S: Source>(
     requires beyond { tip.now.size < (index + 1) * 256 ^ (level + 1) }
     ensures none { (256 * index + length row.now) * 256 ^ level ≤ tip.now.size
         → OnOk result (KeepsTold (D.puts shelf.old) (D.puts shelf.new)) }
+    ensures counted { CountsShelf (D.failed shelf.old) (D.failed shelf.new) result }
+    ensures asks { AsksPlaces S.may_answer S.failed S.asked (IsNewFull tip.now.size)
+        places.old places.new }
+    ensures blames { IfErr result (BlamesPlaces places.new) }
     ensures early { ConflictPutsNothing (index * 256 ^ (level + 1)) tip.now.size (D.puts shelf.old)
         (D.puts shelf.new) result }
     ensures brings { (known : List (List ℕ))

@@ -3,12 +3,17 @@ ghost use Rattle.std.specs.Prelude.{◌≡◌, ◌↔◌, ◌<◌, ◌^◌, ℕ,
 ghost use Rattle.mirror_model.specs.Heads.{IsHead};
 ghost use Rattle.mirror_sources.specs.Told.{KeepsTold};
 ghost use Rattle.mirror_copy.specs.Conflicts.{IsConflict};
+ghost use Rattle.mirror_copy.specs.Asked.{MayBeAsked};
+ghost use Rattle.mirror_copy.specs.AskedForCopy.{AsksForCopy, BlamesFailed, RefusesNote};
+ghost use Rattle.mirror_copy.specs.Faults.{BlamesFrom, BlamesPlaces, CountsShelf, IsOfNoPlace};
+ghost use Rattle.mirror_copy.specs.PlaceGets.{AsksPlaces};
 ghost use Rattle.mirror_copy.specs.Found.{BringsFromTip};
 ghost use Rattle.mirror_copy.specs.Moments.{HadSize, IsBroughtTo, KeepsCopy};
 
 use crate::fault::BringFault;
 use crate::find_edge::find_edge;
 use crate::last::put_last;
+use crate::places::Places;
 use crate::read_tip::read_tip;
 use crate::tip::CopyTip;
 use crate::to_edge::bring_to_edge;
@@ -43,6 +48,8 @@ fn put_empty<H: TreeHash, D: ReadableShelf>(
     requires head { IsHead candidate.now.note.now origin.now candidate.now.size candidate.now.root }
     requires empty { candidate.now.size ≡ 0 }
     requires none { tip.now.checkpoint ≡ None }
+    ensures counted { CountsShelf (D.failed shelf.old) (D.failed shelf.new) result }
+    ensures places { IfErr result IsOfNoPlace }
     ensures conflict { IfErr result (λ e. IsConflict e → KeepsTold (D.puts shelf.old)
         (D.puts shelf.new)) }
     ensures brings { BringsFromTip H.digest origin.now candidate.now.note.now tip.now
@@ -55,16 +62,20 @@ fn put_empty<H: TreeHash, D: ReadableShelf>(
 }
 
 // Brings the copy with that tip to a larger checkpoint.
-fn bring_larger<H: TreeHash, D: ReadableShelf, S: Source>(
+fn bring_larger<H: TreeHash, D: ReadableShelf, S: Source + Drop>(
     alloc: Global,
     origin: &str,
     shelf: &mut D,
-    places: &mut [S],
+    places: &mut Places<S>,
     tip: &CopyTip,
     candidate: &Candidate<'_>,
 ) -> Result<(), BringFault>
     requires head { IsHead candidate.now.note.now origin.now candidate.now.size candidate.now.root }
     requires larger { tip.now.size < candidate.now.size }
+    ensures counted { CountsShelf (D.failed shelf.old) (D.failed shelf.new) result }
+    ensures asks { AsksPlaces S.may_answer S.failed S.asked
+        (MayBeAsked tip.now.size candidate.now.size) places.old places.new }
+    ensures blames { IfErr result (BlamesPlaces places.new) }
     ensures conflict { IfErr result (λ e. IsConflict e → KeepsTold (D.puts shelf.old)
         (D.puts shelf.new)) }
     ensures brings { BringsFromTip H.digest origin.now candidate.now.note.now tip.now
@@ -77,15 +88,19 @@ fn bring_larger<H: TreeHash, D: ReadableShelf, S: Source>(
 }
 
 // Brings the copy with that tip to a checkpoint.
-fn bring_from<H: TreeHash, D: ReadableShelf, S: Source>(
+fn bring_from<H: TreeHash, D: ReadableShelf, S: Source + Drop>(
     alloc: Global,
     origin: &str,
     shelf: &mut D,
-    places: &mut [S],
+    places: &mut Places<S>,
     tip: &CopyTip,
     candidate: &Candidate<'_>,
 ) -> Result<(), BringFault>
     requires head { IsHead candidate.now.note.now origin.now candidate.now.size candidate.now.root }
+    ensures counted { CountsShelf (D.failed shelf.old) (D.failed shelf.new) result }
+    ensures asks { AsksPlaces S.may_answer S.failed S.asked
+        (MayBeAsked tip.now.size candidate.now.size) places.old places.new }
+    ensures blames { IfErr result (BlamesFrom places.new tip.now.size candidate.now.size) }
     ensures conflict { IfErr result (λ e. IsConflict e → KeepsTold (D.puts shelf.old)
         (D.puts shelf.new)) }
     ensures brings { BringsFromTip H.digest origin.now candidate.now.note.now tip.now
@@ -103,11 +118,13 @@ fn bring_from<H: TreeHash, D: ReadableShelf, S: Source>(
 /// Brings the copy that stands on a shelf to a larger checkpoint, and answers how many entries it had before.
 ///
 /// The note is one whose text is a checkpoint of the origin. No signature is looked at: the caller has opened the note under the
-/// log's keys. Each file of the larger tree that the copy lacks is looked for on the shelf, then at the places, in their order, and
-/// counts only where it verifies: the edge rows lead to the checkpoint's root, a full tile folds to its hash in the row above it,
-/// and the leaf hashes of a bundle fold to their hash. A tile is put after what lies below it, and the checkpoint last. So at
-/// each moment a whole copy stands, whatever the places answer. What stands is never taken away, and is put again only where its
-/// bytes are false.
+/// log's keys. Each file of the larger tree that the copy lacks is looked for on the shelf, then at the place whose bytes verified
+/// last, then at the others in their order, and counts only where it verifies: the edge rows lead to the checkpoint's root, a full
+/// tile folds to its hash in the row above it, and the leaf hashes of a bundle fold to their hash. A tile is put after what lies
+/// below it, and the checkpoint last. So at each moment a whole copy stands, whatever the places answer. What stands is never taken
+/// away, and is put again only where its bytes are false. Where it is true it is flushed before the checkpoint is put.
+///
+/// A partial file at the edge, on the shelf or at a place, may have given way to its full one: then it is cut from that.
 ///
 /// A shelf without a checkpoint is an empty copy. Only such a one is brought to a checkpoint of no entries.
 ///
@@ -121,16 +138,23 @@ fn bring_from<H: TreeHash, D: ReadableShelf, S: Source>(
 /// - `CopyDamaged`: the shelf has a checkpoint that is no such note, or not the edge rows and the partial bundle of its root.
 /// - `NotLarger`: the copy has as many entries or more.
 /// - `Contradiction`: the old rows are not in the larger tree. `Collision`: they are, and the old bundle is not. Nothing was put.
-/// - `NoFile`: neither the shelf nor a place has a file that verifies.
+/// - `NoFile`: neither the shelf nor a place has a file that verifies. `Source`: the same, and a place failed in this call. Its path is
+///   then `places.lacked()`.
 /// - `CopyInUse`: when all other files stood, the shelf's checkpoint was another than at first, so another run put it.
 /// - `ShelfFault`: the shelf failed. `OutOfMemory`: memory was refused.
-pub fn bring_copy<H: TreeHash, D: ReadableShelf, S: Source>(
+pub fn bring_copy<H: TreeHash, D: ReadableShelf, S: Source + Drop>(
     alloc: Global,
     origin: &str,
     shelf: &mut D,
-    places: &mut [S],
+    places: &mut Places<S>,
     note: &[u8],
 ) -> Result<u64, BringFault>
+    ensures counted { CountsShelf (D.failed shelf.old) (D.failed shelf.new) result }
+    ensures asks { AsksForCopy H.digest S.may_answer S.failed S.asked origin.now note.now
+        (D.puts shelf.old) places.old places.new }
+    ensures blames { IfErr result (BlamesFailed S.may_answer S.failed S.asked
+        places.old places.new) }
+    ensures refuses { IfErr result (RefusesNote H.digest origin.now note.now (D.puts shelf.old)) }
     ensures had { IfOk result (λ size. HadSize H.digest origin.now (D.puts shelf.old) size) }
     ensures conflict { IfErr result (λ e. IsConflict e → KeepsTold (D.puts shelf.old)
         (D.puts shelf.new)) }
@@ -138,6 +162,7 @@ pub fn bring_copy<H: TreeHash, D: ReadableShelf, S: Source>(
     ensures brought { OnOk result (IsBroughtTo H.digest origin.now note.now
         (D.puts shelf.old) (D.puts shelf.new)) }
 {
+    places.begin();
     let Some(head) = head_of(alloc, origin, note)? else {
         return Err(BringFault::BadCheckpoint);
     };

@@ -1,7 +1,10 @@
 //! A copy brought to the edge of a larger tree.
-ghost use Rattle.std.specs.Prelude.{◌≡◌, ◌*◌, ◌^◌, ◌<◌, ◌≤◌, ℕ, List, OnOk};
+ghost use Rattle.std.specs.Prelude.{◌≡◌, ◌*◌, ◌^◌, ◌<◌, ◌≤◌, ℕ, List, IfErr, OnOk};
 ghost use Rattle.tlog_shape.specs.Edge.{edge_index_of};
 ghost use Rattle.mirror_sources.specs.Told.{KeepsTold};
+ghost use Rattle.mirror_copy.specs.Asked.{IsNewFull};
+ghost use Rattle.mirror_copy.specs.Faults.{BlamesPlaces, CountsShelf};
+ghost use Rattle.mirror_copy.specs.PlaceGets.{AsksPlaces};
 ghost use Rattle.mirror_copy.specs.Conflicts.{ConflictPutsNothing};
 ghost use Rattle.mirror_copy.specs.Growing.{IsKnown};
 ghost use Rattle.log_reader.specs.EdgeRows.{HasWidths};
@@ -9,6 +12,7 @@ ghost use Rattle.mirror_copy.specs.Edges.{BringsEdge};
 
 use crate::bring::bring_row;
 use crate::fault::BringFault;
+use crate::places::Places;
 use crate::tip::CopyTip;
 use log_reader::EdgeRows;
 use mirror_folders::ReadableShelf;
@@ -18,16 +22,20 @@ use tlog_hash::TreeHash;
 use tlog_shape::edge_index;
 
 /// Brings all that lies below the edge but for the partial bundle, from left to right.
-pub(crate) fn bring_levels<H: TreeHash, D: ReadableShelf, S: Source>(
+pub(crate) fn bring_levels<H: TreeHash, D: ReadableShelf, S: Source + Drop>(
     alloc: Global,
     shelf: &mut D,
-    places: &mut [S],
+    places: &mut Places<S>,
     tip: &CopyTip,
     edge: &EdgeRows,
 ) -> Result<(), BringFault>
     requires size { edge.now.size < 2 ^ 63 }
     requires larger { tip.now.size < edge.now.size }
     requires widths { HasWidths edge.now }
+    ensures counted { CountsShelf (D.failed shelf.old) (D.failed shelf.new) result }
+    ensures asks { AsksPlaces S.may_answer S.failed S.asked (IsNewFull tip.now.size)
+        places.old places.new }
+    ensures blames { IfErr result (BlamesPlaces places.new) }
     ensures early { ConflictPutsNothing 0 tip.now.size (D.puts shelf.old)
         (D.puts shelf.new) result }
     ensures none { edge_index_of edge.now.size 0 * 256 ≤ tip.now.size

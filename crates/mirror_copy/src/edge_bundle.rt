@@ -2,6 +2,9 @@
 ghost use Rattle.std.specs.Prelude.{◌≡◌, ◌*◌, ◌^◌, ◌<◌, ◌≤◌, ℕ, List, IfErr, IfOk, IfSome, IsTrue, Some, length, option_map};
 ghost use Rattle.tlog_shape.specs.Edge.{edge_index_of};
 ghost use Rattle.mirror_sources.specs.Told.{KeepsTold};
+ghost use Rattle.mirror_copy.specs.Asked.{IsEdgeBundle, IsPathOrFull};
+ghost use Rattle.mirror_copy.specs.Faults.{BlamesPlaces, CountsShelf};
+ghost use Rattle.mirror_copy.specs.PlaceGets.{AsksPlaces};
 ghost use Rattle.mirror_copy.specs.Conflicts.{ConflictPutsNothing, IsNoConflict};
 ghost use Rattle.log_reader.specs.Verified.{HasLeaves};
 ghost use Rattle.mirror_copy.specs.Growing.{IsKnown};
@@ -10,12 +13,15 @@ ghost use Rattle.mirror_copy.specs.Edges.{BringsEdgeBundle};
 
 use crate::fault::BringFault;
 use crate::keep::keep;
+use crate::place::Wrong;
 use crate::place_files::get_partial;
+use crate::places::{Places, in_turn};
+use crate::shelf_files::read_partial;
 use crate::tip::{CopyTip, is_same_row};
 use log_reader::{EdgeRows, leaves_of};
 use mirror_folders::ReadableShelf;
 use mirror_sources::Source;
-use std::alloc::Global;
+use std::alloc::{AllocError, Global};
 use tlog_hash::{Hash, TreeHash};
 use tlog_shape::edge_index;
 use tlog_tiles::Path;
@@ -25,9 +31,8 @@ pub(crate) fn accept_edge_bundle<H: TreeHash>(
     alloc: Global,
     row: &[Hash],
     given: Option<Vec<u8>>,
-) -> Result<Option<Vec<u8>>, BringFault>
+) -> Result<Option<Vec<u8>>, AllocError>
     requires { length row.now ≤ 256 }
-    ensures fault { IfErr result IsNoConflict }
     ensures found { IfOk result (λ found. IfSome found
         (λ bytes. HasLeaves H.digest (length row.now) bytes.items row.now)) }
     ensures given { IfOk result (λ found. IfSome found (λ bytes. option_map
@@ -48,32 +53,62 @@ pub(crate) fn accept_edge_bundle<H: TreeHash>(
     }
 }
 
-// The bundle as the places give it: of the first whose bundle verifies.
-fn edge_bundle_at_places<H: TreeHash, S: Source>(
+// The bundle as a place gives it, where it verifies.
+fn edge_bundle_at_place<H: TreeHash, S: Source + Drop>(
     alloc: Global,
-    places: &mut [S],
+    places: &mut Places<S>,
+    index: usize,
     path: &Path,
     row: &[Hash],
-) -> Result<Option<Vec<u8>>, BringFault>
-    requires { length row.now ≤ 256 }
-    ensures fault { IfErr result IsNoConflict }
+) -> Result<Option<Vec<u8>>, AllocError>
+    requires place { index < length places.old.list.items }
+    requires width { length row.now ≤ 256 }
+    ensures asks { AsksPlaces S.may_answer S.failed S.asked (IsPathOrFull path.now)
+        places.old places.new }
     ensures found { IfOk result (λ found. IfSome found
         (λ bytes. HasLeaves H.digest (length row.now) bytes.items row.now)) }
 {
-    for place in places.iter_mut() {
-        let given = get_partial::<S>(alloc, place, path)?;
-        if let Some(found) = accept_edge_bundle::<H>(alloc, row, given)? {
-            return Ok(Some(found));
+    let Some(bytes) = get_partial::<S>(alloc, places, index, path)? else {
+        return Ok(None);
+    };
+    let found = accept_edge_bundle::<H>(alloc, row, Some(bytes))?;
+    if found.is_some() {
+        places.note_verified(index);
+    } else {
+        places.note_wrong(index, path, Wrong::False);
+    }
+    Ok(found)
+}
+
+// The bundle as the places give it: of the first whose bundle verifies.
+fn edge_bundle_at_places<H: TreeHash, S: Source + Drop>(
+    alloc: Global,
+    places: &mut Places<S>,
+    path: &Path,
+    row: &[Hash],
+) -> Result<Option<Vec<u8>>, AllocError>
+    requires { length row.now ≤ 256 }
+    ensures asks { AsksPlaces S.may_answer S.failed S.asked (IsPathOrFull path.now)
+        places.old places.new }
+    ensures found { IfOk result (λ found. IfSome found
+        (λ bytes. HasLeaves H.digest (length row.now) bytes.items row.now)) }
+{
+    let first = places.first();
+    for turn in 0..places.len() {
+        let index = in_turn(first, turn);
+        match edge_bundle_at_place::<H, S>(alloc, places, index, path, row)? {
+            Some(found) => return Ok(Some(found)),
+            None => {}
         }
     }
     Ok(None)
 }
 
 // The bundle, from the shelf or else from a place.
-fn find_edge_bundle<H: TreeHash, D: ReadableShelf, S: Source>(
+fn find_edge_bundle<H: TreeHash, D: ReadableShelf, S: Source + Drop>(
     alloc: Global,
     shelf: &mut D,
-    places: &mut [S],
+    places: &mut Places<S>,
     path: &Path,
     row: &[Hash],
 ) -> Result<Vec<u8>, BringFault>
@@ -81,28 +116,36 @@ fn find_edge_bundle<H: TreeHash, D: ReadableShelf, S: Source>(
     ensures found { IfOk result (λ bytes. HasLeaves H.digest (length row.now) bytes.items row.now) }
     ensures fault { IfErr result IsNoConflict }
     ensures same { KeepsTold (D.puts shelf.old) (D.puts shelf.new) }
+    ensures counted { CountsShelf (D.failed shelf.old) (D.failed shelf.new) result }
+    ensures asks { AsksPlaces S.may_answer S.failed S.asked (IsPathOrFull path.now)
+        places.old places.new }
+    ensures blames { IfErr result (BlamesPlaces places.new) }
 {
-    let given = shelf.read(path)?;
+    let given = read_partial(alloc, shelf, path)?;
     if let Some(found) = accept_edge_bundle::<H>(alloc, row, given)? {
         return Ok(found);
     }
     match edge_bundle_at_places::<H, S>(alloc, places, path, row)? {
         Some(found) => Ok(found),
-        None => Err(BringFault::NoFile),
+        None => Err(places.lacks(path)),
     }
 }
 
 /// Brings the partial bundle at the edge, if there is one.
-pub(crate) fn bring_edge_bundle<H: TreeHash, D: ReadableShelf, S: Source>(
+pub(crate) fn bring_edge_bundle<H: TreeHash, D: ReadableShelf, S: Source + Drop>(
     alloc: Global,
     shelf: &mut D,
-    places: &mut [S],
+    places: &mut Places<S>,
     tip: &CopyTip,
     edge: &EdgeRows,
 ) -> Result<(), BringFault>
     requires size { edge.now.size < 2 ^ 63 }
     requires larger { tip.now.size < edge.now.size }
     requires widths { HasWidths edge.now }
+    ensures counted { CountsShelf (D.failed shelf.old) (D.failed shelf.new) result }
+    ensures asks { AsksPlaces S.may_answer S.failed S.asked (IsEdgeBundle edge.now.size)
+        places.old places.new }
+    ensures blames { IfErr result (BlamesPlaces places.new) }
     ensures early { ConflictPutsNothing (edge_index_of edge.now.size 0 * 256) tip.now.size
         (D.puts shelf.old)
         (D.puts shelf.new) result }

@@ -25,9 +25,12 @@ pub enum BringFault {
     /// The rows begin with the copy's, and the bundle does not begin with the bytes of the copy's.
     #[error("Collision")]
     Collision,
-    /// Neither the shelf nor a place has a file that verifies.
+    /// Neither the shelf nor a place has a file that verifies, and no place failed in this bringing.
     #[error("NoFile")]
     NoFile,
+    /// Neither the shelf nor a place has a file that verifies, and a place failed in this bringing.
+    #[error("Source")]
+    Source,
     /// Another checkpoint stands than the one that was read first.
     #[error("CopyInUse")]
     CopyInUse,

@@ -1,16 +1,20 @@
 //! A file found on the shelf or at a place, where it verifies.
-ghost use Rattle.std.specs.Prelude.{◌<◌, ℕ, List, IfErr, IfNone, IfOk, IfSome, get_or, length};
-ghost use Rattle.mirror_sources.specs.Source.{StaysWithin};
+ghost use Rattle.std.specs.Prelude.{◌≡◌, ◌<◌, ℕ, List, IfErr, IfNone, IfOk, IfSome, get_or, length};
 ghost use Rattle.mirror_sources.specs.Told.{KeepsTold};
+ghost use Rattle.log_reader.specs.Verified.{Verifies};
 ghost use Rattle.mirror_copy.specs.Asked.{IsAskedInVain};
 ghost use Rattle.mirror_copy.specs.Conflicts.{IsNoConflict};
-ghost use Rattle.log_reader.specs.Verified.{Verifies};
+ghost use Rattle.mirror_copy.specs.Faults.{BlamesPlaces, CountsShelf};
+ghost use Rattle.mirror_copy.specs.PlaceGets.{AsksPlaces};
+ghost use Rattle.mirror_copy.specs.declared.place.Place.{Place};
 
 use crate::fault::BringFault;
+use crate::place::{PlaceAnswer, Wrong};
+use crate::places::{Places, in_turn};
 use log_reader::{FullFile, verified};
 use mirror_folders::ReadableShelf;
-use mirror_sources::{Source, SourceFault};
-use std::alloc::Global;
+use mirror_sources::Source;
+use std::alloc::{AllocError, Global};
 use tlog_hash::{Hash, TreeHash};
 use tlog_tiles::Path;
 
@@ -26,60 +30,91 @@ fn accept<H: TreeHash>(
     alloc: Global,
     kind: FullFile,
     hash: &Hash,
-    given: Option<Vec<u8>>,
-) -> Result<Option<Found>, BringFault>
-    ensures fault { IfErr result IsNoConflict }
+    bytes: Vec<u8>,
+) -> Result<Option<Found>, AllocError>
     ensures found { IfOk result (λ found. IfSome found
         (λ f. Verifies H.digest kind hash.now f.bytes.items f.row.items)) }
-    ensures none { IfOk result (λ found. IfNone found (IfSome given (λ v. (row : List (List ℕ))
-        → ¬ Verifies H.digest kind hash.now v.items row))) }
+    ensures none { IfOk result (λ found. IfNone found ((row : List (List ℕ))
+        → ¬ Verifies H.digest kind hash.now bytes.items row)) }
 {
-    match given {
-        Some(bytes) => match verified::<H>(alloc, kind, hash, &bytes)? {
-            Some(row) => Ok(Some(Found { bytes, row })),
-            None => Ok(None),
-        },
+    match verified::<H>(alloc, kind, hash, &bytes)? {
+        Some(row) => Ok(Some(Found { bytes, row })),
         None => Ok(None),
     }
 }
 
-// The file as the places give it: of the first whose file verifies.
-fn find_at_places<H: TreeHash, S: Source>(
+// The file as a place gives it, where it verifies.
+fn find_at_place<H: TreeHash, S: Source + Drop>(
     alloc: Global,
-    places: &mut [S],
+    places: &mut Places<S>,
+    index: usize,
     kind: FullFile,
     path: &Path,
     hash: &Hash,
-) -> Result<Option<Found>, BringFault>
-    ensures fault { IfErr result IsNoConflict }
+) -> Result<Option<Found>, AllocError>
+    requires { index < length places.old.list.items }
     ensures found { IfOk result (λ found. IfSome found
         (λ f. Verifies H.digest kind hash.now f.bytes.items f.row.items)) }
-    ensures asked { IfOk result (λ found. IfNone found ((k : ℕ) (d : S) → k < length places.old
-        → IsAskedInVain (S.may_answer (get_or places.old k d)) (S.failed (get_or places.old k d))
-        (S.failed (get_or places.new k d)) path.now
-        (λ bytes. (row : List (List ℕ)) × Verifies H.digest kind hash.now bytes row))) }
-    ensures later { (k : ℕ) (d : S) → StaysWithin (S.may_answer (get_or places.old k d))
-        (S.may_answer (get_or places.new k d)) }
+    ensures asks { AsksPlaces S.may_answer S.failed S.asked (λ p. p ≡ path.now)
+        places.old places.new }
+    ensures none { IfOk result (λ found. IfNone found ((d : Place S) → IsAskedInVain
+        (S.may_answer (get_or places.old.list.items index d).source)
+        (get_or places.old.list.items index d).failures (get_or places.new.list.items index d).failures
+        path.now (λ bytes. (row : List (List ℕ)) × Verifies H.digest kind hash.now bytes row))) }
 {
-    for place in places.iter_mut() {
-        match place.get(path) {
-            Ok(given) => {
-                if let Some(found) = accept::<H>(alloc, kind, hash, given)? {
-                    return Ok(Some(found));
-                }
+    match places.get(index, path)? {
+        PlaceAnswer::File(bytes) => match accept::<H>(alloc, kind, hash, bytes)? {
+            Some(found) => {
+                places.note_verified(index);
+                Ok(Some(found))
             }
-            Err(SourceFault::Failed) => {}
-            Err(SourceFault::OutOfMemory) => return Err(BringFault::OutOfMemory),
+            None => {
+                places.note_wrong(index, path, Wrong::False);
+                Ok(None)
+            }
+        },
+        PlaceAnswer::NotFound => {
+            places.note_wrong(index, path, Wrong::NotFound);
+            Ok(None)
+        }
+        PlaceAnswer::Failed => Ok(None),
+    }
+}
+
+// The file as the places give it: of the first whose file verifies.
+fn find_at_places<H: TreeHash, S: Source + Drop>(
+    alloc: Global,
+    places: &mut Places<S>,
+    kind: FullFile,
+    path: &Path,
+    hash: &Hash,
+) -> Result<Option<Found>, AllocError>
+    ensures found { IfOk result (λ found. IfSome found
+        (λ f. Verifies H.digest kind hash.now f.bytes.items f.row.items)) }
+    ensures asks { AsksPlaces S.may_answer S.failed S.asked (λ p. p ≡ path.now)
+        places.old places.new }
+    ensures none { IfOk result (λ found. IfNone found ((k : ℕ) (d : Place S)
+        → k < length places.old.list.items
+        → IsAskedInVain (S.may_answer (get_or places.old.list.items k d).source)
+        (get_or places.old.list.items k d).failures (get_or places.new.list.items k d).failures
+        path.now (λ bytes. (row : List (List ℕ)) × Verifies H.digest kind hash.now bytes row))) }
+{
+    let first = places.first();
+    for turn in 0..places.len() {
+        let index = in_turn(first, turn);
+        match find_at_place::<H, S>(alloc, places, index, kind, path, hash)? {
+            Some(found) => return Ok(Some(found)),
+            None => {}
         }
     }
     Ok(None)
 }
 
 /// The file, from the shelf or else from a place.
-pub(crate) fn find<H: TreeHash, D: ReadableShelf, S: Source>(
+pub(crate) fn find<H: TreeHash, D: ReadableShelf, S: Source + Drop>(
     alloc: Global,
     shelf: &mut D,
-    places: &mut [S],
+    places: &mut Places<S>,
     kind: FullFile,
     path: &Path,
     hash: &Hash,
@@ -87,13 +122,18 @@ pub(crate) fn find<H: TreeHash, D: ReadableShelf, S: Source>(
     ensures found { IfOk result (λ f. Verifies H.digest kind hash.now f.bytes.items f.row.items) }
     ensures fault { IfErr result IsNoConflict }
     ensures same { KeepsTold (D.puts shelf.old) (D.puts shelf.new) }
+    ensures counted { CountsShelf (D.failed shelf.old) (D.failed shelf.new) result }
+    ensures asks { AsksPlaces S.may_answer S.failed S.asked (λ p. p ≡ path.now)
+        places.old places.new }
+    ensures blames { IfErr result (BlamesPlaces places.new) }
 {
-    let given = shelf.read(path)?;
-    if let Some(found) = accept::<H>(alloc, kind, hash, given)? {
-        return Ok(found);
+    if let Some(bytes) = shelf.read(path)? {
+        if let Some(found) = accept::<H>(alloc, kind, hash, bytes)? {
+            return Ok(found);
+        }
     }
     match find_at_places::<H, S>(alloc, places, kind, path, hash)? {
         Some(found) => Ok(found),
-        None => Err(BringFault::NoFile),
+        None => Err(places.lacks(path)),
     }
 }

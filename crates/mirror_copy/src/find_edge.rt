@@ -1,29 +1,39 @@
 //! The edge rows of a tree, all from the shelf or all from one place.
-ghost use Rattle.std.specs.Prelude.{◌≡◌, ◌≤◌, IfErr, IfOk, IfSome, length};
+ghost use Rattle.std.specs.Prelude.{◌≡◌, ◌<◌, ◌≤◌, IfErr, IfOk, IfSome, length};
 ghost use Rattle.tlog_shape.specs.Edge.{edge_index_of, width_of};
 ghost use Rattle.mirror_sources.specs.Told.{KeepsTold};
+ghost use Rattle.mirror_copy.specs.Asked.{IsEdgeTile};
+ghost use Rattle.mirror_copy.specs.Faults.{BlamesPlaces, CountsShelf, IsOfNoPlace};
+ghost use Rattle.mirror_copy.specs.PlaceGets.{AsksPlaces};
 ghost use Rattle.mirror_copy.specs.Conflicts.{IsNoConflict};
 ghost use Rattle.log_reader.specs.EdgeRows.{IsEdgeOf, LeadsTo};
 ghost use Rattle.mirror_copy.specs.Found.{IsEdgeRead, IsRowRead};
 
 use crate::fault::BringFault;
+use crate::place::Wrong;
 use crate::place_files::get_partial;
+use crate::places::{Places, in_turn};
+use crate::shelf_files::read_partial;
 use log_reader::{EdgeRows, edge_path, leads_to, row_given};
 use mirror_folders::ReadableShelf;
 use mirror_sources::Source;
-use std::alloc::Global;
+use std::alloc::{AllocError, Global};
 use tlog_hash::{Hash, TreeHash};
 use tlog_shape::edge_width;
+use tlog_tiles::Path;
 
 // The row of a level at a place, empty where the level has none; None where the place does not have it, or failed.
-fn row_at_place<S: Source>(
+fn row_at_place<S: Source + Drop>(
     alloc: Global,
-    place: &mut S,
+    places: &mut Places<S>,
+    index: usize,
     size: u64,
     level: u32,
-) -> Result<Option<Vec<Hash>>, BringFault>
-    requires { level ≤ 7 }
-    ensures fault { IfErr result IsNoConflict }
+) -> Result<Option<Vec<Hash>>, AllocError>
+    requires place { index < length places.old.list.items }
+    requires level { level ≤ 7 }
+    ensures asks { AsksPlaces S.may_answer S.failed S.asked (IsEdgeTile size)
+        places.old places.new }
     ensures row { IfOk result (λ found. IfSome found
         (λ row. length row.items ≡ width_of size level)) }
 {
@@ -31,22 +41,32 @@ fn row_at_place<S: Source>(
     if width == 0 {
         return Ok(Some(Vec::new(alloc)));
     }
-    let given = get_partial(alloc, place, &edge_path(size, level))?;
-    Ok(row_given(alloc, width, given)?)
+    let path = edge_path(size, level);
+    let Some(bytes) = get_partial(alloc, places, index, &path)? else {
+        return Ok(None);
+    };
+    let row = row_given(alloc, width, Some(bytes))?;
+    if row.is_none() {
+        places.note_wrong(index, &path, Wrong::False);
+    }
+    Ok(row)
 }
 
 // The edge rows at a place, asked for lowest level first, up to the first that it does not have.
-fn rows_at_place<S: Source>(
+fn rows_at_place<S: Source + Drop>(
     alloc: Global,
-    place: &mut S,
+    places: &mut Places<S>,
+    index: usize,
     size: u64,
-) -> Result<Option<EdgeRows>, BringFault>
-    ensures fault { IfErr result IsNoConflict }
+) -> Result<Option<EdgeRows>, AllocError>
+    requires { index < length places.old.list.items }
+    ensures asks { AsksPlaces S.may_answer S.failed S.asked (IsEdgeTile size)
+        places.old places.new }
     ensures edge { IfOk result (λ found. IfSome found (λ edge. IsEdgeOf size edge)) }
 {
     let mut rows = Vec::new(alloc);
     for level in 0..8u32 {
-        match row_at_place(alloc, place, size, level)? {
+        match row_at_place(alloc, places, index, size, level)? {
             Some(row) => rows.push(row)?,
             None => return Ok(None),
         }
@@ -63,6 +83,8 @@ fn row_on_shelf<D: ReadableShelf>(
 ) -> Result<Option<Vec<Hash>>, BringFault>
     requires { level ≤ 7 }
     ensures fault { IfErr result IsNoConflict }
+    ensures counted { CountsShelf (D.failed shelf.old) (D.failed shelf.new) result }
+    ensures places { IfErr result IsOfNoPlace }
     ensures same { KeepsTold (D.puts shelf.old) (D.puts shelf.new) }
     ensures row { IfOk result (λ found. IfSome found
         (λ row. IsRowRead (D.puts shelf.old) size level row.items)) }
@@ -71,7 +93,7 @@ fn row_on_shelf<D: ReadableShelf>(
     if width == 0 {
         return Ok(Some(Vec::new(alloc)));
     }
-    let given = shelf.read(&edge_path(size, level))?;
+    let given = read_partial(alloc, shelf, &edge_path(size, level))?;
     Ok(row_given(alloc, width, given)?)
 }
 
@@ -82,6 +104,8 @@ fn rows_on_shelf<D: ReadableShelf>(
     size: u64,
 ) -> Result<Option<EdgeRows>, BringFault>
     ensures fault { IfErr result IsNoConflict }
+    ensures counted { CountsShelf (D.failed shelf.old) (D.failed shelf.new) result }
+    ensures places { IfErr result IsOfNoPlace }
     ensures same { KeepsTold (D.puts shelf.old) (D.puts shelf.new) }
     ensures edge { IfOk result (λ found. IfSome found
         (λ edge. IsEdgeRead (D.puts shelf.old) size edge)) }
@@ -104,6 +128,8 @@ pub(crate) fn edge_on_shelf<H: TreeHash, D: ReadableShelf>(
     root: &Hash,
 ) -> Result<Option<EdgeRows>, BringFault>
     ensures fault { IfErr result IsNoConflict }
+    ensures counted { CountsShelf (D.failed shelf.old) (D.failed shelf.new) result }
+    ensures places { IfErr result IsOfNoPlace }
     ensures same { KeepsTold (D.puts shelf.old) (D.puts shelf.new) }
     ensures read { IfOk result (λ found. IfSome found
         (λ edge. IsEdgeRead (D.puts shelf.old) size edge)) }
@@ -120,46 +146,86 @@ pub(crate) fn edge_on_shelf<H: TreeHash, D: ReadableShelf>(
     }
 }
 
+// The path of the lowest partial tile of a size.
+fn lowest_edge_path(size: u64) -> Path {
+    for level in 0..7u32 {
+        if edge_width(size, level) > 0 {
+            return edge_path(size, level);
+        }
+    }
+    edge_path(size, 7)
+}
+
 // The edge rows of a place, if they lead to the root.
-fn edge_at_place<H: TreeHash, S: Source>(
+fn edge_at_place<H: TreeHash, S: Source + Drop>(
     alloc: Global,
-    place: &mut S,
+    places: &mut Places<S>,
+    index: usize,
     size: u64,
     root: &Hash,
-) -> Result<Option<EdgeRows>, BringFault>
-    ensures fault { IfErr result IsNoConflict }
+) -> Result<Option<EdgeRows>, AllocError>
+    requires { index < length places.old.list.items }
+    ensures asks { AsksPlaces S.may_answer S.failed S.asked (IsEdgeTile size)
+        places.old places.new }
     ensures leads { IfOk result (λ found. IfSome found
         (λ edge. LeadsTo H.digest size root.now edge)) }
 {
-    let Some(edge) = rows_at_place::<S>(alloc, place, size)? else {
+    let Some(edge) = rows_at_place::<S>(alloc, places, index, size)? else {
         return Ok(None);
     };
     if leads_to::<H>(alloc, &edge, root)? {
+        places.note_verified(index);
         Ok(Some(edge))
     } else {
+        places.note_wrong(index, &lowest_edge_path(size), Wrong::False);
         Ok(None)
     }
 }
 
+// The edge rows as the places have them: of the first whose rows lead to the root.
+fn edge_at_places<H: TreeHash, S: Source + Drop>(
+    alloc: Global,
+    places: &mut Places<S>,
+    size: u64,
+    root: &Hash,
+) -> Result<Option<EdgeRows>, AllocError>
+    ensures asks { AsksPlaces S.may_answer S.failed S.asked (IsEdgeTile size)
+        places.old places.new }
+    ensures leads { IfOk result (λ found. IfSome found
+        (λ edge. LeadsTo H.digest size root.now edge)) }
+{
+    let first = places.first();
+    for turn in 0..places.len() {
+        let index = in_turn(first, turn);
+        match edge_at_place::<H, S>(alloc, places, index, size, root)? {
+            Some(edge) => return Ok(Some(edge)),
+            None => {}
+        }
+    }
+    Ok(None)
+}
+
 /// The edge rows of a tree of that size and root, from the shelf, or else from the first place that has them all.
-pub(crate) fn find_edge<H: TreeHash, D: ReadableShelf, S: Source>(
+pub(crate) fn find_edge<H: TreeHash, D: ReadableShelf, S: Source + Drop>(
     alloc: Global,
     shelf: &mut D,
-    places: &mut [S],
+    places: &mut Places<S>,
     size: u64,
     root: &Hash,
 ) -> Result<EdgeRows, BringFault>
     ensures fault { IfErr result IsNoConflict }
     ensures same { KeepsTold (D.puts shelf.old) (D.puts shelf.new) }
+    ensures counted { CountsShelf (D.failed shelf.old) (D.failed shelf.new) result }
+    ensures asks { AsksPlaces S.may_answer S.failed S.asked (IsEdgeTile size)
+        places.old places.new }
+    ensures blames { IfErr result (BlamesPlaces places.new) }
     ensures leads { IfOk result (λ edge. LeadsTo H.digest size root.now edge) }
 {
     if let Some(edge) = edge_on_shelf::<H, D>(alloc, shelf, size, root)? {
         return Ok(edge);
     }
-    for place in places.iter_mut() {
-        if let Some(edge) = edge_at_place::<H, S>(alloc, place, size, root)? {
-            return Ok(edge);
-        }
+    match edge_at_places::<H, S>(alloc, places, size, root)? {
+        Some(edge) => Ok(edge),
+        None => Err(places.lacks(&lowest_edge_path(size))),
     }
-    Err(BringFault::NoFile)
 }

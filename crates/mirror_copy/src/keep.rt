@@ -2,6 +2,7 @@
 ghost use Rattle.std.specs.Prelude.{◌≡◌, ◌↔◌, ◌⊎◌, [], ◌∷◌, IfErr, IfOk, IsTrue, OnOk};
 ghost use Rattle.mirror_sources.specs.Told.{KeepsTold, AddsTold};
 ghost use Rattle.mirror_copy.specs.Conflicts.{IsNoConflict};
+ghost use Rattle.mirror_copy.specs.Faults.{CountsShelf, IsOfNoPlace};
 ghost use Rattle.mirror_copy.specs.Standing.{TellsStands};
 
 use crate::fault::BringFault;
@@ -17,6 +18,8 @@ fn is_same(first: &[u8], second: &[u8]) -> bool
 // Whether the bytes stand at the path.
 fn stands<D: ReadableShelf>(shelf: &mut D, path: &Path, bytes: &[u8]) -> Result<bool, BringFault>
     ensures fault { IfErr result IsNoConflict }
+    ensures counted { CountsShelf (D.failed shelf.old) (D.failed shelf.new) result }
+    ensures places { IfErr result IsOfNoPlace }
     ensures same { KeepsTold (D.puts shelf.old) (D.puts shelf.new) }
     ensures there { IfOk result (λ b. IsTrue b
         → TellsStands (D.puts shelf.old) (D.puts shelf.new) path.now bytes.now) }
@@ -27,19 +30,23 @@ fn stands<D: ReadableShelf>(shelf: &mut D, path: &Path, bytes: &[u8]) -> Result<
     }
 }
 
-/// Puts the file, if it does not stand yet.
+/// Puts the file, if it does not stand yet. One that stands, as an earlier run may have put it, is flushed before the checkpoint is
+/// put.
 pub(crate) fn keep<D: ReadableShelf>(
     shelf: &mut D,
     path: &Path,
     bytes: &[u8],
 ) -> Result<(), BringFault>
     ensures fault { IfErr result IsNoConflict }
+    ensures counted { CountsShelf (D.failed shelf.old) (D.failed shelf.new) result }
+    ensures places { IfErr result IsOfNoPlace }
     ensures puts { KeepsTold (D.puts shelf.old) (D.puts shelf.new)
         ⊎ AddsTold (D.puts shelf.old) (D.puts shelf.new) ((path.now, bytes.now) ∷ []) }
     ensures stands { OnOk result
         (TellsStands (D.puts shelf.old) (D.puts shelf.new) path.now bytes.now) }
 {
     if stands(shelf, path, bytes)? {
+        shelf.flush_before_checkpoint(path)?;
         return Ok(());
     }
     shelf.put(path, bytes)?;

@@ -1,6 +1,7 @@
 //! The checkpoint, which is put last.
 ghost use Rattle.std.specs.Prelude.{◌≡◌, ◌↔◌, IfErr, IsTrue};
 ghost use Rattle.mirror_copy.specs.Conflicts.{IsNoConflict};
+ghost use Rattle.mirror_copy.specs.Faults.{CountsShelf, IsOfNoPlace};
 ghost use Rattle.mirror_copy.specs.Edges.{PutsNote};
 
 use crate::fault::BringFault;
@@ -30,6 +31,8 @@ pub(crate) fn put_last<D: ReadableShelf>(
     note: &[u8],
 ) -> Result<(), BringFault>
     ensures fault { IfErr result IsNoConflict }
+    ensures counted { CountsShelf (D.failed shelf.old) (D.failed shelf.new) result }
+    ensures places { IfErr result IsOfNoPlace }
     ensures puts { PutsNote (D.puts shelf.old) (D.puts shelf.new) note.now result }
 {
     let now = shelf.read(&Path::Checkpoint)?;

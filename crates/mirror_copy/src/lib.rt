@@ -16,8 +16,12 @@ mod find_edge;
 mod keep;
 mod last;
 mod laws;
+mod part;
+mod place;
 mod place_files;
+mod places;
 mod read_tip;
+mod shelf_files;
 mod tip;
 mod to_edge;
 
@@ -26,3 +30,5 @@ pub use fault::BringFault;
 pub use laws::{
     empty_tip_law, makes_copy_law, new_files_law, root_law, same_copy_law, stays_copy_law,
 };
+pub use place::{Place, PlaceAnswer, Wrong, WrongFile};
+pub use places::Places;

@@ -1,80 +1,59 @@
 //! The files of the edge, as a place has them.
-ghost use Rattle.std.specs.Prelude.{◌≤◌, IfErr, IfOk, IfSome, length};
-ghost use Rattle.mirror_copy.specs.Conflicts.{IsNoConflict};
+ghost use Rattle.std.specs.Prelude.{◌≡◌, ◌<◌, length};
+ghost use Rattle.mirror_sources.specs.Files.{full_of};
+ghost use Rattle.mirror_copy.specs.Asked.{IsPathOrFull};
+ghost use Rattle.mirror_copy.specs.PlaceGets.{AsksPlaces};
 
-use crate::fault::BringFault;
-use mirror_sources::{Source, SourceFault};
-use std::alloc::Global;
-use tlog_tiles::{Path, split_entry};
-
-// The path of the full file of a place.
-fn full_of(path: &Path) -> Path {
-    match path {
-        Path::Checkpoint => Path::Checkpoint,
-        Path::Tile { level, index, .. } => Path::Tile {
-            level: *level,
-            index: *index,
-            width: 256,
-        },
-        Path::Entries { index, .. } => Path::Entries {
-            index: *index,
-            width: 256,
-        },
-    }
-}
-
-// The first `count` entries of a bundle; None where it has fewer.
-fn first_entries(bundle: &[u8], count: u32) -> Option<&[u8]> {
-    let mut rest = bundle;
-    for _ in 0..count {
-        let (_entry, after) = split_entry(rest)?;
-        rest = after;
-    }
-    bundle.get(..bundle.len().saturating_sub(rest.len()))
-}
-
-// The part of a full file that is the partial file of that path.
-fn part_of<'a>(path: &Path, full: &'a [u8]) -> Option<&'a [u8]> {
-    match path {
-        Path::Checkpoint => None,
-        Path::Tile { width, .. } => full.get(..32usize.saturating_mul(*width as usize)),
-        Path::Entries { width, .. } => first_entries(full, *width),
-    }
-}
+use crate::part::{full_of, part_of};
+use crate::place::{PlaceAnswer, Wrong};
+use crate::places::Places;
+use mirror_sources::Source;
+use std::alloc::{AllocError, Global};
+use tlog_tiles::Path;
 
 // The partial file of that path, cut from the full one that the place has.
-fn get_part<S: Source>(
+fn get_part<S: Source + Drop>(
     alloc: Global,
-    place: &mut S,
+    places: &mut Places<S>,
+    index: usize,
     path: &Path,
-) -> Result<Option<Vec<u8>>, BringFault>
-    ensures { IfErr result IsNoConflict }
+) -> Result<Option<Vec<u8>>, AllocError>
+    requires { index < length places.old.list.items }
+    ensures { AsksPlaces S.may_answer S.failed S.asked (λ p. p ≡ full_of path.now)
+        places.old places.new }
 {
-    let full = match place.get(&full_of(path)) {
-        Ok(Some(full)) => full,
-        Ok(None) => return Ok(None),
-        Err(SourceFault::Failed) => return Ok(None),
-        Err(SourceFault::OutOfMemory) => return Err(BringFault::OutOfMemory),
-    };
-    match part_of(path, &full) {
-        Some(part) => Ok(Some(Vec::from_slice(alloc, part)?)),
-        None => Ok(None),
+    let full_path = full_of(path);
+    match places.get(index, &full_path)? {
+        PlaceAnswer::File(full) => match part_of(path, &full) {
+            Some(part) => Ok(Some(Vec::from_slice(alloc, part)?)),
+            None => {
+                places.note_wrong(index, &full_path, Wrong::False);
+                Ok(None)
+            }
+        },
+        PlaceAnswer::NotFound => {
+            places.note_wrong(index, path, Wrong::NotFound);
+            Ok(None)
+        }
+        PlaceAnswer::Failed => Ok(None),
     }
 }
 
 /// The bytes of a partial file at a place; None where the place does not have it, or failed. A log may have deleted a partial file
 /// once its full one stands: then they are cut from that.
-pub(crate) fn get_partial<S: Source>(
+pub(crate) fn get_partial<S: Source + Drop>(
     alloc: Global,
-    place: &mut S,
+    places: &mut Places<S>,
+    index: usize,
     path: &Path,
-) -> Result<Option<Vec<u8>>, BringFault>
-    ensures { IfErr result IsNoConflict }
+) -> Result<Option<Vec<u8>>, AllocError>
+    requires { index < length places.old.list.items }
+    ensures { AsksPlaces S.may_answer S.failed S.asked (IsPathOrFull path.now)
+        places.old places.new }
 {
-    match place.get(path) {
-        Ok(Some(bytes)) => Ok(Some(bytes)),
-        Ok(None) => get_part(alloc, place, path),
-        Err(SourceFault::Failed) => Ok(None),
-        Err(SourceFault::OutOfMemory) => Err(BringFault::OutOfMemory),
+    match places.get(index, path)? {
+        PlaceAnswer::File(bytes) => Ok(Some(bytes)),
+        PlaceAnswer::NotFound => get_part(alloc, places, index, path),
+        PlaceAnswer::Failed => Ok(None),
     }
 }

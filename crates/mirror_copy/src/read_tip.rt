@@ -3,11 +3,13 @@ ghost use Rattle.std.specs.Prelude.{◌≡◌, IfErr, IfOk};
 ghost use Rattle.mirror_sources.specs.Told.{KeepsTold};
 ghost use Rattle.mirror_copy.specs.Conflicts.{IsNoConflict};
 ghost use Rattle.log_reader.specs.EdgeRows.{HasWidths};
+ghost use Rattle.mirror_copy.specs.Faults.{CountsShelf, IsOfNoPlace};
 ghost use Rattle.mirror_copy.specs.Found.{IsBundleRead, IsTipRead};
 
 use crate::edge_bundle::accept_edge_bundle;
 use crate::fault::BringFault;
 use crate::find_edge::edge_on_shelf;
+use crate::shelf_files::read_partial;
 use crate::tip::CopyTip;
 use log_reader::{EdgeRows, head_of};
 use mirror_folders::ReadableShelf;
@@ -24,6 +26,8 @@ fn bundle_on_shelf<H: TreeHash, D: ReadableShelf>(
 ) -> Result<Vec<u8>, BringFault>
     requires { HasWidths edge.now }
     ensures fault { IfErr result IsNoConflict }
+    ensures counted { CountsShelf (D.failed shelf.old) (D.failed shelf.new) result }
+    ensures places { IfErr result IsOfNoPlace }
     ensures same { KeepsTold (D.puts shelf.old) (D.puts shelf.new) }
     ensures bundle { IfOk result (λ bytes. IsBundleRead
         (D.puts shelf.old) edge.now.size bytes.items) }
@@ -36,7 +40,7 @@ fn bundle_on_shelf<H: TreeHash, D: ReadableShelf>(
         index: edge_index(edge.size(), 0),
         width: row.len() as u32,
     };
-    let given = shelf.read(&path)?;
+    let given = read_partial(alloc, shelf, &path)?;
     match accept_edge_bundle::<H>(alloc, row, given)? {
         Some(bytes) => Ok(bytes),
         None => Err(BringFault::CopyDamaged),
@@ -52,6 +56,8 @@ pub(crate) fn read_tip<H: TreeHash, D: ReadableShelf>(
     shelf: &mut D,
 ) -> Result<CopyTip, BringFault>
     ensures fault { IfErr result IsNoConflict }
+    ensures counted { CountsShelf (D.failed shelf.old) (D.failed shelf.new) result }
+    ensures places { IfErr result IsOfNoPlace }
     ensures same { KeepsTold (D.puts shelf.old) (D.puts shelf.new) }
     ensures tip { IfOk result (λ tip. IsTipRead H.digest origin.now (D.puts shelf.old) tip) }
 {

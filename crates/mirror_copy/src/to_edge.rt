@@ -2,6 +2,9 @@
 ghost use Rattle.std.specs.Prelude.{◌≡◌, ◌↔◌, ◌^◌, ◌<◌, ◌≤◌, ℕ, IfErr, IsTrue, List, length};
 ghost use Rattle.tlog_shape.specs.Edge.{edge_index_of, width_of};
 ghost use Rattle.mirror_copy.specs.Conflicts.{ConflictPutsNothing, IsNoConflict};
+ghost use Rattle.mirror_copy.specs.Asked.{IsEdgeBundleOrNew};
+ghost use Rattle.mirror_copy.specs.Faults.{BlamesPlaces, CountsShelf, IsOfNoPlace};
+ghost use Rattle.mirror_copy.specs.PlaceGets.{AsksPlaces};
 ghost use Rattle.mirror_copy.specs.Growing.{IsKnown};
 ghost use Rattle.log_reader.specs.EdgeRows.{HasWidths, RowIsTrue};
 ghost use Rattle.mirror_copy.specs.Edges.{BringsToEdge, PutsEdgeTile, PutsEdgeTiles};
@@ -11,6 +14,7 @@ use crate::edge_bundle::bring_edge_bundle;
 use crate::fault::BringFault;
 use crate::keep::keep;
 use crate::last::put_last;
+use crate::places::Places;
 use crate::tip::CopyTip;
 use log_reader::EdgeRows;
 use mirror_folders::ReadableShelf;
@@ -42,6 +46,8 @@ fn put_edge_tile<H: TreeHash, D: ReadableShelf>(
     requires larger { tip.now.size < edge.now.size }
     requires widths { HasWidths edge.now }
     ensures fault { IfErr result IsNoConflict }
+    ensures counted { CountsShelf (D.failed shelf.old) (D.failed shelf.new) result }
+    ensures places { IfErr result IsOfNoPlace }
     ensures puts { (entries : List (List ℕ)) → length entries ≡ edge.now.size
         → RowIsTrue H.digest edge.now entries level
         → PutsEdgeTile H.digest tip.now.size edge.now entries (D.puts shelf.old)
@@ -73,6 +79,8 @@ fn put_edge_tiles<H: TreeHash, D: ReadableShelf>(
     requires larger { tip.now.size < edge.now.size }
     requires widths { HasWidths edge.now }
     ensures fault { IfErr result IsNoConflict }
+    ensures counted { CountsShelf (D.failed shelf.old) (D.failed shelf.new) result }
+    ensures places { IfErr result IsOfNoPlace }
     ensures puts { (entries : List (List ℕ)) → length entries ≡ edge.now.size
         → ((level : ℕ) → level ≤ 7 → RowIsTrue H.digest edge.now entries level)
         → PutsEdgeTiles H.digest tip.now.size edge.now entries (D.puts shelf.old)
@@ -85,10 +93,10 @@ fn put_edge_tiles<H: TreeHash, D: ReadableShelf>(
 }
 
 /// Brings a copy to the tree of that edge, and puts its note last.
-pub(crate) fn bring_to_edge<H: TreeHash, D: ReadableShelf, S: Source>(
+pub(crate) fn bring_to_edge<H: TreeHash, D: ReadableShelf, S: Source + Drop>(
     alloc: Global,
     shelf: &mut D,
-    places: &mut [S],
+    places: &mut Places<S>,
     tip: &CopyTip,
     edge: &EdgeRows,
     note: &[u8],
@@ -96,6 +104,10 @@ pub(crate) fn bring_to_edge<H: TreeHash, D: ReadableShelf, S: Source>(
     requires size { edge.now.size < 2 ^ 63 }
     requires larger { tip.now.size < edge.now.size }
     requires widths { HasWidths edge.now }
+    ensures counted { CountsShelf (D.failed shelf.old) (D.failed shelf.new) result }
+    ensures asks { AsksPlaces S.may_answer S.failed S.asked
+        (IsEdgeBundleOrNew edge.now.size tip.now.size) places.old places.new }
+    ensures blames { IfErr result (BlamesPlaces places.new) }
     ensures early { ConflictPutsNothing 0 tip.now.size (D.puts shelf.old)
         (D.puts shelf.new) result }
     ensures brings { (known : List (List ℕ)) → IsKnown H.digest tip.now 0 known

@@ -18,6 +18,7 @@ turn_by bring.NotLarger = Ok NotLarger
 turn_by bring.Contradiction = Ok Contradicts
 turn_by bring.Collision = Ok NotHad
 turn_by bring.NoFile = Ok NotHad
+turn_by bring.Source = Ok NotHad
 turn_by bring.CopyInUse = Err CopyInUse
 turn_by bring.ShelfFault = Err ShelfFault
 turn_by bring.OutOfMemory = Err OutOfMemory

@@ -8,7 +8,7 @@ ghost use Rattle.mirror_follow.specs.Turns.{IsTurn, turn_by};
 
 use crate::candidate::Candidate;
 use crate::fault::TurnFault;
-use mirror_copy::{BringFault, bring_copy};
+use mirror_copy::{BringFault, Places, bring_copy};
 use mirror_folders::ReadableShelf;
 use mirror_sources::Source;
 use std::alloc::Global;
@@ -37,6 +37,7 @@ fn turn_of(fault: BringFault) -> Result<Turn, TurnFault>
         BringFault::NotLarger => Ok(Turn::NotLarger),
         BringFault::Contradiction => Ok(Turn::Contradicts),
         BringFault::NoFile => Ok(Turn::NotHad),
+        BringFault::Source => Ok(Turn::NotHad),
         BringFault::Collision => Ok(Turn::NotHad),
         BringFault::BadCheckpoint => Ok(Turn::NotHad),
         BringFault::CopyDamaged => Err(TurnFault::CopyDamaged),
@@ -47,11 +48,11 @@ fn turn_of(fault: BringFault) -> Result<Turn, TurnFault>
 }
 
 // Brings the copy to a candidate, if it is larger.
-fn take_turn<H: TreeHash, D: ReadableShelf, S: Source>(
+fn take_turn<H: TreeHash, D: ReadableShelf, S: Source + Drop>(
     alloc: Global,
     origin: &str,
     shelf: &mut D,
-    places: &mut [S],
+    places: &mut Places<S>,
     candidate: &Candidate,
 ) -> Result<Turn, TurnFault>
     ensures whole { KeepsCopy H.digest origin.now (note_of candidate.now) (D.puts shelf.old)
@@ -74,11 +75,11 @@ fn is_same_point(first: &Candidate, second: &Candidate) -> bool
 }
 
 // The turn of a candidate of a list.
-fn turn_at<H: TreeHash, D: ReadableShelf, S: Source>(
+fn turn_at<H: TreeHash, D: ReadableShelf, S: Source + Drop>(
     alloc: Global,
     origin: &str,
     shelf: &mut D,
-    places: &mut [S],
+    places: &mut Places<S>,
     candidates: &[Candidate],
     i: usize,
 ) -> Result<Turn, TurnFault>
@@ -100,7 +101,8 @@ fn turn_at<H: TreeHash, D: ReadableShelf, S: Source>(
 /// At each moment a whole copy stands, whatever the places answer.
 ///
 /// ```text
-/// let candidates = ask_candidates(alloc, "ex", &keys, &mut places)?;
+/// let candidates = ask_candidates(alloc, "ex", &keys, &mut sources)?;
+/// let mut places = Places::new(alloc);   // to which each of the sources is added
 /// take_turns::<Sha256Tree, MemShelf, ListSource<Sha256Tree>>(alloc, "ex", &mut shelf, &mut places, &candidates)?
 /// // [NotHad, Brought]: the greatest was not to be had, and the copy was brought to the next
 /// ```
@@ -108,11 +110,11 @@ fn turn_at<H: TreeHash, D: ReadableShelf, S: Source>(
 /// # Errors
 ///
 /// `CopyDamaged`, `CopyInUse` and `ShelfFault` as those of `bring_copy`; `OutOfMemory` where memory was refused.
-pub fn take_turns<H: TreeHash, D: ReadableShelf, S: Source>(
+pub fn take_turns<H: TreeHash, D: ReadableShelf, S: Source + Drop>(
     alloc: Global,
     origin: &str,
     shelf: &mut D,
-    places: &mut [S],
+    places: &mut Places<S>,
     candidates: &[Candidate],
 ) -> Result<Vec<Turn>, TurnFault>
     ensures whole { KeepsCopies H.digest origin.now (map note_of candidates.now) (D.puts shelf.old)

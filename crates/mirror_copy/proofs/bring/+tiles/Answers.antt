@@ -1,4 +1,4 @@
-use Rattle.std.proofs.Common.{rules, ◌≡◌, ◌+◌, ◌*◌, ◌^◌, ◌<◌, ◌≤◌, ◌-◌, length, subst, sym, ap, ◌∙◌, arith, get_or, []}
+use Rattle.std.proofs.Common.{rules, ◌≡◌, ◌+◌, ◌*◌, ◌^◌, ◌<◌, ◌≤◌, ◌-◌, length, refl, subst, sym, ap, ◌∙◌, arith, get_or, []}
 use Rattle.std.proofs.lemmas.List.{get_or_default}
 use Rattle.std.proofs.lemmas.Result.{err_from_is_err_and}
 use Rattle.tlog_tiles.specs.Row.{IsRow}
@@ -8,6 +8,9 @@ use Rattle.mirror_copy.specs.Growing.{IsRowBrought}
 use Rattle.mirror_copy.proofs.Growth.{left_none, left_then, brings_ok, kept_same}
 use Rattle.mirror_sources.specs.Told.{KeepsTold}
 use Rattle.mirror_copy.proofs.Earlier.{early_later}
+use Rattle.mirror_copy.proofs.Asking.{asks_same, asks_then, asks_weaker}
+use Rattle.mirror_copy.proofs.NewFulls.{tile_asked}
+use Rattle.mirror_copy.specs.Asked.{IsNewFull}
 use Rattle.mirror_copy.proofs.TileRows.{first_child, so_far_first, so_far_known, so_far_more, so_far_left}
 use Rattle.mirror_copy.proofs.TileRows.{child_beyond, child_fits, child_small, row_fits, row_then, tile_brought, tile_left}
 use Rattle.mirror_copy.proofs.bring.+tiles.Goals as goal
@@ -67,6 +70,8 @@ bring_row-returns-in_err-bring_tile-clause-brings g t c = λ known is.
 
 pub bring_row-loop-i-init : goal.bring_row-loop-i-init
 bring_row-loop-i-init g t c = record {
+  counted = refl;
+  asks = asks_same g.S.Source.may_answer g.S.Source.failed g.S.Source.asked (IsNewFull c.args.tip.now.size) c.args.places.now;
   early = λ same. kept_same (g.D.Shelf.puts c.args.shelf.now);
   brought = λ known is.
       so_far_first c.args.tip.now c.args.level c.args.index c.requires.beyond c.requires.above c.requires.level
@@ -75,6 +80,9 @@ bring_row-loop-i-init g t c = record {
 
 pub bring_row-loop-i-preserved : goal.bring_row-loop-i-preserved
 bring_row-loop-i-preserved g t c = record {
+  counted = c.in_ok-bring_tile.ensures.counted ∙ c.loop-i.invariant.counted;
+  asks = asks_then g.S.Source.may_answer g.S.Source.failed g.S.Source.asked (IsNewFull c.args.tip.now.size) c.args.places.now c.loop-i.places
+      c.bring_tile.new.places c.loop-i.invariant.asks c.bring_tile.ensures.asks;
   early = λ same. absurd (let le = c.loop-i.auto.i in omega arith);
   brought = λ known is.
       let digest = g.H.TreeHash.digest in
@@ -184,3 +192,41 @@ bring_row-returns-clause-none g t c = λ within.
     let h = first_child c.args.tip.now c.args.level c.args.index c.requires.beyond c.args.row.now c.in-Some.first
     c.loop-i.i c.in-Some.ensures.first c.loop-i.auto.i c.requires.above all in
     c.loop-i.invariant.early h.0
+
+pub bring_row-returns-in_default-clause-asks : goal.bring_row-returns-in_default-clause-asks
+bring_row-returns-in_default-clause-asks g t c = asks_same g.S.Source.may_answer g.S.Source.failed g.S.Source.asked (IsNewFull c.args.tip.now.size) c.args.places.now
+
+pub bring_row-returns-in_err-bring_tile-clause-asks : goal.bring_row-returns-in_err-bring_tile-clause-asks
+bring_row-returns-in_err-bring_tile-clause-asks g t c =
+    asks_then g.S.Source.may_answer g.S.Source.failed g.S.Source.asked (IsNewFull c.args.tip.now.size) c.args.places.now
+    c.loop-i.places c.bring_tile.new.places c.loop-i.invariant.asks c.bring_tile.ensures.asks
+
+pub bring_row-returns-clause-asks : goal.bring_row-returns-clause-asks
+bring_row-returns-clause-asks g t c = c.loop-i.invariant.asks
+
+pub bring_tile-returns-in_err-found-clause-asks : goal.bring_tile-returns-in_err-found-clause-asks
+bring_tile-returns-in_err-found-clause-asks g t c =
+    let some : 1 ≤ c.args.level = omega arith in
+    asks_weaker g.S.Source.may_answer g.S.Source.failed g.S.Source.asked (λ p. p ≡ Tile c.args.level c.args.index 256)
+    (IsNewFull c.args.tip.now.size) (tile_asked c.args.tip.now.size c.args.level c.args.index some c.requires.beyond)
+    c.args.places.now c.find.new.places c.find.ensures.asks
+
+pub bring_tile-returns-in_err-bring_row-clause-asks : goal.bring_tile-returns-in_err-bring_row-clause-asks
+bring_tile-returns-in_err-bring_row-clause-asks g t c =
+    let some : 1 ≤ c.args.level = omega arith in
+    asks_then g.S.Source.may_answer g.S.Source.failed g.S.Source.asked (IsNewFull c.args.tip.now.size) c.args.places.now
+    c.find.new.places c.bring_row.new.places
+    (asks_weaker g.S.Source.may_answer g.S.Source.failed g.S.Source.asked (λ p. p ≡ Tile c.args.level c.args.index 256)
+    (IsNewFull c.args.tip.now.size) (tile_asked c.args.tip.now.size c.args.level c.args.index some c.requires.beyond)
+    c.args.places.now c.find.new.places c.find.ensures.asks)
+    c.bring_row.ensures.asks
+
+pub bring_tile-returns-clause-asks : goal.bring_tile-returns-clause-asks
+bring_tile-returns-clause-asks g t c =
+    let some : 1 ≤ c.args.level = omega arith in
+    asks_then g.S.Source.may_answer g.S.Source.failed g.S.Source.asked (IsNewFull c.args.tip.now.size) c.args.places.now
+    c.find.new.places c.bring_row.new.places
+    (asks_weaker g.S.Source.may_answer g.S.Source.failed g.S.Source.asked (λ p. p ≡ Tile c.args.level c.args.index 256)
+    (IsNewFull c.args.tip.now.size) (tile_asked c.args.tip.now.size c.args.level c.args.index some c.requires.beyond)
+    c.args.places.now c.find.new.places c.find.ensures.asks)
+    c.bring_row.ensures.asks

@@ -5,6 +5,9 @@ use Rattle.tlog_tiles.specs.Row.{row_text}
 use Rattle.tlog_tiles.specs.declared.paths.Path.TheVariants.{Entries, Tile}
 use Rattle.mirror_sources.specs.Told.{KeepsTold, AddsTold}
 use Rattle.mirror_copy.specs.Standing.{TellsStands}
+use Rattle.mirror_copy.specs.Asked.{IsNewFull}
+use Rattle.mirror_copy.proofs.Asking.{asks_weaker}
+use Rattle.mirror_copy.proofs.NewFulls.{bundle_asked}
 use Rattle.mirror_copy.proofs.Growth.{left_none, brings_ok}
 use Rattle.mirror_copy.proofs.Bundles.{bundle_left, bundle_brought, tile_left}
 use Rattle.mirror_copy.proofs.bring.bring_bundle.Goals as goal
@@ -74,3 +77,39 @@ returns-clause-brings g c = λ known is.
     bytes row found.is_row goes_on x y z c.find.ensures.same puts w c.deref-5.result.now text c.keep-2.ensures.puts refl
     c.args.hash.now found.folds there row_there)
     left
+
+pub returns-in_err-found-clause-asks : goal.returns-in_err-found-clause-asks
+returns-in_err-found-clause-asks g c =
+    asks_weaker g.S.Source.may_answer g.S.Source.failed g.S.Source.asked (λ p. p ≡ Entries c.args.index 256)
+    (IsNewFull c.args.tip.now.size) (bundle_asked c.args.tip.now.size c.args.index c.requires.beyond)
+    c.args.places.now c.find.new.places c.find.ensures.asks
+
+pub returns-then-is_none-clause-asks : goal.returns-then-is_none-clause-asks
+returns-then-is_none-clause-asks g c =
+    asks_weaker g.S.Source.may_answer g.S.Source.failed g.S.Source.asked (λ p. p ≡ Entries c.args.index 256)
+    (IsNewFull c.args.tip.now.size) (bundle_asked c.args.tip.now.size c.args.index c.requires.beyond)
+    c.args.places.now c.find.new.places c.find.ensures.asks
+
+pub returns-then-not-goes_on-clause-asks : goal.returns-then-not-goes_on-clause-asks
+returns-then-not-goes_on-clause-asks g c =
+    asks_weaker g.S.Source.may_answer g.S.Source.failed g.S.Source.asked (λ p. p ≡ Entries c.args.index 256)
+    (IsNewFull c.args.tip.now.size) (bundle_asked c.args.tip.now.size c.args.index c.requires.beyond)
+    c.args.places.now c.find.new.places c.find.ensures.asks
+
+pub returns-in_err-bytes-clause-asks : goal.returns-in_err-bytes-clause-asks
+returns-in_err-bytes-clause-asks g c =
+    asks_weaker g.S.Source.may_answer g.S.Source.failed g.S.Source.asked (λ p. p ≡ Entries c.args.index 256)
+    (IsNewFull c.args.tip.now.size) (bundle_asked c.args.tip.now.size c.args.index c.requires.beyond)
+    c.args.places.now c.find.new.places c.find.ensures.asks
+
+pub returns-in_err-keep-clause-asks : goal.returns-in_err-keep-clause-asks
+returns-in_err-keep-clause-asks g c =
+    asks_weaker g.S.Source.may_answer g.S.Source.failed g.S.Source.asked (λ p. p ≡ Entries c.args.index 256)
+    (IsNewFull c.args.tip.now.size) (bundle_asked c.args.tip.now.size c.args.index c.requires.beyond)
+    c.args.places.now c.find.new.places c.find.ensures.asks
+
+pub returns-clause-asks : goal.returns-clause-asks
+returns-clause-asks g c =
+    asks_weaker g.S.Source.may_answer g.S.Source.failed g.S.Source.asked (λ p. p ≡ Entries c.args.index 256)
+    (IsNewFull c.args.tip.now.size) (bundle_asked c.args.tip.now.size c.args.index c.requires.beyond)
+    c.args.places.now c.find.new.places c.find.ensures.asks

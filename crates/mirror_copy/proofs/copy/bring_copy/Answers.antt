@@ -1,3 +1,7 @@
+use Rattle.std.proofs.lemmas.Result.{err_from_is_err_and}
+use Rattle.mirror_copy.specs.Asked.{MayBeAsked}
+use Rattle.mirror_copy.specs.AskedForCopy.{AsksFiles, AsksNothing}
+use Rattle.mirror_copy.proofs.Begun.{asks_begun, begun_then, blames_from, refuses_from, refuses_none}
 use Rattle.mirror_copy.proofs.Growth.{kept_same}
 use Rattle.mirror_copy.proofs.WholeMoments.{had_size, whole_same}
 use Rattle.mirror_copy.proofs.copy.bring_copy.Goals as goal
@@ -21,3 +25,61 @@ pub returns-clause-had : goal.returns-clause-had
 returns-clause-had g c =
     rw c.size-had.ensures (had_size g.H.TreeHash.digest c.args.origin.now c.in_ok-tip.tip
     (g.D.Shelf.puts c.args.shelf.now) c.in_ok-tip.ensures.tip)
+
+pub returns-in_err-head-clause-asks : goal.returns-in_err-head-clause-asks
+returns-in_err-head-clause-asks g c =
+    AsksNothing (asks_begun g.S.Source.may_answer g.S.Source.failed g.S.Source.asked (λ path. ⊥) c.args.places.now c.begin.new.self c.begin.ensures.list)
+
+pub returns-in_default-clause-asks : goal.returns-in_default-clause-asks
+returns-in_default-clause-asks g c =
+    AsksNothing (asks_begun g.S.Source.may_answer g.S.Source.failed g.S.Source.asked (λ path. ⊥) c.args.places.now c.begin.new.self c.begin.ensures.list)
+
+pub returns-in_err-tip-clause-asks : goal.returns-in_err-tip-clause-asks
+returns-in_err-tip-clause-asks g c =
+    AsksNothing (asks_begun g.S.Source.may_answer g.S.Source.failed g.S.Source.asked (λ path. ⊥) c.args.places.now c.begin.new.self c.begin.ensures.list)
+
+pub returns-in_err-done-clause-asks : goal.returns-in_err-done-clause-asks
+returns-in_err-done-clause-asks g c =
+    let tip = c.in_ok-tip.tip in
+    let head = c.in-Some.head in
+    AsksFiles tip.size head.0 head.1
+    (had_size g.H.TreeHash.digest c.args.origin.now tip (g.D.Shelf.puts c.args.shelf.now) c.in_ok-tip.ensures.tip)
+    (rw c.in-Some.is at c.in_ok-head.ensures.found)
+    (begun_then g.S.Source.may_answer g.S.Source.failed g.S.Source.asked (MayBeAsked tip.size head.0) c.args.places.now c.begin.new.self c.bring_from-done.new.places
+    c.begin.ensures.list c.bring_from-done.ensures.asks)
+
+pub returns-clause-asks : goal.returns-clause-asks
+returns-clause-asks g c =
+    let tip = c.in_ok-tip.tip in
+    let head = c.in-Some.head in
+    AsksFiles tip.size head.0 head.1
+    (had_size g.H.TreeHash.digest c.args.origin.now tip (g.D.Shelf.puts c.args.shelf.now) c.in_ok-tip.ensures.tip)
+    (rw c.in-Some.is at c.in_ok-head.ensures.found)
+    (begun_then g.S.Source.may_answer g.S.Source.failed g.S.Source.asked (MayBeAsked tip.size head.0) c.args.places.now c.begin.new.self c.bring_from-done.new.places
+    c.begin.ensures.list c.bring_from-done.ensures.asks)
+
+pub returns-in_err-done-clause-blames : goal.returns-in_err-done-clause-blames
+returns-in_err-done-clause-blames g c =
+    let p = err_from_is_err_and c.from_residual-in_err-done.result c.from_residual-in_err-done.ensures.1 in
+    rw (p.1, p.2) (blames_from g.S.Source.may_answer g.S.Source.failed g.S.Source.asked (MayBeAsked c.in_ok-tip.tip.size c.in-Some.head.0) c.args.places.now
+    c.begin.new.self c.bring_from-done.new.places c.in_ok-tip.tip.size c.in-Some.head.0 c.in_err-done.field-0.0
+    c.begin.ensures.list c.begin.ensures.failed c.bring_from-done.ensures.asks c.in_err-done.ensures.blames)
+
+pub returns-in_default-clause-refuses : goal.returns-in_default-clause-refuses
+returns-in_default-clause-refuses g c = rw c.in_default.is at c.in_ok-head.ensures.none
+
+pub returns-in_err-tip-clause-refuses : goal.returns-in_err-tip-clause-refuses
+returns-in_err-tip-clause-refuses g c =
+    let p = err_from_is_err_and c.from_residual-in_err-tip.result c.from_residual-in_err-tip.ensures.1 in
+    rw (p.1, p.2) (refuses_none g.H.TreeHash.digest c.args.origin.now c.args.note.now (g.D.Shelf.puts c.args.shelf.now)
+    c.in_err-tip.field-0.0 c.in_err-tip.ensures.places)
+
+pub returns-in_err-done-clause-refuses : goal.returns-in_err-done-clause-refuses
+returns-in_err-done-clause-refuses g c =
+    let p = err_from_is_err_and c.from_residual-in_err-done.result c.from_residual-in_err-done.ensures.1 in
+    let tip = c.in_ok-tip.tip in
+    let head = c.in-Some.head in
+    rw (p.1, p.2) (refuses_from g.H.TreeHash.digest c.args.origin.now c.args.note.now (g.D.Shelf.puts c.args.shelf.now)
+    c.bring_from-done.new.places tip.size head.0 head.1 c.in_err-done.field-0.0
+    (had_size g.H.TreeHash.digest c.args.origin.now tip (g.D.Shelf.puts c.args.shelf.now) c.in_ok-tip.ensures.tip)
+    (rw c.in-Some.is at c.in_ok-head.ensures.found) c.in_err-done.ensures.blames)

@@ -1,3 +1,5 @@
+use Rattle.mirror_copy.specs.Asked.{MayBeAsked}
+use Rattle.mirror_copy.proofs.Asking.{asks_same}
 use Rattle.mirror_copy.proofs.WholeMoments.{whole_same}
 use Rattle.mirror_copy.proofs.copy.bring_from.Goals as goal
 
@@ -7,3 +9,7 @@ returns-clause-brings g c = λ before kept t. (
       (g.D.Shelf.puts c.args.shelf.now) kept,
   tt,
 )
+
+pub returns-then-is_none-clause-asks : goal.returns-then-is_none-clause-asks
+returns-then-is_none-clause-asks g c =
+    asks_same g.S.Source.may_answer g.S.Source.failed g.S.Source.asked (MayBeAsked c.args.tip.now.size c.args.candidate.now.size) c.args.places.now

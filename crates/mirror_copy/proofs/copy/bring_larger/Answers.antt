@@ -1,6 +1,9 @@
-use Rattle.std.proofs.Common.{◌≤◌, subst, sym, arith}
+use Rattle.std.proofs.Common.{◌≤◌, inl, subst, sym, arith}
 use Rattle.std.proofs.lemmas.Result.{err_from_is_err_and}
 use Rattle.mirror_model.specs.Heads.{IsHead}
+use Rattle.mirror_copy.specs.Asked.{IsEdgeTile, IsEdgeBundleOrNew, MayBeAsked}
+use Rattle.mirror_copy.specs.PlaceGets.{AsksPlaces}
+use Rattle.mirror_copy.proofs.Asking.{asks_weaker, larger_asks}
 use Rattle.mirror_copy.proofs.Earlier.{conflict_keeps, conflict_later, kept_then}
 use Rattle.mirror_copy.proofs.WholeMoments.{ends_later, larger_ends, larger_whole, whole_later, whole_same}
 use Rattle.mirror_copy.proofs.copy.bring_larger.Goals as goal
@@ -49,3 +52,16 @@ returns-clause-brings g c = λ before kept t.
           (λ t'. larger_ends digest origin note tip edge root upto head leads.root_is y w t'
           c.bring_to_edge-done.result c.bring_to_edge-done.ensures.brings),
     )
+
+pub returns-in_err-edge-clause-asks : goal.returns-in_err-edge-clause-asks
+returns-in_err-edge-clause-asks g c =
+    asks_weaker g.S.Source.may_answer g.S.Source.failed g.S.Source.asked (IsEdgeTile c.args.candidate.now.size)
+    (MayBeAsked c.args.tip.now.size c.args.candidate.now.size) (λ path h. inl h) c.args.places.now c.find_edge.new.places
+    c.find_edge.ensures.asks
+
+pub returns-clause-asks : goal.returns-clause-asks
+returns-clause-asks g c =
+    larger_asks g.S.Source.may_answer g.S.Source.failed g.S.Source.asked c.args.candidate.now.size c.args.tip.now.size c.args.places.now
+    c.find_edge.new.places c.bring_to_edge-done.new.places c.find_edge.ensures.asks
+    (subst (λ n. AsksPlaces g.S.Source.may_answer g.S.Source.failed g.S.Source.asked (IsEdgeBundleOrNew n c.args.tip.now.size) c.find_edge.new.places
+    c.bring_to_edge-done.new.places) c.in_ok-edge.ensures.leads.is_edge.size_is c.bring_to_edge-done.ensures.asks)

@@ -1,7 +1,9 @@
-use Rattle.std.proofs.Common.{◌≡◌, ◌+◌, ◌-◌, ◌*◌, ◌/◌, ◌^◌, ◌<◌, ◌≤◌, ℕ, List, length, subst, sym, ap, ◌∙◌, arith}
+use Rattle.std.proofs.Common.{◌≡◌, ◌+◌, ◌-◌, ◌*◌, ◌/◌, ◌^◌, ◌<◌, ◌≤◌, ℕ, List, length, refl, subst, sym, ap, ◌∙◌, arith}
 use Rattle.std.proofs.lemmas.Result.{err_from_is_err_and}
 use Rattle.tlog_shape.specs.Edge.{edge_index_of}
 use Rattle.mirror_copy.proofs.Growth.{kept_same}
+use Rattle.mirror_copy.proofs.Asking.{asks_same, asks_then}
+use Rattle.mirror_copy.specs.Asked.{IsNewFull}
 use Rattle.mirror_copy.specs.Growing.{IsKnown, IsRowBrought}
 use Rattle.log_reader.specs.EdgeRows.{row_at}
 use Rattle.mirror_copy.specs.Edges.{IsEdgeBrought}
@@ -11,6 +13,8 @@ use Rattle.mirror_copy.proofs.edge.bring_levels.Goals as goal
 
 pub loop-done-init : goal.loop-done-init
 loop-done-init g c = record {
+  counted = refl;
+  asks = asks_same g.S.Source.may_answer g.S.Source.failed g.S.Source.asked (IsNewFull c.args.tip.now.size) c.args.places.now;
   early = λ within. kept_same (g.D.Shelf.puts c.args.shelf.now);
   brought = λ known is.
       edge_first g.H.TreeHash.digest c.args.tip.now c.args.edge.now known c.requires.widths (g.D.Shelf.puts c.args.shelf.now)
@@ -56,6 +60,9 @@ returns-in_err-bring_row-clause-brings g c = λ known is.
 
 pub loop-done-preserved : goal.loop-done-preserved
 loop-done-preserved g c = record {
+  counted = c.in_ok-bring_row.ensures.counted ∙ c.loop-done.invariant.counted;
+  asks = asks_then g.S.Source.may_answer g.S.Source.failed g.S.Source.asked (IsNewFull c.args.tip.now.size) c.args.places.now c.loop-done.places
+      c.bring_row.new.places c.loop-done.invariant.asks c.bring_row.ensures.asks;
   early = λ within.
       let level = 7 - c.loop-done.done in
       let edge = c.args.edge.now in
@@ -101,3 +108,11 @@ loop-done-preserved g c = record {
       subst (λ k. IsEdgeBrought digest tip edge known k x z) next
       (edge_step digest tip edge known c.requires.widths x y z low level below (omega arith) (omega arith) s rowed);
 }
+
+pub returns-in_err-bring_row-clause-asks : goal.returns-in_err-bring_row-clause-asks
+returns-in_err-bring_row-clause-asks g c =
+    asks_then g.S.Source.may_answer g.S.Source.failed g.S.Source.asked (IsNewFull c.args.tip.now.size) c.args.places.now
+    c.loop-done.places c.bring_row.new.places c.loop-done.invariant.asks c.bring_row.ensures.asks
+
+pub returns-clause-asks : goal.returns-clause-asks
+returns-clause-asks g c = c.loop-done.invariant.asks

@@ -1,4 +1,6 @@
-use Rattle.std.proofs.Common.{◌+◌, ◌-◌, ◌*◌, ◌^◌, ◌≤◌, ℕ, List}
+use Rattle.mirror_copy.specs.PlaceGets.{AsksPlaces}
+use Rattle.mirror_copy.specs.Asked.{IsNewFull}
+use Rattle.std.proofs.Common.{◌≡◌, ◌+◌, ◌-◌, ◌*◌, ◌^◌, ◌≤◌, ℕ, List}
 use Rattle.tlog_shape.specs.Edge.{edge_index_of}
 use Rattle.mirror_sources.specs.Told.{KeepsTold}
 use Rattle.mirror_copy.specs.Growing.{IsKnown}
@@ -7,6 +9,8 @@ use Rattle.mirror_copy.proofs.edge.bring_levels.Given as goal
 
 abbrev pub invariant-loop-done : goal.invariant-loop-done
 invariant-loop-done g l = record {
+  counted : g.D.Shelf.failed l.shelf ≡ g.D.Shelf.failed l.fn.shelf;
+  asks : AsksPlaces g.S.Source.may_answer g.S.Source.failed g.S.Source.asked (IsNewFull l.tip.size) l.fn.places l.places;
   early : edge_index_of l.edge.size (8 - l.done - 1) * 256 ^ (8 - l.done - 1 + 1) ≤ l.tip.size →
       KeepsTold (g.D.Shelf.puts l.fn.shelf) (g.D.Shelf.puts l.shelf);
   brought : (known : List (List ℕ)) → IsKnown g.H.TreeHash.digest l.tip 0 known →

@@ -6,6 +6,9 @@ use Rattle.mirror_sources.specs.Told.{KeepsTold, AddsTold}
 use Rattle.mirror_copy.specs.Standing.{TellsStands}
 use Rattle.log_reader.specs.Verified.{HasLeaves}
 use Rattle.log_reader.specs.EdgeRows.{row_at}
+use Rattle.mirror_copy.specs.Asked.{IsEdgeBundle, IsPathOrFull}
+use Rattle.mirror_copy.proofs.Asking.{asks_same, asks_weaker}
+use Rattle.mirror_copy.proofs.NewFulls.{edge_bundle_asked}
 use Rattle.mirror_copy.proofs.Growth.{kept_same, left_none}
 use Rattle.mirror_copy.proofs.Finishing.{brings_last, last_left, last_none, last_some}
 use Rattle.mirror_copy.proofs.edge_bundle.bring_edge_bundle.Goals as goal
@@ -66,3 +69,45 @@ returns-clause-brings g c = λ known is.
     (subst (λ p. TellsStands y z p c.deref-2.result.now) path stands)))
     (last_left digest tip edge c.requires.widths c.requires.larger known is width some_row width_is bytes v goes_on
     x y z c.find_edge_bundle.ensures.same puts_bytes)
+
+pub returns-then-is_empty-clause-asks : goal.returns-then-is_empty-clause-asks
+returns-then-is_empty-clause-asks g c = asks_same g.S.Source.may_answer g.S.Source.failed g.S.Source.asked (IsEdgeBundle c.args.edge.now.size) c.args.places.now
+
+pub returns-then-is_none-clause-asks : goal.returns-then-is_none-clause-asks
+returns-then-is_none-clause-asks g c = asks_same g.S.Source.may_answer g.S.Source.failed g.S.Source.asked (IsEdgeBundle c.args.edge.now.size) c.args.places.now
+
+pub returns-in_err-bytes-clause-asks : goal.returns-in_err-bytes-clause-asks
+returns-in_err-bytes-clause-asks g c =
+    let some : 1 ≤ length c.row-row.result.now = search rules in
+    let at : c.edge_index-index.result ≡ edge_index_of c.args.edge.now.size 0 =
+    c.edge_index-index.ensures ∙ ap (λ n. edge_index_of n 0) c.size.ensures in
+    let wide : length c.row-row.result.now ≡ width_of c.args.edge.now.size 0 =
+    ap length c.row-row.ensures ∙ c.requires.widths 0 (omega arith) in
+    asks_weaker g.S.Source.may_answer g.S.Source.failed g.S.Source.asked (IsPathOrFull (Entries c.edge_index-index.result (length c.row-row.result.now)))
+    (IsEdgeBundle c.args.edge.now.size)
+    (edge_bundle_asked c.args.edge.now.size c.edge_index-index.result (length c.row-row.result.now) at wide some)
+    c.args.places.now c.find_edge_bundle.new.places c.find_edge_bundle.ensures.asks
+
+pub returns-then-not-goes_on-clause-asks : goal.returns-then-not-goes_on-clause-asks
+returns-then-not-goes_on-clause-asks g c =
+    let some : 1 ≤ length c.row-row.result.now = search rules in
+    let at : c.edge_index-index.result ≡ edge_index_of c.args.edge.now.size 0 =
+    c.edge_index-index.ensures ∙ ap (λ n. edge_index_of n 0) c.size.ensures in
+    let wide : length c.row-row.result.now ≡ width_of c.args.edge.now.size 0 =
+    ap length c.row-row.ensures ∙ c.requires.widths 0 (omega arith) in
+    asks_weaker g.S.Source.may_answer g.S.Source.failed g.S.Source.asked (IsPathOrFull (Entries c.edge_index-index.result (length c.row-row.result.now)))
+    (IsEdgeBundle c.args.edge.now.size)
+    (edge_bundle_asked c.args.edge.now.size c.edge_index-index.result (length c.row-row.result.now) at wide some)
+    c.args.places.now c.find_edge_bundle.new.places c.find_edge_bundle.ensures.asks
+
+pub returns-clause-asks : goal.returns-clause-asks
+returns-clause-asks g c =
+    let some : 1 ≤ length c.row-row.result.now = search rules in
+    let at : c.edge_index-index.result ≡ edge_index_of c.args.edge.now.size 0 =
+    c.edge_index-index.ensures ∙ ap (λ n. edge_index_of n 0) c.size.ensures in
+    let wide : length c.row-row.result.now ≡ width_of c.args.edge.now.size 0 =
+    ap length c.row-row.ensures ∙ c.requires.widths 0 (omega arith) in
+    asks_weaker g.S.Source.may_answer g.S.Source.failed g.S.Source.asked (IsPathOrFull (Entries c.edge_index-index.result (length c.row-row.result.now)))
+    (IsEdgeBundle c.args.edge.now.size)
+    (edge_bundle_asked c.args.edge.now.size c.edge_index-index.result (length c.row-row.result.now) at wide some)
+    c.args.places.now c.find_edge_bundle.new.places c.find_edge_bundle.ensures.asks

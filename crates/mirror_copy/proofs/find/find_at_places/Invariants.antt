@@ -1,16 +1,15 @@
-use Rattle.std.proofs.Common.{◌≡◌, ◌<◌, ◌≤◌, ℕ, List, get_or}
-use Rattle.mirror_sources.specs.Source.{StaysWithin}
+use Rattle.std.proofs.Common.{◌≡◌, ◌<◌, ℕ, List, get_or}
 use Rattle.log_reader.specs.Verified.{Verifies}
-use Rattle.mirror_copy.specs.Asked.{IsAskedInVain}
+use Rattle.mirror_copy.specs.Asked.{IsAskedInVain, IsAskedInTurn}
+use Rattle.mirror_copy.specs.PlaceGets.{AsksPlaces}
+use Rattle.mirror_copy.specs.declared.place.Place.{Place}
 use Rattle.mirror_copy.proofs.find.find_at_places.Given as goal
 
-abbrev pub invariant-loop-place : goal.invariant-loop-place
-invariant-loop-place g l = record {
-  later : (k : ℕ) (d : g.row.S.Denot) →
-      StaysWithin (g.S.Source.may_answer (get_or l.fn.places k d)) (g.S.Source.may_answer (get_or l.places k d));
-  rest : (k : ℕ) (d : g.row.S.Denot) → l.place-index ≤ k → get_or l.places k d ≡ get_or l.fn.places k d;
-  asked : (k : ℕ) (d : g.row.S.Denot) → k < l.place-index →
-      IsAskedInVain (g.S.Source.may_answer (get_or l.fn.places k d)) (g.S.Source.failed (get_or l.fn.places k d))
-      (g.S.Source.failed (get_or l.places k d)) l.path
+abbrev pub invariant-loop-turn : goal.invariant-loop-turn
+invariant-loop-turn g l = record {
+  asks : AsksPlaces g.S.Source.may_answer g.S.Source.failed g.S.Source.asked (λ p. p ≡ l.path) l.fn.places l.places;
+  none : (turn k : ℕ) (d : Place g.row.S.Denot) → turn < l.turn → IsAskedInTurn l.first turn k →
+      IsAskedInVain (g.S.Source.may_answer (get_or l.fn.places.list.items k d).source)
+      (get_or l.fn.places.list.items k d).failures (get_or l.places.list.items k d).failures l.path
       (λ bytes. (row : List (List ℕ)) × Verifies g.H.TreeHash.digest l.kind l.hash bytes row);
 }

@@ -2,6 +2,7 @@ use Rattle.std.proofs.Common.{refl}
 use Rattle.std.proofs.lemmas.Result.{err_from_is_err_and}
 use Rattle.mirror_copy.proofs.EdgeRows.{edge_known, edge_left}
 use Rattle.mirror_copy.proofs.Growth.{kept_same}
+use Rattle.mirror_copy.proofs.Asking.{to_edge_asks}
 use Rattle.mirror_copy.proofs.Finishing.{copy_brought, ends_brought, left_put, true_rows}
 use Rattle.mirror_copy.proofs.to_edge.bring_to_edge.Goals as goal
 
@@ -49,3 +50,18 @@ returns-clause-brings g c = λ known is.
     ends_brought digest tip edge c.args.note.now known x w v c.put_last.result c.put_last.ensures.puts
     (λ told. copy_brought digest tip edge c.args.note.now known c.requires.size c.requires.widths x y z w v e l q told)
     (λ kept. left_put digest tip edge known c.requires.widths x y z e l w v q.gathers kept)
+
+pub returns-in_err-bring_edge_bundle-clause-asks : goal.returns-in_err-bring_edge_bundle-clause-asks
+returns-in_err-bring_edge_bundle-clause-asks g c =
+    to_edge_asks g.S.Source.may_answer g.S.Source.failed g.S.Source.asked c.args.edge.now.size c.args.tip.now.size c.args.places.now
+    c.bring_levels.new.places c.bring_edge_bundle.new.places c.bring_levels.ensures.asks c.bring_edge_bundle.ensures.asks
+
+pub returns-in_err-put_edge_tiles-clause-asks : goal.returns-in_err-put_edge_tiles-clause-asks
+returns-in_err-put_edge_tiles-clause-asks g c =
+    to_edge_asks g.S.Source.may_answer g.S.Source.failed g.S.Source.asked c.args.edge.now.size c.args.tip.now.size c.args.places.now
+    c.bring_levels.new.places c.bring_edge_bundle.new.places c.bring_levels.ensures.asks c.bring_edge_bundle.ensures.asks
+
+pub returns-clause-asks : goal.returns-clause-asks
+returns-clause-asks g c =
+    to_edge_asks g.S.Source.may_answer g.S.Source.failed g.S.Source.asked c.args.edge.now.size c.args.tip.now.size c.args.places.now
+    c.bring_levels.new.places c.bring_edge_bundle.new.places c.bring_levels.ensures.asks c.bring_edge_bundle.ensures.asks

@@ -1,4 +1,4 @@
-use Rattle.std.proofs.Common.{◌≡◌, ◌≤◌, subst, arith}
+use Rattle.std.proofs.Common.{◌≡◌, ◌≤◌, ◌∙◌, refl, subst, arith}
 use Rattle.std.proofs.lemmas.Result.{err_from_is_err_and}
 use Rattle.mirror_copy.specs.Edges.{AreEdgeTilesPut}
 use Rattle.mirror_copy.proofs.Growth.{gathers_then}
@@ -6,15 +6,22 @@ use Rattle.mirror_copy.proofs.Finishing.{edge_put_first, edge_put_then}
 use Rattle.mirror_copy.proofs.to_edge.put_edge_tiles.Goals as goal
 
 pub loop-level-init : goal.loop-level-init
-loop-level-init g c = λ entries long rows.
-    edge_put_first g.H.TreeHash.digest c.args.tip.now.size c.args.edge.now entries long (g.D.Shelf.puts c.args.shelf.now)
+loop-level-init g c = record {
+  counted = refl;
+  puts = λ entries long rows.
+      edge_put_first g.H.TreeHash.digest c.args.tip.now.size c.args.edge.now entries long (g.D.Shelf.puts c.args.shelf.now);
+}
 
 pub loop-level-preserved : goal.loop-level-preserved
-loop-level-preserved g c = λ entries long rows.
-    let upto : c.loop-level.level ≤ 7 = omega arith in
-    edge_put_then g.H.TreeHash.digest c.args.tip.now.size c.args.edge.now entries long (g.D.Shelf.puts c.args.shelf.now)
-    (g.D.Shelf.puts c.loop-level.shelf) (g.D.Shelf.puts c.put_edge_tile.new.shelf) c.loop-level.level upto
-    (c.loop-level.invariant entries long rows) (c.in_ok-put_edge_tile.ensures.puts entries long (rows c.loop-level.level upto))
+loop-level-preserved g c = record {
+  counted = c.in_ok-put_edge_tile.ensures.counted ∙ c.loop-level.invariant.counted;
+  puts = λ entries long rows.
+      let upto : c.loop-level.level ≤ 7 = omega arith in
+      edge_put_then g.H.TreeHash.digest c.args.tip.now.size c.args.edge.now entries long (g.D.Shelf.puts c.args.shelf.now)
+      (g.D.Shelf.puts c.loop-level.shelf) (g.D.Shelf.puts c.put_edge_tile.new.shelf) c.loop-level.level upto
+      (c.loop-level.invariant.puts entries long rows)
+      (c.in_ok-put_edge_tile.ensures.puts entries long (rows c.loop-level.level upto));
+}
 
 pub returns-in_err-put_edge_tile-clause-puts : goal.returns-in_err-put_edge_tile-clause-puts
 returns-in_err-put_edge_tile-clause-puts g c = λ entries long rows.
@@ -22,10 +29,10 @@ returns-in_err-put_edge_tile-clause-puts g c = λ entries long rows.
     let upto : c.loop-level.level ≤ 7 = omega arith in
     rw p.1 (gathers_then g.H.TreeHash.digest c.args.tip.now.size entries entries entries (g.D.Shelf.puts c.args.shelf.now)
     (g.D.Shelf.puts c.loop-level.shelf) (g.D.Shelf.puts c.put_edge_tile.new.shelf)
-    (c.loop-level.invariant entries long rows).gathers (c.in_err-put_edge_tile.ensures.puts entries long (rows c.loop-level.level upto)))
+    (c.loop-level.invariant.puts entries long rows).gathers (c.in_err-put_edge_tile.ensures.puts entries long (rows c.loop-level.level upto)))
 
 pub returns-clause-puts : goal.returns-clause-puts
 returns-clause-puts g c = λ entries long rows.
     let end : c.loop-level.level ≡ 8 = omega arith in
     subst (λ n. AreEdgeTilesPut g.H.TreeHash.digest c.args.tip.now.size c.args.edge.now entries (g.D.Shelf.puts c.args.shelf.now)
-    (g.D.Shelf.puts c.loop-level.shelf) n) end (c.loop-level.invariant entries long rows)
+    (g.D.Shelf.puts c.loop-level.shelf) n) end (c.loop-level.invariant.puts entries long rows)

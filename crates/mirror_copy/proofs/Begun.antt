@@ -1,0 +1,102 @@
+-- A bringing from its beginning.
+use Rattle.std.proofs.Common.{◌≡◌, inl, inr, ℕ, ◌<◌, List, length, get_or, Option, IsFalse, sym, subst, ap, ◌∙◌}
+use Rattle.tlog_tiles.specs.declared.paths.Path.{Path}
+use Rattle.mirror_model.specs.Heads.{IsHead}
+use Rattle.mirror_folders.specs.Shelf.{Put}
+use Rattle.mirror_copy.specs.AskedForCopy.{BlamesFailed, RefusesNote}
+use Rattle.mirror_copy.specs.Faults.{BlamesFrom, BlamesPlaces, IsOfNoPlace}
+use Rattle.mirror_copy.specs.Moments.{HadSize}
+use Rattle.mirror_copy.specs.PlaceGets.{APlaceFailed, AsksEach, AsksPlaces, IsAskedFor}
+use Rattle.mirror_copy.specs.declared.place.Place.{Place}
+use Rattle.mirror_copy.specs.declared.places.Places.{Places}
+use Rattle.mirror_copy.specs.declared.fault.BringFault.{BringFault}
+use Rattle.mirror_copy.specs.declared.fault.BringFault.TheVariants.{BadCheckpoint, CopyDamaged, NotLarger, Contradiction}
+use Rattle.mirror_copy.specs.declared.fault.BringFault.TheVariants.{Collision, NoFile, Source, CopyInUse, ShelfFault, OutOfMemory}
+use Rattle.mirror_copy.proofs.Asking.{asked_same}
+
+module _ {S : Type 0} (may : S → Path → Option (List ℕ) → Type 0) (failed : S → ℕ) (asked : S → Option (List Path)) where
+  pub asks_begun : (so : Path → Type 0) (x y : Places S) → y.list.items ≡ x.list.items → AsksEach may failed asked so x y
+  asks_begun so x y e = record {
+    count = ap length e;
+    each = λ k d. subst (λ (ys : List (Place S)). IsAskedFor may failed asked so (get_or x.list.items k d) (get_or ys k d)) (sym e)
+        (asked_same may failed asked so (get_or x.list.items k d));
+  }
+
+  pub begun_then : (so : Path → Type 0) (x y z : Places S) → y.list.items ≡ x.list.items →
+      AsksPlaces may failed asked so y z → AsksEach may failed asked so x z
+  begun_then so x y z e p = record {
+    count = p.count ∙ ap length e;
+    each = λ k d. subst (λ (xs : List (Place S)). IsAskedFor may failed asked so (get_or xs k d) (get_or z.list.items k d)) e
+        (p.each k d);
+  }
+
+  failed_begun : (x y z : Places S) → y.list.items ≡ x.list.items → APlaceFailed may failed asked y z →
+      APlaceFailed may failed asked x z
+  failed_begun x y z e f = record {
+    index = f.index;
+    none = f.none;
+    rose = subst (λ (xs : List (Place S)). (get_or xs f.index f.none).failures < (get_or z.list.items f.index f.none).failures) e
+        f.rose;
+  }
+
+  blames_failed : (so : Path → Type 0) (x y z : Places S) (e : BringFault) → y.list.items ≡ x.list.items →
+      IsFalse y.has_failed → AsksPlaces may failed asked so y z → BlamesPlaces z e → BlamesFailed may failed asked x z e
+  blames_failed so x y z BadCheckpoint list none p h = absurd h
+  blames_failed so x y z CopyDamaged list none p h = tt
+  blames_failed so x y z NotLarger list none p h = absurd h
+  blames_failed so x y z Contradiction list none p h = tt
+  blames_failed so x y z Collision list none p h = tt
+  blames_failed so x y z NoFile list none p h = (
+    λ k d. p.spares h.0 k d ∙ ap (λ (ys : List (Place S)). (get_or ys k d).failures) list,
+    h.1,
+  )
+  blames_failed so x y z Source list none p h = (failed_begun x y z list (p.blames h.0 none), h.1)
+  blames_failed so x y z CopyInUse list none p h = tt
+  blames_failed so x y z ShelfFault list none p h = tt
+  blames_failed so x y z OutOfMemory list none p h = tt
+
+  pub blames_from : (so : Path → Type 0) (x y z : Places S) (m n : ℕ) (e : BringFault) → y.list.items ≡ x.list.items →
+      IsFalse y.has_failed → AsksPlaces may failed asked so y z → BlamesFrom z m n e → BlamesFailed may failed asked x z e
+  blames_from so x y z m n e list none p (inl h) =
+      subst (λ (f : BringFault). BlamesFailed may failed asked x z f) (sym h.0) tt
+  blames_from so x y z m n e list none p (inr h) = blames_failed so x y z e list none p h
+
+module _ (digest : List ℕ → List ℕ) (origin note : List ℕ) (puts : Option (List Put)) where
+  -- a fault by which no note is refused
+  pub refuses_none : (e : BringFault) → IsOfNoPlace e → RefusesNote digest origin note puts e
+  refuses_none BadCheckpoint h = absurd h
+  refuses_none CopyDamaged h = tt
+  refuses_none NotLarger h = absurd h
+  refuses_none Contradiction h = tt
+  refuses_none Collision h = tt
+  refuses_none NoFile h = absurd h
+  refuses_none Source h = absurd h
+  refuses_none CopyInUse h = tt
+  refuses_none ShelfFault h = tt
+  refuses_none OutOfMemory h = tt
+
+  refuses_places : {S : Type 0} (places : Places S) (e : BringFault) → BlamesPlaces places e → RefusesNote digest origin note puts e
+  refuses_places places BadCheckpoint h = absurd h
+  refuses_places places CopyDamaged h = tt
+  refuses_places places NotLarger h = absurd h
+  refuses_places places Contradiction h = tt
+  refuses_places places Collision h = tt
+  refuses_places places NoFile h = tt
+  refuses_places places Source h = tt
+  refuses_places places CopyInUse h = tt
+  refuses_places places ShelfFault h = tt
+  refuses_places places OutOfMemory h = tt
+
+  pub refuses_from : {S : Type 0} (places : Places S) (had size : ℕ) (root : List ℕ) (e : BringFault) →
+      HadSize digest origin puts had → IsHead note origin size root → BlamesFrom places had size e →
+      RefusesNote digest origin note puts e
+  refuses_from places had size root e had_is head (inl h) =
+      subst (λ (f : BringFault). RefusesNote digest origin note puts f) (sym h.0) (record {
+        had = had;
+        size = size;
+        root = root;
+        had_is = had_is;
+        is_head = head;
+        upto = h.1;
+      })
+  refuses_from places had size root e had_is head (inr h) = refuses_places places e h

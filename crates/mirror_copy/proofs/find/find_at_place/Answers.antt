@@ -1,0 +1,32 @@
+use Rattle.std.proofs.Common.{◌≡◌, Some, None, inl, inr}
+use Rattle.mirror_copy.proofs.Asking.{asks_noted}
+use Rattle.mirror_copy.proofs.find.find_at_place.Goals as goal
+
+pub returns-in-Some-clause-asks : goal.returns-in-Some-clause-asks
+returns-in-Some-clause-asks g c =
+    asks_noted g.S.Source.may_answer g.S.Source.failed g.S.Source.asked (λ p. p ≡ c.args.path.now) c.args.places.now
+    c.get.new.self c.note_verified.new.self c.get.ensures.asks c.note_verified.ensures
+
+pub returns-in-None-clause-asks : goal.returns-in-None-clause-asks
+returns-in-None-clause-asks g c =
+    asks_noted g.S.Source.may_answer g.S.Source.failed g.S.Source.asked (λ p. p ≡ c.args.path.now) c.args.places.now
+    c.get.new.self c.note_wrong.new.self c.get.ensures.asks c.note_wrong.ensures
+
+pub returns-in-NotFound-clause-asks : goal.returns-in-NotFound-clause-asks
+returns-in-NotFound-clause-asks g c =
+    asks_noted g.S.Source.may_answer g.S.Source.failed g.S.Source.asked (λ p. p ≡ c.args.path.now) c.args.places.now
+    c.get.new.self c.note_wrong-in-NotFound.new.self c.get.ensures.asks c.note_wrong-in-NotFound.ensures
+
+pub returns-in-None-clause-none : goal.returns-in-None-clause-none
+returns-in-None-clause-none g c = λ d.
+    let given = rw c.in-File.is at (c.in_ok-bytes.ensures.answer d) in
+    let none = rw c.in-None.is at c.in_ok-found-in-File.ensures.none in
+    inr (Some c.in-File.bytes.items, given, λ good. none good.0 good.1)
+
+pub returns-in-NotFound-clause-none : goal.returns-in-NotFound-clause-none
+returns-in-NotFound-clause-none g c = λ d.
+    let given = rw c.in-NotFound.is at (c.in_ok-bytes.ensures.answer d) in inr (None, given, tt)
+
+pub returns-in-Failed-clause-none : goal.returns-in-Failed-clause-none
+returns-in-Failed-clause-none g c = λ d.
+    let failed = rw c.in-Failed.is at (c.in_ok-bytes.ensures.answer d) in inl failed

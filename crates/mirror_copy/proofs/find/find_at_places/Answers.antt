@@ -1,0 +1,54 @@
+use Rattle.std.proofs.Common.{◌≡◌, ◌<◌, ℕ, List, inl, inr, get_or, subst, arith, length}
+use Rattle.std.proofs.lemmas.Bool.{cases_lt}
+use Rattle.log_reader.specs.Verified.{Verifies}
+use Rattle.mirror_copy.specs.Asked.{IsAskedInVain, IsAskedInTurn}
+use Rattle.mirror_copy.proofs.Asking.{asks_then, turn_of, turn_one, vain_between}
+use Rattle.mirror_copy.proofs.find.find_at_places.Goals as goal
+
+pub returns-in_err-found-clause-asks : goal.returns-in_err-found-clause-asks
+returns-in_err-found-clause-asks g c =
+    asks_then g.S.Source.may_answer g.S.Source.failed g.S.Source.asked (λ p. p ≡ c.args.path.now) c.args.places.now c.loop-turn.places
+    c.find_at_place.new.places c.loop-turn.invariant.asks c.find_at_place.ensures.asks
+
+pub returns-in-Some-clause-asks : goal.returns-in-Some-clause-asks
+returns-in-Some-clause-asks g c =
+    asks_then g.S.Source.may_answer g.S.Source.failed g.S.Source.asked (λ p. p ≡ c.args.path.now) c.args.places.now c.loop-turn.places
+    c.find_at_place.new.places c.loop-turn.invariant.asks c.find_at_place.ensures.asks
+
+pub loop-turn-preserved : goal.loop-turn-preserved
+loop-turn-preserved g c = record {
+  asks = asks_then g.S.Source.may_answer g.S.Source.failed g.S.Source.asked (λ p. p ≡ c.args.path.now) c.args.places.now c.loop-turn.places
+      c.find_at_place.new.places c.loop-turn.invariant.asks c.find_at_place.ensures.asks;
+  none = λ turn k d lt is.
+      let a = get_or c.args.places.now.list.items k d in
+      let b = get_or c.loop-turn.places.list.items k d in
+      let e = get_or c.find_at_place.new.places.list.items k d in
+      let good = λ (bytes : List ℕ). (row : List (List ℕ)) × Verifies g.H.TreeHash.digest c.args.kind c.args.hash.now bytes row in
+      let earlier = c.loop-turn.invariant.asks.each k d in
+      let now = c.find_at_place.ensures.asks.each k d in
+      elim (cases_lt turn c.loop-turn.turn) [
+        | inl less ↦ vain_between (g.S.Source.may_answer a.source) (g.S.Source.may_answer a.source)
+            (record { stays = λ path answer h. h }) a.failures a.failures b.failures e.failures (omega arith) earlier.more now.more
+            c.args.path.now good (c.loop-turn.invariant.none turn k d less is)
+        | inr more ↦
+            let this : turn ≡ c.loop-turn.turn = omega arith in
+            let at : c.in_turn-index.result ≡ k = turn_one c.first-first.result c.loop-turn.turn c.in_turn-index.result k
+            c.in_turn-index.ensures.turn (subst (λ t. IsAskedInTurn c.first-first.result t k) this is) in
+            let none = rw c.in-None.is at c.in_ok-found.ensures.none in
+            vain_between (g.S.Source.may_answer a.source) (g.S.Source.may_answer b.source) earlier.later a.failures b.failures
+            e.failures e.failures earlier.more now.more (omega arith) c.args.path.now good
+            (subst (λ (n : ℕ). IsAskedInVain (g.S.Source.may_answer (get_or c.loop-turn.places.list.items n d).source)
+            (get_or c.loop-turn.places.list.items n d).failures (get_or c.find_at_place.new.places.list.items n d).failures
+            c.args.path.now good) at (none d))
+      ];
+}
+
+pub returns-clause-none : goal.returns-clause-none
+returns-clause-none g c = λ k d lt.
+    let n = length c.args.places.now.list.items in
+    let long = c.len-turn-end.ensures in
+    let past = c.loop-turn-test.false in
+    let within : c.first-first.result < n = c.first-first.ensures (omega arith) in
+    let t = turn_of c.first-first.result k n lt within in
+    let before = t.1 in
+    c.loop-turn.invariant.none t.0 k d (omega arith) t.2

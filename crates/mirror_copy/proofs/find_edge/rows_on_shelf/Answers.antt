@@ -1,0 +1,23 @@
+use Rattle.std.proofs.Common.{◌∙◌}
+use Rattle.mirror_copy.specs.Found.{IsRowRead}
+use Rattle.mirror_copy.proofs.Earlier.{kept_then}
+use Rattle.mirror_copy.proofs.RowLists.{count_more, row_before, rows_more}
+use Rattle.mirror_copy.proofs.find_edge.rows_on_shelf.Goals as goal
+
+pub loop-level-preserved : goal.loop-level-preserved
+loop-level-preserved g c =
+    let x = g.D.Shelf.puts c.args.shelf.now in
+    let y = g.D.Shelf.puts c.loop-level.shelf in
+    let z = g.D.Shelf.puts c.row_on_shelf.new.shelf in
+    let level = c.loop-level.level in
+    let before = c.loop-level.rows.items in
+    let is = c.in_ok-push-in-Some.ensures.items in
+    record {
+      counted = c.in_ok-row.ensures.counted ∙ c.loop-level.invariant.counted;
+      same = kept_then x y z c.loop-level.invariant.same c.row_on_shelf.ensures.same;
+      count = count_more before c.push.new.self.items c.in-Some.row level is c.loop-level.invariant.count;
+      rows = rows_more (λ k row. IsRowRead x c.args.size k row) before c.push.new.self.items c.in-Some.row level is
+          c.loop-level.invariant.count c.loop-level.invariant.rows
+          (row_before x y c.args.size level c.in-Some.row.items c.loop-level.invariant.same
+          (rw c.in-Some.is at c.in_ok-row.ensures.row));
+    }

@@ -1,0 +1,64 @@
+-- What a bringing asks its places for, and which fault comes where a file was to be had from none.
+use Rattle.std.specs.Prelude.{◌≡◌, ◌≤◌, ℕ, List, get_or, Option, IsSome}
+use Rattle.tlog_tiles.specs.declared.paths.Path.{Path}
+use Rattle.mirror_folders.specs.Shelf.{Put}
+use Rattle.mirror_model.specs.Heads.{IsHead}
+use Rattle.mirror_copy.specs.Asked.{MayBeAsked}
+use Rattle.mirror_copy.specs.Moments.{HadSize}
+use Rattle.mirror_copy.specs.PlaceGets.{APlaceFailed, AsksEach}
+use Rattle.mirror_copy.specs.declared.place.Place.{Place}
+use Rattle.mirror_copy.specs.declared.places.Places.{Places}
+use Rattle.mirror_copy.specs.declared.fault.BringFault.{BringFault}
+use Rattle.mirror_copy.specs.declared.fault.BringFault.TheVariants.{BadCheckpoint, CopyDamaged, NotLarger}
+use Rattle.mirror_copy.specs.declared.fault.BringFault.TheVariants.{Contradiction, Collision, NoFile, Source, CopyInUse}
+use Rattle.mirror_copy.specs.declared.fault.BringFault.TheVariants.{ShelfFault, OutOfMemory}
+
+module _ (digest : List ℕ → List ℕ) {S : Type 0} (may : S → Path → Option (List ℕ) → Type 0) (failed : S → ℕ)
+    (asked : S → Option (List Path)) where
+  -- the places are asked for nothing, or for what a bringing from the size of the copy that stood to the size of the
+  -- note may ask for
+  pub data AsksForCopy (origin note : List ℕ) (puts : Option (List Put)) (old new : Places S) : Type 0 where
+    AsksNothing : AsksEach may failed asked (λ path. ⊥) old new → AsksForCopy origin note puts old new
+    AsksFiles :
+        (had size : ℕ) (root : List ℕ) → HadSize digest origin puts had → IsHead note origin size root →
+        AsksEach may failed asked (MayBeAsked had size) old new → AsksForCopy origin note puts old new
+
+module _ {S : Type 0} (may : S → Path → Option (List ℕ) → Type 0) (failed : S → ℕ) (asked : S → Option (List Path)) where
+  -- a file was to be had from nowhere, and its path is kept in mind: it is Source where a place failed in this call, and
+  -- NoFile where none did
+  abbrev pub BlamesFailed : Places S → Places S → BringFault → Type 0
+  BlamesFailed old new BadCheckpoint = Unit {0}
+  BlamesFailed old new CopyDamaged = Unit {0}
+  BlamesFailed old new NotLarger = Unit {0}
+  BlamesFailed old new Contradiction = Unit {0}
+  BlamesFailed old new Collision = Unit {0}
+  BlamesFailed old new NoFile =
+      ((k : ℕ) (d : Place S) → (get_or new.list.items k d).failures ≡ (get_or old.list.items k d).failures)
+      × IsSome new.lacked
+  BlamesFailed old new Source = APlaceFailed may failed asked old new × IsSome new.lacked
+  BlamesFailed old new CopyInUse = Unit {0}
+  BlamesFailed old new ShelfFault = Unit {0}
+  BlamesFailed old new OutOfMemory = Unit {0}
+
+module _ (digest : List ℕ → List ℕ) (origin note : List ℕ) (puts : Option (List Put)) where
+  -- a note that is not larger than the copy that stood
+  pub record IsNotLarger : Type 0 where
+    pub had : ℕ
+    pub size : ℕ
+    pub root : List ℕ
+    pub had_is : HadSize digest origin puts had
+    pub is_head : IsHead note origin size root
+    pub upto : size ≤ had
+
+  -- BadCheckpoint says that the bytes are no note of a checkpoint of the origin, and NotLarger that it is not larger
+  abbrev pub RefusesNote : BringFault → Type 0
+  RefusesNote BadCheckpoint = (size : ℕ) (root : List ℕ) → ¬ IsHead note origin size root
+  RefusesNote CopyDamaged = Unit {0}
+  RefusesNote NotLarger = IsNotLarger
+  RefusesNote Contradiction = Unit {0}
+  RefusesNote Collision = Unit {0}
+  RefusesNote NoFile = Unit {0}
+  RefusesNote Source = Unit {0}
+  RefusesNote CopyInUse = Unit {0}
+  RefusesNote ShelfFault = Unit {0}
+  RefusesNote OutOfMemory = Unit {0}

@@ -1,0 +1,168 @@
+//! The places of a run.
+ghost use Rattle.std.specs.Prelude.{◌≡◌, ◌∷◌, ◌++◌, [], ◌<◌, ℕ, IfOk, IsFalse, MatchResult, get_or, length};
+ghost use Rattle.mirror_copy.specs.Asked.{IsAskedInTurn};
+ghost use Rattle.mirror_copy.specs.Conflicts.{IsNoConflict};
+ghost use Rattle.mirror_copy.specs.Faults.{BlamesPlaces, CountsFault};
+ghost use Rattle.mirror_copy.specs.PlaceGets.{AnswersGet, AsksPlaces};
+ghost use Rattle.mirror_copy.specs.declared.place.Place.{Place};
+
+use crate::fault::BringFault;
+use crate::place::{Place, PlaceAnswer, Wrong};
+use mirror_sources::Source;
+use std::alloc::{AllocError, Global};
+use tlog_tiles::Path;
+
+/// The places of a run, in the order of the words that named them. What is learnt of them lasts over several bringings.
+///
+/// The place whose bytes verified last is asked first, then the others in their order. A place that failed 8 times in the run is
+/// not asked again.
+///
+/// ```text
+/// let mut places = Places::new(alloc);
+/// places.add(source)?;
+/// bring_copy::<Sha256Tree, MemShelf, ListSource<Sha256Tree>>(alloc, "ex", &mut shelf, &mut places, note)?;
+/// places.list()[0].first_wrong() // None
+/// ```
+#[derive(Drop)]
+pub struct Places<S: Source + Drop> {
+    list: Vec<Place<S>>,
+    verified_last: usize,
+    has_failed: bool,
+    lacked: Option<Path>,
+}
+
+impl<S: Source + Drop> Places<S> {
+    /// No places yet.
+    pub fn new(alloc: Global) -> Self
+        ensures { result.list.items ≡ [] }
+    {
+        Places {
+            list: Vec::new(alloc),
+            verified_last: 0,
+            has_failed: false,
+            lacked: None,
+        }
+    }
+
+    /// Adds the next place. It was not asked yet.
+    ///
+    /// # Errors
+    ///
+    /// Memory was refused.
+    pub fn add(&mut self, source: S) -> Result<(), AllocError>
+        ensures { MatchResult result
+            (λ _. self.new.list.items ≡ self.old.list.items ++
+            record { source = source; failures = 0; first_wrong = None } ∷ [])
+            (λ _. self.new.list.items ≡ self.old.list.items) }
+    {
+        self.list.push(Place::new(source))?;
+        Ok(())
+    }
+
+    /// The places, in their order.
+    pub fn list(&self) -> &[Place<S>]
+        ensures { result.now ≡ self.now.list.items }
+    {
+        self.list.as_slice()
+    }
+
+    /// The path of the file that was to be had from nowhere, once a bringing ended so.
+    pub fn lacked(&self) -> Option<Path>
+        ensures { result ≡ self.now.lacked }
+    {
+        self.lacked
+    }
+
+    /// Asks a place for the file at a path.
+    ///
+    /// # Errors
+    ///
+    /// Memory was refused.
+    pub fn get(&mut self, index: usize, path: &Path) -> Result<PlaceAnswer, AllocError>
+        requires { index < length self.old.list.items }
+        ensures asks { AsksPlaces S.may_answer S.failed S.asked (λ p. p ≡ path.now)
+            self.old self.new }
+        ensures answer { IfOk result (λ answer. (d : Place S) → AnswersGet
+            (S.may_answer (get_or self.old.list.items index d).source) path.now
+            (get_or self.old.list.items index d).failures (get_or self.new.list.items index d).failures
+            answer) }
+    {
+        let place = &mut self.list[index];
+        let before = place.failures();
+        let answer = place.get(path);
+        if place.failures() != before {
+            self.has_failed = true;
+        }
+        answer
+    }
+
+    pub(crate) fn len(&self) -> usize
+        ensures { result ≡ length self.now.list.items }
+    {
+        self.list.len()
+    }
+
+    /// The place that is asked first: the one whose bytes verified last.
+    pub(crate) fn first(&self) -> usize
+        ensures { 0 < length self.now.list.items → result < length self.now.list.items }
+    {
+        if self.verified_last < self.list.len() {
+            self.verified_last
+        } else {
+            0
+        }
+    }
+
+    /// A bringing begins: none has failed in it yet.
+    pub(crate) fn begin(&mut self)
+        ensures list { self.new.list.items ≡ self.old.list.items }
+        ensures failed { IsFalse self.new.has_failed }
+    {
+        self.has_failed = false;
+        self.lacked = None;
+    }
+
+    /// The bytes of a place verified.
+    pub(crate) fn note_verified(&mut self, index: usize)
+        ensures { AsksPlaces S.may_answer S.failed S.asked (λ p. ⊥) self.old self.new }
+    {
+        self.verified_last = index;
+    }
+
+    /// A file of a place was wrong.
+    pub(crate) fn note_wrong(&mut self, index: usize, path: &Path, wrong: Wrong)
+        requires { index < length self.old.list.items }
+        ensures { AsksPlaces S.may_answer S.failed S.asked (λ p. ⊥) self.old self.new }
+    {
+        self.list[index].note_wrong(path, wrong);
+    }
+
+    /// A file is to be had from nowhere.
+    pub(crate) fn lacks(&mut self, path: &Path) -> BringFault
+        ensures asks { AsksPlaces S.may_answer S.failed S.asked (λ p. ⊥) self.old self.new }
+        ensures blames { BlamesPlaces self.new result }
+        ensures fault { IsNoConflict result }
+        ensures counted { (n : ℕ) → CountsFault n n result }
+    {
+        self.lacked = Some(*path);
+        if self.has_failed {
+            BringFault::Source
+        } else {
+            BringFault::NoFile
+        }
+    }
+}
+
+/// The place that is asked in a turn, if one is asked first, and then the others in their order.
+pub(crate) fn in_turn(first: usize, turn: usize) -> usize
+    ensures turn { IsAskedInTurn first turn result }
+    ensures within { (n : ℕ) → first < n → turn < n → result < n }
+{
+    if turn == 0 {
+        first
+    } else if turn <= first {
+        turn - 1
+    } else {
+        turn
+    }
+}

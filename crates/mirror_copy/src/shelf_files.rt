@@ -1,0 +1,40 @@
+//! The files of the edge, as a shelf has them.
+ghost use Rattle.std.specs.Prelude.{IfErr, IfOk, option_map};
+ghost use Rattle.mirror_sources.specs.Told.{KeepsTold};
+ghost use Rattle.mirror_copy.specs.Conflicts.{IsNoConflict};
+ghost use Rattle.mirror_copy.specs.Faults.{CountsShelf, IsOfNoPlace};
+ghost use Rattle.mirror_copy.specs.Found.{TellsPartial};
+
+use crate::fault::BringFault;
+use crate::part::{full_of, part_of};
+use mirror_folders::ReadableShelf;
+use std::alloc::Global;
+use tlog_tiles::Path;
+
+/// The bytes of a partial file on the shelf; None where it does not stand there. It may have given way to its full file: then they
+/// are cut from that.
+#[tactic(auto, using(crate::proofs::RowLists::partial_read, crate::proofs::RowLists::partial_any, crate::proofs::Earlier::kept_then))]
+pub(crate) fn read_partial<D: ReadableShelf>(
+    alloc: Global,
+    shelf: &mut D,
+    path: &Path,
+) -> Result<Option<Vec<u8>>, BringFault>
+    ensures fault { IfErr result IsNoConflict }
+    ensures counted { CountsShelf (D.failed shelf.old) (D.failed shelf.new) result }
+    ensures places { IfErr result IsOfNoPlace }
+    ensures same { KeepsTold (D.puts shelf.old) (D.puts shelf.new) }
+    ensures answer { IfOk result (λ found. TellsPartial (D.puts shelf.old) path.now
+        (option_map (λ v. v.items) found)) }
+{
+    match shelf.read(path)? {
+        Some(bytes) => return Ok(Some(bytes)),
+        None => {}
+    }
+    let Some(full) = shelf.read(&full_of(path))? else {
+        return Ok(None);
+    };
+    match part_of(path, &full) {
+        Some(part) => Ok(Some(Vec::from_slice(alloc, part)?)),
+        None => Ok(None),
+    }
+}
