@@ -12,29 +12,30 @@ use Rattle.program_reports.specs.declared.question.Question.{Question}
 use Rattle.program_reports.specs.declared.fault.AskFault.{AskFault}
 use Rattle.program_reports.specs.declared.fault.AskFault.TheVariants as ask
 use Rattle.program_commands.specs.States.{OpensFile}
-use Rattle.program_library.specs.declared.fault.WorkFault.{WorkFault}
-use Rattle.program_library.specs.declared.fault.WorkFault.TheVariants.{Ask, Heads}
-use Rattle.program_library.specs.Works.{AsksState, ComparesState, ComparesView, FindsHeads, IsStatus, IsWriting}
+use Rattle.program_library.specs.declared.fault.RunFault.{RunFault}
+use Rattle.program_library.specs.declared.fault.RunFault.TheVariants.{Ask, Heads}
+use Rattle.program_library.specs.Done.{IsWriteFault}
+use Rattle.program_library.specs.Works.{AsksState, ComparesState, ComparesView, FindsHeads, IsStatus}
 
 -- the answer of a command, of what a reporter answers
-abbrev pub asked : Result ℕ AskFault → Result ℕ WorkFault
+abbrev pub asked : Result ℕ AskFault → Result ℕ RunFault
 asked was = result_map_both (λ status. status) (λ fault. Ask fault) was
 
-pub asked_status : (was : Result ℕ AskFault) (is : Result ℕ WorkFault) → is ≡ asked was → IfOk was IsStatus →
+pub asked_status : (was : Result ℕ AskFault) (is : Result ℕ RunFault) → is ≡ asked was → IfOk was IsStatus →
     IfOk is IsStatus
 asked_status (Ok status) is same h = rw same h
 asked_status (Err fault) is same h = rw same tt
 
 quiet_ask : (was : Result ℕ AskFault) (old new : Option (List ℕ)) →
     IfErr was (λ fault. fault ≢ ask.WriteFault → Keeps old new) →
-    IfErr (asked was) (λ fault. (¬ IsWriting fault) → Keeps old new)
+    IfErr (asked was) (λ fault. (¬ IsWriteFault fault) → Keeps old new)
 quiet_ask (Ok status) old new h = tt
 quiet_ask (Err ask.WriteFault) old new h = λ other. absurd (other tt)
 quiet_ask (Err (ask.Report fault)) old new h = λ other. h (λ e. cc)
 
-pub asked_quietly : (was : Result ℕ AskFault) (is : Result ℕ WorkFault) (old new : Option (List ℕ)) → is ≡ asked was →
+pub asked_quietly : (was : Result ℕ AskFault) (is : Result ℕ RunFault) (old new : Option (List ℕ)) → is ≡ asked was →
     IfErr was (λ fault. fault ≢ ask.WriteFault → Keeps old new) →
-    IfErr is (λ fault. (¬ IsWriting fault) → Keeps old new)
+    IfErr is (λ fault. (¬ IsWriteFault fault) → Keeps old new)
 asked_quietly was is old new same h = rw same (quiet_ask was old new h)
 
 module _ (digest : List ℕ → List ℕ) (keys : List Key) (told : Option (List NamedFile)) (name origin : List ℕ)
@@ -44,11 +45,11 @@ module _ (digest : List ℕ → List ℕ) (keys : List Key) (told : Option (List
   asks question (Ok status) h = (v, opened, h)
   asks question (Err fault) h = (v, opened, h)
 
-  pub asks_state : (question : Question) (was : Result ℕ AskFault) (is : Result ℕ WorkFault) → is ≡ asked was →
+  pub asks_state : (question : Question) (was : Result ℕ AskFault) (is : Result ℕ RunFault) → is ≡ asked was →
       AnswersQuestion digest question v old new was → AsksState digest keys told name origin question old new is
   asks_state question was is same h = rw same (asks question was h)
 
-  pub compares_state : (files : List (List ℕ)) (answer : Result ℕ WorkFault) →
+  pub compares_state : (files : List (List ℕ)) (answer : Result ℕ RunFault) →
       ComparesView digest keys told files old new v answer →
       ComparesState digest keys told name origin files old new answer
   compares_state files (Ok status) h =
@@ -66,6 +67,6 @@ module _ (digest : List ℕ → List ℕ) (keys : List Key) (told : Option (List
   compares (Ok status) h = record { heads = heads; given = given; answers = h }
   compares (Err fault) h = record { heads = heads; given = given; answers = h }
 
-  pub compares_view : (was : Result ℕ AskFault) (is : Result ℕ WorkFault) → is ≡ asked was →
+  pub compares_view : (was : Result ℕ AskFault) (is : Result ℕ RunFault) → is ≡ asked was →
       AnswersCompared digest v heads old new was → ComparesView digest keys told files old new v is
   compares_view was is same h = rw same (compares was h)

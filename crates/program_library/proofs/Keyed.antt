@@ -1,46 +1,68 @@
--- A run whose keys are not found.
-use Rattle.std.proofs.Common.{◌≡◌, ℕ, List, Option, Result, Err, inl, refl, subst}
+-- A run of words of which all is known that they say, and one whose keys are not found.
+use Rattle.std.proofs.Common.{◌≡◌, ℕ, List, [], Option, Some, None, Result, Ok, Err, IfOk, inl, inr, refl, subst, sym}
 use Rattle.signed_note.specs.Keys.{Key}
 use Rattle.signed_note.specs.KeyFiles.{ReadsKeys}
 use Rattle.signed_note.specs.declared.fault.KeyFileFault.{KeyFileFault}
-use Rattle.mirror_folders.specs.Shelf.{Put}
 use Rattle.program_files.specs.Named.{NamedFile}
+use Rattle.program_words.specs.Lines.{IsLine}
+use Rattle.program_words.specs.Readings.{Reads, ReadsKeyFile}
+use Rattle.program_words.specs.declared.commands.Command.{Command as Order}
+use Rattle.program_words.specs.declared.fault.CommandFault.{CommandFault}
+use Rattle.program_words.specs.declared.words.Line.{Line}
+use Rattle.program_library.specs.Done.{IsDoable}
+use Rattle.program_library.specs.Moment.{Moment}
 use Rattle.program_library.specs.Performing.{Ends}
-use Rattle.program_library.specs.Runs.{AreKeyBytes, FailsAtKeys, Runs, RunsKeyed, no_lines}
+use Rattle.program_library.specs.Runs.{AreKeyBytes, FailsAtKeys, FindsKeys, Runs, RunsKeyed, no_lines}
 use Rattle.program_library.specs.declared.fault.RunFault.{RunFault}
-use Rattle.program_library.specs.declared.fault.RunFault.TheVariants.{KeyLines}
+use Rattle.program_library.specs.declared.fault.RunFault.TheVariants.{KeyFile, KeyLines}
+use Rattle.program_library.proofs.Doable.{asked_doable}
 use Rattle.program_library.proofs.Written.{keeps_itself}
+
+-- the command of a line can be done
+doable : (words : List (List ℕ)) (command : Result Order CommandFault) → Reads words command → IfOk command IsDoable
+doable words (Ok command) asked = asked_doable words command asked
+doable words (Err fault) h = tt
+
+pub line_doable : (words : List (List ℕ)) (line : Line) → IsLine words line → IfOk line.command IsDoable
+line_doable words line h = doable words line.command h.command
+
+-- what is found of the key file that the words name
+pub keys_found : (told : Option (List NamedFile)) (words : List (List ℕ)) (name : Option (List ℕ)) (bytes lent : List ℕ) →
+    lent ≡ bytes → ReadsKeyFile words (Ok name) → FindsKeys told name (Ok bytes) → AreKeyBytes told words lent
+keys_found told words (Some name) bytes lent same has finds =
+    subst (AreKeyBytes told words) (sym same) (inl record { name = name; has = has; tells = finds })
+keys_found told words None bytes lent same has finds = subst (AreKeyBytes told words) (sym same) (inr (has, finds))
+
+pub keys_missed : (told : Option (List NamedFile)) (words : List (List ℕ)) (name : Option (List ℕ)) (fault : RunFault) →
+    ReadsKeyFile words (Ok name) → FindsKeys told name (Err fault) → FailsAtKeys told words fault
+keys_missed told words (Some name) (KeyFile fault) has reads = record { name = name; has = has; reads = reads }
+keys_missed told words name fault has finds = absurd finds
 
 -- nothing was written, and the run failed
 pub nothing_done : (now : Option (List ℕ)) (fault : RunFault) → Ends now now (Err fault)
 nothing_done now fault = record { status = tt; quiet = λ other. keeps_itself now }
 
-module _ (digest : List ℕ → List ℕ) (told : Option (List NamedFile)) (held : List ℕ → Option (List Put))
-    (before : Option (List Put)) (words : List (List ℕ)) (input now : Option (List ℕ)) where
-  pub keys_lack : (fault : RunFault) → FailsAtKeys told words fault →
-      RunsKeyed digest told told held before before words input now now (Err fault)
+module _ (digest : List ℕ → List ℕ) (now : Moment) (words : List (List ℕ)) where
+  pub keys_lack : (fault : RunFault) → FailsAtKeys now.files words fault →
+      RunsKeyed digest words now now (Err fault)
   keys_lack fault finds =
       inl record {
         fault = fault;
         answer_is = refl;
         finds = finds;
-        quiet = keeps_itself now;
+        quiet = keeps_itself now.output;
         files = refl;
         folders = refl;
       }
 
-  pub lines_lack : (bytes : List ℕ) (fault : KeyFileFault) → AreKeyBytes told words bytes →
-      ReadsKeys bytes (no_lines fault) →
-      RunsKeyed digest told told held before before words input now now (Err (KeyLines fault))
+  pub lines_lack : (bytes : List ℕ) (fault : KeyFileFault) → AreKeyBytes now.files words bytes →
+      ReadsKeys bytes (no_lines fault) → RunsKeyed digest words now now (Err (KeyLines fault))
   lines_lack bytes fault are_bytes reads =
       keys_lack (KeyLines fault) record { bytes = bytes; are_bytes = are_bytes; reads = reads }
 
 -- a run is one under the same keys, however they are listed
-pub runs_under : (digest : List ℕ → List ℕ) (keys all : List Key) (key_bytes : List ℕ)
-    (told left : Option (List NamedFile)) (held : List ℕ → Option (List Put)) (before put : Option (List Put))
-    (words : List (List ℕ)) (input old new : Option (List ℕ)) (answer : Result ℕ RunFault) → keys ≡ all →
-    Runs digest keys key_bytes told left held before put words input old new answer →
-    Runs digest all key_bytes told left held before put words input old new answer
-runs_under digest keys all key_bytes told left held before put words input old new answer same runs =
-    subst
-    (λ (ks : List Key). Runs digest ks key_bytes told left held before put words input old new answer) same runs
+pub runs_under : (digest : List ℕ → List ℕ) (keys all : List Key) (key_bytes : List ℕ) (words : List (List ℕ))
+    (old new : Moment) (answer : Result ℕ RunFault) → keys ≡ all →
+    Runs digest keys key_bytes words old new answer → Runs digest all key_bytes words old new answer
+runs_under digest keys all key_bytes words old new answer same runs =
+    subst (λ (ks : List Key). Runs digest ks key_bytes words old new answer) same runs

@@ -14,9 +14,9 @@ use Rattle.tlog_build.specs.declared.fault.BuildFault.{BuildFault}
 use Rattle.program_commands.specs.Answers.{done, failed}
 use Rattle.tlog_build.specs.Entries.{AreEntries, ReadsEntries}
 use Rattle.tlog_build.specs.declared.entries.EntriesFault.{EntriesFault}
-use Rattle.program_library.specs.declared.fault.WorkFault.{WorkFault}
-use Rattle.program_library.specs.declared.fault.WorkFault.TheVariants.{Build, Entries, NoSigningKey}
-use Rattle.program_library.specs.declared.fault.WorkFault.TheVariants.{Origin, OutOfMemory}
+use Rattle.program_library.specs.declared.fault.RunFault.{RunFault}
+use Rattle.program_library.specs.declared.fault.RunFault.TheVariants.{Build, Entries, NoSigningKey, Origin}
+use Rattle.program_library.specs.declared.fault.RunFault.TheVariants.{OutOfMemory}
 
 -- the answer of a reader of entries that failed
 abbrev pub no_entries : EntriesFault → Result (List (List ℕ)) EntriesFault
@@ -60,7 +60,7 @@ module _
 
   -- what each answer says: a log of the input was built, or not; or the first reason why none was
   -- begun, and then nothing was put
-  abbrev pub BuildsFrom : Option (List ℕ) → Result (Unit {0}) WorkFault → Type 0
+  abbrev pub BuildsFrom : Option (List ℕ) → Result (Unit {0}) RunFault → Type 0
   BuildsFrom input (Ok x) = BuildsInput input done
   BuildsFrom input (Err (Build fault)) = BuildsInput input (failed fault)
   BuildsFrom input (Err NoSigningKey) = FindsSigner key_bytes None × (put ≡ before)

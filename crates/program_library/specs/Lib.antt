@@ -1,3 +1,5 @@
+pub mod Moment
+pub mod Envs
 pub mod Works
 pub mod Pulls
 pub mod Builds

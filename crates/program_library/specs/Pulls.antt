@@ -20,22 +20,21 @@ use Rattle.program_files.specs.Named.{NamedFile}
 use Rattle.program_files.specs.Named.{FailsToPut}
 use Rattle.program_files.specs.declared.fault.NamedFault.{NamedFault}
 use Rattle.program_commands.specs.States.{BeginsWith, SavesFile, WritesState}
-use Rattle.program_library.specs.declared.fault.TellFault.{TellFault}
-use Rattle.program_library.specs.declared.fault.TellFault.TheVariants.{Work, WriteFault}
-use Rattle.program_library.specs.declared.fault.WorkFault.TheVariants.{Named, OutOfMemory}
-use Rattle.program_library.specs.declared.fault.WorkFault.TheVariants.{Pull, State}
+use Rattle.program_library.specs.declared.fault.RunFault.{RunFault}
+use Rattle.program_library.specs.declared.fault.RunFault.TheVariants.{WriteFault, Out, OutOfMemory, Pull}
+use Rattle.program_library.specs.declared.fault.RunFault.TheVariants.{State}
 
 -- what each answer says of a mirror of this view that pulled this: its state was written to the file
 -- `out`, and then its two lines; or it failed, as the fault says
 module _ (v : View) (pulled : Pulled) (out : List ℕ) (told left : Option (List NamedFile)) where
-  abbrev pub TellsPulled : Option (List ℕ) → Option (List ℕ) → Result ℕ TellFault → Type 0
+  abbrev pub TellsPulled : Option (List ℕ) → Option (List ℕ) → Result ℕ RunFault → Type 0
   TellsPulled old new (Ok status) =
       WritesState v out told left × Appends old new (pulled_lines pulled)
       × IsPulledStatus pulled status
   TellsPulled old new (Err WriteFault) =
       WritesState v out told left × AppendsPrefix old new (pulled_lines pulled)
-  TellsPulled old new (Err (Work (Named fault))) = FailsToPut told left fault × Keeps old new
-  TellsPulled old new (Err (Work OutOfMemory)) = WritesState v out told left × Keeps old new
+  TellsPulled old new (Err (Out fault)) = FailsToPut told left fault × Keeps old new
+  TellsPulled old new (Err OutOfMemory) = WritesState v out told left × Keeps old new
   TellsPulled old new (Err other) = ⊥
 
 -- what a pull got that ended by this fault is to be kept: the words say `--keep`, and its source
@@ -89,14 +88,14 @@ module _ (digest : List ℕ → List ℕ) (origin : List ℕ) (keys : List Key)
 
     -- the first reason why there is nothing to tell: no mirror was begun with, and all is as it was;
     -- or its pull ended early
-    abbrev pub PullsNothing : Result ℕ TellFault → Type 0
-    PullsNothing (Err (Work (State fault))) =
+    abbrev pub PullsNothing : Result ℕ RunFault → Type 0
+    PullsNothing (Err (State fault)) =
         BeginsWith digest origin keys told state (Err fault) × (left ≡ told)
-    PullsNothing (Err (Work (Pull fault))) = PullsEarly fault
+    PullsNothing (Err (Pull fault)) = PullsEarly fault
     PullsNothing other = ⊥
 
     -- a pull came to its end, and that was told so
-    pub record PullsAndTells (answer : Result ℕ TellFault) : Type 0 where
+    pub record PullsAndTells (answer : Result ℕ RunFault) : Type 0 where
       pub view : View
       pub pulled : Pulled
       pub pulls : PullsFromFile view (Ok pulled)
@@ -104,5 +103,5 @@ module _ (digest : List ℕ → List ℕ) (origin : List ℕ) (keys : List Key)
 
     -- what each answer of `pull` says: a pull came to its end, its state was written, and then its
     -- two lines; or there was nothing to tell, and nothing was written to standard output
-    abbrev pub TellsPull : Result ℕ TellFault → Type 0
+    abbrev pub TellsPull : Result ℕ RunFault → Type 0
     TellsPull answer = (PullsNothing answer × Keeps old new) ⊎ PullsAndTells answer

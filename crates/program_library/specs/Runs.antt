@@ -1,13 +1,12 @@
 -- What a run of the program answers and writes. `FindsKeys`, `JoinsLines` and `ReadsJoined` are cited
 -- by the contracts of private functions alone.
-use Rattle.std.specs.Prelude.{◌≡◌, ◌⊎◌, ℕ, List, [], Option, Result, Ok, Err, map, ⊤}
+use Rattle.std.specs.Prelude.{◌≡◌, ◌⊎◌, ℕ, List, [], Option, Some, None, Result, Ok, Err, map, ⊤}
 use Rattle.std.specs.Io.KnownBytes.{Keeps}
 use Rattle.signed_note.specs.Keys.{Key}
 use Rattle.signed_note.specs.KeyFiles.{IsKeyFile, ReadsKeys}
 use Rattle.signed_note.specs.declared.fault.KeyFileFault.{KeyFileFault}
 use Rattle.signed_note.specs.declared.key_line.KeyLine.{KeyLine}
 use Rattle.signed_note.specs.Verifiers.{JoinsPins, key_of}
-use Rattle.mirror_folders.specs.Shelf.{Put}
 use Rattle.program_files.specs.Named.{NamedFile}
 use Rattle.program_files.specs.Named.{ReadsShort, HasContents}
 use Rattle.program_files.specs.declared.fault.NamedFault.{NamedFault}
@@ -18,34 +17,31 @@ use Rattle.program_words.specs.Readings.{HasKeys, HasNoKeys, Reads, ReadsKeyFile
 use Rattle.program_library.specs.declared.fault.RunFault.{RunFault}
 use Rattle.program_library.specs.declared.fault.RunFault.TheVariants.{Command, KeyFile, KeyLines}
 use Rattle.program_library.specs.declared.fault.RunFault.TheVariants.{OutOfMemory}
+use Rattle.program_library.specs.Moment.{Moment}
 use Rattle.program_library.specs.Done.{Executes, LeavesFiles, LeavesFolders}
 
-module _ (digest : List ℕ → List ℕ) (keys : List Key) (key_bytes : List ℕ)
-    (told left : Option (List NamedFile)) (held : List ℕ → Option (List Put))
-    (before put : Option (List Put)) where
+module _ (digest : List ℕ → List ℕ) (keys : List Key) (key_bytes : List ℕ) (words : List (List ℕ))
+    (old new : Moment) where
   -- the words ask for a command, and this is its answer
-  pub record Obeys (words : List (List ℕ)) (input old new : Option (List ℕ))
-      (answer : Result ℕ RunFault) : Type 0 where
+  pub record Obeys (answer : Result ℕ RunFault) : Type 0 where
     pub command : Order
     pub asked : AsksFor words command
-    pub done : Executes digest keys key_bytes told left held before put command input old new answer
-    pub files : LeavesFiles command told left
-    pub folders : LeavesFolders command before put
+    pub done : Executes digest keys key_bytes old new command answer
+    pub files : LeavesFiles command old.files new.files
+    pub folders : LeavesFolders command old.puts new.puts
 
   -- the words ask for no command: this is the answer, nothing was written, and no file was changed
-  pub record RefusesWords (words : List (List ℕ)) (old new : Option (List ℕ))
-      (answer : Result ℕ RunFault) : Type 0 where
+  pub record RefusesWords (answer : Result ℕ RunFault) : Type 0 where
     pub fault : CommandFault
     pub answer_is : answer ≡ Err (Command fault)
     pub reads : Reads words (Err fault)
-    pub quiet : Keeps old new
-    pub files : left ≡ told
-    pub folders : put ≡ before
+    pub quiet : Keeps old.output new.output
+    pub files : new.files ≡ old.files
+    pub folders : new.puts ≡ old.puts
 
   -- what the answer of a run says of the words, of the input, and of what was written
-  abbrev pub Runs : List (List ℕ) → Option (List ℕ) → Option (List ℕ) → Option (List ℕ) →
-      Result ℕ RunFault → Type 0
-  Runs words input old new answer = RefusesWords words old new answer ⊎ Obeys words input old new answer
+  abbrev pub Runs : Result ℕ RunFault → Type 0
+  Runs answer = RefusesWords answer ⊎ Obeys answer
 
 -- ---- the key file
 
@@ -99,10 +95,12 @@ module _ (told : Option (List NamedFile)) (words : List (List ℕ)) where
   FailsAtKeys (KeyLines fault) = LacksKeyLines fault
   FailsAtKeys other = ⊥
 
-  -- what each answer of the finder of the keys' bytes says
-  abbrev pub FindsKeys : Result (List ℕ) RunFault → Type 0
-  FindsKeys (Ok bytes) = AreKeyBytes bytes
-  FindsKeys (Err fault) = FailsAtKeys fault
+-- what each answer of the reader of the key file of this name says of it: its bytes, or none where there is no name
+abbrev pub FindsKeys : Option (List NamedFile) → Option (List ℕ) → Result (List ℕ) RunFault → Type 0
+FindsKeys told (Some name) (Ok bytes) = HasContents told name bytes
+FindsKeys told None (Ok bytes) = bytes ≡ []
+FindsKeys told (Some name) (Err (KeyFile fault)) = ReadsShort told name (no_bytes fault)
+FindsKeys told name (Err other) = ⊥
 
 -- the bytes are those of a key file, whose lines come to these when their pins are joined
 pub record JoinsLines (bytes : List ℕ) (joined : List KeyLine) : Type 0 where
@@ -115,17 +113,16 @@ abbrev pub ReadsJoined : List ℕ → Result (List KeyLine) KeyFileFault → Typ
 ReadsJoined bytes (Ok joined) = JoinsLines bytes joined
 ReadsJoined bytes (Err fault) = ReadsKeys bytes (no_lines fault)
 
-module _ (digest : List ℕ → List ℕ) (told left : Option (List NamedFile))
-    (held : List ℕ → Option (List Put)) (before put : Option (List Put)) (words : List (List ℕ))
-    (input old new : Option (List ℕ)) (answer : Result ℕ RunFault) where
+module _ (digest : List ℕ → List ℕ) (words : List (List ℕ)) (old new : Moment)
+    (answer : Result ℕ RunFault) where
   -- no keys were found: this is the answer, nothing was written, and no file was changed
   pub record LacksKeys : Type 0 where
     pub fault : RunFault
     pub answer_is : answer ≡ Err fault
-    pub finds : FailsAtKeys told words fault
-    pub quiet : Keeps old new
-    pub files : left ≡ told
-    pub folders : put ≡ before
+    pub finds : FailsAtKeys old.files words fault
+    pub quiet : Keeps old.output new.output
+    pub files : new.files ≡ old.files
+    pub folders : new.puts ≡ old.puts
 
   -- the run is one under keys under which a note opens exactly where it opens under those of the key
   -- file's lines
@@ -133,11 +130,10 @@ module _ (digest : List ℕ → List ℕ) (told left : Option (List NamedFile))
     pub bytes : List ℕ
     pub lines : List KeyLine
     pub joined : List KeyLine
-    pub are_bytes : AreKeyBytes told words bytes
+    pub are_bytes : AreKeyBytes old.files words bytes
     pub are_lines : IsKeyFile bytes lines
     pub joins : JoinsPins lines joined
-    pub runs :
-        Runs digest (map key_of joined) bytes told left held before put words input old new answer
+    pub runs : Runs digest (map key_of joined) bytes words old new answer
 
   -- what the answer of a run that begins with the key file says: no keys were found, or the run is
   -- one under its keys

@@ -1,10 +1,9 @@
 -- What is told of why a command failed. `TellsLine` is cited by the contract of a private function
 -- alone.
-use Rattle.std.specs.Prelude.{◌⊎◌, ℕ, List, Option}
+use Rattle.std.specs.Prelude.{◌⊎◌, ℕ, List, Option, Bool, IsTrue}
 use Rattle.std.specs.Io.KnownBytes.{Keeps}
 use Rattle.byte_streams.specs.Streams.{AppendsPrefix}
 use Rattle.program_files.specs.Why.{IsWhyLine}
-use Rattle.program_words.specs.Readings.{AsksWhy}
 
 -- one line was written, as far as the stream took it
 abbrev pub WritesWhy : Option (List ℕ) → Option (List ℕ) → Type 0
@@ -14,6 +13,6 @@ WritesWhy old new = (line : List ℕ) × IsWhyLine line × AppendsPrefix old new
 abbrev pub TellsLine : Option (List ℕ) → Option (List ℕ) → Type 0
 TellsLine old new = Keeps old new ⊎ WritesWhy old new
 
--- the same, and a line only where the words ask for it
-abbrev pub TellsWhy : List (List ℕ) → Option (List ℕ) → Option (List ℕ) → Type 0
-TellsWhy words old new = Keeps old new ⊎ (AsksWhy words × WritesWhy old new)
+-- the same, and a line only where it is asked for
+abbrev pub TellsWhy : Bool → Option (List ℕ) → Option (List ℕ) → Type 0
+TellsWhy asked old new = Keeps old new ⊎ (IsTrue asked × WritesWhy old new)

@@ -18,20 +18,13 @@ use Rattle.program_reports.specs.declared.fault.AskFault.TheVariants as ask
 use Rattle.program_commands.specs.HeadFiles.{ReadsHeads}
 use Rattle.program_commands.specs.States.{OpensFile}
 use Rattle.program_commands.specs.declared.fault.HeadFilesFault.{HeadFilesFault}
-use Rattle.program_library.specs.declared.fault.WorkFault.{WorkFault}
-use Rattle.program_library.specs.declared.fault.WorkFault.TheVariants.{State, Ask, PortFault}
-use Rattle.program_library.specs.declared.fault.WorkFault.TheVariants.{Heads, OutOfMemory}
-use Rattle.program_library.specs.declared.fault.TellFault.{TellFault}
-use Rattle.program_library.specs.declared.fault.TellFault.TheVariants.{Work, WriteFault}
+use Rattle.program_library.specs.declared.fault.RunFault.{RunFault}
+use Rattle.program_library.specs.declared.fault.RunFault.TheVariants.{State, Ask, PortFault, Heads, OutOfMemory}
+use Rattle.program_library.specs.declared.fault.RunFault.TheVariants.{WriteFault}
 
 -- the exit status is one of a command that was done: 0, or 3 for a no
 abbrev pub IsStatus : ℕ → Type 0
 IsStatus status = (status ≡ 0) ⊎ (status ≡ 3)
-
--- the report was not written, or not whole
-abbrev pub IsWriting : WorkFault → Type 0
-IsWriting (Ask ask.WriteFault) = ⊤
-IsWriting other = ⊥
 
 -- ---- status, missing, forks, prove
 
@@ -39,7 +32,7 @@ module _
     (digest : List ℕ → List ℕ) (keys : List Key) (told : Option (List NamedFile)) (name : List ℕ)
     (origin : List ℕ) (question : Question) (old new : Option (List ℕ)) where
   -- a mirror was opened of the state file, and it answers what was answered and written
-  abbrev pub AsksState : Result ℕ WorkFault → Type 0
+  abbrev pub AsksState : Result ℕ RunFault → Type 0
   AsksState (Ok status) =
       (v : View) × OpensFile digest origin keys told name (Ok v) ×
       AnswersQuestion digest question v old new (Ok status)
@@ -72,7 +65,7 @@ module _
     pub answers : AnswersCompared digest view heads old new answer
 
   -- what each answer of `compare` says of the files, and of what was written
-  abbrev pub ComparesState : Result ℕ WorkFault → Type 0
+  abbrev pub ComparesState : Result ℕ RunFault → Type 0
   ComparesState (Ok status) = OpensAndCompares (Ok status)
   ComparesState (Err (State fault)) = OpensFile digest origin keys told name (Err fault)
   ComparesState (Err (Heads fault)) =
@@ -91,7 +84,7 @@ module _
     pub answers : AnswersCompared digest v heads old new answer
 
   -- what each answer of `compare` says of a mirror of this view
-  abbrev pub ComparesView : View → Result ℕ WorkFault → Type 0
+  abbrev pub ComparesView : View → Result ℕ RunFault → Type 0
   ComparesView v (Ok status) = ComparesGiven v (Ok status)
   ComparesView v (Err (Heads fault)) = FindsHeads keys told v.origin files (Err fault)
   ComparesView v (Err (Ask fault)) = ComparesGiven v (Err fault)
@@ -111,31 +104,31 @@ listening_text port = codes "listening 127.0.0.1:" ++ (decimal port ++ codes "\n
 
 -- what each answer of serving says of that line: it was written, or at a fault a prefix of it;
 -- where the port cannot be had, or a connection be accepted, nothing or all of it
-abbrev pub TellsPort : {T : Type 0} → ℕ → Option (List ℕ) → Option (List ℕ) → Result T TellFault →
+abbrev pub TellsPort : {T : Type 0} → ℕ → Option (List ℕ) → Option (List ℕ) → Result T RunFault →
     Type 0
 TellsPort port old new (Ok x) = Appends old new (listening_text port)
 TellsPort port old new (Err WriteFault) = AppendsPrefix old new (listening_text port)
-TellsPort port old new (Err (Work PortFault)) =
+TellsPort port old new (Err PortFault) =
     Keeps old new ⊎ Appends old new (listening_text port)
-TellsPort port old new (Err (Work OutOfMemory)) = Keeps old new
+TellsPort port old new (Err OutOfMemory) = Keeps old new
 TellsPort port old new (Err other) = ⊥
 
 module _
     (digest : List ℕ → List ℕ) (keys : List Key) (told : Option (List NamedFile)) (name : List ℕ)
     (origin : List ℕ) where
   -- no mirror was opened of the state file, as the fault says
-  abbrev pub OpensNothing : {T : Type 0} → Result T TellFault → Type 0
-  OpensNothing (Err (Work (State fault))) = OpensFile digest origin keys told name (Err fault)
+  abbrev pub OpensNothing : {T : Type 0} → Result T RunFault → Type 0
+  OpensNothing (Err (State fault)) = OpensFile digest origin keys told name (Err fault)
   OpensNothing other = ⊥
 
   module _ (port : ℕ) (old new : Option (List ℕ)) where
     -- a mirror was opened of the state file, and the port was told so
-    pub record OpensAndTells {T : Type 0} (answer : Result T TellFault) : Type 0 where
+    pub record OpensAndTells {T : Type 0} (answer : Result T RunFault) : Type 0 where
       pub view : View
       pub opened : OpensFile digest origin keys told name (Ok view)
       pub tells : TellsPort port old new answer
 
     -- what each answer of `serve` says: a mirror was opened, and its port told; or none was, and
     -- nothing was written
-    abbrev pub ServesState : {T : Type 0} → Result T TellFault → Type 0
+    abbrev pub ServesState : {T : Type 0} → Result T RunFault → Type 0
     ServesState answer = (OpensNothing answer × Keeps old new) ⊎ OpensAndTells answer

@@ -24,54 +24,13 @@ pub enum RunFault {
     /// A line of the key file is no key.
     #[error(transparent)]
     KeyLines(KeyFileFault),
-    /// A command that has no faults of its own was not done: `build`, `status`, `missing`, `forks`, `compare` and `prove`.
-    #[error(transparent)]
-    Work(WorkFault),
-    /// `root` told no root.
-    #[error(transparent)]
-    Root(RootFault),
-    /// `check` told no verdict.
-    #[error(transparent)]
-    Check(CheckFault),
-    /// `take` wrote no state.
-    #[error(transparent)]
-    Take(TakeFilesFault),
-    /// `merge` wrote no state.
-    #[error(transparent)]
-    Merge(MergeFilesFault),
-    /// `pull` wrote no state, or did not tell of it.
-    #[error(transparent)]
-    Pull(TellFault),
-    /// Not all was exported.
-    #[error(transparent)]
-    Export(ExportFileFault),
-    /// A folder was not brought up to date.
-    #[error(transparent)]
-    Update(UpdateFileFault),
-    /// Not all notes were written.
-    #[error(transparent)]
-    Notes(NotesFault),
-    /// Not as many connections were answered as were asked for.
-    #[error(transparent)]
-    Serve(TellFault),
-    /// Memory was refused for the name of the key file.
-    #[error("OutOfMemory")]
-    OutOfMemory,
-}
-
-/// Why a command over files was not done. It prints the name of the innermost variant.
-#[derive(Debug, Drop, Error)]
-pub enum WorkFault {
-    /// A file that the words name was not read or not written.
-    #[error(transparent)]
-    Named(NamedFault),
     /// The key file has no key that signs.
     #[error("NoSigningKey")]
     NoSigningKey,
     /// The origin is none.
     #[error(transparent)]
     Origin(NewFault),
-    /// There is no mirror of a state file.
+    /// There is no mirror of the state file.
     #[error(transparent)]
     State(StateFault),
     /// There are no checkpoints in the files that the words name.
@@ -86,24 +45,40 @@ pub enum WorkFault {
     /// A pull ended early.
     #[error(transparent)]
     Pull(PullFault),
+    /// The state that came of a pull was not written.
+    #[error(transparent)]
+    Out(NamedFault),
     /// No log was made.
     #[error(transparent)]
     Build(BuildFault),
     /// The port cannot be had, or a connection cannot be accepted.
     #[error("PortFault")]
     PortFault,
+    /// A write to standard output failed, or took no byte. A prefix of the text may have been written.
+    #[error("WriteFault")]
+    WriteFault,
+    /// `root` told no root.
+    #[error(transparent)]
+    Root(RootFault),
+    /// `check` told no verdict.
+    #[error(transparent)]
+    Check(CheckFault),
+    /// `take` wrote no state.
+    #[error(transparent)]
+    Take(TakeFilesFault),
+    /// `merge` wrote no state.
+    #[error(transparent)]
+    Merge(MergeFilesFault),
+    /// Not all was exported.
+    #[error(transparent)]
+    Export(ExportFileFault),
+    /// A folder was not brought up to date.
+    #[error(transparent)]
+    Update(UpdateFileFault),
+    /// Not all notes were written.
+    #[error(transparent)]
+    Notes(NotesFault),
     /// Memory was refused.
     #[error("OutOfMemory")]
     OutOfMemory,
-}
-
-/// Why a command that tells what it did was not done. It prints the name of the innermost variant.
-#[derive(Debug, Drop, Error)]
-pub enum TellFault {
-    /// Its work was not done.
-    #[error(transparent)]
-    Work(WorkFault),
-    /// A write failed, or took no byte. A prefix of the text may have been written.
-    #[error("WriteFault")]
-    WriteFault,
 }

@@ -1,32 +1,76 @@
 //! The key file that the words name.
 ghost use Rattle.std.specs.Prelude.{map, option_map, string_bytes};
 ghost use Rattle.tlog_text.specs.Answers.{seen};
-ghost use Rattle.program_library.specs.Runs.{FindsKeys, NamesKeyFile};
+ghost use Rattle.program_library.specs.Runs.{FindsKeys, NamesKeyFile, ReadsJoined};
 
+use crate::error::Error;
+use crate::failing::RunFiles;
 use crate::fault::RunFault;
-use program_files::NamedFiles;
+use crate::why::{Why, of_named};
+use program_words::read_line;
+use signed_note::{KeyFileFault, KeyLine, Verifier, join_pins, read_keys};
 use std::alloc::Global;
 
-/// The bytes of the key file that the words name; none where the command has no keys.
+/// The keys of a run: the bytes of the key file, and its keys. Both are empty where the command has no keys.
+///
+/// ```text
+/// let keys = Keys { bytes: &key_bytes, verifiers: &keys };
+/// ```
+#[derive(Drop)]
+pub struct Keys<'a> {
+    /// The bytes of the key file, of which `build` reads its signing key.
+    pub bytes: &'a [u8],
+    /// Its keys.
+    pub verifiers: &'a [Box<dyn Verifier>],
+}
+
+/// The bytes of the key file of that name; none where the command has no keys.
 ///
 /// # Errors
 ///
-/// `Command` as `key_file` says; `KeyFile` where the file cannot be read.
-pub(crate) fn key_bytes<F: NamedFiles>(
+/// `KeyFile` where the file cannot be read.
+pub(crate) fn key_bytes<F: RunFiles>(
     files: &F,
     alloc: Global,
-    words: &[String],
-) -> Result<Vec<u8>, RunFault>
-    ensures { FindsKeys (F.puts files.now) (map string_bytes words.now)
+    name: Option<&str>,
+) -> Result<Vec<u8>, Error>
+    ensures { FindsKeys (F.puts files.now) (option_map (λ name. name.now) name.entry)
         (seen (λ bytes. bytes.items) result) }
 {
-    match program_words::key_file(alloc, words) {
-        Ok(Some(name)) => match files.read(name) {
+    match name {
+        Some(name) => match files.read(name) {
             Ok(bytes) => Ok(bytes),
-            Err(fault) => Err(RunFault::KeyFile(fault)),
+            Err(fault) => {
+                let why = of_named(alloc, files, fault);
+                Err(Error::new(RunFault::KeyFile(fault), why))
+            }
         },
-        Ok(None) => Ok(Vec::new(alloc)),
-        Err(fault) => Err(RunFault::Command(fault)),
+        None => Ok(Vec::new(alloc)),
+    }
+}
+
+/// The lines of the key file's bytes, with the pins of one name and id joined.
+pub(crate) fn joined_lines(alloc: Global, key_bytes: &[u8]) -> Result<Vec<KeyLine>, KeyFileFault>
+    ensures { ReadsJoined key_bytes.now (seen (λ lines. lines.items) result) }
+{
+    let lines = match read_keys(alloc, key_bytes) {
+        Ok(lines) => lines,
+        Err(fault) => return Err(fault),
+    };
+    match join_pins(alloc, lines) {
+        Ok(lines) => Ok(lines),
+        Err(_) => Err(KeyFileFault::OutOfMemory),
+    }
+}
+
+/// What a fault at the lines of that key file is about.
+pub(crate) fn why_of_lines(alloc: Global, name: Option<&str>, fault: KeyFileFault) -> Option<Why> {
+    match fault {
+        KeyFileFault::BadKeyLine(number) => match format!(in alloc; "line {number}") {
+            Ok(line) => Why::of_reason(alloc, name?, &line),
+            Err(_) => None,
+        },
+        KeyFileFault::OutOfMemory => None,
     }
 }
 
@@ -43,12 +87,17 @@ pub(crate) fn key_bytes<F: NamedFiles>(
 pub fn key_file(alloc: Global, words: &[String]) -> Result<Option<String>, RunFault>
     ensures { NamesKeyFile (map string_bytes words.now) (seen (option_map string_bytes) result) }
 {
-    match program_words::key_file(alloc, words) {
-        Ok(Some(name)) => match String::from_str(alloc, name) {
+    let line = match read_line(alloc, words) {
+        Ok(line) => line,
+        Err(fault) => return Err(RunFault::Command(fault)),
+    };
+    let keys = line.keys;
+    drop(line);
+    match keys {
+        Some(name) => match String::from_str(alloc, name) {
             Ok(name) => Ok(Some(name)),
             Err(_) => Err(RunFault::OutOfMemory),
         },
-        Ok(None) => Ok(None),
-        Err(fault) => Err(RunFault::Command(fault)),
+        None => Ok(None),
     }
 }

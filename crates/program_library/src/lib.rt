@@ -2,33 +2,32 @@
 //! given by name.
 //!
 //! ```text
-//! let mut files = SystemFiles::new(&rt, alloc);
-//! let mut folders = MemShelf::new(alloc);
-//! run_named(&rt, alloc, &mut files, &mut folders, &words, &mut input, &mut output, &mut errors)? // 0, or 3 for a no
+//! let (files, folders) = (MemoryFiles::new(alloc), MemShelf::new(alloc));
+//! let mut env = Env { rt: &rt, alloc, files, folders, input, output, errors };
+//! run_over(&mut env, &words)? // 0, or 3 for a no
 //! ```
 #![tactic(auto)]
 
 mod ask;
-mod build;
 mod clients;
-mod compare;
+mod commands;
 mod ending;
+mod env;
+mod error;
+mod failing;
 mod fault;
-mod files;
 mod keys;
 mod laws;
-mod pull;
-mod reasons;
 mod running;
-mod serve;
 mod told;
 mod why;
-mod work;
 
 pub use ending::{Ending, Message, Stream, ending_of, print_ending};
-pub use fault::{RunFault, TellFault, WorkFault};
-pub use keys::key_file;
+pub use env::Env;
+pub use failing::{RunFiles, RunFolders};
+pub use fault::RunFault;
+pub use keys::{Keys, key_file};
 pub use laws::{pulled_state_law, signing_key_law};
 pub use program_commands::{CheckFault, RootFault, run_check, run_root};
-pub use running::{run, run_named, run_words, run_words_over};
+pub use running::{run, run_over, run_with_keys, run_words};
 pub use tlog_build::{EntriesFault, read_entries};

@@ -1,23 +1,27 @@
-//! One run: the key file, the words, and the command that they ask for.
-ghost use Rattle.std.specs.Prelude.{IfErr, IfNone, IfOk, IfSome, None, map, string_bytes};
+//! One run: the words, the key file, and the command that the words ask for.
+ghost use Rattle.std.specs.Prelude.{◌≡◌, IfErr, IfOk, List, map, string_bytes, ℕ};
 ghost use Rattle.std.specs.Io.KnownBytes.{Keeps};
 ghost use Rattle.sha2.specs.Sha256.{sha256};
-ghost use Rattle.program_library.specs.Done.{IsWriteFault};
+ghost use Rattle.program_words.specs.Lines.{IsLine};
+ghost use Rattle.program_library.specs.Done.{IsDoable, IsWriteFault};
+ghost use Rattle.program_library.specs.Envs.{IsSameEnv, moment};
+ghost use Rattle.program_library.specs.Moment.{on_system, seen_of};
 ghost use Rattle.program_library.specs.Performing.{Ends};
+ghost use Rattle.program_library.specs.Runs.{AreKeyBytes, Runs, RunsKeyed};
 ghost use Rattle.program_library.specs.Works.{IsStatus};
-ghost use Rattle.tlog_text.specs.Answers.{seen};
-ghost use Rattle.program_library.specs.Runs.{AreKeyBytes, ReadsJoined, Runs, RunsKeyed};
 
+use crate::commands::run_command;
+use crate::env::Env;
+use crate::error::Error;
+use crate::failing::{RunFiles, RunFolders};
 use crate::fault::RunFault;
-use crate::keys::key_bytes;
-use crate::reasons::why_of;
-use crate::why::tell_why;
-use crate::work::run_command;
+use crate::keys::{Keys, joined_lines, key_bytes, why_of_lines};
+use crate::why::{Why, tell_why};
 use mirror_folders::DirShelf;
-use mirror_progress::{CountingShelf, Progress, StandardError, ToldFolders};
-use program_files::{NamedFiles, SystemFiles};
-use program_words::read_words;
-use signed_note::{KeyFileFault, KeyLine, Verifier, join_pins, read_keys};
+use mirror_progress::{CountingShelf, Progress, StandardError};
+use program_files::SystemFiles;
+use program_words::{CommandFault, Line, read_line};
+use signed_note::{KeyFileFault, KeyLine, Verifier};
 use std::alloc::Global;
 use std::fs::Files;
 use std::io::{Read, Write};
@@ -42,86 +46,53 @@ pub fn run<R, I: Read, O: Write, E: Write>(
 ) -> Result<u8, RunFault>
 where
     R: Files + Clock + Eprint + Net<Stream = TcpStream, Listener = TcpListener>,
-    ensures answer { RunsKeyed sha256 None None (λ _. None) None None (map string_bytes words.now)
-        (I.remaining input.old) (O.contents output.old) (O.contents output.new) result }
+    ensures answer { RunsKeyed sha256 (map string_bytes words.now)
+        (on_system (I.remaining input.old) (O.contents output.old))
+        (on_system (I.remaining input.new) (O.contents output.new)) result }
     ensures status { IfOk result IsStatus }
     ensures quiet { IfErr result (λ fault. (¬ IsWriteFault fault) → Keeps (O.contents output.old)
         (O.contents output.new)) }
 {
-    run_on_system(rt, alloc, words, None, input, output, errors)
+    let files = SystemFiles::new(rt, alloc);
+    let folders = folders_of(rt, alloc);
+    run_on(rt, alloc, files, folders, words, input, output, errors)
 }
 
-// Executes the command over the files and folders of the system, with the bytes of a key file and its keys where they are in
-// hand, and else with those of the key file that the words name.
-fn run_on_system<R, I: Read, O: Write, E: Write>(
+// Executes the same over these files and folders, which are let go.
+#[allow(clippy::too_many_arguments)]
+fn run_on<R, F: RunFiles + Drop, D: RunFolders + Drop, I: Read, O: Write, E: Write>(
     rt: &R,
     alloc: Global,
+    files: F,
+    folders: D,
     words: &[String],
-    in_hand: Option<(&[u8], &[Box<dyn Verifier>])>,
     input: &mut I,
     output: &mut O,
     errors: &mut E,
 ) -> Result<u8, RunFault>
 where
     R: Files + Clock + Eprint + Net<Stream = TcpStream, Listener = TcpListener>,
-    ensures in_hand { IfSome in_hand.entry (λ given. Runs sha256 (map (λ k. key k) given.1.now)
-        given.0.now None None (λ _. None) None None (map string_bytes words.now)
-        (I.remaining input.old) (O.contents output.old) (O.contents output.new) result) }
-    ensures of_file { IfNone in_hand.entry (RunsKeyed sha256 None None (λ _. None) None None
-        (map string_bytes words.now) (I.remaining input.old) (O.contents output.old)
-        (O.contents output.new) result) }
-    ensures ends { Ends (O.contents output.old) (O.contents output.new) result }
+    ensures answer { (left : F) × (left_folders : D) × RunsKeyed sha256 (map string_bytes words.now)
+        (seen_of F.puts D.held D.puts files folders (I.remaining input.old)
+        (O.contents output.old))
+        (seen_of F.puts D.held D.puts left left_folders (I.remaining input.new)
+        (O.contents output.new)) result }
+    ensures status { IfOk result IsStatus }
+    ensures quiet { IfErr result (λ fault. (¬ IsWriteFault fault) → Keeps (O.contents output.old)
+        (O.contents output.new)) }
 {
-    let mut files = SystemFiles::new(rt, alloc);
-    let mut folders = folders_of(rt, alloc);
-    let answer = run_with(
+    let mut env = Env {
         rt,
         alloc,
-        &mut files,
-        &mut folders,
-        words,
-        in_hand,
+        files,
+        folders,
         input,
         output,
         errors,
-    );
-    let why = why_of(alloc, words, &answer, &files, &folders.shelf);
-    tell_why(alloc, words, why, errors);
-    drop(folders);
-    drop(files);
+    };
+    let answer = run_over(&mut env, words);
+    env.let_go();
     answer
-}
-
-// Executes the command over these files and folders, with the same keys.
-#[allow(clippy::too_many_arguments)]
-fn run_with<R, F: NamedFiles, D: ToldFolders, I: Read, O: Write, E: Write>(
-    rt: &R,
-    alloc: Global,
-    files: &mut F,
-    folders: &mut D,
-    words: &[String],
-    in_hand: Option<(&[u8], &[Box<dyn Verifier>])>,
-    input: &mut I,
-    output: &mut O,
-    errors: &mut E,
-) -> Result<u8, RunFault>
-where
-    R: Files + Clock + Eprint + Net<Stream = TcpStream, Listener = TcpListener>,
-    ensures in_hand { IfSome in_hand.entry (λ given. Runs sha256 (map (λ k. key k) given.1.now)
-        given.0.now (F.puts files.old) (F.puts files.new) (D.held folders.old)
-        (D.puts folders.old) (D.puts folders.new) (map string_bytes words.now)
-        (I.remaining input.old) (O.contents output.old) (O.contents output.new) result) }
-    ensures of_file { IfNone in_hand.entry (RunsKeyed sha256 (F.puts files.old) (F.puts files.new)
-        (D.held folders.old) (D.puts folders.old) (D.puts folders.new) (map string_bytes words.now)
-        (I.remaining input.old) (O.contents output.old) (O.contents output.new) result) }
-    ensures ends { Ends (O.contents output.old) (O.contents output.new) result }
-{
-    match in_hand {
-        Some((key_bytes, keys)) => run_words_over(
-            rt, alloc, files, folders, words, key_bytes, keys, input, output, errors,
-        ),
-        None => run_named(rt, alloc, files, folders, words, input, output, errors),
-    }
 }
 
 // The folders of the system, of which it can be told on standard error how many files are put.
@@ -138,97 +109,174 @@ fn folders_of<'a, R: Files + Clock + Eprint>(
 /// # Errors
 ///
 /// Those of `run`.
-#[allow(clippy::too_many_arguments)]
-pub fn run_named<R, F: NamedFiles, D: ToldFolders, I: Read, O: Write, E: Write>(
-    rt: &R,
-    alloc: Global,
-    files: &mut F,
-    folders: &mut D,
+pub fn run_over<R, F: RunFiles, D: RunFolders, I: Read, O: Write, E: Write>(
+    env: &mut Env<'_, '_, '_, '_, R, F, D, I, O, E>,
     words: &[String],
-    input: &mut I,
-    output: &mut O,
-    errors: &mut E,
 ) -> Result<u8, RunFault>
 where
     R: Files + Clock + Eprint + Net<Stream = TcpStream, Listener = TcpListener>,
-    ensures answer { RunsKeyed sha256 (F.puts files.old) (F.puts files.new) (D.held folders.old)
-        (D.puts folders.old) (D.puts folders.new) (map string_bytes words.now)
-        (I.remaining input.old) (O.contents output.old) (O.contents output.new) result }
+    ensures same { IsSameEnv env.old env.new }
+    ensures answer { RunsKeyed sha256 (map string_bytes words.now)
+        (moment F.puts D.held D.puts I.remaining O.contents env.old)
+        (moment F.puts D.held D.puts I.remaining O.contents env.new) result }
     ensures status { IfOk result IsStatus }
-    ensures quiet { IfErr result (λ fault. (¬ IsWriteFault fault) → Keeps (O.contents output.old)
-        (O.contents output.new)) }
+    ensures quiet { IfErr result (λ fault. (¬ IsWriteFault fault)
+        → Keeps (O.contents env.old.output.now) (O.contents env.new.output.now)) }
 {
-    match key_bytes(files, alloc, words) {
-        Ok(bytes) => run_keyed(
-            rt, alloc, files, folders, words, &bytes, input, output, errors,
-        ),
-        Err(fault) => Err(fault),
+    match read_line(env.alloc, words) {
+        Ok(line) => {
+            let asked = line.why;
+            let answer = run_line(env, line);
+            told(env.alloc, asked, answer, env.errors)
+        }
+        Err(fault) => Err(RunFault::Command(fault)),
     }
 }
 
-// The lines of the key file's bytes, with the pins of one name and id joined.
-fn joined_lines(alloc: Global, key_bytes: &[u8]) -> Result<Vec<KeyLine>, KeyFileFault>
-    ensures { ReadsJoined key_bytes.now (seen (λ lines. lines.items) result) }
+// The answer of a run, and a line on what its fault is about, where it is asked for.
+fn told<E: Write>(
+    alloc: Global,
+    asked: bool,
+    answer: Result<u8, Error>,
+    errors: &mut E,
+) -> Result<u8, RunFault>
+    ensures { result ≡ answer }
 {
-    let lines = match read_keys(alloc, key_bytes) {
-        Ok(lines) => lines,
-        Err(fault) => return Err(fault),
-    };
-    match join_pins(alloc, lines) {
-        Ok(lines) => Ok(lines),
-        Err(_) => Err(KeyFileFault::OutOfMemory),
+    match answer {
+        Ok(status) => Ok(status),
+        Err(error) => {
+            let (fault, why) = error.into_parts();
+            tell_why(alloc, asked, why, errors);
+            Err(fault)
+        }
+    }
+}
+
+// Executes what the line asks for, with the keys of the key file that it names.
+fn run_line<R, F: RunFiles, D: RunFolders, I: Read, O: Write, E: Write>(
+    env: &mut Env<'_, '_, '_, '_, R, F, D, I, O, E>,
+    line: Line<'_>,
+) -> Result<u8, Error>
+where
+    R: Files + Clock + Eprint + Net<Stream = TcpStream, Listener = TcpListener>,
+    requires { IfOk line.command IsDoable }
+    ensures same { IsSameEnv env.old env.new }
+    ensures runs { (words : List (List ℕ)) → IsLine words line.entry → RunsKeyed sha256 words
+        (moment F.puts D.held D.puts I.remaining O.contents env.old)
+        (moment F.puts D.held D.puts I.remaining O.contents env.new) result }
+    ensures ends { Ends (O.contents env.old.output.now) (O.contents env.new.output.now) result }
+{
+    match key_bytes(&env.files, env.alloc, line.keys) {
+        Ok(bytes) => run_keyed(env, &bytes, line),
+        Err(error) => {
+            drop(line);
+            Err(error)
+        }
     }
 }
 
 // Executes the same with the bytes of the key file in hand.
-#[allow(clippy::too_many_arguments)]
-fn run_keyed<R, F: NamedFiles, D: ToldFolders, I: Read, O: Write, E: Write>(
-    rt: &R,
-    alloc: Global,
-    files: &mut F,
-    folders: &mut D,
-    words: &[String],
+fn run_keyed<R, F: RunFiles, D: RunFolders, I: Read, O: Write, E: Write>(
+    env: &mut Env<'_, '_, '_, '_, R, F, D, I, O, E>,
     key_bytes: &[u8],
-    input: &mut I,
-    output: &mut O,
-    errors: &mut E,
-) -> Result<u8, RunFault>
+    asked: Line<'_>,
+) -> Result<u8, Error>
 where
     R: Files + Clock + Eprint + Net<Stream = TcpStream, Listener = TcpListener>,
-    requires { AreKeyBytes (F.puts files.old) (map string_bytes words.now) key_bytes.now }
-    ensures runs { RunsKeyed sha256 (F.puts files.old) (F.puts files.new) (D.held folders.old)
-        (D.puts folders.old) (D.puts folders.new) (map string_bytes words.now)
-        (I.remaining input.old) (O.contents output.old) (O.contents output.new) result }
-    ensures ends { Ends (O.contents output.old) (O.contents output.new) result }
+    requires { IfOk asked.command IsDoable }
+    ensures same { IsSameEnv env.old env.new }
+    ensures runs { (words : List (List ℕ)) → IsLine words asked.entry
+        → AreKeyBytes (F.puts env.old.files) words key_bytes.now → RunsKeyed sha256 words
+        (moment F.puts D.held D.puts I.remaining O.contents env.old)
+        (moment F.puts D.held D.puts I.remaining O.contents env.new) result }
+    ensures ends { Ends (O.contents env.old.output.now) (O.contents env.new.output.now) result }
 {
-    let lines = match joined_lines(alloc, key_bytes) {
+    let lines = match joined_lines(env.alloc, key_bytes) {
         Ok(lines) => lines,
-        Err(fault) => return Err(RunFault::KeyLines(fault)),
+        Err(fault) => return Err(no_lines(env.alloc, asked, fault)),
     };
-    let mut keys: Vec<Box<dyn Verifier>> = Vec::new(alloc);
+    let mut keys: Vec<Box<dyn Verifier>> = Vec::new(env.alloc);
     for line in lines {
         match line {
             KeyLine::Hmac(key) => {
-                let Ok(key) = Box::new(alloc, key) else {
-                    return Err(RunFault::KeyLines(KeyFileFault::OutOfMemory));
+                let Ok(key) = Box::new(env.alloc, key) else {
+                    return Err(Error {
+                        fault: RunFault::KeyLines(KeyFileFault::OutOfMemory),
+                        why: None,
+                    });
                 };
                 let Ok(()) = keys.push(key) else {
-                    return Err(RunFault::KeyLines(KeyFileFault::OutOfMemory));
+                    return Err(Error {
+                        fault: RunFault::KeyLines(KeyFileFault::OutOfMemory),
+                        why: None,
+                    });
                 };
             }
             KeyLine::Pin(texts) => {
-                let Ok(texts) = Box::new(alloc, texts) else {
-                    return Err(RunFault::KeyLines(KeyFileFault::OutOfMemory));
+                let Ok(texts) = Box::new(env.alloc, texts) else {
+                    return Err(Error {
+                        fault: RunFault::KeyLines(KeyFileFault::OutOfMemory),
+                        why: None,
+                    });
                 };
                 let Ok(()) = keys.push(texts) else {
-                    return Err(RunFault::KeyLines(KeyFileFault::OutOfMemory));
+                    return Err(Error {
+                        fault: RunFault::KeyLines(KeyFileFault::OutOfMemory),
+                        why: None,
+                    });
                 };
             }
         }
     }
-    run_words_over(
-        rt, alloc, files, folders, words, key_bytes, &keys, input, output, errors,
-    )
+    let keys = Keys {
+        bytes: key_bytes,
+        verifiers: &keys,
+    };
+    obey(env, &keys, asked)
+}
+
+// The lines of the key file that the line names are no keys.
+fn no_lines(alloc: Global, asked: Line<'_>, fault: KeyFileFault) -> Error
+    ensures { result ≡ RunFault.KeyLines fault }
+{
+    let why = why_of_lines(alloc, asked.keys, fault);
+    drop(asked);
+    Error::new(RunFault::KeyLines(fault), why)
+}
+
+// Executes the command of the line.
+fn obey<R, F: RunFiles, D: RunFolders, I: Read, O: Write, E: Write>(
+    env: &mut Env<'_, '_, '_, '_, R, F, D, I, O, E>,
+    keys: &Keys<'_>,
+    line: Line<'_>,
+) -> Result<u8, Error>
+where
+    R: Files + Clock + Eprint + Net<Stream = TcpStream, Listener = TcpListener>,
+    requires { IfOk line.command IsDoable }
+    ensures same { IsSameEnv env.old env.new }
+    ensures runs { (words : List (List ℕ)) → IsLine words line.entry → Runs sha256
+        (map (λ k. key k) keys.now.verifiers.now) keys.now.bytes.now words
+        (moment F.puts D.held D.puts I.remaining O.contents env.old)
+        (moment F.puts D.held D.puts I.remaining O.contents env.new) result }
+    ensures ends { Ends (O.contents env.old.output.now) (O.contents env.new.output.now) result }
+{
+    let bad = line.bad;
+    let asked = line.command;
+    match asked {
+        Ok(command) => run_command(env, keys, &command),
+        Err(fault) => Err(refused(env.alloc, bad, fault)),
+    }
+}
+
+// The words of the command ask for nothing; this one is bad.
+fn refused(alloc: Global, bad: Option<&'static str>, fault: CommandFault) -> Error
+    ensures { result ≡ RunFault.Command fault }
+{
+    let why = match bad {
+        Some(word) => Why::of_thing(alloc, word),
+        None => None,
+    };
+    Error::new(RunFault::Command(fault), why)
 }
 
 /// Executes the command that the words ask for, with keys in hand: the bytes of the key file, and its keys, boxed by the
@@ -256,22 +304,62 @@ pub fn run_words<R, I: Read, O: Write, E: Write>(
 ) -> Result<u8, RunFault>
 where
     R: Files + Clock + Eprint + Net<Stream = TcpStream, Listener = TcpListener>,
-    ensures answer { Runs sha256 (map (λ k. key k) keys.now) key_bytes.now None None (λ _. None)
-        None None (map string_bytes words.now) (I.remaining input.old) (O.contents output.old)
-        (O.contents output.new) result }
+    ensures answer { Runs sha256 (map (λ k. key k) keys.now) key_bytes.now
+        (map string_bytes words.now)
+        (on_system (I.remaining input.old) (O.contents output.old))
+        (on_system (I.remaining input.new) (O.contents output.new)) result }
     ensures status { IfOk result IsStatus }
     ensures quiet { IfErr result (λ fault. (¬ IsWriteFault fault) → Keeps (O.contents output.old)
         (O.contents output.new)) }
 {
-    run_on_system(
+    let files = SystemFiles::new(rt, alloc);
+    let folders = folders_of(rt, alloc);
+    let keys = Keys {
+        bytes: key_bytes,
+        verifiers: keys,
+    };
+    run_with_keys_on(
+        rt, alloc, files, folders, &keys, words, input, output, errors,
+    )
+}
+
+// Executes the same over these files and folders, which are let go.
+#[allow(clippy::too_many_arguments)]
+fn run_with_keys_on<R, F: RunFiles + Drop, D: RunFolders + Drop, I: Read, O: Write, E: Write>(
+    rt: &R,
+    alloc: Global,
+    files: F,
+    folders: D,
+    keys: &Keys<'_>,
+    words: &[String],
+    input: &mut I,
+    output: &mut O,
+    errors: &mut E,
+) -> Result<u8, RunFault>
+where
+    R: Files + Clock + Eprint + Net<Stream = TcpStream, Listener = TcpListener>,
+    ensures answer { (left : F) × (left_folders : D) × Runs sha256
+        (map (λ k. key k) keys.now.verifiers.now) keys.now.bytes.now (map string_bytes words.now)
+        (seen_of F.puts D.held D.puts files folders (I.remaining input.old)
+        (O.contents output.old))
+        (seen_of F.puts D.held D.puts left left_folders (I.remaining input.new)
+        (O.contents output.new)) result }
+    ensures status { IfOk result IsStatus }
+    ensures quiet { IfErr result (λ fault. (¬ IsWriteFault fault) → Keeps (O.contents output.old)
+        (O.contents output.new)) }
+{
+    let mut env = Env {
         rt,
         alloc,
-        words,
-        Some((key_bytes, keys)),
+        files,
+        folders,
         input,
         output,
         errors,
-    )
+    };
+    let answer = run_with_keys(&mut env, keys, words);
+    env.let_go();
+    answer
 }
 
 /// Executes the same over any files and folders that have names.
@@ -279,38 +367,27 @@ where
 /// # Errors
 ///
 /// Those of `run_words`.
-#[allow(clippy::too_many_arguments)]
-pub fn run_words_over<R, F: NamedFiles, D: ToldFolders, I: Read, O: Write, E: Write>(
-    rt: &R,
-    alloc: Global,
-    files: &mut F,
-    folders: &mut D,
+pub fn run_with_keys<R, F: RunFiles, D: RunFolders, I: Read, O: Write, E: Write>(
+    env: &mut Env<'_, '_, '_, '_, R, F, D, I, O, E>,
+    keys: &Keys<'_>,
     words: &[String],
-    key_bytes: &[u8],
-    keys: &[Box<dyn Verifier>],
-    input: &mut I,
-    output: &mut O,
-    errors: &mut E,
 ) -> Result<u8, RunFault>
 where
     R: Files + Clock + Eprint + Net<Stream = TcpStream, Listener = TcpListener>,
-    ensures answer { Runs sha256 (map (λ k. key k) keys.now) key_bytes.now (F.puts files.old)
-        (F.puts files.new) (D.held folders.old) (D.puts folders.old) (D.puts folders.new)
-        (map string_bytes words.now) (I.remaining input.old) (O.contents output.old)
-        (O.contents output.new) result }
+    ensures same { IsSameEnv env.old env.new }
+    ensures answer { Runs sha256 (map (λ k. key k) keys.now.verifiers.now) keys.now.bytes.now
+        (map string_bytes words.now)
+        (moment F.puts D.held D.puts I.remaining O.contents env.old)
+        (moment F.puts D.held D.puts I.remaining O.contents env.new) result }
     ensures status { IfOk result IsStatus }
-    ensures quiet { IfErr result (λ fault. (¬ IsWriteFault fault) → Keeps (O.contents output.old)
-        (O.contents output.new)) }
+    ensures quiet { IfErr result (λ fault. (¬ IsWriteFault fault)
+        → Keeps (O.contents env.old.output.now) (O.contents env.new.output.now)) }
 {
-    match read_words(alloc, words) {
-        Ok(command) => {
-            let mut why = None;
-            let answer = run_command(
-                rt, alloc, files, folders, &command, key_bytes, keys, input, output, errors,
-                &mut why,
-            );
-            tell_why(alloc, words, why, errors);
-            answer
+    match read_line(env.alloc, words) {
+        Ok(line) => {
+            let asked = line.why;
+            let answer = obey(env, keys, line);
+            told(env.alloc, asked, answer, env.errors)
         }
         Err(fault) => Err(RunFault::Command(fault)),
     }

@@ -1,16 +1,17 @@
 //! What `--why` tells: the thing that a fault is about, and what is wrong with it.
-ghost use Rattle.std.specs.Prelude.{IsTrue, map, string_bytes};
-ghost use Rattle.program_words.specs.Readings.{AsksWhy};
 ghost use Rattle.program_library.specs.Whys.{TellsLine, TellsWhy};
 
 use crate::ending::write_front;
+use crate::failing::{RunFiles, RunFolders};
 use mirror_client::{FailedGet, Reason};
 use mirror_folders::FailedFile;
-use program_files::{FailedName, system_reason, why_line};
-use program_words::asks_why;
+use mirror_state::LoadFault;
+use program_commands::StateFault;
+use program_files::{FailedName, NamedFault, system_reason, why_line};
 use std::alloc::{AllocError, Global};
 use std::io;
 use std::io::Write;
+use tlog_mirror::NewFault;
 
 /// What a fault is about: a thing by its name, and what is wrong with it, where more is known.
 #[derive(Drop)]
@@ -23,6 +24,17 @@ impl Why {
     /// Nothing but the thing is known.
     pub(crate) fn of_thing(alloc: Global, thing: &str) -> Option<Why> {
         Why::of_reason(alloc, thing, "")
+    }
+
+    /// The same of a thing whose name was made.
+    pub(crate) fn of_made(alloc: Global, thing: Result<String, AllocError>) -> Option<Why> {
+        match thing {
+            Ok(thing) => Some(Why {
+                thing,
+                reason: String::new(alloc),
+            }),
+            Err(_) => None,
+        }
     }
 
     /// What is wrong with a thing.
@@ -101,26 +113,15 @@ impl Why {
     }
 }
 
-/// Writes the line of what is known, where the words ask for it.
+/// Writes the line of what is known, where it is asked for.
 #[tactic(auto, using(crate::proofs::Whys::nothing_told, crate::proofs::Whys::asked_told))]
-pub(crate) fn tell_why<E: Write>(alloc: Global, words: &[String], why: Option<Why>, errors: &mut E)
-    ensures { TellsWhy (map string_bytes words.now) (E.contents errors.old)
-        (E.contents errors.new) }
+pub(crate) fn tell_why<E: Write>(alloc: Global, asked: bool, why: Option<Why>, errors: &mut E)
+    ensures { TellsWhy asked (E.contents errors.old) (E.contents errors.new) }
 {
-    if let Some(why) = why {
-        if is_asked(alloc, words) {
+    if asked {
+        if let Some(why) = why {
             write_why(alloc, &why, errors);
         }
-    }
-}
-
-// Whether the words ask for it. Without memory for reading them they do not.
-fn is_asked(alloc: Global, words: &[String]) -> bool
-    ensures { IsTrue result → AsksWhy (map string_bytes words.now) }
-{
-    match asks_why(alloc, words) {
-        Ok(asked) => asked,
-        Err(_) => false,
     }
 }
 
@@ -132,4 +133,49 @@ fn write_why<E: Write>(alloc: Global, why: &Why, errors: &mut E)
     if let Ok(line) = why_line(alloc, &why.thing, &why.reason) {
         write_front(errors, line.as_bytes());
     }
+}
+
+/// What a fault at a named file is about: the file that was not had, and what the system said.
+pub(crate) fn of_named<F: RunFiles>(alloc: Global, files: &F, fault: NamedFault) -> Option<Why> {
+    match fault {
+        NamedFault::FileFault => Why::of_name(alloc, files.failed_name()?),
+        NamedFault::OutOfMemory => None,
+    }
+}
+
+/// What a fault at a folder of a log is about: the file that was not had, and what the system said.
+pub(crate) fn of_folder<D: RunFolders>(alloc: Global, folders: &D, folder: &str) -> Option<Why> {
+    Why::of_file(alloc, folder, &folders.failed_file()?)
+}
+
+/// What a fault at a state file is about: the origin, the file that was not had, or the file whose bytes are no state, and
+/// which of its notes is refused.
+pub(crate) fn of_state<F: RunFiles>(
+    alloc: Global,
+    files: &F,
+    name: Option<&str>,
+    fault: StateFault,
+) -> Option<Why> {
+    match fault {
+        StateFault::Origin(fault) => of_origin(alloc, fault),
+        StateFault::File(fault) => of_named(alloc, files, fault),
+        StateFault::Load(LoadFault::OutOfMemory) => None,
+        StateFault::Load(_) => match files.told_reason() {
+            Some(reason) => Why::of_reason(alloc, name?, &reason),
+            None => Why::of_thing(alloc, name?),
+        },
+    }
+}
+
+/// What a fault at an origin is about.
+pub(crate) fn of_origin(alloc: Global, fault: NewFault) -> Option<Why> {
+    match fault {
+        NewFault::BadOrigin => Why::of_thing(alloc, "--origin"),
+        NewFault::OutOfMemory => None,
+    }
+}
+
+/// What a write that failed is about.
+pub(crate) fn of_output(alloc: Global) -> Option<Why> {
+    Why::of_thing(alloc, "standard output")
 }

@@ -4,7 +4,7 @@ use mirror_state::LoadFault;
 use program_commands::{
     CheckFault, ExportFileFault, MergeFilesFault, NotesFault, RootFault, StateFault, TakeFilesFault,
 };
-use program_library::{RunFault, TellFault, WorkFault, ending_of, print_ending};
+use program_library::{RunFault, ending_of, print_ending};
 use program_words::CommandFault;
 use std::alloc::Global;
 use std::io::Write;
@@ -59,30 +59,25 @@ fn collisions_of_a_load(rt: HostRuntime) {
         RunFault::Merge(MergeFilesFault::Second(state)),
     );
     assert_collision(&rt, rt.alloc(), RunFault::Notes(NotesFault::State(state)));
-    let serve = RunFault::Serve(TellFault::Work(WorkFault::State(state)));
-    assert_collision(&rt, rt.alloc(), serve);
-    let pull = RunFault::Pull(TellFault::Work(WorkFault::State(state)));
-    assert_collision(&rt, rt.alloc(), pull);
     assert_collision(
         &rt,
         rt.alloc(),
         RunFault::Export(ExportFileFault::State(state)),
     );
-    assert_collision(&rt, rt.alloc(), RunFault::Work(WorkFault::State(state)));
+    assert_collision(&rt, rt.alloc(), RunFault::State(state));
 }
 
 // The same met by the work itself, and `OutOfMemory`.
 #[test]
 fn collisions_of_the_work(rt: HostRuntime) {
     let fault = PullFault::Collision;
-    let pulled = WorkFault::Pull(fault);
-    let built = WorkFault::Build(BuildFault::Pull(fault));
+    let built = BuildFault::Pull(fault);
     let taken = TakeFilesFault::Take(TakeFault::Collision);
     let merged = MergeFilesFault::Merge(MergeFault::Collision);
     assert_collision(&rt, rt.alloc(), RunFault::Take(taken));
     assert_collision(&rt, rt.alloc(), RunFault::Merge(merged));
-    assert_collision(&rt, rt.alloc(), RunFault::Pull(TellFault::Work(pulled)));
-    assert_collision(&rt, rt.alloc(), RunFault::Work(built));
+    assert_collision(&rt, rt.alloc(), RunFault::Pull(fault));
+    assert_collision(&rt, rt.alloc(), RunFault::Build(built));
     let no_memory = "tlogmirror: OutOfMemory\n";
     let fault = RunFault::Root(RootFault::OutOfMemory);
     assert_told(&rt, rt.alloc(), fault, no_memory);

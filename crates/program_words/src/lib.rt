@@ -1,10 +1,10 @@
 //! The command line of `tlogmirror`: what its words ask for.
 //!
-//! `read_words` gives the command that the words after the program's name ask for, with what their
-//! options say, and `key_file` the file of keys that it is to use.
+//! `read_line` gives the command that the words after the program's name ask for, with what their
+//! options say, and the file of keys that it is to use.
 //!
 //! ```text
-//! match read_words(alloc, &words)? {
+//! match read_line(alloc, &words)?.command? {
 //!     Command::Root(root) => run_root(alloc, root.width, input, output)?,
 //!     ..
 //! }
@@ -17,7 +17,6 @@ mod laws;
 mod parser;
 mod parts;
 mod place;
-mod why;
 mod words;
 
 pub use commands::Command;
@@ -25,5 +24,4 @@ pub use fault::CommandFault;
 pub use laws::{lawful_law, words_example};
 pub use parts::{Log, OutputArgs, StateArgs};
 pub use place::Place;
-pub use why::{asks_why, bad_argument};
-pub use words::{key_file, read_words};
+pub use words::{Line, read_line};

@@ -4,7 +4,7 @@ use Rattle.program_library.proofs.ask.run_ask.Goals as goal
 
 pub returns-in-Err : goal.returns-in-Err
 returns-in-Err g c = record {
-  answer = c.in-Err.ensures;
+  answer = rw c.new.ensures c.in-Err.ensures;
   status = tt;
   quiet = λ other. keeps_itself (g.W.Write.contents c.args.output.now);
 }

@@ -1,13 +1,11 @@
 use Rattle.std.proofs.Common.{◌++◌, ◌∙◌, ap, inr, map, refl, sym}
-use Rattle.std.specs.Prelude.{string_bytes}
 use Rattle.sha2.specs.Sha256.{sha256}
 use Rattle.signed_note.specs.Keys.{pinned_key, secret_key}
 use Rattle.signed_note.specs.contracts.mac_key.HmacKey as hmac
 use Rattle.signed_note.specs.contracts.pinned.PinnedTexts as pinned
 use Rattle.signed_note.specs.Verifiers.{key_of}
 use Rattle.signed_note.specs.declared.fault.KeyFileFault.TheVariants.{OutOfMemory}
-use Rattle.program_library.specs.declared.fault.RunFault.TheVariants.{KeyLines}
-use Rattle.program_library.proofs.Keyed.{lines_lack, nothing_done, runs_under}
+use Rattle.program_library.proofs.Keyed.{lines_lack, runs_under}
 use Rattle.program_library.proofs.MadeKeys.{all_boxes, key_in, made_first, made_second, none_left, one_more}
 use Rattle.program_library.proofs.running.run_keyed.Goals as goal
 
@@ -44,58 +42,36 @@ loop-line-preserved g c = (
       ∙ (ap pinned_key c.in-Ok-new-2.ensures.ok ∙ sym (ap key_of c.in-Pin.is))) c.loop-line.invariant.2,
 )
 
-pub returns-in-Err : goal.returns-in-Err
-returns-in-Err g c = record {
-  runs = lines_lack _ _ _ _ _ _ _ c.args.key_bytes.now c.in-Err.fault c.requires c.in-Err.ensures;
-  ends = nothing_done (g.O.Write.contents c.args.output.now) (KeyLines c.in-Err.fault);
-}
+pub returns-in-Err-clause-runs : goal.returns-in-Err-clause-runs
+returns-in-Err-clause-runs g c = λ words is are.
+    rw c.no_lines.ensures (lines_lack _ _ words c.args.key_bytes.now c.in-Err.fault are c.in-Err.ensures)
 
-pub returns-in_default : goal.returns-in_default
-returns-in_default g c = record {
-  runs = lines_lack _ _ _ _ _ _ _ c.args.key_bytes.now OutOfMemory c.requires tt;
-  ends = nothing_done (g.O.Write.contents c.args.output.now) (KeyLines OutOfMemory);
-}
+pub returns-in_default-clause-runs : goal.returns-in_default-clause-runs
+returns-in_default-clause-runs g c = λ words is are. lines_lack _ _ words c.args.key_bytes.now OutOfMemory are tt
 
-pub returns-in_default-push : goal.returns-in_default-push
-returns-in_default-push g c = record {
-  runs = lines_lack _ _ _ _ _ _ _ c.args.key_bytes.now OutOfMemory c.requires tt;
-  ends = nothing_done (g.O.Write.contents c.args.output.now) (KeyLines OutOfMemory);
-}
+pub returns-in_default-push-clause-runs : goal.returns-in_default-push-clause-runs
+returns-in_default-push-clause-runs g c = λ words is are. lines_lack _ _ words c.args.key_bytes.now OutOfMemory are tt
 
-pub returns-in_default-new : goal.returns-in_default-new
-returns-in_default-new g c = record {
-  runs = lines_lack _ _ _ _ _ _ _ c.args.key_bytes.now OutOfMemory c.requires tt;
-  ends = nothing_done (g.O.Write.contents c.args.output.now) (KeyLines OutOfMemory);
-}
+pub returns-in_default-new-clause-runs : goal.returns-in_default-new-clause-runs
+returns-in_default-new-clause-runs g c = λ words is are. lines_lack _ _ words c.args.key_bytes.now OutOfMemory are tt
 
-pub returns-in_default-push-2 : goal.returns-in_default-push-2
-returns-in_default-push-2 g c = record {
-  runs = lines_lack _ _ _ _ _ _ _ c.args.key_bytes.now OutOfMemory c.requires tt;
-  ends = nothing_done (g.O.Write.contents c.args.output.now) (KeyLines OutOfMemory);
-}
+pub returns-in_default-push-2-clause-runs : goal.returns-in_default-push-2-clause-runs
+returns-in_default-push-2-clause-runs g c = λ words is are. lines_lack _ _ words c.args.key_bytes.now OutOfMemory are tt
 
-pub returns : goal.returns
-returns g c = record {
-  runs = inr record {
-    bytes = c.args.key_bytes.now;
-    lines = c.in-Ok.ensures.lines;
-    joined = c.in-Ok.lines.items;
-    are_bytes = c.requires;
-    are_lines = c.in-Ok.ensures.are_lines;
-    joins = c.in-Ok.ensures.joins;
-    runs = runs_under sha256 _ (map key_of c.in-Ok.lines.items) c.args.key_bytes.now
-        (g.F.NamedFiles.puts c.args.files.now) (g.F.NamedFiles.puts c.run_words_over.new.files)
-        (g.D.NamedFolders.held c.args.folders.now) (g.D.Shelf.puts c.args.folders.now)
-        (g.D.Shelf.puts c.run_words_over.new.folders) (map string_bytes c.args.words.now)
-        (g.I.Read.remaining c.args.input.now) (g.O.Write.contents c.args.output.now)
-        (g.O.Write.contents c.run_words_over.new.output) c.run_words_over.result
-        (ap (map _) c.deref.ensures.value
-        ∙ (all_boxes secret_key pinned_key _ (λ b x. refl) (λ b x. refl) c.loop-line.keys.items
-        ∙ (none_left (map (key_in secret_key pinned_key) c.loop-line.keys.items) key_of
-        c.loop-line.line-iterator.rest.items (sym c.loop-line.line-iterator.rest.ok.0 ∙ c.in-None.ensures.steps.0)
-        (map key_of c.into_iter-line-iterator.result.rest.items) c.loop-line.invariant.2
-        ∙ ap (map key_of) c.into_iter-line-iterator.ensures.into_iter_gives.0)))
-        c.run_words_over.ensures.answer;
-  };
-  ends = record { status = c.run_words_over.ensures.status; quiet = c.run_words_over.ensures.quiet };
+pub returns-clause-runs : goal.returns-clause-runs
+returns-clause-runs g c = λ words is are. inr record {
+  bytes = c.args.key_bytes.now;
+  lines = c.in-Ok.ensures.lines;
+  joined = c.in-Ok.lines.items;
+  are_bytes = are;
+  are_lines = c.in-Ok.ensures.are_lines;
+  joins = c.in-Ok.ensures.joins;
+  runs = runs_under sha256 _ (map key_of c.in-Ok.lines.items) c.args.key_bytes.now words _ _ c.obey.result
+      (ap (map _) c.deref.ensures.value
+      ∙ (all_boxes secret_key pinned_key _ (λ b x. refl) (λ b x. refl) c.loop-line.keys.items
+      ∙ (none_left (map (key_in secret_key pinned_key) c.loop-line.keys.items) key_of
+      c.loop-line.line-iterator.rest.items (sym c.loop-line.line-iterator.rest.ok.0 ∙ c.in-None.ensures.steps.0)
+      (map key_of c.into_iter-line-iterator.result.rest.items) c.loop-line.invariant.2
+      ∙ ap (map key_of) c.into_iter-line-iterator.ensures.into_iter_gives.0)))
+      (c.obey.ensures.runs words is);
 }

@@ -1,0 +1,26 @@
+use Rattle.std.proofs.Common.{map}
+use Rattle.std.specs.Prelude.{string_bytes}
+use Rattle.program_library.specs.declared.fault.RunFault.TheVariants.{Command}
+use Rattle.program_library.proofs.Keyed.{keys_lack, line_doable}
+use Rattle.program_library.proofs.Written.{keeps_itself}
+use Rattle.program_library.proofs.running.run_over.Goals as goal
+
+pub run_line-answer-requires : goal.run_line-answer-requires
+run_line-answer-requires g c = line_doable (map string_bytes c.args.words.now) c.in-Ok.line c.in-Ok.ensures.line
+
+pub returns-in-Ok-clause-answer : goal.returns-in-Ok-clause-answer
+returns-in-Ok-clause-answer g c =
+    rw c.told.ensures (c.run_line-answer.ensures.runs (map string_bytes c.args.words.now) c.in-Ok.ensures.line)
+
+pub returns-in-Ok-clause-status : goal.returns-in-Ok-clause-status
+returns-in-Ok-clause-status g c = rw c.told.ensures c.run_line-answer.ensures.ends.status
+
+pub returns-in-Ok-clause-quiet : goal.returns-in-Ok-clause-quiet
+returns-in-Ok-clause-quiet g c = rw c.told.ensures c.run_line-answer.ensures.ends.quiet
+
+pub returns-in-Err-clause-answer : goal.returns-in-Err-clause-answer
+returns-in-Err-clause-answer g c =
+    keys_lack _ _ (map string_bytes c.args.words.now) (Command c.in-Err.fault) c.in-Err.ensures.refused
+
+pub returns-in-Err-clause-quiet : goal.returns-in-Err-clause-quiet
+returns-in-Err-clause-quiet g c = λ other. keeps_itself _

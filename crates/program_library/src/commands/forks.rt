@@ -1,0 +1,41 @@
+//! The command `forks`: the forks between the heads of a mirror.
+ghost use Rattle.std.specs.Prelude.{map};
+ghost use Rattle.sha2.specs.Sha256.{sha256};
+ghost use Rattle.program_library.specs.Envs.{IsSameEnv, moment};
+ghost use Rattle.program_library.specs.Performing.{Performs};
+
+use crate::ask::run_ask;
+use crate::env::Env;
+use crate::error::Error;
+use crate::failing::{RunFiles, RunFolders};
+use crate::keys::Keys;
+use program_reports::Question;
+use program_words::{Command, StateArgs};
+use std::io::{Read, Write};
+
+/// Prints which checkpoints of the mirror in the state file contradict each other.
+///
+/// # Errors
+///
+/// Those of `run_ask`.
+pub(crate) fn run<R, F: RunFiles, D: RunFolders, I: Read, O: Write, E: Write>(
+    env: &mut Env<'_, '_, '_, '_, R, F, D, I, O, E>,
+    keys: &Keys<'_>,
+    forks: &StateArgs<'_>,
+) -> Result<u8, Error>
+    ensures same { IsSameEnv env.old env.new }
+    ensures does { Performs sha256 (map (λ k. key k) keys.now.verifiers.now) keys.now.bytes.now
+        (moment F.puts D.held D.puts I.remaining O.contents env.old)
+        (moment F.puts D.held D.puts I.remaining O.contents env.new)
+        (Command.Forks forks.now) result }
+{
+    let question = Question::Forks;
+    run_ask(
+        &env.files,
+        env.alloc,
+        forks,
+        keys.verifiers,
+        &question,
+        env.output,
+    )
+}

@@ -1,0 +1,60 @@
+//! What of a run's files and folders failed, and why.
+use mirror_folders::{DirShelf, FailedFile, MemShelf};
+use mirror_progress::{CountingShelf, ToldFolders};
+use program_files::{FailedName, MemoryFiles, NamedFiles, SystemFiles};
+use std::fs::Files;
+use std::io::Write;
+use std::time::Clock;
+
+/// Named files that keep what failed. Contracts see nothing of it.
+pub trait RunFiles: NamedFiles {
+    /// What the last `FileFault` came of, once; None where there was none, or where it is not kept.
+    fn failed_name(&self) -> Option<FailedName>;
+
+    /// What was told last of bytes that were read, once; None where nothing was, or where it is not kept.
+    fn told_reason(&self) -> Option<String>;
+}
+
+impl<'a, R: Files> RunFiles for SystemFiles<'a, R> {
+    fn failed_name(&self) -> Option<FailedName> {
+        self.take_failed()
+    }
+
+    fn told_reason(&self) -> Option<String> {
+        self.take_reason()
+    }
+}
+
+impl RunFiles for MemoryFiles {
+    fn failed_name(&self) -> Option<FailedName> {
+        None
+    }
+
+    fn told_reason(&self) -> Option<String> {
+        None
+    }
+}
+
+/// Folders by their names that keep what failed. Contracts see nothing of it.
+pub trait RunFolders: ToldFolders {
+    /// The file of the last call that failed, and why; None where none has failed, or where it is not kept.
+    fn failed_file(&self) -> Option<FailedFile>;
+}
+
+impl<'a, R: Files> RunFolders for DirShelf<'a, R> {
+    fn failed_file(&self) -> Option<FailedFile> {
+        self.last_failed()
+    }
+}
+
+impl RunFolders for MemShelf {
+    fn failed_file(&self) -> Option<FailedFile> {
+        None
+    }
+}
+
+impl<S: RunFolders + Drop, C: Clock + Drop, W: Write + Drop> RunFolders for CountingShelf<S, C, W> {
+    fn failed_file(&self) -> Option<FailedFile> {
+        self.shelf.failed_file()
+    }
+}
