@@ -117,7 +117,7 @@ fn named_parser<'a>(alloc: Global) -> Result<clap::Command<'a>, AllocError>
 {
     clap::Command::new(alloc, "tlogmirror")
         .override_help(PROGRAM)
-        .version("0.4.2")
+        .version("0.4.3")
         .bin_name("tlogmirror")
 }
 
