@@ -6,4 +6,4 @@ mod candidates;
 #[cfg(test)]
 mod logs;
 #[cfg(test)]
-mod turns;
+mod rows;

@@ -3,3 +3,4 @@ pub mod ForkLines
 pub mod Gathering
 pub mod Asking
 pub mod Runs
+pub mod Kept

@@ -3,4 +3,3 @@ pub mod Candidates
 pub mod Gathering
 pub mod Asking
 pub mod Runs
-pub mod Turns

@@ -38,3 +38,8 @@ pub record RunsKeepCopies : Type 0 where
   pub two : (digest : List ℕ → List ℕ) (origin : List ℕ) (notes : List (List ℕ)) (old mid new : Option (List Put)) →
       KeepsCopies digest origin notes old mid → KeepsCopies digest origin notes mid new →
       KeepsCopies digest origin notes old new
+
+-- under some notes, at each moment of a run, it stands as `KeepsCopies` says
+pub record FollowsNotes (digest : List ℕ → List ℕ) (origin : List ℕ) (old new : Option (List Put)) : Type 0 where
+  pub notes : List (List ℕ)
+  pub keeps : KeepsCopies digest origin notes old new

@@ -11,6 +11,7 @@ use crate::answer::PlaceAnswer;
 use crate::candidate::Candidate;
 use crate::fault::CandidateFault;
 use crate::gather::Gathered;
+use mirror_copy::{PlaceAnswer as Answer, Places};
 use mirror_sources::{Source, SourceFault};
 use signed_note::Verifier;
 use std::alloc::{AllocError, Global};
@@ -89,5 +90,50 @@ pub fn ask_candidates<S: Source>(
         places.old places.new (seen (λ v. v.items) result) }
 {
     let gathered = ask_each(alloc, origin, keys, places)?;
+    in_turn(gathered)
+}
+
+// Asks a place of a run for its checkpoint.
+fn ask_place<S: Source + Drop>(
+    places: &mut Places<S>,
+    i: usize,
+) -> Result<PlaceAnswer, AllocError> {
+    if i >= places.list().len() {
+        return Ok(PlaceAnswer::NotFound);
+    }
+    match places.get(i, &Path::Checkpoint)? {
+        Answer::File(bytes) => Ok(PlaceAnswer::File(bytes)),
+        Answer::NotFound => Ok(PlaceAnswer::NotFound),
+        Answer::Failed => Ok(PlaceAnswer::Failed),
+    }
+}
+
+// Asks each place of a run once for its checkpoint.
+fn ask_each_place<S: Source + Drop>(
+    alloc: Global,
+    origin: &str,
+    keys: &[Box<dyn Verifier>],
+    places: &mut Places<S>,
+) -> Result<Gathered, AllocError> {
+    let mut gathered = Gathered::new(alloc);
+    for i in 0..places.list().len() {
+        let answer = ask_place(places, i)?;
+        gathered.take(alloc, origin, keys, answer)?;
+    }
+    Ok(gathered)
+}
+
+/// The candidates that the places of a run give, in the order of their turns. A get that fails counts among the failures of its place.
+///
+/// # Errors
+///
+/// Those of `ask_candidates`.
+pub(crate) fn ask_places<S: Source + Drop>(
+    alloc: Global,
+    origin: &str,
+    keys: &[Box<dyn Verifier>],
+    places: &mut Places<S>,
+) -> Result<Vec<Candidate>, CandidateFault> {
+    let gathered = ask_each_place::<S>(alloc, origin, keys, places)?;
     in_turn(gathered)
 }

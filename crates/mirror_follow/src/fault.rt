@@ -1,8 +1,9 @@
-//! Why there is no candidate, and why a run of turns ends early.
-ghost use Rattle.std.specs.Prelude.{◌≡◌};
+//! Why there is no candidate, and why following ends early.
+ghost use Rattle.std.specs.Prelude.{◌≡◌, ⊤};
 ghost use Rattle.mirror_follow.specs.declared.fault.CandidateFault.TheVariants.{OutOfMemory};
-ghost use Rattle.mirror_follow.specs.declared.fault.TurnFault.TheVariants as turn;
+ghost use Rattle.mirror_follow.specs.declared.fault.FollowFault.TheVariants as follow;
 
+use mirror_folders::ShelfError;
 use mirror_model::TakeFault;
 use std::alloc::{AllocError, AllocFailed};
 use thiserror::Error;
@@ -24,9 +25,15 @@ pub enum CandidateFault {
     OutOfMemory,
 }
 
-/// Why a run of turns ends early. It prints its variant's name.
+/// Why following ended early. It prints its variant's name, or that of the fault that it carries.
 #[derive(Debug, Drop, PartialEq, Eq, Clone, Copy, Error)]
-pub enum TurnFault {
+pub enum FollowFault {
+    /// The first place has no checkpoint, and none gives a candidate.
+    #[error("NoCheckpoint")]
+    NoCheckpoint,
+    /// The note that was given, or the checkpoint of the first place where none gives a candidate, is no candidate.
+    #[error("{0}")]
+    Head(TakeFault),
     /// What stands on the shelf is no copy of a log of the origin.
     #[error("CopyDamaged")]
     CopyDamaged,
@@ -36,16 +43,60 @@ pub enum TurnFault {
     /// The shelf failed.
     #[error("ShelfFault")]
     ShelfFault,
+    /// The greatest candidate is of no entries, and its root is not the hash of the empty list.
+    #[error("Contradiction")]
+    Contradiction,
+    /// A bundle of the greatest candidate collides with that of the copy.
+    #[error("Collision")]
+    Collision,
+    /// A file of the greatest candidate was to be had from nowhere.
+    #[error("NoFile")]
+    NoFile,
+    /// The same, and a place failed; or no place gives a candidate, and the first failed.
+    #[error("Source")]
+    Source,
     /// Memory was refused.
     #[error("OutOfMemory")]
     OutOfMemory,
 }
 
-impl<T: Drop> From<AllocFailed<T>> for TurnFault {
-    ghost from_gives = { λ _ e. e ≡ turn.OutOfMemory };
+impl<T: Drop> From<AllocFailed<T>> for FollowFault {
+    ghost from_gives = { λ _ e. e ≡ follow.OutOfMemory };
 
-    fn from(_e: AllocFailed<T>) -> TurnFault {
-        TurnFault::OutOfMemory
+    fn from(_e: AllocFailed<T>) -> FollowFault {
+        FollowFault::OutOfMemory
+    }
+}
+
+impl From<AllocError> for FollowFault {
+    ghost from_gives = { λ _ e. e ≡ follow.OutOfMemory };
+
+    fn from(_e: AllocError) -> FollowFault {
+        FollowFault::OutOfMemory
+    }
+}
+
+impl From<ShelfError> for FollowFault {
+    ghost from_gives = { λ _ _. ⊤ };
+
+    fn from(e: ShelfError) -> FollowFault {
+        match e {
+            ShelfError::Failed => FollowFault::ShelfFault,
+            ShelfError::OutOfMemory => FollowFault::OutOfMemory,
+        }
+    }
+}
+
+impl From<CandidateFault> for FollowFault {
+    ghost from_gives = { λ _ _. ⊤ };
+
+    fn from(e: CandidateFault) -> FollowFault {
+        match e {
+            CandidateFault::NoCheckpoint => FollowFault::NoCheckpoint,
+            CandidateFault::Head(fault) => FollowFault::Head(fault),
+            CandidateFault::Source => FollowFault::Source,
+            CandidateFault::OutOfMemory => FollowFault::OutOfMemory,
+        }
     }
 }
 

@@ -5,12 +5,16 @@ mod answer;
 mod ask;
 mod candidate;
 mod fault;
+mod files;
 mod gather;
 mod laws;
+mod proving;
+mod report;
 mod turns;
 
 pub use ask::ask_candidates;
 pub use candidate::Candidate;
-pub use fault::{CandidateFault, TurnFault};
+pub use fault::{CandidateFault, FollowFault};
 pub use laws::{fork_line_law, run_law};
-pub use turns::{Turn, take_turns};
+pub use report::{Followed, ForkLine};
+pub use turns::follow;

@@ -1,0 +1,172 @@
+//! Files of a log, read into memory, of which a proof is made.
+ghost use Rattle.std.specs.Prelude.{◌≡◌, IfOk};
+ghost use Rattle.mirror_sources.specs.Told.{KeepsTold};
+
+use crate::fault::FollowFault;
+use mirror_copy::{PlaceAnswer, Places};
+use mirror_folders::ReadableShelf;
+use mirror_sources::{Source, SourceFault};
+use std::alloc::{AllocError, Global};
+use tlog_shape::{edge_index, edge_width};
+use tlog_tiles::Path;
+
+/// Files that were read, each with its path.
+#[derive(Drop)]
+pub(crate) struct ReadFiles {
+    alloc: Global,
+    files: Vec<(Path, Vec<u8>)>,
+}
+
+// The bytes of the file at a path.
+fn bytes_at<'a>(files: &'a [(Path, Vec<u8>)], path: &Path) -> Option<&'a [u8]> {
+    let mut found: Option<&'a [u8]> = None;
+    for file in files {
+        if file.0 == *path {
+            found = Some(file.1.as_slice());
+        }
+    }
+    found
+}
+
+impl Source for ReadFiles {
+    ghost failed = { λ _. 0 };
+
+    fn get(&mut self, path: &Path) -> Result<Option<Vec<u8>>, SourceFault> {
+        match bytes_at(&self.files, path) {
+            Some(bytes) => match Vec::from_slice(self.alloc, bytes) {
+                Ok(copy) => Ok(Some(copy)),
+                Err(_) => Err(SourceFault::OutOfMemory),
+            },
+            None => Ok(None),
+        }
+    }
+
+    fn failures(&self) -> u64 {
+        0
+    }
+}
+
+impl ReadFiles {
+    fn new(alloc: Global) -> ReadFiles {
+        ReadFiles {
+            alloc,
+            files: Vec::new(alloc),
+        }
+    }
+}
+
+// The path of the full file of a place.
+fn full_of(path: &Path) -> Path {
+    match path {
+        Path::Checkpoint => Path::Checkpoint,
+        Path::Tile { level, index, .. } => Path::Tile {
+            level: *level,
+            index: *index,
+            width: 256,
+        },
+        Path::Entries { index, .. } => Path::Entries {
+            index: *index,
+            width: 256,
+        },
+    }
+}
+
+/// The paths of the files of which the proof from the first entries to all is made: the edge of all, and the full tiles in which the
+/// first entries end.
+pub(crate) fn proof_paths(alloc: Global, first: u64, size: u64) -> Result<Vec<Path>, AllocError> {
+    let mut paths = Vec::new(alloc);
+    for level in 0..8u32 {
+        let width = edge_width(size, level);
+        if width > 0 {
+            paths.push(Path::Tile {
+                level,
+                index: edge_index(size, level),
+                width,
+            })?;
+        }
+        let index = edge_index(first, level);
+        if edge_width(first, level) > 0 && index < edge_index(size, level) {
+            paths.push(Path::Tile {
+                level,
+                index,
+                width: 256,
+            })?;
+        }
+    }
+    Ok(paths)
+}
+
+// Reads the file at a path from the shelf, or the full one that it gave way to.
+#[tactic(auto, using(crate::proofs::Kept::kept_twice))]
+fn read_file<D: ReadableShelf>(
+    shelf: &mut D,
+    path: &Path,
+) -> Result<Option<(Path, Vec<u8>)>, FollowFault>
+    ensures same { KeepsTold (D.puts shelf.old) (D.puts shelf.new) }
+{
+    match shelf.read(path)? {
+        Some(bytes) => return Ok(Some((*path, bytes))),
+        None => {}
+    }
+    let full = full_of(path);
+    match shelf.read(&full)? {
+        Some(bytes) => Ok(Some((full, bytes))),
+        None => Ok(None),
+    }
+}
+
+/// Reads those files from the shelf that stand there.
+#[tactic(auto, using(crate::proofs::Kept::kept_twice, crate::proofs::Kept::kept_once))]
+pub(crate) fn read_files<D: ReadableShelf>(
+    alloc: Global,
+    shelf: &mut D,
+    paths: &[Path],
+) -> Result<ReadFiles, FollowFault>
+    ensures same { KeepsTold (D.puts shelf.old) (D.puts shelf.new) }
+{
+    let mut read = ReadFiles::new(alloc);
+    for path in paths {
+        match read_file(shelf, path)? {
+            Some(file) => read.files.push(file)?,
+            None => {}
+        }
+    }
+    Ok(read)
+}
+
+// Asks a place for the file at a path.
+fn get_file<S: Source + Drop>(
+    places: &mut Places<S>,
+    index: usize,
+    path: &Path,
+) -> Result<Option<Vec<u8>>, AllocError> {
+    if index >= places.list().len() {
+        return Ok(None);
+    }
+    match places.get(index, path)? {
+        PlaceAnswer::File(bytes) => Ok(Some(bytes)),
+        PlaceAnswer::NotFound => Ok(None),
+        PlaceAnswer::Failed => Ok(None),
+    }
+}
+
+/// Asks a place for those files, and for the full one where a partial one is gone.
+pub(crate) fn ask_files<S: Source + Drop>(
+    alloc: Global,
+    places: &mut Places<S>,
+    index: usize,
+    paths: &[Path],
+) -> Result<ReadFiles, AllocError> {
+    let mut read = ReadFiles::new(alloc);
+    for path in paths {
+        let full = full_of(path);
+        match get_file(places, index, path)? {
+            Some(bytes) => read.files.push((*path, bytes))?,
+            None => match get_file(places, index, &full)? {
+                Some(bytes) => read.files.push((full, bytes))?,
+                None => {}
+            },
+        }
+    }
+    Ok(read)
+}

@@ -1,0 +1,293 @@
+//! What a run of turns comes to: the forks that were seen, and what could not be had.
+use crate::candidate::Candidate;
+use crate::fault::FollowFault;
+use std::alloc::{AllocError, Global};
+use std::cmp::Reverse;
+use tlog_hash::Hash;
+use tlog_proof::Proof;
+
+/// Two checkpoints that no log has both made, the one of the lesser size and root first.
+#[derive(Debug, Drop, PartialEq, Eq)]
+pub struct ForkLine {
+    /// The smaller checkpoint.
+    pub small: Candidate,
+    /// The larger one.
+    pub large: Candidate,
+    /// The consistency proof from the smaller size into the larger tree. Its first root is not the smaller checkpoint's. None where
+    /// the sizes are equal, and where the smaller one is 0.
+    pub proof: Option<Proof>,
+}
+
+/// What came of following the places.
+#[derive(Debug, Drop, PartialEq, Eq)]
+pub struct Followed {
+    /// How many entries the copy has.
+    pub size: u64,
+    /// The hash of its tree.
+    pub root: Hash,
+    /// How many entries it had before.
+    pub old: u64,
+    /// The forks, rising, each once.
+    pub forks: Vec<ForkLine>,
+    /// The size and root of each candidate that could not be had, rising.
+    pub larger: Vec<(u64, Hash)>,
+    /// The greatest candidate, where all agree with the copy and are smaller.
+    pub behind: Option<(u64, Hash)>,
+}
+
+/// What came of a candidate's turn.
+#[derive(Drop)]
+pub(crate) enum Turn {
+    /// The copy begins with it.
+    Agrees,
+    /// The copy was brought to it.
+    Brought,
+    /// It and the copy are a fork, with the proof where there is one.
+    Forks(Option<Proof>),
+    /// The copy's rows are not in its tree, or it is of no entries and its root is not the hash of the empty list.
+    Contradicts,
+    /// A file of it was to be had from nowhere, or its bundle collides with that of the copy.
+    NotHad(FollowFault),
+    /// The candidate before it has its size and root, so it had no turn.
+    Repeated,
+}
+
+// What is known during a run.
+#[derive(Drop)]
+pub(crate) struct Run {
+    pub(crate) copy: Option<Candidate>,
+    old: u64,
+    forks: Vec<ForkLine>,
+    not_had: Vec<Candidate>,
+    behind: Option<(u64, Hash)>,
+    is_reached: bool,
+    first_fault: Option<FollowFault>,
+}
+
+fn copy_of(alloc: Global, candidate: &Candidate) -> Result<Candidate, AllocError> {
+    let root = candidate.root;
+    Ok(Candidate {
+        size: Reverse(candidate.size.0),
+        root,
+        note: Vec::from_slice(alloc, &candidate.note)?,
+    })
+}
+
+// Whether the first point comes before the second: by size, and then by root.
+fn is_before(first: &Candidate, second: &Candidate) -> bool {
+    first.size.0 < second.size.0 || (first.size.0 == second.size.0 && first.root < second.root)
+}
+
+fn is_same(first: &Candidate, second: &Candidate) -> bool {
+    first.size.0 == second.size.0 && first.root == second.root
+}
+
+// The fork of two candidates, the lesser first.
+fn fork_of(
+    alloc: Global,
+    first: &Candidate,
+    second: &Candidate,
+    proof: Option<Proof>,
+) -> Result<ForkLine, AllocError> {
+    let (small, large) = if is_before(first, second) {
+        (first, second)
+    } else {
+        (second, first)
+    };
+    let small = copy_of(alloc, small)?;
+    let large = copy_of(alloc, large)?;
+    Ok(ForkLine {
+        small,
+        large,
+        proof,
+    })
+}
+
+// Whether the first line comes before the second.
+fn is_line_before(first: &ForkLine, second: &ForkLine) -> bool {
+    is_before(&first.small, &second.small)
+        || (is_same(&first.small, &second.small) && is_before(&first.large, &second.large))
+}
+
+// Where the line belongs among lines that rise.
+fn place_in(lines: &[ForkLine], line: &ForkLine) -> usize {
+    for i in 0..lines.len() {
+        if is_line_before(line, &lines[i]) {
+            return i;
+        }
+    }
+    lines.len()
+}
+
+// Whether a line of the same two points is among them.
+fn has_line(lines: &[ForkLine], line: &ForkLine) -> bool {
+    for there in lines {
+        if is_same(&there.small, &line.small) && is_same(&there.large, &line.large) {
+            return true;
+        }
+    }
+    false
+}
+
+// Adds a line where it belongs, if it is not there yet.
+fn add_line(lines: &mut Vec<ForkLine>, line: ForkLine) -> Result<(), AllocError> {
+    if has_line(lines.as_slice(), &line) {
+        return Ok(());
+    }
+    let at = place_in(lines.as_slice(), &line);
+    if at <= lines.len() {
+        lines.insert(at, line)?;
+    }
+    Ok(())
+}
+
+// A candidate of the same size and another root.
+fn other_of<'a>(candidates: &'a [Candidate], candidate: &Candidate) -> Option<&'a Candidate> {
+    let mut found: Option<&'a Candidate> = None;
+    for other in candidates {
+        if found.is_none() && other.size.0 == candidate.size.0 && other.root != candidate.root {
+            found = Some(other);
+        }
+    }
+    found
+}
+
+impl Run {
+    /// The run over that copy begins.
+    pub(crate) fn new(alloc: Global, copy: Option<Candidate>) -> Run {
+        let old = match &copy {
+            Some(copy) => copy.size.0,
+            None => 0,
+        };
+        Run {
+            copy,
+            old,
+            forks: Vec::new(alloc),
+            not_had: Vec::new(alloc),
+            behind: None,
+            is_reached: false,
+            first_fault: None,
+        }
+    }
+
+    // The candidate agrees with the copy.
+    fn agree(&mut self, candidate: &Candidate) {
+        let size = match &self.copy {
+            Some(copy) => copy.size.0,
+            None => 0,
+        };
+        if candidate.size.0 == size {
+            self.is_reached = true;
+        }
+        if self.behind.is_none() {
+            let root = candidate.root;
+            self.behind = Some((candidate.size.0, root));
+        }
+    }
+
+    // The candidate could not be had.
+    fn lack(
+        &mut self,
+        alloc: Global,
+        candidate: &Candidate,
+        fault: FollowFault,
+    ) -> Result<(), AllocError> {
+        self.not_had.push(copy_of(alloc, candidate)?)?;
+        if self.first_fault.is_none() {
+            self.first_fault = Some(fault);
+        }
+        Ok(())
+    }
+
+    // The candidate and the copy are a fork.
+    fn fork(
+        &mut self,
+        alloc: Global,
+        candidate: &Candidate,
+        proof: Option<Proof>,
+    ) -> Result<(), AllocError> {
+        match &self.copy {
+            Some(copy) => {
+                let line = fork_of(alloc, copy, candidate, proof)?;
+                add_line(&mut self.forks, line)
+            }
+            None => Ok(()),
+        }
+    }
+
+    /// Adds what came of a candidate's turn.
+    pub(crate) fn add(
+        &mut self,
+        alloc: Global,
+        candidate: &Candidate,
+        turn: Turn,
+    ) -> Result<(), AllocError> {
+        match turn {
+            Turn::Agrees => self.agree(candidate),
+            Turn::Brought => {
+                self.is_reached = true;
+                self.copy = Some(copy_of(alloc, candidate)?);
+            }
+            Turn::Forks(proof) => self.fork(alloc, candidate, proof)?,
+            Turn::Contradicts => self.lack(alloc, candidate, FollowFault::Contradiction)?,
+            Turn::NotHad(fault) => self.lack(alloc, candidate, fault)?,
+            Turn::Repeated => {}
+        }
+        Ok(())
+    }
+}
+
+// Adds the forks of candidates of one size that could not be had, and answers the others.
+fn split_not_had(
+    alloc: Global,
+    copy: &Candidate,
+    candidates: &[Candidate],
+    not_had: &[Candidate],
+    forks: &mut Vec<ForkLine>,
+) -> Result<Vec<(u64, Hash)>, AllocError> {
+    let mut larger = Vec::new(alloc);
+    for candidate in not_had {
+        let root = candidate.root;
+        if copy.size.0 == candidate.size.0 {
+            add_line(forks, fork_of(alloc, copy, candidate, None)?)?;
+        } else {
+            match other_of(candidates, candidate) {
+                Some(other) => add_line(forks, fork_of(alloc, other, candidate, None)?)?,
+                None => larger.push((candidate.size.0, root))?,
+            }
+        }
+    }
+    Ok(larger)
+}
+
+/// What the run came to: an answer, or where the copy is still empty the fault of the greatest candidate.
+pub(crate) fn report(
+    alloc: Global,
+    run: Run,
+    candidates: &[Candidate],
+) -> Result<Followed, FollowFault> {
+    let Run {
+        copy,
+        old,
+        mut forks,
+        not_had,
+        behind,
+        is_reached,
+        first_fault,
+    } = run;
+    let Some(copy) = copy else {
+        return Err(first_fault.unwrap_or(FollowFault::NoCheckpoint));
+    };
+    let mut larger = split_not_had(alloc, &copy, candidates, &not_had, &mut forks)?;
+    larger.sort_unstable();
+    let is_behind = !is_reached && forks.is_empty() && larger.is_empty();
+    let root = copy.root;
+    Ok(Followed {
+        size: copy.size.0,
+        root,
+        old,
+        forks,
+        larger,
+        behind: if is_behind { behind } else { None },
+    })
+}
