@@ -1,10 +1,21 @@
--- Calls that put nothing, one after the other.
-use Rattle.std.proofs.Common.{ℕ, List, [], Option}
+-- Calls that put nothing, one after the other, and candidates that open.
+use Rattle.std.proofs.Common.{◌≡◌, ℕ, List, [], ◌∷◌, ◌++◌, All, Option, map, sym, ◌∙◌, ap, subst}
+use Rattle.std.proofs.Common.{Global, Vec, Result, Ok, Err}
+use Rattle.std.specs.List.Sorted.{IsPermutation}
+use Rattle.std.specs.Prelude.{IfOk}
+use Rattle.std.proofs.lemmas.List.Elements.{All-nil, All-push, All-weaker}
+use Rattle.std.proofs.lemmas.List.Sorted.{All-permutation}
+use Rattle.signed_note.specs.Keys.{Key}
 use Rattle.mirror_sources.specs.Told.{KeepsTold}
 use Rattle.mirror_folders.specs.Shelf.{Put}
 use Rattle.mirror_copy.proofs.Earlier.{kept_then}
 use Rattle.mirror_copy.proofs.Growth.{kept_same}
-use Rattle.mirror_follow.specs.Runs.{FollowsNotes, KeepsCopies}
+use Rattle.mirror_follow.specs.Candidates.{IsCandidate, IsCandidateOf}
+use Rattle.mirror_follow.specs.Gathering.{Gathers, IsGiven, note_of}
+use Rattle.mirror_follow.specs.declared.answer.PlaceAnswer.{PlaceAnswer}
+use Rattle.mirror_follow.specs.declared.candidate.Candidate.{Candidate}
+use Rattle.mirror_follow.specs.declared.fault.CandidateFault.{CandidateFault}
+use Rattle.mirror_follow.specs.Runs.{FollowsCandidates, KeepsCopies}
 use Rattle.mirror_follow.proofs.Runs.{no_run, two_runs}
 
 pub kept_once : (x : Option (List Put)) → KeepsTold x x
@@ -13,13 +24,47 @@ kept_once x = kept_same x
 pub kept_twice : (x y z : Option (List Put)) → KeepsTold x y → KeepsTold y z → KeepsTold x z
 kept_twice x y z first second = kept_then x y z first second
 
--- a call that puts nothing follows no note
-pub follows_none : (digest : List ℕ → List ℕ) (origin : List ℕ) (x y : Option (List Put)) → KeepsTold x y →
-    FollowsNotes digest origin x y
-follows_none digest origin x y kept = record { notes = []; keeps = no_run digest origin [] x y kept }
+-- the candidates that were gathered open
+pub all_open : (origin : List ℕ) (keys : List Key) (answers : List PlaceAnswer) (gathered candidates : List Candidate)
+    (first : Option CandidateFault) → Gathers origin keys answers gathered first →
+    IsPermutation gathered candidates → All (IsCandidate origin keys) candidates
+all_open origin keys answers gathered candidates first g same =
+    All-permutation (IsCandidate origin keys) gathered candidates same
+    (All-weaker (IsGiven origin keys answers) (IsCandidate origin keys) (λ c is. is.is_candidate) gathered g.are_of.each)
 
--- after a call that puts nothing, a run under some notes
-pub follows_notes : (digest : List ℕ → List ℕ) (origin : List ℕ) (notes : List (List ℕ)) (x y z : Option (List Put)) →
-    KeepsTold x y → KeepsCopies digest origin notes y z → FollowsNotes digest origin x z
-follows_notes digest origin notes x y z kept run =
-    record { notes = notes; keeps = two_runs digest origin notes x z y (no_run digest origin notes x y kept) run }
+-- so do those that are in turn
+pub turns_open : (origin : List ℕ) (keys : List Key) (answers : List PlaceAnswer) (gathered : List Candidate)
+    (first : Option CandidateFault) (r : Result (Vec Candidate Global) CandidateFault) →
+    Gathers origin keys answers gathered first → IfOk r (λ c. IsPermutation gathered c.items) →
+    IfOk r (λ c. All (IsCandidate origin keys) c.items)
+turns_open origin keys answers gathered first (Ok c) g same = all_open origin keys answers gathered c.items first g same
+turns_open origin keys answers gathered first (Err e) g same = tt
+
+-- the one candidate opens
+pub one_open : (origin : List ℕ) (keys : List Key) (note : List ℕ) (candidate : Candidate)
+    (none candidates : List Candidate) → IsCandidateOf note origin keys candidate → none ≡ [] →
+    candidates ≡ none ++ candidate ∷ [] → All (IsCandidate origin keys) candidates
+one_open origin keys note candidate none candidates is empty one =
+    subst (All (IsCandidate origin keys)) (sym (one ∙ ap (λ l. l ++ candidate ∷ []) empty))
+    (All-push (IsCandidate origin keys) [] candidate (All-nil (IsCandidate origin keys))
+    (subst (λ n. IsCandidateOf n origin keys candidate) (sym is.note_is) is))
+
+module _ (digest : List ℕ → List ℕ) (origin : List ℕ) (keys : List Key) where
+  -- a call that puts nothing follows no candidate
+  pub follows_none : (x y : Option (List Put)) → KeepsTold x y → FollowsCandidates digest origin keys x y
+  follows_none x y kept = record {
+    candidates = [];
+    opened = All-nil (IsCandidate origin keys);
+    keeps = no_run digest origin [] x y kept;
+  }
+
+  -- after a call that puts nothing, a run under the notes of candidates
+  pub follows_candidates : (given candidates : List Candidate) (x y z : Option (List Put)) → candidates ≡ given →
+      All (IsCandidate origin keys) given → KeepsTold x y →
+      KeepsCopies digest origin (map note_of candidates) y z → FollowsCandidates digest origin keys x z
+  follows_candidates given candidates x y z is opens kept run = record {
+    candidates = candidates;
+    opened = subst (All (IsCandidate origin keys)) (sym is) opens;
+    keeps = two_runs digest origin (map note_of candidates) x z y
+        (no_run digest origin (map note_of candidates) x y kept) run;
+  }

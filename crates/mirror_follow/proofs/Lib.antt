@@ -4,3 +4,4 @@ pub mod Gathering
 pub mod Asking
 pub mod Runs
 pub mod Kept
+pub mod Checked

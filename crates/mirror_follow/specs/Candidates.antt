@@ -14,6 +14,10 @@ pub record IsCandidateOf (note origin : List ℕ) (keys : List Key) (candidate :
   pub note_is : candidate.note.items ≡ note
   pub is_open : IsOpenHead note origin keys candidate.size.0 candidate.root
 
+-- the candidate is its own note, which opens
+abbrev pub IsCandidate : List ℕ → List Key → Candidate → Type 0
+IsCandidate origin keys candidate = IsCandidateOf candidate.note.items origin keys candidate
+
 -- what each answer of a judge of notes says: Ok, which candidate the note is; a fault, why it is none
 abbrev pub JudgesNote : List ℕ → List ℕ → List Key → Result Candidate TakeFault → Type 0
 JudgesNote note origin keys (Ok candidate) = IsCandidateOf note origin keys candidate

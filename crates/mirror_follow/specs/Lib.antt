@@ -3,3 +3,4 @@ pub mod Candidates
 pub mod Gathering
 pub mod Asking
 pub mod Runs
+pub mod Checked

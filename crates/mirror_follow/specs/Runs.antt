@@ -1,10 +1,14 @@
 -- A copy that is brought to one note after the other: what stands at each moment.
-use Rattle.std.specs.Prelude.{◌≡◌, ◌⊎◌, ℕ, List, [], length, Contains, Option, Some}
+use Rattle.std.specs.Prelude.{◌≡◌, ◌⊎◌, ℕ, All, List, [], length, map, Contains, Option, Some}
+use Rattle.signed_note.specs.Keys.{Key}
 use Rattle.tlog_tiles.specs.declared.paths.Path.TheVariants.{Checkpoint}
 use Rattle.mirror_sources.specs.Told.{KeepsTold}
 use Rattle.mirror_folders.specs.Shelf.{Put, HasPut}
 use Rattle.mirror_copy.specs.Copies.{IsCopy}
 use Rattle.mirror_copy.specs.Moments.{AtEachMoment, IsGrownCopy, KeepsCopy, PutsBeyond}
+use Rattle.mirror_follow.specs.Candidates.{IsCandidate}
+use Rattle.mirror_follow.specs.Gathering.{note_of}
+use Rattle.mirror_follow.specs.declared.candidate.Candidate.{Candidate}
 
 module _ (digest : List ℕ → List ℕ) (origin : List ℕ) (notes : List (List ℕ)) where
   -- under one of the notes a copy stands of entries that begin with those, and each file of those, the checkpoint
@@ -39,7 +43,9 @@ pub record RunsKeepCopies : Type 0 where
       KeepsCopies digest origin notes old mid → KeepsCopies digest origin notes mid new →
       KeepsCopies digest origin notes old new
 
--- under some notes, at each moment of a run, it stands as `KeepsCopies` says
-pub record FollowsNotes (digest : List ℕ → List ℕ) (origin : List ℕ) (old new : Option (List Put)) : Type 0 where
-  pub notes : List (List ℕ)
-  pub keeps : KeepsCopies digest origin notes old new
+-- at each moment of a run a copy stands as it stood, or grown under the note of some candidate, each of which opens
+pub record FollowsCandidates (digest : List ℕ → List ℕ) (origin : List ℕ) (keys : List Key)
+    (old new : Option (List Put)) : Type 0 where
+  pub candidates : List Candidate
+  pub opened : All (IsCandidate origin keys) candidates
+  pub keeps : KeepsCopies digest origin (map note_of candidates) old new

@@ -1,9 +1,9 @@
 //! Places asked for candidates.
-ghost use Rattle.std.specs.Prelude.{◌≡◌, ◌≢◌, ◌∷◌, [], ℕ, List, IfErr, IfOk, Option, get_or, length, map};
+ghost use Rattle.std.specs.Prelude.{◌≡◌, ◌≢◌, ◌∷◌, [], ℕ, All, List, IfErr, IfOk, Option, get_or, length, map};
 ghost use Rattle.std.specs.List.Sorted.{IsPermutation, IsSorted};
 ghost use Rattle.tlog_text.specs.Answers.{seen};
 ghost use Rattle.mirror_follow.specs.Asking.{AreAnswers, FindsCandidates, IsAnswer, option_or};
-ghost use Rattle.mirror_follow.specs.Candidates.{turn_cmp};
+ghost use Rattle.mirror_follow.specs.Candidates.{IsCandidate, turn_cmp};
 ghost use Rattle.mirror_follow.specs.Gathering.{Gathers};
 ghost use Rattle.mirror_follow.specs.declared.answer.PlaceAnswer.{PlaceAnswer};
 
@@ -114,7 +114,10 @@ fn ask_each_place<S: Source + Drop>(
     origin: &str,
     keys: &[Box<dyn Verifier>],
     places: &mut Places<S>,
-) -> Result<Gathered, AllocError> {
+) -> Result<Gathered, AllocError>
+    ensures { IfOk result (λ gathered. (answers : List PlaceAnswer)
+        × Gathers origin.now (map (λ k. key k) keys.now) answers gathered.candidates.items gathered.first) }
+{
     let mut gathered = Gathered::new(alloc);
     for i in 0..places.list().len() {
         let answer = ask_place(places, i)?;
@@ -133,7 +136,10 @@ pub(crate) fn ask_places<S: Source + Drop>(
     origin: &str,
     keys: &[Box<dyn Verifier>],
     places: &mut Places<S>,
-) -> Result<Vec<Candidate>, CandidateFault> {
+) -> Result<Vec<Candidate>, CandidateFault>
+    ensures { IfOk result
+        (λ candidates. All (IsCandidate origin.now (map (λ k. key k) keys.now)) candidates.items) }
+{
     let gathered = ask_each_place::<S>(alloc, origin, keys, places)?;
     in_turn(gathered)
 }

@@ -1,5 +1,7 @@
 //! Proofs of forks.
+ghost use Rattle.std.specs.Prelude.{◌↔◌, IfOk, IfSome, IsTrue};
 ghost use Rattle.mirror_sources.specs.Told.{KeepsTold};
+ghost use Rattle.mirror_follow.specs.Checked.{HasFirstRoot, IsCheckedFork};
 
 use crate::candidate::Candidate;
 use crate::fault::FollowFault;
@@ -16,7 +18,9 @@ use tlog_shape::edge_width;
 use tlog_tiles::Path;
 
 // Whether the first root of a proof is that hash.
-fn has_first_root(proof: &Proof, root: &Hash) -> bool {
+fn has_first_root(proof: &Proof, root: &Hash) -> bool
+    ensures { IsTrue result ↔ HasFirstRoot root.now proof.now }
+{
     match proof {
         Proof::Inclusion { .. } => false,
         Proof::Consistency { first_root, .. } => *first_root == *root,
@@ -25,12 +29,15 @@ fn has_first_root(proof: &Proof, root: &Hash) -> bool {
 
 /// The proof that a log of the larger point does not begin with the smaller one, made of files that lead to the larger root; None
 /// where it does, where the smaller one is of no entries, and where it is not smaller.
+#[tactic(auto, using(crate::proofs::Checked::checked_fork))]
 pub(crate) fn fork_proof<H: TreeHash>(
     alloc: Global,
     files: &mut ReadFiles,
     small: &Candidate,
     large: &Candidate,
-) -> Result<Option<Proof>, ReadFault> {
+) -> Result<Option<Proof>, ReadFault>
+    ensures { IfOk result (λ found. IfSome found (IsCheckedFork H.digest small.now large.now)) }
+{
     if small.size.0 == 0 || small.size.0 >= large.size.0 {
         return Ok(None);
     }
@@ -50,7 +57,9 @@ pub(crate) fn ask_proof<H: TreeHash, S: Source + Drop>(
     places: &mut Places<S>,
     copy: &Candidate,
     larger: &Candidate,
-) -> Result<Option<Proof>, AllocError> {
+) -> Result<Option<Proof>, AllocError>
+    ensures { IfOk result (λ found. IfSome found (IsCheckedFork H.digest copy.now larger.now)) }
+{
     let paths = proof_paths(alloc, copy.size.0, larger.size.0)?;
     for i in 0..places.list().len() {
         let mut files = ask_files(alloc, places, i, &paths)?;
@@ -80,6 +89,7 @@ pub(crate) fn read_proof<H: TreeHash, D: ReadableShelf>(
     copy: &Candidate,
 ) -> Result<Option<Proof>, FollowFault>
     ensures same { KeepsTold (D.puts shelf.old) (D.puts shelf.new) }
+    ensures proof { IfOk result (λ found. IfSome found (IsCheckedFork H.digest smaller.now copy.now)) }
 {
     let paths = proof_paths(alloc, smaller.size.0, copy.size.0)?;
     let mut files = read_files::<D>(alloc, shelf, &paths)?;

@@ -1,9 +1,10 @@
 //! A copy that follows its places.
-ghost use Rattle.std.specs.Prelude.{◌≡◌, ◌<◌, ◌↔◌, IsTrue, [], length, map};
+ghost use Rattle.std.specs.Prelude.{◌≡◌, ◌<◌, ◌↔◌, All, IfOk, IsTrue, length, map};
 ghost use Rattle.mirror_sources.specs.Told.{KeepsTold};
 ghost use Rattle.mirror_copy.specs.Moments.{KeepsCopy};
+ghost use Rattle.mirror_follow.specs.Candidates.{IsCandidate};
 ghost use Rattle.mirror_follow.specs.Gathering.{note_of};
-ghost use Rattle.mirror_follow.specs.Runs.{FollowsNotes, KeepsCopies};
+ghost use Rattle.mirror_follow.specs.Runs.{FollowsCandidates, KeepsCopies};
 
 use crate::ask::ask_places;
 use crate::candidate::{Candidate, candidate_of};
@@ -169,12 +170,16 @@ fn take_turns<H: TreeHash, D: ReadableShelf, S: Source + Drop>(
 }
 
 // The one candidate that was given.
+#[tactic(auto, using(crate::proofs::Kept::one_open))]
 fn given_candidate(
     alloc: Global,
     origin: &str,
     keys: &[Box<dyn Verifier>],
     note: Vec<u8>,
-) -> Result<Vec<Candidate>, FollowFault> {
+) -> Result<Vec<Candidate>, FollowFault>
+    ensures { IfOk result
+        (λ candidates. All (IsCandidate origin.now (map (λ k. key k) keys.now)) candidates.items) }
+{
     let mut candidates = Vec::new(alloc);
     match candidate_of(alloc, origin, keys, note) {
         Ok(candidate) => candidates.push(candidate)?,
@@ -191,7 +196,10 @@ fn candidates_of<S: Source + Drop>(
     keys: &[Box<dyn Verifier>],
     places: &mut Places<S>,
     given: Option<Vec<u8>>,
-) -> Result<Vec<Candidate>, FollowFault> {
+) -> Result<Vec<Candidate>, FollowFault>
+    ensures { IfOk result
+        (λ candidates. All (IsCandidate origin.now (map (λ k. key k) keys.now)) candidates.items) }
+{
     match given {
         Some(note) => given_candidate(alloc, origin, keys, note),
         None => Ok(ask_places(alloc, origin, keys, places)?),
@@ -232,7 +240,8 @@ pub fn follow<H: TreeHash, D: ReadableShelf, S: Source + Drop>(
     places: &mut Places<S>,
     given: Option<Vec<u8>>,
 ) -> Result<Followed, FollowFault>
-    ensures whole { FollowsNotes H.digest origin.now (D.puts shelf.old) (D.puts shelf.new) }
+    ensures whole { FollowsCandidates H.digest origin.now (map (λ k. key k) keys.now)
+        (D.puts shelf.old) (D.puts shelf.new) }
 {
     let copy = judge_copy::<H, D>(alloc, origin, shelf)?;
     let candidates = candidates_of::<S>(alloc, origin, keys, places, given)?;

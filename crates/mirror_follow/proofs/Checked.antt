@@ -1,0 +1,16 @@
+-- A proof that was handed out and whose first root is another is that of a fork.
+use Rattle.std.proofs.Common.{◌≡◌, ◌∙◌, ℕ, ◌<◌, List, arith}
+use Rattle.tlog_proof.specs.Made.{Holds}
+use Rattle.tlog_proof.specs.declared.proof.Proof.{Proof}
+use Rattle.tlog_proof.specs.declared.proof.Proof.TheVariants.{Inclusion, Consistency}
+use Rattle.log_reader.specs.Proving.{IsConsistencyTo}
+use Rattle.mirror_follow.specs.Checked.{HasFirstRoot, IsCheckedFork}
+use Rattle.mirror_follow.specs.declared.candidate.Candidate.{Candidate}
+
+pub checked_fork : (digest : List ℕ → List ℕ) (small large : Candidate) (size : ℕ) (root : List ℕ) (proof : Proof) →
+    small.size.0 < large.size.0 → size ≡ large.size.0 → root ≡ large.root →
+    IsConsistencyTo small.size.0 size root proof → Holds digest proof →
+    (HasFirstRoot small.root proof → ⊥) → IsCheckedFork digest small large proof
+checked_fork digest small large size root (Inclusion s i r leaf path) lt size_is root_is asked held other = absurd asked
+checked_fork digest small large size root (Consistency m g n r path) lt size_is root_is asked held other =
+    (asked.0, asked.1 ∙ size_is, asked.2 ∙ root_is, omega (arith, asked.0, asked.1, size_is, lt), held, other)
