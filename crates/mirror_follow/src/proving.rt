@@ -89,7 +89,8 @@ pub(crate) fn read_proof<H: TreeHash, D: ReadableShelf>(
     copy: &Candidate,
 ) -> Result<Option<Proof>, FollowFault>
     ensures same { KeepsTold (D.puts shelf.old) (D.puts shelf.new) }
-    ensures proof { IfOk result (λ found. IfSome found (IsCheckedFork H.digest smaller.now copy.now)) }
+    ensures proof { IfOk result
+        (λ found. IfSome found (IsCheckedFork H.digest smaller.now copy.now)) }
 {
     let paths = proof_paths(alloc, smaller.size.0, copy.size.0)?;
     let mut files = read_files::<D>(alloc, shelf, &paths)?;
