@@ -5,4 +5,4 @@ pub mod Bundles
 pub mod TileRows
 pub mod Levels
 pub mod Trees
-pub mod RowLists
+pub mod RowsGiven

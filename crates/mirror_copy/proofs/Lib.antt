@@ -11,7 +11,7 @@ pub mod EdgeRows
 pub mod Finishing
 pub mod Roots
 pub mod Earlier
-pub mod RowLists
+pub mod ShelfReads
 pub mod TipReads
 pub mod WholeMoments
 pub mod SameCopies

@@ -34,7 +34,7 @@ use Rattle.mirror_copy.proofs.CopyMoments.{bringing_makes_copy, bringing_stays_c
 use Rattle.mirror_copy.proofs.Growth.{adds_then, gathers_none, kept_adds, kept_same, left_none}
 use Rattle.mirror_copy.proofs.Earlier.{kept_then}
 use Rattle.mirror_copy.proofs.Roots.{brought_root}
-use Rattle.mirror_copy.proofs.RowLists.{partial_before, row_before}
+use Rattle.mirror_copy.proofs.ShelfReads.{partial_before, row_before}
 use Rattle.mirror_copy.proofs.TipReads.{stands_has, tip_read}
 use Rattle.mirror_model.specs.Strings.{IsDigest}
 

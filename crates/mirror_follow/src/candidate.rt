@@ -1,7 +1,6 @@
 //! Candidates: notes that open, of checkpoints to which a copy may be brought.
-ghost use Rattle.std.specs.Prelude.{◌≡◌, map};
-ghost use Rattle.std.specs.List.Sorted.{IsPermutation, IsSorted};
-ghost use Rattle.mirror_follow.specs.Candidates.{JudgesNote, turn_cmp};
+ghost use Rattle.std.specs.Prelude.{map};
+ghost use Rattle.mirror_follow.specs.Candidates.{JudgesNote};
 
 use log_reader::open_head;
 use mirror_model::TakeFault;
@@ -38,12 +37,4 @@ pub(crate) fn candidate_of(
         root,
         note,
     })
-}
-
-/// Brings candidates into the order in which they have their turn.
-pub(crate) fn order(candidates: &mut Vec<Candidate>)
-    ensures same { IsPermutation candidates.old.items candidates.new.items }
-    ensures rising { IsSorted turn_cmp candidates.new.items }
-{
-    candidates.sort_unstable();
 }

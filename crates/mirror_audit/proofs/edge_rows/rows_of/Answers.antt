@@ -1,7 +1,8 @@
 use Rattle.std.proofs.Common.{◌≡◌, [], length, get_or, sym, subst, ◌∙◌, arith}
 use Rattle.tlog_shape.specs.Edge.{width_of}
 use Rattle.mirror_audit.specs.Edges.{AreRowsGiven}
-use Rattle.mirror_audit.proofs.RowLists.{count_more, items_of, one_more, rows_more}
+use Rattle.log_reader.proofs.RowLists.{count_more, items_of, rows_more}
+use Rattle.mirror_audit.proofs.RowsGiven.{one_more}
 use Rattle.mirror_audit.proofs.edge_rows.rows_of.Goals as goal
 
 pub loop-level-preserved : goal.loop-level-preserved

@@ -1,6 +1,7 @@
 use Rattle.std.proofs.Common.{◌≡◌, ◌<◌, ℕ, [], length, get_or}
 use Rattle.tlog_shape.specs.Edge.{width_of}
-use Rattle.mirror_audit.proofs.RowLists.{SoFar, items_of}
+use Rattle.log_reader.proofs.RowLists.{items_of}
+use Rattle.mirror_audit.proofs.RowsGiven.{SoFar}
 use Rattle.mirror_audit.proofs.edge_rows.rows_of.Given as goal
 
 -- the rows so far were given, and have their widths

@@ -2,7 +2,7 @@ use Rattle.std.proofs.Common.{◌≡◌, length}
 use Rattle.tlog_shape.specs.Edge.{width_of}
 use Rattle.mirror_copy.specs.Asked.{IsEdgeTile}
 use Rattle.mirror_copy.proofs.Asking.{asks_then}
-use Rattle.mirror_copy.proofs.RowLists.{count_more, rows_more}
+use Rattle.log_reader.proofs.RowLists.{count_more, rows_more}
 use Rattle.mirror_copy.proofs.find_edge.rows_at_place.Goals as goal
 
 pub returns-in_err-row-clause-asks : goal.returns-in_err-row-clause-asks

@@ -2,7 +2,7 @@ use Rattle.mirror_copy.specs.Asked.{IsEdgeTile}
 use Rattle.mirror_copy.specs.PlaceGets.{AsksPlaces}
 use Rattle.std.proofs.Common.{◌≡◌, ◌<◌, ℕ, [], length, get_or}
 use Rattle.tlog_shape.specs.Edge.{width_of}
-use Rattle.mirror_copy.proofs.RowLists.{items_of}
+use Rattle.log_reader.proofs.RowLists.{items_of}
 use Rattle.mirror_copy.proofs.find_edge.rows_at_place.Given as goal
 
 -- the rows so far have their widths

@@ -1,7 +1,8 @@
 use Rattle.std.proofs.Common.{◌∙◌}
 use Rattle.mirror_copy.specs.Found.{IsRowRead}
 use Rattle.mirror_copy.proofs.Earlier.{kept_then}
-use Rattle.mirror_copy.proofs.RowLists.{count_more, row_before, rows_more}
+use Rattle.log_reader.proofs.RowLists.{count_more, rows_more}
+use Rattle.mirror_copy.proofs.ShelfReads.{row_before}
 use Rattle.mirror_copy.proofs.find_edge.rows_on_shelf.Goals as goal
 
 pub loop-level-preserved : goal.loop-level-preserved

@@ -1,7 +1,7 @@
 use Rattle.std.proofs.Common.{◌≡◌, ◌<◌, ℕ, [], length, get_or}
 use Rattle.mirror_sources.specs.Told.{KeepsTold}
 use Rattle.mirror_copy.specs.Found.{IsRowRead}
-use Rattle.mirror_copy.proofs.RowLists.{items_of}
+use Rattle.log_reader.proofs.RowLists.{items_of}
 use Rattle.mirror_copy.proofs.find_edge.rows_on_shelf.Given as goal
 
 -- the rows so far are as they stand on the shelf
