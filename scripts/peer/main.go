@@ -155,6 +155,46 @@ func copied(to string) (e *edge, size int64, err error) {
 	return e, size, nil
 }
 
+// buffer has the bytes of the file that was read last. The longest bundle has 256 entries of 65,535 bytes.
+var buffer [256*(2+65535) + 1]byte
+
+// read gives the bytes of a file, until the next is read.
+func read(name string) ([]byte, error) {
+	file, err := os.Open(name)
+	if err != nil {
+		return nil, err
+	}
+	defer file.Close()
+	count := 0
+	for count < len(buffer) {
+		n, err := file.Read(buffer[count:])
+		count += n
+		if err == io.EOF {
+			return buffer[:count], nil
+		}
+		if err != nil {
+			return nil, err
+		}
+	}
+	return nil, fmt.Errorf("%s is too long", name)
+}
+
+// each hands on the entries of a bundle, and gives how many there are.
+func each(data []byte, entry func(at int, entry []byte) error) (int, error) {
+	at := 0
+	for ; len(data) > 0; at++ {
+		if len(data) < 2 || len(data) < 2+int(binary.BigEndian.Uint16(data)) {
+			return at, fmt.Errorf("the last entry is cut off")
+		}
+		end := 2 + int(binary.BigEndian.Uint16(data))
+		if err := entry(at, data[2:end]); err != nil {
+			return at, err
+		}
+		data = data[end:]
+	}
+	return at, nil
+}
+
 // follow reads a log's folder file by file, and verifies each file up to the root of its checkpoint. It writes what it read into the
 // folder `to`, which may have a copy of an older checkpoint, and the checkpoint last; nothing where `to` has no name.
 //
@@ -178,7 +218,7 @@ func follow(from, to string) error {
 	// tile compares a tile of the folder with the hashes that the entries have.
 	tile := func(level int) error {
 		name := path(from, strconv.Itoa(level), e.full[level], len(e.rows[level]))
-		data, err := os.ReadFile(name)
+		data, err := read(name)
 		if err != nil {
 			return err
 		}
@@ -192,33 +232,35 @@ func follow(from, to string) error {
 		}
 		return keep(name, data)
 	}
-	var name string
-	var last []byte // the partial bundle, which is kept once the root is right
 	for first := done &^ (1<<height - 1); first < size; first += 1 << height {
 		width := int(min(1<<height, size-first))
-		name = path(from, "entries", first>>height, width)
-		data, err := os.ReadFile(name)
+		name := path(from, "entries", first>>height, width)
+		data, err := read(name)
 		if err != nil {
 			return err
 		}
-		entries, err := bundle(data)
-		if err != nil || len(entries) != width {
+		var hashes [1 << height]tlog.Hash
+		count, err := each(data, func(at int, entry []byte) error {
+			if at >= width {
+				return fmt.Errorf("more entries than %d", width)
+			}
+			hashes[at] = tlog.RecordHash(entry)
+			return nil
+		})
+		if err != nil || count != width {
 			return fmt.Errorf("%s is no bundle of %d entries: %v", name, width, err)
 		}
-		for i, entry := range entries {
-			hash := tlog.RecordHash(entry)
-			if first+int64(i) >= done {
+		// The checkpoint is put last, so a bundle of another log in the copy is never given out.
+		if err := keep(name, data); err != nil {
+			return err
+		}
+		for at, hash := range hashes[:width] {
+			if first+int64(at) >= done {
 				err = e.add(0, hash, tile)
-			} else if e.rows[0][i] != hash {
-				err = fmt.Errorf("entry %d is another one than in %s", first+int64(i), to)
+			} else if e.rows[0][at] != hash {
+				err = fmt.Errorf("entry %d is another one than in %s", first+int64(at), to)
 			}
 			if err != nil {
-				return err
-			}
-		}
-		if last = data; width == 1<<height {
-			last = nil
-			if err := keep(name, data); err != nil {
 				return err
 			}
 		}
@@ -231,11 +273,6 @@ func follow(from, to string) error {
 			if err := tile(level); err != nil {
 				return err
 			}
-		}
-	}
-	if last != nil {
-		if err := keep(name, last); err != nil {
-			return err
 		}
 	}
 	if to != "" {
@@ -258,10 +295,16 @@ func min(a, b int64) int64 {
 	return b
 }
 
+// made is the folder that was made last.
+var made string
+
 // put writes a file.
 func put(name string, data []byte) error {
-	if err := os.MkdirAll(filepath.Dir(name), 0o777); err != nil {
-		return err
+	if folder := filepath.Dir(name); folder != made {
+		if err := os.MkdirAll(folder, 0o777); err != nil {
+			return err
+		}
+		made = folder
 	}
 	return os.WriteFile(name, data, 0o666)
 }

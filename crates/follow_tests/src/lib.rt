@@ -4,6 +4,10 @@
 #[cfg(test)]
 mod candidates;
 #[cfg(test)]
+mod command;
+#[cfg(test)]
 mod logs;
 #[cfg(test)]
 mod rows;
+#[cfg(test)]
+mod whys;

@@ -15,3 +15,5 @@ pub mod ShelfReads
 pub mod TipReads
 pub mod WholeMoments
 pub mod SameCopies
+pub mod Stays
+pub mod Suffices

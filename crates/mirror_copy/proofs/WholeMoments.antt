@@ -111,7 +111,7 @@ no_file Checkpoint other h = other refl
 no_file (Tile level index width) other h = no_tile level index width h.within
 no_file (Entries index width) other h = no_tile 0 index width h.within
 
-none_held : (digest : List ℕ → List ℕ) (puts : List Put) → HoldsFiles digest [] puts
+pub none_held : (digest : List ℕ → List ℕ) (puts : List Put) → HoldsFiles digest [] puts
 none_held digest puts path other listed = absurd (no_file path other ((files_are_all 0 path).0 listed))
 
 -- ---- a bringing that was cut short
@@ -125,7 +125,7 @@ module _ (digest : List ℕ → List ℕ) (origin note : List ℕ) (tip : Tip) (
   size_known : (known : List (List ℕ)) → IsKnown digest tip 0 known → length known ≡ tip.size
   size_known known is = let size = is.size_is in omega arith
 
-  cut_copy : CutShort → (old_note : List ℕ) (entries : List (List ℕ)) → IsCopy digest origin old_note entries old →
+  pub cut_copy : CutShort → (old_note : List ℕ) (entries : List (List ℕ)) → IsCopy digest origin old_note entries old →
       (now : List Put) → IsMoment old new now → IsCopy digest origin old_note entries now
   cut_copy cut old_note entries copy now at =
       let is = t.copy old refl old_note entries copy in
@@ -133,7 +133,7 @@ module _ (digest : List ℕ → List ℕ) (origin note : List ℕ) (tip : Tip) (
       new_files_keep_copies digest origin old_note entries b.next old new now copy
       (subst (λ k. Obtains digest k entries b.next (Some old) (Some new)) (sym (size_known entries is)) b.gathers) at
 
-  cut_none : CutShort → (HasPut old Checkpoint → ⊥) → (now : List Put) → IsMoment old new now →
+  pub cut_none : CutShort → (HasPut old Checkpoint → ⊥) → (now : List Put) → IsMoment old new now →
       HasPut now Checkpoint → ⊥
   cut_none cut none now at has =
       let is = t.known (none_found old tip.checkpoint t.checkpoint none) in

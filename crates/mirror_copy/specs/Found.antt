@@ -1,6 +1,6 @@
 -- What was read of a copy's edge. It is cited by the contracts of
 -- private functions alone.
-use Rattle.std.specs.Prelude.{◌≡◌, ⊤, ℕ, ◌≤◌, List, [], Option, Some, None, Result, OnOk}
+use Rattle.std.specs.Prelude.{◌≡◌, ⊤, ℕ, ◌≤◌, List, [], Option, Some, None, Result, IfErr, OnOk}
 use Rattle.tlog_shape.specs.Edge.{width_of, edge_index_of}
 use Rattle.tlog_tiles.specs.declared.paths.Path.{Path}
 use Rattle.tlog_tiles.specs.declared.paths.Path.TheVariants.{Checkpoint, Tile, Entries}
@@ -10,7 +10,7 @@ use Rattle.mirror_folders.specs.Shelf.{HasPut, Put, Stands}
 use Rattle.mirror_copy.specs.Copies.{IsCopy}
 use Rattle.log_reader.specs.EdgeRows.{Edge, row_at}
 use Rattle.mirror_copy.specs.Growing.{IsKnown, Tip}
-use Rattle.mirror_copy.specs.Moments.{IsBroughtTo, KeepsCopy}
+use Rattle.mirror_copy.specs.Moments.{CopyStays, IsBroughtTo, KeepsCopy}
 use Rattle.mirror_folders.specs.Shelf.{TellsRead}
 
 -- the answer is what stands at the path of a partial file, where something was put there; where nothing was, it may be
@@ -53,3 +53,4 @@ module _ (digest : List ℕ → List ℕ) where
   BringsFromTip origin note tip old new result =
       (before : Option (List Put)) → KeepsTold before old → IsTipRead origin before tip →
       KeepsCopy digest origin note before new × OnOk result (IsBroughtTo digest origin note before new)
+      × IfErr result (λ e. CopyStays digest origin before new)

@@ -9,3 +9,4 @@ pub mod Moments
 pub mod Edges
 pub mod Found
 pub mod AskedForCopy
+pub mod Suffices

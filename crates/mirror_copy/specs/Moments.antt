@@ -51,6 +51,13 @@ module _ (digest : List ℕ → List ℕ) (origin note : List ℕ) where
         IsCopy digest origin old_note entries held → InTheEnd new (IsGrownCopy entries)
     pub none : (held : List Put) → old ≡ Some held → ¬ HasPut held Checkpoint → InTheEnd new (IsGrownCopy [])
 
+-- in the end the copy stands that stood before, under its note; where no checkpoint stood, none stands
+pub record CopyStays (digest : List ℕ → List ℕ) (origin : List ℕ) (old new : Option (List Put)) : Type 0 where
+  pub copy : (held : List Put) → old ≡ Some held → (note : List ℕ) (entries : List (List ℕ)) →
+      IsCopy digest origin note entries held → InTheEnd new (IsCopy digest origin note entries)
+  pub none : (held : List Put) → old ≡ Some held → ¬ HasPut held Checkpoint →
+      InTheEnd new (λ now. ¬ HasPut now Checkpoint)
+
 -- how many entries the copy had that stood: none where no checkpoint stood
 pub record HadSize (digest : List ℕ → List ℕ) (origin : List ℕ) (old : Option (List Put)) (size : ℕ) : Type 0 where
   pub copy : (held : List Put) → old ≡ Some held → (note : List ℕ) (entries : List (List ℕ)) →

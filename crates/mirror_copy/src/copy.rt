@@ -1,14 +1,16 @@
 //! A copy that stands on a shelf, brought to a checkpoint.
-ghost use Rattle.std.specs.Prelude.{◌≡◌, ◌↔◌, ◌<◌, ◌^◌, ℕ, None, Some, [], IfErr, IfOk, IsTrue, List, OnOk, option_map};
+ghost use Rattle.std.specs.Prelude.{◌≡◌, ◌↔◌, ◌<◌, ◌^◌, ℕ, None, Some, [], IfErr, IfOk, IfSome, IsTrue, List, OnOk, length};
 ghost use Rattle.mirror_model.specs.Heads.{IsHead};
 ghost use Rattle.mirror_sources.specs.Told.{KeepsTold};
-ghost use Rattle.mirror_copy.specs.Conflicts.{IsConflict};
-ghost use Rattle.mirror_copy.specs.Asked.{MayBeAsked};
+ghost use Rattle.mirror_export.specs.Since.{since_paths};
+ghost use Rattle.log_reader.specs.EdgeRows.{LeadsTo};
+ghost use Rattle.mirror_copy.specs.Conflicts.{IsConflict, IsNoConflict};
+ghost use Rattle.mirror_copy.specs.Asked.{IsEdgeTile, MayBeAsked};
 ghost use Rattle.mirror_copy.specs.AskedForCopy.{AsksForCopy, BlamesFailed, RefusesNote};
 ghost use Rattle.mirror_copy.specs.Faults.{BlamesFrom, BlamesPlaces, CountsShelf, IsOfNoPlace};
 ghost use Rattle.mirror_copy.specs.PlaceGets.{AsksPlaces};
 ghost use Rattle.mirror_copy.specs.Found.{BringsFromTip};
-ghost use Rattle.mirror_copy.specs.Moments.{HadSize, IsBroughtTo, KeepsCopy};
+ghost use Rattle.mirror_copy.specs.Moments.{CopyStays, HadSize, IsBroughtTo, KeepsCopy};
 
 use crate::fault::BringFault;
 use crate::find_edge::find_edge;
@@ -17,7 +19,8 @@ use crate::places::Places;
 use crate::read_tip::read_tip;
 use crate::tip::CopyTip;
 use crate::to_edge::bring_to_edge;
-use log_reader::head_of;
+use log_reader::{EdgeRows, head_of};
+use mirror_export::files_to_put;
 use mirror_folders::ReadableShelf;
 use mirror_sources::Source;
 use std::alloc::Global;
@@ -36,6 +39,40 @@ fn is_empty_root<H: TreeHash>(root: &Hash) -> bool
     ensures { IsTrue result ↔ (root.now ≡ H.digest []) }
 {
     *root == H::empty()
+}
+
+// Says how many files the copy lacks, the checkpoint among them.
+fn expect_new<D: ReadableShelf>(shelf: &mut D, old_size: u64, size: u64)
+    ensures same { KeepsTold (D.puts shelf.old) (D.puts shelf.new) }
+    ensures failed { D.failed shelf.new ≡ D.failed shelf.old }
+    ensures expected { IfSome (D.expected shelf.new)
+        (λ all. all ≡ length (since_paths old_size size)) }
+{
+    shelf.expect(files_to_put(size, old_size));
+}
+
+// The edge rows of a larger tree. Once they are found, it says how many files are to be put.
+fn find_new_edge<H: TreeHash, D: ReadableShelf, S: Source + Drop>(
+    alloc: Global,
+    shelf: &mut D,
+    places: &mut Places<S>,
+    tip: &CopyTip,
+    candidate: &Candidate<'_>,
+) -> Result<EdgeRows, BringFault>
+    ensures fault { IfErr result IsNoConflict }
+    ensures same { KeepsTold (D.puts shelf.old) (D.puts shelf.new) }
+    ensures counted { CountsShelf (D.failed shelf.old) (D.failed shelf.new) result }
+    ensures asks { AsksPlaces S.may_answer S.failed S.asked (IsEdgeTile candidate.now.size)
+        places.old places.new }
+    ensures blames { IfErr result (BlamesPlaces places.new) }
+    ensures leads { IfOk result
+        (λ edge. LeadsTo H.digest candidate.now.size candidate.now.root edge) }
+    ensures expected { OnOk result (IfSome (D.expected shelf.new)
+        (λ all. all ≡ length (since_paths tip.now.size candidate.now.size))) }
+{
+    let edge = find_edge::<H, D, S>(alloc, shelf, places, candidate.size, &candidate.root)?;
+    expect_new(shelf, tip.size(), candidate.size);
+    Ok(edge)
 }
 
 // Puts the checkpoint of a log of no entries onto a shelf that has none.
@@ -58,6 +95,7 @@ fn put_empty<H: TreeHash, D: ReadableShelf>(
     if !is_empty_root::<H>(&candidate.root) {
         return Err(BringFault::Contradiction);
     }
+    expect_new(shelf, 0, 0);
     put_last(shelf, tip, candidate.note)
 }
 
@@ -81,7 +119,7 @@ fn bring_larger<H: TreeHash, D: ReadableShelf, S: Source + Drop>(
     ensures brings { BringsFromTip H.digest origin.now candidate.now.note.now tip.now
         (D.puts shelf.old) (D.puts shelf.new) result }
 {
-    let edge = find_edge::<H, D, S>(alloc, shelf, places, candidate.size, &candidate.root)?;
+    let edge = find_new_edge::<H, D, S>(alloc, shelf, places, tip, candidate)?;
     let done = bring_to_edge::<H, D, S>(alloc, shelf, places, tip, &edge, candidate.note);
     drop(edge);
     done
@@ -128,6 +166,8 @@ fn bring_from<H: TreeHash, D: ReadableShelf, S: Source + Drop>(
 ///
 /// A shelf without a checkpoint is an empty copy. Only such a one is brought to a checkpoint of no entries.
 ///
+/// Once the edge rows are found, the shelf is told by `expect` how many files the copy lacks, the checkpoint among them.
+///
 /// ```text
 /// bring_copy::<Sha256Tree, MemShelf, ListSource<Sha256Tree>>(alloc, "ex", &mut shelf, &mut places, note)? // 257
 /// ```
@@ -159,6 +199,8 @@ pub fn bring_copy<H: TreeHash, D: ReadableShelf, S: Source + Drop>(
     ensures conflict { IfErr result (λ e. IsConflict e → KeepsTold (D.puts shelf.old)
         (D.puts shelf.new)) }
     ensures whole { KeepsCopy H.digest origin.now note.now (D.puts shelf.old) (D.puts shelf.new) }
+    ensures stays { IfErr result
+        (λ _. CopyStays H.digest origin.now (D.puts shelf.old) (D.puts shelf.new)) }
     ensures brought { OnOk result (IsBroughtTo H.digest origin.now note.now
         (D.puts shelf.old) (D.puts shelf.new)) }
 {

@@ -1,11 +1,13 @@
 //! A file found on the shelf or at a place, where it verifies.
 ghost use Rattle.std.specs.Prelude.{◌≡◌, ◌<◌, ℕ, List, IfErr, IfNone, IfOk, IfSome, get_or, length};
 ghost use Rattle.mirror_sources.specs.Told.{KeepsTold};
+ghost use Rattle.mirror_model.specs.TrueLaws.{AreShort};
 ghost use Rattle.log_reader.specs.Verified.{Verifies};
 ghost use Rattle.mirror_copy.specs.Asked.{IsAskedInVain};
 ghost use Rattle.mirror_copy.specs.Conflicts.{IsNoConflict};
 ghost use Rattle.mirror_copy.specs.Faults.{BlamesPlaces, CountsShelf};
 ghost use Rattle.mirror_copy.specs.PlaceGets.{AsksPlaces};
+ghost use Rattle.mirror_copy.specs.Suffices.{HasTruePlace, IsFileUnder, IsNoLack};
 ghost use Rattle.mirror_copy.specs.declared.place.Place.{Place};
 
 use crate::fault::BringFault;
@@ -126,6 +128,9 @@ pub(crate) fn find<H: TreeHash, D: ReadableShelf, S: Source + Drop>(
     ensures asks { AsksPlaces S.may_answer S.failed S.asked (λ p. p ≡ path.now)
         places.old places.new }
     ensures blames { IfErr result (BlamesPlaces places.new) }
+    ensures suffices { IfErr result (λ e. (entries : List (List ℕ)) → AreShort entries
+        → IsFileUnder H.digest entries kind path.now hash.now
+        → HasTruePlace H.digest entries S.may_answer places.old places.new → IsNoLack e) }
 {
     if let Some(bytes) = shelf.read(path)? {
         if let Some(found) = accept::<H>(alloc, kind, hash, bytes)? {

@@ -139,6 +139,7 @@ impl<S: Source + Drop> Places<S> {
 
     /// A file is to be had from nowhere.
     pub(crate) fn lacks(&mut self, path: &Path) -> BringFault
+        ensures list { self.new.list.items ≡ self.old.list.items }
         ensures asks { AsksPlaces S.may_answer S.failed S.asked (λ p. ⊥) self.old self.new }
         ensures blames { BlamesPlaces self.new result }
         ensures fault { IsNoConflict result }

@@ -59,7 +59,7 @@ module _ (origin : List ℕ) (keys : List Key) where
       candidates given
 
   -- what is given with one more answer was given before, or is that answer
-  gave_cases : (answers : List PlaceAnswer) (answer : PlaceAnswer) (note : List ℕ) → Gave (answers ++ answer ∷ []) note →
+  pub gave_cases : (answers : List PlaceAnswer) (answer : PlaceAnswer) (note : List ℕ) → Gave (answers ++ answer ∷ []) note →
       Gave answers note ⊎ IsNote note answer
   gave_cases answers answer note g = elim (Contains-push_cases answers answer g.answer g.among) [
     | inl before ↦ inl (record { answer = g.answer; among = before; is_note = g.is_note })

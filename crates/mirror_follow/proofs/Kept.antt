@@ -1,9 +1,9 @@
 -- Calls that put nothing, one after the other, and candidates that open.
-use Rattle.std.proofs.Common.{◌≡◌, ℕ, List, [], ◌∷◌, ◌++◌, All, Option, map, sym, ◌∙◌, ap, subst}
+use Rattle.std.proofs.Common.{◌≡◌, ℕ, ◌<◌, length, get_or, List, [], ◌∷◌, ◌++◌, All, Option, map, sym, ◌∙◌, ap, subst}
 use Rattle.std.proofs.Common.{Global, Vec, Result, Ok, Err}
 use Rattle.std.specs.List.Sorted.{IsPermutation}
 use Rattle.std.specs.Prelude.{IfOk}
-use Rattle.std.proofs.lemmas.List.Elements.{All-nil, All-push, All-weaker}
+use Rattle.std.proofs.lemmas.List.Elements.{All-get_or, All-nil, All-push, All-weaker}
 use Rattle.std.proofs.lemmas.List.Sorted.{All-permutation}
 use Rattle.signed_note.specs.Keys.{Key}
 use Rattle.mirror_sources.specs.Told.{KeepsTold}
@@ -16,6 +16,7 @@ use Rattle.mirror_follow.specs.declared.answer.PlaceAnswer.{PlaceAnswer}
 use Rattle.mirror_follow.specs.declared.candidate.Candidate.{Candidate}
 use Rattle.mirror_follow.specs.declared.fault.CandidateFault.{CandidateFault}
 use Rattle.mirror_follow.specs.Runs.{FollowsCandidates, KeepsCopies}
+use Rattle.mirror_follow.specs.Standing.{IsHeadOf}
 use Rattle.mirror_follow.proofs.Runs.{no_run, two_runs}
 
 pub kept_once : (x : Option (List Put)) → KeepsTold x x
@@ -49,22 +50,52 @@ one_open origin keys note candidate none candidates is empty one =
     (All-push (IsCandidate origin keys) [] candidate (All-nil (IsCandidate origin keys))
     (subst (λ n. IsCandidateOf n origin keys candidate) (sym is.note_is) is))
 
-module _ (digest : List ℕ → List ℕ) (origin : List ℕ) (keys : List Key) where
+-- and its note is the one that was given
+pub one_given : (origin : List ℕ) (keys : List Key) (note : List ℕ) (candidate : Candidate)
+    (none candidates : List Candidate) → IsCandidateOf note origin keys candidate → none ≡ [] →
+    candidates ≡ none ++ candidate ∷ [] → All (λ c. note_of c ≡ note) candidates
+one_given origin keys note candidate none candidates is empty one =
+    subst (All (λ c. note_of c ≡ note)) (sym (one ∙ ap (λ l. l ++ candidate ∷ []) empty))
+    (All-push (λ c. note_of c ≡ note) [] candidate (All-nil (λ c. note_of c ≡ note)) is.note_is)
+
+-- candidates are checkpoints of the origin
+pub heads_open : (origin : List ℕ) (keys : List Key) (candidates : List Candidate) → All (IsCandidate origin keys) candidates →
+    All (IsHeadOf origin) candidates
+heads_open origin keys candidates opened =
+    All-weaker (IsCandidate origin keys) (IsHeadOf origin)
+    (λ c is. record {
+      text = is.is_open.text;
+      lines = is.is_open.lines;
+      extensions = is.is_open.extensions;
+      is_note = is.is_open.is_note;
+      is_checkpoint = is.is_open.is_checkpoint;
+    })
+    candidates opened
+
+-- so is one of them
+pub head_at : (origin : List ℕ) (candidates : List Candidate) (i : ℕ) (candidate : Candidate) → i < length candidates →
+    candidate ≡ get_or candidates i candidate → All (IsHeadOf origin) candidates → IsHeadOf origin candidate
+head_at origin candidates i candidate lt is all =
+    subst (IsHeadOf origin) (sym is) (All-get_or (IsHeadOf origin) candidates i candidate lt all)
+
+module _ (digest : List ℕ → List ℕ) (origin : List ℕ) (keys : List Key) (so : List ℕ → Type 0) where
   -- a call that puts nothing follows no candidate
-  pub follows_none : (x y : Option (List Put)) → KeepsTold x y → FollowsCandidates digest origin keys x y
+  pub follows_none : (x y : Option (List Put)) → KeepsTold x y → FollowsCandidates digest origin keys so x y
   follows_none x y kept = record {
     candidates = [];
     opened = All-nil (IsCandidate origin keys);
+    had = All-nil (λ c. so (note_of c));
     keeps = no_run digest origin [] x y kept;
   }
 
   -- after a call that puts nothing, a run under the notes of candidates
   pub follows_candidates : (given candidates : List Candidate) (x y z : Option (List Put)) → candidates ≡ given →
-      All (IsCandidate origin keys) given → KeepsTold x y →
-      KeepsCopies digest origin (map note_of candidates) y z → FollowsCandidates digest origin keys x z
-  follows_candidates given candidates x y z is opens kept run = record {
+      All (IsCandidate origin keys) given → All (λ c. so (note_of c)) given → KeepsTold x y →
+      KeepsCopies digest origin (map note_of candidates) y z → FollowsCandidates digest origin keys so x z
+  follows_candidates given candidates x y z is opens gave kept run = record {
     candidates = candidates;
     opened = subst (All (IsCandidate origin keys)) (sym is) opens;
+    had = subst (All (λ c. so (note_of c))) (sym is) gave;
     keeps = two_runs digest origin (map note_of candidates) x z y
         (no_run digest origin (map note_of candidates) x y kept) run;
   }

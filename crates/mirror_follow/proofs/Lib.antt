@@ -5,3 +5,8 @@ pub mod Asking
 pub mod Runs
 pub mod Kept
 pub mod Checked
+pub mod Standing
+pub mod Blame
+pub mod GatheredFrom
+pub mod Renoted
+pub mod Turning

@@ -4,3 +4,9 @@ pub mod Gathering
 pub mod Asking
 pub mod Runs
 pub mod Checked
+pub mod Standing
+pub mod Shown
+pub mod Blame
+pub mod GatheredFrom
+pub mod Renoting
+pub mod Turning

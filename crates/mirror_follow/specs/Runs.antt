@@ -43,9 +43,11 @@ pub record RunsKeepCopies : Type 0 where
       KeepsCopies digest origin notes old mid → KeepsCopies digest origin notes mid new →
       KeepsCopies digest origin notes old new
 
--- at each moment of a run a copy stands as it stood, or grown under the note of some candidate, each of which opens
-pub record FollowsCandidates (digest : List ℕ → List ℕ) (origin : List ℕ) (keys : List Key)
+-- at each moment of a run a copy stands as it stood, or grown under the note of some candidate, each of which opens, and
+-- whose note may have been had so
+pub record FollowsCandidates (digest : List ℕ → List ℕ) (origin : List ℕ) (keys : List Key) (so : List ℕ → Type 0)
     (old new : Option (List Put)) : Type 0 where
   pub candidates : List Candidate
   pub opened : All (IsCandidate origin keys) candidates
+  pub had : All (λ candidate. so (note_of candidate)) candidates
   pub keeps : KeepsCopies digest origin (map note_of candidates) old new

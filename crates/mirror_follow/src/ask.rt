@@ -1,10 +1,12 @@
 //! Places asked for candidates.
-ghost use Rattle.std.specs.Prelude.{◌≡◌, ◌≢◌, ◌∷◌, [], ℕ, All, List, IfErr, IfOk, Option, get_or, length, map};
+ghost use Rattle.std.specs.Prelude.{◌≡◌, ◌≢◌, ◌<◌, [], ℕ, All, List, IfErr, IfOk, Option, get_or, length, map};
 ghost use Rattle.std.specs.List.Sorted.{IsPermutation, IsSorted};
 ghost use Rattle.tlog_text.specs.Answers.{seen};
 ghost use Rattle.mirror_follow.specs.Asking.{AreAnswers, FindsCandidates, IsAnswer, option_or};
+ghost use Rattle.mirror_follow.specs.Blame.{AsksAny, MayGive, PlaceFails};
+ghost use Rattle.mirror_follow.specs.GatheredFrom.{GathersFrom};
 ghost use Rattle.mirror_follow.specs.Candidates.{IsCandidate, turn_cmp};
-ghost use Rattle.mirror_follow.specs.Gathering.{Gathers};
+ghost use Rattle.mirror_follow.specs.Gathering.{Gathers, IsNote, note_of};
 ghost use Rattle.mirror_follow.specs.declared.answer.PlaceAnswer.{PlaceAnswer};
 
 use crate::answer::PlaceAnswer;
@@ -94,13 +96,14 @@ pub fn ask_candidates<S: Source>(
 }
 
 // Asks a place of a run for its checkpoint.
-fn ask_place<S: Source + Drop>(
-    places: &mut Places<S>,
-    i: usize,
-) -> Result<PlaceAnswer, AllocError> {
-    if i >= places.list().len() {
-        return Ok(PlaceAnswer::NotFound);
-    }
+fn ask_place<S: Source + Drop>(places: &mut Places<S>, i: usize) -> Result<PlaceAnswer, AllocError>
+    requires { i < length places.old.list.items }
+    ensures asks { AsksAny S.may_answer S.failed S.asked places.old places.new }
+    ensures gives { IfOk result (λ answer. (note : List ℕ) → IsNote note answer
+        → MayGive S.may_answer places.old note) }
+    ensures fails { IfOk result
+        (λ answer. answer ≡ PlaceAnswer.Failed → PlaceFails places.old places.new) }
+{
     match places.get(i, &Path::Checkpoint)? {
         Answer::File(bytes) => Ok(PlaceAnswer::File(bytes)),
         Answer::NotFound => Ok(PlaceAnswer::NotFound),
@@ -115,8 +118,9 @@ fn ask_each_place<S: Source + Drop>(
     keys: &[Box<dyn Verifier>],
     places: &mut Places<S>,
 ) -> Result<Gathered, AllocError>
-    ensures { IfOk result (λ gathered. (answers : List PlaceAnswer)
-        × Gathers origin.now (map (λ k. key k) keys.now) answers gathered.candidates.items gathered.first) }
+    ensures asks { AsksAny S.may_answer S.failed S.asked places.old places.new }
+    ensures gathers { IfOk result (λ gathered. GathersFrom S.may_answer origin.now
+        (map (λ k. key k) keys.now) places.old places.new gathered) }
 {
     let mut gathered = Gathered::new(alloc);
     for i in 0..places.list().len() {
@@ -137,8 +141,13 @@ pub(crate) fn ask_places<S: Source + Drop>(
     keys: &[Box<dyn Verifier>],
     places: &mut Places<S>,
 ) -> Result<Vec<Candidate>, CandidateFault>
-    ensures { IfOk result
+    ensures asks { AsksAny S.may_answer S.failed S.asked places.old places.new }
+    ensures opened { IfOk result
         (λ candidates. All (IsCandidate origin.now (map (λ k. key k) keys.now)) candidates.items) }
+    ensures gave { IfOk result (λ candidates. All
+        (λ c. MayGive S.may_answer places.old (note_of c)) candidates.items) }
+    ensures source { IfErr result
+        (λ e. e ≡ CandidateFault.Source → PlaceFails places.old places.new) }
 {
     let gathered = ask_each_place::<S>(alloc, origin, keys, places)?;
     in_turn(gathered)

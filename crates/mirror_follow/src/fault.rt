@@ -1,5 +1,6 @@
 //! Why there is no candidate, and why following ends early.
-ghost use Rattle.std.specs.Prelude.{◌≡◌, ⊤};
+ghost use Rattle.std.specs.Prelude.{◌≡◌};
+ghost use Rattle.mirror_follow.specs.Blame.{by_shelf, of_candidates};
 ghost use Rattle.mirror_follow.specs.declared.fault.CandidateFault.TheVariants.{OutOfMemory};
 ghost use Rattle.mirror_follow.specs.declared.fault.FollowFault.TheVariants as follow;
 
@@ -77,7 +78,7 @@ impl From<AllocError> for FollowFault {
 }
 
 impl From<ShelfError> for FollowFault {
-    ghost from_gives = { λ _ _. ⊤ };
+    ghost from_gives = { λ e f. f ≡ by_shelf e };
 
     fn from(e: ShelfError) -> FollowFault {
         match e {
@@ -88,7 +89,7 @@ impl From<ShelfError> for FollowFault {
 }
 
 impl From<CandidateFault> for FollowFault {
-    ghost from_gives = { λ _ _. ⊤ };
+    ghost from_gives = { λ e f. f ≡ of_candidates e };
 
     fn from(e: CandidateFault) -> FollowFault {
         match e {

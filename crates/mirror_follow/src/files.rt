@@ -1,6 +1,6 @@
 //! Files of a log, read into memory, of which a proof is made.
-ghost use Rattle.std.specs.Prelude.{◌≡◌, IfOk};
 ghost use Rattle.mirror_sources.specs.Told.{KeepsTold};
+ghost use Rattle.mirror_follow.specs.Blame.{CountsFollow};
 
 use crate::fault::FollowFault;
 use mirror_copy::{PlaceAnswer, Places};
@@ -103,6 +103,7 @@ fn read_file<D: ReadableShelf>(
     path: &Path,
 ) -> Result<Option<(Path, Vec<u8>)>, FollowFault>
     ensures same { KeepsTold (D.puts shelf.old) (D.puts shelf.new) }
+    ensures counted { CountsFollow (D.failed shelf.old) (D.failed shelf.new) result }
 {
     match shelf.read(path)? {
         Some(bytes) => return Ok(Some((*path, bytes))),
@@ -123,6 +124,7 @@ pub(crate) fn read_files<D: ReadableShelf>(
     paths: &[Path],
 ) -> Result<ReadFiles, FollowFault>
     ensures same { KeepsTold (D.puts shelf.old) (D.puts shelf.new) }
+    ensures counted { CountsFollow (D.failed shelf.old) (D.failed shelf.new) result }
 {
     let mut read = ReadFiles::new(alloc);
     for path in paths {

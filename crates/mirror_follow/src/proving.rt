@@ -1,7 +1,14 @@
 //! Proofs of forks.
-ghost use Rattle.std.specs.Prelude.{◌↔◌, IfOk, IfSome, IsTrue};
+ghost use Rattle.std.specs.Prelude.{◌↔◌, ◌<◌, IfOk, IfSome, IsTrue, Some};
+ghost use Rattle.std.specs.List.{AllByRecursion};
+ghost use Rattle.tlog_text.specs.Hash.{Is32Bytes};
+ghost use Rattle.tlog_proof.specs.Text.{HasHashes};
 ghost use Rattle.mirror_sources.specs.Told.{KeepsTold};
+ghost use Rattle.mirror_copy.specs.Moments.{HadSize};
+ghost use Rattle.mirror_follow.specs.Blame.{CountsFollow, IsOfTheRun};
 ghost use Rattle.mirror_follow.specs.Checked.{HasFirstRoot, IsCheckedFork};
+ghost use Rattle.mirror_follow.specs.Shown.{ShowsLarger};
+ghost use Rattle.mirror_follow.specs.Standing.{IsCopyOfRun, IsHeadOf, size_of_copy};
 
 use crate::candidate::Candidate;
 use crate::fault::FollowFault;
@@ -27,20 +34,62 @@ fn has_first_root(proof: &Proof, root: &Hash) -> bool
     }
 }
 
-/// The proof that a log of the larger point does not begin with the smaller one, made of files that lead to the larger root; None
-/// where it does, where the smaller one is of no entries, and where it is not smaller.
+// How many bytes a hash has, which are 32.
+fn hash_len(hash: &Hash) -> usize
+    ensures { Is32Bytes hash.now }
+{
+    hash.as_slice().len()
+}
+
+// The hashes of a path have 32 bytes.
+fn see_path(path: &[Hash])
+    ensures { AllByRecursion Is32Bytes path.now }
+{
+    for hash in path {
+        hash_len(hash);
+    }
+}
+
+// The hashes of a proof have 32 bytes. It does nothing, and its contract is what the type says.
+fn see_hashes(proof: &Proof)
+    ensures { HasHashes proof.now }
+{
+    match proof {
+        Proof::Inclusion {
+            root,
+            leaf,
+            path,
+            ..
+        } => {
+            hash_len(root);
+            hash_len(leaf);
+            see_path(path.as_slice());
+        }
+        Proof::Consistency {
+            first_root,
+            second_root,
+            path,
+            ..
+        } => {
+            hash_len(first_root);
+            hash_len(second_root);
+            see_path(path.as_slice());
+        }
+    }
+}
+
+// The proof from the smaller point into the log of the larger one, where its first root is another than the smaller one's.
 #[tactic(auto, using(crate::proofs::Checked::checked_fork))]
-pub(crate) fn fork_proof<H: TreeHash>(
+fn checked_proof<H: TreeHash>(
     alloc: Global,
     files: &mut ReadFiles,
     small: &Candidate,
     large: &Candidate,
 ) -> Result<Option<Proof>, ReadFault>
+    requires some { 0 < small.now.size.0 }
+    requires less { small.now.size.0 < large.now.size.0 }
     ensures { IfOk result (λ found. IfSome found (IsCheckedFork H.digest small.now large.now)) }
 {
-    if small.size.0 == 0 || small.size.0 >= large.size.0 {
-        return Ok(None);
-    }
     let root = large.root;
     let mut reader: LogReader<H> = LogReader::open(alloc, files, large.size.0, &root)?;
     let proof = reader.consistency(alloc, files, small.size.0)?;
@@ -51,6 +100,29 @@ pub(crate) fn fork_proof<H: TreeHash>(
     }
 }
 
+/// The proof that a log of the larger point does not begin with the smaller one, made of files that lead to the larger root; None
+/// where it does, where the smaller one is of no entries, and where it is not smaller.
+pub(crate) fn fork_proof<H: TreeHash>(
+    alloc: Global,
+    files: &mut ReadFiles,
+    small: &Candidate,
+    large: &Candidate,
+) -> Result<Option<Proof>, ReadFault>
+    ensures { IfOk result (λ found. IfSome found
+        (λ proof. ShowsLarger H.digest small.now large.now (Some proof))) }
+{
+    if small.size.0 == 0 || small.size.0 >= large.size.0 {
+        return Ok(None);
+    }
+    match checked_proof::<H>(alloc, files, small, large)? {
+        Some(proof) => {
+            see_hashes(&proof);
+            Ok(Some(proof))
+        }
+        None => Ok(None),
+    }
+}
+
 /// The proof that a larger candidate contradicts the copy, of files that one of the places has; None where none has them.
 pub(crate) fn ask_proof<H: TreeHash, S: Source + Drop>(
     alloc: Global,
@@ -58,7 +130,8 @@ pub(crate) fn ask_proof<H: TreeHash, S: Source + Drop>(
     copy: &Candidate,
     larger: &Candidate,
 ) -> Result<Option<Proof>, AllocError>
-    ensures { IfOk result (λ found. IfSome found (IsCheckedFork H.digest copy.now larger.now)) }
+    ensures proof { IfOk result (λ found. IfSome found
+        (λ proof. ShowsLarger H.digest copy.now larger.now (Some proof))) }
 {
     let paths = proof_paths(alloc, copy.size.0, larger.size.0)?;
     for i in 0..places.list().len() {
@@ -74,7 +147,9 @@ pub(crate) fn ask_proof<H: TreeHash, S: Source + Drop>(
 }
 
 // The fault that a read of the shelf's files ends by.
-fn of_copy(fault: ReadFault) -> FollowFault {
+fn of_copy(fault: ReadFault) -> FollowFault
+    ensures { IsOfTheRun result }
+{
     match fault {
         ReadFault::OutOfMemory => FollowFault::OutOfMemory,
         _ => FollowFault::CopyDamaged,
@@ -89,8 +164,9 @@ pub(crate) fn read_proof<H: TreeHash, D: ReadableShelf>(
     copy: &Candidate,
 ) -> Result<Option<Proof>, FollowFault>
     ensures same { KeepsTold (D.puts shelf.old) (D.puts shelf.new) }
-    ensures proof { IfOk result
-        (λ found. IfSome found (IsCheckedFork H.digest smaller.now copy.now)) }
+    ensures counted { CountsFollow (D.failed shelf.old) (D.failed shelf.new) result }
+    ensures proof { IfOk result (λ found. IfSome found
+        (λ proof. ShowsLarger H.digest smaller.now copy.now (Some proof))) }
 {
     let paths = proof_paths(alloc, smaller.size.0, copy.size.0)?;
     let mut files = read_files::<D>(alloc, shelf, &paths)?;
@@ -128,6 +204,25 @@ fn edge_files(alloc: Global, size: u64) -> Result<Vec<Path>, AllocError> {
     Ok(paths)
 }
 
+// Whether the edge of a copy of that size and root stands on the shelf.
+#[tactic(auto, using(crate::proofs::Kept::kept_twice))]
+fn judge_files<H: TreeHash, D: ReadableShelf>(
+    alloc: Global,
+    shelf: &mut D,
+    size: u64,
+    root: &Hash,
+) -> Result<(), FollowFault>
+    ensures same { KeepsTold (D.puts shelf.old) (D.puts shelf.new) }
+    ensures counted { CountsFollow (D.failed shelf.old) (D.failed shelf.new) result }
+{
+    let paths = edge_files(alloc, size)?;
+    let mut files = read_files::<D>(alloc, shelf, &paths)?;
+    match judge_edge::<H>(alloc, &mut files, size, root) {
+        Ok(()) => Ok(()),
+        Err(fault) => Err(of_copy(fault)),
+    }
+}
+
 /// The checkpoint of the copy that stands on the shelf, if any. Its edge rows lead to its root, and the partial bundle at the edge has
 /// the leaf hashes of the lowest row. No signature is looked at.
 #[tactic(auto, using(crate::proofs::Kept::kept_twice))]
@@ -137,6 +232,12 @@ pub(crate) fn judge_copy<H: TreeHash, D: ReadableShelf>(
     shelf: &mut D,
 ) -> Result<Option<Candidate>, FollowFault>
     ensures same { KeepsTold (D.puts shelf.old) (D.puts shelf.new) }
+    ensures counted { CountsFollow (D.failed shelf.old) (D.failed shelf.new) result }
+    ensures head { IfOk result (λ copy. IfSome copy (IsHeadOf origin.now)) }
+    ensures copy { IfOk result (IsCopyOfRun H.digest origin.now (D.puts shelf.old)
+        (D.puts shelf.new)) }
+    ensures had { IfOk result
+        (λ copy. HadSize H.digest origin.now (D.puts shelf.old) (size_of_copy copy)) }
 {
     let Some(note) = shelf.read(&Path::Checkpoint)? else {
         return Ok(None);
@@ -145,12 +246,7 @@ pub(crate) fn judge_copy<H: TreeHash, D: ReadableShelf>(
         return Err(FollowFault::CopyDamaged);
     };
     let root = head.1;
-    let paths = edge_files(alloc, head.0)?;
-    let mut files = read_files::<D>(alloc, shelf, &paths)?;
-    match judge_edge::<H>(alloc, &mut files, head.0, &root) {
-        Ok(()) => {}
-        Err(fault) => return Err(of_copy(fault)),
-    }
+    judge_files::<H, D>(alloc, shelf, head.0, &root)?;
     Ok(Some(Candidate {
         size: Reverse(head.0),
         root,

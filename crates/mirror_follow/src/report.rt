@@ -1,4 +1,8 @@
 //! What a run of turns comes to: the forks that were seen, and what could not be had.
+ghost use Rattle.std.specs.Prelude.{◌≡◌, ◌⊎◌, IfErr, IfOk, None, OnOk, Some};
+ghost use Rattle.mirror_follow.specs.Standing.{IsSame, KnowsAfter, size_of_copy};
+ghost use Rattle.mirror_follow.specs.declared.candidate.Candidate.{Candidate};
+
 use crate::candidate::Candidate;
 use crate::fault::FollowFault;
 use std::alloc::{AllocError, Global};
@@ -48,23 +52,23 @@ pub(crate) enum Turn {
     Contradicts,
     /// A file of it was to be had from nowhere, or its bundle collides with that of the copy.
     NotHad(FollowFault),
-    /// The candidate before it has its size and root, so it had no turn.
-    Repeated,
 }
 
 // What is known during a run.
 #[derive(Drop)]
 pub(crate) struct Run {
     pub(crate) copy: Option<Candidate>,
-    old: u64,
-    forks: Vec<ForkLine>,
-    not_had: Vec<Candidate>,
+    pub(crate) had: u64,
+    pub(crate) forks: Vec<ForkLine>,
+    pub(crate) not_had: Vec<Candidate>,
     behind: Option<(u64, Hash)>,
     is_reached: bool,
-    first_fault: Option<FollowFault>,
+    pub(crate) first_fault: Option<FollowFault>,
 }
 
-fn copy_of(alloc: Global, candidate: &Candidate) -> Result<Candidate, AllocError> {
+fn copy_of(alloc: Global, candidate: &Candidate) -> Result<Candidate, AllocError>
+    ensures { IfOk result (IsSame candidate.now) }
+{
     let root = candidate.root;
     Ok(Candidate {
         size: Reverse(candidate.size.0),
@@ -82,18 +86,13 @@ fn is_same(first: &Candidate, second: &Candidate) -> bool {
     first.size.0 == second.size.0 && first.root == second.root
 }
 
-// The fork of two candidates, the lesser first.
-fn fork_of(
+// The line of two candidates, of which the first is the lesser.
+fn line_of(
     alloc: Global,
-    first: &Candidate,
-    second: &Candidate,
+    small: &Candidate,
+    large: &Candidate,
     proof: Option<Proof>,
 ) -> Result<ForkLine, AllocError> {
-    let (small, large) = if is_before(first, second) {
-        (first, second)
-    } else {
-        (second, first)
-    };
     let small = copy_of(alloc, small)?;
     let large = copy_of(alloc, large)?;
     Ok(ForkLine {
@@ -101,6 +100,19 @@ fn fork_of(
         large,
         proof,
     })
+}
+
+// The fork of two candidates, the lesser first.
+fn fork_of(
+    alloc: Global,
+    first: &Candidate,
+    second: &Candidate,
+    proof: Option<Proof>,
+) -> Result<ForkLine, AllocError> {
+    if is_before(first, second) {
+        return line_of(alloc, first, second, proof);
+    }
+    line_of(alloc, second, first, proof)
 }
 
 // Whether the first line comes before the second.
@@ -143,25 +155,28 @@ fn add_line(lines: &mut Vec<ForkLine>, line: ForkLine) -> Result<(), AllocError>
 
 // A candidate of the same size and another root.
 fn other_of<'a>(candidates: &'a [Candidate], candidate: &Candidate) -> Option<&'a Candidate> {
-    let mut found: Option<&'a Candidate> = None;
     for other in candidates {
-        if found.is_none() && other.size.0 == candidate.size.0 && other.root != candidate.root {
-            found = Some(other);
+        if other.size.0 == candidate.size.0 && other.root != candidate.root {
+            return Some(other);
         }
     }
-    found
+    None
 }
 
 impl Run {
     /// The run over that copy begins.
-    pub(crate) fn new(alloc: Global, copy: Option<Candidate>) -> Run {
-        let old = match &copy {
+    pub(crate) fn new(alloc: Global, copy: Option<Candidate>) -> Run
+        ensures copy { result.copy ≡ copy }
+        ensures had { result.had ≡ size_of_copy copy }
+        ensures fault { result.first_fault ≡ None }
+    {
+        let had = match &copy {
             Some(copy) => copy.size.0,
             None => 0,
         };
         Run {
             copy,
-            old,
+            had,
             forks: Vec::new(alloc),
             not_had: Vec::new(alloc),
             behind: None,
@@ -171,7 +186,11 @@ impl Run {
     }
 
     // The candidate agrees with the copy.
-    fn agree(&mut self, candidate: &Candidate) {
+    fn agree(&mut self, candidate: &Candidate)
+        ensures copy { self.new.copy ≡ self.old.copy }
+        ensures had { self.new.had ≡ self.old.had }
+        ensures fault { self.new.first_fault ≡ self.old.first_fault }
+    {
         let size = match &self.copy {
             Some(copy) => copy.size.0,
             None => 0,
@@ -191,7 +210,12 @@ impl Run {
         alloc: Global,
         candidate: &Candidate,
         fault: FollowFault,
-    ) -> Result<(), AllocError> {
+    ) -> Result<(), AllocError>
+        ensures copy { self.new.copy ≡ self.old.copy }
+        ensures had { self.new.had ≡ self.old.had }
+        ensures fault { (self.new.first_fault ≡ self.old.first_fault)
+            ⊎ (self.new.first_fault ≡ Some fault) }
+    {
         self.not_had.push(copy_of(alloc, candidate)?)?;
         if self.first_fault.is_none() {
             self.first_fault = Some(fault);
@@ -205,7 +229,11 @@ impl Run {
         alloc: Global,
         candidate: &Candidate,
         proof: Option<Proof>,
-    ) -> Result<(), AllocError> {
+    ) -> Result<(), AllocError>
+        ensures copy { self.new.copy ≡ self.old.copy }
+        ensures had { self.new.had ≡ self.old.had }
+        ensures fault { self.new.first_fault ≡ self.old.first_fault }
+    {
         match &self.copy {
             Some(copy) => {
                 let line = fork_of(alloc, copy, candidate, proof)?;
@@ -221,7 +249,13 @@ impl Run {
         alloc: Global,
         candidate: &Candidate,
         turn: Turn,
-    ) -> Result<(), AllocError> {
+    ) -> Result<(), AllocError>
+        ensures copy { OnOk result (KnowsAfter candidate.now turn self.old.copy self.new.copy) }
+        ensures had { self.new.had ≡ self.old.had }
+        ensures shelf { self.new.first_fault ≡ Some FollowFault.ShelfFault
+            → (self.old.first_fault ≡ Some FollowFault.ShelfFault)
+            ⊎ (turn ≡ Turn.NotHad FollowFault.ShelfFault) }
+    {
         match turn {
             Turn::Agrees => self.agree(candidate),
             Turn::Brought => {
@@ -231,9 +265,29 @@ impl Run {
             Turn::Forks(proof) => self.fork(alloc, candidate, proof)?,
             Turn::Contradicts => self.lack(alloc, candidate, FollowFault::Contradiction)?,
             Turn::NotHad(fault) => self.lack(alloc, candidate, fault)?,
-            Turn::Repeated => {}
         }
         Ok(())
+    }
+}
+
+// Adds the fork of a candidate that could not be had, where another candidate or the copy has its size. Whether there is none.
+fn is_larger(
+    alloc: Global,
+    copy: &Candidate,
+    candidates: &[Candidate],
+    candidate: &Candidate,
+    forks: &mut Vec<ForkLine>,
+) -> Result<bool, AllocError> {
+    if copy.size.0 == candidate.size.0 && copy.root != candidate.root {
+        add_line(forks, fork_of(alloc, copy, candidate, None)?)?;
+        return Ok(false);
+    }
+    match other_of(candidates, candidate) {
+        Some(other) => {
+            add_line(forks, fork_of(alloc, other, candidate, None)?)?;
+            Ok(false)
+        }
+        None => Ok(true),
     }
 }
 
@@ -248,13 +302,8 @@ fn split_not_had(
     let mut larger = Vec::new(alloc);
     for candidate in not_had {
         let root = candidate.root;
-        if copy.size.0 == candidate.size.0 {
-            add_line(forks, fork_of(alloc, copy, candidate, None)?)?;
-        } else {
-            match other_of(candidates, candidate) {
-                Some(other) => add_line(forks, fork_of(alloc, other, candidate, None)?)?,
-                None => larger.push((candidate.size.0, root))?,
-            }
+        if is_larger(alloc, copy, candidates, candidate, forks)? {
+            larger.push((candidate.size.0, root))?;
         }
     }
     Ok(larger)
@@ -265,10 +314,16 @@ pub(crate) fn report(
     alloc: Global,
     run: Run,
     candidates: &[Candidate],
-) -> Result<Followed, FollowFault> {
+) -> Result<Followed, FollowFault>
+    ensures copy { IfOk result (λ f. (copy : Candidate) × (run.copy ≡ Some copy)
+        × (f.size ≡ copy.size.0) × (f.root ≡ copy.root)) }
+    ensures had { IfOk result (λ f. f.old ≡ run.had) }
+    ensures fault { IfErr result (λ e. (e ≡ FollowFault.NoCheckpoint)
+        ⊎ ((e ≡ FollowFault.OutOfMemory) ⊎ (run.first_fault ≡ Some e))) }
+{
     let Run {
         copy,
-        old,
+        had,
         mut forks,
         not_had,
         behind,
@@ -285,7 +340,7 @@ pub(crate) fn report(
     Ok(Followed {
         size: copy.size.0,
         root,
-        old,
+        old: had,
         forks,
         larger,
         behind: if is_behind { behind } else { None },

@@ -1,10 +1,17 @@
 //! A copy that follows its places.
-ghost use Rattle.std.specs.Prelude.{◌≡◌, ◌<◌, ◌↔◌, All, IfOk, IsTrue, length, map};
+ghost use Rattle.std.specs.Prelude.{◌≡◌, ◌≢◌, ◌↔◌, ◌<◌, ◌≤◌, [], ℕ, All, IfErr, IfOk, IfSome, IsTrue, List, OnOk, Option, length, map, option_map};
 ghost use Rattle.mirror_sources.specs.Told.{KeepsTold};
-ghost use Rattle.mirror_copy.specs.Moments.{KeepsCopy};
+ghost use Rattle.mirror_folders.specs.Shelf.{Put};
+ghost use Rattle.mirror_copy.specs.Faults.{CountsFault};
+ghost use Rattle.mirror_copy.specs.Moments.{CopyStays, KeepsCopy};
+ghost use Rattle.mirror_follow.specs.Blame.{CountsFollow, IsGivenOrMayGive};
 ghost use Rattle.mirror_follow.specs.Candidates.{IsCandidate};
 ghost use Rattle.mirror_follow.specs.Gathering.{note_of};
 ghost use Rattle.mirror_follow.specs.Runs.{FollowsCandidates, KeepsCopies};
+ghost use Rattle.mirror_follow.specs.Renoting.{PutsNoteOver};
+ghost use Rattle.mirror_follow.specs.Standing.{IsFollowed, IsHeadOf, StandsAfter};
+ghost use Rattle.mirror_follow.specs.Turning.{ContinuesRun, IsRunFrom};
+ghost use Rattle.mirror_follow.specs.declared.candidate.Candidate.{Candidate};
 
 use crate::ask::ask_places;
 use crate::candidate::{Candidate, candidate_of};
@@ -18,9 +25,16 @@ use mirror_sources::Source;
 use signed_note::Verifier;
 use std::alloc::{AllocError, Global};
 use tlog_hash::{Hash, TreeHash};
+use tlog_tiles::Path;
 
 // What a fault of a bringing says of the candidate, or why the run ends.
-fn turn_of(fault: BringFault) -> Result<Turn, FollowFault> {
+fn turn_of(fault: BringFault) -> Result<Turn, FollowFault>
+    ensures after { IfOk result (λ turn. (digest : List ℕ → List ℕ) (origin : List ℕ)
+        (candidate : Candidate) (old new : Option (List Put)) → CopyStays digest origin old new
+        → StandsAfter digest origin candidate old new turn) }
+    ensures counted { (old new : ℕ) → CountsFault old new fault → CountsFollow old new result }
+    ensures shelf { IfOk result (λ turn. turn ≢ Turn.NotHad FollowFault.ShelfFault) }
+{
     match fault {
         BringFault::Contradiction => Ok(Turn::Contradicts),
         BringFault::NoFile => Ok(Turn::NotHad(FollowFault::NoFile)),
@@ -44,8 +58,12 @@ fn bring<H: TreeHash, D: ReadableShelf, S: Source + Drop>(
     places: &mut Places<S>,
     candidate: &Candidate,
 ) -> Result<Turn, FollowFault>
-    ensures { KeepsCopy H.digest origin.now (note_of candidate.now) (D.puts shelf.old)
+    ensures keeps { KeepsCopy H.digest origin.now (note_of candidate.now) (D.puts shelf.old)
         (D.puts shelf.new) }
+    ensures counted { CountsFollow (D.failed shelf.old) (D.failed shelf.new) result }
+    ensures after { IfOk result (λ turn. StandsAfter H.digest origin.now candidate.now
+        (D.puts shelf.old) (D.puts shelf.new) turn) }
+    ensures shelf { IfOk result (λ turn. turn ≢ Turn.NotHad FollowFault.ShelfFault) }
 {
     match bring_copy::<H, D, S>(alloc, origin, shelf, places, &candidate.note) {
         Ok(_) => Ok(Turn::Brought),
@@ -59,7 +77,12 @@ fn contradict<H: TreeHash, S: Source + Drop>(
     places: &mut Places<S>,
     run: &Run,
     candidate: &Candidate,
-) -> Result<Turn, AllocError> {
+) -> Result<Turn, AllocError>
+    ensures after { IfOk result (λ turn. (digest : List ℕ → List ℕ) (origin : List ℕ)
+        (old new : Option (List Put)) → CopyStays digest origin old new
+        → StandsAfter digest origin candidate.now old new turn) }
+    ensures had { IfOk result (λ turn. (fault : FollowFault) → turn ≢ Turn.NotHad fault) }
+{
     let Some(copy) = &run.copy else {
         return Ok(Turn::Contradicts);
     };
@@ -78,8 +101,12 @@ fn take_larger<H: TreeHash, D: ReadableShelf, S: Source + Drop>(
     run: &Run,
     candidate: &Candidate,
 ) -> Result<Turn, FollowFault>
-    ensures { KeepsCopy H.digest origin.now (note_of candidate.now) (D.puts shelf.old)
+    ensures keeps { KeepsCopy H.digest origin.now (note_of candidate.now) (D.puts shelf.old)
         (D.puts shelf.new) }
+    ensures counted { CountsFollow (D.failed shelf.old) (D.failed shelf.new) result }
+    ensures after { IfOk result (λ turn. StandsAfter H.digest origin.now candidate.now
+        (D.puts shelf.old) (D.puts shelf.new) turn) }
+    ensures shelf { IfOk result (λ turn. turn ≢ Turn.NotHad FollowFault.ShelfFault) }
 {
     let turn = bring::<H, D, S>(alloc, origin, shelf, places, candidate)?;
     match turn {
@@ -88,9 +115,16 @@ fn take_larger<H: TreeHash, D: ReadableShelf, S: Source + Drop>(
     }
 }
 
-// The root that a candidate of no entries has to have, or of the copy's size.
-fn root_due<H: TreeHash>(copy: &Candidate, size: u64) -> Hash {
-    if size == 0 { H::empty() } else { copy.root }
+// The root that a candidate of the copy's size has to have, or of no entries.
+fn root_due<H: TreeHash>(copy: &Candidate, size: u64) -> Hash
+    ensures copy { size ≡ copy.now.size.0 → result ≡ copy.now.root }
+    ensures none { size ≢ copy.now.size.0 → result ≡ H.digest [] }
+{
+    if size == copy.size.0 {
+        copy.root
+    } else {
+        H::empty()
+    }
 }
 
 // The turn of a candidate that is not larger than the copy.
@@ -100,7 +134,13 @@ fn take_smaller<H: TreeHash, D: ReadableShelf>(
     copy: &Candidate,
     candidate: &Candidate,
 ) -> Result<Turn, FollowFault>
-    ensures { KeepsTold (D.puts shelf.old) (D.puts shelf.new) }
+    requires { candidate.now.size.0 ≤ copy.now.size.0 }
+    ensures same { KeepsTold (D.puts shelf.old) (D.puts shelf.new) }
+    ensures counted { CountsFollow (D.failed shelf.old) (D.failed shelf.new) result }
+    ensures after { IfOk result (λ turn. (digest : List ℕ → List ℕ) (origin : List ℕ)
+        (old new : Option (List Put)) → CopyStays digest origin old new
+        → StandsAfter digest origin candidate.now old new turn) }
+    ensures had { IfOk result (λ turn. (fault : FollowFault) → turn ≢ Turn.NotHad fault) }
 {
     let size = candidate.size.0;
     if size == 0 || size == copy.size.0 {
@@ -123,30 +163,155 @@ fn is_same_point(first: &Candidate, second: &Candidate) -> bool
     first.size.0 == second.size.0 && first.root == second.root
 }
 
-// The turn of a candidate of a list.
-fn turn_at<H: TreeHash, D: ReadableShelf, S: Source + Drop>(
+fn is_same(first: &[u8], second: &[u8]) -> bool
+    ensures { IsTrue result ↔ (first.now ≡ second.now) }
+{
+    first == second
+}
+
+// Puts the note of a candidate in place of the copy's, where that still stands.
+fn put_note<D: ReadableShelf>(
+    shelf: &mut D,
+    copy: &Candidate,
+    candidate: &Candidate,
+) -> Result<(), FollowFault>
+    ensures puts { PutsNoteOver (D.puts shelf.old) (D.puts shelf.new) (note_of copy.now)
+        (note_of candidate.now) result }
+    ensures counted { CountsFollow (D.failed shelf.old) (D.failed shelf.new) result }
+{
+    let Some(there) = shelf.read(&Path::Checkpoint)? else {
+        return Err(FollowFault::CopyInUse);
+    };
+    if !is_same(&there, &copy.note) {
+        return Err(FollowFault::CopyInUse);
+    }
+    shelf.put(&Path::Checkpoint, &candidate.note)?;
+    Ok(())
+}
+
+// The turn of a candidate of the copy's size and root, whose note is put in place of the copy's.
+fn renote<H: TreeHash, D: ReadableShelf>(
+    origin: &str,
+    shelf: &mut D,
+    copy: &Candidate,
+    candidate: &Candidate,
+) -> Result<Turn, FollowFault>
+    requires copy { IsHeadOf origin.now copy.now }
+    requires candidate { IsHeadOf origin.now candidate.now }
+    requires size { copy.now.size.0 ≡ candidate.now.size.0 }
+    requires root { copy.now.root ≡ candidate.now.root }
+    ensures keeps { KeepsCopy H.digest origin.now (note_of candidate.now) (D.puts shelf.old)
+        (D.puts shelf.new) }
+    ensures counted { CountsFollow (D.failed shelf.old) (D.failed shelf.new) result }
+    ensures after { IfOk result (λ turn. StandsAfter H.digest origin.now candidate.now
+        (D.puts shelf.old) (D.puts shelf.new) turn) }
+    ensures brought { IfOk result (λ turn. turn ≡ Turn.Brought) }
+{
+    put_note(shelf, copy, candidate)?;
+    Ok(Turn::Brought)
+}
+
+// The turn of a candidate that is not larger than the copy. The shelf stays as it is.
+fn compare<H: TreeHash, D: ReadableShelf>(
+    alloc: Global,
+    origin: &str,
+    shelf: &mut D,
+    copy: &Candidate,
+    candidate: &Candidate,
+) -> Result<Turn, FollowFault>
+    requires { candidate.now.size.0 ≤ copy.now.size.0 }
+    ensures keeps { KeepsCopy H.digest origin.now (note_of candidate.now) (D.puts shelf.old)
+        (D.puts shelf.new) }
+    ensures counted { CountsFollow (D.failed shelf.old) (D.failed shelf.new) result }
+    ensures after { IfOk result (λ turn. StandsAfter H.digest origin.now candidate.now
+        (D.puts shelf.old) (D.puts shelf.new) turn) }
+    ensures had { IfOk result (λ turn. (fault : FollowFault) → turn ≢ Turn.NotHad fault) }
+{
+    take_smaller::<H, D>(alloc, shelf, copy, candidate)
+}
+
+// What comes of the turn of a candidate. One that is as the copy, with a note that is less by its bytes, gives the copy that note.
+fn turn_for<H: TreeHash, D: ReadableShelf, S: Source + Drop>(
     alloc: Global,
     origin: &str,
     shelf: &mut D,
     places: &mut Places<S>,
     run: &Run,
-    candidates: &[Candidate],
-    i: usize,
+    candidate: &Candidate,
 ) -> Result<Turn, FollowFault>
-    requires { i < length candidates.now }
-    ensures { KeepsCopies H.digest origin.now (map note_of candidates.now) (D.puts shelf.old)
+    requires head { IsHeadOf origin.now candidate.now }
+    requires copy { IfSome run.now.copy (IsHeadOf origin.now) }
+    ensures keeps { KeepsCopy H.digest origin.now (note_of candidate.now) (D.puts shelf.old)
         (D.puts shelf.new) }
+    ensures counted { CountsFollow (D.failed shelf.old) (D.failed shelf.new) result }
+    ensures after { IfOk result (λ turn. StandsAfter H.digest origin.now candidate.now
+        (D.puts shelf.old) (D.puts shelf.new) turn) }
+    ensures shelf { IfOk result (λ turn. turn ≢ Turn.NotHad FollowFault.ShelfFault) }
 {
-    let candidate = &candidates[i];
-    if i > 0 && is_same_point(&candidates[i - 1], candidate) {
-        return Ok(Turn::Repeated);
-    }
     if let Some(copy) = &run.copy {
+        if is_same_point(copy, candidate) && candidate.note < copy.note {
+            return renote::<H, D>(origin, shelf, copy, candidate);
+        }
         if candidate.size.0 <= copy.size.0 {
-            return take_smaller::<H, D>(alloc, shelf, copy, candidate);
+            return compare::<H, D>(alloc, origin, shelf, copy, candidate);
         }
     }
     take_larger::<H, D, S>(alloc, origin, shelf, places, run, candidate)
+}
+
+// Lets a candidate have its turn.
+fn take_turn<H: TreeHash, D: ReadableShelf, S: Source + Drop>(
+    alloc: Global,
+    origin: &str,
+    shelf: &mut D,
+    places: &mut Places<S>,
+    run: &mut Run,
+    candidate: &Candidate,
+) -> Result<(), FollowFault>
+    requires head { IsHeadOf origin.now candidate.now }
+    requires copy { IfSome run.old.copy (IsHeadOf origin.now) }
+    ensures keeps { KeepsCopy H.digest origin.now (note_of candidate.now) (D.puts shelf.old)
+        (D.puts shelf.new) }
+    ensures counted { CountsFollow (D.failed shelf.old) (D.failed shelf.new) result }
+    ensures run { OnOk result (ContinuesRun H.digest origin.now (D.puts shelf.old)
+        (D.puts shelf.new) run.old run.new) }
+{
+    let turn = turn_for::<H, D, S>(alloc, origin, shelf, places, run, candidate)?;
+    run.add(alloc, candidate, turn)?;
+    Ok(())
+}
+
+// Whether a candidate of a list has the size and root of the one before it.
+fn is_repeated(candidates: &[Candidate], i: usize) -> bool
+    requires { i < length candidates.now }
+{
+    i > 0 && is_same_point(&candidates[i - 1], &candidates[i])
+}
+
+// Lets a candidate of a list have its turn, unless the one before it has its size and root.
+#[tactic(auto, using(crate::proofs::Kept::head_at))]
+fn take_turn_at<H: TreeHash, D: ReadableShelf, S: Source + Drop>(
+    alloc: Global,
+    origin: &str,
+    shelf: &mut D,
+    places: &mut Places<S>,
+    run: &mut Run,
+    candidates: &[Candidate],
+    i: usize,
+) -> Result<(), FollowFault>
+    requires within { i < length candidates.now }
+    requires heads { All (IsHeadOf origin.now) candidates.now }
+    requires copy { IfSome run.old.copy (IsHeadOf origin.now) }
+    ensures keeps { KeepsCopies H.digest origin.now (map note_of candidates.now)
+        (D.puts shelf.old) (D.puts shelf.new) }
+    ensures counted { CountsFollow (D.failed shelf.old) (D.failed shelf.new) result }
+    ensures run { OnOk result (ContinuesRun H.digest origin.now (D.puts shelf.old)
+        (D.puts shelf.new) run.old run.new) }
+{
+    if is_repeated(candidates, i) {
+        return Ok(());
+    }
+    take_turn::<H, D, S>(alloc, origin, shelf, places, run, &candidates[i])
 }
 
 // Lets each candidate have its turn, the greatest first. Of several of one size and root the first alone is tried.
@@ -158,13 +323,17 @@ fn take_turns<H: TreeHash, D: ReadableShelf, S: Source + Drop>(
     copy: Option<Candidate>,
     candidates: &[Candidate],
 ) -> Result<Run, FollowFault>
-    ensures { KeepsCopies H.digest origin.now (map note_of candidates.now) (D.puts shelf.old)
-        (D.puts shelf.new) }
+    requires heads { All (IsHeadOf origin.now) candidates.now }
+    requires copy { IfSome copy (IsHeadOf origin.now) }
+    ensures keeps { KeepsCopies H.digest origin.now (map note_of candidates.now)
+        (D.puts shelf.old) (D.puts shelf.new) }
+    ensures counted { CountsFollow (D.failed shelf.old) (D.failed shelf.new) result }
+    ensures run { IfOk result (IsRunFrom H.digest origin.now (D.puts shelf.old)
+        (D.puts shelf.new) copy) }
 {
     let mut run = Run::new(alloc, copy);
     for i in 0..candidates.len() {
-        let turn = turn_at::<H, D, S>(alloc, origin, shelf, places, &run, candidates, i)?;
-        run.add(alloc, &candidates[i], turn)?;
+        take_turn_at::<H, D, S>(alloc, origin, shelf, places, &mut run, candidates, i)?;
     }
     Ok(run)
 }
@@ -177,8 +346,10 @@ fn given_candidate(
     keys: &[Box<dyn Verifier>],
     note: Vec<u8>,
 ) -> Result<Vec<Candidate>, FollowFault>
-    ensures { IfOk result
+    ensures opened { IfOk result
         (λ candidates. All (IsCandidate origin.now (map (λ k. key k) keys.now)) candidates.items) }
+    ensures given { IfOk result (λ candidates. All (λ c. note_of c ≡ note.items) candidates.items) }
+    ensures shelf { IfErr result (λ e. e ≢ FollowFault.ShelfFault) }
 {
     let mut candidates = Vec::new(alloc);
     match candidate_of(alloc, origin, keys, note) {
@@ -197,8 +368,11 @@ fn candidates_of<S: Source + Drop>(
     places: &mut Places<S>,
     given: Option<Vec<u8>>,
 ) -> Result<Vec<Candidate>, FollowFault>
-    ensures { IfOk result
+    ensures opened { IfOk result
         (λ candidates. All (IsCandidate origin.now (map (λ k. key k) keys.now)) candidates.items) }
+    ensures gave { IfOk result (λ candidates. All (λ c. IsGivenOrMayGive S.may_answer
+        (option_map (λ v. v.items) given) places.old (note_of c)) candidates.items) }
+    ensures shelf { IfErr result (λ e. e ≢ FollowFault.ShelfFault) }
 {
     match given {
         Some(note) => given_candidate(alloc, origin, keys, note),
@@ -211,7 +385,7 @@ fn candidates_of<S: Source + Drop>(
 ///
 /// A candidate is a note that opens under the keys and whose text is a checkpoint of the origin: the note that is given, else what
 /// each place answers for its checkpoint. Candidates have their turn by falling size, then rising root; of several of one size and
-/// root the first by its bytes counts. The copy is brought to a larger one, as by `bring_copy`. Of a smaller one the root is compared with
+/// root the first by its bytes counts. Where that is less than the copy's own note, it is put in its place. The copy is brought to a larger one, as by `bring_copy`. Of a smaller one the root is compared with
 /// that of the copy's first entries, from verified files of the copy. A larger one that contradicts the copy is a fork where a place
 /// has the files of the proof; otherwise it is `larger`, as one that could not be had.
 ///
@@ -232,6 +406,7 @@ fn candidates_of<S: Source + Drop>(
 ///   a candidate, and the first has none, or failed.
 /// - Where the copy was empty and still is, the fault of the greatest candidate: `NoFile`, `Source`, `Contradiction` or `Collision`.
 /// - `OutOfMemory`: memory was refused.
+#[tactic(auto, using(crate::proofs::Kept::heads_open))]
 pub fn follow<H: TreeHash, D: ReadableShelf, S: Source + Drop>(
     alloc: Global,
     origin: &str,
@@ -241,7 +416,11 @@ pub fn follow<H: TreeHash, D: ReadableShelf, S: Source + Drop>(
     given: Option<Vec<u8>>,
 ) -> Result<Followed, FollowFault>
     ensures whole { FollowsCandidates H.digest origin.now (map (λ k. key k) keys.now)
+        (IsGivenOrMayGive S.may_answer (option_map (λ v. v.items) given) places.old)
         (D.puts shelf.old) (D.puts shelf.new) }
+    ensures brought { IfOk result
+        (IsFollowed H.digest origin.now (D.puts shelf.old) (D.puts shelf.new)) }
+    ensures counted { CountsFollow (D.failed shelf.old) (D.failed shelf.new) result }
 {
     let copy = judge_copy::<H, D>(alloc, origin, shelf)?;
     let candidates = candidates_of::<S>(alloc, origin, keys, places, given)?;

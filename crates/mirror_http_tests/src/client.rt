@@ -1,7 +1,7 @@
 //! The client: its requests, the replies that it reads, and its source over connections that give one reply.
 mod canned;
 mod connections;
-mod pulls;
+pub(crate) mod pulls;
 mod replies;
 mod sites;
 mod sources;

@@ -1,4 +1,4 @@
-//! The tests of what reads and writes streams: `byte_streams`, and the client and the server of `mirror_http`.
+//! The tests of what reads and writes streams: `byte_streams`, the client and the server of `mirror_http`, and `copy_server`.
 //!
 //! They stand in a crate of their own, since a crate's tests are checked together with the crate again. There is no other
 //! code.
@@ -6,6 +6,8 @@
 
 #[cfg(test)]
 mod client;
+#[cfg(test)]
+mod copies;
 #[cfg(test)]
 mod served;
 #[cfg(test)]

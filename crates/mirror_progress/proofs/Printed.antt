@@ -6,9 +6,9 @@ use Rattle.std.specs.Fmt.{decimal, digits, digits_onto, digit_glyph}
 use Rattle.std.proofs.lemmas.Bool.{lt-ltb}
 use Rattle.mirror_progress.specs.declared.counts.Counts.{Counts}
 use Rattle.mirror_progress.specs.declared.task.Task.{Task}
-use Rattle.mirror_progress.specs.declared.task.Task.TheVariants.{Build, Pull, Export}
+use Rattle.mirror_progress.specs.declared.task.Task.TheVariants.{Build, Pull, Export, Follow, Audit}
 use Rattle.mirror_progress.specs.Text.{comma_before, with_commas, count_text, files_text, size_text, task_text}
-use Rattle.mirror_progress.specs.Text.{counts_text, progress_text, older_text, grown_text, pulled_text, line_of}
+use Rattle.mirror_progress.specs.Text.{counts_text, bytes_text, share_text, progress_text, older_text, grown_text, pulled_text, line_of}
 use Rattle.mirror_progress.specs.Text.{is_printed, are_printed, IsLine}
 
 both : (a b : Bool) → a ≡ true → b ≡ true → (a && b) ≡ true
@@ -110,15 +110,33 @@ printed_task : (task : Task) → are_printed (task_text task) ≡ true
 printed_task Build = refl
 printed_task Pull = refl
 printed_task Export = refl
+printed_task Follow = refl
+printed_task Audit = refl
+
+printed_behind : (bytes : ℕ) → are_printed (codes ", " ++ size_text bytes) ≡ true
+printed_behind bytes = printed-append (codes ", ") (size_text bytes) refl (printed_size bytes)
+
+printed_bytes : (task : Task) (bytes : ℕ) → are_printed (bytes_text task bytes) ≡ true
+printed_bytes Build bytes = refl
+printed_bytes Pull bytes = refl
+printed_bytes Export bytes = refl
+printed_bytes Follow bytes = printed_behind bytes
+printed_bytes Audit bytes = printed_behind bytes
+
+printed_share : (task : Task) (all : ℕ) (counts : Counts) → are_printed (share_text task all counts) ≡ true
+printed_share task all counts =
+    let last : List ℕ = files_text all ++ bytes_text task counts.bytes in
+    printed_amount counts.files (codes " of " ++ last)
+    (printed-append (codes " of ") last refl
+    (printed-append (files_text all) (bytes_text task counts.bytes) (printed_files all)
+    (printed_bytes task counts.bytes)))
 
 pub printed_progress : (task : Task) (all : Option ℕ) (counts : Counts) →
     are_printed (progress_text task all counts) ≡ true
 printed_progress task None counts =
     printed-append (task_text task) (counts_text counts) (printed_task task) (printed_counts counts)
 printed_progress task (Some all) counts =
-    printed-append (task_text task) (count_text counts.files ++ (codes " of " ++ files_text all)) (printed_task task)
-    (printed_amount counts.files (codes " of " ++ files_text all)
-    (printed-append (codes " of ") (files_text all) refl (printed_files all)))
+    printed-append (task_text task) (share_text task all counts) (printed_task task) (printed_share task all counts)
 
 printed_older : (size held : ℕ) → are_printed (older_text size held) ≡ true
 printed_older size held =
@@ -127,18 +145,19 @@ printed_older size held =
     (printed_amount size behind
     (printed-append (codes " entries, older than one held of ") (count_text held) refl (printed_count held)))
 
-printed_grown : (held size : ℕ) (counts : Counts) → are_printed (grown_text held size counts) ≡ true
-printed_grown held size counts =
+pub printed_grown : (task : Task) (held size : ℕ) (counts : Counts) →
+    are_printed (grown_text task held size counts) ≡ true
+printed_grown task held size counts =
     let last : List ℕ = codes " entries, " ++ counts_text counts in
     let behind : List ℕ = codes " to " ++ (count_text size ++ last) in
-    printed-append (codes "pull: ") (count_text held ++ behind) refl
+    printed-append (task_text task) (count_text held ++ behind) (printed_task task)
     (printed_amount held behind (printed-append (codes " to ") (count_text size ++ last) refl
     (printed_amount size last (printed-append (codes " entries, ") (counts_text counts) refl (printed_counts counts)))))
 
 pub printed_pulled : (held size : ℕ) (counts : Counts) → are_printed (pulled_text held size counts) ≡ true
 printed_pulled held size counts =
-    printed_choice (nat_lt size held) (older_text size held) (grown_text held size counts) (printed_older size held)
-    (printed_grown held size counts)
+    printed_choice (nat_lt size held) (older_text size held) (grown_text Pull held size counts) (printed_older size held)
+    (printed_grown Pull held size counts)
 
 -- ---- lines
 

@@ -6,7 +6,7 @@ use Rattle.std.specs.Fmt.{decimal}
 use Rattle.std.specs.List.{list_all}
 use Rattle.mirror_progress.specs.declared.counts.Counts.{Counts}
 use Rattle.mirror_progress.specs.declared.task.Task.{Task}
-use Rattle.mirror_progress.specs.declared.task.Task.TheVariants.{Build, Pull, Export}
+use Rattle.mirror_progress.specs.declared.task.Task.TheVariants.{Build, Pull, Export, Follow, Audit}
 
 -- ---- numbers
 
@@ -44,17 +44,31 @@ abbrev pub task_text : Task → List ℕ
 task_text Build = codes "build: "
 task_text Pull = codes "pull: "
 task_text Export = codes "export: "
+task_text Follow = codes "follow: "
+task_text Audit = codes "audit: "
 
 -- how many files, and their bytes
 abbrev pub counts_text : Counts → List ℕ
 counts_text counts = files_text counts.files ++ (codes ", " ++ size_text counts.bytes)
 
+-- the bytes of the files, where it is known how many files there are in all: two commands tell them
+abbrev pub bytes_text : Task → ℕ → List ℕ
+bytes_text Build bytes = []
+bytes_text Pull bytes = []
+bytes_text Export bytes = []
+bytes_text Follow bytes = codes ", " ++ size_text bytes
+bytes_text Audit bytes = codes ", " ++ size_text bytes
+
+-- how many files of how many
+abbrev pub share_text : Task → ℕ → Counts → List ℕ
+share_text task all counts =
+    count_text counts.files ++ (codes " of " ++ (files_text all ++ bytes_text task counts.bytes))
+
 -- how far the work of a command is: `pull: 1,024 files, 23 MB`, and where it is known how many
--- files it is in all `export: 3,200 of 7,833 files`
+-- files it is in all `export: 3,200 of 7,833 files` or `follow: 1,024 of 7,832 files, 23 MB`
 abbrev pub progress_text : Task → Option ℕ → Counts → List ℕ
 progress_text task None counts = task_text task ++ counts_text counts
-progress_text task (Some all) counts =
-    task_text task ++ (count_text counts.files ++ (codes " of " ++ files_text all))
+progress_text task (Some all) counts = task_text task ++ share_text task all counts
 
 -- a pull found a checkpoint that is older than one that was held before
 abbrev pub older_text : ℕ → ℕ → List ℕ
@@ -62,17 +76,17 @@ older_text size held =
     codes "pull: checkpoint of " ++ (count_text size
     ++ (codes " entries, older than one held of " ++ count_text held))
 
--- a pull went from so many entries to so many, by so many files
-abbrev pub grown_text : ℕ → ℕ → Counts → List ℕ
-grown_text held size counts =
-    codes "pull: " ++ (count_text held ++ (codes " to " ++ (count_text size ++ (codes " entries, "
+-- a command went from so many entries to so many, by so many files
+abbrev pub grown_text : Task → ℕ → ℕ → Counts → List ℕ
+grown_text task held size counts =
+    task_text task ++ (count_text held ++ (codes " to " ++ (count_text size ++ (codes " entries, "
     ++ counts_text counts))))
 
 -- what a pull came to, where the largest checkpoint that was held before it had so many entries, and
 -- the one that was pulled has so many
 abbrev pub pulled_text : ℕ → ℕ → Counts → List ℕ
 pulled_text held size counts =
-    if nat_lt size held then older_text size held else grown_text held size counts
+    if nat_lt size held then older_text size held else grown_text Pull held size counts
 
 -- ---- lines
 

@@ -11,12 +11,27 @@ use std::fs::Files;
 /// folders.expect(7_833);
 /// folders.open("log")?;
 /// folders.put(&path, bytes)?; // once a second has passed: export: 3,200 of 7,833 files
+/// folders.end();              // export: 7,833 of 7,833 files
 /// ```
 pub trait ToldFolders: NamedFolders {
     ghost use Rattle.std.specs.Prelude.{◌≡◌};
 
     /// From now on it is told how many files are put, by a line now and then, under the name of that command.
     fn begin(&mut self, _task: Task)
+        ensures puts { Self.puts self.new ≡ Self.puts self.old }
+        ensures held { Self.held self.new ≡ Self.held self.old }
+        ensures failed { Self.failed self.new ≡ Self.failed self.old }
+    {}
+
+    /// The work is done: a line says how many files were put, unless the last line says so.
+    fn end(&mut self)
+        ensures puts { Self.puts self.new ≡ Self.puts self.old }
+        ensures held { Self.held self.new ≡ Self.held self.old }
+        ensures failed { Self.failed self.new ≡ Self.failed self.old }
+    {}
+
+    /// A copy was followed: a line says from how many entries to how many it grew, and how many files were put.
+    fn end_followed(&mut self, _old: u64, _size: u64)
         ensures puts { Self.puts self.new ≡ Self.puts self.old }
         ensures held { Self.held self.new ≡ Self.held self.old }
         ensures failed { Self.failed self.new ≡ Self.failed self.old }

@@ -1,6 +1,6 @@
 //! The lines that tell how far the work is.
 ghost use Rattle.std.specs.Prelude.{◌≡◌, ◌∷◌, ◌++◌, IfOk, OnOk};
-ghost use Rattle.mirror_progress.specs.Text.{comma_before, with_commas, count_text, files_text, size_text, task_text, counts_text, progress_text, older_text, grown_text, pulled_text, line_of, IsLine};
+ghost use Rattle.mirror_progress.specs.Text.{comma_before, with_commas, count_text, files_text, size_text, task_text, counts_text, bytes_text, share_text, progress_text, older_text, grown_text, pulled_text, line_of, IsLine};
 
 use crate::counts::Counts;
 use crate::task::Task;
@@ -10,12 +10,13 @@ use std::alloc::{AllocError, Global};
 const COLUMNS: usize = 79;
 
 /// How far the work of a command is, as one line of at most 80 bytes with its newline: how many files were fetched or
-/// put, and how many they are in all, or where that is not known how many bytes those have. The bytes are told in the
-/// largest decimal unit of which there is one, rounded down.
+/// put, and of how many in all, where that is known. Where it is not known, and for `follow` and `audit`, the line also
+/// says how many bytes those files have, in the largest decimal unit of which there is one, rounded down.
 ///
 /// ```text
 /// progress_line(alloc, Task::Pull, None, counts)           // pull: 1,024 files, 23 MB
 /// progress_line(alloc, Task::Export, Some(7_833), counts)  // export: 3,200 of 7,833 files
+/// progress_line(alloc, Task::Follow, Some(7_832), counts)  // follow: 1,024 of 7,832 files, 23 MB
 /// ```
 ///
 /// # Errors
@@ -62,6 +63,31 @@ pub fn pulled_line(
     Ok(line)
 }
 
+/// What following came to, as such a line: from how many entries to how many the copy grew, and how many files were put.
+///
+/// ```text
+/// followed_line(alloc, 5_000, 5_300, counts)  // follow: 5,000 to 5,300 entries, 4 files, 91 kB
+/// ```
+///
+/// # Errors
+///
+/// Memory was refused.
+pub fn followed_line(
+    alloc: Global,
+    old: u64,
+    size: u64,
+    counts: Counts,
+) -> Result<Vec<u8>, AllocError>
+    ensures text { IfOk result
+        (λ line. line.items ≡ line_of (grown_text Task.Follow old size counts)) }
+    ensures line { IfOk result (λ line. IsLine line.items) }
+{
+    let mut line = Vec::new(alloc);
+    push_grown(alloc, &mut line, Task::Follow, old, size, counts)?;
+    end_line(&mut line)?;
+    Ok(line)
+}
+
 // Cuts a text to what a line has room for, and ends it.
 fn end_line(text: &mut Vec<u8>) -> Result<(), AllocError>
     ensures { OnOk result (text.new.items ≡ line_of text.old.items) }
@@ -83,10 +109,35 @@ fn push_progress(
     push_task(text, task)?;
     match all {
         None => push_counts(alloc, text, counts),
-        Some(all) => {
-            push_count(alloc, text, counts.files)?;
-            text.extend_from_slice(b" of ")?;
-            push_files(alloc, text, all)
+        Some(all) => push_share(alloc, text, task, all, counts),
+    }
+}
+
+// How many files of how many, and for some commands their bytes.
+fn push_share(
+    alloc: Global,
+    text: &mut Vec<u8>,
+    task: Task,
+    all: u64,
+    counts: Counts,
+) -> Result<(), AllocError>
+    ensures { OnOk result (text.new.items ≡ text.old.items ++ share_text task all counts) }
+{
+    push_count(alloc, text, counts.files)?;
+    text.extend_from_slice(b" of ")?;
+    push_files(alloc, text, all)?;
+    push_bytes(alloc, text, task, counts.bytes)
+}
+
+// The bytes of the files, for a command whose line says them.
+fn push_bytes(alloc: Global, text: &mut Vec<u8>, task: Task, bytes: u64) -> Result<(), AllocError>
+    ensures { OnOk result (text.new.items ≡ text.old.items ++ bytes_text task bytes) }
+{
+    match task {
+        Task::Build | Task::Pull | Task::Export => Ok(()),
+        Task::Follow | Task::Audit => {
+            text.extend_from_slice(b", ")?;
+            push_size(alloc, text, bytes)
         }
     }
 }
@@ -103,7 +154,7 @@ fn push_pulled(
     if size < held {
         push_older(alloc, text, size, held)
     } else {
-        push_grown(alloc, text, held, size, counts)
+        push_grown(alloc, text, Task::Pull, held, size, counts)
     }
 }
 
@@ -117,17 +168,18 @@ fn push_older(alloc: Global, text: &mut Vec<u8>, size: u64, held: u64) -> Result
     push_count(alloc, text, held)
 }
 
-// From how many entries to how many the pull came, and how much it fetched.
+// From how many entries to how many the command came, and how much it fetched or put.
 fn push_grown(
     alloc: Global,
     text: &mut Vec<u8>,
+    task: Task,
     held: u64,
     size: u64,
     counts: Counts,
 ) -> Result<(), AllocError>
-    ensures { OnOk result (text.new.items ≡ text.old.items ++ grown_text held size counts) }
+    ensures { OnOk result (text.new.items ≡ text.old.items ++ grown_text task held size counts) }
 {
-    text.extend_from_slice(b"pull: ")?;
+    push_task(text, task)?;
     push_count(alloc, text, held)?;
     text.extend_from_slice(b" to ")?;
     push_count(alloc, text, size)?;
@@ -142,6 +194,8 @@ fn push_task(text: &mut Vec<u8>, task: Task) -> Result<(), AllocError>
         Task::Build => text.extend_from_slice(b"build: "),
         Task::Pull => text.extend_from_slice(b"pull: "),
         Task::Export => text.extend_from_slice(b"export: "),
+        Task::Follow => text.extend_from_slice(b"follow: "),
+        Task::Audit => text.extend_from_slice(b"audit: "),
     }
 }
 

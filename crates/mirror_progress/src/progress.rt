@@ -2,18 +2,22 @@
 ghost use Rattle.std.specs.Prelude.{◌≡◌, ◌↔◌, None, Some, IfOk, IsTrue, OnErr, is_some, option_map};
 ghost use Rattle.std.specs.Time.{instant_nanos};
 ghost use Rattle.byte_streams.specs.Streams.{AppendsPrefix};
-ghost use Rattle.mirror_progress.specs.Text.{with_file, line_of, pulled_text};
-ghost use Rattle.mirror_progress.specs.Telling.{IsDue, IsSecondAfter, TellsAt, TellsOnce};
+ghost use Rattle.mirror_progress.specs.Text.{with_file, line_of, grown_text, pulled_text};
+ghost use Rattle.mirror_progress.specs.Telling.{IsDue, IsSecondAfter, TellsAt, TellsOnce, told_line};
 
 use crate::counts::Counts;
-use crate::line::{progress_line, pulled_line};
+use crate::line::{followed_line, progress_line, pulled_line};
 use crate::task::Task;
 use byte_streams::write_whole;
+use mirror_export::files_to_put;
+use signed_note::Note;
 use std::alloc::{AllocError, Global};
 use std::io;
 use std::io::Write;
 use std::marker::Model;
 use std::time::{Clock, Duration, Instant};
+use tlog_checkpoint::read;
+use tlog_tiles::Path;
 
 // A line may be written so many seconds after the last, or after the work began.
 const SECONDS: u64 = 1;
@@ -38,6 +42,8 @@ pub struct Progress<C: Clock + Drop, W: Write + Drop> {
     all: Option<u64>,
     counts: Counts,
     due: Option<Instant>,
+    // Whether the last line says what is done now.
+    is_told_now: bool,
 }
 
 impl<C: Clock + Drop, W: Write + Drop> Model for Progress<C, W> {
@@ -88,6 +94,17 @@ fn write_line<W: Write>(writer: &mut W, line: &[u8])
     }
 }
 
+// How many entries the checkpoint of a note has; None where the bytes are no such note, or memory was refused.
+fn log_size(alloc: Global, note: &[u8]) -> Option<u64> {
+    let Ok(note) = Note::read(alloc, note) else {
+        return None;
+    };
+    let Ok(checkpoint) = read(alloc, note.text()) else {
+        return None;
+    };
+    Some(checkpoint.size)
+}
+
 impl<C: Clock + Drop, W: Write + Drop> Progress<C, W> {
     /// It tells nothing yet. It takes no memory.
     pub fn new(alloc: Global, clock: C, writer: W) -> Self
@@ -104,6 +121,7 @@ impl<C: Clock + Drop, W: Write + Drop> Progress<C, W> {
             all: None,
             counts: Counts::new(),
             due: None,
+            is_told_now: false,
         }
     }
 
@@ -119,6 +137,7 @@ impl<C: Clock + Drop, W: Write + Drop> Progress<C, W> {
         self.all = None;
         self.counts = Counts::new();
         self.due = first_due(&Instant::now(&self.clock));
+        self.is_told_now = false;
     }
 
     /// Whether anything is told: from `begin` on, where the clock can be read.
@@ -133,6 +152,24 @@ impl<C: Clock + Drop, W: Write + Drop> Progress<C, W> {
         ensures { self.new ≡ record self.old { all = Some all } }
     {
         self.all = Some(all);
+        self.is_told_now = false;
+    }
+
+    /// Says that a file was read. Where it is the checkpoint, an audit reads all files of its log: so many are expected from then on. Of
+    /// another file or another command, and of bytes that are no note of a checkpoint, nothing changes.
+    pub fn expect_log(&mut self, path: &Path, bytes: &[u8])
+        ensures counts { self.new.counts ≡ self.old.counts }
+        ensures task { self.new.task ≡ self.old.task }
+        ensures due { self.new.due ≡ self.old.due }
+        ensures writer { self.new.writer ≡ self.old.writer }
+    {
+        if self.task != Task::Audit || *path != Path::Checkpoint {
+            return;
+        }
+        match log_size(self.alloc, bytes) {
+            Some(size) => self.expect(files_to_put(size, 0)),
+            None => {}
+        }
     }
 
     /// How much is done.
@@ -148,6 +185,7 @@ impl<C: Clock + Drop, W: Write + Drop> Progress<C, W> {
         ensures told { TellsOnce W.contents self.old self.new }
     {
         self.counts.add(len);
+        self.is_told_now = false;
         if !self.is_told() {
             return;
         }
@@ -170,6 +208,37 @@ impl<C: Clock + Drop, W: Write + Drop> Progress<C, W> {
         }
     }
 
+    /// Tells what following came to, whatever the time is: from how many entries to how many the copy grew.
+    pub fn tell_followed(&mut self, old: u64, size: u64)
+        ensures counts { self.new.counts ≡ self.old.counts }
+        ensures line { AppendsPrefix (W.contents self.old.writer) (W.contents self.new.writer)
+            (line_of (grown_text Task.Follow old size self.old.counts)) }
+    {
+        match followed_line(self.alloc, old, size, self.counts) {
+            Ok(line) => write_line(&mut self.writer, &line),
+            Err(_) => {}
+        }
+    }
+
+    /// Tells how much is done, whatever the time is, unless the last line says so.
+    ///
+    /// ```text
+    /// progress.tell_done(); // export: 7,833 of 7,833 files
+    /// ```
+    pub fn tell_done(&mut self)
+        ensures counts { self.new.counts ≡ self.old.counts }
+        ensures line { AppendsPrefix (W.contents self.old.writer) (W.contents self.new.writer)
+            (told_line self.old) }
+    {
+        if self.is_told_now {
+            return;
+        }
+        match progress_line(self.alloc, self.task, self.all, self.counts) {
+            Ok(line) => write_line(&mut self.writer, &line),
+            Err(_) => {}
+        }
+    }
+
     // Tells how much is done, if it is time.
     fn tell_at(&mut self, now: Instant)
         ensures { TellsAt W.contents (instant_nanos now) self.old self.new }
@@ -178,6 +247,7 @@ impl<C: Clock + Drop, W: Write + Drop> Progress<C, W> {
             return;
         }
         self.due = next_due(now);
+        self.is_told_now = true;
         match progress_line(self.alloc, self.task, self.all, self.counts) {
             Ok(line) => write_line(&mut self.writer, &line),
             Err(_) => {}

@@ -101,4 +101,12 @@ impl<S: NamedFolders + Drop, C: Clock + Drop, W: Write + Drop> ToldFolders
     fn begin(&mut self, task: Task) {
         self.progress.begin(task);
     }
+
+    fn end(&mut self) {
+        self.progress.tell_done();
+    }
+
+    fn end_followed(&mut self, old: u64, size: u64) {
+        self.progress.tell_followed(old, size);
+    }
 }

@@ -66,6 +66,7 @@ impl<S: Source + Drop, C: Clock + Drop, W: Write + Drop> Source for CountingSour
         let Some(bytes) = self.source.get(path)? else {
             return Ok(None);
         };
+        self.progress.expect_log(path, &bytes);
         self.progress.count(bytes.len());
         Ok(Some(bytes))
     }

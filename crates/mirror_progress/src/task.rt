@@ -10,4 +10,8 @@ pub enum Task {
     Pull,
     /// Files are put.
     Export,
+    /// A copy is brought to a larger checkpoint, and its files are put.
+    Follow,
+    /// The files of a whole log are read.
+    Audit,
 }

@@ -1,70 +1,112 @@
--- From what was seen to what is answered.
-use Rattle.std.proofs.Common.{◌≡◌, ℕ, List, [], ◌∷◌, Option, Some, None, codes, sym, subst, ◌∙◌}
+-- From what was asked for to what is answered.
+use Rattle.std.proofs.Common.{◌≡◌, ℕ, List, [], ◌∷◌, Option, Some, None, codes, refl, sym, subst, ap, ◌∙◌}
 use Rattle.std.specs.Prelude.{IfSome, IsUtf8}
 use Rattle.httparse.specs.Spans.{span_bytes}
 use Rattle.httparse.specs.declared.spans.Span.{Span}
-use Rattle.mirror_model.specs.View.{View}
-use Rattle.mirror_server.specs.Answered.{IsReplyOf}
+use Rattle.mirror_server.specs.Answered.{IsBodyFor, IsForHead, IsForTarget, IsRequestOf, reply_with}
 use Rattle.mirror_server.specs.Looks.{SeesIn}
-use Rattle.mirror_server.specs.Response.{bad_request, IsBody, IsFound, IsReplyTo, LacksRequest, not_allowed, not_found}
-use Rattle.mirror_server.specs.Response.{Response, other_method, not_there, is_there, silent, refused, replied}
+use Rattle.mirror_server.specs.Resource.{Names}
+use Rattle.mirror_server.specs.Response.{bad_request, IsFoundBy, LacksRequest, ResponseBy}
+use Rattle.mirror_server.specs.Response.{other_method, not_there, is_there, silent, refused, replied}
 use Rattle.mirror_server.specs.declared.head.Seen.{Seen}
-use Rattle.mirror_server.specs.declared.head.Seen.TheVariants.{Nothing, NoHead, Head}
+use Rattle.mirror_server.specs.declared.head.Seen.TheVariants as seeing
+use Rattle.mirror_server.specs.declared.request.Request.{Request}
+use Rattle.mirror_server.specs.declared.request.Request.TheVariants.{Nothing, Unreadable, OtherMethod, Unknown, Get}
 use Rattle.mirror_server.specs.declared.resource.Resource.{Resource}
 use Rattle.mirror_server.proofs.OneResource.{one_resource}
-use Rattle.mirror_server.specs.Resource.{Names}
 
-module _ (digest : List ℕ → List ℕ) (v : View) where
+-- ---- what is asked for
+
+-- a request by GET is for what its target is for
+pub for_get : (method target : List ℕ) (request : Request) → method ≡ codes "GET" → IsForTarget target request →
+    IsForHead method target request
+for_get method target Nothing get is = absurd is
+for_get method target Unreadable get is = absurd is
+for_get method target OtherMethod get is = absurd is
+for_get method target Unknown get is = (get, is)
+for_get method target (Get resource) get is = (get, is)
+
+module _ (buf : List ℕ) (seen : Seen) where
+  pub asks_nothing : (known : Option (List ℕ)) → seen ≡ seeing.Nothing → IfSome known (λ all. SeesIn all buf seen) →
+      IfSome known (λ all. IsRequestOf all Nothing)
+  asks_nothing None s h = tt
+  asks_nothing (Some all) s h = subst (λ (x : Seen). SeesIn all buf x) s h
+
+  pub asks_badly : (known : Option (List ℕ)) → seen ≡ seeing.NoHead → IfSome known (λ all. SeesIn all buf seen) →
+      IfSome known (λ all. IsRequestOf all Unreadable)
+  asks_badly None s h = tt
+  asks_badly (Some all) s h = subst (λ (x : Seen). SeesIn all buf x) s h
+
+  of_head : (all : List ℕ) (method target : Span) (m t : List ℕ) (request : Request) →
+      SeesIn all buf (seeing.Head method target) → m ≡ span_bytes buf method → t ≡ span_bytes buf target →
+      IsForHead m t request → IsRequestOf all request
+  of_head all method target m t Nothing b mm same is = absurd is
+  of_head all method target m t Unreadable b mm same is = absurd is
+  of_head all method target m t OtherMethod b mm same is =
+      (b.0, b.1, λ get. is (mm ∙ (b.2 ∙ get)))
+  of_head all method target m t Unknown b mm same is =
+      let there = same ∙ b.3 in (
+        b.0,
+        b.1,
+        sym b.2 ∙ (sym mm ∙ is.0),
+        λ resource names. is.1 (subst IsUtf8 (sym there) b.1.reads.0.target_text) resource
+            (subst (λ (x : List ℕ). Names x resource) (sym there) names),
+      )
+  of_head all method target m t (Get resource) b mm same is =
+      (b.0, b.1, sym b.2 ∙ (sym mm ∙ is.0), subst (λ (x : List ℕ). Names x resource) (same ∙ b.3) is.1)
+
+  pub asks_for : (known : Option (List ℕ)) (method target : Span) (m t : List ℕ) (request : Request) →
+      seen ≡ seeing.Head method target → IfSome known (λ all. SeesIn all buf seen) → m ≡ span_bytes buf method →
+      t ≡ span_bytes buf target → IsForHead m t request → IfSome known (λ all. IsRequestOf all request)
+  asks_for None method target m t request s h mm same is = tt
+  asks_for (Some all) method target m t request s h mm same is =
+      of_head all method target m t request (subst (λ (x : Seen). SeesIn all buf x) s h) mm same is
+
+-- ---- what is answered
+
+module _ (IsBodyOf : Resource → List ℕ → Type 0) where
+  -- a target that names no resource is not found
+  none_named : (target : List ℕ) → ((resource : Resource) → Names target resource → ⊥) → (reply : List ℕ) →
+      IsFoundBy IsBodyOf target reply → ⊥
+  none_named target none reply is = none is.resource is.names
+
   -- a resource without bytes is not found
-  pub none_found : (target : List ℕ) (resource : Resource) → Names target resource →
-      ((body : List ℕ) → IsBody digest v resource body → ⊥) → (reply : List ℕ) → IsFound digest v target reply → ⊥
+  none_found : (target : List ℕ) (resource : Resource) → Names target resource →
+      ((body : List ℕ) → IsBodyOf resource body → ⊥) → (reply : List ℕ) → IsFoundBy IsBodyOf target reply → ⊥
   none_found target resource names none reply is =
-      none is.body (subst (λ (r : Resource). IsBody digest v r is.body)
+      none is.body (subst (λ (r : Resource). IsBodyOf r is.body)
       (one_resource target is.resource resource is.names names) is.is_body)
 
-  -- ---- the reply to a method and a target
+  -- the reply to what was asked for is the response
+  pub responds : (bytes : List ℕ) (request : Request) (body : Option (List ℕ)) → IsRequestOf bytes request →
+      IsBodyFor IsBodyOf request body → ResponseBy IsBodyOf bytes (reply_with request body)
+  responds bytes Nothing body is has = subst (λ (b : List ℕ). ResponseBy IsBodyOf b []) (sym is) silent
+  responds bytes Unreadable body is has =
+      let bad : ResponseBy IsBodyOf (is.0 ∷ is.1) bad_request = refused (subst LacksRequest is.2 is.3) in
+      subst (λ (b : List ℕ). ResponseBy IsBodyOf b bad_request) (sym is.2) bad
+  responds bytes OtherMethod body is has = replied is.1 (other_method is.2)
+  responds bytes Unknown body is has = replied is.1 (not_there is.2 (none_named is.0.target is.3))
+  responds bytes (Get resource) None is has = replied is.1 (not_there is.2 (none_found is.0.target resource is.3 has))
+  responds bytes (Get resource) (Some body) is has =
+      replied is.1 (is_there is.2 (record {
+        resource = resource;
+        names = is.3;
+        body = body;
+        is_body = has;
+        reply_is = refl;
+      }))
 
-  module _ (method target reply : List ℕ) where
-    pub says_not_allowed : reply ≡ not_allowed → (method ≡ codes "GET" → ⊥) → IsReplyOf digest v method target reply
-    says_not_allowed e other =
-        λ h text m t. subst (λ (r : List ℕ). IsReplyTo digest v h r) (sym e) (other_method (λ get. other (sym m ∙ get)))
+  -- the same of bytes that may not be known
+  pub responds_to : (known : Option (List ℕ)) (request : Request) (body : Option (List ℕ)) (reply : List ℕ) →
+      IfSome known (λ bytes. IsRequestOf bytes request) → IsBodyFor IsBodyOf request body →
+      reply ≡ reply_with request body → IfSome known (λ bytes. ResponseBy IsBodyOf bytes reply)
+  responds_to None request body reply is has e = tt
+  responds_to (Some bytes) request body reply is has e =
+      subst (λ (r : List ℕ). ResponseBy IsBodyOf bytes r) (sym e) (responds bytes request body is has)
 
-    pub says_no_text : (IsUtf8 target → ⊥) → IsReplyOf digest v method target reply
-    says_no_text bad = λ h text m t. absurd (bad (subst IsUtf8 t text))
-
-    pub says_not_found : reply ≡ not_found → method ≡ codes "GET" → ((r : List ℕ) → IsFound digest v target r → ⊥) →
-        IsReplyOf digest v method target reply
-    says_not_found e get none = λ h text m t.
-        subst (λ (r : List ℕ). IsReplyTo digest v h r) (sym e)
-        (not_there (m ∙ get) (λ r is. none r (subst (λ (x : List ℕ). IsFound digest v x r) t is)))
-
-    pub says_found : method ≡ codes "GET" → IsFound digest v target reply → IsReplyOf digest v method target reply
-    says_found get is = λ h text m t. is_there (m ∙ get) (subst (λ (x : List ℕ). IsFound digest v x reply) (sym t) is)
-
-  -- ---- the reply to what was seen
-
-  module _ (buf reply : List ℕ) (seen : Seen) where
-    pub answers_nothing : (known : Option (List ℕ)) → seen ≡ Nothing → IfSome known (λ all. SeesIn all buf seen) →
-        reply ≡ [] → IfSome known (λ all. Response digest v all reply)
-    answers_nothing None s h e = tt
-    answers_nothing (Some all) s h e =
-        let none : all ≡ [] = subst (λ (x : Seen). SeesIn all buf x) s h in
-        subst (λ (r : List ℕ). Response digest v all r) (sym e)
-        (subst (λ (b : List ℕ). Response digest v b []) (sym none) silent)
-
-    pub answers_bad : (known : Option (List ℕ)) → seen ≡ NoHead → IfSome known (λ all. SeesIn all buf seen) →
-        reply ≡ bad_request → IfSome known (λ all. Response digest v all reply)
-    answers_bad None s h e = tt
-    answers_bad (Some all) s h e =
-        let b = subst (λ (x : Seen). SeesIn all buf x) s h in
-        let bad : Response digest v (b.0 ∷ b.1) bad_request = refused (subst LacksRequest b.2 b.3) in
-        subst (λ (r : List ℕ). Response digest v all r) (sym e)
-        (subst (λ (bytes : List ℕ). Response digest v bytes bad_request) (sym b.2) bad)
-
-    pub answers_head : (known : Option (List ℕ)) (method target : Span) (m t : List ℕ) → seen ≡ Head method target →
-        IfSome known (λ all. SeesIn all buf seen) → m ≡ span_bytes buf method → t ≡ span_bytes buf target →
-        IsReplyOf digest v m t reply → IfSome known (λ all. Response digest v all reply)
-    answers_head None method target m t s h mm same r = tt
-    answers_head (Some all) method target m t s h mm same r =
-        let b = subst (λ (x : Seen). SeesIn all buf x) s h in
-        replied b.1 (r b.0 b.1.reads.0.target_text (sym b.2 ∙ sym mm) (sym b.3 ∙ sym same))
+-- a reply that was written
+pub given_reply : (Replies : List ℕ → List ℕ → Type 0) (Writes : List ℕ → Type 0) (known : Option (List ℕ))
+    (reply written : List ℕ) → IfSome known (λ bytes. Replies bytes reply) → written ≡ reply → Writes written →
+    IfSome known (λ bytes. (one : List ℕ) × Replies bytes one × Writes one)
+given_reply Replies Writes None reply written h e w = tt
+given_reply Replies Writes (Some bytes) reply written h e w = (reply, h, subst Writes e w)

@@ -1,5 +1,5 @@
--- What a mirror answers to the bytes that a client gives: the reply to their first request, as a
--- relation between a view, all these bytes, and the reply (RFC 9112, sections 2 to 6; RFC 9110,
+-- What is answered to the bytes that a client gives: the reply to their first request, as a relation
+-- between what is served, all these bytes, and the reply; and what a mirror answers (RFC 9112, sections 2 to 6; RFC 9110,
 -- sections 9.3.1, 10.2.1 and 15; C2SP tlog-tiles).
 use Rattle.std.specs.Prelude.{◌≡◌, ◌≢◌, ℕ, ◌≤◌, List, [], ◌∷◌, ◌++◌, length, take, codes, Ok}
 use Rattle.std.specs.Fmt.{decimal}
@@ -46,6 +46,11 @@ not_allowed =
     codes "HTTP/1.1 405 Method Not Allowed\r\nAllow: GET\r\n"
     ++ codes "Content-Length: 0\r\nConnection: close\r\n\r\n"
 
+-- the reply where what is asked for cannot be had, by the server's own fault
+abbrev pub server_error : List ℕ
+server_error =
+    codes "HTTP/1.1 500 Internal Server Error\r\nContent-Length: 0\r\nConnection: close\r\n\r\n"
+
 -- the media type of a text
 abbrev pub plain_text : List ℕ
 plain_text = codes "text/plain; charset=utf-8"
@@ -76,6 +81,33 @@ found_head kind len =
 abbrev pub found : List ℕ → List ℕ → List ℕ
 found kind body = found_head kind (length body) ++ body
 
+module _ (IsBodyOf : Resource → List ℕ → Type 0) where
+  -- the target names a resource that has bytes, and the reply has these
+  pub record IsFoundBy (target reply : List ℕ) : Type 0 where
+    pub resource : Resource
+    pub names : Names target resource
+    pub body : List ℕ
+    pub is_body : IsBodyOf resource body
+    pub reply_is : reply ≡ found (media_type resource) body
+
+-- the reply to a request: to another method than GET, to a target that names nothing that is
+-- served, and to one that does
+pub data IsReplyBy (IsBodyOf : Resource → List ℕ → Type 0) (h : RequestHead) : List ℕ → Type 0 where
+  other_method : h.method ≢ codes "GET" → IsReplyBy IsBodyOf h not_allowed
+  not_there : h.method ≡ codes "GET" → ((reply : List ℕ) → ¬ IsFoundBy IsBodyOf h.target reply) →
+      IsReplyBy IsBodyOf h not_found
+  is_there : {reply : List ℕ} → h.method ≡ codes "GET" → IsFoundBy IsBodyOf h.target reply →
+      IsReplyBy IsBodyOf h reply
+
+-- what is replied to all the bytes that a client gives: nothing where these are none, else the
+-- reply to the first request among them
+pub data ResponseBy (IsBodyOf : Resource → List ℕ → Type 0) : List ℕ → List ℕ → Type 0 where
+  silent : ResponseBy IsBodyOf [] []
+  refused : {first : ℕ} {bytes : List ℕ} → LacksRequest (first ∷ bytes) →
+      ResponseBy IsBodyOf (first ∷ bytes) bad_request
+  replied : {bytes reply : List ℕ} {h : RequestHead} → HasRequest bytes h →
+      IsReplyBy IsBodyOf h reply → ResponseBy IsBodyOf bytes reply
+
 module _ (digest : List ℕ → List ℕ) (v : View) where
   -- the text is that of a proof of the entries that are served
   pub record IsServedProofText (ask : Ask) (text : List ℕ) : Type 0 where
@@ -93,28 +125,14 @@ module _ (digest : List ℕ → List ℕ) (v : View) where
   IsBody (Missing size root) body = IsMissingText digest v size root body
   IsBody (Proof ask) body = IsServedProofText ask body
 
-  -- the target names a resource that is served, and the reply has its bytes
-  pub record IsFound (target reply : List ℕ) : Type 0 where
-    pub resource : Resource
-    pub names : Names target resource
-    pub body : List ℕ
-    pub is_body : IsBody resource body
-    pub reply_is : reply ≡ found (media_type resource) body
+  -- the target names a resource that the view serves, and the reply has its bytes
+  abbrev pub IsFound : List ℕ → List ℕ → Type 0
+  IsFound target reply = IsFoundBy IsBody target reply
 
--- the reply to a request: to another method than GET, to a target that names nothing that is
--- served, and to one that does
-pub data IsReplyTo (digest : List ℕ → List ℕ) (v : View) (h : RequestHead) : List ℕ → Type 0 where
-  other_method : h.method ≢ codes "GET" → IsReplyTo digest v h not_allowed
-  not_there : h.method ≡ codes "GET" → ((reply : List ℕ) → ¬ IsFound digest v h.target reply) →
-      IsReplyTo digest v h not_found
-  is_there : {reply : List ℕ} → h.method ≡ codes "GET" → IsFound digest v h.target reply →
-      IsReplyTo digest v h reply
+  -- the reply to a request of what the view serves
+  abbrev pub IsReplyTo : RequestHead → List ℕ → Type 0
+  IsReplyTo h reply = IsReplyBy IsBody h reply
 
--- what is replied to all the bytes that a client gives: nothing where these are none, else the
--- reply to the first request among them
-pub data Response (digest : List ℕ → List ℕ) (v : View) : List ℕ → List ℕ → Type 0 where
-  silent : Response digest v [] []
-  refused : {first : ℕ} {bytes : List ℕ} → LacksRequest (first ∷ bytes) →
-      Response digest v (first ∷ bytes) bad_request
-  replied : {bytes reply : List ℕ} {h : RequestHead} → HasRequest bytes h →
-      IsReplyTo digest v h reply → Response digest v bytes reply
+  -- what a mirror of that view replies to all the bytes that a client gives
+  abbrev pub Response : List ℕ → List ℕ → Type 0
+  Response bytes reply = ResponseBy IsBody bytes reply

@@ -15,11 +15,15 @@ mod fault;
 mod head;
 mod laws;
 mod limits;
+mod reply;
+mod request;
 mod resource;
 mod serve;
 
 pub use fault::HttpFault;
 pub use laws::{limits_law, one_resource_law, one_response_law};
 pub use limits::{MAX_FIELDS, MAX_HEAD_LEN};
+pub use reply::{reply_to, server_error_reply};
+pub use request::{Request, read_request};
 pub use resource::Resource;
 pub use serve::answer;

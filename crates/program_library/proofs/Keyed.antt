@@ -9,14 +9,14 @@ use Rattle.program_words.specs.Readings.{Reads, ReadsKeyFile}
 use Rattle.program_words.specs.declared.commands.Command.{Command as Order}
 use Rattle.program_words.specs.declared.fault.CommandFault.{CommandFault}
 use Rattle.program_words.specs.declared.words.Line.{Line}
-use Rattle.program_library.specs.Done.{IsDoable}
-use Rattle.program_library.specs.Moment.{Moment}
-use Rattle.program_library.specs.Performing.{Ends}
+use Rattle.program_env.specs.Done.{IsDoable}
+use Rattle.program_env.specs.Moment.{Moment}
+use Rattle.program_env.specs.Performing.{Ends}
 use Rattle.program_library.specs.Runs.{AreKeyBytes, FailsAtKeys, FindsKeys, Runs, RunsKeyed, no_lines}
-use Rattle.program_library.specs.declared.fault.RunFault.{RunFault}
-use Rattle.program_library.specs.declared.fault.RunFault.TheVariants.{KeyFile, KeyLines}
+use Rattle.program_env.specs.declared.fault.RunFault.{RunFault}
+use Rattle.program_env.specs.declared.fault.RunFault.TheVariants.{KeyFile, KeyLines}
 use Rattle.program_library.proofs.Doable.{asked_doable}
-use Rattle.program_library.proofs.Written.{keeps_itself}
+use Rattle.program_env.proofs.Written.{keeps_itself}
 
 -- the command of a line can be done
 doable : (words : List (List ℕ)) (command : Result Order CommandFault) → Reads words command → IfOk command IsDoable

@@ -1,13 +1,5 @@
-mod Written
-mod Built
 mod Doable
-mod Performing
 mod MadeKeys
 mod Keyed
 mod Signers
-mod Compares
-mod Asking
-mod Keeping
 mod PulledStates
-mod Whys
-mod Answering

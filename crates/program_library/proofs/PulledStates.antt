@@ -16,7 +16,7 @@ use Rattle.mirror_pull.specs.declared.pulling.Pulled.{Pulled}
 use Rattle.program_files.specs.Named.{NamedFile}
 use Rattle.program_commands.specs.States.{BeginsWith}
 use Rattle.program_library.specs.RunLaws.{PulledStatesAreLoaded}
-use Rattle.program_library.proofs.Keeping.{grows_by_nothing}
+use Rattle.state_commands.proofs.Keeping.{grows_by_nothing}
 
 module _ (digest : List ℕ → List ℕ) (origin : List ℕ) (keys : List Key) where
   -- a view of that origin, whose notes open under the keys

@@ -1,12 +1,13 @@
 -- How the program ends: its exit status, and what it says on which stream. `IsFaultLine` is cited
 -- by the contracts of private functions alone.
-use Rattle.std.specs.Prelude.{◌≡◌, ◌⊎◌, ℕ, List, [], ◌++◌, Option, Result, Ok, Err, codes}
+use Rattle.std.specs.Prelude.{◌≡◌, ◌⊎◌, ℕ, List, [], Option, Result, Ok, Err, codes}
 use Rattle.std.specs.Prelude.{string_bytes}
 use Rattle.std.specs.Io.KnownBytes.{Appends, Keeps}
 use Rattle.byte_streams.specs.Streams.{AppendsPrefix}
 use Rattle.program_words.specs.declared.fault.CommandFault.TheVariants.{Help, Words, BadArgument}
-use Rattle.program_library.specs.declared.fault.RunFault.{RunFault}
-use Rattle.program_library.specs.declared.fault.RunFault.TheVariants.{Command}
+use Rattle.program_env.specs.FaultLines.{fault_line}
+use Rattle.program_env.specs.declared.fault.RunFault.{RunFault}
+use Rattle.program_env.specs.declared.fault.RunFault.TheVariants.{Command}
 use Rattle.program_library.specs.declared.ending.Message.{Message}
 use Rattle.program_library.specs.declared.ending.Message.TheVariants.{Made, Fixed}
 use Rattle.program_library.specs.declared.ending.Stream.{Stream}
@@ -17,10 +18,6 @@ use Rattle.program_library.specs.declared.ending.Ending.{Ending}
 abbrev pub message_bytes : Message → List ℕ
 message_bytes (Made text) = string_bytes text
 message_bytes (Fixed text) = text.now
-
--- the line that tells a fault of this name
-abbrev pub fault_line : List ℕ → List ℕ
-fault_line name = codes "tlogmirror: " ++ (name ++ codes "\n")
 
 -- the line tells a fault
 abbrev pub IsFaultLine : List ℕ → Type 0

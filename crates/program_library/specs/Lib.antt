@@ -1,13 +1,3 @@
-pub mod Moment
-pub mod Envs
-pub mod Works
-pub mod Pulls
-pub mod Builds
-pub mod Done
-pub mod Performing
 pub mod Runs
 pub mod RunLaws
 pub mod Endings
-pub mod Clients
-pub mod Named
-pub mod Whys

@@ -11,8 +11,8 @@ use Rattle.mirror_pull.specs.declared.fault.PullFault.{PullFault}
 use Rattle.mirror_pull.specs.declared.pulling.Pulled.{Pulled}
 use Rattle.program_files.specs.Named.{NamedFile}
 use Rattle.program_words.specs.declared.place.Place.{Place}
-use Rattle.program_library.specs.Builds.{FindsSigner}
-use Rattle.program_library.specs.Pulls.{PullsFromFile}
+use Rattle.program_env.specs.Builds.{FindsSigner}
+use Rattle.program_env.specs.Pulls.{PullsFromFile}
 
 -- the key that a key file signs with is among the keys of its lines, with their pins joined
 abbrev pub SignersAreKeys : Type 0

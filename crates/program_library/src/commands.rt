@@ -1,30 +1,18 @@
-//! The list of the commands. Each has a file of its own, with its work, and what its faults are about.
+//! The list of the commands.
 ghost use Rattle.std.specs.Prelude.{map};
 ghost use Rattle.sha2.specs.Sha256.{sha256};
-ghost use Rattle.program_library.specs.Done.{IsDoable};
-ghost use Rattle.program_library.specs.Envs.{IsSameEnv, moment};
-ghost use Rattle.program_library.specs.Performing.{Performs};
+ghost use Rattle.program_env.specs.Done.{IsDoable};
+ghost use Rattle.program_env.specs.Envs.{IsSameEnv, moment};
+ghost use Rattle.program_env.specs.Performing.{Performs};
 
-pub(crate) mod build;
-pub(crate) mod check;
-pub(crate) mod compare;
-pub(crate) mod export;
-pub(crate) mod forks;
-pub(crate) mod merge;
-pub(crate) mod missing;
-pub(crate) mod notes;
-pub(crate) mod prove;
-pub(crate) mod pull;
-pub(crate) mod root;
-pub(crate) mod serve;
-pub(crate) mod status;
-pub(crate) mod take;
-
-use crate::env::Env;
-use crate::error::Error;
-use crate::failing::{RunFiles, RunFolders};
 use crate::keys::Keys;
+use copy_commands::{audit, follow};
+use program_env::{Env, Error, RunFiles, RunFolders};
 use program_words::Command;
+use state_commands::{
+    build, check, compare, entries, export, forks, merge, missing, notes, prove, pull, root, serve,
+    status, take,
+};
 use std::fs::Files;
 use std::io::{Read, Write};
 use std::net::{Net, TcpListener, TcpStream};
@@ -49,20 +37,53 @@ where
         (moment F.puts D.held D.puts I.remaining O.contents env.new) command.now result }
 {
     match command {
-        Command::Root(root) => root::run(env, keys, root),
-        Command::Check => check::run(env, keys),
-        Command::Build(build) => build::run(env, keys, build),
-        Command::Take(take) => take::run(env, keys, take),
-        Command::Merge(merge) => merge::run(env, keys, merge),
-        Command::Pull(pull) => pull::run(env, keys, pull),
-        Command::Status(status) => status::run(env, keys, status),
-        Command::Missing(missing) => missing::run(env, keys, missing),
-        Command::Forks(forks) => forks::run(env, keys, forks),
-        Command::Compare(compare) => compare::run(env, keys, compare),
-        Command::Prove(prove) => prove::run(env, keys, prove),
-        Command::Export(export) => export::run(env, keys, export),
-        Command::Update(update) => export::run_with_update(env, keys, update),
-        Command::Notes(notes) => notes::run(env, keys, notes),
-        Command::Serve(serve) => serve::run(env, keys, serve),
+        Command::Root(root) => root::run(env, keys.bytes, keys.verifiers, root),
+        Command::Check => check::run(env, keys.bytes, keys.verifiers),
+        Command::Build(build) => build::run(env, keys.bytes, keys.verifiers, build),
+        Command::Take(take) => take::run(env, keys.bytes, keys.verifiers, take),
+        Command::Merge(merge) => merge::run(env, keys.bytes, keys.verifiers, merge),
+        Command::Pull(pull) => pull::run(env, keys.bytes, keys.verifiers, pull),
+        Command::Follow(follow) => follow::run(env, keys.bytes, keys.verifiers, follow),
+        Command::Audit(audit) => audit::run(env, keys.bytes, keys.verifiers, audit),
+        Command::Status(status) => status::run(env, keys.bytes, keys.verifiers, status),
+        Command::CopyStatus(status) => copy_commands::status::run(
+            env,
+            keys.bytes,
+            keys.verifiers,
+            status,
+        ),
+        Command::Missing(missing) => missing::run(env, keys.bytes, keys.verifiers, missing),
+        Command::Forks(forks) => forks::run(env, keys.bytes, keys.verifiers, forks),
+        Command::Compare(compare) => compare::run(env, keys.bytes, keys.verifiers, compare),
+        Command::CopyCompare(compare) => copy_commands::compare::run(
+            env,
+            keys.bytes,
+            keys.verifiers,
+            compare,
+        ),
+        Command::Prove(prove) => prove::run(env, keys.bytes, keys.verifiers, prove),
+        Command::CopyProve(prove) => copy_commands::prove::run(
+            env,
+            keys.bytes,
+            keys.verifiers,
+            prove,
+        ),
+        Command::Entries(entries) => entries::run(env, keys.bytes, keys.verifiers, entries),
+        Command::CopyEntries(entries) => copy_commands::entries::run(
+            env,
+            keys.bytes,
+            keys.verifiers,
+            entries,
+        ),
+        Command::Export(export) => export::run(env, keys.bytes, keys.verifiers, export),
+        Command::Update(update) => export::run_with_update(env, keys.bytes, keys.verifiers, update),
+        Command::Notes(notes) => notes::run(env, keys.bytes, keys.verifiers, notes),
+        Command::Serve(serve) => serve::run(env, keys.bytes, keys.verifiers, serve),
+        Command::CopyServe(serve) => copy_commands::serve::run(
+            env,
+            keys.bytes,
+            keys.verifiers,
+            serve,
+        ),
     }
 }

@@ -3,8 +3,8 @@ ghost use Rattle.std.specs.Prelude.{◌≡◌, IfOk, string_bytes};
 ghost use Rattle.byte_streams.specs.Streams.{AppendsPrefix};
 ghost use Rattle.program_library.specs.Endings.{PrintsEnding, IsFaultLine, TellsRun, message_bytes};
 
-use crate::fault::RunFault;
 use byte_streams::write_whole;
+use program_env::{RunFault, write_front};
 use program_words::CommandFault;
 use std::alloc::{AllocError, Global};
 use std::io::Write;
@@ -95,15 +95,6 @@ pub fn ending_of(alloc: Global, answer: Result<u8, RunFault>) -> Ending
         status,
         stream,
         text,
-    }
-}
-
-// Writes the text, as far as the stream takes it.
-pub(crate) fn write_front<W: Write>(writer: &mut W, text: &[u8])
-    ensures { AppendsPrefix (W.contents writer.old) (W.contents writer.new) text.now }
-{
-    match write_whole(writer, text) {
-        Ok(()) | Err(_) => (),
     }
 }
 

@@ -8,26 +8,16 @@
 //! ```
 #![tactic(auto)]
 
-mod ask;
-mod clients;
 mod commands;
 mod ending;
-mod env;
-mod error;
-mod failing;
-mod fault;
 mod keys;
 mod laws;
 mod running;
-mod told;
-mod why;
 
 pub use ending::{Ending, Message, Stream, ending_of, print_ending};
-pub use env::Env;
-pub use failing::{RunFiles, RunFolders};
-pub use fault::RunFault;
 pub use keys::{Keys, key_file};
 pub use laws::{pulled_state_law, signing_key_law};
 pub use program_commands::{CheckFault, RootFault, run_check, run_root};
+pub use program_env::{Env, RunFault, RunFiles, RunFolders};
 pub use running::{run, run_over, run_with_keys, run_words};
 pub use tlog_build::{EntriesFault, read_entries};

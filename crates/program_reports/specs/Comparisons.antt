@@ -9,7 +9,7 @@ use Rattle.mirror_trees.specs.Marked.{point_of}
 use Rattle.tlog_mirror.specs.Compared.{ReportsCompared, ReportsHeld, compared_text}
 use Rattle.mirror_model.specs.Reports.{SaysServed}
 use Rattle.tlog_mirror.specs.declared.compare.Compared.{Compared}
-use Rattle.tlog_mirror.specs.declared.compare.Compared.TheVariants.{Fork}
+use Rattle.tlog_mirror.specs.declared.compare.Compared.TheVariants.{Same, Fork, Larger}
 use Rattle.program_reports.specs.Reports.{printed}
 use Rattle.program_reports.specs.declared.fault.ReportFault.{ReportFault}
 use Rattle.program_reports.specs.declared.fault.ReportFault.TheVariants.{NothingComplete}
@@ -18,14 +18,15 @@ use Rattle.program_reports.specs.declared.reports.Report.{Report as Printout}
 use Rattle.program_reports.specs.declared.fault.AskFault.{AskFault}
 use Rattle.program_reports.specs.declared.fault.AskFault.TheVariants.{Report, WriteFault}
 
--- a head is told as a fork
-abbrev pub told_fork : Compared → Bool
-told_fork (Fork size root own) = true
-told_fork other = false
+-- a head is a fork or larger, and so not known to be a beginning of what is served
+abbrev pub told_other : Compared → Bool
+told_other (Same size root) = false
+told_other (Fork size root own) = true
+told_other (Larger size root) = true
 
--- the exit status: 3 where a head is told as a fork, else 0
+-- the exit status: 0 where each head is the same, else 3
 abbrev pub compare_status : List Compared → ℕ
-compare_status compared = if list_any told_fork compared then 3 else 0
+compare_status compared = if list_any told_other compared then 3 else 0
 
 module _ (digest : List ℕ → List ℕ) where
   -- the heads that were given, one for one, or else those of the view, are compared so

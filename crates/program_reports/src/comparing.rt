@@ -2,7 +2,7 @@
 ghost use Rattle.std.specs.Prelude.{◌≡◌, ◌≢◌, ◌⊎◌, IfErr, IfOk, option_map};
 ghost use Rattle.std.specs.Io.KnownBytes.{Keeps};
 ghost use Rattle.std.specs.List.{list_any};
-ghost use Rattle.program_reports.specs.Comparisons.{AnswersCompared, ReportsComparison, compare_status, told_fork};
+ghost use Rattle.program_reports.specs.Comparisons.{AnswersCompared, ReportsComparison, compare_status, told_other};
 
 use crate::fault::{AskFault, ReportFault};
 use crate::printing::write_report;
@@ -13,7 +13,7 @@ use tlog_hash::{Hash, TreeHash};
 use tlog_mirror::{Compared, Mirror, comparison_text};
 
 /// `compare`: a line for each of these heads, or where none are given for each that is held, by size and then by root. The
-/// exit status is 3 where one is told as a fork.
+/// exit status is 3 where one is a fork or larger.
 ///
 /// # Errors
 ///
@@ -34,39 +34,44 @@ pub fn compare_report<H: TreeHash>(
         return Err(ReportFault::NothingComplete);
     };
     let text = comparison_text(alloc, compared.as_slice())?;
-    let status = fork_status(compared.as_slice());
+    let status = comparison_status(compared.as_slice());
     Ok(Report { text, status })
 }
 
-// 3 where a head is told as a fork, 0 where none is.
-fn fork_status(compared: &[Compared]) -> u8
+/// The exit status of a comparison: 0 where each head is the same, and 3 where one is a fork or larger.
+///
+/// ```text
+/// comparison_status(&[Compared::Larger { size: 3, root }])   // 3
+/// ```
+pub fn comparison_status(compared: &[Compared]) -> u8
     ensures { result ≡ compare_status compared.now }
 {
-    if has_fork(compared) { 3 } else { 0 }
+    if has_other(compared) { 3 } else { 0 }
 }
 
-// Whether a head is told as a fork.
-fn has_fork(compared: &[Compared]) -> bool
-    ensures { result ≡ list_any told_fork compared.now }
+// Whether a head is a fork or larger.
+fn has_other(compared: &[Compared]) -> bool
+    ensures { result ≡ list_any told_other compared.now }
 {
-    compared.iter().any(|one| is_fork(one))
+    compared.iter().any(|one| is_other(one))
 }
 
-fn is_fork(one: &Compared) -> bool
-    ensures { result ≡ told_fork one.now }
+fn is_other(one: &Compared) -> bool
+    ensures { result ≡ told_other one.now }
 {
     match one {
+        Compared::Same { .. } => false,
         Compared::Fork { .. } => true,
-        _ => false,
+        Compared::Larger { .. } => true,
     }
 }
 
 /// Writes what `compare` tells of these heads, or where none are given of those that are held, and answers the exit
-/// status: 0, or 3 where one is told as a fork. What is held of each head is noted first, so that no tree is walked twice.
+/// status: 0, or 3 where one is a fork or larger. What is held of each head is noted first, so that no tree is walked twice.
 ///
 /// ```text
 /// print_comparison(alloc, &mut mirror, None, &mut output)?
-/// // 0 where no head that is held contradicts what is served
+/// // 0 where each head that is held is a beginning of what is served
 /// ```
 ///
 /// # Errors

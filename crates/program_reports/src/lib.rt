@@ -16,7 +16,7 @@ mod pulling;
 mod question;
 mod reports;
 
-pub use comparing::{compare_report, print_comparison};
+pub use comparing::{compare_report, comparison_status, print_comparison};
 pub use fault::{AskFault, ReportFault};
 pub use printing::print_report;
 pub use pulling::{pulled_status, pulled_text};

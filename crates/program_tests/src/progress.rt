@@ -3,7 +3,8 @@ use crate::streams::FailingWriter;
 use mirror_export::files_to_put;
 use mirror_folders::{MemShelf, Shelf, ShelfError};
 use mirror_progress::{
-    CountingShelf, Counts, Progress, StandardError, Task, ToldFolders, progress_line, pulled_line,
+    CountingShelf, Counts, Progress, StandardError, Task, ToldFolders, followed_line,
+    progress_line, pulled_line,
 };
 use std::alloc::Global;
 use std::cell::Cell;
@@ -73,10 +74,19 @@ const PROGRESS: [(u64, u64, Option<u64>, &str); 10] = [
 ];
 
 // What two files of three bytes are told as.
-const TASKS: [(Task, &str); 3] = [
+const TASKS: [(Task, &str); 5] = [
     (Task::Build, "build: 2 files, 3 B\n"),
     (Task::Pull, "pull: 2 files, 3 B\n"),
     (Task::Export, "export: 2 files, 3 B\n"),
+    (Task::Follow, "follow: 2 files, 3 B\n"),
+    (Task::Audit, "audit: 2 files, 3 B\n"),
+];
+
+// What 1,024 files of 23,999,999 bytes are told as, where there are 7,832 in all.
+const SHARES: [(Task, &str); 3] = [
+    (Task::Export, "export: 1,024 of 7,832 files\n"),
+    (Task::Follow, "follow: 1,024 of 7,832 files, 23 MB\n"),
+    (Task::Audit, "audit: 1,024 of 7,832 files, 23 MB\n"),
 ];
 
 #[test]
@@ -88,6 +98,14 @@ fn progress_lines(rt: HostRuntime) -> Result<(), Fail> {
     for &(task, want) in &TASKS {
         let counts = Counts { files: 2, bytes: 3 };
         let line = progress_line(rt.alloc(), task, None, counts)?;
+        assert!(&rt; text_of(&line) == want, "{want}");
+    }
+    let counts = Counts {
+        files: 1_024,
+        bytes: 23_999_999,
+    };
+    for &(task, want) in &SHARES {
+        let line = progress_line(rt.alloc(), task, Some(7_832), counts)?;
         assert!(&rt; text_of(&line) == want, "{want}");
     }
     Ok(())
@@ -133,6 +151,16 @@ fn pulled_lines(rt: HostRuntime) -> Result<(), Fail> {
         assert!(&rt; text_of(&line) == want, "{want}");
         assert!(&rt; line.len() <= 80, "{want}");
     }
+    let counts = Counts {
+        files: 4,
+        bytes: 91_224,
+    };
+    let line = followed_line(rt.alloc(), 5_000, 5_300, counts)?;
+    let text = text_of(&line);
+    assert!(&rt;
+        text == "follow: 5,000 to 5,300 entries, 4 files, 91 kB\n",
+        "{text}"
+    );
     Ok(())
 }
 
@@ -161,6 +189,9 @@ fn tells<C: Clock + Drop, W: Write + Drop>(
         shelf.expect(files);
     }
     put_files(shelf, files)?;
+    if begins {
+        shelf.end();
+    }
     let counts = shelf.progress.counts();
     assert!(rt; counts.files == files);
     assert!(rt; counts.bytes == files.saturating_mul(100));
@@ -181,7 +212,7 @@ const APART: [(Option<u64>, bool, u64, &str); 6] = [
         Some(400),
         true,
         7,
-        "export: 3 of 7 files\nexport: 6 of 7 files\n",
+        "export: 3 of 7 files\nexport: 6 of 7 files\nexport: 7 of 7 files\n",
     ),
     (
         Some(1_000),
@@ -189,14 +220,15 @@ const APART: [(Option<u64>, bool, u64, &str); 6] = [
         2,
         "export: 1 of 2 files\nexport: 2 of 2 files\n",
     ),
-    (Some(999), true, 1, ""),
-    (Some(0), true, 9, ""),
-    (None, true, 9, ""),
+    (Some(999), true, 1, "export: 1 of 1 file\n"),
+    (Some(0), true, 9, "export: 9 of 9 files\n"),
+    (None, true, 9, "export: 9 of 9 files\n"),
     (Some(5_000), false, 9, ""),
 ];
 
 // Each look at the clock is 400 milliseconds after the one before. The work begins at the first, so a line may come from
-// the fourth on, which is that of the third file, and then at each third.
+// the fourth on, which is that of the third file, and then at each third. At the end a line says what was done, unless the last one
+// did.
 #[test]
 fn lines_come_a_second_apart(rt: HostRuntime) -> Result<(), Fail> {
     let alloc = rt.alloc();

@@ -1,18 +1,20 @@
 -- A word that names a server is cut in one way.
 use Rattle.std.proofs.Common.{◌≡◌, ◌≢◌, inl, inr, ℕ, ◌<◌, ◌≤◌, List, [], ◌∷◌, ◌++◌, length, take, drop, nat_eq, get_or}
-use Rattle.std.proofs.Common.{get_or-take, ◌+◌, Option, Some, None, Bor, refl, sym, ap, subst, ◌∙◌, arith, codes}
+use Rattle.std.proofs.Common.{get_or-take, map, ◌+◌, Option, Some, None, Bor, refl, sym, ap, subst, ◌∙◌, arith, codes}
 use Rattle.std.proofs.Common.{MatchOption}
 use Rattle.std.specs.Prelude.{IfNone, IfSome}
 use Rattle.std.specs.Str.Pattern.{RFindsChar}
 use Rattle.std.specs.Str.{NoCharPasses}
 use Rattle.std.proofs.lemmas.Str.Pattern.{NoCharPasses-char}
-use Rattle.std.proofs.lemmas.List.{length-take}
+use Rattle.std.proofs.lemmas.List.{append-nil, append_assoc, drop_all, drop_more, length-drop, length-take}
+use Rattle.clap.specs.Words.{Text}
 use Rattle.std.specs.Str.Parse.{AllDigits}
 use Rattle.std.specs.Char.{digit_value}
 use Rattle.signed_note.proofs.Lacking.{Lacks, Lacks-from_reads}
 use Rattle.tlog_text.specs.Number.{IsDecimal}
 use Rattle.mirror_client.specs.Site.{slash, IsSitePrefix}
-use Rattle.program_words.specs.Commands.{IsEmptyOrSlash, IsNumberIn, IsPlace, IsServer, colon}
+use Rattle.program_words.specs.Commands.{ArePlaces, IsEmptyOrSlash, IsNumberIn, IsPlace, IsServer, colon}
+use Rattle.program_words.specs.Readings.{FindsPart}
 use Rattle.program_words.specs.declared.place.Place.{Place}
 use Rattle.program_words.specs.declared.place.Place.TheVariants.{Folder, Server}
 use Rattle.program_words.proofs.Named.{apart}
@@ -125,3 +127,101 @@ pub some_port : (word host prefix address : List ℕ) (port : ℕ) → ((i : ℕ
     IsServer word host prefix address port → ⊥
 some_port word host prefix address port lacks s =
     Lacks-middle colon address s.digits (subst (Lacks colon) s.parts (Lacks-from_reads colon host lacks))
+
+-- ---- lists of places
+
+-- these places were read of the words, and these words are left
+pub record WereRead (words left : List Text) (places : List Place) : Type 0 where
+  pub all : (more : List Place) → ArePlaces left more → ArePlaces words (places ++ more)
+  pub rest : (every : List Place) → ArePlaces words every → (more : List Place) × ArePlaces left more
+
+pub none_read : (words : List Text) → WereRead words words []
+none_read words = record { all = λ more are. are; rest = λ every are. (every, are) }
+
+behind : (kind word : Text) (left : List Text) (places : List Place) → ArePlaces (kind ∷ word ∷ left) places →
+    (more : List Place) × ArePlaces left more
+behind kind word left [] are = absurd are
+behind kind word left (place ∷ places) are = (places, are.1)
+
+pub one_more_read : (words : List Text) (kind word : Text) (left : List Text) (places : List Place) (place : Place)
+    → IsPlace kind word place → WereRead words (kind ∷ word ∷ left) places
+    → WereRead words left (places ++ place ∷ [])
+one_more_read words kind word left places place is r = record {
+  all = λ more are.
+      subst (λ (ps : List Place). ArePlaces words ps) (sym (append_assoc places (place ∷ []) more))
+      (r.all (place ∷ more) (is, are));
+  rest = λ every are. let b = r.rest every are in behind kind word left b.0 b.1;
+}
+
+pub all_read : (words : List Text) (places : List Place) → WereRead words [] places → ArePlaces words places
+all_read words places r = subst (λ (ps : List Place). ArePlaces words ps) (append-nil places) (r.all [] tt)
+
+-- the same of the words of a slice, from an index on
+
+two_at : (words : List (Bor Text)) (at : ℕ) (d e : Bor Text) → at + 2 ≤ length words →
+    drop at words ≡ get_or words at d ∷ get_or words (at + 1) e ∷ drop (at + 2) words
+two_at words at d e le =
+    let more : at < length words = omega (arith, le) in
+    let next : at + 1 < length words = omega (arith, le) in
+    let two : at + 1 + 1 ≡ at + 2 = omega arith in
+    drop_more words at d more
+    ∙ ap (λ l. get_or words at d ∷ l)
+    (drop_more words (at + 1) e next ∙ ap (λ k. get_or words (at + 1) e ∷ drop k words) two)
+
+pub one_more_at : (words : List (Bor Text)) (at : ℕ) (d e : Bor Text) (places : List Place) (place : Place)
+    → at + 2 ≤ length words → IsPlace (get_or words at d).now (get_or words (at + 1) e).now place
+    → WereRead (map (λ w. w.now) words) (map (λ w. w.now) (drop at words)) places
+    → WereRead (map (λ w. w.now) words) (map (λ w. w.now) (drop (at + 2) words)) (places ++ place ∷ [])
+one_more_at words at d e places place le is r =
+    let all = map (λ (w : Bor Text). w.now) words in
+    one_more_read all (get_or words at d).now (get_or words (at + 1) e).now (map (λ w. w.now) (drop (at + 2) words))
+    places place is
+    (subst (λ (l : List (Bor Text)). WereRead all (map (λ w. w.now) l) places) (two_at words at d e le) r)
+
+all_taken : (words : List Text) (rest : List (Bor Text)) (places : List Place) → rest ≡ [] →
+    WereRead words (map (λ w. w.now) rest) places → ArePlaces words places
+all_taken words rest places none r =
+    all_read words places (subst (λ (l : List (Bor Text)). WereRead words (map (λ w. w.now) l) places) none r)
+
+pub all_at : (words : List (Bor Text)) (at : ℕ) (places : List Place) → length words ≤ at
+    → WereRead (map (λ w. w.now) words) (map (λ w. w.now) (drop at words)) places
+    → ArePlaces (map (λ w. w.now) words) places
+all_at words at places le r = all_taken (map (λ w. w.now) words) (drop at words) places (drop_all at words le) r
+
+odd_taken : (words : List Text) (rest : List (Bor Text)) (places every : List Place) → length rest ≡ 1
+    → WereRead words (map (λ w. w.now) rest) places → ArePlaces words every → ⊥
+odd_taken words [] places every one r are = absurd (omega (arith, one))
+odd_taken words (kind ∷ []) places every one r are = (r.rest every are).1
+odd_taken words (kind ∷ word ∷ rest) places every one r are = absurd (omega (arith, one))
+
+-- a kind without its place
+pub odd_at : (words : List (Bor Text)) (at : ℕ) (places every : List Place) → at < length words → length words < at + 2
+    → WereRead (map (λ w. w.now) words) (map (λ w. w.now) (drop at words)) places
+    → ArePlaces (map (λ w. w.now) words) every → ⊥
+odd_at words at places every more few r are =
+    let one : length (drop at words) ≡ 1 = omega (arith, length-drop at words, more, few) in
+    odd_taken (map (λ w. w.now) words) (drop at words) places every one r are
+
+bad_first : (kind word : Text) (left : List Text) (places : List Place) → ((place : Place) → ¬ IsPlace kind word place) →
+    ArePlaces (kind ∷ word ∷ left) places → ⊥
+bad_first kind word left [] bad are = are
+bad_first kind word left (place ∷ places) bad are = bad place are.0
+
+-- two words that name no place
+pub bad_at : (words : List (Bor Text)) (at : ℕ) (d e : Bor Text) (places every : List Place) → at + 2 ≤ length words
+    → ((place : Place) → ¬ IsPlace (get_or words at d).now (get_or words (at + 1) e).now place)
+    → WereRead (map (λ w. w.now) words) (map (λ w. w.now) (drop at words)) places
+    → ArePlaces (map (λ w. w.now) words) every → ⊥
+bad_at words at d e places every le bad r are =
+    let b = r.rest every are in
+    bad_first (get_or words at d).now (get_or words (at + 1) e).now (map (λ w. w.now) (drop (at + 2) words)) b.0 bad
+    (subst (λ (l : List (Bor Text)). ArePlaces (map (λ w. w.now) l) b.0) (two_at words at d e le) b.1)
+
+-- the same, where no place was found of them
+pub bad_found : (words : List (Bor Text)) (at : ℕ) (d e : Bor Text) (places every : List Place) (found : Option Place)
+    → at + 2 ≤ length words → found ≡ None
+    → FindsPart (IsPlace (get_or words at d).now (get_or words (at + 1) e).now) found
+    → WereRead (map (λ w. w.now) words) (map (λ w. w.now) (drop at words)) places
+    → ArePlaces (map (λ w. w.now) words) every → ⊥
+bad_found words at d e places every None le none bad r are = bad_at words at d e places every le bad r are
+bad_found words at d e places every (Some place) le none bad r are = cc

@@ -33,6 +33,10 @@ place_rule name = record (argument_rule name) { action = Some Set; required = tr
 abbrev pub list_rule : Text → Rule
 list_rule name = record (argument_rule name) { action = Some Append }
 
+-- `VALUE...`, one word alone or more
+abbrev pub words_rule : Text → Rule
+words_rule name = record (list_rule name) { required = true }
+
 -- `[--NAME]`, which has no value of its own
 abbrev pub flag_rule : Text → Rule
 flag_rule name = record (new_rule name) { long = Some name; action = Some SetTrue }
@@ -53,6 +57,15 @@ log_app name =
 -- `NAME --origin O --keys K --state S`
 abbrev pub held_app : Text → App
 held_app name = with_rule (log_app name) (option_rule (codes "state"))
+
+-- `NAME --origin O --keys K --dir D`
+abbrev pub copy_app : Text → App
+copy_app name = with_rule (log_app name) (option_rule (codes "dir"))
+
+-- `NAME --origin O --keys K (--state S | --dir D)`
+abbrev pub asked_app : Text → App
+asked_app name =
+    with_rule (with_rule (log_app name) (choice_rule (codes "state"))) (choice_rule (codes "dir"))
 
 -- `NAME --origin O --keys K --out T`
 abbrev pub made_app : Text → App
@@ -96,6 +109,7 @@ argument_of (argument.Choice name value help) = choice_rule name.now
 argument_of (argument.Flag name help) = flag_rule name.now
 argument_of (argument.Place name value help) = place_rule name.now
 argument_of (argument.List name value help) = list_rule name.now
+argument_of (argument.Words name value help) = words_rule name.now
 
 -- the command with these arguments besides, in this order
 abbrev pub with_rules : App → List Rule → App

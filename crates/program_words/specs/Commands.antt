@@ -11,14 +11,15 @@ use Rattle.tlog_shape.specs.declared.TheConstants.{MAX_SIZE}
 use Rattle.tlog_proof.specs.declared.proof.Ask.{Ask}
 use Rattle.tlog_proof.specs.declared.proof.Ask.TheVariants.{Inclusion, Consistency}
 use Rattle.mirror_client.specs.Site.{IsHost, IsSitePrefix, slash}
-use Rattle.program_words.specs.App.{choice_rule, flag_rule, folder_app, held_app, list_rule, log_app}
-use Rattle.program_words.specs.App.{made_app, option_rule, place_rule, program_app, progress_rule}
-use Rattle.program_words.specs.App.{with_commands}
+use Rattle.program_words.specs.App.{asked_app, choice_rule, copy_app, flag_rule, folder_app, held_app}
+use Rattle.program_words.specs.App.{list_rule, log_app, made_app, option_rule, place_rule, program_app}
+use Rattle.program_words.specs.App.{progress_rule, with_commands, words_rule}
 use Rattle.program_words.specs.declared.commands.Command.{Command}
 use Rattle.program_words.specs.declared.commands.Command.TheVariants as order
 use Rattle.program_words.specs.declared.commands.root.Root.{Root as RootWords}
 use Rattle.program_words.specs.declared.parts.Log.{Log}
 use Rattle.program_words.specs.declared.parts.StateArgs.{StateArgs}
+use Rattle.program_words.specs.declared.parts.CopyArgs.{CopyArgs}
 use Rattle.program_words.specs.declared.parts.OutputArgs.{OutputArgs}
 use Rattle.program_words.specs.declared.commands.build.Build.{Build}
 use Rattle.program_words.specs.declared.commands.take.Kind.{Kind}
@@ -28,18 +29,30 @@ use Rattle.program_words.specs.declared.commands.merge.Merge.{Merge}
 use Rattle.program_words.specs.declared.place.Place.{Place}
 use Rattle.program_words.specs.declared.place.Place.TheVariants.{Folder, Server}
 use Rattle.program_words.specs.declared.commands.pull.Pull.{Pull}
+use Rattle.program_words.specs.declared.commands.follow.Follow.{Follow}
+use Rattle.program_words.specs.declared.commands.audit.Audit.{Audit}
 use Rattle.program_words.specs.declared.commands.missing.Missing.{Missing}
 use Rattle.program_words.specs.declared.commands.compare.Compare.{Compare}
+use Rattle.program_words.specs.declared.commands.compare.CopyCompare.{CopyCompare}
 use Rattle.program_words.specs.declared.commands.prove.Prove.{Prove}
+use Rattle.program_words.specs.declared.commands.prove.CopyProve.{CopyProve}
+use Rattle.program_words.specs.declared.commands.entries.EntryRange.{EntryRange}
+use Rattle.program_words.specs.declared.commands.entries.Entries.{Entries}
+use Rattle.program_words.specs.declared.commands.entries.CopyEntries.{CopyEntries}
 use Rattle.program_words.specs.declared.commands.export.Export.{Export}
 use Rattle.program_words.specs.declared.commands.notes.Notes.{Notes}
 use Rattle.program_words.specs.declared.commands.serve.Serve.{Serve}
+use Rattle.program_words.specs.declared.commands.serve.CopyServe.{CopyServe}
 
 -- ---- options
 
 -- the option has this value
 abbrev pub Given : List Row → Text → Text → Type 0
 Given options name text = first_of name options ≡ Some text
+
+-- the option is left out
+abbrev pub NotGiven : List Row → Text → Type 0
+NotGiven options name = first_of name options ≡ None
 
 -- the option has a value, which is such a text
 pub record HasValue (options : List Row) (name : Text) (IsSuch : Text → Type 0) : Type 0 where
@@ -82,6 +95,21 @@ pub record IsStateArgs (options : List Row) (args : StateArgs) : Type 0 where
   pub log : IsLog options args.log
   pub state : Given options (codes "state") args.state.now
 
+-- the options name a copy in a folder
+pub record IsCopyArgs (options : List Row) (args : CopyArgs) : Type 0 where
+  pub log : IsLog options args.log
+  pub folder : Given options (codes "dir") args.folder.now
+
+-- of a command that is asked of a state or a copy: the options name a state, and no copy
+pub record IsStateAsked (options : List Row) (args : StateArgs) : Type 0 where
+  pub state : IsStateArgs options args
+  pub alone : NotGiven options (codes "dir")
+
+-- the same: they name a copy, and no state
+pub record IsCopyAsked (options : List Row) (args : CopyArgs) : Type 0 where
+  pub copy : IsCopyArgs options args
+  pub alone : NotGiven options (codes "state")
+
 -- the options name the file that a mirror is written to
 pub record IsOutputArgs (options : List Row) (args : OutputArgs) : Type 0 where
   pub log : IsLog options args.log
@@ -109,8 +137,7 @@ check_app = new_app (codes "check")
 
 -- `build --origin O --keys K --dir D [--progress]`
 abbrev pub build_app : App
-build_app =
-    with_rule (with_rule (log_app (codes "build")) (option_rule (codes "dir"))) progress_rule
+build_app = with_rule (copy_app (codes "build")) progress_rule
 
 -- what the options of `build` say
 pub record IsBuild (options : List Row) (build : Build) : Type 0 where
@@ -212,11 +239,59 @@ pub record IsPull (options : List Row) (pull : Pull) : Type 0 where
   pub place : HasValue options (codes "kind")
       (λ kind. HasValue options (codes "place") (λ word. IsPlace kind word pull.place))
 
+-- -- follow
+
+-- `follow --origin O --keys K --dir D [--checkpoint FILE] [--forks F] [--progress] KIND PLACE..`
+abbrev pub follow_app : App
+follow_app = with_rule (with_rule (with_rule (with_rule (copy_app (codes "follow"))
+    (choice_rule (codes "checkpoint"))) (choice_rule (codes "forks"))) progress_rule)
+    (words_rule (codes "place"))
+
+-- the words name these places, by two words each
+abbrev pub ArePlaces : List Text → List Place → Type 0
+ArePlaces [] [] = ⊤
+ArePlaces [] (place ∷ places) = ⊥
+ArePlaces (kind ∷ []) places = ⊥
+ArePlaces (kind ∷ word ∷ words) [] = ⊥
+ArePlaces (kind ∷ word ∷ words) (place ∷ places) = IsPlace kind word place × ArePlaces words places
+
+-- there are words, and they name these places; `clap` wants one word or more
+abbrev pub ArePlacesGiven : Option (List Text) → List Place → Type 0
+ArePlacesGiven None places = ⊥
+ArePlacesGiven (Some words) places = ArePlaces words places
+
+-- the options name these places
+abbrev pub IsPlacesGiven : List Row → List Place → Type 0
+IsPlacesGiven options places = ArePlacesGiven (all_of (codes "place") options) places
+
+-- what the options of `follow` say
+pub record IsFollow (options : List Row) (follow : Follow) : Type 0 where
+  pub copy : IsCopyArgs options follow.copy
+  pub checkpoint : first_of (codes "checkpoint") options ≡ option_map (λ f. f.now) follow.checkpoint
+  pub forks : first_of (codes "forks") options ≡ option_map (λ f. f.now) follow.forks
+  pub progress : IsTrue follow.progress ↔ HasFlag options (codes "progress")
+  pub why : IsTrue follow.why ↔ HasFlag options (codes "why")
+  pub places : IsPlacesGiven options follow.places.items
+
+-- -- audit
+
+-- `audit --origin O --keys K [--progress] KIND PLACE`
+abbrev pub audit_app : App
+audit_app = with_rule (with_rule (with_rule (log_app (codes "audit")) progress_rule)
+    (place_rule (codes "kind"))) (place_rule (codes "place"))
+
+-- what the options of `audit` say
+pub record IsAudit (options : List Row) (audit : Audit) : Type 0 where
+  pub log : IsLog options audit.log
+  pub progress : IsTrue audit.progress ↔ HasFlag options (codes "progress")
+  pub place : HasValue options (codes "kind")
+      (λ kind. HasValue options (codes "place") (λ word. IsPlace kind word audit.place))
+
 -- -- status
 
--- `status --origin O --keys K --state S`
+-- `status --origin O --keys K (--state S | --dir D)`
 abbrev pub status_app : App
-status_app = held_app (codes "status")
+status_app = asked_app (codes "status")
 
 -- -- missing
 
@@ -240,20 +315,25 @@ forks_app = held_app (codes "forks")
 
 -- -- compare
 
--- `compare --origin O --keys K --state S [FILE...]`
+-- `compare --origin O --keys K (--state S | --dir D) [FILE...]`
 abbrev pub compare_app : App
-compare_app = with_rule (held_app (codes "compare")) (list_rule (codes "file"))
+compare_app = with_rule (asked_app (codes "compare")) (list_rule (codes "file"))
 
--- what the options of `compare` say
+-- what the options of `compare` say of a state
 pub record IsCompare (options : List Row) (compare : Compare) : Type 0 where
-  pub mirror : IsStateArgs options compare.mirror
+  pub mirror : IsStateAsked options compare.mirror
+  pub files : unwrap_or (all_of (codes "file") options) [] ≡ map (λ f. f.now) compare.files.items
+
+-- what they say of a copy
+pub record IsCopyCompare (options : List Row) (compare : CopyCompare) : Type 0 where
+  pub copy : IsCopyAsked options compare.copy
   pub files : unwrap_or (all_of (codes "file") options) [] ≡ map (λ f. f.now) compare.files.items
 
 -- -- prove
 
--- `prove --origin O --keys K --state S KIND A B`
+-- `prove --origin O --keys K (--state S | --dir D) KIND A B`
 abbrev pub prove_app : App
-prove_app = with_rule (with_rule (with_rule (held_app (codes "prove"))
+prove_app = with_rule (with_rule (with_rule (asked_app (codes "prove"))
     (place_rule (codes "kind"))) (place_rule (codes "a"))) (place_rule (codes "b"))
 
 -- the three words that ask for a proof
@@ -262,12 +342,44 @@ IsAsk kind a b (Inclusion size index) = (kind ≡ codes "inclusion") × IsSize s
 IsAsk kind a b (Consistency first second) =
     (kind ≡ codes "consistency") × IsSize first a × IsSize second b
 
--- what the options of `prove` say
+-- the options ask for a proof
+abbrev pub IsAskGiven : List Row → Ask → Type 0
+IsAskGiven options ask = HasValue options (codes "kind")
+    (λ kind. HasValue options (codes "a")
+    (λ a. HasValue options (codes "b") (λ b. IsAsk kind a b ask)))
+
+-- what the options of `prove` say of a state
 pub record IsProve (options : List Row) (prove : Prove) : Type 0 where
-  pub mirror : IsStateArgs options prove.mirror
-  pub ask : HasValue options (codes "kind")
-      (λ kind. HasValue options (codes "a")
-      (λ a. HasValue options (codes "b") (λ b. IsAsk kind a b prove.ask)))
+  pub mirror : IsStateAsked options prove.mirror
+  pub ask : IsAskGiven options prove.ask
+
+-- what they say of a copy
+pub record IsCopyProve (options : List Row) (prove : CopyProve) : Type 0 where
+  pub copy : IsCopyAsked options prove.copy
+  pub ask : IsAskGiven options prove.ask
+
+-- -- entries
+
+-- `entries --origin O --keys K (--state S | --dir D) [--base64] FROM TO`
+abbrev pub entries_app : App
+entries_app = with_rule (with_rule (with_rule (asked_app (codes "entries"))
+    (flag_rule (codes "base64"))) (place_rule (codes "from"))) (place_rule (codes "to"))
+
+-- the options name a range of entries, and how they are written
+pub record IsEntryRange (options : List Row) (range : EntryRange) : Type 0 where
+  pub start : HasNumber options (codes "from") 0 MAX_SIZE range.from
+  pub end : HasNumber options (codes "to") 0 MAX_SIZE range.to
+  pub base64 : IsTrue range.base64 ↔ HasFlag options (codes "base64")
+
+-- what the options of `entries` say of a state
+pub record IsEntries (options : List Row) (entries : Entries) : Type 0 where
+  pub mirror : IsStateAsked options entries.mirror
+  pub range : IsEntryRange options entries.range
+
+-- what they say of a copy
+pub record IsCopyEntries (options : List Row) (entries : CopyEntries) : Type 0 where
+  pub copy : IsCopyAsked options entries.copy
+  pub range : IsEntryRange options entries.range
 
 -- -- export
 
@@ -295,15 +407,21 @@ pub record IsNotes (options : List Row) (notes : Notes) : Type 0 where
 
 -- -- serve
 
--- `serve --origin O --keys K --state S --port P --requests N`
+-- `serve --origin O --keys K (--state S | --dir D) --port P --requests N`
 abbrev pub serve_app : App
 serve_app =
-    with_rule (with_rule (held_app (codes "serve")) (option_rule (codes "port")))
+    with_rule (with_rule (asked_app (codes "serve")) (option_rule (codes "port")))
     (option_rule (codes "requests"))
 
--- what the options of `serve` say
+-- what the options of `serve` say of a state
 pub record IsServe (options : List Row) (serve : Serve) : Type 0 where
-  pub mirror : IsStateArgs options serve.mirror
+  pub mirror : IsStateAsked options serve.mirror
+  pub port : HasNumber options (codes "port") 1 65535 serve.port
+  pub requests : HasNumber options (codes "requests") 0 MAX_SIZE serve.requests
+
+-- what they say of a copy
+pub record IsCopyServe (options : List Row) (serve : CopyServe) : Type 0 where
+  pub copy : IsCopyAsked options serve.copy
   pub port : HasNumber options (codes "port") 1 65535 serve.port
   pub requests : HasNumber options (codes "requests") 0 MAX_SIZE serve.requests
 
@@ -312,8 +430,9 @@ pub record IsServe (options : List Row) (serve : Serve) : Type 0 where
 -- their command lines, in the order in which `clap` tells of them
 abbrev pub command_apps : List App
 command_apps =
-    root_app ∷ check_app ∷ build_app ∷ take_app ∷ merge_app ∷ pull_app ∷ status_app ∷ missing_app
-    ∷ forks_app ∷ compare_app ∷ prove_app ∷ export_app ∷ notes_app ∷ serve_app ∷ []
+    root_app ∷ check_app ∷ build_app ∷ take_app ∷ merge_app ∷ pull_app ∷ follow_app ∷ audit_app
+    ∷ status_app ∷ missing_app ∷ forks_app ∷ compare_app ∷ prove_app ∷ entries_app ∷ export_app
+    ∷ notes_app ∷ serve_app ∷ []
 
 -- the word that names the command
 abbrev pub name_of : Command → Text
@@ -323,15 +442,23 @@ name_of (order.Build c) = codes "build"
 name_of (order.Take c) = codes "take"
 name_of (order.Merge c) = codes "merge"
 name_of (order.Pull c) = codes "pull"
+name_of (order.Follow c) = codes "follow"
+name_of (order.Audit c) = codes "audit"
 name_of (order.Status c) = codes "status"
+name_of (order.CopyStatus c) = codes "status"
 name_of (order.Missing c) = codes "missing"
 name_of (order.Forks c) = codes "forks"
 name_of (order.Compare c) = codes "compare"
+name_of (order.CopyCompare c) = codes "compare"
 name_of (order.Prove c) = codes "prove"
+name_of (order.CopyProve c) = codes "prove"
+name_of (order.Entries c) = codes "entries"
+name_of (order.CopyEntries c) = codes "entries"
 name_of (order.Export c) = codes "export"
 name_of (order.Update c) = codes "export"
 name_of (order.Notes c) = codes "notes"
 name_of (order.Serve c) = codes "serve"
+name_of (order.CopyServe c) = codes "serve"
 
 -- the options say this command, of those of its name
 abbrev pub Says : List Row → Command → Type 0
@@ -341,15 +468,23 @@ Says options (order.Build c) = IsBuild options c
 Says options (order.Take c) = IsTake options c
 Says options (order.Merge c) = IsMerge options c
 Says options (order.Pull c) = IsPull options c
-Says options (order.Status c) = IsStateArgs options c
+Says options (order.Follow c) = IsFollow options c
+Says options (order.Audit c) = IsAudit options c
+Says options (order.Status c) = IsStateAsked options c
+Says options (order.CopyStatus c) = IsCopyAsked options c
 Says options (order.Missing c) = IsMissingAsk options c
 Says options (order.Forks c) = IsStateArgs options c
 Says options (order.Compare c) = IsCompare options c
+Says options (order.CopyCompare c) = IsCopyCompare options c
 Says options (order.Prove c) = IsProve options c
+Says options (order.CopyProve c) = IsCopyProve options c
+Says options (order.Entries c) = IsEntries options c
+Says options (order.CopyEntries c) = IsCopyEntries options c
 Says options (order.Export c) = IsExport options c × (¬ HasFlag options (codes "update"))
 Says options (order.Update c) = IsExport options c × HasFlag options (codes "update")
 Says options (order.Notes c) = IsNotes options c
 Says options (order.Serve c) = IsServe options c
+Says options (order.CopyServe c) = IsCopyServe options c
 
 -- ---- the whole command line
 

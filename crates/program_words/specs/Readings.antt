@@ -76,7 +76,7 @@ abbrev pub FindsPart : {X : Type 0} → (X → Type 0) → Option X → Type 0
 FindsPart IsSuch (Some x) = IsSuch x
 FindsPart {X} IsSuch None = (x : X) → ¬ IsSuch x
 
--- the options name the place of `pull`
+-- the options name the place of `pull` or `audit`
 abbrev pub IsPlaceGiven : List Row → Place → Type 0
 IsPlaceGiven options place =
     HasValue options (codes "kind") (λ kind. HasValue options (codes "place") (λ word. IsPlace kind word place))

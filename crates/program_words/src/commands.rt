@@ -5,10 +5,13 @@ ghost use Rattle.program_words.specs.App.{IsParserOf, line_app, named_app, progr
 ghost use Rattle.program_words.specs.Commands.{mirror_app};
 ghost use Rattle.program_words.specs.Readings.{IsSaid, ReadsPart};
 
+pub mod audit;
 pub mod build;
 pub mod check;
 pub mod compare;
+pub mod entries;
 pub mod export;
+pub mod follow;
 pub mod forks;
 pub mod merge;
 pub mod missing;
@@ -22,7 +25,7 @@ pub mod take;
 
 use crate::fault::CommandFault;
 use crate::parser::{CommandLine, parser_of};
-use crate::parts::StateArgs;
+use crate::parts::{CopyArgs, StateArgs};
 use clap::ArgMatches;
 use std::alloc::{AllocError, Global};
 
@@ -32,21 +35,24 @@ A mirror for one append-only transparency log in the C2SP tlog-tiles layout
 
 Usage: tlogmirror <COMMAND>
 
-Follow a log, in a state, which is one file:
+Follow a log of any size, in a folder that a web server can give out:
+  follow   Brings the folder, a copy, to the newest checkpoint of some places, and verifies every file
+  audit    Reads a whole log at a place, and verifies every file
+Follow a log, in a state, which is one file and takes files in any order:
   pull     Fetches the newest checkpoint and what is missing of it, from a folder or over plain HTTP
   take     Takes a checkpoint, a tile or an entry bundle from files
   merge    Makes one mirror of two
-Ask a state:
-  status   Prints its checkpoints, which of them are complete, and which is served
   missing  Prints the paths that a checkpoint's tree lacks
   forks    Prints which checkpoints contradict each other
+  export   Writes the log's files to a folder
+  notes    Writes each signed note to a file of its own
+Ask a copy or a state:
+  status   Prints its checkpoints, which of them are complete, and which is served
   compare  Prints which checkpoints contradict what is served
   prove    Prints an inclusion or a consistency proof
-Publish what it holds:
-  export   Writes the log's files to a folder
+  entries  Writes a range of entries
   serve    Answers over plain HTTP on 127.0.0.1
-  notes    Writes each signed note to a file of its own
-Without a state:
+Without either:
   check    Reads a proof, and prints whether it holds
   build    Makes a log of entries, and signs its checkpoint
   root     Prints the tree hash of an entry bundle
@@ -55,10 +61,11 @@ Options:
   -h, --help     Print help; of a command -h prints its words, --help all of it
   -V, --version  Print version
 
-Example: tlogmirror pull --origin example.com/log --keys examples/log.keys --out log.state dir examples/log
+Examples: tlogmirror follow --origin example.com/log --keys examples/log.keys --dir log dir examples/log
+tlogmirror pull --origin example.com/log --keys examples/log.keys --out log.state dir examples/log
 
 Exit status: 0 done, 1 a fault, 2 words that ask for nothing that can be done, 3 a no: the proof does
-not hold, something is missing or partial, there are forks, nothing is complete.
+not hold, something is missing or partial, there are forks, nothing is complete, a checkpoint is larger.
 A fault is one line on standard error, 'tlogmirror: NAME'. With '--why', which all but root and check have,
 the line before it says what it is about. Those of files that most commands read:
   FileFault    a file that was named cannot be read or written: see the path and the rights
@@ -71,6 +78,10 @@ the line before it says what it is about. Those of files that most commands read
   StateOrder, StateString, StateEdge
                the state was not made by this program: take a copy of it
   StateHead    a note in the state does not verify under these keys: give those that it was made with
+  CopyDamaged  a file of the copy is missing or false: audit it, and follow the log into a new folder
+  ShelfFault   a file of the copy cannot be read: see the path and the rights
+  NoTrustedSignature
+               no key of the file signed the copy's checkpoint: add the log's key or a pin
 And of any: Collision, two different strings share a digest, so keep the state and what was read;
 WriteFault, standard output could not be written, and a part may have been; OutOfMemory.
 
@@ -91,16 +102,30 @@ pub enum Command<'a> {
     Merge(merge::Merge<'a>),
     /// What is missing fetched.
     Pull(pull::Pull<'a>),
+    /// A copy brought to the newest checkpoint of its places.
+    Follow(follow::Follow<'a>),
+    /// A whole log at a place, verified file by file.
+    Audit(audit::Audit<'a>),
     /// The heads of a mirror.
     Status(StateArgs<'a>),
+    /// The checkpoint of a copy: `status --dir`.
+    CopyStatus(CopyArgs<'a>),
     /// What a head's tree lacks.
     Missing(missing::Missing<'a>),
     /// The forks between a mirror's heads.
     Forks(StateArgs<'a>),
     /// Checkpoints compared with what is served.
     Compare(compare::Compare<'a>),
+    /// Checkpoints compared with a copy: `compare --dir`.
+    CopyCompare(compare::CopyCompare<'a>),
     /// A proof of what is served.
     Prove(prove::Prove<'a>),
+    /// A proof of a copy: `prove --dir`.
+    CopyProve(prove::CopyProve<'a>),
+    /// Entries of what is served.
+    Entries(entries::Entries<'a>),
+    /// Entries of a copy: `entries --dir`.
+    CopyEntries(entries::CopyEntries<'a>),
     /// What is served, as a folder.
     Export(export::Export<'a>),
     /// A folder brought up to date with what is served: `export --update`.
@@ -109,6 +134,8 @@ pub enum Command<'a> {
     Notes(notes::Notes<'a>),
     /// Answers over HTTP.
     Serve(serve::Serve<'a>),
+    /// Answers over HTTP, of a copy: `serve --dir`.
+    CopyServe(serve::CopyServe<'a>),
 }
 
 // The program by its name, with its help and its version.
@@ -117,7 +144,7 @@ fn named_parser<'a>(alloc: Global) -> Result<clap::Command<'a>, AllocError>
 {
     clap::Command::new(alloc, "tlogmirror")
         .override_help(PROGRAM)
-        .version("0.4.3")
+        .version("0.5.0")
         .bin_name("tlogmirror")
 }
 
@@ -174,7 +201,7 @@ fn with_commands<'a>(
 pub(crate) fn parser<'a>(alloc: Global) -> Result<clap::Command<'a>, AllocError>
     ensures { IfOk result (IsParserOf mirror_app) }
 {
-    // An array in the body, and no constant: at one of all fourteen the checker stops at its limit.
+    // An array in the body, and no constant: at one of all of them the checker stops at its limit.
     let lines = [
         &root::LINE,
         &check::LINE,
@@ -182,11 +209,14 @@ pub(crate) fn parser<'a>(alloc: Global) -> Result<clap::Command<'a>, AllocError>
         &take::LINE,
         &merge::LINE,
         &pull::LINE,
+        &follow::LINE,
+        &audit::LINE,
         &status::LINE,
         &missing::LINE,
         &forks::LINE,
         &compare::LINE,
         &prove::LINE,
+        &entries::LINE,
         &export::LINE,
         &notes::LINE,
         &serve::LINE,
@@ -209,11 +239,14 @@ pub(crate) fn command_of<'a>(
         "take" => take::read(alloc, found),
         "merge" => merge::read(found),
         "pull" => pull::read(alloc, found),
+        "follow" => follow::read(alloc, found),
+        "audit" => audit::read(alloc, found),
         "status" => status::read(found),
         "missing" => missing::read(found),
         "forks" => forks::read(found),
         "compare" => compare::read(alloc, found),
         "prove" => prove::read(found),
+        "entries" => entries::read(found),
         "export" => export::read(found),
         "notes" => notes::read(found),
         "serve" => serve::read(found),
@@ -226,8 +259,13 @@ pub(crate) fn bad_word(alloc: Global, name: &str, found: &ArgMatches<'_>) -> Opt
     match name {
         "take" => take::bad_word(found),
         "pull" => pull::bad_word(alloc, found),
+        "follow" => follow::bad_word(alloc, found),
+        "audit" => audit::bad_word(alloc, found),
+        "status" => status::bad_word(found),
         "missing" => missing::bad_word(found),
+        "compare" => compare::bad_word(found),
         "prove" => prove::bad_word(found),
+        "entries" => entries::bad_word(found),
         "serve" => serve::bad_word(found),
         _ => None,
     }

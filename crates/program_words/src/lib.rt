@@ -22,6 +22,6 @@ mod words;
 pub use commands::Command;
 pub use fault::CommandFault;
 pub use laws::{lawful_law, words_example};
-pub use parts::{Log, OutputArgs, StateArgs};
+pub use parts::{CopyArgs, Log, OutputArgs, StateArgs};
 pub use place::Place;
 pub use words::{Line, read_line};

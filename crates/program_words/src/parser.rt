@@ -30,6 +30,8 @@ pub(crate) enum Argument<'a> {
     Place(&'a str, &'a str, &'a str),
     /// `VALUE...`, any number of words alone.
     List(&'a str, &'a str, &'a str),
+    /// `VALUE...`, one word alone or more.
+    Words(&'a str, &'a str, &'a str),
 }
 
 /// The origin of the log, of each command over one.
@@ -57,6 +59,20 @@ pub(crate) const STATE: Argument<'static> = Argument::Option(
     "state",
     "S",
     "The file of the mirror's state",
+);
+
+/// The state, of each command over a state or a copy.
+pub(crate) const STATE_OR_DIR: Argument<'static> = Argument::Choice(
+    "state",
+    "S",
+    "The file of the mirror's state; this or --dir is given",
+);
+
+/// The folder, of each command over a state or a copy.
+pub(crate) const DIR_OR_STATE: Argument<'static> = Argument::Choice(
+    "dir",
+    "D",
+    "The folder of a copy, as 'follow' makes it; this or --state is given",
 );
 
 /// The state that comes of it, of each command that writes a mirror to a file.
@@ -114,6 +130,9 @@ fn arg_of<'a>(alloc: Global, given: &Argument<'a>) -> Arg<'a>
         Argument::List(name, value, help) => {
             valued(alloc, name, value, help).action(ArgAction::Append)
         }
+        Argument::Words(name, value, help) => valued(alloc, name, value, help)
+            .required(true)
+            .action(ArgAction::Append),
     }
 }
 

@@ -2,7 +2,7 @@
 ghost use Rattle.std.specs.Prelude.{◌≡◌, ◌↔◌, IfOk, IsTrue, [], codes, map, option_map, unwrap_or};
 ghost use Rattle.std.specs.Str.{bytes_eq};
 ghost use Rattle.clap.specs.Words.{all_of, found_of, rows_of};
-ghost use Rattle.program_words.specs.Commands.{Given, HasFlag, HasNumber, IsStateArgs, IsLog, IsOutputArgs, IsNumberIn};
+ghost use Rattle.program_words.specs.Commands.{Given, HasFlag, HasNumber, IsCopyArgs, IsCopyAsked, IsStateArgs, IsStateAsked, IsLog, IsOutputArgs, IsNumberIn};
 ghost use Rattle.program_words.specs.Readings.{FindsPart};
 
 use clap::ArgMatches;
@@ -25,6 +25,15 @@ pub struct StateArgs<'a> {
     pub log: Log<'a>,
     /// The file of its state.
     pub state: &'a str,
+}
+
+/// A copy of a log, in a folder.
+#[derive(Drop, Clone, Copy)]
+pub struct CopyArgs<'a> {
+    /// Whose copy it is.
+    pub log: Log<'a>,
+    /// The folder.
+    pub folder: &'a str,
 }
 
 /// A mirror that is to be written to a file.
@@ -95,6 +104,41 @@ pub(crate) fn state_args<'a>(found: &ArgMatches<'a>) -> Option<StateArgs<'a>>
         log: log_of(found)?,
         state: word_of(found, "state")?,
     })
+}
+
+/// The mirror that is kept in a file, where `--dir` names no copy.
+pub(crate) fn state_asked<'a>(found: &ArgMatches<'a>) -> Option<StateArgs<'a>>
+    ensures { FindsPart (IsStateAsked (rows_of (found_of found.now))) result }
+{
+    match found.get_str("dir") {
+        Some(_) => None,
+        None => state_args(found),
+    }
+}
+
+/// The copy in a folder.
+pub(crate) fn copy_args<'a>(found: &ArgMatches<'a>) -> Option<CopyArgs<'a>>
+    ensures { FindsPart (IsCopyArgs (rows_of (found_of found.now))) result }
+{
+    Some(CopyArgs {
+        log: log_of(found)?,
+        folder: word_of(found, "dir")?,
+    })
+}
+
+/// The copy in a folder, where `--state` names no mirror.
+pub(crate) fn copy_asked<'a>(found: &ArgMatches<'a>) -> Option<CopyArgs<'a>>
+    ensures { FindsPart (IsCopyAsked (rows_of (found_of found.now))) result }
+{
+    match found.get_str("state") {
+        Some(_) => None,
+        None => copy_args(found),
+    }
+}
+
+/// Whether the words name one state or one copy, as each command that is asked of either wants it.
+pub(crate) fn names_one(found: &ArgMatches<'_>) -> bool {
+    found.get_str("state").is_some() != found.get_str("dir").is_some()
 }
 
 /// The mirror that is to be written to a file.

@@ -1,10 +1,12 @@
-//! The place that a log's files are fetched from.
-ghost use Rattle.std.specs.Prelude.{◌≡◌, ◌≢◌, ◌++◌, ◌∷◌, ◌↔◌, ℕ, ◌<◌, IfNone, IfOk, IfSome, IsTrue, codes, length, slice_index};
-ghost use Rattle.program_words.specs.Commands.{IsEmptyOrSlash, IsHostAndPrefix, IsPlace, colon};
-ghost use Rattle.program_words.specs.Readings.{FindsPart};
+//! The places that a log's files are fetched from.
+ghost use Rattle.std.specs.Prelude.{◌≡◌, ◌≢◌, ◌++◌, ◌∷◌, ◌↔◌, ℕ, ◌<◌, IfNone, IfOk, IfSome, IsTrue, codes, length, map, option_map, slice_index};
+ghost use Rattle.clap.specs.Words.{found_of, rows_of};
+ghost use Rattle.program_words.specs.Commands.{ArePlaces, IsEmptyOrSlash, IsHostAndPrefix, IsPlace, colon};
+ghost use Rattle.program_words.specs.Readings.{FindsPart, IsPlaceGiven};
 ghost use Rattle.mirror_client.specs.Site.{slash};
 
-use crate::parts::number_in;
+use crate::parts::{number_in, word_of};
+use clap::ArgMatches;
 use mirror_client::{Site, SiteFault};
 use std::alloc::{AllocError, Global};
 
@@ -93,5 +95,54 @@ pub(crate) fn place_of<'a>(
         "dir" => Ok(Some(Place::Folder(word))),
         "http" => server_of(alloc, word),
         _ => Ok(None),
+    }
+}
+
+/// The place that the options name.
+pub(crate) fn place_given<'a>(
+    alloc: Global,
+    found: &ArgMatches<'a>,
+) -> Result<Option<Place<'a>>, AllocError>
+    ensures { IfOk result (FindsPart (IsPlaceGiven (rows_of (found_of found.now)))) }
+{
+    match (word_of(found, "kind"), word_of(found, "place")) {
+        (Some(kind), Some(word)) => place_of(alloc, kind, word),
+        _ => Ok(None),
+    }
+}
+
+/// The places that the words name, two words each.
+#[tactic(auto, using(crate::proofs::Places::none_read, crate::proofs::Places::one_more_at, crate::proofs::Places::all_at, crate::proofs::Places::odd_at))]
+pub(crate) fn places_of<'a>(
+    alloc: Global,
+    words: &[&'a str],
+) -> Result<Option<Vec<Place<'a>>>, AllocError>
+    ensures { IfOk result (λ found. FindsPart (ArePlaces (map (λ w. w.now) words.now))
+        (option_map (λ places. places.items) found)) }
+{
+    let mut places = Vec::new(alloc);
+    let mut at = 0;
+    while at < words.len() {
+        // A kind without its place.
+        if words.len() - at < 2 {
+            return Ok(None);
+        }
+        let Some(place) = place_of(alloc, words[at], words[at + 1])? else {
+            return Ok(None);
+        };
+        places.push(place)?;
+        at += 2;
+    }
+    Ok(Some(places))
+}
+
+/// Which of the two words that name a place is bad, as help names it.
+pub(crate) fn bad_place(alloc: Global, kind: &str, word: &str) -> Option<&'static str> {
+    if kind != "dir" && kind != "http" {
+        return Some("KIND");
+    }
+    match place_of(alloc, kind, word) {
+        Ok(None) => Some("PLACE"),
+        _ => None,
     }
 }

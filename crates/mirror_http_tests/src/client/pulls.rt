@@ -138,7 +138,7 @@ fn fill<H: TreeHash>(alloc: Global, mirror: &mut Mirror<H>, n: u16) -> Result<()
 }
 
 // A mirror that is complete at C(n).
-fn mirror_of<H: TreeHash>(alloc: Global, n: u16) -> Result<Mirror<H>, Fail> {
+pub(crate) fn mirror_of<H: TreeHash>(alloc: Global, n: u16) -> Result<Mirror<H>, Fail> {
     let mut mirror = Mirror::<H>::new(alloc, "ex")?;
     let answer = fill(alloc, &mut mirror, n);
     kept(mirror, answer)

@@ -6,7 +6,7 @@ ghost use Rattle.program_words.specs.Readings.{FindsPart, IsSaid, ReadsPart};
 
 use crate::commands::Command;
 use crate::fault::CommandFault;
-use crate::parser::{Argument, CommandLine, KEYS, ORIGIN, PROGRESS, WHY};
+use crate::parser::{Argument, CommandLine, ORIGIN, PROGRESS, WHY};
 use crate::parts::{Log, has_flag, log_of, word_of};
 use clap::ArgMatches;
 
@@ -39,7 +39,7 @@ Faults, on standard error:
   ShelfFault    D cannot be written: see the path, the rights and the room
   OutOfMemory   there is not enough memory
 
-Example: printf '\\0\\1a' | tlogmirror build --origin log.example --keys keys --dir log";
+Example: printf '\\0\\1a' | tlogmirror build --origin ex --keys examples/ex.keys --dir new";
 
 /// Its command line.
 pub(crate) const LINE: CommandLine<'static> = CommandLine {
@@ -48,7 +48,11 @@ pub(crate) const LINE: CommandLine<'static> = CommandLine {
     help: HELP,
     arguments: &[
         ORIGIN,
-        KEYS,
+        Argument::Option(
+            "keys",
+            "K",
+            "The file of the keys, of which the first 'hmac' key signs the checkpoint",
+        ),
         WHY,
         Argument::Option("dir", "D", "The folder that the log is written to"),
         PROGRESS,

@@ -1,21 +1,31 @@
-//! `compare`: checkpoints compared with what is served.
-ghost use Rattle.std.specs.Prelude.{codes};
+//! `compare`: checkpoints compared with what is served, by a mirror or as a copy.
+ghost use Rattle.std.specs.Prelude.{IfOk, codes};
 ghost use Rattle.clap.specs.Words.{found_of, rows_of};
-ghost use Rattle.program_words.specs.Readings.{IsSaid, ReadsPart};
+ghost use Rattle.program_words.specs.Commands.{IsCompare, IsCopyCompare};
+ghost use Rattle.program_words.specs.Readings.{FindsPart, IsSaid, ReadsPart};
 
 use crate::commands::Command;
 use crate::fault::CommandFault;
-use crate::parser::{Argument, CommandLine, KEYS, ORIGIN, STATE, WHY};
-use crate::parts::{StateArgs, files_of, state_args};
+use crate::parser::{Argument, CommandLine, DIR_OR_STATE, KEYS, ORIGIN, STATE_OR_DIR, WHY};
+use crate::parts::{CopyArgs, StateArgs, copy_asked, files_of, names_one, state_asked};
 use clap::ArgMatches;
-use std::alloc::Global;
+use std::alloc::{AllocError, Global};
 
-/// `compare`: checkpoints compared with what is served.
+/// `compare --state`: checkpoints compared with what is served.
 #[derive(Drop)]
 pub struct Compare<'a> {
     /// The mirror.
     pub mirror: StateArgs<'a>,
     /// The files of the notes that are compared; none for those that the mirror holds.
+    pub files: Vec<&'a str>,
+}
+
+/// `compare --dir`: checkpoints compared with a copy.
+#[derive(Drop)]
+pub struct CopyCompare<'a> {
+    /// The copy.
+    pub copy: CopyArgs<'a>,
+    /// The files of the notes that are compared; none for the copy's own.
     pub files: Vec<&'a str>,
 }
 
@@ -25,16 +35,17 @@ The output is a line for each checkpoint, of those in S by size, or of the FILEs
 'same SIZE ROOT' where as many of the served entries have its root, 'fork SIZE ROOT OWN' where they
 have another, OWN, and 'larger SIZE ROOT' where fewer are served. A FILE is a signed note alone. A fork
 is the operator's doing: keep the note, and 'prove consistency SIZE N', whose first root is OWN.
+With no FILE the one checkpoint of D is compared, which is 'same'.
 
-Exit status: 0 no fork, 3 there are forks, 1 a fault, 2 words that ask for nothing.
-Faults of O, K and S: see 'tlogmirror --help'. Besides, on standard error:
+Exit status: 0 all are the same, 3 one is a fork or larger, 1 a fault, 2 words that ask for nothing.
+Faults of O, K, S and D: see 'tlogmirror --help'. Besides, on standard error:
   NoteTooLong, NotText, NoSignatures, TooManySignatures, BadSignatureLine
                       a FILE is no signed note
   TooFewLines, EmptyLine, BadSize, SizeTooLarge, BadRoot
                       the note is no checkpoint
   OtherOrigin         S or the checkpoint of a FILE is of another log
   NoTrustedSignature  no key of K signed the note: add the log's key or a pin
-  NothingComplete     no checkpoint is complete: pull what is missing first
+  NothingComplete     no checkpoint is complete: pull what is missing first, or follow the log
 
 Example: tlogmirror compare --origin log.example --keys keys --state state told.note";
 
@@ -47,7 +58,8 @@ pub(crate) const LINE: CommandLine<'static> = CommandLine {
         ORIGIN,
         KEYS,
         WHY,
-        STATE,
+        STATE_OR_DIR,
+        DIR_OR_STATE,
         Argument::List(
             "file",
             "FILE",
@@ -56,13 +68,49 @@ pub(crate) const LINE: CommandLine<'static> = CommandLine {
     ],
 };
 
-/// The command, by its options.
+// What its options say with `--state`.
+fn compare_of<'a>(alloc: Global, found: &ArgMatches<'a>) -> Result<Option<Compare<'a>>, AllocError>
+    ensures { IfOk result (FindsPart (IsCompare (rows_of (found_of found.now)))) }
+{
+    let Some(mirror) = state_asked(found) else {
+        return Ok(None);
+    };
+    let files = files_of(alloc, found)?;
+    Ok(Some(Compare { mirror, files }))
+}
+
+// What its options say with `--dir`.
+fn copy_compare_of<'a>(
+    alloc: Global,
+    found: &ArgMatches<'a>,
+) -> Result<Option<CopyCompare<'a>>, AllocError>
+    ensures { IfOk result (FindsPart (IsCopyCompare (rows_of (found_of found.now)))) }
+{
+    let Some(copy) = copy_asked(found) else {
+        return Ok(None);
+    };
+    let files = files_of(alloc, found)?;
+    Ok(Some(CopyCompare { copy, files }))
+}
+
+/// The command, by its options, over a state or a copy.
 pub(crate) fn read<'a>(alloc: Global, found: &ArgMatches<'a>) -> Result<Command<'a>, CommandFault>
     ensures { ReadsPart (IsSaid (codes "compare") (rows_of (found_of found.now))) result }
 {
-    let Some(mirror) = state_args(found) else {
-        return Err(CommandFault::BadArgument);
-    };
-    let files = files_of(alloc, found)?;
-    Ok(Command::Compare(Compare { mirror, files }))
+    if let Some(compare) = compare_of(alloc, found)? {
+        return Ok(Command::Compare(compare));
+    }
+    match copy_compare_of(alloc, found)? {
+        Some(copied) => Ok(Command::CopyCompare(copied)),
+        None => Err(CommandFault::BadArgument),
+    }
+}
+
+/// The options that are bad, as help names them.
+pub(crate) fn bad_word(found: &ArgMatches<'_>) -> Option<&'static str> {
+    if names_one(found) {
+        None
+    } else {
+        Some("--state or --dir")
+    }
 }

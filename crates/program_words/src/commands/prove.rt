@@ -1,18 +1,20 @@
-//! `prove`: a proof of what is served.
+//! `prove`: a proof of what is served, by a mirror or as a copy.
 ghost use Rattle.std.specs.Prelude.{codes};
 ghost use Rattle.clap.specs.Words.{found_of, rows_of};
-ghost use Rattle.program_words.specs.Commands.{IsAsk, IsProve};
+ghost use Rattle.program_words.specs.Commands.{IsAsk, IsAskGiven, IsCopyProve, IsProve};
 ghost use Rattle.program_words.specs.Readings.{FindsPart, IsSaid, ReadsPart};
 
 use crate::commands::Command;
 use crate::fault::CommandFault;
-use crate::parser::{Argument, CommandLine, KEYS, ORIGIN, STATE, WHY};
-use crate::parts::{StateArgs, number_in, number_of, state_args, word_of};
+use crate::parser::{Argument, CommandLine, DIR_OR_STATE, KEYS, ORIGIN, STATE_OR_DIR, WHY};
+use crate::parts::{
+    CopyArgs, StateArgs, copy_asked, names_one, number_in, number_of, state_asked, word_of,
+};
 use clap::ArgMatches;
 use tlog_proof::Ask;
 use tlog_shape::MAX_SIZE;
 
-/// `prove`: a proof of what is served.
+/// `prove --state`: a proof of what is served.
 #[derive(Drop, Clone, Copy)]
 pub struct Prove<'a> {
     /// The mirror.
@@ -21,14 +23,23 @@ pub struct Prove<'a> {
     pub ask: Ask,
 }
 
+/// `prove --dir`: a proof of a copy.
+#[derive(Drop, Clone, Copy)]
+pub struct CopyProve<'a> {
+    /// The copy.
+    pub copy: CopyArgs<'a>,
+    /// Of what.
+    pub ask: Ask,
+}
+
 // What it reads, writes and may end with.
 const HELP: &str = "\
 'inclusion SIZE INDEX' or 'consistency FIRST SECOND', of what the mirror serves. The output is the
-proof's text, which 'check' reads.
+proof's text, which 'check' reads. Of a copy it is checked against D's root before it is printed.
 
 Exit status: 0 done, 1 a fault, 2 words that ask for nothing, or that do not fit (BadArgument).
-Faults of O, K and S: see 'tlogmirror --help'. Then:
-  NothingComplete  no checkpoint is complete: pull what is missing first
+Faults of O, K, S and D: see 'tlogmirror --help'. Then:
+  NothingComplete  no checkpoint is complete: pull what is missing first, or follow the log
   NoSuchSize       a size is greater than the served one
   NoSuchIndex      the index is not below the size
   FirstIsZero      the smaller size is 0: every tree begins with the empty one
@@ -45,7 +56,8 @@ pub(crate) const LINE: CommandLine<'static> = CommandLine {
         ORIGIN,
         KEYS,
         WHY,
-        STATE,
+        STATE_OR_DIR,
+        DIR_OR_STATE,
         Argument::Place("kind", "KIND", "What is proved: inclusion or consistency"),
         Argument::Place("a", "A", "The tree's size, or the smaller size"),
         Argument::Place("b", "B", "The entry's index, or the greater size"),
@@ -69,32 +81,54 @@ fn ask_of(kind: &str, a: &str, b: &str) -> Option<Ask>
     }
 }
 
-// What its options say.
-fn prove_of<'a>(found: &ArgMatches<'a>) -> Option<Prove<'a>>
-    ensures { FindsPart (IsProve (rows_of (found_of found.now))) result }
+// What a proof is asked for.
+fn ask_given(found: &ArgMatches<'_>) -> Option<Ask>
+    ensures { FindsPart (IsAskGiven (rows_of (found_of found.now))) result }
 {
-    let mirror = state_args(found)?;
     let kind = word_of(found, "kind")?;
     let a = word_of(found, "a")?;
     let b = word_of(found, "b")?;
+    ask_of(kind, a, b)
+}
+
+// What its options say with `--state`.
+fn prove_of<'a>(found: &ArgMatches<'a>) -> Option<Prove<'a>>
+    ensures { FindsPart (IsProve (rows_of (found_of found.now))) result }
+{
     Some(Prove {
-        mirror,
-        ask: ask_of(kind, a, b)?,
+        mirror: state_asked(found)?,
+        ask: ask_given(found)?,
     })
 }
 
-/// The command, by its options.
+// What its options say with `--dir`.
+fn copy_prove_of<'a>(found: &ArgMatches<'a>) -> Option<CopyProve<'a>>
+    ensures { FindsPart (IsCopyProve (rows_of (found_of found.now))) result }
+{
+    Some(CopyProve {
+        copy: copy_asked(found)?,
+        ask: ask_given(found)?,
+    })
+}
+
+/// The command, by its options, over a state or a copy.
 pub(crate) fn read<'a>(found: &ArgMatches<'a>) -> Result<Command<'a>, CommandFault>
     ensures { ReadsPart (IsSaid (codes "prove") (rows_of (found_of found.now))) result }
 {
-    match prove_of(found) {
-        Some(prove) => Ok(Command::Prove(prove)),
+    if let Some(prove) = prove_of(found) {
+        return Ok(Command::Prove(prove));
+    }
+    match copy_prove_of(found) {
+        Some(prove) => Ok(Command::CopyProve(prove)),
         None => Err(CommandFault::BadArgument),
     }
 }
 
 /// The option or the word that is bad, as help names it.
 pub(crate) fn bad_word(found: &ArgMatches<'_>) -> Option<&'static str> {
+    if !names_one(found) {
+        return Some("--state or --dir");
+    }
     match word_of(found, "kind") {
         Some("inclusion") | Some("consistency") => {}
         _ => return Some("KIND"),

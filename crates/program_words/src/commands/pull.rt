@@ -2,13 +2,13 @@
 ghost use Rattle.std.specs.Prelude.{IfOk, codes};
 ghost use Rattle.clap.specs.Words.{found_of, rows_of};
 ghost use Rattle.program_words.specs.Commands.{IsPull};
-ghost use Rattle.program_words.specs.Readings.{FindsPart, IsPlaceGiven, IsSaid, ReadsPart};
+ghost use Rattle.program_words.specs.Readings.{FindsPart, IsSaid, ReadsPart};
 
 use crate::commands::Command;
 use crate::fault::CommandFault;
 use crate::parser::{Argument, CommandLine, FIRST_STATE, KEYS, ORIGIN, OUT, PROGRESS, WHY};
-use crate::parts::{OutputArgs, has_flag, output_args, word_of};
-use crate::place::{Place, place_of};
+use crate::parts::{OutputArgs, has_flag, output_args};
+use crate::place::{Place, bad_place, place_given};
 use clap::ArgMatches;
 use std::alloc::{AllocError, Global};
 
@@ -85,16 +85,6 @@ pub(crate) const LINE: CommandLine<'static> = CommandLine {
     ],
 };
 
-// The place that its words name.
-fn place_given<'a>(alloc: Global, found: &ArgMatches<'a>) -> Result<Option<Place<'a>>, AllocError>
-    ensures { IfOk result (FindsPart (IsPlaceGiven (rows_of (found_of found.now)))) }
-{
-    match (word_of(found, "kind"), word_of(found, "place")) {
-        (Some(kind), Some(word)) => place_of(alloc, kind, word),
-        _ => Ok(None),
-    }
-}
-
 // What its options say.
 fn pull_of<'a>(alloc: Global, found: &ArgMatches<'a>) -> Result<Option<Pull<'a>>, AllocError>
     ensures { IfOk result (FindsPart (IsPull (rows_of (found_of found.now)))) }
@@ -126,13 +116,5 @@ pub(crate) fn read<'a>(alloc: Global, found: &ArgMatches<'a>) -> Result<Command<
 
 /// The option or the word that is bad, as help names it.
 pub(crate) fn bad_word(alloc: Global, found: &ArgMatches<'_>) -> Option<&'static str> {
-    let kind = found.get_str("kind")?;
-    let place = found.get_str("place")?;
-    if kind != "dir" && kind != "http" {
-        return Some("KIND");
-    }
-    match place_of(alloc, kind, place) {
-        Ok(None) => Some("PLACE"),
-        _ => None,
-    }
+    bad_place(alloc, found.get_str("kind")?, found.get_str("place")?)
 }

@@ -1,21 +1,21 @@
-//! `status`: the heads of a mirror. It has the options of each command over a state alone.
+//! `status`: the heads of a mirror, or the checkpoint of a copy. It has the options of each command over either alone.
 ghost use Rattle.std.specs.Prelude.{codes};
 ghost use Rattle.clap.specs.Words.{found_of, rows_of};
 ghost use Rattle.program_words.specs.Readings.{IsSaid, ReadsPart};
 
 use crate::commands::Command;
 use crate::fault::CommandFault;
-use crate::parser::{CommandLine, KEYS, ORIGIN, STATE, WHY};
-use crate::parts::state_args;
+use crate::parser::{CommandLine, DIR_OR_STATE, KEYS, ORIGIN, STATE_OR_DIR, WHY};
+use crate::parts::{copy_asked, names_one, state_asked};
 use clap::ArgMatches;
 
 // What it reads, writes and may end with.
 const HELP: &str = "\
 The output is 'origin O', a line 'head SIZE ROOT complete' or '.. partial' for each checkpoint, and
-'served SIZE ROOT' or 'served none'.
+'served SIZE ROOT' or 'served none'. A copy has one checkpoint, which is complete, or none.
 
 Exit status: 0 done, 3 nothing is complete, 1 a fault, 2 words that ask for nothing.
-Faults of O, K and S: see 'tlogmirror --help'.
+Faults of O, K, S and D: see 'tlogmirror --help'.
 
 Example: tlogmirror status --origin log.example --keys keys --state state";
 
@@ -24,15 +24,27 @@ pub(crate) const LINE: CommandLine<'static> = CommandLine {
     name: "status",
     about: "Prints the checkpoints of a mirror, which of them are complete, and which is served",
     help: HELP,
-    arguments: &[ORIGIN, KEYS, WHY, STATE],
+    arguments: &[ORIGIN, KEYS, WHY, STATE_OR_DIR, DIR_OR_STATE],
 };
 
-/// The command, by its options.
+/// The command, by its options, over a state or a copy.
 pub(crate) fn read<'a>(found: &ArgMatches<'a>) -> Result<Command<'a>, CommandFault>
     ensures { ReadsPart (IsSaid (codes "status") (rows_of (found_of found.now))) result }
 {
-    match state_args(found) {
-        Some(args) => Ok(Command::Status(args)),
+    if let Some(args) = state_asked(found) {
+        return Ok(Command::Status(args));
+    }
+    match copy_asked(found) {
+        Some(args) => Ok(Command::CopyStatus(args)),
         None => Err(CommandFault::BadArgument),
+    }
+}
+
+/// The options that are bad, as help names them.
+pub(crate) fn bad_word(found: &ArgMatches<'_>) -> Option<&'static str> {
+    if names_one(found) {
+        None
+    } else {
+        Some("--state or --dir")
     }
 }

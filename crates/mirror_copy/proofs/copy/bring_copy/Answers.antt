@@ -3,6 +3,7 @@ use Rattle.mirror_copy.specs.Asked.{MayBeAsked}
 use Rattle.mirror_copy.specs.AskedForCopy.{AsksFiles, AsksNothing}
 use Rattle.mirror_copy.proofs.Begun.{asks_begun, begun_then, blames_from, refuses_from, refuses_none}
 use Rattle.mirror_copy.proofs.Growth.{kept_same}
+use Rattle.mirror_copy.proofs.Stays.{stays_same}
 use Rattle.mirror_copy.proofs.WholeMoments.{had_size, whole_same}
 use Rattle.mirror_copy.proofs.copy.bring_copy.Goals as goal
 
@@ -20,6 +21,23 @@ pub returns-in_err-tip-clause-whole : goal.returns-in_err-tip-clause-whole
 returns-in_err-tip-clause-whole g c =
     whole_same g.H.TreeHash.digest c.args.origin.now c.args.note.now (g.D.Shelf.puts c.args.shelf.now)
     (g.D.Shelf.puts c.read_tip.new.shelf) c.read_tip.ensures.same
+
+pub returns-in_err-head-clause-stays : goal.returns-in_err-head-clause-stays
+returns-in_err-head-clause-stays g c =
+    let p = err_from_is_err_and c.from_residual.result c.from_residual.ensures.1 in
+    let x = g.D.Shelf.puts c.args.shelf.now in
+    rw p.1 (stays_same g.H.TreeHash.digest c.args.origin.now x x (kept_same x))
+
+pub returns-in_default-clause-stays : goal.returns-in_default-clause-stays
+returns-in_default-clause-stays g c =
+    let x = g.D.Shelf.puts c.args.shelf.now in
+    stays_same g.H.TreeHash.digest c.args.origin.now x x (kept_same x)
+
+pub returns-in_err-tip-clause-stays : goal.returns-in_err-tip-clause-stays
+returns-in_err-tip-clause-stays g c =
+    let p = err_from_is_err_and c.from_residual-in_err-tip.result c.from_residual-in_err-tip.ensures.1 in
+    rw p.1 (stays_same g.H.TreeHash.digest c.args.origin.now (g.D.Shelf.puts c.args.shelf.now)
+    (g.D.Shelf.puts c.read_tip.new.shelf) c.read_tip.ensures.same)
 
 pub returns-clause-had : goal.returns-clause-had
 returns-clause-had g c =

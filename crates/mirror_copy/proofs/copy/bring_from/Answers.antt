@@ -1,5 +1,6 @@
 use Rattle.mirror_copy.specs.Asked.{MayBeAsked}
 use Rattle.mirror_copy.proofs.Asking.{asks_same}
+use Rattle.mirror_copy.proofs.Stays.{stays_same}
 use Rattle.mirror_copy.proofs.WholeMoments.{whole_same}
 use Rattle.mirror_copy.proofs.copy.bring_from.Goals as goal
 
@@ -8,6 +9,7 @@ returns-clause-brings g c = λ before kept t. (
   whole_same g.H.TreeHash.digest c.args.origin.now c.args.candidate.now.note.now before
       (g.D.Shelf.puts c.args.shelf.now) kept,
   tt,
+  stays_same g.H.TreeHash.digest c.args.origin.now before (g.D.Shelf.puts c.args.shelf.now) kept,
 )
 
 pub returns-then-is_none-clause-asks : goal.returns-then-is_none-clause-asks

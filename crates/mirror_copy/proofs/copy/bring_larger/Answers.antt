@@ -5,6 +5,7 @@ use Rattle.mirror_copy.specs.Asked.{IsEdgeTile, IsEdgeBundleOrNew, MayBeAsked}
 use Rattle.mirror_copy.specs.PlaceGets.{AsksPlaces}
 use Rattle.mirror_copy.proofs.Asking.{asks_weaker, larger_asks}
 use Rattle.mirror_copy.proofs.Earlier.{conflict_keeps, conflict_later, kept_then}
+use Rattle.mirror_copy.proofs.Stays.{larger_stays, stays_later, stays_same}
 use Rattle.mirror_copy.proofs.WholeMoments.{ends_later, larger_ends, larger_whole, whole_later, whole_same}
 use Rattle.mirror_copy.proofs.copy.bring_larger.Goals as goal
 
@@ -12,19 +13,21 @@ pub returns-in_err-edge-clause-brings : goal.returns-in_err-edge-clause-brings
 returns-in_err-edge-clause-brings g c = λ before kept t.
     let p = err_from_is_err_and c.from_residual.result c.from_residual.ensures.1 in
     let x = g.D.Shelf.puts c.args.shelf.now in
-    let y = g.D.Shelf.puts c.find_edge.new.shelf in
+    let y = g.D.Shelf.puts c.find_new_edge.new.shelf in
     rw p.1 (
       whole_same g.H.TreeHash.digest c.args.origin.now c.args.candidate.now.note.now before y
-          (kept_then before x y kept c.find_edge.ensures.same),
+          (kept_then before x y kept c.find_new_edge.ensures.same),
       tt,
+      stays_same g.H.TreeHash.digest c.args.origin.now before y
+          (kept_then before x y kept c.find_new_edge.ensures.same),
     )
 
 pub returns-clause-conflict : goal.returns-clause-conflict
 returns-clause-conflict g c =
     let x = g.D.Shelf.puts c.args.shelf.now in
-    let y = g.D.Shelf.puts c.find_edge.new.shelf in
+    let y = g.D.Shelf.puts c.find_new_edge.new.shelf in
     let w = g.D.Shelf.puts c.bring_to_edge-done.new.shelf in
-    conflict_later x y w c.bring_to_edge-done.result c.find_edge.ensures.same
+    conflict_later x y w c.bring_to_edge-done.result c.find_new_edge.ensures.same
     (conflict_keeps 0 c.args.tip.now.size y w c.bring_to_edge-done.result c.bring_to_edge-done.ensures.early)
 
 pub returns-clause-brings : goal.returns-clause-brings
@@ -37,31 +40,34 @@ returns-clause-brings g c = λ before kept t.
     let tip = c.args.tip.now in
     let edge = c.in_ok-edge.edge in
     let x = g.D.Shelf.puts c.args.shelf.now in
-    let y = g.D.Shelf.puts c.find_edge.new.shelf in
+    let y = g.D.Shelf.puts c.find_new_edge.new.shelf in
     let w = g.D.Shelf.puts c.bring_to_edge-done.new.shelf in
     let leads = c.in_ok-edge.ensures.leads in
     let size_is = leads.is_edge.size_is in
     let larger = c.requires.larger in
     let head = subst (λ n. IsHead note origin n root) (sym size_is) c.requires.head in
     let upto : tip.size ≤ edge.size = omega (arith, size_is, larger) in
-    let still = kept_then before x y kept c.find_edge.ensures.same in (
+    let still = kept_then before x y kept c.find_new_edge.ensures.same in (
       whole_later digest origin note tip before y w still t
           (λ t'. larger_whole digest origin note tip edge root upto head leads.root_is y w t'
           c.bring_to_edge-done.result c.bring_to_edge-done.ensures.brings),
       ends_later digest origin note tip before y w c.bring_to_edge-done.result still t
           (λ t'. larger_ends digest origin note tip edge root upto head leads.root_is y w t'
           c.bring_to_edge-done.result c.bring_to_edge-done.ensures.brings),
+      stays_later digest origin tip before y w c.bring_to_edge-done.result still t
+          (λ t'. larger_stays digest origin note tip edge y w t' c.bring_to_edge-done.result
+          c.bring_to_edge-done.ensures.brings),
     )
 
 pub returns-in_err-edge-clause-asks : goal.returns-in_err-edge-clause-asks
 returns-in_err-edge-clause-asks g c =
     asks_weaker g.S.Source.may_answer g.S.Source.failed g.S.Source.asked (IsEdgeTile c.args.candidate.now.size)
-    (MayBeAsked c.args.tip.now.size c.args.candidate.now.size) (λ path h. inl h) c.args.places.now c.find_edge.new.places
-    c.find_edge.ensures.asks
+    (MayBeAsked c.args.tip.now.size c.args.candidate.now.size) (λ path h. inl h) c.args.places.now c.find_new_edge.new.places
+    c.find_new_edge.ensures.asks
 
 pub returns-clause-asks : goal.returns-clause-asks
 returns-clause-asks g c =
     larger_asks g.S.Source.may_answer g.S.Source.failed g.S.Source.asked c.args.candidate.now.size c.args.tip.now.size c.args.places.now
-    c.find_edge.new.places c.bring_to_edge-done.new.places c.find_edge.ensures.asks
-    (subst (λ n. AsksPlaces g.S.Source.may_answer g.S.Source.failed g.S.Source.asked (IsEdgeBundleOrNew n c.args.tip.now.size) c.find_edge.new.places
+    c.find_new_edge.new.places c.bring_to_edge-done.new.places c.find_new_edge.ensures.asks
+    (subst (λ n. AsksPlaces g.S.Source.may_answer g.S.Source.failed g.S.Source.asked (IsEdgeBundleOrNew n c.args.tip.now.size) c.find_new_edge.new.places
     c.bring_to_edge-done.new.places) c.in_ok-edge.ensures.leads.is_edge.size_is c.bring_to_edge-done.ensures.asks)

@@ -1,4 +1,6 @@
 use Rattle.std.proofs.Common.{rules, ◌≡◌, []}
+use Rattle.mirror_copy.proofs.Earlier.{kept_then}
+use Rattle.mirror_copy.proofs.Stays.{empty_stays, stays_later, stays_same}
 use Rattle.mirror_copy.proofs.WholeMoments.{empty_ends, empty_whole, ends_later, whole_later, whole_same}
 use Rattle.mirror_copy.proofs.copy.put_empty.Goals as goal
 
@@ -7,6 +9,7 @@ returns-then-not-is_empty_root-clause-brings g c = λ before kept t. (
   whole_same g.H.TreeHash.digest c.args.origin.now c.args.candidate.now.note.now before
       (g.D.Shelf.puts c.args.shelf.now) kept,
   tt,
+  stays_same g.H.TreeHash.digest c.args.origin.now before (g.D.Shelf.puts c.args.shelf.now) kept,
 )
 
 pub returns-clause-brings : goal.returns-clause-brings
@@ -16,12 +19,16 @@ returns-clause-brings g c = λ before kept t.
     let candidate = c.args.candidate.now in
     let tip = c.args.tip.now in
     let x = g.D.Shelf.puts c.args.shelf.now in
+    let y = g.D.Shelf.puts c.expect_new.new.shelf in
     let w = g.D.Shelf.puts c.put_last.new.shelf in
+    let still = kept_then before x y kept c.expect_new.ensures.same in
     let root_is : candidate.root ≡ digest [] = search rules in (
-      whole_later digest origin candidate.note.now tip before x w kept t
+      whole_later digest origin candidate.note.now tip before y w still t
           (λ t'. empty_whole digest origin candidate.note.now tip candidate.size candidate.root c.requires.head
-          c.requires.empty root_is x w t' c.requires.none c.put_last.result c.put_last.ensures.puts),
-      ends_later digest origin candidate.note.now tip before x w c.put_last.result kept t
+          c.requires.empty root_is y w t' c.requires.none c.put_last.result c.put_last.ensures.puts),
+      ends_later digest origin candidate.note.now tip before y w c.put_last.result still t
           (λ t'. empty_ends digest origin candidate.note.now tip candidate.size candidate.root c.requires.head
-          c.requires.empty root_is x w t' c.requires.none c.put_last.result c.put_last.ensures.puts),
+          c.requires.empty root_is y w t' c.requires.none c.put_last.result c.put_last.ensures.puts),
+      stays_later digest origin tip before y w c.put_last.result still t
+          (λ t'. empty_stays digest origin candidate.note.now y w c.put_last.result c.put_last.ensures.puts),
     )

@@ -1,6 +1,7 @@
 use Rattle.std.proofs.Common.{◌≡◌, subst}
 use Rattle.mirror_copy.specs.Faults.{CountsFault}
 use Rattle.mirror_copy.proofs.Asking.{asks_noted}
+use Rattle.mirror_copy.proofs.Suffices.{lacks_none}
 use Rattle.mirror_copy.proofs.find.find.Goals as goal
 
 pub returns-in-None-clause-counted : goal.returns-in-None-clause-counted
@@ -12,3 +13,9 @@ pub returns-in-None-clause-asks : goal.returns-in-None-clause-asks
 returns-in-None-clause-asks g c =
     asks_noted g.S.Source.may_answer g.S.Source.failed g.S.Source.asked (λ p. p ≡ c.args.path.now) c.args.places.now
     c.find_at_places.new.places c.lacks.new.self c.find_at_places.ensures.asks c.lacks.ensures.asks
+
+pub returns-in-None-clause-suffices : goal.returns-in-None-clause-suffices
+returns-in-None-clause-suffices g c = λ entries short is t.
+    absurd (lacks_none g.H.TreeHash.digest g.met.H.TreeHash.digest_length entries short c.args.kind c.args.path.now
+    c.args.hash.now is g.S.Source.may_answer c.args.places.now c.find_at_places.new.places c.lacks.new.self
+    c.lacks.ensures.list t (rw c.in-None.is at c.in_ok-found-2.ensures.none))

@@ -1,9 +1,11 @@
-use Rattle.std.proofs.Common.{List, map}
-use Rattle.mirror_follow.specs.Gathering.{Gathers}
-use Rattle.mirror_follow.specs.declared.answer.PlaceAnswer.{PlaceAnswer}
+use Rattle.std.proofs.Common.{map}
+use Rattle.mirror_follow.specs.Blame.{AsksAny}
+use Rattle.mirror_follow.specs.GatheredFrom.{GathersFrom}
 use Rattle.mirror_follow.proofs.ask.ask_each_place.Given as goal
 
 abbrev pub invariant-loop-i : goal.invariant-loop-i
-invariant-loop-i g l =
-    (answers : List PlaceAnswer)
-    × Gathers l.origin (map (λ k. (goal.Verifier-dyn g (k.vtable, k.value)).key k.value) l.keys) answers l.gathered.candidates.items l.gathered.first
+invariant-loop-i g l = record {
+  asks : AsksAny g.S.Source.may_answer g.S.Source.failed g.S.Source.asked l.initial.places l.places;
+  gathers : GathersFrom g.S.Source.may_answer l.origin
+      (map (λ k. (goal.Verifier-dyn g (k.vtable, k.value)).key k.value) l.keys) l.initial.places l.places l.gathered;
+}

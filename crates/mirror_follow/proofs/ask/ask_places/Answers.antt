@@ -1,8 +1,19 @@
+use Rattle.mirror_follow.proofs.GatheredFrom.{none_blames, turns_gave}
 use Rattle.mirror_follow.proofs.Kept.{turns_open}
 use Rattle.mirror_follow.proofs.ask.ask_places.Goals as goal
 
-pub returns : goal.returns
-returns g c =
-    let e = c.in_ok-gathered.ensures in
-    turns_open _ _ e.0 c.in_ok-gathered.gathered.candidates.items c.in_ok-gathered.gathered.first c.in_turn.result e.1
-    c.in_turn.ensures.same
+pub returns-clause-opened : goal.returns-clause-opened
+returns-clause-opened g c =
+    let e = c.in_ok-gathered.ensures.gathers in
+    turns_open _ _ e.answers c.in_ok-gathered.gathered.candidates.items c.in_ok-gathered.gathered.first c.in_turn.result
+    e.gathers c.in_turn.ensures.same
+
+pub returns-clause-gave : goal.returns-clause-gave
+returns-clause-gave g c =
+    turns_gave _ _ g.S.Source.may_answer g.S.Source.failed g.S.Source.asked c.args.places.now c.ask_each_place.new.places c.in_ok-gathered.gathered c.in_turn.result
+    c.in_ok-gathered.ensures.gathers c.in_turn.ensures.same
+
+pub returns-clause-source : goal.returns-clause-source
+returns-clause-source g c =
+    none_blames _ _ g.S.Source.may_answer g.S.Source.failed g.S.Source.asked c.args.places.now c.ask_each_place.new.places c.in_ok-gathered.gathered c.in_turn.result
+    c.in_ok-gathered.ensures.gathers c.in_turn.ensures.none c.in_turn.ensures.fault

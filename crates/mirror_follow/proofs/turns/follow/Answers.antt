@@ -1,22 +1,47 @@
 use Rattle.mirror_follow.proofs.Kept.{follows_candidates, follows_none}
+use Rattle.std.proofs.Common.{◌∙◌, subst, sym}
+use Rattle.std.proofs.lemmas.Result.{err_from_is_err_and}
+use Rattle.mirror_copy.specs.Moments.{HadSize}
+use Rattle.mirror_follow.proofs.Standing.{followed_by}
+use Rattle.mirror_follow.proofs.Turning.{counts_same, report_counts}
 use Rattle.mirror_follow.proofs.turns.follow.Goals as goal
 
-pub returns-in_err-copy : goal.returns-in_err-copy
-returns-in_err-copy g c = record { whole = follows_none _ _ _ _ _ c.judge_copy.ensures.same }
+pub returns-in_err-copy-clause-whole : goal.returns-in_err-copy-clause-whole
+returns-in_err-copy-clause-whole g c = follows_none _ _ _ _ _ _ c.judge_copy.ensures.same
 
-pub returns-in_err-candidates : goal.returns-in_err-candidates
-returns-in_err-candidates g c = record { whole = follows_none _ _ _ _ _ c.judge_copy.ensures.same }
+pub returns-in_err-candidates-clause-whole : goal.returns-in_err-candidates-clause-whole
+returns-in_err-candidates-clause-whole g c = follows_none _ _ _ _ _ _ c.judge_copy.ensures.same
 
-pub returns-in_err-run : goal.returns-in_err-run
-returns-in_err-run g c =
-    record {
-      whole = follows_candidates _ _ _ _ _ _ (g.D.Shelf.puts c.judge_copy.new.shelf) _
-          c.deref.ensures.value c.in_ok-candidates.ensures c.judge_copy.ensures.same c.take_turns.ensures;
-    }
+pub returns-in_err-run-clause-whole : goal.returns-in_err-run-clause-whole
+returns-in_err-run-clause-whole g c =
+    follows_candidates _ _ _ _ _ _ _ (g.D.Shelf.puts c.judge_copy.new.shelf) _
+    c.deref.ensures.value c.in_ok-candidates.ensures.opened c.in_ok-candidates.ensures.gave c.judge_copy.ensures.same
+    c.take_turns.ensures.keeps
 
-pub returns : goal.returns
-returns g c =
-    record {
-      whole = follows_candidates _ _ _ _ _ _ (g.D.Shelf.puts c.judge_copy.new.shelf) _
-          c.deref.ensures.value c.in_ok-candidates.ensures c.judge_copy.ensures.same c.take_turns.ensures;
-    }
+pub returns-clause-whole : goal.returns-clause-whole
+returns-clause-whole g c =
+    follows_candidates _ _ _ _ _ _ _ (g.D.Shelf.puts c.judge_copy.new.shelf) _
+    c.deref.ensures.value c.in_ok-candidates.ensures.opened c.in_ok-candidates.ensures.gave c.judge_copy.ensures.same
+    c.take_turns.ensures.keeps
+
+pub returns-clause-brought : goal.returns-clause-brought
+returns-clause-brought g c =
+    let digest = g.H.TreeHash.digest in
+    let origin = c.args.origin.now in
+    let x = g.D.Shelf.puts c.args.shelf.now in
+    let run = c.in_ok-run.ensures.run in
+    followed_by digest origin x (g.D.Shelf.puts c.take_turns.new.shelf) c.in_ok-run.run'.copy c.in_ok-run.run'.had c.report.result
+    c.report.ensures.copy c.report.ensures.had
+    (subst (λ n. HadSize digest origin x n) (sym run.had_is) c.in_ok-copy.ensures.had)
+    (run.known x c.in_ok-copy.ensures.copy)
+
+pub returns-clause-counted : goal.returns-clause-counted
+returns-clause-counted g c =
+    report_counts (g.D.Shelf.failed c.args.shelf.now) (g.D.Shelf.failed c.take_turns.new.shelf) c.in_ok-run.run' c.report.result
+    (c.in_ok-run.ensures.counted ∙ c.in_ok-copy.ensures.counted) c.in_ok-run.ensures.run.shelf c.report.ensures.fault
+
+pub returns-in_err-candidates-clause-counted : goal.returns-in_err-candidates-clause-counted
+returns-in_err-candidates-clause-counted g c =
+    let p = err_from_is_err_and c.from_residual-in_err-candidates.result c.from_residual-in_err-candidates.ensures.1 in
+    rw (p.1, p.2) (counts_same (g.D.Shelf.failed c.args.shelf.now) (g.D.Shelf.failed c.judge_copy.new.shelf)
+    c.in_err-candidates.field-0.0 c.in_ok-copy.ensures.counted c.in_err-candidates.ensures.shelf)

@@ -8,4 +8,6 @@ returns-clause-answer g c =
     (option_map (λ v. v.items) found)) c.in-Some.is c.in_ok-bytes.ensures.answer
 
 pub returns-clause-counts : goal.returns-clause-counts
-returns-clause-counts g c = c.count.ensures.counted ∙ ap (with_file c.args.self.now.progress.counts) c.len.ensures
+returns-clause-counts g c =
+    c.count.ensures.counted ∙ (ap (λ counts. with_file counts c.len.result) c.expect_log.ensures.counts
+    ∙ ap (with_file c.args.self.now.progress.counts) c.len.ensures)

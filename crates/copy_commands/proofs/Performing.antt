@@ -1,0 +1,188 @@
+-- What a command over copies does, of what its call did. The answers of the commands cite one lemma each.
+use Rattle.std.proofs.Common.{◌≡◌, ℕ, List, Option, Result, Ok, Err, IfErr, IfOk, Some, None, map}
+use Rattle.std.proofs.Common.{inl, refl, subst}
+use Rattle.std.specs.Borrow.{Bor}
+use Rattle.std.specs.Io.KnownBytes.{Keeps}
+use Rattle.std.specs.Result.{result_map_both}
+use Rattle.signed_note.specs.Keys.{Key}
+use Rattle.program_reports.specs.declared.reports.Report.{Report as Printout}
+use Rattle.program_reports.specs.declared.fault.AskFault.TheVariants as ask
+use Rattle.program_copies.specs.Comparisons.{ReportsCompared}
+use Rattle.program_copies.specs.Copies.{LeavesPuts}
+use Rattle.program_copies.specs.Printed.{Prints, IsWriteFault as IsPrintFault}
+use Rattle.program_copies.specs.declared.fault.CopyAskFault.{CopyAskFault}
+use Rattle.program_copies.specs.declared.fault.CopyAskFault.TheVariants as asking
+use Rattle.tlog_tiles.specs.declared.paths.Path.{Path}
+use Rattle.mirror_copy.specs.declared.places.Places.{Places}
+use Rattle.program_files.specs.Named.{NamedFile}
+use Rattle.program_follow.specs.Following.{IsNoteOf}
+use Rattle.program_follow.specs.declared.fault.FollowRunFault.{FollowRunFault}
+use Rattle.program_follow.specs.declared.fault.FollowRunFault.TheVariants as follow
+use Rattle.program_monitor.specs.declared.fault.AuditRunFault.{AuditRunFault}
+use Rattle.program_monitor.specs.declared.fault.AuditRunFault.TheVariants as audit
+use Rattle.program_monitor.specs.declared.fault.CopyEntriesFault.{CopyEntriesFault}
+use Rattle.program_monitor.specs.declared.fault.CopyEntriesFault.TheVariants as copied
+use Rattle.program_words.specs.declared.commands.Command.{Command as Order}
+use Rattle.program_words.specs.declared.commands.Command.TheVariants as order
+use Rattle.program_words.specs.declared.parts.CopyArgs.{CopyArgs}
+use Rattle.program_words.specs.declared.commands.compare.CopyCompare.{CopyCompare as CopyCompareWords}
+use Rattle.program_words.specs.declared.commands.follow.Follow.{Follow as FollowWords}
+use Rattle.program_words.specs.declared.commands.audit.Audit.{Audit as AuditWords}
+use Rattle.program_words.specs.declared.commands.entries.CopyEntries.{CopyEntries as CopyEntriesWords}
+use Rattle.program_words.specs.declared.commands.serve.CopyServe.{CopyServe as CopyServeWords}
+use Rattle.program_env.specs.declared.fault.RunFault.{RunFault}
+use Rattle.program_env.specs.declared.fault.RunFault.TheVariants.{Audit, Copy, CopyEntries, Follow}
+use Rattle.program_env.specs.declared.fault.RunFault.TheVariants.{OutOfMemory, PortFault, WriteFault}
+use Rattle.program_env.specs.Done.{AuditsSource, DoesAskCopy, Executes, FollowsOne, IsWriteFault, MayFollow, LeavesFiles, LeavesFolders}
+use Rattle.program_env.specs.Done.{ServesCopy, WritesCopyEntries}
+use Rattle.program_env.specs.Moment.{Moment}
+use Rattle.program_env.specs.Performing.{Performs}
+use Rattle.program_env.specs.Works.{IsStatus, TellsPort}
+use Rattle.program_env.proofs.Performing.{performs, performs_done}
+
+-- -- status, compare, prove
+
+-- a fault of printing is one at which text may have been written
+same_write : (fault : CopyAskFault) → IsPrintFault fault → IsWriteFault (Copy fault)
+same_write (asking.Copy fault) h = absurd h
+same_write (asking.Heads fault) h = absurd h
+same_write (asking.Ask (ask.Report fault)) h = absurd h
+same_write (asking.Ask ask.WriteFault) h = tt
+
+module _ (digest : List ℕ → List ℕ) (keys : List Key) (key_bytes : List ℕ) (old new : Moment) (c : Order)
+    (args : CopyArgs) (Reports : Result Printout CopyAskFault → Type 0) (files : LeavesFiles c old.files new.files)
+    (folders : LeavesFolders c old.puts new.puts)
+    (is_done : (answer : Result ℕ RunFault) → DoesAskCopy digest keys key_bytes old new args Reports answer →
+    Executes digest keys key_bytes old new c answer) where
+  -- a report on a copy was printed
+  pub prints_copy : (answer : Result ℕ CopyAskFault) → IfOk answer IsStatus →
+      IfErr answer (λ fault. (¬ IsPrintFault fault) → Keeps old.output new.output) →
+      Prints Reports old.output new.output answer →
+      LeavesPuts (old.held args.folder.now) old.puts new.puts → (is : Result ℕ RunFault) →
+      is ≡ result_map_both (λ status. status) (λ fault. Copy fault) answer →
+      Performs digest keys key_bytes old new c is
+  prints_copy (Ok status) status_is quiet prints leaves is same =
+      rw same (performs_done digest keys key_bytes old new c files folders status status_is
+      (is_done (Ok status) (prints, leaves)))
+  prints_copy (Err fault) status_is quiet prints leaves is same =
+      rw same (performs digest keys key_bytes old new c files folders (Err (Copy fault)) tt
+      (λ other. quiet (λ h. other (same_write fault h))) (is_done (Err (Copy fault)) (prints, leaves)))
+
+-- checkpoints in files were compared with a copy; their names are lent
+pub prints_compared : (digest : List ℕ → List ℕ) (keys : List Key) (key_bytes : List ℕ) (old new : Moment)
+    (c : CopyCompareWords) (names : List (Bor (List ℕ))) → names ≡ c.files.items → new.files ≡ old.files →
+    (answer : Result ℕ CopyAskFault) → IfOk answer IsStatus →
+    IfErr answer (λ fault. (¬ IsPrintFault fault) → Keeps old.output new.output) →
+    Prints (ReportsCompared c.copy.log.origin.now keys old.files (map (λ name. name.now) names) digest
+    (old.held c.copy.folder.now)) old.output new.output answer →
+    LeavesPuts (old.held c.copy.folder.now) old.puts new.puts → (is : Result ℕ RunFault) →
+    is ≡ result_map_both (λ status. status) (λ fault. Copy fault) answer →
+    Performs digest keys key_bytes old new (order.CopyCompare c) is
+prints_compared digest keys key_bytes old new c names lent files answer status_is quiet prints leaves is same =
+    let Reports = λ (n : List (Bor (List ℕ))). ReportsCompared c.copy.log.origin.now keys old.files
+    (map (λ name. name.now) n) digest (old.held c.copy.folder.now) in
+    prints_copy digest keys key_bytes old new (order.CopyCompare c) c.copy (Reports c.files.items) files tt
+    (λ answer h. h) answer status_is quiet (subst (λ n. Prints (Reports n) old.output new.output answer) lent prints)
+    leaves is same
+
+-- -- follow
+
+module _ (digest : List ℕ → List ℕ) (keys : List Key) (key_bytes : List ℕ) (old new : Moment) (c : FollowWords) where
+  quiet_follow : (fault : FollowRunFault) → FollowsOne digest keys key_bytes old new c (Err fault) →
+      (¬ IsWriteFault (Follow fault)) → Keeps old.output new.output
+  quiet_follow (follow.File fault) h other = h.0.text
+  quiet_follow follow.OutOfMemory h other = h.0.text
+  quiet_follow (follow.Follow fault) h other = h.0.text
+  quiet_follow follow.WriteFault h other = absurd (other tt)
+  quiet_follow (follow.Evidence fault) h other = absurd (other tt)
+
+  -- a copy was followed
+  pub follows : (answer : Result ℕ FollowRunFault) → IfOk answer IsStatus → FollowsOne digest keys key_bytes old new c answer →
+      (is : Result ℕ RunFault) → is ≡ result_map_both (λ status. status) (λ fault. Follow fault) answer →
+      Performs digest keys key_bytes old new (order.Follow c) is
+  follows (Ok status) status_is h is same =
+      rw same (performs_done digest keys key_bytes old new (order.Follow c) tt tt status status_is h)
+  follows (Err fault) status_is h is same =
+      rw same (performs digest keys key_bytes old new (order.Follow c) tt tt (Err (Follow fault)) tt
+      (quiet_follow fault h) h)
+
+-- a note that a place, or the file, may give is one that may be followed
+pub may_follow : {S : Type 0} (may : S → Path → Option (List ℕ) → Type 0) (told : Option (List NamedFile))
+    (name : Option (List ℕ)) (places : Places S) (note : List ℕ) → IsNoteOf may told name places note →
+    MayFollow told name note
+may_follow may told None places note h = tt
+may_follow may told (Some name) places note h = h
+
+-- -- audit
+
+module _ (digest : List ℕ → List ℕ) (keys : List Key) (key_bytes : List ℕ) (old new : Moment) (c : AuditWords)
+    (files : new.files ≡ old.files) (folders : new.puts ≡ old.puts) where
+  quiet_audit : (fault : AuditRunFault) → AuditsSource digest keys key_bytes old new c (Err fault) →
+      (¬ IsWriteFault (Audit fault)) → Keeps old.output new.output
+  quiet_audit (audit.Audit fault) h other = h.1
+  quiet_audit audit.WriteFault h other = absurd (other tt)
+
+  -- a source was audited
+  pub audits : (answer : Result ℕ AuditRunFault) → AuditsSource digest keys key_bytes old new c answer →
+      (is : Result ℕ RunFault) → is ≡ result_map_both (λ status. status) (λ fault. Audit fault) answer →
+      Performs digest keys key_bytes old new (order.Audit c) is
+  audits (Ok status) h is same =
+      rw same (performs_done digest keys key_bytes old new (order.Audit c) files folders status (inl h.0) h)
+  audits (Err fault) h is same =
+      rw same (performs digest keys key_bytes old new (order.Audit c) files folders (Err (Audit fault)) tt
+      (quiet_audit fault h) h)
+
+-- -- entries
+
+module _ (digest : List ℕ → List ℕ) (keys : List Key) (key_bytes : List ℕ) (old new : Moment) (c : CopyEntriesWords)
+    (files : new.files ≡ old.files) where
+  quiet_entries : (fault : CopyEntriesFault) → WritesCopyEntries digest keys key_bytes old new c (Err fault) →
+      (¬ IsWriteFault (CopyEntries fault)) → Keeps old.output new.output
+  quiet_entries copied.NothingComplete h other = h.0.1
+  quiet_entries (copied.Head fault) h other = h.0.1
+  quiet_entries (copied.CopyDamaged path) h other = absurd (other tt)
+  quiet_entries copied.ShelfFault h other = absurd (other tt)
+  quiet_entries copied.NoSuchSize h other = h.0.1
+  quiet_entries copied.Backwards h other = h.0.1
+  quiet_entries copied.WriteFault h other = absurd (other tt)
+  quiet_entries copied.OutOfMemory h other = absurd (other tt)
+
+  -- entries of a copy were written
+  pub writes_entries : (answer : Result (Unit {0}) CopyEntriesFault) →
+      WritesCopyEntries digest keys key_bytes old new c answer → (is : Result ℕ RunFault) →
+      is ≡ result_map_both (λ _. 0) (λ fault. CopyEntries fault) answer →
+      Performs digest keys key_bytes old new (order.CopyEntries c) is
+  writes_entries (Ok x) h is same =
+      rw same (performs_done digest keys key_bytes old new (order.CopyEntries c) files tt 0 (inl refl) (h, refl))
+  writes_entries (Err fault) h is same =
+      rw same (performs digest keys key_bytes old new (order.CopyEntries c) files tt (Err (CopyEntries fault)) tt
+      (quiet_entries fault h) h)
+
+-- -- serve
+
+module _ (digest : List ℕ → List ℕ) (keys : List Key) (key_bytes : List ℕ) (old new : Moment) (c : CopyServeWords)
+    (files : new.files ≡ old.files) where
+  quiet_serve : (fault : RunFault) → TellsPort {T = Unit {0}} c.port old.output new.output (Err fault) →
+      (¬ IsWriteFault fault) → Keeps old.output new.output
+  quiet_serve WriteFault h other = absurd (other tt)
+  quiet_serve PortFault h other = absurd (other tt)
+  quiet_serve OutOfMemory h other = h
+  quiet_serve fault h other = absurd h
+
+  -- what a copy does where its port was printed so
+  serves_fault : (fault : RunFault) → ServesCopy digest keys key_bytes old new c (Err fault) →
+      Executes digest keys key_bytes old new (order.CopyServe c) (Err fault)
+  serves_fault WriteFault h = h
+  serves_fault PortFault h = h
+  serves_fault OutOfMemory h = h
+  serves_fault fault h = absurd h.0
+
+  -- a copy was served
+  pub serves_copy : (answer : Result (Unit {0}) RunFault) → ServesCopy digest keys key_bytes old new c answer →
+      (is : Result ℕ RunFault) → is ≡ result_map_both (λ _. 0) (λ fault. fault) answer →
+      Performs digest keys key_bytes old new (order.CopyServe c) is
+  serves_copy (Ok x) h is same =
+      rw same (performs_done digest keys key_bytes old new (order.CopyServe c) files tt 0 (inl refl) (h, refl))
+  serves_copy (Err fault) h is same =
+      rw same (performs digest keys key_bytes old new (order.CopyServe c) files tt (Err fault) tt
+      (quiet_serve fault h.0) (serves_fault fault h))

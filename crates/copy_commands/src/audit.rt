@@ -1,0 +1,151 @@
+//! The command `audit`: a whole log at a place, read file by file.
+ghost use Rattle.std.specs.Prelude.{◌≡◌, map};
+ghost use Rattle.std.specs.Result.{result_map_both};
+ghost use Rattle.sha2.specs.Sha256.{sha256};
+ghost use Rattle.program_env.specs.Envs.{IsSameEnv, moment};
+ghost use Rattle.program_env.specs.Performing.{Performs};
+ghost use Rattle.program_monitor.specs.Audits.{RunsAudit};
+
+use crate::places::{name_of, source_of};
+use mirror_audit::AuditFault;
+use mirror_progress::{CountingSource, Progress, StandardError, Task};
+use mirror_sources::Source;
+use program_env::why::{Why, of_output};
+use program_env::{Env, Error, RunFault, RunFiles, RunFolders};
+use program_monitor::{AuditRunFault, run_audit};
+use program_words::Command;
+use program_words::commands::audit::Audit;
+use signed_note::Verifier;
+use std::alloc::Global;
+use std::fs::Files;
+use std::io::{Read, Write};
+use std::net::{Net, TcpStream};
+use std::rt::Clock;
+use tlog_hash::Sha256Tree;
+use tlog_tiles::Path;
+
+/// Reads a whole log at the place, file by file, and prints its size and root where each has its true bytes.
+///
+/// # Errors
+///
+/// Those of `run_audit`.
+pub fn run<R, F: RunFiles, D: RunFolders, I: Read, O: Write, E: Write>(
+    env: &mut Env<'_, '_, '_, '_, R, F, D, I, O, E>,
+    key_bytes: &[u8],
+    keys: &[Box<dyn Verifier>],
+    audit: &Audit<'_>,
+) -> Result<u8, Error>
+where
+    R: Files + Clock + Eprint + Net<Stream = TcpStream>,
+    ensures same { IsSameEnv env.old env.new }
+    ensures does { Performs sha256 (map (λ k. key k) keys.now) key_bytes.now
+        (moment F.puts D.held D.puts I.remaining O.contents env.old)
+        (moment F.puts D.held D.puts I.remaining O.contents env.new)
+        (Command.Audit audit.now) result }
+{
+    let Ok(source) = source_of(env.rt, env.alloc, &audit.place) else {
+        return Err(Error::no_memory());
+    };
+    let (answer, source) = audit_source(env.rt, env.alloc, audit, keys, source, env.output);
+    drop(source);
+    audited(env.alloc, audit, answer)
+}
+
+// The answer of the command, of what the audit answered.
+fn audited(alloc: Global, words: &Audit<'_>, answer: Result<u8, AuditRunFault>) -> Result<u8, Error>
+    ensures { result ≡ result_map_both (λ status. status) (λ fault. RunFault.Audit fault) answer }
+{
+    match answer {
+        Ok(status) => Ok(status),
+        Err(fault) => {
+            let why = why_of(alloc, words, fault);
+            Err(Error::new(RunFault::Audit(fault), why))
+        }
+    }
+}
+
+// Audits the source, and reports how far that is where the words ask for it. The source is given back.
+fn audit_source<S: Source + Drop, R: Clock + Eprint, W: Write>(
+    rt: &R,
+    alloc: Global,
+    words: &Audit<'_>,
+    keys: &[Box<dyn Verifier>],
+    source: S,
+    output: &mut W,
+) -> (Result<u8, AuditRunFault>, S)
+    ensures { RunsAudit sha256 words.now.log.origin.now (map (λ k. key k) keys.now)
+        (S.may_answer source) (S.may_answer result.1) (S.asked source) (S.asked result.1)
+        (W.contents output.old) (W.contents output.new) result.0 }
+{
+    if words.progress {
+        audit_counted(rt, alloc, words.log.origin, keys, source, output)
+    } else {
+        audit_silent(alloc, words.log.origin, keys, source, output)
+    }
+}
+
+// Audits the source.
+fn audit_silent<S: Source + Drop, W: Write>(
+    alloc: Global,
+    origin: &str,
+    keys: &[Box<dyn Verifier>],
+    mut source: S,
+    output: &mut W,
+) -> (Result<u8, AuditRunFault>, S)
+    ensures { RunsAudit sha256 origin.now (map (λ k. key k) keys.now) (S.may_answer source)
+        (S.may_answer result.1) (S.asked source) (S.asked result.1) (W.contents output.old)
+        (W.contents output.new) result.0 }
+{
+    let answer = run_audit::<Sha256Tree, S, W>(alloc, origin, keys, &mut source, output);
+    (answer, source)
+}
+
+// Audits the source, and reports how far that is.
+fn audit_counted<S: Source + Drop, R: Clock + Eprint, W: Write>(
+    rt: &R,
+    alloc: Global,
+    origin: &str,
+    keys: &[Box<dyn Verifier>],
+    source: S,
+    output: &mut W,
+) -> (Result<u8, AuditRunFault>, S)
+    ensures { RunsAudit sha256 origin.now (map (λ k. key k) keys.now) (S.may_answer source)
+        (S.may_answer result.1) (S.asked source) (S.asked result.1) (W.contents output.old)
+        (W.contents output.new) result.0 }
+{
+    let mut progress = Progress::new(alloc, rt, StandardError::new(rt));
+    progress.begin(Task::Audit);
+    let mut source = CountingSource::new(source, progress);
+    let answer = run_audit::<Sha256Tree, _, W>(alloc, origin, keys, &mut source, output);
+    if answer.is_ok() {
+        source.progress.tell_done();
+    }
+    (answer, source.into_source())
+}
+
+// What the fault is about: the file of the place.
+fn why_of(alloc: Global, words: &Audit<'_>, fault: AuditRunFault) -> Option<Why> {
+    let fault = match fault {
+        AuditRunFault::Audit(fault) => fault,
+        AuditRunFault::WriteFault => return of_output(alloc),
+    };
+    let Ok(name) = name_of(alloc, &words.place) else {
+        return None;
+    };
+    match fault {
+        AuditFault::NoFile(path) => of_file(alloc, &name, &path, "not found"),
+        AuditFault::FalseFile(path) => of_file(alloc, &name, &path, "false"),
+        AuditFault::NoCheckpoint => of_file(alloc, &name, &Path::Checkpoint, "not found"),
+        AuditFault::Head(_) => of_file(alloc, &name, &Path::Checkpoint, ""),
+        AuditFault::OutOfMemory => None,
+        _ => Why::of_thing(alloc, &name),
+    }
+}
+
+// A file of a place, and what is wrong with it.
+fn of_file(alloc: Global, place: &str, path: &Path, reason: &str) -> Option<Why> {
+    let Ok(thing) = format!(in alloc; "{place}/{path}") else {
+        return None;
+    };
+    Why::of_reason(alloc, &thing, reason)
+}

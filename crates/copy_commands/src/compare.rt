@@ -1,0 +1,45 @@
+//! The command `compare --dir`: checkpoints compared with a copy.
+ghost use Rattle.std.specs.Prelude.{map};
+ghost use Rattle.sha2.specs.Sha256.{sha256};
+ghost use Rattle.program_env.specs.Envs.{IsSameEnv, moment};
+ghost use Rattle.program_env.specs.Performing.{Performs};
+
+use crate::asking::asked;
+use program_copies::compare_copy;
+use program_env::{Env, Error, RunFiles, RunFolders};
+use program_words::Command;
+use program_words::commands::compare::CopyCompare;
+use signed_note::Verifier;
+use std::io::{Read, Write};
+use tlog_hash::Sha256Tree;
+
+/// Prints of each checkpoint in the files whether the copy begins with its tree; of the copy's own where no file is named.
+///
+/// # Errors
+///
+/// Those of `compare_copy`.
+pub fn run<R, F: RunFiles, D: RunFolders, I: Read, O: Write, E: Write>(
+    env: &mut Env<'_, '_, '_, '_, R, F, D, I, O, E>,
+    key_bytes: &[u8],
+    keys: &[Box<dyn Verifier>],
+    compare: &CopyCompare<'_>,
+) -> Result<u8, Error>
+    ensures same { IsSameEnv env.old env.new }
+    ensures does { Performs sha256 (map (λ k. key k) keys.now) key_bytes.now
+        (moment F.puts D.held D.puts I.remaining O.contents env.old)
+        (moment F.puts D.held D.puts I.remaining O.contents env.new)
+        (Command.CopyCompare compare.now) result }
+{
+    let copy = &compare.copy;
+    let answer = compare_copy::<Sha256Tree, F, D, O>(
+        &env.files,
+        &mut env.folders,
+        env.alloc,
+        copy.log.origin,
+        keys,
+        copy.folder,
+        &compare.files,
+        env.output,
+    );
+    asked(env.alloc, &env.folders, copy, answer)
+}

@@ -1,0 +1,87 @@
+//! The command `entries --dir`: entries of a copy.
+ghost use Rattle.std.specs.Prelude.{◌≡◌, map};
+ghost use Rattle.std.specs.Result.{result_map_both};
+ghost use Rattle.sha2.specs.Sha256.{sha256};
+ghost use Rattle.program_env.specs.Envs.{IsSameEnv, moment};
+ghost use Rattle.program_env.specs.Performing.{Performs};
+
+use crate::asking::of_file;
+use program_env::why::{Why, of_folder, of_output};
+use program_env::{Env, Error, RunFault, RunFiles, RunFolders};
+use program_monitor::{CopyEntriesFault, EntryRange, entries_of_copy};
+use program_words::Command;
+use program_words::commands::entries::CopyEntries;
+use signed_note::Verifier;
+use std::alloc::Global;
+use std::io::{Read, Write};
+use tlog_hash::Sha256Tree;
+use tlog_tiles::Path;
+
+/// Writes entries of the copy, a bundle at a time, each verified before.
+///
+/// # Errors
+///
+/// Those of `entries_of_copy`.
+pub fn run<R, F: RunFiles, D: RunFolders, I: Read, O: Write, E: Write>(
+    env: &mut Env<'_, '_, '_, '_, R, F, D, I, O, E>,
+    key_bytes: &[u8],
+    keys: &[Box<dyn Verifier>],
+    entries: &CopyEntries<'_>,
+) -> Result<u8, Error>
+    ensures same { IsSameEnv env.old env.new }
+    ensures does { Performs sha256 (map (λ k. key k) keys.now) key_bytes.now
+        (moment F.puts D.held D.puts I.remaining O.contents env.old)
+        (moment F.puts D.held D.puts I.remaining O.contents env.new)
+        (Command.CopyEntries entries.now) result }
+{
+    let range = EntryRange {
+        from: entries.range.from,
+        to: entries.range.to,
+        base64: entries.range.base64,
+    };
+    let answer = entries_of_copy::<Sha256Tree, D, O>(
+        &mut env.folders,
+        env.alloc,
+        entries.copy.log.origin,
+        keys,
+        entries.copy.folder,
+        &range,
+        env.output,
+    );
+    written(env.alloc, &env.folders, entries.copy.folder, answer)
+}
+
+// The answer of the command, of what the writer answered.
+fn written<D: RunFolders>(
+    alloc: Global,
+    folders: &D,
+    folder: &str,
+    answer: Result<(), CopyEntriesFault>,
+) -> Result<u8, Error>
+    ensures { result ≡ result_map_both (λ _. 0) (λ fault. RunFault.CopyEntries fault) answer }
+{
+    match answer {
+        Ok(()) => Ok(0),
+        Err(fault) => {
+            let why = why_of(alloc, folders, folder, fault);
+            Err(Error::new(RunFault::CopyEntries(fault), why))
+        }
+    }
+}
+
+// What the fault is about.
+fn why_of<D: RunFolders>(
+    alloc: Global,
+    folders: &D,
+    folder: &str,
+    fault: CopyEntriesFault,
+) -> Option<Why> {
+    match fault {
+        CopyEntriesFault::NothingComplete => Why::of_thing(alloc, folder),
+        CopyEntriesFault::Head(_) => of_file(alloc, folder, &Path::Checkpoint),
+        CopyEntriesFault::CopyDamaged(path) => of_file(alloc, folder, &path),
+        CopyEntriesFault::ShelfFault => of_folder(alloc, folders, folder),
+        CopyEntriesFault::WriteFault => of_output(alloc),
+        _ => None,
+    }
+}

@@ -1,0 +1,151 @@
+//! The command `follow`: a copy brought to the newest checkpoint of its places.
+ghost use Rattle.std.specs.Prelude.{◌≡◌, map};
+ghost use Rattle.std.specs.Result.{result_map_both};
+ghost use Rattle.sha2.specs.Sha256.{sha256};
+ghost use Rattle.program_env.specs.Envs.{IsSameEnv, moment};
+ghost use Rattle.program_env.specs.Performing.{Performs};
+
+use crate::places::{SystemPlace, places_of};
+use mirror_copy::Places;
+use mirror_follow::FollowFault;
+use mirror_sources::Source;
+use program_env::why::{Why, of_folder, of_named, of_output};
+use program_env::{Env, Error, RunFault, RunFiles, RunFolders, write_front};
+use program_follow::{FollowRunFault, Following, places_why, run_follow};
+use program_words::Command;
+use program_words::commands::follow::Follow;
+use signed_note::Verifier;
+use std::alloc::Global;
+use std::fs::Files;
+use std::io::{Read, Write};
+use std::net::{Net, TcpStream};
+use std::rt::Clock;
+use tlog_hash::Sha256Tree;
+use tlog_tiles::Path;
+
+/// Brings the copy in the folder to the newest checkpoint of the places, and prints what came of it. The status is 3 where there
+/// is a fork, or a checkpoint that could not be had. With `--why` a line on standard error says of each place what was wrong first.
+///
+/// # Errors
+///
+/// Those of `run_follow`.
+pub fn run<R, F: RunFiles, D: RunFolders, I: Read, O: Write, E: Write>(
+    env: &mut Env<'_, '_, '_, '_, R, F, D, I, O, E>,
+    key_bytes: &[u8],
+    keys: &[Box<dyn Verifier>],
+    follow: &Follow<'_>,
+) -> Result<u8, Error>
+where
+    R: Files + Clock + Net<Stream = TcpStream>,
+    ensures same { IsSameEnv env.old env.new }
+    ensures does { Performs sha256 (map (λ k. key k) keys.now) key_bytes.now
+        (moment F.puts D.held D.puts I.remaining O.contents env.old)
+        (moment F.puts D.held D.puts I.remaining O.contents env.new)
+        (Command.Follow follow.now) result }
+{
+    let Ok(mut places) = places_of(env.rt, env.alloc, &follow.places) else {
+        return Err(Error::no_memory());
+    };
+    let following = Following {
+        origin: follow.copy.log.origin,
+        folder: follow.copy.folder,
+        checkpoint: follow.checkpoint,
+        forks: follow.forks,
+        progress: follow.progress,
+    };
+    let answer = run_follow::<Sha256Tree, F, D, SystemPlace<'_, R>, O>(
+        &mut env.files,
+        &mut env.folders,
+        env.alloc,
+        keys,
+        &following,
+        &mut places,
+        env.output,
+    );
+    write_places(
+        follow.why,
+        env.alloc,
+        follow.copy.log.origin,
+        keys,
+        &places,
+        env.errors,
+    );
+    let lacked = lacked_of(places);
+    followed(env, follow, lacked, answer)
+}
+
+// The path of the file that was to be had from nowhere, if one was. The places are let go.
+fn lacked_of<S: Source + Drop>(places: Places<S>) -> Option<Path> {
+    let lacked = places.lacked();
+    drop(places);
+    lacked
+}
+
+// The answer of the command, of what the follower answered.
+fn followed<R, F: RunFiles, D: RunFolders, I, O, E>(
+    env: &Env<'_, '_, '_, '_, R, F, D, I, O, E>,
+    follow: &Follow<'_>,
+    lacked: Option<Path>,
+    answer: Result<u8, FollowRunFault>,
+) -> Result<u8, Error>
+    ensures { result ≡ result_map_both (λ status. status) (λ fault. RunFault.Follow fault) answer }
+{
+    match answer {
+        Ok(status) => Ok(status),
+        Err(fault) => {
+            let why = why_of(env, follow, lacked, fault);
+            Err(Error::new(RunFault::Follow(fault), why))
+        }
+    }
+}
+
+// What the fault is about: a named file, a file of the folder, or the folder.
+fn why_of<R, F: RunFiles, D: RunFolders, I, O, E>(
+    env: &Env<'_, '_, '_, '_, R, F, D, I, O, E>,
+    follow: &Follow<'_>,
+    lacked: Option<Path>,
+    fault: FollowRunFault,
+) -> Option<Why> {
+    match fault {
+        FollowRunFault::File(fault) | FollowRunFault::Evidence(fault) => {
+            of_named(env.alloc, &env.files, fault)
+        }
+        FollowRunFault::WriteFault => of_output(env.alloc),
+        FollowRunFault::OutOfMemory => None,
+        FollowRunFault::Follow(fault) => why_of_copy(env, follow.copy.folder, lacked, fault),
+    }
+}
+
+// What a fault of the copy, or of its places, is about.
+fn why_of_copy<R, F: RunFiles, D: RunFolders, I, O, E>(
+    env: &Env<'_, '_, '_, '_, R, F, D, I, O, E>,
+    folder: &str,
+    lacked: Option<Path>,
+    fault: FollowFault,
+) -> Option<Why> {
+    match fault {
+        FollowFault::CopyDamaged | FollowFault::CopyInUse => Why::of_thing(env.alloc, folder),
+        FollowFault::ShelfFault => of_folder(env.alloc, &env.folders, folder),
+        FollowFault::NoFile | FollowFault::Source => {
+            let path = lacked?;
+            Why::of_made(env.alloc, format!(in env.alloc; "{path}"))
+        }
+        _ => None,
+    }
+}
+
+// Writes what was wrong at each place, where it is asked for, as far as the stream takes it.
+fn write_places<R: Files + Clock + Net<Stream = TcpStream>, E: Write>(
+    asked: bool,
+    alloc: Global,
+    origin: &str,
+    keys: &[Box<dyn Verifier>],
+    places: &Places<SystemPlace<'_, R>>,
+    errors: &mut E,
+) {
+    if asked {
+        if let Ok(text) = places_why(alloc, origin, keys, places) {
+            write_front(errors, text.as_bytes());
+        }
+    }
+}

@@ -1,0 +1,44 @@
+//! The command `prove --dir`: a proof of a copy's entries.
+ghost use Rattle.std.specs.Prelude.{map};
+ghost use Rattle.sha2.specs.Sha256.{sha256};
+ghost use Rattle.program_env.specs.Envs.{IsSameEnv, moment};
+ghost use Rattle.program_env.specs.Performing.{Performs};
+
+use crate::asking::asked;
+use program_copies::prove_copy;
+use program_env::{Env, Error, RunFiles, RunFolders};
+use program_words::Command;
+use program_words::commands::prove::CopyProve;
+use signed_note::Verifier;
+use std::io::{Read, Write};
+use tlog_hash::Sha256Tree;
+
+/// Prints a proof of the copy's entries, made of verified rows, which holds.
+///
+/// # Errors
+///
+/// Those of `prove_copy`.
+pub fn run<R, F: RunFiles, D: RunFolders, I: Read, O: Write, E: Write>(
+    env: &mut Env<'_, '_, '_, '_, R, F, D, I, O, E>,
+    key_bytes: &[u8],
+    keys: &[Box<dyn Verifier>],
+    prove: &CopyProve<'_>,
+) -> Result<u8, Error>
+    ensures same { IsSameEnv env.old env.new }
+    ensures does { Performs sha256 (map (λ k. key k) keys.now) key_bytes.now
+        (moment F.puts D.held D.puts I.remaining O.contents env.old)
+        (moment F.puts D.held D.puts I.remaining O.contents env.new)
+        (Command.CopyProve prove.now) result }
+{
+    let copy = &prove.copy;
+    let answer = prove_copy::<Sha256Tree, D, O>(
+        &mut env.folders,
+        env.alloc,
+        copy.log.origin,
+        keys,
+        copy.folder,
+        prove.ask,
+        env.output,
+    );
+    asked(env.alloc, &env.folders, copy, answer)
+}

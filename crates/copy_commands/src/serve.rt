@@ -1,0 +1,159 @@
+//! The command `serve --dir`: answers over HTTP, of a copy.
+ghost use Rattle.std.specs.Prelude.{◌≡◌, map};
+ghost use Rattle.std.specs.Result.{result_map_both};
+ghost use Rattle.sha2.specs.Sha256.{sha256};
+ghost use Rattle.mirror_sources.specs.Told.{KeepsTold};
+ghost use Rattle.program_env.specs.Envs.{IsSameEnv, moment};
+ghost use Rattle.program_env.specs.Performing.{Performs};
+ghost use Rattle.program_env.specs.Works.{TellsPort};
+
+use byte_streams::TimedStream;
+use copy_server::{CopyAnswerFault, answer_from_copy};
+use mirror_server::HttpFault;
+use program_commands::check_origin;
+use program_env::why::of_origin;
+use program_env::{
+    Env, Error, RunFault, RunFiles, RunFolders, port_fault, print_fault, print_port, write_front,
+};
+use program_words::Command;
+use program_words::commands::serve::CopyServe;
+use signed_note::Verifier;
+use std::alloc::Global;
+use std::io::{self, Read, Write};
+use std::net::{Ipv4Addr, Net, TcpListener, TcpStream};
+use std::rt::Clock;
+use std::time::Duration;
+use tlog_hash::Sha256Tree;
+
+// The seconds that a client has to send the head of its request.
+const HEAD_SECONDS: u64 = 10;
+
+// The seconds that a client has for all, so that 60 are left for the reply at least.
+const ALL_SECONDS: u64 = 70;
+
+/// Answers as many connections as are asked for, one after the other, from the copy in the folder. Its checkpoint is read at
+/// each, so the copy may grow meanwhile. A fault of one is written to standard error, and the next is answered.
+///
+/// # Errors
+///
+/// In this order: `BadOrigin`, `PortFault` where the port cannot be had, `WriteFault` where the line of the port cannot be
+/// written, and `PortFault` where a connection cannot be accepted.
+pub fn run<R, F: RunFiles, D: RunFolders, I: Read, O: Write, E: Write>(
+    env: &mut Env<'_, '_, '_, '_, R, F, D, I, O, E>,
+    key_bytes: &[u8],
+    keys: &[Box<dyn Verifier>],
+    serve: &CopyServe<'_>,
+) -> Result<u8, Error>
+where
+    R: Clock + Net<Stream = TcpStream, Listener = TcpListener>,
+    ensures same { IsSameEnv env.old env.new }
+    ensures does { Performs sha256 (map (λ k. key k) keys.now) key_bytes.now
+        (moment F.puts D.held D.puts I.remaining O.contents env.old)
+        (moment F.puts D.held D.puts I.remaining O.contents env.new)
+        (Command.CopyServe serve.now) result }
+{
+    match check_origin(env.alloc, serve.copy.log.origin) {
+        Ok(()) => {}
+        Err(fault) => {
+            let why = of_origin(env.alloc, fault);
+            return Err(Error::new(RunFault::Origin(fault), why));
+        }
+    }
+    match env.folders.open(serve.copy.folder) {
+        Ok(()) => {}
+        Err(_) => return Err(Error::no_memory()),
+    }
+    served(serve_copy(
+        env.rt,
+        env.alloc,
+        &mut env.folders,
+        serve,
+        env.output,
+        env.errors,
+    ))
+}
+
+// The status where all were answered.
+fn served(answer: Result<(), Error>) -> Result<u8, Error>
+    ensures { result ≡ result_map_both (λ _. 0) (λ fault. fault) answer }
+{
+    match answer {
+        Ok(()) => Ok(0),
+        Err(error) => Err(error),
+    }
+}
+
+// Listens at the port, prints it, and answers as many connections as are asked for.
+fn serve_copy<D: RunFolders, R, O: Write, E: Write>(
+    rt: &R,
+    alloc: Global,
+    folders: &mut D,
+    serve: &CopyServe<'_>,
+    output: &mut O,
+    errors: &mut E,
+) -> Result<(), Error>
+where
+    R: Clock + Net<Stream = TcpStream, Listener = TcpListener>,
+    ensures line { TellsPort serve.now.port (O.contents output.old) (O.contents output.new) result }
+    ensures same { KeepsTold (D.puts folders.old) (D.puts folders.new) }
+{
+    let mut listener = match TcpListener::bind(rt, (Ipv4Addr::LOCALHOST, serve.port)) {
+        Ok(listener) => listener,
+        Err(error) => return Err(port_fault(alloc, serve.port, &error)),
+    };
+    print_port(alloc, serve.port, output)?;
+    match answer_all(rt, alloc, folders, serve, &mut listener, errors) {
+        Ok(()) => Ok(()),
+        Err(error) => Err(port_fault(alloc, serve.port, &error)),
+    }
+}
+
+// Answers clients one after the other, as many as asked, while connections are accepted.
+fn answer_all<D: RunFolders, C: Clock, E: Write>(
+    clock: &C,
+    alloc: Global,
+    folders: &mut D,
+    serve: &CopyServe<'_>,
+    listener: &mut TcpListener,
+    errors: &mut E,
+) -> io::Result<()>
+    ensures { KeepsTold (D.puts folders.old) (D.puts folders.new) }
+{
+    for _ in 0..serve.requests {
+        let (stream, _) = listener.accept()?;
+        match answer_one(clock, alloc, folders, serve.copy.log.origin, &stream) {
+            Ok(()) => {}
+            Err(fault) => print_answer_fault(errors, fault),
+        }
+    }
+    Ok(())
+}
+
+// Answers one connection, which is cut off in time, whatever its client does. Where there is no clock that is a
+// `ReadFault`.
+fn answer_one<D: RunFolders, C: Clock>(
+    clock: &C,
+    alloc: Global,
+    folders: &mut D,
+    origin: &str,
+    stream: &TcpStream,
+) -> Result<(), CopyAnswerFault>
+    ensures { KeepsTold (D.puts folders.old) (D.puts folders.new) }
+{
+    let Ok(mut reader) = TimedStream::new(stream, clock, Duration::from_secs(HEAD_SECONDS)) else {
+        return Err(CopyAnswerFault::Http(HttpFault::ReadFault));
+    };
+    let Ok(mut writer) = TimedStream::new(stream, clock, Duration::from_secs(ALL_SECONDS)) else {
+        return Err(CopyAnswerFault::Http(HttpFault::ReadFault));
+    };
+    answer_from_copy::<Sha256Tree, D, _, _>(alloc, folders, origin, &mut reader, &mut writer)
+}
+
+// Writes the line of the fault of an answer, as far as the stream takes it.
+fn print_answer_fault<E: Write>(errors: &mut E, fault: CopyAnswerFault) {
+    match fault {
+        CopyAnswerFault::Http(fault) => print_fault(errors, fault),
+        CopyAnswerFault::CopyDamaged(_) => write_front(errors, b"tlogmirror: CopyDamaged\n"),
+        CopyAnswerFault::ShelfFault => write_front(errors, b"tlogmirror: ShelfFault\n"),
+    }
+}

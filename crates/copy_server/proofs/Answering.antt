@@ -1,0 +1,172 @@
+-- From the bytes of what is asked for to what is answered.
+use Rattle.std.proofs.Common.{◌≡◌, ◌⊎◌, ℕ, List, Option, Some, None, Result, Ok, Err, IfErr, refl, sym, subst, inl, inr}
+use Rattle.std.specs.Prelude.{IfNone, IfOk, IfSome, option_map}
+use Rattle.std.specs.Io.KnownBytes.{Keeps}
+use Rattle.mirror_folders.specs.Shelf.{Put}
+use Rattle.mirror_server.specs.Answered.{IsBodyFor, IsRequestOf, reply_with}
+use Rattle.mirror_server.specs.Response.{server_error}
+use Rattle.mirror_server.specs.declared.fault.HttpFault.TheVariants.{ReadFault, WriteFault, OutOfMemory}
+use Rattle.mirror_server.specs.declared.request.Request.{Request}
+use Rattle.mirror_server.specs.declared.request.Request.TheVariants.{Get}
+use Rattle.mirror_server.specs.declared.resource.Resource.{Resource}
+use Rattle.mirror_server.proofs.Replying.{responds}
+use Rattle.mirror_sources.specs.Told.{KeepsTold, one_more}
+use Rattle.copy_server.specs.Bodies.{IsBodyAt, IsCopyBody}
+use Rattle.copy_server.specs.CopyAnswers.{AnswersFromCopy, CountsAnswer, IsCopyReply, IsQuiet, WritesError, WritesReply}
+use Rattle.copy_server.specs.CopyHeads.{CopyHead, IsCopyHead}
+use Rattle.copy_server.specs.Faults.{CountsBody}
+use Rattle.copy_server.specs.declared.fault.BodyFault.{BodyFault}
+use Rattle.copy_server.specs.declared.fault.BodyFault.TheVariants as body
+use Rattle.copy_server.specs.declared.fault.CopyAnswerFault.{CopyAnswerFault}
+use Rattle.copy_server.specs.declared.fault.CopyAnswerFault.TheVariants.{Http, CopyDamaged, ShelfFault}
+use Rattle.copy_server.proofs.CopyBodies.{one_copy_head}
+
+-- the bytes under the checkpoint that was read, or that there are none, are those of the copy, while what was put is kept
+module _ {V E : Type 0} (items : V → List ℕ) (digest : List ℕ → List ℕ) (origin : List ℕ) (head : Option CopyHead)
+    (r : Resource) where
+  pub copy_body_at : (before after : Option (List Put)) (answer : Result (Option V) E) → KeepsTold before after →
+      IsCopyHead origin before head →
+      IfOk answer (λ o. IfSome o (λ body. IsBodyAt digest origin after head r (items body))) →
+      IfOk answer (λ o. IfNone o ((body : List ℕ) → IsBodyAt digest origin after head r body → ⊥)) →
+      IfSome before
+      (λ puts. IfOk answer (λ o. IsBodyFor (IsCopyBody digest origin (Some puts)) (Get r) (option_map items o)))
+  copy_body_at None after answer kept is some none = tt
+  copy_body_at (Some xs) None answer kept is some none = absurd kept
+  copy_body_at (Some xs) (Some ys) (Err e) kept is some none = tt
+  copy_body_at (Some xs) (Some ys) (Ok (Some v)) kept is some none =
+      record {
+        head = head;
+        is_head = is;
+        is_body = subst (λ puts. IsBodyAt digest origin (Some puts) head r (items v)) kept some;
+      }
+  copy_body_at (Some xs) (Some ys) (Ok None) kept is some none =
+      λ body has. none body
+      (subst (λ puts. IsBodyAt digest origin (Some puts) head r body) (sym kept)
+      (subst (λ h. IsBodyAt digest origin (Some xs) h r body)
+      (one_copy_head origin xs has.head head has.is_head is) has.is_body))
+
+-- the same of bytes that an empty copy has
+pub copy_body_empty : {V : Type 0} (found : Option V) (items : V → List ℕ) (digest : List ℕ → List ℕ) (origin : List ℕ)
+    (r : Resource) (held : Option (List Put)) → IsCopyHead origin held None →
+    IfSome found (λ body. IsBodyAt digest origin held None r (items body)) →
+    IfNone found ((body : List ℕ) → IsBodyAt digest origin held None r body → ⊥) →
+    IfSome held (λ puts. IsBodyFor (IsCopyBody digest origin (Some puts)) (Get r) (option_map items found))
+copy_body_empty found items digest origin r None is some none = tt
+copy_body_empty (Some v) items digest origin r (Some puts) is some none =
+    record { head = None; is_head = is; is_body = some }
+copy_body_empty None items digest origin r (Some puts) is some none =
+    λ body has. none body
+    (subst (λ h. IsBodyAt digest origin (Some puts) h r body)
+    (one_copy_head origin puts has.head None has.is_head is) has.is_body)
+
+-- the reply to what was asked for
+pub copy_reply_of : (digest : List ℕ → List ℕ) (origin : List ℕ) (held : Option (List Put)) (request : Request)
+    (found : Option (List ℕ)) (reply : List ℕ) →
+    IfSome held (λ puts. IsBodyFor (IsCopyBody digest origin (Some puts)) request found) →
+    reply ≡ reply_with request found →
+    IfSome held (λ puts. (bytes : List ℕ) → IsRequestOf bytes request → IsCopyReply digest origin puts bytes reply)
+copy_reply_of digest origin None request found reply has e = tt
+copy_reply_of digest origin (Some puts) request found reply has e =
+    λ bytes asks. subst (λ r. IsCopyReply digest origin puts bytes r) (sym e)
+    (responds (IsCopyBody digest origin (Some puts)) bytes request found asks has)
+
+-- ---- what is written
+
+module _ {X : Type 0} (old new : Option (List ℕ)) (digest : List ℕ → List ℕ) (origin : List ℕ) where
+  whole : (puts : List Put) (bytes reply : List ℕ) (r : Result X CopyAnswerFault) →
+      IsCopyReply digest origin puts bytes reply → WritesReply old new reply r →
+      AnswersFromCopy digest origin puts bytes old new r
+  whole puts bytes reply (Ok x) is w = (reply, is, w)
+  whole puts bytes reply (Err (Http ReadFault)) is w = absurd w
+  whole puts bytes reply (Err (Http WriteFault)) is w = (reply, inl is, w)
+  whole puts bytes reply (Err (Http OutOfMemory)) is w = absurd w
+  whole puts bytes reply (Err (CopyDamaged path)) is w = absurd w
+  whole puts bytes reply (Err ShelfFault) is w = absurd w
+
+  pub answers_whole : (known : Option (List ℕ)) (held : Option (List Put)) (request : Request) (reply : List ℕ)
+      (r : Result X CopyAnswerFault) → IfSome known (λ bytes. IsRequestOf bytes request) →
+      IfSome held (λ puts. (bytes : List ℕ) → IsRequestOf bytes request → IsCopyReply digest origin puts bytes reply) →
+      WritesReply old new reply r →
+      IfSome known (λ bytes. IfSome held (λ puts. AnswersFromCopy digest origin puts bytes old new r))
+  answers_whole None held request reply r asks is w = tt
+  answers_whole (Some bytes) None request reply r asks is w = tt
+  answers_whole (Some bytes) (Some puts) request reply r asks is w = whole puts bytes reply r (is bytes asks) w
+
+  error : (puts : List Put) (bytes : List ℕ) (fault : BodyFault) (r : Result X CopyAnswerFault) →
+      WritesError fault old new r → AnswersFromCopy digest origin puts bytes old new r
+  error puts bytes fault (Ok x) w = absurd w
+  error puts bytes fault (Err (Http ReadFault)) w = absurd w
+  error puts bytes fault (Err (Http WriteFault)) w = (server_error, inr refl, w)
+  error puts bytes fault (Err (Http OutOfMemory)) w = w
+  error puts bytes fault (Err (CopyDamaged path)) w = w.1
+  error puts bytes fault (Err ShelfFault) w = w.1
+
+  pub answers_error : (known : Option (List ℕ)) (held : Option (List Put)) (fault : BodyFault)
+      (r : Result X CopyAnswerFault) → WritesError fault old new r →
+      IfSome known (λ bytes. IfSome held (λ puts. AnswersFromCopy digest origin puts bytes old new r))
+  answers_error None held fault r w = tt
+  answers_error (Some bytes) None fault r w = tt
+  answers_error (Some bytes) (Some puts) fault r w = error puts bytes fault r w
+
+counts_some : (T : Type 0) (a b : ℕ) (fault : BodyFault) → CountsBody {T = T} a b (Err fault) →
+    (b ≡ a) ⊎ (b ≡ one_more a)
+counts_some T a b (body.CopyDamaged path) c = inl c
+counts_some T a b body.ShelfFault c = inr c
+counts_some T a b body.OutOfMemory c = inl c
+
+module _ {X : Type 0} (old new : Option (List ℕ)) where
+  pub quiet_whole : (reply : List ℕ) (r : Result X CopyAnswerFault) → WritesReply old new reply r →
+      IfErr r (λ e. IsQuiet e → Keeps old new)
+  quiet_whole reply (Ok x) w = tt
+  quiet_whole reply (Err (Http ReadFault)) w = absurd w
+  quiet_whole reply (Err (Http WriteFault)) w = λ q. absurd q
+  quiet_whole reply (Err (Http OutOfMemory)) w = absurd w
+  quiet_whole reply (Err (CopyDamaged path)) w = absurd w
+  quiet_whole reply (Err ShelfFault) w = absurd w
+
+  pub quiet_error : (fault : BodyFault) (r : Result X CopyAnswerFault) → WritesError fault old new r →
+      IfErr r (λ e. IsQuiet e → Keeps old new)
+  quiet_error fault (Ok x) w = tt
+  quiet_error fault (Err (Http ReadFault)) w = absurd w
+  quiet_error fault (Err (Http WriteFault)) w = λ q. absurd q
+  quiet_error fault (Err (Http OutOfMemory)) w = λ q. w
+  quiet_error fault (Err (CopyDamaged path)) w = λ q. absurd q
+  quiet_error fault (Err ShelfFault) w = λ q. absurd q
+
+  pub no_read_whole : (F : Type 0) (reply : List ℕ) (r : Result X CopyAnswerFault) → WritesReply old new reply r →
+      IfErr r (λ e. e ≡ Http ReadFault → F)
+  no_read_whole F reply (Ok x) w = tt
+  no_read_whole F reply (Err (Http ReadFault)) w = absurd w
+  no_read_whole F reply (Err (Http WriteFault)) w = λ e. absurd cc
+  no_read_whole F reply (Err (Http OutOfMemory)) w = absurd w
+  no_read_whole F reply (Err (CopyDamaged path)) w = absurd w
+  no_read_whole F reply (Err ShelfFault) w = absurd w
+
+  pub no_read_error : (F : Type 0) (fault : BodyFault) (r : Result X CopyAnswerFault) → WritesError fault old new r →
+      IfErr r (λ e. e ≡ Http ReadFault → F)
+  no_read_error F fault (Ok x) w = tt
+  no_read_error F fault (Err (Http ReadFault)) w = absurd w
+  no_read_error F fault (Err (Http WriteFault)) w = λ e. absurd cc
+  no_read_error F fault (Err (Http OutOfMemory)) w = λ e. absurd cc
+  no_read_error F fault (Err (CopyDamaged path)) w = λ e. absurd cc
+  no_read_error F fault (Err ShelfFault) w = λ e. absurd cc
+
+  module _ (a b : ℕ) where
+    pub counts_whole : (reply : List ℕ) (r : Result X CopyAnswerFault) → b ≡ a → WritesReply old new reply r →
+        CountsAnswer a b r
+    counts_whole reply (Ok x) e w = e
+    counts_whole reply (Err (Http ReadFault)) e w = absurd w
+    counts_whole reply (Err (Http WriteFault)) e w = inl e
+    counts_whole reply (Err (Http OutOfMemory)) e w = absurd w
+    counts_whole reply (Err (CopyDamaged path)) e w = absurd w
+    counts_whole reply (Err ShelfFault) e w = absurd w
+
+    pub counts_error : (T : Type 0) (fault : BodyFault) (r : Result X CopyAnswerFault) →
+        CountsBody {T = T} a b (Err fault) → WritesError fault old new r → CountsAnswer a b r
+    counts_error T fault (Ok x) c w = absurd w
+    counts_error T fault (Err (Http ReadFault)) c w = absurd w
+    counts_error T fault (Err (Http WriteFault)) c w = counts_some T a b fault c
+    counts_error T fault (Err (Http OutOfMemory)) c w = counts_some T a b fault c
+    counts_error T fault (Err (CopyDamaged path)) c w =
+        subst (λ f. CountsBody {T = T} a b (Err f)) w.0 c
+    counts_error T fault (Err ShelfFault) c w = subst (λ f. CountsBody {T = T} a b (Err f)) w.0 c

@@ -1,0 +1,44 @@
+-- Entries read from the start of a bundle, one after the other.
+use Rattle.std.proofs.Common.{◌≡◌, ℕ, ◌+◌, ◌-◌, ◌^◌, ◌<◌, ◌≤◌, List, [], ◌∷◌, ◌++◌, length, take, All, refl, sym, ap, ◌∙◌, arith}
+use Rattle.std.specs.List.{flat_map}
+use Rattle.std.proofs.lemmas.List.{length-append, take_at}
+use Rattle.std.proofs.lemmas.List.Elements.{All-nil, All-push}
+use Rattle.tlog_tiles.specs.Bundle.{entry_text}
+use Rattle.tlog_tiles.proofs.BundleLemmas.{joined_push}
+use Rattle.copy_server.specs.GivenFiles.{IsFirstEntries}
+
+-- that many entries were read, and the rest is left
+pub record HasRead (count : ℕ) (file rest : List ℕ) : Type 0 where
+  pub entries : List (List ℕ)
+  pub count_is : length entries ≡ count
+  pub fits : All (λ e. length e < 2 ^ 16) entries
+  pub text : file ≡ flat_map entry_text entries ++ rest
+
+pub none_read : (file : List ℕ) → HasRead 0 file file
+none_read file = record { entries = []; count_is = refl; fits = All-nil (λ e. length e < 2 ^ 16); text = refl }
+
+pub one_read : (count : ℕ) (file rest e after : List ℕ) → HasRead count file rest → length e < 2 ^ 16 →
+    rest ≡ entry_text e ++ after → HasRead (count + 1) file after
+one_read count file rest e after h short is = record {
+  entries = h.entries ++ e ∷ [];
+  count_is = omega (arith, length-append h.entries (e ∷ []), h.count_is);
+  fits = All-push (λ e. length e < 2 ^ 16) h.entries e h.fits short;
+  text = joined_push file rest after e h.entries h.text is;
+}
+
+pub left_within : (count : ℕ) (file rest : List ℕ) → HasRead count file rest → length rest ≤ length file
+left_within count file rest h =
+    omega (arith, ap length h.text, length-append (flat_map entry_text h.entries) rest)
+
+pub first_read : (count : ℕ) (file rest part : List ℕ) → HasRead count file rest →
+    part ≡ take (length file - length rest) file → IsFirstEntries count file part
+first_read count file rest part h is =
+    let front = flat_map entry_text h.entries in
+    let len : length front ≡ length file - length rest = omega (arith, ap length h.text, length-append front rest) in
+    let same : part ≡ front = is ∙ (ap (take (length file - length rest)) h.text ∙ take_at front rest (length file - length rest) len) in
+    record {
+      rest = rest;
+      parts = h.text ∙ ap (λ x. x ++ rest) (sym same);
+      entries = h.entries;
+      is_bundle = record { count = h.count_is; fits = h.fits; text = same };
+    }

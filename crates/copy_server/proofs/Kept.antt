@@ -1,0 +1,25 @@
+-- Reads of a shelf, one after the other: what was put stays.
+use Rattle.std.proofs.Common.{◌≡◌, ℕ, List, Option, Some, None, refl, sym, subst, ◌∙◌}
+use Rattle.tlog_tiles.specs.declared.paths.Path.{Path}
+use Rattle.mirror_sources.specs.Told.{KeepsTold}
+use Rattle.mirror_folders.specs.Shelf.{HasPut, Put, Stands, TellsRead}
+
+pub kept_once : (x : Option (List Put)) → KeepsTold x x
+kept_once None = tt
+kept_once (Some xs) = refl
+
+pub kept_twice : (x y z : Option (List Put)) → KeepsTold x y → KeepsTold y z → KeepsTold x z
+kept_twice None y z p q = tt
+kept_twice (Some xs) None z p q = absurd p
+kept_twice (Some xs) (Some ys) None p q = q
+kept_twice (Some xs) (Some ys) (Some zs) p q = q ∙ p
+
+-- what is read of a shelf that kept what was put was there before
+pub read_before : (x y : Option (List Put)) (path : Path) (answer : Option (List ℕ)) → KeepsTold x y →
+    TellsRead y path answer → TellsRead x path answer
+read_before None y path (Some bytes) k h = tt
+read_before None y path None k h = tt
+read_before (Some xs) None path (Some bytes) k h = absurd k
+read_before (Some xs) None path None k h = absurd k
+read_before (Some xs) (Some ys) path (Some bytes) k h = subst (λ (l : List Put). Stands l path bytes) k h
+read_before (Some xs) (Some ys) path None k h = λ has. h (subst (λ (l : List Put). HasPut l path) (sym k) has)

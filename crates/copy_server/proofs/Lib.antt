@@ -1,0 +1,9 @@
+pub mod Kept
+pub mod Widths
+pub mod FirstEntries
+pub mod ShelfFiles
+pub mod OneViews
+pub mod TrueFiles
+pub mod CopyBodies
+pub mod MirrorAnswers
+pub mod Answering

@@ -1,0 +1,48 @@
+-- The bytes that a copy has of each resource: what a mirror has that holds the copy's checkpoint, complete, and no other.
+use Rattle.std.specs.Prelude.{◌≡◌, ℕ, List, [], ◌∷◌, Option, Some, None, true}
+use Rattle.tlog_tiles.specs.declared.paths.Path.TheVariants.{Checkpoint, Tile, Entries}
+use Rattle.mirror_folders.specs.Shelf.{Put}
+use Rattle.mirror_model.specs.Forks.{Point}
+use Rattle.mirror_model.specs.Texts.{status_text}
+use Rattle.mirror_model.specs.declared.reports.Head.{Head}
+use Rattle.mirror_server.specs.declared.resource.Resource.{Resource}
+use Rattle.mirror_server.specs.declared.resource.Resource.TheVariants.{File, Status, Forks, Missing, Proof}
+use Rattle.copy_server.specs.CopyHeads.{CopyHead, IsCopyHead}
+use Rattle.copy_server.specs.GivenFiles.{IsFileGiven}
+use Rattle.copy_server.specs.GivenProofs.{IsProofGiven}
+
+-- the heads of a mirror that holds this one, complete, or none
+abbrev pub copy_heads : Option Point → List Head
+copy_heads None = []
+copy_heads (Some point) = record { size = point.size; root = point.root; complete = true } ∷ []
+
+-- what its status says
+abbrev pub copy_status : List ℕ → Option Point → List ℕ
+copy_status origin point = status_text origin (copy_heads point) point
+
+-- the size and root of a checkpoint
+abbrev pub head_point : CopyHead → Point
+head_point head = record { size = head.size; root = head.root }
+
+module _ (digest : List ℕ → List ℕ) (origin : List ℕ) (held : Option (List Put)) where
+  -- the bytes of a resource, under that checkpoint or, of an empty copy, under none
+  abbrev pub IsBodyAt : Option CopyHead → Resource → List ℕ → Type 0
+  IsBodyAt None (File path) body = ⊥
+  IsBodyAt None Status body = body ≡ copy_status origin None
+  IsBodyAt None Forks body = body ≡ []
+  IsBodyAt None (Missing size root) body = ⊥
+  IsBodyAt None (Proof ask) body = ⊥
+  IsBodyAt (Some head) (File Checkpoint) body = body ≡ head.note
+  IsBodyAt (Some head) (File (Tile level index width)) body =
+      IsFileGiven held head.size (Tile level index width) body
+  IsBodyAt (Some head) (File (Entries index width)) body = IsFileGiven held head.size (Entries index width) body
+  IsBodyAt (Some head) Status body = body ≡ copy_status origin (Some (head_point head))
+  IsBodyAt (Some head) Forks body = body ≡ []
+  IsBodyAt (Some head) (Missing size root) body = (size ≡ head.size) × (root ≡ head.root) × (body ≡ [])
+  IsBodyAt (Some head) (Proof ask) body = IsProofGiven digest head.size head.root ask body
+
+  -- the bytes of a resource of the copy that stands on the shelf
+  pub record IsCopyBody (resource : Resource) (body : List ℕ) : Type 0 where
+    pub head : Option CopyHead
+    pub is_head : IsCopyHead origin held head
+    pub is_body : IsBodyAt head resource body

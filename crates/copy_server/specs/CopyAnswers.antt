@@ -1,0 +1,68 @@
+-- What the call that answers a client from a copy does.
+use Rattle.std.specs.Prelude.{◌≡◌, ◌⊎◌, ℕ, List, Option, Some, Result, Ok, Err, ⊤}
+use Rattle.std.specs.Io.KnownBytes.{Appends, Keeps}
+use Rattle.byte_streams.specs.Streams.{AppendsPrefix}
+use Rattle.mirror_folders.specs.Shelf.{Put}
+use Rattle.mirror_server.specs.Response.{ResponseBy, server_error}
+use Rattle.mirror_server.specs.declared.fault.HttpFault.TheVariants.{ReadFault, WriteFault, OutOfMemory}
+use Rattle.mirror_sources.specs.Told.{one_more}
+use Rattle.copy_server.specs.Bodies.{IsCopyBody}
+use Rattle.copy_server.specs.declared.fault.BodyFault.{BodyFault}
+use Rattle.copy_server.specs.declared.fault.BodyFault.TheVariants as body
+use Rattle.copy_server.specs.declared.fault.CopyAnswerFault.{CopyAnswerFault}
+use Rattle.copy_server.specs.declared.fault.CopyAnswerFault.TheVariants.{Http, CopyDamaged, ShelfFault}
+
+module _ (digest : List ℕ → List ℕ) (origin : List ℕ) (puts : List Put) (bytes : List ℕ) where
+  -- what is replied to these bytes of a client: what the copy has of what they ask for
+  abbrev pub IsCopyReply : List ℕ → Type 0
+  IsCopyReply reply = ResponseBy (IsCopyBody digest origin (Some puts)) bytes reply
+
+  -- what each answer says of what was written: the whole reply, a prefix of it, or nothing; where a file of the copy is
+  -- damaged or cannot be read, the whole reply that says so, or a prefix of it where the write failed
+  abbrev pub AnswersFromCopy : {X : Type 0} → Option (List ℕ) → Option (List ℕ) → Result X CopyAnswerFault →
+      Type 0
+  AnswersFromCopy old new (Ok x) = (reply : List ℕ) × IsCopyReply reply × Appends old new reply
+  AnswersFromCopy old new (Err (Http ReadFault)) = Keeps old new
+  AnswersFromCopy old new (Err (Http WriteFault)) =
+      (reply : List ℕ) × (IsCopyReply reply ⊎ (reply ≡ server_error)) × AppendsPrefix old new reply
+  AnswersFromCopy old new (Err (Http OutOfMemory)) = Keeps old new
+  AnswersFromCopy old new (Err (CopyDamaged path)) = Appends old new server_error
+  AnswersFromCopy old new (Err ShelfFault) = Appends old new server_error
+
+-- what writing a reply did
+abbrev pub WritesReply : {X : Type 0} → Option (List ℕ) → Option (List ℕ) → List ℕ →
+    Result X CopyAnswerFault → Type 0
+WritesReply old new reply (Ok x) = Appends old new reply
+WritesReply old new reply (Err (Http ReadFault)) = ⊥
+WritesReply old new reply (Err (Http WriteFault)) = AppendsPrefix old new reply
+WritesReply old new reply (Err (Http OutOfMemory)) = ⊥
+WritesReply old new reply (Err (CopyDamaged path)) = ⊥
+WritesReply old new reply (Err ShelfFault) = ⊥
+
+-- what writing the reply to a fault of a body did, and which fault is answered then
+abbrev pub WritesError : {X : Type 0} → BodyFault → Option (List ℕ) → Option (List ℕ) →
+    Result X CopyAnswerFault → Type 0
+WritesError fault old new (Ok x) = ⊥
+WritesError fault old new (Err (Http ReadFault)) = ⊥
+WritesError fault old new (Err (Http WriteFault)) = AppendsPrefix old new server_error
+WritesError fault old new (Err (Http OutOfMemory)) = Keeps old new
+WritesError fault old new (Err (CopyDamaged path)) = (fault ≡ body.CopyDamaged path) × Appends old new server_error
+WritesError fault old new (Err ShelfFault) = (fault ≡ body.ShelfFault) × Appends old new server_error
+
+-- the fault is one at which nothing was written
+abbrev pub IsQuiet : CopyAnswerFault → Type 0
+IsQuiet (Http ReadFault) = ⊤
+IsQuiet (Http WriteFault) = ⊥
+IsQuiet (Http OutOfMemory) = ⊤
+IsQuiet (CopyDamaged path) = ⊥
+IsQuiet ShelfFault = ⊥
+
+-- the shelf's count of failures rises by one at a ShelfFault, and stays at any other answer; where a write failed, it may
+-- have been the reply to a ShelfFault
+abbrev pub CountsAnswer : {X : Type 0} → ℕ → ℕ → Result X CopyAnswerFault → Type 0
+CountsAnswer old new (Ok x) = new ≡ old
+CountsAnswer old new (Err (Http ReadFault)) = new ≡ old
+CountsAnswer old new (Err (Http WriteFault)) = (new ≡ old) ⊎ (new ≡ one_more old)
+CountsAnswer old new (Err (Http OutOfMemory)) = (new ≡ old) ⊎ (new ≡ one_more old)
+CountsAnswer old new (Err (CopyDamaged path)) = new ≡ old
+CountsAnswer old new (Err ShelfFault) = new ≡ one_more old

@@ -1,0 +1,140 @@
+//! The bytes of what is asked for.
+ghost use Rattle.std.specs.Prelude.{◌≡◌, ◌↔◌, ℕ, List, [], IfNone, IfOk, IfSome, IsTrue, None, Option, Some, option_map};
+ghost use Rattle.mirror_folders.specs.Shelf.{Put};
+ghost use Rattle.mirror_server.specs.Answered.{IsBodyFor};
+ghost use Rattle.mirror_server.specs.declared.request.Request.TheVariants as Request;
+ghost use Rattle.mirror_sources.specs.Told.{KeepsTold};
+ghost use Rattle.copy_server.specs.Bodies.{IsBodyAt, IsCopyBody};
+ghost use Rattle.copy_server.specs.CopyHeads.{copy_head};
+ghost use Rattle.copy_server.specs.Faults.{CountsBody};
+
+use crate::checkpoint::read_checkpoint;
+use crate::fault::BodyFault;
+use crate::file::read_file;
+use crate::proving::read_proof_text;
+use crate::status::copy_status;
+use mirror_folders::ReadableShelf;
+use mirror_server::{Request, Resource};
+use std::alloc::{AllocError, Global};
+use tlog_hash::{Hash, TreeHash};
+use tlog_tiles::Path;
+
+// The bytes of a resource of an empty copy.
+fn empty_body(
+    alloc: Global,
+    origin: &str,
+    resource: &Resource,
+) -> Result<Option<Vec<u8>>, AllocError>
+    ensures found { (digest : List ℕ → List ℕ) (held : Option (List Put)) → IfOk result
+        (λ o. IfSome o (λ body. IsBodyAt digest origin.now held None resource.now body.items)) }
+    ensures none { (digest : List ℕ → List ℕ) (held : Option (List Put)) → IfOk result
+        (λ o. IfNone o ((body : List ℕ)
+        → ¬ IsBodyAt digest origin.now held None resource.now body)) }
+{
+    match *resource {
+        Resource::Status => Ok(Some(copy_status(alloc, origin, &None)?)),
+        Resource::Forks => Ok(Some(Vec::new(alloc))),
+        Resource::File(_) => Ok(None),
+        Resource::Missing { .. } => Ok(None),
+        Resource::Proof(_) => Ok(None),
+    }
+}
+
+// The bytes of a resource of a copy with that checkpoint.
+fn held_body<H: TreeHash, D: ReadableShelf>(
+    alloc: Global,
+    shelf: &mut D,
+    origin: &str,
+    head: (Vec<u8>, u64, Hash),
+    resource: &Resource,
+) -> Result<Option<Vec<u8>>, BodyFault>
+    ensures found { IfOk result (λ o. IfSome o (λ body. IsBodyAt H.digest origin.now
+        (D.puts shelf.old) (Some (copy_head head.0.items head.1 head.2))
+        resource.now body.items)) }
+    ensures none { IfOk result (λ o. IfNone o ((body : List ℕ) → ¬ IsBodyAt H.digest origin.now
+        (D.puts shelf.old) (Some (copy_head head.0.items head.1 head.2))
+        resource.now body)) }
+    ensures same { KeepsTold (D.puts shelf.old) (D.puts shelf.new) }
+    ensures counted { CountsBody (D.failed shelf.old) (D.failed shelf.new) result }
+{
+    let (note, size, root) = head;
+    match *resource {
+        Resource::File(Path::Checkpoint) => Ok(Some(note)),
+        Resource::File(path) => read_file::<D>(alloc, shelf, size, &path),
+        Resource::Status => Ok(Some(copy_status(alloc, origin, &Some((size, root)))?)),
+        Resource::Forks => Ok(Some(Vec::new(alloc))),
+        Resource::Missing {
+            size: asked,
+            root: hash,
+        } => Ok(missing_body(alloc, size, &root, asked, &hash)),
+        Resource::Proof(ask) => read_proof_text::<H, D>(alloc, shelf, size, &root, ask),
+    }
+}
+
+fn is_same(first: &Hash, second: &Hash) -> bool
+    ensures { IsTrue result ↔ (first.now ≡ second.now) }
+{
+    first == second
+}
+
+// What is missing of a head: nothing of that of the copy; None where it is another.
+fn missing_body(alloc: Global, size: u64, root: &Hash, asked: u64, hash: &Hash) -> Option<Vec<u8>>
+    ensures found { IfSome result (λ body. (asked ≡ size) × (hash.now ≡ root.now)
+        × (body.items ≡ [])) }
+    ensures none { IfNone result (asked ≡ size → ¬ (hash.now ≡ root.now)) }
+{
+    if asked == size && is_same(hash, root) {
+        Some(Vec::new(alloc))
+    } else {
+        None
+    }
+}
+
+/// The bytes of a resource of the copy that stands on the shelf; None where a mirror that holds its checkpoint, complete, would not
+/// serve it.
+///
+/// # Errors
+///
+/// `CopyDamaged` where a file that is wanted is missing or false. `ShelfFault` where the shelf failed, which it counts.
+/// `OutOfMemory` where memory was refused.
+#[tactic(auto, using(crate::proofs::Answering::copy_body_at, crate::proofs::Kept::kept_twice))]
+fn copy_body<H: TreeHash, D: ReadableShelf>(
+    alloc: Global,
+    shelf: &mut D,
+    origin: &str,
+    resource: &Resource,
+) -> Result<Option<Vec<u8>>, BodyFault>
+    ensures body { IfSome (D.puts shelf.old) (λ puts. IfOk result (λ o. IsBodyFor
+        (IsCopyBody H.digest origin.now (Some puts)) (Request.Get resource.now)
+        (option_map (λ body. body.items) o))) }
+    ensures same { KeepsTold (D.puts shelf.old) (D.puts shelf.new) }
+    ensures counted { CountsBody (D.failed shelf.old) (D.failed shelf.new) result }
+{
+    match read_checkpoint::<D>(alloc, shelf, origin)? {
+        Some(head) => held_body::<H, D>(alloc, shelf, origin, head, resource),
+        None => Ok(empty_body(alloc, origin, resource)?),
+    }
+}
+
+/// The bytes of what is asked for, where the copy has it.
+///
+/// # Errors
+///
+/// Those of the copy's files.
+pub(crate) fn requested_body<H: TreeHash, D: ReadableShelf>(
+    alloc: Global,
+    shelf: &mut D,
+    origin: &str,
+    request: &Request,
+) -> Result<Option<Vec<u8>>, BodyFault>
+    ensures body { IfSome (D.puts shelf.old) (λ puts. IfOk result (λ o. IsBodyFor
+        (IsCopyBody H.digest origin.now (Some puts)) request.now
+        (option_map (λ body. body.items) o))) }
+    ensures same { KeepsTold (D.puts shelf.old) (D.puts shelf.new) }
+    ensures counted { CountsBody (D.failed shelf.old) (D.failed shelf.new) result }
+{
+    match request {
+        Request::Get(resource) => copy_body::<H, D>(alloc, shelf, origin, resource),
+        _ => Ok(None),
+    }
+}

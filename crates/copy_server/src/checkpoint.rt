@@ -1,0 +1,35 @@
+//! The checkpoint of a copy.
+ghost use Rattle.std.specs.Prelude.{◌≡◌, IfOk, option_map};
+ghost use Rattle.mirror_sources.specs.Told.{KeepsTold};
+ghost use Rattle.copy_server.specs.CopyHeads.{IsCopyHead, copy_head};
+ghost use Rattle.copy_server.specs.Faults.{CountsBody};
+
+use crate::fault::BodyFault;
+use log_reader::head_of;
+use mirror_folders::ReadableShelf;
+use std::alloc::Global;
+use tlog_hash::Hash;
+use tlog_tiles::Path;
+
+/// The checkpoint that stands on the shelf: its note, its size and its root. None where the copy is empty.
+pub(crate) fn read_checkpoint<D: ReadableShelf>(
+    alloc: Global,
+    shelf: &mut D,
+    origin: &str,
+) -> Result<Option<(Vec<u8>, u64, Hash)>, BodyFault>
+    ensures head { IfOk result (λ found. IsCopyHead origin.now (D.puts shelf.old)
+        (option_map (λ head. copy_head head.0.items head.1 head.2) found)) }
+    ensures same { KeepsTold (D.puts shelf.old) (D.puts shelf.new) }
+    ensures counted { CountsBody (D.failed shelf.old) (D.failed shelf.new) result }
+{
+    let Some(note) = shelf.read(&Path::Checkpoint)? else {
+        return Ok(None);
+    };
+    match head_of(alloc, origin, &note)? {
+        Some(head) => {
+            let root = head.1;
+            Ok(Some((note, head.0, root)))
+        }
+        None => Err(BodyFault::CopyDamaged(Path::Checkpoint)),
+    }
+}

@@ -1,0 +1,65 @@
+//! The first part of a file.
+ghost use Rattle.std.specs.Prelude.{◌≡◌, IfOk, IfSome};
+ghost use Rattle.copy_server.specs.GivenFiles.{IsFirstEntries, IsFirstHashes, IsFirstOf, IsTaken};
+
+use crate::width::own_width;
+use std::alloc::{AllocError, Global};
+use tlog_tiles::{Path, split_entry};
+
+// The first hashes of a tile.
+fn first_hashes(file: &[u8], width: u32) -> Option<&[u8]>
+    ensures { IfSome result (λ part. IsFirstHashes width file.now part.now) }
+{
+    let len = 32 * width as usize;
+    if file.len() < len {
+        return None;
+    }
+    let (part, _rest) = file.split_at(len);
+    Some(part)
+}
+
+// The first entries of a bundle.
+#[tactic(auto, using(crate::proofs::FirstEntries::none_read, crate::proofs::FirstEntries::one_read, crate::proofs::FirstEntries::left_within, crate::proofs::FirstEntries::first_read))]
+fn first_entries(file: &[u8], width: u32) -> Option<&[u8]>
+    ensures { IfSome result (λ part. IsFirstEntries width file.now part.now) }
+{
+    let mut rest = file;
+    for _ in 0..width {
+        let Some((_entry, after)) = split_entry(rest) else {
+            return None;
+        };
+        rest = after;
+    }
+    let (part, _rest) = file.split_at(file.len() - rest.len());
+    Some(part)
+}
+
+// The first part of a file that is wider than that of the path.
+fn first_part<'a>(path: &Path, file: &'a [u8]) -> Option<&'a [u8]>
+    ensures { IfSome result (λ part. IsFirstOf path.now file.now part.now) }
+{
+    match *path {
+        Path::Checkpoint => None,
+        Path::Tile { width, .. } => first_hashes(file, width),
+        Path::Entries { width, .. } => first_entries(file, width),
+    }
+}
+
+/// What the path has of a file of that width at its place; None where the file is too short.
+pub(crate) fn take_part(
+    alloc: Global,
+    path: &Path,
+    width: u32,
+    file: Vec<u8>,
+) -> Result<Option<Vec<u8>>, AllocError>
+    ensures { IfOk result (λ o. IfSome o
+        (λ bytes. IsTaken path.now width file.items bytes.items)) }
+{
+    if width == own_width(path) {
+        return Ok(Some(file));
+    }
+    match first_part(path, &file) {
+        Some(part) => Ok(Some(Vec::from_slice(alloc, part)?)),
+        None => Ok(None),
+    }
+}

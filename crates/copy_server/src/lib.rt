@@ -1,0 +1,28 @@
+//! A copy of a log, as it stands on a shelf, served over HTTP (RFC 9112): one request is read, and one reply is written.
+//!
+//! ```text
+//! let mut shelf = DirShelf::new(&rt, alloc, "log");
+//! for stream in listener.incoming() {
+//!     let stream = stream?;
+//!     if let Err(fault) = answer_from_copy::<Sha256Tree, _, _, _>(alloc, &mut shelf, "ex", &mut &stream, &mut &stream) {
+//!         eprintln!(rt; "{fault}")?;
+//!     }
+//! }
+//! ```
+#![tactic(auto)]
+
+mod answer;
+mod body;
+mod checkpoint;
+mod cut;
+mod fault;
+mod file;
+mod files;
+mod laws;
+mod proving;
+mod status;
+mod width;
+
+pub use answer::answer_from_copy;
+pub use fault::CopyAnswerFault;
+pub use laws::copies_answer_as_mirrors_law;

@@ -1,0 +1,123 @@
+//! What is said of the places at which something was wrong.
+use crate::logs::{keys, place_of};
+use mirror_client::{Dial, HttpSource, Site};
+use mirror_copy::Places;
+use mirror_folders::MemShelf;
+use mirror_follow::{FollowFault, follow};
+use mirror_sources::Source;
+use program_follow::{PlaceSource, places_why};
+use std::alloc::Global;
+use std::io;
+use std::io::{Read, Write};
+use std::rt::Files;
+use std::test::Fail;
+use tlog_hash::Sha256Tree;
+use tlog_tiles::Path;
+
+// A connection on which these bytes come, whatever is asked.
+#[derive(Drop)]
+struct Reply {
+    bytes: Vec<u8>,
+    at: usize,
+}
+
+impl Read for Reply {
+    fn read(&mut self, buf: &mut [u8]) -> io::Result<usize> {
+        let mut count = 0;
+        for i in 0..buf.len() {
+            let Some(byte) = self.bytes.get(self.at) else {
+                break;
+            };
+            buf[i] = *byte;
+            self.at = self.at.saturating_add(1);
+            count = i + 1;
+        }
+        Ok(count)
+    }
+}
+
+impl Write for Reply {
+    fn write(&mut self, buf: &[u8]) -> io::Result<usize> {
+        Ok(buf.len())
+    }
+
+    fn flush(&mut self) -> io::Result<()> {
+        Ok(())
+    }
+}
+
+// A server that gives these bytes to each request.
+#[derive(Drop)]
+struct Canned {
+    alloc: Global,
+    bytes: Vec<u8>,
+}
+
+impl Dial for Canned {
+    type Stream = Reply;
+
+    fn dial(&mut self) -> io::Result<Reply> {
+        let bytes = Vec::from_slice(self.alloc, &self.bytes)?;
+        Ok(Reply { bytes, at: 0 })
+    }
+}
+
+// A server of that name.
+fn server<'a, R: Files>(
+    alloc: Global,
+    name: &str,
+    bytes: &[u8],
+) -> Result<PlaceSource<'a, R, Canned>, Fail> {
+    let site = Site::new(alloc, "log.example", "")?;
+    let bytes = Vec::from_slice(alloc, bytes)?;
+    let source = HttpSource::new(alloc, site, Canned { alloc, bytes });
+    Ok(PlaceSource::of_server(alloc, name, source)?)
+}
+
+// A reply of the checkpoint of C(3), which the key of that secret signed.
+fn signed(alloc: Global, secret: u8) -> Result<Vec<u8>, Fail> {
+    let mut log = place_of(alloc, 3, false, secret)?;
+    let Ok(Some(note)) = log.get(&Path::Checkpoint) else {
+        return Err("no note".into());
+    };
+    let mut reply = Vec::from_slice(alloc, b"HTTP/1.0 200 OK\r\n\r\n")?;
+    reply.extend_from_slice(&note)?;
+    Ok(reply)
+}
+
+// The lines of four servers: one that fails, one that has nothing, one whose checkpoint another key signed, and one that has a
+// checkpoint of the log, and the same bytes for each other file.
+fn lines<R: Files>(alloc: Global, _rt: &R) -> Result<String, Fail> {
+    let mut places: Places<PlaceSource<'_, R, Canned>> = Places::new(alloc);
+    places.add(server(alloc, "a", b"HTTP/1.0 503 Service Unavailable\r\n\r\n")?)?;
+    places.add(server(alloc, "b", b"HTTP/1.0 404 Not Found\r\n\r\n")?)?;
+    places.add(server(alloc, "c\n", &signed(alloc, 1)?)?)?;
+    places.add(server(alloc, "d", &signed(alloc, 0)?)?)?;
+    let keys = keys(alloc)?;
+    let mut shelf = MemShelf::new(alloc);
+    let done = follow::<Sha256Tree, MemShelf, PlaceSource<'_, R, Canned>>(
+        alloc,
+        "ex",
+        &keys,
+        &mut shelf,
+        &mut places,
+        None,
+    );
+    match done {
+        Err(FollowFault::OutOfMemory) => return Err("out of memory".into()),
+        _ => {}
+    }
+    Ok(places_why(alloc, "ex", &keys, &places)?)
+}
+
+// Each place has one line, of the first thing that was wrong. A control character of a name is escaped.
+#[test]
+fn a_line_of_each_place(rt: HostRuntime) -> Result<(), Fail> {
+    let text = lines(rt.alloc(), &rt)?;
+    assert!(&rt;
+        text.as_str()
+            == "a: checkpoint: status 503\nb: checkpoint: not found\nc\\x0a: checkpoint: NoTrustedSignature\nd: tile/0/000.p/3: false\n",
+        "{text}"
+    );
+    Ok(())
+}

@@ -1,0 +1,169 @@
+-- A copy whose note gave way to another one of its size and root.
+use Rattle.std.proofs.Common.{◌≡◌, ◌≢◌, ◌⊎◌, inl, inr, ℕ, ◌+◌, ◌<◌, List, [], ◌∷◌, ◌++◌, All, length, Option, Some, None}
+use Rattle.std.proofs.Common.{refl, sym, subst, ◌∙◌, ap, arith, length-append}
+use Rattle.std.specs.List.{Contains}
+use Rattle.std.proofs.lemmas.Bool.{cases_lt}
+use Rattle.std.proofs.lemmas.List.{append-nil, nil_from_length}
+use Rattle.std.proofs.lemmas.List.Elements.{All-cons, All-contains, All-nil}
+use Rattle.tlog_hash.specs.Tree.{mth}
+use Rattle.tlog_tiles.specs.declared.paths.Path.{Path}
+use Rattle.tlog_tiles.specs.declared.paths.Path.TheVariants.{Checkpoint, Tile, Entries}
+use Rattle.tlog_tiles.specs.Tiles.{IsWithin}
+use Rattle.mirror_model.specs.Heads.{IsHead}
+use Rattle.mirror_model.proofs.HeadNotes.{head_once}
+use Rattle.mirror_sources.specs.Told.{AddsTold}
+use Rattle.mirror_folders.specs.Shelf.{Put, HasPut, Stands, TellsRead}
+use Rattle.mirror_export.specs.Exports.{IsMoment}
+use Rattle.mirror_export.specs.Files.{paths_of, served_bytes}
+use Rattle.mirror_export.proofs.AllFiles.{files_are_all}
+use Rattle.mirror_export.proofs.Standing.{stands_more}
+use Rattle.mirror_copy.specs.Copies.{IsCopy}
+use Rattle.mirror_copy.specs.Moments.{AtEachMoment, InTheEnd, IsBroughtTo, IsGrownCopy, KeepsCopy, PutsBeyond}
+use Rattle.mirror_copy.proofs.CopyMoments.{copy_files}
+use Rattle.mirror_copy.proofs.TipReads.{stands_one}
+use Rattle.mirror_copy.proofs.WholeMoments.{none_found}
+use Rattle.mirror_follow.specs.Gathering.{note_of}
+use Rattle.mirror_follow.specs.Renoting.{IsNotePut}
+use Rattle.mirror_follow.specs.Standing.{IsHeadOf}
+use Rattle.mirror_follow.specs.declared.candidate.Candidate.{Candidate}
+
+-- at a moment of one put nothing was put yet, or it was
+moments_are : (held : List Put) (put : Put) (now : List Put) → IsMoment held (held ++ put ∷ []) now →
+    (now ≡ held) ⊎ (held ++ put ∷ [] ≡ now)
+moments_are held put now at = elim (cases_lt 0 (length at.so_far)) [
+  | inl some ↦
+      let none : length at.later ≡ 0 = omega (
+        arith,
+        some,
+        ap length at.new_is,
+        ap length at.now_is,
+        length-append held (put ∷ []),
+        length-append held at.so_far,
+        length-append now at.later,
+      ) in
+      inr (at.new_is ∙ (ap (λ (l : List Put). now ++ l) (nil_from_length at.later none) ∙ append-nil now))
+  | inr none ↦
+      let empty : length at.so_far ≡ 0 = omega (arith, none) in
+      inl (at.now_is ∙ (ap (λ (l : List Put). held ++ l) (nil_from_length at.so_far empty) ∙ append-nil held))
+]
+
+module _ (digest : List ℕ → List ℕ) (origin note : List ℕ) where
+  abbrev put : Put
+  put = (Checkpoint, note)
+
+  only : (path : Path) (bytes : List ℕ) → Contains (put ∷ []) (path, bytes) → path ≡ Checkpoint
+  only path bytes has =
+      All-contains (λ (p : Put). p.0 ≡ Checkpoint) (put ∷ []) (path, bytes)
+      (All-cons (λ (p : Put). p.0 ≡ Checkpoint) put [] refl (All-nil (λ (p : Put). p.0 ≡ Checkpoint))) has
+
+  module _ (held : List Put) (there : List ℕ) (stood : Stands held Checkpoint there) (size : ℕ) (root : List ℕ)
+      (first : IsHead there origin size root) (second : IsHead note origin size root) (old_note : List ℕ)
+      (entries : List (List ℕ)) (copy : IsCopy digest origin old_note entries held) where
+    abbrev after : List Put
+    after = held ++ put ∷ []
+
+    was : there ≡ old_note
+    was = stands_one held Checkpoint there old_note stood
+        (copy.holds Checkpoint ((files_are_all (length entries) Checkpoint).1 tt))
+
+    new_head : IsHead note origin (length entries) (mth digest entries)
+    new_head =
+        let once = head_once old_note origin origin size (length entries) root (mth digest entries)
+        (subst (λ n. IsHead n origin size root) was first) copy.is_head in
+        subst (λ n. IsHead note origin n (mth digest entries)) once.size_is
+        (subst (λ r. IsHead note origin size r) once.root_is second)
+
+    here : Stands after Checkpoint note
+    here = record {
+      before = held;
+      after = [];
+      puts_are = refl;
+      kept = λ other has. absurd (let lt : has.0 < 0 = has.1 in omega (arith, lt));
+    }
+
+    other_stands : (path : Path) → path ≢ Checkpoint → (bytes : List ℕ) → Stands held path bytes → Stands after path bytes
+    other_stands path other bytes s = stands_more held (put ∷ []) path bytes s (λ b has. absurd (other (only path b has)))
+
+    by_path : (path : Path) → Contains (paths_of (length entries)) path →
+        Stands after path (served_bytes digest note entries path)
+    by_path Checkpoint listed = here
+    by_path (Tile level index width) listed =
+        let path = Tile level index width in
+        let other : path ≢ Checkpoint = λ e. cc in
+        other_stands path other (served_bytes digest note entries path) (copy.holds path listed)
+    by_path (Entries index width) listed =
+        let path = Entries index width in
+        let other : path ≢ Checkpoint = λ e. cc in
+        other_stands path other (served_bytes digest note entries path) (copy.holds path listed)
+
+    renoted : IsCopy digest origin note entries after
+    renoted = record { short = copy.short; is_head = new_head; holds = by_path }
+
+    pub renoted_grown : IsGrownCopy digest origin note entries after
+    renoted_grown = record {
+      more = [];
+      copy = subst (λ (l : List (List ℕ)). IsCopy digest origin note l after) (sym (append-nil entries)) renoted;
+      kept = copy_files digest origin note entries after renoted;
+    }
+
+    pub renoted_moment : (new now : List Put) → new ≡ after → IsMoment held new now →
+        IsCopy digest origin old_note entries now ⊎ IsGrownCopy digest origin note entries now
+    renoted_moment new now is at = elim (moments_are held put now (subst (λ l. IsMoment held l now) is at)) [
+      | inl before ↦ inl (subst (IsCopy digest origin old_note entries) (sym before) copy)
+      | inr last ↦ inr (subst (IsGrownCopy digest origin note entries) last renoted_grown)
+    ]
+
+  module _ (x z : Option (List Put)) (there : List ℕ) (size : ℕ) (root : List ℕ) (first : IsHead there origin size root)
+      (second : IsHead note origin size root) (p : IsNotePut x z there note) where
+    stood_at : (held : List Put) → x ≡ Some held → Stands held Checkpoint there
+    stood_at held is = subst (λ o. TellsRead o Checkpoint (Some there)) is p.stood
+
+    told_at : (held : List Put) → x ≡ Some held → AddsTold (Some held) z (put ∷ [])
+    told_at held is = subst (λ o. AddsTold o z (put ∷ [])) is p.told
+
+    no_none : (held : List Put) → x ≡ Some held → (HasPut held Checkpoint → ⊥) → ⊥
+    no_none held is none = cc (none_found held (Some there) (stood_at held is) none)
+
+    each : (held : List Put) (z : Option (List Put)) → AddsTold (Some held) z (put ∷ []) → (so : List Put → Type 0) →
+        ((new : List Put) → new ≡ held ++ put ∷ [] → (now : List Put) → IsMoment held new now → so now) →
+        AtEachMoment held z so
+    each held None told so all = absurd told
+    each held (Some new) told so all = λ now at. all new told now at
+
+    last : (held : List Put) (z : Option (List Put)) → AddsTold (Some held) z (put ∷ []) → (so : List Put → Type 0) →
+        so (held ++ put ∷ []) → InTheEnd z so
+    last held None told so h = absurd told
+    last held (Some new) told so h = subst so (sym told) h
+
+    beyond : (n : ℕ) (held : List Put) → x ≡ Some held → PutsBeyond n held z
+    beyond n held is = record {
+      puts = put ∷ [];
+      told = told_at held is;
+      are_beyond =
+          let P : Put → Type 0 = λ put. ¬ IsWithin n put.0 in All-cons P put [] (λ within. within) (All-nil P);
+    }
+
+    pub note_keeps : KeepsCopy digest origin note x z
+    note_keeps = record {
+      copy = λ held is old_note entries copy.
+          each held z (told_at held is)
+          (λ now. IsCopy digest origin old_note entries now ⊎ IsGrownCopy digest origin note entries now)
+          (λ new e now at. renoted_moment held there (stood_at held is) size root first second old_note entries copy new now e at);
+      none = λ held is none. absurd (no_none held is none);
+      beyond = λ held is old_note entries copy. beyond (length entries) held is;
+      beyond_none = λ held is none. absurd (no_none held is none);
+    }
+
+    pub note_brought : IsBroughtTo digest origin note x z
+    note_brought = record {
+      copy = λ held is old_note entries copy.
+          last held z (told_at held is) (IsGrownCopy digest origin note entries)
+          (renoted_grown held there (stood_at held is) size root first second old_note entries copy);
+      none = λ held is none. absurd (no_none held is none);
+    }
+
+-- a checkpoint of the size and root of another
+pub head_as : (origin : List ℕ) (a b : Candidate) → IsHeadOf origin a → a.size.0 ≡ b.size.0 → a.root ≡ b.root →
+    IsHead (note_of a) origin b.size.0 b.root
+head_as origin a b head size root =
+    subst (λ n. IsHead (note_of a) origin n b.root) size (subst (λ r. IsHead (note_of a) origin a.size.0 r) root head)

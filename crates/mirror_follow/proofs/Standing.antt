@@ -1,0 +1,265 @@
+-- The copy of a run, turn by turn.
+use Rattle.std.proofs.Common.{◌≡◌, ℕ, List, [], ◌++◌, length, Option, Some, None, Result, Ok, Err, IfOk, IfSome, refl, sym, subst, ◌∙◌, append_assoc}
+use Rattle.std.proofs.lemmas.List.{append-nil}
+use Rattle.tlog_hash.specs.Tree.{mth}
+use Rattle.tlog_tiles.specs.declared.paths.Path.TheVariants.{Checkpoint}
+use Rattle.mirror_model.specs.Heads.{IsHead}
+use Rattle.mirror_model.proofs.HeadNotes.{head_once}
+use Rattle.mirror_sources.specs.Told.{KeepsTold}
+use Rattle.mirror_folders.specs.Shelf.{Put, HasPut, Stands, TellsRead}
+use Rattle.mirror_copy.specs.Copies.{IsCopy}
+use Rattle.mirror_copy.specs.Moments.{CopyStays, HadSize, InTheEnd, IsBroughtTo, IsGrownCopy}
+use Rattle.mirror_copy.proofs.Stays.{stays_same, stays_then}
+use Rattle.mirror_export.proofs.AllFiles.{files_are_all}
+use Rattle.mirror_copy.proofs.TipReads.{stands_one}
+use Rattle.mirror_copy.proofs.WholeMoments.{copy_found, none_found}
+use Rattle.mirror_follow.specs.Gathering.{note_of}
+use Rattle.mirror_follow.specs.Standing.{HasCopy, IsCopyNow, IsCopyOfRun, IsFollowed, IsHeadOf, IsSame, KnowsAfter, StandsAfter, StandsAs, StandsOrNone, StandsUnder, size_of_copy}
+use Rattle.mirror_follow.specs.declared.candidate.Candidate.{Candidate}
+use Rattle.mirror_follow.specs.declared.report.Followed.{Followed}
+use Rattle.mirror_follow.specs.declared.report.Turn.{Turn}
+use Rattle.mirror_follow.specs.declared.report.Turn.TheVariants as turn
+
+-- what is so in the end, and more so
+end_weaker : (w : Option (List Put)) (so also : List Put → Type 0) → ((now : List Put) → so now → also now) →
+    InTheEnd w so → InTheEnd w also
+end_weaker None so also f h = h
+end_weaker (Some new) so also f h = f new h
+
+module _ (digest : List ℕ → List ℕ) (origin : List ℕ) where
+  abbrev Known : Option (List Put) → Option (List Put) → Option Candidate → Type 0
+  Known x y copy = IsCopyOfRun digest origin x y copy
+
+  abbrev Under : Candidate → List (List ℕ) → List Put → Type 0
+  Under c entries puts = StandsUnder digest origin c entries puts
+
+  -- ---- a call that leaves the copy as it was
+
+  under_stays : (c : Candidate) (entries : List (List ℕ)) (y w : Option (List Put)) → InTheEnd y (Under c entries) →
+      CopyStays digest origin y w → InTheEnd w (Under c entries)
+  under_stays c entries None w h s = absurd h
+  under_stays c entries (Some ys) w h s =
+      end_weaker w (IsCopy digest origin (note_of c) (entries ++ h.more)) (Under c entries)
+      (λ now copy. record { more = h.more; copy = copy; size_is = h.size_is; root_is = h.root_is })
+      (s.copy ys refl (note_of c) (entries ++ h.more) h.copy)
+
+  as_stays : (copy : Option Candidate) (entries : List (List ℕ)) (y w : Option (List Put)) →
+      StandsAs digest origin copy entries y → CopyStays digest origin y w → StandsAs digest origin copy entries w
+  as_stays None entries y w h s = absurd h
+  as_stays (Some c) entries y w h s = under_stays c entries y w h s
+
+  none_end : (y w : Option (List Put)) → InTheEnd y (λ now. HasPut now Checkpoint → ⊥) → CopyStays digest origin y w →
+      InTheEnd w (λ now. HasPut now Checkpoint → ⊥)
+  none_end None w h s = absurd h
+  none_end (Some ys) w h s = s.none ys refl h
+
+  none_stays : (copy : Option Candidate) (y w : Option (List Put)) → StandsOrNone digest origin copy y →
+      CopyStays digest origin y w → StandsOrNone digest origin copy w
+  none_stays None y w h s = none_end y w h s
+  none_stays (Some c) y w h s = under_stays c [] y w h s
+
+  pub known_stays : (x y w : Option (List Put)) (copy : Option Candidate) → Known x y copy →
+      CopyStays digest origin y w → Known x w copy
+  known_stays x y w copy k s = record {
+    some = λ held is note entries c. as_stays copy entries y w (k.some held is note entries c) s;
+    none = λ held is none. none_stays copy y w (k.none held is none) s;
+  }
+
+  -- ---- a call that brings the copy to a candidate
+
+  module _ (c : Candidate) (head : IsHeadOf origin c) where
+    -- a copy that was grown from one of those entries
+    grown_under : (entries more : List (List ℕ)) (now : List Put) →
+        IsGrownCopy digest origin (note_of c) (entries ++ more) now → Under c entries now
+    grown_under entries more now g =
+        let all = entries ++ (more ++ g.more) in
+        let copy : IsCopy digest origin (note_of c) all now =
+        subst (λ (l : List (List ℕ)). IsCopy digest origin (note_of c) l now) (append_assoc entries more g.more) g.copy in
+        let once = head_once (note_of c) origin origin c.size.0 (length all) c.root (mth digest all) head copy.is_head in
+        record { more = more ++ g.more; copy = copy; size_is = once.size_is; root_is = once.root_is }
+
+    new_under : (now : List Put) → IsGrownCopy digest origin (note_of c) [] now → Under c [] now
+    new_under now g =
+        let once = head_once (note_of c) origin origin c.size.0 (length g.more) c.root (mth digest g.more) head g.copy.is_head in
+        record { more = g.more; copy = g.copy; size_is = once.size_is; root_is = once.root_is }
+
+    under_brought : (old : Candidate) (entries : List (List ℕ)) (y w : Option (List Put)) → InTheEnd y (Under old entries) →
+        IsBroughtTo digest origin (note_of c) y w → InTheEnd w (Under c entries)
+    under_brought old entries None w h b = absurd h
+    under_brought old entries (Some ys) w h b =
+        end_weaker w (IsGrownCopy digest origin (note_of c) (entries ++ h.more)) (Under c entries)
+        (λ now g. grown_under entries h.more now g) (b.copy ys refl (note_of old) (entries ++ h.more) h.copy)
+
+    as_brought : (copy : Option Candidate) (entries : List (List ℕ)) (y w : Option (List Put)) →
+        StandsAs digest origin copy entries y → IsBroughtTo digest origin (note_of c) y w → InTheEnd w (Under c entries)
+    as_brought None entries y w h b = absurd h
+    as_brought (Some old) entries y w h b = under_brought old entries y w h b
+
+    first_brought : (y w : Option (List Put)) → InTheEnd y (λ now. HasPut now Checkpoint → ⊥) →
+        IsBroughtTo digest origin (note_of c) y w → InTheEnd w (Under c [])
+    first_brought None w h b = absurd h
+    first_brought (Some ys) w h b =
+        end_weaker w (IsGrownCopy digest origin (note_of c) []) (Under c []) (λ now g. new_under now g) (b.none ys refl h)
+
+    none_brought : (copy : Option Candidate) (y w : Option (List Put)) → StandsOrNone digest origin copy y →
+        IsBroughtTo digest origin (note_of c) y w → InTheEnd w (Under c [])
+    none_brought None y w h b = first_brought y w h b
+    none_brought (Some old) y w h b = under_brought old [] y w h b
+
+    pub known_brought : (x y w : Option (List Put)) (copy : Option Candidate) → Known x y copy →
+        IsBroughtTo digest origin (note_of c) y w → Known x w (Some c)
+    known_brought x y w copy k b = record {
+      some = λ held is note entries h. as_brought copy entries y w (k.some held is note entries h) b;
+      none = λ held is none. none_brought copy y w (k.none held is none) b;
+    }
+
+  -- ---- a turn
+
+  same_head : (c d : Candidate) → IsSame c d → IsHeadOf origin c → IsHeadOf origin d
+  same_head c d s head =
+      subst (λ note. IsHead note origin d.size.0 d.root) (sym s.note_is)
+      (subst (λ size. IsHead (note_of c) origin size d.root) (sym s.size_is)
+      (subst (λ root. IsHead (note_of c) origin c.size.0 root) (sym s.root_is) head))
+
+  known_now : (c : Candidate) (x w : Option (List Put)) (copy : Option Candidate) → IsHeadOf origin c →
+      IsCopyNow c copy → ((d : Candidate) → IsHeadOf origin d → note_of d ≡ note_of c → Known x w (Some d)) →
+      Known x w copy
+  known_now c x w copy head n f =
+      subst (λ o. Known x w o) (sym n.is) (f n.now (same_head c n.now n.same head) n.same.note_is)
+
+  kept_known : (x y w : Option (List Put)) (old new : Option Candidate) → new ≡ old → Known x y old →
+      CopyStays digest origin y w → Known x w new
+  kept_known x y w old new e k s = subst (λ o. Known x w o) (sym e) (known_stays x y w old k s)
+
+  pub known_after : (c : Candidate) (x y w : Option (List Put)) (old new : Option Candidate) (t : Turn) →
+      IsHeadOf origin c → Known x y old → StandsAfter digest origin c y w t → KnowsAfter c t old new → Known x w new
+  known_after c x y w old new turn.Agrees head k s n = kept_known x y w old new n k s
+  known_after c x y w old new turn.Brought head k s n =
+      known_now c x w new head n (λ d is e. known_brought d is x y w old k
+      (subst (λ note. IsBroughtTo digest origin note y w) (sym e) s))
+  known_after c x y w old new (turn.Forks proof) head k s n = kept_known x y w old new n k s
+  known_after c x y w old new turn.Contradicts head k s n = kept_known x y w old new n k s
+  known_after c x y w old new (turn.NotHad fault) head k s n = kept_known x y w old new n k s
+
+  -- ---- the copy that is read first
+
+  -- the checkpoint of a copy is its note
+  checkpoint_one : (note : List ℕ) (entries : List (List ℕ)) (held : List Put) → IsCopy digest origin note entries held →
+      (bytes : List ℕ) → Stands held Checkpoint bytes → bytes ≡ note
+  checkpoint_one note entries held copy bytes there =
+      stands_one held Checkpoint bytes note there
+      (copy.holds Checkpoint ((files_are_all (length entries) Checkpoint).1 tt))
+
+  pub known_first : (x y : Option (List Put)) (c : Candidate) → IsHeadOf origin c → TellsRead x Checkpoint (Some (note_of c)) →
+      KeepsTold x y → Known x y (Some c)
+  known_first x y c head there kept = record {
+    some = λ held is note entries copy.
+        under_stays c entries (Some held) y (read_under held note entries copy (subst (λ o. TellsRead o Checkpoint (Some (note_of c))) is there))
+        (subst (λ o. CopyStays digest origin o y) is (stays_same digest origin x y kept));
+    none = λ held is none.
+        absurd (cc (none_found held (Some (note_of c)) (subst (λ o. TellsRead o Checkpoint (Some (note_of c))) is there) none));
+  }
+    where
+      read_under : (held : List Put) (note : List ℕ) (entries : List (List ℕ)) → IsCopy digest origin note entries held →
+          Stands held Checkpoint (note_of c) → Under c entries held
+      read_under held note entries copy there =
+          let e : note_of c ≡ note = checkpoint_one note entries held copy (note_of c) there in
+          let all : entries ++ [] ≡ entries = append-nil entries in
+          let copy' : IsCopy digest origin (note_of c) (entries ++ []) held =
+          subst (λ (l : List (List ℕ)). IsCopy digest origin (note_of c) l held) (sym all)
+          (subst (λ n. IsCopy digest origin n entries held) (sym e) copy) in
+          let once = head_once (note_of c) origin origin c.size.0 (length (entries ++ [])) c.root (mth digest (entries ++ []))
+          head copy'.is_head in
+          record { more = []; copy = copy'; size_is = once.size_is; root_is = once.root_is }
+
+  pub known_none : (x y : Option (List Put)) → TellsRead x Checkpoint None → KeepsTold x y → Known x y None
+  known_none x y there kept = record {
+    some = λ held is note entries copy.
+        absurd (copy_found digest origin note entries held None copy (subst (λ o. TellsRead o Checkpoint None) is there) refl);
+    none = λ held is none.
+        none_end (Some held) y none (subst (λ o. CopyStays digest origin o y) is (stays_same digest origin x y kept));
+  }
+
+  pub had_first : (x : Option (List Put)) (c : Candidate) → IsHeadOf origin c → TellsRead x Checkpoint (Some (note_of c)) →
+      HadSize digest origin x c.size.0
+  had_first x c head there = record {
+    copy = λ held is note entries copy.
+        (head_once note origin origin c.size.0 (length entries) c.root (mth digest entries)
+        (subst (λ b. IsHead b origin c.size.0 c.root)
+        (checkpoint_one note entries held copy (note_of c) (subst (λ o. TellsRead o Checkpoint (Some (note_of c))) is there)) head)
+        copy.is_head).size_is;
+    none = λ held is none.
+        absurd (cc (none_found held (Some (note_of c)) (subst (λ o. TellsRead o Checkpoint (Some (note_of c))) is there) none));
+  }
+
+  pub had_none : (x : Option (List Put)) → TellsRead x Checkpoint None → HadSize digest origin x 0
+  had_none x there = record {
+    copy = λ held is note entries copy.
+        absurd (copy_found digest origin note entries held None copy (subst (λ o. TellsRead o Checkpoint None) is there) refl);
+    none = λ held is none. refl;
+  }
+
+  -- ---- the answer
+
+  has_copy : (c : Candidate) (size : ℕ) (root : List ℕ) (entries : List (List ℕ)) (now : List Put) → size ≡ c.size.0 →
+      root ≡ c.root → Under c entries now → HasCopy digest origin size root entries now
+  has_copy c size root entries now size_is root_is u = record {
+    note = note_of c;
+    more = u.more;
+    copy = u.copy;
+    size_is = size_is ∙ u.size_is;
+    root_is = root_is ∙ u.root_is;
+  }
+
+  pub followed : (x w : Option (List Put)) (copy : Option Candidate) (c : Candidate) (f : Followed) → copy ≡ Some c →
+      f.size ≡ c.size.0 → f.root ≡ c.root → HadSize digest origin x f.old → Known x w copy → IsFollowed digest origin x w f
+  followed x w copy c f is size_is root_is had k =
+      let k' = subst (λ o. Known x w o) is k in
+      record {
+        had = had;
+        some = λ held e note entries h.
+            end_weaker w (Under c entries) (HasCopy digest origin f.size f.root entries)
+            (λ now u. has_copy c f.size f.root entries now size_is root_is u) (k'.some held e note entries h);
+        none = λ held e none.
+            end_weaker w (Under c []) (HasCopy digest origin f.size f.root [])
+            (λ now u. has_copy c f.size f.root [] now size_is root_is u) (k'.none held e none);
+      }
+
+same_head_of : (origin : List ℕ) (c d : Candidate) → IsSame c d → IsHeadOf origin c → IsHeadOf origin d
+same_head_of origin c d s head =
+    subst (λ note. IsHead note origin d.size.0 d.root) (sym s.note_is)
+    (subst (λ size. IsHead (note_of c) origin size d.root) (sym s.size_is)
+    (subst (λ root. IsHead (note_of c) origin c.size.0 root) (sym s.root_is) head))
+
+-- the copy that the run knows after a turn is a checkpoint of the origin
+head_now : (origin : List ℕ) (c : Candidate) (copy : Option Candidate) → IsHeadOf origin c → IsCopyNow c copy →
+    IfSome copy (IsHeadOf origin)
+head_now origin c copy head n =
+    subst (λ o. IfSome o (IsHeadOf origin)) (sym n.is) (same_head_of origin c n.now n.same head)
+
+pub head_after : (origin : List ℕ) (c : Candidate) (old new : Option Candidate) (t : Turn) → IsHeadOf origin c →
+    KnowsAfter c t old new → IfSome old (IsHeadOf origin) → IfSome new (IsHeadOf origin)
+head_after origin c old new turn.Agrees head e h = subst (λ o. IfSome o (IsHeadOf origin)) (sym e) h
+head_after origin c old new turn.Brought head n h = head_now origin c new head n
+head_after origin c old new (turn.Forks proof) head e h = subst (λ o. IfSome o (IsHeadOf origin)) (sym e) h
+head_after origin c old new turn.Contradicts head e h = subst (λ o. IfSome o (IsHeadOf origin)) (sym e) h
+head_after origin c old new (turn.NotHad fault) head e h = subst (λ o. IfSome o (IsHeadOf origin)) (sym e) h
+
+-- a call that puts nothing, and that brings the copy to nothing
+pub after_same : (digest : List ℕ → List ℕ) (origin : List ℕ) (c : Candidate) (x y : Option (List Put)) {E : Type 0}
+    (r : Result Turn E) → KeepsTold x y →
+    IfOk r (λ t. (digest : List ℕ → List ℕ) (origin : List ℕ) (old new : Option (List Put)) →
+    CopyStays digest origin old new → StandsAfter digest origin c old new t) →
+    IfOk r (λ t. StandsAfter digest origin c x y t)
+after_same digest origin c x y (Ok t) kept h = h digest origin x y (stays_same digest origin x y kept)
+after_same digest origin c x y (Err e) kept h = tt
+
+-- what a report answers
+pub followed_by : (digest : List ℕ → List ℕ) (origin : List ℕ) (x w : Option (List Put)) (copy : Option Candidate) (had : ℕ)
+    {E : Type 0} (r : Result Followed E) →
+    IfOk r (λ f. (c : Candidate) × (copy ≡ Some c) × (f.size ≡ c.size.0) × (f.root ≡ c.root)) →
+    IfOk r (λ f. f.old ≡ had) → HadSize digest origin x had → IsCopyOfRun digest origin x w copy →
+    IfOk r (IsFollowed digest origin x w)
+followed_by digest origin x w copy had (Err e) is old h k = tt
+followed_by digest origin x w copy had (Ok f) is old h k =
+    followed digest origin x w copy is.0 f is.1 is.2 is.3 (subst (λ n. HadSize digest origin x n) (sym old) h) k

@@ -1,0 +1,102 @@
+-- A run of turns, turn by turn.
+use Rattle.std.proofs.Common.{◌≡◌, ◌≢◌, ◌⊎◌, inl, inr, ℕ, List, Option, Some, None, IfErr, IfSome, Result, Ok, Err, ap, refl, sym, subst, ◌∙◌}
+use Rattle.mirror_folders.specs.Shelf.{Put}
+use Rattle.mirror_follow.specs.Blame.{CountsFollow, CountsFollowFault, IsOfTheRun}
+use Rattle.mirror_follow.specs.Standing.{IsCopyOfRun, IsHeadOf, KnowsAfter, StandsAfter, size_of_copy}
+use Rattle.mirror_follow.specs.Turning.{ContinuesRun, IsRunFrom}
+use Rattle.mirror_follow.specs.declared.candidate.Candidate.{Candidate}
+use Rattle.mirror_follow.specs.declared.fault.FollowFault.{FollowFault}
+use Rattle.mirror_follow.specs.declared.fault.FollowFault.TheVariants.{Source, ShelfFault}
+use Rattle.mirror_follow.specs.declared.fault.FollowFault.TheVariants as fault
+use Rattle.mirror_follow.specs.declared.report.Run.{Run}
+use Rattle.mirror_follow.specs.declared.report.Turn.{Turn}
+use Rattle.mirror_follow.specs.declared.report.Turn.TheVariants as turn
+use Rattle.mirror_follow.proofs.Standing.{head_after, known_after}
+
+module _ (digest : List ℕ → List ℕ) (origin : List ℕ) where
+  -- the run before its first turn
+  pub run_first : (x : Option (List Put)) (copy : Option Candidate) (run : Run) → run.copy ≡ copy →
+      IfSome copy (IsHeadOf origin) → run.had ≡ size_of_copy copy → run.first_fault ≡ None →
+      IsRunFrom digest origin x x copy run
+  run_first x copy run is head had_is none = record {
+    known = λ first k. subst (λ o. IsCopyOfRun digest origin first x o) (sym is) k;
+    head = subst (λ o. IfSome o (IsHeadOf origin)) (sym is) head;
+    had_is = had_is;
+    shelf = λ e. cc (none, e);
+  }
+
+  -- a candidate that has no turn
+  pub run_same : (x : Option (List Put)) (run : Run) → ContinuesRun digest origin x x run run
+  run_same x run = record { known = λ first k. k; head = λ h. h; had_is = refl; shelf = λ e. e }
+
+  -- one turn of a candidate
+  pub run_turned : (x y : Option (List Put)) (candidate : Candidate) (run next : Run) (t : Turn) →
+      IsHeadOf origin candidate → StandsAfter digest origin candidate x y t →
+      KnowsAfter candidate t run.copy next.copy → next.had ≡ run.had →
+      (next.first_fault ≡ Some ShelfFault → (run.first_fault ≡ Some ShelfFault) ⊎ (t ≡ turn.NotHad ShelfFault)) →
+      (t ≢ turn.NotHad ShelfFault) → ContinuesRun digest origin x y run next
+  run_turned x y candidate run next t head stands knows had_is shelf never = record {
+    known = λ first k. known_after digest origin candidate first x y run.copy next.copy t head k stands knows;
+    head = λ h. head_after origin candidate run.copy next.copy t head knows h;
+    had_is = had_is;
+    shelf = λ e. elim (shelf e) [
+      | inl earlier ↦ earlier
+      | inr now ↦ absurd (never now)
+    ];
+  }
+
+  -- one more turn
+  pub run_then : (x y z : Option (List Put)) (copy : Option Candidate) (run next : Run) →
+      IsRunFrom digest origin x y copy run → ContinuesRun digest origin y z run next →
+      IsRunFrom digest origin x z copy next
+  run_then x y z copy run next r n = record {
+    known = λ first k. n.known first (r.known first k);
+    head = n.head r.head;
+    had_is = n.had_is ∙ r.had_is;
+    shelf = λ e. r.shelf (n.shelf e);
+  }
+
+-- ---- faults
+
+-- a fault that is not the shelf's
+pub counts_other : (n : ℕ) (e : FollowFault) → e ≢ ShelfFault → CountsFollowFault n n e
+counts_other n fault.NoCheckpoint other = refl
+counts_other n (fault.Head f) other = refl
+counts_other n fault.CopyDamaged other = refl
+counts_other n fault.CopyInUse other = refl
+counts_other n fault.ShelfFault other = absurd (other refl)
+counts_other n fault.Contradiction other = refl
+counts_other n fault.Collision other = refl
+counts_other n fault.NoFile other = refl
+counts_other n fault.Source other = refl
+counts_other n fault.OutOfMemory other = refl
+
+pub of_the_run : (n : ℕ) (e : FollowFault) → IsOfTheRun e → CountsFollowFault n n e
+of_the_run n e is = counts_other n e (λ same. subst IsOfTheRun same is)
+
+pub no_source : (e : FollowFault) → IsOfTheRun e → e ≢ Source
+no_source e is same = subst IsOfTheRun same is
+
+pub no_shelf : (e : FollowFault) → IsOfTheRun e → e ≢ ShelfFault
+no_shelf e is same = subst IsOfTheRun same is
+
+-- what a report ends by
+abbrev Reported : Run → FollowFault → Type 0
+Reported run e = (e ≡ fault.NoCheckpoint) ⊎ ((e ≡ fault.OutOfMemory) ⊎ (run.first_fault ≡ Some e))
+
+pub reported_counts : (n : ℕ) (run : Run) (e : FollowFault) → run.first_fault ≢ Some ShelfFault → Reported run e →
+    CountsFollowFault n n e
+reported_counts n run e never r = counts_other n e (λ is. elim r [
+  | inl none ↦ absurd (cc (none, is))
+  | inr (inl memory) ↦ absurd (cc (memory, is))
+  | inr (inr first) ↦ never (first ∙ ap Some is)
+])
+
+pub counts_same : (n m : ℕ) (e : FollowFault) → m ≡ n → e ≢ ShelfFault → CountsFollowFault n m e
+counts_same n m e same other = subst (λ k. CountsFollowFault n k e) (sym same) (counts_other n e other)
+
+pub report_counts : (n m : ℕ) (run : Run) {T : Type 0} (r : Result T FollowFault) → m ≡ n →
+    run.first_fault ≢ Some ShelfFault → IfErr r (λ e. Reported run e) → CountsFollow n m r
+report_counts n m run (Ok x) same never h = same
+report_counts n m run (Err e) same never h =
+    subst (λ k. CountsFollowFault n k e) (sym same) (reported_counts n run e never h)

@@ -1,0 +1,84 @@
+-- Whose the faults of a run are.
+use Rattle.std.specs.Prelude.{◌≡◌, ◌≢◌, ◌⊎◌, ℕ, ◌<◌, ◌≤◌, List, get_or, length, Option, Some, None, Result, Ok, Err, ⊤}
+use Rattle.tlog_tiles.specs.declared.paths.Path.{Path}
+use Rattle.tlog_tiles.specs.declared.paths.Path.TheVariants.{Checkpoint}
+use Rattle.mirror_sources.specs.Told.{one_more}
+use Rattle.mirror_folders.specs.declared.shelf.ShelfError.{ShelfError}
+use Rattle.mirror_folders.specs.declared.shelf.ShelfError.TheVariants as shelf
+use Rattle.mirror_copy.specs.PlaceGets.{AsksEach}
+use Rattle.mirror_copy.specs.declared.place.Place.{Place}
+use Rattle.mirror_copy.specs.declared.places.Places.{Places}
+use Rattle.mirror_follow.specs.declared.fault.CandidateFault.{CandidateFault}
+use Rattle.mirror_follow.specs.declared.fault.CandidateFault.TheVariants as candidate
+use Rattle.mirror_follow.specs.declared.fault.FollowFault.{FollowFault}
+use Rattle.mirror_follow.specs.declared.fault.FollowFault.TheVariants.{NoCheckpoint, Head, CopyDamaged, CopyInUse}
+use Rattle.mirror_follow.specs.declared.fault.FollowFault.TheVariants.{ShelfFault, Contradiction, Collision, NoFile}
+use Rattle.mirror_follow.specs.declared.fault.FollowFault.TheVariants.{Source, OutOfMemory}
+
+-- the fault of a run that a shelf's is
+abbrev pub by_shelf : ShelfError → FollowFault
+by_shelf shelf.Failed = ShelfFault
+by_shelf shelf.OutOfMemory = OutOfMemory
+
+-- the fault of a run that ends since there is no candidate
+abbrev pub of_candidates : CandidateFault → FollowFault
+of_candidates candidate.NoCheckpoint = NoCheckpoint
+of_candidates (candidate.Head fault) = Head fault
+of_candidates candidate.Source = Source
+of_candidates candidate.OutOfMemory = OutOfMemory
+
+-- how a shelf's count of failures goes from the one number to the other by a fault: it rises by a ShelfFault, and by
+-- no other
+abbrev pub CountsFollowFault : ℕ → ℕ → FollowFault → Type 0
+CountsFollowFault old new NoCheckpoint = new ≡ old
+CountsFollowFault old new (Head fault) = new ≡ old
+CountsFollowFault old new CopyDamaged = new ≡ old
+CountsFollowFault old new CopyInUse = new ≡ old
+CountsFollowFault old new ShelfFault = new ≡ one_more old
+CountsFollowFault old new Contradiction = new ≡ old
+CountsFollowFault old new Collision = new ≡ old
+CountsFollowFault old new NoFile = new ≡ old
+CountsFollowFault old new Source = new ≡ old
+CountsFollowFault old new OutOfMemory = new ≡ old
+
+-- the same of an answer
+abbrev pub CountsFollow : {T : Type 0} → ℕ → ℕ → Result T FollowFault → Type 0
+CountsFollow old new (Ok x) = new ≡ old
+CountsFollow old new (Err e) = CountsFollowFault old new e
+
+-- the fault is neither that of a place nor that of the shelf
+abbrev pub IsOfTheRun : FollowFault → Type 0
+IsOfTheRun NoCheckpoint = ⊤
+IsOfTheRun (Head fault) = ⊤
+IsOfTheRun CopyDamaged = ⊤
+IsOfTheRun CopyInUse = ⊤
+IsOfTheRun ShelfFault = ⊥
+IsOfTheRun Contradiction = ⊤
+IsOfTheRun Collision = ⊤
+IsOfTheRun NoFile = ⊤
+IsOfTheRun Source = ⊥
+IsOfTheRun OutOfMemory = ⊤
+
+-- a place failed, or it was given up before since it had failed 8 times
+pub record PlaceFails {S : Type 0} (old new : Places S) : Type 0 where
+  pub index : ℕ
+  pub none : Place S
+  pub failed : ((get_or old.list.items index none).failures < (get_or new.list.items index none).failures)
+      ⊎ (8 ≤ (get_or old.list.items index none).failures)
+
+module _ {S : Type 0} (may : S → Path → Option (List ℕ) → Type 0) where
+  -- a place may give the note for its checkpoint
+  pub record MayGive (places : Places S) (note : List ℕ) : Type 0 where
+    pub index : ℕ
+    pub listed : index < length places.list.items
+    pub gives : (none : Place S) → may (get_or places.list.items index none).source Checkpoint (Some note)
+
+  -- the note is the one that was given, or where none was, one that a place may give
+  abbrev pub IsGivenOrMayGive : Option (List ℕ) → Places S → List ℕ → Type 0
+  IsGivenOrMayGive None places note = MayGive places note
+  IsGivenOrMayGive (Some given) places note = note ≡ given
+
+-- places are asked for files, whatever these are
+abbrev pub AsksAny : {S : Type 0} → (S → Path → Option (List ℕ) → Type 0) → (S → ℕ) → (S → Option (List Path)) →
+    Places S → Places S → Type 0
+AsksAny may failed asked old new = AsksEach may failed asked (λ path. ⊤) old new

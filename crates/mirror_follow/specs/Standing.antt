@@ -1,0 +1,91 @@
+-- The copy of a run: what stands on the shelf while candidates have their turn, and in the end.
+use Rattle.std.specs.Prelude.{◌≡◌, ℕ, List, [], ◌++◌, length, Option, Some, None}
+use Rattle.tlog_hash.specs.Tree.{mth}
+use Rattle.tlog_tiles.specs.declared.paths.Path.TheVariants.{Checkpoint}
+use Rattle.mirror_folders.specs.Shelf.{Put, HasPut}
+use Rattle.mirror_model.specs.Heads.{IsHead}
+use Rattle.mirror_copy.specs.Copies.{IsCopy}
+use Rattle.mirror_copy.specs.Moments.{CopyStays, HadSize, InTheEnd, IsBroughtTo}
+use Rattle.mirror_follow.specs.Gathering.{note_of}
+use Rattle.mirror_follow.specs.declared.candidate.Candidate.{Candidate}
+use Rattle.mirror_follow.specs.declared.report.Followed.{Followed}
+use Rattle.mirror_follow.specs.declared.report.Turn.{Turn}
+use Rattle.mirror_follow.specs.declared.report.Turn.TheVariants as turn
+
+-- the note is one whose text is a checkpoint of the origin, of that size and root
+abbrev pub IsHeadOf : List ℕ → Candidate → Type 0
+IsHeadOf origin candidate = IsHead (note_of candidate) origin candidate.size.0 candidate.root
+
+-- how many entries a copy has, if there is one
+abbrev pub size_of_copy : Option Candidate → ℕ
+size_of_copy None = 0
+size_of_copy (Some copy) = copy.size.0
+
+module _ (digest : List ℕ → List ℕ) (origin : List ℕ) where
+  -- a copy stands under the note of the candidate, of entries that begin with those, with its size and root
+  pub record StandsUnder (candidate : Candidate) (entries : List (List ℕ)) (puts : List Put) : Type 0 where
+    pub more : List (List ℕ)
+    pub copy : IsCopy digest origin (note_of candidate) (entries ++ more) puts
+    pub size_is : candidate.size.0 ≡ length (entries ++ more)
+    pub root_is : candidate.root ≡ mth digest (entries ++ more)
+
+  -- a copy stands in the end as the run knows it
+  abbrev pub StandsAs : Option Candidate → List (List ℕ) → Option (List Put) → Type 0
+  StandsAs None entries new = ⊥
+  StandsAs (Some copy) entries new = InTheEnd new (StandsUnder copy entries)
+
+  -- in the end no checkpoint stands, or a copy as the run knows it
+  abbrev pub StandsOrNone : Option Candidate → Option (List Put) → Type 0
+  StandsOrNone None new = InTheEnd new (λ now. ¬ HasPut now Checkpoint)
+  StandsOrNone (Some copy) new = InTheEnd new (StandsUnder copy [])
+
+  -- the copy that the run knows is the one that stands: that which stood before, or one grown from it
+  pub record IsCopyOfRun (old new : Option (List Put)) (copy : Option Candidate) : Type 0 where
+    pub some : (held : List Put) → old ≡ Some held → (note : List ℕ) (entries : List (List ℕ)) →
+        IsCopy digest origin note entries held → StandsAs copy entries new
+    pub none : (held : List Put) → old ≡ Some held → ¬ HasPut held Checkpoint → StandsOrNone copy new
+
+  -- what stands after a turn of a candidate: where the copy was brought, one under its note, and else that which stood
+  abbrev pub StandsAfter : Candidate → Option (List Put) → Option (List Put) → Turn → Type 0
+  StandsAfter candidate old new turn.Agrees = CopyStays digest origin old new
+  StandsAfter candidate old new turn.Brought = IsBroughtTo digest origin (note_of candidate) old new
+  StandsAfter candidate old new (turn.Forks proof) = CopyStays digest origin old new
+  StandsAfter candidate old new turn.Contradicts = CopyStays digest origin old new
+  StandsAfter candidate old new (turn.NotHad fault) = CopyStays digest origin old new
+
+  -- a copy of that size and root stands, of entries that begin with those
+  pub record HasCopy (size : ℕ) (root : List ℕ) (entries : List (List ℕ)) (puts : List Put) : Type 0 where
+    pub note : List ℕ
+    pub more : List (List ℕ)
+    pub copy : IsCopy digest origin note (entries ++ more) puts
+    pub size_is : size ≡ length (entries ++ more)
+    pub root_is : root ≡ mth digest (entries ++ more)
+
+  -- in the end a copy of the size and root of the answer stands: the one that stood before, or one grown from it; and
+  -- the answer says how many entries it had before
+  pub record IsFollowed (old new : Option (List Put)) (followed : Followed) : Type 0 where
+    pub had : HadSize digest origin old followed.old
+    pub some : (held : List Put) → old ≡ Some held → (note : List ℕ) (entries : List (List ℕ)) →
+        IsCopy digest origin note entries held → InTheEnd new (HasCopy followed.size followed.root entries)
+    pub none : (held : List Put) → old ≡ Some held → ¬ HasPut held Checkpoint →
+        InTheEnd new (HasCopy followed.size followed.root [])
+
+-- two candidates with the same note, size and root
+pub record IsSame (first second : Candidate) : Type 0 where
+  pub size_is : second.size.0 ≡ first.size.0
+  pub root_is : second.root ≡ first.root
+  pub note_is : note_of second ≡ note_of first
+
+-- the copy is that candidate
+pub record IsCopyNow (candidate : Candidate) (copy : Option Candidate) : Type 0 where
+  pub now : Candidate
+  pub is : copy ≡ Some now
+  pub same : IsSame candidate now
+
+-- the copy that the run knows after a turn of a candidate
+abbrev pub KnowsAfter : Candidate → Turn → Option Candidate → Option Candidate → Type 0
+KnowsAfter candidate turn.Agrees old new = new ≡ old
+KnowsAfter candidate turn.Brought old new = IsCopyNow candidate new
+KnowsAfter candidate (turn.Forks proof) old new = new ≡ old
+KnowsAfter candidate turn.Contradicts old new = new ≡ old
+KnowsAfter candidate (turn.NotHad fault) old new = new ≡ old

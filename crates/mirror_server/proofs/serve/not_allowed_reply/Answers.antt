@@ -1,6 +1,0 @@
-use Rattle.std.proofs.Common.{◌∙◌}
-use Rattle.mirror_server.proofs.Statuses.{not_allowed_is}
-use Rattle.mirror_server.proofs.serve.not_allowed_reply.Goals as goal
-
-pub returns : goal.returns
-returns c = c.in_ok-empty_reply.ensures ∙ not_allowed_is

@@ -1,0 +1,118 @@
+//! The bytes of replies.
+ghost use Rattle.std.specs.Prelude.{◌≡◌, IfOk, string_bytes};
+ghost use Rattle.std.specs.Option.{option_map};
+ghost use Rattle.mirror_server.specs.Answered.{empty_text, head_of_reply, reply_with};
+ghost use Rattle.mirror_server.specs.Response.{bad_request, found, not_allowed, not_found, server_error};
+
+use crate::body::kind_of;
+use crate::request::Request;
+use crate::resource::Resource;
+use http::StatusCode;
+use std::alloc::{AllocError, Global};
+
+// The head of a reply of that status, with a body of that kind and length.
+fn head_text(
+    alloc: Global,
+    status: StatusCode,
+    kind: &str,
+    len: usize,
+) -> Result<String, AllocError>
+    ensures { IfOk result (λ text. string_bytes text ≡ head_of_reply status kind.now len) }
+{
+    format!(in alloc;
+        "HTTP/1.1 {status}\r\nContent-Type: {kind}\r\nContent-Length: {len}\r\nConnection: close\r\n\r\n"
+    )
+}
+
+// A reply with that body.
+fn found_reply(alloc: Global, kind: &str, body: &[u8]) -> Result<Vec<u8>, AllocError>
+    ensures { IfOk result (λ reply. reply.items ≡ found kind.now body.now) }
+{
+    let head = head_text(alloc, StatusCode::OK, kind, body.len())?;
+    let mut reply = head.into_bytes();
+    reply.extend_from_slice(body)?;
+    Ok(reply)
+}
+
+// A reply of that status and these field lines, without a body.
+fn empty_reply(alloc: Global, status: StatusCode, fields: &str) -> Result<Vec<u8>, AllocError>
+    ensures { IfOk result (λ reply. reply.items ≡ empty_text status fields.now) }
+{
+    let text = format!(in alloc;
+        "HTTP/1.1 {status}\r\n{fields}Content-Length: 0\r\nConnection: close\r\n\r\n"
+    )?;
+    Ok(text.into_bytes())
+}
+
+// The reply to what holds no request.
+fn bad_request_reply(alloc: Global) -> Result<Vec<u8>, AllocError>
+    ensures { IfOk result (λ reply. reply.items ≡ bad_request) }
+{
+    Ok(empty_reply(alloc, StatusCode::BAD_REQUEST, "")?)
+}
+
+// The reply to a request for what is not served.
+fn not_found_reply(alloc: Global) -> Result<Vec<u8>, AllocError>
+    ensures { IfOk result (λ reply. reply.items ≡ not_found) }
+{
+    Ok(empty_reply(alloc, StatusCode::NOT_FOUND, "")?)
+}
+
+// The reply to a request that asks for something else than a file as it is.
+fn not_allowed_reply(alloc: Global) -> Result<Vec<u8>, AllocError>
+    ensures { IfOk result (λ reply. reply.items ≡ not_allowed) }
+{
+    Ok(empty_reply(alloc, StatusCode::METHOD_NOT_ALLOWED, "Allow: GET\r\n")?)
+}
+
+/// The reply where what is asked for cannot be had, by the server's own fault (RFC 9110, section 15.6.1).
+///
+/// # Errors
+///
+/// Memory was refused.
+pub fn server_error_reply(alloc: Global) -> Result<Vec<u8>, AllocError>
+    ensures { IfOk result (λ reply. reply.items ≡ server_error) }
+{
+    Ok(empty_reply(alloc, StatusCode::INTERNAL_SERVER_ERROR, "")?)
+}
+
+// The reply to a request for a resource, which has those bytes, or is not served.
+fn resource_reply(
+    alloc: Global,
+    resource: &Resource,
+    body: &Option<Vec<u8>>,
+) -> Result<Vec<u8>, AllocError>
+    ensures { IfOk result (λ reply. reply.items ≡ reply_with (Request.Get resource.now)
+        (option_map (λ bytes. bytes.items) body.now)) }
+{
+    match body {
+        Some(bytes) => Ok(found_reply(alloc, kind_of(resource), bytes)?),
+        None => Ok(not_found_reply(alloc)?),
+    }
+}
+
+/// The reply to what a client asks for. Where that is a resource its bytes are given, and None where it is not served.
+///
+/// ```text
+/// reply_to(alloc, &Request::OtherMethod, &None)?   // HTTP/1.1 405 Method Not Allowed ..
+/// ```
+///
+/// # Errors
+///
+/// Memory was refused.
+pub fn reply_to(
+    alloc: Global,
+    request: &Request,
+    body: &Option<Vec<u8>>,
+) -> Result<Vec<u8>, AllocError>
+    ensures { IfOk result (λ reply. reply.items ≡ reply_with request.now
+        (option_map (λ bytes. bytes.items) body.now)) }
+{
+    match request {
+        Request::Nothing => Ok(Vec::new(alloc)),
+        Request::Unreadable => Ok(bad_request_reply(alloc)?),
+        Request::OtherMethod => Ok(not_allowed_reply(alloc)?),
+        Request::Unknown => Ok(not_found_reply(alloc)?),
+        Request::Get(resource) => Ok(resource_reply(alloc, resource, body)?),
+    }
+}

@@ -1,0 +1,34 @@
+-- What a copy answers is what a mirror with its checkpoint does.
+use Rattle.std.proofs.Common.{◌≡◌, ℕ, ◌<◌, List, length, Err, refl, arith}
+use Rattle.std.proofs.lemmas.Bool.{lt-ltb, le-ltb, le-leb, eq-eqb, ne_eqb}
+use Rattle.tlog_proof.specs.declared.make.ProofFault.{ProofFault}
+use Rattle.tlog_proof.specs.declared.make.ProofFault.TheVariants.{NoSuchSize, NoSuchIndex, FirstIsZero, Backwards, OutOfMemory}
+use Rattle.tlog_proof.specs.declared.proof.Ask.TheVariants.{Inclusion, Consistency}
+use Rattle.program_copies.specs.Laws.{RefusesAsMirror, TellsAsMirror}
+
+positive_is_not : (m : ℕ) → 0 < m → m ≡ 0 → ⊥
+positive_is_not m some none = omega (arith, some, none)
+
+pub refuses_as_mirror : RefusesAsMirror
+refuses_as_mirror digest es (Inclusion n i) NoSuchSize h = rw (lt-ltb (length es) n h)
+refuses_as_mirror digest es (Inclusion n i) NoSuchIndex h =
+    rw (le-ltb (length es) n h.0) (rw (le-leb n i h.1))
+refuses_as_mirror digest es (Inclusion n i) FirstIsZero h = absurd h
+refuses_as_mirror digest es (Inclusion n i) Backwards h = absurd h
+refuses_as_mirror digest es (Inclusion n i) OutOfMemory h = absurd h
+refuses_as_mirror digest es (Consistency m n) NoSuchSize h = rw (lt-ltb (length es) n h)
+refuses_as_mirror digest es (Consistency m n) NoSuchIndex h = absurd h
+refuses_as_mirror digest es (Consistency m n) FirstIsZero h =
+    rw (le-ltb (length es) n h.0) (rw (eq-eqb m 0 h.1))
+refuses_as_mirror digest es (Consistency m n) Backwards h =
+    rw (le-ltb (length es) n h.0) (rw (ne_eqb m 0 (positive_is_not m h.1)) (rw (lt-ltb n m h.2)))
+refuses_as_mirror digest es (Consistency m n) OutOfMemory h = absurd h
+
+pub tells_as_mirror : TellsAsMirror
+tells_as_mirror digest v point heads served = record {
+  heads = _;
+  served = point;
+  are_heads = heads;
+  is_served = served;
+  is = refl;
+}

@@ -1,0 +1,24 @@
+use Rattle.std.proofs.Common.{map}
+use Rattle.std.specs.Prelude.{option_map}
+use Rattle.program_copies.proofs.Given.{given_fault, given_counts}
+use Rattle.program_copies.proofs.Reading.{opened_checkpoint}
+use Rattle.program_copies.proofs.compare.told_compared.Goals as goal
+
+pub returns-in-Err-given_heads-clause-answer : goal.returns-in-Err-given_heads-clause-answer
+returns-in-Err-given_heads-clause-answer g c =
+    given_fault _ _ _ _ g.H.TreeHash.digest (g.D.NamedFolders.held c.args.folders.now c.args.folder.now)
+    c.in-Err-given_heads.fault c.in-Err-given_heads.ensures
+
+pub returns-in-Err-given_heads-clause-counted : goal.returns-in-Err-given_heads-clause-counted
+returns-in-Err-given_heads-clause-counted g c =
+    given_counts _ _ _ _ _ _ c.in-Err-given_heads.fault c.in-Err-given_heads.ensures c.in-Ok.ensures.counted
+
+pub returns-in-Ok-compare_report-clause-answer : goal.returns-in-Ok-compare_report-clause-answer
+returns-in-Ok-compare_report-clause-answer g c = record {
+  size = c.in-Some.reader.edge.size;
+  root = c.in-Some.reader.root;
+  checkpoint = opened_checkpoint _ _ _ c.in-Ok.opened c.in-Some.reader c.in-Ok.ensures.answer c.in-Some.is;
+  given = option_map (λ v. v.items) c.in-Ok-given_heads.given;
+  gives = c.in-Ok-given_heads.ensures;
+  is = c.in-Ok-compare_report.ensures.report;
+}

@@ -1,0 +1,88 @@
+-- What `compare` reports of a copy.
+use Rattle.std.specs.Prelude.{◌≡◌, ◌≢◌, ℕ, ◌<◌, ◌≤◌, List, [], ◌∷◌, All, map, Option, Some, None, Result, Ok, Err, ⊤}
+use Rattle.signed_note.specs.Keys.{Key}
+use Rattle.mirror_folders.specs.Shelf.{Put}
+use Rattle.mirror_trees.specs.Marked.{point_of}
+use Rattle.tlog_mirror.specs.Compared.{compared_point, compared_text}
+use Rattle.tlog_mirror.specs.declared.compare.Compared.{Compared}
+use Rattle.tlog_mirror.specs.declared.compare.Compared.TheVariants.{Same, Fork, Larger}
+use Rattle.mirror_model.specs.Origin.{IsOrigin}
+use Rattle.program_files.specs.Named.{NamedFile}
+use Rattle.program_commands.specs.HeadFiles.{ReadsHeads}
+use Rattle.program_reports.specs.Comparisons.{compare_status}
+use Rattle.program_reports.specs.Reports.{printed}
+use Rattle.program_reports.specs.declared.reports.Report.{Report as Printout}
+use Rattle.program_reports.specs.declared.fault.AskFault.TheVariants.{Report, WriteFault}
+use Rattle.program_reports.specs.declared.fault.ReportFault.TheVariants.{NothingComplete, NoSuchHead}
+use Rattle.program_reports.specs.declared.fault.ReportFault.TheVariants.{Proof as Refused, OutOfMemory}
+use Rattle.program_copies.specs.Copies.{HasCheckpoint, IsEmptyCopy, IsRefused}
+use Rattle.program_copies.specs.Shown.{IsRootOf}
+use Rattle.program_copies.specs.declared.fault.CopyFault.{CopyFault}
+use Rattle.program_copies.specs.declared.fault.CopyFault.TheVariants.{Origin, Head, CopyDamaged, ShelfFault}
+use Rattle.program_copies.specs.declared.fault.CopyFault.TheVariants.{OutOfMemory as NoMemory}
+use Rattle.program_copies.specs.declared.fault.CopyAskFault.{CopyAskFault}
+use Rattle.program_copies.specs.declared.fault.CopyAskFault.TheVariants as asking
+
+module _ (digest : List ℕ → List ℕ) (size : ℕ) (root : List ℕ) where
+  -- what is said of a head is so of the log of that size and root: the root of as many of its entries is the head's, or another,
+  -- which is told, or it has fewer
+  abbrev pub IsComparedTo : Compared → Type 0
+  IsComparedTo (Same n r) = (n ≤ size) × IsRootOf digest size root n r
+  IsComparedTo (Fork n r own) = (n ≤ size) × IsRootOf digest size root n own × (own ≢ r)
+  IsComparedTo (Larger n r) = size < n
+
+  -- the heads, one for one, are compared so
+  pub record AreCompared (heads : List (ℕ × List ℕ)) (compared : List Compared) : Type 0 where
+    pub heads_are : map compared_point compared ≡ map point_of heads
+    pub each : All IsComparedTo compared
+
+-- the heads that are compared: those that are given, or else the copy's own
+abbrev pub heads_of : Option (List (ℕ × List ℕ)) → ℕ → List ℕ → List (ℕ × List ℕ)
+heads_of None size root = (size, root) ∷ []
+heads_of (Some heads) size root = heads
+
+module _ (digest : List ℕ → List ℕ) (size : ℕ) (root : List ℕ) (given : Option (List (ℕ × List ℕ))) where
+  -- the report on the heads that are given
+  pub record IsComparisonOf (report : Printout) : Type 0 where
+    pub compared : List Compared
+    pub are : AreCompared digest size root (heads_of given size root) compared
+    pub text : printed report ≡ compared_text compared
+    pub status : report.status ≡ compare_status compared
+
+-- why no mirror of the origin is made, to which the files' checkpoints would belong
+abbrev pub IsNoMirror : List ℕ → CopyFault → Type 0
+IsNoMirror origin (Origin fault) = ¬ IsOrigin origin
+IsNoMirror origin (Head fault) = ⊥
+IsNoMirror origin (CopyDamaged path) = ⊥
+IsNoMirror origin ShelfFault = ⊥
+IsNoMirror origin NoMemory = ⊤
+
+module _ (origin : List ℕ) (keys : List Key) (files : Option (List NamedFile)) (names : List (List ℕ)) where
+  -- the heads that are given: those of the files, and none where no file is named
+  abbrev pub GivesHeads : Result (Option (List (ℕ × List ℕ))) CopyAskFault → Type 0
+  GivesHeads (Ok None) = names ≡ []
+  GivesHeads (Ok (Some heads)) = (names ≢ []) × ReadsHeads origin keys files names (Ok heads)
+  GivesHeads (Err (asking.Copy fault)) = IsNoMirror origin fault
+  GivesHeads (Err (asking.Heads fault)) = ReadsHeads origin keys files names (Err fault)
+  GivesHeads (Err (asking.Ask fault)) = ⊥
+
+  module _ (digest : List ℕ → List ℕ) (held : Option (List Put)) where
+    -- the report on the heads that are given, compared with the log of the copy's checkpoint
+    pub record TellsCompared (report : Printout) : Type 0 where
+      pub size : ℕ
+      pub root : List ℕ
+      pub checkpoint : HasCheckpoint origin keys held size root
+      pub given : Option (List (ℕ × List ℕ))
+      pub gives : GivesHeads (Ok given)
+      pub is : IsComparisonOf digest size root given report
+
+    -- what each answer of the reporter says
+    abbrev pub ReportsCompared : Result Printout CopyAskFault → Type 0
+    ReportsCompared (Ok report) = TellsCompared report
+    ReportsCompared (Err (asking.Copy fault)) = IsRefused origin keys held fault
+    ReportsCompared (Err (asking.Heads fault)) = ReadsHeads origin keys files names (Err fault)
+    ReportsCompared (Err (asking.Ask (Report NothingComplete))) = IsEmptyCopy origin keys held
+    ReportsCompared (Err (asking.Ask (Report (Refused fault)))) = ⊥
+    ReportsCompared (Err (asking.Ask (Report NoSuchHead))) = ⊥
+    ReportsCompared (Err (asking.Ask (Report OutOfMemory))) = ⊥
+    ReportsCompared (Err (asking.Ask WriteFault)) = ⊥

@@ -1,0 +1,8 @@
+pub mod Faults
+pub mod Copies
+pub mod Shown
+pub mod Printed
+pub mod Proofs
+pub mod Statuses
+pub mod Comparisons
+pub mod Laws

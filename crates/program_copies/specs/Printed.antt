@@ -1,0 +1,58 @@
+-- What is reported of a copy, and what is printed of the report.
+use Rattle.std.specs.Prelude.{◌≡◌, ◌⊎◌, ℕ, List, Option, Result, Ok, Err, ⊤}
+use Rattle.std.specs.Io.KnownBytes.{Appends, Keeps}
+use Rattle.byte_streams.specs.Streams.{AppendsPrefix}
+use Rattle.program_reports.specs.Reports.{printed}
+use Rattle.program_reports.specs.declared.reports.Report.{Report as Printout}
+use Rattle.program_reports.specs.declared.fault.AskFault.{AskFault}
+use Rattle.program_reports.specs.declared.fault.AskFault.TheVariants.{Report, WriteFault}
+use Rattle.program_copies.specs.Copies.{CountsFault}
+use Rattle.program_copies.specs.declared.fault.CopyAskFault.{CopyAskFault}
+use Rattle.program_copies.specs.declared.fault.CopyAskFault.TheVariants.{Copy, Heads, Ask}
+
+-- the shelf's count of failures rises by one at a ShelfFault, and stays at any other answer
+abbrev pub CountsAsk : {T : Type 0} → ℕ → ℕ → Result T CopyAskFault → Type 0
+CountsAsk old new (Ok x) = new ≡ old
+CountsAsk old new (Err (Copy fault)) = CountsFault old new fault
+CountsAsk old new (Err (Heads fault)) = new ≡ old
+CountsAsk old new (Err (Ask fault)) = new ≡ old
+
+-- the fault is that of a write
+abbrev pub IsWriteFault : CopyAskFault → Type 0
+IsWriteFault (Copy fault) = ⊥
+IsWriteFault (Heads fault) = ⊥
+IsWriteFault (Ask (Report fault)) = ⊥
+IsWriteFault (Ask WriteFault) = ⊤
+
+-- the exit status is one of a command that was done: 0, or 3 for a no
+abbrev pub IsStatus : ℕ → Type 0
+IsStatus status = (status ≡ 0) ⊎ (status ≡ 3)
+
+abbrev pub HasStatus : Printout → Type 0
+HasStatus report = IsStatus report.status
+
+module _ (old new : Option (List ℕ)) (told : Result Printout CopyAskFault) where
+  -- the report was written whole, and the exit status is its own
+  pub record PrintsWhole (status : ℕ) : Type 0 where
+    pub report : Printout
+    pub told_is : told ≡ Ok report
+    pub written : Appends old new (printed report)
+    pub status_is : status ≡ report.status
+
+  -- a prefix of the report was written, as a write that failed leaves it
+  pub record PrintsPrefix : Type 0 where
+    pub report : Printout
+    pub told_is : told ≡ Ok report
+    pub written : AppendsPrefix old new (printed report)
+
+  -- what each answer says of a report, and of what was written: at a fault nothing, or a prefix where a write failed
+  abbrev pub PrintsTold : Result ℕ CopyAskFault → Type 0
+  PrintsTold (Ok status) = PrintsWhole status
+  PrintsTold (Err fault) = ((told ≡ Err fault) × Keeps old new) ⊎ (IsWriteFault fault × PrintsPrefix)
+
+-- what was answered and written is a report of which that is said
+pub record Prints (Reports : Result Printout CopyAskFault → Type 0) (old new : Option (List ℕ))
+    (answer : Result ℕ CopyAskFault) : Type 0 where
+  pub told : Result Printout CopyAskFault
+  pub reports : Reports told
+  pub prints : PrintsTold old new told answer

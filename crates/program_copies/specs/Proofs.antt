@@ -1,0 +1,98 @@
+-- What `prove` reports of a copy.
+use Rattle.std.specs.Prelude.{◌≡◌, ℕ, ◌<◌, ◌≤◌, List, Option, Result, Ok, Err, ⊤}
+use Rattle.signed_note.specs.Keys.{Key}
+use Rattle.tlog_proof.specs.Made.{Holds}
+use Rattle.tlog_proof.specs.Text.{IsProofText}
+use Rattle.tlog_proof.specs.declared.make.ProofFault.{ProofFault}
+use Rattle.tlog_proof.specs.declared.make.ProofFault.TheVariants as proving
+use Rattle.tlog_proof.specs.declared.proof.Ask.{Ask}
+use Rattle.tlog_proof.specs.declared.proof.Ask.TheVariants.{Inclusion as AskInclusion}
+use Rattle.tlog_proof.specs.declared.proof.Ask.TheVariants.{Consistency as AskConsistency}
+use Rattle.tlog_proof.specs.declared.proof.Proof.{Proof}
+use Rattle.tlog_proof.specs.declared.proof.Proof.TheVariants.{Inclusion, Consistency}
+use Rattle.mirror_folders.specs.Shelf.{Put}
+use Rattle.program_reports.specs.Reports.{printed}
+use Rattle.program_reports.specs.declared.reports.Report.{Report as Printout}
+use Rattle.program_reports.specs.declared.fault.AskFault.TheVariants.{Report, WriteFault}
+use Rattle.program_reports.specs.declared.fault.ReportFault.TheVariants.{NothingComplete, NoSuchHead}
+use Rattle.program_reports.specs.declared.fault.ReportFault.TheVariants.{Proof as Refused, OutOfMemory}
+use Rattle.program_copies.specs.Copies.{HasCheckpoint, IsEmptyCopy, IsReadFault, IsRefused}
+use Rattle.program_copies.specs.Shown.{IsRootOf}
+use Rattle.program_copies.specs.declared.fault.CopyAskFault.{CopyAskFault}
+use Rattle.program_copies.specs.declared.fault.CopyAskFault.TheVariants as asking
+
+-- of a log of that size what is asked for is refused, with the first fault that applies, as `asked_proof` of tlog_proof
+-- refuses it of a list
+abbrev pub IsRefusedOf : Ask → ℕ → ProofFault → Type 0
+IsRefusedOf (AskInclusion n i) size proving.NoSuchSize = size < n
+IsRefusedOf (AskInclusion n i) size proving.NoSuchIndex = (n ≤ size) × (n ≤ i)
+IsRefusedOf (AskInclusion n i) size proving.FirstIsZero = ⊥
+IsRefusedOf (AskInclusion n i) size proving.Backwards = ⊥
+IsRefusedOf (AskInclusion n i) size proving.OutOfMemory = ⊥
+IsRefusedOf (AskConsistency m n) size proving.NoSuchSize = size < n
+IsRefusedOf (AskConsistency m n) size proving.NoSuchIndex = ⊥
+IsRefusedOf (AskConsistency m n) size proving.FirstIsZero = (n ≤ size) × (m ≡ 0)
+IsRefusedOf (AskConsistency m n) size proving.Backwards = (n ≤ size) × (0 < m) × (n < m)
+IsRefusedOf (AskConsistency m n) size proving.OutOfMemory = ⊥
+
+-- what is asked for is not refused
+abbrev pub IsWithin : Ask → ℕ → Type 0
+IsWithin (AskInclusion n i) size = (n ≤ size) × (i < n)
+IsWithin (AskConsistency m n) size = (n ≤ size) × (0 < m) × (m ≤ n)
+
+module _ (digest : List ℕ → List ℕ) (size : ℕ) (root : List ℕ) where
+  -- the proof is the one that was asked for: of these sizes and this index, in the tree of the root of as many entries
+  abbrev pub IsAsked : Ask → Proof → Type 0
+  IsAsked (AskInclusion n i) (Inclusion n' i' r leaf path) =
+      (n' ≡ n) × (i' ≡ i) × (n ≤ size) × IsRootOf digest size root n r
+  IsAsked (AskInclusion n i) (Consistency m r n' r' path) = ⊥
+  IsAsked (AskConsistency m n) (Inclusion n' i r leaf path) = ⊥
+  IsAsked (AskConsistency m n) (Consistency m' r n' r' path) =
+      (m' ≡ m) × (n' ≡ n) × (n ≤ size) × IsRootOf digest size root n r'
+
+  -- the report is the text of a proof that was asked for, and is accepted
+  pub record IsProofOf (ask : Ask) (report : Printout) : Type 0 where
+    pub proof : Proof
+    pub asked : IsAsked ask proof
+    pub holds : Holds digest proof
+    pub text : IsProofText (printed report) proof
+    pub status : report.status ≡ 0
+
+  -- what each answer of a reporter on a log of that size and root says
+  abbrev pub ReportsAsk : Ask → Result Printout CopyAskFault → Type 0
+  ReportsAsk ask (Ok report) = IsProofOf ask report
+  ReportsAsk ask (Err (asking.Copy fault)) = IsReadFault fault
+  ReportsAsk ask (Err (asking.Heads fault)) = ⊥
+  ReportsAsk ask (Err (asking.Ask (Report NothingComplete))) = ⊥
+  ReportsAsk ask (Err (asking.Ask (Report (Refused fault)))) = IsRefusedOf ask size fault
+  ReportsAsk ask (Err (asking.Ask (Report NoSuchHead))) = ⊥
+  ReportsAsk ask (Err (asking.Ask (Report OutOfMemory))) = ⊥
+  ReportsAsk ask (Err (asking.Ask WriteFault)) = ⊥
+
+module _ (digest : List ℕ → List ℕ) (origin : List ℕ) (keys : List Key) (held : Option (List Put)) (ask : Ask)
+  where
+    -- the report is the proof that was asked for, which is accepted against the copy's checkpoint, or against the root of as many
+    -- of its entries
+    pub record TellsProof (report : Printout) : Type 0 where
+      pub size : ℕ
+      pub root : List ℕ
+      pub checkpoint : HasCheckpoint origin keys held size root
+      pub is : IsProofOf digest size root ask report
+
+    -- the copy has a checkpoint, of a size of which what is asked for is refused
+    pub record RefusesAsk (fault : ProofFault) : Type 0 where
+      pub size : ℕ
+      pub root : List ℕ
+      pub checkpoint : HasCheckpoint origin keys held size root
+      pub refused : IsRefusedOf ask size fault
+
+    -- what each answer of the reporter says
+    abbrev pub ReportsProof : Result Printout CopyAskFault → Type 0
+    ReportsProof (Ok report) = TellsProof report
+    ReportsProof (Err (asking.Copy fault)) = IsRefused origin keys held fault
+    ReportsProof (Err (asking.Heads fault)) = ⊥
+    ReportsProof (Err (asking.Ask (Report NothingComplete))) = IsEmptyCopy origin keys held
+    ReportsProof (Err (asking.Ask (Report (Refused fault)))) = RefusesAsk fault
+    ReportsProof (Err (asking.Ask (Report NoSuchHead))) = ⊥
+    ReportsProof (Err (asking.Ask (Report OutOfMemory))) = ⊥
+    ReportsProof (Err (asking.Ask WriteFault)) = ⊥

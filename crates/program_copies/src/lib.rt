@@ -1,0 +1,27 @@
+//! What a copy answers: a folder with the files of one log, of which the checkpoint and some verified rows are read.
+//!
+//! ```text
+//! let mut folders = DirShelf::new(&rt, alloc, ".");
+//! let ask = Ask::Inclusion { size: 257, index: 2 };
+//! prove_copy::<Sha256Tree, _, _>(&mut folders, alloc, "example.com/log", &keys, "log", ask, &mut output)?;
+//! ```
+#![tactic(auto)]
+
+mod compare;
+mod fault;
+mod files;
+mod laws;
+mod opened;
+mod printing;
+mod prove;
+mod source;
+mod status;
+
+pub use compare::compare_copy;
+pub use fault::{CopyAskFault, CopyFault};
+pub use files::CopyFiles;
+pub use laws::{refusals_law, status_law};
+pub use opened::open_copy;
+pub use prove::prove_copy;
+pub use source::ShelfSource;
+pub use status::status_copy;

@@ -1,0 +1,154 @@
+//! The status of a copy.
+ghost use Rattle.std.specs.Prelude.{◌≡◌, ◌++◌, IfErr, IfOk, OnOk, map, option_map, string_bytes};
+ghost use Rattle.std.specs.List.{flat_map};
+ghost use Rattle.mirror_model.specs.Texts.{head_line, point_text, served_line};
+ghost use Rattle.mirror_trees.specs.Marked.{point_of};
+ghost use Rattle.std.specs.Io.KnownBytes.{Keeps};
+ghost use Rattle.program_copies.specs.Copies.{LeavesPuts};
+ghost use Rattle.program_copies.specs.Printed.{CountsAsk, HasStatus, IsStatus, IsWriteFault, Prints};
+ghost use Rattle.program_copies.specs.Statuses.{IsStatusOf, ReportsStatus, copy_heads, reader_point};
+
+use crate::fault::{CopyAskFault, CopyFault};
+use crate::opened::open_copy;
+use crate::printing::print_told;
+use log_reader::LogReader;
+use mirror_folders::NamedFolders;
+use program_reports::Report;
+use signed_note::Verifier;
+use std::alloc::{AllocError, Global};
+use std::io::Write;
+use tlog_hash::{Hash, TreeHash};
+use tlog_text::{push_hash, push_number};
+
+// Adds a size and a root, with a space between.
+fn push_point(text: &mut String, size: u64, root: &Hash) -> Result<(), AllocError>
+    ensures { OnOk result (string_bytes text.new ≡ string_bytes text.old
+        ++ point_text size root.now) }
+{
+    push_number(text, size)?;
+    text.push_str(" ")?;
+    push_hash(text, root)
+}
+
+// Adds the line of a head that is complete, if there is one.
+fn push_head(text: &mut String, point: &Option<(u64, Hash)>) -> Result<(), AllocError>
+    ensures { OnOk result (string_bytes text.new ≡ string_bytes text.old
+        ++ flat_map head_line (copy_heads (option_map point_of point.now))) }
+{
+    match point {
+        Some(point) => {
+            text.push_str("head ")?;
+            push_point(text, point.0, &point.1)?;
+            text.push_str(" complete\n")
+        }
+        None => Ok(()),
+    }
+}
+
+// Adds the line of what is served.
+fn push_served(text: &mut String, point: &Option<(u64, Hash)>) -> Result<(), AllocError>
+    ensures { OnOk result (string_bytes text.new ≡ string_bytes text.old
+        ++ served_line (option_map point_of point.now)) }
+{
+    match point {
+        Some(point) => {
+            text.push_str("served ")?;
+            push_point(text, point.0, &point.1)?;
+            text.push_str("\n")
+        }
+        None => text.push_str("served none\n"),
+    }
+}
+
+// The report on a copy of that size and root, or on an empty one.
+fn status_report(
+    alloc: Global,
+    origin: &str,
+    point: &Option<(u64, Hash)>,
+) -> Result<Report, AllocError>
+    ensures { IfOk result (IsStatusOf origin.now (option_map point_of point.now)) }
+{
+    let mut text = String::from_str(alloc, "origin ")?;
+    text.push_str(origin)?;
+    text.push_str("\n")?;
+    push_head(&mut text, point)?;
+    push_served(&mut text, point)?;
+    let status = match point {
+        Some(_) => 0,
+        None => 3,
+    };
+    Ok(Report { text, status })
+}
+
+// The size and root of the log that was opened, if there is one.
+fn opened_point<H: TreeHash>(opened: Option<LogReader<H>>) -> Option<(u64, Hash)>
+    ensures { option_map point_of result ≡ option_map reader_point opened }
+{
+    match opened {
+        Some(reader) => Some((reader.size(), reader.root())),
+        None => None,
+    }
+}
+
+// The report on the copy in the folder.
+#[tactic(auto, using(crate::proofs::Reading::opened_has))]
+fn told_status<H: TreeHash, D: NamedFolders>(
+    folders: &mut D,
+    alloc: Global,
+    origin: &str,
+    keys: &[Box<dyn Verifier>],
+    folder: &str,
+) -> Result<Report, CopyAskFault>
+    ensures answer { ReportsStatus origin.now (map (λ k. key k) keys.now)
+        (D.held folders.old folder.now) result }
+    ensures status { IfOk result HasStatus }
+    ensures kept { LeavesPuts (D.held folders.old folder.now) (D.puts folders.old)
+        (D.puts folders.new) }
+    ensures counted { CountsAsk (D.failed folders.old) (D.failed folders.new) result }
+{
+    match open_copy::<H, D>(folders, alloc, origin, keys, folder) {
+        Ok(opened) => {
+            let point = opened_point::<H>(opened);
+            match status_report(alloc, origin, &point) {
+                Ok(report) => Ok(report),
+                Err(_) => Err(CopyAskFault::Copy(CopyFault::OutOfMemory)),
+            }
+        }
+        Err(fault) => Err(CopyAskFault::Copy(fault)),
+    }
+}
+
+/// Prints the origin and the copy's checkpoint, as `status` prints them of a state with that checkpoint alone, complete; of an
+/// empty copy `served none`. Answers the exit status: 0, or 3 where the copy is empty.
+///
+/// ```text
+/// status_copy::<Sha256Tree, _, _>(&mut folders, alloc, "example.com/log", &keys, "log", &mut output)?;
+/// // origin example.com/log
+/// // head 3 rra8/idLcKFPsGel5VeCZNsPqbUa9eC6FZFY8yngbnc= complete
+/// // served 3 rra8/idLcKFPsGel5VeCZNsPqbUa9eC6FZFY8yngbnc=
+/// ```
+///
+/// # Errors
+///
+/// In this order: `Copy`, with the faults of `open_copy`; `Ask`, with `WriteFault`. Nothing is written but at a `WriteFault`,
+/// where a prefix of the text is.
+pub fn status_copy<H: TreeHash, D: NamedFolders, W: Write>(
+    folders: &mut D,
+    alloc: Global,
+    origin: &str,
+    keys: &[Box<dyn Verifier>],
+    folder: &str,
+    output: &mut W,
+) -> Result<u8, CopyAskFault>
+    ensures answer { Prints (ReportsStatus origin.now (map (λ k. key k) keys.now)
+        (D.held folders.old folder.now)) (W.contents output.old) (W.contents output.new) result }
+    ensures status { IfOk result IsStatus }
+    ensures quiet { IfErr result
+        (λ fault. (¬ IsWriteFault fault) → Keeps (W.contents output.old) (W.contents output.new)) }
+    ensures kept { LeavesPuts (D.held folders.old folder.now) (D.puts folders.old)
+        (D.puts folders.new) }
+    ensures counted { CountsAsk (D.failed folders.old) (D.failed folders.new) result }
+{
+    let told = told_status::<H, D>(folders, alloc, origin, keys, folder);
+    print_told(output, told)
+}

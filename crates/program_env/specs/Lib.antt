@@ -1,0 +1,10 @@
+pub mod Moment
+pub mod Envs
+pub mod Works
+pub mod Pulls
+pub mod Builds
+pub mod Named
+pub mod Done
+pub mod Performing
+pub mod Whys
+pub mod FaultLines

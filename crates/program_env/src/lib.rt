@@ -1,0 +1,24 @@
+//! What a command of `tlogmirror` works on, what its contract says, and why it was not done.
+//!
+//! ```text
+//! let mut env = Env { rt: &rt, alloc, files, folders, input, output, errors };
+//! state_commands::status::run(&mut env, &key_bytes, &keys, &words)? // 0, or 3 where nothing is served
+//! ```
+#![tactic(auto)]
+
+mod env;
+mod error;
+mod failing;
+mod fault;
+mod front;
+mod port;
+mod progress;
+pub mod why;
+
+pub use env::Env;
+pub use error::Error;
+pub use failing::{RunFiles, RunFolders};
+pub use fault::RunFault;
+pub use front::write_front;
+pub use port::{port_fault, print_fault, print_port};
+pub use progress::{report_end, report_puts};

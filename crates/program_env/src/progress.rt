@@ -1,0 +1,24 @@
+//! How far the work is, reported where the words ask for it.
+ghost use Rattle.std.specs.Prelude.{◌≡◌};
+
+use mirror_progress::{Task, ToldFolders};
+
+/// From now on the folders report how many files are put, where the words ask for it.
+pub fn report_puts<D: ToldFolders>(folders: &mut D, progress: bool, task: Task)
+    ensures puts { D.puts folders.new ≡ D.puts folders.old }
+    ensures held { D.held folders.new ≡ D.held folders.old }
+{
+    if progress {
+        folders.begin(task);
+    }
+}
+
+/// The work is done: a last line says how many files were put, where the words ask for it.
+pub fn report_end<D: ToldFolders>(folders: &mut D, progress: bool)
+    ensures puts { D.puts folders.new ≡ D.puts folders.old }
+    ensures held { D.held folders.new ≡ D.held folders.old }
+{
+    if progress {
+        folders.end();
+    }
+}

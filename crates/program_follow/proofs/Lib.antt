@@ -1,0 +1,4 @@
+mod Lines
+pub mod Noted
+mod Putting
+mod Whys

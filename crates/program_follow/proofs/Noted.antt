@@ -1,0 +1,88 @@
+-- What a run says of its note, of the copy, of the output and of the evidence.
+use Rattle.std.proofs.Common.{◌≡◌, ℕ, List, Option, Some, None, Result, Ok, Err, sym, subst}
+use Rattle.std.specs.Io.KnownBytes.{Keeps}
+use Rattle.std.proofs.lemmas.List.Elements.{All-weaker}
+use Rattle.std.proofs.lemmas.Option.{none-some}
+use Rattle.signed_note.specs.Keys.{Key}
+use Rattle.tlog_tiles.specs.declared.paths.Path.{Path}
+use Rattle.mirror_folders.specs.Shelf.{Put}
+use Rattle.mirror_copy.specs.declared.places.Places.{Places}
+use Rattle.mirror_follow.specs.Blame.{CountsFollowFault, IsGivenOrMayGive}
+use Rattle.mirror_follow.specs.Runs.{FollowsCandidates}
+use Rattle.mirror_follow.specs.Gathering.{note_of}
+use Rattle.mirror_follow.specs.declared.fault.FollowFault.{FollowFault}
+use Rattle.mirror_follow.specs.declared.report.Followed.{Followed}
+use Rattle.program_files.specs.Named.{HasContents, NamedFile}
+use Rattle.program_follow.specs.Following.{CopyFollowed, CountsRun, Follows, FollowsIn, IsNoteOf, ReadsNote, TellsDone}
+use Rattle.program_follow.specs.declared.fault.FollowRunFault.{FollowRunFault}
+use Rattle.program_follow.specs.declared.fault.FollowRunFault.TheVariants.{File, OutOfMemory, Follow, WriteFault, Evidence}
+
+-- the note that was given is that of the named file
+pub note_had : {S : Type 0} (may : S → Path → Option (List ℕ) → Type 0) (told : Option (List NamedFile))
+    (name : Option (List ℕ)) (places : Places S) (given : Option (List ℕ)) → ReadsNote told name (Ok given) →
+    (note : List ℕ) → IsGivenOrMayGive may given places note → IsNoteOf may told name places note
+note_had may told None places None reads note had = had
+note_had may told None places (Some bytes) reads note had = absurd (none-some bytes (sym reads))
+note_had may told (Some name) places None reads note had = absurd reads
+note_had may told (Some name) places (Some bytes) reads note had =
+    subst (λ (given : List ℕ). HasContents told name given) (sym had) reads
+
+module _ (digest : List ℕ → List ℕ) (origin : List ℕ) (keys : List Key) (so other : List ℕ → Type 0)
+    (weaker : (note : List ℕ) → so note → other note) (held before put : Option (List Put))
+    (forks : Option (List ℕ)) (told left : Option (List NamedFile)) (old new : Option (List ℕ)) where
+  follows_had : FollowsCandidates digest origin keys so held put → FollowsCandidates digest origin keys other held put
+  follows_had follows = record {
+    candidates = follows.candidates;
+    opened = follows.opened;
+    had = All-weaker (λ candidate. so (note_of candidate)) (λ candidate. other (note_of candidate))
+        (λ candidate. weaker (note_of candidate)) follows.candidates follows.had;
+    keeps = follows.keeps;
+  }
+
+  copy_had : (done : Followed) → CopyFollowed digest origin keys so held put done →
+      CopyFollowed digest origin keys other held put done
+  copy_had done copy = record { whole = follows_had copy.whole; brought = copy.brought }
+
+  -- the copy was followed, and then it was told
+  pub follows_told : (done : Followed) (r : Result ℕ FollowRunFault) → CopyFollowed digest origin keys so held put done →
+      TellsDone forks done told left old new r →
+      Follows digest origin keys other forks held before put told left old new r
+  follows_told done (Ok status) copy tells = record { done = done; copy = copy_had done copy; tells = tells }
+  follows_told done (Err (File fault)) copy tells = absurd tells
+  follows_told done (Err OutOfMemory) copy tells = absurd tells
+  follows_told done (Err (Follow fault)) copy tells =
+      record { copy = follows_had copy.whole; text = tells.text; files = tells.files }
+  follows_told done (Err WriteFault) copy tells = record { done = done; copy = copy_had done copy; tells = tells }
+  follows_told done (Err (Evidence fault)) copy tells = record { done = done; copy = copy_had done copy; tells = tells }
+
+  -- it was not followed, and nothing was told
+  pub follows_ended : (fault : FollowRunFault) → FollowsIn digest origin keys so held before put (Err fault) →
+      Keeps old new → left ≡ told → Follows digest origin keys other forks held before put told left old new (Err fault)
+  follows_ended (File fault) copy text files = absurd copy
+  follows_ended OutOfMemory copy text files = record { copy = copy; text = text; files = files }
+  follows_ended (Follow fault) copy text files = record { copy = follows_had copy; text = text; files = files }
+  follows_ended WriteFault copy text files = absurd copy
+  follows_ended (Evidence fault) copy text files = absurd copy
+
+  -- what a run says of notes that were had so, it says of notes that were had in a wider sense
+  pub follows_weaker : (r : Result ℕ FollowRunFault) →
+      Follows digest origin keys so forks held before put told left old new r →
+      Follows digest origin keys other forks held before put told left old new r
+  follows_weaker (Ok status) h = record { done = h.done; copy = copy_had h.done h.copy; tells = h.tells }
+  follows_weaker (Err (File fault)) h = record { copy = h.copy; text = h.text; files = h.files }
+  follows_weaker (Err OutOfMemory) h = record { copy = h.copy; text = h.text; files = h.files }
+  follows_weaker (Err (Follow fault)) h = record { copy = follows_had h.copy; text = h.text; files = h.files }
+  follows_weaker (Err WriteFault) h = record { done = h.done; copy = copy_had h.done h.copy; tells = h.tells }
+  follows_weaker (Err (Evidence fault)) h = record { done = h.done; copy = copy_had h.done h.copy; tells = h.tells }
+
+module _ (forks : Option (List ℕ)) (done : Followed) (told left : Option (List NamedFile)) (old new : Option (List ℕ)) where
+  -- what is told after a run counts no failure
+  pub told_counts : (r : Result ℕ FollowRunFault) (count counted : ℕ) → TellsDone forks done told left old new r →
+      counted ≡ count → CountsRun count counted r
+  told_counts (Ok status) count counted tells same = same
+  told_counts (Err (File fault)) count counted tells same = same
+  told_counts (Err OutOfMemory) count counted tells same = same
+  told_counts (Err (Follow fault)) count counted tells same =
+      subst (λ (f : FollowFault). CountsFollowFault count counted f) (sym tells.fault_is) same
+  told_counts (Err WriteFault) count counted tells same = same
+  told_counts (Err (Evidence fault)) count counted tells same = same

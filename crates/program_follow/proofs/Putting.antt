@@ -1,0 +1,116 @@
+-- Files put one after the other.
+use Rattle.std.proofs.Common.{◌≡◌, ℕ, ◌+◌, ◌<◌, List, [], ◌∷◌, ◌++◌, length, take, drop, get_or, Option, Some, None}
+use Rattle.std.proofs.Common.{Result, Ok, Err, refl, sym, ap, subst, ◌∙◌, inl, inr}
+use Rattle.std.specs.Prelude.{is_some}
+use Rattle.std.specs.List.{flat_map}
+use Rattle.std.proofs.lemmas.List.{append_assoc, append-nil, flat_map_more, take_more, take-append-drop}
+use Rattle.std.proofs.lemmas.List.Concat.{flat_map-append}
+use Rattle.mirror_sources.specs.Told.{KeepsTold}
+use Rattle.program_files.specs.Named.{NamedFile, HasContents, LacksFile, TellsReplace}
+use Rattle.program_files.specs.declared.fault.NamedFault.{NamedFault}
+use Rattle.program_follow.specs.Evidence.{PutsEach, PutsFiles, PutsFront, TellsEach}
+
+-- ---- nothing, and one after the other
+
+pub told_nothing : (told : Option (List NamedFile)) → TellsEach [] told told
+told_nothing None = tt
+told_nothing (Some puts) = refl
+
+kept_nothing : (old new : Option (List NamedFile)) → KeepsTold old new → TellsEach [] old new
+kept_nothing None new kept = tt
+kept_nothing (Some old) None kept = absurd kept
+kept_nothing (Some old) (Some new) kept = kept
+
+pub front_kept : (files : List NamedFile) (old new : Option (List NamedFile)) → KeepsTold old new →
+    PutsFront files old new
+front_kept files old new kept = record { front = []; rest = files; files_are = refl; told = kept_nothing old new kept }
+
+pub front_none : (files : List NamedFile) (told : Option (List NamedFile)) → PutsFront files told told
+front_none files told = record { front = []; rest = files; files_are = refl; told = told_nothing told }
+
+pub front_all : (files : List NamedFile) (old new : Option (List NamedFile)) → TellsEach files old new →
+    PutsFront files old new
+front_all files old new each = record { front = files; rest = []; files_are = sym (append-nil files); told = each }
+
+each_both : (xs ys : List NamedFile) (old between new : List NamedFile) → PutsEach xs old between →
+    PutsEach ys between new → PutsEach (xs ++ ys) old new
+each_both [] ys old between new first second = subst (λ puts. PutsEach ys puts new) first second
+each_both (x ∷ xs) ys old between new first second =
+    (first.0, first.1, each_both xs ys first.0 between new first.2 second)
+
+pub told_both : (xs ys : List NamedFile) (old between new : Option (List NamedFile)) → TellsEach xs old between →
+    TellsEach ys between new → TellsEach (xs ++ ys) old new
+told_both xs ys None between new first second = tt
+told_both xs ys (Some old) None new first second = absurd first
+told_both xs ys (Some old) (Some between) None first second = absurd second
+told_both xs ys (Some old) (Some between) (Some new) first second = each_both xs ys old between new first second
+
+pub front_both : (xs ys : List NamedFile) (old between new : Option (List NamedFile)) → TellsEach xs old between →
+    PutsFront ys between new → PutsFront (xs ++ ys) old new
+front_both xs ys old between new first second = record {
+  front = xs ++ second.front;
+  rest = second.rest;
+  files_are = ap (λ files. xs ++ files) second.files_are ∙ sym (append_assoc xs second.front second.rest);
+  told = told_both xs second.front old between new first second.told;
+}
+
+-- a call that ended early after others that did not
+pub front_more : (xs ys : List NamedFile) (old new : Option (List NamedFile)) → PutsFront xs old new →
+    PutsFront (xs ++ ys) old new
+front_more xs ys old new first = record {
+  front = first.front;
+  rest = first.rest ++ ys;
+  files_are = ap (λ files. files ++ ys) first.files_are ∙ append_assoc first.front first.rest ys;
+  told = first.told;
+}
+
+-- the last of several calls
+pub files_then : {T : Type 0} (xs ys : List NamedFile) (old between new : Option (List NamedFile))
+    (r : Result T NamedFault) → TellsEach xs old between → PutsFiles ys between new r → PutsFiles (xs ++ ys) old new r
+files_then xs ys old between new (Ok x) first second = told_both xs ys old between new first second
+files_then xs ys old between new (Err fault) first second = front_both xs ys old between new first second
+
+-- ---- one file
+
+pub put_new : {T : Type 0} (old new : Option (List NamedFile)) (file : NamedFile) (r : Result T NamedFault) →
+    LacksFile old file.0 → TellsReplace old new file r → PutsFiles (file ∷ []) old new r
+put_new None new file (Ok x) absent told = tt
+put_new (Some old) None file (Ok x) absent told = absurd told
+put_new (Some old) (Some new) file (Ok x) absent told = (new, inr (absent, told), refl)
+put_new old new file (Err fault) absent told = front_kept (file ∷ []) old new told.0
+
+pub put_kept : (told : Option (List NamedFile)) (file : NamedFile) (there : List ℕ) → HasContents told file.0 there →
+    TellsEach (file ∷ []) told told
+put_kept None file there stands = tt
+put_kept (Some puts) file there stands = (puts, inl (ap is_some stands, refl), refl)
+
+-- ---- the files of one after another
+
+module _ {X : Type 0} (files_of : X → List NamedFile) (xs : List X) (i : ℕ) (x : X) (within : i < length xs)
+    (at : x ≡ get_or xs i x) where
+  more : flat_map files_of (take (i + 1) xs) ≡ flat_map files_of (take i xs) ++ files_of x
+  more =
+      ap (flat_map files_of) (take_more xs i x within ∙ ap (λ y. take i xs ++ y ∷ []) (sym at))
+      ∙ sym (flat_map_more files_of [] (take i xs) x)
+
+  parts : flat_map files_of xs
+      ≡ (flat_map files_of (take i xs) ++ files_of x) ++ flat_map files_of (drop (i + 1) xs)
+  parts =
+      ap (flat_map files_of) (sym (take-append-drop (i + 1) xs))
+      ∙ (flat_map-append files_of (take (i + 1) xs) (drop (i + 1) xs)
+      ∙ ap (λ files. files ++ flat_map files_of (drop (i + 1) xs)) more)
+
+  pub each_more : (old between new : Option (List NamedFile)) →
+      TellsEach (flat_map files_of (take i xs)) old between → TellsEach (files_of x) between new →
+      TellsEach (flat_map files_of (take (i + 1) xs)) old new
+  each_more old between new each one =
+      subst (λ files. TellsEach files old new) (sym more)
+      (told_both (flat_map files_of (take i xs)) (files_of x) old between new each one)
+
+  pub front_here : (old between new : Option (List NamedFile)) →
+      TellsEach (flat_map files_of (take i xs)) old between → PutsFront (files_of x) between new →
+      PutsFront (flat_map files_of xs) old new
+  front_here old between new each one =
+      subst (λ files. PutsFront files old new) (sym parts)
+      (front_more (flat_map files_of (take i xs) ++ files_of x) (flat_map files_of (drop (i + 1) xs)) old new
+      (front_both (flat_map files_of (take i xs)) (files_of x) old between new each one))

@@ -1,0 +1,20 @@
+use Rattle.std.proofs.lemmas.Result.{err_from_is_err_and}
+use Rattle.program_follow.specs.Evidence.{fork_files}
+use Rattle.program_follow.proofs.Putting.{each_more, front_here}
+use Rattle.program_follow.proofs.evidence.put_forks.Goals as goal
+
+pub returns-in_err-put_fork : goal.returns-in_err-put_fork
+returns-in_err-put_fork g c =
+    let puts = g.F.NamedFiles.puts in
+    let p = err_from_is_err_and c.from_residual.result c.from_residual.ensures.1 in
+    rw p.1
+    (front_here (fork_files c.args.folder.now) c.args.lines.now c.loop-line.line-index c.line-item.result
+    c.loop-line-test.true c.line-item.is (puts c.args.files.now) (puts c.loop-line.files) (puts c.put_fork.new.files)
+    c.loop-line.invariant c.in_err-put_fork.ensures)
+
+pub loop-line-preserved : goal.loop-line-preserved
+loop-line-preserved g c =
+    let puts = g.F.NamedFiles.puts in
+    each_more (fork_files c.args.folder.now) c.args.lines.now c.loop-line.line-index c.line-item.result
+    c.loop-line-test.true c.line-item.is (puts c.args.files.now) (puts c.loop-line.files) (puts c.put_fork.new.files)
+    c.loop-line.invariant c.in_ok-put_fork.ensures

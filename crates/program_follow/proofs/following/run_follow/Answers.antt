@@ -1,0 +1,30 @@
+use Rattle.std.proofs.Common.{option_map, refl}
+use Rattle.std.proofs.KnownBytes.{Keeps-refl}
+use Rattle.program_follow.specs.Following.{IsNoteOf}
+use Rattle.program_follow.proofs.Noted.{follows_ended, follows_told, note_had, told_counts}
+use Rattle.program_follow.proofs.following.run_follow.Goals as goal
+
+pub returns-in-Ok-follow_into-clause-follows : goal.returns-in-Ok-follow_into-clause-follows
+returns-in-Ok-follow_into-clause-follows g c =
+    let told = g.F.NamedFiles.puts c.args.files.now in
+    let name = option_map (λ name. name.now) c.args.following.now.checkpoint in
+    follows_told _ _ _ _ (IsNoteOf g.S.Source.may_answer told name c.args.places.now)
+    (note_had g.S.Source.may_answer told name c.args.places.now
+    (option_map (λ v. v.items) c.in-Ok.given) c.in-Ok.ensures)
+    _ _ _ _ _ _ _ _ c.in-Ok-follow_into.done c.tell_done.result c.in-Ok-follow_into.ensures.follows
+    c.tell_done.ensures.tells
+
+pub returns-in-Ok-follow_into-clause-counted : goal.returns-in-Ok-follow_into-clause-counted
+returns-in-Ok-follow_into-clause-counted g c =
+    told_counts _ _ _ _ _ _ c.tell_done.result (g.D.Shelf.failed c.args.folders.now)
+    (g.D.Shelf.failed c.follow_into.new.folders) c.tell_done.ensures.tells c.in-Ok-follow_into.ensures.counted
+
+pub returns-in-Err-follow_into-clause-follows : goal.returns-in-Err-follow_into-clause-follows
+returns-in-Err-follow_into-clause-follows g c =
+    let told = g.F.NamedFiles.puts c.args.files.now in
+    let name = option_map (λ name. name.now) c.args.following.now.checkpoint in
+    follows_ended _ _ _ _ (IsNoteOf g.S.Source.may_answer told name c.args.places.now)
+    (note_had g.S.Source.may_answer told name c.args.places.now
+    (option_map (λ v. v.items) c.in-Ok.given) c.in-Ok.ensures)
+    _ _ _ _ _ _ _ _ c.in-Err-follow_into.fault c.in-Err-follow_into.ensures.follows
+    (Keeps-refl (g.W.Write.contents c.args.output.now)) refl

@@ -1,0 +1,99 @@
+-- The evidence of forks as files: their names, their bytes, and how they are put. The names are own.
+use Rattle.std.specs.Prelude.{◌≡◌, ◌⊎◌, ℕ, List, [], ◌∷◌, ◌++◌, length, codes, Bool, true, false, ◌&&◌, nat_le, is_some}
+use Rattle.std.specs.Prelude.{if◌then◌else◌, Option, Some, None, Result, Ok, Err, ⊤}
+use Rattle.std.specs.Fmt.{decimal}
+use Rattle.std.specs.List.{flat_map}
+use Rattle.hex.specs.Hex.{encode_lower}
+use Rattle.tlog_shape.specs.declared.TheConstants.{MAX_SIZE}
+use Rattle.tlog_proof.specs.Text.{lines_of, title_of}
+use Rattle.tlog_proof.specs.declared.proof.Proof.{Proof}
+use Rattle.tlog_proof.specs.declared.proof.Proof.TheVariants.{Inclusion, Consistency}
+use Rattle.mirror_follow.specs.declared.candidate.Candidate.{Candidate}
+use Rattle.mirror_follow.specs.declared.report.ForkLine.{ForkLine}
+use Rattle.program_files.specs.Named.{NamedFile, contents_of}
+use Rattle.program_files.specs.declared.fault.NamedFault.{NamedFault}
+
+-- ---- names
+
+-- a size and a root as a file's name has them, the root as 64 hexadecimal digits in lower case
+abbrev pub point_name : ℕ → List ℕ → List ℕ → List ℕ
+point_name size root rest = decimal size ++ (codes "-" ++ (encode_lower root ++ rest))
+
+-- `FOLDER/SIZE-ROOT-0.note`
+abbrev pub note_place : List ℕ → ℕ → List ℕ → List ℕ
+note_place folder size root = folder ++ (codes "/" ++ point_name size root (codes "-0.note"))
+
+-- `FOLDER/SMALL-ROOT-LARGE-ROOT.proof`
+abbrev pub proof_place : List ℕ → ForkLine → List ℕ
+proof_place folder line =
+    folder ++ (codes "/" ++ point_name line.small.size.0 line.small.root
+    (codes "-" ++ point_name line.large.size.0 line.large.root (codes ".proof")))
+
+-- ---- files
+
+-- the note of a checkpoint
+abbrev pub note_file : List ℕ → Candidate → NamedFile
+note_file folder note = (note_place folder note.size.0 note.root, note.note.items)
+
+-- the proof is one of consistency, with numbers and a path that a text may have
+abbrev pub is_writable_fork : Proof → Bool
+is_writable_fork (Inclusion size index root leaf path) = false
+is_writable_fork (Consistency first first_root second second_root path) =
+    (nat_le first MAX_SIZE && nat_le second MAX_SIZE) && nat_le (length path) 64
+
+-- the text of a proof, as `check` reads it
+abbrev pub proof_text : Proof → List ℕ
+proof_text proof = title_of proof ++ 10 ∷ lines_of proof
+
+-- the file of a proof, if it can be written
+abbrev pub proof_file : List ℕ → ForkLine → Proof → List NamedFile
+proof_file folder line proof =
+    if is_writable_fork proof then (proof_place folder line, proof_text proof) ∷ [] else []
+
+-- the file of a fork's proof, if it has one
+abbrev pub proof_files : List ℕ → ForkLine → Option Proof → List NamedFile
+proof_files folder line None = []
+proof_files folder line (Some proof) = proof_file folder line proof
+
+-- both notes of a fork, and its proof
+abbrev pub fork_files : List ℕ → ForkLine → List NamedFile
+fork_files folder line =
+    note_file folder line.small ∷ (note_file folder line.large ∷ proof_files folder line line.proof)
+
+-- the files of all forks, where a folder is named for them
+abbrev pub evidence_of : Option (List ℕ) → List ForkLine → List NamedFile
+evidence_of None lines = []
+evidence_of (Some folder) lines = flat_map (fork_files folder) lines
+
+-- ---- puts
+
+-- a file that is there is left as it is, and one that is not there is put; no other is written
+abbrev pub PutsMissing : NamedFile → List NamedFile → List NamedFile → Type 0
+PutsMissing file old new =
+    ((is_some (contents_of old file.0) ≡ true) × (new ≡ old))
+    ⊎ ((contents_of old file.0 ≡ None) × (new ≡ old ++ file ∷ []))
+
+-- each of the files, one after the other
+abbrev pub PutsEach : List NamedFile → List NamedFile → List NamedFile → Type 0
+PutsEach [] old new = new ≡ old
+PutsEach (file ∷ files) old new =
+    (between : List NamedFile) × PutsMissing file old between × PutsEach files between new
+
+-- the same, as far as it is recorded
+abbrev pub TellsEach : List NamedFile → Option (List NamedFile) → Option (List NamedFile) → Type 0
+TellsEach files None new = ⊤
+TellsEach files (Some old) None = ⊥
+TellsEach files (Some old) (Some new) = PutsEach files old new
+
+-- a front of the files, and no others
+pub record PutsFront (files : List NamedFile) (old new : Option (List NamedFile)) : Type 0 where
+  pub front : List NamedFile
+  pub rest : List NamedFile
+  pub files_are : files ≡ front ++ rest
+  pub told : TellsEach front old new
+
+-- what each answer of a call that puts the files says: all of them, or where it ends early a front
+abbrev pub PutsFiles : {T : Type 0} → List NamedFile → Option (List NamedFile) → Option (List NamedFile) →
+    Result T NamedFault → Type 0
+PutsFiles files old new (Ok x) = TellsEach files old new
+PutsFiles files old new (Err fault) = PutsFront files old new

@@ -1,0 +1,148 @@
+-- What a run of `follow` reads, puts into its folder, writes to its output, and leaves as evidence.
+use Rattle.std.specs.Prelude.{◌≡◌, ℕ, List, Option, Some, None, Result, Ok, Err}
+use Rattle.std.specs.Io.KnownBytes.{Appends, Keeps}
+use Rattle.byte_streams.specs.Streams.{AppendsPrefix}
+use Rattle.tlog_tiles.specs.declared.paths.Path.{Path}
+use Rattle.signed_note.specs.Keys.{Key}
+use Rattle.mirror_folders.specs.Shelf.{Put}
+use Rattle.mirror_copy.specs.declared.places.Places.{Places}
+use Rattle.mirror_follow.specs.Blame.{CountsFollowFault, MayGive}
+use Rattle.mirror_follow.specs.Runs.{FollowsCandidates}
+use Rattle.mirror_follow.specs.Standing.{IsFollowed}
+use Rattle.mirror_follow.specs.declared.fault.FollowFault.{FollowFault}
+use Rattle.mirror_follow.specs.declared.fault.FollowFault.TheVariants as following
+use Rattle.mirror_follow.specs.declared.report.Followed.{Followed}
+use Rattle.program_files.specs.Named.{HasContents, NamedFile, ReadsShort}
+use Rattle.program_files.specs.declared.fault.NamedFault.{NamedFault}
+use Rattle.program_follow.specs.Evidence.{PutsFiles, evidence_of}
+use Rattle.program_follow.specs.Text.{followed_lines, followed_status_of}
+use Rattle.program_follow.specs.declared.fault.FollowRunFault.{FollowRunFault}
+use Rattle.program_follow.specs.declared.fault.FollowRunFault.TheVariants.{File, OutOfMemory, Follow, WriteFault, Evidence}
+
+-- ---- the note that is given
+
+-- the bytes of the named file, if one is named
+abbrev pub ReadsNote : Option (List NamedFile) → Option (List ℕ) → Result (Option (List ℕ)) NamedFault → Type 0
+ReadsNote told None (Ok note) = note ≡ None
+ReadsNote told None (Err fault) = ⊥
+ReadsNote told (Some name) (Ok None) = ⊥
+ReadsNote told (Some name) (Ok (Some bytes)) = HasContents told name bytes
+ReadsNote told (Some name) (Err fault) = ReadsShort told name (Err fault)
+
+-- the named file was read, or that is the fault
+abbrev pub ReadsGiven : {T : Type 0} → Option (List NamedFile) → Option (List ℕ) → Result T FollowRunFault → Type 0
+ReadsGiven told name (Err (File fault)) = ReadsNote told name (Err fault)
+ReadsGiven told name (Err OutOfMemory) = (note : Option (List ℕ)) × ReadsNote told name (Ok note)
+ReadsGiven told name (Err (Follow fault)) = (note : Option (List ℕ)) × ReadsNote told name (Ok note)
+ReadsGiven told name (Err WriteFault) = (note : Option (List ℕ)) × ReadsNote told name (Ok note)
+ReadsGiven told name (Err (Evidence fault)) = (note : Option (List ℕ)) × ReadsNote told name (Ok note)
+ReadsGiven told name (Ok x) = (note : Option (List ℕ)) × ReadsNote told name (Ok note)
+
+-- the note of the named file, or where none is named one that a place may give for its checkpoint
+abbrev pub IsNoteOf : {S : Type 0} → (S → Path → Option (List ℕ) → Type 0) → Option (List NamedFile) →
+    Option (List ℕ) → Places S → List ℕ → Type 0
+IsNoteOf may told None places note = MayGive may places note
+IsNoteOf may told (Some name) places note = HasContents told name note
+
+-- ---- the copy
+
+module _ (digest : List ℕ → List ℕ) (origin : List ℕ) (keys : List Key) (so : List ℕ → Type 0)
+    (held : Option (List Put)) where
+  -- over what the folder held a whole copy stood at each moment, under notes that were had so; in the end it has the
+  -- size and the root of the answer
+  pub record CopyFollowed (put : Option (List Put)) (done : Followed) : Type 0 where
+    pub whole : FollowsCandidates digest origin keys so held put
+    pub brought : IsFollowed digest origin held put done
+
+  -- what was put over what the folder held; nothing where the folder was not opened
+  abbrev pub FollowsIn : Option (List Put) → Option (List Put) → Result Followed FollowRunFault → Type 0
+  FollowsIn before put (Ok done) = CopyFollowed put done
+  FollowsIn before put (Err (File fault)) = ⊥
+  FollowsIn before put (Err OutOfMemory) = put ≡ before
+  FollowsIn before put (Err (Follow fault)) = FollowsCandidates digest origin keys so held put
+  FollowsIn before put (Err WriteFault) = ⊥
+  FollowsIn before put (Err (Evidence fault)) = ⊥
+
+-- the folder's count of failures rises by one at its fault, and at no other
+abbrev pub CountsRun : {T : Type 0} → ℕ → ℕ → Result T FollowRunFault → Type 0
+CountsRun old new (Ok x) = new ≡ old
+CountsRun old new (Err (File fault)) = new ≡ old
+CountsRun old new (Err OutOfMemory) = new ≡ old
+CountsRun old new (Err (Follow fault)) = CountsFollowFault old new fault
+CountsRun old new (Err WriteFault) = new ≡ old
+CountsRun old new (Err (Evidence fault)) = new ≡ old
+
+-- ---- the output, and the evidence
+
+-- an answer of a call that put all files
+abbrev pub files_put : Result (Unit {0}) NamedFault
+files_put = Ok tt
+
+-- an answer of a call that ended early
+abbrev pub files_failed : NamedFault → Result (Unit {0}) NamedFault
+files_failed fault = Err fault
+
+module _ (forks : Option (List ℕ)) (done : Followed) (told : Option (List NamedFile)) (left : Option (List NamedFile))
+    (old new : Option (List ℕ)) where
+  -- the text was written whole, and the evidence was put, as by that answer
+  pub record TellsWhole (answer : Result (Unit {0}) NamedFault) : Type 0 where
+    pub text : Appends old new (followed_lines done)
+    pub evidence : PutsFiles (evidence_of forks done.forks.items) told left answer
+
+  -- the text was written whole, all of the evidence was put, and the status is that of what came of following
+  pub record TellsAll (status : ℕ) : Type 0 where
+    pub whole : TellsWhole files_put
+    pub status_is : status ≡ followed_status_of done
+
+  -- a front of the text was written, and no file
+  pub record TellsFront : Type 0 where
+    pub text : AppendsPrefix old new (followed_lines done)
+    pub files : left ≡ told
+
+  -- memory for the text was refused, and nothing was written
+  pub record TellsNothing (fault : FollowFault) : Type 0 where
+    pub fault_is : fault ≡ following.OutOfMemory
+    pub text : Keeps old new
+    pub files : left ≡ told
+
+  -- what each answer says of what was written: first the text, and then the evidence of the forks
+  abbrev pub TellsDone : Result ℕ FollowRunFault → Type 0
+  TellsDone (Ok status) = TellsAll status
+  TellsDone (Err (File fault)) = ⊥
+  TellsDone (Err OutOfMemory) = ⊥
+  TellsDone (Err (Follow fault)) = TellsNothing fault
+  TellsDone (Err WriteFault) = TellsFront
+  TellsDone (Err (Evidence fault)) = TellsWhole (files_failed fault)
+
+-- ---- the command
+
+module _ (digest : List ℕ → List ℕ) (origin : List ℕ) (keys : List Key) (so : List ℕ → Type 0) (forks : Option (List ℕ))
+    (held before put : Option (List Put)) (told : Option (List NamedFile)) (left : Option (List NamedFile))
+    (old new : Option (List ℕ)) where
+  -- the copy was followed, and what came of it was written, as by that answer
+  pub record FollowsAndTells (answer : Result ℕ FollowRunFault) : Type 0 where
+    pub done : Followed
+    pub copy : CopyFollowed digest origin keys so held put done
+    pub tells : TellsDone forks done told left old new answer
+
+  -- nothing was put into the folder, and nothing was written
+  pub record LeavesAll : Type 0 where
+    pub copy : put ≡ before
+    pub text : Keeps old new
+    pub files : left ≡ told
+
+  -- the copy was followed as far as it went, and nothing was written
+  pub record FollowsOnly : Type 0 where
+    pub copy : FollowsCandidates digest origin keys so held put
+    pub text : Keeps old new
+    pub files : left ≡ told
+
+  -- what each answer of the command says: the file of the note is read first, then the folder is opened and the copy is
+  -- followed, then the text is written, and last the evidence
+  abbrev pub Follows : Result ℕ FollowRunFault → Type 0
+  Follows (Ok status) = FollowsAndTells (Ok status)
+  Follows (Err (File fault)) = LeavesAll
+  Follows (Err OutOfMemory) = LeavesAll
+  Follows (Err (Follow fault)) = FollowsOnly
+  Follows (Err WriteFault) = FollowsAndTells (Err WriteFault)
+  Follows (Err (Evidence fault)) = FollowsAndTells (Err (Evidence fault))

@@ -1,0 +1,4 @@
+pub mod Text
+pub mod Evidence
+pub mod Following
+pub mod Whys

@@ -1,0 +1,42 @@
+-- What the command `follow` prints, and with which status it ends.
+use Rattle.std.specs.Prelude.{ℕ, List, [], ◌∷◌, ◌++◌, codes, Option, Some, None, Bool, true, false, ◌&&◌, if◌then◌else◌}
+use Rattle.std.specs.Fmt.{decimal}
+use Rattle.std.specs.List.{flat_map}
+use Rattle.mirror_model.specs.Texts.{point_text}
+use Rattle.mirror_follow.specs.declared.report.Followed.{Followed}
+use Rattle.mirror_follow.specs.declared.report.ForkLine.{ForkLine}
+
+-- `followed SIZE ROOT from OLD`
+abbrev pub followed_line : ℕ → List ℕ → ℕ → List ℕ
+followed_line size root old =
+    codes "followed " ++ (point_text size root ++ (codes " from " ++ (decimal old ++ 10 ∷ [])))
+
+-- `fork SIZE ROOT SIZE ROOT`, the smaller checkpoint first
+abbrev pub fork_line : ForkLine → List ℕ
+fork_line line =
+    codes "fork " ++ (point_text line.small.size.0 line.small.root
+    ++ (32 ∷ [] ++ (point_text line.large.size.0 line.large.root ++ 10 ∷ [])))
+
+-- `larger SIZE ROOT`
+abbrev pub larger_line : ℕ × List ℕ → List ℕ
+larger_line point = codes "larger " ++ (point_text point.0 point.1 ++ 10 ∷ [])
+
+-- `behind SIZE ROOT`, if there is such a candidate
+abbrev pub behind_line : Option (ℕ × List ℕ) → List ℕ
+behind_line None = []
+behind_line (Some point) = codes "behind " ++ (point_text point.0 point.1 ++ 10 ∷ [])
+
+-- all lines: what the copy has, the forks, what could not be had, and the greatest candidate where all are smaller
+abbrev pub followed_lines : Followed → List ℕ
+followed_lines done =
+    followed_line done.size done.root done.old
+    ++ (flat_map fork_line done.forks.items ++ (flat_map larger_line done.larger.items ++ behind_line done.behind))
+
+-- there are none
+abbrev pub is_none_of : {X : Type 0} → List X → Bool
+is_none_of [] = true
+is_none_of (x ∷ xs) = false
+
+-- the exit status: 0 where there is neither a fork nor a candidate that could not be had, else 3
+abbrev pub followed_status_of : Followed → ℕ
+followed_status_of done = if is_none_of done.forks.items && is_none_of done.larger.items then 0 else 3

@@ -1,0 +1,180 @@
+//! The command `follow`: a copy in a folder, brought to the newest checkpoint of some places.
+ghost use Rattle.std.specs.Prelude.{◌≡◌, ◌⊎◌, IfOk, map, option_map};
+ghost use Rattle.tlog_text.specs.Answers.{seen};
+ghost use Rattle.mirror_follow.specs.Blame.{CountsFollow, IsGivenOrMayGive};
+ghost use Rattle.mirror_follow.specs.Runs.{FollowsCandidates};
+ghost use Rattle.mirror_follow.specs.Standing.{IsFollowed};
+ghost use Rattle.program_follow.specs.Following.{CountsRun, Follows, FollowsIn, IsNoteOf, ReadsGiven, ReadsNote, TellsDone};
+
+use crate::evidence::write_evidence;
+use crate::fault::FollowRunFault;
+use crate::text::{followed_status, followed_text};
+use byte_streams::write_whole;
+use mirror_copy::Places;
+use mirror_follow::{FollowFault, Followed, follow};
+use mirror_progress::{Task, ToldFolders};
+use mirror_sources::Source;
+use program_files::{NamedFault, NamedFiles};
+use signed_note::Verifier;
+use std::alloc::Global;
+use std::io::Write;
+use tlog_hash::TreeHash;
+
+/// What is followed, and where to.
+#[derive(Clone, Copy)]
+pub struct Following<'a> {
+    /// The origin of the log.
+    pub origin: &'a str,
+    /// The folder of the copy.
+    pub folder: &'a str,
+    /// The file of the note that is followed, where no place is asked for one.
+    pub checkpoint: Option<&'a str>,
+    /// The folder that the evidence of forks is written to, if any.
+    pub forks: Option<&'a str>,
+    /// Whether lines say how far the work is.
+    pub progress: bool,
+}
+
+// The note that is given: the bytes of its file, if one is named.
+fn read_given<F: NamedFiles>(files: &F, name: Option<&str>) -> Result<Option<Vec<u8>>, NamedFault>
+    ensures { ReadsNote (F.puts files.now) (option_map (λ name. name.now) name.entry)
+        (seen (option_map (λ bytes. bytes.items)) result) }
+{
+    let Some(name) = name else {
+        return Ok(None);
+    };
+    match files.read(name) {
+        Ok(bytes) => Ok(Some(bytes)),
+        Err(fault) => Err(fault),
+    }
+}
+
+// Follows the places into the folder that is open. Lines say how far that is, where it is asked for.
+fn follow_told<H: TreeHash, D: ToldFolders, S: Source + Drop>(
+    folders: &mut D,
+    alloc: Global,
+    keys: &[Box<dyn Verifier>],
+    following: &Following<'_>,
+    places: &mut Places<S>,
+    given: Option<Vec<u8>>,
+) -> Result<Followed, FollowFault>
+    ensures whole { FollowsCandidates H.digest following.now.origin.now
+        (map (λ k. key k) keys.now)
+        (IsGivenOrMayGive S.may_answer (option_map (λ v. v.items) given) places.old)
+        (D.puts folders.old) (D.puts folders.new) }
+    ensures brought { IfOk result (IsFollowed H.digest following.now.origin.now
+        (D.puts folders.old) (D.puts folders.new)) }
+    ensures counted { CountsFollow (D.failed folders.old) (D.failed folders.new) result }
+{
+    if following.progress {
+        folders.begin(Task::Follow);
+    }
+    let done = follow::<H, D, S>(alloc, following.origin, keys, folders, places, given);
+    if following.progress {
+        if let Ok(done) = &done {
+            folders.end_followed(done.old, done.size);
+        }
+    }
+    done
+}
+
+// Opens the folder, and follows the places into it.
+fn follow_into<H: TreeHash, D: ToldFolders, S: Source + Drop>(
+    folders: &mut D,
+    alloc: Global,
+    keys: &[Box<dyn Verifier>],
+    following: &Following<'_>,
+    places: &mut Places<S>,
+    given: Option<Vec<u8>>,
+) -> Result<Followed, FollowRunFault>
+    ensures follows { FollowsIn H.digest following.now.origin.now
+        (map (λ k. key k) keys.now)
+        (IsGivenOrMayGive S.may_answer (option_map (λ v. v.items) given) places.old)
+        (D.held folders.old following.now.folder.now) (D.puts folders.old) (D.puts folders.new)
+        result }
+    ensures counted { CountsRun (D.failed folders.old) (D.failed folders.new) result }
+{
+    match folders.open(following.folder) {
+        Ok(()) => {}
+        Err(_) => return Err(FollowRunFault::OutOfMemory),
+    }
+    match follow_told::<H, D, S>(folders, alloc, keys, following, places, given) {
+        Ok(done) => Ok(done),
+        Err(fault) => Err(FollowRunFault::Follow(fault)),
+    }
+}
+
+// Writes the text of what came of following, and then the evidence of its forks. Answers the exit status.
+fn tell_done<F: NamedFiles, W: Write>(
+    files: &mut F,
+    alloc: Global,
+    forks: Option<&str>,
+    done: &Followed,
+    output: &mut W,
+) -> Result<u8, FollowRunFault>
+    ensures tells { TellsDone (option_map (λ name. name.now) forks.entry) done.now
+        (F.puts files.old) (F.puts files.new) (W.contents output.old) (W.contents output.new)
+        result }
+    ensures status { IfOk result (λ status. (status ≡ 0) ⊎ (status ≡ 3)) }
+{
+    let Ok(text) = followed_text(alloc, done) else {
+        return Err(FollowRunFault::Follow(FollowFault::OutOfMemory));
+    };
+    match write_whole(output, text.as_bytes()) {
+        Ok(()) => {}
+        Err(_) => return Err(FollowRunFault::WriteFault),
+    }
+    match write_evidence(files, alloc, forks, &done.forks) {
+        Ok(()) => Ok(followed_status(done)),
+        Err(fault) => Err(FollowRunFault::Evidence(fault)),
+    }
+}
+
+/// Brings the copy in the folder to the newest checkpoint that the places give, as `mirror_follow::follow` does. Then what came of it is
+/// written to the output, as `followed_text` has it, and last the evidence of each fork, where a folder is named for it: both notes, as
+/// `SIZE-ROOT-0.note`, and the proof, as `SMALL-ROOT-LARGE-ROOT.proof`, which the command `check` reads. A file that is there keeps
+/// its bytes. Answers the exit status: 3 where there is a fork, or a candidate that could not be had, else 0.
+///
+/// Where a file of a note is named, that note is the one candidate, and no place is asked for a checkpoint.
+///
+/// ```text
+/// let following = Following { origin: "ex", folder: "log", checkpoint: None, forks: Some("forks"), progress: false };
+/// run_follow::<Sha256Tree, _, _, _, _>(&mut files, &mut folders, alloc, &keys, &following, &mut places, &mut output)? // 0
+/// ```
+///
+/// # Errors
+///
+/// In this order: `File`, where the named file of a note is not read; `OutOfMemory`, where memory for the folder's name was refused;
+/// nothing is put then. `Follow`, those of `mirror_follow::follow`; what was put before it stays. `WriteFault`, where the output cannot
+/// be written. `Evidence`, where the output was written, and the evidence was not, or only a part of it.
+pub fn run_follow<H: TreeHash, F: NamedFiles, D: ToldFolders, S: Source + Drop, W: Write>(
+    files: &mut F,
+    folders: &mut D,
+    alloc: Global,
+    keys: &[Box<dyn Verifier>],
+    following: &Following<'_>,
+    places: &mut Places<S>,
+    output: &mut W,
+) -> Result<u8, FollowRunFault>
+    ensures follows { Follows H.digest following.now.origin.now
+        (map (λ k. key k) keys.now)
+        (IsNoteOf S.may_answer (F.puts files.old)
+        (option_map (λ name. name.now) following.now.checkpoint) places.old)
+        (option_map (λ name. name.now) following.now.forks)
+        (D.held folders.old following.now.folder.now) (D.puts folders.old) (D.puts folders.new)
+        (F.puts files.old) (F.puts files.new) (W.contents output.old) (W.contents output.new)
+        result }
+    ensures given { ReadsGiven (F.puts files.old)
+        (option_map (λ name. name.now) following.now.checkpoint) result }
+    ensures counted { CountsRun (D.failed folders.old) (D.failed folders.new) result }
+    ensures status { IfOk result (λ status. (status ≡ 0) ⊎ (status ≡ 3)) }
+{
+    let given = match read_given(files, following.checkpoint) {
+        Ok(given) => given,
+        Err(fault) => return Err(FollowRunFault::File(fault)),
+    };
+    match follow_into::<H, D, S>(folders, alloc, keys, following, places, given) {
+        Ok(done) => tell_done(files, alloc, following.forks, &done, output),
+        Err(fault) => Err(fault),
+    }
+}

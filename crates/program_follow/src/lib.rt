@@ -1,0 +1,22 @@
+//! The work of the command `follow`: a copy of a log in a folder is brought to the newest checkpoint of some places. What came of
+//! it is printed, and the evidence of each fork is written as files.
+//!
+//! ```text
+//! let mut places = Places::new(alloc);   // each of the sources is added to it
+//! run_follow::<Sha256Tree, _, _, _, _>(&mut files, &mut folders, alloc, &keys, &following, &mut places, &mut output)?
+//! // 0, and the output is: followed 600 CtTvclx+BXrchsWIiLJB6woH1kdkUrIootoUMsQZBJA= from 257
+//! ```
+#![tactic(auto)]
+
+mod evidence;
+mod fault;
+mod following;
+mod place;
+mod text;
+mod why;
+
+pub use fault::FollowRunFault;
+pub use following::{Following, run_follow};
+pub use place::PlaceSource;
+pub use text::{followed_status, followed_text};
+pub use why::places_why;

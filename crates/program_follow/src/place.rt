@@ -1,0 +1,171 @@
+//! The places of a run: folders and servers, by the names that the words give them.
+ghost use Rattle.std.specs.Prelude.{◌≡◌, IfOk};
+
+use mirror_client::{Dial, FailedGet, HttpSource};
+use mirror_folders::{DirSource, FailedFile};
+use mirror_sources::{Source, SourceFault};
+use std::alloc::{AllocError, Global};
+use std::fs::Files;
+use tlog_tiles::Path;
+
+// Where the files of a place lie.
+#[derive(Drop)]
+enum Kind<'a, R: Files, D: Dial + Drop> {
+    Folder(DirSource<'a, R>),
+    Server(HttpSource<D>),
+}
+
+/// Why a get of a place failed.
+#[derive(Debug, Drop, Clone, Copy)]
+pub(crate) enum FailedAt {
+    File(FailedFile),
+    Get(FailedGet),
+}
+
+/// What a place answered for its checkpoint.
+#[derive(Drop)]
+pub(crate) enum Answered {
+    /// It was not asked, or the get failed.
+    Nothing,
+    /// It has none.
+    NotFound,
+    /// These bytes.
+    Note(Vec<u8>),
+}
+
+/// A place of a run: a folder, or a server. It keeps its name, why its first get failed, and what it answered for the checkpoint, so
+/// that `places_why` can say what was wrong with it. Of what it answers nothing is known.
+///
+/// ```text
+/// places.add(PlaceSource::of_folder(alloc, "log", DirSource::new(&rt, alloc, "log"))?)?;
+/// places.add(PlaceSource::of_server(alloc, "log.example:80/2026", HttpSource::new(alloc, site, dial))?)?;
+/// ```
+#[derive(Drop)]
+pub struct PlaceSource<'a, R: Files, D: Dial + Drop> {
+    alloc: Global,
+    name: String,
+    kind: Kind<'a, R, D>,
+    failures: u64,
+    first_failed: Option<FailedAt>,
+    answered: Answered,
+}
+
+impl<'a, R: Files, D: Dial + Drop> PlaceSource<'a, R, D> {
+    fn new(alloc: Global, name: &str, kind: Kind<'a, R, D>) -> Result<Self, AllocError>
+        ensures { IfOk result (λ place. place.failures ≡ 0) }
+    {
+        Ok(PlaceSource {
+            alloc,
+            name: String::from_str(alloc, name)?,
+            kind,
+            failures: 0,
+            first_failed: None,
+            answered: Answered::Nothing,
+        })
+    }
+
+    /// The folder of that name.
+    ///
+    /// # Errors
+    ///
+    /// Memory was refused.
+    pub fn of_folder(
+        alloc: Global,
+        name: &str,
+        source: DirSource<'a, R>,
+    ) -> Result<Self, AllocError> {
+        PlaceSource::new(alloc, name, Kind::Folder(source))
+    }
+
+    /// The server that the words name so.
+    ///
+    /// # Errors
+    ///
+    /// Memory was refused.
+    pub fn of_server(alloc: Global, name: &str, source: HttpSource<D>) -> Result<Self, AllocError> {
+        PlaceSource::new(alloc, name, Kind::Server(source))
+    }
+
+    /// Its name.
+    pub fn name(&self) -> &str {
+        self.name.as_str()
+    }
+
+    /// Why its first get failed.
+    pub(crate) fn first_failed(&self) -> Option<FailedAt> {
+        self.first_failed
+    }
+
+    /// What it answered for its checkpoint, when it was asked first.
+    pub(crate) fn answered(&self) -> &Answered {
+        &self.answered
+    }
+
+    // Asks the folder or the server.
+    fn fetch(&mut self, path: &Path) -> Result<Option<Vec<u8>>, SourceFault>
+        ensures { self.new.failures ≡ self.old.failures }
+    {
+        match &mut self.kind {
+            Kind::Folder(source) => source.get(path),
+            Kind::Server(source) => source.get(path),
+        }
+    }
+
+    // Why the last get failed.
+    fn last_failed(&self) -> Option<FailedAt> {
+        match &self.kind {
+            Kind::Folder(source) => match source.last_failed() {
+                Some(failed) => Some(FailedAt::File(failed)),
+                None => None,
+            },
+            Kind::Server(source) => match source.last_failed() {
+                Some(failed) => Some(FailedAt::Get(failed)),
+                None => None,
+            },
+        }
+    }
+
+    // Keeps what was answered for the checkpoint, the first time. Where memory for it is refused, nothing is kept.
+    fn keep_answer(&mut self, path: &Path, found: &Option<Vec<u8>>)
+        ensures { self.new.failures ≡ self.old.failures }
+    {
+        if *path != Path::Checkpoint {
+            return;
+        }
+        let Answered::Nothing = &self.answered else {
+            return;
+        };
+        match found {
+            None => self.answered = Answered::NotFound,
+            Some(bytes) => match Vec::from_slice(self.alloc, bytes) {
+                Ok(note) => self.answered = Answered::Note(note),
+                Err(_) => {}
+            },
+        }
+    }
+}
+
+impl<'a, R: Files, D: Dial + Drop> Source for PlaceSource<'a, R, D> {
+    ghost failed = { λ s. s.failures };
+
+    fn get(&mut self, path: &Path) -> Result<Option<Vec<u8>>, SourceFault> {
+        match self.fetch(path) {
+            Ok(found) => {
+                self.keep_answer(path, &found);
+                Ok(found)
+            }
+            Err(SourceFault::OutOfMemory) => Err(SourceFault::OutOfMemory),
+            Err(SourceFault::Failed) => {
+                self.failures = self.failures.saturating_add(1);
+                if self.first_failed.is_none() {
+                    self.first_failed = self.last_failed();
+                }
+                Err(SourceFault::Failed)
+            }
+        }
+    }
+
+    fn failures(&self) -> u64 {
+        self.failures
+    }
+}

@@ -1,0 +1,127 @@
+//! The text of what came of following.
+ghost use Rattle.std.specs.Prelude.{◌≡◌, ◌++◌, ◌∷◌, ◌⊎◌, [], IfOk, OnOk, string_bytes};
+ghost use Rattle.std.specs.List.{flat_map};
+ghost use Rattle.mirror_model.specs.Texts.{point_text};
+ghost use Rattle.program_follow.specs.Text.{behind_line, followed_line, followed_lines, followed_status_of, fork_line, larger_line};
+
+use mirror_follow::{Followed, ForkLine};
+use std::alloc::{AllocError, Global};
+use tlog_hash::Hash;
+use tlog_text::{push_hash, push_number};
+
+/// What came of following, a line each: what the copy has now and how many entries it had before, each fork with the smaller
+/// checkpoint first, each candidate that could not be had, and the greatest candidate where all are smaller. Roots are in
+/// standard base64.
+///
+/// ```text
+/// followed 257 Vtr95bs6bTEAwKWkpA8ePu37C9grbzipJ/t/5Cf4fos= from 257
+/// fork 257 Vtr95bs6bTEAwKWkpA8ePu37C9grbzipJ/t/5Cf4fos= 300 yLkhyCkirhBIPDWdbKzWEl0M7mUNhhrqa6beCGubPR4=
+/// ```
+///
+/// # Errors
+///
+/// Memory was refused.
+pub fn followed_text(alloc: Global, followed: &Followed) -> Result<String, AllocError>
+    ensures { IfOk result (λ text. string_bytes text ≡ followed_lines followed.now) }
+{
+    let mut text = String::new(alloc);
+    push_followed(&mut text, followed.size, &followed.root, followed.old)?;
+    push_forks(&mut text, &followed.forks)?;
+    push_larger(&mut text, &followed.larger)?;
+    push_behind(&mut text, &followed.behind)?;
+    Ok(text)
+}
+
+/// The exit status: 3 where there is a fork, or a candidate that could not be had, else 0.
+///
+/// ```text
+/// followed_status(&done) // 0
+/// ```
+pub fn followed_status(followed: &Followed) -> u8
+    ensures is { result ≡ followed_status_of followed.now }
+    ensures some { (result ≡ 0) ⊎ (result ≡ 3) }
+{
+    if !followed.forks.is_empty() {
+        return 3;
+    }
+    if !followed.larger.is_empty() {
+        return 3;
+    }
+    0
+}
+
+// Adds a size and a root, with a space between.
+fn push_point(text: &mut String, size: u64, root: &Hash) -> Result<(), AllocError>
+    ensures { OnOk result (string_bytes text.new ≡ string_bytes text.old
+        ++ point_text size root.now) }
+{
+    push_number(text, size)?;
+    text.push_str(" ")?;
+    push_hash(text, root)
+}
+
+// Adds what the copy has, and had before.
+fn push_followed(text: &mut String, size: u64, root: &Hash, old: u64) -> Result<(), AllocError>
+    ensures { OnOk result (string_bytes text.new ≡ string_bytes text.old
+        ++ followed_line size root.now old) }
+{
+    text.push_str("followed ")?;
+    push_point(text, size, root)?;
+    text.push_str(" from ")?;
+    push_number(text, old)?;
+    text.push_str("\n")
+}
+
+// Adds the line of a fork.
+fn push_fork(text: &mut String, line: &ForkLine) -> Result<(), AllocError>
+    ensures { OnOk result (string_bytes text.new ≡ string_bytes text.old ++ fork_line line.now) }
+{
+    text.push_str("fork ")?;
+    push_point(text, line.small.size.0, &line.small.root)?;
+    text.push_str(" ")?;
+    push_point(text, line.large.size.0, &line.large.root)?;
+    text.push_str("\n")
+}
+
+// Adds a line for each fork.
+fn push_forks(text: &mut String, lines: &[ForkLine]) -> Result<(), AllocError>
+    ensures { OnOk result (string_bytes text.new ≡ string_bytes text.old
+        ++ flat_map fork_line lines.now) }
+{
+    for line in lines {
+        push_fork(text, line)?;
+    }
+    Ok(())
+}
+
+// Adds a word, a size and a root, on a line of their own.
+fn push_line(text: &mut String, word: &str, size: u64, root: &Hash) -> Result<(), AllocError>
+    ensures { OnOk result (string_bytes text.new ≡ string_bytes text.old
+        ++ (word.now ++ (point_text size root.now ++ 10 ∷ []))) }
+{
+    text.push_str(word)?;
+    push_point(text, size, root)?;
+    text.push_str("\n")
+}
+
+// Adds a line for each candidate that could not be had.
+fn push_larger(text: &mut String, points: &[(u64, Hash)]) -> Result<(), AllocError>
+    ensures { OnOk result (string_bytes text.new ≡ string_bytes text.old
+        ++ flat_map larger_line points.now) }
+{
+    for point in points {
+        push_line(text, "larger ", point.0, &point.1)?;
+    }
+    Ok(())
+}
+
+// Adds the line of the greatest candidate, where all are smaller.
+fn push_behind(text: &mut String, behind: &Option<(u64, Hash)>) -> Result<(), AllocError>
+    ensures { OnOk result (string_bytes text.new ≡ string_bytes text.old
+        ++ behind_line behind.now) }
+{
+    match behind {
+        Some(point) => push_line(text, "behind ", point.0, &point.1),
+        None => Ok(()),
+    }
+}

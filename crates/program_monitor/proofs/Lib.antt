@@ -1,0 +1,5 @@
+pub mod Parts
+pub mod Cuts
+pub mod ShownBundles
+pub mod CopySteps
+pub mod ServedSteps

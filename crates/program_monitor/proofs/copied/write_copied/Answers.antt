@@ -1,0 +1,74 @@
+use Rattle.std.proofs.Common.{ℕ, ◌/◌, ◌<◌, List, sym, ◌∙◌, subst, arith}
+use Rattle.log_reader.specs.EdgeRows.{Edge}
+use Rattle.log_reader.specs.Ways.{IsShownBundle}
+use Rattle.program_monitor.specs.Shown.{AppendsFrom, BeginsFrom}
+use Rattle.program_monitor.proofs.Cuts.{err_any}
+use Rattle.program_monitor.proofs.CopySteps.{kept_then, shown_early, shown_stop, shown_then}
+use Rattle.program_monitor.proofs.copied.write_copied.Goals as goal
+
+pub returns-in_err-bytes-clause-err : goal.returns-in_err-bytes-clause-err
+returns-in_err-bytes-clause-err g c =
+    let range = c.args.range.now in
+    err_any c.from_residual.result _
+    (shown_stop g.H.TreeHash.digest c.args.reader.now.edge range.base64 range.from c.loop-at.at range.to
+    (g.W.Write.contents c.args.output.now) (g.W.Write.contents c.loop-at.output) c.loop-at.invariant.high
+    c.loop-at.invariant.written)
+
+pub returns-in-Err-WriteFault-clause-err : goal.returns-in-Err-WriteFault-clause-err
+returns-in-Err-WriteFault-clause-err g c =
+    let digest = g.H.TreeHash.digest in
+    let edge = c.args.reader.now.edge in
+    let range = c.args.range.now in
+    let at = c.loop-at.at in
+    let bytes = c.deref.result.now in
+    let b = g.W.Write.contents c.loop-at.output in
+    let d = g.W.Write.contents c.write_from.new.output in
+    let lt : at < range.to = omega arith in
+    let shown = subst (λ (e : Edge). IsShownBundle digest e (at / 256) c.in_ok-bytes.bytes.items) c.loop-at.invariant.edge
+    c.in_ok-bytes.ensures.shown in
+    shown_early digest edge range.base64 c.requires.hashes range.from at range.to bytes
+    (g.W.Write.contents c.args.output.now) b d c.requires.within lt c.loop-at.invariant.written
+    (subst (λ (w : List ℕ). IsShownBundle digest edge (at / 256) w) (sym c.deref.ensures.value) shown)
+    (subst (λ n. BeginsFrom bytes n at range.to range.base64 b d) c.size-size.ensures c.in-Err-WriteFault.ensures.err)
+
+pub returns-in-Err-OutOfMemory-clause-err : goal.returns-in-Err-OutOfMemory-clause-err
+returns-in-Err-OutOfMemory-clause-err g c =
+    let digest = g.H.TreeHash.digest in
+    let edge = c.args.reader.now.edge in
+    let range = c.args.range.now in
+    let at = c.loop-at.at in
+    let bytes = c.deref.result.now in
+    let b = g.W.Write.contents c.loop-at.output in
+    let d = g.W.Write.contents c.write_from.new.output in
+    let lt : at < range.to = omega arith in
+    let shown = subst (λ (e : Edge). IsShownBundle digest e (at / 256) c.in_ok-bytes.bytes.items) c.loop-at.invariant.edge
+    c.in_ok-bytes.ensures.shown in
+    shown_early digest edge range.base64 c.requires.hashes range.from at range.to bytes
+    (g.W.Write.contents c.args.output.now) b d c.requires.within lt c.loop-at.invariant.written
+    (subst (λ (w : List ℕ). IsShownBundle digest edge (at / 256) w) (sym c.deref.ensures.value) shown)
+    (subst (λ n. BeginsFrom bytes n at range.to range.base64 b d) c.size-size.ensures c.in-Err-OutOfMemory.ensures.err)
+
+pub loop-at-preserved : goal.loop-at-preserved
+loop-at-preserved g c = record {
+  low = omega (arith, c.loop-at.invariant.low, c.in-Ok.ensures.next.rises);
+  high = c.in-Ok.ensures.next.within;
+  counted = c.in_ok-bytes.ensures.counted ∙ c.loop-at.invariant.counted;
+  same = kept_then (g.D.Shelf.puts c.args.shelf.now) (g.D.Shelf.puts c.loop-at.shelf) (g.D.Shelf.puts c.bundle_on.new.shelf)
+      c.loop-at.invariant.same c.bundle_on.ensures.same;
+  edge = c.bundle_on.ensures.edge ∙ c.loop-at.invariant.edge;
+  written =
+      let digest = g.H.TreeHash.digest in
+      let edge = c.args.reader.now.edge in
+      let range = c.args.range.now in
+      let at = c.loop-at.at in
+      let bytes = c.deref.result.now in
+      let b = g.W.Write.contents c.loop-at.output in
+      let d = g.W.Write.contents c.write_from.new.output in
+      let shown = subst (λ (e : Edge). IsShownBundle digest e (at / 256) c.in_ok-bytes.bytes.items) c.loop-at.invariant.edge
+      c.in_ok-bytes.ensures.shown in
+      shown_then digest edge range.base64 c.requires.hashes range.from at range.to c.in-Ok.next bytes
+      (g.W.Write.contents c.args.output.now) b d c.requires.within c.loop-at.invariant.written
+      (subst (λ (w : List ℕ). IsShownBundle digest edge (at / 256) w) (sym c.deref.ensures.value) shown)
+      c.in-Ok.ensures.next
+      (subst (λ n. AppendsFrom bytes n at range.base64 b d c.in-Ok.next) c.size-size.ensures c.in-Ok.ensures.ok);
+}

@@ -1,0 +1,40 @@
+-- What the command `audit` says of a source, and what it writes.
+use Rattle.std.specs.Prelude.{◌≡◌, ℕ, List, Option, Result, Ok, Err}
+use Rattle.std.specs.Io.KnownBytes.{Appends, Keeps}
+use Rattle.byte_streams.specs.Streams.{AppendsPrefix}
+use Rattle.signed_note.specs.Keys.{Key}
+use Rattle.tlog_tiles.specs.declared.paths.Path.{Path}
+use Rattle.mirror_audit.specs.Audits.{IsAudited}
+use Rattle.mirror_audit.specs.Faults.{IsForAbsence, BlamesPlace}
+use Rattle.program_monitor.specs.Texts.{audited_line}
+use Rattle.program_monitor.specs.declared.fault.AuditRunFault.{AuditRunFault}
+use Rattle.program_monitor.specs.declared.fault.AuditRunFault.TheVariants.{Audit, WriteFault}
+
+module _ (digest : List ℕ → List ℕ) (origin : List ℕ) (keys : List Key)
+    (may later : Path → Option (List ℕ) → Type 0) (asked now : Option (List Path))
+    (old new : Option (List ℕ)) where
+  -- a whole log was read at the source, and its line was written
+  pub record PrintsAudited : Type 0 where
+    pub size : ℕ
+    pub root : List ℕ
+    pub audited : IsAudited digest origin keys size root may later asked now
+    pub written : Appends old new (audited_line size root)
+
+  -- a whole log was read at the source, and a prefix of its line was written
+  pub record BeginsAudited : Type 0 where
+    pub size : ℕ
+    pub root : List ℕ
+    pub audited : IsAudited digest origin keys size root may later asked now
+    pub written : AppendsPrefix old new (audited_line size root)
+
+  -- what each answer of the command says: nothing is written at a fault of the audit
+  abbrev pub RunsAudit : Result ℕ AuditRunFault → Type 0
+  RunsAudit (Ok status) = (status ≡ 0) × PrintsAudited
+  RunsAudit (Err WriteFault) = BeginsAudited
+  RunsAudit (Err (Audit fault)) = IsForAbsence may fault × Keeps old new
+
+-- the source is blamed as the audit blames it
+abbrev pub BlamesRun : ℕ → ℕ → Result ℕ AuditRunFault → Type 0
+BlamesRun old new (Ok status) = new ≡ old
+BlamesRun old new (Err WriteFault) = new ≡ old
+BlamesRun old new (Err (Audit fault)) = BlamesPlace {T = ℕ} old new (Err fault)

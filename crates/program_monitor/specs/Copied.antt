@@ -1,0 +1,140 @@
+-- What the command `entries` reads of a copy, and what it writes.
+use Rattle.std.specs.Prelude.{◌≡◌, ◌⊎◌, ℕ, ◌<◌, ◌≤◌, List, Bool, Option, Some, None, Result, Ok, Err, ⊤}
+use Rattle.std.specs.Io.KnownBytes.{Keeps}
+use Rattle.signed_note.specs.Keys.{Key}
+use Rattle.tlog_tiles.specs.declared.paths.Path.TheVariants.{Checkpoint}
+use Rattle.mirror_model.specs.Heads.{IsOpenHead}
+use Rattle.mirror_model.specs.Refusals.{ReadsHead}
+use Rattle.mirror_model.specs.declared.fault.TakeFault.{TakeFault}
+use Rattle.mirror_sources.specs.Told.{KeepsTold, one_more}
+use Rattle.mirror_folders.specs.Shelf.{Put, TellsRead}
+use Rattle.mirror_folders.specs.declared.shelf.ShelfError.{ShelfError}
+use Rattle.mirror_folders.specs.declared.shelf.ShelfError.TheVariants as shelf
+use Rattle.log_reader.specs.EdgeRows.{Edge, hash_of_edge}
+use Rattle.log_reader.specs.Ways.{HasEdgeHashes}
+use Rattle.program_monitor.specs.Shown.{WritesShown, WritesSomeShown}
+use Rattle.program_monitor.specs.declared.fault.CopyEntriesFault.{CopyEntriesFault}
+use Rattle.program_monitor.specs.declared.fault.CopyEntriesFault.TheVariants.{NothingComplete, Head, CopyDamaged, ShelfFault}
+use Rattle.program_monitor.specs.declared.fault.CopyEntriesFault.TheVariants.{NoSuchSize, Backwards, WriteFault, OutOfMemory}
+
+-- the fault of the command that a shelf's is
+abbrev pub by_shelf : ShelfError → CopyEntriesFault
+by_shelf shelf.Failed = ShelfFault
+by_shelf shelf.OutOfMemory = OutOfMemory
+
+-- the shelf's count of failures rises by a ShelfFault, and by nothing else
+abbrev pub CountsFault : ℕ → ℕ → CopyEntriesFault → Type 0
+CountsFault old new NothingComplete = new ≡ old
+CountsFault old new (Head fault) = new ≡ old
+CountsFault old new (CopyDamaged path) = new ≡ old
+CountsFault old new ShelfFault = new ≡ one_more old
+CountsFault old new NoSuchSize = new ≡ old
+CountsFault old new Backwards = new ≡ old
+CountsFault old new WriteFault = new ≡ old
+CountsFault old new OutOfMemory = new ≡ old
+
+-- the same of an answer
+abbrev pub CountsCopy : {T : Type 0} → ℕ → ℕ → Result T CopyEntriesFault → Type 0
+CountsCopy old new (Ok x) = new ≡ old
+CountsCopy old new (Err fault) = CountsFault old new fault
+
+-- the fault is one of files that are read
+abbrev pub IsOfFiles : CopyEntriesFault → Type 0
+IsOfFiles NothingComplete = ⊥
+IsOfFiles (Head fault) = ⊥
+IsOfFiles (CopyDamaged path) = ⊤
+IsOfFiles ShelfFault = ⊤
+IsOfFiles NoSuchSize = ⊥
+IsOfFiles Backwards = ⊥
+IsOfFiles WriteFault = ⊥
+IsOfFiles OutOfMemory = ⊤
+
+-- the fault is one of files that are read, or of writing
+abbrev pub IsOfWriting : CopyEntriesFault → Type 0
+IsOfWriting NothingComplete = ⊥
+IsOfWriting (Head fault) = ⊥
+IsOfWriting (CopyDamaged path) = ⊤
+IsOfWriting ShelfFault = ⊤
+IsOfWriting NoSuchSize = ⊥
+IsOfWriting Backwards = ⊥
+IsOfWriting WriteFault = ⊤
+IsOfWriting OutOfMemory = ⊤
+
+-- what was put stays: the folder was not opened, or what it holds is what it held
+abbrev pub LeavesCopy : Option (List Put) → Option (List Put) → Option (List Put) → Type 0
+LeavesCopy held before put = (put ≡ before) ⊎ KeepsTold held put
+
+-- the note that stands as the checkpoint is of that size and root, and opens under the keys
+pub record IsCheckpointAt (origin : List ℕ) (keys : List Key) (held : Option (List Put)) (size : ℕ)
+    (root : List ℕ) : Type 0 where
+  pub note : List ℕ
+  pub stands : TellsRead held Checkpoint (Some note)
+  pub is_head : IsOpenHead note origin keys size root
+
+-- the note that stands as the checkpoint does not open under the keys, for that reason
+pub record HasBadHead (origin : List ℕ) (keys : List Key) (held : Option (List Put)) (fault : TakeFault)
+    : Type 0 where
+  pub note : List ℕ
+  pub stands : TellsRead held Checkpoint (Some note)
+  pub refused : ReadsHead note origin keys (Err fault)
+
+-- why a copy is not opened, of what the folder holds
+abbrev pub RefusesCopy : List ℕ → List Key → Option (List Put) → CopyEntriesFault → Type 0
+RefusesCopy origin keys held NothingComplete = TellsRead held Checkpoint None
+RefusesCopy origin keys held (Head fault) = HasBadHead origin keys held fault
+RefusesCopy origin keys held (CopyDamaged path) = ⊤
+RefusesCopy origin keys held ShelfFault = ⊤
+RefusesCopy origin keys held NoSuchSize = ⊥
+RefusesCopy origin keys held Backwards = ⊥
+RefusesCopy origin keys held WriteFault = ⊥
+RefusesCopy origin keys held OutOfMemory = ⊤
+
+module _ (digest : List ℕ → List ℕ) (origin : List ℕ) (keys : List Key) (held : Option (List Put)) where
+  -- the note that stands as the checkpoint opens under the keys, and the edge leads to its root
+  pub record IsOpenCopy (edge : Edge) : Type 0 where
+    pub root : List ℕ
+    pub checkpoint : IsCheckpointAt origin keys held edge.size root
+    pub hashes : HasEdgeHashes edge
+    pub leads : hash_of_edge digest edge ≡ root
+
+  module _ (from to : ℕ) (base64 : Bool) (old new : Option (List ℕ)) where
+    -- the copy's entries from FROM up to TO were written
+    pub record WritesCopied : Type 0 where
+      pub edge : Edge
+      pub opened : IsOpenCopy edge
+      pub rises : from ≤ to
+      pub within : to ≤ edge.size
+      pub written : WritesShown digest edge base64 from to old new
+
+    -- the copy has so many entries, and the writing of them ended early
+    pub record WritesSomeCopied : Type 0 where
+      pub edge : Edge
+      pub opened : IsOpenCopy edge
+      pub rises : from ≤ to
+      pub within : to ≤ edge.size
+      pub written : WritesSomeShown digest edge base64 from to old new
+
+    -- the copy has fewer than TO entries
+    pub record HasFewerCopied : Type 0 where
+      pub edge : Edge
+      pub opened : IsOpenCopy edge
+      pub fewer : edge.size < to
+
+    -- the copy has TO entries, and FROM is larger
+    pub record HasBackwardsCopied : Type 0 where
+      pub edge : Edge
+      pub opened : IsOpenCopy edge
+      pub within : to ≤ edge.size
+      pub falls : to < from
+
+    -- what each answer of the command says of what the folder held, and of what was written
+    abbrev pub AnswersCopied : {T : Type 0} → Result T CopyEntriesFault → Type 0
+    AnswersCopied (Ok x) = WritesCopied
+    AnswersCopied (Err NothingComplete) = RefusesCopy origin keys held NothingComplete × Keeps old new
+    AnswersCopied (Err (Head fault)) = RefusesCopy origin keys held (Head fault) × Keeps old new
+    AnswersCopied (Err (CopyDamaged path)) = Keeps old new ⊎ WritesSomeCopied
+    AnswersCopied (Err ShelfFault) = Keeps old new ⊎ WritesSomeCopied
+    AnswersCopied (Err NoSuchSize) = HasFewerCopied × Keeps old new
+    AnswersCopied (Err Backwards) = HasBackwardsCopied × Keeps old new
+    AnswersCopied (Err WriteFault) = WritesSomeCopied
+    AnswersCopied (Err OutOfMemory) = Keeps old new ⊎ WritesSomeCopied

@@ -1,0 +1,5 @@
+pub mod Texts
+pub mod Audits
+pub mod Served
+pub mod Shown
+pub mod Copied

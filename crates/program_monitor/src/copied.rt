@@ -1,0 +1,120 @@
+//! The command `entries` over a copy: entries of the log in a folder, each verified before it is written.
+ghost use Rattle.std.specs.Prelude.{◌≡◌, ◌<◌, ◌≤◌, IfErr, OnErr, OnOk, map};
+ghost use Rattle.mirror_sources.specs.Told.{KeepsTold};
+ghost use Rattle.log_reader.specs.Ways.{HasEdgeHashes};
+ghost use Rattle.program_monitor.specs.Copied.{AnswersCopied, CountsCopy, IsOfWriting, LeavesCopy};
+ghost use Rattle.program_monitor.specs.Shown.{WritesShown, WritesSomeShown};
+
+use crate::cutting::CutFault;
+use crate::fault::CopyEntriesFault;
+use crate::handed::HandedFiles;
+use crate::opening::{bundle_on, open_copy};
+use crate::range::EntryRange;
+use crate::writing::write_from;
+use log_reader::LogReader;
+use mirror_folders::{NamedFolders, ReadableShelf};
+use signed_note::Verifier;
+use std::alloc::Global;
+use std::io::Write;
+use tlog_hash::TreeHash;
+
+// Writes the entries, a bundle at a time.
+fn write_copied<H: TreeHash, D: ReadableShelf, W: Write>(
+    shelf: &mut D,
+    alloc: Global,
+    reader: &mut LogReader<H>,
+    range: &EntryRange,
+    output: &mut W,
+) -> Result<(), CopyEntriesFault>
+    requires rises { range.now.from ≤ range.now.to }
+    requires within { range.now.to ≤ reader.old.edge.size }
+    requires hashes { HasEdgeHashes reader.old.edge }
+    ensures ok { OnOk result (WritesShown H.digest reader.old.edge range.now.base64 range.now.from
+        range.now.to (W.contents output.old) (W.contents output.new)) }
+    ensures err { OnErr result (WritesSomeShown H.digest reader.old.edge range.now.base64
+        range.now.from range.now.to (W.contents output.old) (W.contents output.new)) }
+    ensures fault { IfErr result IsOfWriting }
+    ensures same { KeepsTold (D.puts shelf.old) (D.puts shelf.new) }
+    ensures counted { CountsCopy (D.failed shelf.old) (D.failed shelf.new) result }
+{
+    let size = reader.size();
+    let mut files = HandedFiles::new(alloc);
+    let mut at = range.from;
+    while at < range.to {
+        let bytes = bundle_on::<H, D>(shelf, alloc, reader, &mut files, at / 256)?;
+        match write_from(alloc, &bytes, size, at, range, output) {
+            Ok(next) => at = next,
+            Err(CutFault::WriteFault) => return Err(CopyEntriesFault::WriteFault),
+            Err(CutFault::OutOfMemory) => return Err(CopyEntriesFault::OutOfMemory),
+        }
+    }
+    Ok(())
+}
+
+// Writes entries of the copy that stands on the shelf.
+fn write_range<H: TreeHash, D: ReadableShelf, W: Write>(
+    shelf: &mut D,
+    alloc: Global,
+    origin: &str,
+    keys: &[Box<dyn Verifier>],
+    range: &EntryRange,
+    output: &mut W,
+) -> Result<(), CopyEntriesFault>
+    ensures answer { AnswersCopied H.digest origin.now (map (λ k. key k) keys.now)
+        (D.puts shelf.old) range.now.from range.now.to range.now.base64 (W.contents output.old)
+        (W.contents output.new) result }
+    ensures same { KeepsTold (D.puts shelf.old) (D.puts shelf.new) }
+    ensures counted { CountsCopy (D.failed shelf.old) (D.failed shelf.new) result }
+{
+    let mut reader = open_copy::<H, D>(shelf, alloc, origin, keys)?;
+    if range.to > reader.size() {
+        return Err(CopyEntriesFault::NoSuchSize);
+    }
+    if range.from > range.to {
+        return Err(CopyEntriesFault::Backwards);
+    }
+    let done = write_copied::<H, D, W>(shelf, alloc, &mut reader, range, output);
+    drop(reader);
+    done
+}
+
+/// Writes entries of the copy in the folder, in their order. A copy is a log's files as it publishes them. Each bundle is
+/// verified up to the root of the copy's checkpoint, which opens under the keys, before its entries are written. Memory holds
+/// one bundle, and one row a level, whatever the size of the log.
+///
+/// ```text
+/// let range = EntryRange { from: 599, to: 600, base64: true };
+/// entries_of_copy::<Sha256Tree, _, _>(&mut folders, alloc, "example.com/log", &keys, "log", &range, &mut output)?
+/// // Alc=
+/// ```
+///
+/// # Errors
+///
+/// In this order: `NothingComplete`, where the folder has no checkpoint; `Head`, where that does not open under the keys, as
+/// `log_reader::open_head` says; `CopyDamaged`, where a row of the edge is missing or the rows do not lead to the root;
+/// `NoSuchSize`, where there are fewer entries than `range.to`; `Backwards`, where `range.from` is larger than that. Nothing is
+/// written then. While entries are written: `CopyDamaged`, where a file is missing or does not lead to the root, and
+/// `WriteFault`, where a write fails or takes no byte. At any time: `ShelfFault`, where a file cannot be read, and
+/// `OutOfMemory`. What was written before stays, and is right.
+pub fn entries_of_copy<H: TreeHash, D: NamedFolders, W: Write>(
+    folders: &mut D,
+    alloc: Global,
+    origin: &str,
+    keys: &[Box<dyn Verifier>],
+    folder: &str,
+    range: &EntryRange,
+    output: &mut W,
+) -> Result<(), CopyEntriesFault>
+    ensures answer { AnswersCopied H.digest origin.now (map (λ k. key k) keys.now)
+        (D.held folders.old folder.now) range.now.from range.now.to range.now.base64
+        (W.contents output.old) (W.contents output.new) result }
+    ensures same { LeavesCopy (D.held folders.old folder.now) (D.puts folders.old)
+        (D.puts folders.new) }
+    ensures counted { CountsCopy (D.failed folders.old) (D.failed folders.new) result }
+{
+    match folders.open(folder) {
+        Ok(()) => {}
+        Err(_) => return Err(CopyEntriesFault::OutOfMemory),
+    }
+    write_range::<H, D, W>(folders, alloc, origin, keys, range, output)
+}

@@ -1,0 +1,9 @@
+use Rattle.std.proofs.Common.{subst}
+use Rattle.clap.specs.Words.{found_of, rows_of}
+use Rattle.program_words.specs.Readings.{FindsPart, IsPlaceGiven}
+use Rattle.program_words.proofs.commands.audit.audit_of.Goals as goal
+
+pub returns-in_default-2 : goal.returns-in_default-2
+returns-in_default-2 c = λ audit is.
+    let Found = FindsPart (IsPlaceGiven (rows_of (found_of c.args.found.now))) in
+    subst (λ o. Found o) c.in_default-2.is c.in_ok-place.ensures audit.place is.place

@@ -1,0 +1,104 @@
+//! `audit`: a whole log at a place, verified file by file.
+ghost use Rattle.std.specs.Prelude.{IfOk, codes};
+ghost use Rattle.clap.specs.Words.{found_of, rows_of};
+ghost use Rattle.program_words.specs.Commands.{IsAudit};
+ghost use Rattle.program_words.specs.Readings.{FindsPart, IsSaid, ReadsPart};
+
+use crate::commands::Command;
+use crate::fault::CommandFault;
+use crate::parser::{Argument, CommandLine, KEYS, ORIGIN, PROGRESS, WHY};
+use crate::parts::{Log, has_flag, log_of};
+use crate::place::{Place, bad_place, place_given};
+use clap::ArgMatches;
+use std::alloc::{AllocError, Global};
+
+/// `audit`: a whole log at a place, verified file by file.
+#[derive(Drop, Clone, Copy)]
+pub struct Audit<'a> {
+    /// The log.
+    pub log: Log<'a>,
+    /// Whether it is told how far the work is.
+    pub progress: bool,
+    /// Where the log is.
+    pub place: Place<'a>,
+}
+
+// What it reads, writes and may end with.
+const HELP: &str = "\
+The place is a log, or a copy of one, for example one's own. Its checkpoint is verified, and then every
+file of a log of that size, one after the other. A partial file may have given way to its full one.
+The output is 'audited SIZE ROOT', where every file has the bytes that the log has there.
+With --progress lines like 'audit: 1,024 of 7,832 files, 23 MB' go to standard error, from the first
+second on, and one at the end.
+'http' is plain HTTP, with no TLS and no redirects: a proxy beside it ends HTTPS.
+
+Exit status: 0 done, 1 a fault, 2 words that ask for nothing, or that do not fit (BadArgument).
+Faults of O and K: see 'tlogmirror --help'. Of the place:
+  NoCheckpoint        it has no checkpoint: see PLACE
+  NoEdge              it lacks a tile of the checkpoint's edge, which --why names
+  NoFile              it lacks another file, which --why names
+  FalseFile           a file has other bytes than the log has there: --why names the file
+  Source              it could not be read or did not answer: try again
+  NoteTooLong, NotText, NoSignatures, TooManySignatures, BadSignatureLine
+                      the checkpoint is no signed note
+  TooFewLines, EmptyLine, BadSize, SizeTooLarge, BadRoot
+                      the note is no checkpoint
+  OtherOrigin         the checkpoint is of another log
+  NoTrustedSignature  no key of K signed the checkpoint: add the log's key or a pin
+
+Example: tlogmirror audit --origin example.com/log --keys examples/log.keys dir examples/log";
+
+/// Its command line.
+pub(crate) const LINE: CommandLine<'static> = CommandLine {
+    name: "audit",
+    about: "Reads a whole log at a place, and verifies every file of it, in little memory",
+    help: HELP,
+    arguments: &[
+        ORIGIN,
+        KEYS,
+        WHY,
+        PROGRESS,
+        Argument::Place(
+            "kind",
+            "KIND",
+            "Where it is: dir, or http, which is plain HTTP",
+        ),
+        Argument::Place(
+            "place",
+            "PLACE",
+            "The folder, or host:port with an optional /prefix",
+        ),
+    ],
+};
+
+// What its options say.
+fn audit_of<'a>(alloc: Global, found: &ArgMatches<'a>) -> Result<Option<Audit<'a>>, AllocError>
+    ensures { IfOk result (FindsPart (IsAudit (rows_of (found_of found.now)))) }
+{
+    let Some(log) = log_of(found) else {
+        return Ok(None);
+    };
+    let Some(place) = place_given(alloc, found)? else {
+        return Ok(None);
+    };
+    Ok(Some(Audit {
+        log,
+        progress: has_flag(found, "progress"),
+        place,
+    }))
+}
+
+/// The command, by its options.
+pub(crate) fn read<'a>(alloc: Global, found: &ArgMatches<'a>) -> Result<Command<'a>, CommandFault>
+    ensures { ReadsPart (IsSaid (codes "audit") (rows_of (found_of found.now))) result }
+{
+    match audit_of(alloc, found)? {
+        Some(audit) => Ok(Command::Audit(audit)),
+        None => Err(CommandFault::BadArgument),
+    }
+}
+
+/// The word that is bad, as help names it.
+pub(crate) fn bad_word(alloc: Global, found: &ArgMatches<'_>) -> Option<&'static str> {
+    bad_place(alloc, found.get_str("kind")?, found.get_str("place")?)
+}

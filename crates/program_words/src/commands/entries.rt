@@ -1,0 +1,132 @@
+//! `entries`: a range of entries, of what a mirror serves, or of a copy.
+ghost use Rattle.std.specs.Prelude.{codes};
+ghost use Rattle.clap.specs.Words.{found_of, rows_of};
+ghost use Rattle.program_words.specs.Commands.{IsCopyEntries, IsEntries, IsEntryRange};
+ghost use Rattle.program_words.specs.Readings.{FindsPart, IsSaid, ReadsPart};
+
+use crate::commands::Command;
+use crate::fault::CommandFault;
+use crate::parser::{Argument, CommandLine, DIR_OR_STATE, KEYS, ORIGIN, STATE_OR_DIR, WHY};
+use crate::parts::{CopyArgs, StateArgs, copy_asked, has_flag, names_one, number_of, state_asked};
+use clap::ArgMatches;
+use tlog_shape::MAX_SIZE;
+
+/// Which entries are written, and how.
+#[derive(Drop, Clone, Copy)]
+pub struct EntryRange {
+    /// The first of them, from 0 on. It may be greater than `to`, which is refused later.
+    pub from: u64,
+    /// How many entries stand before their end: the last of them is the one before this.
+    pub to: u64,
+    /// Whether each is written as a line in base64.
+    pub base64: bool,
+}
+
+/// `entries --state`: entries of what a mirror serves.
+#[derive(Drop, Clone, Copy)]
+pub struct Entries<'a> {
+    /// The mirror.
+    pub mirror: StateArgs<'a>,
+    /// Which entries.
+    pub range: EntryRange,
+}
+
+/// `entries --dir`: entries of a copy.
+#[derive(Drop, Clone, Copy)]
+pub struct CopyEntries<'a> {
+    /// The copy.
+    pub copy: CopyArgs<'a>,
+    /// Which entries.
+    pub range: EntryRange,
+}
+
+// What it reads, writes and may end with.
+const HELP: &str = "\
+The output is the served entries from FROM up to TO, without TO: each is its length, two bytes with the
+higher first, and its bytes, as 'build' reads them. With --base64 each is a line. To read what is new
+give the last TO as FROM, and the size that 'status' prints as TO.
+Of a copy each bundle is verified before its entries are written.
+
+Exit status: 0 done, 1 a fault, 2 words that ask for nothing, or that do not fit (BadArgument).
+Faults of O, K, S and D: see 'tlogmirror --help'. At CopyDamaged a part may have been written. Then:
+  NothingComplete  no checkpoint is complete: pull what is missing first, or follow the log
+  NoSuchSize       TO is greater than the served size
+  Backwards        FROM is greater than TO: turn them round
+  WriteFault       standard output could not be written: a part may have been
+
+Example: tlogmirror entries --origin example.com/log --keys examples/log.keys --dir log 12 20";
+
+/// Its command line.
+pub(crate) const LINE: CommandLine<'static> = CommandLine {
+    name: "entries",
+    about: "Writes a range of entries to standard output",
+    help: HELP,
+    arguments: &[
+        ORIGIN,
+        KEYS,
+        WHY,
+        STATE_OR_DIR,
+        DIR_OR_STATE,
+        Argument::Flag("base64", "Write each entry as a line in base64"),
+        Argument::Place("from", "FROM", "The index of the first entry, from 0 on"),
+        Argument::Place("to", "TO", "The index behind the last entry"),
+    ],
+};
+
+// Which entries.
+fn range_of(found: &ArgMatches<'_>) -> Option<EntryRange>
+    ensures { FindsPart (IsEntryRange (rows_of (found_of found.now))) result }
+{
+    Some(EntryRange {
+        from: number_of(found, "from", 0, MAX_SIZE)?,
+        to: number_of(found, "to", 0, MAX_SIZE)?,
+        base64: has_flag(found, "base64"),
+    })
+}
+
+// What its options say with `--state`.
+fn entries_of<'a>(found: &ArgMatches<'a>) -> Option<Entries<'a>>
+    ensures { FindsPart (IsEntries (rows_of (found_of found.now))) result }
+{
+    Some(Entries {
+        mirror: state_asked(found)?,
+        range: range_of(found)?,
+    })
+}
+
+// What its options say with `--dir`.
+fn copy_entries_of<'a>(found: &ArgMatches<'a>) -> Option<CopyEntries<'a>>
+    ensures { FindsPart (IsCopyEntries (rows_of (found_of found.now))) result }
+{
+    Some(CopyEntries {
+        copy: copy_asked(found)?,
+        range: range_of(found)?,
+    })
+}
+
+/// The command, by its options, over a state or a copy.
+pub(crate) fn read<'a>(found: &ArgMatches<'a>) -> Result<Command<'a>, CommandFault>
+    ensures { ReadsPart (IsSaid (codes "entries") (rows_of (found_of found.now))) result }
+{
+    if let Some(entries) = entries_of(found) {
+        return Ok(Command::Entries(entries));
+    }
+    match copy_entries_of(found) {
+        Some(entries) => Ok(Command::CopyEntries(entries)),
+        None => Err(CommandFault::BadArgument),
+    }
+}
+
+/// The option or the word that is bad, as help names it.
+pub(crate) fn bad_word(found: &ArgMatches<'_>) -> Option<&'static str> {
+    if !names_one(found) {
+        return Some("--state or --dir");
+    }
+    if number_of(found, "from", 0, MAX_SIZE).is_none() {
+        return Some("FROM");
+    }
+    if number_of(found, "to", 0, MAX_SIZE).is_none() {
+        return Some("TO");
+    }
+    None
+}

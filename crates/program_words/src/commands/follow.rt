@@ -1,0 +1,157 @@
+//! `follow`: a copy brought to the newest checkpoint of its places.
+ghost use Rattle.std.specs.Prelude.{IfOk, codes, option_map};
+ghost use Rattle.clap.specs.Words.{found_of, rows_of};
+ghost use Rattle.program_words.specs.Commands.{IsFollow, IsPlacesGiven};
+ghost use Rattle.program_words.specs.Readings.{FindsPart, IsSaid, ReadsPart};
+
+use crate::commands::Command;
+use crate::fault::CommandFault;
+use crate::parser::{Argument, CommandLine, KEYS, ORIGIN, PROGRESS, WHY};
+use crate::parts::{CopyArgs, copy_args, has_flag};
+use crate::place::{Place, bad_place, places_of};
+use clap::ArgMatches;
+use std::alloc::{AllocError, Global};
+
+/// `follow`: a copy brought to the newest checkpoint of its places.
+#[derive(Drop)]
+pub struct Follow<'a> {
+    /// The copy.
+    pub copy: CopyArgs<'a>,
+    /// The file of the note that is followed, if not the newest one of the places.
+    pub checkpoint: Option<&'a str>,
+    /// The folder that the evidence of forks is written to, if it is.
+    pub forks: Option<&'a str>,
+    /// Whether lines say how far the work is.
+    pub progress: bool,
+    /// Whether lines say what was wrong at each place.
+    pub why: bool,
+    /// Where from: one place or more, in the order of the words.
+    pub places: Vec<Place<'a>>,
+}
+
+// What it reads, writes and may end with.
+const HELP: &str = "\
+D is a copy: the log's files in a folder, as any web server gives them out. It begins empty. No place is
+trusted: a file is verified before it is written, and what one place lacks or falsifies is asked of the
+others. The checkpoint is written last. So D is whole at each moment, and a run that was cut off goes on
+where it ended. Let one run at a time work on D.
+The output is 'followed SIZE ROOT from OLD': what D has now, and how many entries it had. Then come
+  fork SIZE ROOT SIZE ROOT  two signed checkpoints that contradict each other
+  larger SIZE ROOT          a checkpoint that D was not brought to, since a file of it could not be had
+  behind SIZE ROOT          the greatest checkpoint of the places, where all are smaller than D's
+A fork is the operator's doing. With --forks both notes and the proof that 'check' reads are written to F.
+With --checkpoint D is brought to the note in FILE, and no place is asked for one.
+With --progress lines like 'follow: 1,024 of 7,832 files, 23 MB' go to standard error, from the first
+second on, and at its end 'follow: 5,000 to 5,300 entries, 4 files, 91 kB'.
+With --why a line goes to standard error for each place at which something was wrong, and for D.
+'http' is plain HTTP, with no TLS and no redirects: a proxy beside it ends HTTPS.
+
+Exit status: 0 done, 3 there is a fork, or a larger checkpoint, 1 a fault, 2 words that ask for nothing,
+or that do not fit (BadArgument).
+Faults of O and K: see 'tlogmirror --help'. Besides, on standard error:
+  FileFault           FILE cannot be read, or F cannot be written: D was brought forward before
+  CopyDamaged         a file of D is missing or false: audit D, and follow the log into a new folder
+  CopyInUse           another run has written the checkpoint of D: let one run at a time work on it
+  ShelfFault          D cannot be read or written: see the path, the rights and the room
+  NoCheckpoint        the first place has no checkpoint, and no other has one of the log
+  NoFile              D is empty, and no place has a file that is wanted: try again, or another place
+  Source              a place could not be read or did not answer, and no other had what was wanted
+  NoteTooLong, NotText, NoSignatures, TooManySignatures, BadSignatureLine
+                      the checkpoint is no signed note
+  TooFewLines, EmptyLine, BadSize, SizeTooLarge, BadRoot
+                      the note is no checkpoint
+  OtherOrigin         the checkpoint is of another log
+  NoTrustedSignature  no key of K signed the checkpoint: add the log's key or a pin
+  Collision           two different strings share a digest: keep D and the log's files
+  WriteFault          standard output could not be written: D was brought forward before
+
+Example: tlogmirror follow --origin example.com/log --keys examples/log.keys --dir log dir examples/log";
+
+/// Its command line.
+pub(crate) const LINE: CommandLine<'static> = CommandLine {
+    name: "follow",
+    about: "Brings a copy of a log, in a folder, to the newest checkpoint of some places, and verifies every file",
+    help: HELP,
+    arguments: &[
+        ORIGIN,
+        KEYS,
+        WHY,
+        Argument::Option("dir", "D", "The folder of the copy"),
+        Argument::Choice(
+            "checkpoint",
+            "FILE",
+            "The signed note to follow; the newest one of the places where it is left out",
+        ),
+        Argument::Choice(
+            "forks",
+            "F",
+            "The folder that the evidence of forks is written to",
+        ),
+        PROGRESS,
+        Argument::Words(
+            "place",
+            "KIND PLACE",
+            "Where from: dir and a folder, or http and host:port with an optional /prefix; one or more",
+        ),
+    ],
+};
+
+// The places that its words name.
+fn places_given<'a>(
+    alloc: Global,
+    found: &ArgMatches<'a>,
+) -> Result<Option<Vec<Place<'a>>>, AllocError>
+    ensures { IfOk result (λ places. FindsPart (IsPlacesGiven (rows_of (found_of found.now)))
+        (option_map (λ p. p.items) places)) }
+{
+    match found.get_strs("place") {
+        Some(words) => places_of(alloc, words),
+        // It never comes here: `clap` wants one word or more.
+        None => Ok(None),
+    }
+}
+
+// What its options say.
+fn follow_of<'a>(alloc: Global, found: &ArgMatches<'a>) -> Result<Option<Follow<'a>>, AllocError>
+    ensures { IfOk result (FindsPart (IsFollow (rows_of (found_of found.now)))) }
+{
+    let Some(copy) = copy_args(found) else {
+        return Ok(None);
+    };
+    let Some(places) = places_given(alloc, found)? else {
+        return Ok(None);
+    };
+    Ok(Some(Follow {
+        copy,
+        checkpoint: found.get_str("checkpoint"),
+        forks: found.get_str("forks"),
+        progress: has_flag(found, "progress"),
+        why: has_flag(found, "why"),
+        places,
+    }))
+}
+
+/// The command, by its options.
+pub(crate) fn read<'a>(alloc: Global, found: &ArgMatches<'a>) -> Result<Command<'a>, CommandFault>
+    ensures { ReadsPart (IsSaid (codes "follow") (rows_of (found_of found.now))) result }
+{
+    match follow_of(alloc, found)? {
+        Some(follow) => Ok(Command::Follow(follow)),
+        None => Err(CommandFault::BadArgument),
+    }
+}
+
+/// The word that is bad, as help names it: of the first place of which one is.
+pub(crate) fn bad_word(alloc: Global, found: &ArgMatches<'_>) -> Option<&'static str> {
+    let mut rest = found.get_strs("place")?;
+    while let Some((kind, after)) = rest.split_first() {
+        let Some((word, left)) = after.split_first() else {
+            return Some("PLACE");
+        };
+        if let Some(bad) = bad_place(alloc, kind, word) {
+            return Some(bad);
+        }
+        rest = left;
+    }
+    None
+}

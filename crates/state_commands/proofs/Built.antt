@@ -1,0 +1,29 @@
+-- A log that is built of an input.
+use Rattle.std.proofs.Common.{◌≡◌, ℕ, List, Option, Some, Result, subst}
+use Rattle.std.specs.Prelude.{IfSome}
+use Rattle.signed_note.specs.Keys.{Key, Secret, secret_key}
+use Rattle.mirror_model.specs.Origin.{IsOrigin}
+use Rattle.mirror_folders.specs.Shelf.{Put}
+use Rattle.tlog_build.specs.Building.{BuildsLogUnder}
+use Rattle.tlog_build.specs.declared.fault.BuildFault.{BuildFault}
+use Rattle.tlog_build.specs.Entries.{AreEntries}
+use Rattle.program_env.specs.Builds.{BuildsInput, FindsSigner}
+
+-- over a shelf that has, once it is opened, what the folder held
+pub built : (digest : List ℕ → List ℕ) (origin : List ℕ) (keys : List Key) (key_bytes : List ℕ)
+    (held before put opened : Option (List Put)) (signer : Secret) (entries : List (List ℕ))
+    (answer : Result (Unit {0}) BuildFault) → FindsSigner key_bytes (Some signer) → IsOrigin origin → opened ≡ held →
+    BuildsLogUnder digest origin (secret_key signer) entries keys opened put answer →
+    (input : Option (List ℕ)) → IfSome input (λ bytes. AreEntries bytes entries) →
+    BuildsInput digest origin keys key_bytes held before put input answer
+built digest origin keys key_bytes held before put opened signer entries answer finds lawful is builds input reads =
+    record {
+      signer = signer;
+      is_signer = finds;
+      is_origin = lawful;
+      entries = entries;
+      are_entries = reads;
+      builds = subst
+          (λ (start : Option (List Put)). BuildsLogUnder digest origin (secret_key signer) entries keys start put answer)
+          is builds;
+    }

@@ -1,0 +1,53 @@
+-- What a pull that ended early leaves.
+use Rattle.std.proofs.Common.{ℕ, List, Option, Result, Err, Bool, refl}
+use Rattle.std.specs.Prelude.{◌≢◌}
+use Rattle.signed_note.specs.Keys.{Key}
+use Rattle.mirror_model.specs.View.{View, IsSubview}
+use Rattle.mirror_model.proofs.Views.{within_itself}
+use Rattle.mirror_pull.specs.Taking.{Grows, PullsTo}
+use Rattle.mirror_pull.specs.declared.fault.PullFault.{PullFault}
+use Rattle.mirror_pull.specs.declared.fault.PullFault.TheVariants as pull
+use Rattle.program_files.specs.Named.{NamedFile}
+use Rattle.program_files.specs.declared.fault.NamedFault.{NamedFault}
+use Rattle.program_commands.specs.States.{SavesFile}
+use Rattle.program_env.specs.Pulls.{IsKept, LeavesEarly}
+
+-- a mirror that took nothing has grown by nothing
+pub grows_by_nothing : (keys : List Key) (v : View) → Grows keys v v
+grows_by_nothing keys v =
+    record {
+      grows = within_itself v;
+      one_note = λ note other has also new newer. absurd (new has);
+      good = λ note has new. absurd (new has);
+    }
+
+-- a mirror that was pulled into has lost nothing, whatever the pull ended by
+pub pulled_within : (digest : List ℕ → List ℕ) (keys : List Key) (old new : View) (fault : PullFault) →
+    PullsTo digest keys old new (Err fault) → IsSubview old new
+pulled_within digest keys old new pull.NoCheckpoint same = rw same (within_itself old)
+pulled_within digest keys old new pull.NoEdge same = rw same (within_itself old)
+pulled_within digest keys old new (pull.Head f) h = rw h.1 (within_itself old)
+pulled_within digest keys old new pull.Source grown = grown.grows
+pulled_within digest keys old new pull.Collision grown = grown.grows
+pulled_within digest keys old new pull.OutOfMemory grown = grown.grows
+
+module _ (keep : Bool) (out : List ℕ) (told : Option (List NamedFile)) (start v : View) (fault : PullFault)
+    (written : Result (Unit {0}) NamedFault) where
+  -- nothing was to be kept, or nothing was gained
+  pub leaves_all : (IsKept keep fault → v ≢ start → ⊥) → LeavesEarly keep out told told start v fault written
+  leaves_all never =
+      record {
+        gained = λ kept more. absurd (never kept more);
+        nothing = λ kept same. refl;
+        other = λ not. refl;
+      }
+
+  -- something was gained, and its state was written or could not be
+  pub leaves_state : (left : Option (List NamedFile)) → IsKept keep fault → v ≢ start →
+      SavesFile v out told left written → LeavesEarly keep out told left start v fault written
+  leaves_state left kept more saves =
+      record {
+        gained = λ _ _. saves;
+        nothing = λ _ same. absurd (more same);
+        other = λ not. absurd (not kept);
+      }

@@ -1,0 +1,17 @@
+use Rattle.std.proofs.Common.{Ok, refl}
+use Rattle.state_commands.proofs.Keeping.{pulled_within}
+use Rattle.state_commands.proofs.pull.pull_kept.Goals as goal
+
+pub returns-in_default-clause-early : goal.returns-in_default-clause-early
+returns-in_default-clause-early g c = (
+  Ok tt,
+  record { gained = λ kept other. absurd (other refl); nothing = λ kept same. refl; other = λ kept. refl },
+)
+
+pub returns-in-Err-clause-early : goal.returns-in-Err-clause-early
+returns-in-Err-clause-early g c = rw c.new.ensures (
+  c.keep_gained.result,
+  c.keep_gained.ensures c.args.mirror.now.view c.in-Ok.ensures.holds
+      (pulled_within g.H.TreeHash.digest _ c.args.mirror.now.view _ c.in-Err.fault
+      (rw c.in-Err.is at c.from_place-answer.ensures.pulls)),
+)

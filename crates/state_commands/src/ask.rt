@@ -1,0 +1,128 @@
+//! What the commands `status`, `missing`, `forks` and `prove` ask of the mirror in a state file.
+ghost use Rattle.std.specs.Prelude.{◌≡◌, IfErr, IfOk, map};
+ghost use Rattle.std.specs.Result.{result_map_both};
+ghost use Rattle.std.specs.Io.KnownBytes.{Keeps};
+ghost use Rattle.sha2.specs.Sha256.{sha256};
+ghost use Rattle.program_env.specs.Done.{IsWriteFault};
+ghost use Rattle.program_env.specs.Works.{AsksState, IsStatus};
+
+use program_commands::open_state;
+use program_env::why::{Why, of_output, of_state};
+use program_env::{Error, RunFault, RunFiles};
+use program_reports::{AskFault, Question, ReportFault, print_report};
+use program_words::StateArgs;
+use signed_note::Verifier;
+use std::alloc::{AllocError, Global};
+use std::io::Write;
+use tlog_hash::{Sha256Tree, TreeHash};
+use tlog_mirror::Mirror;
+use tlog_proof::{Ask, ProofFault, Ranges};
+
+/// Prints the report on the question, of the mirror in the state file, and answers the exit status.
+///
+/// # Errors
+///
+/// In this order: those of `open_state`, and those of `print_report`. Nothing was written but at a
+/// `WriteFault`.
+pub(crate) fn run_ask<F: RunFiles, W: Write>(
+    files: &F,
+    alloc: Global,
+    args: &StateArgs<'_>,
+    keys: &[Box<dyn Verifier>],
+    question: &Question,
+    output: &mut W,
+) -> Result<u8, Error>
+    ensures answer { AsksState sha256 (map (λ k. key k) keys.now) (F.puts files.now)
+        args.now.state.now args.now.log.origin.now question.now (W.contents output.old)
+        (W.contents output.new) result }
+    ensures status { IfOk result IsStatus }
+    ensures quiet { IfErr result (λ fault. (¬ IsWriteFault fault) → Keeps (W.contents output.old)
+        (W.contents output.new)) }
+{
+    match open_state::<Sha256Tree, F>(files, alloc, args.log.origin, keys, args.state) {
+        Ok(mut mirror) => {
+            let answer = print_report::<Sha256Tree, W>(alloc, &mut mirror, question, output);
+            let why = why_of(alloc, args.state, &mirror, question, &answer);
+            drop(mirror);
+            asked(answer, why)
+        }
+        Err(fault) => {
+            let why = of_state(alloc, files, Some(args.state), fault);
+            Err(Error::new(RunFault::State(fault), why))
+        }
+    }
+}
+
+/// The answer of a command, of what a reporter answers, and of what a fault of it is about.
+pub(crate) fn asked(answer: Result<u8, AskFault>, why: Option<Why>) -> Result<u8, Error>
+    ensures { result ≡ result_map_both (λ status. status) (λ fault. RunFault.Ask fault) answer }
+{
+    match answer {
+        Ok(status) => Ok(status),
+        Err(fault) => Err(Error::new(RunFault::Ask(fault), why)),
+    }
+}
+
+/// What a fault of a reporter is about, of the mirror in that state file.
+pub(crate) fn why_of_report(
+    alloc: Global,
+    state: &str,
+    answer: &Result<u8, AskFault>,
+) -> Option<Why> {
+    match answer {
+        Err(AskFault::WriteFault) => of_output(alloc),
+        Err(AskFault::Report(ReportFault::NothingComplete)) => Why::of_thing(alloc, state),
+        _ => None,
+    }
+}
+
+// What a fault of the report on a question is about: of a size that is not served, also which size is.
+fn why_of<H: TreeHash>(
+    alloc: Global,
+    state: &str,
+    mirror: &Mirror<H>,
+    question: &Question,
+    answer: &Result<u8, AskFault>,
+) -> Option<Why> {
+    match answer {
+        Err(AskFault::Report(ReportFault::Proof(fault))) => {
+            let Question::Proof(ask) = question else {
+                return None;
+            };
+            let Ok(reason) = proof_reason(alloc, mirror, *ask, *fault) else {
+                return None;
+            };
+            Why::of_reason(alloc, state, &reason)
+        }
+        _ => why_of_report(alloc, state, answer),
+    }
+}
+
+// What is wrong with the numbers of a proof; nothing where the name of the fault says it.
+fn proof_reason<H: TreeHash>(
+    alloc: Global,
+    mirror: &Mirror<H>,
+    ask: Ask,
+    fault: ProofFault,
+) -> Result<String, AllocError> {
+    let (size, index) = match ask {
+        Ask::Inclusion { size, index } => (size, index),
+        Ask::Consistency { second, .. } => (second, 0),
+    };
+    match fault {
+        ProofFault::NoSuchSize => {
+            let served = served_size(mirror);
+            format!(in alloc; "size {size} is asked for, {served} is served")
+        }
+        ProofFault::NoSuchIndex => format!(in alloc; "index {index} is asked for, of size {size}"),
+        _ => Ok(String::new(alloc)),
+    }
+}
+
+// The size that is served, 0 where nothing is.
+fn served_size<H: TreeHash>(mirror: &Mirror<H>) -> u64 {
+    match mirror.top_ranges() {
+        Some(top) => top.size(),
+        None => 0,
+    }
+}

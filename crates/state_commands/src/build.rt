@@ -1,0 +1,128 @@
+//! The command `build`: a log of the entries on standard input.
+ghost use Rattle.std.specs.Prelude.{◌≡◌, map};
+ghost use Rattle.sha2.specs.Sha256.{sha256};
+ghost use Rattle.program_env.specs.Builds.{BuildsFrom};
+ghost use Rattle.program_env.specs.Envs.{IsSameEnv, moment};
+ghost use Rattle.program_env.specs.Performing.{Performs};
+
+use mirror_export::ExportFault;
+use mirror_progress::Task;
+use program_commands::check_origin;
+use program_env::why::{Why, of_folder, of_origin};
+use program_env::{Env, Error, RunFault, RunFiles, RunFolders, report_end, report_puts};
+use program_words::Command;
+use program_words::commands::build::Build;
+use signed_note::{Verifier, read_keys};
+use std::alloc::Global;
+use std::io::{Read, Write};
+use tlog_build::{BuildFault, EntriesFault, build_log, read_entries, signing_key};
+use tlog_hash::Sha256Tree;
+
+/// Makes a log of the entries that the input gives, signed with the first key that signs of the key file's bytes, and
+/// writes it into the folder.
+///
+/// # Errors
+///
+/// In this order: `NoSigningKey`, `BadOrigin`, those of `read_entries`, and those of the folder.
+pub fn run<R, F: RunFiles, D: RunFolders, I: Read, O: Write, E: Write>(
+    env: &mut Env<'_, '_, '_, '_, R, F, D, I, O, E>,
+    key_bytes: &[u8],
+    keys: &[Box<dyn Verifier>],
+    build: &Build<'_>,
+) -> Result<u8, Error>
+    ensures same { IsSameEnv env.old env.new }
+    ensures does { Performs sha256 (map (λ k. key k) keys.now) key_bytes.now
+        (moment F.puts D.held D.puts I.remaining O.contents env.old)
+        (moment F.puts D.held D.puts I.remaining O.contents env.new)
+        (Command.Build build.now) result }
+{
+    match build_into(
+        &mut env.folders,
+        env.alloc,
+        build,
+        key_bytes,
+        keys,
+        env.input,
+    ) {
+        Ok(()) => Ok(0),
+        Err(error) => Err(error),
+    }
+}
+
+// Makes that log, of the entries of this input, and writes it into the folder.
+fn build_into<D: RunFolders, I: Read>(
+    folders: &mut D,
+    alloc: Global,
+    build: &Build<'_>,
+    key_bytes: &[u8],
+    keys: &[Box<dyn Verifier>],
+    input: &mut I,
+) -> Result<(), Error>
+    ensures { BuildsFrom sha256 build.now.log.origin.now
+        (map (λ k. key k) keys.now) key_bytes.now
+        (D.held folders.old build.now.folder.now) (D.puts folders.old) (D.puts folders.new)
+        (I.remaining input.old) result }
+{
+    // The lines of keys were read before, so memory alone can be wanting.
+    let Ok(lines) = read_keys(alloc, key_bytes) else {
+        return Err(Error::new(RunFault::OutOfMemory, None));
+    };
+    let Some(key) = signing_key(lines) else {
+        let why = Why::of_thing(alloc, build.log.keys);
+        return Err(Error::new(RunFault::NoSigningKey, why));
+    };
+    let origin = build.log.origin;
+    match check_origin(alloc, origin) {
+        Ok(()) => {}
+        Err(fault) => return Err(Error::new(RunFault::Origin(fault), of_origin(alloc, fault))),
+    }
+    let entries = match read_entries(alloc, input) {
+        Ok(entries) => entries,
+        Err(fault) => return Err(Error::new(RunFault::Entries(fault), of_input(alloc, fault))),
+    };
+    match folders.open(build.folder) {
+        Ok(()) => {}
+        Err(_) => return Err(Error::new(RunFault::OutOfMemory, None)),
+    }
+    report_puts(folders, build.progress, Task::Build);
+    match build_log::<Sha256Tree, D>(alloc, origin, keys, key, entries, folders) {
+        Ok(()) => {
+            report_end(folders, build.progress);
+            Ok(())
+        }
+        Err(fault) => Err(not_built(alloc, folders, build.folder, fault)),
+    }
+}
+
+// No log was built in that folder.
+fn not_built<D: RunFolders>(alloc: Global, folders: &D, folder: &str, fault: BuildFault) -> Error
+    ensures { result ≡ RunFault.Build fault }
+{
+    Error::new(
+        RunFault::Build(fault),
+        why_of(alloc, folders, folder, fault),
+    )
+}
+
+// What a fault at the input is about.
+fn of_input(alloc: Global, fault: EntriesFault) -> Option<Why> {
+    match fault {
+        EntriesFault::OutOfMemory => None,
+        _ => Why::of_thing(alloc, "standard input"),
+    }
+}
+
+// What a fault at the folder is about.
+fn why_of<D: RunFolders>(
+    alloc: Global,
+    folders: &D,
+    folder: &str,
+    fault: BuildFault,
+) -> Option<Why> {
+    match fault {
+        BuildFault::BadOrigin => Why::of_thing(alloc, "--origin"),
+        BuildFault::Export(ExportFault::ShelfInUse) => Why::of_thing(alloc, folder),
+        BuildFault::Export(ExportFault::ShelfFault) => of_folder(alloc, folders, folder),
+        _ => None,
+    }
+}

@@ -1,0 +1,142 @@
+//! The command `compare`: checkpoints compared with what the mirror in a state file serves.
+ghost use Rattle.std.specs.Prelude.{◌≡◌, IfErr, IfOk, map, option_map};
+ghost use Rattle.std.specs.Io.KnownBytes.{Keeps};
+ghost use Rattle.sha2.specs.Sha256.{sha256};
+ghost use Rattle.tlog_text.specs.Answers.{seen};
+ghost use Rattle.program_env.specs.Done.{IsWriteFault};
+ghost use Rattle.program_env.specs.Envs.{IsSameEnv, moment};
+ghost use Rattle.program_env.specs.Performing.{Performs};
+ghost use Rattle.program_env.specs.Works.{ComparesState, ComparesView, FindsHeads, IsStatus};
+
+use crate::ask::{asked, why_of_report};
+use program_commands::{HeadFilesFault, open_state, read_heads};
+use program_env::why::{Why, of_named, of_state};
+use program_env::{Env, Error, RunFault, RunFiles, RunFolders};
+use program_reports::print_comparison;
+use program_words::Command;
+use program_words::commands::compare::Compare;
+use signed_note::Verifier;
+use std::alloc::Global;
+use std::io::{Read, Write};
+use tlog_hash::{Hash, Sha256Tree, TreeHash};
+use tlog_mirror::{Mirror, TakeFault};
+
+/// Prints what the mirror in the state file tells of the checkpoints in the files, or where none is named of those that
+/// it holds, and answers the exit status.
+///
+/// # Errors
+///
+/// In this order: those of `open_state`, those of `read_heads`, and those of `print_comparison`. Nothing was written but
+/// at a `WriteFault`.
+pub fn run<R, F: RunFiles, D: RunFolders, I: Read, O: Write, E: Write>(
+    env: &mut Env<'_, '_, '_, '_, R, F, D, I, O, E>,
+    key_bytes: &[u8],
+    keys: &[Box<dyn Verifier>],
+    compare: &Compare<'_>,
+) -> Result<u8, Error>
+    ensures same { IsSameEnv env.old env.new }
+    ensures does { Performs sha256 (map (λ k. key k) keys.now) key_bytes.now
+        (moment F.puts D.held D.puts I.remaining O.contents env.old)
+        (moment F.puts D.held D.puts I.remaining O.contents env.new)
+        (Command.Compare compare.now) result }
+{
+    run_compare(&env.files, env.alloc, compare, keys, env.output)
+}
+
+// The same, over these files.
+fn run_compare<F: RunFiles, W: Write>(
+    files: &F,
+    alloc: Global,
+    compare: &Compare<'_>,
+    keys: &[Box<dyn Verifier>],
+    output: &mut W,
+) -> Result<u8, Error>
+    ensures answer { ComparesState sha256 (map (λ k. key k) keys.now) (F.puts files.now)
+        compare.now.mirror.state.now compare.now.mirror.log.origin.now
+        (map (λ name. name.now) compare.now.files.items) (W.contents output.old)
+        (W.contents output.new) result }
+    ensures status { IfOk result IsStatus }
+    ensures quiet { IfErr result (λ fault. (¬ IsWriteFault fault) → Keeps (W.contents output.old)
+        (W.contents output.new)) }
+{
+    let args = &compare.mirror;
+    match open_state::<Sha256Tree, F>(files, alloc, args.log.origin, keys, args.state) {
+        Ok(mut mirror) => {
+            let answer = compare_mirror(files, alloc, &mut mirror, compare, keys, output);
+            drop(mirror);
+            answer
+        }
+        Err(fault) => {
+            let why = of_state(alloc, files, Some(args.state), fault);
+            Err(Error::new(RunFault::State(fault), why))
+        }
+    }
+}
+
+// Prints what the mirror tells of the checkpoints in the files, or of those that it holds.
+fn compare_mirror<H: TreeHash, F: RunFiles, W: Write>(
+    files: &F,
+    alloc: Global,
+    mirror: &mut Mirror<H>,
+    compare: &Compare<'_>,
+    keys: &[Box<dyn Verifier>],
+    output: &mut W,
+) -> Result<u8, Error>
+    ensures answer { ComparesView H.digest (map (λ k. key k) keys.now) (F.puts files.now)
+        (map (λ name. name.now) compare.now.files.items) (W.contents output.old)
+        (W.contents output.new) mirror.old.view result }
+    ensures status { IfOk result IsStatus }
+    ensures quiet { IfErr result (λ fault. (¬ IsWriteFault fault) → Keeps (W.contents output.old)
+        (W.contents output.new)) }
+{
+    let heads = match heads_of(files, alloc, mirror, keys, compare.files.as_slice()) {
+        Ok(heads) => heads,
+        Err(fault) => {
+            let why = why_of(alloc, files, fault);
+            return Err(Error::new(RunFault::Heads(fault), why));
+        }
+    };
+    let answer = print_comparison(alloc, mirror, lend(&heads), output);
+    let why = why_of_report(alloc, compare.mirror.state, &answer);
+    asked(answer, why)
+}
+
+// What a fault at the files is about: the file that was not had, or the one whose note is refused, whose name `read_heads`
+// gave to the files.
+fn why_of<F: RunFiles>(alloc: Global, files: &F, fault: HeadFilesFault) -> Option<Why> {
+    match fault {
+        HeadFilesFault::File(fault) => of_named(alloc, files, fault),
+        HeadFilesFault::Head(TakeFault::OutOfMemory) => None,
+        HeadFilesFault::Head(_) => Why::of_thing(alloc, &files.told_reason()?),
+    }
+}
+
+// The heads of the files, and none where no file is named.
+fn heads_of<H: TreeHash, F: RunFiles>(
+    files: &F,
+    alloc: Global,
+    mirror: &Mirror<H>,
+    keys: &[Box<dyn Verifier>],
+    names: &[&str],
+) -> Result<Option<Vec<(u64, Hash)>>, HeadFilesFault>
+    ensures { FindsHeads (map (λ k. key k) keys.now) (F.puts files.now) mirror.now.view.origin
+        (map (λ name. name.now) names.now) (seen (option_map (λ heads. heads.items)) result) }
+{
+    if names.is_empty() {
+        return Ok(None);
+    }
+    match read_heads(files, alloc, mirror, keys, names) {
+        Ok(heads) => Ok(Some(heads)),
+        Err(fault) => Err(fault),
+    }
+}
+
+// The heads that are given, as a slice.
+fn lend(heads: &Option<Vec<(u64, Hash)>>) -> Option<&[(u64, Hash)]>
+    ensures { option_map (λ given. given.now) result ≡ option_map (λ heads. heads.items) heads.now }
+{
+    match heads {
+        Some(heads) => Some(heads.as_slice()),
+        None => None,
+    }
+}

@@ -1,0 +1,81 @@
+//! The command `entries --state`: entries that a mirror serves.
+ghost use Rattle.std.specs.Prelude.{◌≡◌, map};
+ghost use Rattle.std.specs.Result.{result_map_both};
+ghost use Rattle.sha2.specs.Sha256.{sha256};
+ghost use Rattle.program_env.specs.Envs.{IsSameEnv, moment};
+ghost use Rattle.program_env.specs.Performing.{Performs};
+
+use program_commands::open_state;
+use program_env::why::{Why, of_output, of_state};
+use program_env::{Env, Error, RunFault, RunFiles, RunFolders};
+use program_monitor::{EntryRange, StateEntriesFault, entries_of_state};
+use program_words::Command;
+use program_words::commands::entries::Entries;
+use signed_note::Verifier;
+use std::alloc::Global;
+use std::io::{Read, Write};
+use tlog_hash::Sha256Tree;
+
+/// Writes entries of the mirror in the state file, a bundle at a time.
+///
+/// # Errors
+///
+/// In this order: those of `open_state`, and those of `entries_of_state`.
+pub fn run<R, F: RunFiles, D: RunFolders, I: Read, O: Write, E: Write>(
+    env: &mut Env<'_, '_, '_, '_, R, F, D, I, O, E>,
+    key_bytes: &[u8],
+    keys: &[Box<dyn Verifier>],
+    entries: &Entries<'_>,
+) -> Result<u8, Error>
+    ensures same { IsSameEnv env.old env.new }
+    ensures does { Performs sha256 (map (λ k. key k) keys.now) key_bytes.now
+        (moment F.puts D.held D.puts I.remaining O.contents env.old)
+        (moment F.puts D.held D.puts I.remaining O.contents env.new)
+        (Command.Entries entries.now) result }
+{
+    let mirror = &entries.mirror;
+    match open_state::<Sha256Tree, F>(
+        &env.files,
+        env.alloc,
+        mirror.log.origin,
+        keys,
+        mirror.state,
+    ) {
+        Ok(mut opened) => {
+            let range = EntryRange {
+                from: entries.range.from,
+                to: entries.range.to,
+                base64: entries.range.base64,
+            };
+            let answer = entries_of_state::<Sha256Tree, O>(
+                env.alloc,
+                &mut opened,
+                &range,
+                env.output,
+            );
+            drop(opened);
+            written(env.alloc, mirror.state, answer)
+        }
+        Err(fault) => {
+            let why = of_state(env.alloc, &env.files, Some(mirror.state), fault);
+            Err(Error::new(RunFault::State(fault), why))
+        }
+    }
+}
+
+// The answer of the command, of what the writer answered.
+fn written(alloc: Global, state: &str, answer: Result<(), StateEntriesFault>) -> Result<u8, Error>
+    ensures { result ≡ result_map_both (λ _. 0) (λ fault. RunFault.StateEntries fault) answer }
+{
+    match answer {
+        Ok(()) => Ok(0),
+        Err(fault) => {
+            let why = match fault {
+                StateEntriesFault::NothingComplete => Why::of_thing(alloc, state),
+                StateEntriesFault::WriteFault => of_output(alloc),
+                _ => None,
+            };
+            Err(Error::new(RunFault::StateEntries(fault), why))
+        }
+    }
+}

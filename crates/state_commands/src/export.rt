@@ -1,0 +1,177 @@
+//! The command `export`, with `--update` too: what is served is written to a folder.
+ghost use Rattle.std.specs.Prelude.{map};
+ghost use Rattle.sha2.specs.Sha256.{sha256};
+ghost use Rattle.program_commands.specs.Exported.{ExportsFile};
+ghost use Rattle.program_commands.specs.Updated.{UpdatesFile};
+ghost use Rattle.program_env.specs.Envs.{IsSameEnv, moment};
+ghost use Rattle.program_env.specs.Performing.{Performs};
+
+use mirror_export::{ExportFault, UpdateFault};
+use mirror_progress::Task;
+use program_commands::{ExportFileFault, UpdateFileFault, run_export, run_update};
+use program_env::why::{Why, of_folder, of_state};
+use program_env::{Env, Error, RunFault, RunFiles, RunFolders, report_end, report_puts};
+use program_words::Command;
+use program_words::commands::export::Export;
+use signed_note::Verifier;
+use std::alloc::Global;
+use std::io::{Read, Write};
+use tlog_hash::Sha256Tree;
+
+/// Writes all tiles, then all bundles, then the checkpoint, into the folder.
+///
+/// # Errors
+///
+/// Those of `run_export`.
+pub fn run<R, F: RunFiles, D: RunFolders, I: Read, O: Write, E: Write>(
+    env: &mut Env<'_, '_, '_, '_, R, F, D, I, O, E>,
+    key_bytes: &[u8],
+    keys: &[Box<dyn Verifier>],
+    export: &Export<'_>,
+) -> Result<u8, Error>
+    ensures same { IsSameEnv env.old env.new }
+    ensures does { Performs sha256 (map (λ k. key k) keys.now) key_bytes.now
+        (moment F.puts D.held D.puts I.remaining O.contents env.old)
+        (moment F.puts D.held D.puts I.remaining O.contents env.new)
+        (Command.Export export.now) result }
+{
+    match put_all(&env.files, &mut env.folders, env.alloc, export, keys) {
+        Ok(()) => Ok(0),
+        Err(fault) => {
+            let why = why_of_export(env, export, fault);
+            Err(Error::new(RunFault::Export(fault), why))
+        }
+    }
+}
+
+// The same, over these files and folders; it is told how far that is, where the words ask for it.
+fn put_all<F: RunFiles, D: RunFolders>(
+    files: &F,
+    folders: &mut D,
+    alloc: Global,
+    export: &Export<'_>,
+    keys: &[Box<dyn Verifier>],
+) -> Result<(), ExportFileFault>
+    ensures { ExportsFile sha256 export.now.mirror.log.origin.now (map (λ k. key k) keys.now)
+        (F.puts files.now) export.now.mirror.state.now (D.held folders.old export.now.folder.now)
+        (D.puts folders.old) (D.puts folders.new) result }
+{
+    report_puts(folders, export.progress, Task::Export);
+    let done = run_export::<Sha256Tree, F, D>(
+        files,
+        folders,
+        alloc,
+        export.mirror.log.origin,
+        keys,
+        export.mirror.state,
+        export.folder,
+    );
+    report_end(folders, export.progress && done.is_ok());
+    done
+}
+
+/// Brings the folder up to date with what the mirror serves.
+///
+/// # Errors
+///
+/// Those of `run_update`.
+pub fn run_with_update<R, F: RunFiles, D: RunFolders, I: Read, O: Write, E: Write>(
+    env: &mut Env<'_, '_, '_, '_, R, F, D, I, O, E>,
+    key_bytes: &[u8],
+    keys: &[Box<dyn Verifier>],
+    update: &Export<'_>,
+) -> Result<u8, Error>
+    ensures same { IsSameEnv env.old env.new }
+    ensures does { Performs sha256 (map (λ k. key k) keys.now) key_bytes.now
+        (moment F.puts D.held D.puts I.remaining O.contents env.old)
+        (moment F.puts D.held D.puts I.remaining O.contents env.new)
+        (Command.Update update.now) result }
+{
+    match put_new(&env.files, &mut env.folders, env.alloc, update, keys) {
+        Ok(()) => Ok(0),
+        Err(fault) => {
+            let why = why_of_update(env, update, fault);
+            Err(Error::new(RunFault::Update(fault), why))
+        }
+    }
+}
+
+// The same, over these files and folders.
+fn put_new<F: RunFiles, D: RunFolders>(
+    files: &F,
+    folders: &mut D,
+    alloc: Global,
+    update: &Export<'_>,
+    keys: &[Box<dyn Verifier>],
+) -> Result<(), UpdateFileFault>
+    ensures { UpdatesFile sha256 update.now.mirror.log.origin.now (map (λ k. key k) keys.now)
+        (F.puts files.now) update.now.mirror.state.now (D.held folders.old update.now.folder.now)
+        (D.puts folders.old) (D.puts folders.new) result }
+{
+    report_puts(folders, update.progress, Task::Export);
+    let done = run_update::<Sha256Tree, F, D>(
+        files,
+        folders,
+        alloc,
+        update.mirror.log.origin,
+        keys,
+        update.mirror.state,
+        update.folder,
+    );
+    report_end(folders, update.progress && done.is_ok());
+    done
+}
+
+// What the fault is about.
+fn why_of_export<R, F: RunFiles, D: RunFolders, I, O, E>(
+    env: &Env<'_, '_, '_, '_, R, F, D, I, O, E>,
+    export: &Export<'_>,
+    fault: ExportFileFault,
+) -> Option<Why> {
+    match fault {
+        ExportFileFault::State(fault) => of_state(
+            env.alloc,
+            &env.files,
+            Some(export.mirror.state),
+            fault,
+        ),
+        ExportFileFault::Export(ExportFault::NothingComplete) => Why::of_thing(
+            env.alloc,
+            export.mirror.state,
+        ),
+        ExportFileFault::Export(ExportFault::ShelfInUse) => Why::of_thing(env.alloc, export.folder),
+        ExportFileFault::Export(ExportFault::ShelfFault) => of_folder(
+            env.alloc,
+            &env.folders,
+            export.folder,
+        ),
+        ExportFileFault::Export(ExportFault::OutOfMemory) | ExportFileFault::OutOfMemory => None,
+    }
+}
+
+// What the fault is about.
+fn why_of_update<R, F: RunFiles, D: RunFolders, I, O, E>(
+    env: &Env<'_, '_, '_, '_, R, F, D, I, O, E>,
+    update: &Export<'_>,
+    fault: UpdateFileFault,
+) -> Option<Why> {
+    match fault {
+        UpdateFileFault::State(fault) => of_state(
+            env.alloc,
+            &env.files,
+            Some(update.mirror.state),
+            fault,
+        ),
+        UpdateFileFault::Update(UpdateFault::NothingComplete) => Why::of_thing(
+            env.alloc,
+            update.mirror.state,
+        ),
+        UpdateFileFault::Update(UpdateFault::OtherLog) => Why::of_thing(env.alloc, update.folder),
+        UpdateFileFault::Update(UpdateFault::ShelfFault) => of_folder(
+            env.alloc,
+            &env.folders,
+            update.folder,
+        ),
+        UpdateFileFault::Update(UpdateFault::OutOfMemory) | UpdateFileFault::OutOfMemory => None,
+    }
+}

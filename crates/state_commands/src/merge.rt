@@ -1,0 +1,64 @@
+//! The command `merge`: two mirrors are made one.
+ghost use Rattle.std.specs.Prelude.{map};
+ghost use Rattle.sha2.specs.Sha256.{sha256};
+ghost use Rattle.program_env.specs.Envs.{IsSameEnv, moment};
+ghost use Rattle.program_env.specs.Performing.{Performs};
+
+use program_commands::{MergeFilesFault, run_merge};
+use program_env::why::{Why, of_named, of_state};
+use program_env::{Env, Error, RunFault, RunFiles, RunFolders};
+use program_words::Command;
+use program_words::commands::merge::Merge;
+use signed_note::Verifier;
+use std::alloc::Global;
+use std::io::{Read, Write};
+use tlog_hash::Sha256Tree;
+
+/// Merges the mirrors in both state files, and writes the state of what comes of it.
+///
+/// # Errors
+///
+/// Those of `run_merge`.
+pub fn run<R, F: RunFiles, D: RunFolders, I: Read, O: Write, E: Write>(
+    env: &mut Env<'_, '_, '_, '_, R, F, D, I, O, E>,
+    key_bytes: &[u8],
+    keys: &[Box<dyn Verifier>],
+    merge: &Merge<'_>,
+) -> Result<u8, Error>
+    ensures same { IsSameEnv env.old env.new }
+    ensures does { Performs sha256 (map (λ k. key k) keys.now) key_bytes.now
+        (moment F.puts D.held D.puts I.remaining O.contents env.old)
+        (moment F.puts D.held D.puts I.remaining O.contents env.new)
+        (Command.Merge merge.now) result }
+{
+    match run_merge::<Sha256Tree, F>(
+        &mut env.files,
+        env.alloc,
+        merge.mirror.log.origin,
+        keys,
+        merge.first,
+        merge.second,
+        merge.mirror.out,
+    ) {
+        Ok(()) => Ok(0),
+        Err(fault) => {
+            let why = why_of(env.alloc, &env.files, merge, fault);
+            Err(Error::new(RunFault::Merge(fault), why))
+        }
+    }
+}
+
+// What the fault is about.
+fn why_of<F: RunFiles>(
+    alloc: Global,
+    files: &F,
+    merge: &Merge<'_>,
+    fault: MergeFilesFault,
+) -> Option<Why> {
+    match fault {
+        MergeFilesFault::First(fault) => of_state(alloc, files, Some(merge.first), fault),
+        MergeFilesFault::Second(fault) => of_state(alloc, files, Some(merge.second), fault),
+        MergeFilesFault::Merge(_) => None,
+        MergeFilesFault::Out(fault) => of_named(alloc, files, fault),
+    }
+}

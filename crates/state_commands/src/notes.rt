@@ -1,0 +1,72 @@
+//! The command `notes`: each signed note as a file of a folder.
+ghost use Rattle.std.specs.Prelude.{map};
+ghost use Rattle.sha2.specs.Sha256.{sha256};
+ghost use Rattle.program_env.specs.Envs.{IsSameEnv, moment};
+ghost use Rattle.program_env.specs.Performing.{Performs};
+
+use program_commands::{NotesFault, run_notes};
+use program_env::why::{Why, of_named, of_state};
+use program_env::{Env, Error, RunFault, RunFiles, RunFolders};
+use program_files::NamedFault;
+use program_words::Command;
+use program_words::commands::notes::Notes;
+use signed_note::Verifier;
+use std::alloc::Global;
+use std::io::{Read, Write};
+use tlog_hash::Sha256Tree;
+
+/// Writes the notes into the folder, which is made where it is missing.
+///
+/// # Errors
+///
+/// Those of `run_notes`.
+pub fn run<R, F: RunFiles, D: RunFolders, I: Read, O: Write, E: Write>(
+    env: &mut Env<'_, '_, '_, '_, R, F, D, I, O, E>,
+    key_bytes: &[u8],
+    keys: &[Box<dyn Verifier>],
+    notes: &Notes<'_>,
+) -> Result<u8, Error>
+    ensures same { IsSameEnv env.old env.new }
+    ensures does { Performs sha256 (map (λ k. key k) keys.now) key_bytes.now
+        (moment F.puts D.held D.puts I.remaining O.contents env.old)
+        (moment F.puts D.held D.puts I.remaining O.contents env.new)
+        (Command.Notes notes.now) result }
+{
+    match run_notes::<Sha256Tree, F>(
+        &mut env.files,
+        env.alloc,
+        notes.mirror.log.origin,
+        keys,
+        notes.mirror.state,
+        notes.folder,
+    ) {
+        Ok(()) => Ok(0),
+        Err(fault) => {
+            let why = why_of(env.alloc, &env.files, notes, fault);
+            Err(Error::new(RunFault::Notes(fault), why))
+        }
+    }
+}
+
+// What the fault is about.
+fn why_of<F: RunFiles>(
+    alloc: Global,
+    files: &F,
+    notes: &Notes<'_>,
+    fault: NotesFault,
+) -> Option<Why> {
+    match fault {
+        NotesFault::State(fault) => of_state(alloc, files, Some(notes.mirror.state), fault),
+        NotesFault::Folder(fault) | NotesFault::Flush(fault) => of_named(alloc, files, fault),
+        NotesFault::Note(NamedFault::FileFault) => match of_named(
+            alloc,
+            files,
+            NamedFault::FileFault,
+        ) {
+            Some(why) => Some(why),
+            // A note's file that has other bytes, since files say what else is wrong with one.
+            None => Why::of_thing(alloc, notes.folder),
+        },
+        NotesFault::Note(NamedFault::OutOfMemory) | NotesFault::OutOfMemory => None,
+    }
+}

@@ -1,0 +1,323 @@
+//! The command `pull`: what is missing is fetched.
+ghost use Rattle.std.specs.Prelude.{◌≡◌, ◌≢◌, ◌↔◌, IfErr, IfOk, IsTrue, OnOk, Result, map, option_map};
+ghost use Rattle.std.specs.Io.KnownBytes.{Keeps};
+ghost use Rattle.sha2.specs.Sha256.{sha256};
+ghost use Rattle.mirror_model.specs.Complete.{IsLawful};
+ghost use Rattle.mirror_model.specs.View.{View, IsSubview};
+ghost use Rattle.mirror_pull.specs.Taking.{PullsTo};
+ghost use Rattle.mirror_pull.specs.declared.fault.PullFault.TheVariants.{Source};
+ghost use Rattle.program_commands.specs.Gained.{IsHolding};
+ghost use Rattle.mirror_client.specs.declared.limits.TheConstants.{MAX_REPLY_LEN};
+ghost use Rattle.program_env.specs.Done.{IsWriteFault};
+ghost use Rattle.program_env.specs.Envs.{IsSameEnv, moment};
+ghost use Rattle.program_env.specs.Performing.{Performs};
+ghost use Rattle.program_env.specs.Pulls.{FollowsShortReplies, LeavesEarly, TellsPull, TellsPulled, most_replied};
+ghost use Rattle.program_env.specs.Works.{IsStatus};
+
+use crate::pulling::pull_from;
+use byte_streams::write_whole;
+use mirror_client::{FailedGet, HttpSource, Site, TcpDial};
+use mirror_folders::{DirSource, FailedFile};
+use mirror_pull::{PullFault, Pulled};
+use program_commands::{Holding, has_gained, holding_of, open_or_new, write_state};
+use program_env::why::{Why, of_named};
+use program_env::{Env, Error, RunFault, RunFiles, RunFolders};
+use program_files::NamedFault;
+use program_reports::{pulled_status, pulled_text};
+use program_words::commands::pull::Pull;
+use program_words::{Command, Place};
+use signed_note::Verifier;
+use std::alloc::Global;
+use std::fs::Files;
+use std::io::{Read, Write};
+use std::marker::Model;
+use std::net::{Net, TcpStream};
+use std::rt::Clock;
+use tlog_hash::{Sha256Tree, TreeHash};
+use tlog_mirror::Mirror;
+
+/// Fetches what is missing into the mirror in the state file, or into one that holds nothing, writes its state, and
+/// then prints what the pull came to. The status is 3 where the pull is partial.
+///
+/// Where the place fails its state is written only where the words want it kept and something was gained. The fault is
+/// `Source` all the same, also where the file cannot be written then.
+///
+/// # Errors
+///
+/// In this order: `BadOrigin`, those of the state file, those of the pull, `FileFault` at the file that is written,
+/// and `WriteFault`.
+pub fn run<R, F: RunFiles, D: RunFolders, I: Read, O: Write, E: Write>(
+    env: &mut Env<'_, '_, '_, '_, R, F, D, I, O, E>,
+    key_bytes: &[u8],
+    keys: &[Box<dyn Verifier>],
+    pull: &Pull<'_>,
+) -> Result<u8, Error>
+where
+    R: Files + Clock + Eprint + Net<Stream = TcpStream>,
+    ensures same { IsSameEnv env.old env.new }
+    ensures does { Performs sha256 (map (λ k. key k) keys.now) key_bytes.now
+        (moment F.puts D.held D.puts I.remaining O.contents env.old)
+        (moment F.puts D.held D.puts I.remaining O.contents env.new)
+        (Command.Pull pull.now) result }
+{
+    run_pull(env.rt, &mut env.files, env.alloc, pull, keys, env.output)
+}
+
+// The same, over these files.
+fn run_pull<R: Files + Clock + Eprint + Net<Stream = TcpStream>, F: RunFiles, W: Write>(
+    rt: &R,
+    files: &mut F,
+    alloc: Global,
+    words: &Pull<'_>,
+    keys: &[Box<dyn Verifier>],
+    output: &mut W,
+) -> Result<u8, Error>
+    ensures answer { TellsPull sha256 words.now.mirror.log.origin.now (map (λ k. key k) keys.now)
+        (option_map (λ name. name.now) words.now.state) words.now.place (F.puts files.old)
+        words.now.keep words.now.mirror.out.now (F.puts files.new) (W.contents output.old)
+        (W.contents output.new) result }
+    ensures status { IfOk result IsStatus }
+    ensures quiet { IfErr result (λ fault. (¬ IsWriteFault fault) → Keeps (W.contents output.old)
+        (W.contents output.new)) }
+{
+    let origin = words.mirror.log.origin;
+    let mut mirror = match open_or_new::<Sha256Tree, F>(files, alloc, origin, keys, words.state) {
+        Ok(mirror) => mirror,
+        Err(fault) => return Err(Error::of_state(alloc, files, words.state, fault)),
+    };
+    match pull_kept(rt, files, alloc, words, keys, &mut mirror) {
+        Ok(pulled) => {
+            let answer = tell_pulled(files, alloc, words.mirror.out, &mirror, &pulled, output);
+            drop(mirror);
+            answer
+        }
+        Err(stopped) => {
+            drop(mirror);
+            Err(stopped.into_error())
+        }
+    }
+}
+
+// Why a pull ended early, and what that is about. Contracts see the fault.
+#[derive(Drop)]
+struct Stopped {
+    fault: PullFault,
+    why: Option<Why>,
+}
+
+impl Model for Stopped {
+    ghost use Rattle.mirror_pull.specs.declared.fault.PullFault.{PullFault};
+
+    ghost Value = { PullFault };
+
+    ghost view = { λ s. s.fault };
+}
+
+impl Stopped {
+    // A pull that ended by that fault.
+    fn new(fault: PullFault, why: Option<Why>) -> Stopped
+        ensures { result ≡ fault }
+    {
+        Stopped { fault, why }
+    }
+
+    // The error of the command.
+    fn into_error(self) -> Error
+        ensures { result ≡ RunFault.Pull self }
+    {
+        Error::new(RunFault::Pull(self.fault), self.why)
+    }
+}
+
+// Writes the state of a mirror that has pulled, and then prints what the pull came to.
+fn tell_pulled<H: TreeHash, F: RunFiles, W: Write>(
+    files: &mut F,
+    alloc: Global,
+    out: &str,
+    mirror: &Mirror<H>,
+    pulled: &Pulled,
+    output: &mut W,
+) -> Result<u8, Error>
+    ensures answer { TellsPulled mirror.now.view pulled.now out.now (F.puts files.old)
+        (F.puts files.new) (W.contents output.old) (W.contents output.new) result }
+    ensures status { IfOk result IsStatus }
+    ensures quiet { IfErr result (λ fault. (¬ IsWriteFault fault) → Keeps (W.contents output.old)
+        (W.contents output.new)) }
+{
+    match write_state(files, alloc, out, mirror) {
+        Ok(()) => {}
+        Err(fault) => {
+            let why = of_named(alloc, files, fault);
+            return Err(Error::new(RunFault::Out(fault), why));
+        }
+    }
+    let Ok(text) = pulled_text(alloc, pulled) else {
+        return Err(Error::no_memory());
+    };
+    match write_whole(output, text.as_bytes()) {
+        Ok(()) => Ok(pulled_status(pulled)),
+        Err(_) => Err(Error::unwritten(alloc)),
+    }
+}
+
+// Pulls into the mirror, and says what a fault is about. Where the source fails, what was gained is written if the words want
+// it kept.
+fn pull_kept<H: TreeHash, R: Files + Clock + Eprint + Net<Stream = TcpStream>, F: RunFiles>(
+    rt: &R,
+    files: &mut F,
+    alloc: Global,
+    words: &Pull<'_>,
+    keys: &[Box<dyn Verifier>],
+    mirror: &mut Mirror<H>,
+) -> Result<Pulled, Stopped>
+    ensures pulls { PullsTo H.digest (map (λ k. key k) keys.now) mirror.old.view mirror.new.view
+        result }
+    ensures follows { FollowsShortReplies H.digest (map (λ k. key k) keys.now)
+        (most_replied words.now.place) mirror.old.view mirror.new.view result }
+    ensures early { IfErr result (λ fault. (written : Result (Unit {0}) NamedFault)
+        × LeavesEarly words.now.keep words.now.mirror.out.now (F.puts files.old) (F.puts files.new)
+        mirror.old.view mirror.new.view fault written) }
+    ensures lawful { IsLawful H.digest mirror.new.view }
+    ensures same { OnOk result (F.puts files.new ≡ F.puts files.old) }
+{
+    let Ok(before) = holding_of(mirror) else {
+        return Err(no_memory());
+    };
+    let (answer, why) = from_place(rt, alloc, mirror, keys, words);
+    // What a mirror holds is sound: so a state that is written of it is loaded again.
+    let _sound = mirror.strings();
+    match answer {
+        Ok(pulled) => Ok(pulled),
+        Err(fault) => {
+            // Where it cannot be written the fault is still the pull's.
+            let _ = keep_gained(files, alloc, words, mirror, &before, fault);
+            Err(Stopped::new(fault, why))
+        }
+    }
+}
+
+// Memory was refused before a pull began.
+fn no_memory() -> Stopped
+    ensures { result ≡ PullFault.OutOfMemory }
+{
+    Stopped::new(PullFault::OutOfMemory, None)
+}
+
+// After a pull that ended by that fault: writes the mirror's state, where the words want it kept and something was
+// gained.
+fn keep_gained<H: TreeHash, F: RunFiles>(
+    files: &mut F,
+    alloc: Global,
+    words: &Pull<'_>,
+    mirror: &Mirror<H>,
+    before: &Holding,
+    fault: PullFault,
+) -> Result<(), NamedFault>
+    ensures { (start : View) → IsHolding start before.now → IsSubview start mirror.now.view
+        → LeavesEarly words.now.keep words.now.mirror.out.now (F.puts files.old) (F.puts files.new)
+        start mirror.now.view fault result }
+{
+    if words.keep && is_source(fault) && has_gained(mirror, before) {
+        return write_state(files, alloc, words.mirror.out, mirror);
+    }
+    Ok(())
+}
+
+// Whether the source of a pull failed.
+fn is_source(fault: PullFault) -> bool
+    ensures { IsTrue result ↔ (fault ≡ Source) }
+{
+    matches!(fault, PullFault::Source)
+}
+
+// Pulls from a place into the mirror, and says what a fault is about.
+fn from_place<'a, H: TreeHash, R: Files + Clock + Eprint + Net<Stream = TcpStream>>(
+    rt: &'a R,
+    alloc: Global,
+    mirror: &mut Mirror<H>,
+    keys: &[Box<dyn Verifier>],
+    words: &'a Pull<'a>,
+) -> (Result<Pulled, PullFault>, Option<Why>)
+    ensures pulls { PullsTo H.digest (map (λ k. key k) keys.now) mirror.old.view mirror.new.view
+        result.0 }
+    ensures follows { FollowsShortReplies H.digest (map (λ k. key k) keys.now)
+        (most_replied words.now.place) mirror.old.view mirror.new.view result.0 }
+{
+    match &words.place {
+        Place::Folder(folder) => {
+            let source = DirSource::new(rt, alloc, folder);
+            let (pulled, source) = pull_from(rt, alloc, mirror, keys, source, words.progress);
+            let why = why_of_folder(alloc, folder, &pulled, source.last_failed());
+            (pulled, why)
+        }
+        Place::Server {
+            host,
+            prefix,
+            address,
+            port,
+        } => {
+            // The words were judged by the rules of `Site`, so memory alone is wanting here.
+            let Ok(site) = Site::new(alloc, host, prefix) else {
+                return (Err(PullFault::OutOfMemory), None);
+            };
+            let Ok(dial) = TcpDial::new(rt, alloc, address, *port) else {
+                return (Err(PullFault::OutOfMemory), None);
+            };
+            let source = HttpSource::new(alloc, site, dial);
+            let (pulled, failed) = from_server(rt, alloc, mirror, keys, source, words.progress);
+            let why = why_of_server(alloc, host, prefix, &pulled, failed);
+            (pulled, why)
+        }
+    }
+}
+
+// Pulls from a server into the mirror; and the get that failed, if one did.
+fn from_server<H: TreeHash, R: Clock + Eprint, N: Net<Stream = TcpStream> + Clock + Clone + Drop>(
+    rt: &R,
+    alloc: Global,
+    mirror: &mut Mirror<H>,
+    keys: &[Box<dyn Verifier>],
+    source: HttpSource<TcpDial<N>>,
+    progress: bool,
+) -> (Result<Pulled, PullFault>, Option<FailedGet>)
+    ensures pulls { PullsTo H.digest (map (λ k. key k) keys.now) mirror.old.view mirror.new.view
+        result.0 }
+    ensures follows { FollowsShortReplies H.digest (map (λ k. key k) keys.now) MAX_REPLY_LEN
+        mirror.old.view mirror.new.view result.0 }
+{
+    let (pulled, source) = pull_from(rt, alloc, mirror, keys, source, progress);
+    (pulled, source.last_failed())
+}
+
+// What a pull from a folder failed by is about: the file that was not had, or the checkpoint.
+fn why_of_folder(
+    alloc: Global,
+    folder: &str,
+    pulled: &Result<Pulled, PullFault>,
+    failed: Option<FailedFile>,
+) -> Option<Why> {
+    match pulled {
+        Err(PullFault::Source) => Why::of_file(alloc, folder, &failed?),
+        Err(PullFault::NoCheckpoint | PullFault::Head(_)) => {
+            Why::of_made(alloc, format!(in alloc; "{folder}/checkpoint"))
+        }
+        _ => None,
+    }
+}
+
+// What a pull from a server failed by is about: the get that failed, or the checkpoint.
+fn why_of_server(
+    alloc: Global,
+    host: &str,
+    prefix: &str,
+    pulled: &Result<Pulled, PullFault>,
+    failed: Option<FailedGet>,
+) -> Option<Why> {
+    match pulled {
+        Err(PullFault::Source) => Why::of_get(alloc, host, prefix, &failed?),
+        Err(PullFault::NoCheckpoint | PullFault::Head(_)) => {
+            Why::of_made(alloc, format!(in alloc; "http://{host}{prefix}/checkpoint"))
+        }
+        _ => None,
+    }
+}

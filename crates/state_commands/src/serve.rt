@@ -1,0 +1,153 @@
+//! The command `serve`: answers over HTTP.
+ghost use Rattle.std.specs.Prelude.{◌≡◌, map};
+ghost use Rattle.std.specs.Result.{result_map_both};
+ghost use Rattle.sha2.specs.Sha256.{sha256};
+ghost use Rattle.state_commands.specs.Clients.{AnswersClients};
+ghost use Rattle.program_env.specs.Envs.{IsSameEnv, moment};
+ghost use Rattle.program_env.specs.Performing.{Performs};
+ghost use Rattle.program_env.specs.Works.{TellsPort};
+
+use crate::clients::Clients;
+use program_commands::open_state;
+use program_env::why::of_state;
+use program_env::{
+    Env, Error, RunFault, RunFiles, RunFolders, port_fault, print_fault, print_port,
+};
+use program_words::Command;
+use program_words::commands::serve::Serve;
+use signed_note::Verifier;
+use std::alloc::{AllocError, Global};
+use std::io::{self, Read, Write};
+use std::net::{Ipv4Addr, Net, TcpListener, TcpStream};
+use std::rt::Clock;
+use tlog_hash::{Sha256Tree, TreeHash};
+use tlog_mirror::Mirror;
+
+/// Answers as many connections as are asked for, one after the other, from the mirror in the state file. A fault of
+/// one is written to standard error, and the next is answered.
+///
+/// # Errors
+///
+/// In this order: `BadOrigin`, those of the state file, `PortFault` where the port cannot be had, `WriteFault` where the
+/// line that tells of it cannot be written, and `PortFault` where a connection cannot be accepted.
+pub fn run<R, F: RunFiles, D: RunFolders, I: Read, O: Write, E: Write>(
+    env: &mut Env<'_, '_, '_, '_, R, F, D, I, O, E>,
+    key_bytes: &[u8],
+    keys: &[Box<dyn Verifier>],
+    serve: &Serve<'_>,
+) -> Result<u8, Error>
+where
+    R: Clock + Net<Stream = TcpStream, Listener = TcpListener>,
+    ensures same { IsSameEnv env.old env.new }
+    ensures does { Performs sha256 (map (λ k. key k) keys.now) key_bytes.now
+        (moment F.puts D.held D.puts I.remaining O.contents env.old)
+        (moment F.puts D.held D.puts I.remaining O.contents env.new)
+        (Command.Serve serve.now) result }
+{
+    let args = &serve.mirror;
+    let origin = args.log.origin;
+    match open_state::<Sha256Tree, F>(&env.files, env.alloc, origin, keys, args.state) {
+        Ok(mut mirror) => {
+            let answer = serve_ready(
+                env.rt,
+                env.alloc,
+                &mut mirror,
+                serve,
+                env.output,
+                env.errors,
+            );
+            drop(mirror);
+            served(answer)
+        }
+        Err(fault) => {
+            let why = of_state(env.alloc, &env.files, Some(args.state), fault);
+            Err(Error::new(RunFault::State(fault), why))
+        }
+    }
+}
+
+// The status where all were answered.
+fn served(answer: Result<(), Error>) -> Result<u8, Error>
+    ensures { result ≡ result_map_both (λ _. 0) (λ fault. fault) answer }
+{
+    match answer {
+        Ok(()) => Ok(0),
+        Err(error) => Err(error),
+    }
+}
+
+// Makes a mirror ready, and serves it.
+fn serve_ready<H: TreeHash, R, O: Write, E: Write>(
+    rt: &R,
+    alloc: Global,
+    mirror: &mut Mirror<H>,
+    serve: &Serve<'_>,
+    output: &mut O,
+    errors: &mut E,
+) -> Result<(), Error>
+where
+    R: Clock + Net<Stream = TcpStream, Listener = TcpListener>,
+    ensures line { TellsPort serve.now.port (O.contents output.old) (O.contents output.new) result }
+{
+    match make_ready(alloc, mirror) {
+        Ok(()) => serve_mirror(rt, alloc, mirror, serve, output, errors),
+        Err(_) => Err(Error::new(RunFault::OutOfMemory, None)),
+    }
+}
+
+// Settles a mirror, and lays out what it serves. Where memory is short for the latter it serves from its strings.
+fn make_ready<H: TreeHash>(alloc: Global, mirror: &mut Mirror<H>) -> Result<(), AllocError>
+    ensures kept { mirror.new.view ≡ mirror.old.view }
+{
+    mirror.settle(alloc)?;
+    match mirror.lay_out(alloc) {
+        Ok(()) => {}
+        Err(AllocError) => {}
+    }
+    Ok(())
+}
+
+// Listens at the port, tells of it, and answers as many connections as are asked for.
+fn serve_mirror<H: TreeHash, R, O: Write, E: Write>(
+    rt: &R,
+    alloc: Global,
+    mirror: &Mirror<H>,
+    serve: &Serve<'_>,
+    output: &mut O,
+    errors: &mut E,
+) -> Result<(), Error>
+where
+    R: Clock + Net<Stream = TcpStream, Listener = TcpListener>,
+    ensures line { TellsPort serve.now.port (O.contents output.old) (O.contents output.new) result }
+{
+    let mut listener = match TcpListener::bind(rt, (Ipv4Addr::LOCALHOST, serve.port)) {
+        Ok(listener) => listener,
+        Err(error) => return Err(port_fault(alloc, serve.port, &error)),
+    };
+    print_port(alloc, serve.port, output)?;
+    match serve_all(rt, alloc, mirror, &mut listener, serve.requests, errors) {
+        Ok(()) => Ok(()),
+        Err(error) => Err(port_fault(alloc, serve.port, &error)),
+    }
+}
+
+// Answers clients one after the other, as many as asked, while connections are accepted.
+fn serve_all<H: TreeHash, C: Clock, S: Clients, E: Write>(
+    clock: &C,
+    alloc: Global,
+    mirror: &Mirror<H>,
+    clients: &mut S,
+    requests: u64,
+    errors: &mut E,
+) -> io::Result<()>
+    ensures { AnswersClients H.digest mirror.now.view requests (S.exchanges clients.old)
+        (S.exchanges clients.new) result }
+{
+    for _ in 0..requests {
+        match clients.answer_next(clock, alloc, mirror)? {
+            Ok(()) => {}
+            Err(fault) => print_fault(errors, fault),
+        }
+    }
+    Ok(())
+}

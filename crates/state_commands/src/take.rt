@@ -1,0 +1,96 @@
+//! The command `take`: what files hold is taken into a mirror.
+ghost use Rattle.std.specs.Prelude.{◌≤◌, ◌∷◌, length, map};
+ghost use Rattle.sha2.specs.Sha256.{sha256};
+ghost use Rattle.program_commands.specs.Takes.{NamesWidth};
+ghost use Rattle.program_env.specs.Named.{AsksItem};
+ghost use Rattle.program_env.specs.Envs.{IsSameEnv, moment};
+ghost use Rattle.program_env.specs.Performing.{Performs};
+
+use program_commands::{ItemFiles, TakeFilesFault, run_take};
+use program_env::why::{Why, of_named, of_state};
+use program_env::{Env, Error, RunFault, RunFiles, RunFolders};
+use program_words::Command;
+use program_words::commands::take::{Kind, Take};
+use signed_note::Verifier;
+use std::alloc::Global;
+use std::io::{Read, Write};
+use tlog_hash::Sha256Tree;
+use tlog_mirror::TakeFault;
+
+/// Takes the item into the mirror in the state file, or into one that holds nothing, and writes its state.
+///
+/// # Errors
+///
+/// Those of `run_take`.
+pub fn run<R, F: RunFiles, D: RunFolders, I: Read, O: Write, E: Write>(
+    env: &mut Env<'_, '_, '_, '_, R, F, D, I, O, E>,
+    key_bytes: &[u8],
+    keys: &[Box<dyn Verifier>],
+    take: &Take<'_>,
+) -> Result<u8, Error>
+    requires least { 1 ≤ take.now.width }
+    requires most { take.now.width ≤ 256 }
+    requires some { 1 ≤ length take.now.files.items }
+    ensures same { IsSameEnv env.old env.new }
+    ensures does { Performs sha256 (map (λ k. key k) keys.now) key_bytes.now
+        (moment F.puts D.held D.puts I.remaining O.contents env.old)
+        (moment F.puts D.held D.puts I.remaining O.contents env.new)
+        (Command.Take take.now) result }
+{
+    // The words name a file at least.
+    let names = take.files.as_slice();
+    let item = item_of(take.kind, take.width, names[0], &names[1..]);
+    let origin = take.mirror.log.origin;
+    let out = take.mirror.out;
+    match run_take::<Sha256Tree, F>(
+        &mut env.files,
+        env.alloc,
+        origin,
+        keys,
+        take.state,
+        item,
+        out,
+    ) {
+        Ok(()) => Ok(0),
+        Err(fault) => {
+            let why = why_of(env.alloc, &env.files, take, fault);
+            Err(Error::new(RunFault::Take(fault), why))
+        }
+    }
+}
+
+// The files of the item: the first of them, and for a head the rows behind it.
+fn item_of<'a>(kind: Kind, width: u32, first: &'a str, rest: &'a [&'a str]) -> ItemFiles<'a>
+    requires least { 1 ≤ width }
+    requires most { width ≤ 256 }
+    ensures within { NamesWidth result }
+    ensures item { AsksItem kind width (first.entry.now ∷ map (λ name. name.now) rest.entry.now)
+        result }
+{
+    match kind {
+        Kind::Head => ItemFiles::Head {
+            note: first,
+            rows: rest,
+        },
+        Kind::Tile => ItemFiles::Tile { width, file: first },
+        Kind::Bundle => ItemFiles::Bundle { width, file: first },
+    }
+}
+
+// What the fault is about: of an item the file, where there is one alone.
+fn why_of<F: RunFiles>(
+    alloc: Global,
+    files: &F,
+    take: &Take<'_>,
+    fault: TakeFilesFault,
+) -> Option<Why> {
+    match fault {
+        TakeFilesFault::State(fault) => of_state(alloc, files, take.state, fault),
+        TakeFilesFault::Item(fault) | TakeFilesFault::Out(fault) => of_named(alloc, files, fault),
+        TakeFilesFault::Take(TakeFault::OutOfMemory) => None,
+        TakeFilesFault::Take(_) => match take.files.as_slice() {
+            [file] => Why::of_thing(alloc, file),
+            _ => None,
+        },
+    }
+}
