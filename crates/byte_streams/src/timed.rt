@@ -76,6 +76,14 @@ fn left_at(now: Instant, end: Instant) -> Option<Duration>
     if left.is_zero() { None } else { Some(left) }
 }
 
+// The instant that is so long after now.
+fn end_after<C: Clock>(clock: &C, time: Duration) -> io::Result<Instant> {
+    match Instant::now(clock)?.checked_add(time) {
+        Some(end) => Ok(end),
+        None => Err(io::Error::from(ErrorKind::InvalidInput)),
+    }
+}
+
 impl<S: Drop, C: Clock + Drop> TimedStream<S, C> {
     /// That stream, with a deadline so long after now.
     ///
@@ -85,10 +93,20 @@ impl<S: Drop, C: Clock + Drop> TimedStream<S, C> {
     pub fn new(stream: S, clock: C, time: Duration) -> io::Result<TimedStream<S, C>>
         ensures { IfOk result (λ t. t ≡ stream) }
     {
-        match Instant::now(&clock)?.checked_add(time) {
-            Some(end) => Ok(TimedStream { stream, clock, end }),
-            None => Err(io::Error::from(ErrorKind::InvalidInput)),
-        }
+        let end = end_after(&clock, time)?;
+        Ok(TimedStream { stream, clock, end })
+    }
+
+    /// Moves the deadline: it is so long after now. The stream moves no byte.
+    ///
+    /// # Errors
+    ///
+    /// The clock cannot be read, or ends before the deadline, which stays as it was.
+    pub fn restart(&mut self, time: Duration) -> io::Result<()>
+        ensures { self.new ≡ self.old }
+    {
+        self.end = end_after(&self.clock, time)?;
+        Ok(())
     }
 
     // The time that is left, which is not zero.

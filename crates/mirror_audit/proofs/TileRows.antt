@@ -12,7 +12,9 @@ use Rattle.tlog_tiles.specs.declared.paths.Path.TheVariants.{Tile}
 use Rattle.tlog_tiles.specs.Row.{row_text}
 use Rattle.tlog_tiles.proofs.TileLemmas.{row_folds}
 use Rattle.mirror_sources.specs.Honest.{true_bytes}
-use Rattle.mirror_sources.specs.Replies.{Reply, reply}
+use Rattle.mirror_sources.specs.Replies.{Reply, asked_paths, reply}
+use Rattle.mirror_sources.specs.Source.{StaysWithin}
+use Rattle.mirror_sources.specs.Told.{AddsTold}
 use Rattle.mirror_audit.specs.Answering.{AreGiven, IsHad}
 use Rattle.mirror_audit.specs.Covering.{Covers, CoversRow, CoversTile, HasAt, IsFullIn, IsRowFound}
 use Rattle.mirror_audit.proofs.Given.{first_of, given_then, had_left, had_right}
@@ -20,13 +22,17 @@ use Rattle.mirror_audit.proofs.Covered.{covers_as, covers_none, covers_then, has
 use Rattle.mirror_audit.proofs.Ranges.{full_split, full_tile, none_in, place_of}
 
 -- the numbers of a tile and of its children are small
-pub child_small : (level index width i : ℕ) → i < width → (256 * index + width) * 256 ^ level < 18446744073709551616 →
-    256 * index + i < 18446744073709551616
-child_small level index width i lt fits =
+pub row_small : (level index width : ℕ) → (256 * index + width) * 256 ^ level < 18446744073709551616 →
+    256 * index + width < 18446744073709551616
+row_small level index width fits =
     let some = level_positive level in
     let less : (256 * index + width) * 1 ≤ (256 * index + width) * 256 ^ level =
     mul-le (256 * index + width) 1 (256 * index + width) (256 ^ level) (omega arith) (omega arith) in
     omega (arith, less, fits)
+
+pub child_small : (level index width i : ℕ) → i < width → (256 * index + width) * 256 ^ level < 18446744073709551616 →
+    256 * index + i < 18446744073709551616
+child_small level index width i lt fits = omega (arith, lt, row_small level index width fits)
 
 pub child_fits : (level index width i : ℕ) → i < width → (256 * index + width) * 256 ^ level < 18446744073709551616 →
     (256 * index + i + 1) * 256 ^ level < 18446744073709551616
@@ -52,6 +58,23 @@ module _ (digest : List ℕ → List ℕ) (level index : ℕ) (row : List (List 
       covers_none digest (IsFullIn (level - 1) from to) from to may x
       (λ entries. take 0 row ≡ level_row digest entries level (256 * index) 0) same
       (λ path file. none_in (level - 1) from to path (omega (arith, same)) file) (λ entries. refl)
+
+  -- a hint leaves it so
+  pub row_hinted : (i : ℕ) (a b c : Path → Option (List ℕ) → Type 0) (x y z : Option (List Path)) → StaysWithin b c →
+      z ≡ y → CoversRow digest level index row i a b x y → CoversRow digest level index row i a c x z
+  row_hinted i a b c x y z stays same p = record {
+    more = p.more;
+    replies = p.replies;
+    given = record {
+      stays = record { stays = λ path answer h. p.given.stays.stays path answer (stays.stays path answer h) };
+      may_reply = p.given.may_reply;
+      told = subst (λ w. AddsTold x w (asked_paths p.replies)) (sym same) p.given.told;
+    };
+    size_is = p.size_is;
+    short = p.short;
+    claims = p.claims;
+    holds = p.holds;
+  }
 
   -- one more hash, of a tile of the level below
   pub row_more : (a b c : Path → Option (List ℕ) → Type 0) (x y z : Option (List Path)) (i : ℕ) (h : List ℕ) →

@@ -24,7 +24,7 @@ pub enum AuditFault {
     /// The file is not there. Of a partial bundle, neither is its full one.
     #[error("NoFile")]
     NoFile(Path),
-    /// The file has other bytes than the log of that checkpoint. Where the full file stands in the place of a partial one, the
+    /// The file has other bytes than the log of that checkpoint. Where the full file replaces a partial one, the
     /// path is that of the partial one.
     #[error("FalseFile")]
     FalseFile(Path),

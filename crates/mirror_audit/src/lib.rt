@@ -2,10 +2,11 @@
 //!
 //! ```text
 //! let audited = audit::<Sha256Tree, ListSource<Sha256Tree>>(alloc, "ex", &keys, &mut source)?;
-//! audited.size // 600: each file of a log of so many entries stands there, with its true bytes
+//! audited.size // 600: each file of a log of 600 entries is there, with its true bytes
 //! ```
 #![tactic(auto)]
 
+mod ahead;
 mod ask;
 mod bundle;
 mod edge;

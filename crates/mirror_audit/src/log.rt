@@ -16,7 +16,7 @@ use std::alloc::Global;
 use tlog_hash::{Hash, TreeHash};
 use tlog_tiles::Path;
 
-/// The log that stands at a source, whole.
+/// The whole log at a source.
 #[derive(Debug, Drop, PartialEq, Eq, Clone, Copy)]
 pub struct Audited {
     /// How many entries it has.

@@ -1,4 +1,4 @@
-//! A partial file, or the part of the full one that stands in its place.
+//! A partial file, or the part of the full one that replaces it.
 ghost use Rattle.std.specs.Prelude.{◌≡◌, ◌<◌, ◌≤◌, IfErr, IfNone, IfOk, IfSome, None, length};
 ghost use Rattle.mirror_sources.specs.Files.{full_of, width_named};
 ghost use Rattle.mirror_audit.specs.Edges.{IsFullGiven, IsGivenAt};
@@ -37,7 +37,7 @@ fn len_of_entries(bundle: &[u8], count: u32) -> Option<usize>
     Some(bundle.len().saturating_sub(rest.len()))
 }
 
-// How many bytes of a full file are the partial file of that path; None where it is no full file.
+// How many bytes of a full file are the partial file of that path; None if it is no full file.
 fn len_of_part(path: Path, full: &[u8]) -> Option<usize>
     ensures { IfSome result (λ n. n ≤ length full.now) }
 {
@@ -54,7 +54,7 @@ fn len_of_part(path: Path, full: &[u8]) -> Option<usize>
     }
 }
 
-// The first bytes of the full file in the place of a partial one. None where it is not there.
+// The first bytes of the full file in the place of a partial one. None if it is not there.
 fn get_full_part<S: Source>(source: &mut S, path: Path) -> Result<Option<Vec<u8>>, AuditFault>
     ensures none { IfOk result (λ found. IfNone found
         (S.may_answer source.old (full_of path) None)) }
@@ -74,7 +74,7 @@ fn get_full_part<S: Source>(source: &mut S, path: Path) -> Result<Option<Vec<u8>
     Ok(Some(full))
 }
 
-/// The bytes of a partial file: as they are given, or else the first of the full file, which may stand in its place (C2SP
+/// The bytes of a partial file: as they are given, or else the first of the full file, which may replace it (C2SP
 /// tlog-tiles, "Partial Tiles"). None where neither is there.
 pub(crate) fn get_part<S: Source>(source: &mut S, path: Path) -> Result<Option<Vec<u8>>, AuditFault>
     requires { width_named path < 256 }

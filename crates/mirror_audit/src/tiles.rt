@@ -4,6 +4,7 @@ ghost use Rattle.mirror_sources.specs.Files.{full_of};
 ghost use Rattle.mirror_audit.specs.Covering.{CoversRow, CoversTile, IsRowFound};
 ghost use Rattle.mirror_audit.specs.Faults.{BlamesPlace, IsForAbsence};
 
+use crate::ahead::expect_bundles;
 use crate::ask::get_file;
 use crate::bundle::audit_bundle;
 use crate::fault::AuditFault;
@@ -80,8 +81,11 @@ pub(crate) fn audit_row<H: TreeHash, S: Source>(
         (S.may_answer source.old)
         (S.may_answer source.new) (S.asked source.old) (S.asked source.new)) }
 {
-    for i in 0..row.len() as u64 {
-        audit_tile::<H, S>(alloc, source, level - 1, 256 * index + i, &row[i as usize])?;
+    let width = row.len() as u64;
+    for i in 0..width {
+        let child = 256 * index + i;
+        expect_bundles::<S>(alloc, source, level, child, width - i);
+        audit_tile::<H, S>(alloc, source, level - 1, child, &row[i as usize])?;
     }
     Ok(())
 }

@@ -12,6 +12,9 @@
 //! ```
 #![tactic(auto)]
 
+mod ahead;
+mod dial;
+mod exchange;
 mod failed;
 mod fault;
 mod framing;
@@ -24,6 +27,7 @@ mod source;
 mod tcp;
 mod watched;
 
+pub use dial::Dial;
 pub use failed::{FailedGet, Reason};
 pub use fault::{ReplyFault, SiteFault};
 pub use laws::{limits_law, one_reply_law};
@@ -31,5 +35,5 @@ pub use limits::{MAX_FIELDS, MAX_HEAD_LEN, MAX_HOST_LEN, MAX_PREFIX_LEN, MAX_REP
 pub use reply::read_reply;
 pub use request::get_request;
 pub use site::Site;
-pub use source::{Dial, HttpSource};
+pub use source::HttpSource;
 pub use tcp::TcpDial;

@@ -1,153 +1,29 @@
 //! A source that asks for each file over a connection of its own.
-ghost use Rattle.std.specs.Prelude.{◌≡◌, ◌≢◌, Err, IfErr, IfOk, IfSome, Ok, OnErr, OnOk, option_map};
-ghost use Rattle.std.specs.Io.KnownBytes.{Appends, Keeps};
-ghost use Rattle.byte_streams.specs.Streams.{AppendsPrefix, TakesAtMost};
-ghost use Rattle.tlog_text.specs.Answers.{seen};
-ghost use Rattle.mirror_client.specs.Request.{request_text};
-ghost use Rattle.mirror_client.specs.Source.{Receives, source_fault};
+ghost use Rattle.std.specs.Prelude.{◌≡◌, IfOk, option_map};
 ghost use Rattle.mirror_sources.specs.Source.{IsShortAnswer};
 
-use crate::failed::{FailedGet, Reason};
-use crate::limits::{MAX_REPLY_LEN, MOST_TAKEN};
-use crate::reply::read_reply;
-use crate::request::get_request;
+use crate::ahead::{Ahead, receive_ahead};
+use crate::dial::Dial;
+use crate::exchange::exchange;
+use crate::failed::FailedGet;
+use crate::limits::MAX_REPLY_LEN;
 use crate::site::Site;
-use crate::watched::WatchedStream;
-use byte_streams::{StreamFault, read_all, write_whole};
 use mirror_sources::{Source, SourceFault};
-use std::alloc::{AllocError, Global};
-use std::io;
-use std::io::{ErrorKind, Read, Write};
+use std::alloc::Global;
 use std::marker::Model;
 use tlog_tiles::Path;
-
-/// Opens connections to where a log's files stand.
-/// `TcpDial` does by TCP, and tests do in memory.
-pub trait Dial {
-    /// A connection, which is closed when it is dropped.
-    type Stream: Read + Write + Drop;
-
-    /// A fresh connection, for one request.
-    fn dial(&mut self) -> io::Result<Self::Stream>;
-}
-
-// Writes the request for that file of the site, and nothing else. It is `Failed` where a write fails or takes
-// no byte: a prefix of the request was written. Where memory was refused nothing was written.
-#[tactic(auto, using(crate::proofs::Sources::appends_none))]
-fn send_request<W: Write>(
-    alloc: Global,
-    writer: &mut W,
-    site: &Site,
-    path: &Path,
-) -> Result<(), SourceFault>
-    ensures ok { OnOk result (Appends (W.contents writer.old) (W.contents writer.new)
-        (request_text site.now path.now)) }
-    ensures err { OnErr result (AppendsPrefix (W.contents writer.old) (W.contents writer.new)
-        (request_text site.now path.now)) }
-    ensures quiet { IfErr result (λ e. e ≢ SourceFault.Failed → Keeps (W.contents writer.old)
-        (W.contents writer.new)) }
-{
-    write_request(writer, get_request(alloc, site, path))
-}
-
-// Writes the request, if there was memory for it. Where there was, `Failed` is the only fault.
-fn write_request<W: Write>(
-    writer: &mut W,
-    request: Result<Vec<u8>, AllocError>,
-) -> Result<(), SourceFault>
-    ensures ok { IfOk request (λ bytes. OnOk result (Appends (W.contents writer.old)
-        (W.contents writer.new) bytes.items)) }
-    ensures err { IfOk request (λ bytes. OnErr result (AppendsPrefix (W.contents writer.old)
-        (W.contents writer.new) bytes.items)) }
-    ensures fault { OnOk request (IfErr result (λ e. e ≡ SourceFault.Failed)) }
-    ensures refused { OnErr request (result ≡ Err SourceFault.OutOfMemory) }
-    ensures quiet { OnErr request (Keeps (W.contents writer.old) (W.contents writer.new)) }
-{
-    let Ok(request) = request else {
-        return Err(SourceFault::OutOfMemory);
-    };
-    match write_whole(writer, &request) {
-        Ok(()) => Ok(()),
-        Err(_) => Err(SourceFault::Failed),
-    }
-}
-
-// Reads the reply that the reader gives up to its end, and gives the body, or None where the file is not
-// there (RFC 9112). Of a reply of more than 16,785,664 bytes one byte more is taken, and no others. What is wrong with a
-// reply goes into `reason`. Where the request was not sent, that fault is the answer.
-fn receive_reply<R: Read>(
-    alloc: Global,
-    reader: &mut R,
-    sent: Result<(), SourceFault>,
-    reason: &mut Option<Reason>,
-) -> Result<Option<Vec<u8>>, SourceFault>
-    ensures unsent { IfErr sent (λ e. result ≡ Err e) }
-    ensures reply { IfOk result (λ answer. IfSome (R.remaining reader.old)
-        (λ bytes. Receives bytes (Ok (option_map (λ v. v.items) answer)))) }
-    ensures bound { IfOk result (λ answer. IsShortAnswer MAX_REPLY_LEN
-        (option_map (λ v. v.items) answer)) }
-    ensures limit { TakesAtMost MOST_TAKEN (R.remaining reader.old) (R.remaining reader.new) }
-{
-    match sent {
-        Ok(()) => reply_body(alloc, read_all(alloc, reader, MOST_TAKEN, u64::MAX), reason),
-        Err(fault) => Err(fault),
-    }
-}
-
-// The body of the reply whose bytes were read, if they were.
-fn reply_body(
-    alloc: Global,
-    bytes: Result<Vec<u8>, StreamFault>,
-    reason: &mut Option<Reason>,
-) -> Result<Option<Vec<u8>>, SourceFault>
-    ensures reply { IfOk bytes (λ v. Receives v.items (seen (option_map (λ w. w.items)) result)) }
-    ensures fault { IfErr bytes (λ e. result ≡ Err (source_fault e)) }
-{
-    match bytes {
-        Ok(bytes) => body_of(alloc, &bytes, reason),
-        Err(StreamFault::OutOfMemory) => Err(SourceFault::OutOfMemory),
-        Err(_) => Err(SourceFault::Failed),
-    }
-}
-
-// The body of the reply that the bytes are.
-fn body_of(
-    alloc: Global,
-    bytes: &[u8],
-    reason: &mut Option<Reason>,
-) -> Result<Option<Vec<u8>>, SourceFault>
-    ensures { Receives bytes.now (seen (option_map (λ v. v.items)) result) }
-{
-    if bytes.len() > MAX_REPLY_LEN {
-        *reason = Some(Reason::LongReply);
-        return Err(SourceFault::Failed);
-    }
-    match read_reply(bytes) {
-        Ok(Some(body)) => match Vec::from_slice(alloc, body) {
-            Ok(body) => Ok(Some(body)),
-            Err(_) => Err(SourceFault::OutOfMemory),
-        },
-        Ok(None) => Ok(None),
-        Err(fault) => {
-            *reason = Some(Reason::Reply(fault));
-            Err(SourceFault::Failed)
-        }
-    }
-}
-
-// Why a connection on which a get failed is to blame, where nothing is known of its reply.
-fn stream_reason(error: Option<io::Error>) -> Reason {
-    match error {
-        Some(error) => Reason::of_stream(error),
-        None => Reason::Stream(io::Error::from(ErrorKind::WriteZero)),
-    }
-}
 
 /// A source that asks for each file by one request over a fresh connection.
 /// Under the prefix `/2026` it asks for `tile/0/000` by `GET /2026/tile/0/000 HTTP/1.0`.
 ///
-/// It opens a connection only where it is asked for a file, and asks on it for that file alone. What it
-/// answers is what the other end says: of it is known that it has at most 16,785,664 bytes. `Failed` comes
+/// Where a hint says which paths come next, it sends requests for the first of them ahead, each over a connection of its
+/// own, and reads each reply when its path is asked for. A hint closes what is out for other paths. Where a connection
+/// fails, no more are out than then, until a file is asked for while none are.
+///
+/// A reply that was sent for and fails is asked for again: while others are out, and where that fails too once they are
+/// done with. So no get fails by what is out beside it, and only the last failure counts.
+///
+/// What it answers is what the other end says: of it is known that it has at most 16,785,664 bytes. `Failed` comes
 /// where a connection, a write or a read fails, where the reply has more bytes, and where it is none that
 /// `read_reply` reads; memory that was refused is `OutOfMemory`, and is not counted. Why the last get failed is told by
 /// `last_failed`.
@@ -156,6 +32,7 @@ pub struct HttpSource<D: Dial + Drop> {
     alloc: Global,
     site: Site,
     dial: D,
+    ahead: Ahead<D::Stream>,
     failures: u64,
     last_failed: Option<FailedGet>,
 }
@@ -169,14 +46,16 @@ impl<D: Dial + Drop> Model for HttpSource<D> {
 }
 
 impl<D: Dial + Drop> HttpSource<D> {
-    /// A source of the files of that site, over connections that the dial opens. It takes no memory.
-    pub fn new(alloc: Global, site: Site, dial: D) -> HttpSource<D>
+    /// A source of the files of that site, over connections that the dial opens. At most `ahead` requests are out ahead at
+    /// once (0: none). It takes no memory.
+    pub fn new(alloc: Global, site: Site, dial: D, ahead: usize) -> HttpSource<D>
         ensures { result ≡ 0 }
     {
         HttpSource {
             alloc,
             site,
             dial,
+            ahead: Ahead::new(alloc, ahead),
             failures: 0,
             last_failed: None,
         }
@@ -187,8 +66,53 @@ impl<D: Dial + Drop> HttpSource<D> {
         self.last_failed
     }
 
-    // The body of the reply to one request. Why it failed is kept.
+    // The body of the reply for that path. While requests are out no failure is final: a server may refuse a connection
+    // for their sake.
     fn fetch(&mut self, path: &Path) -> Result<Option<Vec<u8>>, SourceFault>
+        ensures same { self.new ≡ self.old }
+        ensures bound { IfOk result
+            (λ answer. IsShortAnswer MAX_REPLY_LEN (option_map (λ v. v.items) answer)) }
+    {
+        match self.fetch_ahead(path) {
+            Ok(found) => Ok(found),
+            Err(SourceFault::OutOfMemory) => Err(SourceFault::OutOfMemory),
+            Err(SourceFault::Failed) => self.fetch_after(path),
+        }
+    }
+
+    // The body of the reply that was sent for. It is `Failed` where none was, or it failed.
+    fn fetch_ahead(&mut self, path: &Path) -> Result<Option<Vec<u8>>, SourceFault>
+        ensures same { self.new ≡ self.old }
+        ensures bound { IfOk result
+            (λ answer. IsShortAnswer MAX_REPLY_LEN (option_map (λ v. v.items) answer)) }
+    {
+        match self.ahead.take(path) {
+            Some(stream) => receive_ahead(self.alloc, &mut self.dial, stream),
+            None => Err(SourceFault::Failed),
+        }
+    }
+
+    // The body of the reply to a request that is sent now: beside those that are out, or else when they are done with.
+    fn fetch_after(&mut self, path: &Path) -> Result<Option<Vec<u8>>, SourceFault>
+        ensures same { self.new ≡ self.old }
+        ensures bound { IfOk result
+            (λ answer. IsShortAnswer MAX_REPLY_LEN (option_map (λ v. v.items) answer)) }
+    {
+        if self.ahead.is_empty() {
+            return self.fetch_alone(path);
+        }
+        match exchange(self.alloc, self.dial.dial(), &self.site, path, &mut None) {
+            Ok(found) => Ok(found),
+            Err(SourceFault::OutOfMemory) => Err(SourceFault::OutOfMemory),
+            Err(SourceFault::Failed) => {
+                self.ahead.finish(self.alloc);
+                self.fetch_alone(path)
+            }
+        }
+    }
+
+    // The body of the reply to a request that is sent while none is out. Why it failed is kept.
+    fn fetch_alone(&mut self, path: &Path) -> Result<Option<Vec<u8>>, SourceFault>
         ensures same { self.new ≡ self.old }
         ensures bound { IfOk result
             (λ answer. IsShortAnswer MAX_REPLY_LEN (option_map (λ v. v.items) answer)) }
@@ -201,36 +125,9 @@ impl<D: Dial + Drop> HttpSource<D> {
                 reason,
             });
         }
+        self.ahead.widen();
         answer
     }
-}
-
-// One request over the connection, if there is one, and the body of the reply to it. Where it is `Failed`,
-// `reason` says why.
-fn exchange<S: Read + Write + Drop>(
-    alloc: Global,
-    dialled: io::Result<S>,
-    site: &Site,
-    path: &Path,
-    reason: &mut Option<Reason>,
-) -> Result<Option<Vec<u8>>, SourceFault>
-    ensures refused { OnErr dialled (result ≡ Err SourceFault.Failed) }
-    ensures bound { IfOk result (λ answer. IsShortAnswer MAX_REPLY_LEN
-        (option_map (λ v. v.items) answer)) }
-{
-    let mut stream = match dialled {
-        Ok(stream) => WatchedStream::new(stream),
-        Err(error) => {
-            *reason = Some(Reason::Connection(error));
-            return Err(SourceFault::Failed);
-        }
-    };
-    let sent = send_request(alloc, &mut stream, site, path);
-    let answer = receive_reply(alloc, &mut stream, sent, reason);
-    if matches!(&answer, Err(SourceFault::Failed)) && reason.is_none() {
-        *reason = Some(stream_reason(stream.error()));
-    }
-    answer
 }
 
 impl<D: Dial + Drop> Source for HttpSource<D> {
@@ -249,6 +146,11 @@ impl<D: Dial + Drop> Source for HttpSource<D> {
                 Err(SourceFault::Failed)
             }
         }
+    }
+
+    fn expect(&mut self, paths: &[Path]) {
+        self.ahead
+            .send(self.alloc, &self.site, &mut self.dial, paths);
     }
 
     fn failures(&self) -> u64 {

@@ -1,6 +1,6 @@
 //! Connections over TCP.
 
-use crate::source::Dial;
+use crate::dial::Dial;
 use byte_streams::TimedStream;
 use std::alloc::{AllocError, Global};
 use std::io;
@@ -11,14 +11,15 @@ use std::time::{Clock, Duration};
 /// A connection is tried for so many seconds.
 const CONNECT_SECONDS: u64 = 10;
 
-/// A request and its reply have so many seconds together.
+/// A request and its reply have so many seconds together; where the request is sent ahead, each has as many.
 const REPLY_SECONDS: u64 = 60;
 
 /// Connects to one host and port by TCP.
 ///
 /// Each address of the host is tried, for 10 seconds at most, until one answers. On a connection that
 /// was made all that is written and read has 60 seconds together: then each call fails, also where the
-/// other end sends a byte now and then. So a log that is dead ends a pull, and does not hang it.
+/// other end sends a byte now and then. Where the request was sent ahead, the reply has 60 seconds from when it begins to
+/// be read. So a log that is dead ends a pull, and does not hang it.
 #[derive(Drop)]
 pub struct TcpDial<N: Net<Stream = TcpStream> + Clock + Clone + Drop> {
     net: N,
@@ -58,5 +59,9 @@ impl<N: Net<Stream = TcpStream> + Clock + Clone + Drop> Dial for TcpDial<N> {
         let stream = self.connect()?;
         let reply_time = Duration::from_secs(REPLY_SECONDS);
         TimedStream::new(stream, self.net.clone()?, reply_time)
+    }
+
+    fn restart(&mut self, stream: &mut TimedStream<TcpStream, N>) -> io::Result<()> {
+        stream.restart(Duration::from_secs(REPLY_SECONDS))
     }
 }

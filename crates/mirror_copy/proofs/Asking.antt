@@ -78,6 +78,21 @@ module _ {S : Type 0} (may : S → Path → Option (List ℕ) → Type 0) (faile
     first = p.first;
   }
 
+  -- a place whose source was given a hint
+  pub asked_hint : (so : Path → Type 0) (a b : Place S) → StaysWithin (may a.source) (may b.source) →
+      asked b.source ≡ asked a.source → failed b.source ≡ failed a.source → b.failures ≡ a.failures →
+      b.first_wrong ≡ a.first_wrong → (8 ≤ a.failures → b.source ≡ a.source) → IsAskedFor may failed asked so a b
+  asked_hint so a b later told counted same first given = record {
+    later = later;
+    paths = [];
+    told = subst (λ o. AddsTold (asked a.source) o []) (sym told) (told_same (asked a.source));
+    are_so = All-nil so;
+    more = omega (arith, same);
+    counted = (λ none. counted, λ some. absurd (omega (arith, same, some)));
+    given_up = given;
+    first = λ some. first;
+  }
+
   pub asks_same : (so : Path → Type 0) (x : Places S) → AsksPlaces may failed asked so x x
   asks_same so x = record {
     count = refl;

@@ -7,6 +7,7 @@ ghost use Rattle.mirror_copy.specs.PlaceGets.{AsksPlaces};
 ghost use Rattle.mirror_copy.specs.Conflicts.{ConflictPutsNothing};
 ghost use Rattle.mirror_copy.specs.Growing.{IsKnown, BringsRow, BringsTile};
 
+use crate::ahead::find_bundle;
 use crate::fault::BringFault;
 use crate::find::find;
 use crate::keep::keep;
@@ -19,7 +20,7 @@ use std::alloc::Global;
 use tlog_hash::{Hash, TreeHash};
 use tlog_tiles::{Path, write_row};
 
-// Brings a full bundle, and its tile of level 0.
+// Brings a full bundle, and its tile of level 0. `more` is how many bundles of its row come after it.
 fn bring_bundle<H: TreeHash, D: ReadableShelf, S: Source + Drop>(
     alloc: Global,
     shelf: &mut D,
@@ -27,6 +28,7 @@ fn bring_bundle<H: TreeHash, D: ReadableShelf, S: Source + Drop>(
     tip: &CopyTip,
     index: u64,
     hash: &Hash,
+    more: u64,
 ) -> Result<(), BringFault>
     requires fits { (index + 1) * 256 ≤ 2 ^ 63 }
     requires beyond { tip.now.size < (index + 1) * 256 }
@@ -41,7 +43,7 @@ fn bring_bundle<H: TreeHash, D: ReadableShelf, S: Source + Drop>(
         (D.puts shelf.new) result }
 {
     let path = Path::Entries { index, width: 256 };
-    let found = find::<H, D, S>(alloc, shelf, places, FullFile::Bundle, &path, hash)?;
+    let found = find_bundle::<H, D, S>(alloc, shelf, places, index, hash, more)?;
     if tip.first_new(0, index, &found.row).is_none() {
         return Err(BringFault::Contradiction);
     }
@@ -61,7 +63,8 @@ fn bring_bundle<H: TreeHash, D: ReadableShelf, S: Source + Drop>(
     )
 }
 
-/// Brings a full tile: its row is found, all below it is brought from left to right, and then it is put.
+/// Brings a full tile: its row is found, all below it is brought from left to right, and then it is put. `more` is how many tiles
+/// of the row above come after it.
 #[cycle(tiles)]
 fn bring_tile<H: TreeHash, D: ReadableShelf, S: Source + Drop>(
     alloc: Global,
@@ -71,6 +74,7 @@ fn bring_tile<H: TreeHash, D: ReadableShelf, S: Source + Drop>(
     level: u32,
     index: u64,
     hash: &Hash,
+    more: u64,
 ) -> Result<(), BringFault>
     requires level { level ≤ 6 }
     requires fits { (index + 1) * 256 ^ (level + 1) ≤ 2 ^ 63 }
@@ -87,7 +91,7 @@ fn bring_tile<H: TreeHash, D: ReadableShelf, S: Source + Drop>(
         (D.puts shelf.new) result }
 {
     if level == 0 {
-        return bring_bundle::<H, D, S>(alloc, shelf, places, tip, index, hash);
+        return bring_bundle::<H, D, S>(alloc, shelf, places, tip, index, hash, more);
     }
     let path = Path::Tile {
         level,
@@ -140,6 +144,7 @@ pub(crate) fn bring_row<H: TreeHash, D: ReadableShelf, S: Source + Drop>(
             level - 1,
             256 * index + i,
             &row[i as usize],
+            row.len() as u64 - i - 1,
         )?;
     }
     Ok(())

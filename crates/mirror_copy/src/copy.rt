@@ -1,4 +1,4 @@
-//! A copy that stands on a shelf, brought to a checkpoint.
+//! A copy on a shelf, brought to a checkpoint.
 ghost use Rattle.std.specs.Prelude.{◌≡◌, ◌↔◌, ◌<◌, ◌^◌, ℕ, None, Some, [], IfErr, IfOk, IfSome, IsTrue, List, OnOk, length};
 ghost use Rattle.mirror_model.specs.Heads.{IsHead};
 ghost use Rattle.mirror_sources.specs.Told.{KeepsTold};
@@ -153,7 +153,7 @@ fn bring_from<H: TreeHash, D: ReadableShelf, S: Source + Drop>(
     Err(BringFault::NotLarger)
 }
 
-/// Brings the copy that stands on a shelf to a larger checkpoint, and answers how many entries it had before.
+/// Brings the copy on a shelf to a larger checkpoint, and answers how many entries it had before.
 ///
 /// The note is one whose text is a checkpoint of the origin. No signature is looked at: the caller has opened the note under the
 /// log's keys. Each file of the larger tree that the copy lacks is looked for on the shelf, then at the place whose bytes verified
@@ -166,7 +166,7 @@ fn bring_from<H: TreeHash, D: ReadableShelf, S: Source + Drop>(
 ///
 /// A shelf without a checkpoint is an empty copy. Only such a one is brought to a checkpoint of no entries.
 ///
-/// Once the edge rows are found, the shelf is told by `expect` how many files the copy lacks, the checkpoint among them.
+/// Once the edge rows are found, the shelf gets by `expect` the number of files that the copy lacks, the checkpoint among them.
 ///
 /// ```text
 /// bring_copy::<Sha256Tree, MemShelf, ListSource<Sha256Tree>>(alloc, "ex", &mut shelf, &mut places, note)? // 257

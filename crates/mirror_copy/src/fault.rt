@@ -13,7 +13,7 @@ pub enum BringFault {
     /// The bytes are no note whose text is a checkpoint of the origin.
     #[error("BadCheckpoint")]
     BadCheckpoint,
-    /// What stands on the shelf is no copy of a log of the origin.
+    /// What is on the shelf is no copy of a log of the origin.
     #[error("CopyDamaged")]
     CopyDamaged,
     /// The copy has as many entries as the checkpoint, or more.
@@ -31,7 +31,7 @@ pub enum BringFault {
     /// Neither the shelf nor a place has a file that verifies, and a place failed in this bringing.
     #[error("Source")]
     Source,
-    /// Another checkpoint stands than the one that was read first.
+    /// The shelf's checkpoint is another than the one that was read first.
     #[error("CopyInUse")]
     CopyInUse,
     /// The shelf failed.

@@ -20,11 +20,12 @@ use std::alloc::{AllocError, Global};
 use tlog_hash::{Hash, TreeHash};
 use tlog_tiles::Path;
 
-/// A full file that verifies: its bytes, and its row.
+/// A full file that verifies: its bytes, its row, and whether a place gave it.
 #[derive(Drop)]
 pub(crate) struct Found {
     pub(crate) bytes: Vec<u8>,
     pub(crate) row: Vec<Hash>,
+    pub(crate) is_given: bool,
 }
 
 // Bytes that were given, where they verify.
@@ -40,7 +41,11 @@ fn accept<H: TreeHash>(
         → ¬ Verifies H.digest kind hash.now bytes.items row)) }
 {
     match verified::<H>(alloc, kind, hash, &bytes)? {
-        Some(row) => Ok(Some(Found { bytes, row })),
+        Some(row) => Ok(Some(Found {
+            bytes,
+            row,
+            is_given: false,
+        })),
         None => Ok(None),
     }
 }
@@ -66,8 +71,9 @@ fn find_at_place<H: TreeHash, S: Source + Drop>(
 {
     match places.get(index, path)? {
         PlaceAnswer::File(bytes) => match accept::<H>(alloc, kind, hash, bytes)? {
-            Some(found) => {
+            Some(mut found) => {
                 places.note_verified(index);
+                found.is_given = true;
                 Ok(Some(found))
             }
             None => {

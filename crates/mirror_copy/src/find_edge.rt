@@ -74,7 +74,7 @@ fn rows_at_place<S: Source + Drop>(
     Ok(Some(EdgeRows::new(size, rows)))
 }
 
-// The row of a level as it stands on the shelf, empty where the level has none; None where no such row stands there.
+// The row of a level on the shelf, empty if the level has none; None if the shelf has no such row.
 fn row_on_shelf<D: ReadableShelf>(
     alloc: Global,
     shelf: &mut D,
@@ -97,7 +97,7 @@ fn row_on_shelf<D: ReadableShelf>(
     Ok(row_given(alloc, width, given)?)
 }
 
-// The edge rows as they stand on the shelf, up to the first that does not stand there.
+// The edge rows on the shelf, up to the first that is not there.
 fn rows_on_shelf<D: ReadableShelf>(
     alloc: Global,
     shelf: &mut D,
@@ -120,7 +120,7 @@ fn rows_on_shelf<D: ReadableShelf>(
     Ok(Some(EdgeRows::new(size, rows)))
 }
 
-/// The edge rows as they stand on the shelf, if they lead to the root.
+/// The edge rows on the shelf, if they lead to the root.
 pub(crate) fn edge_on_shelf<H: TreeHash, D: ReadableShelf>(
     alloc: Global,
     shelf: &mut D,

@@ -15,7 +15,7 @@ fn is_same(first: &[u8], second: &[u8]) -> bool
     first == second
 }
 
-// Whether the shelf's checkpoint is the one that stood when the tip was read.
+// Whether the shelf's checkpoint is the one that was there when the tip was read.
 fn is_unchanged(found: Option<&[u8]>, now: Option<&[u8]>) -> bool {
     match (found, now) {
         (Some(found), Some(now)) => is_same(found, now),
@@ -24,7 +24,7 @@ fn is_unchanged(found: Option<&[u8]>, now: Option<&[u8]>) -> bool {
     }
 }
 
-/// Puts the checkpoint, if the one that stood when the tip was read still stands.
+/// Puts the checkpoint, if the shelf's is still the one that was there when the tip was read.
 pub(crate) fn put_last<D: ReadableShelf>(
     shelf: &mut D,
     tip: &CopyTip,

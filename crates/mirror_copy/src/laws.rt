@@ -1,7 +1,7 @@
 //! Laws of the definitions that the contracts cite.
 ghost use Rattle.mirror_copy.specs.Copies.{BringingBeginsEmpty, BringingMakesCopy, BringingStaysCopy, BroughtRowsLeadToRoot, CopiesAreSame, NewFilesKeepCopies};
 
-/// At each moment at which new files alone were put, the copy stands as it stood.
+/// At each moment at which new files alone were put, the copy is as it was.
 pub fn new_files_law()
     ensures { NewFilesKeepCopies }
 {}
@@ -11,7 +11,7 @@ pub fn makes_copy_law()
     ensures { BringingMakesCopy }
 {}
 
-/// At each moment of a bringing the old copy stands, or the new one.
+/// At each moment of a bringing the old copy is there, or the new one.
 pub fn stays_copy_law()
     ensures { BringingStaysCopy }
 {}

@@ -6,6 +6,7 @@
 //! ```
 #![tactic(auto)]
 
+mod ahead;
 mod bring;
 mod copy;
 mod edge;

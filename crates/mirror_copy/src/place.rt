@@ -102,6 +102,17 @@ impl<S: Source + Drop> Place<S> {
         }
     }
 
+    /// Gives the source a hint of what will be asked for next, unless the place is given up.
+    pub(crate) fn expect(&mut self, paths: &[Path])
+        ensures asks { IsAskedFor S.may_answer S.failed S.asked (λ p. ⊥) self.old self.new }
+        ensures failures { self.new.failures ≡ self.old.failures }
+    {
+        if self.is_given_up() {
+            return;
+        }
+        self.source.expect(paths);
+    }
+
     /// Asks for the file at a path. A failure is counted, and kept in mind.
     ///
     /// # Errors

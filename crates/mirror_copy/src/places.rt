@@ -66,7 +66,7 @@ impl<S: Source + Drop> Places<S> {
         self.list.as_slice()
     }
 
-    /// The path of the file that was to be had from nowhere, once a bringing ended so.
+    /// The path of the file that neither the shelf nor a place gave, once a bringing ended so.
     pub fn lacked(&self) -> Option<Path>
         ensures { result ≡ self.now.lacked }
     {
@@ -122,6 +122,17 @@ impl<S: Source + Drop> Places<S> {
         self.lacked = None;
     }
 
+    /// Gives the place that is asked first a hint of what will be asked for next.
+    pub(crate) fn expect(&mut self, paths: &[Path])
+        ensures { AsksPlaces S.may_answer S.failed S.asked (λ p. ⊥) self.old self.new }
+    {
+        let index = self.first();
+        if index >= self.list.len() {
+            return;
+        }
+        self.list[index].expect(paths);
+    }
+
     /// The bytes of a place verified.
     pub(crate) fn note_verified(&mut self, index: usize)
         ensures { AsksPlaces S.may_answer S.failed S.asked (λ p. ⊥) self.old self.new }
@@ -137,7 +148,7 @@ impl<S: Source + Drop> Places<S> {
         self.list[index].note_wrong(path, wrong);
     }
 
-    /// A file is to be had from nowhere.
+    /// Neither the shelf nor a place gave a file.
     pub(crate) fn lacks(&mut self, path: &Path) -> BringFault
         ensures list { self.new.list.items ≡ self.old.list.items }
         ensures asks { AsksPlaces S.may_answer S.failed S.asked (λ p. ⊥) self.old self.new }

@@ -1,4 +1,4 @@
-//! The tip of the copy that stands on a shelf.
+//! The tip of the copy on a shelf.
 ghost use Rattle.std.specs.Prelude.{◌≡◌, IfErr, IfOk};
 ghost use Rattle.mirror_sources.specs.Told.{KeepsTold};
 ghost use Rattle.mirror_copy.specs.Conflicts.{IsNoConflict};
@@ -18,7 +18,7 @@ use tlog_hash::TreeHash;
 use tlog_shape::edge_index;
 use tlog_tiles::Path;
 
-// The partial bundle at the edge as it stands on the shelf, with the leaf hashes of the lowest row; no bytes where there is none.
+// The partial bundle at the edge on the shelf, with the leaf hashes of the lowest row; no bytes if there is none.
 fn bundle_on_shelf<H: TreeHash, D: ReadableShelf>(
     alloc: Global,
     shelf: &mut D,
@@ -47,9 +47,9 @@ fn bundle_on_shelf<H: TreeHash, D: ReadableShelf>(
     }
 }
 
-/// The tip of the copy that stands on a shelf: its checkpoint is a note of the origin, the edge rows of its size lead to its root,
+/// The tip of the copy on a shelf: its checkpoint is a note of the origin, the edge rows of its size lead to its root,
 /// and the partial bundle at the edge has the leaf hashes of the lowest row. No signature is looked at, and no other file is read.
-/// Where no checkpoint stands, the copy is empty.
+/// Without a checkpoint the copy is empty.
 pub(crate) fn read_tip<H: TreeHash, D: ReadableShelf>(
     alloc: Global,
     origin: &str,

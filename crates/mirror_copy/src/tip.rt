@@ -1,4 +1,4 @@
-//! The right edge of the copy that stands before.
+//! The right edge of the old copy.
 ghost use Rattle.std.specs.Prelude.{◌≡◌, ◌≢◌, ◌↔◌, ◌≤◌, ◌⊎◌, [], IfNone, IfSome, IsFalse, IsTrue, Some, get_or, length, option_map, take};
 ghost use Rattle.tlog_shape.specs.Edge.{width_of, edge_index_of};
 ghost use Rattle.mirror_copy.specs.Growing.{empty_tip};
@@ -9,7 +9,7 @@ use std::marker::Model;
 use tlog_hash::Hash;
 use tlog_shape::{edge_index, edge_width};
 
-/// The tip of a copy: its edge, the bytes of the partial bundle there, and the checkpoint that stood when they were read, None where
+/// The tip of a copy: its edge, the bytes of the partial bundle there, and the checkpoint that was there when they were read, None where
 /// there was none.
 #[derive(Drop)]
 pub(crate) struct CopyTip {
@@ -84,7 +84,7 @@ impl CopyTip {
         }
     }
 
-    /// The checkpoint that stood.
+    /// The checkpoint that was there.
     pub(crate) fn checkpoint(&self) -> Option<&[u8]>
         ensures { option_map (λ b. b.now) result ≡ self.now.checkpoint }
     {

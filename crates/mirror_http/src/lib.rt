@@ -6,7 +6,7 @@
 //! // A pull over HTTP, with one connection for each file.
 //! let site = Site::new(alloc, "log.example", "/2026")?;
 //! let dial = TcpDial::new(rt, alloc, "log.example", 80)?;
-//! let mut source = HttpSource::new(alloc, site, dial);
+//! let mut source = HttpSource::new(alloc, site, dial, 0);
 //! let pulled = pull(alloc, &mut mirror, &keys, &mut source)?;
 //! // And the mirror answers one client.
 //! answer(alloc, &mirror, &mut &stream, &mut &stream)?;

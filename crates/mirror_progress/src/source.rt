@@ -71,6 +71,15 @@ impl<S: Source + Drop, C: Clock + Drop, W: Write + Drop> Source for CountingSour
         Ok(Some(bytes))
     }
 
+    fn expect(&mut self, paths: &[Path])
+        ensures later { StaysWithin (S.may_answer self.old.source) (S.may_answer self.new.source) }
+        ensures told { S.asked self.new.source ≡ S.asked self.old.source }
+        ensures counted { S.failed self.new.source ≡ S.failed self.old.source }
+        ensures counts { self.new.progress.counts ≡ self.old.progress.counts }
+    {
+        self.source.expect(paths);
+    }
+
     fn failures(&self) -> u64 {
         self.source.failures()
     }

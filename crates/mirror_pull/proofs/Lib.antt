@@ -10,6 +10,7 @@ pub mod Followed
 pub mod RoundCounts
 pub mod TrueRows
 pub mod TrueTakes
+mod Hints
 pub mod Orders
 pub mod TrueWork
 pub mod TruePulls

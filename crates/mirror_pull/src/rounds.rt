@@ -18,6 +18,9 @@ use tlog_hash::{Hash, TreeHash};
 use tlog_mirror::Mirror;
 use tlog_tiles::Path;
 
+// A hint has at most so many paths, so that a round takes time in proportion to its paths.
+const MOST_HINTED: usize = 64;
+
 /// What a fault of a tile or a bundle means to a pull.
 fn refusal_of(fault: TakeFault) -> Result<bool, PullFault>
     ensures { result ≡ refused_of_fault fault }
@@ -88,6 +91,40 @@ fn take_path<H: TreeHash, S: Source>(
     }
 }
 
+// The paths from that place on, as many as a hint has.
+fn next_paths(paths: &[Path], at: usize) -> &[Path] {
+    let Some(rest) = paths.get(at..) else {
+        return &[];
+    };
+    &rest[..rest.len().min(MOST_HINTED)]
+}
+
+/// Tells the source which paths come next, and does `take_path` for that one.
+fn take_next<H: TreeHash, S: Source>(
+    alloc: Global,
+    mirror: &mut Mirror<H>,
+    source: &mut S,
+    asked: &mut AskedPaths,
+    next: &[Path],
+    path: Path,
+) -> Result<bool, PullFault>
+    requires { IsTakeable path }
+    ensures told { AsksPaths asked.old.items asked.new.items (S.asked source.old)
+        (S.asked source.new) result }
+    ensures counted { BlamesSource (S.failed source.old) (S.failed source.new) result }
+    ensures later { StaysWithin (S.may_answer source.old) (S.may_answer source.new) }
+    ensures late { EndsAfterHead result }
+    ensures gains { GainsStrings mirror.old.view mirror.new.view }
+    ensures replied { PathFollows (S.may_answer source.old) (S.asked source.old)
+        (S.asked source.new) asked.old.items asked.new.items
+        H.digest mirror.old.view path mirror.new.view result }
+    ensures honest { TakesPathHonestly (S.may_answer source.old) asked.old.items asked.new.items
+        H.digest mirror.old.view path mirror.new.view result }
+{
+    source.expect(next);
+    take_path(alloc, mirror, source, asked, path)
+}
+
 /// One round: each path of the list is asked for, and what is found is taken. How many replies were
 /// refused for what they are.
 fn work_round<H: TreeHash, S: Source>(
@@ -111,8 +148,11 @@ fn work_round<H: TreeHash, S: Source>(
         H.digest mirror.old.view paths.now mirror.new.view result }
 {
     let mut refused = 0u64;
+    let mut at = 0usize;
     for path in paths {
-        if take_path(alloc, mirror, source, asked, *path)? {
+        let next = next_paths(paths, at);
+        at = at.saturating_add(1);
+        if take_next(alloc, mirror, source, asked, next, *path)? {
             refused = refused.saturating_add(1);
         }
     }

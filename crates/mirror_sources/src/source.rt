@@ -62,6 +62,16 @@ pub trait Source {
         ensures told { TellsGet (asked self.old) (asked self.new) path.now result }
         ensures counted { CountsGet (failed self.old) (failed self.new) result };
 
+    /// A hint: the paths that will be asked for next, the first soonest.
+    ///
+    /// A source may ask for them ahead, and by default does nothing. A hint is no get: it counts no failure, and lets no
+    /// answer come that could not come before. Where memory is refused there is no hint.
+    fn expect(&mut self, _paths: &[Path])
+        ensures later { StaysWithin (may_answer self.old) (may_answer self.new) }
+        ensures told { asked self.new ≡ asked self.old }
+        ensures counted { failed self.new ≡ failed self.old }
+    {}
+
     /// How many gets failed; the count stays at its last value.
     fn failures(&self) -> u64
         ensures { result ≡ failed self.now };

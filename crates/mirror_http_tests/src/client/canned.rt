@@ -67,5 +67,5 @@ pub(crate) fn source_over(
     let reply = Rc::new(alloc, Vec::from_slice(alloc, reply.as_bytes())?)?;
     let dial = CannedDial { reply, hears };
     let site = Site::new(alloc, "log.example", "/2026")?;
-    Ok(HttpSource::new(alloc, site, dial))
+    Ok(HttpSource::new(alloc, site, dial, 0))
 }

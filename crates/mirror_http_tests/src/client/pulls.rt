@@ -144,17 +144,25 @@ pub(crate) fn mirror_of<H: TreeHash>(alloc: Global, n: u16) -> Result<Mirror<H>,
     kept(mirror, answer)
 }
 
-// A new mirror pulls over HTTP from that one, as pull-257 does from a list: by five gets, in one round.
+// A new mirror pulls over HTTP from that one, as pull-257 does from a list: by five gets, in one round, also where requests are sent
+// ahead.
 #[test]
 fn pull_over_http(rt: HostRuntime) -> Result<(), Fail> {
     let mirror = mirror_of::<Sha256Tree>(rt.alloc(), 257)?;
-    pulls_257(&rt, rt.alloc(), mirror)
+    pulls_257(&rt, rt.alloc(), mirror, 0)?;
+    let mirror = mirror_of::<Sha256Tree>(rt.alloc(), 257)?;
+    pulls_257(&rt, rt.alloc(), mirror, 6)
 }
 
-fn pulls_257<H: TreeHash>(rt: &impl Abort, alloc: Global, mirror: Mirror<H>) -> Result<(), Fail> {
+fn pulls_257<H: TreeHash>(
+    rt: &impl Abort,
+    alloc: Global,
+    mirror: Mirror<H>,
+    ahead: usize,
+) -> Result<(), Fail> {
     let mirror = Rc::new(alloc, mirror)?;
     let dials = Rc::new(alloc, Cell::new(0))?;
-    let mut source = source_to(alloc, &mirror, &dials)?;
+    let mut source = source_to(alloc, &mirror, &dials, ahead)?;
     let answer = pulls_257_from::<H, _>(rt, alloc, &mut source);
     drop(source);
     drop(mirror);
@@ -168,6 +176,7 @@ fn source_to<H: TreeHash>(
     alloc: Global,
     mirror: &Rc<Mirror<H>>,
     dials: &Rc<Cell<u64>>,
+    ahead: usize,
 ) -> Result<HttpSource<MirrorDial<H>>, Fail> {
     let site = Site::new(alloc, "log.example", "")?;
     let dials = dials.clone()?;
@@ -177,7 +186,7 @@ fn source_to<H: TreeHash>(
         mirror,
         dials,
     };
-    Ok(HttpSource::new(alloc, site, dial))
+    Ok(HttpSource::new(alloc, site, dial, ahead))
 }
 
 // A new mirror pulls C(257) from that source, which does not fail.

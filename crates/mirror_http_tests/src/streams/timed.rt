@@ -83,6 +83,10 @@ fn calls_up_to_a_deadline(rt: HostRuntime) -> Result<(), Fail> {
     let mut stream = TimedStream::new(Patient { wait: &wait }, clock, Duration::from_secs(7))?;
     calls_in_time(&rt, &mut stream, &wait)?;
     calls_too_late(&rt, &mut stream, &wait);
+    // Seven seconds more, of which the clock takes two for each look.
+    stream.restart(Duration::from_secs(7))?;
+    calls_in_time(&rt, &mut stream, &wait)?;
+    calls_too_late(&rt, &mut stream, &wait);
     Ok(())
 }
 

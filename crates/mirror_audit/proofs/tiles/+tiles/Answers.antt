@@ -2,7 +2,7 @@ use Rattle.std.proofs.Common.{rules, ◌≡◌, ◌+◌, ◌*◌, ◌<◌, ◌�
 use Rattle.std.proofs.lemmas.List.{get_or_default}
 use Rattle.mirror_audit.specs.Covering.{CoversRow, CoversTile}
 use Rattle.mirror_audit.proofs.Given.{on_ok}
-use Rattle.mirror_audit.proofs.TileRows.{child_fits, child_small, row_first, row_fits, row_more, tile_covers}
+use Rattle.mirror_audit.proofs.TileRows.{child_fits, child_small, row_first, row_fits, row_hinted, row_more, row_small, tile_covers}
 use Rattle.mirror_audit.proofs.tiles.+tiles.Goals as goal
 
 pub audit_row-loop-i-init : goal.audit_row-loop-i-init
@@ -12,28 +12,38 @@ audit_row-loop-i-init g t c = record {
       (g.S.Source.asked c.args.source.now);
 }
 
-pub audit_row-overflow_mul-index : goal.audit_row-overflow_mul-index
-audit_row-overflow_mul-index g t c =
+pub audit_row-overflow_mul-child : goal.audit_row-overflow_mul-child
+audit_row-overflow_mul-child g t c =
     let small = child_small c.args.level c.args.index (length c.args.row.now) c.loop-i.i c.loop-i-test.true c.requires.fits in
     search rules
 
-pub audit_row-overflow_add-index : goal.audit_row-overflow_add-index
-audit_row-overflow_add-index g t c =
+pub audit_row-overflow_add-child : goal.audit_row-overflow_add-child
+audit_row-overflow_add-child g t c =
     let small = child_small c.args.level c.args.index (length c.args.row.now) c.loop-i.i c.loop-i-test.true c.requires.fits in
     search rules
+
+pub audit_row-expect_bundles-requires : goal.audit_row-expect_bundles-requires
+audit_row-expect_bundles-requires g t c =
+    let small = row_small c.args.level c.args.index (length c.args.row.now) c.requires.fits in
+    let lt : c.loop-i.i < length c.args.row.now = c.loop-i-test.true in
+    omega (arith, small, lt)
 
 pub audit_row-loop-i-preserved : goal.audit_row-loop-i-preserved
 audit_row-loop-i-preserved g t c = record {
-  counted = c.in_ok-audit_tile.ensures.counted ∙ c.loop-i.invariant.counted;
+  counted = c.in_ok-audit_tile.ensures.counted ∙ (c.expect_bundles.ensures.counted ∙ c.loop-i.invariant.counted);
   covers =
       let may = g.S.Source.may_answer in
       let asked = g.S.Source.asked in
       let row = c.args.row.now in
       let i = c.loop-i.i in
       let h = get_or row i [] in
-      row_more g.H.TreeHash.digest c.args.level c.args.index row (may c.args.source.now) (may c.loop-i.source)
-      (may c.audit_tile.new.source) (asked c.args.source.now) (asked c.loop-i.source) (asked c.audit_tile.new.source) i h
-      c.requires.above c.loop-i-test.true (get_or_default row i [] h c.loop-i-test.true) c.loop-i.invariant.covers
+      let hinted = c.expect_bundles.new.source in
+      row_more g.H.TreeHash.digest c.args.level c.args.index row (may c.args.source.now) (may hinted)
+      (may c.audit_tile.new.source) (asked c.args.source.now) (asked hinted) (asked c.audit_tile.new.source) i h
+      c.requires.above c.loop-i-test.true (get_or_default row i [] h c.loop-i-test.true)
+      (row_hinted g.H.TreeHash.digest c.args.level c.args.index row i (may c.args.source.now) (may c.loop-i.source) (may hinted)
+      (asked c.args.source.now) (asked c.loop-i.source) (asked hinted) c.expect_bundles.ensures.later
+      c.expect_bundles.ensures.told c.loop-i.invariant.covers)
       c.in_ok-audit_tile.ensures.covers;
 }
 

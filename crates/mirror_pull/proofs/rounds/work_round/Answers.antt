@@ -9,52 +9,52 @@ use Rattle.mirror_pull.proofs.Replies.{gathers_as, gathers_then, gathers_none, l
 use Rattle.mirror_pull.proofs.rounds.work_round.Goals.{then-branch, else-branch}
 use Rattle.mirror_pull.proofs.rounds.work_round.Goals as goal
 
-pub returns-in_err-take_path-clause-told : goal.returns-in_err-take_path-clause-told
-returns-in_err-take_path-clause-told g c =
+pub returns-in_err-take_next-clause-told : goal.returns-in_err-take_next-clause-told
+returns-in_err-take_next-clause-told g c =
     let asked = g.S.Source.asked in
     let p = err_from_is_err_and c.from_residual.result c.from_residual.ensures.1 in
     rw p.1 (adds_some_then c.args.asked.now.items c.loop-path.asked.items (asked c.args.source.now)
     (asked c.loop-path.source)
-    (asked c.take_path.new.source) c.loop-path.invariant.told c.in_err-take_path.ensures.told)
+    (asked c.take_next.new.source) c.loop-path.invariant.told c.in_err-take_next.ensures.told)
 
-pub returns-in_err-take_path-clause-counted : goal.returns-in_err-take_path-clause-counted
-returns-in_err-take_path-clause-counted g c =
+pub returns-in_err-take_next-clause-counted : goal.returns-in_err-take_next-clause-counted
+returns-in_err-take_next-clause-counted g c =
     let failed = g.S.Source.failed in
     let p = err_from_is_err_and c.from_residual.result c.from_residual.ensures.1 in
     rw (p.1, p.2)
     (counts_err (failed c.args.source.now) (failed c.loop-path.source)
-    (failed c.take_path.new.source)
-    c.in_err-take_path.field-0.0 c.loop-path.invariant.counted c.in_err-take_path.ensures.counted)
+    (failed c.take_next.new.source)
+    c.in_err-take_next.field-0.0 c.loop-path.invariant.counted c.in_err-take_next.ensures.counted)
 
-pub returns-in_err-take_path-clause-later : goal.returns-in_err-take_path-clause-later
-returns-in_err-take_path-clause-later g c =
+pub returns-in_err-take_next-clause-later : goal.returns-in_err-take_next-clause-later
+returns-in_err-take_next-clause-later g c =
     let may = g.S.Source.may_answer in
     stays_then (may c.args.source.now) (may c.loop-path.source)
-    (may c.take_path.new.source) c.loop-path.invariant.later c.in_err-take_path.ensures.later
+    (may c.take_next.new.source) c.loop-path.invariant.later c.in_err-take_next.ensures.later
 
-pub returns-in_err-take_path-clause-late : goal.returns-in_err-take_path-clause-late
-returns-in_err-take_path-clause-late g c =
+pub returns-in_err-take_next-clause-late : goal.returns-in_err-take_next-clause-late
+returns-in_err-take_next-clause-late g c =
     let p = err_from_is_err_and c.from_residual.result c.from_residual.ensures.1 in rw
-    (p.1, p.2) c.in_err-take_path.ensures.late
+    (p.1, p.2) c.in_err-take_next.ensures.late
 
 pub loop-path-preserved : goal.loop-path-preserved
 loop-path-preserved g c =
     let asked = g.S.Source.asked in
     let may = g.S.Source.may_answer in
     record {
-      told = adds_to_then c.args.asked.now.items c.loop-path.asked.items c.take_path.new.asked.items
+      told = adds_to_then c.args.asked.now.items c.loop-path.asked.items c.take_next.new.asked.items
           (asked c.args.source.now) (asked c.loop-path.source)
-          (asked c.take_path.new.source) c.loop-path.invariant.told c.in_ok-take_path.ensures.told;
-      counted = c.in_ok-take_path.ensures.counted ∙ c.loop-path.invariant.counted;
+          (asked c.take_next.new.source) c.loop-path.invariant.told c.in_ok-take_next.ensures.told;
+      counted = c.in_ok-take_next.ensures.counted ∙ c.loop-path.invariant.counted;
       later = stays_then (may c.args.source.now) (may c.loop-path.source)
-          (may c.take_path.new.source) c.loop-path.invariant.later c.in_ok-take_path.ensures.later;
+          (may c.take_next.new.source) c.loop-path.invariant.later c.in_ok-take_next.ensures.later;
       replied = gathers_then
           (λ xs. IsWorkedList g.H.TreeHash.digest c.args.asked.now.items c.args.mirror.now.view
-          (take (c.loop-path.path-index + 1) c.args.paths.now) c.if-branch.refused c.take_path.new.mirror.view xs)
-          c.loop-path.invariant.later c.loop-path.invariant.replied c.in_ok-take_path.ensures.replied
+          (take (c.loop-path.path-index + 1) c.args.paths.now) c.if-branch.refused c.take_next.new.mirror.view xs)
+          c.loop-path.invariant.later c.loop-path.invariant.replied c.in_ok-take_next.ensures.replied
           (λ xs ys grown list p q. list_step g.H.TreeHash.digest c.args.asked.now.items c.loop-path.asked.items
           c.args.paths.now c.loop-path.path-index c.args.mirror.now.view c.loop-path.mirror.view
-          c.take_path.new.mirror.view c.loop-path.refused c.if-branch.refused _ xs ys c.loop-path-test.true
+          c.take_next.new.mirror.view c.loop-path.refused c.if-branch.refused _ xs ys c.loop-path-test.true
           (elim c.if-branch.branch [
             | then-branch w ↦ omega
                 (arith, w.refused-is, w.saturating_add-refused.ensures, ap one_if w.if-branch.true)
@@ -68,7 +68,7 @@ loop-path-preserved g c =
           (may c.loop-path.source) c.args.mirror.now.view c.loop-path.mirror.view c.args.asked.now.items
           c.loop-path.asked.items c.args.paths.now c.loop-path.path-index c.loop-path.invariant.later
           c.loop-path-test.true m before.1 in
-          let took = c.in_ok-take_path.ensures.honest entries size next in
+          let took = c.in_ok-take_next.ensures.honest entries size next in
           let not_refused = took.0 in (
             elim c.if-branch.branch [
               | then-branch w ↦
@@ -76,12 +76,12 @@ loop-path-preserved g c =
               | else-branch w ↦ w.refused-is ∙ before.0
             ],
             round_step digest entries size (may c.args.source.now) (may c.loop-path.source)
-                c.args.mirror.now.view c.loop-path.mirror.view c.take_path.new.mirror.view
-                c.args.asked.now.items c.loop-path.asked.items c.take_path.new.asked.items c.args.paths.now
+                c.args.mirror.now.view c.loop-path.mirror.view c.take_next.new.mirror.view
+                c.args.asked.now.items c.loop-path.asked.items c.take_next.new.asked.items c.args.paths.now
                 c.loop-path.path-index c.loop-path.invariant.later c.loop-path-test.true before.1 took.1,
           );
-      gains = gains_then c.args.mirror.now.view c.loop-path.mirror.view c.take_path.new.mirror.view
-          c.loop-path.invariant.gains c.in_ok-take_path.ensures.gains;
+      gains = gains_then c.args.mirror.now.view c.loop-path.mirror.view c.take_next.new.mirror.view
+          c.loop-path.invariant.gains c.in_ok-take_next.ensures.gains;
     }
 
 pub loop-path-init : goal.loop-path-init
@@ -102,17 +102,17 @@ loop-path-init g c =
       gains = gains_itself c.args.mirror.now.view;
     }
 
-pub returns-in_err-take_path-clause-gains : goal.returns-in_err-take_path-clause-gains
-returns-in_err-take_path-clause-gains g c =
-    gains_then c.args.mirror.now.view c.loop-path.mirror.view c.take_path.new.mirror.view c.loop-path.invariant.gains
-    c.in_err-take_path.ensures.gains
+pub returns-in_err-take_next-clause-gains : goal.returns-in_err-take_next-clause-gains
+returns-in_err-take_next-clause-gains g c =
+    gains_then c.args.mirror.now.view c.loop-path.mirror.view c.take_next.new.mirror.view c.loop-path.invariant.gains
+    c.in_err-take_next.ensures.gains
 
-pub returns-in_err-take_path-clause-honest : goal.returns-in_err-take_path-clause-honest
-returns-in_err-take_path-clause-honest g c =
+pub returns-in_err-take_next-clause-honest : goal.returns-in_err-take_next-clause-honest
+returns-in_err-take_next-clause-honest g c =
     let may = g.S.Source.may_answer in
     let p = err_from_is_err_and c.from_residual.result c.from_residual.ensures.1 in
     rw (p.1, p.2)
-    (λ entries size m. c.in_err-take_path.ensures.honest entries size
+    (λ entries size m. c.in_err-take_next.ensures.honest entries size
     (round_next g.H.TreeHash.digest entries size (may c.args.source.now)
     (may c.loop-path.source) c.args.mirror.now.view c.loop-path.mirror.view c.args.asked.now.items
     c.loop-path.asked.items c.args.paths.now c.loop-path.path-index c.loop-path.invariant.later
@@ -134,14 +134,14 @@ returns-clause-replied g c =
     list_whole g.H.TreeHash.digest c.args.asked.now.items c.args.paths.now c.loop-path.path-index c.args.mirror.now.view
     c.loop-path.mirror.view c.loop-path.refused xs c.loop-path-test.false p)
 
-pub returns-in_err-take_path-clause-replied : goal.returns-in_err-take_path-clause-replied
-returns-in_err-take_path-clause-replied g c =
+pub returns-in_err-take_next-clause-replied : goal.returns-in_err-take_next-clause-replied
+returns-in_err-take_next-clause-replied g c =
     let p = err_from_is_err_and c.from_residual.result c.from_residual.ensures.1 in
     rw (p.1, p.2) (ends_then
     (λ xs tried. StopsTaking g.H.TreeHash.digest
     (IsInRound g.H.TreeHash.digest c.args.asked.now.items c.args.paths.now c.args.mirror.now.view)
-    c.in_err-take_path.field-0.0 xs tried c.take_path.new.mirror.view)
-    c.loop-path.invariant.later c.loop-path.invariant.replied c.in_err-take_path.ensures.replied
+    c.in_err-take_next.field-0.0 xs tried c.take_next.new.mirror.view)
+    c.loop-path.invariant.later c.loop-path.invariant.replied c.in_err-take_next.ensures.replied
     (λ xs ys tried grown a stops. stops_then xs (λ rs w next q.
     in_round g.H.TreeHash.digest c.args.asked.now.items c.loop-path.asked.items c.args.paths.now
     c.loop-path.path-index c.args.mirror.now.view c.loop-path.mirror.view w c.loop-path.refused xs rs next

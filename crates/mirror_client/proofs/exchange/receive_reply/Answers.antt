@@ -1,6 +1,6 @@
 use Rattle.std.proofs.Common.{option_map}
 use Rattle.mirror_client.proofs.Sources.{whole_reply, short_reply}
-use Rattle.mirror_client.proofs.source.receive_reply.Goals as goal
+use Rattle.mirror_client.proofs.exchange.receive_reply.Goals as goal
 
 pub returns-in-Ok-clause-reply : goal.returns-in-Ok-clause-reply
 returns-in-Ok-clause-reply g c =

@@ -1,0 +1,161 @@
+//! One request and its reply, over a connection.
+ghost use Rattle.std.specs.Prelude.{◌≡◌, ◌≢◌, Err, IfErr, IfOk, IfSome, Ok, OnErr, OnOk, option_map};
+ghost use Rattle.std.specs.Io.KnownBytes.{Appends, Keeps};
+ghost use Rattle.byte_streams.specs.Streams.{AppendsPrefix, TakesAtMost};
+ghost use Rattle.tlog_text.specs.Answers.{seen};
+ghost use Rattle.mirror_client.specs.Request.{request_text};
+ghost use Rattle.mirror_client.specs.Source.{Receives, source_fault};
+ghost use Rattle.mirror_sources.specs.Source.{IsShortAnswer};
+
+use crate::failed::Reason;
+use crate::limits::{MAX_REPLY_LEN, MOST_TAKEN};
+use crate::reply::read_reply;
+use crate::request::get_request;
+use crate::site::Site;
+use crate::watched::WatchedStream;
+use byte_streams::{StreamFault, read_all, write_whole};
+use mirror_sources::SourceFault;
+use std::alloc::{AllocError, Global};
+use std::io;
+use std::io::{ErrorKind, Read, Write};
+use tlog_tiles::Path;
+
+/// Writes the request for that file of the site, and nothing else. It is `Failed` where a write fails or takes
+/// no byte: a prefix of the request was written. Where memory was refused nothing was written.
+#[tactic(auto, using(crate::proofs::Sources::appends_none))]
+pub(crate) fn send_request<W: Write>(
+    alloc: Global,
+    writer: &mut W,
+    site: &Site,
+    path: &Path,
+) -> Result<(), SourceFault>
+    ensures ok { OnOk result (Appends (W.contents writer.old) (W.contents writer.new)
+        (request_text site.now path.now)) }
+    ensures err { OnErr result (AppendsPrefix (W.contents writer.old) (W.contents writer.new)
+        (request_text site.now path.now)) }
+    ensures quiet { IfErr result (λ e. e ≢ SourceFault.Failed → Keeps (W.contents writer.old)
+        (W.contents writer.new)) }
+{
+    write_request(writer, get_request(alloc, site, path))
+}
+
+// Writes the request, if there was memory for it. Where there was, `Failed` is the only fault.
+fn write_request<W: Write>(
+    writer: &mut W,
+    request: Result<Vec<u8>, AllocError>,
+) -> Result<(), SourceFault>
+    ensures ok { IfOk request (λ bytes. OnOk result (Appends (W.contents writer.old)
+        (W.contents writer.new) bytes.items)) }
+    ensures err { IfOk request (λ bytes. OnErr result (AppendsPrefix (W.contents writer.old)
+        (W.contents writer.new) bytes.items)) }
+    ensures fault { OnOk request (IfErr result (λ e. e ≡ SourceFault.Failed)) }
+    ensures refused { OnErr request (result ≡ Err SourceFault.OutOfMemory) }
+    ensures quiet { OnErr request (Keeps (W.contents writer.old) (W.contents writer.new)) }
+{
+    let Ok(request) = request else {
+        return Err(SourceFault::OutOfMemory);
+    };
+    match write_whole(writer, &request) {
+        Ok(()) => Ok(()),
+        Err(_) => Err(SourceFault::Failed),
+    }
+}
+
+/// Reads the reply that the reader gives up to its end, and gives the body, or None where the file is not
+/// there (RFC 9112). Of a reply of more than 16,785,664 bytes one byte more is taken, and no others. What is wrong with a
+/// reply goes into `reason`. Where the request was not sent, that fault is the answer.
+pub(crate) fn receive_reply<R: Read>(
+    alloc: Global,
+    reader: &mut R,
+    sent: Result<(), SourceFault>,
+    reason: &mut Option<Reason>,
+) -> Result<Option<Vec<u8>>, SourceFault>
+    ensures unsent { IfErr sent (λ e. result ≡ Err e) }
+    ensures reply { IfOk result (λ answer. IfSome (R.remaining reader.old)
+        (λ bytes. Receives bytes (Ok (option_map (λ v. v.items) answer)))) }
+    ensures bound { IfOk result (λ answer. IsShortAnswer MAX_REPLY_LEN
+        (option_map (λ v. v.items) answer)) }
+    ensures limit { TakesAtMost MOST_TAKEN (R.remaining reader.old) (R.remaining reader.new) }
+{
+    match sent {
+        Ok(()) => reply_body(alloc, read_all(alloc, reader, MOST_TAKEN, u64::MAX), reason),
+        Err(fault) => Err(fault),
+    }
+}
+
+// The body of the reply whose bytes were read, if they were.
+fn reply_body(
+    alloc: Global,
+    bytes: Result<Vec<u8>, StreamFault>,
+    reason: &mut Option<Reason>,
+) -> Result<Option<Vec<u8>>, SourceFault>
+    ensures reply { IfOk bytes (λ v. Receives v.items (seen (option_map (λ w. w.items)) result)) }
+    ensures fault { IfErr bytes (λ e. result ≡ Err (source_fault e)) }
+{
+    match bytes {
+        Ok(bytes) => body_of(alloc, &bytes, reason),
+        Err(StreamFault::OutOfMemory) => Err(SourceFault::OutOfMemory),
+        Err(_) => Err(SourceFault::Failed),
+    }
+}
+
+// The body of the reply that the bytes are.
+fn body_of(
+    alloc: Global,
+    bytes: &[u8],
+    reason: &mut Option<Reason>,
+) -> Result<Option<Vec<u8>>, SourceFault>
+    ensures { Receives bytes.now (seen (option_map (λ v. v.items)) result) }
+{
+    if bytes.len() > MAX_REPLY_LEN {
+        *reason = Some(Reason::LongReply);
+        return Err(SourceFault::Failed);
+    }
+    match read_reply(bytes) {
+        Ok(Some(body)) => match Vec::from_slice(alloc, body) {
+            Ok(body) => Ok(Some(body)),
+            Err(_) => Err(SourceFault::OutOfMemory),
+        },
+        Ok(None) => Ok(None),
+        Err(fault) => {
+            *reason = Some(Reason::Reply(fault));
+            Err(SourceFault::Failed)
+        }
+    }
+}
+
+// Why a connection on which a get failed is to blame, where nothing is known of its reply.
+fn stream_reason(error: Option<io::Error>) -> Reason {
+    match error {
+        Some(error) => Reason::of_stream(error),
+        None => Reason::Stream(io::Error::from(ErrorKind::WriteZero)),
+    }
+}
+
+/// One request over the connection, if there is one, and the body of the reply to it. Where it is `Failed`,
+/// `reason` says why.
+pub(crate) fn exchange<S: Read + Write + Drop>(
+    alloc: Global,
+    dialled: io::Result<S>,
+    site: &Site,
+    path: &Path,
+    reason: &mut Option<Reason>,
+) -> Result<Option<Vec<u8>>, SourceFault>
+    ensures refused { OnErr dialled (result ≡ Err SourceFault.Failed) }
+    ensures bound { IfOk result (λ answer. IsShortAnswer MAX_REPLY_LEN
+        (option_map (λ v. v.items) answer)) }
+{
+    let mut stream = match dialled {
+        Ok(stream) => WatchedStream::new(stream),
+        Err(error) => {
+            *reason = Some(Reason::Connection(error));
+            return Err(SourceFault::Failed);
+        }
+    };
+    let sent = send_request(alloc, &mut stream, site, path);
+    let answer = receive_reply(alloc, &mut stream, sent, reason);
+    if matches!(&answer, Err(SourceFault::Failed)) && reason.is_none() {
+        *reason = Some(stream_reason(stream.error()));
+    }
+    answer
+}

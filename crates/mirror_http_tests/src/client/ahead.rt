@@ -1,0 +1,181 @@
+//! Requests that are sent ahead, to a server in memory.
+use crate::client::bundle_server::{BundleDial, BundleServer, bundle, bundles_from};
+use mirror_http::{HttpSource, Site};
+use mirror_sources::{Source, SourceFault};
+use std::alloc::Global;
+use std::process::Abort;
+use std::rc::Rc;
+use std::test::Fail;
+
+// A source over that server, which sends so many requests ahead.
+fn source_to(
+    alloc: Global,
+    server: &Rc<BundleServer>,
+    ahead: usize,
+) -> Result<HttpSource<BundleDial>, Fail> {
+    let site = Site::new(alloc, "log.example", "")?;
+    let server = server.clone()?;
+    Ok(HttpSource::new(alloc, site, BundleDial { server }, ahead))
+}
+
+// The source gives the bundle of that number.
+fn assert_got<S: Source>(rt: &impl Abort, source: &mut S, number: u8) -> Result<(), SourceFault> {
+    let body = source.get(&bundle(number))?;
+    assert!(rt; body.as_deref() == Some([b'0'.wrapping_add(number)].as_slice()));
+    Ok(())
+}
+
+// The bundles from that number on are got, each behind a hint of those that come next.
+fn assert_all_got<S: Source>(rt: &impl Abort, source: &mut S) -> Result<(), SourceFault> {
+    for number in 0..10u8 {
+        source.expect(bundles_from(number));
+        assert_got(rt, source, number)?;
+    }
+    Ok(())
+}
+
+// So many requests came for the bundles, from the first one on.
+fn assert_asked(rt: &impl Abort, server: &BundleServer, want: &[u64]) {
+    for (number, count) in want.iter().enumerate() {
+        assert!(rt; server.asked(number) == *count, "{number}");
+    }
+}
+
+#[test]
+fn hints_are_sent_at_once(rt: HostRuntime) -> Result<(), Fail> {
+    let server = BundleServer::new(rt.alloc(), 10)?;
+    let mut source = source_to(rt.alloc(), &server, 3)?;
+    source.expect(bundles_from(0));
+    assert_asked(&rt, &server, &[1, 1, 1, 0, 0]);
+    source.expect(bundles_from(0));
+    assert_asked(&rt, &server, &[1, 1, 1, 0, 0]);
+    let answer = assert_got(&rt, &mut source, 0);
+    source.expect(bundles_from(1));
+    assert_asked(&rt, &server, &[1, 1, 1, 1, 0]);
+    drop(source);
+    answer?;
+    Ok(())
+}
+
+#[test]
+fn no_hint_is_sent_where_none_are_wanted(rt: HostRuntime) -> Result<(), Fail> {
+    let server = BundleServer::new(rt.alloc(), 10)?;
+    let mut source = source_to(rt.alloc(), &server, 0)?;
+    source.expect(bundles_from(0));
+    assert_asked(&rt, &server, &[0, 0]);
+    let answer = assert_all_got(&rt, &mut source);
+    drop(source);
+    answer?;
+    assert_asked(&rt, &server, &[1; 10]);
+    assert!(rt; server.most_open() == 1);
+    Ok(())
+}
+
+#[test]
+fn each_bundle_is_asked_for_once(rt: HostRuntime) -> Result<(), Fail> {
+    let server = BundleServer::new(rt.alloc(), 10)?;
+    let mut source = source_to(rt.alloc(), &server, 6)?;
+    let answer = assert_all_got(&rt, &mut source);
+    assert!(rt; source.failures() == 0);
+    drop(source);
+    answer?;
+    assert_asked(&rt, &server, &[1; 10]);
+    assert!(rt; server.most_open() == 6);
+    assert!(rt; server.restarted() == 10);
+    Ok(())
+}
+
+// A server that takes two connections at once.
+#[test]
+fn refused_connections_are_no_failures(rt: HostRuntime) -> Result<(), Fail> {
+    let server = BundleServer::new(rt.alloc(), 2)?;
+    let mut source = source_to(rt.alloc(), &server, 6)?;
+    let answer = assert_all_got(&rt, &mut source);
+    assert!(rt; source.failures() == 0);
+    drop(source);
+    answer?;
+    assert_asked(&rt, &server, &[1; 10]);
+    Ok(())
+}
+
+// A reply that was sent for and fails is asked for once more.
+#[test]
+fn a_reply_that_failed_is_asked_for_again(rt: HostRuntime) -> Result<(), Fail> {
+    let server = BundleServer::new(rt.alloc(), 10)?;
+    server.fail(4, 1);
+    let mut source = source_to(rt.alloc(), &server, 3)?;
+    let answer = assert_all_got(&rt, &mut source);
+    assert!(rt; source.failures() == 0);
+    assert!(rt; source.last_failed().is_none());
+    drop(source);
+    answer?;
+    assert_asked(&rt, &server, &[1, 1, 1, 1, 2, 1, 1, 1, 1, 1]);
+    Ok(())
+}
+
+// A bundle that fails whenever it is asked for: its get fails once, by a request with no other out.
+#[test]
+fn the_last_try_counts(rt: HostRuntime) -> Result<(), Fail> {
+    let server = BundleServer::new(rt.alloc(), 10)?;
+    server.fail(0, 100);
+    let mut source = source_to(rt.alloc(), &server, 3)?;
+    source.expect(bundles_from(0));
+    let answer = source.get(&bundle(0));
+    assert!(rt; matches!(answer, Err(SourceFault::Failed)));
+    assert!(rt; source.failures() == 1);
+    assert!(rt;
+        source
+            .last_failed()
+            .is_some_and(|failed| failed.path == bundle(0))
+    );
+    assert!(rt; server.open() == 0);
+    // The others are asked for anew.
+    let answer = assert_got(&rt, &mut source, 1);
+    drop(source);
+    answer?;
+    assert_asked(&rt, &server, &[3, 2, 1, 0]);
+    Ok(())
+}
+
+// What is not asked for stays out until a hint leaves it out.
+#[test]
+fn a_hint_replaces_the_one_before(rt: HostRuntime) -> Result<(), Fail> {
+    let server = BundleServer::new(rt.alloc(), 10)?;
+    let mut source = source_to(rt.alloc(), &server, 2)?;
+    source.expect(bundles_from(0));
+    let answer = assert_got(&rt, &mut source, 5);
+    assert!(rt; server.open() == 2);
+    source.expect(bundles_from(8));
+    assert!(rt; server.open() == 2);
+    assert_asked(&rt, &server, &[1, 1, 0, 0, 0, 1, 0, 0, 1, 1]);
+    source.expect(&[]);
+    assert!(rt; server.open() == 0);
+    assert!(rt; source.failures() == 0);
+    drop(source);
+    answer?;
+    Ok(())
+}
+
+// Where memory is refused, as by `rt try --test --fail-alloc N`, there is no hint, and a get that is refused it is no failure of
+// the source: the next get is right.
+#[test]
+fn hints_after_want_of_memory(rt: HostRuntime) -> Result<(), Fail> {
+    let server = BundleServer::new(rt.alloc(), 10)?;
+    let mut source = source_to(rt.alloc(), &server, 2)?;
+    let answer = assert_got_at_last(&rt, &mut source);
+    assert!(rt; source.failures() == 0);
+    drop(source);
+    answer?;
+    Ok(())
+}
+
+fn assert_got_at_last<S: Source>(rt: &impl Abort, source: &mut S) -> Result<(), SourceFault> {
+    source.expect(bundles_from(7));
+    for number in 7..10u8 {
+        match assert_got(rt, source, number) {
+            Err(SourceFault::OutOfMemory) => assert_got(rt, source, number)?,
+            answer => answer?,
+        }
+    }
+    Ok(())
+}
