@@ -2,11 +2,15 @@
 #![tactic(auto)]
 
 #[cfg(test)]
+mod busy_shelf;
+#[cfg(test)]
 mod candidates;
 #[cfg(test)]
 mod command;
 #[cfg(test)]
 mod logs;
+#[cfg(test)]
+mod notes;
 #[cfg(test)]
 mod rows;
 #[cfg(test)]

@@ -14,7 +14,7 @@ use std::test::Fail;
 use tlog_hash::Sha256Tree;
 use tlog_tiles::Path;
 
-// A connection on which these bytes come, whatever is asked.
+// A connection on which these bytes come one at a read, whatever is asked.
 #[derive(Drop)]
 struct Reply {
     bytes: Vec<u8>,
@@ -23,16 +23,15 @@ struct Reply {
 
 impl Read for Reply {
     fn read(&mut self, buf: &mut [u8]) -> io::Result<usize> {
-        let mut count = 0;
-        for i in 0..buf.len() {
-            let Some(byte) = self.bytes.get(self.at) else {
-                break;
-            };
-            buf[i] = *byte;
-            self.at = self.at.saturating_add(1);
-            count = i + 1;
+        if buf.is_empty() {
+            return Ok(0);
         }
-        Ok(count)
+        let Some(byte) = self.bytes.get(self.at) else {
+            return Ok(0);
+        };
+        buf[0] = *byte;
+        self.at = self.at.saturating_add(1);
+        Ok(1)
     }
 }
 
@@ -70,7 +69,7 @@ fn server<'a, R: Files>(
 ) -> Result<PlaceSource<'a, R, Canned>, Fail> {
     let site = Site::new(alloc, "log.example", "")?;
     let bytes = Vec::from_slice(alloc, bytes)?;
-    let source = HttpSource::new(alloc, site, Canned { alloc, bytes });
+    let source = HttpSource::new(alloc, site, Canned { alloc, bytes }, 0);
     Ok(PlaceSource::of_server(alloc, name, source)?)
 }
 

@@ -123,3 +123,6 @@ module _ {S : Type 0} (may : S → Path → Option (List ℕ) → Type 0) (faile
         (subst (λ b. AnswersGet (may (get_or x.list.items i d).source) Checkpoint
         (get_or x.list.items i d).failures (get_or y.list.items i d).failures b) is (h d));
   }
+
+  pub answer_is : (x y : Places S) (i : ℕ) (a b : PlaceAnswer) → a ≡ b → Answers x y i a → Answers x y i b
+  answer_is x y i a b is h = subst (λ c. Answers x y i c) is h

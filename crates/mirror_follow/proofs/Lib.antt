@@ -9,4 +9,6 @@ pub mod Standing
 pub mod Blame
 pub mod GatheredFrom
 pub mod Renoted
+pub mod Ending
+pub mod Shown
 pub mod Turning

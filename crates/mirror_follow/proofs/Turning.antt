@@ -1,7 +1,10 @@
 -- A run of turns, turn by turn.
-use Rattle.std.proofs.Common.{◌≡◌, ◌≢◌, ◌⊎◌, inl, inr, ℕ, List, Option, Some, None, IfErr, IfSome, Result, Ok, Err, ap, refl, sym, subst, ◌∙◌}
+use Rattle.std.proofs.Common.{◌≡◌, ◌≢◌, ◌⊎◌, inl, inr, ℕ, List, [], Option, Some, None, IfErr, IfSome, Result, Ok, Err, ap, refl, sym, subst, ◌∙◌}
+use Rattle.std.proofs.lemmas.List.Elements.{All-nil}
 use Rattle.mirror_folders.specs.Shelf.{Put}
-use Rattle.mirror_follow.specs.Blame.{CountsFollow, CountsFollowFault, IsOfTheRun}
+use Rattle.mirror_follow.specs.Blame.{CountsFollowFault, IsOfTheRun}
+use Rattle.mirror_follow.specs.Ending.{IsPassedOver, PassesOver, fault_after}
+use Rattle.mirror_follow.specs.Shown.{ShowsEach, ShowsLine}
 use Rattle.mirror_follow.specs.Standing.{IsCopyOfRun, IsHeadOf, KnowsAfter, StandsAfter, size_of_copy}
 use Rattle.mirror_follow.specs.Turning.{ContinuesRun, IsRunFrom}
 use Rattle.mirror_follow.specs.declared.candidate.Candidate.{Candidate}
@@ -11,38 +14,38 @@ use Rattle.mirror_follow.specs.declared.fault.FollowFault.TheVariants as fault
 use Rattle.mirror_follow.specs.declared.report.Run.{Run}
 use Rattle.mirror_follow.specs.declared.report.Turn.{Turn}
 use Rattle.mirror_follow.specs.declared.report.Turn.TheVariants as turn
+use Rattle.mirror_follow.proofs.Ending.{passed_after}
 use Rattle.mirror_follow.proofs.Standing.{head_after, known_after}
 
 module _ (digest : List ℕ → List ℕ) (origin : List ℕ) where
   -- the run before its first turn
   pub run_first : (x : Option (List Put)) (copy : Option Candidate) (run : Run) → run.copy ≡ copy →
       IfSome copy (IsHeadOf origin) → run.had ≡ size_of_copy copy → run.first_fault ≡ None →
-      IsRunFrom digest origin x x copy run
-  run_first x copy run is head had_is none = record {
+      run.forks.items ≡ [] → IsRunFrom digest origin x x copy run
+  run_first x copy run is head had_is none empty = record {
     known = λ first k. subst (λ o. IsCopyOfRun digest origin first x o) (sym is) k;
     head = subst (λ o. IfSome o (IsHeadOf origin)) (sym is) head;
     had_is = had_is;
-    shelf = λ e. cc (none, e);
+    passed = subst (λ f. IfSome f IsPassedOver) (sym none) tt;
+    shows = subst (λ l. ShowsEach digest l) (sym empty) (All-nil (ShowsLine digest));
   }
 
   -- a candidate that has no turn
   pub run_same : (x : Option (List Put)) (run : Run) → ContinuesRun digest origin x x run run
-  run_same x run = record { known = λ first k. k; head = λ h. h; had_is = refl; shelf = λ e. e }
+  run_same x run = record { known = λ first k. k; head = λ h. h; had_is = refl; passed = λ h. h; shows = λ h. h }
 
   -- one turn of a candidate
   pub run_turned : (x y : Option (List Put)) (candidate : Candidate) (run next : Run) (t : Turn) →
       IsHeadOf origin candidate → StandsAfter digest origin candidate x y t →
       KnowsAfter candidate t run.copy next.copy → next.had ≡ run.had →
-      (next.first_fault ≡ Some ShelfFault → (run.first_fault ≡ Some ShelfFault) ⊎ (t ≡ turn.NotHad ShelfFault)) →
-      (t ≢ turn.NotHad ShelfFault) → ContinuesRun digest origin x y run next
-  run_turned x y candidate run next t head stands knows had_is shelf never = record {
+      next.first_fault ≡ fault_after run.first_fault t → PassesOver t →
+      (ShowsEach digest run.forks.items → ShowsEach digest next.forks.items) → ContinuesRun digest origin x y run next
+  run_turned x y candidate run next t head stands knows had_is fault passes shows = record {
     known = λ first k. known_after digest origin candidate first x y run.copy next.copy t head k stands knows;
     head = λ h. head_after origin candidate run.copy next.copy t head knows h;
     had_is = had_is;
-    shelf = λ e. elim (shelf e) [
-      | inl earlier ↦ earlier
-      | inr now ↦ absurd (never now)
-    ];
+    passed = λ h. subst (λ f. IfSome f IsPassedOver) (sym fault) (passed_after run.first_fault t passes h);
+    shows = shows;
   }
 
   -- one more turn
@@ -53,7 +56,8 @@ module _ (digest : List ℕ → List ℕ) (origin : List ℕ) where
     known = λ first k. n.known first (r.known first k);
     head = n.head r.head;
     had_is = n.had_is ∙ r.had_is;
-    shelf = λ e. r.shelf (n.shelf e);
+    passed = n.passed r.passed;
+    shows = n.shows r.shows;
   }
 
 -- ---- faults
@@ -80,23 +84,5 @@ no_source e is same = subst IsOfTheRun same is
 pub no_shelf : (e : FollowFault) → IsOfTheRun e → e ≢ ShelfFault
 no_shelf e is same = subst IsOfTheRun same is
 
--- what a report ends by
-abbrev Reported : Run → FollowFault → Type 0
-Reported run e = (e ≡ fault.NoCheckpoint) ⊎ ((e ≡ fault.OutOfMemory) ⊎ (run.first_fault ≡ Some e))
-
-pub reported_counts : (n : ℕ) (run : Run) (e : FollowFault) → run.first_fault ≢ Some ShelfFault → Reported run e →
-    CountsFollowFault n n e
-reported_counts n run e never r = counts_other n e (λ is. elim r [
-  | inl none ↦ absurd (cc (none, is))
-  | inr (inl memory) ↦ absurd (cc (memory, is))
-  | inr (inr first) ↦ never (first ∙ ap Some is)
-])
-
 pub counts_same : (n m : ℕ) (e : FollowFault) → m ≡ n → e ≢ ShelfFault → CountsFollowFault n m e
 counts_same n m e same other = subst (λ k. CountsFollowFault n k e) (sym same) (counts_other n e other)
-
-pub report_counts : (n m : ℕ) (run : Run) {T : Type 0} (r : Result T FollowFault) → m ≡ n →
-    run.first_fault ≢ Some ShelfFault → IfErr r (λ e. Reported run e) → CountsFollow n m r
-report_counts n m run (Ok x) same never h = same
-report_counts n m run (Err e) same never h =
-    subst (λ k. CountsFollowFault n k e) (sym same) (reported_counts n run e never h)

@@ -1,19 +1,54 @@
--- The candidates that the places of a run give.
-use Rattle.std.specs.Prelude.{ℕ, List, Contains, Option}
+-- The candidates that the places of a run give, and why they give none.
+use Rattle.std.specs.Prelude.{◌≡◌, ◌⊎◌, ℕ, ◌<◌, ◌≤◌, List, [], Contains, get_or, length, Option, Some, None, ⊤}
 use Rattle.signed_note.specs.Keys.{Key}
 use Rattle.tlog_tiles.specs.declared.paths.Path.{Path}
+use Rattle.tlog_tiles.specs.declared.paths.Path.TheVariants.{Checkpoint}
+use Rattle.mirror_copy.specs.declared.place.Place.{Place}
 use Rattle.mirror_copy.specs.declared.places.Places.{Places}
+use Rattle.mirror_follow.specs.Asking.{option_or}
 use Rattle.mirror_follow.specs.Blame.{MayGive, PlaceFails}
-use Rattle.mirror_follow.specs.Gathering.{Gathers, Gave}
+use Rattle.mirror_follow.specs.Gathering.{AreCandidatesOf, Gathers, Gave, IsFirstReason}
 use Rattle.mirror_follow.specs.declared.answer.PlaceAnswer.{PlaceAnswer}
-use Rattle.mirror_follow.specs.declared.answer.PlaceAnswer.TheVariants.{Failed}
+use Rattle.mirror_follow.specs.declared.answer.PlaceAnswer.TheVariants.{File, NotFound, Failed}
+use Rattle.mirror_follow.specs.declared.fault.CandidateFault.{CandidateFault}
+use Rattle.mirror_follow.specs.declared.fault.CandidateFault.TheVariants as candidate
 use Rattle.mirror_follow.specs.declared.gather.Gathered.{Gathered}
 
--- what was gathered are the candidates of answers: each note is one that a place may give, and where a place failed to
--- answer, one did
-pub record GathersFrom {S : Type 0} (may : S → Path → Option (List ℕ) → Type 0) (origin : List ℕ) (keys : List Key)
-    (old new : Places S) (gathered : Gathered) : Type 0 where
-  pub answers : List PlaceAnswer
-  pub gathers : Gathers origin keys answers gathered.candidates.items gathered.first
-  pub gave : (note : List ℕ) → Gave answers note → MayGive may old note
-  pub failed : Contains answers Failed → PlaceFails old new
+module _ {S : Type 0} (may : S → Path → Option (List ℕ) → Type 0) where
+  -- a place answers for its checkpoint what it may answer; or it failed, or it had failed 8 times before
+  abbrev pub MayAnswer : Place S → Place S → PlaceAnswer → Type 0
+  MayAnswer old new (File bytes) = may old.source Checkpoint (Some bytes.items)
+  MayAnswer old new NotFound = may old.source Checkpoint None
+  MayAnswer old new Failed = (old.failures < new.failures) ⊎ (8 ≤ old.failures)
+
+  -- each of the first places gave its answer, as many as count, in their order
+  pub record AnswerEach (old new : Places S) (answers : List PlaceAnswer) (count : ℕ) : Type 0 where
+    pub count_is : length answers ≡ count
+    pub each : (k : ℕ) (place : Place S) (answer : PlaceAnswer) → k < count →
+        MayAnswer (get_or old.list.items k place) (get_or new.list.items k place) (get_or answers k answer)
+
+  module _ (origin : List ℕ) (keys : List Key) (old new : Places S) where
+    -- what was gathered are the candidates of the answers of the first places: each note is one that a place may give,
+    -- and where a place failed to answer, one did
+    pub record GathersFrom (count : ℕ) (gathered : Gathered) : Type 0 where
+      pub answers : List PlaceAnswer
+      pub gathers : Gathers origin keys answers gathered.candidates.items gathered.first
+      pub answer_each : AnswerEach old new answers count
+      pub gave : (note : List ℕ) → Gave answers note → MayGive may old note
+      pub failed : Contains answers Failed → PlaceFails old new
+
+    -- each place was asked, no answer is a note that opens, and the fault is the reason of the first; of no places it
+    -- is that there is no checkpoint
+    pub record GiveNone (fault : CandidateFault) : Type 0 where
+      pub answers : List PlaceAnswer
+      pub answer_each : AnswerEach old new answers (length old.list.items)
+      pub are_of : AreCandidatesOf origin keys answers []
+      pub reason : (first : Option CandidateFault) × IsFirstReason origin keys answers first
+          × (fault ≡ option_or first candidate.NoCheckpoint)
+
+    -- why the places give no candidate, by the fault
+    abbrev pub GiveNoneFor : CandidateFault → Type 0
+    GiveNoneFor candidate.NoCheckpoint = GiveNone candidate.NoCheckpoint
+    GiveNoneFor (candidate.Head fault) = GiveNone (candidate.Head fault)
+    GiveNoneFor candidate.Source = GiveNone candidate.Source
+    GiveNoneFor candidate.OutOfMemory = ⊤

@@ -10,3 +10,4 @@ pub mod Blame
 pub mod GatheredFrom
 pub mod Renoting
 pub mod Turning
+pub mod Ending

@@ -1,15 +1,49 @@
--- Proofs that show a fork.
-use Rattle.std.specs.Prelude.{ℕ, ◌<◌, List, Option}
+-- Proofs that show a fork, and the lines that tell of forks.
+use Rattle.std.specs.Prelude.{◌≡◌, ◌≢◌, ◌⊎◌, ℕ, ◌<◌, List, All, IfSome, Option, None, ⊤}
 use Rattle.tlog_proof.specs.declared.proof.Proof.{Proof}
 use Rattle.mirror_model.specs.Forks.{Point}
 use Rattle.mirror_follow.specs.Forks.{ShowsFork}
+use Rattle.mirror_follow.specs.Standing.{IsSame}
 use Rattle.mirror_follow.specs.declared.candidate.Candidate.{Candidate}
+use Rattle.mirror_follow.specs.declared.report.ForkLine.{ForkLine}
+use Rattle.mirror_follow.specs.declared.report.Turn.{Turn}
+use Rattle.mirror_follow.specs.declared.report.Turn.TheVariants as turn
 
 -- the size and root of a candidate
 abbrev pub point_of : Candidate → Point
 point_of candidate = record { size = candidate.size.0; root = candidate.root }
 
--- the proof shows a fork of a candidate and a larger one
-abbrev pub ShowsLarger : (List ℕ → List ℕ) → Candidate → Candidate → Option Proof → Type 0
-ShowsLarger digest small large proof =
-    (small.size.0 < large.size.0) × ShowsFork digest (point_of small) (point_of large) proof
+-- the line has these two checkpoints and that proof
+pub record IsLine (small large : Candidate) (proof : Option Proof) (line : ForkLine) : Type 0 where
+  pub small_is : IsSame small line.small
+  pub large_is : IsSame large line.large
+  pub proof_is : line.proof ≡ proof
+
+module _ (digest : List ℕ → List ℕ) where
+  -- the proof shows a fork of a candidate and a larger one
+  abbrev pub ShowsLarger : Candidate → Candidate → Option Proof → Type 0
+  ShowsLarger small large proof =
+      (small.size.0 < large.size.0) × ShowsFork digest (point_of small) (point_of large) proof
+
+  -- two candidates are a fork, which the proof shows: the one is larger, or both have one size and two roots
+  abbrev pub AreFork : Candidate → Candidate → Option Proof → Type 0
+  AreFork first second proof =
+      ShowsLarger first second proof
+      ⊎ (ShowsLarger second first proof
+      ⊎ ((proof ≡ None) × (first.size.0 ≡ second.size.0) × (first.root ≢ second.root)))
+
+  -- a fork line shows that no log has both of its checkpoints
+  abbrev pub ShowsLine : ForkLine → Type 0
+  ShowsLine line = ShowsFork digest (point_of line.small) (point_of line.large) line.proof
+
+  -- so does each of the lines
+  abbrev pub ShowsEach : List ForkLine → Type 0
+  ShowsEach lines = All ShowsLine lines
+
+  -- a turn that ends with a fork: the copy and the candidate are one
+  abbrev pub ShowsTurn : Option Candidate → Candidate → Turn → Type 0
+  ShowsTurn copy candidate turn.Agrees = ⊤
+  ShowsTurn copy candidate turn.Brought = ⊤
+  ShowsTurn copy candidate (turn.Forks proof) = IfSome copy (λ held. AreFork held candidate proof)
+  ShowsTurn copy candidate turn.Contradicts = ⊤
+  ShowsTurn copy candidate (turn.NotHad fault) = ⊤

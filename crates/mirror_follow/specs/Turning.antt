@@ -1,9 +1,10 @@
 -- A run of turns: what each turn keeps, and what they come to.
-use Rattle.std.specs.Prelude.{◌≡◌, ◌≢◌, ℕ, List, Option, Some, IfSome}
+use Rattle.std.specs.Prelude.{◌≡◌, ℕ, List, Option, IfSome}
 use Rattle.mirror_folders.specs.Shelf.{Put}
+use Rattle.mirror_follow.specs.Ending.{IsPassedOver}
+use Rattle.mirror_follow.specs.Shown.{ShowsEach}
 use Rattle.mirror_follow.specs.Standing.{IsCopyOfRun, IsHeadOf, size_of_copy}
 use Rattle.mirror_follow.specs.declared.candidate.Candidate.{Candidate}
-use Rattle.mirror_follow.specs.declared.fault.FollowFault.TheVariants.{ShelfFault}
 use Rattle.mirror_follow.specs.declared.report.Run.{Run}
 
 module _ (digest : List ℕ → List ℕ) (origin : List ℕ) (old new : Option (List Put)) where
@@ -13,7 +14,8 @@ module _ (digest : List ℕ → List ℕ) (origin : List ℕ) (old new : Option 
         IsCopyOfRun digest origin first new next.copy
     pub head : IfSome run.copy (IsHeadOf origin) → IfSome next.copy (IsHeadOf origin)
     pub had_is : next.had ≡ run.had
-    pub shelf : next.first_fault ≡ Some ShelfFault → run.first_fault ≡ Some ShelfFault
+    pub passed : IfSome run.first_fault IsPassedOver → IfSome next.first_fault IsPassedOver
+    pub shows : ShowsEach digest run.forks.items → ShowsEach digest next.forks.items
 
   -- a run over that copy
   pub record IsRunFrom (copy : Option Candidate) (run : Run) : Type 0 where
@@ -21,4 +23,5 @@ module _ (digest : List ℕ → List ℕ) (origin : List ℕ) (old new : Option 
         IsCopyOfRun digest origin first new run.copy
     pub head : IfSome run.copy (IsHeadOf origin)
     pub had_is : run.had ≡ size_of_copy copy
-    pub shelf : run.first_fault ≢ Some ShelfFault
+    pub passed : IfSome run.first_fault IsPassedOver
+    pub shows : ShowsEach digest run.forks.items

@@ -4,7 +4,8 @@ ghost use Rattle.std.specs.List.Sorted.{IsPermutation, IsSorted};
 ghost use Rattle.tlog_text.specs.Answers.{seen};
 ghost use Rattle.mirror_follow.specs.Asking.{AreAnswers, FindsCandidates, IsAnswer, option_or};
 ghost use Rattle.mirror_follow.specs.Blame.{AsksAny, MayGive, PlaceFails};
-ghost use Rattle.mirror_follow.specs.GatheredFrom.{GathersFrom};
+ghost use Rattle.mirror_copy.specs.declared.place.Place.{Place};
+ghost use Rattle.mirror_follow.specs.GatheredFrom.{GathersFrom, GiveNoneFor, MayAnswer};
 ghost use Rattle.mirror_follow.specs.Candidates.{IsCandidate, turn_cmp};
 ghost use Rattle.mirror_follow.specs.Gathering.{Gathers, IsNote, note_of};
 ghost use Rattle.mirror_follow.specs.declared.answer.PlaceAnswer.{PlaceAnswer};
@@ -71,7 +72,7 @@ fn in_turn(gathered: Gathered) -> Result<Vec<Candidate>, CandidateFault>
 }
 
 /// The candidates that some places give: each is asked once for its checkpoint, in their order. What opens under the keys and is a
-/// checkpoint of the origin is a candidate. They stand in the order of their turns.
+/// checkpoint of the origin is a candidate. They are in the order of their turns.
 ///
 /// ```text
 /// ask_candidates(alloc, "ex", &keys, &mut places)? // of places over 3 and over 257 entries: that of 257, and that of 3
@@ -99,6 +100,8 @@ pub fn ask_candidates<S: Source>(
 fn ask_place<S: Source + Drop>(places: &mut Places<S>, i: usize) -> Result<PlaceAnswer, AllocError>
     requires { i < length places.old.list.items }
     ensures asks { AsksAny S.may_answer S.failed S.asked places.old places.new }
+    ensures answers { IfOk result (λ answer. (d : Place S) → MayAnswer S.may_answer
+        (get_or places.old.list.items i d) (get_or places.new.list.items i d) answer) }
     ensures gives { IfOk result (λ answer. (note : List ℕ) → IsNote note answer
         → MayGive S.may_answer places.old note) }
     ensures fails { IfOk result
@@ -120,7 +123,7 @@ fn ask_each_place<S: Source + Drop>(
 ) -> Result<Gathered, AllocError>
     ensures asks { AsksAny S.may_answer S.failed S.asked places.old places.new }
     ensures gathers { IfOk result (λ gathered. GathersFrom S.may_answer origin.now
-        (map (λ k. key k) keys.now) places.old places.new gathered) }
+        (map (λ k. key k) keys.now) places.old places.new (length places.old.list.items) gathered) }
 {
     let mut gathered = Gathered::new(alloc);
     for i in 0..places.list().len() {
@@ -146,6 +149,9 @@ pub(crate) fn ask_places<S: Source + Drop>(
         (λ candidates. All (IsCandidate origin.now (map (λ k. key k) keys.now)) candidates.items) }
     ensures gave { IfOk result (λ candidates. All
         (λ c. MayGive S.may_answer places.old (note_of c)) candidates.items) }
+    ensures some { IfOk result (λ candidates. 0 < length candidates.items) }
+    ensures none { IfErr result (GiveNoneFor S.may_answer origin.now (map (λ k. key k) keys.now)
+        places.old places.new) }
     ensures source { IfErr result
         (λ e. e ≡ CandidateFault.Source → PlaceFails places.old places.new) }
 {

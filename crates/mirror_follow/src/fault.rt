@@ -35,10 +35,10 @@ pub enum FollowFault {
     /// The note that was given, or the checkpoint of the first place where none gives a candidate, is no candidate.
     #[error("{0}")]
     Head(TakeFault),
-    /// What stands on the shelf is no copy of a log of the origin.
+    /// What is on the shelf is no copy of a log of the origin.
     #[error("CopyDamaged")]
     CopyDamaged,
-    /// Another checkpoint stands than the one that was read first.
+    /// The shelf's checkpoint is another than the one that was read first.
     #[error("CopyInUse")]
     CopyInUse,
     /// The shelf failed.
@@ -50,7 +50,7 @@ pub enum FollowFault {
     /// A bundle of the greatest candidate collides with that of the copy.
     #[error("Collision")]
     Collision,
-    /// A file of the greatest candidate was to be had from nowhere.
+    /// No place gave a file of the greatest candidate.
     #[error("NoFile")]
     NoFile,
     /// The same, and a place failed; or no place gives a candidate, and the first failed.

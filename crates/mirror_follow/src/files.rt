@@ -1,6 +1,8 @@
-//! Files of a log, read into memory, of which a proof is made.
+//! Files of a log, read into memory for a proof.
+ghost use Rattle.std.specs.Prelude.{◌<◌, IfErr, length};
 ghost use Rattle.mirror_sources.specs.Told.{KeepsTold};
-ghost use Rattle.mirror_follow.specs.Blame.{CountsFollow};
+ghost use Rattle.mirror_follow.specs.Blame.{AsksAny, CountsFollow};
+ghost use Rattle.mirror_follow.specs.Ending.{EndsRun};
 
 use crate::fault::FollowFault;
 use mirror_copy::{PlaceAnswer, Places};
@@ -71,7 +73,7 @@ fn full_of(path: &Path) -> Path {
     }
 }
 
-/// The paths of the files of which the proof from the first entries to all is made: the edge of all, and the full tiles in which the
+/// The paths of the files for the proof from the first entries to all: the edge of all, and the full tiles in which the
 /// first entries end.
 pub(crate) fn proof_paths(alloc: Global, first: u64, size: u64) -> Result<Vec<Path>, AllocError> {
     let mut paths = Vec::new(alloc);
@@ -104,6 +106,7 @@ fn read_file<D: ReadableShelf>(
 ) -> Result<Option<(Path, Vec<u8>)>, FollowFault>
     ensures same { KeepsTold (D.puts shelf.old) (D.puts shelf.new) }
     ensures counted { CountsFollow (D.failed shelf.old) (D.failed shelf.new) result }
+    ensures ends { IfErr result EndsRun }
 {
     match shelf.read(path)? {
         Some(bytes) => return Ok(Some((*path, bytes))),
@@ -116,7 +119,7 @@ fn read_file<D: ReadableShelf>(
     }
 }
 
-/// Reads those files from the shelf that stand there.
+/// Reads those of the files that the shelf has.
 #[tactic(auto, using(crate::proofs::Kept::kept_twice, crate::proofs::Kept::kept_once))]
 pub(crate) fn read_files<D: ReadableShelf>(
     alloc: Global,
@@ -125,6 +128,7 @@ pub(crate) fn read_files<D: ReadableShelf>(
 ) -> Result<ReadFiles, FollowFault>
     ensures same { KeepsTold (D.puts shelf.old) (D.puts shelf.new) }
     ensures counted { CountsFollow (D.failed shelf.old) (D.failed shelf.new) result }
+    ensures ends { IfErr result EndsRun }
 {
     let mut read = ReadFiles::new(alloc);
     for path in paths {
@@ -136,19 +140,45 @@ pub(crate) fn read_files<D: ReadableShelf>(
     Ok(read)
 }
 
+// The bytes that a place answers, if it has the file.
+fn bytes_of(answer: PlaceAnswer) -> Option<Vec<u8>> {
+    match answer {
+        PlaceAnswer::File(bytes) => Some(bytes),
+        PlaceAnswer::NotFound => None,
+        PlaceAnswer::Failed => None,
+    }
+}
+
 // Asks a place for the file at a path.
 fn get_file<S: Source + Drop>(
     places: &mut Places<S>,
     index: usize,
     path: &Path,
-) -> Result<Option<Vec<u8>>, AllocError> {
-    if index >= places.list().len() {
-        return Ok(None);
+) -> Result<Option<Vec<u8>>, AllocError>
+    requires { index < length places.old.list.items }
+    ensures { AsksAny S.may_answer S.failed S.asked places.old places.new }
+{
+    let answer = places.get(index, path)?;
+    Ok(bytes_of(answer))
+}
+
+// Asks a place for the file at a path, or for the full one that it gave way to.
+fn ask_file<S: Source + Drop>(
+    places: &mut Places<S>,
+    index: usize,
+    path: &Path,
+) -> Result<Option<(Path, Vec<u8>)>, AllocError>
+    requires { index < length places.old.list.items }
+    ensures { AsksAny S.may_answer S.failed S.asked places.old places.new }
+{
+    match get_file(places, index, path)? {
+        Some(bytes) => return Ok(Some((*path, bytes))),
+        None => {}
     }
-    match places.get(index, path)? {
-        PlaceAnswer::File(bytes) => Ok(Some(bytes)),
-        PlaceAnswer::NotFound => Ok(None),
-        PlaceAnswer::Failed => Ok(None),
+    let full = full_of(path);
+    match get_file(places, index, &full)? {
+        Some(bytes) => Ok(Some((full, bytes))),
+        None => Ok(None),
     }
 }
 
@@ -158,16 +188,15 @@ pub(crate) fn ask_files<S: Source + Drop>(
     places: &mut Places<S>,
     index: usize,
     paths: &[Path],
-) -> Result<ReadFiles, AllocError> {
+) -> Result<ReadFiles, AllocError>
+    requires { index < length places.old.list.items }
+    ensures { AsksAny S.may_answer S.failed S.asked places.old places.new }
+{
     let mut read = ReadFiles::new(alloc);
     for path in paths {
-        let full = full_of(path);
-        match get_file(places, index, path)? {
-            Some(bytes) => read.files.push((*path, bytes))?,
-            None => match get_file(places, index, &full)? {
-                Some(bytes) => read.files.push((full, bytes))?,
-                None => {}
-            },
+        match ask_file(places, index, path)? {
+            Some(file) => read.files.push(file)?,
+            None => {}
         }
     }
     Ok(read)

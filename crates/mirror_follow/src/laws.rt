@@ -8,7 +8,7 @@ pub fn fork_line_law()
     ensures { ForkLineIsEvidence }
 {}
 
-/// Where a copy is brought to some notes one after the other, at each moment of all these calls it stands as it stood, or grown
+/// Where a copy is brought to some notes one after the other, at each moment of all these calls it is as it was, or grown
 /// under one of the notes, and no file of it is put again.
 pub fn run_law()
     ensures { RunsKeepCopies }

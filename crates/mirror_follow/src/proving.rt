@@ -1,12 +1,13 @@
 //! Proofs of forks.
-ghost use Rattle.std.specs.Prelude.{◌↔◌, ◌<◌, IfOk, IfSome, IsTrue, Some};
+ghost use Rattle.std.specs.Prelude.{◌↔◌, ◌<◌, IfErr, IfOk, IfSome, IsTrue, Some};
 ghost use Rattle.std.specs.List.{AllByRecursion};
 ghost use Rattle.tlog_text.specs.Hash.{Is32Bytes};
 ghost use Rattle.tlog_proof.specs.Text.{HasHashes};
 ghost use Rattle.mirror_sources.specs.Told.{KeepsTold};
 ghost use Rattle.mirror_copy.specs.Moments.{HadSize};
-ghost use Rattle.mirror_follow.specs.Blame.{CountsFollow, IsOfTheRun};
+ghost use Rattle.mirror_follow.specs.Blame.{AsksAny, CountsFollow, IsOfTheRun};
 ghost use Rattle.mirror_follow.specs.Checked.{HasFirstRoot, IsCheckedFork};
+ghost use Rattle.mirror_follow.specs.Ending.{EndsRun};
 ghost use Rattle.mirror_follow.specs.Shown.{ShowsLarger};
 ghost use Rattle.mirror_follow.specs.Standing.{IsCopyOfRun, IsHeadOf, size_of_copy};
 
@@ -130,6 +131,7 @@ pub(crate) fn ask_proof<H: TreeHash, S: Source + Drop>(
     copy: &Candidate,
     larger: &Candidate,
 ) -> Result<Option<Proof>, AllocError>
+    ensures asks { AsksAny S.may_answer S.failed S.asked places.old places.new }
     ensures proof { IfOk result (λ found. IfSome found
         (λ proof. ShowsLarger H.digest copy.now larger.now (Some proof))) }
 {
@@ -148,7 +150,8 @@ pub(crate) fn ask_proof<H: TreeHash, S: Source + Drop>(
 
 // The fault that a read of the shelf's files ends by.
 fn of_copy(fault: ReadFault) -> FollowFault
-    ensures { IsOfTheRun result }
+    ensures run { IsOfTheRun result }
+    ensures ends { EndsRun result }
 {
     match fault {
         ReadFault::OutOfMemory => FollowFault::OutOfMemory,
@@ -165,6 +168,7 @@ pub(crate) fn read_proof<H: TreeHash, D: ReadableShelf>(
 ) -> Result<Option<Proof>, FollowFault>
     ensures same { KeepsTold (D.puts shelf.old) (D.puts shelf.new) }
     ensures counted { CountsFollow (D.failed shelf.old) (D.failed shelf.new) result }
+    ensures ends { IfErr result EndsRun }
     ensures proof { IfOk result (λ found. IfSome found
         (λ proof. ShowsLarger H.digest smaller.now copy.now (Some proof))) }
 {
@@ -204,7 +208,7 @@ fn edge_files(alloc: Global, size: u64) -> Result<Vec<Path>, AllocError> {
     Ok(paths)
 }
 
-// Whether the edge of a copy of that size and root stands on the shelf.
+// Whether the edge of a copy of that size and root is on the shelf.
 #[tactic(auto, using(crate::proofs::Kept::kept_twice))]
 fn judge_files<H: TreeHash, D: ReadableShelf>(
     alloc: Global,
@@ -214,6 +218,7 @@ fn judge_files<H: TreeHash, D: ReadableShelf>(
 ) -> Result<(), FollowFault>
     ensures same { KeepsTold (D.puts shelf.old) (D.puts shelf.new) }
     ensures counted { CountsFollow (D.failed shelf.old) (D.failed shelf.new) result }
+    ensures ends { IfErr result EndsRun }
 {
     let paths = edge_files(alloc, size)?;
     let mut files = read_files::<D>(alloc, shelf, &paths)?;
@@ -223,7 +228,7 @@ fn judge_files<H: TreeHash, D: ReadableShelf>(
     }
 }
 
-/// The checkpoint of the copy that stands on the shelf, if any. Its edge rows lead to its root, and the partial bundle at the edge has
+/// The checkpoint of the copy on the shelf, if any. Its edge rows lead to its root, and the partial bundle at the edge has
 /// the leaf hashes of the lowest row. No signature is looked at.
 #[tactic(auto, using(crate::proofs::Kept::kept_twice))]
 pub(crate) fn judge_copy<H: TreeHash, D: ReadableShelf>(
@@ -233,6 +238,7 @@ pub(crate) fn judge_copy<H: TreeHash, D: ReadableShelf>(
 ) -> Result<Option<Candidate>, FollowFault>
     ensures same { KeepsTold (D.puts shelf.old) (D.puts shelf.new) }
     ensures counted { CountsFollow (D.failed shelf.old) (D.failed shelf.new) result }
+    ensures ends { IfErr result EndsRun }
     ensures head { IfOk result (λ copy. IfSome copy (IsHeadOf origin.now)) }
     ensures copy { IfOk result (IsCopyOfRun H.digest origin.now (D.puts shelf.old)
         (D.puts shelf.new)) }

@@ -1,5 +1,7 @@
 //! What a run of turns comes to: the forks that were seen, and what could not be had.
-ghost use Rattle.std.specs.Prelude.{◌≡◌, ◌⊎◌, IfErr, IfOk, None, OnOk, Some};
+ghost use Rattle.std.specs.Prelude.{◌≡◌, ◌≢◌, ◌⊎◌, ◌≤◌, [], ℕ, IfErr, IfOk, IfSome, IsFalse, IsTrue, List, None, OnOk, Some, length};
+ghost use Rattle.mirror_follow.specs.Ending.{fault_after, or_fault};
+ghost use Rattle.mirror_follow.specs.Shown.{AreFork, IsLine, ShowsEach, ShowsLine, ShowsTurn};
 ghost use Rattle.mirror_follow.specs.Standing.{IsSame, KnowsAfter, size_of_copy};
 ghost use Rattle.mirror_follow.specs.declared.candidate.Candidate.{Candidate};
 
@@ -50,7 +52,7 @@ pub(crate) enum Turn {
     Forks(Option<Proof>),
     /// The copy's rows are not in its tree, or it is of no entries and its root is not the hash of the empty list.
     Contradicts,
-    /// A file of it was to be had from nowhere, or its bundle collides with that of the copy.
+    /// No place gave a file of it, or its bundle collides with that of the copy.
     NotHad(FollowFault),
 }
 
@@ -78,7 +80,10 @@ fn copy_of(alloc: Global, candidate: &Candidate) -> Result<Candidate, AllocError
 }
 
 // Whether the first point comes before the second: by size, and then by root.
-fn is_before(first: &Candidate, second: &Candidate) -> bool {
+fn is_before(first: &Candidate, second: &Candidate) -> bool
+    ensures before { IsTrue result → first.now.size.0 ≤ second.now.size.0 }
+    ensures after { IsFalse result → second.now.size.0 ≤ first.now.size.0 }
+{
     first.size.0 < second.size.0 || (first.size.0 == second.size.0 && first.root < second.root)
 }
 
@@ -86,13 +91,15 @@ fn is_same(first: &Candidate, second: &Candidate) -> bool {
     first.size.0 == second.size.0 && first.root == second.root
 }
 
-// The line of two candidates, of which the first is the lesser.
+// The line of two candidates, the lesser first.
 fn line_of(
     alloc: Global,
     small: &Candidate,
     large: &Candidate,
     proof: Option<Proof>,
-) -> Result<ForkLine, AllocError> {
+) -> Result<ForkLine, AllocError>
+    ensures { IfOk result (IsLine small.now large.now proof) }
+{
     let small = copy_of(alloc, small)?;
     let large = copy_of(alloc, large)?;
     Ok(ForkLine {
@@ -108,7 +115,10 @@ fn fork_of(
     first: &Candidate,
     second: &Candidate,
     proof: Option<Proof>,
-) -> Result<ForkLine, AllocError> {
+) -> Result<ForkLine, AllocError>
+    ensures { IfOk result (λ line. (digest : List ℕ → List ℕ)
+        → AreFork digest first.now second.now proof → ShowsLine digest line) }
+{
     if is_before(first, second) {
         return line_of(alloc, first, second, proof);
     }
@@ -122,7 +132,9 @@ fn is_line_before(first: &ForkLine, second: &ForkLine) -> bool {
 }
 
 // Where the line belongs among lines that rise.
-fn place_in(lines: &[ForkLine], line: &ForkLine) -> usize {
+fn place_in(lines: &[ForkLine], line: &ForkLine) -> usize
+    ensures { result ≤ length lines.now }
+{
     for i in 0..lines.len() {
         if is_line_before(line, &lines[i]) {
             return i;
@@ -142,19 +154,23 @@ fn has_line(lines: &[ForkLine], line: &ForkLine) -> bool {
 }
 
 // Adds a line where it belongs, if it is not there yet.
-fn add_line(lines: &mut Vec<ForkLine>, line: ForkLine) -> Result<(), AllocError> {
+fn add_line(lines: &mut Vec<ForkLine>, line: ForkLine) -> Result<(), AllocError>
+    ensures { OnOk result ((digest : List ℕ → List ℕ) → ShowsEach digest lines.old.items
+        → ShowsLine digest line → ShowsEach digest lines.new.items) }
+{
     if has_line(lines.as_slice(), &line) {
         return Ok(());
     }
     let at = place_in(lines.as_slice(), &line);
-    if at <= lines.len() {
-        lines.insert(at, line)?;
-    }
+    lines.insert(at, line)?;
     Ok(())
 }
 
 // A candidate of the same size and another root.
-fn other_of<'a>(candidates: &'a [Candidate], candidate: &Candidate) -> Option<&'a Candidate> {
+fn other_of<'a>(candidates: &'a [Candidate], candidate: &Candidate) -> Option<&'a Candidate>
+    ensures { IfSome result (λ other. (other.now.size.0 ≡ candidate.now.size.0)
+        × (other.now.root ≢ candidate.now.root)) }
+{
     for other in candidates {
         if other.size.0 == candidate.size.0 && other.root != candidate.root {
             return Some(other);
@@ -169,6 +185,7 @@ impl Run {
         ensures copy { result.copy ≡ copy }
         ensures had { result.had ≡ size_of_copy copy }
         ensures fault { result.first_fault ≡ None }
+        ensures forks { result.forks.items ≡ [] }
     {
         let had = match &copy {
             Some(copy) => copy.size.0,
@@ -190,6 +207,7 @@ impl Run {
         ensures copy { self.new.copy ≡ self.old.copy }
         ensures had { self.new.had ≡ self.old.had }
         ensures fault { self.new.first_fault ≡ self.old.first_fault }
+        ensures forks { self.new.forks ≡ self.old.forks }
     {
         let size = match &self.copy {
             Some(copy) => copy.size.0,
@@ -213,8 +231,8 @@ impl Run {
     ) -> Result<(), AllocError>
         ensures copy { self.new.copy ≡ self.old.copy }
         ensures had { self.new.had ≡ self.old.had }
-        ensures fault { (self.new.first_fault ≡ self.old.first_fault)
-            ⊎ (self.new.first_fault ≡ Some fault) }
+        ensures fault { OnOk result (self.new.first_fault ≡ or_fault self.old.first_fault fault) }
+        ensures forks { self.new.forks ≡ self.old.forks }
     {
         self.not_had.push(copy_of(alloc, candidate)?)?;
         if self.first_fault.is_none() {
@@ -233,6 +251,9 @@ impl Run {
         ensures copy { self.new.copy ≡ self.old.copy }
         ensures had { self.new.had ≡ self.old.had }
         ensures fault { self.new.first_fault ≡ self.old.first_fault }
+        ensures shows { OnOk result ((digest : List ℕ → List ℕ)
+            → IfSome self.old.copy (λ copy. AreFork digest copy candidate.now proof)
+            → ShowsEach digest self.old.forks.items → ShowsEach digest self.new.forks.items) }
     {
         match &self.copy {
             Some(copy) => {
@@ -252,9 +273,11 @@ impl Run {
     ) -> Result<(), AllocError>
         ensures copy { OnOk result (KnowsAfter candidate.now turn self.old.copy self.new.copy) }
         ensures had { self.new.had ≡ self.old.had }
-        ensures shelf { self.new.first_fault ≡ Some FollowFault.ShelfFault
-            → (self.old.first_fault ≡ Some FollowFault.ShelfFault)
-            ⊎ (turn ≡ Turn.NotHad FollowFault.ShelfFault) }
+        ensures fault { OnOk result
+            (self.new.first_fault ≡ fault_after self.old.first_fault turn) }
+        ensures shows { OnOk result ((digest : List ℕ → List ℕ)
+            → ShowsTurn digest self.old.copy candidate.now turn
+            → ShowsEach digest self.old.forks.items → ShowsEach digest self.new.forks.items) }
     {
         match turn {
             Turn::Agrees => self.agree(candidate),
@@ -270,6 +293,22 @@ impl Run {
     }
 }
 
+// Adds the fork of two candidates of one size and two roots.
+fn add_equal(
+    alloc: Global,
+    first: &Candidate,
+    second: &Candidate,
+    forks: &mut Vec<ForkLine>,
+) -> Result<(), AllocError>
+    requires size { first.now.size.0 ≡ second.now.size.0 }
+    requires root { first.now.root ≢ second.now.root }
+    ensures { OnOk result ((digest : List ℕ → List ℕ) → ShowsEach digest forks.old.items
+        → ShowsEach digest forks.new.items) }
+{
+    let line = fork_of(alloc, first, second, None)?;
+    add_line(forks, line)
+}
+
 // Adds the fork of a candidate that could not be had, where another candidate or the copy has its size. Whether there is none.
 fn is_larger(
     alloc: Global,
@@ -277,14 +316,17 @@ fn is_larger(
     candidates: &[Candidate],
     candidate: &Candidate,
     forks: &mut Vec<ForkLine>,
-) -> Result<bool, AllocError> {
+) -> Result<bool, AllocError>
+    ensures { OnOk result ((digest : List ℕ → List ℕ) → ShowsEach digest forks.old.items
+        → ShowsEach digest forks.new.items) }
+{
     if copy.size.0 == candidate.size.0 && copy.root != candidate.root {
-        add_line(forks, fork_of(alloc, copy, candidate, None)?)?;
+        add_equal(alloc, copy, candidate, forks)?;
         return Ok(false);
     }
     match other_of(candidates, candidate) {
         Some(other) => {
-            add_line(forks, fork_of(alloc, other, candidate, None)?)?;
+            add_equal(alloc, other, candidate, forks)?;
             Ok(false)
         }
         None => Ok(true),
@@ -298,7 +340,10 @@ fn split_not_had(
     candidates: &[Candidate],
     not_had: &[Candidate],
     forks: &mut Vec<ForkLine>,
-) -> Result<Vec<(u64, Hash)>, AllocError> {
+) -> Result<Vec<(u64, Hash)>, AllocError>
+    ensures { OnOk result ((digest : List ℕ → List ℕ) → ShowsEach digest forks.old.items
+        → ShowsEach digest forks.new.items) }
+{
     let mut larger = Vec::new(alloc);
     for candidate in not_had {
         let root = candidate.root;
@@ -318,7 +363,9 @@ pub(crate) fn report(
     ensures copy { IfOk result (λ f. (copy : Candidate) × (run.copy ≡ Some copy)
         × (f.size ≡ copy.size.0) × (f.root ≡ copy.root)) }
     ensures had { IfOk result (λ f. f.old ≡ run.had) }
-    ensures fault { IfErr result (λ e. (e ≡ FollowFault.NoCheckpoint)
+    ensures shows { IfOk result (λ f. (digest : List ℕ → List ℕ)
+        → ShowsEach digest run.forks.items → ShowsEach digest f.forks.items) }
+    ensures fault { IfErr result (λ e. ((run.copy ≡ None) × (run.first_fault ≡ None))
         ⊎ ((e ≡ FollowFault.OutOfMemory) ⊎ (run.first_fault ≡ Some e))) }
 {
     let Run {

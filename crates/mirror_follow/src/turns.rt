@@ -1,13 +1,15 @@
 //! A copy that follows its places.
-ghost use Rattle.std.specs.Prelude.{◌≡◌, ◌≢◌, ◌↔◌, ◌<◌, ◌≤◌, [], ℕ, All, IfErr, IfOk, IfSome, IsTrue, List, OnOk, Option, length, map, option_map};
+ghost use Rattle.std.specs.Prelude.{◌≡◌, ◌≢◌, ◌⊎◌, ◌↔◌, ◌<◌, ◌≤◌, [], ℕ, All, IfErr, IfOk, IfSome, IsTrue, List, None, OnOk, Option, Some, length, map, option_map};
 ghost use Rattle.mirror_sources.specs.Told.{KeepsTold};
 ghost use Rattle.mirror_folders.specs.Shelf.{Put};
 ghost use Rattle.mirror_copy.specs.Faults.{CountsFault};
 ghost use Rattle.mirror_copy.specs.Moments.{CopyStays, KeepsCopy};
-ghost use Rattle.mirror_follow.specs.Blame.{CountsFollow, IsGivenOrMayGive};
+ghost use Rattle.mirror_follow.specs.Blame.{AsksAny, CountsFollow, IsGivenOrMayGive, PlaceFails};
 ghost use Rattle.mirror_follow.specs.Candidates.{IsCandidate};
+ghost use Rattle.mirror_follow.specs.Ending.{BlamesPlace, EndsFor, EndsRun, IsOfEmpty, KeepsFault, PassesOver, RefusesGiven};
 ghost use Rattle.mirror_follow.specs.Gathering.{note_of};
 ghost use Rattle.mirror_follow.specs.Runs.{FollowsCandidates, KeepsCopies};
+ghost use Rattle.mirror_follow.specs.Shown.{ShowsLine, ShowsTurn};
 ghost use Rattle.mirror_follow.specs.Renoting.{PutsNoteOver};
 ghost use Rattle.mirror_follow.specs.Standing.{IsFollowed, IsHeadOf, StandsAfter};
 ghost use Rattle.mirror_follow.specs.Turning.{ContinuesRun, IsRunFrom};
@@ -33,7 +35,13 @@ fn turn_of(fault: BringFault) -> Result<Turn, FollowFault>
         (candidate : Candidate) (old new : Option (List Put)) → CopyStays digest origin old new
         → StandsAfter digest origin candidate old new turn) }
     ensures counted { (old new : ℕ) → CountsFault old new fault → CountsFollow old new result }
-    ensures shelf { IfOk result (λ turn. turn ≢ Turn.NotHad FollowFault.ShelfFault) }
+    ensures source { IfOk result (λ turn. turn ≡ Turn.NotHad FollowFault.Source
+        → fault ≡ BringFault.Source) }
+    ensures passes { IfOk result PassesOver }
+    ensures ends { IfErr result EndsRun }
+    ensures empty { IfOk result IsOfEmpty }
+    ensures shows { IfOk result (λ turn. (digest : List ℕ → List ℕ) (copy : Option Candidate)
+        (candidate : Candidate) → ShowsTurn digest copy candidate turn) }
 {
     match fault {
         BringFault::Contradiction => Ok(Turn::Contradicts),
@@ -63,7 +71,14 @@ fn bring<H: TreeHash, D: ReadableShelf, S: Source + Drop>(
     ensures counted { CountsFollow (D.failed shelf.old) (D.failed shelf.new) result }
     ensures after { IfOk result (λ turn. StandsAfter H.digest origin.now candidate.now
         (D.puts shelf.old) (D.puts shelf.new) turn) }
-    ensures shelf { IfOk result (λ turn. turn ≢ Turn.NotHad FollowFault.ShelfFault) }
+    ensures asks { AsksAny S.may_answer S.failed S.asked places.old places.new }
+    ensures source { IfOk result (λ turn. turn ≡ Turn.NotHad FollowFault.Source
+        → PlaceFails places.old places.new) }
+    ensures passes { IfOk result PassesOver }
+    ensures ends { IfErr result EndsRun }
+    ensures empty { IfOk result IsOfEmpty }
+    ensures shows { IfOk result (λ turn. (digest : List ℕ → List ℕ) (copy : Option Candidate)
+        (candidate : Candidate) → ShowsTurn digest copy candidate turn) }
 {
     match bring_copy::<H, D, S>(alloc, origin, shelf, places, &candidate.note) {
         Ok(_) => Ok(Turn::Brought),
@@ -81,7 +96,11 @@ fn contradict<H: TreeHash, S: Source + Drop>(
     ensures after { IfOk result (λ turn. (digest : List ℕ → List ℕ) (origin : List ℕ)
         (old new : Option (List Put)) → CopyStays digest origin old new
         → StandsAfter digest origin candidate.now old new turn) }
-    ensures had { IfOk result (λ turn. (fault : FollowFault) → turn ≢ Turn.NotHad fault) }
+    ensures asks { AsksAny S.may_answer S.failed S.asked places.old places.new }
+    ensures source { IfOk result (λ turn. turn ≢ Turn.NotHad FollowFault.Source) }
+    ensures passes { IfOk result PassesOver }
+    ensures empty { run.now.copy ≡ None → IfOk result IsOfEmpty }
+    ensures shows { IfOk result (ShowsTurn H.digest run.now.copy candidate.now) }
 {
     let Some(copy) = &run.copy else {
         return Ok(Turn::Contradicts);
@@ -106,7 +125,13 @@ fn take_larger<H: TreeHash, D: ReadableShelf, S: Source + Drop>(
     ensures counted { CountsFollow (D.failed shelf.old) (D.failed shelf.new) result }
     ensures after { IfOk result (λ turn. StandsAfter H.digest origin.now candidate.now
         (D.puts shelf.old) (D.puts shelf.new) turn) }
-    ensures shelf { IfOk result (λ turn. turn ≢ Turn.NotHad FollowFault.ShelfFault) }
+    ensures asks { AsksAny S.may_answer S.failed S.asked places.old places.new }
+    ensures source { IfOk result (λ turn. turn ≡ Turn.NotHad FollowFault.Source
+        → PlaceFails places.old places.new) }
+    ensures passes { IfOk result PassesOver }
+    ensures ends { IfErr result EndsRun }
+    ensures empty { run.now.copy ≡ None → IfOk result IsOfEmpty }
+    ensures shows { IfOk result (ShowsTurn H.digest run.now.copy candidate.now) }
 {
     let turn = bring::<H, D, S>(alloc, origin, shelf, places, candidate)?;
     match turn {
@@ -127,6 +152,31 @@ fn root_due<H: TreeHash>(copy: &Candidate, size: u64) -> Hash
     }
 }
 
+// Whether a candidate is of the copy's size or of no entries, so that its root is known.
+fn has_due_root(copy: &Candidate, candidate: &Candidate) -> bool
+    ensures { IsTrue result → (candidate.now.size.0 ≡ 0)
+        ⊎ (candidate.now.size.0 ≡ copy.now.size.0) }
+{
+    candidate.size.0 == 0 || candidate.size.0 == copy.size.0
+}
+
+// The turn of a candidate of the copy's size or of no entries.
+fn compare_root<H: TreeHash>(copy: &Candidate, candidate: &Candidate) -> Turn
+    requires upto { candidate.now.size.0 ≤ copy.now.size.0 }
+    requires due { (candidate.now.size.0 ≡ 0) ⊎ (candidate.now.size.0 ≡ copy.now.size.0) }
+    ensures after { (digest : List ℕ → List ℕ) (origin : List ℕ)
+        (old new : Option (List Put)) → CopyStays digest origin old new
+        → StandsAfter digest origin candidate.now old new result }
+    ensures passes { PassesOver result }
+    ensures shows { ShowsTurn H.digest (Some copy.now) candidate.now result }
+    ensures source { result ≢ Turn.NotHad FollowFault.Source }
+{
+    if candidate.root == root_due::<H>(copy, candidate.size.0) {
+        return Turn::Agrees;
+    }
+    Turn::Forks(None)
+}
+
 // The turn of a candidate that is not larger than the copy.
 fn take_smaller<H: TreeHash, D: ReadableShelf>(
     alloc: Global,
@@ -140,14 +190,13 @@ fn take_smaller<H: TreeHash, D: ReadableShelf>(
     ensures after { IfOk result (λ turn. (digest : List ℕ → List ℕ) (origin : List ℕ)
         (old new : Option (List Put)) → CopyStays digest origin old new
         → StandsAfter digest origin candidate.now old new turn) }
-    ensures had { IfOk result (λ turn. (fault : FollowFault) → turn ≢ Turn.NotHad fault) }
+    ensures shows { IfOk result (ShowsTurn H.digest (Some copy.now) candidate.now) }
+    ensures source { IfOk result (λ turn. turn ≢ Turn.NotHad FollowFault.Source) }
+    ensures passes { IfOk result PassesOver }
+    ensures ends { IfErr result EndsRun }
 {
-    let size = candidate.size.0;
-    if size == 0 || size == copy.size.0 {
-        if candidate.root == root_due::<H>(copy, size) {
-            return Ok(Turn::Agrees);
-        }
-        return Ok(Turn::Forks(None));
+    if has_due_root(copy, candidate) {
+        return Ok(compare_root::<H>(copy, candidate));
     }
     match read_proof::<H, D>(alloc, shelf, candidate, copy)? {
         Some(proof) => Ok(Turn::Forks(Some(proof))),
@@ -169,7 +218,7 @@ fn is_same(first: &[u8], second: &[u8]) -> bool
     first == second
 }
 
-// Puts the note of a candidate in place of the copy's, where that still stands.
+// Puts the note of a candidate in place of the copy's, if that is still there.
 fn put_note<D: ReadableShelf>(
     shelf: &mut D,
     copy: &Candidate,
@@ -178,6 +227,7 @@ fn put_note<D: ReadableShelf>(
     ensures puts { PutsNoteOver (D.puts shelf.old) (D.puts shelf.new) (note_of copy.now)
         (note_of candidate.now) result }
     ensures counted { CountsFollow (D.failed shelf.old) (D.failed shelf.new) result }
+    ensures ends { IfErr result EndsRun }
 {
     let Some(there) = shelf.read(&Path::Checkpoint)? else {
         return Err(FollowFault::CopyInUse);
@@ -205,7 +255,10 @@ fn renote<H: TreeHash, D: ReadableShelf>(
     ensures counted { CountsFollow (D.failed shelf.old) (D.failed shelf.new) result }
     ensures after { IfOk result (λ turn. StandsAfter H.digest origin.now candidate.now
         (D.puts shelf.old) (D.puts shelf.new) turn) }
-    ensures brought { IfOk result (λ turn. turn ≡ Turn.Brought) }
+    ensures passes { IfOk result PassesOver }
+    ensures source { IfOk result (λ turn. turn ≢ Turn.NotHad FollowFault.Source) }
+    ensures shows { IfOk result (ShowsTurn H.digest (Some copy.now) candidate.now) }
+    ensures ends { IfErr result EndsRun }
 {
     put_note(shelf, copy, candidate)?;
     Ok(Turn::Brought)
@@ -225,7 +278,10 @@ fn compare<H: TreeHash, D: ReadableShelf>(
     ensures counted { CountsFollow (D.failed shelf.old) (D.failed shelf.new) result }
     ensures after { IfOk result (λ turn. StandsAfter H.digest origin.now candidate.now
         (D.puts shelf.old) (D.puts shelf.new) turn) }
-    ensures had { IfOk result (λ turn. (fault : FollowFault) → turn ≢ Turn.NotHad fault) }
+    ensures shows { IfOk result (ShowsTurn H.digest (Some copy.now) candidate.now) }
+    ensures source { IfOk result (λ turn. turn ≢ Turn.NotHad FollowFault.Source) }
+    ensures passes { IfOk result PassesOver }
+    ensures ends { IfErr result EndsRun }
 {
     take_smaller::<H, D>(alloc, shelf, copy, candidate)
 }
@@ -246,7 +302,13 @@ fn turn_for<H: TreeHash, D: ReadableShelf, S: Source + Drop>(
     ensures counted { CountsFollow (D.failed shelf.old) (D.failed shelf.new) result }
     ensures after { IfOk result (λ turn. StandsAfter H.digest origin.now candidate.now
         (D.puts shelf.old) (D.puts shelf.new) turn) }
-    ensures shelf { IfOk result (λ turn. turn ≢ Turn.NotHad FollowFault.ShelfFault) }
+    ensures shows { IfOk result (ShowsTurn H.digest run.now.copy candidate.now) }
+    ensures asks { AsksAny S.may_answer S.failed S.asked places.old places.new }
+    ensures source { IfOk result (λ turn. turn ≡ Turn.NotHad FollowFault.Source
+        → PlaceFails places.old places.new) }
+    ensures passes { IfOk result PassesOver }
+    ensures ends { IfErr result EndsRun }
+    ensures empty { run.now.copy ≡ None → IfOk result IsOfEmpty }
 {
     if let Some(copy) = &run.copy {
         if is_same_point(copy, candidate) && candidate.note < copy.note {
@@ -275,6 +337,11 @@ fn take_turn<H: TreeHash, D: ReadableShelf, S: Source + Drop>(
     ensures counted { CountsFollow (D.failed shelf.old) (D.failed shelf.new) result }
     ensures run { OnOk result (ContinuesRun H.digest origin.now (D.puts shelf.old)
         (D.puts shelf.new) run.old run.new) }
+    ensures asks { AsksAny S.may_answer S.failed S.asked places.old places.new }
+    ensures source { OnOk result (BlamesPlace places.old places.new run.old.first_fault
+        run.new.first_fault) }
+    ensures ends { IfErr result EndsRun }
+    ensures fault { OnOk result (KeepsFault run.new) }
 {
     let turn = turn_for::<H, D, S>(alloc, origin, shelf, places, run, candidate)?;
     run.add(alloc, candidate, turn)?;
@@ -284,6 +351,7 @@ fn take_turn<H: TreeHash, D: ReadableShelf, S: Source + Drop>(
 // Whether a candidate of a list has the size and root of the one before it.
 fn is_repeated(candidates: &[Candidate], i: usize) -> bool
     requires { i < length candidates.now }
+    ensures { IsTrue result → 0 < i }
 {
     i > 0 && is_same_point(&candidates[i - 1], &candidates[i])
 }
@@ -307,6 +375,11 @@ fn take_turn_at<H: TreeHash, D: ReadableShelf, S: Source + Drop>(
     ensures counted { CountsFollow (D.failed shelf.old) (D.failed shelf.new) result }
     ensures run { OnOk result (ContinuesRun H.digest origin.now (D.puts shelf.old)
         (D.puts shelf.new) run.old run.new) }
+    ensures asks { AsksAny S.may_answer S.failed S.asked places.old places.new }
+    ensures source { OnOk result (BlamesPlace places.old places.new run.old.first_fault
+        run.new.first_fault) }
+    ensures ends { IfErr result EndsRun }
+    ensures fault { OnOk result ((0 < i → KeepsFault run.old) → KeepsFault run.new) }
 {
     if is_repeated(candidates, i) {
         return Ok(());
@@ -314,7 +387,7 @@ fn take_turn_at<H: TreeHash, D: ReadableShelf, S: Source + Drop>(
     take_turn::<H, D, S>(alloc, origin, shelf, places, run, &candidates[i])
 }
 
-// Lets each candidate have its turn, the greatest first. Of several of one size and root the first alone is tried.
+// Lets each candidate have its turn, the greatest first. If several have one size and root, only the first is tried.
 fn take_turns<H: TreeHash, D: ReadableShelf, S: Source + Drop>(
     alloc: Global,
     origin: &str,
@@ -330,6 +403,11 @@ fn take_turns<H: TreeHash, D: ReadableShelf, S: Source + Drop>(
     ensures counted { CountsFollow (D.failed shelf.old) (D.failed shelf.new) result }
     ensures run { IfOk result (IsRunFrom H.digest origin.now (D.puts shelf.old)
         (D.puts shelf.new) copy) }
+    ensures asks { AsksAny S.may_answer S.failed S.asked places.old places.new }
+    ensures source { IfOk result (λ run. run.first_fault ≡ Some FollowFault.Source
+        → PlaceFails places.old places.new) }
+    ensures ends { IfErr result EndsRun }
+    ensures fault { IfOk result (λ run. 0 < length candidates.now → KeepsFault run) }
 {
     let mut run = Run::new(alloc, copy);
     for i in 0..candidates.len() {
@@ -349,6 +427,9 @@ fn given_candidate(
     ensures opened { IfOk result
         (λ candidates. All (IsCandidate origin.now (map (λ k. key k) keys.now)) candidates.items) }
     ensures given { IfOk result (λ candidates. All (λ c. note_of c ≡ note.items) candidates.items) }
+    ensures some { IfOk result (λ candidates. 0 < length candidates.items) }
+    ensures refuses { IfErr result
+        (RefusesGiven origin.now (map (λ k. key k) keys.now) note.items) }
     ensures shelf { IfErr result (λ e. e ≢ FollowFault.ShelfFault) }
 {
     let mut candidates = Vec::new(alloc);
@@ -372,6 +453,10 @@ fn candidates_of<S: Source + Drop>(
         (λ candidates. All (IsCandidate origin.now (map (λ k. key k) keys.now)) candidates.items) }
     ensures gave { IfOk result (λ candidates. All (λ c. IsGivenOrMayGive S.may_answer
         (option_map (λ v. v.items) given) places.old (note_of c)) candidates.items) }
+    ensures asks { AsksAny S.may_answer S.failed S.asked places.old places.new }
+    ensures some { IfOk result (λ candidates. 0 < length candidates.items) }
+    ensures ends { IfErr result (EndsFor S.may_answer origin.now (map (λ k. key k) keys.now)
+        places.old places.new (option_map (λ v. v.items) given)) }
     ensures shelf { IfErr result (λ e. e ≢ FollowFault.ShelfFault) }
 {
     match given {
@@ -389,7 +474,7 @@ fn candidates_of<S: Source + Drop>(
 /// that of the copy's first entries, from verified files of the copy. A larger one that contradicts the copy is a fork where a place
 /// has the files of the proof; otherwise it is `larger`, as one that could not be had.
 ///
-/// At each moment a whole copy stands, whatever the places answer.
+/// At each moment a whole copy is there, whatever the places answer.
 ///
 /// ```text
 /// let done = follow::<Sha256Tree, MemShelf, ListSource<Sha256Tree>>(alloc, "ex", &keys, &mut shelf, &mut places, None)?;
@@ -400,7 +485,7 @@ fn candidates_of<S: Source + Drop>(
 ///
 /// # Errors
 ///
-/// - `CopyDamaged`: what stands on the shelf is no copy of a log of the origin, or a file that is wanted for a smaller candidate
+/// - `CopyDamaged`: what is on the shelf is no copy of a log of the origin, or a file that is wanted for a smaller candidate
 ///   lacks or is false. `ShelfFault`: the shelf failed. `CopyInUse`: another run put a checkpoint meanwhile.
 /// - `Head`: the given note is no candidate, or the first place's, where no place gives one. `NoCheckpoint`, `Source`: no place gives
 ///   a candidate, and the first has none, or failed.
@@ -420,7 +505,10 @@ pub fn follow<H: TreeHash, D: ReadableShelf, S: Source + Drop>(
         (D.puts shelf.old) (D.puts shelf.new) }
     ensures brought { IfOk result
         (IsFollowed H.digest origin.now (D.puts shelf.old) (D.puts shelf.new)) }
+    ensures forks { IfOk result (λ f. All (ShowsLine H.digest) f.forks.items) }
     ensures counted { CountsFollow (D.failed shelf.old) (D.failed shelf.new) result }
+    ensures ends { IfErr result (EndsFor S.may_answer origin.now (map (λ k. key k) keys.now)
+        places.old places.new (option_map (λ v. v.items) given)) }
 {
     let copy = judge_copy::<H, D>(alloc, origin, shelf)?;
     let candidates = candidates_of::<S>(alloc, origin, keys, places, given)?;

@@ -41,7 +41,7 @@ module _ (digest : List ℕ → List ℕ) (origin : List ℕ) (keys : List Key) 
 
   copy_had : (done : Followed) → CopyFollowed digest origin keys so held put done →
       CopyFollowed digest origin keys other held put done
-  copy_had done copy = record { whole = follows_had copy.whole; brought = copy.brought }
+  copy_had done copy = record { whole = follows_had copy.whole; brought = copy.brought; forks = copy.forks }
 
   -- the copy was followed, and then it was told
   pub follows_told : (done : Followed) (r : Result ℕ FollowRunFault) → CopyFollowed digest origin keys so held put done →

@@ -1,5 +1,5 @@
 -- What a run of `follow` reads, puts into its folder, writes to its output, and leaves as evidence.
-use Rattle.std.specs.Prelude.{◌≡◌, ℕ, List, Option, Some, None, Result, Ok, Err}
+use Rattle.std.specs.Prelude.{◌≡◌, ℕ, All, List, Option, Some, None, Result, Ok, Err}
 use Rattle.std.specs.Io.KnownBytes.{Appends, Keeps}
 use Rattle.byte_streams.specs.Streams.{AppendsPrefix}
 use Rattle.tlog_tiles.specs.declared.paths.Path.{Path}
@@ -8,6 +8,7 @@ use Rattle.mirror_folders.specs.Shelf.{Put}
 use Rattle.mirror_copy.specs.declared.places.Places.{Places}
 use Rattle.mirror_follow.specs.Blame.{CountsFollowFault, MayGive}
 use Rattle.mirror_follow.specs.Runs.{FollowsCandidates}
+use Rattle.mirror_follow.specs.Shown.{ShowsLine}
 use Rattle.mirror_follow.specs.Standing.{IsFollowed}
 use Rattle.mirror_follow.specs.declared.fault.FollowFault.{FollowFault}
 use Rattle.mirror_follow.specs.declared.fault.FollowFault.TheVariants as following
@@ -49,10 +50,11 @@ IsNoteOf may told (Some name) places note = HasContents told name note
 module _ (digest : List ℕ → List ℕ) (origin : List ℕ) (keys : List Key) (so : List ℕ → Type 0)
     (held : Option (List Put)) where
   -- over what the folder held a whole copy stood at each moment, under notes that were had so; in the end it has the
-  -- size and the root of the answer
+  -- size and the root of the answer; each fork line shows that no log has both of its checkpoints
   pub record CopyFollowed (put : Option (List Put)) (done : Followed) : Type 0 where
     pub whole : FollowsCandidates digest origin keys so held put
     pub brought : IsFollowed digest origin held put done
+    pub forks : All (ShowsLine digest) done.forks.items
 
   -- what was put over what the folder held; nothing where the folder was not opened
   abbrev pub FollowsIn : Option (List Put) → Option (List Put) → Result Followed FollowRunFault → Type 0

@@ -163,7 +163,7 @@ fn put_into<F: NamedFiles>(
     match put_forks(files, alloc, folder, lines) {
         Ok(()) => files.flush(folder),
         Err(fault) => {
-            // What was put stands: why the evidence is not whole comes first.
+            // What was put stays: why the evidence is not whole comes first.
             let _flushed = files.flush(folder);
             Err(fault)
         }
@@ -177,7 +177,7 @@ fn put_into<F: NamedFiles>(
 /// # Errors
 ///
 /// `FileFault`, where the folder is not made, a file is not written, or what is under its name is no plain file, or the files are not
-/// flushed; `OutOfMemory`, where memory is refused. What was put before stands.
+/// flushed; `OutOfMemory`, where memory is refused. What was put before stays.
 pub(crate) fn write_evidence<F: NamedFiles>(
     files: &mut F,
     alloc: Global,

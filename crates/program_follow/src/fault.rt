@@ -3,7 +3,7 @@ use mirror_follow::FollowFault;
 use program_files::NamedFault;
 use thiserror::Error;
 
-/// Why a run of `follow` ended early, in the order in which the faults are found. It prints the name of the innermost variant.
+/// Why a run of `follow` ended early, in the order of its steps. It prints the name of the innermost variant.
 #[derive(Debug, Drop, PartialEq, Eq, Clone, Copy, Error)]
 pub enum FollowRunFault {
     /// The file of the note that was given was not read.

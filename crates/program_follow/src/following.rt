@@ -1,8 +1,9 @@
 //! The command `follow`: a copy in a folder, brought to the newest checkpoint of some places.
-ghost use Rattle.std.specs.Prelude.{◌≡◌, ◌⊎◌, IfOk, map, option_map};
+ghost use Rattle.std.specs.Prelude.{◌≡◌, ◌⊎◌, All, IfOk, map, option_map};
 ghost use Rattle.tlog_text.specs.Answers.{seen};
 ghost use Rattle.mirror_follow.specs.Blame.{CountsFollow, IsGivenOrMayGive};
 ghost use Rattle.mirror_follow.specs.Runs.{FollowsCandidates};
+ghost use Rattle.mirror_follow.specs.Shown.{ShowsLine};
 ghost use Rattle.mirror_follow.specs.Standing.{IsFollowed};
 ghost use Rattle.program_follow.specs.Following.{CountsRun, Follows, FollowsIn, IsNoteOf, ReadsGiven, ReadsNote, TellsDone};
 
@@ -49,7 +50,7 @@ fn read_given<F: NamedFiles>(files: &F, name: Option<&str>) -> Result<Option<Vec
     }
 }
 
-// Follows the places into the folder that is open. Lines say how far that is, where it is asked for.
+// Follows the places into the folder that is open, with lines of progress if these are asked for.
 fn follow_told<H: TreeHash, D: ToldFolders, S: Source + Drop>(
     folders: &mut D,
     alloc: Global,
@@ -64,6 +65,7 @@ fn follow_told<H: TreeHash, D: ToldFolders, S: Source + Drop>(
         (D.puts folders.old) (D.puts folders.new) }
     ensures brought { IfOk result (IsFollowed H.digest following.now.origin.now
         (D.puts folders.old) (D.puts folders.new)) }
+    ensures forks { IfOk result (λ done. All (ShowsLine H.digest) done.forks.items) }
     ensures counted { CountsFollow (D.failed folders.old) (D.failed folders.new) result }
 {
     if following.progress {

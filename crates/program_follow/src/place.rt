@@ -38,7 +38,7 @@ pub(crate) enum Answered {
 ///
 /// ```text
 /// places.add(PlaceSource::of_folder(alloc, "log", DirSource::new(&rt, alloc, "log"))?)?;
-/// places.add(PlaceSource::of_server(alloc, "log.example:80/2026", HttpSource::new(alloc, site, dial))?)?;
+/// places.add(PlaceSource::of_server(alloc, "log.example:80/2026", HttpSource::new(alloc, site, dial, 0))?)?;
 /// ```
 #[derive(Drop)]
 pub struct PlaceSource<'a, R: Files, D: Dial + Drop> {
@@ -162,6 +162,12 @@ impl<'a, R: Files, D: Dial + Drop> Source for PlaceSource<'a, R, D> {
                 }
                 Err(SourceFault::Failed)
             }
+        }
+    }
+
+    fn expect(&mut self, paths: &[Path]) {
+        if let Kind::Server(source) = &mut self.kind {
+            source.expect(paths);
         }
     }
 

@@ -1,7 +1,7 @@
 use Rattle.std.proofs.Common.{◌≡◌}
 use Rattle.tlog_tiles.specs.declared.paths.Path.TheVariants.{Checkpoint}
 use Rattle.mirror_copy.specs.declared.place.PlaceAnswer.TheVariants as answer
-use Rattle.mirror_follow.proofs.Blame.{answer_fails, answer_gives, any_of}
+use Rattle.mirror_follow.proofs.Blame.{answer_fails, answer_gives, answer_is, any_of}
 use Rattle.mirror_follow.proofs.ask.ask_place.Goals as goal
 
 pub returns-in_err-bytes-clause-asks : goal.returns-in_err-bytes-clause-asks
@@ -29,3 +29,18 @@ pub returns-in-Failed-clause-fails : goal.returns-in-Failed-clause-fails
 returns-in-Failed-clause-fails g c = λ e.
     answer_fails g.S.Source.may_answer g.S.Source.failed g.S.Source.asked c.args.places.now c.get.new.self c.args.i
     c.in_ok-bytes.field-0 c.requires c.in_ok-bytes.ensures.answer c.in-Failed.is
+
+pub returns-in-File-clause-answers : goal.returns-in-File-clause-answers
+returns-in-File-clause-answers g c =
+    answer_is g.S.Source.may_answer g.S.Source.failed g.S.Source.asked c.args.places.now c.get.new.self c.args.i
+    c.in_ok-bytes.field-0 (answer.File c.in-File.bytes) c.in-File.is c.in_ok-bytes.ensures.answer
+
+pub returns-in-NotFound-clause-answers : goal.returns-in-NotFound-clause-answers
+returns-in-NotFound-clause-answers g c =
+    answer_is g.S.Source.may_answer g.S.Source.failed g.S.Source.asked c.args.places.now c.get.new.self c.args.i
+    c.in_ok-bytes.field-0 answer.NotFound c.in-NotFound.is c.in_ok-bytes.ensures.answer
+
+pub returns-in-Failed-clause-answers : goal.returns-in-Failed-clause-answers
+returns-in-Failed-clause-answers g c =
+    answer_is g.S.Source.may_answer g.S.Source.failed g.S.Source.asked c.args.places.now c.get.new.self c.args.i
+    c.in_ok-bytes.field-0 answer.Failed c.in-Failed.is c.in_ok-bytes.ensures.answer

@@ -1,4 +1,5 @@
-use Rattle.mirror_follow.proofs.GatheredFrom.{none_blames, turns_gave}
+use Rattle.std.proofs.Common.{length}
+use Rattle.mirror_follow.proofs.GatheredFrom.{none_blames, none_given, turns_gave, turns_some}
 use Rattle.mirror_follow.proofs.Kept.{turns_open}
 use Rattle.mirror_follow.proofs.ask.ask_places.Goals as goal
 
@@ -10,10 +11,22 @@ returns-clause-opened g c =
 
 pub returns-clause-gave : goal.returns-clause-gave
 returns-clause-gave g c =
-    turns_gave _ _ g.S.Source.may_answer g.S.Source.failed g.S.Source.asked c.args.places.now c.ask_each_place.new.places c.in_ok-gathered.gathered c.in_turn.result
-    c.in_ok-gathered.ensures.gathers c.in_turn.ensures.same
+    turns_gave _ _ g.S.Source.may_answer g.S.Source.failed g.S.Source.asked c.args.places.now c.ask_each_place.new.places
+    (length c.args.places.now.list.items) c.in_ok-gathered.gathered c.in_turn.result c.in_ok-gathered.ensures.gathers
+    c.in_turn.ensures.same
 
 pub returns-clause-source : goal.returns-clause-source
 returns-clause-source g c =
-    none_blames _ _ g.S.Source.may_answer g.S.Source.failed g.S.Source.asked c.args.places.now c.ask_each_place.new.places c.in_ok-gathered.gathered c.in_turn.result
-    c.in_ok-gathered.ensures.gathers c.in_turn.ensures.none c.in_turn.ensures.fault
+    none_blames _ _ g.S.Source.may_answer g.S.Source.failed g.S.Source.asked c.args.places.now c.ask_each_place.new.places
+    (length c.args.places.now.list.items) c.in_ok-gathered.gathered c.in_turn.result c.in_ok-gathered.ensures.gathers
+    c.in_turn.ensures.none c.in_turn.ensures.fault
+
+pub returns-clause-some : goal.returns-clause-some
+returns-clause-some g c =
+    turns_some c.in_ok-gathered.gathered c.in_turn.result c.in_turn.ensures.same c.in_turn.ensures.some
+
+pub returns-clause-none : goal.returns-clause-none
+returns-clause-none g c =
+    none_given _ _ g.S.Source.may_answer g.S.Source.failed g.S.Source.asked c.args.places.now c.ask_each_place.new.places
+    c.in_ok-gathered.gathered c.in_turn.result c.in_ok-gathered.ensures.gathers c.in_turn.ensures.none
+    c.in_turn.ensures.fault

@@ -1,6 +1,23 @@
+use Rattle.mirror_follow.proofs.Blame.{any_copied}
+use Rattle.mirror_follow.proofs.Ending.{turned_fails}
 use Rattle.mirror_follow.proofs.turns.bring.Goals as goal
 
 pub returns-in-Err-clause-counted : goal.returns-in-Err-clause-counted
 returns-in-Err-clause-counted g c =
     c.turn_of.ensures.counted (g.D.Shelf.failed c.args.shelf.now) (g.D.Shelf.failed c.bring_copy.new.shelf)
     c.in-Err.ensures.counted
+
+pub returns-in-Ok-clause-asks : goal.returns-in-Ok-clause-asks
+returns-in-Ok-clause-asks g c =
+    any_copied g.S.Source.may_answer g.S.Source.failed g.S.Source.asked g.H.TreeHash.digest c.args.origin.now _ _
+    c.args.places.now c.bring_copy.new.places c.bring_copy.ensures.asks
+
+pub returns-in-Err-clause-asks : goal.returns-in-Err-clause-asks
+returns-in-Err-clause-asks g c =
+    any_copied g.S.Source.may_answer g.S.Source.failed g.S.Source.asked g.H.TreeHash.digest c.args.origin.now _ _
+    c.args.places.now c.bring_copy.new.places c.bring_copy.ensures.asks
+
+pub returns-in-Err-clause-source : goal.returns-in-Err-clause-source
+returns-in-Err-clause-source g c =
+    turned_fails g.S.Source.may_answer g.S.Source.failed g.S.Source.asked c.args.places.now c.bring_copy.new.places
+    c.in-Err.fault c.turn_of.result c.in-Err.ensures.blames c.turn_of.ensures.source

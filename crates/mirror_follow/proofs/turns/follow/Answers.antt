@@ -1,9 +1,13 @@
 use Rattle.mirror_follow.proofs.Kept.{follows_candidates, follows_none}
-use Rattle.std.proofs.Common.{◌∙◌, subst, sym}
+use Rattle.std.proofs.Common.{◌∙◌, ◌<◌, List, length, subst, sym}
 use Rattle.std.proofs.lemmas.Result.{err_from_is_err_and}
 use Rattle.mirror_copy.specs.Moments.{HadSize}
+use Rattle.mirror_follow.specs.declared.candidate.Candidate.{Candidate}
+use Rattle.mirror_follow.proofs.Blame.{fails_later}
+use Rattle.mirror_follow.proofs.Ending.{ends_report, ends_run, report_counts}
+use Rattle.mirror_follow.proofs.Shown.{reported_forks}
 use Rattle.mirror_follow.proofs.Standing.{followed_by}
-use Rattle.mirror_follow.proofs.Turning.{counts_same, report_counts}
+use Rattle.mirror_follow.proofs.Turning.{counts_same}
 use Rattle.mirror_follow.proofs.turns.follow.Goals as goal
 
 pub returns-in_err-copy-clause-whole : goal.returns-in_err-copy-clause-whole
@@ -38,10 +42,42 @@ returns-clause-brought g c =
 pub returns-clause-counted : goal.returns-clause-counted
 returns-clause-counted g c =
     report_counts (g.D.Shelf.failed c.args.shelf.now) (g.D.Shelf.failed c.take_turns.new.shelf) c.in_ok-run.run' c.report.result
-    (c.in_ok-run.ensures.counted ∙ c.in_ok-copy.ensures.counted) c.in_ok-run.ensures.run.shelf c.report.ensures.fault
+    (c.in_ok-run.ensures.counted ∙ c.in_ok-copy.ensures.counted) (c.in_ok-run.ensures.fault
+    (subst (λ (l : List Candidate). 0 < length l) (sym c.deref.ensures.value) c.in_ok-candidates.ensures.some))
+    c.in_ok-run.ensures.run.passed c.report.ensures.fault
+
+pub returns-clause-ends : goal.returns-clause-ends
+returns-clause-ends g c =
+    ends_report g.S.Source.may_answer c.args.origin.now _ c.args.places.now c.take_turns.new.places _ c.in_ok-run.run'
+    c.report.result (c.in_ok-run.ensures.fault
+    (subst (λ (l : List Candidate). 0 < length l) (sym c.deref.ensures.value) c.in_ok-candidates.ensures.some))
+    c.in_ok-run.ensures.run.passed (λ e. fails_later g.S.Source.may_answer g.S.Source.failed g.S.Source.asked
+    c.args.places.now c.candidates_of.new.places c.take_turns.new.places c.candidates_of.ensures.asks
+    c.take_turns.ensures.asks (c.in_ok-run.ensures.source e)) c.report.ensures.fault
 
 pub returns-in_err-candidates-clause-counted : goal.returns-in_err-candidates-clause-counted
 returns-in_err-candidates-clause-counted g c =
     let p = err_from_is_err_and c.from_residual-in_err-candidates.result c.from_residual-in_err-candidates.ensures.1 in
     rw (p.1, p.2) (counts_same (g.D.Shelf.failed c.args.shelf.now) (g.D.Shelf.failed c.judge_copy.new.shelf)
     c.in_err-candidates.field-0.0 c.in_ok-copy.ensures.counted c.in_err-candidates.ensures.shelf)
+
+pub returns-in_err-copy-clause-ends : goal.returns-in_err-copy-clause-ends
+returns-in_err-copy-clause-ends g c =
+    let p = err_from_is_err_and c.from_residual.result c.from_residual.ensures.1 in
+    rw (p.1, p.2) (ends_run g.S.Source.may_answer c.args.origin.now _ c.args.places.now c.args.places.now _
+    c.in_err-copy.field-0.0 c.in_err-copy.ensures.ends)
+
+pub returns-in_err-candidates-clause-ends : goal.returns-in_err-candidates-clause-ends
+returns-in_err-candidates-clause-ends g c =
+    let p = err_from_is_err_and c.from_residual-in_err-candidates.result c.from_residual-in_err-candidates.ensures.1 in
+    rw (p.1, p.2) c.in_err-candidates.ensures.ends
+
+pub returns-in_err-run-clause-ends : goal.returns-in_err-run-clause-ends
+returns-in_err-run-clause-ends g c =
+    let p = err_from_is_err_and c.from_residual-in_err-run.result c.from_residual-in_err-run.ensures.1 in
+    rw (p.1, p.2) (ends_run g.S.Source.may_answer c.args.origin.now _ c.args.places.now c.take_turns.new.places _
+    c.in_err-run.field-0.0 c.in_err-run.ensures.ends)
+
+pub returns-clause-forks : goal.returns-clause-forks
+returns-clause-forks g c =
+    reported_forks g.H.TreeHash.digest c.in_ok-run.run' c.report.result c.report.ensures.shows c.in_ok-run.ensures.run.shows

@@ -1,3 +1,4 @@
+use Rattle.mirror_follow.proofs.Ending.{keeps_fault, source_blames}
 use Rattle.mirror_follow.proofs.Turning.{run_turned}
 use Rattle.mirror_follow.proofs.turns.take_turn.Goals as goal
 
@@ -5,5 +6,15 @@ pub returns-clause-run : goal.returns-clause-run
 returns-clause-run g c =
     run_turned g.H.TreeHash.digest c.args.origin.now (g.D.Shelf.puts c.args.shelf.now) (g.D.Shelf.puts c.turn_for.new.shelf)
     c.args.candidate.now c.args.run.now c.add.new.self c.in_ok-turn.turn
-    c.requires.head c.in_ok-turn.ensures.after c.in_ok-add.ensures.copy c.add.ensures.had c.add.ensures.shelf
-    c.in_ok-turn.ensures.shelf
+    c.requires.head c.in_ok-turn.ensures.after c.in_ok-add.ensures.copy c.add.ensures.had c.in_ok-add.ensures.fault
+    c.in_ok-turn.ensures.passes (c.in_ok-add.ensures.shows g.H.TreeHash.digest c.in_ok-turn.ensures.shows)
+
+pub returns-clause-fault : goal.returns-clause-fault
+returns-clause-fault g c =
+    keeps_fault c.args.candidate.now c.args.run.now c.add.new.self c.in_ok-turn.turn c.in_ok-turn.ensures.empty
+    c.in_ok-add.ensures.copy c.in_ok-add.ensures.fault
+
+pub returns-clause-source : goal.returns-clause-source
+returns-clause-source g c =
+    source_blames c.args.places.now c.turn_for.new.places c.args.run.now c.add.new.self c.in_ok-turn.turn
+    c.in_ok-add.ensures.fault c.in_ok-turn.ensures.source

@@ -1,3 +1,4 @@
+use Rattle.mirror_follow.proofs.Blame.{any_same}
 use Rattle.std.proofs.Common.{map}
 use Rattle.mirror_copy.proofs.Growth.{kept_same}
 use Rattle.mirror_follow.specs.Gathering.{note_of}
@@ -19,3 +20,6 @@ returns-clause-keeps g c =
     (g.D.Shelf.puts c.args.shelf.now) (g.D.Shelf.puts c.take_turn.new.shelf)
     (listed_note c.args.candidates.now c.args.i c.index-candidates-i.result c.requires.within c.index-candidates-i.is)
     c.take_turn.ensures.keeps
+
+pub returns-then-is_repeated-clause-asks : goal.returns-then-is_repeated-clause-asks
+returns-then-is_repeated-clause-asks g c = any_same g.S.Source.may_answer g.S.Source.failed g.S.Source.asked c.args.places.now

@@ -1,7 +1,10 @@
-use Rattle.std.proofs.Common.{◌≡◌, map}
+use Rattle.std.proofs.Common.{◌≡◌, ◌<◌, Some, map}
+use Rattle.mirror_follow.specs.Blame.{AsksAny, PlaceFails}
+use Rattle.mirror_follow.specs.Ending.{KeepsFault}
 use Rattle.mirror_follow.specs.Gathering.{note_of}
 use Rattle.mirror_follow.specs.Runs.{KeepsCopies}
 use Rattle.mirror_follow.specs.Turning.{IsRunFrom}
+use Rattle.mirror_follow.specs.declared.fault.FollowFault.TheVariants.{Source}
 use Rattle.mirror_follow.proofs.turns.take_turns.Given as goal
 
 abbrev pub invariant-loop-i : goal.invariant-loop-i
@@ -10,4 +13,7 @@ invariant-loop-i g l = record {
       (g.D.Shelf.puts l.shelf);
   counted : g.D.Shelf.failed l.shelf ≡ g.D.Shelf.failed l.initial.shelf;
   run : IsRunFrom g.H.TreeHash.digest l.origin (g.D.Shelf.puts l.initial.shelf) (g.D.Shelf.puts l.shelf) l.fn.copy l.run;
+  fault : 0 < l.i → KeepsFault l.run;
+  asks : AsksAny g.S.Source.may_answer g.S.Source.failed g.S.Source.asked l.initial.places l.places;
+  source : l.run.first_fault ≡ Some Source → PlaceFails l.initial.places l.places;
 }

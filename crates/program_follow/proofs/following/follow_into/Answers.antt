@@ -3,7 +3,7 @@ use Rattle.program_follow.proofs.following.follow_into.Goals as goal
 pub returns-in-Ok-follow_told-clause-follows : goal.returns-in-Ok-follow_told-clause-follows
 returns-in-Ok-follow_told-clause-follows g c =
     let done = c.in-Ok-follow_told.ensures in
-    rw (← c.in-Ok.ensures.opened) record { whole = done.whole; brought = done.brought }
+    rw (← c.in-Ok.ensures.opened) record { whole = done.whole; brought = done.brought; forks = done.forks }
 
 pub returns-in-Err-follow_told-clause-follows : goal.returns-in-Err-follow_told-clause-follows
 returns-in-Err-follow_told-clause-follows g c = rw (← c.in-Ok.ensures.opened) c.in-Err-follow_told.ensures.whole
