@@ -2,20 +2,22 @@
 ghost use Rattle.std.specs.Prelude.{◌≡◌};
 ghost use Rattle.std.specs.Result.{result_map_both};
 
-use program_commands::HeadFilesFault;
+use mirror_model::TakeFault;
 use program_copies::{CopyAskFault, CopyFault};
-use program_env::why::{Why, of_folder, of_named, of_origin, of_output};
-use program_env::{Error, RunFault, RunFiles, RunFolders};
+use program_env::served::{copy_size, of_heads, of_note, of_proof};
+use program_env::why::{Why, of_folder, of_origin, of_output};
+use program_env::{Env, Error, RunFault, RunFiles, RunFolders};
 use program_reports::{AskFault, ReportFault};
 use program_words::CopyArgs;
 use std::alloc::Global;
+use tlog_proof::Ask;
 use tlog_tiles::Path;
 
-/// The answer of a command, of what a reporter on a copy answers.
-pub(crate) fn asked<D: RunFolders>(
-    alloc: Global,
-    folders: &D,
+/// The answer of a command, of what a reporter on a copy answers. Of a proof that was asked for also its numbers are known.
+pub(crate) fn asked<R, F: RunFiles, D: RunFolders, I, O, E>(
+    env: &Env<'_, '_, '_, '_, R, F, D, I, O, E>,
     copy: &CopyArgs<'_>,
+    ask: Option<Ask>,
     answer: Result<u8, CopyAskFault>,
 ) -> Result<u8, Error>
     ensures { result ≡ result_map_both (λ status. status) (λ fault. RunFault.Copy fault) answer }
@@ -23,43 +25,62 @@ pub(crate) fn asked<D: RunFolders>(
     match answer {
         Ok(status) => Ok(status),
         Err(fault) => {
-            let why = why_of(alloc, folders, copy, fault);
+            let why = why_of(env, copy, ask, fault);
             Err(Error::new(RunFault::Copy(fault), why))
         }
     }
 }
 
 // What the fault is about.
-fn why_of<D: RunFolders>(
-    alloc: Global,
-    folders: &D,
+fn why_of<R, F: RunFiles, D: RunFolders, I, O, E>(
+    env: &Env<'_, '_, '_, '_, R, F, D, I, O, E>,
     copy: &CopyArgs<'_>,
+    ask: Option<Ask>,
     fault: CopyAskFault,
 ) -> Option<Why> {
+    let alloc = env.alloc;
     match fault {
-        CopyAskFault::Copy(fault) => why_of_copy(alloc, folders, copy.folder, fault),
+        CopyAskFault::Copy(fault) => why_of_copy(env, copy.folder, fault),
+        CopyAskFault::Heads(fault) => of_heads(alloc, &env.files, fault),
         CopyAskFault::Ask(AskFault::WriteFault) => of_output(alloc),
         CopyAskFault::Ask(AskFault::Report(ReportFault::NothingComplete)) => Why::of_thing(
             alloc,
             copy.folder,
         ),
+        CopyAskFault::Ask(AskFault::Report(ReportFault::Proof(fault))) => {
+            let served = copy_size(alloc, &env.files, copy.folder);
+            of_proof(alloc, copy.folder, ask?, fault, served)
+        }
         _ => None,
     }
 }
 
-/// What a fault of a copy is about: the origin, or a file of its folder.
-pub(crate) fn why_of_copy<D: RunFolders>(
-    alloc: Global,
-    folders: &D,
+// What a fault of a copy is about: the origin, or a file of its folder.
+fn why_of_copy<R, F: RunFiles, D: RunFolders, I, O, E>(
+    env: &Env<'_, '_, '_, '_, R, F, D, I, O, E>,
     folder: &str,
     fault: CopyFault,
 ) -> Option<Why> {
+    let alloc = env.alloc;
     match fault {
         CopyFault::Origin(fault) => of_origin(alloc, fault),
-        CopyFault::Head(_) => of_file(alloc, folder, &Path::Checkpoint),
+        CopyFault::Head(fault) => of_head(alloc, &env.files, folder, fault),
         CopyFault::CopyDamaged(path) => of_file(alloc, folder, &path),
-        CopyFault::ShelfFault => of_folder(alloc, folders, folder),
+        CopyFault::ShelfFault => of_folder(alloc, &env.folders, folder),
         CopyFault::OutOfMemory => None,
+    }
+}
+
+/// The checkpoint of a folder, which is refused.
+pub(crate) fn of_head<F: RunFiles>(
+    alloc: Global,
+    files: &F,
+    folder: &str,
+    fault: TakeFault,
+) -> Option<Why> {
+    match format!(in alloc; "{folder}/checkpoint") {
+        Ok(name) => of_note(alloc, files, &name, fault),
+        Err(_) => None,
     }
 }
 

@@ -10,11 +10,12 @@ use crate::places::{name_of, source_of};
 use mirror_audit::AuditFault;
 use mirror_progress::{CountingSource, Progress, StandardError, Task};
 use mirror_sources::Source;
+use program_env::places::{of_edge, of_refused};
 use program_env::why::{Why, of_output};
 use program_env::{Env, Error, RunFault, RunFiles, RunFolders};
 use program_monitor::{AuditRunFault, run_audit};
-use program_words::Command;
 use program_words::commands::audit::Audit;
+use program_words::{Command, Place};
 use signed_note::Verifier;
 use std::alloc::Global;
 use std::fs::Files;
@@ -43,22 +44,27 @@ where
         (moment F.puts D.held D.puts I.remaining O.contents env.new)
         (Command.Audit audit.now) result }
 {
-    let Ok(source) = source_of(env.rt, env.alloc, &audit.place) else {
+    let Ok(source) = source_of(env.rt, env.alloc, &audit.place, audit.ahead as usize) else {
         return Err(Error::no_memory());
     };
     let (answer, source) = audit_source(env.rt, env.alloc, audit, keys, source, env.output);
     drop(source);
-    audited(env.alloc, audit, answer)
+    audited(env.rt, env.alloc, audit, answer)
 }
 
 // The answer of the command, of what the audit answered.
-fn audited(alloc: Global, words: &Audit<'_>, answer: Result<u8, AuditRunFault>) -> Result<u8, Error>
+fn audited<R: Files>(
+    rt: &R,
+    alloc: Global,
+    words: &Audit<'_>,
+    answer: Result<u8, AuditRunFault>,
+) -> Result<u8, Error>
     ensures { result ≡ result_map_both (λ status. status) (λ fault. RunFault.Audit fault) answer }
 {
     match answer {
         Ok(status) => Ok(status),
         Err(fault) => {
-            let why = why_of(alloc, words, fault);
+            let why = why_of(rt, alloc, words, fault);
             Err(Error::new(RunFault::Audit(fault), why))
         }
     }
@@ -124,7 +130,7 @@ fn audit_counted<S: Source + Drop, R: Clock + Eprint, W: Write>(
 }
 
 // What the fault is about: the file of the place.
-fn why_of(alloc: Global, words: &Audit<'_>, fault: AuditRunFault) -> Option<Why> {
+fn why_of<R: Files>(rt: &R, alloc: Global, words: &Audit<'_>, fault: AuditRunFault) -> Option<Why> {
     let fault = match fault {
         AuditRunFault::Audit(fault) => fault,
         AuditRunFault::WriteFault => return of_output(alloc),
@@ -136,9 +142,16 @@ fn why_of(alloc: Global, words: &Audit<'_>, fault: AuditRunFault) -> Option<Why>
         AuditFault::NoFile(path) => of_file(alloc, &name, &path, "not found"),
         AuditFault::FalseFile(path) => of_file(alloc, &name, &path, "false"),
         AuditFault::NoCheckpoint => of_file(alloc, &name, &Path::Checkpoint, "not found"),
-        AuditFault::Head(_) => of_file(alloc, &name, &Path::Checkpoint, ""),
+        AuditFault::Head(fault) => match &words.place {
+            Place::Folder(folder) => of_refused(rt, alloc, folder, fault),
+            Place::Server { .. } => of_file(alloc, &name, &Path::Checkpoint, ""),
+        },
+        AuditFault::NoEdge => match &words.place {
+            Place::Folder(folder) => of_edge(rt, alloc, folder),
+            Place::Server { .. } => Why::of_thing(alloc, &name),
+        },
         AuditFault::OutOfMemory => None,
-        _ => Why::of_thing(alloc, &name),
+        AuditFault::Source => Why::of_thing(alloc, &name),
     }
 }
 

@@ -41,5 +41,5 @@ pub fn run<R, F: RunFiles, D: RunFolders, I: Read, O: Write, E: Write>(
         &compare.files,
         env.output,
     );
-    asked(env.alloc, &env.folders, copy, answer)
+    asked(env, copy, None, answer)
 }

@@ -5,17 +5,16 @@ ghost use Rattle.sha2.specs.Sha256.{sha256};
 ghost use Rattle.program_env.specs.Envs.{IsSameEnv, moment};
 ghost use Rattle.program_env.specs.Performing.{Performs};
 
-use crate::asking::of_file;
+use crate::asking::{of_file, of_head};
+use program_env::served::{copy_size, of_size};
 use program_env::why::{Why, of_folder, of_output};
 use program_env::{Env, Error, RunFault, RunFiles, RunFolders};
 use program_monitor::{CopyEntriesFault, EntryRange, entries_of_copy};
 use program_words::Command;
 use program_words::commands::entries::CopyEntries;
 use signed_note::Verifier;
-use std::alloc::Global;
 use std::io::{Read, Write};
 use tlog_hash::Sha256Tree;
-use tlog_tiles::Path;
 
 /// Writes entries of the copy, a bundle at a time, each verified before.
 ///
@@ -48,14 +47,13 @@ pub fn run<R, F: RunFiles, D: RunFolders, I: Read, O: Write, E: Write>(
         &range,
         env.output,
     );
-    written(env.alloc, &env.folders, entries.copy.folder, answer)
+    written(env, entries, answer)
 }
 
 // The answer of the command, of what the writer answered.
-fn written<D: RunFolders>(
-    alloc: Global,
-    folders: &D,
-    folder: &str,
+fn written<R, F: RunFiles, D: RunFolders, I, O, E>(
+    env: &Env<'_, '_, '_, '_, R, F, D, I, O, E>,
+    entries: &CopyEntries<'_>,
     answer: Result<(), CopyEntriesFault>,
 ) -> Result<u8, Error>
     ensures { result ≡ result_map_both (λ _. 0) (λ fault. RunFault.CopyEntries fault) answer }
@@ -63,24 +61,29 @@ fn written<D: RunFolders>(
     match answer {
         Ok(()) => Ok(0),
         Err(fault) => {
-            let why = why_of(alloc, folders, folder, fault);
+            let why = why_of(env, entries, fault);
             Err(Error::new(RunFault::CopyEntries(fault), why))
         }
     }
 }
 
 // What the fault is about.
-fn why_of<D: RunFolders>(
-    alloc: Global,
-    folders: &D,
-    folder: &str,
+fn why_of<R, F: RunFiles, D: RunFolders, I, O, E>(
+    env: &Env<'_, '_, '_, '_, R, F, D, I, O, E>,
+    entries: &CopyEntries<'_>,
     fault: CopyEntriesFault,
 ) -> Option<Why> {
+    let alloc = env.alloc;
+    let folder = entries.copy.folder;
     match fault {
         CopyEntriesFault::NothingComplete => Why::of_thing(alloc, folder),
-        CopyEntriesFault::Head(_) => of_file(alloc, folder, &Path::Checkpoint),
+        CopyEntriesFault::Head(fault) => of_head(alloc, &env.files, folder, fault),
         CopyEntriesFault::CopyDamaged(path) => of_file(alloc, folder, &path),
-        CopyEntriesFault::ShelfFault => of_folder(alloc, folders, folder),
+        CopyEntriesFault::NoSuchSize => {
+            let served = copy_size(alloc, &env.files, folder);
+            of_size(alloc, folder, entries.range.to, served)
+        }
+        CopyEntriesFault::ShelfFault => of_folder(alloc, &env.folders, folder),
         CopyEntriesFault::WriteFault => of_output(alloc),
         _ => None,
     }

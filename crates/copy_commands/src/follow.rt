@@ -43,7 +43,7 @@ where
         (moment F.puts D.held D.puts I.remaining O.contents env.new)
         (Command.Follow follow.now) result }
 {
-    let Ok(mut places) = places_of(env.rt, env.alloc, &follow.places) else {
+    let Ok(mut places) = places_of(env.rt, env.alloc, &follow.places, follow.ahead as usize) else {
         return Err(Error::no_memory());
     };
     let following = Following {
@@ -74,7 +74,7 @@ where
     followed(env, follow, lacked, answer)
 }
 
-// The path of the file that was to be had from nowhere, if one was. The places are let go.
+// The path of the file that no place gave, if there is one. The places are let go.
 fn lacked_of<S: Source + Drop>(places: Places<S>) -> Option<Path> {
     let lacked = places.lacked();
     drop(places);

@@ -29,19 +29,21 @@ fn server_of<'a, R: Files + Clock + Net<Stream = TcpStream>>(
     name: &str,
     site: (&str, &str),
     address: (&str, u16),
+    ahead: usize,
 ) -> Result<SystemPlace<'a, R>, AllocError> {
     let Ok(site) = Site::new(alloc, site.0, site.1) else {
         return Err(AllocError);
     };
     let dial = TcpDial::new(rt, alloc, address.0, address.1)?;
-    PlaceSource::of_server(alloc, name, HttpSource::new(alloc, site, dial))
+    PlaceSource::of_server(alloc, name, HttpSource::new(alloc, site, dial, ahead))
 }
 
-/// The source at a place.
+/// The source at a place. A server is sent so many requests ahead at most.
 pub(crate) fn source_of<'a, R: Files + Clock + Net<Stream = TcpStream>>(
     rt: &'a R,
     alloc: Global,
     place: &'a Place<'a>,
+    ahead: usize,
 ) -> Result<SystemPlace<'a, R>, AllocError> {
     let name = name_of(alloc, place)?;
     match place {
@@ -54,7 +56,7 @@ pub(crate) fn source_of<'a, R: Files + Clock + Net<Stream = TcpStream>>(
             prefix,
             address,
             port,
-        } => server_of(rt, alloc, &name, (host, prefix), (address, *port)),
+        } => server_of(rt, alloc, &name, (host, prefix), (address, *port), ahead),
     }
 }
 
@@ -63,10 +65,11 @@ pub(crate) fn places_of<'a, R: Files + Clock + Net<Stream = TcpStream>>(
     rt: &'a R,
     alloc: Global,
     words: &'a [Place<'a>],
+    ahead: usize,
 ) -> Result<Places<SystemPlace<'a, R>>, AllocError> {
     let mut places = Places::new(alloc);
     for place in words {
-        places.add(source_of(rt, alloc, place)?)?;
+        places.add(source_of(rt, alloc, place, ahead)?)?;
     }
     Ok(places)
 }

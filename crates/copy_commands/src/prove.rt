@@ -40,5 +40,5 @@ pub fn run<R, F: RunFiles, D: RunFolders, I: Read, O: Write, E: Write>(
         prove.ask,
         env.output,
     );
-    asked(env.alloc, &env.folders, copy, answer)
+    asked(env, copy, Some(prove.ask), answer)
 }

@@ -38,5 +38,5 @@ pub fn run<R, F: RunFiles, D: RunFolders, I: Read, O: Write, E: Write>(
         copy.folder,
         env.output,
     );
-    asked(env.alloc, &env.folders, copy, answer)
+    asked(env, copy, None, answer)
 }

@@ -15,7 +15,7 @@ use tlog_mirror::{Mirror, TakeFault};
 /// open under the keys and to be of the mirror's origin. No edge is asked for, and nothing is taken.
 ///
 /// ```text
-/// read_heads(&files, alloc, &mirror, &keys, &["told.note"])?   // [(400, root)]
+/// read_heads(&files, alloc, &mirror, &keys, &["other.note"])?   // [(400, root)]
 /// ```
 ///
 /// # Errors

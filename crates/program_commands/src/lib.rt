@@ -39,7 +39,7 @@ pub use item::ItemFiles;
 pub use laws::{kept_files_law, standing_notes_law};
 pub use merge::run_merge;
 pub use note_list::{NoteFile, note_files};
-pub use note_size::checkpoint_size;
+pub use note_size::{checkpoint_origin, checkpoint_size};
 pub use notes::run_notes;
 pub use origin::check_origin;
 pub use root::{RootFault, run_root};

@@ -1,4 +1,4 @@
-//! The size of a checkpoint, by its note.
+//! The size and the origin of a checkpoint, by its note.
 ghost use Rattle.std.specs.Prelude.{IfSome, List, ℕ};
 ghost use Rattle.mirror_model.specs.Heads.{IsHead};
 
@@ -21,6 +21,22 @@ pub fn checkpoint_size(alloc: Global, note: &[u8]) -> Option<u64>
     };
     match read(alloc, note.text()) {
         Ok(checkpoint) => Some(checkpoint.size),
+        Err(_) => None,
+    }
+}
+
+/// The origin that a note names, where it is the note of a checkpoint, of which no signature is looked at. None where it
+/// is not, or memory was refused.
+///
+/// ```text
+/// checkpoint_origin(alloc, note) // Some("example.com/log")
+/// ```
+pub fn checkpoint_origin(alloc: Global, note: &[u8]) -> Option<String> {
+    let Ok(note) = Note::read(alloc, note) else {
+        return None;
+    };
+    match read(alloc, note.text()) {
+        Ok(checkpoint) => Some(checkpoint.origin.into_string()),
         Err(_) => None,
     }
 }

@@ -22,8 +22,8 @@ use tlog_mirror::Mirror;
 /// # Errors
 ///
 /// The first that applies: `Origin`, as of `Mirror::new`; `File`, where the file is not read; `Load`, with the fault of
-/// `mirror_state::load_bytes`. `OutOfMemory` is told in each of them. Which note a `StateHead` or a `StateEdge` is about is
-/// told to the files.
+/// `mirror_state::load_bytes`. `OutOfMemory` is told in each of them. Which note a `StateHead` or a `StateEdge` is about,
+/// and the origin at `OtherOrigin`, is told to the files.
 pub fn open_state<H: TreeHash, F: NamedFiles>(
     files: &F,
     alloc: Global,
@@ -45,14 +45,14 @@ pub fn open_state<H: TreeHash, F: NamedFiles>(
     match load_bytes::<H>(alloc, origin, keys, &state) {
         Ok(mirror) => Ok(mirror),
         Err(fault) => {
-            tell_note::<H, F>(files, alloc, origin, keys, &state, fault);
+            tell_reason::<H, F>(files, alloc, origin, keys, &state, fault);
             Err(StateFault::Load(fault))
         }
     }
 }
 
-// Tells the files which note a state is refused for, if it is for one.
-fn tell_note<H: TreeHash, F: NamedFiles>(
+// Tells the files what of a state is wrong: its origin, or one of its notes.
+fn tell_reason<H: TreeHash, F: NamedFiles>(
     files: &F,
     alloc: Global,
     origin: &str,
@@ -60,9 +60,46 @@ fn tell_note<H: TreeHash, F: NamedFiles>(
     state: &[u8],
     fault: LoadFault,
 ) {
-    if !matches!(fault, LoadFault::StateHead | LoadFault::StateEdge) {
-        return;
+    match fault {
+        LoadFault::OtherOrigin => tell_origin(files, alloc, state),
+        LoadFault::StateHead | LoadFault::StateEdge => {
+            tell_note::<H, F>(files, alloc, origin, keys, state)
+        }
+        _ => {}
     }
+}
+
+// Tells the files of which origin a state is.
+fn tell_origin<F: NamedFiles>(files: &F, alloc: Global, state: &[u8]) {
+    if let Some(origin) = origin_in(state) {
+        if let Ok(reason) = format!(in alloc; "its origin is {origin}") {
+            files.keep_reason(reason);
+        }
+    }
+}
+
+// The origin of a state: it stands behind the eight bytes that a state begins with, and its own length in two.
+fn origin_in(state: &[u8]) -> Option<&str> {
+    if state.len() < 10 {
+        return None;
+    }
+    let len = u16::from_be_bytes([state[8], state[9]]) as usize;
+    let (_, rest) = state.split_at(10);
+    if rest.len() < len {
+        return None;
+    }
+    let (origin, _) = rest.split_at(len);
+    str::from_utf8(origin).ok()
+}
+
+// Tells the files which note a state is refused for.
+fn tell_note<H: TreeHash, F: NamedFiles>(
+    files: &F,
+    alloc: Global,
+    origin: &str,
+    keys: &[Box<dyn Verifier>],
+    state: &[u8],
+) {
     if let Ok(Some(note)) = refused_note::<H>(alloc, origin, keys, state) {
         if let Ok(name) = note.name(alloc) {
             files.keep_reason(name);

@@ -77,7 +77,7 @@ impl<T: Drop> From<AllocFailed<T>> for CopyFault {
     }
 }
 
-/// Why nothing is answered of a copy, in the order in which the faults are found. It prints the name of the innermost variant.
+/// Why nothing is answered of a copy, in the order of the steps. It prints the name of the innermost variant.
 #[derive(Debug, Drop, PartialEq, Eq, Clone, Copy, Error)]
 pub enum CopyAskFault {
     /// The copy is not read.

@@ -120,7 +120,7 @@ fn read_file<D: ReadableShelf>(
     }
 }
 
-// Adds those files that stand on the shelf.
+// Adds those of the files that the shelf has.
 #[tactic(auto, using(crate::proofs::Kept::kept_twice, crate::proofs::Kept::kept_once))]
 fn add_files<D: ReadableShelf>(
     files: &mut Vec<(Path, Vec<u8>)>,
@@ -148,8 +148,8 @@ impl CopyFiles {
         }
     }
 
-    /// Reads the partial tiles of a log of that size from the shelf, the full one where a partial one is gone. What does not
-    /// stand there is passed over.
+    /// Reads the partial tiles of a log of that size from the shelf, the full one where a partial one is gone. What is not
+    /// there is passed over.
     ///
     /// # Errors
     ///
@@ -164,7 +164,7 @@ impl CopyFiles {
     }
 
     /// Reads the full tiles above an entry, of a log of that size, from the shelf: those that lead from its leaf hash to the edge.
-    /// What does not stand there is passed over.
+    /// A file that is not there is passed over.
     ///
     /// # Errors
     ///

@@ -1,4 +1,4 @@
-//! What a copy answers: a folder with the files of one log, of which the checkpoint and some verified rows are read.
+//! What a copy answers: a folder with the files of one log. The checkpoint and some verified rows of it are read.
 //!
 //! ```text
 //! let mut folders = DirShelf::new(&rt, alloc, ".");

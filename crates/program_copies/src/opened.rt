@@ -15,7 +15,7 @@ use tlog_hash::{Hash, TreeHash};
 use tlog_mirror::NewFault;
 use tlog_tiles::Path;
 
-// A reader of a log of that size and root, whose edge stands on the shelf.
+// A reader of a log of that size and root, whose edge is on the shelf.
 fn open_reader<H: TreeHash, D: ReadableShelf>(
     shelf: &mut D,
     alloc: Global,
@@ -32,7 +32,7 @@ fn open_reader<H: TreeHash, D: ReadableShelf>(
     Ok(LogReader::open(alloc, &mut files, size, root)?)
 }
 
-// The reader of the log whose checkpoint stands on the shelf.
+// The reader of the log whose checkpoint is on the shelf.
 #[tactic(auto, using(crate::proofs::Kept::kept_twice, crate::proofs::HeadNotes::opened_head))]
 fn open_shelf<H: TreeHash, D: ReadableShelf>(
     shelf: &mut D,

@@ -5,7 +5,7 @@ use mirror_folders::{ReadableShelf, ShelfError};
 use mirror_sources::{Source, SourceFault};
 use tlog_tiles::Path;
 
-/// A source that gives what stands on a shelf.
+/// A source that gives the files of a shelf.
 ///
 /// ```text
 /// let mut source = ShelfSource::new(&mut shelf);

@@ -8,10 +8,10 @@ use std::time::Clock;
 
 /// Named files that keep what failed. Contracts see nothing of it.
 pub trait RunFiles: NamedFiles {
-    /// What the last `FileFault` came of, once; None where there was none, or where it is not kept.
+    /// The cause of the last `FileFault`, once; None if there was none, or it is not kept.
     fn failed_name(&self) -> Option<FailedName>;
 
-    /// What was told last of bytes that were read, once; None where nothing was, or where it is not kept.
+    /// The last remark on bytes that were read, once; None if there was none, or it is not kept.
     fn told_reason(&self) -> Option<String>;
 }
 
@@ -37,7 +37,7 @@ impl RunFiles for MemoryFiles {
 
 /// Folders by their names that keep what failed. Contracts see nothing of it.
 pub trait RunFolders: ToldFolders {
-    /// The file of the last call that failed, and why; None where none has failed, or where it is not kept.
+    /// The file of the last call that failed, and why; None if none has failed, or it is not kept.
     fn failed_file(&self) -> Option<FailedFile>;
 }
 

@@ -60,10 +60,10 @@ pub enum RunFault {
     /// A write to standard output failed, or took no byte. A prefix of the text may have been written.
     #[error("WriteFault")]
     WriteFault,
-    /// `root` told no root.
+    /// `root` printed no root.
     #[error(transparent)]
     Root(RootFault),
-    /// `check` told no verdict.
+    /// `check` printed no verdict.
     #[error(transparent)]
     Check(CheckFault),
     /// `take` wrote no state.

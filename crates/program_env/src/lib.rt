@@ -11,8 +11,10 @@ mod error;
 mod failing;
 mod fault;
 mod front;
+pub mod places;
 mod port;
 mod progress;
+pub mod served;
 pub mod why;
 
 pub use env::Env;

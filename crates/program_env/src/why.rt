@@ -1,4 +1,4 @@
-//! What `--why` tells: the thing that a fault is about, and what is wrong with it.
+//! What `--why` prints: the thing that a fault is about, and what is wrong with it.
 ghost use Rattle.program_env.specs.Whys.{TellsLine, TellsWhy};
 
 use crate::failing::{RunFiles, RunFolders};
@@ -102,13 +102,13 @@ impl Why {
         }
     }
 
-    /// A port that is not to be had, or at which a connection was not accepted.
+    /// A port that cannot be opened, or at which a connection was not accepted.
     pub fn of_port(alloc: Global, port: u16, error: &io::Error) -> Option<Why> {
         Why::of_error(alloc, format!(in alloc; "127.0.0.1:{port}"), error)
     }
 }
 
-/// Writes the line of what is known, where it is asked for.
+/// Writes the line of what is known, if it is asked for.
 #[tactic(auto, using(crate::proofs::Whys::nothing_told, crate::proofs::Whys::asked_told))]
 pub fn tell_why<E: Write>(alloc: Global, asked: bool, why: Option<Why>, errors: &mut E)
     ensures { TellsWhy asked (E.contents errors.old) (E.contents errors.new) }

@@ -61,14 +61,65 @@ pub(crate) fn joined_lines(alloc: Global, key_bytes: &[u8]) -> Result<Vec<KeyLin
     }
 }
 
-/// What a fault at the lines of that key file is about.
-pub(crate) fn why_of_lines(alloc: Global, name: Option<&str>, fault: KeyFileFault) -> Option<Why> {
+/// What a fault at the lines of that key file is about: the number of the bad line, and which common mistake it is.
+pub(crate) fn why_of_lines(
+    alloc: Global,
+    key_bytes: &[u8],
+    name: Option<&str>,
+    fault: KeyFileFault,
+) -> Option<Why> {
     match fault {
-        KeyFileFault::BadKeyLine(number) => match format!(in alloc; "line {number}") {
-            Ok(line) => Why::of_reason(alloc, name?, &line),
-            Err(_) => None,
-        },
+        KeyFileFault::BadKeyLine(number) => {
+            let mistake = mistake_in(key_bytes, number);
+            match format!(in alloc; "line {number}{mistake}") {
+                Ok(line) => Why::of_reason(alloc, name?, &line),
+                Err(_) => None,
+            }
+        }
         KeyFileFault::OutOfMemory => None,
+    }
+}
+
+// Which common mistake the line of that number is, from 1; nothing where it is none, or the bytes are no text.
+fn mistake_in(key_bytes: &[u8], number: usize) -> &'static str {
+    let Ok(mut rest) = str::from_utf8(key_bytes) else {
+        return "";
+    };
+    for _ in 1..number {
+        let Some((_, after)) = rest.split_once('\n') else {
+            return "";
+        };
+        rest = after;
+    }
+    match rest.split_once('\n') {
+        Some((line, _)) => mistake_of(line),
+        None => " lacks its newline",
+    }
+}
+
+// Which common mistake a whole line is.
+fn mistake_of(line: &str) -> &'static str {
+    if line.is_empty() {
+        " is empty"
+    } else if line.ends_with('\r') {
+        " ends in a carriage return"
+    } else if line.starts_with('#') {
+        " is a comment"
+    } else if is_verifier_key(line) {
+        " is a verifier key, which is not read"
+    } else {
+        ""
+    }
+}
+
+// Whether the line has the shape of a verifier key of a signed note: `NAME+ID+KEY`, where ID has eight digits.
+fn is_verifier_key(line: &str) -> bool {
+    match line.split_once('+') {
+        Some((name, rest)) => match rest.split_once('+') {
+            Some((id, _)) => !name.contains(' ') && id.len() == 8,
+            None => false,
+        },
+        None => false,
     }
 }
 

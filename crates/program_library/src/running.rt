@@ -17,7 +17,7 @@ use mirror_progress::{CountingShelf, Progress, StandardError};
 use program_env::why::{Why, tell_why};
 use program_env::{Env, Error, RunFault, RunFiles, RunFolders};
 use program_files::SystemFiles;
-use program_words::{CommandFault, Line, read_line};
+use program_words::{BadWord, CommandFault, Line, read_line};
 use signed_note::{KeyFileFault, KeyLine, Verifier};
 use std::alloc::Global;
 use std::fs::Files;
@@ -190,7 +190,7 @@ where
 {
     let lines = match joined_lines(env.alloc, key_bytes) {
         Ok(lines) => lines,
-        Err(fault) => return Err(no_lines(env.alloc, asked, fault)),
+        Err(fault) => return Err(no_lines(env.alloc, key_bytes, asked, fault)),
     };
     let mut keys: Vec<Box<dyn Verifier>> = Vec::new(env.alloc);
     for line in lines {
@@ -233,10 +233,10 @@ where
 }
 
 // The lines of the key file that the line names are no keys.
-fn no_lines(alloc: Global, asked: Line<'_>, fault: KeyFileFault) -> Error
+fn no_lines(alloc: Global, key_bytes: &[u8], asked: Line<'_>, fault: KeyFileFault) -> Error
     ensures { result ≡ RunFault.KeyLines fault }
 {
-    let why = why_of_lines(alloc, asked.keys, fault);
+    let why = why_of_lines(alloc, key_bytes, asked.keys, fault);
     drop(asked);
     Error::new(RunFault::KeyLines(fault), why)
 }
@@ -266,11 +266,11 @@ where
 }
 
 // The words of the command ask for nothing; this one is bad.
-fn refused(alloc: Global, bad: Option<&'static str>, fault: CommandFault) -> Error
+fn refused(alloc: Global, bad: Option<BadWord>, fault: CommandFault) -> Error
     ensures { result ≡ RunFault.Command fault }
 {
     let why = match bad {
-        Some(word) => Why::of_thing(alloc, word),
+        Some(bad) => Why::of_reason(alloc, bad.word, bad.reason),
         None => None,
     };
     Error::new(RunFault::Command(fault), why)

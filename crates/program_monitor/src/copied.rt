@@ -51,7 +51,7 @@ fn write_copied<H: TreeHash, D: ReadableShelf, W: Write>(
     Ok(())
 }
 
-// Writes entries of the copy that stands on the shelf.
+// Writes entries of the copy on the shelf.
 fn write_range<H: TreeHash, D: ReadableShelf, W: Write>(
     shelf: &mut D,
     alloc: Global,

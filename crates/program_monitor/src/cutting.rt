@@ -87,7 +87,7 @@ fn write_entries<W: Write>(
     }
 }
 
-/// Writes these entries of a bundle. All of them, each after its length, are the bundle's own bytes, of which no copy is made.
+/// Writes these entries of a bundle. All of them, each after its length, are the bundle's own bytes, which are not copied.
 pub(crate) fn write_cut<W: Write>(
     alloc: Global,
     bytes: &[u8],

@@ -10,8 +10,8 @@ use mirror_sources::{Source, SourceFault};
 use std::alloc::Global;
 use tlog_tiles::Path;
 
-/// Files that were read from a shelf, of which each is given once. A reader of a log reads from a source, and no contract of one
-/// says what is put meanwhile. So the shelf is read here, of which contracts say it, and a reader gets what was read.
+/// Files that were read from a shelf, each given once. A reader of a log reads from a source, and no contract of one
+/// says what is put meanwhile. So the shelf, whose contracts say it, is read here, and a reader gets what was read.
 #[derive(Drop)]
 pub(crate) struct HandedFiles {
     files: Vec<(Path, Vec<u8>)>,

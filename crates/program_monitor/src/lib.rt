@@ -1,7 +1,7 @@
-//! What a monitor asks of a log: whether all of it stands at a place, and its entries.
+//! What a monitor asks of a log: whether all of it is at a place, and its entries.
 //!
 //! `run_audit` reads a whole log at a source. `entries_of_state` writes entries that a mirror serves, and
-//! `entries_of_copy` those of a copy in a folder, of which each bundle is verified up to the root first.
+//! `entries_of_copy` those of a copy in a folder, each bundle verified up to the root first.
 //!
 //! ```text
 //! run_audit::<Sha256Tree, _, _>(alloc, "example.com/log", &keys, &mut source, &mut output)?;

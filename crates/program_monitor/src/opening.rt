@@ -96,7 +96,7 @@ fn reader_on<H: TreeHash, D: ReadableShelf>(
     }
 }
 
-/// Opens the copy that stands on the shelf: its checkpoint, under the keys, and the rows of the edge, which lead to its root.
+/// Opens the copy on the shelf: its checkpoint, under the keys, and the rows of the edge, which lead to its root.
 pub(crate) fn open_copy<H: TreeHash, D: ReadableShelf>(
     shelf: &mut D,
     alloc: Global,

@@ -41,6 +41,10 @@ words_rule name = record (list_rule name) { required = true }
 abbrev pub flag_rule : Text → Rule
 flag_rule name = record (new_rule name) { long = Some name; action = Some SetTrue }
 
+-- `[--ahead N]`
+abbrev pub ahead_rule : Rule
+ahead_rule = choice_rule (codes "ahead")
+
 -- `[--progress]`
 abbrev pub progress_rule : Rule
 progress_rule = flag_rule (codes "progress")

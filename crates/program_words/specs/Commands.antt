@@ -13,7 +13,7 @@ use Rattle.tlog_proof.specs.declared.proof.Ask.TheVariants.{Inclusion, Consisten
 use Rattle.mirror_client.specs.Site.{IsHost, IsSitePrefix, slash}
 use Rattle.program_words.specs.App.{asked_app, choice_rule, copy_app, flag_rule, folder_app, held_app}
 use Rattle.program_words.specs.App.{list_rule, log_app, made_app, option_rule, place_rule, program_app}
-use Rattle.program_words.specs.App.{progress_rule, with_commands, words_rule}
+use Rattle.program_words.specs.App.{ahead_rule, progress_rule, with_commands, words_rule}
 use Rattle.program_words.specs.declared.commands.Command.{Command}
 use Rattle.program_words.specs.declared.commands.Command.TheVariants as order
 use Rattle.program_words.specs.declared.commands.root.Root.{Root as RootWords}
@@ -78,6 +78,19 @@ IsNumberGiven least most (Some word) n = IsNumberIn least most n word
 -- the option has a value, which spells a number between these two
 abbrev pub HasNumber : List Row → Text → ℕ → ℕ → ℕ → Type 0
 HasNumber options name least most n = IsNumberGiven least most (first_of name options) n
+
+-- the number between these two that the text spells, and the other one where there is no text
+abbrev pub IsNumberOr : ℕ → ℕ → ℕ → Option Text → ℕ → Type 0
+IsNumberOr least most other None n = n ≡ other
+IsNumberOr least most other (Some word) n = IsNumberIn least most n word
+
+-- the option has a value, which spells a number between these two, or it is left out, and the number is the other one
+abbrev pub HasNumberOr : List Row → Text → ℕ → ℕ → ℕ → ℕ → Type 0
+HasNumberOr options name least most other n = IsNumberOr least most other (first_of name options) n
+
+-- how many requests may be sent ahead
+abbrev pub IsAhead : List Row → ℕ → Type 0
+IsAhead options ahead = HasNumberOr options (codes "ahead") 0 64 6 ahead
 
 -- a size, or an index
 abbrev pub IsSize : ℕ → Text → Type 0
@@ -195,10 +208,10 @@ pub record IsMerge (options : List Row) (merge : Merge) : Type 0 where
 
 -- -- pull
 
--- `pull --origin O --keys K --out T [--state S] [--keep] [--progress] KIND PLACE`
+-- `pull --origin O --keys K --out T [--state S] [--keep] [--ahead N] [--progress] KIND PLACE`
 abbrev pub pull_app : App
-pull_app = with_rule (with_rule (with_rule (with_rule (with_rule (made_app (codes "pull"))
-    (choice_rule (codes "state"))) (flag_rule (codes "keep"))) progress_rule)
+pull_app = with_rule (with_rule (with_rule (with_rule (with_rule (with_rule (made_app (codes "pull"))
+    (choice_rule (codes "state"))) (flag_rule (codes "keep"))) ahead_rule) progress_rule)
     (place_rule (codes "kind"))) (place_rule (codes "place"))
 
 -- the colon, U+003A
@@ -235,16 +248,17 @@ pub record IsPull (options : List Row) (pull : Pull) : Type 0 where
   pub mirror : IsOutputArgs options pull.mirror
   pub state : first_of (codes "state") options ≡ option_map (λ s. s.now) pull.state
   pub keep : IsTrue pull.keep ↔ HasFlag options (codes "keep")
+  pub ahead : IsAhead options pull.ahead
   pub progress : IsTrue pull.progress ↔ HasFlag options (codes "progress")
   pub place : HasValue options (codes "kind")
       (λ kind. HasValue options (codes "place") (λ word. IsPlace kind word pull.place))
 
 -- -- follow
 
--- `follow --origin O --keys K --dir D [--checkpoint FILE] [--forks F] [--progress] KIND PLACE..`
+-- `follow --origin O --keys K --dir D [--checkpoint FILE] [--forks F] [--ahead N] [--progress] KIND PLACE..`
 abbrev pub follow_app : App
-follow_app = with_rule (with_rule (with_rule (with_rule (copy_app (codes "follow"))
-    (choice_rule (codes "checkpoint"))) (choice_rule (codes "forks"))) progress_rule)
+follow_app = with_rule (with_rule (with_rule (with_rule (with_rule (copy_app (codes "follow"))
+    (choice_rule (codes "checkpoint"))) (choice_rule (codes "forks"))) ahead_rule) progress_rule)
     (words_rule (codes "place"))
 
 -- the words name these places, by two words each
@@ -269,20 +283,22 @@ pub record IsFollow (options : List Row) (follow : Follow) : Type 0 where
   pub copy : IsCopyArgs options follow.copy
   pub checkpoint : first_of (codes "checkpoint") options ≡ option_map (λ f. f.now) follow.checkpoint
   pub forks : first_of (codes "forks") options ≡ option_map (λ f. f.now) follow.forks
+  pub ahead : IsAhead options follow.ahead
   pub progress : IsTrue follow.progress ↔ HasFlag options (codes "progress")
   pub why : IsTrue follow.why ↔ HasFlag options (codes "why")
   pub places : IsPlacesGiven options follow.places.items
 
 -- -- audit
 
--- `audit --origin O --keys K [--progress] KIND PLACE`
+-- `audit --origin O --keys K [--ahead N] [--progress] KIND PLACE`
 abbrev pub audit_app : App
-audit_app = with_rule (with_rule (with_rule (log_app (codes "audit")) progress_rule)
-    (place_rule (codes "kind"))) (place_rule (codes "place"))
+audit_app = with_rule (with_rule (with_rule (with_rule (log_app (codes "audit")) ahead_rule)
+    progress_rule) (place_rule (codes "kind"))) (place_rule (codes "place"))
 
 -- what the options of `audit` say
 pub record IsAudit (options : List Row) (audit : Audit) : Type 0 where
   pub log : IsLog options audit.log
+  pub ahead : IsAhead options audit.ahead
   pub progress : IsTrue audit.progress ↔ HasFlag options (codes "progress")
   pub place : HasValue options (codes "kind")
       (λ kind. HasValue options (codes "place") (λ word. IsPlace kind word audit.place))

@@ -23,6 +23,7 @@ pub mod serve;
 pub mod status;
 pub mod take;
 
+use crate::bad::{BadWord, bad_source};
 use crate::fault::CommandFault;
 use crate::parser::{CommandLine, parser_of};
 use crate::parts::{CopyArgs, StateArgs};
@@ -64,8 +65,8 @@ Options:
 Examples: tlogmirror follow --origin example.com/log --keys examples/log.keys --dir log dir examples/log
 tlogmirror pull --origin example.com/log --keys examples/log.keys --out log.state dir examples/log
 
-Exit status: 0 done, 1 a fault, 2 words that ask for nothing that can be done, 3 a no: the proof does
-not hold, something is missing or partial, there are forks, nothing is complete, a checkpoint is larger.
+Exit status: 0 done, 1 a fault, 2 a usage error, 3 a no: the proof does not hold,
+something is missing or partial, there are forks, nothing is complete, a checkpoint is larger.
 A fault is one line on standard error, 'tlogmirror: NAME'. With '--why', which all but root and check have,
 the line before it says what it is about. Those of files that most commands read:
   FileFault    a file that was named cannot be read or written: see the path and the rights
@@ -73,10 +74,10 @@ the line before it says what it is about. Those of files that most commands read
   BadOrigin    the origin is empty, too long, or has a control character
   StateMagic   the file is no state: name the file that --out made
   StateShort, StateLong, StateDigest
-               the state was cut or changed: take a copy of it
+               the state was cut or changed: put a backup in its place
   OtherOrigin  the state is of another log: give its own origin
   StateOrder, StateString, StateEdge
-               the state was not made by this program: take a copy of it
+               the state was not made by this program: put a backup in its place
   StateHead    a note in the state does not verify under these keys: give those that it was made with
   CopyDamaged  a file of the copy is missing or false: audit it, and follow the log into a new folder
   ShelfFault   a file of the copy cannot be read: see the path and the rights
@@ -255,15 +256,15 @@ pub(crate) fn command_of<'a>(
 }
 
 /// The bad one of the words of the command of this name.
-pub(crate) fn bad_word(alloc: Global, name: &str, found: &ArgMatches<'_>) -> Option<&'static str> {
+pub(crate) fn bad_word(alloc: Global, name: &str, found: &ArgMatches<'_>) -> Option<BadWord> {
     match name {
         "take" => take::bad_word(found),
         "pull" => pull::bad_word(alloc, found),
         "follow" => follow::bad_word(alloc, found),
         "audit" => audit::bad_word(alloc, found),
-        "status" => status::bad_word(found),
+        "status" => bad_source(found),
         "missing" => missing::bad_word(found),
-        "compare" => compare::bad_word(found),
+        "compare" => bad_source(found),
         "prove" => prove::bad_word(found),
         "entries" => entries::bad_word(found),
         "serve" => serve::bad_word(found),

@@ -11,6 +11,7 @@
 //! ```
 #![tactic(auto)]
 
+mod bad;
 pub mod commands;
 mod fault;
 mod laws;
@@ -19,6 +20,7 @@ mod parts;
 mod place;
 mod words;
 
+pub use bad::BadWord;
 pub use commands::Command;
 pub use fault::CommandFault;
 pub use laws::{lawful_law, words_example};

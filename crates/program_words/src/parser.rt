@@ -92,7 +92,14 @@ pub(crate) const FIRST_STATE: Argument<'static> = Argument::Choice(
 /// Whether it is told how far the work is, of each command whose work may be long.
 pub(crate) const PROGRESS: Argument<'static> = Argument::Flag(
     "progress",
-    "Tell on standard error how far the work is, by a line a second at most",
+    "Reports progress on standard error, by a line a second at most",
+);
+
+/// How many requests may be sent ahead, of each command that reads a log at a place.
+pub(crate) const AHEAD: Argument<'static> = Argument::Choice(
+    "ahead",
+    "N",
+    "How many requests may be sent ahead to a server, 0 to 64; 6 where it is left out",
 );
 
 // What stands behind the options of a command under `-h`.

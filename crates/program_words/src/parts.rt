@@ -2,7 +2,7 @@
 ghost use Rattle.std.specs.Prelude.{◌≡◌, ◌↔◌, IfOk, IsTrue, [], codes, map, option_map, unwrap_or};
 ghost use Rattle.std.specs.Str.{bytes_eq};
 ghost use Rattle.clap.specs.Words.{all_of, found_of, rows_of};
-ghost use Rattle.program_words.specs.Commands.{Given, HasFlag, HasNumber, IsCopyArgs, IsCopyAsked, IsStateArgs, IsStateAsked, IsLog, IsOutputArgs, IsNumberIn};
+ghost use Rattle.program_words.specs.Commands.{Given, HasFlag, HasNumber, HasNumberOr, IsAhead, IsCopyArgs, IsCopyAsked, IsStateArgs, IsStateAsked, IsLog, IsOutputArgs, IsNumberIn};
 ghost use Rattle.program_words.specs.Readings.{FindsPart};
 
 use clap::ArgMatches;
@@ -84,6 +84,30 @@ pub(crate) fn number_of(found: &ArgMatches<'_>, name: &str, least: u64, most: u6
     ensures { FindsPart (HasNumber (rows_of (found_of found.now)) name.now least most) result }
 {
     number_in(word_of(found, name)?, least, most)
+}
+
+/// The number from `least` to `most` that an option spells, and `other` where it is left out.
+pub(crate) fn number_or(
+    found: &ArgMatches<'_>,
+    name: &str,
+    least: u64,
+    most: u64,
+    other: u64,
+) -> Option<u64>
+    ensures { FindsPart (HasNumberOr (rows_of (found_of found.now)) name.now least most other)
+        result }
+{
+    match found.get_str(name) {
+        Some(word) => number_in(word, least, most),
+        None => Some(other),
+    }
+}
+
+/// How many requests may be sent ahead.
+pub(crate) fn ahead_of(found: &ArgMatches<'_>) -> Option<u64>
+    ensures { FindsPart (IsAhead (rows_of (found_of found.now))) result }
+{
+    number_or(found, "ahead", 0, 64, 6)
 }
 
 /// The origin and the keys.

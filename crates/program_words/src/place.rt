@@ -28,8 +28,8 @@ pub enum Place<'a> {
     },
 }
 
-// What stands before the first slash, and what follows, with that slash.
-fn host_and_prefix(word: &str) -> (&str, &str)
+/// What stands before the first slash, and what follows, with that slash.
+pub(crate) fn host_and_prefix(word: &str) -> (&str, &str)
     ensures whole { word.now ≡ result.0.now ++ result.1.now }
     ensures before { (i : ℕ) → i < length result.0.now → slice_index result.0.now i ≢ slash }
     ensures after { IsEmptyOrSlash result.1.now }
@@ -134,15 +134,4 @@ pub(crate) fn places_of<'a>(
         at += 2;
     }
     Ok(Some(places))
-}
-
-/// Which of the two words that name a place is bad, as help names it.
-pub(crate) fn bad_place(alloc: Global, kind: &str, word: &str) -> Option<&'static str> {
-    if kind != "dir" && kind != "http" {
-        return Some("KIND");
-    }
-    match place_of(alloc, kind, word) {
-        Ok(None) => Some("PLACE"),
-        _ => None,
-    }
 }

@@ -5,6 +5,7 @@ ghost use Rattle.program_words.specs.Commands.{Calls};
 ghost use Rattle.program_words.specs.Readings.{Reads, ReadsKeyFile, Tells, no_keys};
 ghost use Rattle.program_words.specs.Lines.{IsLine};
 
+use crate::bad::BadWord;
 use crate::commands::{Command, bad_word, command_of, parser};
 use crate::fault::CommandFault;
 use crate::parts::has_flag;
@@ -74,9 +75,9 @@ pub struct Line<'a> {
     /// The command that the words ask for. `BadArgument` where an option's value is not spelled as what it stands for, or
     /// is out of its range, and where a command's words do not fit together; `OutOfMemory` where memory was refused.
     pub command: Result<Command<'a>, CommandFault>,
-    /// Where that is `BadArgument`, which option or word is bad, as help names it: the first that is not spelled as what it
-    /// stands for, or is out of its range.
-    pub bad: Option<&'static str>,
+    /// Where that is `BadArgument`, which option or word is bad: the first that is not spelled as what it stands for, or is
+    /// out of its range.
+    pub bad: Option<BadWord>,
 }
 
 /// What the words after the program's name say. It borrows from the words. The file of keys is named whatever the other
@@ -120,7 +121,7 @@ fn bad_in(
     name: &str,
     found: &ArgMatches<'_>,
     command: &Result<Command<'_>, CommandFault>,
-) -> Option<&'static str> {
+) -> Option<BadWord> {
     match command {
         Err(CommandFault::BadArgument) => bad_word(alloc, name, found),
         _ => None,

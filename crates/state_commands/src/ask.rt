@@ -7,16 +7,17 @@ ghost use Rattle.program_env.specs.Done.{IsWriteFault};
 ghost use Rattle.program_env.specs.Works.{AsksState, IsStatus};
 
 use program_commands::open_state;
+use program_env::served::of_proof;
 use program_env::why::{Why, of_output, of_state};
 use program_env::{Error, RunFault, RunFiles};
 use program_reports::{AskFault, Question, ReportFault, print_report};
 use program_words::StateArgs;
 use signed_note::Verifier;
-use std::alloc::{AllocError, Global};
+use std::alloc::Global;
 use std::io::Write;
 use tlog_hash::{Sha256Tree, TreeHash};
 use tlog_mirror::Mirror;
-use tlog_proof::{Ask, ProofFault, Ranges};
+use tlog_proof::Ranges;
 
 /// Prints the report on the question, of the mirror in the state file, and answers the exit status.
 ///
@@ -89,38 +90,14 @@ fn why_of<H: TreeHash>(
             let Question::Proof(ask) = question else {
                 return None;
             };
-            let Ok(reason) = proof_reason(alloc, mirror, *ask, *fault) else {
-                return None;
-            };
-            Why::of_reason(alloc, state, &reason)
+            of_proof(alloc, state, *ask, *fault, served_size(mirror))
         }
         _ => why_of_report(alloc, state, answer),
     }
 }
 
-// What is wrong with the numbers of a proof; nothing where the name of the fault says it.
-fn proof_reason<H: TreeHash>(
-    alloc: Global,
-    mirror: &Mirror<H>,
-    ask: Ask,
-    fault: ProofFault,
-) -> Result<String, AllocError> {
-    let (size, index) = match ask {
-        Ask::Inclusion { size, index } => (size, index),
-        Ask::Consistency { second, .. } => (second, 0),
-    };
-    match fault {
-        ProofFault::NoSuchSize => {
-            let served = served_size(mirror);
-            format!(in alloc; "size {size} is asked for, {served} is served")
-        }
-        ProofFault::NoSuchIndex => format!(in alloc; "index {index} is asked for, of size {size}"),
-        _ => Ok(String::new(alloc)),
-    }
-}
-
-// The size that is served, 0 where nothing is.
-fn served_size<H: TreeHash>(mirror: &Mirror<H>) -> u64 {
+/// The size that is served, 0 where nothing is.
+pub(crate) fn served_size<H: TreeHash>(mirror: &Mirror<H>) -> u64 {
     match mirror.top_ranges() {
         Some(top) => top.size(),
         None => 0,

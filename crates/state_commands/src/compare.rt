@@ -10,7 +10,8 @@ ghost use Rattle.program_env.specs.Works.{ComparesState, ComparesView, FindsHead
 
 use crate::ask::{asked, why_of_report};
 use program_commands::{HeadFilesFault, open_state, read_heads};
-use program_env::why::{Why, of_named, of_state};
+use program_env::served::of_heads;
+use program_env::why::of_state;
 use program_env::{Env, Error, RunFault, RunFiles, RunFolders};
 use program_reports::print_comparison;
 use program_words::Command;
@@ -19,9 +20,9 @@ use signed_note::Verifier;
 use std::alloc::Global;
 use std::io::{Read, Write};
 use tlog_hash::{Hash, Sha256Tree, TreeHash};
-use tlog_mirror::{Mirror, TakeFault};
+use tlog_mirror::Mirror;
 
-/// Prints what the mirror in the state file tells of the checkpoints in the files, or where none is named of those that
+/// Prints what the mirror in the state file says of the checkpoints in the files, or where none is named of those that
 /// it holds, and answers the exit status.
 ///
 /// # Errors
@@ -73,7 +74,7 @@ fn run_compare<F: RunFiles, W: Write>(
     }
 }
 
-// Prints what the mirror tells of the checkpoints in the files, or of those that it holds.
+// Prints what the mirror says of the checkpoints in the files, or of those that it holds.
 fn compare_mirror<H: TreeHash, F: RunFiles, W: Write>(
     files: &F,
     alloc: Global,
@@ -92,23 +93,13 @@ fn compare_mirror<H: TreeHash, F: RunFiles, W: Write>(
     let heads = match heads_of(files, alloc, mirror, keys, compare.files.as_slice()) {
         Ok(heads) => heads,
         Err(fault) => {
-            let why = why_of(alloc, files, fault);
+            let why = of_heads(alloc, files, fault);
             return Err(Error::new(RunFault::Heads(fault), why));
         }
     };
     let answer = print_comparison(alloc, mirror, lend(&heads), output);
     let why = why_of_report(alloc, compare.mirror.state, &answer);
     asked(answer, why)
-}
-
-// What a fault at the files is about: the file that was not had, or the one whose note is refused, whose name `read_heads`
-// gave to the files.
-fn why_of<F: RunFiles>(alloc: Global, files: &F, fault: HeadFilesFault) -> Option<Why> {
-    match fault {
-        HeadFilesFault::File(fault) => of_named(alloc, files, fault),
-        HeadFilesFault::Head(TakeFault::OutOfMemory) => None,
-        HeadFilesFault::Head(_) => Why::of_thing(alloc, &files.told_reason()?),
-    }
 }
 
 // The heads of the files, and none where no file is named.

@@ -5,7 +5,9 @@ ghost use Rattle.sha2.specs.Sha256.{sha256};
 ghost use Rattle.program_env.specs.Envs.{IsSameEnv, moment};
 ghost use Rattle.program_env.specs.Performing.{Performs};
 
+use crate::ask::served_size;
 use program_commands::open_state;
+use program_env::served::of_size;
 use program_env::why::{Why, of_output, of_state};
 use program_env::{Env, Error, RunFault, RunFiles, RunFolders};
 use program_monitor::{EntryRange, StateEntriesFault, entries_of_state};
@@ -14,7 +16,8 @@ use program_words::commands::entries::Entries;
 use signed_note::Verifier;
 use std::alloc::Global;
 use std::io::{Read, Write};
-use tlog_hash::Sha256Tree;
+use tlog_hash::{Sha256Tree, TreeHash};
+use tlog_mirror::Mirror;
 
 /// Writes entries of the mirror in the state file, a bundle at a time.
 ///
@@ -53,8 +56,9 @@ pub fn run<R, F: RunFiles, D: RunFolders, I: Read, O: Write, E: Write>(
                 &range,
                 env.output,
             );
+            let why = why_of(env.alloc, mirror.state, &opened, range.to, &answer);
             drop(opened);
-            written(env.alloc, mirror.state, answer)
+            written(answer, why)
         }
         Err(fault) => {
             let why = of_state(env.alloc, &env.files, Some(mirror.state), fault);
@@ -64,18 +68,27 @@ pub fn run<R, F: RunFiles, D: RunFolders, I: Read, O: Write, E: Write>(
 }
 
 // The answer of the command, of what the writer answered.
-fn written(alloc: Global, state: &str, answer: Result<(), StateEntriesFault>) -> Result<u8, Error>
+fn written(answer: Result<(), StateEntriesFault>, why: Option<Why>) -> Result<u8, Error>
     ensures { result ≡ result_map_both (λ _. 0) (λ fault. RunFault.StateEntries fault) answer }
 {
     match answer {
         Ok(()) => Ok(0),
-        Err(fault) => {
-            let why = match fault {
-                StateEntriesFault::NothingComplete => Why::of_thing(alloc, state),
-                StateEntriesFault::WriteFault => of_output(alloc),
-                _ => None,
-            };
-            Err(Error::new(RunFault::StateEntries(fault), why))
-        }
+        Err(fault) => Err(Error::new(RunFault::StateEntries(fault), why)),
+    }
+}
+
+// What a fault at entries up to that number is about, of the mirror in that state file.
+fn why_of<H: TreeHash>(
+    alloc: Global,
+    state: &str,
+    mirror: &Mirror<H>,
+    to: u64,
+    answer: &Result<(), StateEntriesFault>,
+) -> Option<Why> {
+    match answer {
+        Err(StateEntriesFault::NothingComplete) => Why::of_thing(alloc, state),
+        Err(StateEntriesFault::NoSuchSize) => of_size(alloc, state, to, served_size(mirror)),
+        Err(StateEntriesFault::WriteFault) => of_output(alloc),
+        _ => None,
     }
 }

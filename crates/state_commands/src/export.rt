@@ -44,7 +44,7 @@ pub fn run<R, F: RunFiles, D: RunFolders, I: Read, O: Write, E: Write>(
     }
 }
 
-// The same, over these files and folders; it is told how far that is, where the words ask for it.
+// The same, over these files and folders; the progress is reported, if the words ask for it.
 fn put_all<F: RunFiles, D: RunFolders>(
     files: &F,
     folders: &mut D,

@@ -20,6 +20,7 @@ use mirror_client::{FailedGet, HttpSource, Site, TcpDial};
 use mirror_folders::{DirSource, FailedFile};
 use mirror_pull::{PullFault, Pulled};
 use program_commands::{Holding, has_gained, holding_of, open_or_new, write_state};
+use program_env::places::{of_edge, of_refused};
 use program_env::why::{Why, of_named};
 use program_env::{Env, Error, RunFault, RunFiles, RunFolders};
 use program_files::NamedFault;
@@ -247,7 +248,7 @@ fn from_place<'a, H: TreeHash, R: Files + Clock + Eprint + Net<Stream = TcpStrea
         Place::Folder(folder) => {
             let source = DirSource::new(rt, alloc, folder);
             let (pulled, source) = pull_from(rt, alloc, mirror, keys, source, words.progress);
-            let why = why_of_folder(alloc, folder, &pulled, source.last_failed());
+            let why = why_of_folder(rt, alloc, folder, &pulled, source.last_failed());
             (pulled, why)
         }
         Place::Server {
@@ -263,7 +264,7 @@ fn from_place<'a, H: TreeHash, R: Files + Clock + Eprint + Net<Stream = TcpStrea
             let Ok(dial) = TcpDial::new(rt, alloc, address, *port) else {
                 return (Err(PullFault::OutOfMemory), None);
             };
-            let source = HttpSource::new(alloc, site, dial);
+            let source = HttpSource::new(alloc, site, dial, words.ahead as usize);
             let (pulled, failed) = from_server(rt, alloc, mirror, keys, source, words.progress);
             let why = why_of_server(alloc, host, prefix, &pulled, failed);
             (pulled, why)
@@ -290,7 +291,8 @@ fn from_server<H: TreeHash, R: Clock + Eprint, N: Net<Stream = TcpStream> + Cloc
 }
 
 // What a pull from a folder failed by is about: the file that was not had, or the checkpoint.
-fn why_of_folder(
+fn why_of_folder<R: Files>(
+    rt: &R,
     alloc: Global,
     folder: &str,
     pulled: &Result<Pulled, PullFault>,
@@ -298,9 +300,11 @@ fn why_of_folder(
 ) -> Option<Why> {
     match pulled {
         Err(PullFault::Source) => Why::of_file(alloc, folder, &failed?),
-        Err(PullFault::NoCheckpoint | PullFault::Head(_)) => {
+        Err(PullFault::NoCheckpoint) => {
             Why::of_made(alloc, format!(in alloc; "{folder}/checkpoint"))
         }
+        Err(PullFault::Head(fault)) => of_refused(rt, alloc, folder, *fault),
+        Err(PullFault::NoEdge) => of_edge(rt, alloc, folder),
         _ => None,
     }
 }

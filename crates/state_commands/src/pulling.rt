@@ -13,7 +13,7 @@ use std::rt::Clock;
 use tlog_hash::TreeHash;
 use tlog_mirror::Mirror;
 
-/// Pulls from the source into the mirror, and tells how far that is, where the words ask for it. The source is given back.
+/// Pulls from the source into the mirror, and reports the progress, if the words ask for it. The source is given back.
 ///
 /// # Errors
 ///
@@ -38,7 +38,7 @@ pub(crate) fn pull_from<H: TreeHash, S: Source + Drop, R: Clock + Eprint>(
     }
 }
 
-// Pulls from the source into the mirror, and tells nothing.
+// Pulls from the source into the mirror, and reports nothing.
 fn pull_silent<H: TreeHash, S: Source + Drop>(
     alloc: Global,
     mirror: &mut Mirror<H>,
@@ -66,7 +66,7 @@ fn largest_size<H: TreeHash>(alloc: Global, mirror: &Mirror<H>) -> u64 {
     largest
 }
 
-// Pulls from the source into the mirror, and tells how far that is, and at its end what it came to.
+// Pulls from the source into the mirror, and reports the progress, and at its end the total.
 fn pull_told<H: TreeHash, S: Source + Drop, R: Clock + Eprint>(
     rt: &R,
     alloc: Global,

@@ -29,7 +29,7 @@ use tlog_mirror::Mirror;
 /// # Errors
 ///
 /// In this order: `BadOrigin`, those of the state file, `PortFault` where the port cannot be had, `WriteFault` where the
-/// line that tells of it cannot be written, and `PortFault` where a connection cannot be accepted.
+/// line that reports it cannot be written, and `PortFault` where a connection cannot be accepted.
 pub fn run<R, F: RunFiles, D: RunFolders, I: Read, O: Write, E: Write>(
     env: &mut Env<'_, '_, '_, '_, R, F, D, I, O, E>,
     key_bytes: &[u8],
@@ -107,7 +107,7 @@ fn make_ready<H: TreeHash>(alloc: Global, mirror: &mut Mirror<H>) -> Result<(), 
     Ok(())
 }
 
-// Listens at the port, tells of it, and answers as many connections as are asked for.
+// Listens at the port, reports it, and answers as many connections as are asked for.
 fn serve_mirror<H: TreeHash, R, O: Write, E: Write>(
     rt: &R,
     alloc: Global,

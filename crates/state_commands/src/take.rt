@@ -7,6 +7,7 @@ ghost use Rattle.program_env.specs.Envs.{IsSameEnv, moment};
 ghost use Rattle.program_env.specs.Performing.{Performs};
 
 use program_commands::{ItemFiles, TakeFilesFault, run_take};
+use program_env::served::of_note;
 use program_env::why::{Why, of_named, of_state};
 use program_env::{Env, Error, RunFault, RunFiles, RunFolders};
 use program_words::Command;
@@ -87,9 +88,9 @@ fn why_of<F: RunFiles>(
     match fault {
         TakeFilesFault::State(fault) => of_state(alloc, files, take.state, fault),
         TakeFilesFault::Item(fault) | TakeFilesFault::Out(fault) => of_named(alloc, files, fault),
-        TakeFilesFault::Take(TakeFault::OutOfMemory) => None,
-        TakeFilesFault::Take(_) => match take.files.as_slice() {
-            [file] => Why::of_thing(alloc, file),
+        TakeFilesFault::Take(fault) => match take.files.as_slice() {
+            [file] => of_note(alloc, files, file, fault),
+            [note, ..] if fault == TakeFault::OtherOrigin => of_note(alloc, files, note, fault),
             _ => None,
         },
     }

@@ -4,11 +4,12 @@ ghost use Rattle.clap.specs.Words.{found_of, rows_of};
 ghost use Rattle.program_words.specs.Commands.{IsAudit};
 ghost use Rattle.program_words.specs.Readings.{FindsPart, IsSaid, ReadsPart};
 
+use crate::bad::{BadWord, bad_place};
 use crate::commands::Command;
 use crate::fault::CommandFault;
-use crate::parser::{Argument, CommandLine, KEYS, ORIGIN, PROGRESS, WHY};
-use crate::parts::{Log, has_flag, log_of};
-use crate::place::{Place, bad_place, place_given};
+use crate::parser::{AHEAD, Argument, CommandLine, KEYS, ORIGIN, PROGRESS, WHY};
+use crate::parts::{Log, ahead_of, has_flag, log_of};
+use crate::place::{Place, place_given};
 use clap::ArgMatches;
 use std::alloc::{AllocError, Global};
 
@@ -17,6 +18,8 @@ use std::alloc::{AllocError, Global};
 pub struct Audit<'a> {
     /// The log.
     pub log: Log<'a>,
+    /// How many requests may be sent ahead, 0 to 64. A folder does not heed it.
+    pub ahead: u64,
     /// Whether it is told how far the work is.
     pub progress: bool,
     /// Where the log is.
@@ -32,10 +35,10 @@ With --progress lines like 'audit: 1,024 of 7,832 files, 23 MB' go to standard e
 second on, and one at the end.
 'http' is plain HTTP, with no TLS and no redirects: a proxy beside it ends HTTPS.
 
-Exit status: 0 done, 1 a fault, 2 words that ask for nothing, or that do not fit (BadArgument).
+Exit status: 0 done, 1 a fault, 2 a usage error, or a bad value (BadArgument).
 Faults of O and K: see 'tlogmirror --help'. Of the place:
   NoCheckpoint        it has no checkpoint: see PLACE
-  NoEdge              it lacks a tile of the checkpoint's edge, which --why names
+  NoEdge              it lacks a tile of the checkpoint's edge: --why names that of a folder
   NoFile              it lacks another file, which --why names
   FalseFile           a file has other bytes than the log has there: --why names the file
   Source              it could not be read or did not answer: try again
@@ -57,6 +60,7 @@ pub(crate) const LINE: CommandLine<'static> = CommandLine {
         ORIGIN,
         KEYS,
         WHY,
+        AHEAD,
         PROGRESS,
         Argument::Place(
             "kind",
@@ -78,11 +82,15 @@ fn audit_of<'a>(alloc: Global, found: &ArgMatches<'a>) -> Result<Option<Audit<'a
     let Some(log) = log_of(found) else {
         return Ok(None);
     };
+    let Some(ahead) = ahead_of(found) else {
+        return Ok(None);
+    };
     let Some(place) = place_given(alloc, found)? else {
         return Ok(None);
     };
     Ok(Some(Audit {
         log,
+        ahead,
         progress: has_flag(found, "progress"),
         place,
     }))
@@ -98,7 +106,10 @@ pub(crate) fn read<'a>(alloc: Global, found: &ArgMatches<'a>) -> Result<Command<
     }
 }
 
-/// The word that is bad, as help names it.
-pub(crate) fn bad_word(alloc: Global, found: &ArgMatches<'_>) -> Option<&'static str> {
+/// The option or the word that is bad.
+pub(crate) fn bad_word(alloc: Global, found: &ArgMatches<'_>) -> Option<BadWord> {
+    if ahead_of(found).is_none() {
+        return Some(BadWord::new("--ahead", "a number from 0 to 64 is due"));
+    }
     bad_place(alloc, found.get_str("kind")?, found.get_str("place")?)
 }

@@ -27,7 +27,7 @@ Each entry on standard input is its length, two bytes with the higher first, and
 checkpoint is signed with the first 'hmac' key of K. Tiles and bundles are written before it.
 With --progress lines like 'build: 1,024 files, 23 MB' go to standard error, from the first second on.
 
-Exit status: 0 done, 1 a fault, 2 words that ask for nothing.
+Exit status: 0 done, 1 a fault, 2 a usage error.
 Faults, on standard error:
   FileFault     K cannot be read: see the path and the rights
   BadKeyLine    a line of K is no key: 'hmac NAME ID SECRET' or 'pin NAME ID DIGEST'

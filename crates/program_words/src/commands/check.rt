@@ -13,7 +13,7 @@ const HELP: &str = "\
 The output is 'yes' where the proof holds, else 'no'. Who relies on a yes compares the roots in the
 text with checkpoints of the log.
 
-Exit status: 0 for a yes, 3 for a no, 1 a fault, 2 words that ask for nothing.
+Exit status: 0 for a yes, 3 for a no, 1 a fault, 2 a usage error.
 Faults, on standard error:
   BadProofText  the input is not the text of a proof: give it as it was made, to the last newline
   ReadFault     standard input could not be read

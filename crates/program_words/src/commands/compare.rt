@@ -7,7 +7,7 @@ ghost use Rattle.program_words.specs.Readings.{FindsPart, IsSaid, ReadsPart};
 use crate::commands::Command;
 use crate::fault::CommandFault;
 use crate::parser::{Argument, CommandLine, DIR_OR_STATE, KEYS, ORIGIN, STATE_OR_DIR, WHY};
-use crate::parts::{CopyArgs, StateArgs, copy_asked, files_of, names_one, state_asked};
+use crate::parts::{CopyArgs, StateArgs, copy_asked, files_of, state_asked};
 use clap::ArgMatches;
 use std::alloc::{AllocError, Global};
 
@@ -37,7 +37,7 @@ have another, OWN, and 'larger SIZE ROOT' where fewer are served. A FILE is a si
 is the operator's doing: keep the note, and 'prove consistency SIZE N', whose first root is OWN.
 With no FILE the one checkpoint of D is compared, which is 'same'.
 
-Exit status: 0 all are the same, 3 one is a fork or larger, 1 a fault, 2 words that ask for nothing.
+Exit status: 0 all are the same, 3 one is a fork or larger, 1 a fault, 2 a usage error.
 Faults of O, K, S and D: see 'tlogmirror --help'. Besides, on standard error:
   NoteTooLong, NotText, NoSignatures, TooManySignatures, BadSignatureLine
                       a FILE is no signed note
@@ -47,12 +47,12 @@ Faults of O, K, S and D: see 'tlogmirror --help'. Besides, on standard error:
   NoTrustedSignature  no key of K signed the note: add the log's key or a pin
   NothingComplete     no checkpoint is complete: pull what is missing first, or follow the log
 
-Example: tlogmirror compare --origin log.example --keys keys --state state told.note";
+Example: tlogmirror compare --origin log.example --keys keys --state state other.note";
 
 /// Its command line.
 pub(crate) const LINE: CommandLine<'static> = CommandLine {
     name: "compare",
-    about: "Prints which checkpoints contradict the served one, though their entries are gone",
+    about: "Prints which checkpoints contradict the served one, also those without entries",
     help: HELP,
     arguments: &[
         ORIGIN,
@@ -103,14 +103,5 @@ pub(crate) fn read<'a>(alloc: Global, found: &ArgMatches<'a>) -> Result<Command<
     match copy_compare_of(alloc, found)? {
         Some(copied) => Ok(Command::CopyCompare(copied)),
         None => Err(CommandFault::BadArgument),
-    }
-}
-
-/// The options that are bad, as help names them.
-pub(crate) fn bad_word(found: &ArgMatches<'_>) -> Option<&'static str> {
-    if names_one(found) {
-        None
-    } else {
-        Some("--state or --dir")
     }
 }

@@ -4,10 +4,11 @@ ghost use Rattle.clap.specs.Words.{found_of, rows_of};
 ghost use Rattle.program_words.specs.Commands.{IsCopyEntries, IsEntries, IsEntryRange};
 ghost use Rattle.program_words.specs.Readings.{FindsPart, IsSaid, ReadsPart};
 
+use crate::bad::{BadWord, bad_size, bad_source};
 use crate::commands::Command;
 use crate::fault::CommandFault;
 use crate::parser::{Argument, CommandLine, DIR_OR_STATE, KEYS, ORIGIN, STATE_OR_DIR, WHY};
-use crate::parts::{CopyArgs, StateArgs, copy_asked, has_flag, names_one, number_of, state_asked};
+use crate::parts::{CopyArgs, StateArgs, copy_asked, has_flag, number_of, state_asked};
 use clap::ArgMatches;
 use tlog_shape::MAX_SIZE;
 
@@ -47,7 +48,7 @@ higher first, and its bytes, as 'build' reads them. With --base64 each is a line
 give the last TO as FROM, and the size that 'status' prints as TO.
 Of a copy each bundle is verified before its entries are written.
 
-Exit status: 0 done, 1 a fault, 2 words that ask for nothing, or that do not fit (BadArgument).
+Exit status: 0 done, 1 a fault, 2 a usage error, or a bad value (BadArgument).
 Faults of O, K, S and D: see 'tlogmirror --help'. At CopyDamaged a part may have been written. Then:
   NothingComplete  no checkpoint is complete: pull what is missing first, or follow the log
   NoSuchSize       TO is greater than the served size
@@ -117,16 +118,13 @@ pub(crate) fn read<'a>(found: &ArgMatches<'a>) -> Result<Command<'a>, CommandFau
     }
 }
 
-/// The option or the word that is bad, as help names it.
-pub(crate) fn bad_word(found: &ArgMatches<'_>) -> Option<&'static str> {
-    if !names_one(found) {
-        return Some("--state or --dir");
+/// The option or the word that is bad.
+pub(crate) fn bad_word(found: &ArgMatches<'_>) -> Option<BadWord> {
+    if let Some(bad) = bad_source(found) {
+        return Some(bad);
     }
-    if number_of(found, "from", 0, MAX_SIZE).is_none() {
-        return Some("FROM");
+    if let Some(bad) = bad_size(found, "from", "FROM") {
+        return Some(bad);
     }
-    if number_of(found, "to", 0, MAX_SIZE).is_none() {
-        return Some("TO");
-    }
-    None
+    bad_size(found, "to", "TO")
 }

@@ -29,7 +29,7 @@ last, and no file is taken away. So a folder that is being served is whole at ea
 With --progress lines like 'export: 3,200 of 7,833 files' go to standard error, from the first second
 on.
 
-Exit status: 0 done, 1 a fault, 2 words that ask for nothing.
+Exit status: 0 done, 1 a fault, 2 a usage error.
 Faults of O, K and S: see 'tlogmirror --help'. Then:
   NothingComplete  no checkpoint is complete: pull what is missing first
   ShelfInUse       D has a checkpoint: name another folder, or give --update

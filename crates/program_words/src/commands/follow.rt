@@ -4,11 +4,12 @@ ghost use Rattle.clap.specs.Words.{found_of, rows_of};
 ghost use Rattle.program_words.specs.Commands.{IsFollow, IsPlacesGiven};
 ghost use Rattle.program_words.specs.Readings.{FindsPart, IsSaid, ReadsPart};
 
+use crate::bad::{BadWord, bad_place};
 use crate::commands::Command;
 use crate::fault::CommandFault;
-use crate::parser::{Argument, CommandLine, KEYS, ORIGIN, PROGRESS, WHY};
-use crate::parts::{CopyArgs, copy_args, has_flag};
-use crate::place::{Place, bad_place, places_of};
+use crate::parser::{AHEAD, Argument, CommandLine, KEYS, ORIGIN, PROGRESS, WHY};
+use crate::parts::{CopyArgs, ahead_of, copy_args, has_flag};
+use crate::place::{Place, places_of};
 use clap::ArgMatches;
 use std::alloc::{AllocError, Global};
 
@@ -21,6 +22,8 @@ pub struct Follow<'a> {
     pub checkpoint: Option<&'a str>,
     /// The folder that the evidence of forks is written to, if it is.
     pub forks: Option<&'a str>,
+    /// How many requests may be sent ahead to each server, 0 to 64.
+    pub ahead: u64,
     /// Whether lines say how far the work is.
     pub progress: bool,
     /// Whether lines say what was wrong at each place.
@@ -43,14 +46,15 @@ A fork is the operator's doing. With --forks both notes and the proof that 'chec
 With --checkpoint D is brought to the note in FILE, and no place is asked for one.
 With --progress lines like 'follow: 1,024 of 7,832 files, 23 MB' go to standard error, from the first
 second on, and at its end 'follow: 5,000 to 5,300 entries, 4 files, 91 kB'.
-With --why a line goes to standard error for each place at which something was wrong, and for D.
+With --why a line goes to standard error for each place at which something was wrong.
 'http' is plain HTTP, with no TLS and no redirects: a proxy beside it ends HTTPS.
 
-Exit status: 0 done, 3 there is a fork, or a larger checkpoint, 1 a fault, 2 words that ask for nothing,
-or that do not fit (BadArgument).
+Exit status: 0 done, 3 there is a fork, or a larger checkpoint, 1 a fault, 2 a usage error,
+or a bad value (BadArgument).
 Faults of O and K: see 'tlogmirror --help'. Besides, on standard error:
   FileFault           FILE cannot be read, or F cannot be written: D was brought forward before
-  CopyDamaged         a file of D is missing or false: audit D, and follow the log into a new folder
+  CopyDamaged         a file of D is missing or false, or D is of another log: audit D, and follow the log
+                      into a new folder
   CopyInUse           another run has written the checkpoint of D: let one run at a time work on it
   ShelfFault          D cannot be read or written: see the path, the rights and the room
   NoCheckpoint        the first place has no checkpoint, and no other has one of the log
@@ -62,6 +66,7 @@ Faults of O and K: see 'tlogmirror --help'. Besides, on standard error:
                       the note is no checkpoint
   OtherOrigin         the checkpoint is of another log
   NoTrustedSignature  no key of K signed the checkpoint: add the log's key or a pin
+  Contradiction       a checkpoint of no entries has another root than the empty list's: keep the note
   Collision           two different strings share a digest: keep D and the log's files
   WriteFault          standard output could not be written: D was brought forward before
 
@@ -87,6 +92,7 @@ pub(crate) const LINE: CommandLine<'static> = CommandLine {
             "F",
             "The folder that the evidence of forks is written to",
         ),
+        AHEAD,
         PROGRESS,
         Argument::Words(
             "place",
@@ -118,6 +124,9 @@ fn follow_of<'a>(alloc: Global, found: &ArgMatches<'a>) -> Result<Option<Follow<
     let Some(copy) = copy_args(found) else {
         return Ok(None);
     };
+    let Some(ahead) = ahead_of(found) else {
+        return Ok(None);
+    };
     let Some(places) = places_given(alloc, found)? else {
         return Ok(None);
     };
@@ -125,6 +134,7 @@ fn follow_of<'a>(alloc: Global, found: &ArgMatches<'a>) -> Result<Option<Follow<
         copy,
         checkpoint: found.get_str("checkpoint"),
         forks: found.get_str("forks"),
+        ahead,
         progress: has_flag(found, "progress"),
         why: has_flag(found, "why"),
         places,
@@ -141,12 +151,15 @@ pub(crate) fn read<'a>(alloc: Global, found: &ArgMatches<'a>) -> Result<Command<
     }
 }
 
-/// The word that is bad, as help names it: of the first place of which one is.
-pub(crate) fn bad_word(alloc: Global, found: &ArgMatches<'_>) -> Option<&'static str> {
+/// The option or the word that is bad: of the places the first word that is.
+pub(crate) fn bad_word(alloc: Global, found: &ArgMatches<'_>) -> Option<BadWord> {
+    if ahead_of(found).is_none() {
+        return Some(BadWord::new("--ahead", "a number from 0 to 64 is due"));
+    }
     let mut rest = found.get_strs("place")?;
     while let Some((kind, after)) = rest.split_first() {
         let Some((word, left)) = after.split_first() else {
-            return Some("PLACE");
+            return Some(BadWord::new("PLACE", "a KIND has none behind it"));
         };
         if let Some(bad) = bad_place(alloc, kind, word) {
             return Some(bad);

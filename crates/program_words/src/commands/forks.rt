@@ -15,7 +15,7 @@ The output is 'fork SIZE ROOT SIZE ROOT' for each two checkpoints of one size wi
 for each two complete ones of which neither list of entries is a prefix of the other. A fork is the
 operator's doing: keep the state, and write both notes with 'notes'.
 
-Exit status: 0 none, 3 there are forks, 1 a fault, 2 words that ask for nothing.
+Exit status: 0 none, 3 there are forks, 1 a fault, 2 a usage error.
 Faults of O, K and S: see 'tlogmirror --help'.
 
 Example: tlogmirror forks --origin log.example --keys keys --state state";

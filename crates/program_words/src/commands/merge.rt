@@ -25,7 +25,7 @@ pub struct Merge<'a> {
 const HELP: &str = "\
 What B holds is taken into A. T may be A or B. A state of version 1 is written as version 2.
 
-Exit status: 0 done, 1 a fault, 2 words that ask for nothing.
+Exit status: 0 done, 1 a fault, 2 a usage error.
 Faults of O, K, A, B and T: see 'tlogmirror --help'. A is read before B. Then:
   Collision  two different strings share a digest: nothing was taken; keep both files
 

@@ -4,6 +4,7 @@ ghost use Rattle.clap.specs.Words.{found_of, rows_of};
 ghost use Rattle.program_words.specs.Commands.{IsMissingAsk};
 ghost use Rattle.program_words.specs.Readings.{FindsPart, IsSaid, ReadsPart};
 
+use crate::bad::{BadWord, bad_size};
 use crate::commands::Command;
 use crate::fault::CommandFault;
 use crate::parser::{Argument, CommandLine, KEYS, ORIGIN, STATE, WHY};
@@ -28,8 +29,8 @@ pub struct Missing<'a> {
 const HELP: &str = "\
 The output is one path a line, as a log publishes them; none where the checkpoint is complete.
 
-Exit status: 0 nothing is missing, 3 something is, 1 a fault, 2 words that ask for nothing, or N or
-ROOT is none (BadArgument).
+Exit status: 0 nothing is missing, 3 something is, 1 a fault, 2 a usage error, or a bad value
+(BadArgument).
 Faults of O, K and S: see 'tlogmirror --help'. Then:
   NoSuchHead  no checkpoint has that size and root: 'status' prints those that are held
 
@@ -71,13 +72,13 @@ pub(crate) fn read<'a>(found: &ArgMatches<'a>) -> Result<Command<'a>, CommandFau
     }
 }
 
-/// The option or the word that is bad, as help names it.
-pub(crate) fn bad_word(found: &ArgMatches<'_>) -> Option<&'static str> {
-    if number_of(found, "size", 0, MAX_SIZE).is_none() {
-        return Some("--size");
+/// The option that is bad.
+pub(crate) fn bad_word(found: &ArgMatches<'_>) -> Option<BadWord> {
+    if let Some(bad) = bad_size(found, "size", "--size") {
+        return Some(bad);
     }
     match word_of(found, "root") {
         Some(root) if read_hash(root).is_some() => None,
-        _ => Some("--root"),
+        _ => Some(BadWord::new("--root", "a hash in base64 is due")),
     }
 }

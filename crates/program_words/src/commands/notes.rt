@@ -24,7 +24,7 @@ const HELP: &str = "\
 Each note is written byte for byte as it came, to SIZE-ROOT-K.note: ROOT in lower case hexadecimal, K
 from 0 among the notes of one size and root. So both notes of a fork can be shown to anyone.
 
-Exit status: 0 done, 1 a fault, 2 words that ask for nothing.
+Exit status: 0 done, 1 a fault, 2 a usage error.
 Faults of O, K and S: see 'tlogmirror --help'. Then:
   FileFault  a note cannot be written, or a file of its name has other bytes
 

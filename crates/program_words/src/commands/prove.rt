@@ -4,12 +4,11 @@ ghost use Rattle.clap.specs.Words.{found_of, rows_of};
 ghost use Rattle.program_words.specs.Commands.{IsAsk, IsAskGiven, IsCopyProve, IsProve};
 ghost use Rattle.program_words.specs.Readings.{FindsPart, IsSaid, ReadsPart};
 
+use crate::bad::{BadWord, bad_size, bad_source};
 use crate::commands::Command;
 use crate::fault::CommandFault;
 use crate::parser::{Argument, CommandLine, DIR_OR_STATE, KEYS, ORIGIN, STATE_OR_DIR, WHY};
-use crate::parts::{
-    CopyArgs, StateArgs, copy_asked, names_one, number_in, number_of, state_asked, word_of,
-};
+use crate::parts::{CopyArgs, StateArgs, copy_asked, number_in, state_asked, word_of};
 use clap::ArgMatches;
 use tlog_proof::Ask;
 use tlog_shape::MAX_SIZE;
@@ -37,7 +36,7 @@ const HELP: &str = "\
 'inclusion SIZE INDEX' or 'consistency FIRST SECOND', of what the mirror serves. The output is the
 proof's text, which 'check' reads. Of a copy it is checked against D's root before it is printed.
 
-Exit status: 0 done, 1 a fault, 2 words that ask for nothing, or that do not fit (BadArgument).
+Exit status: 0 done, 1 a fault, 2 a usage error, or a bad value (BadArgument).
 Faults of O, K, S and D: see 'tlogmirror --help'. Then:
   NothingComplete  no checkpoint is complete: pull what is missing first, or follow the log
   NoSuchSize       a size is greater than the served one
@@ -124,20 +123,17 @@ pub(crate) fn read<'a>(found: &ArgMatches<'a>) -> Result<Command<'a>, CommandFau
     }
 }
 
-/// The option or the word that is bad, as help names it.
-pub(crate) fn bad_word(found: &ArgMatches<'_>) -> Option<&'static str> {
-    if !names_one(found) {
-        return Some("--state or --dir");
+/// The option or the word that is bad.
+pub(crate) fn bad_word(found: &ArgMatches<'_>) -> Option<BadWord> {
+    if let Some(bad) = bad_source(found) {
+        return Some(bad);
     }
     match word_of(found, "kind") {
         Some("inclusion") | Some("consistency") => {}
-        _ => return Some("KIND"),
+        _ => return Some(BadWord::new("KIND", "inclusion or consistency is due")),
     }
-    if number_of(found, "a", 0, MAX_SIZE).is_none() {
-        return Some("A");
+    if let Some(bad) = bad_size(found, "a", "A") {
+        return Some(bad);
     }
-    if number_of(found, "b", 0, MAX_SIZE).is_none() {
-        return Some("B");
-    }
-    None
+    bad_size(found, "b", "B")
 }

@@ -4,11 +4,12 @@ ghost use Rattle.clap.specs.Words.{found_of, rows_of};
 ghost use Rattle.program_words.specs.Commands.{IsPull};
 ghost use Rattle.program_words.specs.Readings.{FindsPart, IsSaid, ReadsPart};
 
+use crate::bad::{BadWord, bad_place};
 use crate::commands::Command;
 use crate::fault::CommandFault;
-use crate::parser::{Argument, CommandLine, FIRST_STATE, KEYS, ORIGIN, OUT, PROGRESS, WHY};
-use crate::parts::{OutputArgs, has_flag, output_args};
-use crate::place::{Place, bad_place, place_given};
+use crate::parser::{AHEAD, Argument, CommandLine, FIRST_STATE, KEYS, ORIGIN, OUT, PROGRESS, WHY};
+use crate::parts::{OutputArgs, ahead_of, has_flag, output_args};
+use crate::place::{Place, place_given};
 use clap::ArgMatches;
 use std::alloc::{AllocError, Global};
 
@@ -21,6 +22,8 @@ pub struct Pull<'a> {
     pub state: Option<&'a str>,
     /// Whether what was fetched is written where the place fails.
     pub keep: bool,
+    /// How many requests may be sent ahead, 0 to 64. A folder does not heed it.
+    pub ahead: u64,
     /// Whether it is told how far the work is.
     pub progress: bool,
     /// Where from.
@@ -37,8 +40,7 @@ With --progress lines like 'pull: 1,024 files, 23 MB' go to standard error, from
 and at its end 'pull: 5,000 to 5,300 entries, 4 files, 91 kB'.
 'http' is plain HTTP, with no TLS and no redirects: a proxy beside it ends HTTPS.
 
-Exit status: 0 complete, 3 partial, 1 a fault, 2 words that ask for nothing, or that do not fit
-(BadArgument).
+Exit status: 0 complete, 3 partial, 1 a fault, 2 a usage error, or a bad value (BadArgument).
 Faults of O, K, S and T: see 'tlogmirror --help'. Of the place:
   NoCheckpoint        it has no checkpoint: see PLACE
   NoEdge              it lacks a tile of the checkpoint's edge: try again, or another place
@@ -71,6 +73,7 @@ pub(crate) const LINE: CommandLine<'static> = CommandLine {
             "keep",
             "Write the state where the place fails too, as a first pull over a bad line wants it",
         ),
+        AHEAD,
         PROGRESS,
         Argument::Place(
             "kind",
@@ -92,6 +95,9 @@ fn pull_of<'a>(alloc: Global, found: &ArgMatches<'a>) -> Result<Option<Pull<'a>>
     let Some(mirror) = output_args(found) else {
         return Ok(None);
     };
+    let Some(ahead) = ahead_of(found) else {
+        return Ok(None);
+    };
     let Some(place) = place_given(alloc, found)? else {
         return Ok(None);
     };
@@ -99,6 +105,7 @@ fn pull_of<'a>(alloc: Global, found: &ArgMatches<'a>) -> Result<Option<Pull<'a>>
         mirror,
         state: found.get_str("state"),
         keep: has_flag(found, "keep"),
+        ahead,
         progress: has_flag(found, "progress"),
         place,
     }))
@@ -114,7 +121,10 @@ pub(crate) fn read<'a>(alloc: Global, found: &ArgMatches<'a>) -> Result<Command<
     }
 }
 
-/// The option or the word that is bad, as help names it.
-pub(crate) fn bad_word(alloc: Global, found: &ArgMatches<'_>) -> Option<&'static str> {
+/// The option or the word that is bad.
+pub(crate) fn bad_word(alloc: Global, found: &ArgMatches<'_>) -> Option<BadWord> {
+    if ahead_of(found).is_none() {
+        return Some(BadWord::new("--ahead", "a number from 0 to 64 is due"));
+    }
     bad_place(alloc, found.get_str("kind")?, found.get_str("place")?)
 }

@@ -4,10 +4,11 @@ ghost use Rattle.clap.specs.Words.{found_of, rows_of};
 ghost use Rattle.program_words.specs.Commands.{IsCopyServe, IsServe};
 ghost use Rattle.program_words.specs.Readings.{FindsPart, IsSaid, ReadsPart};
 
+use crate::bad::{BadWord, bad_size, bad_source};
 use crate::commands::Command;
 use crate::fault::CommandFault;
 use crate::parser::{Argument, CommandLine, DIR_OR_STATE, KEYS, ORIGIN, STATE_OR_DIR, WHY};
-use crate::parts::{CopyArgs, StateArgs, copy_asked, names_one, number_of, state_asked};
+use crate::parts::{CopyArgs, StateArgs, copy_asked, number_of, state_asked};
 use clap::ArgMatches;
 use tlog_shape::MAX_SIZE;
 
@@ -46,7 +47,7 @@ The targets:
 With --dir the checkpoint of D is read at each request, so D may be followed meanwhile. Where a file
 that is asked for is damaged, or cannot be read, the reply has status 500.
 
-Exit status: 0 done, 1 a fault, 2 words that ask for nothing, or P or N is none (BadArgument).
+Exit status: 0 done, 1 a fault, 2 a usage error, or a bad value (BadArgument).
 Faults of O, K, S and D: see 'tlogmirror --help'. Those of D are printed at the request that meets
 them. Then:
   PortFault  the port cannot be had: another program may have it
@@ -104,16 +105,13 @@ pub(crate) fn read<'a>(found: &ArgMatches<'a>) -> Result<Command<'a>, CommandFau
     }
 }
 
-/// The option or the word that is bad, as help names it.
-pub(crate) fn bad_word(found: &ArgMatches<'_>) -> Option<&'static str> {
-    if !names_one(found) {
-        return Some("--state or --dir");
+/// The option that is bad.
+pub(crate) fn bad_word(found: &ArgMatches<'_>) -> Option<BadWord> {
+    if let Some(bad) = bad_source(found) {
+        return Some(bad);
     }
     if number_of(found, "port", 1, 65_535).is_none() {
-        return Some("--port");
+        return Some(BadWord::new("--port", "a number from 1 to 65535 is due"));
     }
-    if number_of(found, "requests", 0, MAX_SIZE).is_none() {
-        return Some("--requests");
-    }
-    None
+    bad_size(found, "requests", "--requests")
 }

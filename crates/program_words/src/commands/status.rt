@@ -6,7 +6,7 @@ ghost use Rattle.program_words.specs.Readings.{IsSaid, ReadsPart};
 use crate::commands::Command;
 use crate::fault::CommandFault;
 use crate::parser::{CommandLine, DIR_OR_STATE, KEYS, ORIGIN, STATE_OR_DIR, WHY};
-use crate::parts::{copy_asked, names_one, state_asked};
+use crate::parts::{copy_asked, state_asked};
 use clap::ArgMatches;
 
 // What it reads, writes and may end with.
@@ -14,7 +14,7 @@ const HELP: &str = "\
 The output is 'origin O', a line 'head SIZE ROOT complete' or '.. partial' for each checkpoint, and
 'served SIZE ROOT' or 'served none'. A copy has one checkpoint, which is complete, or none.
 
-Exit status: 0 done, 3 nothing is complete, 1 a fault, 2 words that ask for nothing.
+Exit status: 0 done, 3 nothing is complete, 1 a fault, 2 a usage error.
 Faults of O, K, S and D: see 'tlogmirror --help'.
 
 Example: tlogmirror status --origin log.example --keys keys --state state";
@@ -37,14 +37,5 @@ pub(crate) fn read<'a>(found: &ArgMatches<'a>) -> Result<Command<'a>, CommandFau
     match copy_asked(found) {
         Some(args) => Ok(Command::CopyStatus(args)),
         None => Err(CommandFault::BadArgument),
-    }
-}
-
-/// The options that are bad, as help names them.
-pub(crate) fn bad_word(found: &ArgMatches<'_>) -> Option<&'static str> {
-    if names_one(found) {
-        None
-    } else {
-        Some("--state or --dir")
     }
 }

@@ -4,6 +4,7 @@ ghost use Rattle.clap.specs.Words.{first_of, found_of, rows_of};
 ghost use Rattle.program_words.specs.Commands.{Given, IsCount, IsTake, IsTakeWidth, kind_name};
 ghost use Rattle.program_words.specs.Readings.{FindsPart, IsSaid, ReadsPart};
 
+use crate::bad::BadWord;
 use crate::commands::Command;
 use crate::fault::CommandFault;
 use crate::parser::{Argument, CommandLine, FIRST_STATE, KEYS, ORIGIN, OUT, WHY};
@@ -42,7 +43,7 @@ const HELP: &str = "\
 A head is a signed note, and then the rows of hashes at the right edge of its tree, lowest level
 first. A tile is W hashes, a bundle is W entries. Nothing is written where something is refused.
 
-Exit status: 0 done, 1 a fault, 2 words that ask for nothing, or that do not fit (BadArgument).
+Exit status: 0 done, 1 a fault, 2 a usage error, or a bad value (BadArgument).
 Faults of O, K, S and T: see 'tlogmirror --help'. Of the files:
   FileFault           one of them cannot be read, or has over 16,777,472 bytes
   NoteTooLong, NotText, NoSignatures, TooManySignatures, BadSignatureLine
@@ -157,13 +158,14 @@ pub(crate) fn read<'a>(alloc: Global, found: &ArgMatches<'a>) -> Result<Command<
     }
 }
 
-/// Where width and kind are well, there are too many files, or none.
-pub(crate) fn bad_word(found: &ArgMatches<'_>) -> Option<&'static str> {
+/// The option or the word that is bad: where width and kind are well, there are too many files, or none.
+pub(crate) fn bad_word(found: &ArgMatches<'_>) -> Option<BadWord> {
     if width_of(found).is_none() {
-        return Some("--width");
+        return Some(BadWord::new("--width", "a number from 1 to 256 is due"));
     }
-    if kind_of(found).is_none() {
-        return Some("KIND");
+    match kind_of(found) {
+        None => Some(BadWord::new("KIND", "head, tile or bundle is due")),
+        Some(Kind::Head) => Some(BadWord::new("FILE", "one or more are due")),
+        Some(Kind::Tile | Kind::Bundle) => Some(BadWord::new("FILE", "one is due")),
     }
-    Some("FILE")
 }
