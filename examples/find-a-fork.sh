@@ -1,5 +1,5 @@
 #!/usr/bin/env bash
-# A log tells two people different things. Each of them mirrors what he was told, and sees nothing wrong; once the two mirrors
+# A log shows two people different entries. Each of them mirrors what he was shown, and sees nothing wrong; once the two mirrors
 # are merged the fork is reported, and both signed notes are there as evidence. All of it in a folder of its own:
 #
 #     examples/find-a-fork.sh
@@ -41,7 +41,7 @@ seq 500 | publish told-ann
 { seq 300; echo 'not for Ann'; seq 302 700; } | publish told-bob
 { seq 499; echo 'not for Ann'; } | publish told-eve
 
-# Each mirrors what he was told. There is no fork in any of the mirrors: the answer is empty, and the status 0.
+# Each mirrors what he was shown. There is no fork in any of the mirrors: the answer is empty, and the status 0.
 for who in ann bob eve; do
     gives 0 pull "${log[@]}" --out "$who.state" dir "told-$who"
     gives 0 forks "${log[@]}" --state "$who.state" >none
@@ -53,7 +53,7 @@ gives 0 pull "${log[@]}" --state ann.state --out grown.state dir earlier
 gives 0 forks "${log[@]}" --state grown.state >none
 same '' none
 
-# Ann and Eve compare: two checkpoints of one size with different roots. The lesser root stands first in the line.
+# Ann and Eve compare: two checkpoints of one size with different roots. The lesser root comes first in the line.
 gives 0 merge "${log[@]}" --out both.state ann.state eve.state
 gives 3 forks "${log[@]}" --state both.state | tee forks
 if [[ $(hex told-ann) < $(hex told-eve) ]]; then first=ann second=eve; else first=eve second=ann; fi

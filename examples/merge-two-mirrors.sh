@@ -38,7 +38,7 @@ gives 3 pull "${log[@]}" --out a.state dir late
 gives 3 pull "${log[@]}" --out b.state dir early
 gives 3 status "${log[@]}" --state a.state
 
-# What each of them lacks, by the size and the root that stand in the checkpoint.
+# What each of them lacks, by the size and the root in the checkpoint.
 head=(--size "$(sed -n 2p log/checkpoint)" --root "$(sed -n 3p log/checkpoint)")
 gives 3 missing "${log[@]}" --state a.state "${head[@]}" | tee a.missing
 gives 3 missing "${log[@]}" --state b.state "${head[@]}" | tee b.missing

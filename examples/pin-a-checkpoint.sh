@@ -67,7 +67,7 @@ verified today/checkpoint
 gives 0 pull "${log[@]}" --state log.state --out log.state dir today
 gives 0 status "${log[@]}" --state log.state
 
-# These are the lines that stand in examples/log.keys, in the other order.
+# These are the lines of examples/log.keys, in the other order.
 LC_ALL=C sort keys | cmp - <(LC_ALL=C sort "$top/examples/log.keys")
 
 # The mirror gives the checkpoint back as it was signed.
@@ -75,7 +75,7 @@ gives 0 export "${log[@]}" --state log.state --dir copy
 cmp copy/checkpoint today/checkpoint
 cmp copy/tile/entries/000.p/20 today/tile/entries/000.p/20
 
-# A checkpoint that says something else is refused, whoever's line stands below it.
+# A checkpoint that says something else is refused, whoever signed it.
 cp -r today false
 sed '2s/20/21/' today/checkpoint >false/checkpoint
 refused NoTrustedSignature pull "${log[@]}" --state log.state --out log.state dir false
