@@ -20,6 +20,8 @@ mod loads;
 #[cfg(test)]
 mod memory;
 #[cfg(test)]
+mod missing;
+#[cfg(test)]
 mod new;
 #[cfg(test)]
 mod orders;

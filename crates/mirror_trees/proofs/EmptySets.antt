@@ -13,7 +13,7 @@ use Rattle.mirror_trees.specs.Slices.{AreSettled}
 pub empty_no_clash : (digest : List ℕ → List ℕ) (v : Strings) → v ≡ set.empty → NoClash digest v
 empty_no_clash digest v is = subst (NoClash digest) (sym is) (record { same = λ x y hx hy e. absurd (Has-empty x hx) })
 
-no_mark : (point : Point) → HasMark set.empty point → ⊥
+pub no_mark : (point : Point) → HasMark set.empty point → ⊥
 no_mark point h = let e = contains-empty point_cmp point in cc (e, h)
 
 pub empty_known : (digest : List ℕ → List ℕ) (held : Strings) (points : Points) → points ≡ set.empty →

@@ -5,6 +5,9 @@ pub mod Builds
 pub mod RowSteps
 pub mod RangeSteps
 pub mod Losses
+pub mod LevelSteps
+pub mod LevelLists
+pub mod LevelPaths
 pub mod Marking
 pub mod MarkedTrees
 pub mod LeafRows

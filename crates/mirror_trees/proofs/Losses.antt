@@ -82,12 +82,17 @@ module _ (digest : List ℕ → List ℕ) (held : Strings) where
     sound_all : (es : List (List ℕ)) → Sound es
     sound_all es = induction Sound sound_none sound_one sound_join es
 
+    -- in a tree that is held the walk fails nowhere
+    pub built_not_fails : (size : ℕ) (root : List ℕ) → IsBuilt digest held size root → (start at many : ℕ) →
+        Fails (shape size) start root at many → ⊥
+    built_not_fails size root b start at many f =
+        sound_all b.entries start root
+        (record { size_is = refl; root_is = b.is.root_is; are_held = b.is.are_held }) at many
+        (subst (λ n. Fails (shape n) start root at many) (sym b.is.size_is) f)
+
     pub built_not_lost : (total start size : ℕ) (root : List ℕ) (path : Path) → IsBuilt digest held size root →
         IsLost digest held total start size root path → ⊥
-    built_not_lost total start size root path b m =
-        sound_all b.entries start root
-        (record { size_is = refl; root_is = b.is.root_is; are_held = b.is.are_held }) m.at m.many
-        (subst (λ n. Fails (shape n) start root m.at m.many) (sym b.is.size_is) m.fails)
+    built_not_lost total start size root path b m = built_not_fails size root b start m.at m.many m.fails
 
   module _ (total start : ℕ) (root : List ℕ) (path : Path) where
     -- ---- one entry

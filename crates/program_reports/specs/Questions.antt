@@ -37,8 +37,9 @@ ReportsOn digest question v (Ok report) =
     TellsAnswer digest question v (printed report) report.status
 ReportsOn digest question v (Err fault) = TellsNoAnswer digest question v fault
 
--- the report on the question is made before it is printed: on any but forks
+-- the report on the question is made before it is printed: on any but forks and what is missing
 abbrev pub IsMade : Question → Type 0
+IsMade (Missing size root) = ⊥
 IsMade Forks = ⊥
 IsMade question = ⊤
 

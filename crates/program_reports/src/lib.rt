@@ -11,6 +11,7 @@
 mod comparing;
 mod fault;
 mod forks;
+mod missing;
 mod printing;
 mod pulling;
 mod question;
@@ -21,4 +22,4 @@ pub use fault::{AskFault, ReportFault};
 pub use printing::print_report;
 pub use pulling::{pulled_status, pulled_text};
 pub use question::Question;
-pub use reports::{Report, missing_report, proof_report, status_report};
+pub use reports::{Report, proof_report, status_report};

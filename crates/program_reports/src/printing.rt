@@ -7,6 +7,7 @@ ghost use Rattle.program_reports.specs.Questions.{AnswersQuestion, IsMade};
 
 use crate::fault::AskFault;
 use crate::forks::print_forks;
+use crate::missing::print_missing;
 use crate::question::{Question, report_on};
 use crate::reports::Report;
 use byte_streams::{StreamFault, write_whole};
@@ -27,7 +28,8 @@ pub(crate) fn write_report<W: Write>(output: &mut W, report: &Report) -> Result<
 
 /// Writes the report on the question, of what the mirror holds, and answers the exit status: 0, or 3 where the answer is
 /// the other one. For heads, forks and proofs the mirror notes first what is held of each head, so that no tree is walked twice.
-/// Forks are written as they are found, so that memory is asked for by head; the other reports are made whole.
+/// Forks and what is missing are written as they are found, so that memory is asked for by head and by tree, and not by
+/// line; the other reports are made whole.
 ///
 /// ```text
 /// print_report(alloc, &mut mirror, &Question::Forks, &mut output)?
@@ -52,13 +54,14 @@ pub fn print_report<H: TreeHash, W: Write>(
     ensures quiet { IfErr result (λ e. e ≢ AskFault.WriteFault → Keeps (W.contents output.old)
         (W.contents output.new)) }
 {
-    if let Question::Forks = question {
-        return print_forks(alloc, mirror, output);
+    match question {
+        Question::Forks => print_forks(alloc, mirror, output),
+        Question::Missing { size, root } => print_missing(alloc, mirror, *size, root, output),
+        _ => print_made(alloc, mirror, question, output),
     }
-    print_made(alloc, mirror, question, output)
 }
 
-// Writes the report on a question that is not on forks.
+// Writes the report on a question that is neither on forks nor on what is missing.
 fn print_made<H: TreeHash, W: Write>(
     alloc: Global,
     mirror: &mut Mirror<H>,

@@ -4,7 +4,7 @@ ghost use Rattle.program_reports.specs.Reports.{ReportsProof, TellsStatus, print
 ghost use Rattle.program_reports.specs.Questions.{IsMade, ReportsOn};
 
 use crate::fault::ReportFault;
-use crate::reports::{Report, missing_report, proof_report, status_report};
+use crate::reports::{Report, proof_report, status_report};
 use std::alloc::{AllocError, Global};
 use tlog_hash::{Hash, TreeHash};
 use tlog_mirror::Mirror;
@@ -54,7 +54,7 @@ fn noted_proof<H: TreeHash>(
     }
 }
 
-// The report on the question, which is not on forks.
+// The report on the question, which is neither on forks nor on what is missing.
 pub(crate) fn report_on<H: TreeHash>(
     alloc: Global,
     mirror: &mut Mirror<H>,
@@ -66,7 +66,7 @@ pub(crate) fn report_on<H: TreeHash>(
 {
     match question {
         Question::Status => Ok(noted_status(alloc, mirror)?),
-        Question::Missing { size, root } => missing_report(alloc, mirror, *size, root),
+        Question::Missing { .. } => unreachable!(),
         Question::Forks => unreachable!(),
         Question::Proof(ask) => noted_proof(alloc, mirror, *ask),
     }

@@ -1,10 +1,10 @@
 //! The reports, a command each.
 ghost use Rattle.std.specs.Prelude.{IfOk};
-ghost use Rattle.program_reports.specs.Reports.{ReportsMissing, ReportsProof, TellsNothing, TellsServed, TellsStatus, printed};
+ghost use Rattle.program_reports.specs.Reports.{ReportsProof, TellsServed, TellsStatus, printed};
 
 use crate::fault::ReportFault;
 use std::alloc::{AllocError, Global};
-use tlog_hash::{Hash, TreeHash};
+use tlog_hash::TreeHash;
 use tlog_mirror::Mirror;
 use tlog_proof::{Ask, prove, write_text};
 
@@ -39,33 +39,6 @@ fn served_status<H: TreeHash>(mirror: &Mirror<H>) -> u8
         Some(_) => 0,
         None => 3,
     }
-}
-
-/// `missing`: the paths that are missing of the head of that size and root, a line each. The exit status is 3 where one is.
-///
-/// # Errors
-///
-/// `NoSuchHead` where no held note has that size and root. `OutOfMemory` where memory was refused.
-pub fn missing_report<H: TreeHash>(
-    alloc: Global,
-    mirror: &Mirror<H>,
-    size: u64,
-    root: &Hash,
-) -> Result<Report, ReportFault>
-    ensures { ReportsMissing H.digest mirror.now.view size root.now result }
-{
-    let Some(text) = mirror.missing_text(alloc, size, root)? else {
-        return Err(ReportFault::NoSuchHead);
-    };
-    let status = quiet_status(&text);
-    Ok(Report { text, status })
-}
-
-// 0 where there is nothing to tell, 3 where there is.
-fn quiet_status(text: &str) -> u8
-    ensures { TellsNothing text.now result }
-{
-    if text.is_empty() { 0 } else { 3 }
 }
 
 /// `prove`: the text of a proof of the entries that are served.

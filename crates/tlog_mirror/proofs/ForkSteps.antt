@@ -1,19 +1,14 @@
 -- The forks of one head after another, as loops find them.
 use Rattle.std.proofs.Common.{◌≡◌, ℕ, suc, ◌+◌, ◌<◌, ◌≤◌, List, [], ◌∷◌, ◌++◌, length, drop, get_or, Bool, true, false}
-use Rattle.std.proofs.Common.{cond, set, sym, refl, ap, subst, ◌∙◌, ◌⊎◌, inl, inr, append_assoc, append-nil, arith, Option}
+use Rattle.std.proofs.Common.{cond, set, sym, refl, ap, ◌∙◌, ◌⊎◌, inl, inr, append_assoc, append-nil, arith}
 use Rattle.std.specs.Prelude.{IsTrue, ◌↔◌, ◌≢◌, codes, string_bytes}
-use Rattle.std.proofs.KnownBytes.{Appends-nil}
 use Rattle.std.proofs.lemmas.List.{drop_more, drop_all, length-set, length-drop}
-use Rattle.std.proofs.lemmas.List.Concat.{flat_map-append}
-use Rattle.byte_streams.specs.Streams.{AppendsPrefix}
-use Rattle.mirror_model.specs.Texts.{fork_line, forks_text, point_text}
+use Rattle.mirror_model.specs.Texts.{fork_line, point_text}
 use Rattle.mirror_model.specs.declared.reports.Fork.{Fork}
 use Rattle.tlog_mirror.specs.Branches.{IsSpelled, under_of, apart_of, fork_of, marked, forks_with, forks_from, marks_from}
 use Rattle.tlog_mirror.specs.Branches.{all_forks}
-use Rattle.tlog_mirror.specs.Pieces.{Sends}
 use Rattle.tlog_mirror.specs.declared.branches.Branch.{Branch}
 use Rattle.tlog_mirror.proofs.AllForks.{left_rest}
-use Rattle.tlog_mirror.proofs.SentPieces.{prefix_more, sends_then, fails_then}
 
 abbrev pub pair_of : Branch → Branch → Fork
 pair_of a b = record { small = a.head; large = b.head }
@@ -145,89 +140,3 @@ module _ (a b : Branch) (u : Bool) where
     λ h. inr (λ none. let wrong : pair_of a b ∷ [] ≡ [] = sym (one_fork holds) ∙ none in cc wrong),
     λ h. refl,
   )
-
--- ---- forks that are written
-
-pub text_append : (xs ys : List Fork) → forks_text (xs ++ ys) ≡ forks_text xs ++ forks_text ys
-text_append xs ys = flat_map-append fork_line xs ys
-
-pub one_text : (fork : Fork) → forks_text (fork ∷ []) ≡ fork_line fork
-one_text fork = append-nil (fork_line fork)
-
--- some of the forks were written, or held back, and the rest of all are to come
-pub record IsWritten (old now : Option (List ℕ)) (had held : List ℕ) (before any : Bool) (all rest : List Fork) : Type 0
-  where
-    pub done : List Fork
-    pub is : all ≡ done ++ rest
-    pub sends : Sends old now held (had ++ forks_text done)
-    pub tells : IsTrue any ↔ (IsTrue before ⊎ (done ≢ []))
-
--- none yet
-pub starts : (old : Option (List ℕ)) (held back : List ℕ) (before : Bool) (all : List Fork) → back ≡ held →
-    IsWritten old old held back before before all all
-starts old held back before all same = record {
-  done = [];
-  is = refl;
-  sends = record { bytes = []; appends = Appends-nil old; is = same ∙ sym (append-nil held) };
-  tells = (λ h. inl h, λ h. elim h [ inl was ↦ was | inr some ↦ absurd (some refl) ]);
-}
-
-module _ (old now : Option (List ℕ)) (had held : List ℕ) (before any : Bool) (all : List Fork) where
-  -- some more
-  module _ (more rest : List Fork) (w : IsWritten old now had held before any all (more ++ rest)) (new : Option (List ℕ)) where
-    whole : all ≡ (w.done ++ more) ++ rest
-    whole = w.is ∙ sym (append_assoc w.done more rest)
-
-    text : had ++ (forks_text w.done ++ forks_text more) ≡ had ++ forks_text (w.done ++ more)
-    text = ap (λ ts. had ++ ts) (sym (text_append w.done more))
-
-    pub writes : (back : List ℕ) (some_now : Bool) → Sends now new back (held ++ forks_text more) →
-        IsTrue some_now ↔ (IsTrue any ⊎ (more ≢ [])) → IsWritten old new had back before some_now all rest
-    writes back some_now sends tells = record {
-      done = w.done ++ more;
-      is = whole;
-      sends =
-          subst (Sends old new back) text
-          (sends_then old now new had held (forks_text w.done) (forks_text more) w.sends back sends);
-      tells = (
-        λ y. elim (tells.0 y) [
-          | inl was ↦ elim (w.tells.0 was) [ inl first ↦ inl first | inr some ↦ inr (λ e. some (left_nil w.done more e)) ]
-          | inr some ↦ inr (λ e. some (right_nil w.done more e))
-        ],
-        λ h. elim h [
-          | inl first ↦ tells.1 (inl (w.tells.1 (inl first)))
-          | inr some ↦ by_parts w.done refl some
-        ],
-      );
-    }
-      where
-        left_nil : (xs ys : List Fork) → xs ++ ys ≡ [] → xs ≡ []
-        left_nil [] ys e = refl
-        left_nil (x ∷ xs) ys e = absurd (cc e)
-
-        right_nil : (xs ys : List Fork) → xs ++ ys ≡ [] → ys ≡ []
-        right_nil [] ys e = e
-        right_nil (x ∷ xs) ys e = absurd (cc e)
-
-        by_parts : (xs : List Fork) → xs ≡ w.done → (w.done ++ more ≢ []) → IsTrue some_now
-        by_parts [] e some = tells.1 (inr (λ none. some (λ i. sym e i ++ none i)))
-        by_parts (x ∷ xs) e some = tells.1 (inl (w.tells.1 (inr (λ none. let wrong : x ∷ xs ≡ [] = e ∙ none in cc wrong))))
-
-    pub breaks : AppendsPrefix now new (held ++ forks_text more) → AppendsPrefix old new (had ++ forks_text all)
-    breaks q =
-        subst (λ ts. AppendsPrefix old new (had ++ ts)) (sym (ap forks_text whole ∙ text_append (w.done ++ more) rest))
-        (subst (AppendsPrefix old new) (append_assoc had (forks_text (w.done ++ more)) (forks_text rest))
-        (prefix_more old new (had ++ forks_text (w.done ++ more)) (forks_text rest)
-        (subst (AppendsPrefix old new) text
-        (fails_then old now new had held (forks_text w.done) (forks_text more) w.sends q))))
-
-  -- no more
-  module _ (rest : List Fork) (none : rest ≡ []) (w : IsWritten old now had held before any all rest) where
-    all_is : all ≡ w.done
-    all_is = w.is ∙ ap (λ fs. w.done ++ fs) none ∙ append-nil w.done
-
-    pub all_sends : Sends old now held (had ++ forks_text all)
-    all_sends = subst (λ fs. Sends old now held (had ++ forks_text fs)) (sym all_is) w.sends
-
-    pub all_tells : IsTrue any ↔ (IsTrue before ⊎ (all ≢ []))
-    all_tells = subst (λ fs. IsTrue any ↔ (IsTrue before ⊎ (fs ≢ []))) (sym all_is) w.tells

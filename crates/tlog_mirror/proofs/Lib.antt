@@ -19,6 +19,8 @@ pub mod BranchSteps
 pub mod AllForks
 pub mod CalmHeads
 pub mod SentPieces
+pub mod WrittenLines
+pub mod MissingSteps
 pub mod ForkSteps
 pub mod FoundForks
 pub mod RestoredMirrors

@@ -12,3 +12,5 @@ pub mod Plays
 pub mod Compared
 pub mod Pieces
 pub mod ForksWritten
+pub mod MissingWritten
+pub mod MissingLines

@@ -24,6 +24,7 @@ mod heads;
 mod kept;
 mod laid;
 mod laws;
+mod lines;
 mod merge;
 mod mirror;
 mod missing;

@@ -1,15 +1,10 @@
-use Rattle.std.proofs.Common.{ℕ, List, [], ◌∷◌, Option, inl, inr, refl}
+use Rattle.std.proofs.Common.{ℕ, List, Option}
 use Rattle.mirror_model.specs.View.{View}
 use Rattle.tlog_mirror.specs.ForksWritten.{WritesForksPrefix}
 use Rattle.program_reports.specs.Questions.{PrintsReportPrefix}
-use Rattle.program_reports.specs.Reports.{TellsNothing}
 use Rattle.program_reports.specs.declared.question.Question.TheVariants.{Forks}
+use Rattle.program_reports.proofs.Statuses.{status_of}
 use Rattle.program_reports.proofs.forks.print_forks.Goals as goal
-
--- the exit status that a text has
-status_of : (text : List ℕ) → (ended : ℕ) × TellsNothing text ended
-status_of [] = (0, inl (refl, refl))
-status_of (x ∷ xs) = (3, inr (λ e. cc e, refl))
 
 prefix : (digest : List ℕ → List ℕ) (v : View) (old new : Option (List ℕ)) → WritesForksPrefix digest v old new →
     PrintsReportPrefix digest Forks v old new

@@ -1,10 +1,11 @@
 use Rattle.std.proofs.Common.{◌++◌, ◌∙◌, refl, ap, sym, subst, append-nil}
 use Rattle.byte_streams.specs.Streams.{AppendsPrefix}
-use Rattle.mirror_model.specs.Texts.{forks_text}
+use Rattle.mirror_model.specs.Texts.{fork_line, forks_text}
 use Rattle.tlog_mirror.specs.Branches.{fork_of}
 use Rattle.tlog_mirror.specs.Pieces.{Sends}
 use Rattle.tlog_mirror.proofs.SentPieces.{in_err, held_back}
-use Rattle.tlog_mirror.proofs.ForkSteps.{pair_of, no_fork, one_fork, one_text, tells_none, tells_one}
+use Rattle.tlog_mirror.proofs.ForkSteps.{pair_of, no_fork, one_fork, tells_none, tells_one}
+use Rattle.tlog_mirror.proofs.WrittenLines.{one_text}
 use Rattle.tlog_mirror.proofs.forks.write_fork.Goals as goal
 
 pub returns-then-not-is_apart-clause-ok : goal.returns-then-not-is_apart-clause-ok
@@ -28,7 +29,7 @@ returns-in_err-write_line-clause-err g c =
     let line =
     ap forks_text
     (one_fork c.args.small.now c.args.large.now c.args.under (sym c.is_apart.ensures ∙ c.if-not-is_apart.false))
-    ∙ one_text pair in
+    ∙ one_text fork_line pair in
     in_err c.from_residual.result
     (subst (λ t. AppendsPrefix (g.W.Write.contents c.args.output.now) (g.W.Write.contents c.write_line.new.output)
     (c.args.held.now.items ++ t)) (sym line) c.in_err-write_line.ensures.err)
@@ -39,7 +40,7 @@ returns-clause-ok g c =
     let line =
     ap forks_text
     (one_fork c.args.small.now c.args.large.now c.args.under (sym c.is_apart.ensures ∙ c.if-not-is_apart.false))
-    ∙ one_text pair in
+    ∙ one_text fork_line pair in
     subst (λ t. Sends (g.W.Write.contents c.args.output.now) (g.W.Write.contents c.write_line.new.output)
     c.write_line.new.held.items (c.args.held.now.items ++ t)) (sym line) c.in_ok-write_line.ensures.ok
 

@@ -2,12 +2,13 @@ use Rattle.std.proofs.Common.{ap, append-nil, inl, inr, ◌++◌, ◌∙◌, ◌
 use Rattle.std.specs.Prelude.{◌↔◌, ◌≢◌, ◌⊎◌, IsTrue, []}
 use Rattle.std.proofs.lemmas.List.{length-set}
 use Rattle.byte_streams.specs.Streams.{AppendsPrefix}
-use Rattle.mirror_model.specs.Texts.{forks_text}
+use Rattle.mirror_model.specs.Texts.{fork_line, forks_text}
 use Rattle.tlog_mirror.specs.Branches.{fork_of, forks_from, forks_with, marks_from}
 use Rattle.tlog_mirror.specs.Pieces.{Sends}
 use Rattle.tlog_mirror.proofs.SentPieces.{in_err, held_back}
-use Rattle.tlog_mirror.proofs.ForkSteps.{IsWritten, from_here, marks_here, with_step, marked_step, with_end, marked_end}
-use Rattle.tlog_mirror.proofs.ForkSteps.{starts, writes, breaks, all_sends, all_tells}
+use Rattle.tlog_mirror.proofs.ForkSteps.{from_here, marks_here, with_step, marked_step, with_end, marked_end}
+use Rattle.tlog_mirror.proofs.WrittenLines.{IsWritten}
+use Rattle.tlog_mirror.proofs.WrittenLines.{starts, writes, breaks, all_sends, all_tells}
 use Rattle.tlog_mirror.proofs.forks.write_forks_of.Goals as goal
 
 pub returns-then-calm-clause-ok : goal.returns-then-calm-clause-ok
@@ -34,7 +35,7 @@ returns-then-calm-clause-any g c =
 pub loop-next-init : goal.loop-next-init
 loop-next-init g c = record {
   len = length-set c.args.marks.now c.args.at true ∙ c.requires.marks;
-  writes = starts (g.W.Write.contents c.args.output.now) c.args.held.now.items c.args.held.now.items c.args.before _ refl;
+  writes = starts fork_line (g.W.Write.contents c.args.output.now) c.args.held.now.items c.args.held.now.items c.args.before _ refl;
   marks = refl;
 }
 
@@ -54,11 +55,11 @@ loop-next-preserved g c =
     record {
       len = length-set marks next u ∙ c.loop-next.invariant.len;
       writes =
-          writes old now c.args.held.now.items c.loop-next.held.items c.args.before c.loop-next.any
+          writes fork_line old now c.args.held.now.items c.loop-next.held.items c.args.before c.loop-next.any
           (forks_with c.args.at small (set c.args.marks.now c.args.at true) (c.args.at + 1) (drop (c.args.at + 1) all))
           (fork_of small large u)
           (forks_with c.args.at small (set marks next u) (next + 1) (drop (next + 1) all))
-          (subst (IsWritten old now c.args.held.now.items c.loop-next.held.items c.args.before c.loop-next.any
+          (subst (IsWritten fork_line old now c.args.held.now.items c.loop-next.held.items c.args.before c.loop-next.any
           (forks_with c.args.at small (set c.args.marks.now c.args.at true) (c.args.at + 1) (drop (c.args.at + 1) all)))
           step c.loop-next.invariant.writes)
           (g.W.Write.contents c.write_fork.new.output) c.write_fork.new.held.items c.in_ok-any.any
@@ -87,10 +88,10 @@ returns-in_err-any-clause-err g c =
     (c.args.held.now.items ++ forks_text fs))
     (sym (from_here all c.args.at small c.index-branches-at.is c.requires.within c.args.marks.now)
     ∙ ap (λ q. forks_from q c.args.at c.args.marks.now (drop c.args.at all)) (sym c.if-calm.false))
-    (breaks old now c.args.held.now.items c.loop-next.held.items c.args.before c.loop-next.any
+    (breaks fork_line old now c.args.held.now.items c.loop-next.held.items c.args.before c.loop-next.any
     (forks_with c.args.at small (set c.args.marks.now c.args.at true) (c.args.at + 1) (drop (c.args.at + 1) all))
     (fork_of small large u) (forks_with c.args.at small (set marks next u) (next + 1) (drop (next + 1) all))
-    (subst (IsWritten old now c.args.held.now.items c.loop-next.held.items c.args.before c.loop-next.any
+    (subst (IsWritten fork_line old now c.args.held.now.items c.loop-next.held.items c.args.before c.loop-next.any
     (forks_with c.args.at small (set c.args.marks.now c.args.at true) (c.args.at + 1) (drop (c.args.at + 1) all)))
     step c.loop-next.invariant.writes)
     (g.W.Write.contents c.write_fork.new.output) c.in_err-any.ensures.err))
@@ -104,7 +105,7 @@ returns-clause-ok g c =
     subst (λ fs. Sends old now c.loop-next.held.items (c.args.held.now.items ++ forks_text fs))
     (sym (from_here all c.args.at small c.index-branches-at.is c.requires.within c.args.marks.now)
     ∙ ap (λ q. forks_from q c.args.at c.args.marks.now (drop c.args.at all)) (sym c.if-calm.false))
-    (all_sends old now c.args.held.now.items c.loop-next.held.items c.args.before c.loop-next.any _ _
+    (all_sends fork_line old now c.args.held.now.items c.loop-next.held.items c.args.before c.loop-next.any _ _
     (with_end all c.args.at small c.loop-next.next c.loop-next.marks c.loop-next-test.false)
     c.loop-next.invariant.writes)
 
@@ -123,7 +124,7 @@ returns-clause-any g c =
     subst (λ fs. IsTrue c.loop-next.any ↔ (IsTrue c.args.before ⊎ (fs ≢ [])))
     (sym (from_here all c.args.at small c.index-branches-at.is c.requires.within c.args.marks.now)
     ∙ ap (λ q. forks_from q c.args.at c.args.marks.now (drop c.args.at all)) (sym c.if-calm.false))
-    (all_tells (g.W.Write.contents c.args.output.now) (g.W.Write.contents c.loop-next.output) c.args.held.now.items
+    (all_tells fork_line (g.W.Write.contents c.args.output.now) (g.W.Write.contents c.loop-next.output) c.args.held.now.items
     c.loop-next.held.items c.args.before c.loop-next.any _ _
     (with_end all c.args.at small c.loop-next.next c.loop-next.marks c.loop-next-test.false)
     c.loop-next.invariant.writes)
