@@ -1,3 +1,4 @@
+pub mod Kept
 pub mod Refusing
 pub mod HeadNotes
 pub mod EdgeHashes
@@ -7,3 +8,6 @@ pub mod OneRow
 pub mod Truths
 pub mod OpenedNotes
 pub mod Prefixes
+pub mod TrueReads
+pub mod TruePrefixes
+pub mod TrueBundles

@@ -11,7 +11,7 @@ use Rattle.tlog_tiles.proofs.EdgeLemmas.{hashes_of}
 use Rattle.mirror_model.specs.Edge.{edge_levels, edge_root}
 use Rattle.mirror_model.specs.Strings.{IsDigest}
 use Rattle.mirror_model.proofs.EdgeRoots.{edge_root_is}
-use Rattle.log_reader.specs.EdgeRows.{Edge, RowIsTrue, row_at}
+use Rattle.log_reader.specs.EdgeRows.{Edge, RowIsTrue, hash_of_edge, row_at}
 use Rattle.log_reader.specs.Truth.{IsListClear, ShownPrefixesAreTrue}
 use Rattle.log_reader.specs.Ways.{HasEdgeHashes, IsShownEdge, row_of_way}
 use Rattle.log_reader.proofs.Truths.{IsIn, low_edge, shown_rows_are_true}
@@ -19,6 +19,19 @@ use Rattle.log_reader.proofs.Truths.{IsIn, low_edge, shown_rows_are_true}
 maps_from : (f g : ℕ → List (List ℕ)) (ls : List ℕ) → ((level : ℕ) → IsIn level ls → f level ≡ g level) → map f ls ≡ map g ls
 maps_from f g [] each = refl
 maps_from f g (l ∷ ls) each = λ i. each l (inl refl) i ∷ maps_from f g ls (λ level m. each level (inr m)) i
+
+-- where all rows of an edge are true, they lead to the tree hash
+pub true_rows_lead : (digest : List ℕ → List ℕ) (edge : Edge) (es : List (List ℕ)) → length es ≡ edge.size →
+    length es < 256 ^ 8 → ((level : ℕ) → level ≤ 7 → RowIsTrue digest edge es level) →
+    hash_of_edge digest edge ≡ mth digest es
+true_rows_lead digest edge es long small each =
+    ap (edge_root digest)
+    (maps_from (row_at edge)
+    (λ level. level_row digest es level (256 * edge_index_of edge.size level) (width_of edge.size level)) (edge_levels edge.size)
+    (λ level m. each level (low_edge edge.size level m))
+    ∙ ap (λ n. map (λ level. level_row digest es level (256 * edge_index_of n level) (width_of n level)) (edge_levels n))
+    (sym long))
+    ∙ edge_root_is digest es small
 
 module _ {A : Type 0} (b : ℕ) where
   -- the first of some ranges
@@ -44,6 +57,21 @@ module _ {A : Type 0} (b : ℕ) where
       λ i. first_part (first * b) b n es (omega (arith, more)) i
       ∷ ranges_within (first + 1) count n es (omega (arith, same)) i
 
+-- the first hashes of a true row are a true row of the first entries
+pub row_start : (digest : List ℕ → List ℕ) (entries : List (List ℕ)) (k level long : ℕ) (row : List (List ℕ)) →
+    width_of k level ≤ long → row ≡ level_row digest entries level (256 * edge_index_of k level) long →
+    take (width_of k level) row
+    ≡ level_row digest (take k entries) level (256 * edge_index_of k level) (width_of k level)
+row_start digest entries k level long row enough is =
+    let w = width_of k level in
+    let from = 256 * edge_index_of k level in
+    let upto : (from + w) * 256 ^ level ≤ k =
+    subst (λ m. m * 256 ^ level ≤ k) (sym (hashes_of k level)) (div-mul-le_self k (256 ^ level)) in
+    ap (take w) is
+    ∙ (take-map (mth digest) w (ranges (256 ^ level) from long entries)
+    ∙ (ap (map (mth digest)) (first_ranges (256 ^ level) w from long entries enough)
+    ∙ ap (map (mth digest)) (sym (ranges_within (256 ^ level) from w k entries upto))))
+
 module _ (digest : List ℕ → List ℕ) (hash : IsDigest digest) (edge first : Edge) (hashes : HasEdgeHashes edge)
     (small : edge.size < 2 ^ 64) (within : first.size ≤ edge.size) (shown : IsShownEdge digest edge first)
     (entries : List (List ℕ)) (long : length entries ≡ edge.size)
@@ -65,13 +93,7 @@ module _ (digest : List ℕ → List ℕ) (hash : IsDigest digest) (edge first :
       let there : row_at first level ≡ take w row = start.start_is ∙ ap (take w) start.shown.row_is in
       let count : length (row_at first level) ≡ w = (shown level low).hashes.count in
       let enough : w ≤ length row = omega (arith, count, ap length there, length-take w row) in
-      let upto : (from + w) * 256 ^ level ≤ k =
-      subst (λ m. m * 256 ^ level ≤ k) (sym (hashes_of k level)) (div-mul-le_self k (256 ^ level)) in
-      there
-      ∙ (ap (take w) is
-      ∙ (take-map (mth digest) w (ranges (256 ^ level) from (length row) entries)
-      ∙ (ap (map (mth digest)) (first_ranges (256 ^ level) w from (length row) entries enough)
-      ∙ ap (map (mth digest)) (sym (ranges_within (256 ^ level) from w k entries upto)))))
+      there ∙ row_start digest entries k level (length row) row enough is
 
   row_none : (level : ℕ) → level ≤ 7 → width_of k level ≡ 0 → RowIsTrue digest first (take k entries) level
   row_none level low none =
@@ -87,16 +109,9 @@ module _ (digest : List ℕ → List ℕ) (hash : IsDigest digest) (edge first :
   size_first : length (take k entries) ≡ k
   size_first = length-take-le k entries (omega (arith, long, within))
 
-  pub prefix_is_true : edge_root digest (map (row_at first) (edge_levels k)) ≡ mth digest (take k entries)
+  pub prefix_is_true : hash_of_edge digest first ≡ mth digest (take k entries)
   prefix_is_true =
-      let es = take k entries in
-      ap (edge_root digest)
-      (maps_from (row_at first)
-      (λ level. level_row digest es level (256 * edge_index_of k level) (width_of k level)) (edge_levels k)
-      (λ level m. rows_first level (low_edge k level m))
-      ∙ ap (λ n. map (λ level. level_row digest es level (256 * edge_index_of n level) (width_of n level)) (edge_levels n))
-      (sym size_first))
-      ∙ edge_root_is digest es (omega (arith, size_first, within, small))
+      true_rows_lead digest first (take k entries) size_first (omega (arith, size_first, within, small)) rows_first
 
 pub shown_prefixes_are_true : ShownPrefixesAreTrue
 shown_prefixes_are_true digest hash edge first hashes small within shown entries long clear =

@@ -13,6 +13,11 @@ use Rattle.log_reader.specs.Verified.{HasLeaves, IsRowOf, Verifies}
 use Rattle.log_reader.specs.declared.verify.FullFile.{FullFile}
 use Rattle.log_reader.specs.declared.verify.FullFile.TheVariants.{Tile, Bundle}
 
+pub no_row : (width : ℕ) (bytes : List ℕ) → length bytes ≢ 32 * width → (row : List (List ℕ)) → IsRow width bytes row → ⊥
+no_row width bytes other row h =
+    let count = h.count in
+    other (ap length h.text ∙ (length-row_text row h.sizes ∙ ap (λ n. 32 * n) count))
+
 module _ (digest : List ℕ → List ℕ) where
   pub no_leaves : (width : ℕ) (bytes : List ℕ) (fault : BundleFault) → fault ≢ OutOfMemory → ReadsBundle width bytes (Err fault) →
       (row : List (List ℕ)) → HasLeaves digest width bytes row → ⊥
@@ -38,11 +43,6 @@ module _ (digest : List ℕ → List ℕ) where
   pub row_long : (kind : FullFile) (bytes : List ℕ) (row : List (List ℕ)) → IsRowOf digest kind bytes row → length row ≡ 256
   row_long Tile bytes row p = p.count
   row_long Bundle bytes row p = ap length p.row_is ∙ (length-map p.entries (leaf_hash digest) ∙ p.is_bundle.count)
-
-  pub no_row : (bytes : List ℕ) → length bytes ≢ 32 * 256 → (row : List (List ℕ)) → IsRow 256 bytes row → ⊥
-  no_row bytes other row h =
-      let count = h.count in
-      other (ap length h.text ∙ (length-row_text row h.sizes ∙ ap (λ n. 32 * n) count))
 
   -- a row that is not the hash's is the only one
   pub other_fold : (kind : FullFile) (hash bytes : List ℕ) (row : List (List ℕ)) → IsRowOf digest kind bytes row →

@@ -125,7 +125,7 @@ wide f w (l ∷ ls) a =
     λ i. (length-row_text (f l) a.0.sizes ∙ ap (λ n. 32 * n) a.0.count) i ∷ wide f w ls a.1 i
 
 module _ (digest : List ℕ → List ℕ) (hash : IsDigest digest) (entries : List (List ℕ)) where
-  true_hashes : (level first width : ℕ) → AreHashesOf width (level_row digest entries level first width)
+  pub true_hashes : (level first width : ℕ) → AreHashesOf width (level_row digest entries level first width)
   true_hashes level first width = record {
     count = length-map (ranges (256 ^ level) first width entries) (mth digest) ∙ length-ranges (256 ^ level) first width entries;
     sizes = All-map (λ (h : List ℕ). length h ≡ 32) (mth digest) (ranges (256 ^ level) first width entries)

@@ -1,9 +1,28 @@
 -- What faults of a source are to a read.
+use Rattle.std.specs.Prelude.{◌≡◌, ℕ, Result, Ok, Err, ⊤}
+use Rattle.mirror_sources.specs.Told.{one_more}
 use Rattle.mirror_sources.specs.declared.source.SourceFault.{SourceFault}
 use Rattle.mirror_sources.specs.declared.source.SourceFault.TheVariants as source
 use Rattle.log_reader.specs.declared.fault.ReadFault.{ReadFault}
-use Rattle.log_reader.specs.declared.fault.ReadFault.TheVariants.{Source, OutOfMemory}
+use Rattle.log_reader.specs.declared.fault.ReadFault.TheVariants.{NoFile, FalseFile, Collision, Source, OutOfMemory}
 
 abbrev pub by_source : SourceFault → ReadFault
 by_source source.Failed = Source
 by_source source.OutOfMemory = OutOfMemory
+
+-- a read's fault says that the source failed exactly where its count of failures rose, by one
+abbrev pub CountsFailure : {T : Type 0} → ℕ → ℕ → Result T ReadFault → Type 0
+CountsFailure old new (Ok x) = new ≡ old
+CountsFailure old new (Err (NoFile path)) = new ≡ old
+CountsFailure old new (Err (FalseFile path)) = new ≡ old
+CountsFailure old new (Err Collision) = new ≡ old
+CountsFailure old new (Err Source) = new ≡ one_more old
+CountsFailure old new (Err OutOfMemory) = new ≡ old
+
+-- the source failed, or memory was refused
+abbrev pub IsFailure : ReadFault → Type 0
+IsFailure (NoFile path) = ⊥
+IsFailure (FalseFile path) = ⊥
+IsFailure Collision = ⊥
+IsFailure Source = ⊤
+IsFailure OutOfMemory = ⊤

@@ -4,3 +4,4 @@ pub mod Faults
 pub mod Ways
 pub mod Proving
 pub mod Truth
+pub mod Holding

@@ -1,6 +1,13 @@
 //! Bundles of a log, verified.
-ghost use Rattle.std.specs.Prelude.{◌≡◌, ◌↔◌, ◌*◌, ◌<◌, ◌≤◌, IfOk, IsTrue, length};
+ghost use Rattle.std.specs.Prelude.{◌≡◌, ◌↔◌, ◌+◌, ◌*◌, ◌<◌, ◌≤◌, ◌++◌, ℕ, IfOk, IsSomeAnd, IsTrue, List, length};
+ghost use Rattle.tlog_tiles.specs.Bundle.{bundle_text};
+ghost use Rattle.tlog_tiles.specs.Tiles.{bundle_bytes};
+ghost use Rattle.tlog_tiles.specs.declared.paths.Path.TheVariants.{Entries};
+ghost use Rattle.mirror_model.specs.TrueLaws.{AreShort};
 ghost use Rattle.mirror_sources.specs.Source.{StaysWithin};
+ghost use Rattle.mirror_sources.specs.Told.{KeepsTold};
+ghost use Rattle.log_reader.specs.Faults.{CountsFailure};
+ghost use Rattle.log_reader.specs.Holding.{GivesWay, IsEnd, IsEndRow, IsSourceOf, IsTileHash, ReadsOf, ReadsTrue, row_width};
 ghost use Rattle.log_reader.specs.Verified.{HasLeaves, IsVerifiedBundle};
 ghost use Rattle.log_reader.specs.Ways.{IsShownBundle};
 
@@ -8,7 +15,7 @@ use crate::fault::ReadFault;
 use crate::reader::LogReader;
 use crate::verify::{FullFile, leaves_of, verified};
 use mirror_sources::Source;
-use std::alloc::Global;
+use std::alloc::{AllocError, Global};
 use tlog_hash::{Hash, TreeHash};
 use tlog_shape::edge_index;
 use tlog_tiles::{Path, split_entry};
@@ -22,13 +29,21 @@ fn read_full<H: TreeHash, S: Source>(
 ) -> Result<Vec<u8>, ReadFault>
     ensures bytes { IfOk result (λ bytes. IsVerifiedBundle H.digest hash.now bytes.items) }
     ensures later { StaysWithin (S.may_answer source.old) (S.may_answer source.new) }
+    ensures kept { KeepsTold (S.files source.old) (S.files source.new) }
+    ensures counted { CountsFailure (S.failed source.old) (S.failed source.new) result }
+    ensures honest { (entries : List (List ℕ)) → IsTileHash H.digest entries 0 index hash.now
+        → IsSourceOf H.digest entries (S.may_answer source.old) → ReadsTrue result
+        (λ bytes. bytes.items ≡ bundle_bytes entries index 256) }
 {
     let path = Path::Entries { index, width: 256 };
     let Some(bytes) = source.get(&path)? else {
         return Err(ReadFault::NoFile(path));
     };
     match verified::<H>(alloc, FullFile::Bundle, hash, &bytes)? {
-        Some(_row) => Ok(bytes),
+        Some(row) => {
+            drop(row);
+            Ok(bytes)
+        }
         None => Err(ReadFault::FalseFile(path)),
     }
 }
@@ -40,9 +55,9 @@ fn is_same_row(first: &[Hash], second: &[Hash]) -> bool
 }
 
 // Whether the bytes are a bundle with these leaf hashes.
-fn has_leaves<H: TreeHash>(alloc: Global, row: &[Hash], bytes: &[u8]) -> Result<bool, ReadFault>
+fn has_leaves<H: TreeHash>(alloc: Global, row: &[Hash], bytes: &[u8]) -> Result<bool, AllocError>
     requires { length row.now ≤ 256 }
-    ensures { IfOk result (λ b. IsTrue b → HasLeaves H.digest (length row.now) bytes.now row.now) }
+    ensures { IfOk result (λ b. IsTrue b ↔ HasLeaves H.digest (length row.now) bytes.now row.now) }
 {
     match leaves_of::<H>(alloc, row.len() as u32, bytes)? {
         Some(leaves) => Ok(is_same_row(&leaves, row)),
@@ -51,7 +66,11 @@ fn has_leaves<H: TreeHash>(alloc: Global, row: &[Hash], bytes: &[u8]) -> Result<
 }
 
 // The first entries of a bundle; None where it has fewer.
-fn first_entries(bundle: &[u8], count: usize) -> Option<&[u8]> {
+fn first_entries(bundle: &[u8], count: usize) -> Option<&[u8]>
+    ensures { (entries : List (List ℕ)) (rest : List ℕ) → length entries ≡ count → AreShort entries
+        → bundle.now ≡ bundle_text entries ++ rest
+        → IsSomeAnd result (λ part. part.now ≡ bundle_text entries) }
+{
     let mut rest = bundle;
     for _ in 0..count {
         let (_entry, after) = split_entry(rest)?;
@@ -61,14 +80,20 @@ fn first_entries(bundle: &[u8], count: usize) -> Option<&[u8]> {
 }
 
 // The first entries of the full bundle, as many as the partial one has that a log may have deleted.
-fn read_part<S: Source>(
+fn read_part<H: TreeHash, S: Source>(
     alloc: Global,
     source: &mut S,
     path: Path,
     index: u64,
     count: usize,
 ) -> Result<Vec<u8>, ReadFault>
-    ensures { StaysWithin (S.may_answer source.old) (S.may_answer source.new) }
+    ensures later { StaysWithin (S.may_answer source.old) (S.may_answer source.new) }
+    ensures kept { KeepsTold (S.files source.old) (S.files source.new) }
+    ensures counted { CountsFailure (S.failed source.old) (S.failed source.new) result }
+    ensures honest { (entries : List (List ℕ)) → AreShort entries
+        → 256 * index + count ≤ length entries
+        → GivesWay H.digest entries (S.may_answer source.old) (Entries index count)
+        → ReadsTrue result (λ bytes. bytes.items ≡ bundle_bytes entries index count) }
 {
     let full = Path::Entries { index, width: 256 };
     let Some(bytes) = source.get(&full)? else {
@@ -77,6 +102,32 @@ fn read_part<S: Source>(
     match first_entries(&bytes, count) {
         Some(part) => Ok(Vec::from_slice(alloc, part)?),
         None => Err(ReadFault::FalseFile(full)),
+    }
+}
+
+// The bytes of a partial bundle of the log; the first of the full one where it is gone.
+#[tactic(auto, using(crate::proofs::Kept::kept_twice))]
+fn get_end<H: TreeHash, S: Source>(
+    alloc: Global,
+    source: &mut S,
+    index: u64,
+    count: usize,
+) -> Result<Vec<u8>, ReadFault>
+    requires { count ≤ 256 }
+    ensures later { StaysWithin (S.may_answer source.old) (S.may_answer source.new) }
+    ensures kept { KeepsTold (S.files source.old) (S.files source.new) }
+    ensures counted { CountsFailure (S.failed source.old) (S.failed source.new) result }
+    ensures honest { (entries : List (List ℕ)) → IsEnd (length entries) index count
+        → IsSourceOf H.digest entries (S.may_answer source.old)
+        → ReadsTrue result (λ bytes. bytes.items ≡ bundle_bytes entries index count) }
+{
+    let path = Path::Entries {
+        index,
+        width: count as u32,
+    };
+    match source.get(&path)? {
+        Some(bytes) => Ok(bytes),
+        None => read_part::<H, S>(alloc, source, path, index, count),
     }
 }
 
@@ -90,19 +141,20 @@ fn read_end<H: TreeHash, S: Source>(
     requires { length row.now ≤ 256 }
     ensures bytes { IfOk result (λ bytes. HasLeaves H.digest (length row.now) bytes.items row.now) }
     ensures later { StaysWithin (S.may_answer source.old) (S.may_answer source.new) }
+    ensures kept { KeepsTold (S.files source.old) (S.files source.new) }
+    ensures counted { CountsFailure (S.failed source.old) (S.failed source.new) result }
+    ensures honest { (entries : List (List ℕ)) → IsEndRow H.digest entries index row.now
+        → IsSourceOf H.digest entries (S.may_answer source.old) → ReadsTrue result
+        (λ bytes. bytes.items ≡ bundle_bytes entries index (length row.now)) }
 {
-    let path = Path::Entries {
-        index,
-        width: row.len() as u32,
-    };
-    let bytes = match source.get(&path)? {
-        Some(bytes) => bytes,
-        None => read_part::<S>(alloc, source, path, index, row.len())?,
-    };
+    let bytes = get_end::<H, S>(alloc, source, index, row.len())?;
     if has_leaves::<H>(alloc, row, &bytes)? {
         Ok(bytes)
     } else {
-        Err(ReadFault::FalseFile(path))
+        Err(ReadFault::FalseFile(Path::Entries {
+            index,
+            width: row.len() as u32,
+        }))
     }
 }
 
@@ -117,6 +169,7 @@ impl<H: TreeHash> LogReader<H> {
     /// # Errors
     ///
     /// Those of `row`, also of the bundle.
+    #[tactic(auto, using(crate::proofs::Kept::kept_twice, crate::proofs::Kept::kept_once))]
     pub fn bundle<S: Source>(
         &mut self,
         alloc: Global,
@@ -129,6 +182,11 @@ impl<H: TreeHash> LogReader<H> {
         ensures shown { IfOk result
             (λ bytes. IsShownBundle H.digest self.old.edge index bytes.items) }
         ensures later { StaysWithin (S.may_answer source.old) (S.may_answer source.new) }
+        ensures kept { KeepsTold (S.files source.old) (S.files source.new) }
+        ensures counted { CountsFailure (S.failed source.old) (S.failed source.new) result }
+        ensures honest { ReadsOf H.digest self.old self.new (S.may_answer source.old) result
+            (λ entries bytes. bytes.items
+            ≡ bundle_bytes entries index (row_width (length entries) 0 index)) }
     {
         if index == edge_index(self.size(), 0) {
             return read_end::<H, S>(alloc, source, index, self.edge().row(0));

@@ -2,6 +2,8 @@
 ghost use Rattle.std.specs.Prelude.{◌≡◌, ◌+◌, ◌^◌, ◌<◌, ◌≤◌, IfOk};
 ghost use Rattle.tlog_proof.specs.Made.{Holds};
 ghost use Rattle.mirror_sources.specs.Source.{StaysWithin};
+ghost use Rattle.mirror_sources.specs.Told.{KeepsTold};
+ghost use Rattle.log_reader.specs.Faults.{CountsFailure};
 ghost use Rattle.log_reader.specs.Proving.{IsConsistencyTo};
 
 use crate::fault::ReadFault;
@@ -15,6 +17,7 @@ use tlog_shape::split;
 
 // Adds the path from the first entries of a node to all of it: SUBPROOF of RFC 6962, section 2.1.2. Where all of it is the first
 // tree, `held` says that the checker knows its root.
+#[tactic(auto, using(crate::proofs::Kept::kept_twice, crate::proofs::Kept::kept_once))]
 fn add_subproof<H: TreeHash, S: Source>(
     alloc: Global,
     reader: &mut LogReader<H>,
@@ -31,6 +34,8 @@ fn add_subproof<H: TreeHash, S: Source>(
     ensures edge { reader.new.edge ≡ reader.old.edge }
     ensures root { reader.new.root ≡ reader.old.root }
     ensures later { StaysWithin (S.may_answer source.old) (S.may_answer source.new) }
+    ensures kept { KeepsTold (S.files source.old) (S.files source.new) }
+    ensures counted { CountsFailure (S.failed source.old) (S.failed source.new) result }
 {
     let (start, len) = node;
     if first == len {
@@ -64,6 +69,7 @@ impl<H: TreeHash> LogReader<H> {
     /// # Errors
     ///
     /// Those of `row`; and `Collision`: the rows lead to the root, and the proof made of them does not hold.
+    #[tactic(auto, using(crate::proofs::Kept::kept_twice))]
     pub fn consistency<S: Source>(
         &mut self,
         alloc: Global,
@@ -77,6 +83,8 @@ impl<H: TreeHash> LogReader<H> {
         ensures asked { IfOk result (IsConsistencyTo first self.old.edge.size self.old.root) }
         ensures holds { IfOk result (Holds H.digest) }
         ensures later { StaysWithin (S.may_answer source.old) (S.may_answer source.new) }
+        ensures kept { KeepsTold (S.files source.old) (S.files source.new) }
+        ensures counted { CountsFailure (S.failed source.old) (S.failed source.new) result }
     {
         let first_root = self.prefix(alloc, source, first)?.root();
         let second = self.size();

@@ -1,8 +1,13 @@
 //! The rows of an edge, as a source has them.
-ghost use Rattle.std.specs.Prelude.{◌≡◌, ◌≤◌, IfOk};
-ghost use Rattle.tlog_shape.specs.Edge.{width_of};
+ghost use Rattle.std.specs.Prelude.{◌≡◌, ◌≤◌, ℕ, List, IfNone, IfOk, IfSome, length};
+ghost use Rattle.tlog_shape.specs.Edge.{edge_index_of, width_of};
+ghost use Rattle.tlog_tiles.specs.Row.{IsRow};
+ghost use Rattle.tlog_tiles.specs.declared.paths.Path.TheVariants.{Tile};
 ghost use Rattle.mirror_sources.specs.Source.{StaysWithin};
-ghost use Rattle.log_reader.specs.EdgeRows.{hash_of_edge};
+ghost use Rattle.mirror_sources.specs.Told.{KeepsTold};
+ghost use Rattle.log_reader.specs.Faults.{CountsFailure};
+ghost use Rattle.log_reader.specs.EdgeRows.{RowIsTrue, hash_of_edge};
+ghost use Rattle.log_reader.specs.Holding.{GivesWay, IsEdgeRowOf, IsSourceOf, ReadsLog, ReadsTrue};
 ghost use Rattle.log_reader.specs.Ways.{AreHashesOf, HasEdgeHashes};
 
 use crate::edge_root::leads_to;
@@ -10,24 +15,26 @@ use crate::edge_row::edge_path;
 use crate::edge_rows::EdgeRows;
 use crate::fault::ReadFault;
 use mirror_sources::Source;
-use std::alloc::Global;
+use std::alloc::{AllocError, Global};
 use tlog_hash::{Hash, TreeHash};
 use tlog_shape::{edge_index, edge_width};
 use tlog_tiles::{Path, RowFault, read_row};
 
-// The row that the bytes of a file at that path are.
-fn row_in(alloc: Global, width: u32, path: Path, bytes: &[u8]) -> Result<Vec<Hash>, ReadFault>
-    ensures { IfOk result (λ row. AreHashesOf width row.items) }
+// The row of that width that some bytes are; None where they are none.
+fn row_in(alloc: Global, width: u32, bytes: &[u8]) -> Result<Option<Vec<Hash>>, AllocError>
+    ensures row { IfOk result (λ found. IfSome found (λ row. IsRow width bytes.now row.items)) }
+    ensures none { IfOk result (λ found. IfNone found ((row : List (List ℕ))
+        → ¬ IsRow width bytes.now row)) }
 {
     match read_row(alloc, width, bytes) {
-        Ok(row) => Ok(row),
-        Err(RowFault::RowLength) => Err(ReadFault::FalseFile(path)),
-        Err(RowFault::OutOfMemory) => Err(ReadFault::OutOfMemory),
+        Ok(row) => Ok(Some(row)),
+        Err(RowFault::RowLength) => Ok(None),
+        Err(RowFault::OutOfMemory) => Err(AllocError),
     }
 }
 
 // The first hashes of the full tile, as many as the partial one has that a log may have deleted.
-fn read_part<S: Source>(
+fn read_part<H: TreeHash, S: Source>(
     alloc: Global,
     source: &mut S,
     size: u64,
@@ -36,6 +43,11 @@ fn read_part<S: Source>(
     requires { level ≤ 7 }
     ensures row { IfOk result (λ row. AreHashesOf (width_of size level) row.items) }
     ensures later { StaysWithin (S.may_answer source.old) (S.may_answer source.new) }
+    ensures kept { KeepsTold (S.files source.old) (S.files source.new) }
+    ensures counted { CountsFailure (S.failed source.old) (S.failed source.new) result }
+    ensures honest { (entries : List (List ℕ)) → GivesWay H.digest entries
+        (S.may_answer source.old) (Tile level (edge_index_of size level) (width_of size level))
+        → ReadsTrue result (λ row. IsEdgeRowOf H.digest size level entries row.items) }
 {
     let full = Path::Tile {
         level,
@@ -46,14 +58,18 @@ fn read_part<S: Source>(
         return Err(ReadFault::NoFile(edge_path(size, level)));
     };
     let width = edge_width(size, level);
-    match bytes.get(..32 * width as usize) {
-        Some(part) => row_in(alloc, width, full, part),
+    let Some(part) = bytes.get(..32 * width as usize) else {
+        return Err(ReadFault::FalseFile(full));
+    };
+    match row_in(alloc, width, part)? {
+        Some(row) => Ok(row),
         None => Err(ReadFault::FalseFile(full)),
     }
 }
 
 // The row of a level of the edge, empty where the level has none.
-fn read_edge_row<S: Source>(
+#[tactic(auto, using(crate::proofs::Kept::kept_twice, crate::proofs::Kept::kept_once))]
+fn read_edge_row<H: TreeHash, S: Source>(
     alloc: Global,
     source: &mut S,
     size: u64,
@@ -62,15 +78,23 @@ fn read_edge_row<S: Source>(
     requires { level ≤ 7 }
     ensures row { IfOk result (λ row. AreHashesOf (width_of size level) row.items) }
     ensures later { StaysWithin (S.may_answer source.old) (S.may_answer source.new) }
+    ensures kept { KeepsTold (S.files source.old) (S.files source.new) }
+    ensures counted { CountsFailure (S.failed source.old) (S.failed source.new) result }
+    ensures honest { (entries : List (List ℕ)) → length entries ≡ size
+        → IsSourceOf H.digest entries (S.may_answer source.old)
+        → ReadsTrue result (λ row. IsEdgeRowOf H.digest size level entries row.items) }
 {
     let width = edge_width(size, level);
     if width == 0 {
         return Ok(Vec::new(alloc));
     }
     let path = edge_path(size, level);
-    match source.get(&path)? {
-        Some(bytes) => row_in(alloc, width, path, &bytes),
-        None => read_part(alloc, source, size, level),
+    let Some(bytes) = source.get(&path)? else {
+        return read_part::<H, S>(alloc, source, size, level);
+    };
+    match row_in(alloc, width, &bytes)? {
+        Some(row) => Ok(row),
+        None => Err(ReadFault::FalseFile(path)),
     }
 }
 
@@ -85,14 +109,24 @@ fn lowest_path(size: u64) -> Path {
 }
 
 // The edge rows, asked for lowest level first.
-fn read_rows<S: Source>(alloc: Global, source: &mut S, size: u64) -> Result<EdgeRows, ReadFault>
+#[tactic(auto, using(crate::proofs::Kept::kept_twice, crate::proofs::Kept::kept_once))]
+fn read_rows<H: TreeHash, S: Source>(
+    alloc: Global,
+    source: &mut S,
+    size: u64,
+) -> Result<EdgeRows, ReadFault>
     ensures size { IfOk result (λ edge. edge.size ≡ size) }
     ensures rows { IfOk result (λ edge. HasEdgeHashes edge) }
     ensures later { StaysWithin (S.may_answer source.old) (S.may_answer source.new) }
+    ensures kept { KeepsTold (S.files source.old) (S.files source.new) }
+    ensures counted { CountsFailure (S.failed source.old) (S.failed source.new) result }
+    ensures honest { (entries : List (List ℕ)) → length entries ≡ size
+        → IsSourceOf H.digest entries (S.may_answer source.old) → ReadsTrue result
+        (λ edge. (level : ℕ) → level ≤ 7 → RowIsTrue H.digest edge entries level) }
 {
     let mut rows = Vec::new(alloc);
     for level in 0..8u32 {
-        rows.push(read_edge_row(alloc, source, size, level)?)?;
+        rows.push(read_edge_row::<H, S>(alloc, source, size, level)?)?;
     }
     Ok(EdgeRows::new(size, rows))
 }
@@ -108,8 +142,12 @@ pub(crate) fn read_edge<H: TreeHash, S: Source>(
     ensures rows { IfOk result (λ edge. HasEdgeHashes edge) }
     ensures root { IfOk result (λ edge. hash_of_edge H.digest edge ≡ root.now) }
     ensures later { StaysWithin (S.may_answer source.old) (S.may_answer source.new) }
+    ensures kept { KeepsTold (S.files source.old) (S.files source.new) }
+    ensures counted { CountsFailure (S.failed source.old) (S.failed source.new) result }
+    ensures honest { ReadsLog H.digest size root.now (S.may_answer source.old) result
+        (λ entries edge. (level : ℕ) → level ≤ 7 → RowIsTrue H.digest edge entries level) }
 {
-    let edge = read_rows::<S>(alloc, source, size)?;
+    let edge = read_rows::<H, S>(alloc, source, size)?;
     if leads_to::<H>(alloc, &edge, root)? {
         Ok(edge)
     } else {

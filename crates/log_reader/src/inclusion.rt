@@ -1,7 +1,11 @@
 //! Inclusion proofs of a log, made of verified rows.
-ghost use Rattle.std.specs.Prelude.{◌≡◌, ◌+◌, ◌^◌, ◌<◌, ◌≤◌, IfOk};
+ghost use Rattle.std.specs.Prelude.{◌≡◌, ◌+◌, ◌^◌, ◌<◌, ◌≤◌, [], IfOk, get_or};
+ghost use Rattle.tlog_hash.specs.Tree.{leaf_hash};
 ghost use Rattle.tlog_proof.specs.Made.{Holds};
 ghost use Rattle.mirror_sources.specs.Source.{StaysWithin};
+ghost use Rattle.mirror_sources.specs.Told.{KeepsTold};
+ghost use Rattle.log_reader.specs.Faults.{CountsFailure};
+ghost use Rattle.log_reader.specs.Holding.{ReadsOf};
 ghost use Rattle.log_reader.specs.Proving.{IsInclusionIn};
 
 use crate::fault::ReadFault;
@@ -12,8 +16,10 @@ use std::alloc::Global;
 use tlog_hash::{Hash, TreeHash};
 use tlog_proof::{HashPath, Proof, holds};
 use tlog_shape::split;
+use tlog_tiles::Path;
 
 // Adds the path for an index, counted from the start of a node, within that node: PATH of RFC 6962, section 2.1.1.
+#[tactic(auto, using(crate::proofs::Kept::kept_twice, crate::proofs::Kept::kept_once))]
 fn add_path<H: TreeHash, S: Source>(
     alloc: Global,
     reader: &mut LogReader<H>,
@@ -28,6 +34,8 @@ fn add_path<H: TreeHash, S: Source>(
     ensures edge { reader.new.edge ≡ reader.old.edge }
     ensures root { reader.new.root ≡ reader.old.root }
     ensures later { StaysWithin (S.may_answer source.old) (S.may_answer source.new) }
+    ensures kept { KeepsTold (S.files source.old) (S.files source.new) }
+    ensures counted { CountsFailure (S.failed source.old) (S.failed source.new) result }
 {
     let (start, len) = node;
     if len == 1 {
@@ -65,8 +73,20 @@ impl<H: TreeHash> LogReader<H> {
         ensures edge { self.new.edge ≡ self.old.edge }
         ensures root { self.new.root ≡ self.old.root }
         ensures later { StaysWithin (S.may_answer source.old) (S.may_answer source.new) }
+        ensures kept { KeepsTold (S.files source.old) (S.files source.new) }
+        ensures counted { CountsFailure (S.failed source.old) (S.failed source.new) result }
+        ensures honest { ReadsOf H.digest self.old self.new (S.may_answer source.old) result
+            (λ entries hash. hash ≡ leaf_hash H.digest (get_or entries index [])) }
     {
-        node_hash::<H, S>(alloc, self, source, index, 1)
+        let row = self.row(alloc, source, 0, index / 256)?;
+        match row.get((index % 256) as usize) {
+            Some(hash) => Ok(*hash),
+            None => Err(ReadFault::NoFile(Path::Tile {
+                level: 0,
+                index: index / 256,
+                width: 256,
+            })),
+        }
     }
 
     /// The proof that an entry is in the tree of all (RFC 6962, section 2.1.1). It is checked before it is handed out, so it holds,
@@ -80,6 +100,7 @@ impl<H: TreeHash> LogReader<H> {
     /// # Errors
     ///
     /// Those of `row`; and `Collision`: the rows lead to the root, and the proof made of them does not hold.
+    #[tactic(auto, using(crate::proofs::Kept::kept_twice))]
     pub fn inclusion<S: Source>(
         &mut self,
         alloc: Global,
@@ -92,6 +113,8 @@ impl<H: TreeHash> LogReader<H> {
         ensures asked { IfOk result (IsInclusionIn self.old.edge.size index self.old.root) }
         ensures holds { IfOk result (Holds H.digest) }
         ensures later { StaysWithin (S.may_answer source.old) (S.may_answer source.new) }
+        ensures kept { KeepsTold (S.files source.old) (S.files source.new) }
+        ensures counted { CountsFailure (S.failed source.old) (S.failed source.new) result }
     {
         let size = self.size();
         let leaf = self.leaf(alloc, source, index)?;

@@ -1,6 +1,8 @@
 //! The hashes of the nodes of a tree.
 ghost use Rattle.std.specs.Prelude.{◌≡◌, ◌+◌, ◌<◌, ◌≤◌};
 ghost use Rattle.mirror_sources.specs.Source.{StaysWithin};
+ghost use Rattle.mirror_sources.specs.Told.{KeepsTold};
+ghost use Rattle.log_reader.specs.Faults.{CountsFailure};
 
 use crate::edge_root::with_row;
 use crate::edge_rows::EdgeRows;
@@ -52,6 +54,7 @@ fn end_hash<H: TreeHash>(
 
 /// The hash of a node of the tree: of as many entries as `len`, from `start` on. Where they are not a power of two, they are the
 /// last ones.
+#[tactic(auto, using(crate::proofs::Kept::kept_once))]
 pub(crate) fn node_hash<H: TreeHash, S: Source>(
     alloc: Global,
     reader: &mut LogReader<H>,
@@ -63,6 +66,8 @@ pub(crate) fn node_hash<H: TreeHash, S: Source>(
     ensures edge { reader.new.edge ≡ reader.old.edge }
     ensures root { reader.new.root ≡ reader.old.root }
     ensures later { StaysWithin (S.may_answer source.old) (S.may_answer source.new) }
+    ensures kept { KeepsTold (S.files source.old) (S.files source.new) }
+    ensures counted { CountsFailure (S.failed source.old) (S.failed source.new) result }
 {
     let level = top_level(len);
     let first = edge_width(start, level);

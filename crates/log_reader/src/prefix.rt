@@ -1,7 +1,11 @@
 //! A log as it was when it had fewer entries.
-ghost use Rattle.std.specs.Prelude.{◌≡◌, ◌≤◌, All, IfOk, length, take};
+ghost use Rattle.std.specs.Prelude.{◌≡◌, ◌≤◌, ℕ, All, IfOk, length, take};
 ghost use Rattle.tlog_shape.specs.Edge.{edge_index_of, width_of};
 ghost use Rattle.mirror_sources.specs.Source.{StaysWithin};
+ghost use Rattle.mirror_sources.specs.Told.{KeepsTold};
+ghost use Rattle.log_reader.specs.Faults.{CountsFailure};
+ghost use Rattle.log_reader.specs.EdgeRows.{RowIsTrue};
+ghost use Rattle.log_reader.specs.Holding.{IsEdgeRowOf, IsReaderOf, ReadsOf};
 ghost use Rattle.log_reader.specs.Ways.{HasEdgeHashes, IsShownEdge, IsShownPart, IsShownStart};
 
 use crate::edge_root::edge_hash;
@@ -42,6 +46,10 @@ fn first_row<H: TreeHash, S: Source>(
     ensures shown { IfOk result (λ row. IsShownStart H.digest reader.old.edge level
         (edge_index_of size level) (width_of size level) row.items) }
     ensures later { StaysWithin (S.may_answer source.old) (S.may_answer source.new) }
+    ensures kept { KeepsTold (S.files source.old) (S.files source.new) }
+    ensures counted { CountsFailure (S.failed source.old) (S.failed source.new) result }
+    ensures honest { ReadsOf H.digest reader.old reader.new (S.may_answer source.old) result
+        (λ entries row. IsEdgeRowOf H.digest size level (take size entries) row.items) }
 {
     let width = edge_width(size, level);
     let index = edge_index(size, level);
@@ -53,6 +61,7 @@ fn first_row<H: TreeHash, S: Source>(
 }
 
 // That row, empty where the level has none.
+#[tactic(auto, using(crate::proofs::Kept::kept_once))]
 fn first_row_if_any<H: TreeHash, S: Source>(
     alloc: Global,
     reader: &mut LogReader<H>,
@@ -66,6 +75,10 @@ fn first_row_if_any<H: TreeHash, S: Source>(
     ensures root { reader.new.root ≡ reader.old.root }
     ensures row { IfOk result (λ row. IsShownPart H.digest reader.old.edge size level row.items) }
     ensures later { StaysWithin (S.may_answer source.old) (S.may_answer source.new) }
+    ensures kept { KeepsTold (S.files source.old) (S.files source.new) }
+    ensures counted { CountsFailure (S.failed source.old) (S.failed source.new) result }
+    ensures honest { ReadsOf H.digest reader.old reader.new (S.may_answer source.old) result
+        (λ entries row. IsEdgeRowOf H.digest size level (take size entries) row.items) }
 {
     if edge_width(size, level) == 0 {
         return Ok(Vec::new(alloc));
@@ -74,6 +87,7 @@ fn first_row_if_any<H: TreeHash, S: Source>(
 }
 
 // The edge of the first entries.
+#[tactic(auto, using(crate::proofs::Kept::kept_twice, crate::proofs::Kept::kept_once))]
 fn first_edge<H: TreeHash, S: Source>(
     alloc: Global,
     reader: &mut LogReader<H>,
@@ -87,6 +101,11 @@ fn first_edge<H: TreeHash, S: Source>(
     ensures hashes { IfOk result (λ first. HasEdgeHashes first) }
     ensures shown { IfOk result (λ first. IsShownEdge H.digest reader.old.edge first) }
     ensures later { StaysWithin (S.may_answer source.old) (S.may_answer source.new) }
+    ensures kept { KeepsTold (S.files source.old) (S.files source.new) }
+    ensures counted { CountsFailure (S.failed source.old) (S.failed source.new) result }
+    ensures honest { ReadsOf H.digest reader.old reader.new (S.may_answer source.old) result
+        (λ entries first. (level : ℕ) → level ≤ 7
+        → RowIsTrue H.digest first (take size entries) level) }
 {
     let mut rows = Vec::new(alloc);
     for level in 0..8u32 {
@@ -118,6 +137,10 @@ impl<H: TreeHash> LogReader<H> {
         ensures size { IfOk result (λ reader. reader.edge.size ≡ size) }
         ensures shown { IfOk result (λ reader. IsShownEdge H.digest self.old.edge reader.edge) }
         ensures later { StaysWithin (S.may_answer source.old) (S.may_answer source.new) }
+        ensures kept { KeepsTold (S.files source.old) (S.files source.new) }
+        ensures counted { CountsFailure (S.failed source.old) (S.failed source.new) result }
+        ensures honest { ReadsOf H.digest self.old self.new (S.may_answer source.old) result
+            (λ entries reader. IsReaderOf H.digest (take size entries) reader) }
     {
         let edge = first_edge::<H, S>(alloc, self, source, size)?;
         let root = edge_hash::<H>(alloc, &edge)?;

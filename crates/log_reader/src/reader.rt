@@ -2,6 +2,9 @@
 ghost use Rattle.std.specs.Prelude.{◌≡◌, ◌≢◌, ◌↔◌, ◌+◌, ◌-◌, ◌/◌, ◌%◌, ◌<◌, ◌≤◌, [], ◌∷◌, IfOk, IfErr, IsTrue, OnOk, drop, map};
 ghost use Rattle.tlog_shape.specs.Edge.{edge_index_of};
 ghost use Rattle.mirror_sources.specs.Source.{StaysWithin};
+ghost use Rattle.mirror_sources.specs.Told.{KeepsTold};
+ghost use Rattle.log_reader.specs.Faults.{CountsFailure};
+ghost use Rattle.log_reader.specs.Holding.{IsReaderOf, ReadsLog};
 ghost use Rattle.log_reader.specs.EdgeRows.{hash_of_edge};
 ghost use Rattle.log_reader.specs.Ways.{HasEdgeHashes, IsRowUnder, IsShownRow, row_of_way};
 
@@ -85,6 +88,10 @@ impl<H: TreeHash> LogReader<H> {
         ensures size { IfOk result (λ reader. reader.edge.size ≡ size) }
         ensures root { IfOk result (λ reader. reader.root ≡ root.now) }
         ensures later { StaysWithin (S.may_answer source.old) (S.may_answer source.new) }
+        ensures kept { KeepsTold (S.files source.old) (S.files source.new) }
+        ensures counted { CountsFailure (S.failed source.old) (S.failed source.new) result }
+        ensures honest { ReadsLog H.digest size root.now (S.may_answer source.old) result
+            (λ entries reader. IsReaderOf H.digest entries reader) }
     {
         let edge = read_edge::<H, S>(alloc, source, size, root)?;
         Ok(LogReader::over(alloc, edge, *root))
@@ -96,6 +103,8 @@ impl<H: TreeHash> LogReader<H> {
         requires leads { hash_of_edge H.digest edge ≡ root }
         ensures edge { result.edge ≡ edge }
         ensures root { result.root ≡ root }
+        ensures place { (result.level ≡ 0) × (result.index ≡ edge_index_of edge.size 0)
+            × (result.way ≡ []) }
     {
         let index = edge_index(edge.size(), 0);
         LogReader {

@@ -1,6 +1,10 @@
 //! The row of a full tile, as a source has it.
-ghost use Rattle.std.specs.Prelude.{IfOk};
+ghost use Rattle.std.specs.Prelude.{◌≡◌, ◌*◌, ℕ, IfOk, List};
+ghost use Rattle.tlog_hash.specs.Rows.{level_row};
 ghost use Rattle.mirror_sources.specs.Source.{StaysWithin};
+ghost use Rattle.mirror_sources.specs.Told.{KeepsTold};
+ghost use Rattle.log_reader.specs.Faults.{CountsFailure};
+ghost use Rattle.log_reader.specs.Holding.{IsSourceOf, IsTileHash, ReadsTrue};
 ghost use Rattle.log_reader.specs.Verified.{IsVerifiedRow};
 
 use crate::fault::ReadFault;
@@ -20,6 +24,11 @@ pub(crate) fn read_tile<H: TreeHash, S: Source>(
 ) -> Result<Vec<Hash>, ReadFault>
     ensures row { IfOk result (λ row. IsVerifiedRow H.digest hash.now row.items) }
     ensures later { StaysWithin (S.may_answer source.old) (S.may_answer source.new) }
+    ensures kept { KeepsTold (S.files source.old) (S.files source.new) }
+    ensures counted { CountsFailure (S.failed source.old) (S.failed source.new) result }
+    ensures honest { (entries : List (List ℕ)) → IsTileHash H.digest entries level index hash.now
+        → IsSourceOf H.digest entries (S.may_answer source.old) → ReadsTrue result
+        (λ row. row.items ≡ level_row H.digest entries level (256 * index) 256) }
 {
     let path = Path::Tile {
         level,

@@ -1,7 +1,11 @@
 //! Rows read one below the other.
-ghost use Rattle.std.specs.Prelude.{◌≡◌, ◌%◌, ◌≤◌, All, IfOk, OnOk, length};
+ghost use Rattle.std.specs.Prelude.{◌≡◌, ◌*◌, ◌%◌, ◌≤◌, ⊤, ℕ, All, IfOk, List, OnOk, length};
 ghost use Rattle.tlog_shape.specs.Edge.{edge_index_of};
+ghost use Rattle.tlog_hash.specs.Rows.{level_row};
 ghost use Rattle.mirror_sources.specs.Source.{StaysWithin};
+ghost use Rattle.mirror_sources.specs.Told.{KeepsTold};
+ghost use Rattle.log_reader.specs.Faults.{CountsFailure};
+ghost use Rattle.log_reader.specs.Holding.{IsBelow, IsReaderOf, IsSourceOf, ReadsOf, ReadsTrue, true_row};
 ghost use Rattle.log_reader.specs.Ways.{IsRowUnder, IsShownRow, row_of_way};
 
 use crate::fault::ReadFault;
@@ -17,6 +21,8 @@ use tlog_tiles::Path;
 fn climb<H: TreeHash>(reader: &mut LogReader<H>, level: u32)
     ensures edge { reader.new.edge ≡ reader.old.edge }
     ensures root { reader.new.root ≡ reader.old.root }
+    ensures honest { (entries : List (List ℕ)) → IsReaderOf H.digest entries reader.old
+        → IsReaderOf H.digest entries reader.new }
 {
     while reader.is_below(level) {
         reader.up();
@@ -24,6 +30,7 @@ fn climb<H: TreeHash>(reader: &mut LogReader<H>, level: u32)
 }
 
 // The row of the full tile of that index, one level below the one where the reader stands.
+#[tactic(auto, using(crate::proofs::Kept::kept_once))]
 fn read_below<H: TreeHash, S: Source>(
     alloc: Global,
     reader: &LogReader<H>,
@@ -34,6 +41,12 @@ fn read_below<H: TreeHash, S: Source>(
     ensures row { IfOk result (λ row. IsRowUnder H.digest
         (row_of_way reader.now.edge reader.now.level reader.now.way) (index % 256) row.items) }
     ensures later { StaysWithin (S.may_answer source.old) (S.may_answer source.new) }
+    ensures kept { KeepsTold (S.files source.old) (S.files source.new) }
+    ensures counted { CountsFailure (S.failed source.old) (S.failed source.new) result }
+    ensures honest { (entries : List (List ℕ)) → IsReaderOf H.digest entries reader.now
+        → IsSourceOf H.digest entries (S.may_answer source.old) → IsBelow reader.now level index
+        → ReadsTrue result
+        (λ row. row.items ≡ level_row H.digest entries level (256 * index) 256) }
 {
     let row = reader.here();
     let Some(hash) = row.get((index % 256) as usize) else {
@@ -47,6 +60,7 @@ fn read_below<H: TreeHash, S: Source>(
 }
 
 /// Goes to a tile, and reads the rows on the way down to it.
+#[tactic(auto, using(crate::proofs::Kept::kept_twice, crate::proofs::Kept::kept_once))]
 pub(crate) fn go_to<H: TreeHash, S: Source>(
     alloc: Global,
     reader: &mut LogReader<H>,
@@ -60,6 +74,10 @@ pub(crate) fn go_to<H: TreeHash, S: Source>(
     ensures root { reader.new.root ≡ reader.old.root }
     ensures there { OnOk result ((reader.new.level ≡ level) × (reader.new.index ≡ index)) }
     ensures later { StaysWithin (S.may_answer source.old) (S.may_answer source.new) }
+    ensures kept { KeepsTold (S.files source.old) (S.files source.new) }
+    ensures counted { CountsFailure (S.failed source.old) (S.failed source.new) result }
+    ensures honest { ReadsOf H.digest reader.old reader.new (S.may_answer source.old) result
+        (λ entries _. ⊤) }
 {
     climb(reader, level);
     if reader.is_at(level, index) {
@@ -110,6 +128,10 @@ impl<H: TreeHash> LogReader<H> {
         ensures shown { IfOk result
             (λ row. IsShownRow H.digest self.old.edge level index row.items) }
         ensures later { StaysWithin (S.may_answer source.old) (S.may_answer source.new) }
+        ensures kept { KeepsTold (S.files source.old) (S.files source.new) }
+        ensures counted { CountsFailure (S.failed source.old) (S.failed source.new) result }
+        ensures honest { ReadsOf H.digest self.old self.new (S.may_answer source.old) result
+            (λ entries row. row.items ≡ true_row H.digest entries level index) }
     {
         go_to::<H, S>(alloc, self, source, level, index)?;
         Ok(copy_row(alloc, self.here())?)

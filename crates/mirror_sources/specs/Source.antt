@@ -5,6 +5,10 @@ use Rattle.mirror_sources.specs.Told.{KeepsTold, AddsTold, one_more}
 use Rattle.mirror_sources.specs.declared.source.SourceFault.{SourceFault}
 use Rattle.mirror_sources.specs.declared.source.SourceFault.TheVariants.{Failed, OutOfMemory}
 
+-- a file: its path, and the bytes that stand there
+abbrev pub File : Type 0
+File = Path × List ℕ
+
 -- a get adds its path, except one that wanted memory
 abbrev pub TellsGet : {T : Type 0} → Option (List Path) → Option (List Path) → Path →
     Result T SourceFault → Type 0

@@ -39,13 +39,17 @@ impl<T: Drop> From<AllocFailed<T>> for SourceFault {
 pub trait Source {
     ghost use Rattle.std.specs.Prelude.{◌≡◌, ℕ, List, Option, None, ⊤, IfOk, option_map};
     ghost use Rattle.tlog_tiles.specs.declared.paths.Path.{Path};
-    ghost use Rattle.mirror_sources.specs.Source.{TellsGet, CountsGet, StaysWithin};
+    ghost use Rattle.mirror_sources.specs.Source.{File, TellsGet, CountsGet, StaysWithin};
+    ghost use Rattle.mirror_sources.specs.Told.{KeepsTold};
 
     /// Which answers may still come. A source of which nothing is known may give any.
     ghost may_answer: { Self → Path → Option (List ℕ) → Type 0 } = { λ _ _ _. ⊤ };
 
     /// The paths that were asked for, the oldest first, where the source tells them.
     ghost asked: { Self → Option (List Path) } = { λ _. None };
+
+    /// The files that were put where it reads, the oldest first, where they are known. Neither a get nor a hint changes them.
+    ghost files: { Self → Option (List File) } = { λ _. None };
 
     /// How many gets failed.
     ghost failed: { Self → ℕ };
@@ -59,6 +63,7 @@ pub trait Source {
         ensures answer { IfOk result
             (λ bytes. may_answer self.old path.now (option_map (λ v. v.items) bytes)) }
         ensures later { StaysWithin (may_answer self.old) (may_answer self.new) }
+        ensures kept { KeepsTold (files self.old) (files self.new) }
         ensures told { TellsGet (asked self.old) (asked self.new) path.now result }
         ensures counted { CountsGet (failed self.old) (failed self.new) result };
 
@@ -68,6 +73,7 @@ pub trait Source {
     /// answer come that could not come before. Where memory is refused there is no hint.
     fn expect(&mut self, _paths: &[Path])
         ensures later { StaysWithin (may_answer self.old) (may_answer self.new) }
+        ensures kept { files self.new ≡ files self.old }
         ensures told { asked self.new ≡ asked self.old }
         ensures counted { failed self.new ≡ failed self.old }
     {}

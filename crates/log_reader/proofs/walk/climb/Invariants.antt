@@ -1,4 +1,5 @@
-use Rattle.std.proofs.Common.{◌≡◌, ◌-◌}
+use Rattle.std.proofs.Common.{◌≡◌, ◌-◌, ℕ, List}
+use Rattle.log_reader.specs.Holding.{IsReaderOf}
 use Rattle.log_reader.proofs.walk.climb.Given as goal
 
 -- the tree is the same
@@ -6,6 +7,8 @@ abbrev pub invariant-loop-reader : goal.invariant-loop-reader
 invariant-loop-reader g l = record {
   edge : l.reader.edge ≡ l.fn.reader.edge;
   root : l.reader.root ≡ l.fn.reader.root;
+  honest : (entries : List (List ℕ)) → IsReaderOf g.H.TreeHash.digest entries l.fn.reader →
+      IsReaderOf g.H.TreeHash.digest entries l.reader;
 }
 
 abbrev pub decreases-loop-reader : goal.decreases-loop-reader

@@ -1,0 +1,13 @@
+-- What is known of a source's files, call after call.
+use Rattle.std.proofs.Common.{List, Option, Some, None, refl, ◌∙◌}
+use Rattle.mirror_sources.specs.Told.{KeepsTold}
+
+pub kept_once : {X : Type 0} (x : Option (List X)) → KeepsTold x x
+kept_once None = tt
+kept_once (Some xs) = refl
+
+pub kept_twice : {X : Type 0} (x y z : Option (List X)) → KeepsTold x y → KeepsTold y z → KeepsTold x z
+kept_twice None y z p q = tt
+kept_twice (Some xs) None z p q = absurd p
+kept_twice (Some xs) (Some ys) None p q = q
+kept_twice (Some xs) (Some ys) (Some zs) p q = q ∙ p

@@ -1,0 +1,34 @@
+use Rattle.std.proofs.Common.{◌%◌, ◌<◌, ◌≤◌, [], length, refl, rules, subst, ◌∙◌, arith}
+use Rattle.std.proofs.lemmas.List.{get_or_read_under}
+use Rattle.log_reader.proofs.TruePrefixes.{leaf_is, leaf_within}
+use Rattle.log_reader.proofs.reader.LogReader.leaf.Goals as goal
+
+pub returns-in_err-row-clause-honest : goal.returns-in_err-row-clause-honest
+returns-in_err-row-clause-honest g c = λ entries r s.
+    let went = c.in_err-row.ensures.honest entries r s in
+    let fault = went.answer in
+    record { reader_is = went.reader_is; answer = search (rules, fault) }
+
+pub returns-in-Some-clause-honest : goal.returns-in-Some-clause-honest
+returns-in-Some-clause-honest g c = λ entries r s.
+    let done = c.in_ok-row.ensures.honest entries r s in
+    let index = c.args.index in
+    let row = c.deref.result.now in
+    let before : index < length entries = subst (λ n. index < n) r.size_is c.requires in
+    let is = c.deref.ensures.value ∙ done.answer in
+    record {
+      reader_is = done.reader_is;
+      answer = get_or_read_under row (index % 256) (length row) c.in-Some.hash.now [] c.in-Some.ensures.lookup.1
+          (leaf_within g.H.TreeHash.digest entries index before row is) refl
+          ∙ leaf_is g.H.TreeHash.digest entries index before row is;
+    }
+
+pub returns-clause-honest : goal.returns-clause-honest
+returns-clause-honest g c = λ entries r s.
+    let done = c.in_ok-row.ensures.honest entries r s in
+    let index = c.args.index in
+    let row = c.deref.result.now in
+    let before : index < length entries = subst (λ n. index < n) r.size_is c.requires in
+    let within = leaf_within g.H.TreeHash.digest entries index before row (c.deref.ensures.value ∙ done.answer) in
+    let none : length row ≤ index % 256 = c.in-None.ensures.lookup.3 in
+    absurd (omega (arith, within, none))
