@@ -1,7 +1,8 @@
 -- From the bytes of what is asked for to what is answered.
-use Rattle.std.proofs.Common.{◌≡◌, ◌⊎◌, ℕ, List, Option, Some, None, Result, Ok, Err, IfErr, refl, sym, subst, inl, inr}
+use Rattle.std.proofs.Common.{◌≡◌, ◌⊎◌, ℕ, List, Option, Some, None, Result, Ok, Err, IfErr, refl, sym, subst, inl, inr, ◌∙◌}
 use Rattle.std.specs.Prelude.{IfNone, IfOk, IfSome, option_map}
 use Rattle.std.specs.Io.KnownBytes.{Keeps}
+use Rattle.tlog_tiles.specs.declared.paths.Path.{Path}
 use Rattle.mirror_folders.specs.Shelf.{Put}
 use Rattle.mirror_server.specs.Answered.{IsBodyFor, IsRequestOf, reply_with}
 use Rattle.mirror_server.specs.Response.{server_error}
@@ -13,10 +14,12 @@ use Rattle.mirror_server.proofs.Replying.{responds}
 use Rattle.mirror_sources.specs.Told.{KeepsTold, one_more}
 use Rattle.copy_server.specs.Bodies.{IsBodyAt, IsCopyBody}
 use Rattle.copy_server.specs.CopyAnswers.{AnswersFromCopy, CountsAnswer, IsCopyReply, IsQuiet, WritesError, WritesReply}
+use Rattle.copy_server.specs.CopyAnswers.{WritesServerError}
 use Rattle.copy_server.specs.CopyHeads.{CopyHead, IsCopyHead}
-use Rattle.copy_server.specs.Faults.{CountsBody}
-use Rattle.copy_server.specs.declared.fault.BodyFault.{BodyFault}
-use Rattle.copy_server.specs.declared.fault.BodyFault.TheVariants as body
+use Rattle.copy_reader.specs.Faults.{CountsRead}
+use Rattle.copy_reader.specs.declared.fault.CopyFault.{CopyFault}
+use Rattle.copy_reader.specs.declared.fault.CopyFault.TheVariants as copy
+use Rattle.copy_server.specs.Faults.{by_body}
 use Rattle.copy_server.specs.declared.fault.CopyAnswerFault.{CopyAnswerFault}
 use Rattle.copy_server.specs.declared.fault.CopyAnswerFault.TheVariants.{Http, CopyDamaged, ShelfFault}
 use Rattle.copy_server.proofs.CopyBodies.{one_copy_head}
@@ -92,7 +95,7 @@ module _ {X : Type 0} (old new : Option (List ℕ)) (digest : List ℕ → List 
   answers_whole (Some bytes) None request reply r asks is w = tt
   answers_whole (Some bytes) (Some puts) request reply r asks is w = whole puts bytes reply r (is bytes asks) w
 
-  error : (puts : List Put) (bytes : List ℕ) (fault : BodyFault) (r : Result X CopyAnswerFault) →
+  error : (puts : List Put) (bytes : List ℕ) (fault : CopyAnswerFault) (r : Result X CopyAnswerFault) →
       WritesError fault old new r → AnswersFromCopy digest origin puts bytes old new r
   error puts bytes fault (Ok x) w = absurd w
   error puts bytes fault (Err (Http ReadFault)) w = absurd w
@@ -101,18 +104,36 @@ module _ {X : Type 0} (old new : Option (List ℕ)) (digest : List ℕ → List 
   error puts bytes fault (Err (CopyDamaged path)) w = w.1
   error puts bytes fault (Err ShelfFault) w = w.1
 
-  pub answers_error : (known : Option (List ℕ)) (held : Option (List Put)) (fault : BodyFault)
+  pub answers_error : (known : Option (List ℕ)) (held : Option (List Put)) (fault : CopyAnswerFault)
       (r : Result X CopyAnswerFault) → WritesError fault old new r →
       IfSome known (λ bytes. IfSome held (λ puts. AnswersFromCopy digest origin puts bytes old new r))
   answers_error None held fault r w = tt
   answers_error (Some bytes) None fault r w = tt
   answers_error (Some bytes) (Some puts) fault r w = error puts bytes fault r w
 
-counts_some : (T : Type 0) (a b : ℕ) (fault : BodyFault) → CountsBody {T = T} a b (Err fault) →
+counts_some : (T : Type 0) (a b : ℕ) (fault : CopyFault) → CountsRead {T = T} a b (Err fault) →
     (b ≡ a) ⊎ (b ≡ one_more a)
-counts_some T a b (body.CopyDamaged path) c = inl c
-counts_some T a b body.ShelfFault c = inr c
-counts_some T a b body.OutOfMemory c = inl c
+counts_some T a b (copy.Origin f) c = absurd c
+counts_some T a b (copy.Head f) c = absurd c
+counts_some T a b (copy.CopyDamaged path) c = inl c
+counts_some T a b copy.ShelfFault c = inr c
+counts_some T a b copy.OutOfMemory c = inl c
+
+counts_damaged : (T : Type 0) (a b : ℕ) (fault : CopyFault) (path : Path) → CountsRead {T = T} a b (Err fault) →
+    by_body fault ≡ CopyDamaged path → b ≡ a
+counts_damaged T a b (copy.Origin f) path c e = absurd c
+counts_damaged T a b (copy.Head f) path c e = absurd c
+counts_damaged T a b (copy.CopyDamaged other) path c e = c
+counts_damaged T a b copy.ShelfFault path c e = absurd cc
+counts_damaged T a b copy.OutOfMemory path c e = c
+
+counts_failed : (T : Type 0) (a b : ℕ) (fault : CopyFault) → CountsRead {T = T} a b (Err fault) →
+    by_body fault ≡ ShelfFault → b ≡ one_more a
+counts_failed T a b (copy.Origin f) c e = absurd c
+counts_failed T a b (copy.Head f) c e = absurd c
+counts_failed T a b (copy.CopyDamaged path) c e = absurd cc
+counts_failed T a b copy.ShelfFault c e = c
+counts_failed T a b copy.OutOfMemory c e = absurd cc
 
 module _ {X : Type 0} (old new : Option (List ℕ)) where
   pub quiet_whole : (reply : List ℕ) (r : Result X CopyAnswerFault) → WritesReply old new reply r →
@@ -124,7 +145,7 @@ module _ {X : Type 0} (old new : Option (List ℕ)) where
   quiet_whole reply (Err (CopyDamaged path)) w = absurd w
   quiet_whole reply (Err ShelfFault) w = absurd w
 
-  pub quiet_error : (fault : BodyFault) (r : Result X CopyAnswerFault) → WritesError fault old new r →
+  pub quiet_error : (fault : CopyAnswerFault) (r : Result X CopyAnswerFault) → WritesError fault old new r →
       IfErr r (λ e. IsQuiet e → Keeps old new)
   quiet_error fault (Ok x) w = tt
   quiet_error fault (Err (Http ReadFault)) w = absurd w
@@ -142,7 +163,7 @@ module _ {X : Type 0} (old new : Option (List ℕ)) where
   no_read_whole F reply (Err (CopyDamaged path)) w = absurd w
   no_read_whole F reply (Err ShelfFault) w = absurd w
 
-  pub no_read_error : (F : Type 0) (fault : BodyFault) (r : Result X CopyAnswerFault) → WritesError fault old new r →
+  pub no_read_error : (F : Type 0) (fault : CopyAnswerFault) (r : Result X CopyAnswerFault) → WritesError fault old new r →
       IfErr r (λ e. e ≡ Http ReadFault → F)
   no_read_error F fault (Ok x) w = tt
   no_read_error F fault (Err (Http ReadFault)) w = absurd w
@@ -161,12 +182,20 @@ module _ {X : Type 0} (old new : Option (List ℕ)) where
     counts_whole reply (Err (CopyDamaged path)) e w = absurd w
     counts_whole reply (Err ShelfFault) e w = absurd w
 
-    pub counts_error : (T : Type 0) (fault : BodyFault) (r : Result X CopyAnswerFault) →
-        CountsBody {T = T} a b (Err fault) → WritesError fault old new r → CountsAnswer a b r
-    counts_error T fault (Ok x) c w = absurd w
-    counts_error T fault (Err (Http ReadFault)) c w = absurd w
-    counts_error T fault (Err (Http WriteFault)) c w = counts_some T a b fault c
-    counts_error T fault (Err (Http OutOfMemory)) c w = counts_some T a b fault c
-    counts_error T fault (Err (CopyDamaged path)) c w =
-        subst (λ f. CountsBody {T = T} a b (Err f)) w.0 c
-    counts_error T fault (Err ShelfFault) c w = subst (λ f. CountsBody {T = T} a b (Err f)) w.0 c
+    pub counts_error : (T : Type 0) (fault : CopyFault) (answer : CopyAnswerFault) (r : Result X CopyAnswerFault) →
+        answer ≡ by_body fault → CountsRead {T = T} a b (Err fault) → WritesError answer old new r → CountsAnswer a b r
+    counts_error T fault answer (Ok x) e c w = absurd w
+    counts_error T fault answer (Err (Http ReadFault)) e c w = absurd w
+    counts_error T fault answer (Err (Http WriteFault)) e c w = counts_some T a b fault c
+    counts_error T fault answer (Err (Http OutOfMemory)) e c w = counts_some T a b fault c
+    counts_error T fault answer (Err (CopyDamaged path)) e c w = counts_damaged T a b fault path c (sym e ∙ w.0)
+    counts_error T fault answer (Err ShelfFault) e c w = counts_failed T a b fault c (sym e ∙ w.0)
+
+-- where the reply was not written whole, the fault is that of writing it
+pub wrote_error : (X : Type 0) (fault error : CopyAnswerFault) (old new : Option (List ℕ)) →
+    WritesServerError {X = X} old new (Err error) → WritesError {X = X} fault old new (Err error)
+wrote_error X fault (Http ReadFault) old new w = absurd w
+wrote_error X fault (Http WriteFault) old new w = w
+wrote_error X fault (Http OutOfMemory) old new w = w
+wrote_error X fault (CopyDamaged path) old new w = absurd w
+wrote_error X fault ShelfFault old new w = absurd w

@@ -22,7 +22,8 @@ use Rattle.mirror_export.proofs.AllFiles.{files_are_all}
 use Rattle.mirror_server.specs.Response.{IsBody}
 use Rattle.mirror_server.specs.declared.resource.Resource.{Resource}
 use Rattle.mirror_server.specs.declared.resource.Resource.TheVariants.{File, Status, Forks, Missing, Proof}
-use Rattle.copy_server.specs.Bodies.{copy_status, head_point, IsBodyAt, IsCopyBody}
+use Rattle.copy_reader.specs.Statuses.{copy_status}
+use Rattle.copy_server.specs.Bodies.{head_point, IsBodyAt, IsCopyBody}
 use Rattle.copy_server.specs.CopyHeads.{copy_head, CopyHead, IsCopyHead}
 use Rattle.copy_server.specs.CopyLaws.{copy_view}
 use Rattle.copy_server.specs.GivenFiles.{IsFileGiven, IsFileRead, IsTaken, of_width}

@@ -1,18 +1,8 @@
--- Reads of a shelf, one after the other: what was put stays.
-use Rattle.std.proofs.Common.{◌≡◌, ℕ, List, Option, Some, None, refl, sym, subst, ◌∙◌}
+-- Reads of a shelf that kept what was put.
+use Rattle.std.proofs.Common.{ℕ, List, Option, Some, None, sym, subst}
 use Rattle.tlog_tiles.specs.declared.paths.Path.{Path}
 use Rattle.mirror_sources.specs.Told.{KeepsTold}
 use Rattle.mirror_folders.specs.Shelf.{HasPut, Put, Stands, TellsRead}
-
-pub kept_once : (x : Option (List Put)) → KeepsTold x x
-kept_once None = tt
-kept_once (Some xs) = refl
-
-pub kept_twice : (x y z : Option (List Put)) → KeepsTold x y → KeepsTold y z → KeepsTold x z
-kept_twice None y z p q = tt
-kept_twice (Some xs) None z p q = absurd p
-kept_twice (Some xs) (Some ys) None p q = q
-kept_twice (Some xs) (Some ys) (Some zs) p q = q ∙ p
 
 -- what is read of a shelf that kept what was put was there before
 pub read_before : (x y : Option (List Put)) (path : Path) (answer : Option (List ℕ)) → KeepsTold x y →

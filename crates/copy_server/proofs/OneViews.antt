@@ -28,7 +28,7 @@ use Rattle.mirror_model.specs.Walk.{IsMissing}
 use Rattle.mirror_model.proofs.HeadNotes.{head_once}
 use Rattle.mirror_model.proofs.Missing.{built_none}
 use Rattle.mirror_model.proofs.StringSets.{has_empty, has_from_listed, held_from_all, only_listed}
-use Rattle.copy_server.specs.Bodies.{copy_heads, copy_status}
+use Rattle.copy_reader.specs.Statuses.{copy_heads, copy_status}
 use Rattle.copy_server.specs.CopyLaws.{copy_view}
 
 itself : (s : List ℕ) → IsAtMost s s

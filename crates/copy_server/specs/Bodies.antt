@@ -1,24 +1,14 @@
 -- The bytes that a copy has of each resource: what a mirror has that holds the copy's checkpoint, complete, and no other.
-use Rattle.std.specs.Prelude.{◌≡◌, ℕ, List, [], ◌∷◌, Option, Some, None, true}
+use Rattle.std.specs.Prelude.{◌≡◌, ℕ, List, [], Option, Some, None}
 use Rattle.tlog_tiles.specs.declared.paths.Path.TheVariants.{Checkpoint, Tile, Entries}
 use Rattle.mirror_folders.specs.Shelf.{Put}
 use Rattle.mirror_model.specs.Forks.{Point}
-use Rattle.mirror_model.specs.Texts.{status_text}
-use Rattle.mirror_model.specs.declared.reports.Head.{Head}
 use Rattle.mirror_server.specs.declared.resource.Resource.{Resource}
 use Rattle.mirror_server.specs.declared.resource.Resource.TheVariants.{File, Status, Forks, Missing, Proof}
+use Rattle.copy_reader.specs.Statuses.{copy_status}
 use Rattle.copy_server.specs.CopyHeads.{CopyHead, IsCopyHead}
 use Rattle.copy_server.specs.GivenFiles.{IsFileGiven}
 use Rattle.copy_server.specs.GivenProofs.{IsProofGiven}
-
--- the heads of a mirror that holds this one, complete, or none
-abbrev pub copy_heads : Option Point → List Head
-copy_heads None = []
-copy_heads (Some point) = record { size = point.size; root = point.root; complete = true } ∷ []
-
--- what its status says
-abbrev pub copy_status : List ℕ → Option Point → List ℕ
-copy_status origin point = status_text origin (copy_heads point) point
 
 -- the size and root of a checkpoint
 abbrev pub head_point : CopyHead → Point

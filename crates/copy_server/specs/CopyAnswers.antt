@@ -7,8 +7,6 @@ use Rattle.mirror_server.specs.Response.{ResponseBy, server_error}
 use Rattle.mirror_server.specs.declared.fault.HttpFault.TheVariants.{ReadFault, WriteFault, OutOfMemory}
 use Rattle.mirror_sources.specs.Told.{one_more}
 use Rattle.copy_server.specs.Bodies.{IsCopyBody}
-use Rattle.copy_server.specs.declared.fault.BodyFault.{BodyFault}
-use Rattle.copy_server.specs.declared.fault.BodyFault.TheVariants as body
 use Rattle.copy_server.specs.declared.fault.CopyAnswerFault.{CopyAnswerFault}
 use Rattle.copy_server.specs.declared.fault.CopyAnswerFault.TheVariants.{Http, CopyDamaged, ShelfFault}
 
@@ -39,15 +37,24 @@ WritesReply old new reply (Err (Http OutOfMemory)) = ⊥
 WritesReply old new reply (Err (CopyDamaged path)) = ⊥
 WritesReply old new reply (Err ShelfFault) = ⊥
 
--- what writing the reply to a fault of a body did, and which fault is answered then
-abbrev pub WritesError : {X : Type 0} → BodyFault → Option (List ℕ) → Option (List ℕ) →
+-- what writing the reply that a file is damaged, or cannot be read, did
+abbrev pub WritesServerError : {X : Type 0} → Option (List ℕ) → Option (List ℕ) → Result X CopyAnswerFault → Type 0
+WritesServerError old new (Ok x) = Appends old new server_error
+WritesServerError old new (Err (Http ReadFault)) = ⊥
+WritesServerError old new (Err (Http WriteFault)) = AppendsPrefix old new server_error
+WritesServerError old new (Err (Http OutOfMemory)) = Keeps old new
+WritesServerError old new (Err (CopyDamaged path)) = ⊥
+WritesServerError old new (Err ShelfFault) = ⊥
+
+-- what writing the reply to a fault did, and which fault is answered then
+abbrev pub WritesError : {X : Type 0} → CopyAnswerFault → Option (List ℕ) → Option (List ℕ) →
     Result X CopyAnswerFault → Type 0
 WritesError fault old new (Ok x) = ⊥
 WritesError fault old new (Err (Http ReadFault)) = ⊥
 WritesError fault old new (Err (Http WriteFault)) = AppendsPrefix old new server_error
 WritesError fault old new (Err (Http OutOfMemory)) = Keeps old new
-WritesError fault old new (Err (CopyDamaged path)) = (fault ≡ body.CopyDamaged path) × Appends old new server_error
-WritesError fault old new (Err ShelfFault) = (fault ≡ body.ShelfFault) × Appends old new server_error
+WritesError fault old new (Err (CopyDamaged path)) = (fault ≡ CopyDamaged path) × Appends old new server_error
+WritesError fault old new (Err ShelfFault) = (fault ≡ ShelfFault) × Appends old new server_error
 
 -- the fault is one at which nothing was written
 abbrev pub IsQuiet : CopyAnswerFault → Type 0

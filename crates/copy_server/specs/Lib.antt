@@ -1,7 +1,6 @@
 pub mod Faults
 pub mod CopyHeads
 pub mod GivenFiles
-pub mod Shown
 pub mod GivenProofs
 pub mod Bodies
 pub mod CopyAnswers

@@ -4,12 +4,13 @@ ghost use Rattle.std.specs.Io.KnownBytes.{Keeps};
 ghost use Rattle.byte_streams.specs.Streams.{TakesAtMost};
 ghost use Rattle.mirror_server.specs.Answered.{FailsBeforeHead, IsRequestOf};
 ghost use Rattle.mirror_sources.specs.Told.{KeepsTold};
-ghost use Rattle.copy_server.specs.CopyAnswers.{AnswersFromCopy, CountsAnswer, IsCopyReply, IsQuiet, WritesError, WritesReply};
-ghost use Rattle.copy_server.specs.Faults.{CountsBody};
+ghost use Rattle.copy_server.specs.CopyAnswers.{AnswersFromCopy, CountsAnswer, IsCopyReply, IsQuiet, WritesError, WritesReply, WritesServerError};
+ghost use Rattle.copy_reader.specs.Faults.{CountsRead};
 
 use crate::body::requested_body;
-use crate::fault::{BodyFault, CopyAnswerFault, answer_fault};
+use crate::fault::{CopyAnswerFault, answer_fault};
 use byte_streams::write_whole;
+use copy_reader::CopyFault;
 use mirror_folders::ReadableShelf;
 use mirror_server::{HttpFault, MAX_HEAD_LEN, Request, read_request, reply_to, server_error_reply};
 use std::alloc::Global;
@@ -23,12 +24,12 @@ fn reply_from_copy<H: TreeHash, D: ReadableShelf>(
     shelf: &mut D,
     origin: &str,
     request: &Request,
-) -> Result<Vec<u8>, BodyFault>
+) -> Result<Vec<u8>, CopyFault>
     ensures reply { IfSome (D.puts shelf.old) (λ puts. IfOk result (λ reply. (bytes : List ℕ)
         → IsRequestOf bytes request.now
         → IsCopyReply H.digest origin.now puts bytes reply.items)) }
     ensures same { KeepsTold (D.puts shelf.old) (D.puts shelf.new) }
-    ensures counted { CountsBody (D.failed shelf.old) (D.failed shelf.new) result }
+    ensures counted { CountsRead (D.failed shelf.old) (D.failed shelf.new) result }
 {
     let body = requested_body::<H, D>(alloc, shelf, origin, request)?;
     Ok(reply_to(alloc, request, &body)?)
@@ -44,22 +45,37 @@ fn write_reply<W: Write>(writer: &mut W, reply: &[u8]) -> Result<(), CopyAnswerF
     }
 }
 
-// Writes the reply where a file of the copy is damaged or cannot be read, and answers which fault it is.
-fn write_error<W: Write>(
-    alloc: Global,
-    writer: &mut W,
-    fault: BodyFault,
-) -> Result<(), CopyAnswerFault>
-    ensures { WritesError fault (W.contents writer.old) (W.contents writer.new) result }
+// Writes the reply where a file of the copy is damaged or cannot be read.
+fn write_server_error<W: Write>(alloc: Global, writer: &mut W) -> Result<(), CopyAnswerFault>
+    ensures { WritesServerError (W.contents writer.old) (W.contents writer.new) result }
 {
-    if fault == BodyFault::OutOfMemory {
-        return Err(CopyAnswerFault::Http(HttpFault::OutOfMemory));
-    }
     let Ok(reply) = server_error_reply(alloc) else {
         return Err(CopyAnswerFault::Http(HttpFault::OutOfMemory));
     };
     write_reply(writer, &reply)?;
-    Err(answer_fault(fault))
+    Ok(())
+}
+
+// Writes that reply, and answers the fault. Where memory was refused nothing is written.
+#[tactic(auto, using(crate::proofs::Answering::wrote_error))]
+fn write_error<W: Write>(
+    alloc: Global,
+    writer: &mut W,
+    fault: CopyAnswerFault,
+) -> Result<(), CopyAnswerFault>
+    ensures { WritesError fault (W.contents writer.old) (W.contents writer.new) result }
+{
+    match fault {
+        CopyAnswerFault::Http(_) => Err(CopyAnswerFault::Http(HttpFault::OutOfMemory)),
+        CopyAnswerFault::CopyDamaged(path) => {
+            write_server_error(alloc, writer)?;
+            Err(CopyAnswerFault::CopyDamaged(path))
+        }
+        CopyAnswerFault::ShelfFault => {
+            write_server_error(alloc, writer)?;
+            Err(CopyAnswerFault::ShelfFault)
+        }
+    }
 }
 
 /// Answers the first request that the reader gives from the copy that stands on the shelf, and writes the reply (RFC 9112): what
@@ -105,6 +121,6 @@ pub fn answer_from_copy<H: TreeHash, D: ReadableShelf, R: Read, W: Write>(
     };
     match reply_from_copy::<H, D>(alloc, shelf, origin, &request) {
         Ok(reply) => write_reply(writer, &reply),
-        Err(fault) => write_error(alloc, writer, fault),
+        Err(fault) => write_error(alloc, writer, answer_fault(fault)),
     }
 }

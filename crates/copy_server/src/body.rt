@@ -6,13 +6,12 @@ ghost use Rattle.mirror_server.specs.declared.request.Request.TheVariants as Req
 ghost use Rattle.mirror_sources.specs.Told.{KeepsTold};
 ghost use Rattle.copy_server.specs.Bodies.{IsBodyAt, IsCopyBody};
 ghost use Rattle.copy_server.specs.CopyHeads.{copy_head};
-ghost use Rattle.copy_server.specs.Faults.{CountsBody};
+ghost use Rattle.copy_reader.specs.Faults.{CountsRead};
 
 use crate::checkpoint::read_checkpoint;
-use crate::fault::BodyFault;
 use crate::file::read_file;
-use crate::proving::read_proof_text;
-use crate::status::copy_status;
+use crate::proving::asked_proof;
+use copy_reader::{CopyFault, status_text};
 use mirror_folders::ReadableShelf;
 use mirror_server::{Request, Resource};
 use std::alloc::{AllocError, Global};
@@ -32,7 +31,7 @@ fn empty_body(
         → ¬ IsBodyAt digest origin.now held None resource.now body)) }
 {
     match *resource {
-        Resource::Status => Ok(Some(copy_status(alloc, origin, &None)?)),
+        Resource::Status => Ok(Some(status_text(alloc, origin, &None)?.into_bytes())),
         Resource::Forks => Ok(Some(Vec::new(alloc))),
         Resource::File(_) => Ok(None),
         Resource::Missing { .. } => Ok(None),
@@ -47,7 +46,7 @@ fn held_body<H: TreeHash, D: ReadableShelf>(
     origin: &str,
     head: (Vec<u8>, u64, Hash),
     resource: &Resource,
-) -> Result<Option<Vec<u8>>, BodyFault>
+) -> Result<Option<Vec<u8>>, CopyFault>
     ensures found { IfOk result (λ o. IfSome o (λ body. IsBodyAt H.digest origin.now
         (D.puts shelf.old) (Some (copy_head head.0.items head.1 head.2))
         resource.now body.items)) }
@@ -55,19 +54,21 @@ fn held_body<H: TreeHash, D: ReadableShelf>(
         (D.puts shelf.old) (Some (copy_head head.0.items head.1 head.2))
         resource.now body)) }
     ensures same { KeepsTold (D.puts shelf.old) (D.puts shelf.new) }
-    ensures counted { CountsBody (D.failed shelf.old) (D.failed shelf.new) result }
+    ensures counted { CountsRead (D.failed shelf.old) (D.failed shelf.new) result }
 {
     let (note, size, root) = head;
     match *resource {
         Resource::File(Path::Checkpoint) => Ok(Some(note)),
         Resource::File(path) => read_file::<D>(alloc, shelf, size, &path),
-        Resource::Status => Ok(Some(copy_status(alloc, origin, &Some((size, root)))?)),
+        Resource::Status => {
+            Ok(Some(status_text(alloc, origin, &Some((size, root)))?.into_bytes()))
+        }
         Resource::Forks => Ok(Some(Vec::new(alloc))),
         Resource::Missing {
             size: asked,
             root: hash,
         } => Ok(missing_body(alloc, size, &root, asked, &hash)),
-        Resource::Proof(ask) => read_proof_text::<H, D>(alloc, shelf, size, &root, ask),
+        Resource::Proof(ask) => asked_proof::<H, D>(alloc, shelf, size, &root, ask),
     }
 }
 
@@ -97,18 +98,18 @@ fn missing_body(alloc: Global, size: u64, root: &Hash, asked: u64, hash: &Hash) 
 ///
 /// `CopyDamaged` where a file that is wanted is missing or false. `ShelfFault` where the shelf failed, which it counts.
 /// `OutOfMemory` where memory was refused.
-#[tactic(auto, using(crate::proofs::Answering::copy_body_at, crate::proofs::Kept::kept_twice))]
+#[tactic(auto, using(crate::proofs::Answering::copy_body_at, log_reader::proofs::Kept::kept_twice))]
 fn copy_body<H: TreeHash, D: ReadableShelf>(
     alloc: Global,
     shelf: &mut D,
     origin: &str,
     resource: &Resource,
-) -> Result<Option<Vec<u8>>, BodyFault>
+) -> Result<Option<Vec<u8>>, CopyFault>
     ensures body { IfSome (D.puts shelf.old) (λ puts. IfOk result (λ o. IsBodyFor
         (IsCopyBody H.digest origin.now (Some puts)) (Request.Get resource.now)
         (option_map (λ body. body.items) o))) }
     ensures same { KeepsTold (D.puts shelf.old) (D.puts shelf.new) }
-    ensures counted { CountsBody (D.failed shelf.old) (D.failed shelf.new) result }
+    ensures counted { CountsRead (D.failed shelf.old) (D.failed shelf.new) result }
 {
     match read_checkpoint::<D>(alloc, shelf, origin)? {
         Some(head) => held_body::<H, D>(alloc, shelf, origin, head, resource),
@@ -126,12 +127,12 @@ pub(crate) fn requested_body<H: TreeHash, D: ReadableShelf>(
     shelf: &mut D,
     origin: &str,
     request: &Request,
-) -> Result<Option<Vec<u8>>, BodyFault>
+) -> Result<Option<Vec<u8>>, CopyFault>
     ensures body { IfSome (D.puts shelf.old) (λ puts. IfOk result (λ o. IsBodyFor
         (IsCopyBody H.digest origin.now (Some puts)) request.now
         (option_map (λ body. body.items) o))) }
     ensures same { KeepsTold (D.puts shelf.old) (D.puts shelf.new) }
-    ensures counted { CountsBody (D.failed shelf.old) (D.failed shelf.new) result }
+    ensures counted { CountsRead (D.failed shelf.old) (D.failed shelf.new) result }
 {
     match request {
         Request::Get(resource) => copy_body::<H, D>(alloc, shelf, origin, resource),

@@ -2,9 +2,9 @@
 ghost use Rattle.std.specs.Prelude.{◌≡◌, IfOk, option_map};
 ghost use Rattle.mirror_sources.specs.Told.{KeepsTold};
 ghost use Rattle.copy_server.specs.CopyHeads.{IsCopyHead, copy_head};
-ghost use Rattle.copy_server.specs.Faults.{CountsBody};
+ghost use Rattle.copy_reader.specs.Faults.{CountsRead};
 
-use crate::fault::BodyFault;
+use copy_reader::CopyFault;
 use log_reader::head_of;
 use mirror_folders::ReadableShelf;
 use std::alloc::Global;
@@ -16,11 +16,11 @@ pub(crate) fn read_checkpoint<D: ReadableShelf>(
     alloc: Global,
     shelf: &mut D,
     origin: &str,
-) -> Result<Option<(Vec<u8>, u64, Hash)>, BodyFault>
+) -> Result<Option<(Vec<u8>, u64, Hash)>, CopyFault>
     ensures head { IfOk result (λ found. IsCopyHead origin.now (D.puts shelf.old)
         (option_map (λ head. copy_head head.0.items head.1 head.2) found)) }
     ensures same { KeepsTold (D.puts shelf.old) (D.puts shelf.new) }
-    ensures counted { CountsBody (D.failed shelf.old) (D.failed shelf.new) result }
+    ensures counted { CountsRead (D.failed shelf.old) (D.failed shelf.new) result }
 {
     let Some(note) = shelf.read(&Path::Checkpoint)? else {
         return Ok(None);
@@ -30,6 +30,6 @@ pub(crate) fn read_checkpoint<D: ReadableShelf>(
             let root = head.1;
             Ok(Some((note, head.0, root)))
         }
-        None => Err(BodyFault::CopyDamaged(Path::Checkpoint)),
+        None => Err(CopyFault::CopyDamaged(Path::Checkpoint)),
     }
 }

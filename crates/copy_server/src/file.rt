@@ -3,12 +3,12 @@ ghost use Rattle.std.specs.Prelude.{◌≡◌, IfNone, IfOk, IfSome, Some, optio
 ghost use Rattle.tlog_tiles.specs.Tiles.{IsWithin};
 ghost use Rattle.mirror_folders.specs.Shelf.{TellsRead};
 ghost use Rattle.mirror_sources.specs.Told.{KeepsTold};
-ghost use Rattle.copy_server.specs.Faults.{CountsBody};
+ghost use Rattle.copy_reader.specs.Faults.{CountsRead};
 ghost use Rattle.copy_server.specs.GivenFiles.{IsFileGiven, IsFileRead, of_width};
 
 use crate::cut::take_part;
-use crate::fault::BodyFault;
 use crate::width::{own_width, widest_if_within, with_width};
+use copy_reader::CopyFault;
 use mirror_folders::ReadableShelf;
 use std::alloc::Global;
 use tlog_tiles::Path;
@@ -18,12 +18,12 @@ fn read_width<D: ReadableShelf>(
     shelf: &mut D,
     path: &Path,
     width: u32,
-) -> Result<Option<(u32, Vec<u8>)>, BodyFault>
+) -> Result<Option<(u32, Vec<u8>)>, CopyFault>
     ensures told { IfOk result (λ o. TellsRead (D.puts shelf.old) (of_width path.now width)
         (option_map (λ found. found.1.items) o)) }
     ensures width { IfOk result (λ o. IfSome o (λ found. found.0 ≡ width)) }
     ensures same { KeepsTold (D.puts shelf.old) (D.puts shelf.new) }
-    ensures counted { CountsBody (D.failed shelf.old) (D.failed shelf.new) result }
+    ensures counted { CountsRead (D.failed shelf.old) (D.failed shelf.new) result }
 {
     match shelf.read(&with_width(path, width))? {
         Some(bytes) => Ok(Some((width, bytes))),
@@ -32,15 +32,15 @@ fn read_width<D: ReadableShelf>(
 }
 
 // The path's own file or, where that does not stand, the full one of its place.
-#[tactic(auto, using(crate::proofs::Kept::kept_twice, crate::proofs::Kept::read_before))]
+#[tactic(auto, using(log_reader::proofs::Kept::kept_twice, crate::proofs::Kept::read_before))]
 fn read_other<D: ReadableShelf>(
     shelf: &mut D,
     path: &Path,
-) -> Result<Option<(u32, Vec<u8>)>, BodyFault>
+) -> Result<Option<(u32, Vec<u8>)>, CopyFault>
     ensures told { IfOk result (λ o. IfSome o (λ found. TellsRead (D.puts shelf.old)
         (of_width path.now found.0) (Some found.1.items))) }
     ensures same { KeepsTold (D.puts shelf.old) (D.puts shelf.new) }
-    ensures counted { CountsBody (D.failed shelf.old) (D.failed shelf.new) result }
+    ensures counted { CountsRead (D.failed shelf.old) (D.failed shelf.new) result }
 {
     match read_width::<D>(shelf, path, own_width(path))? {
         Some(found) => Ok(Some(found)),
@@ -53,11 +53,11 @@ fn read_widest<D: ReadableShelf>(
     shelf: &mut D,
     path: &Path,
     widest: u32,
-) -> Result<Option<(u32, Vec<u8>)>, BodyFault>
+) -> Result<Option<(u32, Vec<u8>)>, CopyFault>
     ensures read { IfOk result (λ o. IfSome o (λ found. IsFileRead (D.puts shelf.old)
         path.now widest found.0 found.1.items)) }
     ensures same { KeepsTold (D.puts shelf.old) (D.puts shelf.new) }
-    ensures counted { CountsBody (D.failed shelf.old) (D.failed shelf.new) result }
+    ensures counted { CountsRead (D.failed shelf.old) (D.failed shelf.new) result }
 {
     match read_width::<D>(shelf, path, widest)? {
         Some(found) => Ok(Some(found)),
@@ -76,21 +76,21 @@ pub(crate) fn read_file<D: ReadableShelf>(
     shelf: &mut D,
     size: u64,
     path: &Path,
-) -> Result<Option<Vec<u8>>, BodyFault>
+) -> Result<Option<Vec<u8>>, CopyFault>
     ensures given { IfOk result (λ o. IfSome o
         (λ bytes. IsFileGiven (D.puts shelf.old) size path.now bytes.items)) }
     ensures none { IfOk result (λ o. IfNone o (¬ IsWithin size path.now)) }
     ensures same { KeepsTold (D.puts shelf.old) (D.puts shelf.new) }
-    ensures counted { CountsBody (D.failed shelf.old) (D.failed shelf.new) result }
+    ensures counted { CountsRead (D.failed shelf.old) (D.failed shelf.new) result }
 {
     let Some(widest) = widest_if_within(size, path) else {
         return Ok(None);
     };
     let Some((width, file)) = read_widest::<D>(shelf, path, widest)? else {
-        return Err(BodyFault::CopyDamaged(*path));
+        return Err(CopyFault::CopyDamaged(*path));
     };
     match take_part(alloc, path, width, file)? {
         Some(bytes) => Ok(Some(bytes)),
-        None => Err(BodyFault::CopyDamaged(*path)),
+        None => Err(CopyFault::CopyDamaged(*path)),
     }
 }

@@ -17,10 +17,8 @@ mod checkpoint;
 mod cut;
 mod fault;
 mod file;
-mod files;
 mod laws;
 mod proving;
-mod status;
 mod width;
 
 pub use answer::answer_from_copy;

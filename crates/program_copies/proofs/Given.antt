@@ -6,7 +6,7 @@ use Rattle.program_files.specs.Named.{NamedFile}
 use Rattle.program_reports.specs.declared.reports.Report.{Report as Printout}
 use Rattle.program_copies.specs.Comparisons.{GivesHeads, ReportsCompared}
 use Rattle.program_copies.specs.Printed.{CountsAsk}
-use Rattle.program_copies.specs.declared.fault.CopyFault.TheVariants.{Origin, Head, CopyDamaged, ShelfFault, OutOfMemory}
+use Rattle.copy_reader.specs.declared.fault.CopyFault.TheVariants.{Origin, Head, CopyDamaged, ShelfFault, OutOfMemory}
 use Rattle.program_copies.specs.declared.fault.CopyAskFault.{CopyAskFault}
 use Rattle.program_copies.specs.declared.fault.CopyAskFault.TheVariants.{Copy, Heads, Ask}
 

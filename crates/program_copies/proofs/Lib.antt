@@ -1,5 +1,3 @@
-pub mod Kept
 pub mod Given
 pub mod AsMirror
-pub mod HeadNotes
 pub mod Reading

@@ -5,9 +5,10 @@ use Rattle.log_reader.specs.Ways.{Reader}
 use Rattle.program_copies.specs.Statuses.{HasPoint, reader_point}
 use Rattle.signed_note.specs.Keys.{Key}
 use Rattle.mirror_folders.specs.Shelf.{Put}
-use Rattle.program_copies.specs.Copies.{HasCheckpoint, IsReadFault, IsRefused, OpensCopy}
-use Rattle.program_copies.specs.declared.fault.CopyFault.{CopyFault}
-use Rattle.program_copies.specs.declared.fault.CopyFault.TheVariants.{Origin, Head, CopyDamaged, ShelfFault, OutOfMemory}
+use Rattle.copy_reader.specs.Copies.{HasCheckpoint, IsRefused, OpensCopy}
+use Rattle.copy_reader.specs.Faults.{IsReadFault}
+use Rattle.copy_reader.specs.declared.fault.CopyFault.{CopyFault}
+use Rattle.copy_reader.specs.declared.fault.CopyFault.TheVariants.{Origin, Head, CopyDamaged, ShelfFault, OutOfMemory}
 
 -- a fault of reading files says nothing of the checkpoint
 pub read_refused : (origin : List ℕ) (keys : List Key) (held : Option (List Put)) (fault : CopyFault) →

@@ -15,11 +15,11 @@ use Rattle.program_reports.specs.declared.reports.Report.{Report as Printout}
 use Rattle.program_reports.specs.declared.fault.AskFault.TheVariants.{Report, WriteFault}
 use Rattle.program_reports.specs.declared.fault.ReportFault.TheVariants.{NothingComplete, NoSuchHead}
 use Rattle.program_reports.specs.declared.fault.ReportFault.TheVariants.{Proof as Refused, OutOfMemory}
-use Rattle.program_copies.specs.Copies.{HasCheckpoint, IsEmptyCopy, IsRefused}
-use Rattle.program_copies.specs.Shown.{IsRootOf}
-use Rattle.program_copies.specs.declared.fault.CopyFault.{CopyFault}
-use Rattle.program_copies.specs.declared.fault.CopyFault.TheVariants.{Origin, Head, CopyDamaged, ShelfFault}
-use Rattle.program_copies.specs.declared.fault.CopyFault.TheVariants.{OutOfMemory as NoMemory}
+use Rattle.copy_reader.specs.Copies.{HasCheckpoint, IsEmptyCopy, IsRefused}
+use Rattle.copy_reader.specs.Shown.{IsRootOf}
+use Rattle.copy_reader.specs.declared.fault.CopyFault.{CopyFault}
+use Rattle.copy_reader.specs.declared.fault.CopyFault.TheVariants.{Origin, Head, CopyDamaged, ShelfFault}
+use Rattle.copy_reader.specs.declared.fault.CopyFault.TheVariants.{OutOfMemory as NoMemory}
 use Rattle.program_copies.specs.declared.fault.CopyAskFault.{CopyAskFault}
 use Rattle.program_copies.specs.declared.fault.CopyAskFault.TheVariants as asking
 

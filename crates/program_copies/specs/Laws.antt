@@ -8,7 +8,7 @@ use Rattle.mirror_model.specs.Reports.{ReportsHeads, SaysServed}
 use Rattle.mirror_model.specs.Texts.{IsStatusText}
 use Rattle.mirror_model.specs.View.{View}
 use Rattle.program_copies.specs.Proofs.{IsRefusedOf}
-use Rattle.program_copies.specs.Statuses.{copy_heads, copy_status}
+use Rattle.copy_reader.specs.Statuses.{copy_heads, copy_status}
 
 -- what is refused of a size is refused of each list of as many entries, with the same fault
 abbrev pub RefusesAsMirror : Type 0

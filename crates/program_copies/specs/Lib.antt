@@ -1,6 +1,3 @@
-pub mod Faults
-pub mod Copies
-pub mod Shown
 pub mod Printed
 pub mod Proofs
 pub mod Statuses

@@ -1,23 +1,20 @@
 -- What `prove` reports of a copy.
 use Rattle.std.specs.Prelude.{◌≡◌, ℕ, ◌<◌, ◌≤◌, List, Option, Result, Ok, Err, ⊤}
 use Rattle.signed_note.specs.Keys.{Key}
-use Rattle.tlog_proof.specs.Made.{Holds}
-use Rattle.tlog_proof.specs.Text.{IsProofText}
 use Rattle.tlog_proof.specs.declared.make.ProofFault.{ProofFault}
 use Rattle.tlog_proof.specs.declared.make.ProofFault.TheVariants as proving
 use Rattle.tlog_proof.specs.declared.proof.Ask.{Ask}
 use Rattle.tlog_proof.specs.declared.proof.Ask.TheVariants.{Inclusion as AskInclusion}
 use Rattle.tlog_proof.specs.declared.proof.Ask.TheVariants.{Consistency as AskConsistency}
-use Rattle.tlog_proof.specs.declared.proof.Proof.{Proof}
-use Rattle.tlog_proof.specs.declared.proof.Proof.TheVariants.{Inclusion, Consistency}
 use Rattle.mirror_folders.specs.Shelf.{Put}
 use Rattle.program_reports.specs.Reports.{printed}
 use Rattle.program_reports.specs.declared.reports.Report.{Report as Printout}
 use Rattle.program_reports.specs.declared.fault.AskFault.TheVariants.{Report, WriteFault}
 use Rattle.program_reports.specs.declared.fault.ReportFault.TheVariants.{NothingComplete, NoSuchHead}
 use Rattle.program_reports.specs.declared.fault.ReportFault.TheVariants.{Proof as Refused, OutOfMemory}
-use Rattle.program_copies.specs.Copies.{HasCheckpoint, IsEmptyCopy, IsReadFault, IsRefused}
-use Rattle.program_copies.specs.Shown.{IsRootOf}
+use Rattle.copy_reader.specs.Copies.{HasCheckpoint, IsEmptyCopy, IsRefused}
+use Rattle.copy_reader.specs.Faults.{IsReadFault}
+use Rattle.copy_reader.specs.Proofs.{IsProofOf}
 use Rattle.program_copies.specs.declared.fault.CopyAskFault.{CopyAskFault}
 use Rattle.program_copies.specs.declared.fault.CopyAskFault.TheVariants as asking
 
@@ -35,32 +32,15 @@ IsRefusedOf (AskConsistency m n) size proving.FirstIsZero = (n ≤ size) × (m �
 IsRefusedOf (AskConsistency m n) size proving.Backwards = (n ≤ size) × (0 < m) × (n < m)
 IsRefusedOf (AskConsistency m n) size proving.OutOfMemory = ⊥
 
--- what is asked for is not refused
-abbrev pub IsWithin : Ask → ℕ → Type 0
-IsWithin (AskInclusion n i) size = (n ≤ size) × (i < n)
-IsWithin (AskConsistency m n) size = (n ≤ size) × (0 < m) × (m ≤ n)
-
 module _ (digest : List ℕ → List ℕ) (size : ℕ) (root : List ℕ) where
-  -- the proof is the one that was asked for: of these sizes and this index, in the tree of the root of as many entries
-  abbrev pub IsAsked : Ask → Proof → Type 0
-  IsAsked (AskInclusion n i) (Inclusion n' i' r leaf path) =
-      (n' ≡ n) × (i' ≡ i) × (n ≤ size) × IsRootOf digest size root n r
-  IsAsked (AskInclusion n i) (Consistency m r n' r' path) = ⊥
-  IsAsked (AskConsistency m n) (Inclusion n' i r leaf path) = ⊥
-  IsAsked (AskConsistency m n) (Consistency m' r n' r' path) =
-      (m' ≡ m) × (n' ≡ n) × (n ≤ size) × IsRootOf digest size root n r'
-
   -- the report is the text of a proof that was asked for, and is accepted
-  pub record IsProofOf (ask : Ask) (report : Printout) : Type 0 where
-    pub proof : Proof
-    pub asked : IsAsked ask proof
-    pub holds : Holds digest proof
-    pub text : IsProofText (printed report) proof
+  pub record PrintsProof (ask : Ask) (report : Printout) : Type 0 where
+    pub is : IsProofOf digest size root ask (printed report)
     pub status : report.status ≡ 0
 
   -- what each answer of a reporter on a log of that size and root says
   abbrev pub ReportsAsk : Ask → Result Printout CopyAskFault → Type 0
-  ReportsAsk ask (Ok report) = IsProofOf ask report
+  ReportsAsk ask (Ok report) = PrintsProof ask report
   ReportsAsk ask (Err (asking.Copy fault)) = IsReadFault fault
   ReportsAsk ask (Err (asking.Heads fault)) = ⊥
   ReportsAsk ask (Err (asking.Ask (Report NothingComplete))) = ⊥
@@ -77,7 +57,7 @@ module _ (digest : List ℕ → List ℕ) (origin : List ℕ) (keys : List Key) 
       pub size : ℕ
       pub root : List ℕ
       pub checkpoint : HasCheckpoint origin keys held size root
-      pub is : IsProofOf digest size root ask report
+      pub is : PrintsProof digest size root ask report
 
     -- the copy has a checkpoint, of a size of which what is asked for is refused
     pub record RefusesAsk (fault : ProofFault) : Type 0 where

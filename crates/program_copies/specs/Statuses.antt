@@ -1,29 +1,19 @@
 -- What `status` reports of a copy: the text of a mirror that holds its checkpoint, complete, and no other.
-use Rattle.std.specs.Prelude.{◌≡◌, ℕ, List, [], ◌∷◌, Option, Some, None, Result, Ok, Err, true}
+use Rattle.std.specs.Prelude.{◌≡◌, ℕ, List, Option, Some, None, Result, Ok, Err}
 use Rattle.signed_note.specs.Keys.{Key}
 use Rattle.mirror_folders.specs.Shelf.{Put}
 use Rattle.mirror_model.specs.Forks.{Point}
-use Rattle.mirror_model.specs.Texts.{status_text}
-use Rattle.mirror_model.specs.declared.reports.Head.{Head}
 use Rattle.log_reader.specs.Ways.{Reader}
 use Rattle.program_reports.specs.Reports.{printed}
 use Rattle.program_reports.specs.declared.reports.Report.{Report as Printout}
-use Rattle.program_copies.specs.Copies.{HasCheckpoint, IsEmptyCopy, IsRefused}
+use Rattle.copy_reader.specs.Copies.{HasCheckpoint, IsEmptyCopy, IsRefused}
+use Rattle.copy_reader.specs.Statuses.{copy_status}
 use Rattle.program_copies.specs.declared.fault.CopyAskFault.{CopyAskFault}
 use Rattle.program_copies.specs.declared.fault.CopyAskFault.TheVariants.{Copy, Heads, Ask}
 
 -- the size and root of the log of a reader
 abbrev pub reader_point : Reader → Point
 reader_point reader = record { size = reader.edge.size; root = reader.root }
-
--- the heads of a mirror that holds this one, complete, or none
-abbrev pub copy_heads : Option Point → List Head
-copy_heads None = []
-copy_heads (Some point) = record { size = point.size; root = point.root; complete = true } ∷ []
-
--- what its status says
-abbrev pub copy_status : List ℕ → Option Point → List ℕ
-copy_status origin point = status_text origin (copy_heads point) point
 
 -- the exit status: 0 where something is served, 3 where nothing is
 abbrev pub status_of : Option Point → ℕ

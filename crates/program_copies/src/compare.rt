@@ -1,21 +1,21 @@
 //! Checkpoints compared with a copy.
-ghost use Rattle.std.specs.Prelude.{◌≡◌, ◌↔◌, ◌≤◌, IfErr, IfOk, IsTrue, map, option_map};
+ghost use Rattle.std.specs.Prelude.{◌≡◌, ◌↔◌, IfErr, IfOk, IsTrue, map, option_map};
 ghost use Rattle.tlog_text.specs.Answers.{seen};
 ghost use Rattle.mirror_sources.specs.Told.{KeepsTold};
+ghost use Rattle.copy_reader.specs.Copies.{LeavesPuts};
+ghost use Rattle.copy_reader.specs.Faults.{CountsRead};
 ghost use Rattle.tlog_mirror.specs.Compared.{compared_point, compared_text};
 ghost use Rattle.program_reports.specs.Comparisons.{compare_status};
 ghost use Rattle.program_reports.specs.Reports.{printed};
 ghost use Rattle.program_copies.specs.Comparisons.{AreCompared, GivesHeads, IsComparedTo, IsComparisonOf, ReportsCompared, heads_of};
 ghost use Rattle.std.specs.Io.KnownBytes.{Keeps};
-ghost use Rattle.program_copies.specs.Copies.{CountsRead, LeavesPuts};
 ghost use Rattle.program_copies.specs.Printed.{CountsAsk, HasStatus, IsStatus, IsWriteFault, Prints};
-ghost use Rattle.program_copies.specs.Shown.{IsRootOf};
 
-use crate::fault::{CopyAskFault, CopyFault};
-use crate::files::CopyFiles;
+use crate::fault::CopyAskFault;
 use crate::opened::open_copy;
 use crate::printing::print_told;
-use log_reader::{LogReader, ReadFault};
+use copy_reader::{CopyFault, read_root};
+use log_reader::LogReader;
 use mirror_folders::{NamedFolders, ReadableShelf};
 use program_commands::read_heads;
 use program_files::NamedFiles;
@@ -26,45 +26,6 @@ use std::io::Write;
 use tlog_hash::{Hash, TreeHash};
 use tlog_mirror::{Compared, Mirror, NewFault, comparison_text};
 
-// The root of the first entries.
-fn root_of<H: TreeHash>(
-    alloc: Global,
-    reader: &mut LogReader<H>,
-    files: &mut CopyFiles,
-    size: u64,
-) -> Result<Hash, ReadFault>
-    requires { size ≤ reader.old.edge.size }
-    ensures shown { IfOk result (IsRootOf H.digest reader.old.edge.size reader.old.root size) }
-    ensures edge { reader.new.edge ≡ reader.old.edge }
-    ensures root { reader.new.root ≡ reader.old.root }
-{
-    let root = reader.root();
-    if size == reader.size() {
-        return Ok(root);
-    }
-    let first = reader.prefix(alloc, files, size)?;
-    Ok(first.root())
-}
-
-// The root of the first entries, of the files of the shelf.
-fn read_root<H: TreeHash, D: ReadableShelf>(
-    alloc: Global,
-    shelf: &mut D,
-    reader: &mut LogReader<H>,
-    size: u64,
-) -> Result<Hash, CopyFault>
-    requires { size ≤ reader.old.edge.size }
-    ensures shown { IfOk result (IsRootOf H.digest reader.old.edge.size reader.old.root size) }
-    ensures edge { reader.new.edge ≡ reader.old.edge }
-    ensures root { reader.new.root ≡ reader.old.root }
-    ensures same { KeepsTold (D.puts shelf.old) (D.puts shelf.new) }
-    ensures counted { CountsRead (D.failed shelf.old) (D.failed shelf.new) result }
-{
-    let mut files = CopyFiles::new(alloc);
-    files.add_way(shelf, reader.size(), size)?;
-    Ok(root_of::<H>(alloc, reader, &mut files, size)?)
-}
-
 fn is_same(first: &Hash, second: &Hash) -> bool
     ensures { IsTrue result ↔ (first.now ≡ second.now) }
 {
@@ -72,7 +33,7 @@ fn is_same(first: &Hash, second: &Hash) -> bool
 }
 
 // A head, compared with the log.
-#[tactic(auto, using(crate::proofs::Kept::kept_once))]
+#[tactic(auto, using(log_reader::proofs::Kept::kept_once))]
 fn compare_one<H: TreeHash, D: ReadableShelf>(
     alloc: Global,
     shelf: &mut D,
@@ -104,7 +65,7 @@ fn compare_one<H: TreeHash, D: ReadableShelf>(
 }
 
 // Each of the heads, compared with the log.
-#[tactic(auto, using(crate::proofs::Kept::kept_twice, crate::proofs::Kept::kept_once))]
+#[tactic(auto, using(log_reader::proofs::Kept::kept_twice, log_reader::proofs::Kept::kept_once))]
 fn compare_all<H: TreeHash, D: ReadableShelf>(
     alloc: Global,
     shelf: &mut D,

@@ -1,81 +1,11 @@
 //! Why a copy answers nothing.
 ghost use Rattle.std.specs.Prelude.{◌≡◌};
-ghost use Rattle.program_copies.specs.Faults.{by_read, by_shelf};
 ghost use Rattle.program_copies.specs.declared.fault.CopyAskFault.TheVariants as asking;
-ghost use Rattle.program_copies.specs.declared.fault.CopyFault.TheVariants as copy;
 
-use log_reader::ReadFault;
-use mirror_folders::ShelfError;
-use mirror_model::TakeFault;
+use copy_reader::CopyFault;
 use program_commands::HeadFilesFault;
 use program_reports::AskFault;
-use std::alloc::{AllocError, AllocFailed};
 use thiserror::Error;
-use tlog_mirror::NewFault;
-use tlog_tiles::Path;
-
-/// Why a copy is not read. It prints its variant's name, or that of the fault that it carries.
-/// `CopyDamaged(Path::Tile { level: 0, index: 1, width: 256 })` says that `tile/0/001` is missing or false.
-#[derive(Debug, Drop, PartialEq, Eq, Clone, Copy, Error)]
-pub enum CopyFault {
-    /// No log may have that origin.
-    #[error(transparent)]
-    Origin(NewFault),
-    /// The copy's checkpoint is none of the origin that opens under the keys.
-    #[error(transparent)]
-    Head(TakeFault),
-    /// The file at the path is not there, or it does not lead to the root of the copy's checkpoint. The path is that of the
-    /// checkpoint where the rows lead to the root, and a proof made of them does not hold.
-    #[error("CopyDamaged")]
-    CopyDamaged(Path),
-    /// A file of the copy is not to be read.
-    #[error("ShelfFault")]
-    ShelfFault,
-    /// Memory was refused.
-    #[error("OutOfMemory")]
-    OutOfMemory,
-}
-
-impl From<ShelfError> for CopyFault {
-    ghost from_gives = { λ e f. f ≡ by_shelf e };
-
-    fn from(e: ShelfError) -> CopyFault {
-        match e {
-            ShelfError::Failed => CopyFault::ShelfFault,
-            ShelfError::OutOfMemory => CopyFault::OutOfMemory,
-        }
-    }
-}
-
-impl From<ReadFault> for CopyFault {
-    ghost from_gives = { λ e f. f ≡ by_read e };
-
-    fn from(e: ReadFault) -> CopyFault {
-        match e {
-            ReadFault::NoFile(path) => CopyFault::CopyDamaged(path),
-            ReadFault::FalseFile(path) => CopyFault::CopyDamaged(path),
-            ReadFault::Collision => CopyFault::CopyDamaged(Path::Checkpoint),
-            ReadFault::Source => CopyFault::CopyDamaged(Path::Checkpoint),
-            ReadFault::OutOfMemory => CopyFault::OutOfMemory,
-        }
-    }
-}
-
-impl From<AllocError> for CopyFault {
-    ghost from_gives = { λ _ f. f ≡ copy.OutOfMemory };
-
-    fn from(_e: AllocError) -> CopyFault {
-        CopyFault::OutOfMemory
-    }
-}
-
-impl<T: Drop> From<AllocFailed<T>> for CopyFault {
-    ghost from_gives = { λ _ f. f ≡ copy.OutOfMemory };
-
-    fn from(_e: AllocFailed<T>) -> CopyFault {
-        CopyFault::OutOfMemory
-    }
-}
 
 /// Why nothing is answered of a copy, in the order of the steps. It prints the name of the innermost variant.
 #[derive(Debug, Drop, PartialEq, Eq, Clone, Copy, Error)]

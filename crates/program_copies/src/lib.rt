@@ -9,19 +9,16 @@
 
 mod compare;
 mod fault;
-mod files;
 mod laws;
 mod opened;
 mod printing;
 mod prove;
-mod source;
 mod status;
 
 pub use compare::compare_copy;
-pub use fault::{CopyAskFault, CopyFault};
-pub use files::CopyFiles;
+pub use copy_reader::CopyFault;
+pub use fault::CopyAskFault;
 pub use laws::{refusals_law, status_law};
 pub use opened::open_copy;
 pub use prove::prove_copy;
-pub use source::ShelfSource;
 pub use status::status_copy;

@@ -1,61 +1,17 @@
-//! A copy opened: its checkpoint, and a reader of its log.
-ghost use Rattle.std.specs.Prelude.{◌≡◌, IfOk, OnOk, map};
+//! A copy in a folder, opened.
+ghost use Rattle.std.specs.Prelude.{OnOk, map};
 ghost use Rattle.mirror_sources.specs.Told.{KeepsTold};
-ghost use Rattle.program_copies.specs.Copies.{CountsCopy, CountsRead, LeavesPuts, OpensCopy};
+ghost use Rattle.copy_reader.specs.Copies.{LeavesPuts, OpensCopy};
+ghost use Rattle.copy_reader.specs.Faults.{CountsCopy};
 
-use crate::fault::CopyFault;
-use crate::files::CopyFiles;
-use log_reader::{LogReader, ReadFault, open_head};
-use mirror_folders::{NamedFolders, ReadableShelf};
-use mirror_model::TakeFault;
+use copy_reader::{CopyFault, open_shelf};
+use log_reader::LogReader;
+use mirror_folders::NamedFolders;
 use program_commands::check_origin;
 use signed_note::Verifier;
 use std::alloc::Global;
-use tlog_hash::{Hash, TreeHash};
+use tlog_hash::TreeHash;
 use tlog_mirror::NewFault;
-use tlog_tiles::Path;
-
-// A reader of a log of that size and root, whose edge is on the shelf.
-fn open_reader<H: TreeHash, D: ReadableShelf>(
-    shelf: &mut D,
-    alloc: Global,
-    size: u64,
-    root: &Hash,
-) -> Result<LogReader<H>, CopyFault>
-    ensures size { IfOk result (λ reader. reader.edge.size ≡ size) }
-    ensures root { IfOk result (λ reader. reader.root ≡ root.now) }
-    ensures same { KeepsTold (D.puts shelf.old) (D.puts shelf.new) }
-    ensures counted { CountsRead (D.failed shelf.old) (D.failed shelf.new) result }
-{
-    let mut files = CopyFiles::new(alloc);
-    files.add_edge(shelf, size)?;
-    Ok(LogReader::open(alloc, &mut files, size, root)?)
-}
-
-// The reader of the log whose checkpoint is on the shelf.
-#[tactic(auto, using(crate::proofs::Kept::kept_twice, crate::proofs::HeadNotes::opened_head))]
-fn open_shelf<H: TreeHash, D: ReadableShelf>(
-    shelf: &mut D,
-    alloc: Global,
-    origin: &str,
-    keys: &[Box<dyn Verifier>],
-) -> Result<Option<LogReader<H>>, CopyFault>
-    ensures answer { OpensCopy origin.now (map (λ k. key k) keys.now) (D.puts shelf.old) result }
-    ensures same { KeepsTold (D.puts shelf.old) (D.puts shelf.new) }
-    ensures counted { CountsCopy (D.failed shelf.old) (D.failed shelf.new) result }
-{
-    let Some(note) = shelf.read(&Path::Checkpoint)? else {
-        return Ok(None);
-    };
-    let checkpoint = match open_head(alloc, origin, keys, &note) {
-        Ok(checkpoint) => checkpoint,
-        Err(TakeFault::OutOfMemory) => return Err(CopyFault::OutOfMemory),
-        Err(fault) => return Err(CopyFault::Head(fault)),
-    };
-    let root = checkpoint.root;
-    let reader = open_reader::<H, D>(shelf, alloc, checkpoint.size, &root)?;
-    Ok(Some(reader))
-}
 
 /// Opens the folder, and the log that it is a copy of: its checkpoint opens under the keys, and the rows of its edge lead to its
 /// root. None where the folder has no checkpoint: then the copy is empty.
@@ -91,7 +47,7 @@ pub fn open_copy<H: TreeHash, D: NamedFolders>(
         Err(NewFault::OutOfMemory) => return Err(CopyFault::OutOfMemory),
     }
     match folders.open(folder) {
-        Ok(()) => open_shelf::<H, D>(folders, alloc, origin, keys),
+        Ok(()) => open_shelf::<H, D>(alloc, folders, origin, keys),
         Err(_) => Err(CopyFault::OutOfMemory),
     }
 }

@@ -1,122 +1,25 @@
 //! Proofs of a copy's entries.
-ghost use Rattle.std.specs.Prelude.{◌≡◌, ◌<◌, ◌≤◌, IfErr, IfOk, IfSome, IsTrue, OnOk, map};
-ghost use Rattle.program_reports.specs.Reports.{printed};
-ghost use Rattle.tlog_proof.specs.Made.{Holds};
-ghost use Rattle.tlog_proof.specs.Text.{IsProofText, IsWritableProof};
+ghost use Rattle.std.specs.Prelude.{◌≡◌, IfErr, IfOk, OnOk, map};
 ghost use Rattle.mirror_sources.specs.Told.{KeepsTold};
 ghost use Rattle.std.specs.Io.KnownBytes.{Keeps};
-ghost use Rattle.program_copies.specs.Copies.{CountsRead, LeavesPuts};
+ghost use Rattle.copy_reader.specs.Copies.{LeavesPuts};
+ghost use Rattle.copy_reader.specs.Faults.{CountsRead};
+ghost use Rattle.copy_reader.specs.Proofs.{IsWithin};
 ghost use Rattle.program_copies.specs.Printed.{CountsAsk, HasStatus, IsStatus, IsWriteFault, Prints};
-ghost use Rattle.program_copies.specs.Proofs.{IsAsked, IsProofOf, IsRefusedOf, IsWithin, ReportsAsk, ReportsProof};
+ghost use Rattle.program_copies.specs.Proofs.{IsRefusedOf, PrintsProof, ReportsAsk, ReportsProof};
 
-use crate::fault::{CopyAskFault, CopyFault};
-use crate::files::CopyFiles;
+use crate::fault::CopyAskFault;
 use crate::opened::open_copy;
 use crate::printing::print_told;
-use log_reader::{LogReader, ReadFault};
+use copy_reader::{CopyFault, read_proof_text};
+use log_reader::LogReader;
 use mirror_folders::{NamedFolders, ReadableShelf};
 use program_reports::{AskFault, Report, ReportFault};
 use signed_note::Verifier;
-use std::alloc::{AllocError, Global};
+use std::alloc::Global;
 use std::io::Write;
 use tlog_hash::TreeHash;
-use tlog_proof::{Ask, Proof, ProofFault, write_text};
-use tlog_shape::MAX_SIZE;
-use tlog_tiles::Path;
-
-// The proof that an entry is in the tree of the first entries, as many as `size`.
-fn inclusion_of<H: TreeHash>(
-    alloc: Global,
-    reader: &mut LogReader<H>,
-    files: &mut CopyFiles,
-    size: u64,
-    index: u64,
-) -> Result<Proof, ReadFault>
-    requires within { size ≤ reader.old.edge.size }
-    requires below { index < size }
-    ensures asked { IfOk result (IsAsked H.digest reader.old.edge.size reader.old.root
-        (Ask.Inclusion size index)) }
-    ensures holds { IfOk result (Holds H.digest) }
-{
-    let root = reader.root();
-    if size == reader.size() {
-        return reader.inclusion(alloc, files, index);
-    }
-    let mut first = reader.prefix(alloc, files, size)?;
-    let first_root = first.root();
-    first.inclusion(alloc, files, index)
-}
-
-// The proof from the first entries to the tree of those up to `second`.
-fn consistency_of<H: TreeHash>(
-    alloc: Global,
-    reader: &mut LogReader<H>,
-    files: &mut CopyFiles,
-    first: u64,
-    second: u64,
-) -> Result<Proof, ReadFault>
-    requires within { second ≤ reader.old.edge.size }
-    requires some { 0 < first }
-    requires rising { first ≤ second }
-    ensures asked { IfOk result (IsAsked H.digest reader.old.edge.size reader.old.root
-        (Ask.Consistency first second)) }
-    ensures holds { IfOk result (Holds H.digest) }
-{
-    let root = reader.root();
-    if second == reader.size() {
-        return reader.consistency(alloc, files, first);
-    }
-    let mut earlier = reader.prefix(alloc, files, second)?;
-    let earlier_root = earlier.root();
-    earlier.consistency(alloc, files, first)
-}
-
-// That proof of an entry, of the files of the shelf.
-#[tactic(auto, using(crate::proofs::Kept::kept_twice))]
-fn read_inclusion<H: TreeHash, D: ReadableShelf>(
-    alloc: Global,
-    shelf: &mut D,
-    reader: &mut LogReader<H>,
-    size: u64,
-    index: u64,
-) -> Result<Proof, CopyFault>
-    requires within { size ≤ reader.old.edge.size }
-    requires below { index < size }
-    ensures asked { IfOk result (IsAsked H.digest reader.old.edge.size reader.old.root
-        (Ask.Inclusion size index)) }
-    ensures holds { IfOk result (Holds H.digest) }
-    ensures same { KeepsTold (D.puts shelf.old) (D.puts shelf.new) }
-    ensures counted { CountsRead (D.failed shelf.old) (D.failed shelf.new) result }
-{
-    let mut files = CopyFiles::new(alloc);
-    files.add_way(shelf, reader.size(), size)?;
-    files.add_way(shelf, reader.size(), index)?;
-    Ok(inclusion_of::<H>(alloc, reader, &mut files, size, index)?)
-}
-
-// That proof of the first entries, of the files of the shelf.
-#[tactic(auto, using(crate::proofs::Kept::kept_twice))]
-fn read_consistency<H: TreeHash, D: ReadableShelf>(
-    alloc: Global,
-    shelf: &mut D,
-    reader: &mut LogReader<H>,
-    first: u64,
-    second: u64,
-) -> Result<Proof, CopyFault>
-    requires within { second ≤ reader.old.edge.size }
-    requires some { 0 < first }
-    requires rising { first ≤ second }
-    ensures asked { IfOk result (IsAsked H.digest reader.old.edge.size reader.old.root
-        (Ask.Consistency first second)) }
-    ensures holds { IfOk result (Holds H.digest) }
-    ensures same { KeepsTold (D.puts shelf.old) (D.puts shelf.new) }
-    ensures counted { CountsRead (D.failed shelf.old) (D.failed shelf.new) result }
-{
-    let mut files = CopyFiles::new(alloc);
-    files.add_way(shelf, reader.size(), second)?;
-    files.add_way(shelf, reader.size(), first)?;
-    Ok(consistency_of::<H>(alloc, reader, &mut files, first, second)?)
-}
+use tlog_proof::{Ask, ProofFault};
 
 // Why what is asked for is refused of a log of that size, if it is.
 fn refusal(ask: Ask, size: u64) -> Result<(), ProofFault>
@@ -148,61 +51,6 @@ fn refusal(ask: Ask, size: u64) -> Result<(), ProofFault>
     }
 }
 
-// The proof that is asked for, of the files of the shelf.
-fn read_proof<H: TreeHash, D: ReadableShelf>(
-    alloc: Global,
-    shelf: &mut D,
-    reader: &mut LogReader<H>,
-    ask: Ask,
-) -> Result<Proof, CopyFault>
-    requires { IsWithin ask reader.old.edge.size }
-    ensures asked { IfOk result (IsAsked H.digest reader.old.edge.size reader.old.root ask) }
-    ensures holds { IfOk result (Holds H.digest) }
-    ensures same { KeepsTold (D.puts shelf.old) (D.puts shelf.new) }
-    ensures counted { CountsRead (D.failed shelf.old) (D.failed shelf.new) result }
-{
-    match ask {
-        Ask::Inclusion { size, index } => {
-            read_inclusion::<H, D>(alloc, shelf, reader, size, index)
-        }
-        Ask::Consistency { first, second } => {
-            read_consistency::<H, D>(alloc, shelf, reader, first, second)
-        }
-    }
-}
-
-// Whether a proof can be written as text.
-fn is_writable(proof: &Proof) -> bool
-    ensures { IsTrue result → IsWritableProof proof.now }
-{
-    match proof {
-        Proof::Inclusion {
-            size,
-            index,
-            path,
-            ..
-        } => *size <= MAX_SIZE && *index <= MAX_SIZE && path.as_slice().len() <= 64,
-        Proof::Consistency {
-            first,
-            second,
-            path,
-            ..
-        } => *first <= MAX_SIZE && *second <= MAX_SIZE && path.as_slice().len() <= 64,
-    }
-}
-
-// The report that is the text of a proof; None where it cannot be written.
-fn proof_report(alloc: Global, proof: &Proof) -> Result<Option<Report>, AllocError>
-    ensures text { IfOk result (λ o. IfSome o (λ report. IsProofText (printed report) proof.now)) }
-    ensures status { IfOk result (λ o. IfSome o (λ report. report.status ≡ 0)) }
-{
-    if !is_writable(proof) {
-        return Ok(None);
-    }
-    let text = write_text(alloc, proof)?;
-    Ok(Some(Report { text, status: 0 }))
-}
-
 // The report that is the proof that is asked for, of the files of the shelf.
 fn read_report<H: TreeHash, D: ReadableShelf>(
     alloc: Global,
@@ -211,19 +59,16 @@ fn read_report<H: TreeHash, D: ReadableShelf>(
     ask: Ask,
 ) -> Result<Report, CopyFault>
     requires { IsWithin ask reader.old.edge.size }
-    ensures report { IfOk result (IsProofOf H.digest reader.old.edge.size reader.old.root ask) }
+    ensures report { IfOk result (PrintsProof H.digest reader.old.edge.size reader.old.root ask) }
     ensures same { KeepsTold (D.puts shelf.old) (D.puts shelf.new) }
     ensures counted { CountsRead (D.failed shelf.old) (D.failed shelf.new) result }
 {
-    let proof = read_proof::<H, D>(alloc, shelf, reader, ask)?;
-    match proof_report(alloc, &proof)? {
-        Some(report) => Ok(report),
-        None => Err(CopyFault::CopyDamaged(Path::Checkpoint)),
-    }
+    let text = read_proof_text::<H, D>(alloc, shelf, reader, ask)?;
+    Ok(Report { text, status: 0 })
 }
 
 // That report, or why what is asked for is refused.
-#[tactic(auto, using(crate::proofs::Kept::kept_once))]
+#[tactic(auto, using(log_reader::proofs::Kept::kept_once))]
 fn ask_reader<H: TreeHash, D: ReadableShelf>(
     alloc: Global,
     shelf: &mut D,
@@ -245,7 +90,7 @@ fn ask_reader<H: TreeHash, D: ReadableShelf>(
 }
 
 // The report on the copy in the folder.
-#[tactic(auto, using(crate::proofs::Kept::kept_twice, crate::proofs::Reading::read_refused))]
+#[tactic(auto, using(log_reader::proofs::Kept::kept_twice, crate::proofs::Reading::read_refused))]
 fn told_proof<H: TreeHash, D: NamedFolders>(
     folders: &mut D,
     alloc: Global,

@@ -1,16 +1,15 @@
 //! The status of a copy.
-ghost use Rattle.std.specs.Prelude.{◌≡◌, ◌++◌, IfErr, IfOk, OnOk, map, option_map, string_bytes};
-ghost use Rattle.std.specs.List.{flat_map};
-ghost use Rattle.mirror_model.specs.Texts.{head_line, point_text, served_line};
+ghost use Rattle.std.specs.Prelude.{◌≡◌, IfErr, IfOk, map, option_map};
 ghost use Rattle.mirror_trees.specs.Marked.{point_of};
 ghost use Rattle.std.specs.Io.KnownBytes.{Keeps};
-ghost use Rattle.program_copies.specs.Copies.{LeavesPuts};
+ghost use Rattle.copy_reader.specs.Copies.{LeavesPuts};
 ghost use Rattle.program_copies.specs.Printed.{CountsAsk, HasStatus, IsStatus, IsWriteFault, Prints};
-ghost use Rattle.program_copies.specs.Statuses.{IsStatusOf, ReportsStatus, copy_heads, reader_point};
+ghost use Rattle.program_copies.specs.Statuses.{IsStatusOf, ReportsStatus, reader_point};
 
-use crate::fault::{CopyAskFault, CopyFault};
+use crate::fault::CopyAskFault;
 use crate::opened::open_copy;
 use crate::printing::print_told;
+use copy_reader::{CopyFault, status_text};
 use log_reader::LogReader;
 use mirror_folders::NamedFolders;
 use program_reports::Report;
@@ -18,47 +17,6 @@ use signed_note::Verifier;
 use std::alloc::{AllocError, Global};
 use std::io::Write;
 use tlog_hash::{Hash, TreeHash};
-use tlog_text::{push_hash, push_number};
-
-// Adds a size and a root, with a space between.
-fn push_point(text: &mut String, size: u64, root: &Hash) -> Result<(), AllocError>
-    ensures { OnOk result (string_bytes text.new ≡ string_bytes text.old
-        ++ point_text size root.now) }
-{
-    push_number(text, size)?;
-    text.push_str(" ")?;
-    push_hash(text, root)
-}
-
-// Adds the line of a head that is complete, if there is one.
-fn push_head(text: &mut String, point: &Option<(u64, Hash)>) -> Result<(), AllocError>
-    ensures { OnOk result (string_bytes text.new ≡ string_bytes text.old
-        ++ flat_map head_line (copy_heads (option_map point_of point.now))) }
-{
-    match point {
-        Some(point) => {
-            text.push_str("head ")?;
-            push_point(text, point.0, &point.1)?;
-            text.push_str(" complete\n")
-        }
-        None => Ok(()),
-    }
-}
-
-// Adds the line of what is served.
-fn push_served(text: &mut String, point: &Option<(u64, Hash)>) -> Result<(), AllocError>
-    ensures { OnOk result (string_bytes text.new ≡ string_bytes text.old
-        ++ served_line (option_map point_of point.now)) }
-{
-    match point {
-        Some(point) => {
-            text.push_str("served ")?;
-            push_point(text, point.0, &point.1)?;
-            text.push_str("\n")
-        }
-        None => text.push_str("served none\n"),
-    }
-}
 
 // The report on a copy of that size and root, or on an empty one.
 fn status_report(
@@ -68,11 +26,7 @@ fn status_report(
 ) -> Result<Report, AllocError>
     ensures { IfOk result (IsStatusOf origin.now (option_map point_of point.now)) }
 {
-    let mut text = String::from_str(alloc, "origin ")?;
-    text.push_str(origin)?;
-    text.push_str("\n")?;
-    push_head(&mut text, point)?;
-    push_served(&mut text, point)?;
+    let text = status_text(alloc, origin, point)?;
     let status = match point {
         Some(_) => 0,
         None => 3,

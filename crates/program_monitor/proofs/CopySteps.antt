@@ -1,5 +1,5 @@
 -- Entries of a copy, written bundle after bundle.
-use Rattle.std.proofs.Common.{◌≡◌, ℕ, ◌+◌, ◌-◌, ◌*◌, ◌/◌, ◌%◌, ◌<◌, ◌≤◌, min, List, [], ◌++◌, length, drop, Bool, Option, Some, None}
+use Rattle.std.proofs.Common.{◌≡◌, ℕ, ◌+◌, ◌-◌, ◌*◌, ◌/◌, ◌%◌, ◌<◌, ◌≤◌, min, List, [], ◌++◌, length, drop, Bool, Option}
 use Rattle.std.proofs.Common.{sym, ap, ◌∙◌, subst, arith}
 use Rattle.std.specs.Io.KnownBytes.{Appends}
 use Rattle.std.proofs.KnownBytes.{Appends-nil}
@@ -7,18 +7,10 @@ use Rattle.std.proofs.lemmas.List.{length-take, length-drop, length-append}
 use Rattle.tlog_hash.specs.Rows.{part}
 use Rattle.log_reader.specs.EdgeRows.{Edge}
 use Rattle.log_reader.specs.Ways.{HasEdgeHashes, IsShownBundle}
-use Rattle.mirror_folders.specs.Shelf.{Put}
-use Rattle.mirror_sources.specs.Told.{KeepsTold}
 use Rattle.program_monitor.specs.Texts.{bundle_width, entries_text}
 use Rattle.program_monitor.specs.Shown.{AppendsFrom, AreShownFrom, BeginsFrom, IsNext, WritesShown, WritesSomeShown}
 use Rattle.program_monitor.proofs.Parts.{entries_begin, entries_on, prefix_whole, text_none}
 use Rattle.program_monitor.proofs.ShownBundles.{shown_bundle, shown_on, shown_part}
-
-pub kept_then : (x y z : Option (List Put)) → KeepsTold x y → KeepsTold y z → KeepsTold x z
-kept_then None y z p q = tt
-kept_then (Some xs) None z p q = absurd p
-kept_then (Some xs) (Some ys) None p q = q
-kept_then (Some xs) (Some ys) (Some zs) p q = q ∙ p
 
 -- a part of a bundle has as many entries as are asked for
 part_count : (size at next : ℕ) (entries : List (List ℕ)) → length entries ≡ bundle_width size (at / 256) → next ≤ size →

@@ -1,5 +1,6 @@
 pub mod Parts
 pub mod Cuts
 pub mod ShownBundles
+pub mod CopyFaults
 pub mod CopySteps
 pub mod ServedSteps

@@ -3,24 +3,25 @@ use Rattle.std.specs.Prelude.{◌≡◌, ◌⊎◌, ℕ, ◌<◌, ◌≤◌, Lis
 use Rattle.std.specs.Io.KnownBytes.{Keeps}
 use Rattle.signed_note.specs.Keys.{Key}
 use Rattle.tlog_tiles.specs.declared.paths.Path.TheVariants.{Checkpoint}
-use Rattle.mirror_model.specs.Heads.{IsOpenHead}
-use Rattle.mirror_model.specs.Refusals.{ReadsHead}
-use Rattle.mirror_model.specs.declared.fault.TakeFault.{TakeFault}
-use Rattle.mirror_sources.specs.Told.{KeepsTold, one_more}
+use Rattle.mirror_sources.specs.Told.{one_more}
 use Rattle.mirror_folders.specs.Shelf.{Put, TellsRead}
-use Rattle.mirror_folders.specs.declared.shelf.ShelfError.{ShelfError}
-use Rattle.mirror_folders.specs.declared.shelf.ShelfError.TheVariants as shelf
 use Rattle.log_reader.specs.EdgeRows.{Edge, hash_of_edge}
 use Rattle.log_reader.specs.Ways.{HasEdgeHashes}
+use Rattle.copy_reader.specs.Copies.{HasCheckpoint, RefusesCheckpoint}
+use Rattle.copy_reader.specs.declared.fault.CopyFault.{CopyFault}
+use Rattle.copy_reader.specs.declared.fault.CopyFault.TheVariants as copy
 use Rattle.program_monitor.specs.Shown.{WritesShown, WritesSomeShown}
 use Rattle.program_monitor.specs.declared.fault.CopyEntriesFault.{CopyEntriesFault}
 use Rattle.program_monitor.specs.declared.fault.CopyEntriesFault.TheVariants.{NothingComplete, Head, CopyDamaged, ShelfFault}
 use Rattle.program_monitor.specs.declared.fault.CopyEntriesFault.TheVariants.{NoSuchSize, Backwards, WriteFault, OutOfMemory}
 
--- the fault of the command that a shelf's is
-abbrev pub by_shelf : ShelfError → CopyEntriesFault
-by_shelf shelf.Failed = ShelfFault
-by_shelf shelf.OutOfMemory = OutOfMemory
+-- the fault of the command that a copy's is; no fault of an origin comes
+abbrev pub by_copy : CopyFault → CopyEntriesFault
+by_copy (copy.Origin fault) = CopyDamaged Checkpoint
+by_copy (copy.Head fault) = Head fault
+by_copy (copy.CopyDamaged path) = CopyDamaged path
+by_copy copy.ShelfFault = ShelfFault
+by_copy copy.OutOfMemory = OutOfMemory
 
 -- the shelf's count of failures rises by a ShelfFault, and by nothing else
 abbrev pub CountsFault : ℕ → ℕ → CopyEntriesFault → Type 0
@@ -60,28 +61,10 @@ IsOfWriting Backwards = ⊥
 IsOfWriting WriteFault = ⊤
 IsOfWriting OutOfMemory = ⊤
 
--- what was put stays: the folder was not opened, or what it holds is what it held
-abbrev pub LeavesCopy : Option (List Put) → Option (List Put) → Option (List Put) → Type 0
-LeavesCopy held before put = (put ≡ before) ⊎ KeepsTold held put
-
--- the note that stands as the checkpoint is of that size and root, and opens under the keys
-pub record IsCheckpointAt (origin : List ℕ) (keys : List Key) (held : Option (List Put)) (size : ℕ)
-    (root : List ℕ) : Type 0 where
-  pub note : List ℕ
-  pub stands : TellsRead held Checkpoint (Some note)
-  pub is_head : IsOpenHead note origin keys size root
-
--- the note that stands as the checkpoint does not open under the keys, for that reason
-pub record HasBadHead (origin : List ℕ) (keys : List Key) (held : Option (List Put)) (fault : TakeFault)
-    : Type 0 where
-  pub note : List ℕ
-  pub stands : TellsRead held Checkpoint (Some note)
-  pub refused : ReadsHead note origin keys (Err fault)
-
 -- why a copy is not opened, of what the folder holds
 abbrev pub RefusesCopy : List ℕ → List Key → Option (List Put) → CopyEntriesFault → Type 0
 RefusesCopy origin keys held NothingComplete = TellsRead held Checkpoint None
-RefusesCopy origin keys held (Head fault) = HasBadHead origin keys held fault
+RefusesCopy origin keys held (Head fault) = RefusesCheckpoint origin keys held fault
 RefusesCopy origin keys held (CopyDamaged path) = ⊤
 RefusesCopy origin keys held ShelfFault = ⊤
 RefusesCopy origin keys held NoSuchSize = ⊥
@@ -93,7 +76,7 @@ module _ (digest : List ℕ → List ℕ) (origin : List ℕ) (keys : List Key) 
   -- the note that stands as the checkpoint opens under the keys, and the edge leads to its root
   pub record IsOpenCopy (edge : Edge) : Type 0 where
     pub root : List ℕ
-    pub checkpoint : IsCheckpointAt origin keys held edge.size root
+    pub checkpoint : HasCheckpoint origin keys held edge.size root
     pub hashes : HasEdgeHashes edge
     pub leads : hash_of_edge digest edge ≡ root
 

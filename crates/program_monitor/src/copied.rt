@@ -2,12 +2,12 @@
 ghost use Rattle.std.specs.Prelude.{◌≡◌, ◌<◌, ◌≤◌, IfErr, OnErr, OnOk, map};
 ghost use Rattle.mirror_sources.specs.Told.{KeepsTold};
 ghost use Rattle.log_reader.specs.Ways.{HasEdgeHashes};
-ghost use Rattle.program_monitor.specs.Copied.{AnswersCopied, CountsCopy, IsOfWriting, LeavesCopy};
+ghost use Rattle.copy_reader.specs.Copies.{LeavesPuts};
+ghost use Rattle.program_monitor.specs.Copied.{AnswersCopied, CountsCopy, IsOfWriting};
 ghost use Rattle.program_monitor.specs.Shown.{WritesShown, WritesSomeShown};
 
 use crate::cutting::CutFault;
 use crate::fault::CopyEntriesFault;
-use crate::handed::HandedFiles;
 use crate::opening::{bundle_on, open_copy};
 use crate::range::EntryRange;
 use crate::writing::write_from;
@@ -38,10 +38,9 @@ fn write_copied<H: TreeHash, D: ReadableShelf, W: Write>(
     ensures counted { CountsCopy (D.failed shelf.old) (D.failed shelf.new) result }
 {
     let size = reader.size();
-    let mut files = HandedFiles::new(alloc);
     let mut at = range.from;
     while at < range.to {
-        let bytes = bundle_on::<H, D>(shelf, alloc, reader, &mut files, at / 256)?;
+        let bytes = bundle_on::<H, D>(shelf, alloc, reader, at / 256)?;
         match write_from(alloc, &bytes, size, at, range, output) {
             Ok(next) => at = next,
             Err(CutFault::WriteFault) => return Err(CopyEntriesFault::WriteFault),
@@ -108,7 +107,7 @@ pub fn entries_of_copy<H: TreeHash, D: NamedFolders, W: Write>(
     ensures answer { AnswersCopied H.digest origin.now (map (λ k. key k) keys.now)
         (D.held folders.old folder.now) range.now.from range.now.to range.now.base64
         (W.contents output.old) (W.contents output.new) result }
-    ensures same { LeavesCopy (D.held folders.old folder.now) (D.puts folders.old)
+    ensures same { LeavesPuts (D.held folders.old folder.now) (D.puts folders.old)
         (D.puts folders.new) }
     ensures counted { CountsCopy (D.failed folders.old) (D.failed folders.new) result }
 {

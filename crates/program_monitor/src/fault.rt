@@ -1,12 +1,10 @@
 //! Why an audit printed nothing, and why entries were not written.
 ghost use Rattle.std.specs.Prelude.{◌≡◌};
-ghost use Rattle.program_monitor.specs.Copied.{by_shelf};
-ghost use Rattle.program_monitor.specs.declared.fault.CopyEntriesFault.TheVariants.{OutOfMemory};
+ghost use Rattle.program_monitor.specs.Copied.{by_copy};
 
+use copy_reader::CopyFault;
 use mirror_audit::AuditFault;
-use mirror_folders::ShelfError;
 use mirror_model::TakeFault;
-use std::alloc::{AllocError, AllocFailed};
 use thiserror::Error;
 use tlog_tiles::Path;
 
@@ -74,29 +72,15 @@ pub enum CopyEntriesFault {
     OutOfMemory,
 }
 
-impl From<ShelfError> for CopyEntriesFault {
-    ghost from_gives = { λ f e. e ≡ by_shelf f };
-
-    fn from(fault: ShelfError) -> CopyEntriesFault {
-        match fault {
-            ShelfError::Failed => CopyEntriesFault::ShelfFault,
-            ShelfError::OutOfMemory => CopyEntriesFault::OutOfMemory,
-        }
-    }
-}
-
-impl From<AllocError> for CopyEntriesFault {
-    ghost from_gives = { λ _ e. e ≡ OutOfMemory };
-
-    fn from(_e: AllocError) -> CopyEntriesFault {
-        CopyEntriesFault::OutOfMemory
-    }
-}
-
-impl<T: Drop> From<AllocFailed<T>> for CopyEntriesFault {
-    ghost from_gives = { λ _ e. e ≡ OutOfMemory };
-
-    fn from(_e: AllocFailed<T>) -> CopyEntriesFault {
-        CopyEntriesFault::OutOfMemory
+/// What a fault of a copy is to `entries`. No fault of an origin comes.
+pub(crate) fn fault_of(fault: CopyFault) -> CopyEntriesFault
+    ensures { result ≡ by_copy fault }
+{
+    match fault {
+        CopyFault::Origin(_) => CopyEntriesFault::CopyDamaged(Path::Checkpoint),
+        CopyFault::Head(fault) => CopyEntriesFault::Head(fault),
+        CopyFault::CopyDamaged(path) => CopyEntriesFault::CopyDamaged(path),
+        CopyFault::ShelfFault => CopyEntriesFault::ShelfFault,
+        CopyFault::OutOfMemory => CopyEntriesFault::OutOfMemory,
     }
 }

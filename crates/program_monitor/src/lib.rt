@@ -16,7 +16,6 @@ mod auditing;
 mod copied;
 mod cutting;
 mod fault;
-mod handed;
 mod opening;
 mod range;
 mod served;

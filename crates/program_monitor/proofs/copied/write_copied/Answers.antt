@@ -3,7 +3,8 @@ use Rattle.log_reader.specs.EdgeRows.{Edge}
 use Rattle.log_reader.specs.Ways.{IsShownBundle}
 use Rattle.program_monitor.specs.Shown.{AppendsFrom, BeginsFrom}
 use Rattle.program_monitor.proofs.Cuts.{err_any}
-use Rattle.program_monitor.proofs.CopySteps.{kept_then, shown_early, shown_stop, shown_then}
+use Rattle.log_reader.proofs.Kept.{kept_twice}
+use Rattle.program_monitor.proofs.CopySteps.{shown_early, shown_stop, shown_then}
 use Rattle.program_monitor.proofs.copied.write_copied.Goals as goal
 
 pub returns-in_err-bytes-clause-err : goal.returns-in_err-bytes-clause-err
@@ -53,7 +54,7 @@ loop-at-preserved g c = record {
   low = omega (arith, c.loop-at.invariant.low, c.in-Ok.ensures.next.rises);
   high = c.in-Ok.ensures.next.within;
   counted = c.in_ok-bytes.ensures.counted ∙ c.loop-at.invariant.counted;
-  same = kept_then (g.D.Shelf.puts c.args.shelf.now) (g.D.Shelf.puts c.loop-at.shelf) (g.D.Shelf.puts c.bundle_on.new.shelf)
+  same = kept_twice (g.D.Shelf.puts c.args.shelf.now) (g.D.Shelf.puts c.loop-at.shelf) (g.D.Shelf.puts c.bundle_on.new.shelf)
       c.loop-at.invariant.same c.bundle_on.ensures.same;
   edge = c.bundle_on.ensures.edge ∙ c.loop-at.invariant.edge;
   written =

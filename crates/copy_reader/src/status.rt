@@ -3,7 +3,7 @@ ghost use Rattle.std.specs.Prelude.{◌≡◌, ◌++◌, IfOk, OnOk, option_map,
 ghost use Rattle.std.specs.List.{flat_map};
 ghost use Rattle.mirror_model.specs.Texts.{head_line, point_text, served_line};
 ghost use Rattle.mirror_trees.specs.Marked.{point_of};
-ghost use Rattle.copy_server.specs.Bodies.{copy_heads, copy_status};
+ghost use Rattle.copy_reader.specs.Statuses.{copy_heads, copy_status};
 
 use std::alloc::{AllocError, Global};
 use tlog_hash::Hash;
@@ -49,13 +49,24 @@ fn push_served(text: &mut String, point: &Option<(u64, Hash)>) -> Result<(), All
     }
 }
 
-/// What the status of a copy of that size and root says, or that of an empty one.
-pub(crate) fn copy_status(
+/// The text of the status of a copy of that size and root, or of an empty one: that of a mirror that holds the checkpoint, complete,
+/// and no other.
+///
+/// ```text
+/// status_text(alloc, "example.com/log", &None)?
+/// // origin example.com/log
+/// // served none
+/// ```
+///
+/// # Errors
+///
+/// Memory was refused.
+pub fn status_text(
     alloc: Global,
     origin: &str,
     point: &Option<(u64, Hash)>,
-) -> Result<Vec<u8>, AllocError>
-    ensures { IfOk result (λ text. text.items
+) -> Result<String, AllocError>
+    ensures { IfOk result (λ text. string_bytes text
         ≡ copy_status origin.now (option_map point_of point.now)) }
 {
     let mut text = String::from_str(alloc, "origin ")?;
@@ -63,5 +74,5 @@ pub(crate) fn copy_status(
     text.push_str("\n")?;
     push_head(&mut text, point)?;
     push_served(&mut text, point)?;
-    Ok(text.into_bytes())
+    Ok(text)
 }

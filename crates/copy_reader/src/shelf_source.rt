@@ -1,5 +1,5 @@
 //! A shelf as a source.
-ghost use Rattle.std.specs.Prelude.{◌≡◌};
+ghost use Rattle.std.specs.Prelude.{◌≡◌, ◌<◌, All};
 
 use mirror_folders::{ReadableShelf, ShelfError};
 use mirror_sources::{Source, SourceFault};
@@ -7,13 +7,22 @@ use tlog_tiles::Path;
 
 /// A source that gives the files of a shelf.
 ///
+/// Contracts see what was put onto the shelf (`files`), and that it stays. What a call that takes any source ensures of this one
+/// holds of the shelf once the call is over.
+///
 /// ```text
 /// let mut source = ShelfSource::new(&mut shelf);
 /// source.get(&Path::Checkpoint)?   // what shelf.read gives
 /// ```
+#[derive(Drop)]
 pub struct ShelfSource<'a, D: ReadableShelf> {
     shelf: &'a mut D,
 }
+
+// The elements are bytes. It does nothing, and its contract is what the type says.
+fn see_bytes(bytes: &[u8])
+    ensures { All (λ byte. byte < 256) bytes.now }
+{}
 
 impl<'a, D: ReadableShelf> ShelfSource<'a, D> {
     /// That shelf.
@@ -26,16 +35,22 @@ impl<'a, D: ReadableShelf> ShelfSource<'a, D> {
 }
 
 impl<'a, D: ReadableShelf> Source for ShelfSource<'a, D> {
-    ghost use Rattle.mirror_folders.specs.Shelf.{TellsRead};
+    ghost use Rattle.copy_reader.specs.ShelfSources.{MayGive};
 
-    ghost may_answer = { λ s. TellsRead (D.puts s.shelf.now) };
+    ghost may_answer = { λ s. MayGive s.shelf.ghost_name (D.puts s.shelf.now) };
+
+    ghost files = { λ s. D.puts s.shelf.now };
 
     ghost failed = { λ s. D.failed s.shelf.now };
 
-    #[tactic(auto, using(crate::proofs::Kept::stays_within))]
+    #[tactic(auto, using(crate::proofs::ShelfSources::stays_within))]
     fn get(&mut self, path: &Path) -> Result<Option<Vec<u8>>, SourceFault> {
         match self.shelf.read(path) {
-            Ok(found) => Ok(found),
+            Ok(Some(bytes)) => {
+                see_bytes(&bytes);
+                Ok(Some(bytes))
+            }
+            Ok(None) => Ok(None),
             Err(ShelfError::Failed) => Err(SourceFault::Failed),
             Err(ShelfError::OutOfMemory) => Err(SourceFault::OutOfMemory),
         }

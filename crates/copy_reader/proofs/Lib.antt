@@ -1,0 +1,2 @@
+pub mod HeadNotes
+pub mod ShelfSources

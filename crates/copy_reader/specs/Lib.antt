@@ -1,0 +1,6 @@
+pub mod ShelfSources
+pub mod Faults
+pub mod Copies
+pub mod Shown
+pub mod Proofs
+pub mod Statuses

@@ -1,0 +1,32 @@
+-- Which proof is made of a copy: the one that is asked for, which holds against the root of its checkpoint.
+use Rattle.std.specs.Prelude.{◌≡◌, ℕ, ◌<◌, ◌≤◌, List}
+use Rattle.tlog_proof.specs.Made.{Holds}
+use Rattle.tlog_proof.specs.Text.{IsProofText}
+use Rattle.tlog_proof.specs.declared.proof.Ask.{Ask}
+use Rattle.tlog_proof.specs.declared.proof.Ask.TheVariants.{Inclusion as AskInclusion}
+use Rattle.tlog_proof.specs.declared.proof.Ask.TheVariants.{Consistency as AskConsistency}
+use Rattle.tlog_proof.specs.declared.proof.Proof.{Proof}
+use Rattle.tlog_proof.specs.declared.proof.Proof.TheVariants.{Inclusion, Consistency}
+use Rattle.copy_reader.specs.Shown.{IsRootOf}
+
+-- a log of that size has what is asked for: an entry among the first ones, or two sizes
+abbrev pub IsWithin : Ask → ℕ → Type 0
+IsWithin (AskInclusion n i) size = (n ≤ size) × (i < n)
+IsWithin (AskConsistency m n) size = (n ≤ size) × (0 < m) × (m ≤ n)
+
+module _ (digest : List ℕ → List ℕ) (size : ℕ) (root : List ℕ) where
+  -- the proof is the one that was asked for: of these sizes and this index, in the tree of the root of as many entries
+  abbrev pub IsAsked : Ask → Proof → Type 0
+  IsAsked (AskInclusion n i) (Inclusion n' i' r leaf path) =
+      (n' ≡ n) × (i' ≡ i) × (n ≤ size) × IsRootOf digest size root n r
+  IsAsked (AskInclusion n i) (Consistency m r n' r' path) = ⊥
+  IsAsked (AskConsistency m n) (Inclusion n' i r leaf path) = ⊥
+  IsAsked (AskConsistency m n) (Consistency m' r n' r' path) =
+      (m' ≡ m) × (n' ≡ n) × (n ≤ size) × IsRootOf digest size root n r'
+
+  -- the text is that of a proof that was asked for, and that is accepted
+  pub record IsProofOf (ask : Ask) (text : List ℕ) : Type 0 where
+    pub proof : Proof
+    pub asked : IsAsked ask proof
+    pub holds : Holds digest proof
+    pub text_is : IsProofText text proof

@@ -1,0 +1,41 @@
+//! A bundle of a copy.
+ghost use Rattle.std.specs.Prelude.{◌≡◌, ◌*◌, ◌<◌, IfOk};
+ghost use Rattle.mirror_sources.specs.Told.{KeepsTold};
+ghost use Rattle.log_reader.specs.Ways.{IsShownBundle};
+ghost use Rattle.copy_reader.specs.Faults.{CountsRead};
+
+use crate::fault::CopyFault;
+use crate::shelf_source::ShelfSource;
+use log_reader::{LogReader, ReadFault};
+use mirror_folders::ReadableShelf;
+use std::alloc::Global;
+use tlog_hash::TreeHash;
+
+/// The bytes of a bundle, of the files of the shelf: those of `LogReader::bundle`, verified up to the root.
+///
+/// ```text
+/// read_bundle(alloc, &mut shelf, &mut reader, 1)?   // of 257 entries the last one, after its length
+/// ```
+///
+/// # Errors
+///
+/// `CopyDamaged`, where the bundle, or a tile on the way to it, is missing or false. `ShelfFault`, where a file is not to be read,
+/// which the shelf counts. `OutOfMemory`, where memory was refused.
+#[tactic(auto, using(crate::proofs::ShelfSources::same_shelf))]
+pub fn read_bundle<H: TreeHash, D: ReadableShelf>(
+    alloc: Global,
+    shelf: &mut D,
+    reader: &mut LogReader<H>,
+    index: u64,
+) -> Result<Vec<u8>, CopyFault>
+    requires { 256 * index < reader.old.edge.size }
+    ensures edge { reader.new.edge ≡ reader.old.edge }
+    ensures root { reader.new.root ≡ reader.old.root }
+    ensures shown { IfOk result
+        (λ bytes. IsShownBundle H.digest reader.old.edge index bytes.items) }
+    ensures same { KeepsTold (D.puts shelf.old) (D.puts shelf.new) }
+    ensures counted { CountsRead (D.failed shelf.old) (D.failed shelf.new) result }
+{
+    let mut files = ShelfSource::new(shelf);
+    Ok(reader.bundle(alloc, &mut files, index)?)
+}

@@ -1,0 +1,77 @@
+//! A copy opened: its checkpoint, and a reader of its log.
+ghost use Rattle.std.specs.Prelude.{◌≡◌, IfOk, map};
+ghost use Rattle.mirror_sources.specs.Told.{KeepsTold};
+ghost use Rattle.copy_reader.specs.Copies.{OpensCopy};
+ghost use Rattle.copy_reader.specs.Faults.{CountsCopy, CountsRead};
+
+use crate::fault::CopyFault;
+use crate::shelf_source::ShelfSource;
+use log_reader::{LogReader, ReadFault, open_head};
+use mirror_folders::ReadableShelf;
+use mirror_model::TakeFault;
+use signed_note::Verifier;
+use std::alloc::Global;
+use tlog_hash::{Hash, TreeHash};
+use tlog_tiles::Path;
+
+/// A reader of a log of that size and root, whose edge is on the shelf.
+///
+/// ```text
+/// let mut reader = open_reader::<Sha256Tree, _>(alloc, &mut shelf, 257, &root)?;   // reads tile/0/001.p/1 and tile/1/000.p/1
+/// ```
+///
+/// # Errors
+///
+/// `CopyDamaged`, where a partial tile of the edge, and the full one, is missing, or the rows do not lead to the root. `ShelfFault`,
+/// where a file is not to be read, which the shelf counts. `OutOfMemory`, where memory was refused.
+#[tactic(auto, using(crate::proofs::ShelfSources::same_shelf))]
+pub fn open_reader<H: TreeHash, D: ReadableShelf>(
+    alloc: Global,
+    shelf: &mut D,
+    size: u64,
+    root: &Hash,
+) -> Result<LogReader<H>, CopyFault>
+    ensures size { IfOk result (λ reader. reader.edge.size ≡ size) }
+    ensures root { IfOk result (λ reader. reader.root ≡ root.now) }
+    ensures same { KeepsTold (D.puts shelf.old) (D.puts shelf.new) }
+    ensures counted { CountsRead (D.failed shelf.old) (D.failed shelf.new) result }
+{
+    let mut files = ShelfSource::new(shelf);
+    Ok(LogReader::open(alloc, &mut files, size, root)?)
+}
+
+/// The log whose checkpoint is on the shelf: it opens under the keys, and the rows of its edge lead to its root. None where there is
+/// no checkpoint: then the copy is empty.
+///
+/// ```text
+/// let opened = open_shelf::<Sha256Tree, _>(alloc, &mut shelf, "example.com/log", &keys)?;
+/// opened.map(|reader| reader.size())   // Some(257)
+/// ```
+///
+/// # Errors
+///
+/// The first that applies: `ShelfFault`, where a file is not to be read; `Head`, with the fault of `check_head`, where the checkpoint
+/// does not open; those of `open_reader`. `Origin` never comes.
+#[tactic(auto, using(log_reader::proofs::Kept::kept_twice, crate::proofs::HeadNotes::opened_head))]
+pub fn open_shelf<H: TreeHash, D: ReadableShelf>(
+    alloc: Global,
+    shelf: &mut D,
+    origin: &str,
+    keys: &[Box<dyn Verifier>],
+) -> Result<Option<LogReader<H>>, CopyFault>
+    ensures answer { OpensCopy origin.now (map (λ k. key k) keys.now) (D.puts shelf.old) result }
+    ensures same { KeepsTold (D.puts shelf.old) (D.puts shelf.new) }
+    ensures counted { CountsCopy (D.failed shelf.old) (D.failed shelf.new) result }
+{
+    let Some(note) = shelf.read(&Path::Checkpoint)? else {
+        return Ok(None);
+    };
+    let checkpoint = match open_head(alloc, origin, keys, &note) {
+        Ok(checkpoint) => checkpoint,
+        Err(TakeFault::OutOfMemory) => return Err(CopyFault::OutOfMemory),
+        Err(fault) => return Err(CopyFault::Head(fault)),
+    };
+    let root = checkpoint.root;
+    let reader = open_reader::<H, D>(alloc, shelf, checkpoint.size, &root)?;
+    Ok(Some(reader))
+}

@@ -1,0 +1,67 @@
+//! Earlier roots of a copy.
+ghost use Rattle.std.specs.Prelude.{◌≡◌, ◌≤◌, IfOk};
+ghost use Rattle.mirror_sources.specs.Source.{StaysWithin};
+ghost use Rattle.mirror_sources.specs.Told.{KeepsTold};
+ghost use Rattle.log_reader.specs.Faults.{CountsFailure};
+ghost use Rattle.copy_reader.specs.Faults.{CountsRead};
+ghost use Rattle.copy_reader.specs.Shown.{IsRootOf};
+
+use crate::fault::CopyFault;
+use crate::shelf_source::ShelfSource;
+use log_reader::{LogReader, ReadFault};
+use mirror_folders::ReadableShelf;
+use mirror_sources::Source;
+use std::alloc::Global;
+use tlog_hash::{Hash, TreeHash};
+
+// The root of the first entries.
+#[tactic(auto, using(log_reader::proofs::Kept::kept_once))]
+fn root_of<H: TreeHash, S: Source>(
+    alloc: Global,
+    reader: &mut LogReader<H>,
+    files: &mut S,
+    size: u64,
+) -> Result<Hash, ReadFault>
+    requires { size ≤ reader.old.edge.size }
+    ensures shown { IfOk result (IsRootOf H.digest reader.old.edge.size reader.old.root size) }
+    ensures edge { reader.new.edge ≡ reader.old.edge }
+    ensures root { reader.new.root ≡ reader.old.root }
+    ensures later { StaysWithin (S.may_answer files.old) (S.may_answer files.new) }
+    ensures kept { KeepsTold (S.files files.old) (S.files files.new) }
+    ensures counted { CountsFailure (S.failed files.old) (S.failed files.new) result }
+{
+    let root = reader.root();
+    if size == reader.size() {
+        return Ok(root);
+    }
+    let first = reader.prefix(alloc, files, size)?;
+    Ok(first.root())
+}
+
+/// The root of the first entries, as many as `size`, of the files of the shelf: verified rows show it.
+///
+/// ```text
+/// read_root(alloc, &mut shelf, &mut reader, 257)?
+/// ```
+///
+/// # Errors
+///
+/// `CopyDamaged`, where a tile that the root is made of is missing or false. `ShelfFault`, where a file is not to be read, which the
+/// shelf counts. `OutOfMemory`, where memory was refused.
+#[tactic(auto, using(crate::proofs::ShelfSources::same_shelf))]
+pub fn read_root<H: TreeHash, D: ReadableShelf>(
+    alloc: Global,
+    shelf: &mut D,
+    reader: &mut LogReader<H>,
+    size: u64,
+) -> Result<Hash, CopyFault>
+    requires { size ≤ reader.old.edge.size }
+    ensures shown { IfOk result (IsRootOf H.digest reader.old.edge.size reader.old.root size) }
+    ensures edge { reader.new.edge ≡ reader.old.edge }
+    ensures root { reader.new.root ≡ reader.old.root }
+    ensures same { KeepsTold (D.puts shelf.old) (D.puts shelf.new) }
+    ensures counted { CountsRead (D.failed shelf.old) (D.failed shelf.new) result }
+{
+    let mut files = ShelfSource::new(shelf);
+    Ok(root_of(alloc, reader, &mut files, size)?)
+}

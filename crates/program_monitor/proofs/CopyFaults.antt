@@ -1,0 +1,60 @@
+-- What faults of a copy are to `entries`.
+use Rattle.std.proofs.Common.{◌≡◌, ℕ, List, Option, Result, Err}
+use Rattle.signed_note.specs.Keys.{Key}
+use Rattle.mirror_folders.specs.Shelf.{Put}
+use Rattle.copy_reader.specs.Copies.{IsRefused}
+use Rattle.copy_reader.specs.Faults.{CountsFault as CountsRefused, CountsRead}
+use Rattle.copy_reader.specs.declared.fault.CopyFault.{CopyFault}
+use Rattle.copy_reader.specs.declared.fault.CopyFault.TheVariants.{Origin, Head, CopyDamaged, ShelfFault, OutOfMemory}
+use Rattle.program_monitor.specs.Copied.{by_copy, CountsFault, IsOfFiles, RefusesCopy}
+use Rattle.program_monitor.specs.declared.fault.CopyEntriesFault.{CopyEntriesFault}
+
+refuses : (origin : List ℕ) (keys : List Key) (held : Option (List Put)) (fault : CopyFault) →
+    IsRefused origin keys held fault → RefusesCopy origin keys held (by_copy fault)
+refuses origin keys held (Origin f) h = tt
+refuses origin keys held (Head f) h = h
+refuses origin keys held (CopyDamaged path) h = tt
+refuses origin keys held ShelfFault h = tt
+refuses origin keys held OutOfMemory h = tt
+
+-- why it is not opened
+pub refuses_copy : (origin : List ℕ) (keys : List Key) (held : Option (List Put)) (fault : CopyFault)
+    (answer : CopyEntriesFault) → answer ≡ by_copy fault → IsRefused origin keys held fault →
+    RefusesCopy origin keys held answer
+refuses_copy origin keys held fault answer e h = rw e (refuses origin keys held fault h)
+
+counts : (old new : ℕ) (fault : CopyFault) → CountsRefused old new fault → CountsFault old new (by_copy fault)
+counts old new (Origin f) h = h
+counts old new (Head f) h = h
+counts old new (CopyDamaged path) h = h
+counts old new ShelfFault h = h
+counts old new OutOfMemory h = h
+
+-- it counts alike
+pub counts_copy : (old new : ℕ) (fault : CopyFault) (answer : CopyEntriesFault) → answer ≡ by_copy fault →
+    CountsRefused old new fault → CountsFault old new answer
+counts_copy old new fault answer e h = rw e (counts old new fault h)
+
+read_counts : (T : Type 0) (old new : ℕ) (fault : CopyFault) → CountsRead {T = T} old new (Err fault) →
+    CountsRefused old new fault
+read_counts T old new (Origin f) h = absurd h
+read_counts T old new (Head f) h = absurd h
+read_counts T old new (CopyDamaged path) h = h
+read_counts T old new ShelfFault h = h
+read_counts T old new OutOfMemory h = h
+
+pub counts_read : (T : Type 0) (old new : ℕ) (fault : CopyFault) (answer : CopyEntriesFault) → answer ≡ by_copy fault →
+    CountsRead {T = T} old new (Err fault) → CountsFault old new answer
+counts_read T old new fault answer e h = counts_copy old new fault answer e (read_counts T old new fault h)
+
+read_files : (T : Type 0) (old new : ℕ) (fault : CopyFault) → CountsRead {T = T} old new (Err fault) → IsOfFiles (by_copy fault)
+read_files T old new (Origin f) h = absurd h
+read_files T old new (Head f) h = absurd h
+read_files T old new (CopyDamaged path) h = tt
+read_files T old new ShelfFault h = tt
+read_files T old new OutOfMemory h = tt
+
+-- a fault of reading files is one of files that are read
+pub of_files : (T : Type 0) (old new : ℕ) (fault : CopyFault) (answer : CopyEntriesFault) → answer ≡ by_copy fault →
+    CountsRead {T = T} old new (Err fault) → IsOfFiles answer
+of_files T old new fault answer e h = rw e (read_files T old new fault h)
