@@ -5,6 +5,7 @@ use Rattle.mirror_model.specs.Heads.{IsHead}
 use Rattle.mirror_folders.specs.Shelf.{Put}
 use Rattle.mirror_copy.specs.AskedForCopy.{BlamesFailed, RefusesNote}
 use Rattle.mirror_copy.specs.Faults.{BlamesFrom, BlamesPlaces, IsOfNoPlace}
+use Rattle.mirror_copy.specs.Growing.{Tip}
 use Rattle.mirror_copy.specs.Moments.{HadSize}
 use Rattle.mirror_copy.specs.PlaceGets.{APlaceFailed, AsksEach, AsksPlaces, IsAskedFor}
 use Rattle.mirror_copy.specs.declared.place.Place.{Place}
@@ -51,15 +52,18 @@ module _ {S : Type 0} (may : S → Path → Option (List ℕ) → Type 0) (faile
     h.1,
   )
   blames_failed so x y z Source list none p h = (failed_begun x y z list (p.blames h.0 none), h.1)
-  blames_failed so x y z CopyInUse list none p h = tt
+  blames_failed so x y z CopyInUse list none p h = absurd h
   blames_failed so x y z ShelfFault list none p h = tt
   blames_failed so x y z OutOfMemory list none p h = tt
 
-  pub blames_from : (so : Path → Type 0) (x y z : Places S) (m n : ℕ) (e : BringFault) → y.list.items ≡ x.list.items →
-      IsFalse y.has_failed → AsksPlaces may failed asked so y z → BlamesFrom z m n e → BlamesFailed may failed asked x z e
-  blames_from so x y z m n e list none p (inl h) =
+  pub blames_from : (so : Path → Type 0) (x y z : Places S) (digest : List ℕ → List ℕ) (n : ℕ) (tip : Tip)
+      (puts : Option (List Put)) (e : BringFault) → y.list.items ≡ x.list.items → IsFalse y.has_failed →
+      AsksPlaces may failed asked so y z → BlamesFrom digest z n tip puts e → BlamesFailed may failed asked x z e
+  blames_from so x y z digest n tip puts e list none p (inl h) =
       subst (λ (f : BringFault). BlamesFailed may failed asked x z f) (sym h.0) tt
-  blames_from so x y z m n e list none p (inr h) = blames_failed so x y z e list none p h
+  blames_from so x y z digest n tip puts e list none p (inr (inl h)) =
+      subst (λ (f : BringFault). BlamesFailed may failed asked x z f) (sym h.0) tt
+  blames_from so x y z digest n tip puts e list none p (inr (inr h)) = blames_failed so x y z e list none p h
 
 module _ (digest : List ℕ → List ℕ) (origin note : List ℕ) (puts : Option (List Put)) where
   -- a fault by which no note is refused
@@ -71,7 +75,7 @@ module _ (digest : List ℕ → List ℕ) (origin note : List ℕ) (puts : Optio
   refuses_none Collision h = tt
   refuses_none NoFile h = absurd h
   refuses_none Source h = absurd h
-  refuses_none CopyInUse h = tt
+  refuses_none CopyInUse h = absurd h
   refuses_none ShelfFault h = tt
   refuses_none OutOfMemory h = tt
 
@@ -83,20 +87,22 @@ module _ (digest : List ℕ → List ℕ) (origin note : List ℕ) (puts : Optio
   refuses_places places Collision h = tt
   refuses_places places NoFile h = tt
   refuses_places places Source h = tt
-  refuses_places places CopyInUse h = tt
+  refuses_places places CopyInUse h = absurd h
   refuses_places places ShelfFault h = tt
   refuses_places places OutOfMemory h = tt
 
-  pub refuses_from : {S : Type 0} (places : Places S) (had size : ℕ) (root : List ℕ) (e : BringFault) →
-      HadSize digest origin puts had → IsHead note origin size root → BlamesFrom places had size e →
-      RefusesNote digest origin note puts e
-  refuses_from places had size root e had_is head (inl h) =
+  pub refuses_from : {S : Type 0} (places : Places S) (tip : Tip) (old : Option (List Put)) (size : ℕ) (root : List ℕ)
+      (e : BringFault) → HadSize digest origin puts tip.size → IsHead note origin size root →
+      BlamesFrom digest places size tip old e → RefusesNote digest origin note puts e
+  refuses_from places tip old size root e had_is head (inl h) =
       subst (λ (f : BringFault). RefusesNote digest origin note puts f) (sym h.0) (record {
-        had = had;
+        had = tip.size;
         size = size;
         root = root;
         had_is = had_is;
         is_head = head;
         upto = h.1;
       })
-  refuses_from places had size root e had_is head (inr h) = refuses_places places e h
+  refuses_from places tip old size root e had_is head (inr (inl h)) =
+      subst (λ (f : BringFault). RefusesNote digest origin note puts f) (sym h.0) tt
+  refuses_from places tip old size root e had_is head (inr (inr h)) = refuses_places places e h

@@ -17,3 +17,9 @@ pub mod WholeMoments
 pub mod SameCopies
 pub mod Stays
 pub mod Suffices
+pub mod Others
+pub mod TrueRows
+pub mod TipTruth
+pub mod OnePlace
+pub mod Spared
+pub mod Cutting

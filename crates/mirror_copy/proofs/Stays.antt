@@ -1,9 +1,9 @@
 -- A bringing that ended early: the copy that stood before stands in the end.
-use Rattle.std.proofs.Common.{◌≡◌, ℕ, ◌≤◌, List, [], ◌++◌, Option, Some, None, Result, Ok, Err, IfErr, refl, sym, subst}
+use Rattle.std.proofs.Common.{◌≡◌, ℕ, List, [], Option, Some, None, Result, Ok, Err, IfErr, refl, sym, subst}
 use Rattle.std.proofs.lemmas.List.{append-nil}
 use Rattle.tlog_tiles.specs.declared.paths.Path.TheVariants.{Checkpoint}
 use Rattle.mirror_sources.specs.Told.{AddsTold, KeepsTold}
-use Rattle.mirror_folders.specs.Shelf.{Put, HasPut, TellsRead}
+use Rattle.mirror_folders.specs.Shelf.{Put, HasPut}
 use Rattle.mirror_export.specs.Exports.{IsMoment}
 use Rattle.log_reader.specs.EdgeRows.{Edge}
 use Rattle.mirror_copy.specs.Copies.{IsCopy}
@@ -11,7 +11,6 @@ use Rattle.mirror_copy.specs.Edges.{BringsToEdge, PutsNote}
 use Rattle.mirror_copy.specs.Found.{IsTipRead}
 use Rattle.mirror_copy.specs.Growing.{IsCutShort, IsKnown, Tip}
 use Rattle.mirror_copy.specs.Moments.{CopyStays, InTheEnd}
-use Rattle.mirror_copy.proofs.Growth.{left_none}
 use Rattle.mirror_copy.proofs.WholeMoments.{cut_copy, cut_none, none_found}
 
 -- the end is a moment

@@ -1,9 +1,12 @@
 -- What a bringing asks its places for, and which fault comes where a file was to be had from none.
-use Rattle.std.specs.Prelude.{◌≡◌, ◌≤◌, ℕ, List, get_or, Option, IsSome}
+use Rattle.std.specs.Prelude.{◌≡◌, ◌≤◌, ℕ, List, get_or, Option, Some, IsSome}
 use Rattle.tlog_tiles.specs.declared.paths.Path.{Path}
-use Rattle.mirror_folders.specs.Shelf.{Put}
+use Rattle.tlog_tiles.specs.declared.paths.Path.TheVariants.{Checkpoint}
+use Rattle.mirror_folders.specs.Shelf.{HasPut, Put, TellsRead}
 use Rattle.mirror_model.specs.Heads.{IsHead}
 use Rattle.mirror_copy.specs.Asked.{MayBeAsked}
+use Rattle.mirror_copy.specs.Copies.{IsCopy}
+use Rattle.mirror_copy.specs.Faults.{IsOtherFound}
 use Rattle.mirror_copy.specs.Moments.{HadSize}
 use Rattle.mirror_copy.specs.PlaceGets.{APlaceFailed, AsksEach}
 use Rattle.mirror_copy.specs.declared.place.Place.{Place}
@@ -62,3 +65,14 @@ module _ (digest : List ℕ → List ℕ) (origin note : List ℕ) (puts : Optio
   RefusesNote CopyInUse = Unit {0}
   RefusesNote ShelfFault = Unit {0}
   RefusesNote OutOfMemory = Unit {0}
+
+-- the shelf's checkpoint was read at the start, and once more when all other files were put, and it was another then.
+-- Such a shelf recorded no copy, and not that no checkpoint stood: what is recorded changes by the puts of this call alone
+pub record IsInUse (digest : List ℕ → List ℕ) (origin : List ℕ) (old : Option (List Put)) : Type 0 where
+  pub found : Option (List ℕ)
+  pub found_is : TellsRead old Checkpoint found
+  pub before : Option (List Put)
+  pub other : IsOtherFound found before
+  pub no_copy : (held : List Put) → old ≡ Some held → (note : List ℕ) (entries : List (List ℕ)) →
+      ¬ IsCopy digest origin note entries held
+  pub not_none : (held : List Put) → old ≡ Some held → ¬ ¬ HasPut held Checkpoint

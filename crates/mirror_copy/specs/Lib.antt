@@ -10,3 +10,4 @@ pub mod Edges
 pub mod Found
 pub mod AskedForCopy
 pub mod Suffices
+pub mod Taken

@@ -1,11 +1,14 @@
 //! Bundles that will be asked for soon.
-ghost use Rattle.std.specs.Prelude.{◌≡◌, ◌^◌, ◌<◌, IfErr, IfOk};
+ghost use Rattle.std.specs.Prelude.{◌≡◌, ◌^◌, ◌<◌, ℕ, List, IfErr, IfOk};
 ghost use Rattle.tlog_tiles.specs.declared.paths.Path.TheVariants.{Entries};
 ghost use Rattle.mirror_sources.specs.Told.{KeepsTold};
 ghost use Rattle.log_reader.specs.Verified.{Verifies};
 ghost use Rattle.mirror_copy.specs.Conflicts.{IsNoConflict};
 ghost use Rattle.mirror_copy.specs.Faults.{BlamesPlaces, CountsShelf};
 ghost use Rattle.mirror_copy.specs.PlaceGets.{AsksPlaces};
+ghost use Rattle.mirror_copy.specs.Suffices.{HasTruePlace, IsFileUnder, IsNoLack};
+ghost use Rattle.mirror_copy.specs.Taken.{MayTake};
+ghost use Rattle.mirror_model.specs.TrueLaws.{AreShort};
 
 use crate::fault::BringFault;
 use crate::find::{Found, find};
@@ -74,6 +77,11 @@ pub(crate) fn find_bundle<H: TreeHash, D: ReadableShelf, S: Source + Drop>(
     ensures asks { AsksPlaces S.may_answer S.failed S.asked (λ p. p ≡ Entries index 256)
         places.old places.new }
     ensures blames { IfErr result (BlamesPlaces places.new) }
+    ensures taken { IfOk result (λ f. MayTake S.may_answer places.old (D.puts shelf.old)
+        (Entries index 256) f.bytes.items) }
+    ensures suffices { IfErr result (λ e. (entries : List (List ℕ)) → AreShort entries
+        → IsFileUnder H.digest entries FullFile.Bundle (Entries index 256) hash.now
+        → HasTruePlace H.digest entries S.may_answer places.old places.new → IsNoLack e) }
 {
     let path = Path::Entries { index, width: 256 };
     let found = find::<H, D, S>(alloc, shelf, places, FullFile::Bundle, &path, hash)?;

@@ -1,10 +1,12 @@
 //! Tiles brought from places, with all that lies below them.
-ghost use Rattle.std.specs.Prelude.{◌≡◌, ◌+◌, ◌*◌, ◌^◌, ◌<◌, ◌≤◌, ℕ, List, IfErr, OnOk, length};
+ghost use Rattle.std.specs.Prelude.{◌≡◌, ◌+◌, ◌*◌, ◌^◌, ◌<◌, ◌≤◌, ℕ, List, IfErr, OnOk, length, take};
 ghost use Rattle.mirror_sources.specs.Told.{KeepsTold};
 ghost use Rattle.mirror_copy.specs.Asked.{IsNewFull};
 ghost use Rattle.mirror_copy.specs.Faults.{BlamesPlaces, CountsShelf};
 ghost use Rattle.mirror_copy.specs.PlaceGets.{AsksPlaces};
 ghost use Rattle.mirror_copy.specs.Conflicts.{ConflictPutsNothing};
+ghost use Rattle.mirror_copy.specs.Suffices.{IsSpared, IsTileHash, IsTileRow, IsTipOf, OneIsHonest};
+ghost use Rattle.mirror_copy.specs.Taken.{PutsTaken};
 ghost use Rattle.mirror_copy.specs.Growing.{IsKnown, BringsRow, BringsTile};
 
 use crate::ahead::find_bundle;
@@ -36,6 +38,11 @@ fn bring_bundle<H: TreeHash, D: ReadableShelf, S: Source + Drop>(
     ensures asks { AsksPlaces S.may_answer S.failed S.asked (IsNewFull tip.now.size)
         places.old places.new }
     ensures blames { IfErr result (BlamesPlaces places.new) }
+    ensures taken { PutsTaken S.may_answer places.old (D.puts shelf.old) (D.puts shelf.new) }
+    ensures honest { IfErr result (λ e. (entries : List (List ℕ)) (size : ℕ)
+        → OneIsHonest H.digest entries size S.may_answer (D.puts shelf.old) places.old places.new
+        → IsTipOf H.digest tip.now (take size entries)
+        → IsTileHash H.digest (take size entries) 0 index hash.now → IsSpared e) }
     ensures early { ConflictPutsNothing (index * 256) tip.now.size (D.puts shelf.old)
         (D.puts shelf.new) result }
     ensures brings { (known : List (List ℕ)) → IsKnown H.digest tip.now (index * 256) known
@@ -44,9 +51,9 @@ fn bring_bundle<H: TreeHash, D: ReadableShelf, S: Source + Drop>(
 {
     let path = Path::Entries { index, width: 256 };
     let found = find_bundle::<H, D, S>(alloc, shelf, places, index, hash, more)?;
-    if tip.first_new(0, index, &found.row).is_none() {
+    let Some(_first) = tip.first_new(0, index, &found.row) else {
         return Err(BringFault::Contradiction);
-    }
+    };
     if !tip.goes_on(index, &found.bytes) {
         return Err(BringFault::Collision);
     }
@@ -83,6 +90,11 @@ fn bring_tile<H: TreeHash, D: ReadableShelf, S: Source + Drop>(
     ensures asks { AsksPlaces S.may_answer S.failed S.asked (IsNewFull tip.now.size)
         places.old places.new }
     ensures blames { IfErr result (BlamesPlaces places.new) }
+    ensures taken { PutsTaken S.may_answer places.old (D.puts shelf.old) (D.puts shelf.new) }
+    ensures honest { IfErr result (λ e. (entries : List (List ℕ)) (size : ℕ)
+        → OneIsHonest H.digest entries size S.may_answer (D.puts shelf.old) places.old places.new
+        → IsTipOf H.digest tip.now (take size entries)
+        → IsTileHash H.digest (take size entries) level index hash.now → IsSpared e) }
     ensures early { ConflictPutsNothing (index * 256 ^ (level + 1)) tip.now.size (D.puts shelf.old)
         (D.puts shelf.new) result }
     ensures brings { (known : List (List ℕ))
@@ -125,6 +137,11 @@ pub(crate) fn bring_row<H: TreeHash, D: ReadableShelf, S: Source + Drop>(
     ensures asks { AsksPlaces S.may_answer S.failed S.asked (IsNewFull tip.now.size)
         places.old places.new }
     ensures blames { IfErr result (BlamesPlaces places.new) }
+    ensures taken { PutsTaken S.may_answer places.old (D.puts shelf.old) (D.puts shelf.new) }
+    ensures honest { IfErr result (λ e. (entries : List (List ℕ)) (size : ℕ)
+        → OneIsHonest H.digest entries size S.may_answer (D.puts shelf.old) places.old places.new
+        → IsTipOf H.digest tip.now (take size entries)
+        → IsTileRow H.digest (take size entries) level index row.now → IsSpared e) }
     ensures early { ConflictPutsNothing (index * 256 ^ (level + 1)) tip.now.size (D.puts shelf.old)
         (D.puts shelf.new) result }
     ensures brings { (known : List (List ℕ))

@@ -1,15 +1,16 @@
 //! A copy on a shelf, brought to a checkpoint.
-ghost use Rattle.std.specs.Prelude.{◌≡◌, ◌↔◌, ◌<◌, ◌^◌, ℕ, None, Some, [], IfErr, IfOk, IfSome, IsTrue, List, OnOk, length};
+ghost use Rattle.std.specs.Prelude.{◌≡◌, ◌↔◌, ◌⊎◌, ◌<◌, ◌^◌, ℕ, None, Some, [], IfErr, IfOk, IfSome, IsTrue, List, OnOk, length};
 ghost use Rattle.mirror_model.specs.Heads.{IsHead};
 ghost use Rattle.mirror_sources.specs.Told.{KeepsTold};
 ghost use Rattle.mirror_export.specs.Since.{since_paths};
 ghost use Rattle.log_reader.specs.EdgeRows.{LeadsTo};
 ghost use Rattle.mirror_copy.specs.Conflicts.{IsConflict, IsNoConflict};
 ghost use Rattle.mirror_copy.specs.Asked.{IsEdgeTile, MayBeAsked};
-ghost use Rattle.mirror_copy.specs.AskedForCopy.{AsksForCopy, BlamesFailed, RefusesNote};
-ghost use Rattle.mirror_copy.specs.Faults.{BlamesFrom, BlamesPlaces, CountsShelf, IsOfNoPlace};
+ghost use Rattle.mirror_copy.specs.AskedForCopy.{AsksForCopy, BlamesFailed, IsInUse, RefusesNote};
+ghost use Rattle.mirror_copy.specs.Faults.{BlamesFrom, BlamesPlaces, BlamesRun, CountsShelf, IsOfNoPlace, IsOtherThen};
 ghost use Rattle.mirror_copy.specs.PlaceGets.{AsksPlaces};
 ghost use Rattle.mirror_copy.specs.Found.{BringsFromTip};
+ghost use Rattle.mirror_copy.specs.declared.fault.BringFault.TheVariants.{CopyInUse};
 ghost use Rattle.mirror_copy.specs.Moments.{CopyStays, HadSize, IsBroughtTo, KeepsCopy};
 
 use crate::fault::BringFault;
@@ -86,7 +87,8 @@ fn put_empty<H: TreeHash, D: ReadableShelf>(
     requires empty { candidate.now.size ≡ 0 }
     requires none { tip.now.checkpoint ≡ None }
     ensures counted { CountsShelf (D.failed shelf.old) (D.failed shelf.new) result }
-    ensures places { IfErr result IsOfNoPlace }
+    ensures blames { IfErr result (λ e. ((e ≡ CopyInUse) × IsOtherThen H.digest tip.now
+        (D.puts shelf.old)) ⊎ IsOfNoPlace e) }
     ensures conflict { IfErr result (λ e. IsConflict e → KeepsTold (D.puts shelf.old)
         (D.puts shelf.new)) }
     ensures brings { BringsFromTip H.digest origin.now candidate.now.note.now tip.now
@@ -113,7 +115,7 @@ fn bring_larger<H: TreeHash, D: ReadableShelf, S: Source + Drop>(
     ensures counted { CountsShelf (D.failed shelf.old) (D.failed shelf.new) result }
     ensures asks { AsksPlaces S.may_answer S.failed S.asked
         (MayBeAsked tip.now.size candidate.now.size) places.old places.new }
-    ensures blames { IfErr result (BlamesPlaces places.new) }
+    ensures blames { IfErr result (BlamesRun H.digest places.new tip.now (D.puts shelf.old)) }
     ensures conflict { IfErr result (λ e. IsConflict e → KeepsTold (D.puts shelf.old)
         (D.puts shelf.new)) }
     ensures brings { BringsFromTip H.digest origin.now candidate.now.note.now tip.now
@@ -138,7 +140,8 @@ fn bring_from<H: TreeHash, D: ReadableShelf, S: Source + Drop>(
     ensures counted { CountsShelf (D.failed shelf.old) (D.failed shelf.new) result }
     ensures asks { AsksPlaces S.may_answer S.failed S.asked
         (MayBeAsked tip.now.size candidate.now.size) places.old places.new }
-    ensures blames { IfErr result (BlamesFrom places.new tip.now.size candidate.now.size) }
+    ensures blames { IfErr result (BlamesFrom H.digest places.new candidate.now.size tip.now
+        (D.puts shelf.old)) }
     ensures conflict { IfErr result (λ e. IsConflict e → KeepsTold (D.puts shelf.old)
         (D.puts shelf.new)) }
     ensures brings { BringsFromTip H.digest origin.now candidate.now.note.now tip.now
@@ -195,6 +198,8 @@ pub fn bring_copy<H: TreeHash, D: ReadableShelf, S: Source + Drop>(
     ensures blames { IfErr result (BlamesFailed S.may_answer S.failed S.asked
         places.old places.new) }
     ensures refuses { IfErr result (RefusesNote H.digest origin.now note.now (D.puts shelf.old)) }
+    ensures in_use { IfErr result (λ e. e ≡ CopyInUse
+        → IsInUse H.digest origin.now (D.puts shelf.old)) }
     ensures had { IfOk result (λ size. HadSize H.digest origin.now (D.puts shelf.old) size) }
     ensures conflict { IfErr result (λ e. IsConflict e → KeepsTold (D.puts shelf.old)
         (D.puts shelf.new)) }

@@ -1,11 +1,13 @@
 //! A copy brought to the edge of a larger tree.
-ghost use Rattle.std.specs.Prelude.{◌≡◌, ◌*◌, ◌^◌, ◌<◌, ◌≤◌, ℕ, List, IfErr, OnOk};
+ghost use Rattle.std.specs.Prelude.{◌≡◌, ◌*◌, ◌^◌, ◌<◌, ◌≤◌, ℕ, List, IfErr, OnOk, take};
 ghost use Rattle.tlog_shape.specs.Edge.{edge_index_of};
 ghost use Rattle.mirror_sources.specs.Told.{KeepsTold};
 ghost use Rattle.mirror_copy.specs.Asked.{IsNewFull};
 ghost use Rattle.mirror_copy.specs.Faults.{BlamesPlaces, CountsShelf};
 ghost use Rattle.mirror_copy.specs.PlaceGets.{AsksPlaces};
 ghost use Rattle.mirror_copy.specs.Conflicts.{ConflictPutsNothing};
+ghost use Rattle.mirror_copy.specs.Suffices.{IsEdgeTrue, IsSpared, IsTipOf, OneIsHonest};
+ghost use Rattle.mirror_copy.specs.Taken.{PutsTaken};
 ghost use Rattle.mirror_copy.specs.Growing.{IsKnown};
 ghost use Rattle.log_reader.specs.EdgeRows.{HasWidths};
 ghost use Rattle.mirror_copy.specs.Edges.{BringsEdge};
@@ -36,6 +38,11 @@ pub(crate) fn bring_levels<H: TreeHash, D: ReadableShelf, S: Source + Drop>(
     ensures asks { AsksPlaces S.may_answer S.failed S.asked (IsNewFull tip.now.size)
         places.old places.new }
     ensures blames { IfErr result (BlamesPlaces places.new) }
+    ensures taken { PutsTaken S.may_answer places.old (D.puts shelf.old) (D.puts shelf.new) }
+    ensures honest { IfErr result (λ e. (entries : List (List ℕ)) (size : ℕ)
+        → OneIsHonest H.digest entries size S.may_answer (D.puts shelf.old) places.old places.new
+        → IsTipOf H.digest tip.now (take size entries)
+        → IsEdgeTrue H.digest (take size entries) edge.now → IsSpared e) }
     ensures early { ConflictPutsNothing 0 tip.now.size (D.puts shelf.old)
         (D.puts shelf.new) result }
     ensures none { edge_index_of edge.now.size 0 * 256 ≤ tip.now.size

@@ -8,6 +8,7 @@ ghost use Rattle.mirror_copy.specs.Conflicts.{IsNoConflict};
 ghost use Rattle.mirror_copy.specs.Faults.{BlamesPlaces, CountsShelf};
 ghost use Rattle.mirror_copy.specs.PlaceGets.{AsksPlaces};
 ghost use Rattle.mirror_copy.specs.Suffices.{HasTruePlace, IsFileUnder, IsNoLack};
+ghost use Rattle.mirror_copy.specs.Taken.{MayGive, MayTake};
 ghost use Rattle.mirror_copy.specs.declared.place.Place.{Place};
 
 use crate::fault::BringFault;
@@ -39,6 +40,7 @@ fn accept<H: TreeHash>(
         (λ f. Verifies H.digest kind hash.now f.bytes.items f.row.items)) }
     ensures none { IfOk result (λ found. IfNone found ((row : List (List ℕ))
         → ¬ Verifies H.digest kind hash.now bytes.items row)) }
+    ensures same { IfOk result (λ found. IfSome found (λ f. f.bytes.items ≡ bytes.items)) }
 {
     match verified::<H>(alloc, kind, hash, &bytes)? {
         Some(row) => Ok(Some(Found {
@@ -68,6 +70,8 @@ fn find_at_place<H: TreeHash, S: Source + Drop>(
         (S.may_answer (get_or places.old.list.items index d).source)
         (get_or places.old.list.items index d).failures (get_or places.new.list.items index d).failures
         path.now (λ bytes. (row : List (List ℕ)) × Verifies H.digest kind hash.now bytes row))) }
+    ensures given { IfOk result (λ found. IfSome found
+        (λ f. MayGive S.may_answer places.old path.now f.bytes.items)) }
 {
     match places.get(index, path)? {
         PlaceAnswer::File(bytes) => match accept::<H>(alloc, kind, hash, bytes)? {
@@ -106,6 +110,8 @@ fn find_at_places<H: TreeHash, S: Source + Drop>(
         → IsAskedInVain (S.may_answer (get_or places.old.list.items k d).source)
         (get_or places.old.list.items k d).failures (get_or places.new.list.items k d).failures
         path.now (λ bytes. (row : List (List ℕ)) × Verifies H.digest kind hash.now bytes row))) }
+    ensures given { IfOk result (λ found. IfSome found
+        (λ f. MayGive S.may_answer places.old path.now f.bytes.items)) }
 {
     let first = places.first();
     for turn in 0..places.len() {
@@ -134,6 +140,8 @@ pub(crate) fn find<H: TreeHash, D: ReadableShelf, S: Source + Drop>(
     ensures asks { AsksPlaces S.may_answer S.failed S.asked (λ p. p ≡ path.now)
         places.old places.new }
     ensures blames { IfErr result (BlamesPlaces places.new) }
+    ensures taken { IfOk result
+        (λ f. MayTake S.may_answer places.old (D.puts shelf.old) path.now f.bytes.items) }
     ensures suffices { IfErr result (λ e. (entries : List (List ℕ)) → AreShort entries
         → IsFileUnder H.digest entries kind path.now hash.now
         → HasTruePlace H.digest entries S.may_answer places.old places.new → IsNoLack e) }

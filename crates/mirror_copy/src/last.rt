@@ -1,7 +1,7 @@
 //! The checkpoint, which is put last.
-ghost use Rattle.std.specs.Prelude.{◌≡◌, ◌↔◌, IfErr, IsTrue};
+ghost use Rattle.std.specs.Prelude.{◌≡◌, ◌↔◌, IfErr, IsTrue, option_map};
 ghost use Rattle.mirror_copy.specs.Conflicts.{IsNoConflict};
-ghost use Rattle.mirror_copy.specs.Faults.{CountsShelf, IsOfNoPlace};
+ghost use Rattle.mirror_copy.specs.Faults.{BlamesLast, CountsShelf};
 ghost use Rattle.mirror_copy.specs.Edges.{PutsNote};
 
 use crate::fault::BringFault;
@@ -16,8 +16,10 @@ fn is_same(first: &[u8], second: &[u8]) -> bool
 }
 
 // Whether the shelf's checkpoint is the one that was there when the tip was read.
-fn is_unchanged(found: Option<&[u8]>, now: Option<&[u8]>) -> bool {
-    match (found, now) {
+fn is_unchanged(tip: &CopyTip, now: &Option<Vec<u8>>) -> bool
+    ensures { IsTrue result ↔ (option_map (λ v. v.items) now.now ≡ tip.now.checkpoint) }
+{
+    match (tip.checkpoint(), now) {
         (Some(found), Some(now)) => is_same(found, now),
         (None, None) => true,
         _ => false,
@@ -32,16 +34,11 @@ pub(crate) fn put_last<D: ReadableShelf>(
 ) -> Result<(), BringFault>
     ensures fault { IfErr result IsNoConflict }
     ensures counted { CountsShelf (D.failed shelf.old) (D.failed shelf.new) result }
-    ensures places { IfErr result IsOfNoPlace }
+    ensures blames { IfErr result (BlamesLast tip.now.checkpoint (D.puts shelf.old)) }
     ensures puts { PutsNote (D.puts shelf.old) (D.puts shelf.new) note.now result }
 {
     let now = shelf.read(&Path::Checkpoint)?;
-    let same = match &now {
-        Some(bytes) => is_unchanged(tip.checkpoint(), Some(bytes.as_slice())),
-        None => is_unchanged(tip.checkpoint(), None),
-    };
-    drop(now);
-    if !same {
+    if !is_unchanged(tip, &now) {
         return Err(BringFault::CopyInUse);
     }
     shelf.put(&Path::Checkpoint, note)?;

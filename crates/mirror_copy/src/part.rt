@@ -1,6 +1,13 @@
 //! Partial files cut from full ones.
-ghost use Rattle.std.specs.Prelude.{◌≡◌};
+ghost use Rattle.std.specs.Prelude.{◌≡◌, ◌≤◌, ℕ, All, List, IfSome, Some, length, option_map, take};
+ghost use Rattle.tlog_tiles.specs.Bundle.{bundle_text};
+ghost use Rattle.tlog_tiles.specs.Row.{row_text};
+ghost use Rattle.tlog_tiles.specs.Tiles.{IsWithin};
+ghost use Rattle.mirror_model.specs.Strings.{IsDigest};
+ghost use Rattle.mirror_model.specs.TrueLaws.{AreShort};
 ghost use Rattle.mirror_sources.specs.Files.{full_of};
+ghost use Rattle.mirror_sources.specs.Honest.{true_bytes};
+ghost use Rattle.mirror_copy.specs.Taken.{IsFirstOf};
 
 use tlog_tiles::{Path, split_entry};
 
@@ -23,20 +30,50 @@ pub(crate) fn full_of(path: &Path) -> Path
 }
 
 // The first `count` entries of a bundle; None where it has fewer.
-fn first_entries(bundle: &[u8], count: u32) -> Option<&[u8]> {
+fn first_entries(bundle: &[u8], count: u32) -> Option<&[u8]>
+    ensures first { IfSome result (λ part. IsFirstOf bundle.now part.now) }
+    ensures whole { (entries : List (List ℕ)) → AreShort entries → bundle.now ≡ bundle_text entries
+        → count ≤ length entries
+        → option_map (λ part. part.now) result ≡ Some (bundle_text (take count entries)) }
+{
     let mut rest = bundle;
-    for _ in 0..count {
-        let (_entry, after) = split_entry(rest)?;
+    for done in 0..count {
+        let Some((_entry, after)) = split_entry(rest) else {
+            return None;
+        };
         rest = after;
     }
-    bundle.get(..bundle.len().saturating_sub(rest.len()))
+    let (part, _rest) = bundle.split_at(bundle.len() - rest.len());
+    Some(part)
+}
+
+// The first hashes of a tile; None where it has fewer.
+fn first_hashes(tile: &[u8], count: u32) -> Option<&[u8]>
+    ensures first { IfSome result (λ part. IsFirstOf tile.now part.now) }
+    ensures whole { (row : List (List ℕ)) → All (λ hash. length hash ≡ 32) row
+        → tile.now ≡ row_text row → count ≤ length row
+        → option_map (λ part. part.now) result ≡ Some (row_text (take count row)) }
+{
+    let len = 32 * count as usize;
+    if tile.len() < len {
+        return None;
+    }
+    let (part, _rest) = tile.split_at(len);
+    Some(part)
 }
 
 /// The part of a full file that is the partial file of that path.
-pub(crate) fn part_of<'a>(path: &Path, full: &'a [u8]) -> Option<&'a [u8]> {
+pub(crate) fn part_of<'a>(path: &Path, full: &'a [u8]) -> Option<&'a [u8]>
+    ensures first { IfSome result (λ part. IsFirstOf full.now part.now) }
+    ensures whole { (digest : List ℕ → List ℕ) → IsDigest digest → (entries : List (List ℕ))
+        → AreShort entries → IsWithin (length entries) path.now
+        → IsWithin (length entries) (full_of path.now)
+        → full.now ≡ true_bytes digest entries (full_of path.now)
+        → option_map (λ part. part.now) result ≡ Some (true_bytes digest entries path.now) }
+{
     match path {
         Path::Checkpoint => None,
-        Path::Tile { width, .. } => full.get(..32usize.saturating_mul(*width as usize)),
+        Path::Tile { width, .. } => first_hashes(full, *width),
         Path::Entries { width, .. } => first_entries(full, *width),
     }
 }

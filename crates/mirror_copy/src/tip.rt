@@ -46,14 +46,16 @@ fn is_same(first: &[u8], second: &[u8]) -> bool
 
 // Whether the hashes begin with those.
 fn begins_with(row: &[Hash], old: &[Hash]) -> bool
-    ensures { IsTrue result → take (length old.now) row.now ≡ old.now }
+    ensures { IsTrue result ↔ ((length old.now ≤ length row.now)
+        × (take (length old.now) row.now ≡ old.now)) }
 {
     old.len() <= row.len() && is_same_row(&row[..old.len()], old)
 }
 
 // Whether the bytes begin with those.
 fn goes_on_from(bytes: &[u8], old: &[u8]) -> bool
-    ensures { IsTrue result → take (length old.now) bytes.now ≡ old.now }
+    ensures { IsTrue result ↔ ((length old.now ≤ length bytes.now)
+        × (take (length old.now) bytes.now ≡ old.now)) }
 {
     old.len() <= bytes.len() && is_same(&bytes[..old.len()], old)
 }
@@ -114,6 +116,10 @@ impl CopyTip {
             ⊎ ((index ≢ edge_index_of self.now.size level) × (first ≡ 0))) }
         ensures none { IfNone result (index ≡ edge_index_of self.now.size level) }
         ensures within { IfSome result (λ first. first ≤ length row.now) }
+        ensures differs { IfNone result (
+            length (get_or self.now.rows level []) ≡ width_of self.now.size level
+            → length (get_or self.now.rows level []) ≤ length row.now
+            → ¬ (take (length (get_or self.now.rows level [])) row.now ≡ get_or self.now.rows level [])) }
     {
         if index != edge_index(self.size(), level) {
             return Some(0);
@@ -132,6 +138,8 @@ impl CopyTip {
         ensures other { IsFalse result → index ≡ edge_index_of self.now.size 0 }
         ensures same { IsTrue result → index ≡ edge_index_of self.now.size 0
             → take (length self.now.bundle) bytes.now ≡ self.now.bundle }
+        ensures differs { IsFalse result → length self.now.bundle ≤ length bytes.now
+            → ¬ (take (length self.now.bundle) bytes.now ≡ self.now.bundle) }
     {
         index != edge_index(self.size(), 0) || goes_on_from(bytes, &self.bundle)
     }

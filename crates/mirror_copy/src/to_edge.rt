@@ -3,7 +3,7 @@ ghost use Rattle.std.specs.Prelude.{◌≡◌, ◌↔◌, ◌^◌, ◌<◌, ◌�
 ghost use Rattle.tlog_shape.specs.Edge.{edge_index_of, width_of};
 ghost use Rattle.mirror_copy.specs.Conflicts.{ConflictPutsNothing, IsNoConflict};
 ghost use Rattle.mirror_copy.specs.Asked.{IsEdgeBundleOrNew};
-ghost use Rattle.mirror_copy.specs.Faults.{BlamesPlaces, CountsShelf, IsOfNoPlace};
+ghost use Rattle.mirror_copy.specs.Faults.{BlamesRun, CountsShelf, IsOfNoPlace};
 ghost use Rattle.mirror_copy.specs.PlaceGets.{AsksPlaces};
 ghost use Rattle.mirror_copy.specs.Growing.{IsKnown};
 ghost use Rattle.log_reader.specs.EdgeRows.{HasWidths, RowIsTrue};
@@ -107,7 +107,7 @@ pub(crate) fn bring_to_edge<H: TreeHash, D: ReadableShelf, S: Source + Drop>(
     ensures counted { CountsShelf (D.failed shelf.old) (D.failed shelf.new) result }
     ensures asks { AsksPlaces S.may_answer S.failed S.asked
         (IsEdgeBundleOrNew edge.now.size tip.now.size) places.old places.new }
-    ensures blames { IfErr result (BlamesPlaces places.new) }
+    ensures blames { IfErr result (BlamesRun H.digest places.new tip.now (D.puts shelf.old)) }
     ensures early { ConflictPutsNothing 0 tip.now.size (D.puts shelf.old)
         (D.puts shelf.new) result }
     ensures brings { (known : List (List ℕ)) → IsKnown H.digest tip.now 0 known

@@ -24,7 +24,7 @@ turned P (p ∷ path) all =
     (all-append P (reverse path) (p ∷ []) (turned P path all.1) (all.0, tt))
 
 -- hashes have 32 bytes
-lengths : (path : List (List ℕ)) → AllByRecursion Is32Bytes path → AllByRecursion (λ p. length p ≡ 32) path
+pub lengths : (path : List (List ℕ)) → AllByRecursion Is32Bytes path → AllByRecursion (λ p. length p ≡ 32) path
 lengths [] all = tt
 lengths (p ∷ path) all = (all.0.are_32, lengths path all.1)
 
@@ -55,7 +55,7 @@ empty_root digest small first is_first none =
     sym is_first.root_is ∙ ap (mth digest) empty ∙ mth-none digest
 
 -- an accepted proof into a list has the root of the list's first entries
-proof_root : (digest : List ℕ → List ℕ) → IsDigest digest → (n m : ℕ) (g root : List ℕ) (path : List (List ℕ))
+pub proof_root : (digest : List ℕ → List ℕ) → IsDigest digest → (n m : ℕ) (g root : List ℕ) (path : List (List ℕ))
     (first second : List (List ℕ)) → AllByRecursion (λ p. length p ≡ 32) path → 0 < m → m ≤ n → m ≡ length first →
     n ≡ length second → root ≡ mth digest second →
     LacksForkClash digest (Some (Consistency m g n root path)) second →

@@ -1,6 +1,6 @@
 -- The candidates that the places of a run give, place by place.
 use Rattle.std.proofs.Common.{◌≡◌, ◌≢◌, inl, inr, ℕ, ◌+◌, ◌<◌, ◌≤◌, List, [], ◌∷◌, ◌++◌, All, Option, Some, None, refl, sym, subst, ◌∙◌, ap, arith}
-use Rattle.std.proofs.Common.{Global, Vec, Result, Ok, Err, get_or, length, length-append}
+use Rattle.std.proofs.Common.{Global, Vec, Result, Ok, Err, map, get_or, length, length-append}
 use Rattle.std.specs.List.{Contains}
 use Rattle.std.specs.List.Sorted.{IsPermutation}
 use Rattle.std.specs.Prelude.{IfErr, IfOk}
@@ -8,7 +8,7 @@ use Rattle.std.proofs.Math.Seq.{get_or-append_seam}
 use Rattle.std.proofs.lemmas.Bool.{cases_lt}
 use Rattle.std.proofs.lemmas.List.{get_or_append_left, nil_from_length}
 use Rattle.std.proofs.lemmas.List.Elements.{All-weaker, Contains-append_left, Contains-push, Contains-push_cases}
-use Rattle.std.proofs.lemmas.List.Sorted.{All-permutation, length_permutation}
+use Rattle.std.proofs.lemmas.List.Sorted.{All-permutation, Contains-permutation, IsPermutation-map, length_permutation}
 use Rattle.signed_note.specs.Keys.{Key}
 use Rattle.tlog_tiles.specs.declared.paths.Path.{Path}
 use Rattle.tlog_tiles.specs.declared.paths.Path.TheVariants.{Checkpoint}
@@ -16,7 +16,7 @@ use Rattle.mirror_copy.specs.declared.place.Place.{Place}
 use Rattle.mirror_copy.specs.declared.places.Places.{Places}
 use Rattle.mirror_follow.specs.Asking.{option_or}
 use Rattle.mirror_follow.specs.Blame.{AsksAny, MayGive, PlaceFails}
-use Rattle.mirror_follow.specs.GatheredFrom.{AnswerEach, GathersFrom, GiveNone, GiveNoneFor, MayAnswer}
+use Rattle.mirror_follow.specs.GatheredFrom.{AnswerEach, AreCandidates, GathersFrom, GiveCandidates, GiveNone, GiveNoneFor, MayAnswer}
 use Rattle.mirror_follow.specs.Gathering.{AreCandidatesOf, Gathers, Gave, IsFirstReason, IsGiven, IsNote, IsReason, note_of}
 use Rattle.mirror_follow.specs.declared.answer.PlaceAnswer.{PlaceAnswer}
 use Rattle.mirror_follow.specs.declared.answer.PlaceAnswer.TheVariants.{File, NotFound, Failed}
@@ -161,6 +161,42 @@ module _ (origin : List ℕ) (keys : List Key) where
         All-permutation (λ candidate. MayGive may x (note_of candidate)) g.candidates.items c.items same
         (All-weaker (IsGiven origin keys is.answers) (λ candidate. MayGive may x (note_of candidate))
         (λ candidate given. is.gave (note_of candidate) given.gave) g.candidates.items is.gathers.are_of.each)
+
+    -- the candidates that places gave, in turn
+    turns_given : (x y : Places S) (g : Gathered) (candidates : List Candidate) → From x y (length x.list.items) g →
+        IsPermutation g.candidates.items candidates → GiveCandidates may origin keys x y candidates
+    turns_given x y g candidates is same = record {
+      answers = is.answers;
+      answer_each = is.answer_each;
+      are_of = record {
+        each = All-permutation (IsGiven origin keys is.answers) g.candidates.items candidates same is.gathers.are_of.each;
+        every = λ note size root gave is_open.
+            Contains-permutation (map note_of g.candidates.items) (map note_of candidates) note
+            (IsPermutation-map note_of g.candidates.items candidates same)
+            (is.gathers.are_of.every note size root gave is_open);
+      };
+    }
+
+    pub turns_give : (x y : Places S) (g : Gathered) (r : Result (Vec Candidate Global) CandidateFault) →
+        From x y (length x.list.items) g → IfOk r (λ c. IsPermutation g.candidates.items c.items) →
+        IfOk r (λ c. GiveCandidates may origin keys x y c.items)
+    turns_give x y g (Err e) is same = tt
+    turns_give x y g (Ok c) is same = turns_given x y g c.items is same
+
+    -- the places are asked for files after that
+    pub candidates_later : (x y z : Places S) (given : Option (List ℕ)) (candidates : List Candidate) →
+        AsksAny may failed asked y z → AreCandidates may origin keys x y given candidates →
+        AreCandidates may origin keys x z given candidates
+    candidates_later x y z None candidates q are = record {
+      answers = are.answers;
+      answer_each = record {
+        count_is = are.answer_each.count_is;
+        each = λ k d a lt.
+            answer_then x y z k d (get_or are.answers k a) q (are.answer_each.each k d a lt);
+      };
+      are_of = are.are_of;
+    }
+    candidates_later x y z (Some note) candidates q are = are
 
     module _ (x y : Places S) (g : Gathered) (is : From x y (length x.list.items) g) (none : g.candidates.items ≡ []) where
       -- there is no candidate

@@ -1,7 +1,7 @@
 -- Calls that put nothing, one after the other, and candidates that open.
-use Rattle.std.proofs.Common.{◌≡◌, ℕ, ◌<◌, length, get_or, List, [], ◌∷◌, ◌++◌, All, Option, map, sym, ◌∙◌, ap, subst}
+use Rattle.std.proofs.Common.{◌≡◌, ℕ, ◌<◌, length, get_or, List, [], ◌∷◌, ◌++◌, All, Option, map, sym, ◌∙◌, ap, subst, arith}
 use Rattle.std.proofs.Common.{Global, Vec, Result, Ok, Err}
-use Rattle.std.specs.List.Sorted.{IsPermutation}
+use Rattle.std.specs.List.Sorted.{IsPermutation, IsSorted}
 use Rattle.std.specs.Prelude.{IfOk}
 use Rattle.std.proofs.lemmas.List.Elements.{All-get_or, All-nil, All-push, All-weaker}
 use Rattle.std.proofs.lemmas.List.Sorted.{All-permutation}
@@ -10,7 +10,8 @@ use Rattle.mirror_sources.specs.Told.{KeepsTold}
 use Rattle.mirror_folders.specs.Shelf.{Put}
 use Rattle.mirror_copy.proofs.Earlier.{kept_then}
 use Rattle.mirror_copy.proofs.Growth.{kept_same}
-use Rattle.mirror_follow.specs.Candidates.{IsCandidate, IsCandidateOf}
+use Rattle.mirror_follow.specs.Candidates.{IsCandidate, IsCandidateOf, turn_cmp}
+use Rattle.mirror_follow.specs.GatheredFrom.{IsOnly}
 use Rattle.mirror_follow.specs.Gathering.{Gathers, IsGiven, note_of}
 use Rattle.mirror_follow.specs.declared.answer.PlaceAnswer.{PlaceAnswer}
 use Rattle.mirror_follow.specs.declared.candidate.Candidate.{Candidate}
@@ -57,6 +58,20 @@ pub one_given : (origin : List ℕ) (keys : List Key) (note : List ℕ) (candida
 one_given origin keys note candidate none candidates is empty one =
     subst (All (λ c. note_of c ≡ note)) (sym (one ∙ ap (λ l. l ++ candidate ∷ []) empty))
     (All-push (λ c. note_of c ≡ note) [] candidate (All-nil (λ c. note_of c ≡ note)) is.note_is)
+
+-- so it is the only one
+pub only_open : (origin : List ℕ) (keys : List Key) (note : List ℕ) (candidate : Candidate)
+    (none candidates : List Candidate) → IsCandidateOf note origin keys candidate → none ≡ [] →
+    candidates ≡ none ++ candidate ∷ [] → IsOnly origin keys note candidates
+only_open origin keys note candidate none candidates is empty one =
+    record { candidate = candidate; is = one ∙ ap (λ l. l ++ candidate ∷ []) empty; opens = is }
+
+-- one is in order
+pub one_rises : (candidate : Candidate) (none candidates : List Candidate) → none ≡ [] →
+    candidates ≡ none ++ candidate ∷ [] → IsSorted turn_cmp candidates
+one_rises candidate none candidates empty one =
+    subst (IsSorted turn_cmp) (sym (one ∙ ap (λ l. l ++ candidate ∷ []) empty))
+    (λ k d low lt. absurd (omega (arith, lt)))
 
 -- candidates are checkpoints of the origin
 pub heads_open : (origin : List ℕ) (keys : List Key) (candidates : List Candidate) → All (IsCandidate origin keys) candidates →

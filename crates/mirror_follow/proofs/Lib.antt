@@ -12,3 +12,9 @@ pub mod Renoted
 pub mod Ending
 pub mod Shown
 pub mod Turning
+pub mod TurnOrder
+pub mod Taken
+pub mod Settled
+pub mod Agreeing
+pub mod Noted
+pub mod Split

@@ -14,14 +14,14 @@ use Rattle.mirror_export.proofs.AllFiles.{files_are_all}
 use Rattle.mirror_copy.proofs.TipReads.{stands_one}
 use Rattle.mirror_copy.proofs.WholeMoments.{copy_found, none_found}
 use Rattle.mirror_follow.specs.Gathering.{note_of}
-use Rattle.mirror_follow.specs.Standing.{HasCopy, IsCopyNow, IsCopyOfRun, IsFollowed, IsHeadOf, IsSame, KnowsAfter, StandsAfter, StandsAs, StandsOrNone, StandsUnder, size_of_copy}
+use Rattle.mirror_follow.specs.Standing.{HadCopy, HasCopy, IsCopyNow, IsCopyOfRun, IsFollowed, IsHeadOf, IsSame, KnowsAfter, StandsAfter, StandsAs, StandsOrNone, StandsUnder, size_of_copy}
 use Rattle.mirror_follow.specs.declared.candidate.Candidate.{Candidate}
 use Rattle.mirror_follow.specs.declared.report.Followed.{Followed}
 use Rattle.mirror_follow.specs.declared.report.Turn.{Turn}
 use Rattle.mirror_follow.specs.declared.report.Turn.TheVariants as turn
 
 -- what is so in the end, and more so
-end_weaker : (w : Option (List Put)) (so also : List Put → Type 0) → ((now : List Put) → so now → also now) →
+pub end_weaker : (w : Option (List Put)) (so also : List Put → Type 0) → ((now : List Put) → so now → also now) →
     InTheEnd w so → InTheEnd w also
 end_weaker None so also f h = h
 end_weaker (Some new) so also f h = f new h
@@ -190,6 +190,28 @@ module _ (digest : List ℕ → List ℕ) (origin : List ℕ) where
         copy.is_head).size_is;
     none = λ held is none.
         absurd (cc (none_found held (Some (note_of c)) (subst (λ o. TellsRead o Checkpoint (Some (note_of c))) is there) none));
+  }
+
+  -- the copy that was read is the one that was there
+  pub read_first : (x : Option (List Put)) (c : Candidate) → IsHeadOf origin c → TellsRead x Checkpoint (Some (note_of c)) →
+      HadCopy digest origin x (Some c)
+  read_first x c head there = record {
+    some = λ held is note entries copy.
+        let e : note_of c ≡ note =
+        checkpoint_one note entries held copy (note_of c) (subst (λ o. TellsRead o Checkpoint (Some (note_of c))) is there) in (
+          e,
+          (head_once note origin origin c.size.0 (length entries) c.root (mth digest entries)
+              (subst (λ b. IsHead b origin c.size.0 c.root) e head) copy.is_head).size_is,
+        );
+    none = λ held is none.
+        absurd (cc (none_found held (Some (note_of c)) (subst (λ o. TellsRead o Checkpoint (Some (note_of c))) is there) none));
+  }
+
+  pub read_none : (x : Option (List Put)) → TellsRead x Checkpoint None → HadCopy digest origin x None
+  read_none x there = record {
+    some = λ held is note entries copy.
+        absurd (copy_found digest origin note entries held None copy (subst (λ o. TellsRead o Checkpoint None) is there) refl);
+    none = λ held is none. refl;
   }
 
   pub had_none : (x : Option (List Put)) → TellsRead x Checkpoint None → HadSize digest origin x 0

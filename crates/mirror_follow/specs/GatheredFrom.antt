@@ -1,5 +1,5 @@
 -- The candidates that the places of a run give, and why they give none.
-use Rattle.std.specs.Prelude.{◌≡◌, ◌⊎◌, ℕ, ◌<◌, ◌≤◌, List, [], Contains, get_or, length, Option, Some, None, ⊤}
+use Rattle.std.specs.Prelude.{◌≡◌, ◌⊎◌, ℕ, ◌<◌, ◌≤◌, List, [], ◌∷◌, Contains, get_or, length, Option, Some, None, ⊤}
 use Rattle.signed_note.specs.Keys.{Key}
 use Rattle.tlog_tiles.specs.declared.paths.Path.{Path}
 use Rattle.tlog_tiles.specs.declared.paths.Path.TheVariants.{Checkpoint}
@@ -7,12 +7,20 @@ use Rattle.mirror_copy.specs.declared.place.Place.{Place}
 use Rattle.mirror_copy.specs.declared.places.Places.{Places}
 use Rattle.mirror_follow.specs.Asking.{option_or}
 use Rattle.mirror_follow.specs.Blame.{MayGive, PlaceFails}
+use Rattle.mirror_follow.specs.Candidates.{IsCandidateOf}
 use Rattle.mirror_follow.specs.Gathering.{AreCandidatesOf, Gathers, Gave, IsFirstReason}
 use Rattle.mirror_follow.specs.declared.answer.PlaceAnswer.{PlaceAnswer}
 use Rattle.mirror_follow.specs.declared.answer.PlaceAnswer.TheVariants.{File, NotFound, Failed}
+use Rattle.mirror_follow.specs.declared.candidate.Candidate.{Candidate}
 use Rattle.mirror_follow.specs.declared.fault.CandidateFault.{CandidateFault}
 use Rattle.mirror_follow.specs.declared.fault.CandidateFault.TheVariants as candidate
 use Rattle.mirror_follow.specs.declared.gather.Gathered.{Gathered}
+
+-- the note is the only candidate
+pub record IsOnly (origin : List ℕ) (keys : List Key) (note : List ℕ) (candidates : List Candidate) : Type 0 where
+  pub candidate : Candidate
+  pub is : candidates ≡ candidate ∷ []
+  pub opens : IsCandidateOf note origin keys candidate
 
 module _ {S : Type 0} (may : S → Path → Option (List ℕ) → Type 0) where
   -- a place answers for its checkpoint what it may answer; or it failed, or it had failed 8 times before
@@ -45,6 +53,17 @@ module _ {S : Type 0} (may : S → Path → Option (List ℕ) → Type 0) where
       pub are_of : AreCandidatesOf origin keys answers []
       pub reason : (first : Option CandidateFault) × IsFirstReason origin keys answers first
           × (fault ≡ option_or first candidate.NoCheckpoint)
+
+    -- each place was asked, and the candidates are exactly the notes that they gave and that open
+    pub record GiveCandidates (candidates : List Candidate) : Type 0 where
+      pub answers : List PlaceAnswer
+      pub answer_each : AnswerEach old new answers (length old.list.items)
+      pub are_of : AreCandidatesOf origin keys answers candidates
+
+    -- the candidates: the note that was given, or where none was, those of the places
+    abbrev pub AreCandidates : Option (List ℕ) → List Candidate → Type 0
+    AreCandidates None candidates = GiveCandidates candidates
+    AreCandidates (Some note) candidates = IsOnly origin keys note candidates
 
     -- why the places give no candidate, by the fault
     abbrev pub GiveNoneFor : CandidateFault → Type 0

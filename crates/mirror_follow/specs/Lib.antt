@@ -11,3 +11,6 @@ pub mod GatheredFrom
 pub mod Renoting
 pub mod Turning
 pub mod Ending
+pub mod Agreeing
+pub mod Says
+pub mod Taken

@@ -21,6 +21,11 @@ abbrev pub size_of_copy : Option Candidate → ℕ
 size_of_copy None = 0
 size_of_copy (Some copy) = copy.size.0
 
+-- the copy has that note and that number of entries
+abbrev pub IsCopyRead : List ℕ → ℕ → Option Candidate → Type 0
+IsCopyRead note size None = ⊥
+IsCopyRead note size (Some copy) = (note_of copy ≡ note) × (copy.size.0 ≡ size)
+
 module _ (digest : List ℕ → List ℕ) (origin : List ℕ) where
   -- a copy stands under the note of the candidate, of entries that begin with those, with its size and root
   pub record StandsUnder (candidate : Candidate) (entries : List (List ℕ)) (puts : List Put) : Type 0 where
@@ -44,6 +49,12 @@ module _ (digest : List ℕ → List ℕ) (origin : List ℕ) where
     pub some : (held : List Put) → old ≡ Some held → (note : List ℕ) (entries : List (List ℕ)) →
         IsCopy digest origin note entries held → StandsAs copy entries new
     pub none : (held : List Put) → old ≡ Some held → ¬ HasPut held Checkpoint → StandsOrNone copy new
+
+  -- the copy that was read is the one that was there, and there is none where no checkpoint was
+  pub record HadCopy (old : Option (List Put)) (copy : Option Candidate) : Type 0 where
+    pub some : (held : List Put) → old ≡ Some held → (note : List ℕ) (entries : List (List ℕ)) →
+        IsCopy digest origin note entries held → IsCopyRead note (length entries) copy
+    pub none : (held : List Put) → old ≡ Some held → ¬ HasPut held Checkpoint → copy ≡ None
 
   -- what stands after a turn of a candidate: where the copy was brought, one under its note, and else that which stood
   abbrev pub StandsAfter : Candidate → Option (List Put) → Option (List Put) → Turn → Type 0

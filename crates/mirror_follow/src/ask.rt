@@ -5,7 +5,7 @@ ghost use Rattle.tlog_text.specs.Answers.{seen};
 ghost use Rattle.mirror_follow.specs.Asking.{AreAnswers, FindsCandidates, IsAnswer, option_or};
 ghost use Rattle.mirror_follow.specs.Blame.{AsksAny, MayGive, PlaceFails};
 ghost use Rattle.mirror_copy.specs.declared.place.Place.{Place};
-ghost use Rattle.mirror_follow.specs.GatheredFrom.{GathersFrom, GiveNoneFor, MayAnswer};
+ghost use Rattle.mirror_follow.specs.GatheredFrom.{GathersFrom, GiveCandidates, GiveNoneFor, MayAnswer};
 ghost use Rattle.mirror_follow.specs.Candidates.{IsCandidate, turn_cmp};
 ghost use Rattle.mirror_follow.specs.Gathering.{Gathers, IsNote, note_of};
 ghost use Rattle.mirror_follow.specs.declared.answer.PlaceAnswer.{PlaceAnswer};
@@ -150,6 +150,9 @@ pub(crate) fn ask_places<S: Source + Drop>(
     ensures gave { IfOk result (λ candidates. All
         (λ c. MayGive S.may_answer places.old (note_of c)) candidates.items) }
     ensures some { IfOk result (λ candidates. 0 < length candidates.items) }
+    ensures gives { IfOk result (λ candidates. GiveCandidates S.may_answer origin.now
+        (map (λ k. key k) keys.now) places.old places.new candidates.items) }
+    ensures rising { IfOk result (λ candidates. IsSorted turn_cmp candidates.items) }
     ensures none { IfErr result (GiveNoneFor S.may_answer origin.now (map (λ k. key k) keys.now)
         places.old places.new) }
     ensures source { IfErr result

@@ -15,6 +15,6 @@ mod turns;
 pub use ask::ask_candidates;
 pub use candidate::Candidate;
 pub use fault::{CandidateFault, FollowFault};
-pub use laws::{fork_line_law, run_law};
+pub use laws::{agree_law, fork_line_law, run_law};
 pub use report::{Followed, ForkLine};
 pub use turns::follow;

@@ -1,15 +1,16 @@
 //! Proofs of forks.
-ghost use Rattle.std.specs.Prelude.{◌↔◌, ◌<◌, IfErr, IfOk, IfSome, IsTrue, Some};
+ghost use Rattle.std.specs.Prelude.{◌≡◌, ◌↔◌, ◌<◌, IfErr, IfOk, IfSome, IsTrue, None, Some};
 ghost use Rattle.std.specs.List.{AllByRecursion};
 ghost use Rattle.tlog_text.specs.Hash.{Is32Bytes};
 ghost use Rattle.tlog_proof.specs.Text.{HasHashes};
 ghost use Rattle.mirror_sources.specs.Told.{KeepsTold};
 ghost use Rattle.mirror_copy.specs.Moments.{HadSize};
+ghost use Rattle.mirror_follow.specs.Agreeing.{Agrees};
 ghost use Rattle.mirror_follow.specs.Blame.{AsksAny, CountsFollow, IsOfTheRun};
 ghost use Rattle.mirror_follow.specs.Checked.{HasFirstRoot, IsCheckedFork};
 ghost use Rattle.mirror_follow.specs.Ending.{EndsRun};
-ghost use Rattle.mirror_follow.specs.Shown.{ShowsLarger};
-ghost use Rattle.mirror_follow.specs.Standing.{IsCopyOfRun, IsHeadOf, size_of_copy};
+ghost use Rattle.mirror_follow.specs.Shown.{ShowsLarger, point_of};
+ghost use Rattle.mirror_follow.specs.Standing.{HadCopy, IsCopyOfRun, IsHeadOf, size_of_copy};
 
 use crate::candidate::Candidate;
 use crate::fault::FollowFault;
@@ -80,7 +81,7 @@ fn see_hashes(proof: &Proof)
 }
 
 // The proof from the smaller point into the log of the larger one, where its first root is another than the smaller one's.
-#[tactic(auto, using(crate::proofs::Checked::checked_fork))]
+#[tactic(auto, using(crate::proofs::Checked::checked_fork, crate::proofs::Checked::checked_agree))]
 fn checked_proof<H: TreeHash>(
     alloc: Global,
     files: &mut ReadFiles,
@@ -89,11 +90,15 @@ fn checked_proof<H: TreeHash>(
 ) -> Result<Option<Proof>, ReadFault>
     requires some { 0 < small.now.size.0 }
     requires less { small.now.size.0 < large.now.size.0 }
-    ensures { IfOk result (λ found. IfSome found (IsCheckedFork H.digest small.now large.now)) }
+    ensures fork { IfOk result (λ found. IfSome found
+        (IsCheckedFork H.digest small.now large.now)) }
+    ensures agrees { IfOk result (λ found. found ≡ None
+        → Agrees H.digest (point_of small.now) (point_of large.now)) }
 {
     let root = large.root;
     let mut reader: LogReader<H> = LogReader::open(alloc, files, large.size.0, &root)?;
     let proof = reader.consistency(alloc, files, small.size.0)?;
+    see_hashes(&proof);
     if has_first_root(&proof, &small.root) {
         Ok(None)
     } else {
@@ -109,8 +114,11 @@ pub(crate) fn fork_proof<H: TreeHash>(
     small: &Candidate,
     large: &Candidate,
 ) -> Result<Option<Proof>, ReadFault>
-    ensures { IfOk result (λ found. IfSome found
+    ensures fork { IfOk result (λ found. IfSome found
         (λ proof. ShowsLarger H.digest small.now large.now (Some proof))) }
+    ensures agrees { IfOk result (λ found. found ≡ None → 0 < small.now.size.0
+        → small.now.size.0 < large.now.size.0
+        → Agrees H.digest (point_of small.now) (point_of large.now)) }
 {
     if small.size.0 == 0 || small.size.0 >= large.size.0 {
         return Ok(None);
@@ -171,6 +179,9 @@ pub(crate) fn read_proof<H: TreeHash, D: ReadableShelf>(
     ensures ends { IfErr result EndsRun }
     ensures proof { IfOk result (λ found. IfSome found
         (λ proof. ShowsLarger H.digest smaller.now copy.now (Some proof))) }
+    ensures agrees { IfOk result (λ found. found ≡ None → 0 < smaller.now.size.0
+        → smaller.now.size.0 < copy.now.size.0
+        → Agrees H.digest (point_of smaller.now) (point_of copy.now)) }
 {
     let paths = proof_paths(alloc, smaller.size.0, copy.size.0)?;
     let mut files = read_files::<D>(alloc, shelf, &paths)?;
@@ -242,6 +253,7 @@ pub(crate) fn judge_copy<H: TreeHash, D: ReadableShelf>(
     ensures head { IfOk result (λ copy. IfSome copy (IsHeadOf origin.now)) }
     ensures copy { IfOk result (IsCopyOfRun H.digest origin.now (D.puts shelf.old)
         (D.puts shelf.new)) }
+    ensures read { IfOk result (HadCopy H.digest origin.now (D.puts shelf.old)) }
     ensures had { IfOk result
         (λ copy. HadSize H.digest origin.now (D.puts shelf.old) (size_of_copy copy)) }
 {

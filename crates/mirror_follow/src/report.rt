@@ -1,8 +1,10 @@
 //! What a run of turns comes to: the forks that were seen, and what could not be had.
-ghost use Rattle.std.specs.Prelude.{◌≡◌, ◌≢◌, ◌⊎◌, ◌≤◌, [], ℕ, IfErr, IfOk, IfSome, IsFalse, IsTrue, List, None, OnOk, Some, length};
+ghost use Rattle.std.specs.Prelude.{◌≡◌, ◌≢◌, ◌⊎◌, ◌↔◌, ◌∷◌, ◌++◌, ◌≤◌, [], ℕ, IfErr, IfOk, IfSome, IsFalse, IsTrue, List, None, OnOk, Option, Some, false, if◌then◌else◌, length, true};
 ghost use Rattle.mirror_follow.specs.Ending.{fault_after, or_fault};
+ghost use Rattle.mirror_follow.specs.Says.{IsInLine, IsInSomeLine, IsOnePoint, SettlesEach};
 ghost use Rattle.mirror_follow.specs.Shown.{AreFork, IsLine, ShowsEach, ShowsLine, ShowsTurn};
 ghost use Rattle.mirror_follow.specs.Standing.{IsSame, KnowsAfter, size_of_copy};
+ghost use Rattle.mirror_follow.specs.Taken.{AddsLacked, HasLineOf, HasTakenRun, IsAdded, IsBehindTest, KeepsLines, MarksReached, SplitsLacked, or_agreed};
 ghost use Rattle.mirror_follow.specs.declared.candidate.Candidate.{Candidate};
 
 use crate::candidate::Candidate;
@@ -87,7 +89,10 @@ fn is_before(first: &Candidate, second: &Candidate) -> bool
     first.size.0 < second.size.0 || (first.size.0 == second.size.0 && first.root < second.root)
 }
 
-fn is_same(first: &Candidate, second: &Candidate) -> bool {
+/// Whether two candidates have one size and root.
+pub(crate) fn is_same_point(first: &Candidate, second: &Candidate) -> bool
+    ensures { IsTrue result ↔ IsOnePoint first.now second.now }
+{
     first.size.0 == second.size.0 && first.root == second.root
 }
 
@@ -116,8 +121,9 @@ fn fork_of(
     second: &Candidate,
     proof: Option<Proof>,
 ) -> Result<ForkLine, AllocError>
-    ensures { IfOk result (λ line. (digest : List ℕ → List ℕ)
+    ensures shows { IfOk result (λ line. (digest : List ℕ → List ℕ)
         → AreFork digest first.now second.now proof → ShowsLine digest line) }
+    ensures both { IfOk result (λ line. IsInLine first.now line × IsInLine second.now line) }
 {
     if is_before(first, second) {
         return line_of(alloc, first, second, proof);
@@ -128,7 +134,7 @@ fn fork_of(
 // Whether the first line comes before the second.
 fn is_line_before(first: &ForkLine, second: &ForkLine) -> bool {
     is_before(&first.small, &second.small)
-        || (is_same(&first.small, &second.small) && is_before(&first.large, &second.large))
+        || (is_same_point(&first.small, &second.small) && is_before(&first.large, &second.large))
 }
 
 // Where the line belongs among lines that rise.
@@ -143,10 +149,20 @@ fn place_in(lines: &[ForkLine], line: &ForkLine) -> usize
     lines.len()
 }
 
+// Whether two lines have the same two points.
+fn is_same_line(first: &ForkLine, second: &ForkLine) -> bool
+    ensures { IsTrue result → IsOnePoint first.now.small second.now.small
+        × IsOnePoint first.now.large second.now.large }
+{
+    is_same_point(&first.small, &second.small) && is_same_point(&first.large, &second.large)
+}
+
 // Whether a line of the same two points is among them.
-fn has_line(lines: &[ForkLine], line: &ForkLine) -> bool {
+fn has_line(lines: &[ForkLine], line: &ForkLine) -> bool
+    ensures { IsTrue result → HasLineOf lines.now line.now }
+{
     for there in lines {
-        if is_same(&there.small, &line.small) && is_same(&there.large, &line.large) {
+        if is_same_line(line, there) {
             return true;
         }
     }
@@ -155,8 +171,10 @@ fn has_line(lines: &[ForkLine], line: &ForkLine) -> bool {
 
 // Adds a line where it belongs, if it is not there yet.
 fn add_line(lines: &mut Vec<ForkLine>, line: ForkLine) -> Result<(), AllocError>
-    ensures { OnOk result ((digest : List ℕ → List ℕ) → ShowsEach digest lines.old.items
+    ensures shows { OnOk result ((digest : List ℕ → List ℕ) → ShowsEach digest lines.old.items
         → ShowsLine digest line → ShowsEach digest lines.new.items) }
+    ensures kept { OnOk result (KeepsLines lines.old.items lines.new.items) }
+    ensures has { OnOk result (HasLineOf lines.new.items line) }
 {
     if has_line(lines.as_slice(), &line) {
         return Ok(());
@@ -186,6 +204,9 @@ impl Run {
         ensures had { result.had ≡ size_of_copy copy }
         ensures fault { result.first_fault ≡ None }
         ensures forks { result.forks.items ≡ [] }
+        ensures not_had { result.not_had.items ≡ [] }
+        ensures behind { result.behind ≡ None }
+        ensures reached { result.is_reached ≡ false }
     {
         let had = match &copy {
             Some(copy) => copy.size.0,
@@ -208,6 +229,10 @@ impl Run {
         ensures had { self.new.had ≡ self.old.had }
         ensures fault { self.new.first_fault ≡ self.old.first_fault }
         ensures forks { self.new.forks ≡ self.old.forks }
+        ensures not_had { self.new.not_had ≡ self.old.not_had }
+        ensures behind { self.new.behind ≡ or_agreed self.old.behind candidate.now }
+        ensures reached { MarksReached self.old.copy candidate.now self.old.is_reached
+            self.new.is_reached }
     {
         let size = match &self.copy {
             Some(copy) => copy.size.0,
@@ -233,6 +258,10 @@ impl Run {
         ensures had { self.new.had ≡ self.old.had }
         ensures fault { OnOk result (self.new.first_fault ≡ or_fault self.old.first_fault fault) }
         ensures forks { self.new.forks ≡ self.old.forks }
+        ensures not_had { OnOk result (AddsLacked candidate.now self.old.not_had.items
+            self.new.not_had.items) }
+        ensures behind { self.new.behind ≡ self.old.behind }
+        ensures reached { self.new.is_reached ≡ self.old.is_reached }
     {
         self.not_had.push(copy_of(alloc, candidate)?)?;
         if self.first_fault.is_none() {
@@ -254,6 +283,12 @@ impl Run {
         ensures shows { OnOk result ((digest : List ℕ → List ℕ)
             → IfSome self.old.copy (λ copy. AreFork digest copy candidate.now proof)
             → ShowsEach digest self.old.forks.items → ShowsEach digest self.new.forks.items) }
+        ensures lines { OnOk result (self.old.copy ≢ None
+            → KeepsLines self.old.forks.items self.new.forks.items
+            × IsInSomeLine self.new.forks.items candidate.now) }
+        ensures not_had { self.new.not_had ≡ self.old.not_had }
+        ensures behind { self.new.behind ≡ self.old.behind }
+        ensures reached { self.new.is_reached ≡ self.old.is_reached }
     {
         match &self.copy {
             Some(copy) => {
@@ -278,6 +313,7 @@ impl Run {
         ensures shows { OnOk result ((digest : List ℕ → List ℕ)
             → ShowsTurn digest self.old.copy candidate.now turn
             → ShowsEach digest self.old.forks.items → ShowsEach digest self.new.forks.items) }
+        ensures added { OnOk result (IsAdded candidate.now turn self.old self.new) }
     {
         match turn {
             Turn::Agrees => self.agree(candidate),
@@ -302,8 +338,10 @@ fn add_equal(
 ) -> Result<(), AllocError>
     requires size { first.now.size.0 ≡ second.now.size.0 }
     requires root { first.now.root ≢ second.now.root }
-    ensures { OnOk result ((digest : List ℕ → List ℕ) → ShowsEach digest forks.old.items
+    ensures shows { OnOk result ((digest : List ℕ → List ℕ) → ShowsEach digest forks.old.items
         → ShowsEach digest forks.new.items) }
+    ensures kept { OnOk result (KeepsLines forks.old.items forks.new.items) }
+    ensures has { OnOk result (IsInSomeLine forks.new.items second.now) }
 {
     let line = fork_of(alloc, first, second, None)?;
     add_line(forks, line)
@@ -317,8 +355,13 @@ fn is_larger(
     candidate: &Candidate,
     forks: &mut Vec<ForkLine>,
 ) -> Result<bool, AllocError>
-    ensures { OnOk result ((digest : List ℕ → List ℕ) → ShowsEach digest forks.old.items
+    ensures shows { OnOk result ((digest : List ℕ → List ℕ) → ShowsEach digest forks.old.items
         → ShowsEach digest forks.new.items) }
+    ensures kept { OnOk result (KeepsLines forks.old.items forks.new.items) }
+    ensures forks { IfOk result (λ larger. larger ≡ false
+        → IsInSomeLine forks.new.items candidate.now) }
+    ensures larger { IfOk result (λ larger. larger ≡ true
+        → copy.now.size.0 ≡ candidate.now.size.0 → copy.now.root ≡ candidate.now.root) }
 {
     if copy.size.0 == candidate.size.0 && copy.root != candidate.root {
         add_equal(alloc, copy, candidate, forks)?;
@@ -333,6 +376,31 @@ fn is_larger(
     }
 }
 
+// Adds what a candidate that could not be had comes to: a fork, or else a larger one.
+fn split_one(
+    alloc: Global,
+    copy: &Candidate,
+    candidates: &[Candidate],
+    candidate: &Candidate,
+    forks: &mut Vec<ForkLine>,
+    larger: &mut Vec<(u64, Hash)>,
+) -> Result<(), AllocError>
+    ensures shows { OnOk result ((digest : List ℕ → List ℕ) → ShowsEach digest forks.old.items
+        → ShowsEach digest forks.new.items) }
+    ensures split { OnOk result ((lines : List ForkLine) (done : List Candidate)
+        → SplitsLacked copy.now lines done forks.old.items larger.old.items
+        → SplitsLacked copy.now lines (done ++ candidate.now ∷ []) forks.new.items
+        larger.new.items) }
+{
+    let is_left = is_larger(alloc, copy, candidates, candidate, forks)?;
+    if is_left {
+        let root = candidate.root;
+        larger.push((candidate.size.0, root))?;
+        return Ok(());
+    }
+    Ok(())
+}
+
 // Adds the forks of candidates of one size that could not be had, and answers the others.
 fn split_not_had(
     alloc: Global,
@@ -341,17 +409,30 @@ fn split_not_had(
     not_had: &[Candidate],
     forks: &mut Vec<ForkLine>,
 ) -> Result<Vec<(u64, Hash)>, AllocError>
-    ensures { OnOk result ((digest : List ℕ → List ℕ) → ShowsEach digest forks.old.items
+    ensures shows { OnOk result ((digest : List ℕ → List ℕ) → ShowsEach digest forks.old.items
         → ShowsEach digest forks.new.items) }
+    ensures split { IfOk result (λ larger. SplitsLacked copy.now forks.old.items not_had.now
+        forks.new.items larger.items) }
 {
     let mut larger = Vec::new(alloc);
     for candidate in not_had {
-        let root = candidate.root;
-        if is_larger(alloc, copy, candidates, candidate, forks)? {
-            larger.push((candidate.size.0, root))?;
-        }
+        split_one(alloc, copy, candidates, candidate, forks, &mut larger)?;
     }
     Ok(larger)
+}
+
+// Whether no candidate has the copy's size, and no line reports one.
+fn is_behind(is_reached: bool, forks: &[ForkLine], larger: &[(u64, Hash)]) -> bool
+    ensures { IsBehindTest result is_reached forks.now larger.now }
+{
+    !is_reached && forks.is_empty() && larger.is_empty()
+}
+
+// The point, if it is to be reported.
+fn point_if(is_reported: bool, point: Option<(u64, Hash)>) -> Option<(u64, Hash)>
+    ensures { result ≡ (if is_reported then point else None) }
+{
+    if is_reported { point } else { None }
 }
 
 /// What the run came to: an answer, or where the copy is still empty the fault of the greatest candidate.
@@ -365,6 +446,8 @@ pub(crate) fn report(
     ensures had { IfOk result (λ f. f.old ≡ run.had) }
     ensures shows { IfOk result (λ f. (digest : List ℕ → List ℕ)
         → ShowsEach digest run.forks.items → ShowsEach digest f.forks.items) }
+    ensures settles { IfOk result (λ f. (digest : List ℕ → List ℕ) (first : Option Candidate)
+        → HasTakenRun digest first candidates.now run → SettlesEach digest candidates.now f) }
     ensures fault { IfErr result (λ e. ((run.copy ≡ None) × (run.first_fault ≡ None))
         ⊎ ((e ≡ FollowFault.OutOfMemory) ⊎ (run.first_fault ≡ Some e))) }
 {
@@ -382,7 +465,8 @@ pub(crate) fn report(
     };
     let mut larger = split_not_had(alloc, &copy, candidates, &not_had, &mut forks)?;
     larger.sort_unstable();
-    let is_behind = !is_reached && forks.is_empty() && larger.is_empty();
+    let is_behind = is_behind(is_reached, &forks, &larger);
+    let behind = point_if(is_behind, behind);
     let root = copy.root;
     Ok(Followed {
         size: copy.size.0,
@@ -390,6 +474,6 @@ pub(crate) fn report(
         old: had,
         forks,
         larger,
-        behind: if is_behind { behind } else { None },
+        behind,
     })
 }

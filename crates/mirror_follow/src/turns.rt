@@ -1,17 +1,21 @@
 //! A copy that follows its places.
-ghost use Rattle.std.specs.Prelude.{◌≡◌, ◌≢◌, ◌⊎◌, ◌↔◌, ◌<◌, ◌≤◌, [], ℕ, All, IfErr, IfOk, IfSome, IsTrue, List, None, OnOk, Option, Some, length, map, option_map};
+ghost use Rattle.std.specs.Prelude.{◌≡◌, ◌≢◌, ◌⊎◌, ◌↔◌, ◌∷◌, ◌+◌, ◌++◌, ◌<◌, ◌≤◌, [], ℕ, All, IfErr, IfOk, IfSome, IsFalse, IsTrue, List, None, OnOk, Option, Some, length, map, option_map, take};
+ghost use Rattle.std.specs.List.Sorted.{IsSorted};
 ghost use Rattle.mirror_sources.specs.Told.{KeepsTold};
 ghost use Rattle.mirror_folders.specs.Shelf.{Put};
 ghost use Rattle.mirror_copy.specs.Faults.{CountsFault};
 ghost use Rattle.mirror_copy.specs.Moments.{CopyStays, KeepsCopy};
 ghost use Rattle.mirror_follow.specs.Blame.{AsksAny, CountsFollow, IsGivenOrMayGive, PlaceFails};
-ghost use Rattle.mirror_follow.specs.Candidates.{IsCandidate};
+ghost use Rattle.mirror_follow.specs.Candidates.{IsCandidate, turn_cmp};
 ghost use Rattle.mirror_follow.specs.Ending.{BlamesPlace, EndsFor, EndsRun, IsOfEmpty, KeepsFault, PassesOver, RefusesGiven};
 ghost use Rattle.mirror_follow.specs.Gathering.{note_of};
+ghost use Rattle.mirror_follow.specs.GatheredFrom.{AreCandidates, IsOnly};
 ghost use Rattle.mirror_follow.specs.Runs.{FollowsCandidates, KeepsCopies};
+ghost use Rattle.mirror_follow.specs.Says.{IsNoteUpTo, IsOnePoint, Says};
 ghost use Rattle.mirror_follow.specs.Shown.{ShowsLine, ShowsTurn};
 ghost use Rattle.mirror_follow.specs.Renoting.{PutsNoteOver};
 ghost use Rattle.mirror_follow.specs.Standing.{IsFollowed, IsHeadOf, StandsAfter};
+ghost use Rattle.mirror_follow.specs.Taken.{HasTakenRun, IsLargerThan, IsNextOf, IsNoted, IsRepeat, SaysTurn};
 ghost use Rattle.mirror_follow.specs.Turning.{ContinuesRun, IsRunFrom};
 ghost use Rattle.mirror_follow.specs.declared.candidate.Candidate.{Candidate};
 
@@ -19,7 +23,7 @@ use crate::ask::ask_places;
 use crate::candidate::{Candidate, candidate_of};
 use crate::fault::FollowFault;
 use crate::proving::{ask_proof, judge_copy, read_proof};
-use crate::report::{Followed, Run, Turn, report};
+use crate::report::{Followed, Run, Turn, is_same_point, report};
 use mirror_copy::{BringFault, Places, bring_copy};
 use mirror_folders::ReadableShelf;
 use mirror_model::TakeFault;
@@ -42,6 +46,9 @@ fn turn_of(fault: BringFault) -> Result<Turn, FollowFault>
     ensures empty { IfOk result IsOfEmpty }
     ensures shows { IfOk result (λ turn. (digest : List ℕ → List ℕ) (copy : Option Candidate)
         (candidate : Candidate) → ShowsTurn digest copy candidate turn) }
+    ensures says { IfOk result (λ turn. (digest : List ℕ → List ℕ) (copy : Option Candidate)
+        (candidate : Candidate) → IsLargerThan copy candidate
+        → SaysTurn digest copy candidate turn) }
 {
     match fault {
         BringFault::Contradiction => Ok(Turn::Contradicts),
@@ -79,6 +86,9 @@ fn bring<H: TreeHash, D: ReadableShelf, S: Source + Drop>(
     ensures empty { IfOk result IsOfEmpty }
     ensures shows { IfOk result (λ turn. (digest : List ℕ → List ℕ) (copy : Option Candidate)
         (candidate : Candidate) → ShowsTurn digest copy candidate turn) }
+    ensures says { IfOk result (λ turn. (digest : List ℕ → List ℕ) (copy : Option Candidate)
+        (candidate : Candidate) → IsLargerThan copy candidate
+        → SaysTurn digest copy candidate turn) }
 {
     match bring_copy::<H, D, S>(alloc, origin, shelf, places, &candidate.note) {
         Ok(_) => Ok(Turn::Brought),
@@ -101,6 +111,8 @@ fn contradict<H: TreeHash, S: Source + Drop>(
     ensures passes { IfOk result PassesOver }
     ensures empty { run.now.copy ≡ None → IfOk result IsOfEmpty }
     ensures shows { IfOk result (ShowsTurn H.digest run.now.copy candidate.now) }
+    ensures says { IfOk result (λ turn. IsLargerThan run.now.copy candidate.now
+        → SaysTurn H.digest run.now.copy candidate.now turn) }
 {
     let Some(copy) = &run.copy else {
         return Ok(Turn::Contradicts);
@@ -132,6 +144,8 @@ fn take_larger<H: TreeHash, D: ReadableShelf, S: Source + Drop>(
     ensures ends { IfErr result EndsRun }
     ensures empty { run.now.copy ≡ None → IfOk result IsOfEmpty }
     ensures shows { IfOk result (ShowsTurn H.digest run.now.copy candidate.now) }
+    ensures says { IfOk result (λ turn. IsLargerThan run.now.copy candidate.now
+        → SaysTurn H.digest run.now.copy candidate.now turn) }
 {
     let turn = bring::<H, D, S>(alloc, origin, shelf, places, candidate)?;
     match turn {
@@ -154,8 +168,10 @@ fn root_due<H: TreeHash>(copy: &Candidate, size: u64) -> Hash
 
 // Whether a candidate is of the copy's size or of no entries, so that its root is known.
 fn has_due_root(copy: &Candidate, candidate: &Candidate) -> bool
-    ensures { IsTrue result → (candidate.now.size.0 ≡ 0)
+    ensures due { IsTrue result → (candidate.now.size.0 ≡ 0)
         ⊎ (candidate.now.size.0 ≡ copy.now.size.0) }
+    ensures other { IsFalse result → (0 < candidate.now.size.0)
+        × (candidate.now.size.0 ≢ copy.now.size.0) }
 {
     candidate.size.0 == 0 || candidate.size.0 == copy.size.0
 }
@@ -170,6 +186,8 @@ fn compare_root<H: TreeHash>(copy: &Candidate, candidate: &Candidate) -> Turn
     ensures passes { PassesOver result }
     ensures shows { ShowsTurn H.digest (Some copy.now) candidate.now result }
     ensures source { result ≢ Turn.NotHad FollowFault.Source }
+    ensures says { IsNoted (Some copy.now) candidate.now
+        → SaysTurn H.digest (Some copy.now) candidate.now result }
 {
     if candidate.root == root_due::<H>(copy, candidate.size.0) {
         return Turn::Agrees;
@@ -194,6 +212,8 @@ fn take_smaller<H: TreeHash, D: ReadableShelf>(
     ensures source { IfOk result (λ turn. turn ≢ Turn.NotHad FollowFault.Source) }
     ensures passes { IfOk result PassesOver }
     ensures ends { IfErr result EndsRun }
+    ensures says { IfOk result (λ turn. IsNoted (Some copy.now) candidate.now
+        → SaysTurn H.digest (Some copy.now) candidate.now turn) }
 {
     if has_due_root(copy, candidate) {
         return Ok(compare_root::<H>(copy, candidate));
@@ -204,12 +224,21 @@ fn take_smaller<H: TreeHash, D: ReadableShelf>(
     }
 }
 
-// Whether two candidates have one size and root.
-fn is_same_point(first: &Candidate, second: &Candidate) -> bool
-    ensures { IsTrue result
-        ↔ ((first.now.size.0 ≡ second.now.size.0) × (first.now.root ≡ second.now.root)) }
+// Whether the first bytes come before the second.
+fn is_less(first: &[u8], second: &[u8]) -> bool
+    ensures less { IsTrue result → IsNoteUpTo first.now second.now }
+    ensures other { IsFalse result → IsNoteUpTo second.now first.now }
 {
-    first.size.0 == second.size.0 && first.root == second.root
+    first < second
+}
+
+// Whether a candidate has the copy's size and root, and a note that is less.
+fn has_lesser_note(copy: &Candidate, candidate: &Candidate) -> bool
+    ensures point { IsTrue result → IsOnePoint copy.now candidate.now }
+    ensures less { IsTrue result → IsNoteUpTo (note_of candidate.now) (note_of copy.now) }
+    ensures other { IsFalse result → IsNoted (Some copy.now) candidate.now }
+{
+    is_same_point(copy, candidate) && is_less(&candidate.note, &copy.note)
 }
 
 fn is_same(first: &[u8], second: &[u8]) -> bool
@@ -250,6 +279,7 @@ fn renote<H: TreeHash, D: ReadableShelf>(
     requires candidate { IsHeadOf origin.now candidate.now }
     requires size { copy.now.size.0 ≡ candidate.now.size.0 }
     requires root { copy.now.root ≡ candidate.now.root }
+    requires less { IsNoteUpTo (note_of candidate.now) (note_of copy.now) }
     ensures keeps { KeepsCopy H.digest origin.now (note_of candidate.now) (D.puts shelf.old)
         (D.puts shelf.new) }
     ensures counted { CountsFollow (D.failed shelf.old) (D.failed shelf.new) result }
@@ -258,6 +288,7 @@ fn renote<H: TreeHash, D: ReadableShelf>(
     ensures passes { IfOk result PassesOver }
     ensures source { IfOk result (λ turn. turn ≢ Turn.NotHad FollowFault.Source) }
     ensures shows { IfOk result (ShowsTurn H.digest (Some copy.now) candidate.now) }
+    ensures says { IfOk result (SaysTurn H.digest (Some copy.now) candidate.now) }
     ensures ends { IfErr result EndsRun }
 {
     put_note(shelf, copy, candidate)?;
@@ -282,6 +313,8 @@ fn compare<H: TreeHash, D: ReadableShelf>(
     ensures source { IfOk result (λ turn. turn ≢ Turn.NotHad FollowFault.Source) }
     ensures passes { IfOk result PassesOver }
     ensures ends { IfErr result EndsRun }
+    ensures says { IfOk result (λ turn. IsNoted (Some copy.now) candidate.now
+        → SaysTurn H.digest (Some copy.now) candidate.now turn) }
 {
     take_smaller::<H, D>(alloc, shelf, copy, candidate)
 }
@@ -309,14 +342,16 @@ fn turn_for<H: TreeHash, D: ReadableShelf, S: Source + Drop>(
     ensures passes { IfOk result PassesOver }
     ensures ends { IfErr result EndsRun }
     ensures empty { run.now.copy ≡ None → IfOk result IsOfEmpty }
+    ensures says { IfOk result (SaysTurn H.digest run.now.copy candidate.now) }
 {
-    if let Some(copy) = &run.copy {
-        if is_same_point(copy, candidate) && candidate.note < copy.note {
-            return renote::<H, D>(origin, shelf, copy, candidate);
-        }
-        if candidate.size.0 <= copy.size.0 {
-            return compare::<H, D>(alloc, origin, shelf, copy, candidate);
-        }
+    let Some(copy) = &run.copy else {
+        return take_larger::<H, D, S>(alloc, origin, shelf, places, run, candidate);
+    };
+    if has_lesser_note(copy, candidate) {
+        return renote::<H, D>(origin, shelf, copy, candidate);
+    }
+    if candidate.size.0 <= copy.size.0 {
+        return compare::<H, D>(alloc, origin, shelf, copy, candidate);
     }
     take_larger::<H, D, S>(alloc, origin, shelf, places, run, candidate)
 }
@@ -342,6 +377,9 @@ fn take_turn<H: TreeHash, D: ReadableShelf, S: Source + Drop>(
         run.new.first_fault) }
     ensures ends { IfErr result EndsRun }
     ensures fault { OnOk result (KeepsFault run.new) }
+    ensures taken { OnOk result ((first : Option Candidate) (done : List Candidate)
+        → IsNextOf done candidate.now → HasTakenRun H.digest first done run.old
+        → HasTakenRun H.digest first (done ++ candidate.now ∷ []) run.new) }
 {
     let turn = turn_for::<H, D, S>(alloc, origin, shelf, places, run, candidate)?;
     run.add(alloc, candidate, turn)?;
@@ -351,9 +389,13 @@ fn take_turn<H: TreeHash, D: ReadableShelf, S: Source + Drop>(
 // Whether a candidate of a list has the size and root of the one before it.
 fn is_repeated(candidates: &[Candidate], i: usize) -> bool
     requires { i < length candidates.now }
-    ensures { IsTrue result → 0 < i }
+    ensures some { IsTrue result → 0 < i }
+    ensures is { IsTrue result ↔ IsRepeat candidates.now i }
 {
-    i > 0 && is_same_point(&candidates[i - 1], &candidates[i])
+    if i == 0 {
+        return false;
+    }
+    is_same_point(&candidates[i - 1], &candidates[i])
 }
 
 // Lets a candidate of a list have its turn, unless the one before it has its size and root.
@@ -380,6 +422,9 @@ fn take_turn_at<H: TreeHash, D: ReadableShelf, S: Source + Drop>(
         run.new.first_fault) }
     ensures ends { IfErr result EndsRun }
     ensures fault { OnOk result ((0 < i → KeepsFault run.old) → KeepsFault run.new) }
+    ensures taken { OnOk result ((first : Option Candidate) → IsSorted turn_cmp candidates.now
+        → HasTakenRun H.digest first (take i candidates.now) run.old
+        → HasTakenRun H.digest first (take (i + 1) candidates.now) run.new) }
 {
     if is_repeated(candidates, i) {
         return Ok(());
@@ -408,6 +453,8 @@ fn take_turns<H: TreeHash, D: ReadableShelf, S: Source + Drop>(
         → PlaceFails places.old places.new) }
     ensures ends { IfErr result EndsRun }
     ensures fault { IfOk result (λ run. 0 < length candidates.now → KeepsFault run) }
+    ensures taken { IfOk result (λ run. IsSorted turn_cmp candidates.now
+        → HasTakenRun H.digest copy candidates.now run) }
 {
     let mut run = Run::new(alloc, copy);
     for i in 0..candidates.len() {
@@ -417,7 +464,7 @@ fn take_turns<H: TreeHash, D: ReadableShelf, S: Source + Drop>(
 }
 
 // The one candidate that was given.
-#[tactic(auto, using(crate::proofs::Kept::one_open))]
+#[tactic(auto, using(crate::proofs::Kept::one_open, crate::proofs::Kept::one_rises))]
 fn given_candidate(
     alloc: Global,
     origin: &str,
@@ -428,6 +475,9 @@ fn given_candidate(
         (λ candidates. All (IsCandidate origin.now (map (λ k. key k) keys.now)) candidates.items) }
     ensures given { IfOk result (λ candidates. All (λ c. note_of c ≡ note.items) candidates.items) }
     ensures some { IfOk result (λ candidates. 0 < length candidates.items) }
+    ensures only { IfOk result (λ candidates. IsOnly origin.now (map (λ k. key k) keys.now)
+        note.items candidates.items) }
+    ensures rising { IfOk result (λ candidates. IsSorted turn_cmp candidates.items) }
     ensures refuses { IfErr result
         (RefusesGiven origin.now (map (λ k. key k) keys.now) note.items) }
     ensures shelf { IfErr result (λ e. e ≢ FollowFault.ShelfFault) }
@@ -455,6 +505,10 @@ fn candidates_of<S: Source + Drop>(
         (option_map (λ v. v.items) given) places.old (note_of c)) candidates.items) }
     ensures asks { AsksAny S.may_answer S.failed S.asked places.old places.new }
     ensures some { IfOk result (λ candidates. 0 < length candidates.items) }
+    ensures gathered { IfOk result (λ candidates. AreCandidates S.may_answer origin.now
+        (map (λ k. key k) keys.now) places.old places.new (option_map (λ v. v.items) given)
+        candidates.items) }
+    ensures rising { IfOk result (λ candidates. IsSorted turn_cmp candidates.items) }
     ensures ends { IfErr result (EndsFor S.may_answer origin.now (map (λ k. key k) keys.now)
         places.old places.new (option_map (λ v. v.items) given)) }
     ensures shelf { IfErr result (λ e. e ≢ FollowFault.ShelfFault) }
@@ -506,6 +560,9 @@ pub fn follow<H: TreeHash, D: ReadableShelf, S: Source + Drop>(
     ensures brought { IfOk result
         (IsFollowed H.digest origin.now (D.puts shelf.old) (D.puts shelf.new)) }
     ensures forks { IfOk result (λ f. All (ShowsLine H.digest) f.forks.items) }
+    ensures says { IfOk result (Says H.digest origin.now (AreCandidates S.may_answer origin.now
+        (map (λ k. key k) keys.now) places.old places.new (option_map (λ v. v.items) given))
+        (D.puts shelf.old) (D.puts shelf.new)) }
     ensures counted { CountsFollow (D.failed shelf.old) (D.failed shelf.new) result }
     ensures ends { IfErr result (EndsFor S.may_answer origin.now (map (λ k. key k) keys.now)
         places.old places.new (option_map (λ v. v.items) given)) }

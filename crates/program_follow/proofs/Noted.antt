@@ -1,5 +1,5 @@
 -- What a run says of its note, of the copy, of the output and of the evidence.
-use Rattle.std.proofs.Common.{◌≡◌, ℕ, List, Option, Some, None, Result, Ok, Err, sym, subst}
+use Rattle.std.proofs.Common.{◌≡◌, ℕ, List, IfOk, Option, Some, None, Result, Ok, Err, sym, subst}
 use Rattle.std.specs.Io.KnownBytes.{Keeps}
 use Rattle.std.proofs.lemmas.List.Elements.{All-weaker}
 use Rattle.std.proofs.lemmas.Option.{none-some}
@@ -9,11 +9,15 @@ use Rattle.mirror_folders.specs.Shelf.{Put}
 use Rattle.mirror_copy.specs.declared.places.Places.{Places}
 use Rattle.mirror_follow.specs.Blame.{CountsFollowFault, IsGivenOrMayGive}
 use Rattle.mirror_follow.specs.Runs.{FollowsCandidates}
+use Rattle.mirror_follow.specs.GatheredFrom.{AreCandidates}
 use Rattle.mirror_follow.specs.Gathering.{note_of}
+use Rattle.mirror_follow.specs.Says.{Says}
+use Rattle.mirror_follow.specs.declared.candidate.Candidate.{Candidate}
 use Rattle.mirror_follow.specs.declared.fault.FollowFault.{FollowFault}
 use Rattle.mirror_follow.specs.declared.report.Followed.{Followed}
 use Rattle.program_files.specs.Named.{HasContents, NamedFile}
-use Rattle.program_follow.specs.Following.{CopyFollowed, CountsRun, Follows, FollowsIn, IsNoteOf, ReadsNote, TellsDone}
+use Rattle.program_follow.specs.Following.{AreRunCandidates, CopyFollowed, CountsRun, Follows, FollowsIn, IsNoteOf}
+use Rattle.program_follow.specs.Following.{PrintsSettled, ReadsNote, TellsDone}
 use Rattle.program_follow.specs.declared.fault.FollowRunFault.{FollowRunFault}
 use Rattle.program_follow.specs.declared.fault.FollowRunFault.TheVariants.{File, OutOfMemory, Follow, WriteFault, Evidence}
 
@@ -86,3 +90,28 @@ module _ (forks : Option (List ℕ)) (done : Followed) (told left : Option (List
       subst (λ (f : FollowFault). CountsFollowFault count counted f) (sym tells.fault_is) same
   told_counts (Err WriteFault) count counted tells same = same
   told_counts (Err (Evidence fault)) count counted tells same = same
+
+-- an answer that says so of candidates that were gathered so says it of those of the run, and that is what is printed
+pub says_printed : {S : Type 0} (digest : List ℕ → List ℕ) (origin : List ℕ) (keys : List Key)
+    (may : S → Path → Option (List ℕ) → Type 0) (places left_places : Places S) (files : Option (List NamedFile))
+    (name given : Option (List ℕ)) (held put : Option (List Put)) (forks : Option (List ℕ)) (done : Followed)
+    (told left : Option (List NamedFile)) (old new : Option (List ℕ)) (r : Result ℕ FollowRunFault) →
+    ReadsNote files name (Ok given) →
+    Says digest origin (AreCandidates may origin keys places left_places given) held put done →
+    TellsDone forks done told left old new r →
+    IfOk r (λ _. PrintsSettled digest origin (AreRunCandidates may origin keys places left_places files name)
+    held put old new)
+says_printed digest origin keys may places left_places files name given held put forks done told left old new
+    (Ok status) reads says tells = record {
+      done = done;
+      says = record {
+        candidates = says.candidates;
+        gathered = record { given = given; reads = reads; are = says.gathered };
+        rising = says.rising;
+        settles = says.settles;
+        noted = says.noted;
+      };
+      text = tells.whole.text;
+    }
+says_printed digest origin keys may places left_places files name given held put forks done told left old new
+    (Err fault) reads says tells = tt

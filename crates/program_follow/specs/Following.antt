@@ -7,9 +7,12 @@ use Rattle.signed_note.specs.Keys.{Key}
 use Rattle.mirror_folders.specs.Shelf.{Put}
 use Rattle.mirror_copy.specs.declared.places.Places.{Places}
 use Rattle.mirror_follow.specs.Blame.{CountsFollowFault, MayGive}
+use Rattle.mirror_follow.specs.GatheredFrom.{AreCandidates}
 use Rattle.mirror_follow.specs.Runs.{FollowsCandidates}
+use Rattle.mirror_follow.specs.Says.{Says}
 use Rattle.mirror_follow.specs.Shown.{ShowsLine}
 use Rattle.mirror_follow.specs.Standing.{IsFollowed}
+use Rattle.mirror_follow.specs.declared.candidate.Candidate.{Candidate}
 use Rattle.mirror_follow.specs.declared.fault.FollowFault.{FollowFault}
 use Rattle.mirror_follow.specs.declared.fault.FollowFault.TheVariants as following
 use Rattle.mirror_follow.specs.declared.report.Followed.{Followed}
@@ -44,6 +47,23 @@ abbrev pub IsNoteOf : {S : Type 0} → (S → Path → Option (List ℕ) → Typ
     Option (List ℕ) → Places S → List ℕ → Type 0
 IsNoteOf may told None places note = MayGive may places note
 IsNoteOf may told (Some name) places note = HasContents told name note
+
+-- ---- the candidates
+
+-- the candidates are the note of the named file, or where none is named exactly the notes that the places gave and that open
+pub record AreRunCandidates {S : Type 0} (may : S → Path → Option (List ℕ) → Type 0) (origin : List ℕ) (keys : List Key)
+    (old new : Places S) (told : Option (List NamedFile)) (name : Option (List ℕ)) (candidates : List Candidate)
+    : Type 0 where
+  pub given : Option (List ℕ)
+  pub reads : ReadsNote told name (Ok given)
+  pub are : AreCandidates may origin keys old new given candidates
+
+-- what was printed says of each candidate how it was settled
+pub record PrintsSettled (digest : List ℕ → List ℕ) (origin : List ℕ) (so : List Candidate → Type 0)
+    (held put : Option (List Put)) (old new : Option (List ℕ)) : Type 0 where
+  pub done : Followed
+  pub says : Says digest origin so held put done
+  pub text : Appends old new (followed_lines done)
 
 -- ---- the copy
 

@@ -2,10 +2,13 @@
 ghost use Rattle.std.specs.Prelude.{◌≡◌, ◌⊎◌, All, IfOk, map, option_map};
 ghost use Rattle.tlog_text.specs.Answers.{seen};
 ghost use Rattle.mirror_follow.specs.Blame.{CountsFollow, IsGivenOrMayGive};
+ghost use Rattle.mirror_follow.specs.GatheredFrom.{AreCandidates};
 ghost use Rattle.mirror_follow.specs.Runs.{FollowsCandidates};
+ghost use Rattle.mirror_follow.specs.Says.{Says};
 ghost use Rattle.mirror_follow.specs.Shown.{ShowsLine};
 ghost use Rattle.mirror_follow.specs.Standing.{IsFollowed};
-ghost use Rattle.program_follow.specs.Following.{CountsRun, Follows, FollowsIn, IsNoteOf, ReadsGiven, ReadsNote, TellsDone};
+ghost use Rattle.program_follow.specs.Following.{AreRunCandidates, CountsRun, Follows, FollowsIn, IsNoteOf, PrintsSettled};
+ghost use Rattle.program_follow.specs.Following.{ReadsGiven, ReadsNote, TellsDone};
 
 use crate::evidence::write_evidence;
 use crate::fault::FollowRunFault;
@@ -66,6 +69,10 @@ fn follow_told<H: TreeHash, D: ToldFolders, S: Source + Drop>(
     ensures brought { IfOk result (IsFollowed H.digest following.now.origin.now
         (D.puts folders.old) (D.puts folders.new)) }
     ensures forks { IfOk result (λ done. All (ShowsLine H.digest) done.forks.items) }
+    ensures says { IfOk result (Says H.digest following.now.origin.now
+        (AreCandidates S.may_answer following.now.origin.now (map (λ k. key k) keys.now)
+        places.old places.new (option_map (λ v. v.items) given))
+        (D.puts folders.old) (D.puts folders.new)) }
     ensures counted { CountsFollow (D.failed folders.old) (D.failed folders.new) result }
 {
     if following.progress {
@@ -94,6 +101,10 @@ fn follow_into<H: TreeHash, D: ToldFolders, S: Source + Drop>(
         (IsGivenOrMayGive S.may_answer (option_map (λ v. v.items) given) places.old)
         (D.held folders.old following.now.folder.now) (D.puts folders.old) (D.puts folders.new)
         result }
+    ensures says { IfOk result (Says H.digest following.now.origin.now
+        (AreCandidates S.may_answer following.now.origin.now (map (λ k. key k) keys.now)
+        places.old places.new (option_map (λ v. v.items) given))
+        (D.held folders.old following.now.folder.now) (D.puts folders.new)) }
     ensures counted { CountsRun (D.failed folders.old) (D.failed folders.new) result }
 {
     match folders.open(following.folder) {
@@ -166,6 +177,12 @@ pub fn run_follow<H: TreeHash, F: NamedFiles, D: ToldFolders, S: Source + Drop, 
         (D.held folders.old following.now.folder.now) (D.puts folders.old) (D.puts folders.new)
         (F.puts files.old) (F.puts files.new) (W.contents output.old) (W.contents output.new)
         result }
+    ensures says { IfOk result (λ _. PrintsSettled H.digest following.now.origin.now
+        (AreRunCandidates S.may_answer following.now.origin.now (map (λ k. key k) keys.now)
+        places.old places.new (F.puts files.old)
+        (option_map (λ name. name.now) following.now.checkpoint))
+        (D.held folders.old following.now.folder.now) (D.puts folders.new)
+        (W.contents output.old) (W.contents output.new)) }
     ensures given { ReadsGiven (F.puts files.old)
         (option_map (λ name. name.now) following.now.checkpoint) result }
     ensures counted { CountsRun (D.failed folders.old) (D.failed folders.new) result }

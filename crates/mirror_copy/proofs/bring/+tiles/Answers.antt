@@ -1,4 +1,4 @@
-use Rattle.std.proofs.Common.{rules, ◌≡◌, ◌+◌, ◌*◌, ◌^◌, ◌<◌, ◌≤◌, ◌-◌, length, refl, subst, sym, ap, ◌∙◌, arith, get_or, []}
+use Rattle.std.proofs.Common.{rules, ◌≡◌, ◌+◌, ◌*◌, ◌^◌, ◌<◌, ◌≤◌, ◌-◌, ℕ, List, inr, length, take, refl, subst, sym, ap, ◌∙◌, arith, get_or, []}
 use Rattle.std.proofs.lemmas.List.{get_or_default}
 use Rattle.std.proofs.lemmas.Result.{err_from_is_err_and}
 use Rattle.tlog_tiles.specs.Row.{IsRow}
@@ -9,6 +9,11 @@ use Rattle.mirror_copy.proofs.Growth.{left_none, left_then, brings_ok, kept_same
 use Rattle.mirror_sources.specs.Told.{KeepsTold}
 use Rattle.mirror_copy.proofs.Earlier.{early_later}
 use Rattle.mirror_copy.proofs.Asking.{asks_same, asks_then, asks_weaker}
+use Rattle.mirror_copy.specs.Suffices.{IsTileRow}
+use Rattle.mirror_copy.specs.Taken.{MayTake}
+use Rattle.mirror_copy.proofs.OnePlace.{honest_between, puts_also, puts_none, puts_then}
+use Rattle.mirror_copy.proofs.Spared.{child_true, spared, spared_answer, tile_true, tile_under}
+use Rattle.mirror_copy.proofs.TipTruth.{row_begins}
 use Rattle.mirror_copy.proofs.NewFulls.{tile_asked}
 use Rattle.mirror_copy.specs.Asked.{IsNewFull}
 use Rattle.mirror_copy.proofs.TileRows.{first_child, so_far_first, so_far_known, so_far_more, so_far_left}
@@ -72,6 +77,8 @@ pub bring_row-loop-i-init : goal.bring_row-loop-i-init
 bring_row-loop-i-init g t c = record {
   counted = refl;
   asks = asks_same g.S.Source.may_answer g.S.Source.failed g.S.Source.asked (IsNewFull c.args.tip.now.size) c.args.places.now;
+  taken = puts_none g.S.Source.may_answer g.S.Source.failed g.S.Source.asked c.args.places.now (g.D.Shelf.puts c.args.shelf.now)
+      (g.D.Shelf.puts c.args.shelf.now) (kept_same (g.D.Shelf.puts c.args.shelf.now));
   early = λ same. kept_same (g.D.Shelf.puts c.args.shelf.now);
   brought = λ known is.
       so_far_first c.args.tip.now c.args.level c.args.index c.requires.beyond c.requires.above c.requires.level
@@ -83,6 +90,9 @@ bring_row-loop-i-preserved g t c = record {
   counted = c.in_ok-bring_tile.ensures.counted ∙ c.loop-i.invariant.counted;
   asks = asks_then g.S.Source.may_answer g.S.Source.failed g.S.Source.asked (IsNewFull c.args.tip.now.size) c.args.places.now c.loop-i.places
       c.bring_tile.new.places c.loop-i.invariant.asks c.bring_tile.ensures.asks;
+  taken = puts_then g.S.Source.may_answer g.S.Source.failed g.S.Source.asked (IsNewFull c.args.tip.now.size) c.args.places.now
+      c.loop-i.places c.loop-i.invariant.asks (g.D.Shelf.puts c.args.shelf.now) (g.D.Shelf.puts c.loop-i.shelf)
+      (g.D.Shelf.puts c.bring_tile.new.shelf) c.loop-i.invariant.taken c.bring_tile.ensures.taken;
   early = λ same. absurd (let le = c.loop-i.auto.i in omega arith);
   brought = λ known is.
       let digest = g.H.TreeHash.digest in
@@ -230,3 +240,112 @@ bring_tile-returns-clause-asks g t c =
     (IsNewFull c.args.tip.now.size) (tile_asked c.args.tip.now.size c.args.level c.args.index some c.requires.beyond)
     c.args.places.now c.find.new.places c.find.ensures.asks)
     c.bring_row.ensures.asks
+
+-- ---- what was put was taken
+
+pub bring_row-returns-in_default-clause-taken : goal.bring_row-returns-in_default-clause-taken
+bring_row-returns-in_default-clause-taken g t c =
+    let x = g.D.Shelf.puts c.args.shelf.now in
+    puts_none g.S.Source.may_answer g.S.Source.failed g.S.Source.asked c.args.places.now x x (kept_same x)
+
+pub bring_row-returns-in_err-bring_tile-clause-taken : goal.bring_row-returns-in_err-bring_tile-clause-taken
+bring_row-returns-in_err-bring_tile-clause-taken g t c =
+    puts_then g.S.Source.may_answer g.S.Source.failed g.S.Source.asked (IsNewFull c.args.tip.now.size) c.args.places.now
+    c.loop-i.places c.loop-i.invariant.asks (g.D.Shelf.puts c.args.shelf.now) (g.D.Shelf.puts c.loop-i.shelf)
+    (g.D.Shelf.puts c.bring_tile.new.shelf) c.loop-i.invariant.taken c.bring_tile.ensures.taken
+
+pub bring_row-returns-clause-taken : goal.bring_row-returns-clause-taken
+bring_row-returns-clause-taken g t c = c.loop-i.invariant.taken
+
+pub bring_tile-returns-in_err-found-clause-taken : goal.bring_tile-returns-in_err-found-clause-taken
+bring_tile-returns-in_err-found-clause-taken g t c =
+    puts_none g.S.Source.may_answer g.S.Source.failed g.S.Source.asked c.args.places.now (g.D.Shelf.puts c.args.shelf.now)
+    (g.D.Shelf.puts c.find.new.shelf) c.find.ensures.same
+
+pub bring_tile-returns-in_err-bring_row-clause-taken : goal.bring_tile-returns-in_err-bring_row-clause-taken
+bring_tile-returns-in_err-bring_row-clause-taken g t c =
+    let may = g.S.Source.may_answer in
+    let failed = g.S.Source.failed in
+    let asked = g.S.Source.asked in
+    let x = g.D.Shelf.puts c.args.shelf.now in
+    let y = g.D.Shelf.puts c.find.new.shelf in
+    puts_then may failed asked (λ p. p ≡ Tile c.args.level c.args.index 256) c.args.places.now c.find.new.places c.find.ensures.asks
+    x y (g.D.Shelf.puts c.bring_row.new.shelf) (puts_none may failed asked c.args.places.now x y c.find.ensures.same)
+    c.bring_row.ensures.taken
+
+pub bring_tile-returns-clause-taken : goal.bring_tile-returns-clause-taken
+bring_tile-returns-clause-taken g t c =
+    let may = g.S.Source.may_answer in
+    let failed = g.S.Source.failed in
+    let asked = g.S.Source.asked in
+    let so = IsNewFull c.args.tip.now.size in
+    let path = Tile c.args.level c.args.index 256 in
+    let places = c.args.places.now in
+    let x = g.D.Shelf.puts c.args.shelf.now in
+    let w = g.D.Shelf.puts c.find.new.shelf in
+    let y = g.D.Shelf.puts c.bring_row.new.shelf in
+    let z = g.D.Shelf.puts c.keep.new.shelf in
+    let below = puts_then may failed asked (λ p. p ≡ path) places c.find.new.places c.find.ensures.asks x w y
+    (puts_none may failed asked places x w c.find.ensures.same) c.bring_row.ensures.taken in
+    puts_also may failed asked places x y z path c.deref-2.result.now below c.keep.ensures.puts
+    (inr (subst (λ (b : List ℕ). MayTake may places x path b) (sym c.deref-2.ensures.value) c.in_ok-found.ensures.taken))
+
+-- ---- one honest place suffices
+
+pub bring_row-returns-in_default-clause-honest : goal.bring_row-returns-in_default-clause-honest
+bring_row-returns-in_default-clause-honest g t c = λ entries size h tip is.
+    row_begins g.H.TreeHash.digest c.args.tip.now (take size entries) tip c.args.level c.args.index c.args.row.now
+    c.requires.level is (rw c.in_default.is at c.first_new.ensures.none) ⊥ (rw c.in_default.is at c.first_new.ensures.differs)
+
+pub bring_row-returns-in_err-bring_tile-clause-honest : goal.bring_row-returns-in_err-bring_tile-clause-honest
+bring_row-returns-in_err-bring_tile-clause-honest g t c =
+    let p = err_from_is_err_and c.from_residual.result c.from_residual.ensures.1 in
+    let may = g.S.Source.may_answer in
+    let failed = g.S.Source.failed in
+    let asked = g.S.Source.asked in
+    let so = IsNewFull c.args.tip.now.size in
+    let z = c.bring_tile.new.places in
+    rw (p.1, p.2) (λ entries size h tip is.
+    c.in_err-bring_tile.ensures.honest entries size
+    (honest_between may failed asked g.H.TreeHash.digest entries size so so so c.args.places.now c.loop-i.places z z
+    (g.D.Shelf.puts c.args.shelf.now) (g.D.Shelf.puts c.loop-i.shelf) c.loop-i.invariant.asks c.bring_tile.ensures.asks
+    (asks_same may failed asked so z) c.loop-i.invariant.taken h)
+    tip (child_true g.H.TreeHash.digest g.met.H.TreeHash.digest_length (take size entries) c.args.level c.args.index c.loop-i.i
+    c.args.row.now c.requires.above (omega arith) is))
+
+pub bring_tile-returns-in_err-found-clause-honest : goal.bring_tile-returns-in_err-found-clause-honest
+bring_tile-returns-in_err-found-clause-honest g t c =
+    let p = err_from_is_err_and c.from_residual.result c.from_residual.ensures.1 in
+    rw (p.1, p.2) (λ entries size h tip is.
+    spared c.in_err-found.field-0.0 (c.in_err-found.ensures.suffices entries h.short
+    (tile_under g.H.TreeHash.digest entries size h.upto c.args.level c.args.index c.args.hash.now (omega arith) is) h.place)
+    c.in_err-found.ensures.fault)
+
+pub bring_tile-returns-in_err-bring_row-clause-honest : goal.bring_tile-returns-in_err-bring_row-clause-honest
+bring_tile-returns-in_err-bring_row-clause-honest g t c =
+    let p = err_from_is_err_and c.from_residual-in_err-bring_row.result c.from_residual-in_err-bring_row.ensures.1 in
+    let digest = g.H.TreeHash.digest in
+    let may = g.S.Source.may_answer in
+    let failed = g.S.Source.failed in
+    let asked = g.S.Source.asked in
+    let so = IsNewFull c.args.tip.now.size in
+    let path = Tile c.args.level c.args.index 256 in
+    let x = g.D.Shelf.puts c.args.shelf.now in
+    let y = g.D.Shelf.puts c.find.new.shelf in
+    let z = c.bring_row.new.places in
+    let v = c.in_ok-found.ensures.found in
+    rw (p.1, p.2) (λ entries size h tip is.
+    let log = take size entries in
+    let clean = h.clear.tile c.args.level c.args.index (omega arith) c.in_ok-found.found.bytes.items c.in_ok-found.found.row.items
+    c.in_ok-found.ensures.taken v.is_row in
+    let there = tile_true digest g.met.H.TreeHash.digest_length log c.args.level c.args.index c.args.hash.now
+    c.in_ok-found.found.bytes.items c.in_ok-found.found.row.items v is clean in
+    c.in_err-bring_row.ensures.honest entries size
+    (honest_between may failed asked digest entries size (λ q. q ≡ path) so so c.args.places.now c.find.new.places z z
+    x y c.find.ensures.asks c.bring_row.ensures.asks (asks_same may failed asked so z)
+    (puts_none may failed asked c.args.places.now x y c.find.ensures.same) h)
+    tip (subst (λ (r : List (List ℕ)). IsTileRow digest log c.args.level c.args.index r) (sym c.deref.ensures.value) there))
+
+pub bring_tile-returns-clause-honest : goal.bring_tile-returns-clause-honest
+bring_tile-returns-clause-honest g t c =
+    spared_answer c.keep.result _ (λ e so entries size h tip is. so) c.keep.ensures.places c.keep.ensures.fault

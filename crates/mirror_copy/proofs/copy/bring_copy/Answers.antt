@@ -3,6 +3,7 @@ use Rattle.mirror_copy.specs.Asked.{MayBeAsked}
 use Rattle.mirror_copy.specs.AskedForCopy.{AsksFiles, AsksNothing}
 use Rattle.mirror_copy.proofs.Begun.{asks_begun, begun_then, blames_from, refuses_from, refuses_none}
 use Rattle.mirror_copy.proofs.Growth.{kept_same}
+use Rattle.mirror_copy.proofs.Others.{in_use_later, not_in_use}
 use Rattle.mirror_copy.proofs.Stays.{stays_same}
 use Rattle.mirror_copy.proofs.WholeMoments.{had_size, whole_same}
 use Rattle.mirror_copy.proofs.copy.bring_copy.Goals as goal
@@ -80,7 +81,8 @@ pub returns-in_err-done-clause-blames : goal.returns-in_err-done-clause-blames
 returns-in_err-done-clause-blames g c =
     let p = err_from_is_err_and c.from_residual-in_err-done.result c.from_residual-in_err-done.ensures.1 in
     rw (p.1, p.2) (blames_from g.S.Source.may_answer g.S.Source.failed g.S.Source.asked (MayBeAsked c.in_ok-tip.tip.size c.in-Some.head.0) c.args.places.now
-    c.begin.new.self c.bring_from-done.new.places c.in_ok-tip.tip.size c.in-Some.head.0 c.in_err-done.field-0.0
+    c.begin.new.self c.bring_from-done.new.places g.H.TreeHash.digest c.in-Some.head.0 c.in_ok-tip.tip
+    (g.D.Shelf.puts c.read_tip.new.shelf) c.in_err-done.field-0.0
     c.begin.ensures.list c.begin.ensures.failed c.bring_from-done.ensures.asks c.in_err-done.ensures.blames)
 
 pub returns-in_default-clause-refuses : goal.returns-in_default-clause-refuses
@@ -98,6 +100,19 @@ returns-in_err-done-clause-refuses g c =
     let tip = c.in_ok-tip.tip in
     let head = c.in-Some.head in
     rw (p.1, p.2) (refuses_from g.H.TreeHash.digest c.args.origin.now c.args.note.now (g.D.Shelf.puts c.args.shelf.now)
-    c.bring_from-done.new.places tip.size head.0 head.1 c.in_err-done.field-0.0
+    c.bring_from-done.new.places tip (g.D.Shelf.puts c.read_tip.new.shelf) head.0 head.1 c.in_err-done.field-0.0
     (had_size g.H.TreeHash.digest c.args.origin.now tip (g.D.Shelf.puts c.args.shelf.now) c.in_ok-tip.ensures.tip)
     (rw c.in-Some.is at c.in_ok-head.ensures.found) c.in_err-done.ensures.blames)
+
+pub returns-in_err-tip-clause-in_use : goal.returns-in_err-tip-clause-in_use
+returns-in_err-tip-clause-in_use g c =
+    let p = err_from_is_err_and c.from_residual-in_err-tip.result c.from_residual-in_err-tip.ensures.1 in
+    rw (p.1, p.2) (not_in_use g.H.TreeHash.digest c.args.origin.now (g.D.Shelf.puts c.args.shelf.now)
+    c.in_err-tip.field-0.0 c.in_err-tip.ensures.places)
+
+pub returns-in_err-done-clause-in_use : goal.returns-in_err-done-clause-in_use
+returns-in_err-done-clause-in_use g c =
+    let p = err_from_is_err_and c.from_residual-in_err-done.result c.from_residual-in_err-done.ensures.1 in
+    rw (p.1, p.2) (in_use_later g.H.TreeHash.digest c.args.origin.now c.bring_from-done.new.places c.in_ok-tip.tip
+    c.in-Some.head.0 (g.D.Shelf.puts c.args.shelf.now) (g.D.Shelf.puts c.read_tip.new.shelf) c.in_err-done.field-0.0
+    c.read_tip.ensures.same c.in_ok-tip.ensures.tip c.in_err-done.ensures.blames)

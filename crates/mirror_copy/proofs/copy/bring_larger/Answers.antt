@@ -5,6 +5,7 @@ use Rattle.mirror_copy.specs.Asked.{IsEdgeTile, IsEdgeBundleOrNew, MayBeAsked}
 use Rattle.mirror_copy.specs.PlaceGets.{AsksPlaces}
 use Rattle.mirror_copy.proofs.Asking.{asks_weaker, larger_asks}
 use Rattle.mirror_copy.proofs.Earlier.{conflict_keeps, conflict_later, kept_then}
+use Rattle.mirror_copy.proofs.Others.{later_blames}
 use Rattle.mirror_copy.proofs.Stays.{larger_stays, stays_later, stays_same}
 use Rattle.mirror_copy.proofs.WholeMoments.{ends_later, larger_ends, larger_whole, whole_later, whole_same}
 use Rattle.mirror_copy.proofs.copy.bring_larger.Goals as goal
@@ -71,3 +72,9 @@ returns-clause-asks g c =
     c.find_new_edge.new.places c.bring_to_edge-done.new.places c.find_new_edge.ensures.asks
     (subst (λ n. AsksPlaces g.S.Source.may_answer g.S.Source.failed g.S.Source.asked (IsEdgeBundleOrNew n c.args.tip.now.size) c.find_new_edge.new.places
     c.bring_to_edge-done.new.places) c.in_ok-edge.ensures.leads.is_edge.size_is c.bring_to_edge-done.ensures.asks)
+
+pub returns-clause-blames : goal.returns-clause-blames
+returns-clause-blames g c =
+    later_blames g.H.TreeHash.digest c.bring_to_edge-done.new.places c.args.tip.now (g.D.Shelf.puts c.args.shelf.now)
+    (g.D.Shelf.puts c.find_new_edge.new.shelf) c.bring_to_edge-done.result c.find_new_edge.ensures.same
+    c.bring_to_edge-done.ensures.blames

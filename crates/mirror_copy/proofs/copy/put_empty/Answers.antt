@@ -1,5 +1,7 @@
 use Rattle.std.proofs.Common.{rules, ◌≡◌, []}
 use Rattle.mirror_copy.proofs.Earlier.{kept_then}
+use Rattle.mirror_copy.proofs.Growth.{left_none}
+use Rattle.mirror_copy.proofs.Others.{last_empty}
 use Rattle.mirror_copy.proofs.Stays.{empty_stays, stays_later, stays_same}
 use Rattle.mirror_copy.proofs.WholeMoments.{empty_ends, empty_whole, ends_later, whole_later, whole_same}
 use Rattle.mirror_copy.proofs.copy.put_empty.Goals as goal
@@ -32,3 +34,10 @@ returns-clause-brings g c = λ before kept t.
       stays_later digest origin tip before y w c.put_last.result still t
           (λ t'. empty_stays digest origin candidate.note.now y w c.put_last.result c.put_last.ensures.puts),
     )
+
+pub returns-clause-blames : goal.returns-clause-blames
+returns-clause-blames g c =
+    let x = g.D.Shelf.puts c.args.shelf.now in
+    let y = g.D.Shelf.puts c.expect_new.new.shelf in
+    last_empty g.H.TreeHash.digest c.args.tip.now x y c.put_last.result
+    (λ known is. left_none g.H.TreeHash.digest c.args.tip.now.size known x y c.expect_new.ensures.same) c.put_last.ensures.blames

@@ -1,9 +1,12 @@
-use Rattle.std.proofs.Common.{◌≡◌, ◌+◌, ◌-◌, ◌*◌, ◌/◌, ◌^◌, ◌<◌, ◌≤◌, ℕ, List, length, refl, subst, sym, ap, ◌∙◌, arith}
+use Rattle.std.proofs.Common.{◌≡◌, ◌+◌, ◌-◌, ◌*◌, ◌/◌, ◌^◌, ◌<◌, ◌≤◌, ℕ, List, length, take, refl, subst, sym, ap, ◌∙◌, arith}
 use Rattle.std.proofs.lemmas.Result.{err_from_is_err_and}
 use Rattle.tlog_shape.specs.Edge.{edge_index_of}
 use Rattle.mirror_copy.proofs.Growth.{kept_same}
 use Rattle.mirror_copy.proofs.Asking.{asks_same, asks_then}
 use Rattle.mirror_copy.specs.Asked.{IsNewFull}
+use Rattle.mirror_copy.specs.Suffices.{IsTileRow}
+use Rattle.mirror_copy.proofs.OnePlace.{honest_between, puts_none, puts_then}
+use Rattle.mirror_copy.proofs.Spared.{edge_row_true}
 use Rattle.mirror_copy.specs.Growing.{IsKnown, IsRowBrought}
 use Rattle.log_reader.specs.EdgeRows.{row_at}
 use Rattle.mirror_copy.specs.Edges.{IsEdgeBrought}
@@ -15,6 +18,8 @@ pub loop-done-init : goal.loop-done-init
 loop-done-init g c = record {
   counted = refl;
   asks = asks_same g.S.Source.may_answer g.S.Source.failed g.S.Source.asked (IsNewFull c.args.tip.now.size) c.args.places.now;
+  taken = puts_none g.S.Source.may_answer g.S.Source.failed g.S.Source.asked c.args.places.now (g.D.Shelf.puts c.args.shelf.now)
+      (g.D.Shelf.puts c.args.shelf.now) (kept_same (g.D.Shelf.puts c.args.shelf.now));
   early = λ within. kept_same (g.D.Shelf.puts c.args.shelf.now);
   brought = λ known is.
       edge_first g.H.TreeHash.digest c.args.tip.now c.args.edge.now known c.requires.widths (g.D.Shelf.puts c.args.shelf.now)
@@ -63,6 +68,9 @@ loop-done-preserved g c = record {
   counted = c.in_ok-bring_row.ensures.counted ∙ c.loop-done.invariant.counted;
   asks = asks_then g.S.Source.may_answer g.S.Source.failed g.S.Source.asked (IsNewFull c.args.tip.now.size) c.args.places.now c.loop-done.places
       c.bring_row.new.places c.loop-done.invariant.asks c.bring_row.ensures.asks;
+  taken = puts_then g.S.Source.may_answer g.S.Source.failed g.S.Source.asked (IsNewFull c.args.tip.now.size) c.args.places.now
+      c.loop-done.places c.loop-done.invariant.asks (g.D.Shelf.puts c.args.shelf.now) (g.D.Shelf.puts c.loop-done.shelf)
+      (g.D.Shelf.puts c.bring_row.new.shelf) c.loop-done.invariant.taken c.bring_row.ensures.taken;
   early = λ within.
       let level = 7 - c.loop-done.done in
       let edge = c.args.edge.now in
@@ -116,3 +124,35 @@ returns-in_err-bring_row-clause-asks g c =
 
 pub returns-clause-asks : goal.returns-clause-asks
 returns-clause-asks g c = c.loop-done.invariant.asks
+
+pub returns-in_err-bring_row-clause-taken : goal.returns-in_err-bring_row-clause-taken
+returns-in_err-bring_row-clause-taken g c =
+    puts_then g.S.Source.may_answer g.S.Source.failed g.S.Source.asked (IsNewFull c.args.tip.now.size) c.args.places.now
+    c.loop-done.places c.loop-done.invariant.asks (g.D.Shelf.puts c.args.shelf.now) (g.D.Shelf.puts c.loop-done.shelf)
+    (g.D.Shelf.puts c.bring_row.new.shelf) c.loop-done.invariant.taken c.bring_row.ensures.taken
+
+pub returns-clause-taken : goal.returns-clause-taken
+returns-clause-taken g c = c.loop-done.invariant.taken
+
+pub returns-in_err-bring_row-clause-honest : goal.returns-in_err-bring_row-clause-honest
+returns-in_err-bring_row-clause-honest g c =
+    let p = err_from_is_err_and c.from_residual.result c.from_residual.ensures.1 in
+    let digest = g.H.TreeHash.digest in
+    let may = g.S.Source.may_answer in
+    let failed = g.S.Source.failed in
+    let asked = g.S.Source.asked in
+    let edge = c.args.edge.now in
+    let level = 7 - c.loop-done.done in
+    let so = IsNewFull c.args.tip.now.size in
+    let z = c.bring_row.new.places in
+    let at : c.edge_index-index.result ≡ edge_index_of edge.size level =
+    c.edge_index-index.ensures ∙ ap (λ n. edge_index_of n level) c.size.ensures in
+    rw (p.1, p.2) (λ entries size h tip is.
+    let log = take size entries in
+    let there = edge_row_true digest g.met.H.TreeHash.digest_length log edge c.requires.widths is level (omega arith) in
+    c.in_err-bring_row.ensures.honest entries size
+    (honest_between may failed asked digest entries size so so so c.args.places.now c.loop-done.places z z
+    (g.D.Shelf.puts c.args.shelf.now) (g.D.Shelf.puts c.loop-done.shelf) c.loop-done.invariant.asks c.bring_row.ensures.asks
+    (asks_same may failed asked so z) c.loop-done.invariant.taken h)
+    tip (subst (λ i. IsTileRow digest log level i c.row.result.now) (sym at)
+    (subst (λ (r : List (List ℕ)). IsTileRow digest log level (edge_index_of edge.size level) r) (sym c.row.ensures) there)))

@@ -1,5 +1,6 @@
 use Rattle.mirror_copy.specs.PlaceGets.{AsksPlaces}
 use Rattle.mirror_copy.specs.Asked.{IsNewFull}
+use Rattle.mirror_copy.specs.Taken.{PutsTaken}
 use Rattle.std.proofs.Common.{◌≡◌, ◌+◌, ◌-◌, ◌*◌, ◌^◌, ◌≤◌, ℕ, List}
 use Rattle.tlog_shape.specs.Edge.{edge_index_of}
 use Rattle.mirror_sources.specs.Told.{KeepsTold}
@@ -11,6 +12,7 @@ abbrev pub invariant-loop-done : goal.invariant-loop-done
 invariant-loop-done g l = record {
   counted : g.D.Shelf.failed l.shelf ≡ g.D.Shelf.failed l.fn.shelf;
   asks : AsksPlaces g.S.Source.may_answer g.S.Source.failed g.S.Source.asked (IsNewFull l.tip.size) l.fn.places l.places;
+  taken : PutsTaken g.S.Source.may_answer l.fn.places (g.D.Shelf.puts l.fn.shelf) (g.D.Shelf.puts l.shelf);
   early : edge_index_of l.edge.size (8 - l.done - 1) * 256 ^ (8 - l.done - 1 + 1) ≤ l.tip.size →
       KeepsTold (g.D.Shelf.puts l.fn.shelf) (g.D.Shelf.puts l.shelf);
   brought : (known : List (List ℕ)) → IsKnown g.H.TreeHash.digest l.tip 0 known →

@@ -1,4 +1,4 @@
-use Rattle.std.proofs.Common.{◌≡◌, Some, None, inl, inr}
+use Rattle.std.proofs.Common.{◌≡◌, ℕ, List, Some, None, get_or, inl, inr, subst, sym}
 use Rattle.mirror_copy.proofs.Asking.{asks_noted}
 use Rattle.mirror_copy.proofs.find.find_at_place.Goals as goal
 
@@ -30,3 +30,15 @@ returns-in-NotFound-clause-none g c = λ d.
 pub returns-in-Failed-clause-none : goal.returns-in-Failed-clause-none
 returns-in-Failed-clause-none g c = λ d.
     let failed = rw c.in-Failed.is at (c.in_ok-bytes.ensures.answer d) in inl failed
+
+pub returns-in-Some-clause-given : goal.returns-in-Some-clause-given
+returns-in-Some-clause-given g c =
+    let same = rw c.in-Some.is at c.in_ok-found-in-File.ensures.same in
+    record {
+      index = c.args.index;
+      listed = c.requires;
+      may_be = λ d.
+          let given = rw c.in-File.is at (c.in_ok-bytes.ensures.answer d) in
+          subst (λ (b : List ℕ). g.S.Source.may_answer (get_or c.args.places.now.list.items c.args.index d).source c.args.path.now
+          (Some b)) (sym same) given;
+    }

@@ -2,6 +2,7 @@ use Rattle.std.proofs.Common.{◌≡◌, ◌<◌, ℕ, List, inl, inr, get_or, s
 use Rattle.std.proofs.lemmas.Bool.{cases_lt}
 use Rattle.log_reader.specs.Verified.{Verifies}
 use Rattle.mirror_copy.specs.Asked.{IsAskedInVain, IsAskedInTurn}
+use Rattle.mirror_copy.proofs.OnePlace.{given_before}
 use Rattle.mirror_copy.proofs.Asking.{asks_then, turn_of, turn_one, vain_between}
 use Rattle.mirror_copy.proofs.find.find_at_places.Goals as goal
 
@@ -52,3 +53,9 @@ returns-clause-none g c = λ k d lt.
     let t = turn_of c.first-first.result k n lt within in
     let before = t.1 in
     c.loop-turn.invariant.none t.0 k d (omega arith) t.2
+
+pub returns-in-Some-clause-given : goal.returns-in-Some-clause-given
+returns-in-Some-clause-given g c =
+    given_before g.S.Source.may_answer g.S.Source.failed g.S.Source.asked (λ p. p ≡ c.args.path.now) c.args.places.now
+    c.loop-turn.places c.args.path.now c.in-Some.found.bytes.items c.loop-turn.invariant.asks
+    (rw c.in-Some.is at c.in_ok-found.ensures.given)

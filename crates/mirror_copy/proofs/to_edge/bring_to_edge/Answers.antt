@@ -3,6 +3,7 @@ use Rattle.std.proofs.lemmas.Result.{err_from_is_err_and}
 use Rattle.mirror_copy.proofs.EdgeRows.{edge_known, edge_left}
 use Rattle.mirror_copy.proofs.Growth.{kept_same}
 use Rattle.mirror_copy.proofs.Asking.{to_edge_asks}
+use Rattle.mirror_copy.proofs.Others.{last_blames}
 use Rattle.mirror_copy.proofs.Finishing.{copy_brought, ends_brought, left_put, true_rows}
 use Rattle.mirror_copy.proofs.to_edge.bring_to_edge.Goals as goal
 
@@ -65,3 +66,20 @@ pub returns-clause-asks : goal.returns-clause-asks
 returns-clause-asks g c =
     to_edge_asks g.S.Source.may_answer g.S.Source.failed g.S.Source.asked c.args.edge.now.size c.args.tip.now.size c.args.places.now
     c.bring_levels.new.places c.bring_edge_bundle.new.places c.bring_levels.ensures.asks c.bring_edge_bundle.ensures.asks
+
+pub returns-clause-blames : goal.returns-clause-blames
+returns-clause-blames g c =
+    let digest = g.H.TreeHash.digest in
+    let tip = c.args.tip.now in
+    let edge = c.args.edge.now in
+    let x = g.D.Shelf.puts c.args.shelf.now in
+    let y = g.D.Shelf.puts c.bring_levels.new.shelf in
+    let z = g.D.Shelf.puts c.bring_edge_bundle.new.shelf in
+    let w = g.D.Shelf.puts c.put_edge_tiles.new.shelf in
+    last_blames digest c.bring_edge_bundle.new.places tip x w c.put_last.result
+    (λ known is.
+    let e = c.in_ok-bring_levels.ensures.brings known is in
+    let l = c.in_ok-bring_edge_bundle.ensures.brings e.next (edge_known digest tip edge known c.requires.widths x y 1 0 0 refl is e) in
+    let q = c.in_ok-put_edge_tiles.ensures.puts l.next l.size_is (true_rows digest tip edge known c.requires.widths x y z e l) in
+    left_put digest tip edge known c.requires.widths x y z e l w w q.gathers (kept_same w))
+    c.put_last.ensures.blames

@@ -1,5 +1,5 @@
 use Rattle.std.proofs.Common.{length}
-use Rattle.mirror_follow.proofs.GatheredFrom.{none_blames, none_given, turns_gave, turns_some}
+use Rattle.mirror_follow.proofs.GatheredFrom.{none_blames, none_given, turns_gave, turns_give, turns_some}
 use Rattle.mirror_follow.proofs.Kept.{turns_open}
 use Rattle.mirror_follow.proofs.ask.ask_places.Goals as goal
 
@@ -30,3 +30,8 @@ returns-clause-none g c =
     none_given _ _ g.S.Source.may_answer g.S.Source.failed g.S.Source.asked c.args.places.now c.ask_each_place.new.places
     c.in_ok-gathered.gathered c.in_turn.result c.in_ok-gathered.ensures.gathers c.in_turn.ensures.none
     c.in_turn.ensures.fault
+
+pub returns-clause-gives : goal.returns-clause-gives
+returns-clause-gives g c =
+    turns_give _ _ g.S.Source.may_answer g.S.Source.failed g.S.Source.asked c.args.places.now c.ask_each_place.new.places
+    c.in_ok-gathered.gathered c.in_turn.result c.in_ok-gathered.ensures.gathers c.in_turn.ensures.same

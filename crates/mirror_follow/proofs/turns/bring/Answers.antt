@@ -1,5 +1,6 @@
 use Rattle.mirror_follow.proofs.Blame.{any_copied}
 use Rattle.mirror_follow.proofs.Ending.{turned_fails}
+use Rattle.mirror_follow.proofs.Taken.{larger_above}
 use Rattle.mirror_follow.proofs.turns.bring.Goals as goal
 
 pub returns-in-Err-clause-counted : goal.returns-in-Err-clause-counted
@@ -21,3 +22,6 @@ pub returns-in-Err-clause-source : goal.returns-in-Err-clause-source
 returns-in-Err-clause-source g c =
     turned_fails g.S.Source.may_answer g.S.Source.failed g.S.Source.asked c.args.places.now c.bring_copy.new.places
     c.in-Err.fault c.turn_of.result c.in-Err.ensures.blames c.turn_of.ensures.source
+
+pub returns-in-Ok-clause-says : goal.returns-in-Ok-clause-says
+returns-in-Ok-clause-says g c = λ digest copy candidate lt. larger_above copy candidate lt

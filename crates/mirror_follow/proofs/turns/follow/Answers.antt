@@ -1,10 +1,16 @@
 use Rattle.mirror_follow.proofs.Kept.{follows_candidates, follows_none}
-use Rattle.std.proofs.Common.{◌∙◌, ◌<◌, List, length, subst, sym}
+use Rattle.std.proofs.Common.{◌∙◌, ◌<◌, ℕ, List, Option, IfOk, length, option_map, subst, sym}
+use Rattle.std.specs.List.Sorted.{IsSorted}
 use Rattle.std.proofs.lemmas.Result.{err_from_is_err_and}
 use Rattle.mirror_copy.specs.Moments.{HadSize}
+use Rattle.mirror_follow.specs.Candidates.{turn_cmp}
+use Rattle.mirror_follow.specs.Says.{SettlesEach}
+use Rattle.mirror_follow.specs.Taken.{HasTakenRun}
 use Rattle.mirror_follow.specs.declared.candidate.Candidate.{Candidate}
 use Rattle.mirror_follow.proofs.Blame.{fails_later}
 use Rattle.mirror_follow.proofs.Ending.{ends_report, ends_run, report_counts}
+use Rattle.mirror_follow.proofs.Noted.{says_by}
+use Rattle.mirror_follow.proofs.GatheredFrom.{candidates_later}
 use Rattle.mirror_follow.proofs.Shown.{reported_forks}
 use Rattle.mirror_follow.proofs.Standing.{followed_by}
 use Rattle.mirror_follow.proofs.Turning.{counts_same}
@@ -81,3 +87,24 @@ returns-in_err-run-clause-ends g c =
 pub returns-clause-forks : goal.returns-clause-forks
 returns-clause-forks g c =
     reported_forks g.H.TreeHash.digest c.in_ok-run.run' c.report.result c.report.ensures.shows c.in_ok-run.ensures.run.shows
+
+pub returns-clause-says : goal.returns-clause-says
+returns-clause-says g c =
+    let digest = g.H.TreeHash.digest in
+    let origin = c.args.origin.now in
+    let x = g.D.Shelf.puts c.args.shelf.now in
+    let copy = c.in_ok-copy.copy in
+    let run = c.in_ok-run.run' in
+    let rising = c.in_ok-candidates.ensures.rising in
+    says_by digest origin _ x (g.D.Shelf.puts c.take_turns.new.shelf) copy c.in_ok-candidates.candidates.items run
+    c.report.result c.report.ensures.copy
+    (subst (λ (l : List Candidate). IfOk c.report.result
+    (λ f. (digest : List ℕ → List ℕ) (first : Option Candidate) → HasTakenRun digest first l run → SettlesEach digest l f))
+    c.deref-2.ensures.value c.report.ensures.settles)
+    (subst (λ (l : List Candidate). HasTakenRun digest copy l run) c.deref.ensures.value
+    (c.in_ok-run.ensures.taken (subst (IsSorted turn_cmp) (sym c.deref.ensures.value) rising)))
+    c.in_ok-copy.ensures.read (c.in_ok-run.ensures.run.known x c.in_ok-copy.ensures.copy)
+    (candidates_later origin _ g.S.Source.may_answer g.S.Source.failed g.S.Source.asked c.args.places.now
+    c.candidates_of.new.places c.take_turns.new.places (option_map (λ v. v.items) c.args.given)
+    c.in_ok-candidates.candidates.items c.take_turns.ensures.asks c.in_ok-candidates.ensures.gathered)
+    rising

@@ -1,3 +1,4 @@
+use Rattle.std.proofs.Common.{inr, sym}
 use Rattle.mirror_copy.proofs.WholeMoments.{whole_same}
 use Rattle.mirror_follow.proofs.Renoted.{head_as, note_brought, note_keeps}
 use Rattle.mirror_follow.proofs.turns.renote.Goals as goal
@@ -20,3 +21,6 @@ returns-clause-after g c =
     (g.D.Shelf.puts c.put_note.new.shelf) c.args.copy.now.note.items c.args.candidate.now.size.0 c.args.candidate.now.root
     (head_as c.args.origin.now c.args.copy.now c.args.candidate.now c.requires.copy c.requires.size c.requires.root)
     c.requires.candidate c.in_ok-put_note.ensures.puts
+
+pub returns-clause-says : goal.returns-clause-says
+returns-clause-says g c = inr ((sym c.requires.size, sym c.requires.root), c.requires.less)

@@ -1,4 +1,5 @@
 use Rattle.mirror_follow.proofs.Ending.{keeps_fault, source_blames}
+use Rattle.mirror_follow.proofs.Taken.{taken_turn}
 use Rattle.mirror_follow.proofs.Turning.{run_turned}
 use Rattle.mirror_follow.proofs.turns.take_turn.Goals as goal
 
@@ -18,3 +19,9 @@ pub returns-clause-source : goal.returns-clause-source
 returns-clause-source g c =
     source_blames c.args.places.now c.turn_for.new.places c.args.run.now c.add.new.self c.in_ok-turn.turn
     c.in_ok-add.ensures.fault c.in_ok-turn.ensures.source
+
+pub returns-clause-taken : goal.returns-clause-taken
+returns-clause-taken g c =
+    λ first done is h. taken_turn g.H.TreeHash.digest first done c.args.candidate.now c.args.run.now c.add.new.self
+    c.in_ok-turn.turn h is c.in_ok-add.ensures.copy c.in_ok-add.ensures.added c.in_ok-turn.ensures.says
+    c.in_ok-turn.ensures.shows

@@ -1,8 +1,9 @@
 use Rattle.mirror_follow.proofs.Blame.{any_same}
-use Rattle.std.proofs.Common.{map}
+use Rattle.std.proofs.Common.{map, sym, true≢false, ◌∙◌}
 use Rattle.mirror_copy.proofs.Growth.{kept_same}
 use Rattle.mirror_follow.specs.Gathering.{note_of}
 use Rattle.mirror_follow.proofs.Runs.{listed_note, no_run, one_run}
+use Rattle.mirror_follow.proofs.Taken.{taken_repeat, turn_ok}
 use Rattle.mirror_follow.proofs.Turning.{run_same}
 use Rattle.mirror_follow.proofs.turns.take_turn_at.Goals as goal
 
@@ -23,3 +24,14 @@ returns-clause-keeps g c =
 
 pub returns-then-is_repeated-clause-asks : goal.returns-then-is_repeated-clause-asks
 returns-then-is_repeated-clause-asks g c = any_same g.S.Source.may_answer g.S.Source.failed g.S.Source.asked c.args.places.now
+
+pub returns-then-is_repeated-clause-taken : goal.returns-then-is_repeated-clause-taken
+returns-then-is_repeated-clause-taken g c =
+    λ first rises h. taken_repeat g.H.TreeHash.digest first c.args.candidates.now rises c.args.i c.requires.within
+    (c.is_repeated.ensures.is.0 c.if-is_repeated.true) c.args.run.now h
+
+pub returns-clause-taken : goal.returns-clause-taken
+returns-clause-taken g c =
+    turn_ok g.H.TreeHash.digest c.take_turn.result c.args.candidates.now c.args.i c.requires.within c.index-candidates-i.result
+    c.index-candidates-i.is (λ r. true≢false (sym (c.is_repeated.ensures.is.1 r) ∙ c.if-is_repeated.false)) c.args.run.now
+    c.take_turn.new.run c.take_turn.ensures.taken

@@ -1,8 +1,11 @@
-use Rattle.std.proofs.Common.{◌≡◌, ◌<◌, Some, map}
+use Rattle.std.proofs.Common.{◌≡◌, ◌<◌, Some, map, take}
+use Rattle.std.specs.List.Sorted.{IsSorted}
 use Rattle.mirror_follow.specs.Blame.{AsksAny, PlaceFails}
+use Rattle.mirror_follow.specs.Candidates.{turn_cmp}
 use Rattle.mirror_follow.specs.Ending.{KeepsFault}
 use Rattle.mirror_follow.specs.Gathering.{note_of}
 use Rattle.mirror_follow.specs.Runs.{KeepsCopies}
+use Rattle.mirror_follow.specs.Taken.{HasTakenRun}
 use Rattle.mirror_follow.specs.Turning.{IsRunFrom}
 use Rattle.mirror_follow.specs.declared.fault.FollowFault.TheVariants.{Source}
 use Rattle.mirror_follow.proofs.turns.take_turns.Given as goal
@@ -15,5 +18,6 @@ invariant-loop-i g l = record {
   run : IsRunFrom g.H.TreeHash.digest l.origin (g.D.Shelf.puts l.initial.shelf) (g.D.Shelf.puts l.shelf) l.fn.copy l.run;
   fault : 0 < l.i → KeepsFault l.run;
   asks : AsksAny g.S.Source.may_answer g.S.Source.failed g.S.Source.asked l.initial.places l.places;
+  taken : IsSorted turn_cmp l.candidates → HasTakenRun g.H.TreeHash.digest l.fn.copy (take l.i l.candidates) l.run;
   source : l.run.first_fault ≡ Some Source → PlaceFails l.initial.places l.places;
 }

@@ -1,8 +1,29 @@
 use Rattle.mirror_follow.proofs.Blame.{any_same}
+use Rattle.mirror_follow.proofs.Taken.{says_held, says_larger, says_none, says_noted}
 use Rattle.mirror_follow.proofs.turns.turn_for.Goals as goal
 
-pub returns-then-lt-clause-asks : goal.returns-then-lt-clause-asks
-returns-then-lt-clause-asks g c = any_same g.S.Source.may_answer g.S.Source.failed g.S.Source.asked c.args.places.now
+pub returns-then-has_lesser_note-clause-asks : goal.returns-then-has_lesser_note-clause-asks
+returns-then-has_lesser_note-clause-asks g c = any_same g.S.Source.may_answer g.S.Source.failed g.S.Source.asked c.args.places.now
 
 pub returns-then-candidate-copy-clause-asks : goal.returns-then-candidate-copy-clause-asks
 returns-then-candidate-copy-clause-asks g c = any_same g.S.Source.may_answer g.S.Source.failed g.S.Source.asked c.args.places.now
+
+pub returns-in_default-clause-says : goal.returns-in_default-clause-says
+returns-in_default-clause-says g c =
+    says_none g.H.TreeHash.digest c.take_larger.result c.args.run.now.copy c.args.candidate.now c.in_default.is
+    c.take_larger.ensures.says
+
+pub returns-then-has_lesser_note-clause-says : goal.returns-then-has_lesser_note-clause-says
+returns-then-has_lesser_note-clause-says g c =
+    says_held g.H.TreeHash.digest c.renote.result c.args.run.now.copy c.args.candidate.now c.in-Some.copy c.in-Some.is
+    c.renote.ensures.says
+
+pub returns-then-candidate-copy-clause-says : goal.returns-then-candidate-copy-clause-says
+returns-then-candidate-copy-clause-says g c =
+    says_noted g.H.TreeHash.digest c.compare.result c.args.run.now.copy c.args.candidate.now c.in-Some.copy c.in-Some.is
+    (c.has_lesser_note.ensures.other c.if-has_lesser_note.false) c.compare.ensures.says
+
+pub returns-clause-says : goal.returns-clause-says
+returns-clause-says g c =
+    says_larger g.H.TreeHash.digest c.take_larger-2.result c.args.run.now.copy c.args.candidate.now c.in-Some.copy c.in-Some.is
+    c.if-candidate-copy.false c.take_larger-2.ensures.says

@@ -7,3 +7,6 @@ returns-in-Ok-follow_told-clause-follows g c =
 
 pub returns-in-Err-follow_told-clause-follows : goal.returns-in-Err-follow_told-clause-follows
 returns-in-Err-follow_told-clause-follows g c = rw (← c.in-Ok.ensures.opened) c.in-Err-follow_told.ensures.whole
+
+pub returns-in-Ok-follow_told-clause-says : goal.returns-in-Ok-follow_told-clause-says
+returns-in-Ok-follow_told-clause-says g c = rw (← c.in-Ok.ensures.opened) c.in-Ok-follow_told.ensures.says

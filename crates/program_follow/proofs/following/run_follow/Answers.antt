@@ -1,7 +1,7 @@
 use Rattle.std.proofs.Common.{option_map, refl}
 use Rattle.std.proofs.KnownBytes.{Keeps-refl}
 use Rattle.program_follow.specs.Following.{IsNoteOf}
-use Rattle.program_follow.proofs.Noted.{follows_ended, follows_told, note_had, told_counts}
+use Rattle.program_follow.proofs.Noted.{follows_ended, follows_told, note_had, says_printed, told_counts}
 use Rattle.program_follow.proofs.following.run_follow.Goals as goal
 
 pub returns-in-Ok-follow_into-clause-follows : goal.returns-in-Ok-follow_into-clause-follows
@@ -28,3 +28,8 @@ returns-in-Err-follow_into-clause-follows g c =
     (option_map (λ v. v.items) c.in-Ok.given) c.in-Ok.ensures)
     _ _ _ _ _ _ _ _ c.in-Err-follow_into.fault c.in-Err-follow_into.ensures.follows
     (Keeps-refl (g.W.Write.contents c.args.output.now)) refl
+
+pub returns-in-Ok-follow_into-clause-says : goal.returns-in-Ok-follow_into-clause-says
+returns-in-Ok-follow_into-clause-says g c =
+    says_printed _ _ _ _ _ _ _ _ (option_map (λ v. v.items) c.in-Ok.given) _ _ _ c.in-Ok-follow_into.done _ _ _ _
+    c.tell_done.result c.in-Ok.ensures c.in-Ok-follow_into.ensures.says c.tell_done.ensures.tells

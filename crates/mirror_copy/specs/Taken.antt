@@ -1,0 +1,68 @@
+-- Which files a bringing may take from its places and its shelf, and when the strings that are hashed of them do not clash with
+-- those of a log.
+use Rattle.std.specs.Prelude.{◌≡◌, ◌⊎◌, ℕ, ◌<◌, ◌≤◌, All, Contains, List, ◌++◌, length, get_or, Option, Some, None, ⊤}
+use Rattle.std.specs.FinSet as set
+use Rattle.tlog_hash.specs.Tree.{joins, strings}
+use Rattle.tlog_tiles.specs.declared.paths.Path.{Path}
+use Rattle.tlog_tiles.specs.declared.paths.Path.TheVariants.{Checkpoint, Tile, Entries}
+use Rattle.tlog_tiles.specs.Bundle.{IsBundle}
+use Rattle.tlog_tiles.specs.Row.{IsRow}
+use Rattle.node_store.specs.Strings.{NoClash}
+use Rattle.mirror_sources.specs.Files.{full_of}
+use Rattle.mirror_sources.specs.Told.{AddsTold}
+use Rattle.mirror_folders.specs.Shelf.{Put}
+use Rattle.mirror_copy.specs.declared.place.Place.{Place}
+use Rattle.mirror_copy.specs.declared.places.Places.{Places}
+
+-- the bytes were put at the path, as far as the shelf records its puts
+abbrev pub WasPut : Option (List Put) → Path → List ℕ → Type 0
+WasPut None path bytes = ⊤
+WasPut (Some puts) path bytes = Contains puts (path, bytes)
+
+-- a tile of level 0, which is made of a bundle
+abbrev pub IsLeafTile : Path → Type 0
+IsLeafTile Checkpoint = ⊥
+IsLeafTile (Tile level index width) = level ≡ 0
+IsLeafTile (Entries index width) = ⊥
+
+-- the bytes are the first of those of the full file
+pub record IsFirstOf (full bytes : List ℕ) : Type 0 where
+  pub rest : List ℕ
+  pub full_is : full ≡ bytes ++ rest
+
+-- the bytes may be taken at the path, or are the first of what may be taken at the path of the full file
+abbrev pub PartOf : (Path → List ℕ → Type 0) → Path → List ℕ → Type 0
+PartOf take path bytes = take path bytes ⊎ ((full : List ℕ) × take (full_of path) full × IsFirstOf full bytes)
+
+module _ {S : Type 0} (may : S → Path → Option (List ℕ) → Type 0) where
+  -- one of the places may give the bytes at the path
+  pub record MayGive (places : Places S) (path : Path) (bytes : List ℕ) : Type 0 where
+    pub index : ℕ
+    pub listed : index < length places.list.items
+    pub may_be : (d : Place S) → may (get_or places.list.items index d).source path (Some bytes)
+
+  -- the bytes at the path may be taken: they were put there, or a place may give them
+  abbrev pub MayTake : Places S → Option (List Put) → Path → List ℕ → Type 0
+  MayTake places puts path bytes = WasPut puts path bytes ⊎ MayGive places path bytes
+
+  -- tiles of level 0 were put, and files that might be taken
+  pub record PutsTaken (places : Places S) (old new : Option (List Put)) : Type 0 where
+    pub puts : List Put
+    pub told : AddsTold old new puts
+    pub are_taken : All (λ put. IsLeafTile put.0 ⊎ MayTake places old put.0 put.1) puts
+
+module _ (digest : List ℕ → List ℕ) (log : List (List ℕ)) where
+  -- no two different strings of the log's tree, and of what folding the row hashes, share a digest
+  abbrev pub IsRowClear : List (List ℕ) → Type 0
+  IsRowClear row = NoClash digest (set.from_list (strings digest log ++ joins digest row))
+
+  -- the same of the tree of some entries
+  abbrev pub AreEntriesClear : List (List ℕ) → Type 0
+  AreEntriesClear entries = NoClash digest (set.from_list (strings digest log ++ strings digest entries))
+
+  -- so it is of each full tile of level 1 or above and each bundle that may be taken
+  pub record FilesAreClear (take : Path → List ℕ → Type 0) : Type 0 where
+    pub tile : (level index : ℕ) → 1 ≤ level → (bytes : List ℕ) (row : List (List ℕ)) →
+        take (Tile level index 256) bytes → IsRow 256 bytes row → IsRowClear row
+    pub bundle : (index width : ℕ) (bytes : List ℕ) (entries : List (List ℕ)) →
+        PartOf take (Entries index width) bytes → IsBundle width bytes entries → AreEntriesClear entries

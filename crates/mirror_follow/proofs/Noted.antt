@@ -1,0 +1,106 @@
+-- The note of the copy in the end.
+use Rattle.std.proofs.Common.{◌≡◌, ◌⊎◌, inl, inr, ℕ, List, [], length, Option, Some, None, Result, Ok, Err, IfOk, Bool, sym, ap, subst, ◌∙◌}
+use Rattle.std.specs.List.Sorted.{IsSorted}
+use Rattle.mirror_folders.specs.Shelf.{Put}
+use Rattle.mirror_follow.specs.Candidates.{turn_cmp}
+use Rattle.mirror_follow.specs.Gathering.{note_of}
+use Rattle.mirror_follow.specs.Says.{HasLeastInTheEnd, HasLeastNote, IsNoteOfOne, IsNoteUpTo, IsOldNote, Says, SettlesEach}
+use Rattle.mirror_follow.specs.Standing.{HadCopy, IsCopyOfRun, IsCopyRead, StandsUnder}
+use Rattle.mirror_follow.specs.Taken.{HasTaken, HasTakenRun, IsGrown, IsOneOf}
+use Rattle.mirror_follow.specs.declared.candidate.Candidate.{Candidate}
+use Rattle.mirror_follow.specs.declared.report.Followed.{Followed}
+use Rattle.mirror_follow.specs.declared.report.ForkLine.{ForkLine}
+use Rattle.mirror_follow.specs.declared.report.Run.{Run}
+use Rattle.mirror_follow.proofs.Standing.{end_weaker}
+
+up_to_old : (first : Option Candidate) (c : Candidate) (note : List ℕ) (n : ℕ) → IsCopyRead note n first →
+    IsGrown first (Some c) → n ≡ c.size.0 → IsNoteUpTo (note_of c) note
+up_to_old None c note n read grown e = absurd read
+up_to_old (Some o) c note n read grown e = subst (IsNoteUpTo (note_of c)) read.0 (grown.1 (read.1 ∙ e))
+
+module _ (digest : List ℕ → List ℕ) (origin : List ℕ) (candidates : List Candidate) (f : Followed) (c : Candidate)
+    (size_is : f.size ≡ c.size.0) (root_is : f.root ≡ c.root) where
+  abbrev NoteOf : Option (List ℕ) → Type 0
+  NoteOf old = IsNoteOfOne candidates f (note_of c) ⊎ IsOldNote old (note_of c)
+
+  had_some : (first : Option Candidate) (note : List ℕ) (n : ℕ) → IsCopyRead note n first →
+      IsOneOf first candidates (Some c) → NoteOf (Some note)
+  had_some None note n read one = absurd read
+  had_some (Some o) note n read (inl same) = inr (same.note_is ∙ read.0)
+  had_some (Some o) note n read (inr (one, among, same)) = inl (record {
+    candidate = one;
+    listed = among;
+    note_is = same.note_is;
+    size_is = sym same.size_is ∙ sym size_is;
+    root_is = sym same.root_is ∙ sym root_is;
+  })
+
+  had_none : IsOneOf None candidates (Some c) → NoteOf None
+  had_none (inl same) = absurd same
+  had_none (inr (one, among, same)) = inl (record {
+    candidate = one;
+    listed = among;
+    note_is = same.note_is;
+    size_is = sym same.size_is ∙ sym size_is;
+    root_is = sym same.root_is ∙ sym root_is;
+  })
+
+  module _ (first : Option Candidate) (forks : List ForkLine) (lacked : List Candidate) (behind : Option (ℕ × List ℕ))
+      (reached : Bool) (h : HasTaken digest first candidates (Some c) forks lacked behind reached) where
+    least_some : (note : List ℕ) (entries : List (List ℕ)) (now : List Put) → IsCopyRead note (length entries) first →
+        StandsUnder digest origin c entries now → HasLeastNote digest origin candidates f (Some note) entries now
+    least_some note entries now read u = record {
+      note = note_of c;
+      more = u.more;
+      copy = u.copy;
+      size_is = size_is ∙ u.size_is;
+      root_is = root_is ∙ u.root_is;
+      least = λ k d lt sizes roots. h.noted k d lt (sizes ∙ size_is, roots ∙ root_is);
+      up_to_old = λ e. up_to_old first c note (length entries) read h.grown (e ∙ size_is);
+      had = had_some first note (length entries) read h.one_of;
+    }
+
+    least_none : (now : List Put) → first ≡ None → StandsUnder digest origin c [] now →
+        HasLeastNote digest origin candidates f None [] now
+    least_none now none u = record {
+      note = note_of c;
+      more = u.more;
+      copy = u.copy;
+      size_is = size_is ∙ u.size_is;
+      root_is = root_is ∙ u.root_is;
+      least = λ k d lt sizes roots. h.noted k d lt (sizes ∙ size_is, roots ∙ root_is);
+      up_to_old = tt;
+      had = had_none (subst (λ o. IsOneOf o candidates (Some c)) none h.one_of);
+    }
+
+    noted : (x w : Option (List Put)) → HadCopy digest origin x first → IsCopyOfRun digest origin x w (Some c) →
+        HasLeastInTheEnd digest origin candidates x w f
+    noted x w had k = record {
+      some = λ held e note entries copy.
+          end_weaker w (StandsUnder digest origin c entries)
+          (HasLeastNote digest origin candidates f (Some note) entries)
+          (λ now u. least_some note entries now (had.some held e note entries copy) u) (k.some held e note entries copy);
+      none = λ held e none.
+          end_weaker w (StandsUnder digest origin c []) (HasLeastNote digest origin candidates f None [])
+          (λ now u. least_none now (had.none held e none) u) (k.none held e none);
+    }
+
+-- what a report says, after all turns
+pub says_by : (digest : List ℕ → List ℕ) (origin : List ℕ) (so : List Candidate → Type 0) (x w : Option (List Put))
+    (first : Option Candidate) (candidates : List Candidate) (run : Run) {E : Type 0} (r : Result Followed E) →
+    IfOk r (λ f. (c : Candidate) × (run.copy ≡ Some c) × (f.size ≡ c.size.0) × (f.root ≡ c.root)) →
+    IfOk r (λ f. (digest : List ℕ → List ℕ) (first : Option Candidate) →
+    HasTakenRun digest first candidates run → SettlesEach digest candidates f) →
+    HasTakenRun digest first candidates run → HadCopy digest origin x first → IsCopyOfRun digest origin x w run.copy →
+    so candidates → IsSorted turn_cmp candidates → IfOk r (Says digest origin so x w)
+says_by digest origin so x w first candidates run (Err e) copy settles h had k gathered rising = tt
+says_by digest origin so x w first candidates run (Ok f) copy settles h had k gathered rising = record {
+  candidates = candidates;
+  gathered = gathered;
+  rising = rising;
+  settles = settles digest first h;
+  noted = noted digest origin candidates f copy.0 copy.2 copy.3 first run.forks.items run.not_had.items run.behind
+      run.is_reached
+      (subst (λ o. HasTaken digest first candidates o run.forks.items run.not_had.items run.behind run.is_reached) copy.1 h)
+      x w had (subst (λ o. IsCopyOfRun digest origin x w o) copy.1 k);
+}

@@ -1,0 +1,189 @@
+-- The order in which candidates have their turn.
+use Rattle.std.proofs.Common.{◌≡◌, ℕ, ◌-◌, ◌<◌, ◌≤◌, Bool, true, false, List, [], ◌∷◌, length, get_or, take, Some, refl, sym, ap, subst, ◌∙◌, arith, true≢false, length-take}
+use Rattle.std.proofs.Common.{Ordering, Less, Equal, Greater, nat_cmp, is_lt, is_gt}
+use Rattle.std.specs.Cmp.{IsTotalOrder, then_total, on_total, back_total, nat_cmp_total, tied_itself}
+use Rattle.std.specs.Cmp.Lexicographic.{slice_cmp, slice_partial_cmp, lists_agrees, nat_list_cmp_total}
+use Rattle.std.specs.FinSet.{nat_cmp-IsAntisymmetric, slice_cmp-IsAntisymmetric}
+use Rattle.std.specs.List.Sorted.{IsSorted}
+use Rattle.std.specs.List.{Contains}
+use Rattle.std.specs.Ordering.{is_some_and, ordering_reverse, ordering_then}
+use Rattle.std.proofs.lemmas.Cmp.{by_ranked, ranked, upto}
+use Rattle.std.proofs.lemmas.List.{get_or_default, get_or-take}
+use Rattle.std.proofs.lemmas.List.Elements.{Contains-get_or}
+use Rattle.std.proofs.lemmas.List.Sorted.{ranks_by, sorted_far}
+use Rattle.mirror_follow.specs.Candidates.{turn_cmp}
+use Rattle.mirror_follow.specs.Gathering.{note_of}
+use Rattle.mirror_follow.specs.Says.{IsNoteUpTo, IsOnePoint}
+use Rattle.mirror_follow.specs.Taken.{IsNextOf, IsRepeat}
+use Rattle.mirror_follow.specs.declared.candidate.Candidate.{Candidate}
+
+turn_total : IsTotalOrder turn_cmp
+turn_total =
+    then_total (on_total (λ (c : Candidate). c.size.0) (back_total nat_cmp_total))
+    (then_total (on_total (λ (c : Candidate). c.root) nat_list_cmp_total)
+    (on_total (λ (c : Candidate). c.note.items) nat_list_cmp_total))
+
+-- ---- notes
+
+pub note_itself : (a : List ℕ) → IsNoteUpTo a a
+note_itself a = ap is_gt (tied_itself nat_list_cmp_total a)
+
+pub note_upto : (a b c : List ℕ) → IsNoteUpTo a b → IsNoteUpTo b c → IsNoteUpTo a c
+note_upto a b c p q = upto nat_list_cmp_total a b c p q
+
+turned : (o : Ordering) → is_gt (ordering_reverse o) ≡ is_lt o
+turned Less = refl
+turned Equal = refl
+turned Greater = refl
+
+-- what is not less is the other way not greater
+not_greater : (a b : List ℕ) → is_lt (slice_cmp nat_cmp b a) ≡ false → is_gt (slice_cmp nat_cmp a b) ≡ false
+not_greater a b h =
+    ap is_gt (nat_list_cmp_total.antisymm a b) ∙ turned (slice_cmp nat_cmp b a) ∙ h
+
+less_gt : (o : Ordering) → is_lt o ≡ true → is_gt o ≡ false
+less_gt Less h = refl
+less_gt Equal h = absurd (true≢false (sym h))
+less_gt Greater h = absurd (true≢false (sym h))
+
+-- what a test of two notes says
+pub note_less : (a b : List ℕ) → is_lt (slice_cmp nat_cmp a b) ≡ true → IsNoteUpTo a b
+note_less a b h = less_gt (slice_cmp nat_cmp a b) h
+
+pub note_other : (a b : List ℕ) → is_lt (slice_cmp nat_cmp a b) ≡ false → IsNoteUpTo b a
+note_other a b h = not_greater b a h
+
+pub note_test : (a b : List ℕ) (r : Bool) → r ≡ is_some_and is_lt (slice_partial_cmp (λ x y. Some (nat_cmp x y)) a b) →
+    (r ≡ true → IsNoteUpTo a b) × (r ≡ false → IsNoteUpTo b a)
+note_test a b r e =
+    let s : r ≡ is_lt (slice_cmp nat_cmp a b) =
+    e ∙ ap (is_some_and is_lt) (lists_agrees {R = nat_cmp} (λ x y. refl) a b) in
+    (λ t. note_less a b (sym s ∙ t), λ f. note_other a b (sym s ∙ f))
+
+-- ---- two candidates in turn
+
+then_first : (o r : Ordering) → is_lt (ordering_then o r) ≡ false → is_lt o ≡ false
+then_first Less r h = h
+then_first Equal r h = refl
+then_first Greater r h = refl
+
+then_tied : (o r : Ordering) → o ≡ Equal → is_lt (ordering_then o r) ≡ false → is_lt r ≡ false
+then_tied o r e h = subst (λ p. is_lt (ordering_then p r) ≡ false) e h
+
+size_upto : (n m : ℕ) → is_lt (nat_cmp n m) ≡ false → m ≤ n
+size_upto n m h =
+    by_ranked (n < m) (n ≡ m) (m < n) (nat_cmp n m) (ranked n m (nat_cmp n m) refl)
+    (λ e lt. absurd (true≢false (ap is_lt (sym e) ∙ h))) (λ e s. omega (arith, s)) (λ e gt. omega (arith, gt))
+
+tied_size : (n m : ℕ) → n ≡ m → nat_cmp n m ≡ Equal
+tied_size n m e = subst (λ k. nat_cmp n k ≡ Equal) e (tied_itself nat_cmp_total n)
+
+tied_list : (a b : List ℕ) → a ≡ b → slice_cmp nat_cmp b a ≡ Equal
+tied_list a b e = subst (λ k. slice_cmp nat_cmp k a ≡ Equal) e (tied_itself nat_list_cmp_total a)
+
+-- the first has its turn before the second
+record IsBefore (a b : Candidate) : Type 0 where
+  upto : b.size.0 ≤ a.size.0
+  root : a.size.0 ≡ b.size.0 → is_gt (slice_cmp nat_cmp a.root b.root) ≡ false
+  note : IsOnePoint a b → IsNoteUpTo (note_of a) (note_of b)
+
+before : (a b : Candidate) → is_lt (turn_cmp b a) ≡ false → IsBefore a b
+before a b h =
+    let sizes : Ordering = nat_cmp a.size.0 b.size.0 in
+    let roots : Ordering = slice_cmp nat_cmp b.root a.root in
+    let notes : Ordering = slice_cmp nat_cmp b.note.items a.note.items in
+    let same = λ (e : a.size.0 ≡ b.size.0). then_tied sizes (ordering_then roots notes) (tied_size a.size.0 b.size.0 e) h in
+    record {
+      upto = size_upto a.size.0 b.size.0 (then_first sizes (ordering_then roots notes) h);
+      root = λ e. not_greater a.root b.root (then_first roots notes (same e));
+      note = λ p. not_greater a.note.items b.note.items
+          (then_tied roots notes (tied_list a.root b.root p.1) (same p.0));
+    }
+
+tied : (o : Ordering) → is_gt o ≡ false → is_gt (ordering_reverse o) ≡ false → o ≡ Equal
+tied Less h g = absurd (true≢false g)
+tied Equal h g = refl
+tied Greater h g = absurd (true≢false h)
+
+-- one in turn between two of one size and root has these too
+between : (a b c : Candidate) → IsBefore a b → IsBefore b c → IsOnePoint a c → IsOnePoint b c
+between a b c p q e =
+    let size : b.size.0 ≡ c.size.0 = omega (arith, p.upto, q.upto, e.0) in
+    let first : a.size.0 ≡ b.size.0 = omega (arith, size, e.0) in
+    let up : is_gt (slice_cmp nat_cmp c.root b.root) ≡ false =
+    subst (λ r. is_gt (slice_cmp nat_cmp r b.root) ≡ false) e.1 (p.root first) in
+    let down : is_gt (ordering_reverse (slice_cmp nat_cmp b.root c.root)) ≡ false =
+    ap is_gt (sym (nat_list_cmp_total.antisymm c.root b.root)) ∙ up in (
+      size,
+      slice_cmp-IsAntisymmetric nat_cmp-IsAntisymmetric b.root c.root
+          (tied (slice_cmp nat_cmp b.root c.root) (q.root size) down),
+    )
+
+-- ---- a list of candidates
+
+module _ (cs : List Candidate) (rises : IsSorted turn_cmp cs) (i : ℕ) (c : Candidate) (lt : i < length cs)
+    (is : c ≡ get_or cs i c) where
+  far : (j k : ℕ) (d : Candidate) → j ≤ k → k < length cs → IsBefore (get_or cs j d) (get_or cs k d)
+  far j k d le less =
+      before (get_or cs j d) (get_or cs k d)
+      (sorted_far (λ x y. is_lt (turn_cmp x y)) (ranks_by turn_total (λ (c : Candidate). c)) cs rises j k d le less)
+
+  at : (d : Candidate) → get_or cs i d ≡ c
+  at d = get_or_default cs i d c lt ∙ sym is
+
+  -- one of those before it
+  earlier : (k : ℕ) (d : Candidate) → k < i → IsBefore (get_or (take i cs) k d) c
+  earlier k d less =
+      subst (λ x. IsBefore x c) (sym (get_or-take i cs k d less))
+      (subst (λ x. IsBefore (get_or cs k d) x) (at d) (far k i d (omega (arith, less)) lt))
+
+  within : (k : ℕ) → k < length (take i cs) → k < i
+  within k less = let n = length-take i cs in omega (arith, n, less)
+
+  -- one that does not repeat the one before
+  pub next_of : (IsRepeat cs i → ⊥) → IsNextOf (take i cs) c
+  next_of fresh = record {
+    upto = λ k d less. (earlier k d (within k less)).upto;
+    apart = λ k d less same. fresh (repeats k d (within k less) same);
+  }
+    where
+      repeats : (k : ℕ) (d : Candidate) → k < i → IsOnePoint (get_or (take i cs) k d) c → IsRepeat cs i
+      repeats k d less same = (
+        omega (arith, less),
+        λ none.
+            let inside : k < length cs = omega (arith, less, lt) in
+            let one : IsOnePoint (get_or cs k none) (get_or cs i none) =
+            subst (λ x. IsOnePoint x (get_or cs i none)) (get_or-take i cs k d less ∙ get_or_default cs k d none inside)
+            (subst (λ x. IsOnePoint (get_or (take i cs) k d) x) (sym (at none)) same) in
+            between (get_or cs k none) (get_or cs (i - 1) none) (get_or cs i none)
+            (far k (i - 1) none (omega (arith, less)) (omega (arith, lt))) (far (i - 1) i none (omega arith) lt) one,
+      )
+
+  -- one that repeats the one before
+  pub record IsAgain : Type 0 where
+    pub one : Candidate
+    pub listed : Contains (take i cs) one
+    pub same : IsOnePoint one c
+    pub note : IsNoteUpTo (note_of one) (note_of c)
+
+  pub again : IsRepeat cs i → IsAgain
+  again r =
+      let some : 0 < i = r.0 in
+      let less : i - 1 < i = omega (arith, some) in
+      let inside : i - 1 < length (take i cs) = let n = length-take i cs in omega (arith, n, lt, some) in
+      let one = get_or (take i cs) (i - 1) c in
+      let same : IsOnePoint one c =
+      subst (λ x. IsOnePoint x c) (sym (get_or-take i cs (i - 1) c less))
+      (subst (λ x. IsOnePoint (get_or cs (i - 1) c) x) (at c) (r.1 c)) in
+      record {
+        one = one;
+        listed = Contains-get_or (take i cs) (i - 1) c inside;
+        same = same;
+        note = (earlier (i - 1) c less).note same;
+      }
+
+-- the candidate at an index
+pub element : (cs : List Candidate) (i : ℕ) → i < length cs → (x : Candidate) × (x ≡ get_or cs i x)
+element [] i lt = absurd (omega (arith, lt))
+element (y ∷ ys) i lt =
+    let x = get_or (y ∷ ys) i y in (x, get_or_default (y ∷ ys) i y x lt)

@@ -1,0 +1,30 @@
+use Rattle.std.proofs.Common.{refl, subst}
+use Rattle.mirror_follow.specs.Taken.{HasTaken, IsBehindTest, SplitsLacked}
+use Rattle.mirror_follow.proofs.Settled.{settles}
+use Rattle.mirror_follow.proofs.report.report.Goals as goal
+
+pub returns-clause-settles : goal.returns-clause-settles
+returns-clause-settles c = λ digest first h.
+    let run = c.args.run in
+    let copy = c.in-Some.copy in
+    let forks = c.split_not_had.new.forks in
+    let larger = c.sort_unstable.new.self in
+    settles digest first c.args.candidates.now copy run.forks.items run.not_had.items run.behind run.is_reached
+    (subst (λ o. HasTaken digest first c.args.candidates.now o run.forks.items run.not_had.items run.behind run.is_reached)
+    c.in-Some.is h)
+    (record {
+      size = copy.size.0;
+      root = copy.root;
+      old = run.had;
+      forks = forks;
+      larger = larger;
+      behind = c.point_if-behind.result;
+    })
+    c.in_ok-larger.larger.items
+    (subst (λ l. SplitsLacked copy run.forks.items l forks.items c.in_ok-larger.larger.items) c.deref.ensures.value
+    c.in_ok-larger.ensures.split)
+    c.sort_unstable.ensures.permutation refl refl c.is_behind-is_behind.result
+    (subst (λ l. IsBehindTest c.is_behind-is_behind.result run.is_reached forks.items l) c.deref-3.ensures.value
+    (subst (λ l. IsBehindTest c.is_behind-is_behind.result run.is_reached l c.deref-3.result.now) c.deref-2.ensures.value
+    c.is_behind-is_behind.ensures))
+    c.point_if-behind.ensures
