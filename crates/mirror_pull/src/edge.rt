@@ -46,7 +46,8 @@ fn edge_row<S: Source>(
     Ok(bytes)
 }
 
-/// The edge rows of a tree of that size, lowest level first.
+/// The edge rows of a tree of that size, lowest level first. Before the first get the source is given a hint of all of
+/// them.
 pub(crate) fn edge_rows<S: Source>(
     alloc: Global,
     source: &mut S,
@@ -65,6 +66,7 @@ pub(crate) fn edge_rows<S: Source>(
         size (seen (λ rows. map (λ row. row.items) rows.items) result) }
 {
     let paths = edge_paths(alloc, size)?;
+    source.expect(paths.as_slice());
     let mut rows = Vec::new(alloc);
     for path in &paths {
         let row = edge_row(source, asked, *path)?;

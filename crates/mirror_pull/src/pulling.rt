@@ -12,7 +12,7 @@ use crate::ask::ask;
 use crate::asked::AskedPaths;
 use crate::edge::edge_rows;
 use crate::fault::PullFault;
-use crate::rounds::work;
+use crate::rounds::{note_held, work};
 use mirror_sources::Source;
 use signed_note::Verifier;
 use std::alloc::Global;
@@ -35,7 +35,7 @@ pub struct Pulled {
     pub complete: bool,
 }
 
-/// Takes a head with those rows.
+/// Takes a head with those rows, and notes what is held of each head.
 fn take_rows<H: TreeHash>(
     alloc: Global,
     mirror: &mut Mirror<H>,
@@ -49,6 +49,7 @@ fn take_rows<H: TreeHash>(
         (map (λ k. key k) keys.now) note.now (map (λ row. row.items) rows.now)) }
 {
     mirror.take_head_rows(alloc, keys, note, rows)?;
+    note_held(alloc, mirror);
     Ok(())
 }
 

@@ -159,6 +159,40 @@ fn work_round<H: TreeHash, S: Source>(
     Ok(refused)
 }
 
+/// Notes what is held of each head, so that no later walk goes into that again. Where memory is refused a later walk
+/// does.
+pub(crate) fn note_held<H: TreeHash>(alloc: Global, mirror: &mut Mirror<H>)
+    ensures { mirror.new.view ≡ mirror.old.view }
+{
+    let _ = mirror.note_heads(alloc);
+}
+
+/// Does `work_round`, and then notes what is held.
+fn work_noted<H: TreeHash, S: Source>(
+    alloc: Global,
+    mirror: &mut Mirror<H>,
+    source: &mut S,
+    asked: &mut AskedPaths,
+    paths: &[Path],
+) -> Result<u64, PullFault>
+    requires { All IsTakeable paths.now }
+    ensures told { AsksPaths asked.old.items asked.new.items (S.asked source.old)
+        (S.asked source.new) result }
+    ensures counted { BlamesSource (S.failed source.old) (S.failed source.new) result }
+    ensures later { StaysWithin (S.may_answer source.old) (S.may_answer source.new) }
+    ensures late { EndsAfterHead result }
+    ensures gains { GainsStrings mirror.old.view mirror.new.view }
+    ensures replied { PathsFollow (S.may_answer source.old) (S.asked source.old)
+        (S.asked source.new) asked.old.items asked.new.items
+        H.digest mirror.old.view paths.now mirror.new.view result }
+    ensures honest { TakesPathsHonestly (S.may_answer source.old) asked.old.items asked.new.items
+        H.digest mirror.old.view paths.now mirror.new.view result }
+{
+    let worked = work_round(alloc, mirror, source, asked, paths);
+    note_held(alloc, mirror);
+    worked
+}
+
 /// The paths that are missing of a head and were not asked for yet.
 fn paths_to_ask<H: TreeHash>(
     alloc: Global,
@@ -214,7 +248,7 @@ pub(crate) fn work<H: TreeHash, S: Source>(
         if paths.is_empty() {
             return Ok((rounds, refused));
         }
-        let more = work_round(alloc, mirror, source, asked, &paths)?;
+        let more = work_noted(alloc, mirror, source, asked, &paths)?;
         refused = refused.saturating_add(more);
     }
     Ok((8, refused))

@@ -10,3 +10,4 @@ pub mod Saving
 pub mod Putting
 pub mod Listing
 pub mod Refused
+pub mod AsSaved

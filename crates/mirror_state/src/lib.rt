@@ -25,5 +25,6 @@ pub use laws::{
     state_text_law,
 };
 pub use loading::{load, load_bytes};
+pub use parts::is_as_saved;
 pub use refused::{RefusedNote, refused_note};
 pub use saving::save;

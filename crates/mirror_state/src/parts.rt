@@ -1,6 +1,7 @@
 //! Reads what a state text lists.
-ghost use Rattle.std.specs.Prelude.{◌≡◌, ◌↔◌, codes, IsTrue};
+ghost use Rattle.std.specs.Prelude.{◌≡◌, ◌↔◌, codes, take, IsTrue};
 ghost use Rattle.tlog_text.specs.Answers.{seen};
+ghost use Rattle.mirror_state.specs.AsSaved.{IsAsSaved};
 ghost use Rattle.mirror_state.specs.Reading.{ReadsParts};
 ghost use Rattle.mirror_state.specs.Stands.{parts_of, FindsLists, EndsAs};
 ghost use Rattle.mirror_state.specs.declared.parts.PartsFault.TheVariants.{OutOfMemory};
@@ -54,6 +55,24 @@ fn is_new(magic: &[u8]) -> bool
     ensures { IsTrue result ↔ (magic.now ≡ codes "TLMIRR02") }
 {
     magic == b"TLMIRR02".as_slice()
+}
+
+/// Whether the bytes begin as a state text of version 2. A view that is loaded of such bytes is saved as these bytes, so that
+/// a mirror that gained nothing need not be saved again.
+///
+/// ```text
+/// let mirror: Mirror<Sha256Tree> = load_bytes(alloc, "example.com/log", &keys, &bytes)?;
+/// is_as_saved(&bytes)   // true where they are what `save` writes of it
+/// ```
+pub fn is_as_saved(bytes: &[u8]) -> bool
+    ensures begins { IsTrue result ↔ (take 8 bytes.now ≡ codes "TLMIRR02") }
+    ensures saved { IsTrue result → IsAsSaved bytes.now }
+{
+    if bytes.len() < 8 {
+        return false;
+    }
+    let (magic, _) = bytes.split_at(8);
+    is_new(magic)
 }
 
 // The first eight bytes are those of version 1.

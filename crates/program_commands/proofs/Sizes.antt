@@ -176,3 +176,17 @@ gains_note old new holding note held sub strings at = (
         absurd (differs (same_view old new sub (omega (arith, none, m)) (omega (arith, strings, s))))
   ] refl,
 )
+
+-- and where there is none it is the old one
+pub same_unless : (old new : View) (holding : Holding) (note : Option (Bor (List ℕ))) → IsHolding old holding →
+    IsSubview old new → len new.strings ≡ holding.strings → IsNoteAt new holding.notes (option_copied note) →
+    (IsTrue (is_some note) → ⊥) → new ≡ old
+same_unless old new holding note held sub strings at not =
+    elim (is_some note) as (λ b. is_some note ≡ b → new ≡ old) [
+      | true ↦ λ is. absurd (not is)
+      | false ↦ λ is.
+          let none = none_more new holding.notes note at is in
+          let m = held.notes in
+          let s = held.strings in
+          same_view old new sub (omega (arith, none, m)) (omega (arith, strings, s))
+    ] refl

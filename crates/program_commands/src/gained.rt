@@ -54,8 +54,10 @@ pub fn holding_of<H: TreeHash>(mirror: &Mirror<H>) -> Result<Holding, AllocError
 /// Whether a mirror that held so much has gained a note or a string. What it held it has to hold still. It takes no
 /// memory.
 pub fn has_gained<H: TreeHash>(mirror: &Mirror<H>, before: &Holding) -> bool
-    ensures { (old : View) → IsHolding old before.now → IsSubview old mirror.now.view
+    ensures gained { (old : View) → IsHolding old before.now → IsSubview old mirror.now.view
         → (IsTrue result ↔ (mirror.now.view ≢ old)) }
+    ensures same { (old : View) → IsHolding old before.now → IsSubview old mirror.now.view
+        → (¬ IsTrue result) → mirror.now.view ≡ old }
 {
     mirror.strings().len() != before.strings || mirror.note_at(before.notes).is_some()
 }

@@ -43,6 +43,6 @@ pub use note_size::{checkpoint_origin, checkpoint_size};
 pub use notes::run_notes;
 pub use origin::check_origin;
 pub use root::{RootFault, run_root};
-pub use state::{open_or_new, open_state, write_state};
+pub use state::{open_or_new, open_state, open_to_save, write_state};
 pub use take::run_take;
 pub use update::run_update;

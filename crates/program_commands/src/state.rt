@@ -1,12 +1,13 @@
 //! Mirrors read from state files, and written to them.
-ghost use Rattle.std.specs.Prelude.{IfOk, map, option_map};
+ghost use Rattle.std.specs.Prelude.{◌≡◌, ◌↔◌, IfOk, IsTrue, Some, map, option_map};
 ghost use Rattle.mirror_state.specs.StateText.{StateText};
 ghost use Rattle.tlog_text.specs.Answers.{seen};
+ghost use Rattle.program_commands.specs.Saved.{HoldsState, IsSaved};
 ghost use Rattle.program_commands.specs.States.{BeginsWith, OpensFile, SavesFile};
 
 use crate::fault::StateFault;
 use crate::origin::check_origin;
-use mirror_state::{LoadFault, load_bytes, refused_note, save};
+use mirror_state::{LoadFault, is_as_saved, load_bytes, refused_note, save};
 use program_files::{NamedFault, NamedFiles};
 use signed_note::Verifier;
 use std::alloc::{AllocError, Global};
@@ -34,6 +35,25 @@ pub fn open_state<H: TreeHash, F: NamedFiles>(
     ensures { OpensFile H.digest origin.now (map (λ k. key k) keys.now) (F.puts files.now) name.now
         (seen (λ mirror. mirror.view) result) }
 {
+    match open_as_saved::<H, F>(files, alloc, origin, keys, name) {
+        Ok((mirror, _)) => Ok(mirror),
+        Err(fault) => Err(fault),
+    }
+}
+
+// The mirror in a state file, and whether the file has the bytes that a save of it writes.
+fn open_as_saved<H: TreeHash, F: NamedFiles>(
+    files: &F,
+    alloc: Global,
+    origin: &str,
+    keys: &[Box<dyn Verifier>],
+    name: &str,
+) -> Result<(Mirror<H>, bool), StateFault>
+    ensures opens { OpensFile H.digest origin.now (map (λ k. key k) keys.now) (F.puts files.now)
+        name.now (seen (λ opened. opened.0.view) result) }
+    ensures saved { IfOk result (λ opened. IsTrue opened.1
+        → HoldsState opened.0.view name.now (F.puts files.now)) }
+{
     match check_origin(alloc, origin) {
         Ok(()) => {}
         Err(fault) => return Err(StateFault::Origin(fault)),
@@ -42,8 +62,9 @@ pub fn open_state<H: TreeHash, F: NamedFiles>(
         Ok(state) => state,
         Err(fault) => return Err(StateFault::File(fault)),
     };
+    let is_saved = is_as_saved(&state);
     match load_bytes::<H>(alloc, origin, keys, &state) {
-        Ok(mirror) => Ok(mirror),
+        Ok(mirror) => Ok((mirror, is_saved)),
         Err(fault) => {
             tell_reason::<H, F>(files, alloc, origin, keys, &state, fault);
             Err(StateFault::Load(fault))
@@ -133,6 +154,66 @@ pub fn open_or_new<H: TreeHash, F: NamedFiles>(
             Err(fault) => Err(StateFault::Origin(fault)),
         },
     }
+}
+
+/// The mirror as of `open_or_new`, and whether the file `out` is the one that was read, and has the bytes that a save of the
+/// mirror writes. So while the mirror gains nothing, it need not be saved there.
+///
+/// ```text
+/// let (mirror, is_saved): (Mirror<Sha256Tree>, bool) =
+///     open_to_save(&files, alloc, "example.com/log", &keys, Some("log.state"), "log.state")?;
+/// ```
+///
+/// # Errors
+///
+/// Those of `open_state`.
+pub fn open_to_save<H: TreeHash, F: NamedFiles>(
+    files: &F,
+    alloc: Global,
+    origin: &str,
+    keys: &[Box<dyn Verifier>],
+    state: Option<&str>,
+    out: &str,
+) -> Result<(Mirror<H>, bool), StateFault>
+    ensures begins { BeginsWith H.digest origin.now (map (λ k. key k) keys.now) (F.puts files.now)
+        (option_map (λ name. name.now) state.entry) (seen (λ opened. opened.0.view) result) }
+    ensures saved { IfOk result (λ opened. IsTrue opened.1 → IsSaved
+        (option_map (λ name. name.now) state.entry) opened.0.view out.now (F.puts files.now)) }
+{
+    match state {
+        Some(name) => open_named::<H, F>(files, alloc, origin, keys, name, out),
+        None => match Mirror::new(alloc, origin) {
+            Ok(mirror) => Ok((mirror, false)),
+            Err(fault) => Err(StateFault::Origin(fault)),
+        },
+    }
+}
+
+// The same, of the file of that name.
+fn open_named<H: TreeHash, F: NamedFiles>(
+    files: &F,
+    alloc: Global,
+    origin: &str,
+    keys: &[Box<dyn Verifier>],
+    name: &str,
+    out: &str,
+) -> Result<(Mirror<H>, bool), StateFault>
+    ensures opens { OpensFile H.digest origin.now (map (λ k. key k) keys.now) (F.puts files.now)
+        name.now (seen (λ opened. opened.0.view) result) }
+    ensures saved { IfOk result (λ opened. IsTrue opened.1
+        → IsSaved (Some name.now) opened.0.view out.now (F.puts files.now)) }
+{
+    match open_as_saved::<H, F>(files, alloc, origin, keys, name) {
+        Ok((mirror, is_saved)) => Ok((mirror, is_saved && is_one(name, out))),
+        Err(fault) => Err(fault),
+    }
+}
+
+// Whether the two names are one.
+fn is_one(name: &str, other: &str) -> bool
+    ensures { IsTrue result ↔ (name.now ≡ other.now) }
+{
+    name == other
 }
 
 // The text of the mirror's state. Memory alone can be wanting, since it goes into memory.

@@ -48,7 +48,7 @@ use Rattle.program_follow.specs.Following.{Follows, ReadsGiven}
 use Rattle.program_follow.specs.declared.fault.FollowRunFault.{FollowRunFault}
 use Rattle.program_follow.specs.declared.fault.FollowRunFault.TheVariants as follow
 use Rattle.program_monitor.specs.Audits.{RunsAudit}
-use Rattle.program_monitor.specs.Copied.{AnswersCopied, LeavesCopy}
+use Rattle.program_monitor.specs.Copied.{AnswersCopied}
 use Rattle.program_monitor.specs.Served.{AnswersServed}
 use Rattle.program_monitor.specs.declared.fault.AuditRunFault.{AuditRunFault}
 use Rattle.program_monitor.specs.declared.fault.AuditRunFault.TheVariants as audit
@@ -57,12 +57,11 @@ use Rattle.program_monitor.specs.declared.fault.StateEntriesFault.TheVariants as
 use Rattle.program_monitor.specs.declared.fault.CopyEntriesFault.{CopyEntriesFault}
 use Rattle.program_monitor.specs.declared.fault.CopyEntriesFault.TheVariants as copied
 use Rattle.program_copies.specs.Comparisons.{ReportsCompared}
-use Rattle.program_copies.specs.Copies.{LeavesPuts}
-use Rattle.program_copies.specs.Printed.{Prints}
+use Rattle.copy_reader.specs.Copies.{LeavesPuts}
+use Rattle.program_copies.specs.Printed.{IsWriteFault as IsPrintFault, Prints}
 use Rattle.program_copies.specs.Proofs.{ReportsProof}
 use Rattle.program_copies.specs.Statuses.{ReportsStatus}
 use Rattle.program_copies.specs.declared.fault.CopyAskFault.{CopyAskFault}
-use Rattle.program_copies.specs.declared.fault.CopyAskFault.TheVariants as asking
 use Rattle.tlog_proof.specs.declared.proof.Ask.{Ask as ProofAsk}
 use Rattle.mirror_model.specs.View.{View}
 use Rattle.program_commands.specs.declared.root.RootFault.TheVariants as root
@@ -70,7 +69,7 @@ use Rattle.program_commands.specs.declared.check.CheckFault.TheVariants as check
 use Rattle.program_reports.specs.declared.fault.AskFault.TheVariants as ask
 use Rattle.program_commands.specs.Root.{AnswersRoot}
 use Rattle.program_commands.specs.Check.{AnswersCheck}
-use Rattle.program_env.specs.Builds.{BuildsFrom}
+use Rattle.program_env.specs.Builds.{BuildsFrom, RefusesOrigin}
 use Rattle.program_env.specs.Moment.{Moment}
 use Rattle.program_env.specs.Named.{TakesWords}
 use Rattle.program_env.specs.Pulls.{TellsPull}
@@ -117,7 +116,7 @@ IsWriteFault (CopyEntries copied.WriteFault) = ⊤
 IsWriteFault (CopyEntries (copied.CopyDamaged path)) = ⊤
 IsWriteFault (CopyEntries copied.ShelfFault) = ⊤
 IsWriteFault (CopyEntries copied.OutOfMemory) = ⊤
-IsWriteFault (Copy (asking.Ask ask.WriteFault)) = ⊤
+IsWriteFault (Copy fault) = IsPrintFault fault
 IsWriteFault (Root root.WriteFault) = ⊤
 IsWriteFault (Check check.WriteFault) = ⊤
 IsWriteFault (Ask ask.WriteFault) = ⊤
@@ -288,6 +287,7 @@ module _ (digest : List ℕ → List ℕ) (keys : List Key) (key_bytes : List �
   abbrev pub DoesFollow : FollowWords → Result ℕ RunFault → Type 0
   DoesFollow c (Ok status) = FollowsOne c (Ok status)
   DoesFollow c (Err (Follow fault)) = FollowsOne c (Err fault)
+  DoesFollow c (Err (Origin fault)) = RefusesOrigin c.copy.log.origin.now fault × DoesNothing
   DoesFollow c (Err OutOfMemory) = DoesNothing
   DoesFollow c (Err other) = ⊥
 
@@ -299,6 +299,7 @@ module _ (digest : List ℕ → List ℕ) (keys : List Key) (key_bytes : List �
   abbrev pub DoesAudit : AuditWords → Result ℕ RunFault → Type 0
   DoesAudit c (Ok status) = AuditsSource c (Ok status)
   DoesAudit c (Err (Audit fault)) = AuditsSource c (Err fault)
+  DoesAudit c (Err (Origin fault)) = RefusesOrigin c.log.origin.now fault × DoesNothing
   DoesAudit c (Err OutOfMemory) = Keeps old.output new.output
   DoesAudit c (Err other) = ⊥
 
@@ -347,10 +348,11 @@ module _ (digest : List ℕ → List ℕ) (keys : List Key) (key_bytes : List �
   WritesCopyEntries c answer =
       AnswersCopied digest c.copy.log.origin.now keys (old.held c.copy.folder.now) c.range.from c.range.to
       c.range.base64 old.output new.output answer
-      × LeavesCopy (old.held c.copy.folder.now) old.puts new.puts
+      × LeavesPuts (old.held c.copy.folder.now) old.puts new.puts
 
   abbrev pub DoesCopyEntries : CopyEntriesWords → Result ℕ RunFault → Type 0
   DoesCopyEntries c (Ok status) = WritesCopyEntries c done × (status ≡ 0)
+  DoesCopyEntries c (Err (Origin fault)) = RefusesOrigin c.copy.log.origin.now fault × DoesNothing
   DoesCopyEntries c (Err (CopyEntries fault)) = WritesCopyEntries c (failed fault)
   DoesCopyEntries c (Err other) = ⊥
 
@@ -363,7 +365,7 @@ module _ (digest : List ℕ → List ℕ) (keys : List Key) (key_bytes : List �
 
   abbrev pub DoesCopyServe : CopyServeWords → Result ℕ RunFault → Type 0
   DoesCopyServe c (Ok status) = ServesCopy c done × (status ≡ 0)
-  DoesCopyServe c (Err (Origin fault)) = DoesNothing
+  DoesCopyServe c (Err (Origin fault)) = RefusesOrigin c.copy.log.origin.now fault × DoesNothing
   DoesCopyServe c (Err fault) = ServesCopy c (failed fault)
 
   -- ---- the list of the commands

@@ -19,22 +19,41 @@ use Rattle.program_reports.specs.Pulling.{IsPulledStatus, pulled_lines}
 use Rattle.program_files.specs.Named.{NamedFile}
 use Rattle.program_files.specs.Named.{FailsToPut}
 use Rattle.program_files.specs.declared.fault.NamedFault.{NamedFault}
+use Rattle.program_commands.specs.Saved.{IsSaved}
 use Rattle.program_commands.specs.States.{BeginsWith, SavesFile, WritesState}
 use Rattle.program_env.specs.declared.fault.RunFault.{RunFault}
 use Rattle.program_env.specs.declared.fault.RunFault.TheVariants.{WriteFault, Out, OutOfMemory, Pull}
 use Rattle.program_env.specs.declared.fault.RunFault.TheVariants.{State}
 
--- what each answer says of a mirror of this view that pulled this: its state was written to the file
--- `out`, and then its two lines; or it failed, as the fault says
-module _ (v : View) (pulled : Pulled) (out : List ℕ) (told left : Option (List NamedFile)) where
+module _ (state : Option (List ℕ)) (start v : View) (out : List ℕ)
+    (told : Option (List NamedFile)) where
+  -- a pull from the view `start` to this one gained nothing, and the file `out` is the one that it
+  -- began with, and has the state already
+  pub record IsHeld : Type 0 where
+    pub saved : IsSaved state start out told
+    pub nothing : v ≡ start
+
+  -- the file `out` has the state of the view: it was written, or it was held, and nothing was written
+  abbrev pub LeavesState : Option (List NamedFile) → Type 0
+  LeavesState left = WritesState v out told left ⊎ (IsHeld × (left ≡ told))
+
+  -- what the answer of such a save says
+  abbrev pub SavesPulled : {T : Type 0} → Option (List NamedFile) → Result T NamedFault → Type 0
+  SavesPulled left (Ok x) = LeavesState left
+  SavesPulled left (Err fault) = FailsToPut told left fault
+
+-- what each answer says of a mirror that pulled this, from the view `start` to this one: the file `out`
+-- has its state, and then came its two lines; or it failed, as the fault says
+module _ (state : Option (List ℕ)) (start v : View) (pulled : Pulled) (out : List ℕ)
+    (told left : Option (List NamedFile)) where
   abbrev pub TellsPulled : Option (List ℕ) → Option (List ℕ) → Result ℕ RunFault → Type 0
   TellsPulled old new (Ok status) =
-      WritesState v out told left × Appends old new (pulled_lines pulled)
+      LeavesState state start v out told left × Appends old new (pulled_lines pulled)
       × IsPulledStatus pulled status
   TellsPulled old new (Err WriteFault) =
-      WritesState v out told left × AppendsPrefix old new (pulled_lines pulled)
+      LeavesState state start v out told left × AppendsPrefix old new (pulled_lines pulled)
   TellsPulled old new (Err (Out fault)) = FailsToPut told left fault × Keeps old new
-  TellsPulled old new (Err OutOfMemory) = WritesState v out told left × Keeps old new
+  TellsPulled old new (Err OutOfMemory) = LeavesState state start v out told left × Keeps old new
   TellsPulled old new (Err other) = ⊥
 
 -- what a pull got that ended by this fault is to be kept: the words say `--keep`, and its source
@@ -99,9 +118,9 @@ module _ (digest : List ℕ → List ℕ) (origin : List ℕ) (keys : List Key)
       pub view : View
       pub pulled : Pulled
       pub pulls : PullsFromFile view (Ok pulled)
-      pub tells : TellsPulled view pulled out told left old new answer
+      pub tells : TellsPulled state pulls.start view pulled out told left old new answer
 
-    -- what each answer of `pull` says: a pull came to its end, its state was written, and then its
-    -- two lines; or there was nothing to tell, and nothing was written to standard output
+    -- what each answer of `pull` says: a pull came to its end, its state was written or was held, and
+    -- then came its two lines; or there was nothing to tell, and nothing was written to standard output
     abbrev pub TellsPull : Result ℕ RunFault → Type 0
     TellsPull answer = (PullsNothing answer × Keeps old new) ⊎ PullsAndTells answer

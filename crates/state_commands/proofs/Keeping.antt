@@ -1,5 +1,5 @@
 -- What a pull that ended early leaves.
-use Rattle.std.proofs.Common.{ℕ, List, Option, Result, Err, Bool, refl}
+use Rattle.std.proofs.Common.{◌≡◌, ℕ, List, Option, Result, Ok, Err, Bool, inl, refl, subst, sym}
 use Rattle.std.specs.Prelude.{◌≢◌}
 use Rattle.signed_note.specs.Keys.{Key}
 use Rattle.mirror_model.specs.View.{View, IsSubview}
@@ -7,10 +7,12 @@ use Rattle.mirror_model.proofs.Views.{within_itself}
 use Rattle.mirror_pull.specs.Taking.{Grows, PullsTo}
 use Rattle.mirror_pull.specs.declared.fault.PullFault.{PullFault}
 use Rattle.mirror_pull.specs.declared.fault.PullFault.TheVariants as pull
+use Rattle.mirror_pull.specs.declared.pulling.Pulled.{Pulled}
 use Rattle.program_files.specs.Named.{NamedFile}
 use Rattle.program_files.specs.declared.fault.NamedFault.{NamedFault}
+use Rattle.program_commands.specs.Saved.{IsSaved}
 use Rattle.program_commands.specs.States.{SavesFile}
-use Rattle.program_env.specs.Pulls.{IsKept, LeavesEarly}
+use Rattle.program_env.specs.Pulls.{IsHeld, IsKept, LeavesEarly, SavesPulled}
 
 -- a mirror that took nothing has grown by nothing
 pub grows_by_nothing : (keys : List Key) (v : View) → Grows keys v v
@@ -30,6 +32,10 @@ pulled_within digest keys old new (pull.Head f) h = rw h.1 (within_itself old)
 pulled_within digest keys old new pull.Source grown = grown.grows
 pulled_within digest keys old new pull.Collision grown = grown.grows
 pulled_within digest keys old new pull.OutOfMemory grown = grown.grows
+
+pub pulled_on : (digest : List ℕ → List ℕ) (keys : List Key) (old new : View) (pulled : Pulled) →
+    PullsTo digest keys old new (Ok pulled) → IsSubview old new
+pulled_on digest keys old new pulled h = h.0.grows
 
 module _ (keep : Bool) (out : List ℕ) (told : Option (List NamedFile)) (start v : View) (fault : PullFault)
     (written : Result (Unit {0}) NamedFault) where
@@ -51,3 +57,16 @@ module _ (keep : Bool) (out : List ℕ) (told : Option (List NamedFile)) (start 
         nothing = λ _ same. absurd (more same);
         other = λ not. absurd (not kept);
       }
+
+-- what is written of a mirror that has pulled is left
+pub saves_pulled : {T : Type 0} (state : Option (List ℕ)) (start v : View) (out : List ℕ)
+    (told left : Option (List NamedFile)) (answer : Result T NamedFault) → SavesFile v out told left answer →
+    SavesPulled state start v out told left answer
+saves_pulled state start v out told left (Ok x) h = inl h
+saves_pulled state start v out told left (Err fault) h = h
+
+-- what the file had when the pull began it has still
+pub held_still : (state : Option (List ℕ)) (start v : View) (out : List ℕ) (told later : Option (List NamedFile)) →
+    later ≡ told → IsSaved state start out told → v ≡ start → IsHeld state start v out later
+held_still state start v out told later same saved nothing =
+    record { saved = subst (IsSaved state start out) (sym same) saved; nothing = nothing }

@@ -1,5 +1,6 @@
 //! The command `pull`: what is missing is fetched.
-ghost use Rattle.std.specs.Prelude.{◌≡◌, ◌≢◌, ◌↔◌, IfErr, IfOk, IsTrue, OnOk, Result, map, option_map};
+ghost use Rattle.std.specs.Prelude.{◌≡◌, ◌≢◌, ◌↔◌, ℕ, IfErr, IfOk, IsTrue, List, OnOk, Option, Result, map, option_map};
+ghost use Rattle.tlog_text.specs.Answers.{seen};
 ghost use Rattle.std.specs.Io.KnownBytes.{Keeps};
 ghost use Rattle.sha2.specs.Sha256.{sha256};
 ghost use Rattle.mirror_model.specs.Complete.{IsLawful};
@@ -11,7 +12,7 @@ ghost use Rattle.mirror_client.specs.declared.limits.TheConstants.{MAX_REPLY_LEN
 ghost use Rattle.program_env.specs.Done.{IsWriteFault};
 ghost use Rattle.program_env.specs.Envs.{IsSameEnv, moment};
 ghost use Rattle.program_env.specs.Performing.{Performs};
-ghost use Rattle.program_env.specs.Pulls.{FollowsShortReplies, LeavesEarly, TellsPull, TellsPulled, most_replied};
+ghost use Rattle.program_env.specs.Pulls.{FollowsShortReplies, IsHeld, LeavesEarly, SavesPulled, TellsPull, TellsPulled, most_replied};
 ghost use Rattle.program_env.specs.Works.{IsStatus};
 
 use crate::pulling::pull_from;
@@ -19,7 +20,7 @@ use byte_streams::write_whole;
 use mirror_client::{FailedGet, HttpSource, Site, TcpDial};
 use mirror_folders::{DirSource, FailedFile};
 use mirror_pull::{PullFault, Pulled};
-use program_commands::{Holding, has_gained, holding_of, open_or_new, write_state};
+use program_commands::{Holding, has_gained, holding_of, open_to_save, write_state};
 use program_env::places::{of_edge, of_refused};
 use program_env::why::{Why, of_named};
 use program_env::{Env, Error, RunFault, RunFiles, RunFolders};
@@ -29,7 +30,7 @@ use program_words::commands::pull::Pull;
 use program_words::{Command, Place};
 use signed_note::Verifier;
 use std::alloc::Global;
-use std::fs::Files;
+use std::fs::{Files, metadata};
 use std::io::{Read, Write};
 use std::marker::Model;
 use std::net::{Net, TcpStream};
@@ -39,6 +40,9 @@ use tlog_mirror::Mirror;
 
 /// Fetches what is missing into the mirror in the state file, or into one that holds nothing, writes its state, and
 /// then prints what the pull came to. The status is 3 where the pull is partial.
+///
+/// Where nothing was gained, and the state is to be written to the file that it was read from, which has its bytes
+/// already, that file is left as it is.
 ///
 /// Where the place fails its state is written only where the words want it kept and something was gained. The fault is
 /// `Source` all the same, also where the file cannot be written then.
@@ -82,13 +86,22 @@ fn run_pull<R: Files + Clock + Eprint + Net<Stream = TcpStream>, F: RunFiles, W:
         (W.contents output.new)) }
 {
     let origin = words.mirror.log.origin;
-    let mut mirror = match open_or_new::<Sha256Tree, F>(files, alloc, origin, keys, words.state) {
-        Ok(mirror) => mirror,
+    let out = words.mirror.out;
+    let (mut mirror, is_saved) = match open_to_save::<Sha256Tree, F>(
+        files,
+        alloc,
+        origin,
+        keys,
+        words.state,
+        out,
+    ) {
+        Ok((mirror, is_saved)) => (mirror, is_saved),
         Err(fault) => return Err(Error::of_state(alloc, files, words.state, fault)),
     };
     match pull_kept(rt, files, alloc, words, keys, &mut mirror) {
-        Ok(pulled) => {
-            let answer = tell_pulled(files, alloc, words.mirror.out, &mirror, &pulled, output);
+        Ok((pulled, gained)) => {
+            let held = is_held(rt, out, is_saved, gained);
+            let answer = tell_pulled(files, alloc, out, &mirror, &pulled, held, output);
             drop(mirror);
             answer
         }
@@ -130,22 +143,61 @@ impl Stopped {
     }
 }
 
-// Writes the state of a mirror that has pulled, and then prints what the pull came to.
+// Whether the file that is to be written has the state already: it had it when the pull began, and nothing was gained. What
+// is no plain file, as a device, is written to all the same.
+fn is_held<R: Files>(rt: &R, out: &str, is_saved: bool, gained: bool) -> bool
+    ensures saved { IsTrue result → IsTrue is_saved }
+    ensures nothing { IsTrue result → ¬ IsTrue gained }
+{
+    is_saved && !gained && is_plain(rt, out)
+}
+
+// Whether a plain file of that name is there.
+fn is_plain<R: Files>(rt: &R, name: &str) -> bool {
+    match metadata(rt, name) {
+        Ok(about) => about.is_file(),
+        Err(_) => false,
+    }
+}
+
+// Writes the state of a mirror that has pulled, unless its file has it already.
+fn save_pulled<H: TreeHash, F: RunFiles>(
+    files: &mut F,
+    alloc: Global,
+    out: &str,
+    mirror: &Mirror<H>,
+    is_held: bool,
+) -> Result<(), NamedFault>
+    ensures { (state : Option (List ℕ)) (start : View)
+        → (IsTrue is_held → IsHeld state start mirror.now.view out.now (F.puts files.old))
+        → SavesPulled state start mirror.now.view out.now (F.puts files.old) (F.puts files.new)
+        result }
+{
+    if is_held {
+        return Ok(());
+    }
+    write_state(files, alloc, out, mirror)
+}
+
+// Writes the state of a mirror that has pulled, unless its file has it already, and then prints what the pull came to.
 fn tell_pulled<H: TreeHash, F: RunFiles, W: Write>(
     files: &mut F,
     alloc: Global,
     out: &str,
     mirror: &Mirror<H>,
     pulled: &Pulled,
+    is_held: bool,
     output: &mut W,
 ) -> Result<u8, Error>
-    ensures answer { TellsPulled mirror.now.view pulled.now out.now (F.puts files.old)
+    ensures answer { (state : Option (List ℕ)) (start : View)
+        → (IsTrue is_held → IsHeld state start mirror.now.view out.now (F.puts files.old))
+        → TellsPulled state start mirror.now.view pulled.now out.now (F.puts files.old)
         (F.puts files.new) (W.contents output.old) (W.contents output.new) result }
     ensures status { IfOk result IsStatus }
     ensures quiet { IfErr result (λ fault. (¬ IsWriteFault fault) → Keeps (W.contents output.old)
         (W.contents output.new)) }
 {
-    match write_state(files, alloc, out, mirror) {
+    match save_pulled(files, alloc, out, mirror, is_held) {
         Ok(()) => {}
         Err(fault) => {
             let why = of_named(alloc, files, fault);
@@ -161,8 +213,8 @@ fn tell_pulled<H: TreeHash, F: RunFiles, W: Write>(
     }
 }
 
-// Pulls into the mirror, and says what a fault is about. Where the source fails, what was gained is written if the words want
-// it kept.
+// Pulls into the mirror, and says whether it gained something, or what a fault is about. Where the source fails, what was
+// gained is written if the words want it kept.
 fn pull_kept<H: TreeHash, R: Files + Clock + Eprint + Net<Stream = TcpStream>, F: RunFiles>(
     rt: &R,
     files: &mut F,
@@ -170,11 +222,14 @@ fn pull_kept<H: TreeHash, R: Files + Clock + Eprint + Net<Stream = TcpStream>, F
     words: &Pull<'_>,
     keys: &[Box<dyn Verifier>],
     mirror: &mut Mirror<H>,
-) -> Result<Pulled, Stopped>
+) -> Result<(Pulled, bool), Stopped>
     ensures pulls { PullsTo H.digest (map (λ k. key k) keys.now) mirror.old.view mirror.new.view
-        result }
+        (seen (λ done. done.0) result) }
     ensures follows { FollowsShortReplies H.digest (map (λ k. key k) keys.now)
-        (most_replied words.now.place) mirror.old.view mirror.new.view result }
+        (most_replied words.now.place) mirror.old.view mirror.new.view
+        (seen (λ done. done.0) result) }
+    ensures gained { IfOk result (λ done. (¬ IsTrue done.1)
+        → mirror.new.view ≡ mirror.old.view) }
     ensures early { IfErr result (λ fault. (written : Result (Unit {0}) NamedFault)
         × LeavesEarly words.now.keep words.now.mirror.out.now (F.puts files.old) (F.puts files.new)
         mirror.old.view mirror.new.view fault written) }
@@ -188,7 +243,10 @@ fn pull_kept<H: TreeHash, R: Files + Clock + Eprint + Net<Stream = TcpStream>, F
     // What a mirror holds is sound: so a state that is written of it is loaded again.
     let _sound = mirror.strings();
     match answer {
-        Ok(pulled) => Ok(pulled),
+        Ok(pulled) => {
+            let gained = has_gained(mirror, &before);
+            Ok((pulled, gained))
+        }
         Err(fault) => {
             // Where it cannot be written the fault is still the pull's.
             let _ = keep_gained(files, alloc, words, mirror, &before, fault);

@@ -75,14 +75,14 @@ loop-path-preserved g c =
 pub loop-path-init : goal.loop-path-init
 loop-path-init g c =
     record {
-      told = adds_to_none c.args.asked.now.items (g.S.Source.asked c.args.source.now);
-      counted = refl;
-      replied = rw (ap (map (λ row. row.items)) c.new-rows.ensures.items)
+      told = rw c.expect.ensures.told (adds_to_none c.args.asked.now.items (g.S.Source.asked c.args.source.now));
+      counted = c.expect.ensures.counted;
+      replied = rw (c.expect.ensures.told, ap (map (λ row. row.items)) c.new-rows.ensures.items)
           (gathers_none (g.S.Source.may_answer c.args.source.now) (g.S.Source.asked c.args.source.now)
           c.args.asked.now.items (λ xs. GivesRows c.args.asked.now.items [] xs []) RowsNone);
       honest = λ digest entries is within fresh. rw (ap (map (λ row. row.items)) c.new-rows.ensures.items)
           (rows_none digest entries (g.S.Source.may_answer c.args.source.now) c.args.asked.now.items);
-      later = stays_itself (g.S.Source.may_answer c.args.source.now);
+      later = c.expect.ensures.later;
     }
 
 pub returns-in_err-push-clause-told : goal.returns-in_err-push-clause-told

@@ -17,7 +17,7 @@ returns-in_err-more-clause-told g c =
     let p = err_from_is_err_and c.from_residual-in_err-more.result c.from_residual-in_err-more.ensures.1 in
     rw p.1 (adds_some_then c.args.asked.now.items c.loop-rounds.asked.items (asked c.args.source.now)
     (asked c.loop-rounds.source)
-    (asked c.work_round.new.source) c.loop-rounds.invariant.told c.in_err-more.ensures.told)
+    (asked c.work_noted.new.source) c.loop-rounds.invariant.told c.in_err-more.ensures.told)
 
 pub returns-in_err-more-clause-counted : goal.returns-in_err-more-clause-counted
 returns-in_err-more-clause-counted g c =
@@ -25,14 +25,14 @@ returns-in_err-more-clause-counted g c =
     let p = err_from_is_err_and c.from_residual-in_err-more.result c.from_residual-in_err-more.ensures.1 in
     rw (p.1, p.2)
     (counts_err (failed c.args.source.now) (failed c.loop-rounds.source)
-    (failed c.work_round.new.source)
+    (failed c.work_noted.new.source)
     c.in_err-more.field-0.0 c.loop-rounds.invariant.counted c.in_err-more.ensures.counted)
 
 pub returns-in_err-more-clause-later : goal.returns-in_err-more-clause-later
 returns-in_err-more-clause-later g c =
     let may = g.S.Source.may_answer in
     stays_then (may c.args.source.now) (may c.loop-rounds.source)
-    (may c.work_round.new.source) c.loop-rounds.invariant.later c.in_err-more.ensures.later
+    (may c.work_noted.new.source) c.loop-rounds.invariant.later c.in_err-more.ensures.later
 
 pub returns-in_err-more-clause-late : goal.returns-in_err-more-clause-late
 returns-in_err-more-clause-late g c =
@@ -46,12 +46,12 @@ loop-rounds-preserved g c =
     let long = some_if c.in_ok-paths.paths.len (sym c.is_empty.ensures ∙ c.if-is_empty.false) in
     let some : 1 ≤ length c.in_ok-paths.paths.items = omega (arith, long, c.in_ok-paths.paths.ok.0) in
     record {
-      told = adds_to_then c.args.asked.now.items c.loop-rounds.asked.items c.work_round.new.asked.items
+      told = adds_to_then c.args.asked.now.items c.loop-rounds.asked.items c.work_noted.new.asked.items
           (asked c.args.source.now) (asked c.loop-rounds.source)
-          (asked c.work_round.new.source) c.loop-rounds.invariant.told c.in_ok-more.ensures.told;
+          (asked c.work_noted.new.source) c.loop-rounds.invariant.told c.in_ok-more.ensures.told;
       counted = c.in_ok-more.ensures.counted ∙ c.loop-rounds.invariant.counted;
       later = stays_then (may c.args.source.now) (may c.loop-rounds.source)
-          (may c.work_round.new.source) c.loop-rounds.invariant.later c.in_ok-more.ensures.later;
+          (may c.work_noted.new.source) c.loop-rounds.invariant.later c.in_ok-more.ensures.later;
       replied = λ head.
           let digest = g.H.TreeHash.digest in
           let x = c.loop-rounds.mirror.view in
@@ -59,11 +59,11 @@ loop-rounds-preserved g c =
           head_stays c.args.mirror.now.view x c.loop-rounds.invariant.gains.grows c.args.size c.args.root.now head in
           gathers_then
           (λ xs. AreRoundsSoFar digest c.args.size c.args.root.now c.args.asked.now.items c.args.mirror.now.view
-          (c.loop-rounds.rounds + 1) c.saturating_add-refused.result c.work_round.new.mirror.view xs)
+          (c.loop-rounds.rounds + 1) c.saturating_add-refused.result c.work_noted.new.mirror.view xs)
           c.loop-rounds.invariant.later (c.loop-rounds.invariant.replied head) c.in_ok-more.ensures.replied
           (λ xs ys grown list p q. rounds_step digest c.args.size c.args.root.now c.args.asked.now.items
           c.loop-rounds.asked.items c.loop-rounds.asked.items c.in_ok-paths.paths.items c.deref.result.now
-          c.args.mirror.now.view x c.work_round.new.mirror.view c.loop-rounds.rounds c.loop-rounds.refused
+          c.args.mirror.now.view x c.work_noted.new.mirror.view c.loop-rounds.rounds c.loop-rounds.refused
           c.in_ok-more.more c.saturating_add-refused.result xs ys c.saturating_add-refused.ensures grown
           refl c.deref.ensures.value some p (c.in_ok-paths.ensures.left now) q);
       honest = λ entries m.
@@ -86,11 +86,11 @@ loop-rounds-preserved g c =
             work_step digest entries c.args.size c.args.root.now (may c.args.source.now)
                 (may c.loop-rounds.source) c.args.mirror.now.view c.loop-rounds.mirror.view
                 c.args.asked.now.items c.loop-rounds.asked.items c.loop-rounds.rounds
-                (may c.work_round.new.source) c.work_round.new.mirror.view c.work_round.new.asked.items
+                (may c.work_noted.new.source) c.work_noted.new.mirror.view c.work_noted.new.asked.items
                 c.in_ok-paths.paths.items c.loop-rounds.invariant.later before.1 wants some c.in_ok-more.ensures.later
                 c.in_ok-more.ensures.gains.grows took.1,
           );
-      gains = gains_then c.args.mirror.now.view c.loop-rounds.mirror.view c.work_round.new.mirror.view
+      gains = gains_then c.args.mirror.now.view c.loop-rounds.mirror.view c.work_noted.new.mirror.view
           c.loop-rounds.invariant.gains c.in_ok-more.ensures.gains;
     }
 
@@ -115,7 +115,7 @@ loop-rounds-init g c =
 
 pub returns-in_err-more-clause-gains : goal.returns-in_err-more-clause-gains
 returns-in_err-more-clause-gains g c =
-    gains_then c.args.mirror.now.view c.loop-rounds.mirror.view c.work_round.new.mirror.view
+    gains_then c.args.mirror.now.view c.loop-rounds.mirror.view c.work_noted.new.mirror.view
     c.loop-rounds.invariant.gains c.in_err-more.ensures.gains
 
 pub returns-then-is_empty-clause-honest : goal.returns-then-is_empty-clause-honest
@@ -201,7 +201,7 @@ returns-in_err-more-clause-replied g c =
     ends_then
     (λ xs tried. StopsTaking digest
     (IsInRounds digest c.args.size c.args.root.now c.args.asked.now.items c.args.mirror.now.view)
-    c.in_err-more.field-0.0 xs tried c.work_round.new.mirror.view)
+    c.in_err-more.field-0.0 xs tried c.work_noted.new.mirror.view)
     c.loop-rounds.invariant.later (c.loop-rounds.invariant.replied head) c.in_err-more.ensures.replied
     (λ xs ys tried grown a stops. stops_then xs (λ rs w next q.
     round_under digest c.args.size c.args.root.now c.args.asked.now.items c.loop-rounds.asked.items

@@ -1,5 +1,5 @@
 use Rattle.std.proofs.Common.{Ok, refl}
-use Rattle.state_commands.proofs.Keeping.{pulled_within}
+use Rattle.state_commands.proofs.Keeping.{pulled_on, pulled_within}
 use Rattle.state_commands.proofs.pull.pull_kept.Goals as goal
 
 pub returns-in_default-clause-early : goal.returns-in_default-clause-early
@@ -15,3 +15,9 @@ returns-in-Err-clause-early g c = rw c.new.ensures (
       (pulled_within g.H.TreeHash.digest _ c.args.mirror.now.view _ c.in-Err.fault
       (rw c.in-Err.is at c.from_place-answer.ensures.pulls)),
 )
+
+pub returns-in-Ok-answer-clause-gained : goal.returns-in-Ok-answer-clause-gained
+returns-in-Ok-answer-clause-gained g c = λ none.
+    c.has_gained-gained.ensures.same c.args.mirror.now.view c.in-Ok.ensures.holds
+    (pulled_on g.H.TreeHash.digest _ c.args.mirror.now.view _ c.in-Ok-answer.pulled
+    (rw c.in-Ok-answer.is at c.from_place-answer.ensures.pulls)) none

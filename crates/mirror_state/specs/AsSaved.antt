@@ -1,0 +1,12 @@
+-- Bytes that a mirror, loaded of them, is saved as.
+use Rattle.std.specs.Prelude.{ℕ, List, Ok}
+use Rattle.signed_note.specs.Keys.{Key}
+use Rattle.mirror_model.specs.View.{View}
+use Rattle.mirror_state.specs.Loading.{Loads}
+use Rattle.mirror_state.specs.StateText.{StateText}
+
+-- whichever view is loaded of the bytes, they are its state text in version 2: what is saved of it
+abbrev pub IsAsSaved : List ℕ → Type 0
+IsAsSaved bytes =
+    (digest : List ℕ → List ℕ) (origin : List ℕ) (keys : List Key) (v : View) →
+    Loads digest origin keys bytes (Ok v) → StateText v bytes

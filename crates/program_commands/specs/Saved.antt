@@ -1,0 +1,15 @@
+-- A file that has the state of a mirror already, so that it need not be written again.
+use Rattle.std.specs.Prelude.{◌≡◌, ℕ, List, Option, Some}
+use Rattle.mirror_model.specs.View.{View}
+use Rattle.mirror_state.specs.StateText.{StateText}
+use Rattle.program_files.specs.Named.{NamedFile, HasContents}
+
+-- the file of that name has the state of the view, as it is written
+abbrev pub HoldsState : View → List ℕ → Option (List NamedFile) → Type 0
+HoldsState v name told = (text : List ℕ) × StateText v text × HasContents told name text
+
+-- the file that is to be written is the one that is named, and has the state of the view
+pub record IsSaved (state : Option (List ℕ)) (v : View) (out : List ℕ) (told : Option (List NamedFile))
+    : Type 0 where
+  pub named : state ≡ Some out
+  pub holds : HoldsState v out told
