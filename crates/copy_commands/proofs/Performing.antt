@@ -6,12 +6,10 @@ use Rattle.std.specs.Io.KnownBytes.{Keeps}
 use Rattle.std.specs.Result.{result_map_both}
 use Rattle.signed_note.specs.Keys.{Key}
 use Rattle.program_reports.specs.declared.reports.Report.{Report as Printout}
-use Rattle.program_reports.specs.declared.fault.AskFault.TheVariants as ask
 use Rattle.program_copies.specs.Comparisons.{ReportsCompared}
-use Rattle.program_copies.specs.Copies.{LeavesPuts}
+use Rattle.copy_reader.specs.Copies.{LeavesPuts}
 use Rattle.program_copies.specs.Printed.{Prints, IsWriteFault as IsPrintFault}
 use Rattle.program_copies.specs.declared.fault.CopyAskFault.{CopyAskFault}
-use Rattle.program_copies.specs.declared.fault.CopyAskFault.TheVariants as asking
 use Rattle.tlog_tiles.specs.declared.paths.Path.{Path}
 use Rattle.mirror_copy.specs.declared.places.Places.{Places}
 use Rattle.program_files.specs.Named.{NamedFile}
@@ -42,13 +40,6 @@ use Rattle.program_env.proofs.Performing.{performs, performs_done}
 
 -- -- status, compare, prove
 
--- a fault of printing is one at which text may have been written
-same_write : (fault : CopyAskFault) → IsPrintFault fault → IsWriteFault (Copy fault)
-same_write (asking.Copy fault) h = absurd h
-same_write (asking.Heads fault) h = absurd h
-same_write (asking.Ask (ask.Report fault)) h = absurd h
-same_write (asking.Ask ask.WriteFault) h = tt
-
 module _ (digest : List ℕ → List ℕ) (keys : List Key) (key_bytes : List ℕ) (old new : Moment) (c : Order)
     (args : CopyArgs) (Reports : Result Printout CopyAskFault → Type 0) (files : LeavesFiles c old.files new.files)
     (folders : LeavesFolders c old.puts new.puts)
@@ -66,7 +57,7 @@ module _ (digest : List ℕ → List ℕ) (keys : List Key) (key_bytes : List �
       (is_done (Ok status) (prints, leaves)))
   prints_copy (Err fault) status_is quiet prints leaves is same =
       rw same (performs digest keys key_bytes old new c files folders (Err (Copy fault)) tt
-      (λ other. quiet (λ h. other (same_write fault h))) (is_done (Err (Copy fault)) (prints, leaves)))
+      quiet (is_done (Err (Copy fault)) (prints, leaves)))
 
 -- checkpoints in files were compared with a copy; their names are lent
 pub prints_compared : (digest : List ℕ → List ℕ) (keys : List Key) (key_bytes : List ℕ) (old new : Moment)

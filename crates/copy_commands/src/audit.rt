@@ -10,8 +10,9 @@ use crate::places::{name_of, source_of};
 use mirror_audit::AuditFault;
 use mirror_progress::{CountingSource, Progress, StandardError, Task};
 use mirror_sources::Source;
+use program_commands::check_origin;
 use program_env::places::{of_edge, of_refused};
-use program_env::why::{Why, of_output};
+use program_env::why::{Why, of_origin, of_output};
 use program_env::{Env, Error, RunFault, RunFiles, RunFolders};
 use program_monitor::{AuditRunFault, run_audit};
 use program_words::commands::audit::Audit;
@@ -29,8 +30,32 @@ use tlog_tiles::Path;
 ///
 /// # Errors
 ///
-/// Those of `run_audit`.
+/// `BadOrigin`, before anything is read; then those of `run_audit`.
 pub fn run<R, F: RunFiles, D: RunFolders, I: Read, O: Write, E: Write>(
+    env: &mut Env<'_, '_, '_, '_, R, F, D, I, O, E>,
+    key_bytes: &[u8],
+    keys: &[Box<dyn Verifier>],
+    audit: &Audit<'_>,
+) -> Result<u8, Error>
+where
+    R: Files + Clock + Eprint + Net<Stream = TcpStream>,
+    ensures same { IsSameEnv env.old env.new }
+    ensures does { Performs sha256 (map (λ k. key k) keys.now) key_bytes.now
+        (moment F.puts D.held D.puts I.remaining O.contents env.old)
+        (moment F.puts D.held D.puts I.remaining O.contents env.new)
+        (Command.Audit audit.now) result }
+{
+    match check_origin(env.alloc, audit.log.origin) {
+        Ok(()) => audit_place(env, key_bytes, keys, audit),
+        Err(fault) => {
+            let why = of_origin(env.alloc, fault);
+            Err(Error::new(RunFault::Origin(fault), why))
+        }
+    }
+}
+
+// The same, of an origin that is one.
+fn audit_place<R, F: RunFiles, D: RunFolders, I: Read, O: Write, E: Write>(
     env: &mut Env<'_, '_, '_, '_, R, F, D, I, O, E>,
     key_bytes: &[u8],
     keys: &[Box<dyn Verifier>],

@@ -6,8 +6,9 @@ ghost use Rattle.program_env.specs.Envs.{IsSameEnv, moment};
 ghost use Rattle.program_env.specs.Performing.{Performs};
 
 use crate::asking::{of_file, of_head};
+use program_commands::check_origin;
 use program_env::served::{copy_size, of_size};
-use program_env::why::{Why, of_folder, of_output};
+use program_env::why::{Why, of_folder, of_origin, of_output};
 use program_env::{Env, Error, RunFault, RunFiles, RunFolders};
 use program_monitor::{CopyEntriesFault, EntryRange, entries_of_copy};
 use program_words::Command;
@@ -20,8 +21,30 @@ use tlog_hash::Sha256Tree;
 ///
 /// # Errors
 ///
-/// Those of `entries_of_copy`.
+/// `BadOrigin`, before anything is read; then those of `entries_of_copy`.
 pub fn run<R, F: RunFiles, D: RunFolders, I: Read, O: Write, E: Write>(
+    env: &mut Env<'_, '_, '_, '_, R, F, D, I, O, E>,
+    key_bytes: &[u8],
+    keys: &[Box<dyn Verifier>],
+    entries: &CopyEntries<'_>,
+) -> Result<u8, Error>
+    ensures same { IsSameEnv env.old env.new }
+    ensures does { Performs sha256 (map (λ k. key k) keys.now) key_bytes.now
+        (moment F.puts D.held D.puts I.remaining O.contents env.old)
+        (moment F.puts D.held D.puts I.remaining O.contents env.new)
+        (Command.CopyEntries entries.now) result }
+{
+    match check_origin(env.alloc, entries.copy.log.origin) {
+        Ok(()) => write_entries(env, key_bytes, keys, entries),
+        Err(fault) => {
+            let why = of_origin(env.alloc, fault);
+            Err(Error::new(RunFault::Origin(fault), why))
+        }
+    }
+}
+
+// The same, of an origin that is one.
+fn write_entries<R, F: RunFiles, D: RunFolders, I: Read, O: Write, E: Write>(
     env: &mut Env<'_, '_, '_, '_, R, F, D, I, O, E>,
     key_bytes: &[u8],
     keys: &[Box<dyn Verifier>],

@@ -9,7 +9,8 @@ use crate::places::{SystemPlace, places_of};
 use mirror_copy::Places;
 use mirror_follow::FollowFault;
 use mirror_sources::Source;
-use program_env::why::{Why, of_folder, of_named, of_output};
+use program_commands::check_origin;
+use program_env::why::{Why, of_folder, of_named, of_origin, of_output};
 use program_env::{Env, Error, RunFault, RunFiles, RunFolders, write_front};
 use program_follow::{FollowRunFault, Following, places_why, run_follow};
 use program_words::Command;
@@ -28,8 +29,32 @@ use tlog_tiles::Path;
 ///
 /// # Errors
 ///
-/// Those of `run_follow`.
+/// `BadOrigin`, before anything is read; then those of `run_follow`.
 pub fn run<R, F: RunFiles, D: RunFolders, I: Read, O: Write, E: Write>(
+    env: &mut Env<'_, '_, '_, '_, R, F, D, I, O, E>,
+    key_bytes: &[u8],
+    keys: &[Box<dyn Verifier>],
+    follow: &Follow<'_>,
+) -> Result<u8, Error>
+where
+    R: Files + Clock + Net<Stream = TcpStream>,
+    ensures same { IsSameEnv env.old env.new }
+    ensures does { Performs sha256 (map (λ k. key k) keys.now) key_bytes.now
+        (moment F.puts D.held D.puts I.remaining O.contents env.old)
+        (moment F.puts D.held D.puts I.remaining O.contents env.new)
+        (Command.Follow follow.now) result }
+{
+    match check_origin(env.alloc, follow.copy.log.origin) {
+        Ok(()) => follow_places(env, key_bytes, keys, follow),
+        Err(fault) => {
+            let why = of_origin(env.alloc, fault);
+            Err(Error::new(RunFault::Origin(fault), why))
+        }
+    }
+}
+
+// The same, of an origin that is one.
+fn follow_places<R, F: RunFiles, D: RunFolders, I: Read, O: Write, E: Write>(
     env: &mut Env<'_, '_, '_, '_, R, F, D, I, O, E>,
     key_bytes: &[u8],
     keys: &[Box<dyn Verifier>],

@@ -25,7 +25,8 @@ pub struct Build<'a> {
 const HELP: &str = "\
 Each entry on standard input is its length, two bytes with the higher first, and its bytes. The
 checkpoint is signed with the first 'hmac' key of K. Tiles and bundles are written before it.
-With --progress lines like 'build: 1,024 files, 23 MB' go to standard error, from the first second on.
+With --progress lines like 'build: 1,024 files, 23 MB' go to standard error, from the first second on,
+and one at the end.
 
 Exit status: 0 done, 1 a fault, 2 a usage error.
 Faults, on standard error:

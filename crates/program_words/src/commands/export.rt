@@ -27,7 +27,7 @@ Tiles and bundles are written before the checkpoint. Any web server can serve th
 With --update D may have a checkpoint of this log: what it lacks is written, the checkpoint
 last, and no file is taken away. So a folder that is being served is whole at each moment.
 With --progress lines like 'export: 3,200 of 7,833 files' go to standard error, from the first second
-on.
+on, and one at the end.
 
 Exit status: 0 done, 1 a fault, 2 a usage error.
 Faults of O, K and S: see 'tlogmirror --help'. Then:

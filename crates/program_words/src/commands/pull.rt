@@ -34,6 +34,7 @@ pub struct Pull<'a> {
 const HELP: &str = "\
 The output is 'pulled SIZE ROOT rounds N refused N', and 'complete' or 'partial'. T is written for a
 partial pull too; a later pull with --state T goes on from it. An old checkpoint stays in the state.
+Without --state a state that is at T is replaced. A run that is killed writes nothing.
 With --keep T is also written at Source, where anything was gained: give it to a first pull of a large
 log over a bad line, and call it again with --state T until it ends with 0.
 With --progress lines like 'pull: 1,024 files, 23 MB' go to standard error, from the first second on,

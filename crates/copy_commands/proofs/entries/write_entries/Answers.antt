@@ -1,6 +1,6 @@
 use Rattle.std.proofs.Common.{refl}
 use Rattle.copy_commands.proofs.Performing.{writes_entries}
-use Rattle.copy_commands.proofs.entries.run.Goals as goal
+use Rattle.copy_commands.proofs.entries.write_entries.Goals as goal
 
 pub returns-clause-does : goal.returns-clause-does
 returns-clause-does g c =
