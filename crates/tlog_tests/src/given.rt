@@ -4,9 +4,6 @@ use std::process::Abort;
 use tlog_hash::Hash;
 use tlog_text::read_hash;
 
-// The tree hash of no entries, which is SHA-256 of no bytes.
-pub(crate) const ROOT_OF_NONE: &str = "47DEQpj8HBSa+/TImW+5JCeuQeRkm5NMpJWZG3hSuFU=";
-
 // The leaf hashes of the entries of no bytes, of `00` and of `10`. The first is the tree hash of that entry alone too.
 pub(crate) const LEAF_OF_NO_BYTES: &str = "bjQLnP+zepicpUTmu3gKLHiQHT+zNzh2hRGjBhevoB0=";
 

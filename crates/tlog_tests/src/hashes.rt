@@ -1,8 +1,8 @@
-//! Tree hashes (`tlog_hash`) of rows, and a digest that sums.
+//! Tree hashes of rows (`tlog_hash`).
 
 use crate::given::{LEAF_OF_00, LEAF_OF_10, LEAF_OF_NO_BYTES, ROOT_OF_THREE, ROOT_OF_TWO, hash};
 use std::test::Fail;
-use tlog_hash::{Sha256Tree, SumTree, TreeHash, fold, pairs, tree_hash};
+use tlog_hash::{Sha256Tree, fold, pairs};
 
 #[test]
 fn fold_and_pairs_of_leaf_hashes(rt: HostRuntime) -> Result<(), Fail> {
@@ -24,16 +24,4 @@ fn pairs_of_a_long_row(rt: HostRuntime) -> Result<(), Fail> {
     assert!(rt; joined[0] == ([7; 32], [7; 32]));
     assert!(rt; joined[255] == (fold::<Sha256Tree>(&row[..256]), [7; 32]));
     Ok(())
-}
-
-#[test]
-fn sums_collide(rt: HostRuntime) {
-    let mut three = [0; 32];
-    three[0] = 3;
-    assert!(rt; SumTree::leaf(&[1, 2]) == three);
-    assert!(rt; SumTree::leaf(&[2, 1]) == three);
-    assert!(rt; SumTree::leaf(&[255, 4]) == three);
-    assert!(rt; SumTree::node(&[0; 32], &SumTree::leaf(&[2])) == three);
-    assert!(rt; SumTree::empty() == [0; 32]);
-    assert!(rt; tree_hash::<SumTree>(&[]) == [0; 32]);
 }

@@ -76,11 +76,3 @@ fn key_faults(rt: HostRuntime) {
         assert!(rt; found == fault, "{name}");
     }
 }
-
-#[test]
-fn a_key_prints_no_secret(rt: HostRuntime) -> Result<(), Fail> {
-    let key = key_of(rt.alloc(), "ex", 7, b"Jefe")?;
-    let text = format!(in rt.alloc(); "{key:?}")?;
-    assert!(rt; text.as_str() == "HmacKey { name: ex, id: 7, .. }");
-    Ok(())
-}

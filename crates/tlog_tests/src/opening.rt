@@ -4,9 +4,7 @@ ghost use Rattle.std.specs.Prelude.{codes, ◌∷◌, []};
 ghost use Rattle.std.specs.Str.{bytes_eq};
 
 use crate::keys::{key_of, note_of};
-use signed_note::{
-    KeyFileFault, KeyLine, OpenFault, PinnedTexts, Verifier, join_pins, open_note, read_keys,
-};
+use signed_note::{OpenFault, PinnedTexts, Verifier, open_note};
 use std::alloc::Global;
 use std::process::Abort;
 use std::test::Fail;
@@ -89,56 +87,6 @@ fn note_opens(rt: HostRuntime) -> Result<(), Fail> {
             Some(OpenFault::NoTrustedSignature)
         };
         assert!(rt; fault == want, "{lines}");
-    }
-    Ok(())
-}
-
-// A key file: three pins of one name and id, which stand apart, one of another name, one of another id, and a shared key.
-const PINS: &[u8] =
-    b"pin ex 00000001 87428fc522803d31065e7bce3cf03fe475096631e5e07bbd7a0fde60c4cf25c7\npin other 00000001 0263829989b6fd954f72baaf2fc64bc2e2f01d692d4de72986ea808f6e99813f\nhmac ex 00000001 4a656665\npin ex 00000001 a3a5e715f0cc574a73c3f9bebb6bc24f32ffd5b67b387244c2c909da779a1478\npin ex 00000002 8d74beec1be996322ad76813bafb92d40839895d6dd7ee808b17ca201eac98be\npin ex 00000001 a2bbdb2de53523b8099b37013f251546f3d65dbe7a0774fa41af0a4176992fd4\n";
-
-// Texts, a signature line, and whether a note of them opens under these keys.
-const PINNED: [(&str, &str, bool); 8] = [
-    ("a\n", "\u{2014} ex AAAAAQU=\n", true),
-    ("c\n", "\u{2014} ex AAAAAQU=\n", true),
-    ("e\n", "\u{2014} ex AAAAAQU=\n", true),
-    ("b\n", "\u{2014} ex AAAAAQU=\n", false),
-    ("b\n", "\u{2014} other AAAAAQU=\n", true),
-    ("a\n", "\u{2014} other AAAAAQU=\n", false),
-    ("d\n", "\u{2014} ex AAAAAgU=\n", true),
-    ("a\n", "\u{2014} ex AAAAAgU=\n", false),
-];
-
-fn boxed(alloc: Global, lines: Vec<KeyLine>) -> Result<Vec<Box<dyn Verifier>>, Fail> {
-    let mut keys: Vec<Box<dyn Verifier>> = Vec::new(alloc);
-    for line in lines {
-        match line {
-            KeyLine::Hmac(key) => keys.push(Box::new(alloc, key)?)?,
-            KeyLine::Pin(texts) => keys.push(Box::new(alloc, texts)?)?,
-        }
-    }
-    Ok(keys)
-}
-
-fn lines_of(alloc: Global) -> Result<Vec<KeyLine>, KeyFileFault> {
-    read_keys(alloc, PINS)
-}
-
-fn joined_lines(alloc: Global) -> Result<Vec<KeyLine>, Fail> {
-    Ok(join_pins(alloc, lines_of(alloc)?)?)
-}
-
-#[test]
-fn joined_pins_open_as_their_lines_do(rt: HostRuntime) -> Result<(), Fail> {
-    let joined = joined_lines(rt.alloc())?;
-    assert!(rt; joined.len() == 4);
-    let joined = boxed(rt.alloc(), joined)?;
-    let apart = boxed(rt.alloc(), lines_of(rt.alloc())?)?;
-    for &(text, line, opens) in &PINNED {
-        let fault = fault_of(&rt, rt.alloc(), &joined, text, line)?;
-        assert!(rt; fault.is_none() == opens, "{text}{line}");
-        let fault = fault_of(&rt, rt.alloc(), &apart, text, line)?;
-        assert!(rt; fault.is_none() == opens, "{text}{line}");
     }
     Ok(())
 }

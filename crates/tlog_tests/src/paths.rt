@@ -1,7 +1,6 @@
 //! The paths of a log's files and the edge of its tree (`tlog_tiles`), by the public standards and by worked values.
 
 use std::alloc::{AllocError, Global};
-use std::collections::HashSet;
 use std::test::Fail;
 use tlog_tiles::{Path, PathFault, edge_paths, print};
 
@@ -12,14 +11,6 @@ fn parsed(text: &str) -> Result<Path, PathFault> {
 
 fn printed(alloc: Global, path: &Path) -> Result<String, AllocError> {
     print(alloc, path)
-}
-
-fn tile(level: u32, index: u64, width: u32) -> Path {
-    Path::Tile {
-        level,
-        index,
-        width,
-    }
 }
 
 // Paths and their texts.
@@ -99,22 +90,6 @@ fn index_spelling(rt: HostRuntime) -> Result<(), Fail> {
     Ok(())
 }
 
-// The other calls that print and read a path; one that no log has is printed by the same rule.
-#[test]
-fn path_kinds(rt: HostRuntime) -> Result<(), Fail> {
-    let text = "tile/entries/x001/000.p/5";
-    let path = Path::Entries {
-        index: 1000,
-        width: 5,
-    };
-    assert!(rt; path.text(rt.alloc())?.as_str() == text);
-    assert!(rt; format!(in rt.alloc(); "{path}")?.as_str() == text);
-    assert!(rt; text.parse::<Path>() == Ok(path));
-    let unlawful = printed(rt.alloc(), &tile(12, 36028797018963968, 300))?;
-    assert!(rt; unlawful.as_str() == "tile/12/x036/x028/x797/x018/x963/968.p/300");
-    Ok(())
-}
-
 // Texts of no path, and why.
 const REFUSALS: [(&str, PathFault); 12] = [
     ("tile/0/x036/x028/x797/x018/x963/968", PathFault::BadIndex),
@@ -178,40 +153,4 @@ fn edge_70000_and_edge_gaps(rt: HostRuntime) -> Result<(), Fail> {
         assert!(rt; edge_text(rt.alloc(), size)?.as_str() == text);
     }
     Ok(())
-}
-
-// Each path before the next.
-const RISING: [Path; 6] = [
-    Path::Checkpoint,
-    Path::Tile {
-        level: 0,
-        index: 2,
-        width: 1,
-    },
-    Path::Tile {
-        level: 1,
-        index: 0,
-        width: 256,
-    },
-    Path::Tile {
-        level: 1,
-        index: 1,
-        width: 5,
-    },
-    Path::Entries { index: 0, width: 3 },
-    Path::Entries { index: 0, width: 4 },
-];
-
-#[test]
-fn paths_are_ordered(rt: HostRuntime) {
-    let mut paths = HashSet::new(rt.alloc());
-    for (i, path) in RISING.iter().enumerate() {
-        assert!(rt; matches!(paths.insert(*path), Ok(true)));
-        assert!(rt; paths.contains(path));
-        for other in &RISING[i + 1..] {
-            assert!(rt; path < other);
-            assert!(rt; !paths.contains(other));
-        }
-    }
-    drop(paths);
 }

@@ -1,6 +1,6 @@
 //! Numbers of trees and tiles (`tlog_shape`), worked out by hand.
 
-use tlog_shape::{MAX_SIZE, edge_index, edge_width, is_perfect, split, top_level};
+use tlog_shape::{MAX_SIZE, edge_index, edge_width, split, top_level};
 
 const SPLITS: [(u64, u64); 5] = [
     (2, 1),
@@ -15,22 +15,6 @@ fn split_values(rt: HostRuntime) {
     for &(n, k) in &SPLITS {
         assert!(rt; n >= 2);
         assert!(rt; split(n) == k, "at {n}");
-    }
-}
-
-const PERFECT: [(u64, bool); 6] = [
-    (0, false),
-    (1, true),
-    (2, true),
-    (3, false),
-    (256, true),
-    (MAX_SIZE, false),
-];
-
-#[test]
-fn perfect_sizes(rt: HostRuntime) {
-    for &(n, perfect) in &PERFECT {
-        assert!(rt; is_perfect(n) == perfect, "at {n}");
     }
 }
 
@@ -78,10 +62,4 @@ fn max_size_shape(rt: HostRuntime) {
     }
     assert!(rt; edge_index(MAX_SIZE, 7) == 0);
     assert!(rt; edge_index(MAX_SIZE, 6) == 127);
-}
-
-#[test]
-fn no_entries(rt: HostRuntime) {
-    assert!(rt; top_level(0) == 0);
-    assert!(rt; tlog_shape::width_in(0, 0, 0) == None);
 }
