@@ -4,10 +4,6 @@
 #[cfg(test)]
 mod audits;
 #[cfg(test)]
-mod cut_shelf;
-#[cfg(test)]
-mod cuts;
-#[cfg(test)]
 mod logs;
 #[cfg(test)]
 mod places;

@@ -1,12 +1,10 @@
 //! Logs in memory that places serve, and what a shelf holds.
 //!
-//! C(n) is the log of the numbers from 0 on, n of them, each in two bytes, big-endian, of the origin `ex`. F(n) is C(n) but
-//! for entry 2, which is the byte 78.
+//! C(n) is the log of the numbers from 0 on, n of them, each in two bytes, big-endian, of the origin `ex`.
 ghost use Rattle.std.specs.Prelude.{◌<◌, ◌^◌, map, IfOk, length};
 ghost use Rattle.mirror_model.specs.TrueLaws.{AreShort};
 
 use mirror_copy::{BringFault, Places, bring_copy};
-use mirror_export::log_paths;
 use mirror_folders::{MemShelf, ReadableShelf};
 use mirror_sources::{ListSource, Source};
 use signed_note::HmacKey;
@@ -15,43 +13,30 @@ use std::test::Fail;
 use tlog_hash::Sha256Tree;
 use tlog_tiles::Path;
 
-// An entry: its number in two bytes, or in a forked log the byte 78 as entry 2.
-fn entry(alloc: Global, number: u32, forked: bool) -> Result<Vec<u8>, AllocError>
+// An entry: its number in two bytes.
+fn entry(alloc: Global, number: u32) -> Result<Vec<u8>, AllocError>
     ensures { IfOk result (λ e. length e.items < 2 ^ 16) }
 {
-    if forked && number == 2 {
-        return Vec::from_slice(alloc, &[0x78]);
-    }
     let number = (number % 65536) as u16;
     Vec::from_slice(alloc, &number.to_be_bytes())
 }
 
 // The first entries, as a list.
-fn entries(alloc: Global, count: u32, forked: bool) -> Result<Vec<Vec<u8>>, AllocError>
+fn entries(alloc: Global, count: u32) -> Result<Vec<Vec<u8>>, AllocError>
     ensures { IfOk result (λ entries. AreShort (map (λ e. e.items) entries.items)) }
 {
     let mut entries = Vec::new(alloc);
     for i in 0..count {
-        entries.push(entry(alloc, i, forked)?)?;
+        entries.push(entry(alloc, i)?)?;
     }
     Ok(entries)
 }
 
-// A place that serves these entries.
-fn place_of(alloc: Global, count: u32, forked: bool) -> Result<ListSource<Sha256Tree>, Fail> {
-    let entries = entries(alloc, count, forked)?;
-    let key = HmacKey::new(alloc, "ex", 1, &[0])?;
-    Ok(ListSource::new(alloc, "ex", entries, key)?)
-}
-
 /// A place that serves C(n).
 pub(crate) fn log_of(alloc: Global, count: u32) -> Result<ListSource<Sha256Tree>, Fail> {
-    place_of(alloc, count, false)
-}
-
-/// A place that serves F(n).
-pub(crate) fn fork_of(alloc: Global, count: u32) -> Result<ListSource<Sha256Tree>, Fail> {
-    place_of(alloc, count, true)
+    let entries = entries(alloc, count)?;
+    let key = HmacKey::new(alloc, "ex", 1, &[0])?;
+    Ok(ListSource::new(alloc, "ex", entries, key)?)
 }
 
 /// The checkpoint of a log.
@@ -124,19 +109,4 @@ pub(crate) fn standing<'a>(shelf: &'a MemShelf, path: &Path) -> Option<&'a [u8]>
         }
     }
     found
-}
-
-/// Whether each file of C(n) stands with the bytes that the place serves.
-pub(crate) fn is_copy_of(
-    alloc: Global,
-    shelf: &MemShelf,
-    log: &ListSource<Sha256Tree>,
-    n: u64,
-) -> Result<bool, Fail> {
-    for path in &log_paths(alloc, n)? {
-        if standing(shelf, path) != log.file_at(*path) {
-            return Ok(false);
-        }
-    }
-    Ok(true)
 }
