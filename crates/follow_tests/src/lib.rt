@@ -6,8 +6,6 @@ mod busy_shelf;
 #[cfg(test)]
 mod candidates;
 #[cfg(test)]
-mod command;
-#[cfg(test)]
 mod logs;
 #[cfg(test)]
 mod notes;

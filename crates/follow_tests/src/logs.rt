@@ -34,13 +34,10 @@ fn entries(alloc: Global, count: u32, forked: bool) -> Result<Vec<Vec<u8>>, Allo
     Ok(entries)
 }
 
-/// A place over a log, or over none, which may lie at one path, or fail at each get.
+/// A place over a log, or over none, which may fail at each get.
 #[derive(Drop)]
 pub(crate) struct Place {
-    alloc: Global,
     log: Option<ListSource<Sha256Tree>>,
-    // Where it gives 512 zero bytes, if anywhere.
-    lie: Option<Path>,
     fails: bool,
     failures: u64,
 }
@@ -52,9 +49,6 @@ impl Source for Place {
         if self.fails {
             self.failures = self.failures.saturating_add(1);
             return Err(SourceFault::Failed);
-        }
-        if self.lie == Some(*path) {
-            return Ok(Some(zeros(self.alloc)?));
         }
         let Some(log) = &mut self.log else {
             return Ok(None);
@@ -70,17 +64,7 @@ impl Source for Place {
     }
 }
 
-// 512 zero bytes, which are a bundle of 256 empty entries.
-fn zeros(alloc: Global) -> Result<Vec<u8>, AllocError> {
-    Vec::from_slice(alloc, &[0; 512])
-}
-
 impl Place {
-    /// Gives 512 zero bytes at that path from now on.
-    pub(crate) fn lie_at(&mut self, path: Path) {
-        self.lie = Some(path);
-    }
-
     /// What it was asked for, a path a line.
     pub(crate) fn asked(&self, alloc: Global) -> Result<String, Fail> {
         let mut text = String::new(alloc);
@@ -99,31 +83,25 @@ pub(crate) fn place_of(alloc: Global, count: u32, forked: bool, secret: u8) -> R
     let entries = entries(alloc, count, forked)?;
     let key = HmacKey::new(alloc, "ex", 1, &[secret])?;
     Ok(Place {
-        alloc,
         log: Some(ListSource::new(alloc, "ex", entries, key)?),
-        lie: None,
         fails: false,
         failures: 0,
     })
 }
 
 /// A place that has no file.
-pub(crate) fn bare_place(alloc: Global) -> Place {
+pub(crate) fn bare_place() -> Place {
     Place {
-        alloc,
         log: None,
-        lie: None,
         fails: false,
         failures: 0,
     }
 }
 
 /// A place that fails at each get.
-pub(crate) fn failing_place(alloc: Global) -> Place {
+pub(crate) fn failing_place() -> Place {
     Place {
-        alloc,
         log: None,
-        lie: None,
         fails: true,
         failures: 0,
     }
