@@ -1,10 +1,11 @@
 //! Copies that are asked over HTTP, each beside a mirror that holds the copy's checkpoint alone, complete.
 mod damaged;
 mod failing;
+mod logs;
 
-use crate::client::pulls::mirror_of;
 use crate::served::answered;
 use copy_server::{CopyAnswerFault, answer_from_copy};
+use logs::mirror_of;
 use mirror_export::export;
 use mirror_folders::{MemShelf, ReadableShelf};
 use std::alloc::{AllocError, Global};

@@ -21,12 +21,6 @@ const NOTE: &str =
 const BAD_REQUEST: &str =
     "HTTP/1.1 400 Bad Request\r\nContent-Length: 0\r\nConnection: close\r\n\r\n";
 
-pub(crate) const NOT_FOUND: &str =
-    "HTTP/1.1 404 Not Found\r\nContent-Length: 0\r\nConnection: close\r\n\r\n";
-
-const NOT_ALLOWED: &str =
-    "HTTP/1.1 405 Method Not Allowed\r\nAllow: GET\r\nContent-Length: 0\r\nConnection: close\r\n\r\n";
-
 // The request for a bundle of two entries, and its reply.
 const BUNDLE_REQUEST: &[u8] = b"GET /tile/entries/000.p/2 HTTP/1.1\r\n\r\n";
 
@@ -79,7 +73,7 @@ fn take_3<H: TreeHash>(alloc: Global, mirror: &mut Mirror<H>) -> Result<(), Fail
 }
 
 // A mirror that is complete at the three entries.
-pub(crate) fn mirror_of_3<H: TreeHash>(alloc: Global) -> Result<Mirror<H>, Fail> {
+fn mirror_of_3<H: TreeHash>(alloc: Global) -> Result<Mirror<H>, Fail> {
     let mut mirror = Mirror::<H>::new(alloc, "ex")?;
     let answer = take_3(alloc, &mut mirror);
     kept(mirror, answer)

@@ -25,15 +25,6 @@ fn assert_got<S: Source>(rt: &impl Abort, source: &mut S, number: u8) -> Result<
     Ok(())
 }
 
-// The bundles from that number on are got, each behind a hint of those that come next.
-fn assert_all_got<S: Source>(rt: &impl Abort, source: &mut S) -> Result<(), SourceFault> {
-    for number in 0..10u8 {
-        source.expect(bundles_from(number));
-        assert_got(rt, source, number)?;
-    }
-    Ok(())
-}
-
 // So many requests came for the bundles, from the first one on.
 fn assert_asked(rt: &impl Abort, server: &BundleServer, want: &[u64]) {
     for (number, count) in want.iter().enumerate() {
@@ -43,7 +34,7 @@ fn assert_asked(rt: &impl Abort, server: &BundleServer, want: &[u64]) {
 
 #[test]
 fn hints_are_sent_at_once(rt: HostRuntime) -> Result<(), Fail> {
-    let server = BundleServer::new(rt.alloc(), 10)?;
+    let server = BundleServer::new(rt.alloc())?;
     let mut source = source_to(rt.alloc(), &server, 3)?;
     source.expect(bundles_from(0));
     assert_asked(&rt, &server, &[1, 1, 1, 0, 0]);
@@ -57,90 +48,10 @@ fn hints_are_sent_at_once(rt: HostRuntime) -> Result<(), Fail> {
     Ok(())
 }
 
-#[test]
-fn no_hint_is_sent_where_none_are_wanted(rt: HostRuntime) -> Result<(), Fail> {
-    let server = BundleServer::new(rt.alloc(), 10)?;
-    let mut source = source_to(rt.alloc(), &server, 0)?;
-    source.expect(bundles_from(0));
-    assert_asked(&rt, &server, &[0, 0]);
-    let answer = assert_all_got(&rt, &mut source);
-    drop(source);
-    answer?;
-    assert_asked(&rt, &server, &[1; 10]);
-    assert!(rt; server.most_open() == 1);
-    Ok(())
-}
-
-#[test]
-fn each_bundle_is_asked_for_once(rt: HostRuntime) -> Result<(), Fail> {
-    let server = BundleServer::new(rt.alloc(), 10)?;
-    let mut source = source_to(rt.alloc(), &server, 6)?;
-    let answer = assert_all_got(&rt, &mut source);
-    assert!(rt; source.failures() == 0);
-    drop(source);
-    answer?;
-    assert_asked(&rt, &server, &[1; 10]);
-    assert!(rt; server.most_open() == 6);
-    assert!(rt; server.restarted() == 10);
-    Ok(())
-}
-
-// A server that takes two connections at once.
-#[test]
-fn refused_connections_are_no_failures(rt: HostRuntime) -> Result<(), Fail> {
-    let server = BundleServer::new(rt.alloc(), 2)?;
-    let mut source = source_to(rt.alloc(), &server, 6)?;
-    let answer = assert_all_got(&rt, &mut source);
-    assert!(rt; source.failures() == 0);
-    drop(source);
-    answer?;
-    assert_asked(&rt, &server, &[1; 10]);
-    Ok(())
-}
-
-// A reply that was sent for and fails is asked for once more.
-#[test]
-fn a_reply_that_failed_is_asked_for_again(rt: HostRuntime) -> Result<(), Fail> {
-    let server = BundleServer::new(rt.alloc(), 10)?;
-    server.fail(4, 1);
-    let mut source = source_to(rt.alloc(), &server, 3)?;
-    let answer = assert_all_got(&rt, &mut source);
-    assert!(rt; source.failures() == 0);
-    assert!(rt; source.last_failed().is_none());
-    drop(source);
-    answer?;
-    assert_asked(&rt, &server, &[1, 1, 1, 1, 2, 1, 1, 1, 1, 1]);
-    Ok(())
-}
-
-// A bundle that fails whenever it is asked for: its get fails once, by a request with no other out.
-#[test]
-fn the_last_try_counts(rt: HostRuntime) -> Result<(), Fail> {
-    let server = BundleServer::new(rt.alloc(), 10)?;
-    server.fail(0, 100);
-    let mut source = source_to(rt.alloc(), &server, 3)?;
-    source.expect(bundles_from(0));
-    let answer = source.get(&bundle(0));
-    assert!(rt; matches!(answer, Err(SourceFault::Failed)));
-    assert!(rt; source.failures() == 1);
-    assert!(rt;
-        source
-            .last_failed()
-            .is_some_and(|failed| failed.path == bundle(0))
-    );
-    assert!(rt; server.open() == 0);
-    // The others are asked for anew.
-    let answer = assert_got(&rt, &mut source, 1);
-    drop(source);
-    answer?;
-    assert_asked(&rt, &server, &[3, 2, 1, 0]);
-    Ok(())
-}
-
 // What is not asked for stays out until a hint leaves it out.
 #[test]
 fn a_hint_replaces_the_one_before(rt: HostRuntime) -> Result<(), Fail> {
-    let server = BundleServer::new(rt.alloc(), 10)?;
+    let server = BundleServer::new(rt.alloc())?;
     let mut source = source_to(rt.alloc(), &server, 2)?;
     source.expect(bundles_from(0));
     let answer = assert_got(&rt, &mut source, 5);
@@ -160,7 +71,7 @@ fn a_hint_replaces_the_one_before(rt: HostRuntime) -> Result<(), Fail> {
 // the source: the next get is right.
 #[test]
 fn hints_after_want_of_memory(rt: HostRuntime) -> Result<(), Fail> {
-    let server = BundleServer::new(rt.alloc(), 10)?;
+    let server = BundleServer::new(rt.alloc())?;
     let mut source = source_to(rt.alloc(), &server, 2)?;
     let answer = assert_got_at_last(&rt, &mut source);
     assert!(rt; source.failures() == 0);

@@ -3,7 +3,7 @@ use mirror_http::Dial;
 use std::alloc::{AllocError, Global};
 use std::cell::Cell;
 use std::io;
-use std::io::{ErrorKind, Read, Write};
+use std::io::{Read, Write};
 use std::rc::Rc;
 use tlog_tiles::Path;
 
@@ -64,17 +64,13 @@ pub(crate) fn bundles_from(from: u8) -> &'static [Path] {
     }
 }
 
-// What was asked of a server, and what it does.
+// What was asked of a server.
 #[derive(Drop)]
 pub(crate) struct BundleServer {
-    // how many requests came for each bundle, and how many more of them fail
+    // how many requests came for each bundle
     asked: Vec<Cell<u64>>,
-    failing: Vec<Cell<u64>>,
-    // how many connections are open and were so at most, and how many it takes at once
+    // how many connections are open
     open: Cell<u64>,
-    most_open: Cell<u64>,
-    room: u64,
-    restarted: Cell<u64>,
 }
 
 fn ten(alloc: Global) -> Result<Vec<Cell<u64>>, AllocError> {
@@ -90,39 +86,21 @@ fn raise(cell: &Cell<u64>) {
     cell.set(cell.get().saturating_add(1));
 }
 
-fn value_at(cells: &[Cell<u64>], at: usize) -> u64 {
-    match cells.get(at) {
-        Some(cell) => cell.get(),
-        None => 0,
-    }
-}
-
 impl BundleServer {
-    // A server that takes so many connections at once.
-    pub(crate) fn new(alloc: Global, room: u64) -> Result<Rc<BundleServer>, AllocError> {
-        let asked = ten(alloc)?;
-        let failing = ten(alloc)?;
+    pub(crate) fn new(alloc: Global) -> Result<Rc<BundleServer>, AllocError> {
         let server = BundleServer {
-            asked,
-            failing,
+            asked: ten(alloc)?,
             open: Cell::new(0),
-            most_open: Cell::new(0),
-            room,
-            restarted: Cell::new(0),
         };
         Ok(Rc::new(alloc, server)?)
     }
 
-    // The next requests for that bundle fail, so many of them.
-    pub(crate) fn fail(&self, number: usize, times: u64) {
-        if let Some(cell) = self.failing.get(number) {
-            cell.set(times);
-        }
-    }
-
     // How many requests came for that bundle.
     pub(crate) fn asked(&self, number: usize) -> u64 {
-        value_at(&self.asked, number)
+        match self.asked.get(number) {
+            Some(cell) => cell.get(),
+            None => 0,
+        }
     }
 
     // How many connections are open.
@@ -130,28 +108,10 @@ impl BundleServer {
         self.open.get()
     }
 
-    // How many connections were open at once, at most.
-    pub(crate) fn most_open(&self) -> u64 {
-        self.most_open.get()
-    }
-
-    // How many connections got their whole time again.
-    pub(crate) fn restarted(&self) -> u64 {
-        self.restarted.get()
-    }
-
-    // Takes the request for that bundle. Whether it is answered.
-    fn take(&self, number: usize) -> bool {
+    // Takes the request for that bundle.
+    fn take(&self, number: usize) {
         if let Some(cell) = self.asked.get(number) {
             raise(cell);
-        }
-        match self.failing.get(number) {
-            Some(cell) => {
-                let more = cell.get();
-                cell.set(more.saturating_sub(1));
-                more == 0
-            }
-            None => true,
         }
     }
 }
@@ -161,7 +121,6 @@ pub(crate) struct Connection {
     server: Rc<BundleServer>,
     reply: [u8; 20],
     at: usize,
-    answered: bool,
 }
 
 impl Drop for Connection {
@@ -172,7 +131,6 @@ impl Drop for Connection {
             server: _,
             reply: _,
             at: _,
-            answered: _,
         } = self;
     }
 }
@@ -182,7 +140,7 @@ impl Write for Connection {
         // GET /tile/entries/00N
         if let Some(digit) = buf.get(20) {
             self.reply[19] = *digit;
-            self.answered = self.server.take(digit.wrapping_sub(b'0') as usize);
+            self.server.take(digit.wrapping_sub(b'0') as usize);
         }
         Ok(buf.len())
     }
@@ -194,9 +152,6 @@ impl Write for Connection {
 
 impl Read for Connection {
     fn read(&mut self, buf: &mut [u8]) -> io::Result<usize> {
-        if !self.answered {
-            return Err(io::Error::from(ErrorKind::ConnectionReset));
-        }
         let Some(rest) = self.reply.get(self.at..) else {
             return Ok(0);
         };
@@ -217,24 +172,12 @@ impl Dial for BundleDial {
     type Stream = Connection;
 
     fn dial(&mut self) -> io::Result<Connection> {
-        let open = self.server.open.get();
-        if open >= self.server.room {
-            return Err(io::Error::from(ErrorKind::ConnectionRefused));
-        }
         let server = self.server.clone()?;
-        server.open.set(open.saturating_add(1));
-        let most = server.most_open.get();
-        server.most_open.set(most.max(open.saturating_add(1)));
+        raise(&server.open);
         Ok(Connection {
             server,
             reply: *b"HTTP/1.1 200 OK\r\n\r\n?",
             at: 0,
-            answered: false,
         })
-    }
-
-    fn restart(&mut self, _stream: &mut Connection) -> io::Result<()> {
-        raise(&self.server.restarted);
-        Ok(())
     }
 }

@@ -1,12 +1,11 @@
-//! Streams with a deadline: in memory, under a clock of their own, and over loopback, under the system's.
-use byte_streams::{BoundsWaits, StreamFault, TimedStream, write_whole};
+//! Streams with a deadline, in memory, under a clock of their own. What comes over loopback stands in scripts/raw-runs.
+use byte_streams::{BoundsWaits, TimedStream};
 use std::cell::Cell;
 use std::io;
 use std::io::{ErrorKind, Read, Write};
-use std::net::{TcpListener, TcpStream};
 use std::process::Abort;
 use std::test::Fail;
-use std::time::{Clock, Duration, Instant};
+use std::time::{Clock, Duration};
 
 // A clock by which each look at it takes two seconds.
 #[derive(Drop)]
@@ -118,39 +117,4 @@ fn calls_too_late<S: Read + Write>(rt: &impl Abort, stream: &mut S, wait: &Cell<
     assert!(rt; timed_out(stream.write(b"abc")));
     assert!(rt; timed_out(stream.flush()));
     assert!(rt; wait.get().as_secs() == 1);
-}
-
-// A connection to a listener that accepts none: the system makes it, and nothing is ever taken. What a stream does whose other
-// end sends nothing, or a byte now and then, or reads nothing, stands in scripts/raw-runs.
-fn silent_server(rt: &HostRuntime) -> io::Result<(TcpListener, TcpStream)> {
-    let listener = TcpListener::bind(rt, "127.0.0.1:0")?;
-    let client = TcpStream::connect(rt, listener.local_addr()?)?;
-    Ok((listener, client))
-}
-
-// Writes as much as the system keeps for a server that does not read, and then more.
-fn write_on(writer: &mut impl Write, bytes: &[u8]) -> Result<(), StreamFault> {
-    for _ in 0..100_000 {
-        write_whole(writer, bytes)?;
-    }
-    Ok(())
-}
-
-// The deadline passes before all is taken, and the write ends then: twenty seconds are for a busy machine.
-#[test]
-fn a_server_that_takes_nothing(rt: HostRuntime) -> Result<(), Fail> {
-    let bytes = vec![in rt.alloc(); 0u8; 65_536]?;
-    let (_listener, client) = silent_server(&rt)?;
-    let deadline = Duration::from_millis(200);
-    let start = Instant::now(&rt)?;
-    let mut writer = TimedStream::new(client, rt, deadline)?;
-    let answer = write_on(&mut writer, &bytes);
-    drop(writer);
-    let taken = start.elapsed(&rt)?;
-    assert!(rt; answer == Err(StreamFault::WriteFault));
-    assert!(rt;
-        taken >= deadline && taken < Duration::from_secs(20),
-        "{taken:?}"
-    );
-    Ok(())
 }

@@ -1,6 +1,6 @@
 use Rattle.std.proofs.Common.{map}
 use Rattle.mirror_model.specs.TrueLaws.{AreShort}
-use Rattle.mirror_http_tests.proofs.client.pulls.numbers.Given as goal
+use Rattle.mirror_http_tests.proofs.copies.logs.numbers.Given as goal
 
 -- each number so far has two bytes
 abbrev pub invariant-loop-i : goal.invariant-loop-i
