@@ -6,8 +6,6 @@
 #![tactic(auto)]
 
 #[cfg(test)]
-mod compare;
-#[cfg(test)]
 mod forks;
 #[cfg(test)]
 mod given;
@@ -22,15 +20,9 @@ mod memory;
 #[cfg(test)]
 mod missing;
 #[cfg(test)]
-mod new;
-#[cfg(test)]
-mod orders;
-#[cfg(test)]
 mod plays;
 #[cfg(test)]
 mod pulls;
-#[cfg(test)]
-mod restored;
 #[cfg(test)]
 mod served;
 #[cfg(test)]

@@ -45,17 +45,11 @@ fn push_take(
     Ok(())
 }
 
-// Its head is taken by mirror 0, and its bundle by mirror 1.
-fn two_events<H: TreeHash>(alloc: Global) -> Result<Vec<Event>, AllocError> {
+// Its head is taken by mirror 0, and its bundle by mirror 1, which is merged into 0 then.
+pub(crate) fn three_events<H: TreeHash>(alloc: Global) -> Result<Vec<Event>, AllocError> {
     let mut events = Vec::new(alloc);
     push_take(&mut events, 0, head_of_1::<H>(alloc))?;
     push_take(&mut events, 1, bundle_of_1(alloc))?;
-    Ok(events)
-}
-
-// And mirror 1 is merged into 0.
-pub(crate) fn three_events<H: TreeHash>(alloc: Global) -> Result<Vec<Event>, AllocError> {
-    let mut events = two_events::<H>(alloc)?;
     events.push(Event::Merge {
         target: 0,
         source: 1,
@@ -141,45 +135,6 @@ fn play_two(rt: HostRuntime) -> Result<(), Fail> {
 #[test]
 fn play_again_once(rt: HostRuntime) -> Result<(), Fail> {
     plays_three::<Sha256Tree>(&rt, rt.alloc(), 2)
-}
-
-// A merge of a mirror with itself changes nothing, and is done.
-#[test]
-fn merge_with_itself(rt: HostRuntime) -> Result<(), Fail> {
-    merges_with_itself::<Sha256Tree>(&rt, rt.alloc())
-}
-
-fn merges_with_itself<H: TreeHash>(rt: &impl Abort, alloc: Global) -> Result<(), Fail> {
-    let events = four_events::<H>(alloc)?;
-    let world = played::<H>(rt, alloc, &events, 4, 0)?;
-    assert!(rt; are_apart(&world));
-    Ok(())
-}
-
-// Mirror 0 takes a head, and mirror 1 a bundle; each is merged with itself.
-fn four_events<H: TreeHash>(alloc: Global) -> Result<Vec<Event>, AllocError> {
-    let mut events = two_events::<H>(alloc)?;
-    for i in 0..2usize {
-        events.push(Event::Merge {
-            target: i,
-            source: i,
-        })?;
-    }
-    Ok(events)
-}
-
-// Whether mirror 0 holds the head and no string, and mirror 1 the string of the bundle and no head.
-fn are_apart<H: TreeHash>(world: &[Mirror<H>]) -> bool {
-    match (world.first(), world.get(1)) {
-        (Some(first), Some(second)) => {
-            first.note_at(0) == Some(HEAD_OF_1.as_bytes())
-                && first.note_at(1).is_none()
-                && first.strings().len() == 0
-                && second.note_at(0).is_none()
-                && second.strings().len() == 1
-        }
-        _ => false,
-    }
 }
 
 #[test]

@@ -17,7 +17,6 @@ use std::process::Abort;
 use std::test::Fail;
 use tlog_hash::{Sha256Tree, TreeHash};
 use tlog_mirror::Mirror;
-use tlog_tiles::Path;
 
 // The numbers from that one on, so many of them.
 fn numbers(alloc: Global, from: u16, count: u16) -> Result<Vec<Vec<u8>>, AllocError>
@@ -55,23 +54,6 @@ fn end_of_pull<H: TreeHash, S: Source>(
     let mut keys: Vec<Box<dyn Verifier>> = Vec::new(alloc);
     keys.push(Box::new(alloc, key(alloc)?)?)?;
     Ok(pull(alloc, mirror, &keys, source))
-}
-
-// Pulls C(n) into a mirror.
-pub(crate) fn pull_log<H: TreeHash>(
-    alloc: Global,
-    mirror: &mut Mirror<H>,
-    count: u16,
-) -> Result<(), Fail> {
-    let mut source = list::<H>(alloc, 0, count)?;
-    let end = end_of_pull(alloc, mirror, &mut source);
-    drop(source);
-    let pulled = end??;
-    if pulled.size == u64::from(count) && pulled.complete {
-        Ok(())
-    } else {
-        Err("no whole pull".into())
-    }
 }
 
 #[test]
@@ -173,60 +155,6 @@ fn end_of_first_pull<H: TreeHash>(
     let answer = end_of_pull(alloc, &mut mirror, source);
     drop(mirror);
     answer
-}
-
-// The row false-bundle: what a mirror that serves C(3) asks a source over C(257) for, whose first bundle is of other entries.
-#[test]
-fn gets_of_a_false_bundle(rt: HostRuntime) -> Result<(), Fail> {
-    let mut mirror = Mirror::<Sha256Tree>::new(rt.alloc(), "ex")?;
-    let answer = asks_false_bundle_over_3(&rt, rt.alloc(), &mut mirror);
-    drop(mirror);
-    answer
-}
-
-fn asks_false_bundle_over_3<H: TreeHash>(
-    rt: &impl Abort,
-    alloc: Global,
-    mirror: &mut Mirror<H>,
-) -> Result<(), Fail> {
-    pull_log(alloc, mirror, 3)?;
-    let mut source = lying_log::<H>(alloc, Lie::FalseBundle, 1000, 256, 5)?;
-    let answer = asks_five(rt, alloc, mirror, &mut source);
-    drop(source);
-    answer
-}
-
-// The checkpoint, the two partial tiles at the edge of 257 entries, and the two bundles: nothing else is missing, since the
-// leaf hashes of a bundle give all nodes above them.
-const FIVE: [Path; 5] = [
-    Path::Checkpoint,
-    Path::Tile {
-        level: 0,
-        index: 1,
-        width: 1,
-    },
-    Path::Tile {
-        level: 1,
-        index: 0,
-        width: 1,
-    },
-    Path::Entries {
-        index: 0,
-        width: 256,
-    },
-    Path::Entries { index: 1, width: 1 },
-];
-
-fn asks_five<H: TreeHash>(
-    rt: &impl Abort,
-    alloc: Global,
-    mirror: &mut Mirror<H>,
-    source: &mut Liar<H>,
-) -> Result<(), Fail> {
-    let end = end_of_pull(alloc, mirror, source)??;
-    assert!(rt; end.size == 257 && end.rounds == 1 && end.refused == 0 && !end.complete);
-    assert!(rt; source.asked.as_slice() == FIVE.as_slice() && source.failures == 0);
-    Ok(())
 }
 
 // A pull of 300 entries, and a second one where the first was refused memory, as by `rt try --test --fail-alloc N`.

@@ -113,7 +113,7 @@ fn doubled<H: TreeHash>(times: u32) -> Hash {
 }
 
 // Takes the full tile of each level from 1 to below that one, over entries of no bytes, and a bundle of 256 of them.
-pub(crate) fn take_equal<H: TreeHash>(
+fn take_equal<H: TreeHash>(
     alloc: Global,
     mirror: &mut Mirror<H>,
     top: u32,
@@ -128,7 +128,7 @@ pub(crate) fn take_equal<H: TreeHash>(
 }
 
 // So many hashes of that level, each of entries of no bytes.
-pub(crate) fn equal_row<H: TreeHash>(
+fn equal_row<H: TreeHash>(
     alloc: Global,
     level: u32,
     width: u32,
