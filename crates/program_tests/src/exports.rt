@@ -3,8 +3,8 @@ ghost use Rattle.std.specs.Prelude.{◌≡◌, min, ◌+◌, ◌-◌, ◌^◌};
 
 use crate::given::complete;
 use crate::states::{BUNDLE, NOTE, ROW};
-use mirror_export::{ExportFault, UpdateFault, export, update};
-use mirror_folders::{MemShelf, ReadableShelf, Shelf, ShelfError};
+use mirror_export::{ExportFault, export};
+use mirror_folders::{MemShelf, Shelf, ShelfError};
 use std::alloc::{AllocError, Global};
 use std::process::Abort;
 use std::test::Fail;
@@ -12,17 +12,13 @@ use tlog_hash::{Sha256Tree, TreeHash};
 use tlog_mirror::Mirror;
 use tlog_tiles::Path;
 
-// A shelf that does so many calls, and fails from then on. It counts what was put, the checkpoint apart. It gives the
-// checkpoint of the empty log, and from its second read on the later one.
+// A shelf that does so many calls, and fails from then on. It counts what was put, the checkpoint apart.
 #[derive(Drop)]
 struct Failing {
-    alloc: Global,
     passes: u32,
     files: u32,
     has_checkpoint: bool,
     failures: u64,
-    is_read: bool,
-    later: &'static [u8],
 }
 
 impl Failing {
@@ -82,26 +78,12 @@ impl Shelf for Failing {
     fn expect(&mut self, _files: u64) {}
 }
 
-impl ReadableShelf for Failing {
-    fn read(&mut self, _path: &Path) -> Result<Option<Vec<u8>>, ShelfError> {
-        if !self.passes() {
-            return Err(self.fail());
-        }
-        let bytes = if self.is_read { self.later } else { BEFORE };
-        self.is_read = true;
-        Ok(Some(Vec::from_slice(self.alloc, bytes)?))
-    }
-}
-
-fn shelf_of(alloc: Global, passes: u32, later: &'static [u8]) -> Failing {
+fn shelf_of(passes: u32) -> Failing {
     Failing {
-        alloc,
         passes,
         files: 0,
         has_checkpoint: false,
         failures: 0,
-        is_read: false,
-        later,
     }
 }
 
@@ -142,7 +124,7 @@ fn failing_shelf(rt: HostRuntime) -> Result<(), Fail> {
 // An export onto a shelf that does so many calls answers so, and the shelf has so many files then.
 fn assert_exports<H: TreeHash>(rt: &impl Abort, alloc: Global, mirror: &Mirror<H>) {
     for &(passes, files, answer) in &EXPORTS {
-        let mut shelf = shelf_of(alloc, passes, BEFORE);
+        let mut shelf = shelf_of(passes);
         assert!(rt; put_onto(alloc, mirror, &mut shelf) == answer);
         assert_put(rt, &shelf, files, answer.is_ok());
     }
@@ -171,97 +153,6 @@ fn exports_once<H: TreeHash>(
     drop(shelf);
     first?;
     second?;
-    Ok(())
-}
-
-// The checkpoint of the log before it had entries, with a signature that nobody looks at.
-const BEFORE: &[u8] =
-    b"ex\n0\n47DEQpj8HBSa+/TImW+5JCeuQeRkm5NMpJWZG3hSuFU=\n\n\xe2\x80\x94 ex AAAAAQA=\n";
-
-// The same of an update, from the empty log on.
-const UPDATES: [(u32, u32, Result<(), UpdateFault>); 6] = [
-    (0, 0, Err(UpdateFault::ShelfFault)),
-    (1, 0, Err(UpdateFault::ShelfFault)),
-    (2, 1, Err(UpdateFault::ShelfFault)),
-    (3, 2, Err(UpdateFault::ShelfFault)),
-    (4, 2, Err(UpdateFault::ShelfFault)),
-    (5, 2, Ok(())),
-];
-
-// The first call reads the checkpoint, and the one before the last, which puts the new one, reads it again. Where another
-// one stands by then, the new one is not put.
-#[test]
-fn failing_update(rt: HostRuntime) -> Result<(), Fail> {
-    let mirror = complete::<Sha256Tree>(rt.alloc())?;
-    assert_updates(&rt, rt.alloc(), &mirror);
-    drop(mirror);
-    Ok(())
-}
-
-fn assert_updates<H: TreeHash>(rt: &impl Abort, alloc: Global, mirror: &Mirror<H>) {
-    for &(passes, files, answer) in &UPDATES {
-        let mut shelf = shelf_of(alloc, passes, BEFORE);
-        assert!(rt; bring_up(alloc, mirror, &mut shelf) == answer);
-        assert_put(rt, &shelf, files, answer.is_ok());
-    }
-    let mut shelf = shelf_of(alloc, 9, b"another");
-    assert!(rt; bring_up(alloc, mirror, &mut shelf) == Err(UpdateFault::OtherLog));
-    assert!(rt; shelf.files == 2);
-    assert!(rt; !shelf.has_checkpoint);
-}
-
-// What an update answers.
-fn bring_up<H: TreeHash, S: ReadableShelf>(
-    alloc: Global,
-    mirror: &Mirror<H>,
-    shelf: &mut S,
-) -> Result<(), UpdateFault> {
-    update(alloc, mirror, shelf)
-}
-
-// Nothing is put over bytes that are no note, nor over the note that is served; all three files onto an empty shelf, and
-// over the checkpoint of the empty log.
-#[test]
-fn update_e3(rt: HostRuntime) -> Result<(), Fail> {
-    let mirror = complete::<Sha256Tree>(rt.alloc())?;
-    let answer = updates_once(&rt, rt.alloc(), &mirror);
-    drop(mirror);
-    answer
-}
-
-fn updates_once<H: TreeHash>(
-    rt: &impl Abort,
-    alloc: Global,
-    mirror: &Mirror<H>,
-) -> Result<(), Fail> {
-    updates_over(rt, alloc, mirror, b"", Err(UpdateFault::OtherLog), 1)?;
-    updates_over(rt, alloc, mirror, NOTE, Ok(()), 1)?;
-    updates_over(rt, alloc, mirror, BEFORE, Ok(()), 4)?;
-    let mut shelf = MemShelf::new(alloc);
-    assert!(rt; bring_up(alloc, mirror, &mut shelf) == Ok(()));
-    let answer = assert_files(rt, alloc, shelf.puts());
-    drop(shelf);
-    answer?;
-    Ok(())
-}
-
-// An update over that checkpoint answers so, and the shelf has so many puts then; the last three, where there are more than
-// one, are the files of the log.
-fn updates_over<H: TreeHash>(
-    rt: &impl Abort,
-    alloc: Global,
-    mirror: &Mirror<H>,
-    checkpoint: &[u8],
-    want: Result<(), UpdateFault>,
-    puts: usize,
-) -> Result<(), Fail> {
-    let mut shelf = MemShelf::new(alloc);
-    shelf.put(&Path::Checkpoint, checkpoint)?;
-    assert!(rt; bring_up(alloc, mirror, &mut shelf) == want);
-    assert!(rt; shelf.puts().len() == puts);
-    if puts > 1 {
-        assert_files(rt, alloc, &shelf.puts()[1..])?;
-    }
     Ok(())
 }
 

@@ -11,11 +11,7 @@
 #![tactic(auto)]
 
 #[cfg(test)]
-mod changes;
-#[cfg(test)]
 mod commands;
-#[cfg(test)]
-mod endings;
 #[cfg(test)]
 mod exports;
 #[cfg(test)]
@@ -34,5 +30,3 @@ mod progress;
 mod states;
 #[cfg(test)]
 mod streams;
-#[cfg(test)]
-mod updates;

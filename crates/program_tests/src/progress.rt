@@ -1,11 +1,6 @@
-//! The lines that tell how far long work is, what they count, and when they are written.
-use crate::streams::FailingWriter;
-use mirror_export::files_to_put;
+//! When the lines that say how far long work is are written, and what they count.
 use mirror_folders::{MemShelf, Shelf, ShelfError};
-use mirror_progress::{
-    CountingShelf, Counts, Progress, StandardError, Task, ToldFolders, followed_line,
-    progress_line, pulled_line,
-};
+use mirror_progress::{CountingShelf, Progress, Task, ToldFolders};
 use std::alloc::Global;
 use std::cell::Cell;
 use std::io;
@@ -47,121 +42,6 @@ fn clock_with(step: Option<u64>) -> Ticking {
 // A line, as text.
 fn text_of(line: &[u8]) -> &str {
     std::str::from_utf8(line).unwrap_or("no text")
-}
-
-// How many files, how many bytes, of how many files, and the line.
-const PROGRESS: [(u64, u64, Option<u64>, &str); 10] = [
-    (0, 0, None, "pull: 0 files, 0 B\n"),
-    (1, 999, None, "pull: 1 file, 999 B\n"),
-    (2, 1_000, None, "pull: 2 files, 1 kB\n"),
-    (999, 999_999, None, "pull: 999 files, 999 kB\n"),
-    (1_000, 1_000_000, None, "pull: 1,000 files, 1 MB\n"),
-    (1_024, 23_999_999, None, "pull: 1,024 files, 23 MB\n"),
-    (
-        1_000_000,
-        999_999_999_999,
-        None,
-        "pull: 1,000,000 files, 999 GB\n",
-    ),
-    (
-        u64::MAX,
-        u64::MAX,
-        None,
-        "pull: 18,446,744,073,709,551,615 files, 18,446,744 TB\n",
-    ),
-    (3_200, 5, Some(7_833), "pull: 3,200 of 7,833 files\n"),
-    (0, 0, Some(1), "pull: 0 of 1 file\n"),
-];
-
-// What two files of three bytes are told as.
-const TASKS: [(Task, &str); 5] = [
-    (Task::Build, "build: 2 files, 3 B\n"),
-    (Task::Pull, "pull: 2 files, 3 B\n"),
-    (Task::Export, "export: 2 files, 3 B\n"),
-    (Task::Follow, "follow: 2 files, 3 B\n"),
-    (Task::Audit, "audit: 2 files, 3 B\n"),
-];
-
-// What 1,024 files of 23,999,999 bytes are told as, where there are 7,832 in all.
-const SHARES: [(Task, &str); 3] = [
-    (Task::Export, "export: 1,024 of 7,832 files\n"),
-    (Task::Follow, "follow: 1,024 of 7,832 files, 23 MB\n"),
-    (Task::Audit, "audit: 1,024 of 7,832 files, 23 MB\n"),
-];
-
-#[test]
-fn progress_lines(rt: HostRuntime) -> Result<(), Fail> {
-    for &(files, bytes, all, want) in &PROGRESS {
-        let line = progress_line(rt.alloc(), Task::Pull, all, Counts { files, bytes })?;
-        assert!(&rt; text_of(&line) == want, "{want}");
-    }
-    for &(task, want) in &TASKS {
-        let counts = Counts { files: 2, bytes: 3 };
-        let line = progress_line(rt.alloc(), task, None, counts)?;
-        assert!(&rt; text_of(&line) == want, "{want}");
-    }
-    let counts = Counts {
-        files: 1_024,
-        bytes: 23_999_999,
-    };
-    for &(task, want) in &SHARES {
-        let line = progress_line(rt.alloc(), task, Some(7_832), counts)?;
-        assert!(&rt; text_of(&line) == want, "{want}");
-    }
-    Ok(())
-}
-
-// The sizes held and pulled, how many files, how many bytes, and the line: the last is cut, and has 80 bytes.
-const PULLED: [(u64, u64, u64, u64, &str); 5] = [
-    (
-        5_000,
-        5_300,
-        4,
-        91_224,
-        "pull: 5,000 to 5,300 entries, 4 files, 91 kB\n",
-    ),
-    (0, 3, 3, 424, "pull: 0 to 3 entries, 3 files, 424 B\n"),
-    (
-        5_300,
-        5_300,
-        1,
-        170,
-        "pull: 5,300 to 5,300 entries, 1 file, 170 B\n",
-    ),
-    (
-        5_300,
-        5_000,
-        1,
-        170,
-        "pull: checkpoint of 5,000 entries, older than one held of 5,300\n",
-    ),
-    (
-        0,
-        u64::MAX,
-        u64::MAX,
-        u64::MAX,
-        "pull: 0 to 18,446,744,073,709,551,615 entries, 18,446,744,073,709,551,615 files\n",
-    ),
-];
-
-#[test]
-fn pulled_lines(rt: HostRuntime) -> Result<(), Fail> {
-    for &(held, size, files, bytes, want) in &PULLED {
-        let line = pulled_line(rt.alloc(), held, size, Counts { files, bytes })?;
-        assert!(&rt; text_of(&line) == want, "{want}");
-        assert!(&rt; line.len() <= 80, "{want}");
-    }
-    let counts = Counts {
-        files: 4,
-        bytes: 91_224,
-    };
-    let line = followed_line(rt.alloc(), 5_000, 5_300, counts)?;
-    let text = text_of(&line);
-    assert!(&rt;
-        text == "follow: 5,000 to 5,300 entries, 4 files, 91 kB\n",
-        "{text}"
-    );
-    Ok(())
 }
 
 // So many files of 100 bytes put onto a shelf in memory by such a clock, and what is told of them.
@@ -237,48 +117,6 @@ fn lines_come_a_second_apart(rt: HostRuntime) -> Result<(), Fail> {
         let clock = clock_with(step);
         assert!(&rt; told_of(&rt, alloc, &clock, &mut lines, begins, files) == Ok(()));
         assert!(&rt; text_of(&lines) == want, "{want}");
-    }
-    Ok(())
-}
-
-// A writer that takes some bytes and then fails changes nothing of what is put and counted.
-#[test]
-fn lines_that_fail_are_passed_over(rt: HostRuntime) -> Result<(), Fail> {
-    for room in [0, 1, 20] {
-        let writer = FailingWriter {
-            room,
-            taken: Vec::new(rt.alloc()),
-        };
-        let clock = clock_with(Some(1_000));
-        assert!(&rt; told_of(&rt, rt.alloc(), &clock, writer, true, 5) == Ok(()));
-    }
-    Ok(())
-}
-
-// Standard error as a writer takes text, all of it, and no other bytes.
-#[test]
-fn standard_error(rt: HostRuntime) -> Result<(), Fail> {
-    let mut errors = StandardError::new(&rt);
-    assert!(&rt; errors.write(b"")? == 0);
-    assert!(&rt; errors.write(&[0xff]).is_err());
-    Ok(())
-}
-
-// A size, the one that was put before, and how many files.
-const SIZES: [(u64, u64, u64); 7] = [
-    (0, 0, 1),
-    (3, 0, 3),
-    (256, 0, 4),
-    (257, 256, 3),
-    (5, 5, 1),
-    (1_000_000, 0, 7_832),
-    (1_000_100, 1_000_000, 3),
-];
-
-#[test]
-fn files_of_sizes(rt: HostRuntime) -> Result<(), Fail> {
-    for &(size, since, want) in &SIZES {
-        assert!(&rt; files_to_put(size, since) == want, "{size}");
     }
     Ok(())
 }

@@ -1,8 +1,6 @@
 //! The files and the state of the log of the entries `00 00`, `00 01` and `00 02` under origin `ex`,
 //! and states of two entries whose bytes have one sum. Hashes, the signature and the digests were
 //! computed by a program of another language.
-use sha2::{Digest, Sha256};
-use std::alloc::{AllocError, Global};
 
 // The head of the log, signed by the key `ex` of id 1 and secret 00.
 pub(crate) const NOTE: &[u8] = b"\
@@ -46,10 +44,3 @@ pub(crate) const SECOND_SUM: &[u8] = b"\
 TLMIRR02\x00\x02ex\x00\x00\x00\x00\x00\x00\x00\x00\x00\x00\x00\x00\x00\x00\x00\x00\
 \x00\x00\x00\x00\x00\x00\x00\x01\x00\x02\x02\x01\
 8\xed+\xd50\xdf\xb37qb\xce\x1a\xf9\x9f\xb8\x9d_\x02R\xefAB\xc0c:\xc9\x8d\n\xc5\x94\xb2\x18";
-
-// The body of a state with its digest.
-pub(crate) fn sealed(alloc: Global, body: &[u8]) -> Result<Vec<u8>, AllocError> {
-    let mut text = Vec::from_slice(alloc, body)?;
-    text.extend_from_slice(&Sha256::digest(body))?;
-    Ok(text)
-}
