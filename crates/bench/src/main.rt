@@ -1,5 +1,5 @@
 //! What the work of a mirror costs, each beside the hashing alone of the same strings in the same run: pulling, walking,
-//! settling, serving, and files.
+//! settling, what is served, and files.
 //!
 //! Its arguments are a subject and a count of entries of 100 bytes, as `bench pulls 100000`. The subject is `pulls`,
 //! `served`, `files` or `all`. With no arguments it is `all` of 1000.
@@ -20,9 +20,6 @@ use std::rt::Files;
 use std::time::CpuClock;
 use tlog_hash::{Sha256Tree, TreeHash};
 use tlog_mirror::Mirror;
-
-// How many entries the log grows by.
-const GROWTH: u32 = 256;
 
 fn main(rt: HostRuntime) -> anyhow::Result<()> {
     let mut words = env::args(&rt)?;
@@ -72,31 +69,12 @@ fn measure_mirror<H: TreeHash, R: AllocGlobal + CpuClock + Files + Print + Eprin
     subject: &str,
     count: u32,
 ) -> anyhow::Result<()> {
-    let times = pulls::measure_pull(rt, mirror, keys, count)?;
-    if subject != "all" {
-        return measure_one(rt, mirror, keys, subject, count, times);
+    let (hashing, walking) = pulls::measure_pull(rt, mirror, keys, count)?;
+    if subject == "files" || subject == "all" {
+        files::measure_files(rt, mirror, keys, hashing)?;
     }
-    measure_one(rt, mirror, keys, "files", count, times)?;
-    measure_one(rt, mirror, keys, "served", count, times)?;
-    measure_one(rt, mirror, keys, "pulls", count, times)
-}
-
-// Measures a subject, where a tree's hashing and a walk through it take these times.
-fn measure_one<H: TreeHash, R: AllocGlobal + CpuClock + Files + Print + Eprint>(
-    rt: &R,
-    mirror: &mut Mirror<H>,
-    keys: &[Box<dyn Verifier>],
-    subject: &str,
-    count: u32,
-    (hashing, walking): (u128, u128),
-) -> anyhow::Result<()> {
-    match subject {
-        "files" => files::measure_files(rt, mirror, keys, hashing),
-        "served" => served::measure_served(rt, mirror, count, walking),
-        "pulls" => {
-            let _times = pulls::measure_pull(rt, mirror, keys, count.saturating_add(GROWTH))?;
-            Ok(())
-        }
-        _ => Ok(()),
+    if subject == "served" || subject == "all" {
+        served::measure_served(rt, mirror, count, walking)?;
     }
+    Ok(())
 }

@@ -1,21 +1,16 @@
-//! What is served: tiles, bundles, proofs and the checkpoint, and the replies that carry them.
+//! What is served: tiles, bundles, proofs and the checkpoint.
 use crate::clock::{now, tell_since};
-use mirror_server::{Resource, answer};
 use std::alloc::{AllocError, Global};
 use std::time::CpuClock;
 use tlog_hash::TreeHash;
 use tlog_mirror::Mirror;
 use tlog_proof::{Ask, prove};
-use tlog_tiles::Path;
 
 // How often each is asked for.
 const TIMES: u32 = 1000;
 
 // How many hashes a full tile has, and entries a full bundle.
 const WIDTH: u32 = 256;
-
-// What a reply begins with that carries what was asked for.
-const FOUND: &[u8] = b"HTTP/1.1 200 OK\r\n";
 
 // A kind of parts.
 enum Kind {
@@ -25,7 +20,7 @@ enum Kind {
     Checkpoints,
 }
 
-// Each of them, and what it is called.
+// Each of them, and its name.
 const KINDS: [(&str, Kind); 4] = [
     ("full tiles", Kind::Tiles),
     ("full bundles", Kind::Bundles),
@@ -33,9 +28,8 @@ const KINDS: [(&str, Kind); 4] = [
     ("checkpoints", Kind::Checkpoints),
 ];
 
-/// Asks a settled mirror of so many entries for its parts, and then for the replies that carry them; and the same once it
-/// has laid them out. The times are of so many look-ups as parts are asked for, by that of a walk, which looks up each entry
-/// and each pair.
+/// Asks a settled mirror of that many entries for its parts; and the same once it has laid them out. The times are beside
+/// that of as many look-ups, by the time of a walk, which looks up each entry and each pair.
 pub(crate) fn measure_served<H: TreeHash, R: AllocGlobal + CpuClock + Print + Eprint>(
     rt: &R,
     mirror: &mut Mirror<H>,
@@ -49,12 +43,12 @@ pub(crate) fn measure_served<H: TreeHash, R: AllocGlobal + CpuClock + Print + Ep
         "{count} entries: {TIMES} look-ups take {look_ups} ns, and of it {TIMES} times"
     );
     measure_kinds(rt, mirror, count, look_ups)?;
-    lay_out_told(rt, mirror)?;
+    lay_out(rt, mirror)?;
     measure_kinds(rt, mirror, count, look_ups)
 }
 
-// Lays out what the mirror serves, and tells the time that it took.
-fn lay_out_told<H: TreeHash, R: AllocGlobal + CpuClock + Eprint>(
+// Lays out what the mirror serves, and reports the time.
+fn lay_out<H: TreeHash, R: AllocGlobal + CpuClock + Eprint>(
     rt: &R,
     mirror: &mut Mirror<H>,
 ) -> Result<(), AllocError> {
@@ -65,8 +59,7 @@ fn lay_out_told<H: TreeHash, R: AllocGlobal + CpuClock + Eprint>(
     Ok(())
 }
 
-// Asks for the parts of each kind, and then for the replies that carry them, and tells the time of each and how many are
-// given.
+// Asks for the parts of each kind, and reports the time of each and how many are given.
 fn measure_kinds<H: TreeHash, R: AllocGlobal + CpuClock + Print + Eprint>(
     rt: &R,
     mirror: &Mirror<H>,
@@ -74,104 +67,43 @@ fn measure_kinds<H: TreeHash, R: AllocGlobal + CpuClock + Print + Eprint>(
     look_ups: u128,
 ) -> anyhow::Result<()> {
     for (name, kind) in &KINDS {
+        let start = now(rt);
+        let given = count_given(rt.alloc(), mirror, kind, count);
         let _ = eprintln!(rt; "  {name}:");
-        let start = now(rt);
-        let given = count_given(rt.alloc(), mirror, kind, count, false);
         tell_since(rt, "    asked of the mirror, ns", start, look_ups);
-        let start = now(rt);
-        let answered = count_given(rt.alloc(), mirror, kind, count, true);
-        tell_since(rt, "    answered to a client, ns", start, look_ups);
-        println!(rt; "{name}: {given} given, {answered} answered")?;
+        println!(rt; "{name}: {given} given")?;
     }
     Ok(())
 }
 
-// Asks the mirror for the parts of a kind, or for the replies that carry them, and counts those that are given.
-fn count_given<H: TreeHash>(
-    alloc: Global,
-    mirror: &Mirror<H>,
-    kind: &Kind,
-    count: u32,
-    as_replies: bool,
-) -> u32 {
+// Asks the mirror for the parts of a kind, and counts those that are given. They are spread over a log of that many entries:
+// each is far from the one before.
+fn count_given<H: TreeHash>(alloc: Global, mirror: &Mirror<H>, kind: &Kind, count: u32) -> u32 {
     let mut given = 0u32;
     for number in 0..TIMES {
-        let part = part_of(kind, count, number);
-        let is_there = if as_replies {
-            is_answered(alloc, mirror, &part)
-        } else {
-            is_given(alloc, mirror, &part)
+        let far = number.wrapping_mul(7919);
+        let file = u64::from(far.checked_rem(count / WIDTH).unwrap_or(0));
+        let is_there = match kind {
+            Kind::Tiles => matches!(mirror.tile(alloc, 0, file, WIDTH), Ok(Some(_))),
+            Kind::Bundles => matches!(mirror.bundle(alloc, file, WIDTH), Ok(Some(_))),
+            Kind::Proofs => {
+                is_proof_given(alloc, mirror, count, far.checked_rem(count).unwrap_or(0))
+            }
+            Kind::Checkpoints => mirror.top().is_some(),
         };
-        if is_there {
-            given = given.saturating_add(1);
-        }
+        given = given.saturating_add(u32::from(is_there));
     }
     given
 }
 
-// The part of that number. The parts of a kind are spread over a log of so many entries: one's place is far from that of
-// the number before.
-fn part_of(kind: &Kind, count: u32, number: u32) -> Resource {
-    let far = number.wrapping_mul(7919);
-    let file = far.checked_rem(count / WIDTH).unwrap_or(0);
-    match kind {
-        Kind::Tiles => Resource::File(Path::Tile {
-            level: 0,
-            index: u64::from(file),
-            width: WIDTH,
-        }),
-        Kind::Bundles => Resource::File(Path::Entries {
-            index: u64::from(file),
-            width: WIDTH,
-        }),
-        Kind::Proofs => Resource::Proof(Ask::Inclusion {
-            size: u64::from(count),
-            index: u64::from(far.checked_rem(count).unwrap_or(0)),
-        }),
-        Kind::Checkpoints => Resource::File(Path::Checkpoint),
-    }
-}
-
-// Whether the mirror gives it.
-fn is_given<H: TreeHash>(alloc: Global, mirror: &Mirror<H>, part: &Resource) -> bool {
-    match *part {
-        Resource::File(Path::Checkpoint) => mirror.top().is_some(),
-        Resource::File(path) => matches!(mirror.file(alloc, &path), Ok(Some(_))),
-        Resource::Proof(ask) => is_proof_given(alloc, mirror, ask),
-        _ => false,
-    }
-}
-
-// Whether what the mirror serves gives a proof.
-fn is_proof_given<H: TreeHash>(alloc: Global, mirror: &Mirror<H>, ask: Ask) -> bool {
+// Whether what the mirror serves gives a proof that the entry is in the log.
+fn is_proof_given<H: TreeHash>(alloc: Global, mirror: &Mirror<H>, size: u32, index: u32) -> bool {
+    let ask = Ask::Inclusion {
+        size: u64::from(size),
+        index: u64::from(index),
+    };
     match mirror.top_ranges() {
         Some(top) => prove(alloc, &top, ask).is_ok(),
         None => false,
-    }
-}
-
-// Whether a client that asks for it gets it.
-fn is_answered<H: TreeHash>(alloc: Global, mirror: &Mirror<H>, part: &Resource) -> bool {
-    match request_of(alloc, part) {
-        Ok(request) => is_found(alloc, mirror, request.as_bytes()),
-        Err(_) => false,
-    }
-}
-
-// Whether the reply to a client's bytes carries what they ask for.
-fn is_found<H: TreeHash>(alloc: Global, mirror: &Mirror<H>, mut request: &[u8]) -> bool {
-    let mut reply = Vec::new(alloc);
-    let answered = answer(alloc, mirror, &mut request, &mut reply);
-    answered.is_ok() && reply.as_slice().starts_with(FOUND)
-}
-
-// The request for it.
-fn request_of(alloc: Global, part: &Resource) -> Result<String, AllocError> {
-    match part {
-        Resource::File(path) => format!(in alloc; "GET /{path} HTTP/1.1\r\n\r\n"),
-        Resource::Proof(Ask::Inclusion { size, index }) => {
-            format!(in alloc; "GET /mirror/inclusion/{size}/{index} HTTP/1.1\r\n\r\n")
-        }
-        _ => Ok(String::new(alloc)),
     }
 }
