@@ -4,7 +4,7 @@ use std::alloc::Global;
 use tlog_hash::Sha256Tree;
 use tlog_tiles::Path;
 
-/// A place over a log, which gives zero bytes for one path, if any.
+/// A place over a log, which gives 512 zero bytes for one path, if any.
 #[derive(Drop)]
 pub(crate) struct LyingPlace {
     pub(crate) log: ListSource<Sha256Tree>,
@@ -32,7 +32,7 @@ impl Source for LyingPlace {
     fn get(&mut self, path: &Path) -> Result<Option<Vec<u8>>, SourceFault> {
         if self.path == Some(*path) {
             self.lies = self.lies.saturating_add(1);
-            return Ok(Some(Vec::from_slice(self.alloc, &[0; 32])?));
+            return Ok(Some(Vec::from_slice(self.alloc, &[0; 512])?));
         }
         match self.log.get(path) {
             Ok(found) => Ok(found),
