@@ -39,3 +39,5 @@ pub mod Origins
 pub mod Joining
 pub mod Retrying
 pub mod PlayExamples
+pub mod OpenedNotes
+pub mod NoHeads

@@ -11,6 +11,8 @@ mod events;
 mod fault;
 mod items;
 mod laws;
+mod notes;
+mod origin;
 mod reports;
 
 pub use events::Event;
@@ -35,4 +37,6 @@ pub use laws::truth::{bundles_law, prefix_law, true_fronts_law, true_items_law};
 pub use laws::views::{
     forks_law, growth_law, head_law, lawful_law, marks_law, one_list_law, served_law, union_law,
 };
+pub use notes::{HeadNote, checkpoint_of, open_head};
+pub use origin::is_origin;
 pub use reports::{Fork, Head};

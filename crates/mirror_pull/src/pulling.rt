@@ -1,5 +1,5 @@
 //! Pulling a log from one source.
-ghost use Rattle.std.specs.Prelude.{[], map, IfErr};
+ghost use Rattle.std.specs.Prelude.{[], List, map, IfErr};
 ghost use Rattle.mirror_model.specs.declared.items.Item.TheVariants.{Head};
 ghost use Rattle.mirror_pull.specs.Asking.{AddsSome, BlamesSource};
 ghost use Rattle.mirror_pull.specs.Honest.{PullsHonestly};
@@ -7,12 +7,15 @@ ghost use Rattle.mirror_pull.specs.Repeated.{KeepsHonestly};
 ghost use Rattle.mirror_pull.specs.Replying.{FollowsReplies, RefusesHead};
 ghost use Rattle.mirror_pull.specs.Taking.{PullsTo, TakesHead};
 ghost use Rattle.mirror_sources.specs.Source.{StaysWithin};
+ghost use Rattle.signed_note.specs.Keys.{Key};
+ghost use Rattle.tlog_mirror.specs.Opened.{IsOpenUnder, WasOpened};
 
 use crate::ask::ask;
 use crate::asked::AskedPaths;
 use crate::edge::edge_rows;
 use crate::fault::PullFault;
 use crate::rounds::{note_held, work};
+use mirror_model::HeadNote;
 use mirror_sources::Source;
 use signed_note::Verifier;
 use std::alloc::Global;
@@ -35,20 +38,22 @@ pub struct Pulled {
     pub complete: bool,
 }
 
-/// Takes a head with those rows, and notes what is held of each head.
+/// Takes a head that was opened, with those rows, and notes what is held of each head.
 fn take_rows<H: TreeHash>(
     alloc: Global,
     mirror: &mut Mirror<H>,
-    keys: &[Box<dyn Verifier>],
-    note: &[u8],
+    head: HeadNote,
     rows: &[Vec<u8>],
 ) -> Result<(), PullFault>
-    ensures takes { TakesHead H.digest (map (λ k. key k) keys.now) mirror.old.view
-        (Head note.now (map (λ row. row.items) rows.now)) result mirror.new.view }
-    ensures judged { IfErr result (RefusesHead H.digest mirror.old.view.origin
-        (map (λ k. key k) keys.now) note.now (map (λ row. row.items) rows.now)) }
+    requires { WasOpened mirror.old.view.origin head }
+    ensures takes { (keys : List Key) → IsOpenUnder mirror.old.view.origin keys head
+        → TakesHead H.digest keys mirror.old.view
+        (Head head.note.bytes (map (λ row. row.items) rows.now)) result mirror.new.view }
+    ensures judged { (keys : List Key) → IsOpenUnder mirror.old.view.origin keys head
+        → IfErr result (RefusesHead H.digest mirror.old.view.origin keys head.note.bytes
+        (map (λ row. row.items) rows.now)) }
 {
-    mirror.take_head_rows(alloc, keys, note, rows)?;
+    mirror.take_opened_rows(alloc, head, rows)?;
     note_held(alloc, mirror);
     Ok(())
 }
@@ -95,11 +100,11 @@ pub fn pull<H: TreeHash, S: Source>(
     let Some(note) = ask(source, &mut asked, Path::Checkpoint)? else {
         return Err(PullFault::NoCheckpoint);
     };
-    let checkpoint = mirror.check_head(alloc, keys, &note)?;
-    let rows = edge_rows(alloc, source, &mut asked, checkpoint.size)?;
-    take_rows(alloc, mirror, keys, &note, &rows)?;
-    let size = checkpoint.size;
-    let root = checkpoint.root;
+    let head = mirror.open_head(alloc, keys, &note)?;
+    let size = head.checkpoint.size;
+    let root = head.checkpoint.root;
+    let rows = edge_rows(alloc, source, &mut asked, size)?;
+    take_rows(alloc, mirror, head, &rows)?;
     let (rounds, refused) = work(alloc, mirror, source, &mut asked, size, &root)?;
     Ok(Pulled {
         size,

@@ -8,8 +8,8 @@ pub mod MergedMirrors
 pub mod PlayedEvents
 pub mod JudgedEvents
 pub mod PlayedMerges
-pub mod OpenedNotes
 pub mod TakenHeads
+pub mod OpenHeads
 pub mod BestNotes
 pub mod ServedNotes
 pub mod ServedParts

@@ -1,14 +1,13 @@
 -- A mirror that is made of strings is kept well, and what is answered of a note that is kept over them.
-use Rattle.std.proofs.Common.{◌≡◌, ◌≢◌, ◌≤◌, ℕ, List, [], ◌∷◌, length, Bool, true, false, Result, Ok, Err, refl, sym}
+use Rattle.std.proofs.Common.{◌≡◌, ◌≢◌, ◌≤◌, ℕ, List, [], ◌∷◌, length, Result, Ok, Err, refl, sym}
 use Rattle.std.proofs.Common.{subst}
-use Rattle.std.specs.Prelude.{◌↔◌, IsTrue}
 use Rattle.std.specs.FinSet as set
 use Rattle.std.specs.List.Sorted.{IsStrictlySortedBy}
 use Rattle.std.proofs.lemmas.List.Elements.{All-nil}
 use Rattle.signed_note.specs.Keys.{Key}
 use Rattle.node_store.specs.Strings.{Strings, Has, AllTagged, NoClash}
 use Rattle.tlog_checkpoint.specs.declared.Checkpoint.{Checkpoint}
-use Rattle.mirror_model.specs.Complete.{HasEdge, HoldsEdge}
+use Rattle.mirror_model.specs.Complete.{HasEdge}
 use Rattle.mirror_model.specs.Forks.{point_cmp}
 use Rattle.mirror_model.specs.Heads.{IsHead}
 use Rattle.mirror_model.specs.Marks.{Points}
@@ -17,16 +16,16 @@ use Rattle.mirror_model.specs.Refusals.{IsOpenCheckpoint, ReadsHead}
 use Rattle.mirror_model.specs.View.{View}
 use Rattle.mirror_model.specs.declared.fault.TakeFault.{TakeFault}
 use Rattle.mirror_model.specs.declared.fault.TakeFault.TheVariants as taking
-use Rattle.mirror_model.proofs.HeadNotes.{head_once}
 use Rattle.mirror_model.proofs.RefusedHeads.{head_notes_are_read_once, open_heads_are_read}
 use Rattle.mirror_model.proofs.StringSets.{has_empty}
 use Rattle.mirror_trees.proofs.EmptySets.{empty_settled}
 use Rattle.tlog_mirror.specs.Kept.{note_bytes, IsKeptWell}
-use Rattle.tlog_mirror.specs.Restored.{IsOpenNote, FindsHeld, held_fault_of}
+use Rattle.mirror_model.specs.declared.notes.HeadNote.{HeadNote}
+use Rattle.tlog_mirror.specs.Adding.{with_note}
+use Rattle.tlog_mirror.specs.Restored.{IsOpenNote, KeepsHeld, held_fault_of}
 use Rattle.tlog_mirror.specs.declared.fault.RestoreFault.{RestoreFault}
 use Rattle.tlog_mirror.specs.declared.fault.RestoreFault.TheVariants.{UnheldEdge}
 use Rattle.tlog_mirror.specs.declared.kept.KeptNote.{KeptNote}
-use Rattle.tlog_mirror.proofs.TakenHeads.{open_is_head}
 
 -- ---- a mirror of strings
 
@@ -78,49 +77,43 @@ module _ (note origin : List ℕ) (keys : List Key) where
       (λ e. memory (cc e)) (λ e. cc e) in
       cc same
 
-module _ (digest : List ℕ → List ℕ) (v : View) (keys : List Key) (note : List ℕ) where
-  pub found_fault : (fault : TakeFault) → ReadsHead note v.origin keys (Err fault) →
-      FindsHeld digest v keys note (Err (held_fault_of fault))
-  found_fault (taking.Note fault) h = not_open note v.origin keys (taking.Note fault) (λ e. cc e) h
-  found_fault (taking.Checkpoint fault) h = not_open note v.origin keys (taking.Checkpoint fault) (λ e. cc e) h
-  found_fault taking.OtherOrigin h = not_open note v.origin keys taking.OtherOrigin (λ e. cc e) h
-  found_fault taking.NoTrustedSignature h = not_open note v.origin keys taking.NoTrustedSignature (λ e. cc e) h
-  found_fault taking.EdgeCount h = absurd h
-  found_fault taking.EdgeLength h = absurd h
-  found_fault taking.EdgeMismatch h = absurd h
-  found_fault taking.RowLength h = absurd h
-  found_fault taking.BundleShort h = absurd h
-  found_fault taking.BundleLong h = absurd h
-  found_fault taking.Collision h = absurd h
-  found_fault taking.OutOfMemory h = tt
+-- a note that is refused is not kept
+module _ (digest : List ℕ → List ℕ) (old : View) (keys : List Key) (note : List ℕ) where
+  refused : (fault : TakeFault) → ReadsHead note old.origin keys (Err fault) →
+      KeepsHeld digest old keys note (Err (held_fault_of fault)) old
+  refused (taking.Note fault) h = (not_open note old.origin keys (taking.Note fault) (λ e. cc e) h, refl)
+  refused (taking.Checkpoint fault) h = (not_open note old.origin keys (taking.Checkpoint fault) (λ e. cc e) h, refl)
+  refused taking.OtherOrigin h = (not_open note old.origin keys taking.OtherOrigin (λ e. cc e) h, refl)
+  refused taking.NoTrustedSignature h = (not_open note old.origin keys taking.NoTrustedSignature (λ e. cc e) h, refl)
+  refused taking.EdgeCount h = absurd h
+  refused taking.EdgeLength h = absurd h
+  refused taking.EdgeMismatch h = absurd h
+  refused taking.RowLength h = absurd h
+  refused taking.BundleShort h = absurd h
+  refused taking.BundleLong h = absurd h
+  refused taking.Collision h = absurd h
+  refused taking.OutOfMemory h = refl
 
-  module _ (checkpoint : Checkpoint) (opened : IsOpenCheckpoint note v.origin keys checkpoint) where
-    -- its edge is not held
-    pub found_no_edge : (HoldsEdge digest v.strings checkpoint.size checkpoint.root → ⊥) →
-        FindsHeld digest v keys note (Err UnheldEdge)
-    found_no_edge none = (
-      open_note note v.origin keys checkpoint opened,
-      λ (e : HasEdge digest v note).
-          let same =
-          head_once note v.origin v.origin e.size checkpoint.size e.root checkpoint.root e.is_head
-          (open_is_head note v.origin keys checkpoint opened) in
-          none (subst (λ n. HoldsEdge digest v.strings n checkpoint.root) same.size_is
-          (subst (HoldsEdge digest v.strings e.size) same.root_is e.edge)),
+  pub held_refused : (fault : TakeFault) → ReadsHead note old.origin keys (Err fault) → (held : RestoreFault) →
+      held ≡ held_fault_of fault → KeepsHeld digest old keys note (Err held) old
+  held_refused fault h held is =
+      subst (λ f. KeepsHeld digest old keys note (Err f) old) (sym is) (refused fault h)
+
+  -- one that opens is kept where its edge is held
+  module _ (head : HeadNote) (opened : IsOpenCheckpoint note old.origin keys head.checkpoint)
+      (bytes_are : head.note.bytes ≡ note) (new : View) where
+    pub held_kept : HasEdge digest old head.note.bytes × (new ≡ with_note old head.note.bytes) →
+        KeepsHeld digest old keys note (Ok tt) new
+    held_kept h = (
+      open_note note old.origin keys head.checkpoint opened,
+      subst (HasEdge digest old) bytes_are h.0,
+      subst (λ n. new ≡ with_note old n) bytes_are h.1,
     )
 
--- the answers of a finder of notes, where the origin that is read for is the view's
-module _ (digest : List ℕ → List ℕ) (v : View) (keys : List Key) (note origin : List ℕ) (same : origin ≡ v.origin) where
-  pub fault_at : (fault : TakeFault) → ReadsHead note origin keys (Err fault) → (held : RestoreFault) →
-      held ≡ held_fault_of fault → FindsHeld digest v keys note (Err held)
-  fault_at fault h held is =
-      subst (λ f. FindsHeld digest v keys note (Err f)) (sym is)
-      (found_fault digest v keys note fault (subst (λ o. ReadsHead note o keys (Err fault)) same h))
-
-  module _ (checkpoint : Checkpoint) (h : IsOpenCheckpoint note origin keys checkpoint) where
-    at_view : IsOpenCheckpoint note v.origin keys checkpoint
-    at_view = subst (λ o. IsOpenCheckpoint note o keys checkpoint) same h
-
-    pub no_edge_at : (b : Bool) → IsTrue b ↔ HoldsEdge digest v.strings checkpoint.size checkpoint.root → b ≡ false →
-        FindsHeld digest v keys note (Err UnheldEdge)
-    no_edge_at b tells is =
-        found_no_edge digest v keys note checkpoint at_view (λ e. let t : b ≡ true = tells.1 e in cc (t, is))
+    pub held_lacks : (HasEdge digest old head.note.bytes → ⊥) × (new ≡ old) →
+        KeepsHeld digest old keys note (Err UnheldEdge) new
+    held_lacks h = (
+      open_note note old.origin keys head.checkpoint opened,
+      λ e. h.0 (subst (HasEdge digest old) (sym bytes_are) e),
+      h.1,
+    )

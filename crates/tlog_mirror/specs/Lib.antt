@@ -14,3 +14,4 @@ pub mod Pieces
 pub mod ForksWritten
 pub mod MissingWritten
 pub mod MissingLines
+pub mod Opened

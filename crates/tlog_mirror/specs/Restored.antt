@@ -1,19 +1,17 @@
 -- A mirror that is made again of what was kept of one: of its strings, and then of its notes.
--- `FindsHeld`, `IsHeldHead` and `held_fault_of` are cited by the contracts of private functions
--- alone.
+-- `held_fault_of` is cited by the contract of a private function alone.
 use Rattle.std.specs.Prelude.{◌≡◌, ℕ, List, Result, Ok, Err, ⊤}
 use Rattle.std.specs.FinSet as set
 use Rattle.signed_note.specs.Keys.{Key}
 use Rattle.node_store.specs.Strings.{Strings}
 use Rattle.mirror_model.specs.Complete.{HasEdge}
-use Rattle.mirror_model.specs.Heads.{IsHead, IsOpenHead}
+use Rattle.mirror_model.specs.Heads.{IsOpenHead}
 use Rattle.mirror_model.specs.View.{View}
 use Rattle.mirror_model.specs.declared.fault.TakeFault.{TakeFault}
 use Rattle.mirror_model.specs.declared.fault.TakeFault.TheVariants as taking
 use Rattle.tlog_mirror.specs.Adding.{with_note}
 use Rattle.tlog_mirror.specs.declared.fault.RestoreFault.{RestoreFault}
 use Rattle.tlog_mirror.specs.declared.fault.RestoreFault.TheVariants.{BadHead, UnheldEdge, OutOfMemory}
-use Rattle.tlog_mirror.specs.declared.kept.KeptNote.{KeptNote}
 
 -- the view of these strings, and of no note
 abbrev pub strings_alone : List ℕ → Strings → View
@@ -35,24 +33,6 @@ module _ (digest : List ℕ → List ℕ) where
   KeepsHeld old keys note (Err UnheldEdge) new =
       IsOpenNote old.origin keys note × (¬ HasEdge digest old note) × (new ≡ old)
   KeepsHeld old keys note (Err OutOfMemory) new = new ≡ old
-
-  -- ---- what the private readers' contracts cite
-
-  -- a note that may be kept: it opens, and the strings of its edge are held
-  pub record IsHeldHead (v : View) (keys : List Key) (note : List ℕ) (kept : KeptNote)
-      : Type 0 where
-    pub opened : IsOpenNote v.origin keys note
-    pub bytes_are : kept.note.bytes ≡ note
-    pub said : IsHead kept.note.bytes v.origin kept.size kept.root
-    pub edge : HasEdge digest v kept.note.bytes
-
-  -- what each answer of the finder of a note that may be kept says of the note
-  abbrev pub FindsHeld : View → List Key → List ℕ → Result KeptNote RestoreFault → Type 0
-  FindsHeld v keys note (Ok kept) = IsHeldHead v keys note kept
-  FindsHeld v keys note (Err BadHead) = ¬ IsOpenNote v.origin keys note
-  FindsHeld v keys note (Err UnheldEdge) =
-      IsOpenNote v.origin keys note × (¬ HasEdge digest v note)
-  FindsHeld v keys note (Err OutOfMemory) = ⊤
 
 -- which fault of keeping a note a fault of reading it as a head is
 abbrev pub held_fault_of : TakeFault → RestoreFault

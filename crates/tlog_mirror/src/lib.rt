@@ -19,7 +19,6 @@ mod compare;
 mod edge;
 mod fault;
 mod forks;
-mod head_note;
 mod heads;
 mod kept;
 mod laid;
@@ -45,7 +44,7 @@ pub use fault::{NewFault, RestoreFault};
 pub use laws::{compare_example, compare_law, served_list_law};
 pub use mirror::Mirror;
 pub use mirror_model::{
-    Bytes, Event, Fork, Head, Item, MergeFault, Rows, TakeFault, again_law, bundles_law,
+    Bytes, Event, Fork, Head, HeadNote, Item, MergeFault, Rows, TakeFault, again_law, bundles_law,
     calls_example, clash_law, event_law, forks_law, growth_law, headline_law, join_law,
     keeping_law, lists_law, part_law, plays_law, reports_law, retry_example, retry_law, run_law,
     served_law,

@@ -1,5 +1,5 @@
 //! A mirror of one log.
-ghost use Rattle.std.specs.Prelude.{◌≡◌, ◌≤◌, IfOk, OnOk, IsTrue, All, ◌↔◌, option_copied};
+ghost use Rattle.std.specs.Prelude.{◌≡◌, IfOk, OnOk, option_copied};
 ghost use Rattle.std.specs.FinSet as set;
 ghost use Rattle.mirror_model.specs.Origin.{IsOrigin};
 ghost use Rattle.mirror_model.specs.Marks.{IsSound};
@@ -8,6 +8,7 @@ ghost use Rattle.tlog_mirror.specs.NoteLists.{IsNoteAt};
 
 use crate::fault::NewFault;
 use crate::kept::KeptNote;
+use mirror_model::is_origin;
 use mirror_trees::Known;
 use node_store::Store;
 use std::alloc::Global;
@@ -113,18 +114,4 @@ impl<H: TreeHash> Mirror<H> {
     {
         &self.strings
     }
-}
-
-// Whether a mirror may be of that origin.
-pub(crate) fn is_origin(origin: &str) -> bool
-    ensures { IsTrue result ↔ IsOrigin origin.now }
-{
-    !origin.is_empty() && origin.len() <= 65_535 && is_printed(origin.as_bytes())
-}
-
-// Whether no byte is a control character.
-fn is_printed(bytes: &[u8]) -> bool
-    ensures { IsTrue result ↔ All (λ byte. 32 ≤ byte) bytes.now }
-{
-    bytes.iter().all(|byte| *byte >= 32)
 }

@@ -4,13 +4,13 @@ ghost use Rattle.std.specs.FinSet as set;
 ghost use Rattle.mirror_model.specs.Complete.{HoldsEdge};
 ghost use Rattle.mirror_model.specs.Origin.{IsOrigin};
 ghost use Rattle.node_store.specs.Strings.{Has};
-ghost use Rattle.tlog_mirror.specs.Restored.{FindsHeld, KeepsHeld, held_fault_of, strings_alone};
+ghost use Rattle.tlog_mirror.specs.Opened.{KeepsOpened, SaysHead};
+ghost use Rattle.tlog_mirror.specs.Restored.{KeepsHeld, held_fault_of, strings_alone};
 
 use crate::fault::{NewFault, RestoreFault};
-use crate::head_note::read_head;
 use crate::kept::KeptNote;
-use crate::mirror::{Mirror, is_origin};
-use mirror_model::TakeFault;
+use crate::mirror::Mirror;
+use mirror_model::{HeadNote, TakeFault, is_origin};
 use mirror_trees::{Known, holds_edge};
 use node_store::Store;
 use signed_note::Verifier;
@@ -58,7 +58,7 @@ impl<H: TreeHash> Mirror<H> {
     ///
     /// # Errors
     ///
-    /// The first that applies: `BadHead`, where `check_head` refuses the note; `UnheldEdge`, where no edge of its size and
+    /// The first that applies: `BadHead`, where `open_head` refuses the note; `UnheldEdge`, where no edge of its size and
     /// root is held. `OutOfMemory` where memory was refused, before any of them or after. The mirror is then as it was.
     pub fn keep_held_head(
         &mut self,
@@ -70,35 +70,41 @@ impl<H: TreeHash> Mirror<H> {
             self.new.view }
         ensures remembered { self.new.remembered ≡ self.old.remembered }
     {
-        let kept = match self.held_head(alloc, keys, note) {
-            Ok(kept) => kept,
-            Err(fault) => return Err(fault),
+        let head = match self.open_head(alloc, keys, note) {
+            Ok(head) => head,
+            Err(fault) => return Err(held_fault(fault)),
         };
-        match self.keep_note(kept) {
-            Ok(()) => Ok(()),
+        match self.keep_opened_head(alloc, &head) {
+            Ok(true) => Ok(()),
+            Ok(false) => Err(RestoreFault::UnheldEdge),
             Err(AllocError) => Err(RestoreFault::OutOfMemory),
         }
     }
 
-    // The head of a note, where its edge is held.
-    fn held_head(
-        &self,
-        alloc: Global,
-        keys: &[Box<dyn Verifier>],
-        note: &[u8],
-    ) -> Result<KeptNote, RestoreFault>
-        ensures { FindsHeld H.digest self.now.view (map (λ k. key k) keys.now) note.now result }
+    /// Keeps a head that `open_head` gave, where its edge is held already: the note is not verified again. Whether it is held; where it is not, and where memory was refused, the mirror is as it was.
+    ///
+    /// ```text
+    /// let head = mirror.open_head(alloc, &keys, note)?;
+    /// mirror.keep_opened_head(alloc, &head)?   // true
+    /// ```
+    ///
+    /// # Errors
+    ///
+    /// Memory was refused.
+    pub fn keep_opened_head(&mut self, alloc: Global, head: &HeadNote) -> Result<bool, AllocError>
+        requires { SaysHead self.old.view.origin head.now }
+        ensures keeps { KeepsOpened H.digest self.old.view head.now.note.bytes result
+            self.new.view }
+        ensures remembered { self.new.remembered ≡ self.old.remembered }
     {
-        let (note, checkpoint) = match read_head(alloc, self.origin(), keys, note) {
-            Ok(head) => head,
-            Err(fault) => return Err(held_fault(fault)),
-        };
-        let size = checkpoint.size;
-        let root = checkpoint.root;
+        let size = head.checkpoint.size;
+        let root = head.checkpoint.root;
         if !self.has_edge(size, &root) {
-            return Err(RestoreFault::UnheldEdge);
+            return Ok(false);
         }
-        Ok(KeptNote { note, size, root })
+        let note = head.note.copy(alloc)?;
+        self.keep_note(KeptNote { note, size, root })?;
+        Ok(true)
     }
 
     // Whether the edge of that size and root is held.

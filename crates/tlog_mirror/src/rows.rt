@@ -1,12 +1,14 @@
 //! Edge rows that a caller owns.
-ghost use Rattle.std.specs.Prelude.{◌≡◌, IfOk, map};
+ghost use Rattle.std.specs.Prelude.{◌≡◌, IfOk, List, map};
 ghost use Rattle.mirror_model.specs.Answered.{answer_of};
 ghost use Rattle.mirror_model.specs.Refusals.{JudgesHead};
 ghost use Rattle.mirror_model.specs.Steps.{Takes};
 ghost use Rattle.mirror_model.specs.declared.items.Item.TheVariants.{Head};
+ghost use Rattle.signed_note.specs.Keys.{Key};
+ghost use Rattle.tlog_mirror.specs.Opened.{IsOpenUnder, WasOpened};
 
 use crate::mirror::Mirror;
-use mirror_model::TakeFault;
+use mirror_model::{HeadNote, TakeFault};
 use signed_note::Verifier;
 use std::alloc::{AllocError, Global};
 use tlog_hash::TreeHash;
@@ -34,8 +36,42 @@ impl<H: TreeHash> Mirror<H> {
             note.now (map (λ row. row.items) rows.now) result }
         ensures remembered { self.new.remembered ≡ self.old.remembered }
     {
+        let head = match self.open_head(alloc, keys, note) {
+            Ok(head) => head,
+            Err(fault) => return Err(fault),
+        };
+        self.take_opened_rows(alloc, head, rows)
+    }
+
+    /// Takes a head that `open_head` gave, with rows that the caller owns. The note is not verified again: for each list of
+    /// keys that opens it this is `take_head_rows` of its bytes.
+    ///
+    /// ```text
+    /// let head = mirror.open_head(alloc, &keys, &note)?;
+    /// mirror.take_opened_rows(alloc, head, &rows)?;
+    /// ```
+    ///
+    /// # Errors
+    ///
+    /// Those of `take_head` but for the ones of `open_head`.
+    pub fn take_opened_rows(
+        &mut self,
+        alloc: Global,
+        head: HeadNote,
+        rows: &[Vec<u8>],
+    ) -> Result<(), TakeFault>
+        requires { WasOpened self.old.view.origin head }
+        ensures takes { (keys : List Key) → IsOpenUnder self.old.view.origin keys head
+            → Takes H.digest keys self.old.view
+            (Head head.note.bytes (map (λ row. row.items) rows.now)) (answer_of result)
+            self.new.view }
+        ensures judged { (keys : List Key) → IsOpenUnder self.old.view.origin keys head
+            → JudgesHead H.digest self.old.view.origin keys head.note.bytes
+            (map (λ row. row.items) rows.now) result }
+        ensures remembered { self.new.remembered ≡ self.old.remembered }
+    {
         match slices_of(alloc, rows) {
-            Ok(edge) => self.take_head(alloc, keys, note, edge.as_slice()),
+            Ok(edge) => self.take_opened(alloc, head, edge.as_slice()),
             Err(AllocError) => Err(TakeFault::OutOfMemory),
         }
     }

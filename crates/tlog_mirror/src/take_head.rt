@@ -1,5 +1,5 @@
 //! The takes of heads.
-ghost use Rattle.std.specs.Prelude.{◌≡◌, ◌≤◌, ℕ, List, ◌∷◌, length, map, OnOk, OnErr};
+ghost use Rattle.std.specs.Prelude.{◌≡◌, ◌≤◌, ℕ, List, ◌∷◌, length, map, IfOk, OnOk, OnErr};
 ghost use Rattle.mirror_model.specs.Answered.{answer_of};
 ghost use Rattle.mirror_model.specs.Complete.{HasEdge};
 ghost use Rattle.mirror_model.specs.Heads.{IsHead};
@@ -7,14 +7,16 @@ ghost use Rattle.mirror_model.specs.Refusals.{JudgesHead, ReadsHead};
 ghost use Rattle.mirror_model.specs.Steps.{Answers, Takes};
 ghost use Rattle.mirror_model.specs.declared.items.Item.TheVariants.{Head};
 ghost use Rattle.node_store.specs.Strings.{Has, NoClash};
+ghost use Rattle.signed_note.specs.Keys.{Key};
+ghost use Rattle.tlog_text.specs.Answers.{seen};
 ghost use Rattle.tlog_mirror.specs.Adding.{added, with_note, with_strings};
+ghost use Rattle.tlog_mirror.specs.Opened.{IsOpenUnder, WasOpened};
 
 use crate::edge::take_edge;
-use crate::head_note::read_head;
 use crate::kept::{KeptNote, place_of};
 use crate::mirror::Mirror;
 use crate::takes::take_answer;
-use mirror_model::TakeFault;
+use mirror_model::{HeadNote, TakeFault, open_head};
 use node_store::{AddFault, Store};
 use signed_note::Verifier;
 use std::alloc::{AllocError, Global};
@@ -22,15 +24,37 @@ use tlog_checkpoint::Checkpoint;
 use tlog_hash::TreeHash;
 
 impl<H: TreeHash> Mirror<H> {
-    /// The checkpoint of a head's note, where the note is valid: it is a checkpoint of the mirror's origin, and
-    /// it opens under the keys (C2SP signed-note and tlog-checkpoint). Its edge is not asked for, and nothing
-    /// is taken.
+    /// A head's note and its checkpoint, where the note is valid: it is a checkpoint of the mirror's origin, and it opens
+    /// under the keys (C2SP signed-note and tlog-checkpoint). Its edge is not asked for, and nothing is taken. What it
+    /// gives is taken by `take_opened_rows` without verifying it again.
+    ///
+    /// ```text
+    /// mirror.open_head(alloc, &keys, &note)?.checkpoint.size   // 257
+    /// ```
     ///
     /// # Errors
     ///
     /// The first that applies: `Note`, where the bytes are no note; `Checkpoint`, where its text is no
     /// checkpoint; `OtherOrigin`; `NoTrustedSignature`, where no key accepts a line of it. `OutOfMemory` where
     /// memory was refused, before any of them or after.
+    pub fn open_head(
+        &self,
+        alloc: Global,
+        keys: &[Box<dyn Verifier>],
+        note: &[u8],
+    ) -> Result<HeadNote, TakeFault>
+        ensures reads { ReadsHead note.now self.now.view.origin (map (λ k. key k) keys.now)
+            (seen (λ head. head.checkpoint) result) }
+        ensures note { IfOk result (λ head. head.note.bytes ≡ note.now) }
+    {
+        open_head(alloc, self.origin(), keys, note)
+    }
+
+    /// The checkpoint of a head's note, as `open_head` gives it.
+    ///
+    /// # Errors
+    ///
+    /// Those of `open_head`.
     pub fn check_head(
         &self,
         alloc: Global,
@@ -39,8 +63,8 @@ impl<H: TreeHash> Mirror<H> {
     ) -> Result<Checkpoint, TakeFault>
         ensures { ReadsHead note.now self.now.view.origin (map (λ k. key k) keys.now) result }
     {
-        match read_head(alloc, self.origin(), keys, note) {
-            Ok((_, checkpoint)) => Ok(checkpoint),
+        match self.open_head(alloc, keys, note) {
+            Ok(HeadNote { checkpoint, .. }) => Ok(checkpoint),
             Err(fault) => Err(fault),
         }
     }
@@ -52,7 +76,7 @@ impl<H: TreeHash> Mirror<H> {
     ///
     /// # Errors
     ///
-    /// The first that applies: those of `check_head`; `EdgeCount`, where there are not as many rows as the
+    /// The first that applies: those of `open_head`; `EdgeCount`, where there are not as many rows as the
     /// size has partial tiles; `EdgeLength`, where a row has not 32 bytes for each hash of its tile;
     /// `EdgeMismatch`, where the rows do not lead to the root; `Collision`, where two different strings, of
     /// those that are held and the rows' own, share a digest. They leave the mirror as it was. `OutOfMemory`
@@ -71,10 +95,30 @@ impl<H: TreeHash> Mirror<H> {
             note.now (map (λ row. row.now) edge.now) result }
         ensures remembered { self.new.remembered ≡ self.old.remembered }
     {
-        let (note, checkpoint) = match read_head(alloc, self.origin(), keys, note) {
+        let head = match self.open_head(alloc, keys, note) {
             Ok(head) => head,
             Err(fault) => return Err(fault),
         };
+        self.take_opened(alloc, head, edge)
+    }
+
+    // Takes a head whose note was opened: it is not verified again.
+    pub(crate) fn take_opened(
+        &mut self,
+        alloc: Global,
+        head: HeadNote,
+        edge: &[&[u8]],
+    ) -> Result<(), TakeFault>
+        requires { WasOpened self.old.view.origin head }
+        ensures takes { (keys : List Key) → IsOpenUnder self.old.view.origin keys head
+            → Takes H.digest keys self.old.view (Head head.note.bytes (map (λ row. row.now) edge.now))
+            (answer_of result) self.new.view }
+        ensures judged { (keys : List Key) → IsOpenUnder self.old.view.origin keys head
+            → JudgesHead H.digest self.old.view.origin keys head.note.bytes
+            (map (λ row. row.now) edge.now) result }
+        ensures remembered { self.new.remembered ≡ self.old.remembered }
+    {
+        let HeadNote { note, checkpoint } = head;
         let size = checkpoint.size;
         let root = checkpoint.root;
         let mut strings = Store::new(alloc);

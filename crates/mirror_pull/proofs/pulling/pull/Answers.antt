@@ -21,7 +21,11 @@ use Rattle.mirror_pull.proofs.Followed.{edge_unanswered, rounds_stop, head_taken
 use Rattle.std.proofs.Common.{Err}
 use Rattle.mirror_pull.specs.declared.fault.PullFault.TheVariants.{NoCheckpoint}
 use Rattle.mirror_pull.proofs.LeftPulls.{kept_honestly}
+use Rattle.tlog_mirror.proofs.OpenHeads.{open_here}
 use Rattle.mirror_pull.proofs.pulling.pull.Goals as goal
+
+pub take_rows-requires : goal.take_rows-requires
+take_rows-requires g c = (_, open_here _ _ _ c.in_ok-head.head c.in_ok-head.ensures.reads c.in_ok-head.ensures.note _ refl)
 
 pub returns-in_err-rows-clause-once : goal.returns-in_err-rows-clause-once
 returns-in_err-rows-clause-once g c =
@@ -70,8 +74,8 @@ pub returns-in_err-take_rows-clause-outcome : goal.returns-in_err-take_rows-clau
 returns-in_err-take_rows-clause-outcome g c =
     let p = err_from_is_err_and c.from_residual-in_err-take_rows.result c.from_residual-in_err-take_rows.ensures.1 in
     rw (p.1, p.2)
-    (outcome_head g.H.TreeHash.digest _ c.args.mirror.now.view c.take_rows.new.mirror.view c.deref-2.result.now _
-    c.in_err-take_rows.field-0.0 c.in_err-take_rows.ensures.takes)
+    (outcome_head g.H.TreeHash.digest _ c.args.mirror.now.view c.take_rows.new.mirror.view c.in_ok-head.head.note.bytes _
+    c.in_err-take_rows.field-0.0 (c.in_err-take_rows.ensures.takes _ (open_here _ _ _ c.in_ok-head.head c.in_ok-head.ensures.reads c.in_ok-head.ensures.note _ refl)))
 
 pub returns-in_err-rounds-clause-outcome : goal.returns-in_err-rounds-clause-outcome
 returns-in_err-rounds-clause-outcome g c =
@@ -80,18 +84,18 @@ returns-in_err-rounds-clause-outcome g c =
     (outcome_late g.H.TreeHash.digest _ c.args.mirror.now.view c.work.new.mirror.view c.in_err-rounds.field-0.0
     c.in_err-rounds.ensures.late (grows_then _ c.args.mirror.now.view c.take_rows.new.mirror.view
     c.work.new.mirror.view (grows_head g.H.TreeHash.digest _ c.args.mirror.now.view c.take_rows.new.mirror.view
-    c.deref-2.result.now _ c.in_ok-take_rows.ensures.takes) c.in_err-rounds.ensures.gains))
+    c.in_ok-head.head.note.bytes _ (c.in_ok-take_rows.ensures.takes _ (open_here _ _ _ c.in_ok-head.head c.in_ok-head.ensures.reads c.in_ok-head.ensures.note _ refl))) c.in_err-rounds.ensures.gains))
 
 pub returns-clause-outcome : goal.returns-clause-outcome
 returns-clause-outcome g c = (
   grows_then _ c.args.mirror.now.view c.take_rows.new.mirror.view c.work.new.mirror.view
-      (grows_head g.H.TreeHash.digest _ c.args.mirror.now.view c.take_rows.new.mirror.view c.deref-2.result.now _
-      c.in_ok-take_rows.ensures.takes) c.in_ok-rounds.ensures.gains,
+      (grows_head g.H.TreeHash.digest _ c.args.mirror.now.view c.take_rows.new.mirror.view c.in_ok-head.head.note.bytes _
+      (c.in_ok-take_rows.ensures.takes _ (open_here _ _ _ c.in_ok-head.head c.in_ok-head.ensures.reads c.in_ok-head.ensures.note _ refl))) c.in_ok-rounds.ensures.gains,
   record {
     head = has_head g.H.TreeHash.digest _ c.args.mirror.now.view c.take_rows.new.mirror.view c.work.new.mirror.view
-        c.deref-2.result.now c.deref.result.now _ c.in_ok-checkpoint.checkpoint.size c.in_ok-checkpoint.checkpoint.root
-        (c.deref-2.ensures.value ∙ sym c.deref.ensures.value) c.in_ok-take_rows.ensures.takes.2
-        (opened_head _ _ _ c.in_ok-checkpoint.checkpoint c.in_ok-checkpoint.ensures) c.in_ok-rounds.ensures.gains.grows;
+        c.in_ok-head.head.note.bytes c.deref.result.now _ c.in_ok-head.head.checkpoint.size c.in_ok-head.head.checkpoint.root
+        ((c.in_ok-head.ensures.note ∙ c.deref.ensures.value) ∙ sym c.deref.ensures.value) (c.in_ok-take_rows.ensures.takes _ (open_here _ _ _ c.in_ok-head.head c.in_ok-head.ensures.reads c.in_ok-head.ensures.note _ refl)).2
+        (opened_head _ _ _ c.in_ok-head.head.checkpoint c.in_ok-head.ensures.reads) c.in_ok-rounds.ensures.gains.grows;
     complete = c.is_complete.ensures.0;
     not_complete = c.is_complete.ensures.1;
     at_most = c.in_ok-rounds.ensures.rounds;
@@ -104,9 +108,9 @@ returns-in_default-clause-honest g c =
     let unasked = none_asked c.new-asked.result.items Checkpoint c.new-asked.ensures.items in
     absurd (never_none note (is.checkpoint None (rw c.in_default.is at (c.in_ok-note.ensures.answer unasked))))
 
-pub returns-in_err-checkpoint-clause-honest : goal.returns-in_err-checkpoint-clause-honest
-returns-in_err-checkpoint-clause-honest g c =
-    let p = err_from_is_err_and c.from_residual-in_err-checkpoint.result c.from_residual-in_err-checkpoint.ensures.1 in
+pub returns-in_err-head-clause-honest : goal.returns-in_err-head-clause-honest
+returns-in_err-head-clause-honest g c =
+    let p = err_from_is_err_and c.from_residual-in_err-head.result c.from_residual-in_err-head.ensures.1 in
     rw (p.1, p.2) (λ entries note size is clean.
     let may = g.S.Source.may_answer in
     let unasked = none_asked c.new-asked.result.items Checkpoint c.new-asked.ensures.items in
@@ -117,7 +121,7 @@ returns-in_err-checkpoint-clause-honest g c =
     some_same c.in-Some.note.items note (is.checkpoint (Some c.in-Some.note.items) answer) in
     inl (ap of_take
     (honest_fault g.H.TreeHash.digest entries _ c.args.mirror.now.view note c.deref.result.now size
-    (may c.args.source.now) is same c.in_err-checkpoint.field-0.0 c.in_err-checkpoint.ensures)))
+    (may c.args.source.now) is same c.in_err-head.field-0.0 c.in_err-head.ensures.reads)))
 
 pub returns-in_err-rows-clause-honest : goal.returns-in_err-rows-clause-honest
 returns-in_err-rows-clause-honest g c =
@@ -126,7 +130,7 @@ returns-in_err-rows-clause-honest g c =
     let b =
     is_begun g.met.H.TreeHash.digest_length c.args.mirror.now.view is clean c.in_ok-note.ensures.later
     c.new-asked.ensures.items c.in_ok-note.ensures.grown c.deref.ensures.value
-    (rw c.in-Some.is at c.in_ok-note.ensures.answer) c.in_ok-checkpoint.ensures in
+    (rw c.in-Some.is at c.in_ok-note.ensures.answer) c.in_ok-head.ensures.reads in
     c.in_err-rows.ensures.honest _ entries b.source b.honestly.honest.within b.fresh)
 
 pub returns-in_err-take_rows-clause-honest : goal.returns-in_err-take_rows-clause-honest
@@ -136,13 +140,13 @@ returns-in_err-take_rows-clause-honest g c =
     let b =
     is_begun g.met.H.TreeHash.digest_length c.args.mirror.now.view is clean c.in_ok-note.ensures.later
     c.new-asked.ensures.items c.in_ok-note.ensures.grown c.deref.ensures.value
-    (rw c.in-Some.is at c.in_ok-note.ensures.answer) c.in_ok-checkpoint.ensures in
+    (rw c.in-Some.is at c.in_ok-note.ensures.answer) c.in_ok-head.ensures.reads in
     let got = c.in_ok-rows.ensures.honest _ entries b.source b.honestly.honest.within b.fresh in
-    let note_is = c.deref-2.ensures.value ∙ sym c.deref.ensures.value in
-    let rows_are = ap (map (λ row. row.items)) c.deref-3.ensures.value in
-    head_fault _ b.hash _ entries _ c.deref.result.now c.in_ok-checkpoint.checkpoint.size _ b.honestly.honest
+    let note_is = (c.in_ok-head.ensures.note ∙ c.deref.ensures.value) ∙ sym c.deref.ensures.value in
+    let rows_are = ap (map (λ row. row.items)) c.deref-2.ensures.value in
+    head_fault _ b.hash _ entries _ c.deref.result.now c.in_ok-head.head.checkpoint.size _ b.honestly.honest
     b.honestly.clean b.small c.take_rows.new.mirror.view _ _ c.in_err-take_rows.field-0.0 note_is
-    (rows_are_edge b got rows_are) c.in_err-take_rows.ensures.takes)
+    (rows_are_edge b got rows_are) (c.in_err-take_rows.ensures.takes _ (open_here _ _ _ c.in_ok-head.head c.in_ok-head.ensures.reads c.in_ok-head.ensures.note _ refl)))
 
 pub returns-in_err-rounds-clause-honest : goal.returns-in_err-rounds-clause-honest
 returns-in_err-rounds-clause-honest g c =
@@ -151,11 +155,11 @@ returns-in_err-rounds-clause-honest g c =
     let b =
     is_begun g.met.H.TreeHash.digest_length c.args.mirror.now.view is clean c.in_ok-note.ensures.later
     c.new-asked.ensures.items c.in_ok-note.ensures.grown c.deref.ensures.value
-    (rw c.in-Some.is at c.in_ok-note.ensures.answer) c.in_ok-checkpoint.ensures in
+    (rw c.in-Some.is at c.in_ok-note.ensures.answer) c.in_ok-head.ensures.reads in
     let got = c.in_ok-rows.ensures.honest _ entries b.source b.honestly.honest.within b.fresh in
-    let note_is = c.deref-2.ensures.value ∙ sym c.deref.ensures.value in
-    let rows_are = ap (map (λ row. row.items)) c.deref-3.ensures.value in
-    let on = may_go_on b got rows_are c.in_ok-rows.ensures.later note_is c.in_ok-take_rows.ensures.takes.2 in
+    let note_is = (c.in_ok-head.ensures.note ∙ c.deref.ensures.value) ∙ sym c.deref.ensures.value in
+    let rows_are = ap (map (λ row. row.items)) c.deref-2.ensures.value in
+    let on = may_go_on b got rows_are c.in_ok-rows.ensures.later note_is (c.in_ok-take_rows.ensures.takes _ (open_here _ _ _ c.in_ok-head.head c.in_ok-head.ensures.reads c.in_ok-head.ensures.note _ refl)).2 in
     c.in_err-rounds.ensures.honest entries on.may_work)
 
 pub returns-clause-honest : goal.returns-clause-honest
@@ -165,17 +169,17 @@ returns-clause-honest g c =
     let hash = g.met.H.TreeHash.digest_length in
     let v = c.args.mirror.now.view in
     let taken = c.deref.result.now in
-    let at = c.in_ok-checkpoint.checkpoint.size in
-    let root = c.in_ok-checkpoint.checkpoint.root in
+    let at = c.in_ok-head.head.checkpoint.size in
+    let root = c.in_ok-head.head.checkpoint.root in
     let none = c.new-asked.result.items in
     let b =
     is_begun hash v is clean c.in_ok-note.ensures.later
     c.new-asked.ensures.items c.in_ok-note.ensures.grown c.deref.ensures.value
-    (rw c.in-Some.is at c.in_ok-note.ensures.answer) c.in_ok-checkpoint.ensures in
+    (rw c.in-Some.is at c.in_ok-note.ensures.answer) c.in_ok-head.ensures.reads in
     let got = c.in_ok-rows.ensures.honest _ entries b.source b.honestly.honest.within b.fresh in
-    let note_is = c.deref-2.ensures.value ∙ sym c.deref.ensures.value in
-    let rows_are = ap (map (λ row. row.items)) c.deref-3.ensures.value in
-    let on = may_go_on b got rows_are c.in_ok-rows.ensures.later note_is c.in_ok-take_rows.ensures.takes.2 in
+    let note_is = (c.in_ok-head.ensures.note ∙ c.deref.ensures.value) ∙ sym c.deref.ensures.value in
+    let rows_are = ap (map (λ row. row.items)) c.deref-2.ensures.value in
+    let on = may_go_on b got rows_are c.in_ok-rows.ensures.later note_is (c.in_ok-take_rows.ensures.takes _ (open_here _ _ _ c.in_ok-head.head c.in_ok-head.ensures.reads c.in_ok-head.ensures.note _ refl)).2 in
     let w = c.take_rows.new.mirror.view in
     let asked = g.S.Source.asked in
     let edge_asked = c.edge_rows.new.asked.items in
@@ -293,8 +297,8 @@ returns-in_err-take_rows-clause-later g c =
 pub returns-in_default-clause-later : goal.returns-in_default-clause-later
 returns-in_default-clause-later g c = c.in_ok-note.ensures.later
 
-pub returns-in_err-checkpoint-clause-later : goal.returns-in_err-checkpoint-clause-later
-returns-in_err-checkpoint-clause-later g c = c.in_ok-note.ensures.later
+pub returns-in_err-head-clause-later : goal.returns-in_err-head-clause-later
+returns-in_err-head-clause-later g c = c.in_ok-note.ensures.later
 
 pub returns-in_err-note-clause-later : goal.returns-in_err-note-clause-later
 returns-in_err-note-clause-later g c = c.in_err-note.ensures.later
@@ -323,8 +327,8 @@ returns-in_default-clause-once g c =
     (some_of c.new-asked.result.items c.ask.new.asked.items (asked c.args.source.now) (asked c.ask.new.source)
     c.in_ok-note.ensures.told)
 
-pub returns-in_err-checkpoint-clause-once : goal.returns-in_err-checkpoint-clause-once
-returns-in_err-checkpoint-clause-once g c =
+pub returns-in_err-head-clause-once : goal.returns-in_err-head-clause-once
+returns-in_err-head-clause-once g c =
     let asked = g.S.Source.asked in
     from_none c.new-asked.result.items (asked c.args.source.now) (asked c.ask.new.source) c.new-asked.ensures.items
     (some_of c.new-asked.result.items c.ask.new.asked.items (asked c.args.source.now) (asked c.ask.new.source)
@@ -348,15 +352,15 @@ returns-in_default-clause-replies g c =
     c.new-asked.result.items c.ask.new.asked.items _ None c.new-asked.ensures.items
     (ap (option_map (λ v. v.items)) c.in_default.is) c.in_ok-note.ensures.replied
 
-pub returns-in_err-checkpoint-clause-replies : goal.returns-in_err-checkpoint-clause-replies
-returns-in_err-checkpoint-clause-replies g c =
-    let p = err_from_is_err_and c.from_residual-in_err-checkpoint.result c.from_residual-in_err-checkpoint.ensures.1 in
+pub returns-in_err-head-clause-replies : goal.returns-in_err-head-clause-replies
+returns-in_err-head-clause-replies g c =
+    let p = err_from_is_err_and c.from_residual-in_err-head.result c.from_residual-in_err-head.ensures.1 in
     rw (p.1, p.2)
     (follows_taken g.H.TreeHash.digest _ c.args.mirror.now.view c.args.mirror.now.view
     (g.S.Source.may_answer c.args.source.now) (g.S.Source.asked c.args.source.now)
     (g.S.Source.asked c.ask.new.source)
-    refl c.deref.result.now c.in-Some.note.items c.in_err-checkpoint.field-0.0 c.deref.ensures.value
-    c.in_err-checkpoint.ensures
+    refl c.deref.result.now c.in-Some.note.items c.in_err-head.field-0.0 c.deref.ensures.value
+    c.in_err-head.ensures.reads
     (replied_first g.H.TreeHash.digest _ c.args.mirror.now.view c.args.mirror.now.view
     (g.S.Source.may_answer c.args.source.now) (g.S.Source.asked c.args.source.now)
     (g.S.Source.asked c.ask.new.source)
@@ -374,12 +378,12 @@ returns-in_err-rows-clause-replies g c =
     let all =
     behind_note (g.S.Source.may_answer c.args.source.now) (g.S.Source.may_answer c.ask.new.source)
     (g.S.Source.asked c.args.source.now) (g.S.Source.asked c.ask.new.source) (g.S.Source.asked c.edge_rows.new.source)
-    c.new-asked.result.items c.ask.new.asked.items c.edge_rows.new.asked.items c.in-Some.note.items _ (λ asked xs. GivesNoRows asked (edge_of c.in_ok-checkpoint.checkpoint.size) xs) c.new-asked.ensures.items
+    c.new-asked.result.items c.ask.new.asked.items c.edge_rows.new.asked.items c.in-Some.note.items _ (λ asked xs. GivesNoRows asked (edge_of c.in_ok-head.head.checkpoint.size) xs) c.new-asked.ensures.items
     (ap (option_map (λ v. v.items)) c.in-Some.is) c.in_ok-note.ensures.later c.in_ok-note.ensures.replied (c.in_err-rows.ensures.replied.0 is) in
     record {
       note = c.in-Some.note.items;
-      checkpoint = c.in_ok-checkpoint.checkpoint;
-      is_open = rw c.deref.ensures.value at c.in_ok-checkpoint.ensures;
+      checkpoint = c.in_ok-head.head.checkpoint;
+      is_open = rw c.deref.ensures.value at c.in_ok-head.ensures.reads;
       edge = all.are.edge;
       not_given = all.are.are;
       replied = replied_of g.H.TreeHash.digest _ c.args.mirror.now.view c.args.mirror.now.view
@@ -390,35 +394,35 @@ returns-in_err-rows-clause-replies g c =
     (edge_unanswered (g.S.Source.may_answer c.args.source.now) (g.S.Source.may_answer c.ask.new.source)
     (g.S.Source.asked c.args.source.now) (g.S.Source.asked c.ask.new.source) (g.S.Source.asked c.edge_rows.new.source)
     c.new-asked.result.items c.ask.new.asked.items c.in-Some.note.items c.in_ok-note.ensures.later
-    c.args.mirror.now.view.origin _ c.in_ok-checkpoint.checkpoint _ c.in_err-rows.field-0.0
-    (rw c.deref.ensures.value at c.in_ok-checkpoint.ensures) c.new-asked.ensures.items
+    c.args.mirror.now.view.origin _ c.in_ok-head.head.checkpoint _ c.in_err-rows.field-0.0
+    (rw c.deref.ensures.value at c.in_ok-head.ensures.reads) c.new-asked.ensures.items
     (ap (option_map (λ v. v.items)) c.in-Some.is) c.in_ok-note.ensures.replied (c.in_err-rows.ensures.replied.1 other))
     (λ xs tried u. EndsAsking refl u)))
 
 pub returns-in_err-take_rows-clause-replies : goal.returns-in_err-take_rows-clause-replies
 returns-in_err-take_rows-clause-replies g c =
     let p = err_from_is_err_and c.from_residual-in_err-take_rows.result c.from_residual-in_err-take_rows.ensures.1 in
-    let same = c.deref-2.ensures.value in
-    let are = ap (map (λ row. row.items)) c.deref-3.ensures.value in
+    let same = (c.in_ok-head.ensures.note ∙ c.deref.ensures.value) in
+    let are = ap (map (λ row. row.items)) c.deref-2.ensures.value in
     let v = c.args.mirror.now.view in
     let w = c.take_rows.new.mirror.view in
     let note = c.in-Some.note.items in
     let rows = map (λ row. row.items) c.in_ok-rows.rows.items in
-    let opens = rw c.deref.ensures.value at c.in_ok-checkpoint.ensures in
+    let opens = rw c.deref.ensures.value at c.in_ok-head.ensures.reads in
     let all =
     behind_note (g.S.Source.may_answer c.args.source.now) (g.S.Source.may_answer c.ask.new.source)
     (g.S.Source.asked c.args.source.now) (g.S.Source.asked c.ask.new.source) (g.S.Source.asked c.edge_rows.new.source)
     c.new-asked.result.items c.ask.new.asked.items c.edge_rows.new.asked.items note _
-    (λ asked xs. GivesRows asked (edge_of c.in_ok-checkpoint.checkpoint.size) xs rows) c.new-asked.ensures.items
+    (λ asked xs. GivesRows asked (edge_of c.in_ok-head.head.checkpoint.size) xs rows) c.new-asked.ensures.items
     (ap (option_map (λ v. v.items)) c.in-Some.is) c.in_ok-note.ensures.later c.in_ok-note.ensures.replied
     c.in_ok-rows.ensures.replied in
     rw (p.1, p.2)
     (follows_head g.H.TreeHash.digest _ v w (g.S.Source.may_answer c.args.source.now)
-    (g.S.Source.asked c.args.source.now) (g.S.Source.asked c.edge_rows.new.source) note c.deref-2.result.now rows _
-    c.in_err-take_rows.field-0.0 same are (rw (same, are) at c.in_err-take_rows.ensures.judged)
-    c.in_err-take_rows.ensures.takes (λ f judged. record {
+    (g.S.Source.asked c.args.source.now) (g.S.Source.asked c.edge_rows.new.source) note c.in_ok-head.head.note.bytes rows _
+    c.in_err-take_rows.field-0.0 same are (rw (same, are) at (c.in_err-take_rows.ensures.judged _ (open_here _ _ _ c.in_ok-head.head c.in_ok-head.ensures.reads c.in_ok-head.ensures.note _ refl)))
+    (c.in_err-take_rows.ensures.takes _ (open_here _ _ _ c.in_ok-head.head c.in_ok-head.ensures.reads c.in_ok-head.ensures.note _ refl)) (λ f judged. record {
       note = note;
-      checkpoint = c.in_ok-checkpoint.checkpoint;
+      checkpoint = c.in_ok-head.head.checkpoint;
       is_open = opens;
       edge = all.are.edge;
       rows = rows;
@@ -428,7 +432,7 @@ returns-in_err-take_rows-clause-replies g c =
           (g.S.Source.asked c.args.source.now) (g.S.Source.asked c.edge_rows.new.source)
           c.new-asked.result.items c.edge_rows.new.asked.items _ all _ all.are.replies_are;
     }) (λ Are given. ends_behind all (λ xs list behind. given xs (record {
-      checkpoint = c.in_ok-checkpoint.checkpoint;
+      checkpoint = c.in_ok-head.head.checkpoint;
       is_open = opens;
       edge = behind.edge;
       given = behind.are;
@@ -442,15 +446,15 @@ returns-in_err-rounds-clause-replies g c =
     let may = g.S.Source.may_answer in
     let v = c.args.mirror.now.view in
     let x = c.take_rows.new.mirror.view in
-    let size = c.in_ok-checkpoint.checkpoint.size in
-    let root = c.in_ok-checkpoint.checkpoint.root in
+    let size = c.in_ok-head.head.checkpoint.size in
+    let root = c.in_ok-head.head.checkpoint.root in
     let note = c.in-Some.note.items in
     let rows = map (λ row. row.items) c.in_ok-rows.rows.items in
-    let opens = rw c.deref.ensures.value at c.in_ok-checkpoint.ensures in
-    let opened = opened_head _ _ _ c.in_ok-checkpoint.checkpoint opens in
+    let opens = rw c.deref.ensures.value at c.in_ok-head.ensures.reads in
+    let opened = opened_head _ _ _ c.in_ok-head.head.checkpoint opens in
     let head =
-    has_head digest _ v x x c.deref-2.result.now note _ size root c.deref-2.ensures.value
-    c.in_ok-take_rows.ensures.takes.2 opened (within_itself x) in
+    has_head digest _ v x x c.in_ok-head.head.note.bytes note _ size root (c.in_ok-head.ensures.note ∙ c.deref.ensures.value)
+    (c.in_ok-take_rows.ensures.takes _ (open_here _ _ _ c.in_ok-head.head c.in_ok-head.ensures.reads c.in_ok-head.ensures.note _ refl)).2 opened (within_itself x) in
     let all =
     behind_note (may c.args.source.now) (may c.ask.new.source) (g.S.Source.asked c.args.source.now)
     (g.S.Source.asked c.ask.new.source) (g.S.Source.asked c.edge_rows.new.source)
@@ -466,9 +470,9 @@ returns-in_err-rounds-clause-replies g c =
     c.edge_rows.new.asked.items note
     (stays_then (may c.args.source.now) (may c.ask.new.source) (may c.edge_rows.new.source) c.in_ok-note.ensures.later
     c.in_ok-rows.ensures.later)
-    digest _ v x c.work.new.mirror.view c.in_ok-checkpoint.checkpoint rows c.in_err-rounds.field-0.0
-    (head_taken digest v x note c.deref-2.result.now rows _ c.deref-2.ensures.value
-    (ap (map (λ row. row.items)) c.deref-3.ensures.value) c.in_ok-take_rows.ensures.takes.2) opens all
+    digest _ v x c.work.new.mirror.view c.in_ok-head.head.checkpoint rows c.in_err-rounds.field-0.0
+    (head_taken digest v x note c.in_ok-head.head.note.bytes rows _ (c.in_ok-head.ensures.note ∙ c.deref.ensures.value)
+    (ap (map (λ row. row.items)) c.deref-2.ensures.value) (c.in_ok-take_rows.ensures.takes _ (open_here _ _ _ c.in_ok-head.head c.in_ok-head.ensures.reads c.in_ok-head.ensures.note _ refl)).2) opens all
     (c.in_err-rounds.ensures.replied head)))
 
 pub returns-clause-replies : goal.returns-clause-replies
@@ -477,14 +481,14 @@ returns-clause-replies g c =
     let may = g.S.Source.may_answer in
     let v = c.args.mirror.now.view in
     let x = c.take_rows.new.mirror.view in
-    let size = c.in_ok-checkpoint.checkpoint.size in
-    let root = c.in_ok-checkpoint.checkpoint.root in
+    let size = c.in_ok-head.head.checkpoint.size in
+    let root = c.in_ok-head.head.checkpoint.root in
     let rows = map (λ row. row.items) c.in_ok-rows.rows.items in
     let opened =
-    opened_head _ _ _ c.in_ok-checkpoint.checkpoint (rw c.deref.ensures.value at c.in_ok-checkpoint.ensures) in
+    opened_head _ _ _ c.in_ok-head.head.checkpoint (rw c.deref.ensures.value at c.in_ok-head.ensures.reads) in
     let head =
-    has_head digest _ v x x c.deref-2.result.now c.in-Some.note.items _ size root c.deref-2.ensures.value
-    c.in_ok-take_rows.ensures.takes.2 opened (within_itself x) in
+    has_head digest _ v x x c.in_ok-head.head.note.bytes c.in-Some.note.items _ size root (c.in_ok-head.ensures.note ∙ c.deref.ensures.value)
+    (c.in_ok-take_rows.ensures.takes _ (open_here _ _ _ c.in_ok-head.head c.in_ok-head.ensures.reads c.in_ok-head.ensures.note _ refl)).2 opened (within_itself x) in
     let all =
     behind_note (g.S.Source.may_answer c.args.source.now) (g.S.Source.may_answer c.ask.new.source)
     (g.S.Source.asked c.args.source.now) (g.S.Source.asked c.ask.new.source) (g.S.Source.asked c.edge_rows.new.source)
@@ -492,8 +496,8 @@ returns-clause-replies g c =
     (ap (option_map (λ v. v.items)) c.in-Some.is) c.in_ok-note.ensures.later c.in_ok-note.ensures.replied c.in_ok-rows.ensures.replied in
     pulled_by digest _ v x c.work.new.mirror.view (may c.args.source.now) (g.S.Source.asked c.args.source.now)
     (g.S.Source.asked c.work.new.source) c.new-asked.result.items c.work.new.asked.items c.in-Some.note.items
-    c.deref-2.result.now rows _ _ c.deref-2.ensures.value (ap (map (λ row. row.items)) c.deref-3.ensures.value)
-    c.in_ok-take_rows.ensures.takes.2 opened
+    c.in_ok-head.head.note.bytes rows _ _ (c.in_ok-head.ensures.note ∙ c.deref.ensures.value) (ap (map (λ row. row.items)) c.deref-2.ensures.value)
+    (c.in_ok-take_rows.ensures.takes _ (open_here _ _ _ c.in_ok-head.head c.in_ok-head.ensures.reads c.in_ok-head.ensures.note _ refl)).2 opened
     (all_replies (may c.args.source.now) (may c.edge_rows.new.source) (g.S.Source.asked c.args.source.now)
     (g.S.Source.asked c.edge_rows.new.source) (g.S.Source.asked c.work.new.source) c.new-asked.result.items
     c.edge_rows.new.asked.items c.work.new.asked.items c.in-Some.note.items
@@ -515,11 +519,11 @@ returns-in_default-clause-kept g c =
     (g.S.Source.may_answer c.args.source.now) (g.S.Source.asked c.args.source.now)
     (g.S.Source.asked c.ask.new.source) (Err NoCheckpoint) (returns-in_default-clause-replies g c)
 
-pub returns-in_err-checkpoint-clause-kept : goal.returns-in_err-checkpoint-clause-kept
-returns-in_err-checkpoint-clause-kept g c =
+pub returns-in_err-head-clause-kept : goal.returns-in_err-head-clause-kept
+returns-in_err-head-clause-kept g c =
     kept_honestly g.H.TreeHash.digest g.met.H.TreeHash.digest_length _ c.args.mirror.now.view c.args.mirror.now.view
     (g.S.Source.may_answer c.args.source.now) (g.S.Source.asked c.args.source.now)
-    (g.S.Source.asked c.ask.new.source) _ (returns-in_err-checkpoint-clause-replies g c)
+    (g.S.Source.asked c.ask.new.source) _ (returns-in_err-head-clause-replies g c)
 
 pub returns-in_err-rows-clause-kept : goal.returns-in_err-rows-clause-kept
 returns-in_err-rows-clause-kept g c =

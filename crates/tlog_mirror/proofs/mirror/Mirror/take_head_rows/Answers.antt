@@ -1,5 +1,31 @@
+use Rattle.std.proofs.Common.{refl, map}
+use Rattle.tlog_mirror.proofs.OpenHeads.{judged_as_bytes, open_here, taken_as_bytes}
+use Rattle.tlog_mirror.proofs.TakenHeads.{note_judges, note_takes}
 use Rattle.tlog_mirror.proofs.mirror.Mirror.take_head_rows.Goals as goal
 
-pub returns-in-Ok-clause-takes : goal.returns-in-Ok-clause-takes
-returns-in-Ok-clause-takes g c =
-    rw c.in-Ok.ensures at (rw c.as_slice.ensures.value at c.take_head.ensures.takes)
+pub returns-in-Err-clause-takes : goal.returns-in-Err-clause-takes
+returns-in-Err-clause-takes g c =
+    note_takes g.H.TreeHash.digest _ c.args.self.now.view c.args.note.now
+    (map (λ row. row.items) c.args.rows.now) c.args.self.now.view.origin refl c.in-Err.fault c.in-Err.ensures.reads
+
+pub returns-in-Err-clause-judged : goal.returns-in-Err-clause-judged
+returns-in-Err-clause-judged g c =
+    note_judges g.H.TreeHash.digest _ c.args.self.now.view c.args.note.now
+    (map (λ row. row.items) c.args.rows.now) c.args.self.now.view.origin refl c.in-Err.fault c.in-Err.ensures.reads
+
+pub take_opened_rows-requires : goal.take_opened_rows-requires
+take_opened_rows-requires g c =
+    (_, open_here c.args.note.now c.args.self.now.view.origin _ c.in-Ok.head c.in-Ok.ensures.reads c.in-Ok.ensures.note
+    c.args.self.now.view.origin refl)
+
+pub returns-clause-takes : goal.returns-clause-takes
+returns-clause-takes g c =
+    taken_as_bytes g.H.TreeHash.digest c.args.note.now c.args.self.now.view.origin _ c.in-Ok.head c.in-Ok.ensures.reads
+    c.in-Ok.ensures.note c.args.self.now.view refl (map (λ row. row.items) c.args.rows.now) c.take_opened_rows.result
+    c.take_opened_rows.new.self.view (c.take_opened_rows.ensures.takes _)
+
+pub returns-clause-judged : goal.returns-clause-judged
+returns-clause-judged g c =
+    judged_as_bytes g.H.TreeHash.digest c.args.note.now c.args.self.now.view.origin _ c.in-Ok.head c.in-Ok.ensures.reads
+    c.in-Ok.ensures.note c.args.self.now.view refl (map (λ row. row.items) c.args.rows.now) c.take_opened_rows.result
+    (c.take_opened_rows.ensures.judged _)

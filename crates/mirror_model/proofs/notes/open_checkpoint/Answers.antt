@@ -1,8 +1,8 @@
 use Rattle.std.proofs.Common.{◌≡◌, rules, subst}
 use Rattle.tlog_checkpoint.specs.Grammar.{IsCheckpoint}
 use Rattle.mirror_model.specs.Refusals.{IsCheckpointNote}
-use Rattle.tlog_mirror.proofs.OpenedNotes.{opened, not_opened}
-use Rattle.tlog_mirror.proofs.head_note.open_head.Goals as goal
+use Rattle.mirror_model.proofs.OpenedNotes.{opened, not_opened}
+use Rattle.mirror_model.proofs.notes.open_checkpoint.Goals as goal
 
 pub returns-in-Ok-open_note : goal.returns-in-Ok-open_note
 returns-in-Ok-open_note g c =
