@@ -6,6 +6,7 @@ mod Listed
 mod OneLoad
 mod Loaded
 mod ListedItems
+mod OpenedNotes
 mod Gathered
 pub mod Putting
 mod Saved

@@ -129,7 +129,7 @@ module _ (f : List ℕ → List ℕ) (items : List (Bor (List ℕ))) (i : ℕ) (
   in_bytes : i < length (bytes_of items)
   in_bytes = omega (arith, same_len items, lt)
 
-  more_taken : take (i + 1) (bytes_of items) ≡ take i (bytes_of items) ++ item ∷ []
+  pub more_taken : take (i + 1) (bytes_of items) ≡ take i (bytes_of items) ++ item ∷ []
   more_taken = take_more (bytes_of items) i item in_bytes
       ∙ ap (λ (x : List ℕ). take i (bytes_of items) ++ x ∷ []) (item_at items i d item lt)
 

@@ -1,6 +1,6 @@
 -- Which note of a state text is why it is not loaded.
 use Rattle.std.proofs.Common.{◌≡◌, ◌≢◌, inl, inr, ℕ, ◌<◌, ◌^◌, true, false, List, [], length, take, All}
-use Rattle.std.proofs.Common.{get_or, Option, Some, None, Result, Ok, Err, Bor, refl, sym, ap, subst, ◌∙◌, arith}
+use Rattle.std.proofs.Common.{get_or, Option, Some, None, Result, Ok, Err, Bor, refl, ap, subst, ◌∙◌, arith}
 use Rattle.std.proofs.Common.{◌++◌, append_assoc, codes}
 use Rattle.std.specs.Prelude.{◌↔◌, IsTrue, IfOk, IfSome, IfNone, option_map}
 use Rattle.std.specs.FinSet as set
@@ -8,19 +8,8 @@ use Rattle.std.proofs.lemmas.Option.{slice_get-get_or, slice_get_within}
 use Rattle.tlog_text.specs.Answers.{seen}
 use Rattle.node_store.specs.Strings.{NoClash}
 use Rattle.signed_note.specs.Keys.{Key}
-use Rattle.signed_note.specs.Notes.{NoteParts}
-use Rattle.signed_note.specs.Reading.{ReadsNote}
-use Rattle.signed_note.specs.declared.fault.NoteFault.{NoteFault}
-use Rattle.signed_note.specs.declared.fault.NoteFault.TheVariants as noting
-use Rattle.signed_note.proofs.OneReading as note
 use Rattle.tlog_checkpoint.specs.declared.Checkpoint.{Checkpoint}
-use Rattle.tlog_checkpoint.specs.declared.fault.CheckpointFault.{CheckpointFault}
-use Rattle.tlog_checkpoint.specs.declared.fault.CheckpointFault.TheVariants as reading
-use Rattle.tlog_checkpoint.specs.Grammar.{IsCheckpoint}
-use Rattle.tlog_checkpoint.specs.Reading.{ReadsCheckpoint}
-use Rattle.tlog_checkpoint.proofs.OneAnswer as checkpoint
 use Rattle.mirror_model.specs.Complete.{HasEdge}
-use Rattle.mirror_model.specs.Heads.{IsHead}
 use Rattle.mirror_model.specs.Refusals.{IsOpenCheckpoint, ReadsHead}
 use Rattle.mirror_model.specs.View.{View}
 use Rattle.mirror_model.specs.declared.fault.TakeFault.{TakeFault}
@@ -66,20 +55,6 @@ module _ (note origin : List ℕ) (keys : List Key) where
       IsTrue false ↔ IsOpenNote origin keys note
   stays_closed fault memory h = (λ t. absurd (cc t), λ o. absurd (not_open note origin keys fault memory h o))
 
-pub all_open_at : {E : Type 0} (o origin : List ℕ) (keys : List Key) (notes : List (List ℕ))
-    (result : Result (Option (ℕ × Bor (List ℕ))) E) → o ≡ origin →
-    IfOk result (λ a. IfNone a (All (IsOpenNote o keys) notes)) →
-    IfOk result (λ a. IfNone a (All (IsOpenNote origin keys) notes))
-all_open_at o origin keys notes result is h =
-    subst (λ x. IfOk result (λ a. IfNone a (All (IsOpenNote x keys) notes))) is h
-
-pub one_closed_at : {E : Type 0} (o origin : List ℕ) (keys : List Key) (notes : List (List ℕ))
-    (result : Result (Option (ℕ × Bor (List ℕ))) E) → o ≡ origin →
-    IfOk result (λ a. IfSome a (λ x. IsFirstNot (IsOpenNote o keys) notes x.0 x.1.now)) →
-    IfOk result (λ a. IfSome a (λ x. IsFirstNot (IsOpenNote origin keys) notes x.0 x.1.now))
-one_closed_at o origin keys notes result is h =
-    subst (λ y. IfOk result (λ a. IfSome a (λ x. IsFirstNot (IsOpenNote y keys) notes x.0 x.1.now))) is h
-
 -- ---- edges that are held
 
 module _ (digest : List ℕ → List ℕ) (old current new : View) (keys : List Key) (items : List (Bor (List ℕ))) (i : ℕ)
@@ -92,40 +67,6 @@ module _ (digest : List ℕ → List ℕ) (old current new : View) (keys : List 
   stays_unheld opened restoring.UnheldEdge memory h e =
       h.1 (edge_moves_back digest old current (get_or items i d).now (take i (bytes_of items)) view_is e)
   stays_unheld opened restoring.OutOfMemory memory h e = absurd (memory refl)
-
--- ---- what a note says
-
-pub says : (bytes text : List ℕ) (parts : NoteParts) (c : Checkpoint) → ReadsNote bytes (Ok parts) →
-    text ≡ parts.text → ReadsCheckpoint text (Ok c) → IsHead bytes c.origin c.size c.root
-says bytes text parts c n same h = record {
-  text = parts.text;
-  lines = parts.lines;
-  extensions = c.extensions;
-  is_note = n.1;
-  is_checkpoint = subst (λ t. IsCheckpoint t c.origin c.size c.root c.extensions) same h;
-}
-
-module _ (bytes origin : List ℕ) (size : ℕ) (root : List ℕ) (head : IsHead bytes origin size root) where
-  pub no_note : (fault : NoteFault) → fault ≢ noting.OutOfMemory → ReadsNote bytes (Err fault) → ⊥
-  no_note fault memory refused =
-      let one : Result NoteParts NoteFault =
-      Ok (record { bytes = bytes; text = head.text; lines = head.lines }) in
-      let other : Result NoteParts NoteFault = Err fault in
-      let same : one ≡ other =
-      note.one_answer bytes one other (λ e. cc e) (λ e. memory (cc e)) (refl, head.is_note) refused in
-      cc same
-
-  pub no_checkpoint : (parts : NoteParts) (text : List ℕ) (fault : CheckpointFault) → ReadsNote bytes (Ok parts) →
-      text ≡ parts.text → fault ≢ reading.OutOfMemory → ReadsCheckpoint text (Err fault) → ⊥
-  no_checkpoint parts text fault n is memory refused =
-      let texts = (note.notes_are_read bytes head.text parts.text head.lines parts.lines head.is_note n.1).0 in
-      let c : Checkpoint = record { origin = origin; size = size; root = root; extensions = head.extensions } in
-      let one : Result Checkpoint CheckpointFault = Ok c in
-      let other : Result Checkpoint CheckpointFault = Err fault in
-      let same : one ≡ other =
-      checkpoint.one_answer text one other (λ e. cc e) (λ e. memory (cc e))
-      (subst (λ t. IsCheckpoint t origin size root head.extensions) (texts ∙ sym is) head.is_checkpoint) refused in
-      cc same
 
 -- ---- bytes that are not refused for a note
 

@@ -1,6 +1,6 @@
 -- What the steps of a loader answer. The contracts of private functions cite these words; what a
 -- loader answers needs none of them.
-use Rattle.std.specs.Prelude.{◌≡◌, ℕ, ◌≤◌, List, ◌∷◌, length, All, Result, Ok, Err, ⊤}
+use Rattle.std.specs.Prelude.{◌≡◌, ℕ, ◌≤◌, List, ◌∷◌, length, map, All, Result, Ok, Err, ⊤}
 use Rattle.std.specs.FinSet as set
 use Rattle.signed_note.specs.Keys.{Key}
 use Rattle.node_store.specs.Strings.{Strings, NoClash}
@@ -14,6 +14,8 @@ use Rattle.byte_streams.specs.declared.fault.StreamFault.TheVariants as streams
 use Rattle.node_store.specs.declared.store.AddFault.{AddFault}
 use Rattle.node_store.specs.declared.store.AddFault.TheVariants as adding
 use Rattle.tlog_mirror.specs.Adding.{with_notes}
+use Rattle.mirror_model.specs.declared.notes.HeadNote.{HeadNote}
+use Rattle.tlog_mirror.specs.Opened.{SaysHead}
 use Rattle.tlog_mirror.specs.Restored.{IsOpenNote, strings_alone}
 use Rattle.mirror_state.specs.StateText.{Parts, Parted, Tagged}
 use Rattle.mirror_state.specs.Reading.{ReadsParts}
@@ -144,6 +146,35 @@ ChecksNote origin keys note answer =
 abbrev pub ChecksNotes : List ℕ → List Key → List (List ℕ) → Result (Unit {0}) LoadFault → Type 0
 ChecksNotes origin keys notes answer =
     PassesOrFails (All (IsOpenNote origin keys) notes) (HasClosed origin keys notes) answer
+
+-- the bytes of a head's note
+abbrev pub head_bytes : HeadNote → List ℕ
+head_bytes head = head.note.bytes
+
+-- a head that is the note, which opens under the keys
+pub record IsOpened (origin : List ℕ) (keys : List Key) (note : List ℕ) (head : HeadNote)
+    : Type 0 where
+  pub opens : IsOpenNote origin keys note
+  pub bytes_are : head_bytes head ≡ note
+  pub said : SaysHead origin head
+
+-- what each answer of opening a note says: its head, or that it does not open
+abbrev pub OpensNote : List ℕ → List Key → List ℕ → Result HeadNote LoadFault → Type 0
+OpensNote origin keys note (Ok head) = IsOpened origin keys note head
+OpensNote origin keys note (Err fault) = ChecksNote origin keys note (Err fault)
+
+-- the heads of the notes so far, each of which opens under the keys
+pub record AreOpened (origin : List ℕ) (keys : List Key) (notes : List (List ℕ))
+    (heads : List HeadNote) : Type 0 where
+  pub opened : All (IsOpenNote origin keys) notes
+  pub bytes_are : map head_bytes heads ≡ notes
+  pub said : All (SaysHead origin) heads
+
+-- what each answer of opening all notes says: their heads, or that one does not open
+abbrev pub OpensNotes :
+    List ℕ → List Key → List (List ℕ) → Result (List HeadNote) LoadFault → Type 0
+OpensNotes origin keys notes (Ok heads) = AreOpened origin keys notes heads
+OpensNotes origin keys notes (Err fault) = ChecksNotes origin keys notes (Err fault)
 
 -- what each answer of keeping all notes says: all are kept, each with its edge held, or the edge of
 -- one is not

@@ -1,5 +1,5 @@
 //! What a mirror holds, in the order in which a state text lists it.
-ghost use Rattle.std.specs.Prelude.{◌≡◌, ◌↔◌, ◌++◌, ℕ, List, map, All, IfOk};
+ghost use Rattle.std.specs.Prelude.{◌≡◌, ◌↔◌, ◌++◌, ℕ, List, map, All, IfOk, OnOk};
 ghost use Rattle.std.specs.List.{Contains};
 ghost use Rattle.mirror_model.specs.Listed.{ListsNotes};
 ghost use Rattle.mirror_state.specs.Listing.{HoldsEach, ListsEach, ListsView};
@@ -60,7 +60,7 @@ fn entries_of<H: TreeHash>(alloc: Global, store: &Store<H>) -> Result<Vec<&[u8]>
     ensures { IfOk result (λ entries. ListsEach 0 store.now (map (λ e. e.now) entries.items)) }
 {
     let mut entries = all_entries(alloc, store)?;
-    sort_entries(&mut entries);
+    sort_entries(&mut entries)?;
     Ok(entries)
 }
 
@@ -78,14 +78,16 @@ fn all_entries<H: TreeHash>(alloc: Global, store: &Store<H>) -> Result<Vec<&[u8]
     Ok(entries)
 }
 
-// Puts entries in order, each once.
-fn sort_entries(entries: &mut Vec<&[u8]>)
-    ensures rises { Rises (map (λ e. e.now) entries.new.items) }
-    ensures same { (e : List ℕ) → Contains (map (λ e. e.now) entries.new.items) e
-        ↔ Contains (map (λ e. e.now) entries.old.items) e }
+// Puts entries in order, each once. A store that was loaded gives them in order up to those that came later: of such a
+// list the stable sort takes one look at each.
+fn sort_entries(entries: &mut Vec<&[u8]>) -> Result<(), AllocError>
+    ensures rises { OnOk result (Rises (map (λ e. e.now) entries.new.items)) }
+    ensures same { OnOk result ((e : List ℕ) → Contains (map (λ e. e.now) entries.new.items) e
+        ↔ Contains (map (λ e. e.now) entries.old.items) e) }
 {
-    entries.sort_unstable();
+    entries.sort()?;
     entries.dedup();
+    Ok(())
 }
 
 // The pairs of a store.
@@ -93,7 +95,7 @@ fn pairs_of<H: TreeHash>(alloc: Global, store: &Store<H>) -> Result<Vec<KeyedPai
     ensures { IfOk result (λ pairs. ListsEach 1 store.now (map pair_bytes pairs.items)) }
 {
     let mut pairs = all_pairs(alloc, store)?;
-    sort_pairs(&mut pairs);
+    sort_pairs(&mut pairs)?;
     Ok(pairs)
 }
 
@@ -124,12 +126,13 @@ fn pair_of<'a>(left: &'a Hash, right: &'a Hash) -> KeyedPair<'a>
 }
 
 // Puts pairs in order, each once.
-fn sort_pairs(pairs: &mut Vec<KeyedPair<'_>>)
+fn sort_pairs(pairs: &mut Vec<KeyedPair<'_>>) -> Result<(), AllocError>
     requires { All IsKeyed pairs.old.items }
-    ensures rises { Rises (map pair_bytes pairs.new.items) }
-    ensures same { (p : List ℕ) → Contains (map pair_bytes pairs.new.items) p
-        ↔ Contains (map pair_bytes pairs.old.items) p }
+    ensures rises { OnOk result (Rises (map pair_bytes pairs.new.items)) }
+    ensures same { OnOk result ((p : List ℕ) → Contains (map pair_bytes pairs.new.items) p
+        ↔ Contains (map pair_bytes pairs.old.items) p) }
 {
-    pairs.sort_unstable();
+    pairs.sort()?;
     pairs.dedup();
+    Ok(())
 }

@@ -3,22 +3,24 @@ ghost use Rattle.std.specs.Prelude.{◌≡◌, ◌≢◌, ◌↔◌, ◌<◌, �
 ghost use Rattle.std.specs.FinSet as set;
 ghost use Rattle.mirror_model.specs.Origin.{IsOrigin};
 ghost use Rattle.node_store.specs.Strings.{Clashes, NoClash};
-ghost use Rattle.tlog_mirror.specs.Restored.{IsOpenNote};
+ghost use Rattle.signed_note.specs.Keys.{Key};
+ghost use Rattle.tlog_mirror.specs.Opened.{SaysHead};
 ghost use Rattle.tlog_text.specs.Answers.{seen};
-ghost use Rattle.mirror_state.specs.LoadSteps.{AddsListed, AreListable, ChecksLists, ChecksNote, ChecksNotes, IsListable, KeepsNotes, MakesMirror, MakesStore, load_fault_of, note_fault_of, stream_fault_of, tagged_as};
-ghost use Rattle.mirror_state.specs.Loading.{HasStrings, IsStateString, Loads, listed_strings};
+ghost use Rattle.mirror_state.specs.LoadSteps.{AddsListed, AreListable, AreOpened, ChecksLists, IsListable, KeepsNotes, MakesMirror, MakesStore, OpensNote, OpensNotes, head_bytes, load_fault_of, note_fault_of, stream_fault_of, tagged_as};
+ghost use Rattle.mirror_state.specs.Loading.{HasStrings, IsStateString, Loads, listed_notes, listed_strings};
 ghost use Rattle.mirror_state.specs.Stands.{parts_of};
 
 use crate::fault::LoadFault;
 use crate::lists::Lists;
 use crate::parts::{PartsFault, read_parts};
 use byte_streams::{StreamFault, read_all};
+use mirror_model::{HeadNote, open_head};
 use node_store::{AddFault, Store, Tagged};
 use signed_note::Verifier;
-use std::alloc::Global;
+use std::alloc::{AllocError, Global};
 use std::io::Read;
 use tlog_hash::{Hash, TreeHash};
-use tlog_mirror::{Mirror, RestoreFault, TakeFault};
+use tlog_mirror::{Mirror, TakeFault};
 
 // How often a reader is read at most.
 const READS: u64 = 16_777_216;
@@ -118,13 +120,34 @@ fn load_lists<H: TreeHash>(
     ensures remembered { IfOk result (λ mirror. mirror.remembered ≡ set.empty) }
     ensures fault { result ≢ Err LoadFault.ReadFault }
 {
-    check_all::<H>(alloc, origin, keys, lists.notes())?;
+    let heads = open_all(alloc, origin, keys, lists.notes())?;
+    let loaded = load_opened(alloc, origin, lists, heads.as_slice());
+    drop(heads);
+    loaded
+}
+
+// The mirror of what is listed in order, the notes of which were opened as these heads.
+fn load_opened<H: TreeHash>(
+    alloc: Global,
+    origin: &str,
+    lists: &Lists,
+    heads: &[HeadNote],
+) -> Result<Mirror<H>, LoadFault>
+    requires listable { AreListable (parts_of lists.now) }
+    requires said { All (SaysHead origin.now) heads.now }
+    ensures loads { (bytes : List ℕ) (keys : List Key)
+        → HasStrings origin.now bytes (parts_of lists.now)
+        → AreOpened origin.now keys (listed_notes (parts_of lists.now)) heads.now
+        → Loads H.digest origin.now keys bytes (seen (λ mirror. mirror.view) result) }
+    ensures remembered { IfOk result (λ mirror. mirror.remembered ≡ set.empty) }
+    ensures fault { result ≢ Err LoadFault.ReadFault }
+{
     let mut mirror = match mirror_of::<H>(alloc, origin, lists) {
         Ok(mirror) => mirror,
         Err(AddFault::Collision) => return Err(LoadFault::Collision),
         Err(AddFault::OutOfMemory) => return Err(LoadFault::OutOfMemory),
     };
-    match keep_notes(alloc, &mut mirror, keys, lists.notes()) {
+    match keep_all(alloc, &mut mirror, heads) {
         Ok(()) => Ok(mirror),
         Err(fault) => {
             drop(mirror);
@@ -331,20 +354,19 @@ fn add_both<H: TreeHash>(
     add_listed(store, Kind::Pairs, pairs)
 }
 
-// Whether the note opens as a checkpoint of the mirror's origin.
-fn check_note<H: TreeHash>(
+// The head of a note, where it opens as a checkpoint of that origin.
+fn open_one(
     alloc: Global,
-    mirror: &Mirror<H>,
+    origin: &str,
     keys: &[Box<dyn Verifier>],
     note: &[u8],
-) -> Result<(), LoadFault>
-    ensures { ChecksNote mirror.now.view.origin (map (λ k. key k) keys.now) note.now result }
+) -> Result<HeadNote, LoadFault>
+    ensures { OpensNote origin.now (map (λ k. key k) keys.now) note.now result }
 {
-    match mirror.check_head(alloc, keys, note) {
-        Ok(_) => {}
-        Err(fault) => return Err(note_fault(fault)),
+    match open_head(alloc, origin, keys, note) {
+        Ok(head) => Ok(head),
+        Err(fault) => Err(note_fault(fault)),
     }
-    Ok(())
 }
 
 // What a fault of reading a head is here.
@@ -357,59 +379,42 @@ fn note_fault(fault: TakeFault) -> LoadFault
     }
 }
 
-// Whether all notes do.
-fn check_notes<H: TreeHash>(
-    alloc: Global,
-    mirror: &Mirror<H>,
-    keys: &[Box<dyn Verifier>],
-    notes: &[&[u8]],
-) -> Result<(), LoadFault>
-    ensures { ChecksNotes mirror.now.view.origin (map (λ k. key k) keys.now)
-        (map (λ n. n.now) notes.now) result }
-{
-    for note in notes {
-        check_note(alloc, mirror, keys, note)?;
-    }
-    Ok(())
-}
-
-// Whether all notes open as checkpoints of that origin.
-fn check_all<H: TreeHash>(
+// The heads of the notes, where all open as checkpoints of that origin. Each is verified here, and nowhere else.
+fn open_all(
     alloc: Global,
     origin: &str,
     keys: &[Box<dyn Verifier>],
     notes: &[&[u8]],
-) -> Result<(), LoadFault>
-    ensures { ChecksNotes origin.now (map (λ k. key k) keys.now) (map (λ n. n.now) notes.now)
-        result }
+) -> Result<Vec<HeadNote>, LoadFault>
+    ensures { OpensNotes origin.now (map (λ k. key k) keys.now) (map (λ n. n.now) notes.now)
+        (seen (λ heads. heads.items) result) }
 {
-    let Ok(mirror) = Mirror::<H>::new(alloc, origin) else {
-        return Err(LoadFault::OutOfMemory);
-    };
-    let checked = check_notes(alloc, &mirror, keys, notes);
-    drop(mirror);
-    checked
+    let mut heads = Vec::new(alloc);
+    for note in notes {
+        let head = open_one(alloc, origin, keys, note)?;
+        let Ok(()) = heads.push(head) else {
+            return Err(LoadFault::OutOfMemory);
+        };
+    }
+    Ok(heads)
 }
 
-// Keeps the notes, the edges of which are held.
-fn keep_notes<H: TreeHash>(
+// Keeps the heads, the edges of which are held.
+fn keep_all<H: TreeHash>(
     alloc: Global,
     mirror: &mut Mirror<H>,
-    keys: &[Box<dyn Verifier>],
-    notes: &[&[u8]],
+    heads: &[HeadNote],
 ) -> Result<(), LoadFault>
-    requires { All (IsOpenNote mirror.old.view.origin (map (λ k. key k) keys.now))
-        (map (λ n. n.now) notes.now) }
-    ensures keeps { KeepsNotes H.digest mirror.old.view (map (λ n. n.now) notes.now) result
+    requires { All (SaysHead mirror.old.view.origin) heads.now }
+    ensures keeps { KeepsNotes H.digest mirror.old.view (map head_bytes heads.now) result
         mirror.new.view }
     ensures remembered { mirror.new.remembered ≡ mirror.old.remembered }
 {
-    for note in notes {
-        match mirror.keep_held_head(alloc, keys, note) {
-            Ok(()) => {}
-            Err(RestoreFault::BadHead) => return Err(LoadFault::StateHead),
-            Err(RestoreFault::UnheldEdge) => return Err(LoadFault::StateEdge),
-            Err(RestoreFault::OutOfMemory) => return Err(LoadFault::OutOfMemory),
+    for head in heads {
+        match mirror.keep_opened_head(alloc, head) {
+            Ok(true) => {}
+            Ok(false) => return Err(LoadFault::StateEdge),
+            Err(AllocError) => return Err(LoadFault::OutOfMemory),
         }
     }
     Ok(())

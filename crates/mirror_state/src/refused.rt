@@ -1,7 +1,6 @@
 //! Which note of a state text is why it is not loaded.
 ghost use Rattle.std.specs.Prelude.{◌≡◌, ◌↔◌, ◌<◌, ◌++◌, ℕ, List, map, take, option_map, string_bytes, All, IfNone, IfOk, IfSome, IsTrue, OnOk};
 ghost use Rattle.mirror_model.specs.Complete.{HasEdge};
-ghost use Rattle.mirror_model.specs.Heads.{IsHead};
 ghost use Rattle.tlog_mirror.specs.Restored.{IsOpenNote};
 ghost use Rattle.mirror_state.specs.LoadSteps.{AreListable};
 ghost use Rattle.mirror_state.specs.Loading.{HasStrings};
@@ -14,14 +13,14 @@ use crate::fault::LoadFault;
 use crate::lists::Lists;
 use crate::loading::{checked_lists, mirror_of};
 use base64::engine::general_purpose::STANDARD;
+use mirror_model::{checkpoint_of, open_head};
 use node_store::AddFault;
-use signed_note::{Note, NoteFault, Verifier};
+use signed_note::Verifier;
 use std::alloc::{AllocError, Global};
-use tlog_checkpoint::{Checkpoint, CheckpointFault, read};
 use tlog_hash::{Hash, TreeHash};
 use tlog_mirror::{Mirror, RestoreFault, TakeFault};
 
-// So many bytes of a root are told.
+// How many bytes of a root a name has.
 const FRONT_LEN: usize = 3;
 
 /// A note of a state text, for which the text is not loaded.
@@ -125,7 +124,7 @@ fn refused_in<'a, H: TreeHash>(
         → FindsAt H.digest origin.now (map (λ k. key k) keys.now) bytes
         (seen (option_map (λ x. (x.0, x.1.now))) result) }
 {
-    match closed_note::<H>(alloc, origin, keys, lists.notes())? {
+    match first_closed(alloc, origin, keys, lists.notes())? {
         Some(found) => return Ok(Some(found)),
         None => {}
     }
@@ -155,26 +154,8 @@ fn name_of(alloc: Global, index: usize, note: &[u8]) -> Result<RefusedNote, Allo
     }
 }
 
-// The checkpoint that a note's text is.
-fn checkpoint_of(alloc: Global, note: &[u8]) -> Result<Option<Checkpoint>, AllocError>
-    ensures found { IfOk result (λ o. IfSome o (λ c. IsHead note.now c.origin c.size c.root)) }
-    ensures none { IfOk result (λ o. IfNone o ((origin : List ℕ) (size : ℕ) (root : List ℕ)
-        → ¬ IsHead note.now origin size root)) }
-{
-    let note = match Note::read(alloc, note) {
-        Ok(note) => note,
-        Err(NoteFault::OutOfMemory) => return Err(AllocError),
-        Err(_) => return Ok(None),
-    };
-    match read(alloc, note.text()) {
-        Ok(checkpoint) => Ok(Some(checkpoint)),
-        Err(CheckpointFault::OutOfMemory) => Err(AllocError),
-        Err(_) => Ok(None),
-    }
-}
-
 // The first of the notes that does not open as a checkpoint of that origin.
-fn closed_note<'n, H: TreeHash>(
+fn first_closed<'n>(
     alloc: Global,
     origin: &str,
     keys: &[Box<dyn Verifier>],
@@ -186,47 +167,25 @@ fn closed_note<'n, H: TreeHash>(
     ensures none { IfOk result (λ o. IfNone o
         (All (IsOpenNote origin.now (map (λ k. key k) keys.now)) (map (λ n. n.now) notes.now))) }
 {
-    let Ok(mirror) = Mirror::<H>::new(alloc, origin) else {
-        return Err(AllocError);
-    };
-    let found = first_closed(alloc, &mirror, keys, notes);
-    drop(mirror);
-    found
-}
-
-// The first of the notes that does not open as a checkpoint of the mirror's origin.
-fn first_closed<'n, H: TreeHash>(
-    alloc: Global,
-    mirror: &Mirror<H>,
-    keys: &[Box<dyn Verifier>],
-    notes: &[&'n [u8]],
-) -> Result<Option<(usize, &'n [u8])>, AllocError>
-    ensures found { IfOk result (λ o. IfSome o
-        (λ x. IsFirstNot (IsOpenNote mirror.now.view.origin (map (λ k. key k) keys.now))
-        (map (λ n. n.now) notes.now) x.0 x.1.now)) }
-    ensures none { IfOk result (λ o. IfNone o
-        (All (IsOpenNote mirror.now.view.origin (map (λ k. key k) keys.now))
-        (map (λ n. n.now) notes.now))) }
-{
     for i in 0..notes.len() {
-        if !is_open(alloc, mirror, keys, notes[i])? {
+        if !is_open(alloc, origin, keys, notes[i])? {
             return Ok(Some((i, notes[i])));
         }
     }
     Ok(None)
 }
 
-// Whether a note opens as a checkpoint of the mirror's origin.
-fn is_open<H: TreeHash>(
+// Whether a note opens as a checkpoint of that origin.
+fn is_open(
     alloc: Global,
-    mirror: &Mirror<H>,
+    origin: &str,
     keys: &[Box<dyn Verifier>],
     note: &[u8],
 ) -> Result<bool, AllocError>
-    ensures { IfOk result (λ opens. IsTrue opens ↔ IsOpenNote mirror.now.view.origin
+    ensures { IfOk result (λ opens. IsTrue opens ↔ IsOpenNote origin.now
         (map (λ k. key k) keys.now) note.now) }
 {
-    match mirror.check_head(alloc, keys, note) {
+    match open_head(alloc, origin, keys, note) {
         Ok(_) => {}
         Err(TakeFault::OutOfMemory) => return Err(AllocError),
         Err(_) => return Ok(false),

@@ -6,9 +6,9 @@ use Rattle.mirror_state.proofs.listing.sort_entries.Goals as goal
 pub returns-clause-rises : goal.returns-clause-rises
 returns-clause-rises c =
     let is = dedup_is _ _ _ c.dedup.ensures.filtered in
-    rw is (entries_rise _ (IsStrictlySortedBy-dedup lent_total lent_ties _ c.sort_unstable.ensures.sorted))
+    rw is (entries_rise _ (IsStrictlySortedBy-dedup lent_total lent_ties _ c.in_ok-sort.ensures.sorted))
 
 pub returns-clause-same : goal.returns-clause-same
 returns-clause-same c = λ e.
-    same_items lent_bytes lent_total lent_ties lent_exact c.args.entries.now.items c.sort_unstable.new.self.items
-    c.dedup.new.self.items c.sort_unstable.ensures.permutation (dedup_is _ _ _ c.dedup.ensures.filtered) e
+    same_items lent_bytes lent_total lent_ties lent_exact c.args.entries.now.items c.sort.new.self.items
+    c.dedup.new.self.items c.in_ok-sort.ensures.permutation (dedup_is _ _ _ c.dedup.ensures.filtered) e

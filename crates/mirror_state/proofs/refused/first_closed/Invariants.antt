@@ -5,5 +5,5 @@ use Rattle.mirror_state.proofs.refused.first_closed.Given as goal
 -- the notes so far open
 abbrev pub invariant-loop-i : goal.invariant-loop-i
 invariant-loop-i g l =
-    All (IsOpenNote l.mirror.view.origin (map (λ k. (goal.Verifier-dyn g (k.vtable, k.value)).key k.value) l.keys))
+    All (IsOpenNote l.origin (map (λ k. (goal.Verifier-dyn g (k.vtable, k.value)).key k.value) l.keys))
     (take l.i (map (λ n. n.now) l.notes))

@@ -6,4 +6,4 @@ use Rattle.mirror_state.proofs.refused.is_open.Goals as goal
 pub returns-in-Err : goal.returns-in-Err
 returns-in-Err g c =
     let memory : c.in-Err.field-0 ≢ taking.OutOfMemory = search rules in
-    stays_closed c.args.note.now c.args.mirror.now.view.origin _ c.in-Err.field-0 memory c.in-Err.ensures
+    stays_closed c.args.note.now c.args.origin.now _ c.in-Err.field-0 memory c.in-Err.ensures.reads
