@@ -27,3 +27,5 @@ mod pulls;
 mod served;
 #[cfg(test)]
 mod settle;
+#[cfg(test)]
+mod verified;
