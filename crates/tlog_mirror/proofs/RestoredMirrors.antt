@@ -7,7 +7,6 @@ use Rattle.std.proofs.lemmas.List.Elements.{All-nil}
 use Rattle.signed_note.specs.Keys.{Key}
 use Rattle.node_store.specs.Strings.{Strings, Has, AllTagged, NoClash}
 use Rattle.tlog_checkpoint.specs.declared.Checkpoint.{Checkpoint}
-use Rattle.mirror_model.specs.Complete.{HasEdge}
 use Rattle.mirror_model.specs.Forks.{point_cmp}
 use Rattle.mirror_model.specs.Heads.{IsHead}
 use Rattle.mirror_model.specs.Marks.{Points}
@@ -20,11 +19,8 @@ use Rattle.mirror_model.proofs.RefusedHeads.{head_notes_are_read_once, open_head
 use Rattle.mirror_model.proofs.StringSets.{has_empty}
 use Rattle.mirror_trees.proofs.EmptySets.{empty_settled}
 use Rattle.tlog_mirror.specs.Kept.{note_bytes, IsKeptWell}
-use Rattle.mirror_model.specs.declared.notes.HeadNote.{HeadNote}
-use Rattle.tlog_mirror.specs.Adding.{with_note}
 use Rattle.tlog_mirror.specs.Restored.{IsOpenNote, KeepsHeld, held_fault_of}
 use Rattle.tlog_mirror.specs.declared.fault.RestoreFault.{RestoreFault}
-use Rattle.tlog_mirror.specs.declared.fault.RestoreFault.TheVariants.{UnheldEdge}
 use Rattle.tlog_mirror.specs.declared.kept.KeptNote.{KeptNote}
 
 -- ---- a mirror of strings
@@ -98,22 +94,3 @@ module _ (digest : List ℕ → List ℕ) (old : View) (keys : List Key) (note :
       held ≡ held_fault_of fault → KeepsHeld digest old keys note (Err held) old
   held_refused fault h held is =
       subst (λ f. KeepsHeld digest old keys note (Err f) old) (sym is) (refused fault h)
-
-  -- one that opens is kept where its edge is held
-  module _ (head : HeadNote) (opened : IsOpenCheckpoint note old.origin keys head.checkpoint)
-      (bytes_are : head.note.bytes ≡ note) (new : View) where
-    pub held_kept : HasEdge digest old head.note.bytes × (new ≡ with_note old head.note.bytes) →
-        KeepsHeld digest old keys note (Ok tt) new
-    held_kept h = (
-      open_note note old.origin keys head.checkpoint opened,
-      subst (HasEdge digest old) bytes_are h.0,
-      subst (λ n. new ≡ with_note old n) bytes_are h.1,
-    )
-
-    pub held_lacks : (HasEdge digest old head.note.bytes → ⊥) × (new ≡ old) →
-        KeepsHeld digest old keys note (Err UnheldEdge) new
-    held_lacks h = (
-      open_note note old.origin keys head.checkpoint opened,
-      λ e. h.0 (subst (HasEdge digest old) (sym bytes_are) e),
-      h.1,
-    )

@@ -1,6 +1,6 @@
 -- A mirror that is made again of what was kept of one: of its strings, and then of its notes.
 -- `held_fault_of` is cited by the contract of a private function alone.
-use Rattle.std.specs.Prelude.{◌≡◌, ℕ, List, Result, Ok, Err, ⊤}
+use Rattle.std.specs.Prelude.{◌≡◌, ℕ, List, Result, Ok, Err}
 use Rattle.std.specs.FinSet as set
 use Rattle.signed_note.specs.Keys.{Key}
 use Rattle.node_store.specs.Strings.{Strings}

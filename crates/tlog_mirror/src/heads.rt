@@ -54,13 +54,13 @@ pub(crate) fn flag_heads<H: TreeHash>(
 {
     let mut heads = Vec::with_capacity(alloc, points.len())?;
     for point in points {
-        heads.push(head_of(store, known, point.0, &point.1))?;
+        heads.push(flag_head(store, known, point.0, &point.1))?;
     }
     Ok(heads)
 }
 
 // A size and root with whether its tree is held.
-fn head_of<H: TreeHash>(store: &Store<H>, known: &Known, size: u64, root: &Hash) -> Head
+fn flag_head<H: TreeHash>(store: &Store<H>, known: &Known, size: u64, root: &Hash) -> Head
     requires { AreKnown H.digest store.now known.now }
     ensures point { head_point result ≡ record { size = size; root = root.now } }
     ensures flag { IsBuiltFlag H.digest store.now result }

@@ -17,11 +17,11 @@ seen_more f g xs i d old new y within is before now =
 pub loop-point-preserved : goal.loop-point-preserved
 loop-point-preserved g c = record {
   points = seen_more head_point point_of c.args.points.now c.loop-point.point-index _ c.loop-point.heads.items
-      c.push.new.self.items c.head_of.result c.loop-point-test.true c.in_ok-push.ensures.items
-      c.loop-point.invariant.points c.head_of.ensures.point;
+      c.push.new.self.items c.flag_head.result c.loop-point-test.true c.in_ok-push.ensures.items
+      c.loop-point.invariant.points c.flag_head.ensures.point;
   flags = All-same (IsBuiltFlag g.H.TreeHash.digest c.args.store.now) _ _ c.in_ok-push.ensures.items
       (All-push (IsBuiltFlag g.H.TreeHash.digest c.args.store.now) _ _ c.loop-point.invariant.flags
-      c.head_of.ensures.flag);
+      c.flag_head.ensures.flag);
 }
 
 pub returns-clause-points : goal.returns-clause-points

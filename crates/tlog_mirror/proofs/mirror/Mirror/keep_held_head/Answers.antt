@@ -1,4 +1,4 @@
-use Rattle.tlog_mirror.proofs.RestoredMirrors.{held_kept, held_lacks, held_refused}
+use Rattle.tlog_mirror.proofs.RestoredMirrors.{held_refused}
 use Rattle.tlog_mirror.proofs.mirror.Mirror.keep_held_head.Goals as goal
 
 pub returns-in-Err-clause-keeps : goal.returns-in-Err-clause-keeps

@@ -15,9 +15,11 @@ returns-in-Err-clause-judged g c =
     (bytes_of c.args.edge.now) c.args.self.now.view.origin refl c.in-Err.fault c.in-Err.ensures.reads
 
 pub take_opened-requires : goal.take_opened-requires
-take_opened-requires g c =
-    (_, open_here c.args.note.now c.args.self.now.view.origin _ c.in-Ok.head c.in-Ok.ensures.reads c.in-Ok.ensures.note
-    c.args.self.now.view.origin refl)
+take_opened-requires g c = (
+  _,
+  open_here c.args.note.now c.args.self.now.view.origin _ c.in-Ok.head c.in-Ok.ensures.reads c.in-Ok.ensures.note
+      c.args.self.now.view.origin refl,
+)
 
 pub returns-clause-takes : goal.returns-clause-takes
 returns-clause-takes g c =

@@ -1,5 +1,5 @@
 use Rattle.std.proofs.Common.{refl}
-use Rattle.tlog_mirror.proofs.heads.head_of.Goals as goal
+use Rattle.tlog_mirror.proofs.heads.flag_head.Goals as goal
 
 pub returns-clause-point : goal.returns-clause-point
 returns-clause-point g c = refl
