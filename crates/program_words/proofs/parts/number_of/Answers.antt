@@ -1,5 +1,5 @@
 use Rattle.std.proofs.Common.{None, subst, sym}
-use Rattle.clap.specs.Words.{found_of, rows_of}
+use Rattle.clap.specs.Words.{found_of}
 use Rattle.program_words.specs.Commands.{IsNumberGiven}
 use Rattle.program_words.specs.Readings.{FindsPart}
 use Rattle.program_words.proofs.Refusing.{given_or_none, given_some}

@@ -1,4 +1,4 @@
-use Rattle.std.proofs.Common.{codes, map, option_map, string_bytes}
+use Rattle.std.proofs.Common.{map, option_map, string_bytes}
 use Rattle.clap.specs.Words.{found_of, rows_of}
 use Rattle.program_words.proofs.Lines.{keys_read, read_refused, understood, why_read}
 use Rattle.program_words.proofs.words.read_line.Goals as goal

@@ -1,4 +1,4 @@
-use Rattle.std.proofs.Common.{◌≡◌, ◌∙◌, List, ℕ, None, Option, Some, ap, codes, subst, sym, unwrap_or}
+use Rattle.std.proofs.Common.{◌∙◌, List, ℕ, None, Option, Some, ap, codes, subst, sym, unwrap_or}
 use Rattle.std.specs.Prelude.{IfNone, IfSome}
 use Rattle.clap.specs.Words.{Row, Text, found_of, rows_of}
 use Rattle.tlog_text.specs.Hash.{IsHashText}

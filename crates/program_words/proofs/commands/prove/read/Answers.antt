@@ -1,4 +1,4 @@
-use Rattle.std.proofs.Common.{◌≡◌, ◌∙◌, List, codes, map, refl, subst}
+use Rattle.std.proofs.Common.{◌∙◌, List, codes, refl, subst}
 use Rattle.clap.specs.Words.{Row, found_of, rows_of}
 use Rattle.tlog_proof.specs.declared.proof.Ask.{Ask}
 use Rattle.program_words.specs.Commands.{IsAskGiven}

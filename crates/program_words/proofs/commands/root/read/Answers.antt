@@ -1,4 +1,4 @@
-use Rattle.std.proofs.Common.{◌∙◌, List, codes, refl}
+use Rattle.std.proofs.Common.{List, codes, refl}
 use Rattle.clap.specs.Words.{Row, found_of, rows_of}
 use Rattle.program_words.specs.Commands.{IsRoot, name_of}
 use Rattle.program_words.specs.Readings.{IsSaid}
