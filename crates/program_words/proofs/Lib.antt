@@ -1,4 +1,5 @@
 pub mod Refusing
+pub mod Judging
 pub mod Lines
 pub mod Named
 pub mod Places

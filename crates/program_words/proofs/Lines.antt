@@ -10,7 +10,7 @@ use Rattle.clap.specs.declared.parser.matches.ArgMatches.{ArgMatches}
 use Rattle.clap.specs.declared.parser.matches.ArgMatches.TheViews.{out-ArgMatches, out-SubCommand}
 use Rattle.clap.specs.declared.parser.matches.SubCommand.{SubCommand}
 use Rattle.program_words.specs.Commands.{Calls, HasFlag, Says, faults, mirror_app, name_of}
-use Rattle.program_words.specs.Readings.{AsksWhy, IsSaid, Reads, ReadsKeyFile, ReadsPart, Tells, no_keys}
+use Rattle.program_words.specs.Readings.{AsksWhy, IsSaid, Reads, ReadsKeyFile, ReadsPart, IsFaultOf, no_keys}
 use Rattle.program_words.specs.declared.commands.Command.{Command}
 use Rattle.program_words.specs.declared.fault.CommandFault.{CommandFault}
 use Rattle.program_words.specs.declared.fault.CommandFault.TheVariants.{Help, Words, BadArgument, OutOfMemory}
@@ -56,7 +56,7 @@ nothing_named words m name options matches r calls =
 
 -- a fault of the parser, as the program tells it
 pub refused : (words : List Text) (e : Error) (fault : CommandFault) → HasKind (faults words) e →
-    Tells (kind_of e) fault → ReadsKeyFile words (no_keys fault)
+    IsFaultOf (kind_of e) fault → ReadsKeyFile words (no_keys fault)
 refused words e (Help text) (inl memory) told = absurd (elim told [ inl h ↦ cc | inr h ↦ cc ])
 refused words e (Help text) (inr among) told = (kind_of e, among, told)
 refused words e (Words text) (inl memory) told = absurd (told.0 memory)

@@ -6,10 +6,8 @@ use Rattle.std.proofs.lemmas.Slice.Eq.{bytes_eq-Decides}
 use Rattle.clap.specs.Words.{Row, Text, all_of, first_of, first_value, matched_of, raw_values, rows_of}
 use Rattle.clap.specs.declared.parser.matches.Found.{Found}
 use Rattle.clap.proofs.WalkLemmas.{first_value-rows, raw_values-rows}
-use Rattle.program_words.specs.Commands.{Given, HasFlag, IsCopyArgs, IsCopyAsked, IsStateArgs, IsStateAsked, NotGiven}
+use Rattle.program_words.specs.Commands.{Given, HasFlag, NotGiven}
 use Rattle.program_words.specs.Readings.{FindsPart}
-use Rattle.program_words.specs.declared.parts.CopyArgs.{CopyArgs}
-use Rattle.program_words.specs.declared.parts.StateArgs.{StateArgs}
 
 -- what `get_str` gives is the option's value
 pub given_some : (f : Found) (name text : Text) → Some text ≡ first_value f name → Given (rows_of f) name text
@@ -44,18 +42,6 @@ pub listed : (f : Found) (name : Text) (texts : Option (List Text)) →
     texts ≡ option_map raw_values (matched_of f name) → all_of name (rows_of f) ≡ texts
 listed f name texts e = sym (raw_values-rows f name) ∙ sym e
 
--- ---- a state or a copy
-
 -- an option is not both there and left out
 pub given_and_not : (options : List Row) (name text : Text) → Given options name text → NotGiven options name → ⊥
 given_and_not options name text given not = true≢false (ap is_some (sym given ∙ not))
-
-pub state_alone : (options : List Row) (o : Option StateArgs) → FindsPart (IsStateArgs options) o →
-    NotGiven options (codes "dir") → FindsPart (IsStateAsked options) o
-state_alone options (Some args) is alone = record { state = is; alone = alone }
-state_alone options None none alone = λ args asked. none args asked.state
-
-pub copy_alone : (options : List Row) (o : Option CopyArgs) → FindsPart (IsCopyArgs options) o →
-    NotGiven options (codes "state") → FindsPart (IsCopyAsked options) o
-copy_alone options (Some args) is alone = record { copy = is; alone = alone }
-copy_alone options None none alone = λ args asked. none args asked.copy

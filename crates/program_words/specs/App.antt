@@ -1,13 +1,15 @@
 -- What command lines are made of, in the words of `clap`: their options, and what commands share.
--- `Commands` has the commands themselves. `argument_of`, `with_rules`, `line_app` and `IsParserOf` are
+-- `Commands` has the commands themselves. What follows `argument_of` is
 -- cited by the contracts of private functions alone.
-use Rattle.std.specs.Prelude.{◌≡◌, List, [], ◌∷◌, Some, map, true, false, codes}
+use Rattle.std.specs.Prelude.{◌≡◌, List, [], ◌∷◌, ◌++◌, Some, map, true, false, codes}
 use Rattle.clap.specs.Words.{App, Rule, Text, app_of, new_app, new_rule, with_rule, with_subcommand}
 use Rattle.clap.specs.Simple.{new_shape}
 use Rattle.clap.specs.declared.builder.command.Command.{Command as Parser}
 use Rattle.clap.specs.declared.builder.command.Command.TheViews.{out-Command}
 use Rattle.program_words.specs.declared.parser.Argument.{Argument}
 use Rattle.program_words.specs.declared.parser.Argument.TheVariants as argument
+use Rattle.program_words.specs.declared.parser.Base.{Base}
+use Rattle.program_words.specs.declared.parser.Base.TheVariants as base
 use Rattle.program_words.specs.declared.parser.CommandLine.{CommandLine}
 use Rattle.clap.specs.declared.builder.action.ArgAction.TheVariants.{Append, Set, SetTrue}
 
@@ -67,8 +69,8 @@ abbrev pub copy_app : Text → App
 copy_app name = with_rule (log_app name) (option_rule (codes "dir"))
 
 -- `NAME --origin O --keys K (--state S | --dir D)`
-abbrev pub asked_app : Text → App
-asked_app name =
+abbrev pub state_or_copy_app : Text → App
+state_or_copy_app name =
     with_rule (with_rule (log_app name) (choice_rule (codes "state"))) (choice_rule (codes "dir"))
 
 -- `NAME --origin O --keys K --out T`
@@ -120,9 +122,22 @@ abbrev pub with_rules : App → List Rule → App
 with_rules app [] = app
 with_rules app (r ∷ rs) = with_rules (with_rule app r) rs
 
+-- the options of each command over a log
+abbrev pub log_rules : List Rule
+log_rules = option_rule (codes "origin") ∷ option_rule (codes "keys") ∷ flag_rule (codes "why") ∷ []
+
+-- the arguments that commands have in common, in the words of `clap`
+abbrev pub base_rules : Base → List Rule
+base_rules base.Nothing = []
+base_rules base.Log = log_rules
+base_rules base.State = log_rules ++ option_rule (codes "state") ∷ []
+base_rules base.StateOrCopy = log_rules ++ choice_rule (codes "state") ∷ choice_rule (codes "dir") ∷ []
+base_rules base.Output = log_rules ++ option_rule (codes "out") ∷ []
+
 -- the command line, in the words of `clap`
 abbrev pub line_app : CommandLine → App
-line_app line = with_rules (new_app line.name.now) (map argument_of line.arguments.now)
+line_app line =
+    with_rules (with_rules (new_app line.name.now) (base_rules line.base)) (map argument_of line.arguments.now)
 
 -- the parser is that of the command line, with no option that all commands share
 pub record IsParserOf (app : App) (parser : Parser) : Type 0 where

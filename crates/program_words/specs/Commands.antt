@@ -11,7 +11,7 @@ use Rattle.tlog_shape.specs.declared.TheConstants.{MAX_SIZE}
 use Rattle.tlog_proof.specs.declared.proof.Ask.{Ask}
 use Rattle.tlog_proof.specs.declared.proof.Ask.TheVariants.{Inclusion, Consistency}
 use Rattle.mirror_client.specs.Site.{IsHost, IsSitePrefix, slash}
-use Rattle.program_words.specs.App.{asked_app, choice_rule, copy_app, flag_rule, folder_app, held_app}
+use Rattle.program_words.specs.App.{state_or_copy_app, choice_rule, copy_app, flag_rule, folder_app, held_app}
 use Rattle.program_words.specs.App.{list_rule, log_app, made_app, option_rule, place_rule, program_app}
 use Rattle.program_words.specs.App.{ahead_rule, progress_rule, with_commands, words_rule}
 use Rattle.program_words.specs.declared.commands.Command.{Command}
@@ -92,6 +92,10 @@ HasNumberOr options name least most other n = IsNumberOr least most other (first
 abbrev pub IsAhead : List Row → ℕ → Type 0
 IsAhead options ahead = HasNumberOr options (codes "ahead") 0 64 6 ahead
 
+-- the words alone of the option `file`
+abbrev pub AreFiles : List Row → List Text → Type 0
+AreFiles options files = unwrap_or (all_of (codes "file") options) [] ≡ files
+
 -- a size, or an index
 abbrev pub IsSize : ℕ → Text → Type 0
 IsSize n word = IsNumberIn 0 MAX_SIZE n word
@@ -113,13 +117,13 @@ pub record IsCopyArgs (options : List Row) (args : CopyArgs) : Type 0 where
   pub log : IsLog options args.log
   pub folder : Given options (codes "dir") args.folder.now
 
--- of a command that is asked of a state or a copy: the options name a state, and no copy
-pub record IsStateAsked (options : List Row) (args : StateArgs) : Type 0 where
+-- of a command over a state or a copy: the options name a state, and no copy
+pub record IsStateAlone (options : List Row) (args : StateArgs) : Type 0 where
   pub state : IsStateArgs options args
   pub alone : NotGiven options (codes "dir")
 
 -- the same: they name a copy, and no state
-pub record IsCopyAsked (options : List Row) (args : CopyArgs) : Type 0 where
+pub record IsCopyAlone (options : List Row) (args : CopyArgs) : Type 0 where
   pub copy : IsCopyArgs options args
   pub alone : NotGiven options (codes "state")
 
@@ -189,7 +193,7 @@ pub record IsTake (options : List Row) (take : Take) : Type 0 where
   pub state : first_of (codes "state") options ≡ option_map (λ s. s.now) take.state
   pub width : IsTakeWidth (first_of (codes "width") options) take.width
   pub kind : Given options (codes "kind") (kind_name take.kind)
-  pub files : unwrap_or (all_of (codes "file") options) [] ≡ map (λ f. f.now) take.files.items
+  pub files : AreFiles options (map (λ f. f.now) take.files.items)
   pub count : IsCount take.kind (length take.files.items)
 
 -- -- merge
@@ -307,7 +311,7 @@ pub record IsAudit (options : List Row) (audit : Audit) : Type 0 where
 
 -- `status --origin O --keys K (--state S | --dir D)`
 abbrev pub status_app : App
-status_app = asked_app (codes "status")
+status_app = state_or_copy_app (codes "status")
 
 -- -- missing
 
@@ -317,11 +321,15 @@ missing_app =
     with_rule (with_rule (held_app (codes "missing")) (option_rule (codes "size")))
     (option_rule (codes "root"))
 
+-- the option `root` has a value, which spells the root
+abbrev pub IsRootGiven : List Row → List ℕ → Type 0
+IsRootGiven options root = HasValue options (codes "root") (λ word. IsHashText word root)
+
 -- what the options of `missing` say
 pub record IsMissingAsk (options : List Row) (missing : Missing) : Type 0 where
   pub mirror : IsStateArgs options missing.mirror
   pub size : HasNumber options (codes "size") 0 MAX_SIZE missing.size
-  pub root : HasValue options (codes "root") (λ word. IsHashText word missing.root)
+  pub root : IsRootGiven options missing.root
 
 -- -- forks
 
@@ -333,23 +341,23 @@ forks_app = held_app (codes "forks")
 
 -- `compare --origin O --keys K (--state S | --dir D) [FILE...]`
 abbrev pub compare_app : App
-compare_app = with_rule (asked_app (codes "compare")) (list_rule (codes "file"))
+compare_app = with_rule (state_or_copy_app (codes "compare")) (list_rule (codes "file"))
 
 -- what the options of `compare` say of a state
 pub record IsCompare (options : List Row) (compare : Compare) : Type 0 where
-  pub mirror : IsStateAsked options compare.mirror
-  pub files : unwrap_or (all_of (codes "file") options) [] ≡ map (λ f. f.now) compare.files.items
+  pub mirror : IsStateAlone options compare.mirror
+  pub files : AreFiles options (map (λ f. f.now) compare.files.items)
 
 -- what they say of a copy
 pub record IsCopyCompare (options : List Row) (compare : CopyCompare) : Type 0 where
-  pub copy : IsCopyAsked options compare.copy
-  pub files : unwrap_or (all_of (codes "file") options) [] ≡ map (λ f. f.now) compare.files.items
+  pub copy : IsCopyAlone options compare.copy
+  pub files : AreFiles options (map (λ f. f.now) compare.files.items)
 
 -- -- prove
 
 -- `prove --origin O --keys K (--state S | --dir D) KIND A B`
 abbrev pub prove_app : App
-prove_app = with_rule (with_rule (with_rule (asked_app (codes "prove"))
+prove_app = with_rule (with_rule (with_rule (state_or_copy_app (codes "prove"))
     (place_rule (codes "kind"))) (place_rule (codes "a"))) (place_rule (codes "b"))
 
 -- the three words that ask for a proof
@@ -366,19 +374,19 @@ IsAskGiven options ask = HasValue options (codes "kind")
 
 -- what the options of `prove` say of a state
 pub record IsProve (options : List Row) (prove : Prove) : Type 0 where
-  pub mirror : IsStateAsked options prove.mirror
+  pub mirror : IsStateAlone options prove.mirror
   pub ask : IsAskGiven options prove.ask
 
 -- what they say of a copy
 pub record IsCopyProve (options : List Row) (prove : CopyProve) : Type 0 where
-  pub copy : IsCopyAsked options prove.copy
+  pub copy : IsCopyAlone options prove.copy
   pub ask : IsAskGiven options prove.ask
 
 -- -- entries
 
 -- `entries --origin O --keys K (--state S | --dir D) [--base64] FROM TO`
 abbrev pub entries_app : App
-entries_app = with_rule (with_rule (with_rule (asked_app (codes "entries"))
+entries_app = with_rule (with_rule (with_rule (state_or_copy_app (codes "entries"))
     (flag_rule (codes "base64"))) (place_rule (codes "from"))) (place_rule (codes "to"))
 
 -- the options name a range of entries, and how they are written
@@ -389,12 +397,12 @@ pub record IsEntryRange (options : List Row) (range : EntryRange) : Type 0 where
 
 -- what the options of `entries` say of a state
 pub record IsEntries (options : List Row) (entries : Entries) : Type 0 where
-  pub mirror : IsStateAsked options entries.mirror
+  pub mirror : IsStateAlone options entries.mirror
   pub range : IsEntryRange options entries.range
 
 -- what they say of a copy
 pub record IsCopyEntries (options : List Row) (entries : CopyEntries) : Type 0 where
-  pub copy : IsCopyAsked options entries.copy
+  pub copy : IsCopyAlone options entries.copy
   pub range : IsEntryRange options entries.range
 
 -- -- export
@@ -426,24 +434,24 @@ pub record IsNotes (options : List Row) (notes : Notes) : Type 0 where
 -- `serve --origin O --keys K (--state S | --dir D) --port P --requests N`
 abbrev pub serve_app : App
 serve_app =
-    with_rule (with_rule (asked_app (codes "serve")) (option_rule (codes "port")))
+    with_rule (with_rule (state_or_copy_app (codes "serve")) (option_rule (codes "port")))
     (option_rule (codes "requests"))
 
 -- what the options of `serve` say of a state
 pub record IsServe (options : List Row) (serve : Serve) : Type 0 where
-  pub mirror : IsStateAsked options serve.mirror
+  pub mirror : IsStateAlone options serve.mirror
   pub port : HasNumber options (codes "port") 1 65535 serve.port
   pub requests : HasNumber options (codes "requests") 0 MAX_SIZE serve.requests
 
 -- what they say of a copy
 pub record IsCopyServe (options : List Row) (serve : CopyServe) : Type 0 where
-  pub copy : IsCopyAsked options serve.copy
+  pub copy : IsCopyAlone options serve.copy
   pub port : HasNumber options (codes "port") 1 65535 serve.port
   pub requests : HasNumber options (codes "requests") 0 MAX_SIZE serve.requests
 
 -- ---- the list of the commands
 
--- their command lines, in the order in which `clap` tells of them
+-- their command lines, in the order in which `clap` lists them
 abbrev pub command_apps : List App
 command_apps =
     root_app ∷ check_app ∷ build_app ∷ take_app ∷ merge_app ∷ pull_app ∷ follow_app ∷ audit_app
@@ -486,8 +494,8 @@ Says options (order.Merge c) = IsMerge options c
 Says options (order.Pull c) = IsPull options c
 Says options (order.Follow c) = IsFollow options c
 Says options (order.Audit c) = IsAudit options c
-Says options (order.Status c) = IsStateAsked options c
-Says options (order.CopyStatus c) = IsCopyAsked options c
+Says options (order.Status c) = IsStateAlone options c
+Says options (order.CopyStatus c) = IsCopyAlone options c
 Says options (order.Missing c) = IsMissingAsk options c
 Says options (order.Forks c) = IsStateArgs options c
 Says options (order.Compare c) = IsCompare options c

@@ -1,12 +1,9 @@
 //! Which word of a command line is bad, and why. Contracts see nothing of it.
-use crate::parts::{names_one, number_of};
 use crate::place::{host_and_prefix, place_of};
-use clap::ArgMatches;
 use std::alloc::Global;
-use tlog_shape::MAX_SIZE;
 
 /// An option or a word that is not spelled as what it stands for, or is out of its range.
-#[derive(Debug, Drop, Clone, Copy)]
+#[derive(Drop, Clone, Copy)]
 pub struct BadWord {
     /// The option or the word, as help names it.
     pub word: &'static str,
@@ -21,31 +18,37 @@ impl BadWord {
     }
 }
 
-/// The options `--state` and `--dir`, if both are given, or neither.
-pub(crate) fn bad_source(found: &ArgMatches<'_>) -> Option<BadWord> {
-    if names_one(found) {
-        None
+/// Which of the two words that name no place is bad.
+pub(crate) fn bad_place(kind: &str, word: &str) -> BadWord {
+    // Any word names a folder.
+    if kind == "http" {
+        BadWord::new("PLACE", server_reason(word))
     } else {
-        Some(BadWord::new("--state or --dir", "one of them is due"))
+        BadWord::new("KIND", "dir or http is due")
     }
 }
 
-/// The word, if the option of this name spells no size and no index.
-pub(crate) fn bad_size(found: &ArgMatches<'_>, name: &str, word: &'static str) -> Option<BadWord> {
-    match number_of(found, name, 0, MAX_SIZE) {
-        Some(_) => None,
-        None => Some(BadWord::new(word, "a number from 0 to 9223372036854775807 is due")),
+/// Which is the first bad one of the words that are to name places, two words each.
+pub(crate) fn bad_places(alloc: Global, words: &[&str]) -> BadWord {
+    let mut at = 0;
+    while at < words.len() {
+        if words.len() - at < 2 {
+            return BadWord::new("PLACE", "a KIND has none behind it");
+        }
+        if names_none(alloc, words[at], words[at + 1]) {
+            return bad_place(words[at], words[at + 1]);
+        }
+        at += 2;
     }
+    // It comes here if memory was refused alone.
+    BadWord::new("PLACE", "one or more are due")
 }
 
-/// Which of the two words that name a place is bad.
-pub(crate) fn bad_place(alloc: Global, kind: &str, word: &str) -> Option<BadWord> {
-    if kind != "dir" && kind != "http" {
-        return Some(BadWord::new("KIND", "dir or http is due"));
-    }
+// Whether the two words name no place.
+fn names_none(alloc: Global, kind: &str, word: &str) -> bool {
     match place_of(alloc, kind, word) {
-        Ok(None) => Some(BadWord::new("PLACE", server_reason(word))),
-        _ => None,
+        Ok(None) => true,
+        _ => false,
     }
 }
 

@@ -3,7 +3,7 @@ ghost use Rattle.std.specs.Prelude.{IfOk, map};
 ghost use Rattle.clap.specs.Words.{App, found_of, rows_of, with_subcommand};
 ghost use Rattle.program_words.specs.App.{IsParserOf, line_app, named_app, program_app, with_commands};
 ghost use Rattle.program_words.specs.Commands.{mirror_app};
-ghost use Rattle.program_words.specs.Readings.{IsSaid, ReadsPart};
+ghost use Rattle.program_words.specs.Readings.{IsSaid, JudgesPart};
 
 pub mod audit;
 pub mod build;
@@ -23,10 +23,10 @@ pub mod serve;
 pub mod status;
 pub mod take;
 
-use crate::bad::{BadWord, bad_source};
-use crate::fault::CommandFault;
+use crate::bad::BadWord;
 use crate::parser::{CommandLine, parser_of};
 use crate::parts::{CopyArgs, StateArgs};
+use crate::refusals::Refusals;
 use clap::ArgMatches;
 use std::alloc::{AllocError, Global};
 
@@ -230,44 +230,33 @@ pub(crate) fn command_of<'a>(
     alloc: Global,
     name: &str,
     found: &ArgMatches<'a>,
-) -> Result<Command<'a>, CommandFault>
-    ensures { ReadsPart (IsSaid name.now (rows_of (found_of found.now))) result }
+    refusals: &mut Refusals,
+) -> Command<'a>
+    ensures { JudgesPart (IsSaid name.now (rows_of (found_of found.now))) refusals.old refusals.new
+        result }
 {
     match name {
-        "root" => root::read(found),
-        "check" => check::read(found),
-        "build" => build::read(found),
-        "take" => take::read(alloc, found),
-        "merge" => merge::read(found),
-        "pull" => pull::read(alloc, found),
-        "follow" => follow::read(alloc, found),
-        "audit" => audit::read(alloc, found),
-        "status" => status::read(found),
-        "missing" => missing::read(found),
-        "forks" => forks::read(found),
-        "compare" => compare::read(alloc, found),
-        "prove" => prove::read(found),
-        "entries" => entries::read(found),
-        "export" => export::read(found),
-        "notes" => notes::read(found),
-        "serve" => serve::read(found),
-        _ => Err(CommandFault::BadArgument),
-    }
-}
-
-/// The bad one of the words of the command of this name.
-pub(crate) fn bad_word(alloc: Global, name: &str, found: &ArgMatches<'_>) -> Option<BadWord> {
-    match name {
-        "take" => take::bad_word(found),
-        "pull" => pull::bad_word(alloc, found),
-        "follow" => follow::bad_word(alloc, found),
-        "audit" => audit::bad_word(alloc, found),
-        "status" => bad_source(found),
-        "missing" => missing::bad_word(found),
-        "compare" => bad_source(found),
-        "prove" => prove::bad_word(found),
-        "entries" => entries::bad_word(found),
-        "serve" => serve::bad_word(found),
-        _ => None,
+        "root" => root::read(found, refusals),
+        "check" => check::read(found, refusals),
+        "build" => build::read(found, refusals),
+        "take" => take::read(alloc, found, refusals),
+        "merge" => merge::read(found, refusals),
+        "pull" => pull::read(alloc, found, refusals),
+        "follow" => follow::read(alloc, found, refusals),
+        "audit" => audit::read(alloc, found, refusals),
+        "status" => status::read(found, refusals),
+        "missing" => missing::read(found, refusals),
+        "forks" => forks::read(found, refusals),
+        "compare" => compare::read(alloc, found, refusals),
+        "prove" => prove::read(found, refusals),
+        "entries" => entries::read(found, refusals),
+        "export" => export::read(found, refusals),
+        "notes" => notes::read(found, refusals),
+        "serve" => serve::read(found, refusals),
+        // It never comes here: words in which `clap` finds nothing wrong name a command.
+        _ => {
+            refusals.note(BadWord::new("COMMAND", "one of those of the help is due"));
+            Command::Check
+        }
     }
 }

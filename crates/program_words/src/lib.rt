@@ -18,6 +18,7 @@ mod laws;
 mod parser;
 mod parts;
 mod place;
+mod refusals;
 mod words;
 
 pub use bad::BadWord;

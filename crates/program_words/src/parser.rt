@@ -1,7 +1,7 @@
 //! The parser of a command, from its command line: its name, its help, and its arguments as a table.
-ghost use Rattle.std.specs.Prelude.{◌≡◌, IfOk, false, map};
+ghost use Rattle.std.specs.Prelude.{◌≡◌, IfOk, Some, false, map};
 ghost use Rattle.clap.specs.Words.{App, new_app, rule_of, with_rule};
-ghost use Rattle.program_words.specs.App.{IsParserOf, argument_of, argument_rule, line_app, with_rules};
+ghost use Rattle.program_words.specs.App.{IsParserOf, argument_of, argument_rule, base_rules, line_app, with_rules};
 
 use clap::{Arg, ArgAction};
 use std::alloc::{AllocError, Global};
@@ -14,8 +14,25 @@ pub(crate) struct CommandLine<'a> {
     pub about: &'a str,
     /// What its long help says behind the arguments.
     pub help: &'a str,
-    /// Its arguments, in their order.
+    /// The arguments that it has in common with other commands, which come first.
+    pub base: Base,
+    /// Its own arguments, in their order.
     pub arguments: &'a [Argument<'a>],
+}
+
+/// The arguments that commands have in common.
+#[derive(Drop, Clone, Copy)]
+pub(crate) enum Base {
+    /// None.
+    Nothing,
+    /// Those of each command over a log: `--origin`, `--keys` and `--why`.
+    Log,
+    /// The same, and the state.
+    State,
+    /// The same, and a state or a copy.
+    StateOrCopy,
+    /// The same, and the state that is written.
+    Output,
 }
 
 /// An argument of a command: its name, how help writes its value, and what help says of it.
@@ -41,8 +58,8 @@ pub(crate) const ORIGIN: Argument<'static> = Argument::Option(
     "The origin line of the log's checkpoints",
 );
 
-/// The keys of the log, of each command over one.
-pub(crate) const KEYS: Argument<'static> = Argument::Option(
+// The keys of the log, of each command over one.
+const KEYS: Argument<'static> = Argument::Option(
     "keys",
     "K",
     "The file of the keys that its checkpoints are opened with",
@@ -54,29 +71,25 @@ pub(crate) const WHY: Argument<'static> = Argument::Flag(
     "Say before a fault what it is about: a file, a reply, a word",
 );
 
-/// The state, of each command over a mirror that is kept in a file.
-pub(crate) const STATE: Argument<'static> = Argument::Option(
-    "state",
-    "S",
-    "The file of the mirror's state",
-);
+// The state, of each command over a mirror that is kept in a file.
+const STATE: Argument<'static> = Argument::Option("state", "S", "The file of the mirror's state");
 
-/// The state, of each command over a state or a copy.
-pub(crate) const STATE_OR_DIR: Argument<'static> = Argument::Choice(
+// The state, of each command over a state or a copy.
+const STATE_OR_DIR: Argument<'static> = Argument::Choice(
     "state",
     "S",
     "The file of the mirror's state; this or --dir is given",
 );
 
-/// The folder, of each command over a state or a copy.
-pub(crate) const DIR_OR_STATE: Argument<'static> = Argument::Choice(
+// The folder, of each command over a state or a copy.
+const DIR_OR_STATE: Argument<'static> = Argument::Choice(
     "dir",
     "D",
     "The folder of a copy, as 'follow' makes it; this or --state is given",
 );
 
-/// The state that comes of it, of each command that writes a mirror to a file.
-pub(crate) const OUT: Argument<'static> = Argument::Option(
+// The state that comes of it, of each command that writes a mirror to a file.
+const OUT: Argument<'static> = Argument::Option(
     "out",
     "T",
     "The file that the mirror's state is written to, whole or not at all",
@@ -89,7 +102,7 @@ pub(crate) const FIRST_STATE: Argument<'static> = Argument::Choice(
     "The file of the state to begin with; nothing where it is left out",
 );
 
-/// Whether it is told how far the work is, of each command whose work may be long.
+/// Whether lines say how far the work is, of each command whose work may be long.
 pub(crate) const PROGRESS: Argument<'static> = Argument::Flag(
     "progress",
     "Reports progress on standard error, by a line a second at most",
@@ -106,12 +119,21 @@ pub(crate) const AHEAD: Argument<'static> = Argument::Choice(
 const SHORT: &str = "\
 '--help' tells what is read and written, the statuses, the faults and an example.";
 
-// An argument of one value.
-fn valued<'a>(alloc: Global, name: &'a str, value: &'a str, help: &'a str) -> Arg<'a>
-    ensures rule { rule_of result ≡ argument_rule name.entry.now }
+// An argument of one value, or of many.
+fn valued<'a>(
+    alloc: Global,
+    name: &'a str,
+    value: &'a str,
+    help: &'a str,
+    action: ArgAction,
+) -> Arg<'a>
+    ensures rule { rule_of result ≡ record (argument_rule name.entry.now) { action = Some action } }
     ensures local { result.global ≡ false }
 {
-    Arg::new(alloc, name).value_name(value).help(help)
+    Arg::new(alloc, name)
+        .value_name(value)
+        .help(help)
+        .action(action)
 }
 
 // The argument, as `clap` has it.
@@ -120,26 +142,36 @@ fn arg_of<'a>(alloc: Global, given: &Argument<'a>) -> Arg<'a>
     ensures local { result.global ≡ false }
 {
     match *given {
-        Argument::Option(name, value, help) => valued(alloc, name, value, help)
+        Argument::Option(name, value, help) => valued(alloc, name, value, help, ArgAction::Set)
             .long(name)
-            .action(ArgAction::Set)
             .required(true),
-        Argument::Choice(name, value, help) => valued(alloc, name, value, help)
-            .long(name)
-            .action(ArgAction::Set),
+        Argument::Choice(name, value, help) => {
+            valued(alloc, name, value, help, ArgAction::Set).long(name)
+        }
         Argument::Flag(name, help) => Arg::new(alloc, name)
             .help(help)
             .long(name)
             .action(ArgAction::SetTrue),
-        Argument::Place(name, value, help) => valued(alloc, name, value, help)
-            .required(true)
-            .action(ArgAction::Set),
-        Argument::List(name, value, help) => {
-            valued(alloc, name, value, help).action(ArgAction::Append)
+        Argument::Place(name, value, help) => {
+            valued(alloc, name, value, help, ArgAction::Set).required(true)
         }
-        Argument::Words(name, value, help) => valued(alloc, name, value, help)
-            .required(true)
-            .action(ArgAction::Append),
+        Argument::List(name, value, help) => valued(alloc, name, value, help, ArgAction::Append),
+        Argument::Words(name, value, help) => {
+            valued(alloc, name, value, help, ArgAction::Append).required(true)
+        }
+    }
+}
+
+// The arguments that commands have in common.
+fn base_of(base: Base) -> &'static [Argument<'static>]
+    ensures { map argument_of result.now ≡ base_rules base }
+{
+    match base {
+        Base::Nothing => &[],
+        Base::Log => &[ORIGIN, KEYS, WHY],
+        Base::State => &[ORIGIN, KEYS, WHY, STATE],
+        Base::StateOrCopy => &[ORIGIN, KEYS, WHY, STATE_OR_DIR, DIR_OR_STATE],
+        Base::Output => &[ORIGIN, KEYS, WHY, OUT],
     }
 }
 
@@ -191,5 +223,6 @@ pub(crate) fn parser_of<'a>(
 ) -> Result<clap::Command<'a>, AllocError>
     ensures { IfOk result (IsParserOf (line_app line.now)) }
 {
-    with_arguments(alloc, Ok(command(alloc, line)), line.arguments)
+    let with_base = with_arguments(alloc, Ok(command(alloc, line)), base_of(line.base));
+    with_arguments(alloc, with_base, line.arguments)
 }

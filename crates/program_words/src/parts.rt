@@ -1,12 +1,15 @@
 //! The parts that commands share: options, numbers, the log and the mirror.
-ghost use Rattle.std.specs.Prelude.{◌≡◌, ◌↔◌, IfOk, IsTrue, [], codes, map, option_map, unwrap_or};
+ghost use Rattle.std.specs.Prelude.{◌≡◌, ◌↔◌, ℕ, IsTrue, List, map, option_map};
 ghost use Rattle.std.specs.Str.{bytes_eq};
-ghost use Rattle.clap.specs.Words.{all_of, found_of, rows_of};
-ghost use Rattle.program_words.specs.Commands.{Given, HasFlag, HasNumber, HasNumberOr, IsAhead, IsCopyArgs, IsCopyAsked, IsStateArgs, IsStateAsked, IsLog, IsOutputArgs, IsNumberIn};
-ghost use Rattle.program_words.specs.Readings.{FindsPart};
+ghost use Rattle.clap.specs.Words.{found_of, rows_of};
+ghost use Rattle.program_words.specs.Commands.{AreFiles, Given, HasFlag, HasNumber, IsAhead, IsCopyArgs, IsLog, IsNumberIn, IsOutputArgs, IsStateArgs};
+ghost use Rattle.program_words.specs.Readings.{FindsPart, IsSource, IsWordAlone, JudgesPart};
 
+use crate::bad::BadWord;
+use crate::refusals::Refusals;
 use clap::ArgMatches;
-use std::alloc::{AllocError, Global};
+use std::alloc::Global;
+use tlog_shape::MAX_SIZE;
 use tlog_text::read_number;
 
 /// Whose mirror it is.
@@ -45,12 +48,42 @@ pub struct OutputArgs<'a> {
     pub out: &'a str,
 }
 
-/// The value of an option that has to be there.
-pub(crate) fn word_of<'a>(found: &ArgMatches<'a>, name: &str) -> Option<&'a str>
+/// What a command is over that takes a state or a copy.
+#[derive(Drop, Clone, Copy)]
+pub(crate) enum Source<'a> {
+    /// `--state`.
+    State(StateArgs<'a>),
+    /// `--dir`.
+    Copy(CopyArgs<'a>),
+}
+
+/// The value of an option, if it is there.
+pub(crate) fn word_given<'a>(found: &ArgMatches<'a>, name: &str) -> Option<&'a str>
     ensures { FindsPart (Given (rows_of (found_of found.now)) name.now)
         (option_map (λ word. word.now) result) }
 {
     found.get_str(name)
+}
+
+/// The value of an option that has to be there.
+pub(crate) fn word_of<'a>(
+    found: &ArgMatches<'a>,
+    name: &'static str,
+    refusals: &mut Refusals,
+) -> &'a str
+    ensures part { JudgesPart (Given (rows_of (found_of found.now)) name.now) refusals.old
+        refusals.new result.now }
+    ensures one { (word : List ℕ) → Given (rows_of (found_of found.now)) name.now word
+        → result.now ≡ word }
+{
+    match found.get_str(name) {
+        Some(word) => word,
+        // It never comes here: `clap` finds that the option is missing.
+        None => {
+            refusals.note(BadWord::new(name, "it is due"));
+            ""
+        }
+    }
 }
 
 fn is_same(word: &str, other: &str) -> bool
@@ -83,108 +116,139 @@ pub(crate) fn number_in(word: &str, least: u64, most: u64) -> Option<u64>
 pub(crate) fn number_of(found: &ArgMatches<'_>, name: &str, least: u64, most: u64) -> Option<u64>
     ensures { FindsPart (HasNumber (rows_of (found_of found.now)) name.now least most) result }
 {
-    number_in(word_of(found, name)?, least, most)
-}
-
-/// The number from `least` to `most` that an option spells, and `other` where it is left out.
-pub(crate) fn number_or(
-    found: &ArgMatches<'_>,
-    name: &str,
-    least: u64,
-    most: u64,
-    other: u64,
-) -> Option<u64>
-    ensures { FindsPart (HasNumberOr (rows_of (found_of found.now)) name.now least most other)
-        result }
-{
     match found.get_str(name) {
         Some(word) => number_in(word, least, most),
-        None => Some(other),
+        None => None,
+    }
+}
+
+/// The size or the index that an option has to spell, which help names so.
+pub(crate) fn size_of(
+    found: &ArgMatches<'_>,
+    name: &str,
+    word: &'static str,
+    refusals: &mut Refusals,
+) -> u64
+    ensures { JudgesPart (HasNumber (rows_of (found_of found.now)) name.now 0 MAX_SIZE)
+        refusals.old refusals.new result }
+{
+    match number_of(found, name, 0, MAX_SIZE) {
+        Some(size) => size,
+        None => {
+            refusals.note(BadWord::new(word, "a number from 0 to 9223372036854775807 is due"));
+            0
+        }
+    }
+}
+
+// The number from 0 to 64 that `--ahead` spells, and 6 where it is left out.
+fn ahead_given(found: &ArgMatches<'_>) -> Option<u64>
+    ensures { FindsPart (IsAhead (rows_of (found_of found.now))) result }
+{
+    match found.get_str("ahead") {
+        Some(word) => number_in(word, 0, 64),
+        None => Some(6),
     }
 }
 
 /// How many requests may be sent ahead.
-pub(crate) fn ahead_of(found: &ArgMatches<'_>) -> Option<u64>
-    ensures { FindsPart (IsAhead (rows_of (found_of found.now))) result }
+pub(crate) fn ahead_of(found: &ArgMatches<'_>, refusals: &mut Refusals) -> u64
+    ensures { JudgesPart (IsAhead (rows_of (found_of found.now))) refusals.old refusals.new result }
 {
-    number_or(found, "ahead", 0, 64, 6)
+    match ahead_given(found) {
+        Some(ahead) => ahead,
+        None => {
+            refusals.note(BadWord::new("--ahead", "a number from 0 to 64 is due"));
+            0
+        }
+    }
 }
 
 /// The origin and the keys.
-pub(crate) fn log_of<'a>(found: &ArgMatches<'a>) -> Option<Log<'a>>
-    ensures { FindsPart (IsLog (rows_of (found_of found.now))) result }
+pub(crate) fn log_of<'a>(found: &ArgMatches<'a>, refusals: &mut Refusals) -> Log<'a>
+    ensures { JudgesPart (IsLog (rows_of (found_of found.now))) refusals.old refusals.new result }
 {
-    Some(Log {
-        origin: word_of(found, "origin")?,
-        keys: word_of(found, "keys")?,
-    })
+    let origin = word_of(found, "origin", refusals);
+    let keys = word_of(found, "keys", refusals);
+    Log { origin, keys }
 }
 
 /// The mirror that is kept in a file.
-pub(crate) fn state_args<'a>(found: &ArgMatches<'a>) -> Option<StateArgs<'a>>
-    ensures { FindsPart (IsStateArgs (rows_of (found_of found.now))) result }
+pub(crate) fn state_args<'a>(found: &ArgMatches<'a>, refusals: &mut Refusals) -> StateArgs<'a>
+    ensures { JudgesPart (IsStateArgs (rows_of (found_of found.now))) refusals.old refusals.new
+        result }
 {
-    Some(StateArgs {
-        log: log_of(found)?,
-        state: word_of(found, "state")?,
-    })
-}
-
-/// The mirror that is kept in a file, where `--dir` names no copy.
-pub(crate) fn state_asked<'a>(found: &ArgMatches<'a>) -> Option<StateArgs<'a>>
-    ensures { FindsPart (IsStateAsked (rows_of (found_of found.now))) result }
-{
-    match found.get_str("dir") {
-        Some(_) => None,
-        None => state_args(found),
-    }
+    let log = log_of(found, refusals);
+    let state = word_of(found, "state", refusals);
+    StateArgs { log, state }
 }
 
 /// The copy in a folder.
-pub(crate) fn copy_args<'a>(found: &ArgMatches<'a>) -> Option<CopyArgs<'a>>
-    ensures { FindsPart (IsCopyArgs (rows_of (found_of found.now))) result }
+pub(crate) fn copy_args<'a>(found: &ArgMatches<'a>, refusals: &mut Refusals) -> CopyArgs<'a>
+    ensures { JudgesPart (IsCopyArgs (rows_of (found_of found.now))) refusals.old refusals.new
+        result }
 {
-    Some(CopyArgs {
-        log: log_of(found)?,
-        folder: word_of(found, "dir")?,
-    })
-}
-
-/// The copy in a folder, where `--state` names no mirror.
-pub(crate) fn copy_asked<'a>(found: &ArgMatches<'a>) -> Option<CopyArgs<'a>>
-    ensures { FindsPart (IsCopyAsked (rows_of (found_of found.now))) result }
-{
-    match found.get_str("state") {
-        Some(_) => None,
-        None => copy_args(found),
-    }
-}
-
-/// Whether the words name one state or one copy, as each command that is asked of either wants it.
-pub(crate) fn names_one(found: &ArgMatches<'_>) -> bool {
-    found.get_str("state").is_some() != found.get_str("dir").is_some()
+    let log = log_of(found, refusals);
+    let folder = word_of(found, "dir", refusals);
+    CopyArgs { log, folder }
 }
 
 /// The mirror that is to be written to a file.
-pub(crate) fn output_args<'a>(found: &ArgMatches<'a>) -> Option<OutputArgs<'a>>
-    ensures { FindsPart (IsOutputArgs (rows_of (found_of found.now))) result }
+pub(crate) fn output_args<'a>(found: &ArgMatches<'a>, refusals: &mut Refusals) -> OutputArgs<'a>
+    ensures { JudgesPart (IsOutputArgs (rows_of (found_of found.now))) refusals.old refusals.new
+        result }
 {
-    Some(OutputArgs {
-        log: log_of(found)?,
-        out: word_of(found, "out")?,
-    })
+    let log = log_of(found, refusals);
+    let out = word_of(found, "out", refusals);
+    OutputArgs { log, out }
+}
+
+// The value of an option, where the other one is left out.
+fn word_alone<'a>(found: &ArgMatches<'a>, name: &str, other: &str) -> Option<&'a str>
+    ensures { FindsPart (IsWordAlone (rows_of (found_of found.now)) name.now other.now)
+        (option_map (λ word. word.now) result) }
+{
+    match found.get_str(other) {
+        Some(_) => None,
+        None => found.get_str(name),
+    }
+}
+
+/// The state or the copy, of which one is to be given.
+pub(crate) fn source_of<'a>(found: &ArgMatches<'a>, refusals: &mut Refusals) -> Source<'a>
+    ensures { JudgesPart (IsSource (rows_of (found_of found.now))) refusals.old refusals.new
+        result }
+{
+    let log = log_of(found, refusals);
+    if let Some(state) = word_alone(found, "state", "dir") {
+        return Source::State(StateArgs { log, state });
+    }
+    match word_alone(found, "dir", "state") {
+        Some(folder) => Source::Copy(CopyArgs { log, folder }),
+        None => {
+            refusals.note(BadWord::new("--state or --dir", "one of them is due"));
+            Source::Copy(CopyArgs { log, folder: "" })
+        }
+    }
 }
 
 /// The files that are named, of which there may be none.
 pub(crate) fn files_of<'a>(
     alloc: Global,
     found: &ArgMatches<'a>,
-) -> Result<Vec<&'a str>, AllocError>
-    ensures { IfOk result (λ files. unwrap_or (all_of (codes "file") (rows_of (found_of found.now)))
-        [] ≡ map (λ f. f.now) files.items) }
+    refusals: &mut Refusals,
+) -> Vec<&'a str>
+    ensures { JudgesPart (AreFiles (rows_of (found_of found.now))) refusals.old refusals.new
+        (map (λ f. f.now) result.items) }
 {
-    match found.get_strs("file") {
-        Some(files) => Vec::from_slice(alloc, files),
-        None => Ok(Vec::new(alloc)),
+    let Some(files) = found.get_strs("file") else {
+        return Vec::new(alloc);
+    };
+    match Vec::from_slice(alloc, files) {
+        Ok(files) => files,
+        Err(_) => {
+            refusals.lack_memory();
+            Vec::new(alloc)
+        }
     }
 }

@@ -2,16 +2,18 @@
 ghost use Rattle.std.specs.Prelude.{◌≡◌, ◌≢◌, ◌++◌, ◌∷◌, ◌↔◌, ℕ, ◌<◌, IfNone, IfOk, IfSome, IsTrue, codes, length, map, option_map, slice_index};
 ghost use Rattle.clap.specs.Words.{found_of, rows_of};
 ghost use Rattle.program_words.specs.Commands.{ArePlaces, IsEmptyOrSlash, IsHostAndPrefix, IsPlace, colon};
-ghost use Rattle.program_words.specs.Readings.{FindsPart, IsPlaceGiven};
+ghost use Rattle.program_words.specs.Readings.{FindsPart, IsPlaceGiven, JudgesPart};
 ghost use Rattle.mirror_client.specs.Site.{slash};
 
+use crate::bad::{bad_place, bad_places};
 use crate::parts::{number_in, word_of};
+use crate::refusals::Refusals;
 use clap::ArgMatches;
 use mirror_client::{Site, SiteFault};
 use std::alloc::{AllocError, Global};
 
 /// Where a log's files are fetched from.
-#[derive(Debug, Drop, PartialEq, Eq, Clone, Copy)]
+#[derive(Drop, Clone, Copy)]
 pub enum Place<'a> {
     /// A folder.
     Folder(&'a str),
@@ -98,25 +100,40 @@ pub(crate) fn place_of<'a>(
     }
 }
 
+// The place that the two words are to name.
+fn place_or_bad<'a>(alloc: Global, kind: &str, word: &'a str, refusals: &mut Refusals) -> Place<'a>
+    ensures { JudgesPart (IsPlace kind.now word.now) refusals.old refusals.new result }
+{
+    match place_of(alloc, kind, word) {
+        Ok(Some(place)) => place,
+        Ok(None) => {
+            refusals.note(bad_place(kind, word));
+            Place::Folder(word)
+        }
+        Err(_) => {
+            refusals.lack_memory();
+            Place::Folder(word)
+        }
+    }
+}
+
 /// The place that the options name.
 pub(crate) fn place_given<'a>(
     alloc: Global,
     found: &ArgMatches<'a>,
-) -> Result<Option<Place<'a>>, AllocError>
-    ensures { IfOk result (FindsPart (IsPlaceGiven (rows_of (found_of found.now)))) }
+    refusals: &mut Refusals,
+) -> Place<'a>
+    ensures { JudgesPart (IsPlaceGiven (rows_of (found_of found.now))) refusals.old refusals.new
+        result }
 {
-    match (word_of(found, "kind"), word_of(found, "place")) {
-        (Some(kind), Some(word)) => place_of(alloc, kind, word),
-        _ => Ok(None),
-    }
+    let kind = word_of(found, "kind", refusals);
+    let word = word_of(found, "place", refusals);
+    place_or_bad(alloc, kind, word, refusals)
 }
 
-/// The places that the words name, two words each.
+// The places that the words name, two words each.
 #[tactic(auto, using(crate::proofs::Places::none_read, crate::proofs::Places::one_more_at, crate::proofs::Places::all_at, crate::proofs::Places::odd_at))]
-pub(crate) fn places_of<'a>(
-    alloc: Global,
-    words: &[&'a str],
-) -> Result<Option<Vec<Place<'a>>>, AllocError>
+fn places_of<'a>(alloc: Global, words: &[&'a str]) -> Result<Option<Vec<Place<'a>>>, AllocError>
     ensures { IfOk result (λ found. FindsPart (ArePlaces (map (λ w. w.now) words.now))
         (option_map (λ places. places.items) found)) }
 {
@@ -134,4 +151,26 @@ pub(crate) fn places_of<'a>(
         at += 2;
     }
     Ok(Some(places))
+}
+
+/// The places that the words are to name.
+pub(crate) fn places_or_bad<'a>(
+    alloc: Global,
+    words: &[&'a str],
+    refusals: &mut Refusals,
+) -> Vec<Place<'a>>
+    ensures { JudgesPart (ArePlaces (map (λ w. w.now) words.now)) refusals.old refusals.new
+        result.items }
+{
+    match places_of(alloc, words) {
+        Ok(Some(places)) => places,
+        Ok(None) => {
+            refusals.note(bad_places(alloc, words));
+            Vec::new(alloc)
+        }
+        Err(_) => {
+            refusals.lack_memory();
+            Vec::new(alloc)
+        }
+    }
 }

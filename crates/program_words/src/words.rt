@@ -1,21 +1,22 @@
 //! The words of a command line, read.
-ghost use Rattle.std.specs.Prelude.{IfErr, IfOk, map, string_bytes};
-ghost use Rattle.clap.specs.Words.{found_of, kind_of, rows_of};
-ghost use Rattle.program_words.specs.Commands.{Calls};
-ghost use Rattle.program_words.specs.Readings.{Reads, ReadsKeyFile, Tells, no_keys};
+ghost use Rattle.std.specs.Prelude.{◌≡◌, ◌↔◌, IfErr, IfOk, IsTrue, codes, map, option_map, string_bytes};
+ghost use Rattle.clap.specs.Words.{first_of, found_of, kind_of, rows_of};
+ghost use Rattle.program_words.specs.Commands.{Calls, HasFlag};
+ghost use Rattle.program_words.specs.Readings.{IsMatched, IsSaid, Reads, ReadsKeyFile, ReadsPart, IsFaultOf, no_keys};
 ghost use Rattle.program_words.specs.Lines.{IsLine};
 
 use crate::bad::BadWord;
-use crate::commands::{Command, bad_word, command_of, parser};
+use crate::commands::{Command, command_of, parser};
 use crate::fault::CommandFault;
 use crate::parts::has_flag;
+use crate::refusals::{Refusals, judged};
 use clap::ArgMatches;
 use clap::error::ErrorKind;
 use std::alloc::Global;
 
 // What an error of `clap` is to the program.
 fn fault_of(alloc: Global, error: &clap::Error) -> CommandFault
-    ensures { Tells (kind_of error.now) result }
+    ensures { IsFaultOf (kind_of error.now) result }
 {
     if error.kind() == ErrorKind::OutOfMemory {
         return CommandFault::OutOfMemory;
@@ -29,6 +30,22 @@ fn fault_of(alloc: Global, error: &clap::Error) -> CommandFault
             }
         }
         Err(_) => CommandFault::OutOfMemory,
+    }
+}
+
+// What the parser finds in the words.
+fn matches_of<'a>(alloc: Global, words: &'a [String]) -> Result<ArgMatches<'a>, CommandFault>
+    ensures matches { IfOk result (IsMatched (map string_bytes words.now)) }
+    ensures refused { IfErr result (λ fault. ReadsKeyFile (map string_bytes words.now)
+        (no_keys fault)) }
+{
+    match parser(alloc)?.try_get_matches_from(words) {
+        Ok(matches) => Ok(matches),
+        Err(error) => {
+            let fault = fault_of(alloc, &error);
+            drop(error);
+            Err(fault)
+        }
     }
 }
 
@@ -46,20 +63,17 @@ pub(crate) fn command_found<'a>(
     ensures refused { IfErr result (λ fault. ReadsKeyFile (map string_bytes words.now)
         (no_keys fault)) }
 {
-    let mut matches = match parser(alloc)?.try_get_matches_from(words) {
-        Ok(matches) => matches,
-        Err(error) => {
-            let fault = fault_of(alloc, &error);
-            drop(error);
-            return Err(fault);
+    match matches_of(alloc, words) {
+        Ok(mut matches) => {
+            let called = matches.remove_subcommand();
+            drop(matches);
+            match called {
+                Some((name, found)) => Ok((name, found)),
+                // It never comes here: words in which `clap` finds nothing wrong name a command.
+                None => Err(CommandFault::BadArgument),
+            }
         }
-    };
-    let called = matches.remove_subcommand();
-    drop(matches);
-    match called {
-        Some((name, found)) => Ok((name, found)),
-        // It never comes here: words in which `clap` finds nothing wrong name a command.
-        None => Err(CommandFault::BadArgument),
+        Err(fault) => Err(fault),
     }
 }
 
@@ -69,7 +83,7 @@ pub struct Line<'a> {
     /// The file of the keys that the command is to use: the word of `--keys`, and None for `root` and `check`, which have
     /// none.
     pub keys: Option<&'a str>,
-    /// Whether a fault is to be told with what it is about: by the option `--why`, which every command has but `root` and
+    /// Whether a fault is printed with what it is about: by the option `--why`, which every command has but `root` and
     /// `check`.
     pub why: bool,
     /// The command that the words ask for. `BadArgument` where an option's value is not spelled as what it stands for, or
@@ -90,7 +104,7 @@ pub struct Line<'a> {
 /// # Errors
 ///
 /// `Help` and `Words` come with the text of `clap`, `OutOfMemory` where memory was refused. `BadArgument` never comes here:
-/// it is told behind the faults of the key file.
+/// it is reported behind the faults of the key file.
 pub fn read_line<'a>(alloc: Global, words: &'a [String]) -> Result<Line<'a>, CommandFault>
     ensures line { IfOk result (λ line. IsLine (map string_bytes words.now) line) }
     ensures none { IfErr result (λ fault. Reads (map string_bytes words.now) (Err fault)) }
@@ -99,31 +113,30 @@ pub fn read_line<'a>(alloc: Global, words: &'a [String]) -> Result<Line<'a>, Com
 {
     match command_found(alloc, words) {
         Ok((name, found)) => {
-            let keys = found.get_str("keys");
-            let why = has_flag(&found, "why");
-            let command = command_of(alloc, name, &found);
-            let bad = bad_in(alloc, name, &found, &command);
+            let line = line_of(alloc, name, &found);
             drop(found);
-            Ok(Line {
-                keys,
-                why,
-                command,
-                bad,
-            })
+            Ok(line)
         }
         Err(fault) => Err(fault),
     }
 }
 
-// The bad one of the words of the command of this name, where one makes it a `BadArgument`.
-fn bad_in(
-    alloc: Global,
-    name: &str,
-    found: &ArgMatches<'_>,
-    command: &Result<Command<'_>, CommandFault>,
-) -> Option<BadWord> {
-    match command {
-        Err(CommandFault::BadArgument) => bad_word(alloc, name, found),
-        _ => None,
+// The line of the command of this name and with these options.
+fn line_of<'a>(alloc: Global, name: &str, found: &ArgMatches<'a>) -> Line<'a>
+    ensures keys { first_of (codes "keys") (rows_of (found_of found.now))
+        ≡ option_map (λ keys. keys.now) result.keys }
+    ensures why { IsTrue result.why ↔ HasFlag (rows_of (found_of found.now)) (codes "why") }
+    ensures command { ReadsPart (IsSaid name.now (rows_of (found_of found.now))) result.command }
+{
+    let keys = found.get_str("keys");
+    let why = has_flag(found, "why");
+    let mut refusals = Refusals::none();
+    let read = command_of(alloc, name, found, &mut refusals);
+    let command = judged(&refusals, read);
+    Line {
+        keys,
+        why,
+        command,
+        bad: refusals.bad,
     }
 }

@@ -1,17 +1,15 @@
 //! `audit`: a whole log at a place, verified file by file.
-ghost use Rattle.std.specs.Prelude.{IfOk, codes};
+ghost use Rattle.std.specs.Prelude.{codes};
 ghost use Rattle.clap.specs.Words.{found_of, rows_of};
-ghost use Rattle.program_words.specs.Commands.{IsAudit};
-ghost use Rattle.program_words.specs.Readings.{FindsPart, IsSaid, ReadsPart};
+ghost use Rattle.program_words.specs.Readings.{IsSaid, JudgesPart};
 
-use crate::bad::{BadWord, bad_place};
 use crate::commands::Command;
-use crate::fault::CommandFault;
-use crate::parser::{AHEAD, Argument, CommandLine, KEYS, ORIGIN, PROGRESS, WHY};
+use crate::parser::{AHEAD, Argument, Base, CommandLine, PROGRESS};
 use crate::parts::{Log, ahead_of, has_flag, log_of};
 use crate::place::{Place, place_given};
+use crate::refusals::Refusals;
 use clap::ArgMatches;
-use std::alloc::{AllocError, Global};
+use std::alloc::Global;
 
 /// `audit`: a whole log at a place, verified file by file.
 #[derive(Drop, Clone, Copy)]
@@ -20,7 +18,7 @@ pub struct Audit<'a> {
     pub log: Log<'a>,
     /// How many requests may be sent ahead, 0 to 64. A folder does not heed it.
     pub ahead: u64,
-    /// Whether it is told how far the work is.
+    /// Whether lines say how far the work is.
     pub progress: bool,
     /// Where the log is.
     pub place: Place<'a>,
@@ -56,10 +54,8 @@ pub(crate) const LINE: CommandLine<'static> = CommandLine {
     name: "audit",
     about: "Reads a whole log at a place, and verifies every file of it, in little memory",
     help: HELP,
+    base: Base::Log,
     arguments: &[
-        ORIGIN,
-        KEYS,
-        WHY,
         AHEAD,
         PROGRESS,
         Argument::Place(
@@ -75,41 +71,23 @@ pub(crate) const LINE: CommandLine<'static> = CommandLine {
     ],
 };
 
-// What its options say.
-fn audit_of<'a>(alloc: Global, found: &ArgMatches<'a>) -> Result<Option<Audit<'a>>, AllocError>
-    ensures { IfOk result (FindsPart (IsAudit (rows_of (found_of found.now)))) }
+/// The command, by its options.
+pub(crate) fn read<'a>(
+    alloc: Global,
+    found: &ArgMatches<'a>,
+    refusals: &mut Refusals,
+) -> Command<'a>
+    ensures { JudgesPart (IsSaid (codes "audit") (rows_of (found_of found.now))) refusals.old
+        refusals.new result }
 {
-    let Some(log) = log_of(found) else {
-        return Ok(None);
-    };
-    let Some(ahead) = ahead_of(found) else {
-        return Ok(None);
-    };
-    let Some(place) = place_given(alloc, found)? else {
-        return Ok(None);
-    };
-    Ok(Some(Audit {
+    let log = log_of(found, refusals);
+    let ahead = ahead_of(found, refusals);
+    let progress = has_flag(found, "progress");
+    let place = place_given(alloc, found, refusals);
+    Command::Audit(Audit {
         log,
         ahead,
-        progress: has_flag(found, "progress"),
+        progress,
         place,
-    }))
-}
-
-/// The command, by its options.
-pub(crate) fn read<'a>(alloc: Global, found: &ArgMatches<'a>) -> Result<Command<'a>, CommandFault>
-    ensures { ReadsPart (IsSaid (codes "audit") (rows_of (found_of found.now))) result }
-{
-    match audit_of(alloc, found)? {
-        Some(audit) => Ok(Command::Audit(audit)),
-        None => Err(CommandFault::BadArgument),
-    }
-}
-
-/// The option or the word that is bad.
-pub(crate) fn bad_word(alloc: Global, found: &ArgMatches<'_>) -> Option<BadWord> {
-    if ahead_of(found).is_none() {
-        return Some(BadWord::new("--ahead", "a number from 0 to 64 is due"));
-    }
-    bad_place(alloc, found.get_str("kind")?, found.get_str("place")?)
+    })
 }

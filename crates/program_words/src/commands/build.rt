@@ -1,13 +1,12 @@
 //! `build`: a log of the entries on standard input.
 ghost use Rattle.std.specs.Prelude.{codes};
 ghost use Rattle.clap.specs.Words.{found_of, rows_of};
-ghost use Rattle.program_words.specs.Commands.{IsBuild};
-ghost use Rattle.program_words.specs.Readings.{FindsPart, IsSaid, ReadsPart};
+ghost use Rattle.program_words.specs.Readings.{IsSaid, JudgesPart};
 
 use crate::commands::Command;
-use crate::fault::CommandFault;
-use crate::parser::{Argument, CommandLine, ORIGIN, PROGRESS, WHY};
+use crate::parser::{Argument, Base, CommandLine, ORIGIN, PROGRESS, WHY};
 use crate::parts::{Log, has_flag, log_of, word_of};
+use crate::refusals::Refusals;
 use clap::ArgMatches;
 
 /// `build`: a log of the entries on standard input.
@@ -17,7 +16,7 @@ pub struct Build<'a> {
     pub log: Log<'a>,
     /// The folder that it is written to.
     pub folder: &'a str,
-    /// Whether it is told how far the work is.
+    /// Whether lines say how far the work is.
     pub progress: bool,
 }
 
@@ -47,6 +46,7 @@ pub(crate) const LINE: CommandLine<'static> = CommandLine {
     name: "build",
     about: "Makes a log of the entries on standard input, signs its checkpoint, and writes its files to a folder",
     help: HELP,
+    base: Base::Nothing,
     arguments: &[
         ORIGIN,
         Argument::Option(
@@ -60,23 +60,17 @@ pub(crate) const LINE: CommandLine<'static> = CommandLine {
     ],
 };
 
-// What its options say.
-fn build_of<'a>(found: &ArgMatches<'a>) -> Option<Build<'a>>
-    ensures { FindsPart (IsBuild (rows_of (found_of found.now))) result }
-{
-    Some(Build {
-        log: log_of(found)?,
-        folder: word_of(found, "dir")?,
-        progress: has_flag(found, "progress"),
-    })
-}
-
 /// The command, by its options.
-pub(crate) fn read<'a>(found: &ArgMatches<'a>) -> Result<Command<'a>, CommandFault>
-    ensures { ReadsPart (IsSaid (codes "build") (rows_of (found_of found.now))) result }
+pub(crate) fn read<'a>(found: &ArgMatches<'a>, refusals: &mut Refusals) -> Command<'a>
+    ensures { JudgesPart (IsSaid (codes "build") (rows_of (found_of found.now))) refusals.old
+        refusals.new result }
 {
-    match build_of(found) {
-        Some(build) => Ok(Command::Build(build)),
-        None => Err(CommandFault::BadArgument),
-    }
+    let log = log_of(found, refusals);
+    let folder = word_of(found, "dir", refusals);
+    let progress = has_flag(found, "progress");
+    Command::Build(Build {
+        log,
+        folder,
+        progress,
+    })
 }

@@ -1,11 +1,11 @@
 //! `check`: whether the proof on standard input holds. It has no options.
 ghost use Rattle.std.specs.Prelude.{codes};
 ghost use Rattle.clap.specs.Words.{found_of, rows_of};
-ghost use Rattle.program_words.specs.Readings.{IsSaid, ReadsPart};
+ghost use Rattle.program_words.specs.Readings.{IsSaid, JudgesPart};
 
 use crate::commands::Command;
-use crate::fault::CommandFault;
-use crate::parser::CommandLine;
+use crate::parser::{Base, CommandLine};
+use crate::refusals::Refusals;
 use clap::ArgMatches;
 
 // What it reads, writes and may end with.
@@ -27,12 +27,14 @@ pub(crate) const LINE: CommandLine<'static> = CommandLine {
     name: "check",
     about: "Reads the text of a proof from standard input, and prints whether it holds: yes or no",
     help: HELP,
+    base: Base::Nothing,
     arguments: &[],
 };
 
 /// The command.
-pub(crate) fn read<'a>(_found: &ArgMatches<'a>) -> Result<Command<'a>, CommandFault>
-    ensures { ReadsPart (IsSaid (codes "check") (rows_of (found_of _found.now))) result }
+pub(crate) fn read<'a>(_found: &ArgMatches<'a>, _refusals: &mut Refusals) -> Command<'a>
+    ensures { JudgesPart (IsSaid (codes "check") (rows_of (found_of _found.now))) _refusals.old
+        _refusals.new result }
 {
-    Ok(Command::Check)
+    Command::Check
 }

@@ -1,15 +1,14 @@
 //! `compare`: checkpoints compared with what is served, by a mirror or as a copy.
-ghost use Rattle.std.specs.Prelude.{IfOk, codes};
+ghost use Rattle.std.specs.Prelude.{codes};
 ghost use Rattle.clap.specs.Words.{found_of, rows_of};
-ghost use Rattle.program_words.specs.Commands.{IsCompare, IsCopyCompare};
-ghost use Rattle.program_words.specs.Readings.{FindsPart, IsSaid, ReadsPart};
+ghost use Rattle.program_words.specs.Readings.{IsSaid, JudgesPart};
 
 use crate::commands::Command;
-use crate::fault::CommandFault;
-use crate::parser::{Argument, CommandLine, DIR_OR_STATE, KEYS, ORIGIN, STATE_OR_DIR, WHY};
-use crate::parts::{CopyArgs, StateArgs, copy_asked, files_of, state_asked};
+use crate::parser::{Argument, Base, CommandLine};
+use crate::parts::{CopyArgs, Source, StateArgs, files_of, source_of};
+use crate::refusals::Refusals;
 use clap::ArgMatches;
-use std::alloc::{AllocError, Global};
+use std::alloc::Global;
 
 /// `compare --state`: checkpoints compared with what is served.
 #[derive(Drop)]
@@ -54,54 +53,27 @@ pub(crate) const LINE: CommandLine<'static> = CommandLine {
     name: "compare",
     about: "Prints which checkpoints contradict the served one, also those without entries",
     help: HELP,
-    arguments: &[
-        ORIGIN,
-        KEYS,
-        WHY,
-        STATE_OR_DIR,
-        DIR_OR_STATE,
-        Argument::List(
-            "file",
-            "FILE",
-            "The signed notes that are compared; those of the state where none is named",
-        ),
-    ],
+    base: Base::StateOrCopy,
+    arguments: &[Argument::List(
+        "file",
+        "FILE",
+        "The signed notes that are compared; those of the state where none is named",
+    )],
 };
 
-// What its options say with `--state`.
-fn compare_of<'a>(alloc: Global, found: &ArgMatches<'a>) -> Result<Option<Compare<'a>>, AllocError>
-    ensures { IfOk result (FindsPart (IsCompare (rows_of (found_of found.now)))) }
-{
-    let Some(mirror) = state_asked(found) else {
-        return Ok(None);
-    };
-    let files = files_of(alloc, found)?;
-    Ok(Some(Compare { mirror, files }))
-}
-
-// What its options say with `--dir`.
-fn copy_compare_of<'a>(
+/// The command, by its options, over a state or a copy.
+pub(crate) fn read<'a>(
     alloc: Global,
     found: &ArgMatches<'a>,
-) -> Result<Option<CopyCompare<'a>>, AllocError>
-    ensures { IfOk result (FindsPart (IsCopyCompare (rows_of (found_of found.now)))) }
+    refusals: &mut Refusals,
+) -> Command<'a>
+    ensures { JudgesPart (IsSaid (codes "compare") (rows_of (found_of found.now))) refusals.old
+        refusals.new result }
 {
-    let Some(copy) = copy_asked(found) else {
-        return Ok(None);
-    };
-    let files = files_of(alloc, found)?;
-    Ok(Some(CopyCompare { copy, files }))
-}
-
-/// The command, by its options, over a state or a copy.
-pub(crate) fn read<'a>(alloc: Global, found: &ArgMatches<'a>) -> Result<Command<'a>, CommandFault>
-    ensures { ReadsPart (IsSaid (codes "compare") (rows_of (found_of found.now))) result }
-{
-    if let Some(compare) = compare_of(alloc, found)? {
-        return Ok(Command::Compare(compare));
-    }
-    match copy_compare_of(alloc, found)? {
-        Some(copied) => Ok(Command::CopyCompare(copied)),
-        None => Err(CommandFault::BadArgument),
+    let source = source_of(found, refusals);
+    let files = files_of(alloc, found, refusals);
+    match source {
+        Source::State(mirror) => Command::Compare(Compare { mirror, files }),
+        Source::Copy(copy) => Command::CopyCompare(CopyCompare { copy, files }),
     }
 }

@@ -1,16 +1,14 @@
 //! `entries`: a range of entries, of what a mirror serves, or of a copy.
 ghost use Rattle.std.specs.Prelude.{codes};
 ghost use Rattle.clap.specs.Words.{found_of, rows_of};
-ghost use Rattle.program_words.specs.Commands.{IsCopyEntries, IsEntries, IsEntryRange};
-ghost use Rattle.program_words.specs.Readings.{FindsPart, IsSaid, ReadsPart};
+ghost use Rattle.program_words.specs.Commands.{IsEntryRange};
+ghost use Rattle.program_words.specs.Readings.{IsSaid, JudgesPart};
 
-use crate::bad::{BadWord, bad_size, bad_source};
 use crate::commands::Command;
-use crate::fault::CommandFault;
-use crate::parser::{Argument, CommandLine, DIR_OR_STATE, KEYS, ORIGIN, STATE_OR_DIR, WHY};
-use crate::parts::{CopyArgs, StateArgs, copy_asked, has_flag, number_of, state_asked};
+use crate::parser::{Argument, Base, CommandLine};
+use crate::parts::{CopyArgs, Source, StateArgs, has_flag, size_of, source_of};
+use crate::refusals::Refusals;
 use clap::ArgMatches;
-use tlog_shape::MAX_SIZE;
 
 /// Which entries are written, and how.
 #[derive(Drop, Clone, Copy)]
@@ -62,12 +60,8 @@ pub(crate) const LINE: CommandLine<'static> = CommandLine {
     name: "entries",
     about: "Writes a range of entries to standard output",
     help: HELP,
+    base: Base::StateOrCopy,
     arguments: &[
-        ORIGIN,
-        KEYS,
-        WHY,
-        STATE_OR_DIR,
-        DIR_OR_STATE,
         Argument::Flag("base64", "Write each entry as a line in base64"),
         Argument::Place("from", "FROM", "The index of the first entry, from 0 on"),
         Argument::Place("to", "TO", "The index behind the last entry"),
@@ -75,56 +69,25 @@ pub(crate) const LINE: CommandLine<'static> = CommandLine {
 };
 
 // Which entries.
-fn range_of(found: &ArgMatches<'_>) -> Option<EntryRange>
-    ensures { FindsPart (IsEntryRange (rows_of (found_of found.now))) result }
+fn range_of(found: &ArgMatches<'_>, refusals: &mut Refusals) -> EntryRange
+    ensures { JudgesPart (IsEntryRange (rows_of (found_of found.now))) refusals.old refusals.new
+        result }
 {
-    Some(EntryRange {
-        from: number_of(found, "from", 0, MAX_SIZE)?,
-        to: number_of(found, "to", 0, MAX_SIZE)?,
-        base64: has_flag(found, "base64"),
-    })
-}
-
-// What its options say with `--state`.
-fn entries_of<'a>(found: &ArgMatches<'a>) -> Option<Entries<'a>>
-    ensures { FindsPart (IsEntries (rows_of (found_of found.now))) result }
-{
-    Some(Entries {
-        mirror: state_asked(found)?,
-        range: range_of(found)?,
-    })
-}
-
-// What its options say with `--dir`.
-fn copy_entries_of<'a>(found: &ArgMatches<'a>) -> Option<CopyEntries<'a>>
-    ensures { FindsPart (IsCopyEntries (rows_of (found_of found.now))) result }
-{
-    Some(CopyEntries {
-        copy: copy_asked(found)?,
-        range: range_of(found)?,
-    })
+    let from = size_of(found, "from", "FROM", refusals);
+    let to = size_of(found, "to", "TO", refusals);
+    let base64 = has_flag(found, "base64");
+    EntryRange { from, to, base64 }
 }
 
 /// The command, by its options, over a state or a copy.
-pub(crate) fn read<'a>(found: &ArgMatches<'a>) -> Result<Command<'a>, CommandFault>
-    ensures { ReadsPart (IsSaid (codes "entries") (rows_of (found_of found.now))) result }
+pub(crate) fn read<'a>(found: &ArgMatches<'a>, refusals: &mut Refusals) -> Command<'a>
+    ensures { JudgesPart (IsSaid (codes "entries") (rows_of (found_of found.now))) refusals.old
+        refusals.new result }
 {
-    if let Some(entries) = entries_of(found) {
-        return Ok(Command::Entries(entries));
+    let source = source_of(found, refusals);
+    let range = range_of(found, refusals);
+    match source {
+        Source::State(mirror) => Command::Entries(Entries { mirror, range }),
+        Source::Copy(copy) => Command::CopyEntries(CopyEntries { copy, range }),
     }
-    match copy_entries_of(found) {
-        Some(entries) => Ok(Command::CopyEntries(entries)),
-        None => Err(CommandFault::BadArgument),
-    }
-}
-
-/// The option or the word that is bad.
-pub(crate) fn bad_word(found: &ArgMatches<'_>) -> Option<BadWord> {
-    if let Some(bad) = bad_source(found) {
-        return Some(bad);
-    }
-    if let Some(bad) = bad_size(found, "from", "FROM") {
-        return Some(bad);
-    }
-    bad_size(found, "to", "TO")
 }

@@ -1,13 +1,12 @@
 //! `export`, with `--update` too: what is served, written to a folder.
 ghost use Rattle.std.specs.Prelude.{codes};
 ghost use Rattle.clap.specs.Words.{found_of, rows_of};
-ghost use Rattle.program_words.specs.Commands.{IsExport};
-ghost use Rattle.program_words.specs.Readings.{FindsPart, IsSaid, ReadsPart};
+ghost use Rattle.program_words.specs.Readings.{IsSaid, JudgesPart};
 
 use crate::commands::Command;
-use crate::fault::CommandFault;
-use crate::parser::{Argument, CommandLine, KEYS, ORIGIN, PROGRESS, STATE, WHY};
+use crate::parser::{Argument, Base, CommandLine, PROGRESS};
 use crate::parts::{StateArgs, has_flag, state_args, word_of};
+use crate::refusals::Refusals;
 use clap::ArgMatches;
 
 /// `export`, with `--update` too: what is served, written to a folder.
@@ -17,7 +16,7 @@ pub struct Export<'a> {
     pub mirror: StateArgs<'a>,
     /// The folder.
     pub folder: &'a str,
-    /// Whether it is told how far the work is.
+    /// Whether lines say how far the work is.
     pub progress: bool,
 }
 
@@ -43,11 +42,8 @@ pub(crate) const LINE: CommandLine<'static> = CommandLine {
     name: "export",
     about: "Writes the files of the served checkpoint to a folder, as a log publishes them",
     help: HELP,
+    base: Base::State,
     arguments: &[
-        ORIGIN,
-        KEYS,
-        WHY,
-        STATE,
         Argument::Option("dir", "D", "The folder that is written"),
         Argument::Flag(
             "update",
@@ -57,27 +53,22 @@ pub(crate) const LINE: CommandLine<'static> = CommandLine {
     ],
 };
 
-// What its options say, but for `--update`.
-fn export_of<'a>(found: &ArgMatches<'a>) -> Option<Export<'a>>
-    ensures { FindsPart (IsExport (rows_of (found_of found.now))) result }
-{
-    Some(Export {
-        mirror: state_args(found)?,
-        folder: word_of(found, "dir")?,
-        progress: has_flag(found, "progress"),
-    })
-}
-
 /// The command, by its options, with or without `--update`.
-pub(crate) fn read<'a>(found: &ArgMatches<'a>) -> Result<Command<'a>, CommandFault>
-    ensures { ReadsPart (IsSaid (codes "export") (rows_of (found_of found.now))) result }
+pub(crate) fn read<'a>(found: &ArgMatches<'a>, refusals: &mut Refusals) -> Command<'a>
+    ensures { JudgesPart (IsSaid (codes "export") (rows_of (found_of found.now))) refusals.old
+        refusals.new result }
 {
-    let Some(export) = export_of(found) else {
-        return Err(CommandFault::BadArgument);
+    let mirror = state_args(found, refusals);
+    let folder = word_of(found, "dir", refusals);
+    let progress = has_flag(found, "progress");
+    let export = Export {
+        mirror,
+        folder,
+        progress,
     };
     if has_flag(found, "update") {
-        Ok(Command::Update(export))
+        Command::Update(export)
     } else {
-        Ok(Command::Export(export))
+        Command::Export(export)
     }
 }

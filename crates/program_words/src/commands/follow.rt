@@ -1,17 +1,17 @@
 //! `follow`: a copy brought to the newest checkpoint of its places.
-ghost use Rattle.std.specs.Prelude.{IfOk, codes, option_map};
+ghost use Rattle.std.specs.Prelude.{codes};
 ghost use Rattle.clap.specs.Words.{found_of, rows_of};
-ghost use Rattle.program_words.specs.Commands.{IsFollow, IsPlacesGiven};
-ghost use Rattle.program_words.specs.Readings.{FindsPart, IsSaid, ReadsPart};
+ghost use Rattle.program_words.specs.Commands.{IsPlacesGiven};
+ghost use Rattle.program_words.specs.Readings.{IsSaid, JudgesPart};
 
-use crate::bad::{BadWord, bad_place};
+use crate::bad::BadWord;
 use crate::commands::Command;
-use crate::fault::CommandFault;
-use crate::parser::{AHEAD, Argument, CommandLine, KEYS, ORIGIN, PROGRESS, WHY};
+use crate::parser::{AHEAD, Argument, Base, CommandLine, PROGRESS};
 use crate::parts::{CopyArgs, ahead_of, copy_args, has_flag};
-use crate::place::{Place, places_of};
+use crate::place::{Place, places_or_bad};
+use crate::refusals::Refusals;
 use clap::ArgMatches;
-use std::alloc::{AllocError, Global};
+use std::alloc::Global;
 
 /// `follow`: a copy brought to the newest checkpoint of its places.
 #[derive(Drop)]
@@ -77,10 +77,8 @@ pub(crate) const LINE: CommandLine<'static> = CommandLine {
     name: "follow",
     about: "Brings a copy of a log, in a folder, to the newest checkpoint of some places, and verifies every file",
     help: HELP,
+    base: Base::Log,
     arguments: &[
-        ORIGIN,
-        KEYS,
-        WHY,
         Argument::Option("dir", "D", "The folder of the copy"),
         Argument::Choice(
             "checkpoint",
@@ -106,65 +104,44 @@ pub(crate) const LINE: CommandLine<'static> = CommandLine {
 fn places_given<'a>(
     alloc: Global,
     found: &ArgMatches<'a>,
-) -> Result<Option<Vec<Place<'a>>>, AllocError>
-    ensures { IfOk result (λ places. FindsPart (IsPlacesGiven (rows_of (found_of found.now)))
-        (option_map (λ p. p.items) places)) }
+    refusals: &mut Refusals,
+) -> Vec<Place<'a>>
+    ensures { JudgesPart (IsPlacesGiven (rows_of (found_of found.now))) refusals.old refusals.new
+        result.items }
 {
     match found.get_strs("place") {
-        Some(words) => places_of(alloc, words),
+        Some(words) => places_or_bad(alloc, words, refusals),
         // It never comes here: `clap` wants one word or more.
-        None => Ok(None),
+        None => {
+            refusals.note(BadWord::new("PLACE", "one is due"));
+            Vec::new(alloc)
+        }
     }
-}
-
-// What its options say.
-fn follow_of<'a>(alloc: Global, found: &ArgMatches<'a>) -> Result<Option<Follow<'a>>, AllocError>
-    ensures { IfOk result (FindsPart (IsFollow (rows_of (found_of found.now)))) }
-{
-    let Some(copy) = copy_args(found) else {
-        return Ok(None);
-    };
-    let Some(ahead) = ahead_of(found) else {
-        return Ok(None);
-    };
-    let Some(places) = places_given(alloc, found)? else {
-        return Ok(None);
-    };
-    Ok(Some(Follow {
-        copy,
-        checkpoint: found.get_str("checkpoint"),
-        forks: found.get_str("forks"),
-        ahead,
-        progress: has_flag(found, "progress"),
-        why: has_flag(found, "why"),
-        places,
-    }))
 }
 
 /// The command, by its options.
-pub(crate) fn read<'a>(alloc: Global, found: &ArgMatches<'a>) -> Result<Command<'a>, CommandFault>
-    ensures { ReadsPart (IsSaid (codes "follow") (rows_of (found_of found.now))) result }
+pub(crate) fn read<'a>(
+    alloc: Global,
+    found: &ArgMatches<'a>,
+    refusals: &mut Refusals,
+) -> Command<'a>
+    ensures { JudgesPart (IsSaid (codes "follow") (rows_of (found_of found.now))) refusals.old
+        refusals.new result }
 {
-    match follow_of(alloc, found)? {
-        Some(follow) => Ok(Command::Follow(follow)),
-        None => Err(CommandFault::BadArgument),
-    }
-}
-
-/// The option or the word that is bad: of the places the first word that is.
-pub(crate) fn bad_word(alloc: Global, found: &ArgMatches<'_>) -> Option<BadWord> {
-    if ahead_of(found).is_none() {
-        return Some(BadWord::new("--ahead", "a number from 0 to 64 is due"));
-    }
-    let mut rest = found.get_strs("place")?;
-    while let Some((kind, after)) = rest.split_first() {
-        let Some((word, left)) = after.split_first() else {
-            return Some(BadWord::new("PLACE", "a KIND has none behind it"));
-        };
-        if let Some(bad) = bad_place(alloc, kind, word) {
-            return Some(bad);
-        }
-        rest = left;
-    }
-    None
+    let copy = copy_args(found, refusals);
+    let checkpoint = found.get_str("checkpoint");
+    let forks = found.get_str("forks");
+    let ahead = ahead_of(found, refusals);
+    let progress = has_flag(found, "progress");
+    let why = has_flag(found, "why");
+    let places = places_given(alloc, found, refusals);
+    Command::Follow(Follow {
+        copy,
+        checkpoint,
+        forks,
+        ahead,
+        progress,
+        why,
+        places,
+    })
 }

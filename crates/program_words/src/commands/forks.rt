@@ -1,12 +1,12 @@
 //! `forks`: the forks between a mirror's heads. It has the options of each command over a state alone.
 ghost use Rattle.std.specs.Prelude.{codes};
 ghost use Rattle.clap.specs.Words.{found_of, rows_of};
-ghost use Rattle.program_words.specs.Readings.{IsSaid, ReadsPart};
+ghost use Rattle.program_words.specs.Readings.{IsSaid, JudgesPart};
 
 use crate::commands::Command;
-use crate::fault::CommandFault;
-use crate::parser::{CommandLine, KEYS, ORIGIN, STATE, WHY};
+use crate::parser::{Base, CommandLine};
 use crate::parts::state_args;
+use crate::refusals::Refusals;
 use clap::ArgMatches;
 
 // What it reads, writes and may end with.
@@ -25,15 +25,14 @@ pub(crate) const LINE: CommandLine<'static> = CommandLine {
     name: "forks",
     about: "Prints which checkpoints contradict each other: of one size, or both complete",
     help: HELP,
-    arguments: &[ORIGIN, KEYS, WHY, STATE],
+    base: Base::State,
+    arguments: &[],
 };
 
 /// The command, by its options.
-pub(crate) fn read<'a>(found: &ArgMatches<'a>) -> Result<Command<'a>, CommandFault>
-    ensures { ReadsPart (IsSaid (codes "forks") (rows_of (found_of found.now))) result }
+pub(crate) fn read<'a>(found: &ArgMatches<'a>, refusals: &mut Refusals) -> Command<'a>
+    ensures { JudgesPart (IsSaid (codes "forks") (rows_of (found_of found.now))) refusals.old
+        refusals.new result }
 {
-    match state_args(found) {
-        Some(args) => Ok(Command::Forks(args)),
-        None => Err(CommandFault::BadArgument),
-    }
+    Command::Forks(state_args(found, refusals))
 }

@@ -1,13 +1,12 @@
 //! `merge`: what a second mirror holds is taken into a first.
 ghost use Rattle.std.specs.Prelude.{codes};
 ghost use Rattle.clap.specs.Words.{found_of, rows_of};
-ghost use Rattle.program_words.specs.Commands.{IsMerge};
-ghost use Rattle.program_words.specs.Readings.{FindsPart, IsSaid, ReadsPart};
+ghost use Rattle.program_words.specs.Readings.{IsSaid, JudgesPart};
 
 use crate::commands::Command;
-use crate::fault::CommandFault;
-use crate::parser::{Argument, CommandLine, KEYS, ORIGIN, OUT, WHY};
+use crate::parser::{Argument, Base, CommandLine};
 use crate::parts::{OutputArgs, output_args, word_of};
+use crate::refusals::Refusals;
 use clap::ArgMatches;
 
 /// `merge`: what a second mirror holds is taken into a first.
@@ -36,33 +35,24 @@ pub(crate) const LINE: CommandLine<'static> = CommandLine {
     name: "merge",
     about: "Makes one mirror of two, and writes its state",
     help: HELP,
+    base: Base::Output,
     arguments: &[
-        ORIGIN,
-        KEYS,
-        WHY,
-        OUT,
         Argument::Place("a", "A", "The file of the first state"),
         Argument::Place("b", "B", "The file of the state that is taken into it"),
     ],
 };
 
-// What its options say.
-fn merge_of<'a>(found: &ArgMatches<'a>) -> Option<Merge<'a>>
-    ensures { FindsPart (IsMerge (rows_of (found_of found.now))) result }
-{
-    Some(Merge {
-        mirror: output_args(found)?,
-        first: word_of(found, "a")?,
-        second: word_of(found, "b")?,
-    })
-}
-
 /// The command, by its options.
-pub(crate) fn read<'a>(found: &ArgMatches<'a>) -> Result<Command<'a>, CommandFault>
-    ensures { ReadsPart (IsSaid (codes "merge") (rows_of (found_of found.now))) result }
+pub(crate) fn read<'a>(found: &ArgMatches<'a>, refusals: &mut Refusals) -> Command<'a>
+    ensures { JudgesPart (IsSaid (codes "merge") (rows_of (found_of found.now))) refusals.old
+        refusals.new result }
 {
-    match merge_of(found) {
-        Some(merge) => Ok(Command::Merge(merge)),
-        None => Err(CommandFault::BadArgument),
-    }
+    let mirror = output_args(found, refusals);
+    let first = word_of(found, "a", refusals);
+    let second = word_of(found, "b", refusals);
+    Command::Merge(Merge {
+        mirror,
+        first,
+        second,
+    })
 }

@@ -1,17 +1,16 @@
 //! `missing`: what a head's tree lacks.
 ghost use Rattle.std.specs.Prelude.{codes};
 ghost use Rattle.clap.specs.Words.{found_of, rows_of};
-ghost use Rattle.program_words.specs.Commands.{IsMissingAsk};
-ghost use Rattle.program_words.specs.Readings.{FindsPart, IsSaid, ReadsPart};
+ghost use Rattle.program_words.specs.Commands.{IsRootGiven};
+ghost use Rattle.program_words.specs.Readings.{FindsPart, IsSaid, JudgesPart};
 
-use crate::bad::{BadWord, bad_size};
+use crate::bad::BadWord;
 use crate::commands::Command;
-use crate::fault::CommandFault;
-use crate::parser::{Argument, CommandLine, KEYS, ORIGIN, STATE, WHY};
-use crate::parts::{StateArgs, number_of, state_args, word_of};
+use crate::parser::{Argument, Base, CommandLine};
+use crate::parts::{StateArgs, size_of, state_args};
+use crate::refusals::Refusals;
 use clap::ArgMatches;
 use tlog_hash::Hash;
-use tlog_shape::MAX_SIZE;
 use tlog_text::read_hash;
 
 /// `missing`: what a head's tree lacks.
@@ -41,44 +40,44 @@ pub(crate) const LINE: CommandLine<'static> = CommandLine {
     name: "missing",
     about: "Prints the paths that a checkpoint's tree lacks",
     help: HELP,
+    base: Base::State,
     arguments: &[
-        ORIGIN,
-        KEYS,
-        WHY,
-        STATE,
         Argument::Option("size", "N", "The checkpoint's size"),
         Argument::Option("root", "ROOT", "The checkpoint's root, in base64"),
     ],
 };
 
-// What its options say.
-fn missing_of<'a>(found: &ArgMatches<'a>) -> Option<Missing<'a>>
-    ensures { FindsPart (IsMissingAsk (rows_of (found_of found.now))) result }
+// The root, which is a hash.
+fn root_given(found: &ArgMatches<'_>) -> Option<Hash>
+    ensures { FindsPart (IsRootGiven (rows_of (found_of found.now))) result }
 {
-    Some(Missing {
-        mirror: state_args(found)?,
-        size: number_of(found, "size", 0, MAX_SIZE)?,
-        root: read_hash(word_of(found, "root")?)?,
-    })
+    match found.get_str("root") {
+        Some(word) => read_hash(word),
+        None => None,
+    }
+}
+
+// The root that the command is to have.
+fn root_of(found: &ArgMatches<'_>, refusals: &mut Refusals) -> Hash
+    ensures { JudgesPart (IsRootGiven (rows_of (found_of found.now))) refusals.old refusals.new
+        result }
+{
+    match root_given(found) {
+        Some(root) => root,
+        None => {
+            refusals.note(BadWord::new("--root", "a hash in base64 is due"));
+            [0; 32]
+        }
+    }
 }
 
 /// The command, by its options.
-pub(crate) fn read<'a>(found: &ArgMatches<'a>) -> Result<Command<'a>, CommandFault>
-    ensures { ReadsPart (IsSaid (codes "missing") (rows_of (found_of found.now))) result }
+pub(crate) fn read<'a>(found: &ArgMatches<'a>, refusals: &mut Refusals) -> Command<'a>
+    ensures { JudgesPart (IsSaid (codes "missing") (rows_of (found_of found.now))) refusals.old
+        refusals.new result }
 {
-    match missing_of(found) {
-        Some(missing) => Ok(Command::Missing(missing)),
-        None => Err(CommandFault::BadArgument),
-    }
-}
-
-/// The option that is bad.
-pub(crate) fn bad_word(found: &ArgMatches<'_>) -> Option<BadWord> {
-    if let Some(bad) = bad_size(found, "size", "--size") {
-        return Some(bad);
-    }
-    match word_of(found, "root") {
-        Some(root) if read_hash(root).is_some() => None,
-        _ => Some(BadWord::new("--root", "a hash in base64 is due")),
-    }
+    let mirror = state_args(found, refusals);
+    let size = size_of(found, "size", "--size", refusals);
+    let root = root_of(found, refusals);
+    Command::Missing(Missing { mirror, size, root })
 }

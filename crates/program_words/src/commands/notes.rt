@@ -1,13 +1,12 @@
 //! `notes`: the notes of a mirror, written to a folder.
 ghost use Rattle.std.specs.Prelude.{codes};
 ghost use Rattle.clap.specs.Words.{found_of, rows_of};
-ghost use Rattle.program_words.specs.Commands.{IsNotes};
-ghost use Rattle.program_words.specs.Readings.{FindsPart, IsSaid, ReadsPart};
+ghost use Rattle.program_words.specs.Readings.{IsSaid, JudgesPart};
 
 use crate::commands::Command;
-use crate::fault::CommandFault;
-use crate::parser::{Argument, CommandLine, KEYS, ORIGIN, STATE, WHY};
+use crate::parser::{Argument, Base, CommandLine};
 use crate::parts::{StateArgs, state_args, word_of};
+use crate::refusals::Refusals;
 use clap::ArgMatches;
 
 /// `notes`: the notes of a mirror, written to a folder.
@@ -35,31 +34,16 @@ pub(crate) const LINE: CommandLine<'static> = CommandLine {
     name: "notes",
     about: "Writes each signed note of a mirror to a file of its own",
     help: HELP,
-    arguments: &[
-        ORIGIN,
-        KEYS,
-        WHY,
-        STATE,
-        Argument::Option("dir", "D", "The folder that is written"),
-    ],
+    base: Base::State,
+    arguments: &[Argument::Option("dir", "D", "The folder that is written")],
 };
 
-// What its options say.
-fn notes_of<'a>(found: &ArgMatches<'a>) -> Option<Notes<'a>>
-    ensures { FindsPart (IsNotes (rows_of (found_of found.now))) result }
-{
-    Some(Notes {
-        mirror: state_args(found)?,
-        folder: word_of(found, "dir")?,
-    })
-}
-
 /// The command, by its options.
-pub(crate) fn read<'a>(found: &ArgMatches<'a>) -> Result<Command<'a>, CommandFault>
-    ensures { ReadsPart (IsSaid (codes "notes") (rows_of (found_of found.now))) result }
+pub(crate) fn read<'a>(found: &ArgMatches<'a>, refusals: &mut Refusals) -> Command<'a>
+    ensures { JudgesPart (IsSaid (codes "notes") (rows_of (found_of found.now))) refusals.old
+        refusals.new result }
 {
-    match notes_of(found) {
-        Some(notes) => Ok(Command::Notes(notes)),
-        None => Err(CommandFault::BadArgument),
-    }
+    let mirror = state_args(found, refusals);
+    let folder = word_of(found, "dir", refusals);
+    Command::Notes(Notes { mirror, folder })
 }

@@ -1,17 +1,16 @@
 //! `prove`: a proof of what is served, by a mirror or as a copy.
 ghost use Rattle.std.specs.Prelude.{codes};
 ghost use Rattle.clap.specs.Words.{found_of, rows_of};
-ghost use Rattle.program_words.specs.Commands.{IsAsk, IsAskGiven, IsCopyProve, IsProve};
-ghost use Rattle.program_words.specs.Readings.{FindsPart, IsSaid, ReadsPart};
+ghost use Rattle.program_words.specs.Commands.{Given, IsAskGiven};
+ghost use Rattle.program_words.specs.Readings.{FindsPart, IsSaid, JudgesPart, proof_name};
 
-use crate::bad::{BadWord, bad_size, bad_source};
+use crate::bad::BadWord;
 use crate::commands::Command;
-use crate::fault::CommandFault;
-use crate::parser::{Argument, CommandLine, DIR_OR_STATE, KEYS, ORIGIN, STATE_OR_DIR, WHY};
-use crate::parts::{CopyArgs, StateArgs, copy_asked, number_in, state_asked, word_of};
+use crate::parser::{Argument, Base, CommandLine};
+use crate::parts::{CopyArgs, Source, StateArgs, size_of, source_of, word_given};
+use crate::refusals::Refusals;
 use clap::ArgMatches;
 use tlog_proof::Ask;
-use tlog_shape::MAX_SIZE;
 
 /// `prove --state`: a proof of what is served.
 #[derive(Drop, Clone, Copy)]
@@ -29,6 +28,15 @@ pub struct CopyProve<'a> {
     pub copy: CopyArgs<'a>,
     /// Of what.
     pub ask: Ask,
+}
+
+// What is proved.
+#[derive(Drop, Clone, Copy)]
+enum ProofKind {
+    /// That an entry is in a tree.
+    Inclusion,
+    /// That a tree is a prefix of another.
+    Consistency,
 }
 
 // What it reads, writes and may end with.
@@ -51,89 +59,66 @@ pub(crate) const LINE: CommandLine<'static> = CommandLine {
     name: "prove",
     about: "Prints a proof that an entry is in a tree, or that a tree is a prefix of another",
     help: HELP,
+    base: Base::StateOrCopy,
     arguments: &[
-        ORIGIN,
-        KEYS,
-        WHY,
-        STATE_OR_DIR,
-        DIR_OR_STATE,
         Argument::Place("kind", "KIND", "What is proved: inclusion or consistency"),
         Argument::Place("a", "A", "The tree's size, or the smaller size"),
         Argument::Place("b", "B", "The entry's index, or the greater size"),
     ],
 };
 
-// What a proof is asked for, by the three words.
-fn ask_of(kind: &str, a: &str, b: &str) -> Option<Ask>
-    ensures { FindsPart (IsAsk kind.now a.now b.now) result }
+// What is proved, by the word for it.
+fn kind_of(found: &ArgMatches<'_>) -> Option<ProofKind>
+    ensures { FindsPart (λ kind. Given (rows_of (found_of found.now)) (codes "kind")
+        (proof_name kind)) result }
 {
-    match kind {
-        "inclusion" => Some(Ask::Inclusion {
-            size: number_in(a, 0, MAX_SIZE)?,
-            index: number_in(b, 0, MAX_SIZE)?,
-        }),
-        "consistency" => Some(Ask::Consistency {
-            first: number_in(a, 0, MAX_SIZE)?,
-            second: number_in(b, 0, MAX_SIZE)?,
-        }),
+    match word_given(found, "kind")? {
+        "inclusion" => Some(ProofKind::Inclusion),
+        "consistency" => Some(ProofKind::Consistency),
         _ => None,
     }
 }
 
+// What the command is to prove.
+fn kind_given(found: &ArgMatches<'_>, refusals: &mut Refusals) -> ProofKind
+    ensures { JudgesPart (λ kind. Given (rows_of (found_of found.now)) (codes "kind")
+        (proof_name kind)) refusals.old refusals.new result }
+{
+    match kind_of(found) {
+        Some(kind) => kind,
+        None => {
+            refusals.note(BadWord::new("KIND", "inclusion or consistency is due"));
+            ProofKind::Inclusion
+        }
+    }
+}
+
 // What a proof is asked for.
-fn ask_given(found: &ArgMatches<'_>) -> Option<Ask>
-    ensures { FindsPart (IsAskGiven (rows_of (found_of found.now))) result }
+fn ask_of(found: &ArgMatches<'_>, refusals: &mut Refusals) -> Ask
+    ensures { JudgesPart (IsAskGiven (rows_of (found_of found.now))) refusals.old refusals.new
+        result }
 {
-    let kind = word_of(found, "kind")?;
-    let a = word_of(found, "a")?;
-    let b = word_of(found, "b")?;
-    ask_of(kind, a, b)
-}
-
-// What its options say with `--state`.
-fn prove_of<'a>(found: &ArgMatches<'a>) -> Option<Prove<'a>>
-    ensures { FindsPart (IsProve (rows_of (found_of found.now))) result }
-{
-    Some(Prove {
-        mirror: state_asked(found)?,
-        ask: ask_given(found)?,
-    })
-}
-
-// What its options say with `--dir`.
-fn copy_prove_of<'a>(found: &ArgMatches<'a>) -> Option<CopyProve<'a>>
-    ensures { FindsPart (IsCopyProve (rows_of (found_of found.now))) result }
-{
-    Some(CopyProve {
-        copy: copy_asked(found)?,
-        ask: ask_given(found)?,
-    })
+    let kind = kind_given(found, refusals);
+    let a = size_of(found, "a", "A", refusals);
+    let b = size_of(found, "b", "B", refusals);
+    match kind {
+        ProofKind::Inclusion => Ask::Inclusion { size: a, index: b },
+        ProofKind::Consistency => Ask::Consistency {
+            first: a,
+            second: b,
+        },
+    }
 }
 
 /// The command, by its options, over a state or a copy.
-pub(crate) fn read<'a>(found: &ArgMatches<'a>) -> Result<Command<'a>, CommandFault>
-    ensures { ReadsPart (IsSaid (codes "prove") (rows_of (found_of found.now))) result }
+pub(crate) fn read<'a>(found: &ArgMatches<'a>, refusals: &mut Refusals) -> Command<'a>
+    ensures { JudgesPart (IsSaid (codes "prove") (rows_of (found_of found.now))) refusals.old
+        refusals.new result }
 {
-    if let Some(prove) = prove_of(found) {
-        return Ok(Command::Prove(prove));
+    let source = source_of(found, refusals);
+    let ask = ask_of(found, refusals);
+    match source {
+        Source::State(mirror) => Command::Prove(Prove { mirror, ask }),
+        Source::Copy(copy) => Command::CopyProve(CopyProve { copy, ask }),
     }
-    match copy_prove_of(found) {
-        Some(prove) => Ok(Command::CopyProve(prove)),
-        None => Err(CommandFault::BadArgument),
-    }
-}
-
-/// The option or the word that is bad.
-pub(crate) fn bad_word(found: &ArgMatches<'_>) -> Option<BadWord> {
-    if let Some(bad) = bad_source(found) {
-        return Some(bad);
-    }
-    match word_of(found, "kind") {
-        Some("inclusion") | Some("consistency") => {}
-        _ => return Some(BadWord::new("KIND", "inclusion or consistency is due")),
-    }
-    if let Some(bad) = bad_size(found, "a", "A") {
-        return Some(bad);
-    }
-    bad_size(found, "b", "B")
 }

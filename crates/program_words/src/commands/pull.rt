@@ -1,17 +1,15 @@
 //! `pull`: what is missing is fetched.
-ghost use Rattle.std.specs.Prelude.{IfOk, codes};
+ghost use Rattle.std.specs.Prelude.{codes};
 ghost use Rattle.clap.specs.Words.{found_of, rows_of};
-ghost use Rattle.program_words.specs.Commands.{IsPull};
-ghost use Rattle.program_words.specs.Readings.{FindsPart, IsSaid, ReadsPart};
+ghost use Rattle.program_words.specs.Readings.{IsSaid, JudgesPart};
 
-use crate::bad::{BadWord, bad_place};
 use crate::commands::Command;
-use crate::fault::CommandFault;
-use crate::parser::{AHEAD, Argument, CommandLine, FIRST_STATE, KEYS, ORIGIN, OUT, PROGRESS, WHY};
+use crate::parser::{AHEAD, Argument, Base, CommandLine, FIRST_STATE, PROGRESS};
 use crate::parts::{OutputArgs, ahead_of, has_flag, output_args};
 use crate::place::{Place, place_given};
+use crate::refusals::Refusals;
 use clap::ArgMatches;
-use std::alloc::{AllocError, Global};
+use std::alloc::Global;
 
 /// `pull`: what is missing is fetched.
 #[derive(Drop, Clone, Copy)]
@@ -24,7 +22,7 @@ pub struct Pull<'a> {
     pub keep: bool,
     /// How many requests may be sent ahead, 0 to 64. A folder does not heed it.
     pub ahead: u64,
-    /// Whether it is told how far the work is.
+    /// Whether lines say how far the work is.
     pub progress: bool,
     /// Where from.
     pub place: Place<'a>,
@@ -64,11 +62,8 @@ pub(crate) const LINE: CommandLine<'static> = CommandLine {
     name: "pull",
     about: "Fetches a log's newest checkpoint and what is missing of it, from a folder or over plain HTTP, and writes a state",
     help: HELP,
+    base: Base::Output,
     arguments: &[
-        ORIGIN,
-        KEYS,
-        WHY,
-        OUT,
         FIRST_STATE,
         Argument::Flag(
             "keep",
@@ -89,43 +84,27 @@ pub(crate) const LINE: CommandLine<'static> = CommandLine {
     ],
 };
 
-// What its options say.
-fn pull_of<'a>(alloc: Global, found: &ArgMatches<'a>) -> Result<Option<Pull<'a>>, AllocError>
-    ensures { IfOk result (FindsPart (IsPull (rows_of (found_of found.now)))) }
-{
-    let Some(mirror) = output_args(found) else {
-        return Ok(None);
-    };
-    let Some(ahead) = ahead_of(found) else {
-        return Ok(None);
-    };
-    let Some(place) = place_given(alloc, found)? else {
-        return Ok(None);
-    };
-    Ok(Some(Pull {
-        mirror,
-        state: found.get_str("state"),
-        keep: has_flag(found, "keep"),
-        ahead,
-        progress: has_flag(found, "progress"),
-        place,
-    }))
-}
-
 /// The command, by its options.
-pub(crate) fn read<'a>(alloc: Global, found: &ArgMatches<'a>) -> Result<Command<'a>, CommandFault>
-    ensures { ReadsPart (IsSaid (codes "pull") (rows_of (found_of found.now))) result }
+pub(crate) fn read<'a>(
+    alloc: Global,
+    found: &ArgMatches<'a>,
+    refusals: &mut Refusals,
+) -> Command<'a>
+    ensures { JudgesPart (IsSaid (codes "pull") (rows_of (found_of found.now))) refusals.old
+        refusals.new result }
 {
-    match pull_of(alloc, found)? {
-        Some(pull) => Ok(Command::Pull(pull)),
-        None => Err(CommandFault::BadArgument),
-    }
-}
-
-/// The option or the word that is bad.
-pub(crate) fn bad_word(alloc: Global, found: &ArgMatches<'_>) -> Option<BadWord> {
-    if ahead_of(found).is_none() {
-        return Some(BadWord::new("--ahead", "a number from 0 to 64 is due"));
-    }
-    bad_place(alloc, found.get_str("kind")?, found.get_str("place")?)
+    let mirror = output_args(found, refusals);
+    let state = found.get_str("state");
+    let keep = has_flag(found, "keep");
+    let ahead = ahead_of(found, refusals);
+    let progress = has_flag(found, "progress");
+    let place = place_given(alloc, found, refusals);
+    Command::Pull(Pull {
+        mirror,
+        state,
+        keep,
+        ahead,
+        progress,
+        place,
+    })
 }

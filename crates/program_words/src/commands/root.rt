@@ -1,13 +1,14 @@
 //! `root`: the tree hash of the bundle on standard input.
 ghost use Rattle.std.specs.Prelude.{codes};
 ghost use Rattle.clap.specs.Words.{found_of, rows_of};
-ghost use Rattle.program_words.specs.Commands.{IsRoot};
-ghost use Rattle.program_words.specs.Readings.{FindsPart, IsSaid, ReadsPart};
+ghost use Rattle.program_words.specs.Commands.{HasNumber};
+ghost use Rattle.program_words.specs.Readings.{IsSaid, JudgesPart};
 
+use crate::bad::BadWord;
 use crate::commands::Command;
-use crate::fault::CommandFault;
-use crate::parser::{Argument, CommandLine};
+use crate::parser::{Argument, Base, CommandLine};
 use crate::parts::number_of;
+use crate::refusals::Refusals;
 use clap::ArgMatches;
 
 /// `root`: the tree hash of the bundle on standard input.
@@ -37,24 +38,29 @@ pub(crate) const LINE: CommandLine<'static> = CommandLine {
     name: "root",
     about: "Reads an entry bundle from standard input, and prints its size and its tree hash",
     help: HELP,
+    base: Base::Nothing,
     arguments: &[Argument::Option("width", "W", "How many entries the bundle has, 0 to 256")],
 };
 
-// What its options say.
-fn root_of(found: &ArgMatches<'_>) -> Option<Root>
-    ensures { FindsPart (IsRoot (rows_of (found_of found.now))) result }
+// How many entries the bundle has.
+fn width_of(found: &ArgMatches<'_>, refusals: &mut Refusals) -> u32
+    ensures { JudgesPart (HasNumber (rows_of (found_of found.now)) (codes "width") 0 256)
+        refusals.old refusals.new result }
 {
-    Some(Root {
-        width: number_of(found, "width", 0, 256)? as u32,
-    })
+    match number_of(found, "width", 0, 256) {
+        Some(width) => width as u32,
+        None => {
+            refusals.note(BadWord::new("--width", "a number from 0 to 256 is due"));
+            0
+        }
+    }
 }
 
 /// The command, by its options.
-pub(crate) fn read<'a>(found: &ArgMatches<'a>) -> Result<Command<'a>, CommandFault>
-    ensures { ReadsPart (IsSaid (codes "root") (rows_of (found_of found.now))) result }
+pub(crate) fn read<'a>(found: &ArgMatches<'a>, refusals: &mut Refusals) -> Command<'a>
+    ensures { JudgesPart (IsSaid (codes "root") (rows_of (found_of found.now))) refusals.old
+        refusals.new result }
 {
-    match root_of(found) {
-        Some(root) => Ok(Command::Root(root)),
-        None => Err(CommandFault::BadArgument),
-    }
+    let width = width_of(found, refusals);
+    Command::Root(Root { width })
 }

@@ -1,16 +1,15 @@
 //! `serve`: answers over HTTP, of a mirror or a copy.
 ghost use Rattle.std.specs.Prelude.{codes};
 ghost use Rattle.clap.specs.Words.{found_of, rows_of};
-ghost use Rattle.program_words.specs.Commands.{IsCopyServe, IsServe};
-ghost use Rattle.program_words.specs.Readings.{FindsPart, IsSaid, ReadsPart};
+ghost use Rattle.program_words.specs.Commands.{HasNumber};
+ghost use Rattle.program_words.specs.Readings.{IsSaid, JudgesPart};
 
-use crate::bad::{BadWord, bad_size, bad_source};
+use crate::bad::BadWord;
 use crate::commands::Command;
-use crate::fault::CommandFault;
-use crate::parser::{Argument, CommandLine, DIR_OR_STATE, KEYS, ORIGIN, STATE_OR_DIR, WHY};
-use crate::parts::{CopyArgs, StateArgs, copy_asked, number_of, state_asked};
+use crate::parser::{Argument, Base, CommandLine};
+use crate::parts::{CopyArgs, Source, StateArgs, number_of, size_of, source_of};
+use crate::refusals::Refusals;
 use clap::ArgMatches;
-use tlog_shape::MAX_SIZE;
 
 /// `serve --state`: answers over HTTP what a mirror serves.
 #[derive(Drop, Clone, Copy)]
@@ -59,59 +58,45 @@ pub(crate) const LINE: CommandLine<'static> = CommandLine {
     name: "serve",
     about: "Answers over plain HTTP what the mirror serves",
     help: HELP,
+    base: Base::StateOrCopy,
     arguments: &[
-        ORIGIN,
-        KEYS,
-        WHY,
-        STATE_OR_DIR,
-        DIR_OR_STATE,
         Argument::Option("port", "P", "The port on 127.0.0.1, 1 to 65535"),
         Argument::Option("requests", "N", "How many connections are answered"),
     ],
 };
 
-// What its options say with `--state`.
-fn serve_of<'a>(found: &ArgMatches<'a>) -> Option<Serve<'a>>
-    ensures { FindsPart (IsServe (rows_of (found_of found.now))) result }
+// The port.
+fn port_of(found: &ArgMatches<'_>, refusals: &mut Refusals) -> u16
+    ensures { JudgesPart (HasNumber (rows_of (found_of found.now)) (codes "port") 1 65535)
+        refusals.old refusals.new result }
 {
-    Some(Serve {
-        mirror: state_asked(found)?,
-        port: number_of(found, "port", 1, 65_535)? as u16,
-        requests: number_of(found, "requests", 0, MAX_SIZE)?,
-    })
-}
-
-// What its options say with `--dir`.
-fn copy_serve_of<'a>(found: &ArgMatches<'a>) -> Option<CopyServe<'a>>
-    ensures { FindsPart (IsCopyServe (rows_of (found_of found.now))) result }
-{
-    Some(CopyServe {
-        copy: copy_asked(found)?,
-        port: number_of(found, "port", 1, 65_535)? as u16,
-        requests: number_of(found, "requests", 0, MAX_SIZE)?,
-    })
+    match number_of(found, "port", 1, 65_535) {
+        Some(port) => port as u16,
+        None => {
+            refusals.note(BadWord::new("--port", "a number from 1 to 65535 is due"));
+            1
+        }
+    }
 }
 
 /// The command, by its options, over a state or a copy.
-pub(crate) fn read<'a>(found: &ArgMatches<'a>) -> Result<Command<'a>, CommandFault>
-    ensures { ReadsPart (IsSaid (codes "serve") (rows_of (found_of found.now))) result }
+pub(crate) fn read<'a>(found: &ArgMatches<'a>, refusals: &mut Refusals) -> Command<'a>
+    ensures { JudgesPart (IsSaid (codes "serve") (rows_of (found_of found.now))) refusals.old
+        refusals.new result }
 {
-    if let Some(serve) = serve_of(found) {
-        return Ok(Command::Serve(serve));
+    let source = source_of(found, refusals);
+    let port = port_of(found, refusals);
+    let requests = size_of(found, "requests", "--requests", refusals);
+    match source {
+        Source::State(mirror) => Command::Serve(Serve {
+            mirror,
+            port,
+            requests,
+        }),
+        Source::Copy(copy) => Command::CopyServe(CopyServe {
+            copy,
+            port,
+            requests,
+        }),
     }
-    match copy_serve_of(found) {
-        Some(serve) => Ok(Command::CopyServe(serve)),
-        None => Err(CommandFault::BadArgument),
-    }
-}
-
-/// The option that is bad.
-pub(crate) fn bad_word(found: &ArgMatches<'_>) -> Option<BadWord> {
-    if let Some(bad) = bad_source(found) {
-        return Some(bad);
-    }
-    if number_of(found, "port", 1, 65_535).is_none() {
-        return Some(BadWord::new("--port", "a number from 1 to 65535 is due"));
-    }
-    bad_size(found, "requests", "--requests")
 }

@@ -1,12 +1,12 @@
 //! `status`: the heads of a mirror, or the checkpoint of a copy. It has the options of each command over either alone.
 ghost use Rattle.std.specs.Prelude.{codes};
 ghost use Rattle.clap.specs.Words.{found_of, rows_of};
-ghost use Rattle.program_words.specs.Readings.{IsSaid, ReadsPart};
+ghost use Rattle.program_words.specs.Readings.{IsSaid, JudgesPart};
 
 use crate::commands::Command;
-use crate::fault::CommandFault;
-use crate::parser::{CommandLine, DIR_OR_STATE, KEYS, ORIGIN, STATE_OR_DIR, WHY};
-use crate::parts::{copy_asked, state_asked};
+use crate::parser::{Base, CommandLine};
+use crate::parts::{Source, source_of};
+use crate::refusals::Refusals;
 use clap::ArgMatches;
 
 // What it reads, writes and may end with.
@@ -24,18 +24,17 @@ pub(crate) const LINE: CommandLine<'static> = CommandLine {
     name: "status",
     about: "Prints the checkpoints of a mirror, which of them are complete, and which is served",
     help: HELP,
-    arguments: &[ORIGIN, KEYS, WHY, STATE_OR_DIR, DIR_OR_STATE],
+    base: Base::StateOrCopy,
+    arguments: &[],
 };
 
 /// The command, by its options, over a state or a copy.
-pub(crate) fn read<'a>(found: &ArgMatches<'a>) -> Result<Command<'a>, CommandFault>
-    ensures { ReadsPart (IsSaid (codes "status") (rows_of (found_of found.now))) result }
+pub(crate) fn read<'a>(found: &ArgMatches<'a>, refusals: &mut Refusals) -> Command<'a>
+    ensures { JudgesPart (IsSaid (codes "status") (rows_of (found_of found.now))) refusals.old
+        refusals.new result }
 {
-    if let Some(args) = state_asked(found) {
-        return Ok(Command::Status(args));
-    }
-    match copy_asked(found) {
-        Some(args) => Ok(Command::CopyStatus(args)),
-        None => Err(CommandFault::BadArgument),
+    match source_of(found, refusals) {
+        Source::State(args) => Command::Status(args),
+        Source::Copy(args) => Command::CopyStatus(args),
     }
 }

@@ -1,16 +1,16 @@
 //! `take`: what files hold is taken into a mirror.
-ghost use Rattle.std.specs.Prelude.{◌↔◌, IfOk, IsTrue, codes};
+ghost use Rattle.std.specs.Prelude.{◌≡◌, ◌↔◌, List, ℕ, IsTrue, codes, length, map};
 ghost use Rattle.clap.specs.Words.{first_of, found_of, rows_of};
-ghost use Rattle.program_words.specs.Commands.{Given, IsCount, IsTake, IsTakeWidth, kind_name};
-ghost use Rattle.program_words.specs.Readings.{FindsPart, IsSaid, ReadsPart};
+ghost use Rattle.program_words.specs.Commands.{AreFiles, Given, IsCount, IsTakeWidth, kind_name};
+ghost use Rattle.program_words.specs.Readings.{AreFilesOf, FindsPart, IsSaid, JudgesPart};
 
 use crate::bad::BadWord;
 use crate::commands::Command;
-use crate::fault::CommandFault;
-use crate::parser::{Argument, CommandLine, FIRST_STATE, KEYS, ORIGIN, OUT, WHY};
-use crate::parts::{OutputArgs, files_of, number_in, output_args, word_of};
+use crate::parser::{Argument, Base, CommandLine, FIRST_STATE};
+use crate::parts::{OutputArgs, files_of, number_in, output_args, word_given};
+use crate::refusals::Refusals;
 use clap::ArgMatches;
-use std::alloc::{AllocError, Global};
+use std::alloc::Global;
 
 /// What files hold.
 #[derive(Drop, Clone, Copy)]
@@ -66,11 +66,8 @@ pub(crate) const LINE: CommandLine<'static> = CommandLine {
     name: "take",
     about: "Takes what files hold into a mirror, and writes the mirror's state",
     help: HELP,
+    base: Base::Output,
     arguments: &[
-        ORIGIN,
-        KEYS,
-        WHY,
-        OUT,
         FIRST_STATE,
         Argument::Choice(
             "width",
@@ -91,7 +88,7 @@ fn kind_of(found: &ArgMatches<'_>) -> Option<Kind>
     ensures { FindsPart (λ kind. Given (rows_of (found_of found.now)) (codes "kind")
         (kind_name kind)) result }
 {
-    match word_of(found, "kind")? {
+    match word_given(found, "kind")? {
         "head" => Some(Kind::Head),
         "tile" => Some(Kind::Tile),
         "bundle" => Some(Kind::Bundle),
@@ -99,14 +96,44 @@ fn kind_of(found: &ArgMatches<'_>) -> Option<Kind>
     }
 }
 
-// The width, which may be left out.
-fn width_of(found: &ArgMatches<'_>) -> Option<u32>
+// What the files are to hold.
+fn kind_given(found: &ArgMatches<'_>, refusals: &mut Refusals) -> Kind
+    ensures part { JudgesPart (λ kind. Given (rows_of (found_of found.now)) (codes "kind")
+        (kind_name kind)) refusals.old refusals.new result }
+    ensures one { (k : Kind) → Given (rows_of (found_of found.now)) (codes "kind") (kind_name k)
+        → result ≡ k }
+{
+    match kind_of(found) {
+        Some(kind) => kind,
+        None => {
+            refusals.note(BadWord::new("KIND", "head, tile or bundle is due"));
+            Kind::Head
+        }
+    }
+}
+
+// The number from 1 to 256 that the option spells, and 256 where it is left out.
+fn width_given(found: &ArgMatches<'_>) -> Option<u64>
     ensures { FindsPart (IsTakeWidth (first_of (codes "width") (rows_of (found_of found.now))))
         result }
 {
     match found.get_str("width") {
-        Some(word) => Some(number_in(word, 1, 256)? as u32),
+        Some(word) => number_in(word, 1, 256),
         None => Some(256),
+    }
+}
+
+// The width.
+fn width_of(found: &ArgMatches<'_>, refusals: &mut Refusals) -> u32
+    ensures { JudgesPart (IsTakeWidth (first_of (codes "width") (rows_of (found_of found.now))))
+        refusals.old refusals.new result }
+{
+    match width_given(found) {
+        Some(width) => width as u32,
+        None => {
+            refusals.note(BadWord::new("--width", "a number from 1 to 256 is due"));
+            256
+        }
     }
 }
 
@@ -120,52 +147,62 @@ fn is_count(kind: Kind, count: usize) -> bool
     }
 }
 
-// What its options say.
-fn take_of<'a>(alloc: Global, found: &ArgMatches<'a>) -> Result<Option<Take<'a>>, AllocError>
-    ensures { IfOk result (FindsPart (IsTake (rows_of (found_of found.now)))) }
+// How many files a kind is to have.
+fn count_due(kind: Kind) -> &'static str {
+    match kind {
+        Kind::Head => "one or more are due",
+        Kind::Tile | Kind::Bundle => "one is due",
+    }
+}
+
+// How many files are named.
+fn count_of(found: &ArgMatches<'_>) -> usize
+    ensures { (files : List (List ℕ)) → AreFiles (rows_of (found_of found.now)) files
+        → result ≡ length files }
 {
-    let Some(mirror) = output_args(found) else {
-        return Ok(None);
-    };
-    let Some(width) = width_of(found) else {
-        return Ok(None);
-    };
-    let Some(kind) = kind_of(found) else {
-        return Ok(None);
-    };
-    let files = files_of(alloc, found)?;
-    if is_count(kind, files.len()) {
-        Ok(Some(Take {
-            mirror,
-            state: found.get_str("state"),
-            width,
-            kind,
-            files,
-        }))
+    match found.get_strs("file") {
+        Some(files) => files.len(),
+        None => 0,
+    }
+}
+
+// The files, as many as the kind is to have.
+fn files_given<'a>(
+    alloc: Global,
+    found: &ArgMatches<'a>,
+    kind: Kind,
+    refusals: &mut Refusals,
+) -> Vec<&'a str>
+    ensures { JudgesPart (AreFilesOf kind (rows_of (found_of found.now))) refusals.old refusals.new
+        (map (λ f. f.now) result.items) }
+{
+    if is_count(kind, count_of(found)) {
+        files_of(alloc, found, refusals)
     } else {
-        drop(files);
-        Ok(None)
+        refusals.note(BadWord::new("FILE", count_due(kind)));
+        Vec::new(alloc)
     }
 }
 
 /// The command, by its options.
-pub(crate) fn read<'a>(alloc: Global, found: &ArgMatches<'a>) -> Result<Command<'a>, CommandFault>
-    ensures { ReadsPart (IsSaid (codes "take") (rows_of (found_of found.now))) result }
+pub(crate) fn read<'a>(
+    alloc: Global,
+    found: &ArgMatches<'a>,
+    refusals: &mut Refusals,
+) -> Command<'a>
+    ensures { JudgesPart (IsSaid (codes "take") (rows_of (found_of found.now))) refusals.old
+        refusals.new result }
 {
-    match take_of(alloc, found)? {
-        Some(take) => Ok(Command::Take(take)),
-        None => Err(CommandFault::BadArgument),
-    }
-}
-
-/// The option or the word that is bad: where width and kind are well, there are too many files, or none.
-pub(crate) fn bad_word(found: &ArgMatches<'_>) -> Option<BadWord> {
-    if width_of(found).is_none() {
-        return Some(BadWord::new("--width", "a number from 1 to 256 is due"));
-    }
-    match kind_of(found) {
-        None => Some(BadWord::new("KIND", "head, tile or bundle is due")),
-        Some(Kind::Head) => Some(BadWord::new("FILE", "one or more are due")),
-        Some(Kind::Tile | Kind::Bundle) => Some(BadWord::new("FILE", "one is due")),
-    }
+    let mirror = output_args(found, refusals);
+    let state = found.get_str("state");
+    let width = width_of(found, refusals);
+    let kind = kind_given(found, refusals);
+    let files = files_given(alloc, found, kind, refusals);
+    Command::Take(Take {
+        mirror,
+        state,
+        width,
+        kind,
+        files,
+    })
 }

@@ -1,7 +1,13 @@
+use Rattle.std.proofs.Common.{◌∙◌}
 use Rattle.program_words.proofs.parts.log_of.Goals as goal
 
-pub returns-in_err-word_of : goal.returns-in_err-word_of
-returns-in_err-word_of c = rw c.from_residual.ensures (λ x is. c.in_err-word_of.ensures x.origin.now is.origin)
-
-pub returns-in_err-word_of-2 : goal.returns-in_err-word_of-2
-returns-in_err-word_of-2 c = rw c.from_residual-in_err-word_of-2.ensures (λ x is. c.in_err-word_of-2.ensures x.keys.now is.keys)
+pub returns : goal.returns
+returns c = record {
+  good = λ g.
+      let s1 = c.word_of-keys.ensures.part.good g in
+      let s0 = c.word_of-origin.ensures.part.good s1.0 in
+      (s0.0, record { origin = s0.1; keys = s1.1 });
+  bad = λ m is.
+      c.word_of-keys.ensures.part.bad m.keys.now is.keys
+      ∙ c.word_of-origin.ensures.part.bad m.origin.now is.origin;
+}
