@@ -120,7 +120,10 @@ fn assert_place(
     is_liar: bool,
 ) -> Result<(), Fail> {
     let asked = lines_of(alloc, place.source().log.asked())?;
-    assert!(rt; asked.as_str() == if is_liar { "" } else { REST }, "{asked}");
+    assert!(rt;
+        asked.as_str() == if is_liar { "" } else { REST },
+        "{asked}"
+    );
     assert!(rt; place.source().lies == u32::from(is_liar));
     assert!(rt; place.first_wrong().is_some() == is_liar);
     Ok(())

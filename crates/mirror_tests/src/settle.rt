@@ -113,11 +113,7 @@ fn doubled<H: TreeHash>(times: u32) -> Hash {
 }
 
 // Takes the full tile of each level from 1 to below that one, over entries of no bytes, and a bundle of 256 of them.
-fn take_equal<H: TreeHash>(
-    alloc: Global,
-    mirror: &mut Mirror<H>,
-    top: u32,
-) -> Result<(), Fail> {
+fn take_equal<H: TreeHash>(alloc: Global, mirror: &mut Mirror<H>, top: u32) -> Result<(), Fail> {
     for level in 1..top {
         let row = equal_row::<H>(alloc, level, 256)?;
         mirror.take_tile(alloc, 256, &row)?;
@@ -128,11 +124,7 @@ fn take_equal<H: TreeHash>(
 }
 
 // So many hashes of that level, each of entries of no bytes.
-fn equal_row<H: TreeHash>(
-    alloc: Global,
-    level: u32,
-    width: u32,
-) -> Result<Vec<u8>, AllocError> {
+fn equal_row<H: TreeHash>(alloc: Global, level: u32, width: u32) -> Result<Vec<u8>, AllocError> {
     let hash = doubled::<H>(level.saturating_mul(8));
     let mut row = Vec::new(alloc);
     for _ in 0..width {
