@@ -11,3 +11,7 @@ pub mod Prefixes
 pub mod TrueReads
 pub mod TruePrefixes
 pub mod TrueBundles
+pub mod NodeNumbers
+pub mod NodeHashes
+pub mod Asked
+pub mod ShownBundles

@@ -35,7 +35,7 @@ true_rows_lead digest edge es long small each =
 
 module _ {A : Type 0} (b : ℕ) where
   -- the first of some ranges
-  first_ranges : (w first count : ℕ) (es : List A) → w ≤ count → take w (ranges b first count es) ≡ ranges b first w es
+  pub first_ranges : (w first count : ℕ) (es : List A) → w ≤ count → take w (ranges b first count es) ≡ ranges b first w es
   first_ranges zero first count es le = refl
   first_ranges (suc w) first zero es le = absurd (omega arith)
   first_ranges (suc w) first (suc count) es le =

@@ -1,6 +1,6 @@
 -- What is read of a source that holds the files of a log.
 use Rattle.std.proofs.Common.{◌≡◌, ◌≢◌, ℕ, ◌+◌, ◌-◌, ◌*◌, ◌/◌, ◌%◌, ◌^◌, ◌<◌, ◌≤◌, List, [], ◌∷◌, ◌++◌, length, take, drop}
-use Rattle.std.proofs.Common.{Global, Vec, get_or, slice_range, Option, Some, None, inl, inr, refl, sym, ap, subst, ◌∙◌, arith}
+use Rattle.std.proofs.Common.{Global, Vec, get_or, slice_range, Option, Some, None, Result, Ok, Err, inl, inr, refl, sym, ap, subst, ◌∙◌, arith}
 use Rattle.std.proofs.Math.Nat.{div-mul-le_self}
 use Rattle.std.proofs.Math.Seq.{take-append_seam}
 use Rattle.std.proofs.lemmas.List.{get_or-map, length-map}
@@ -22,7 +22,8 @@ use Rattle.mirror_model.proofs.RowLaws.{get_or-ranges}
 use Rattle.mirror_model.proofs.TrueItems.{tile_end}
 use Rattle.mirror_sources.specs.Source.{StaysWithin}
 use Rattle.log_reader.specs.EdgeRows.{Edge, RowIsTrue}
-use Rattle.log_reader.specs.Holding.{GivesWay, GoesOn, IsBelow, IsEdgeRowOf, IsHeldAnswer, IsReaderOf, IsSourceOf, IsTileHash, IsTreeFile, IsTrueWay, row_width, true_row}
+use Rattle.log_reader.specs.Holding.{GivesWay, GoesOn, IsBelow, IsEdgeRowOf, IsHeldAnswer, IsReaderOf, IsSourceOf, IsTileHash, IsTreeFile, IsTrueWay, ReadsTrue, row_width, true_row}
+use Rattle.log_reader.specs.declared.fault.ReadFault.{ReadFault}
 use Rattle.log_reader.specs.Verified.{Verifies}
 use Rattle.log_reader.specs.declared.verify.FullFile.TheVariants as full
 use Rattle.log_reader.specs.Ways.{Reader, row_of_way}
@@ -47,6 +48,12 @@ module _ (digest : List ℕ → List ℕ) (entries : List (List ℕ)) (old new :
     short = s.short;
     files = λ path file answer may. held_later path answer (s.files path file answer (stays.stays path answer may));
   }
+
+-- a read that is true is true in other words
+pub reads_more : {T : Type 0} (r : Result T ReadFault) (P Q : T → Type 0) → ((x : T) → P x → Q x) → ReadsTrue r P →
+    ReadsTrue r Q
+reads_more (Ok x) P Q f p = f x p
+reads_more (Err fault) P Q f p = p
 
 -- ---- files of a tree
 

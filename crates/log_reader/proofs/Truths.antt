@@ -149,7 +149,7 @@ module _ (digest : List ℕ → List ℕ) (hash : IsDigest digest) (entries : Li
     of_edge : (y : List ℕ) → Contains (edge_strings digest rows) y → Has held y
     of_edge y m = of_read y (Contains-append_left (edge_strings digest rows) (way_strings digest way) y m)
 
-    of_way : (y : List ℕ) → Contains (way_strings digest way) y → Has held y
+    pub of_way : (y : List ℕ) → Contains (way_strings digest way) y → Has held y
     of_way y m = of_read y (Contains-append_right (edge_strings digest rows) (way_strings digest way) y m)
 
     n_is : edge.size ≡ length entries
@@ -224,10 +224,10 @@ module _ (digest : List ℕ → List ℕ) (hash : IsDigest digest) (entries : Li
 
     -- ---- down the way
 
-    record IsTrueRow (level index : ℕ) (row : List (List ℕ)) : Type 0 where
-      low : level ≤ 7
-      within : (256 * index + length row) * 256 ^ level ≤ length entries
-      is : row ≡ level_row digest entries level (256 * index) (length row)
+    pub record IsTrueRow (level index : ℕ) (row : List (List ℕ)) : Type 0 where
+      pub low : level ≤ 7
+      pub within : (256 * index + length row) * 256 ^ level ≤ length entries
+      pub is : row ≡ level_row digest entries level (256 * index) (length row)
 
     at_edge : (level index : ℕ) → level ≤ 7 → index ≡ edge_index_of edge.size level → IsTrueRow level index (row_at edge level)
     at_edge level index low at =
@@ -284,7 +284,7 @@ module _ (digest : List ℕ → List ℕ) (hash : IsDigest digest) (entries : Li
         clean : NoClash digest held
         clean = c.clear
 
-    true_way : (level index : ℕ) (rest : List (List (List ℕ))) → IsWay digest edge level index rest →
+    pub true_way : (level index : ℕ) (rest : List (List (List ℕ))) → IsWay digest edge level index rest →
         ((y : List ℕ) → Contains (way_strings digest rest) y → Has held y) →
         IsTrueRow level index (row_of_way edge level rest)
     true_way level index [] w all = at_edge level index w.0 w.1

@@ -5,3 +5,4 @@ pub mod Ways
 pub mod Proving
 pub mod Truth
 pub mod Holding
+pub mod Nodes

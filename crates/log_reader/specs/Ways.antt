@@ -52,6 +52,13 @@ module _ (digest : List ℕ → List ℕ) where
     pub is_way : IsWay edge level index way
     pub row_is : row ≡ row_of_way edge level way
 
+  -- the hash is that of an entry in a row of leaf hashes that is shown
+  pub record IsShownLeaf (edge : Edge) (index : ℕ) (hash : List ℕ) : Type 0 where
+    pub row : List (List ℕ)
+    pub shown : IsShownRow edge 0 (index / 256) row
+    pub within : index % 256 < length row
+    pub hash_is : hash ≡ get_or row (index % 256) []
+
   -- the bytes are the bundle at the end of the tree, with the leaf hashes of the edge
   pub record IsEndBundle (edge : Edge) (index : ℕ) (bytes : List ℕ) : Type 0 where
     pub index_is : index ≡ edge_index_of edge.size 0

@@ -1,13 +1,18 @@
 //! Consistency proofs of a log, made of verified rows.
-ghost use Rattle.std.specs.Prelude.{◌≡◌, ◌+◌, ◌^◌, ◌<◌, ◌≤◌, IfOk};
-ghost use Rattle.tlog_proof.specs.Made.{Holds};
+ghost use Rattle.std.specs.Prelude.{◌≡◌, ◌+◌, ◌++◌, ◌^◌, ◌<◌, ◌≤◌, IfOk, Ok, length};
+ghost use Rattle.tlog_hash.specs.Rows.{part};
+ghost use Rattle.tlog_proof.specs.Consistency.{subproof_of};
+ghost use Rattle.tlog_proof.specs.Made.{Holds, asked_proof};
+ghost use Rattle.tlog_proof.specs.declared.proof.Ask.TheVariants.{Consistency};
 ghost use Rattle.mirror_sources.specs.Source.{StaysWithin};
 ghost use Rattle.mirror_sources.specs.Told.{KeepsTold};
 ghost use Rattle.log_reader.specs.Faults.{CountsFailure};
+ghost use Rattle.log_reader.specs.Holding.{ReadsOf};
+ghost use Rattle.log_reader.specs.Nodes.{IsNodeRange};
 ghost use Rattle.log_reader.specs.Proving.{IsConsistencyTo};
 
 use crate::fault::ReadFault;
-use crate::node_hash::node_hash;
+use crate::node_hash::add_node;
 use crate::reader::LogReader;
 use mirror_sources::Source;
 use std::alloc::Global;
@@ -29,32 +34,34 @@ fn add_subproof<H: TreeHash, S: Source>(
 ) -> Result<(), ReadFault>
     requires some { 0 < first }
     requires within { first ≤ node.1 }
-    requires fits { node.0 + node.1 ≤ reader.old.edge.size }
+    requires node { IsNodeRange reader.old.edge.size node.0 node.1 }
     requires small { node.0 + node.1 < 2 ^ 64 }
     ensures edge { reader.new.edge ≡ reader.old.edge }
     ensures root { reader.new.root ≡ reader.old.root }
     ensures later { StaysWithin (S.may_answer source.old) (S.may_answer source.new) }
     ensures kept { KeepsTold (S.files source.old) (S.files source.new) }
     ensures counted { CountsFailure (S.failed source.old) (S.failed source.new) result }
+    ensures honest { ReadsOf H.digest reader.old reader.new (S.may_answer source.old) result
+        (λ entries _. path.new.items
+        ≡ path.old.items ++ subproof_of H.digest first (part node.0 node.1 entries) held) }
 {
     let (start, len) = node;
     if first == len {
         if !held {
-            path.push(node_hash::<H, S>(alloc, reader, source, start, len)?)?;
+            add_node::<H, S>(alloc, reader, source, node, path)?;
         }
         return Ok(());
     }
     let k = split(len);
     let beside = if first <= k {
         add_subproof::<H, S>(alloc, reader, source, (start, k), first, held, path)?;
-        node_hash::<H, S>(alloc, reader, source, start + k, len - k)?
+        (start + k, len - k)
     } else {
         let right = (start + k, len - k);
         add_subproof::<H, S>(alloc, reader, source, right, first - k, false, path)?;
-        node_hash::<H, S>(alloc, reader, source, start, k)?
+        (start, k)
     };
-    path.push(beside)?;
-    Ok(())
+    add_node::<H, S>(alloc, reader, source, beside, path)
 }
 
 impl<H: TreeHash> LogReader<H> {
@@ -68,7 +75,8 @@ impl<H: TreeHash> LogReader<H> {
     ///
     /// # Errors
     ///
-    /// Those of `row`; and `Collision`: the rows lead to the root, and the proof made of them does not hold.
+    /// Those of `row`; and `Collision`: the rows lead to the root, and the proof made of them does not hold. Of a source that holds
+    /// the log's files it never comes.
     #[tactic(auto, using(crate::proofs::Kept::kept_twice))]
     pub fn consistency<S: Source>(
         &mut self,
@@ -85,6 +93,9 @@ impl<H: TreeHash> LogReader<H> {
         ensures later { StaysWithin (S.may_answer source.old) (S.may_answer source.new) }
         ensures kept { KeepsTold (S.files source.old) (S.files source.new) }
         ensures counted { CountsFailure (S.failed source.old) (S.failed source.new) result }
+        ensures honest { ReadsOf H.digest self.old self.new (S.may_answer source.old) result
+            (λ entries proof. asked_proof H.digest entries (Consistency first (length entries))
+            ≡ Ok proof) }
     {
         let first_root = self.prefix(alloc, source, first)?.root();
         let second = self.size();

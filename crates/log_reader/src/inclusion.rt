@@ -1,15 +1,20 @@
 //! Inclusion proofs of a log, made of verified rows.
-ghost use Rattle.std.specs.Prelude.{◌≡◌, ◌+◌, ◌^◌, ◌<◌, ◌≤◌, [], IfOk, get_or};
+ghost use Rattle.std.specs.Prelude.{◌≡◌, ◌+◌, ◌++◌, ◌^◌, ◌<◌, ◌≤◌, [], IfOk, Ok, get_or, length};
+ghost use Rattle.tlog_hash.specs.Rows.{part};
 ghost use Rattle.tlog_hash.specs.Tree.{leaf_hash};
-ghost use Rattle.tlog_proof.specs.Made.{Holds};
+ghost use Rattle.tlog_proof.specs.Inclusion.{path_of};
+ghost use Rattle.tlog_proof.specs.Made.{Holds, asked_proof};
+ghost use Rattle.tlog_proof.specs.declared.proof.Ask.TheVariants.{Inclusion};
 ghost use Rattle.mirror_sources.specs.Source.{StaysWithin};
 ghost use Rattle.mirror_sources.specs.Told.{KeepsTold};
 ghost use Rattle.log_reader.specs.Faults.{CountsFailure};
 ghost use Rattle.log_reader.specs.Holding.{ReadsOf};
+ghost use Rattle.log_reader.specs.Nodes.{IsNodeRange};
 ghost use Rattle.log_reader.specs.Proving.{IsInclusionIn};
+ghost use Rattle.log_reader.specs.Ways.{IsShownLeaf};
 
 use crate::fault::ReadFault;
-use crate::node_hash::node_hash;
+use crate::node_hash::add_node;
 use crate::reader::LogReader;
 use mirror_sources::Source;
 use std::alloc::Global;
@@ -29,13 +34,16 @@ fn add_path<H: TreeHash, S: Source>(
     path: &mut Vec<Hash>,
 ) -> Result<(), ReadFault>
     requires inside { index < node.1 }
-    requires fits { node.0 + node.1 ≤ reader.old.edge.size }
+    requires node { IsNodeRange reader.old.edge.size node.0 node.1 }
     requires small { node.0 + node.1 < 2 ^ 64 }
     ensures edge { reader.new.edge ≡ reader.old.edge }
     ensures root { reader.new.root ≡ reader.old.root }
     ensures later { StaysWithin (S.may_answer source.old) (S.may_answer source.new) }
     ensures kept { KeepsTold (S.files source.old) (S.files source.new) }
     ensures counted { CountsFailure (S.failed source.old) (S.failed source.new) result }
+    ensures honest { ReadsOf H.digest reader.old reader.new (S.may_answer source.old) result
+        (λ entries _. path.new.items
+        ≡ path.old.items ++ path_of H.digest index (part node.0 node.1 entries)) }
 {
     let (start, len) = node;
     if len == 1 {
@@ -44,13 +52,13 @@ fn add_path<H: TreeHash, S: Source>(
     let k = split(len);
     let beside = if index < k {
         add_path::<H, S>(alloc, reader, source, (start, k), index, path)?;
-        node_hash::<H, S>(alloc, reader, source, start + k, len - k)?
+        (start + k, len - k)
     } else {
-        add_path::<H, S>(alloc, reader, source, (start + k, len - k), index - k, path)?;
-        node_hash::<H, S>(alloc, reader, source, start, k)?
+        let right = (start + k, len - k);
+        add_path::<H, S>(alloc, reader, source, right, index - k, path)?;
+        (start, k)
     };
-    path.push(beside)?;
-    Ok(())
+    add_node::<H, S>(alloc, reader, source, beside, path)
 }
 
 impl<H: TreeHash> LogReader<H> {
@@ -72,6 +80,7 @@ impl<H: TreeHash> LogReader<H> {
         requires { index < self.old.edge.size }
         ensures edge { self.new.edge ≡ self.old.edge }
         ensures root { self.new.root ≡ self.old.root }
+        ensures shown { IfOk result (IsShownLeaf H.digest self.old.edge index) }
         ensures later { StaysWithin (S.may_answer source.old) (S.may_answer source.new) }
         ensures kept { KeepsTold (S.files source.old) (S.files source.new) }
         ensures counted { CountsFailure (S.failed source.old) (S.failed source.new) result }
@@ -99,7 +108,8 @@ impl<H: TreeHash> LogReader<H> {
     ///
     /// # Errors
     ///
-    /// Those of `row`; and `Collision`: the rows lead to the root, and the proof made of them does not hold.
+    /// Those of `row`; and `Collision`: the rows lead to the root, and the proof made of them does not hold. Of a source that holds
+    /// the log's files it never comes.
     #[tactic(auto, using(crate::proofs::Kept::kept_twice))]
     pub fn inclusion<S: Source>(
         &mut self,
@@ -115,6 +125,9 @@ impl<H: TreeHash> LogReader<H> {
         ensures later { StaysWithin (S.may_answer source.old) (S.may_answer source.new) }
         ensures kept { KeepsTold (S.files source.old) (S.files source.new) }
         ensures counted { CountsFailure (S.failed source.old) (S.failed source.new) result }
+        ensures honest { ReadsOf H.digest self.old self.new (S.may_answer source.old) result
+            (λ entries proof. asked_proof H.digest entries (Inclusion (length entries) index)
+            ≡ Ok proof) }
     {
         let size = self.size();
         let leaf = self.leaf(alloc, source, index)?;

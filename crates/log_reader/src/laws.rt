@@ -1,5 +1,5 @@
 //! Laws of the definitions that the contracts cite.
-ghost use Rattle.log_reader.specs.Truth.{ShownPrefixesAreTrue, ShownRowsAreTrue};
+ghost use Rattle.log_reader.specs.Truth.{ShownBundlesAreTrue, ShownPrefixesAreTrue, ShownRowsAreTrue};
 
 /// A row that is shown is the true one of each list of entries of the tree's size and root, where no two different strings of the
 /// list's tree, of the edge and of the way share a digest.
@@ -11,4 +11,10 @@ pub fn shown_rows_law()
 /// different strings of the list's tree, of the edge and of a way to one of the prefix's rows share a digest.
 pub fn shown_prefixes_law()
     ensures { ShownPrefixesAreTrue }
+{}
+
+/// A bundle that is shown has the true entries of each list of entries of the tree's size and root, where no two different strings
+/// of the list's tree, of the edge, of the way up from the bundle and of the tree of the bundle's own entries share a digest.
+pub fn shown_bundles_law()
+    ensures { ShownBundlesAreTrue }
 {}

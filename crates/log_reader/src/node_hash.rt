@@ -1,8 +1,15 @@
 //! The hashes of the nodes of a tree.
-ghost use Rattle.std.specs.Prelude.{◌≡◌, ◌+◌, ◌<◌, ◌≤◌};
+ghost use Rattle.std.specs.Prelude.{◌≡◌, ◌+◌, ◌*◌, ◌%◌, ◌^◌, ◌<◌, ◌≤◌, ◌++◌, ◌∷◌, [], ℕ, IfOk, IsSomeAnd, List, drop, length, take};
+ghost use Rattle.tlog_shape.specs.Edge.{edge_index_of, width_of};
+ghost use Rattle.tlog_shape.specs.Split.{IsPowerOfTwo};
+ghost use Rattle.tlog_hash.specs.Rows.{part};
+ghost use Rattle.tlog_hash.specs.Tree.{fold_of, mth};
 ghost use Rattle.mirror_sources.specs.Source.{StaysWithin};
 ghost use Rattle.mirror_sources.specs.Told.{KeepsTold};
+ghost use Rattle.log_reader.specs.EdgeRows.{RowIsTrue};
 ghost use Rattle.log_reader.specs.Faults.{CountsFailure};
+ghost use Rattle.log_reader.specs.Holding.{ReadsOf};
+ghost use Rattle.log_reader.specs.Nodes.{IsHashFrom, IsNodeRange, hash_on_top};
 
 use crate::edge_root::with_row;
 use crate::edge_rows::EdgeRows;
@@ -14,7 +21,10 @@ use tlog_hash::{Hash, TreeHash, fold};
 use tlog_shape::{edge_index, edge_width, is_perfect, top_level};
 
 // The fold of some hashes of a row; None where it does not have them.
-fn fold_part<H: TreeHash>(row: &[Hash], first: u32, count: u32) -> Option<Hash> {
+fn fold_part<H: TreeHash>(row: &[Hash], first: u32, count: u32) -> Option<Hash>
+    ensures { 0 < count → first + count ≤ length row.now → IsSomeAnd result
+        (λ hash. hash ≡ fold_of H.digest (take count (drop first row.now))) }
+{
     let rest = row.get(first as usize..)?;
     let part = rest.get(..count as usize)?;
     if part.is_empty() {
@@ -23,12 +33,42 @@ fn fold_part<H: TreeHash>(row: &[Hash], first: u32, count: u32) -> Option<Hash> 
     Some(fold::<H>(part))
 }
 
+// The hash of a node of a power of two of entries: some hashes of the row of its tile lead to it.
+#[tactic(auto, using(crate::proofs::Kept::kept_once))]
+fn perfect_hash<H: TreeHash, S: Source>(
+    alloc: Global,
+    reader: &mut LogReader<H>,
+    source: &mut S,
+    start: u64,
+    len: u64,
+) -> Result<Hash, ReadFault>
+    requires within { start + len ≤ reader.old.edge.size }
+    requires power { IsPowerOfTwo len }
+    requires aligned { start % len ≡ 0 }
+    ensures edge { reader.new.edge ≡ reader.old.edge }
+    ensures root { reader.new.root ≡ reader.old.root }
+    ensures later { StaysWithin (S.may_answer source.old) (S.may_answer source.new) }
+    ensures kept { KeepsTold (S.files source.old) (S.files source.new) }
+    ensures counted { CountsFailure (S.failed source.old) (S.failed source.new) result }
+    ensures honest { ReadsOf H.digest reader.old reader.new (S.may_answer source.old) result
+        (λ entries hash. hash ≡ mth H.digest (part start len entries)) }
+{
+    let level = top_level(len);
+    let row = reader.row(alloc, source, level, edge_index(start, level))?;
+    match fold_part::<H>(&row, edge_width(start, level), edge_width(len, level)) {
+        Some(hash) => Ok(hash),
+        None => Err(ReadFault::Collision),
+    }
+}
+
 // The hash of the rows so far with one more above them, which may be empty.
 fn on_top<H: TreeHash>(
     alloc: Global,
     below: Option<Hash>,
     row: &[Hash],
-) -> Result<Option<Hash>, AllocError> {
+) -> Result<Option<Hash>, AllocError>
+    ensures { IfOk result (λ hash. hash ≡ hash_on_top H.digest below row.now) }
+{
     if row.is_empty() {
         return Ok(below);
     }
@@ -41,7 +81,13 @@ fn end_hash<H: TreeHash>(
     edge: &EdgeRows,
     level: u32,
     first: u32,
-) -> Result<Option<Hash>, AllocError> {
+) -> Result<Option<Hash>, AllocError>
+    requires { level ≤ 7 }
+    ensures { IfOk result (λ hash. (entries : List (List ℕ)) → edge.now.size ≡ length entries
+        → ((l : ℕ) → l ≤ 7 → RowIsTrue H.digest edge.now entries l)
+        → first ≤ width_of (length entries) level → IsHashFrom H.digest entries
+        ((256 * edge_index_of (length entries) level + first) * 256 ^ level) hash) }
+{
     let mut hash = None;
     for below in 0..level {
         hash = on_top::<H>(alloc, hash, edge.row(below))?;
@@ -52,33 +98,55 @@ fn end_hash<H: TreeHash>(
     }
 }
 
-/// The hash of a node of the tree: of as many entries as `len`, from `start` on. Where they are not a power of two, they are the
-/// last ones.
+// The hash of a node of the tree: of as many entries as `len`, from `start` on. Where they are not a power of two, they are the
+// last ones.
 #[tactic(auto, using(crate::proofs::Kept::kept_once))]
-pub(crate) fn node_hash<H: TreeHash, S: Source>(
+fn node_hash<H: TreeHash, S: Source>(
     alloc: Global,
     reader: &mut LogReader<H>,
     source: &mut S,
     start: u64,
     len: u64,
 ) -> Result<Hash, ReadFault>
-    requires { start + len ≤ reader.old.edge.size }
+    requires { IsNodeRange reader.old.edge.size start len }
     ensures edge { reader.new.edge ≡ reader.old.edge }
     ensures root { reader.new.root ≡ reader.old.root }
     ensures later { StaysWithin (S.may_answer source.old) (S.may_answer source.new) }
     ensures kept { KeepsTold (S.files source.old) (S.files source.new) }
     ensures counted { CountsFailure (S.failed source.old) (S.failed source.new) result }
+    ensures honest { ReadsOf H.digest reader.old reader.new (S.may_answer source.old) result
+        (λ entries hash. hash ≡ mth H.digest (part start len entries)) }
 {
+    if is_perfect(len) {
+        return perfect_hash::<H, S>(alloc, reader, source, start, len);
+    }
     let level = top_level(len);
-    let first = edge_width(start, level);
-    let hash = if is_perfect(len) {
-        let row = reader.row(alloc, source, level, edge_index(start, level))?;
-        fold_part::<H>(&row, first, edge_width(len, level))
-    } else {
-        end_hash::<H>(alloc, reader.edge(), level, first)?
-    };
-    match hash {
+    match end_hash::<H>(alloc, reader.edge(), level, edge_width(start, level))? {
         Some(hash) => Ok(hash),
         None => Err(ReadFault::Collision),
     }
+}
+
+/// Adds the hash of a node to a path.
+#[tactic(auto, using(crate::proofs::Kept::kept_once))]
+pub(crate) fn add_node<H: TreeHash, S: Source>(
+    alloc: Global,
+    reader: &mut LogReader<H>,
+    source: &mut S,
+    node: (u64, u64),
+    path: &mut Vec<Hash>,
+) -> Result<(), ReadFault>
+    requires { IsNodeRange reader.old.edge.size node.0 node.1 }
+    ensures edge { reader.new.edge ≡ reader.old.edge }
+    ensures root { reader.new.root ≡ reader.old.root }
+    ensures later { StaysWithin (S.may_answer source.old) (S.may_answer source.new) }
+    ensures kept { KeepsTold (S.files source.old) (S.files source.new) }
+    ensures counted { CountsFailure (S.failed source.old) (S.failed source.new) result }
+    ensures honest { ReadsOf H.digest reader.old reader.new (S.may_answer source.old) result
+        (λ entries _. path.new.items
+        ≡ path.old.items ++ mth H.digest (part node.0 node.1 entries) ∷ []) }
+{
+    let hash = node_hash::<H, S>(alloc, reader, source, node.0, node.1)?;
+    path.push(hash)?;
+    Ok(())
 }

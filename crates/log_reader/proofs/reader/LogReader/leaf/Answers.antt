@@ -1,7 +1,22 @@
-use Rattle.std.proofs.Common.{◌%◌, ◌<◌, ◌≤◌, [], length, refl, rules, subst, ◌∙◌, arith}
+use Rattle.std.proofs.Common.{◌/◌, ◌%◌, ◌<◌, ◌≤◌, [], length, refl, rules, subst, sym, ◌∙◌, arith}
+use Rattle.std.proofs.lemmas.Bool.{ltb-true}
 use Rattle.std.proofs.lemmas.List.{get_or_read_under}
+use Rattle.log_reader.specs.Ways.{IsShownRow}
 use Rattle.log_reader.proofs.TruePrefixes.{leaf_is, leaf_within}
 use Rattle.log_reader.proofs.reader.LogReader.leaf.Goals as goal
+
+pub returns-in-Some-clause-shown : goal.returns-in-Some-clause-shown
+returns-in-Some-clause-shown g c =
+    let index = c.args.index in
+    let row = c.deref.result.now in
+    let within : index % 256 < length row = ltb-true _ _ (sym c.in-Some.ensures.lookup.0) in
+    record {
+      row = row;
+      shown = subst (IsShownRow g.H.TreeHash.digest c.args.self.now.edge 0 (index / 256)) (sym c.deref.ensures.value)
+          c.in_ok-row.ensures.shown;
+      within = within;
+      hash_is = get_or_read_under row (index % 256) (length row) c.in-Some.hash.now [] c.in-Some.ensures.lookup.1 within refl;
+    }
 
 pub returns-in_err-row-clause-honest : goal.returns-in_err-row-clause-honest
 returns-in_err-row-clause-honest g c = λ entries r s.

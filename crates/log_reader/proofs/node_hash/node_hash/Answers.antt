@@ -1,0 +1,64 @@
+use Rattle.std.proofs.Common.{◌≡◌, ℕ, ◌+◌, ◌*◌, ◌<◌, ◌≤◌, ◌^◌, Some, None, drop, length, subst, sym, ap, ◌∙◌, arith}
+use Rattle.std.proofs.Common.{length-drop}
+use Rattle.std.proofs.lemmas.Bool.{false≢true}
+use Rattle.std.proofs.lemmas.List.{take_all}
+use Rattle.tlog_shape.specs.Edge.{edge_index_of, width_of}
+use Rattle.tlog_shape.specs.Split.{IsPowerOfTwo}
+use Rattle.tlog_hash.specs.Tree.{mth}
+use Rattle.log_reader.specs.EdgeRows.{RowIsTrue}
+use Rattle.log_reader.specs.Nodes.{IsHashFrom, IsNodeRange}
+use Rattle.log_reader.proofs.NodeNumbers.{end_first, end_start, ends, perfect_aligned}
+use Rattle.log_reader.proofs.node_hash.node_hash.Goals as goal
+
+pub perfect_hash-requires-clause-aligned : goal.perfect_hash-requires-clause-aligned
+perfect_hash-requires-clause-aligned g c =
+    perfect_aligned c.args.reader.now.edge.size c.args.start c.args.len c.requires
+    (c.is_perfect.ensures.0 c.if-is_perfect.true)
+
+pub returns-in-Some-clause-honest : goal.returns-in-Some-clause-honest
+returns-in-Some-clause-honest g c = λ entries r s.
+    let digest = g.H.TreeHash.digest in
+    let n = length entries in
+    let start = c.args.start in
+    let len = c.args.len in
+    let level = c.top_level-level.result in
+    let top = c.top_level-level.ensures in
+    let small : len < 2 ^ 64 = c.ranges.len.fits in
+    let node = subst (λ m. IsNodeRange m start len) r.size_is c.requires in
+    let other : IsPowerOfTwo len → ⊥ = λ p. false≢true (sym c.if-is_perfect.false ∙ c.is_perfect.ensures.1 p) in
+    let size : c.edge.result.now.size ≡ n = ap (λ e. e.size) c.edge.ensures.edge ∙ r.size_is in
+    let rows = subst (λ e. (l : ℕ) → l ≤ 7 → RowIsTrue digest e entries l) (sym c.edge.ensures.edge) r.edge in
+    let first = c.edge_width.ensures in
+    let at : (256 * edge_index_of n level + c.edge_width.result) * 256 ^ level ≡ start =
+    ap (λ f. (256 * edge_index_of n level + f) * 256 ^ level) first ∙ end_start n start len level node small other top in
+    let fits : c.edge_width.result ≤ width_of n level =
+    omega (arith, first, end_first n start len level node small other top) in
+    let found = subst (λ m. IsHashFrom digest entries m (Some c.in-Some.hash)) at
+    ((rw c.in-Some.is at c.in_ok-hash.ensures) entries size rows fits) in
+    let end = ends n start len level node small other top in
+    record {
+      reader_is = r;
+      answer = found.1 ∙ ap (mth digest) (sym (take_all len (drop start entries) (omega (arith, length-drop start entries, end))));
+    }
+
+pub returns-in-None-clause-honest : goal.returns-in-None-clause-honest
+returns-in-None-clause-honest g c = λ entries r s.
+    let digest = g.H.TreeHash.digest in
+    let n = length entries in
+    let start = c.args.start in
+    let len = c.args.len in
+    let level = c.top_level-level.result in
+    let top = c.top_level-level.ensures in
+    let small : len < 2 ^ 64 = c.ranges.len.fits in
+    let node = subst (λ m. IsNodeRange m start len) r.size_is c.requires in
+    let other : IsPowerOfTwo len → ⊥ = λ p. false≢true (sym c.if-is_perfect.false ∙ c.is_perfect.ensures.1 p) in
+    let size : c.edge.result.now.size ≡ n = ap (λ e. e.size) c.edge.ensures.edge ∙ r.size_is in
+    let rows = subst (λ e. (l : ℕ) → l ≤ 7 → RowIsTrue digest e entries l) (sym c.edge.ensures.edge) r.edge in
+    let first = c.edge_width.ensures in
+    let at : (256 * edge_index_of n level + c.edge_width.result) * 256 ^ level ≡ start =
+    ap (λ f. (256 * edge_index_of n level + f) * 256 ^ level) first ∙ end_start n start len level node small other top in
+    let fits : c.edge_width.result ≤ width_of n level =
+    omega (arith, first, end_first n start len level node small other top) in
+    let none : start ≡ n = subst (λ m. IsHashFrom digest entries m None) at
+    ((rw c.in-None.is at c.in_ok-hash.ensures) entries size rows fits) in
+    absurd (omega (arith, none, ends n start len level node small other top, node.some))

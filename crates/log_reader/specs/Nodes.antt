@@ -1,0 +1,27 @@
+-- The nodes of a tree whose hashes a proof has (RFC 6962, section 2.1). Contracts of private functions alone cite these.
+use Rattle.std.specs.Prelude.{◌≡◌, ◌⊎◌, ℕ, ◌+◌, ◌%◌, ◌<◌, ◌≤◌, List, [], ◌∷◌, ◌++◌, length, drop, Option, Some, None}
+use Rattle.tlog_shape.specs.Split.{IsPowerOfTwo}
+use Rattle.tlog_hash.specs.Tree.{fold_of, mth}
+
+-- the entries of a node of a tree of n entries, as many as len from start on: they begin at a multiple of a power of two that is
+-- no less than len, and are a power of two, or the last of the tree
+pub record IsNodeRange (n start len : ℕ) : Type 0 where
+  pub block : ℕ
+  pub power : IsPowerOfTwo block
+  pub aligned : start % block ≡ 0
+  pub upto : len ≤ block
+  pub some : 0 < len
+  pub within : start + len ≤ n
+  pub kind : IsPowerOfTwo len ⊎ (start + len ≡ n)
+
+module _ (digest : List ℕ → List ℕ) where
+  -- the hash that a row leads to, with the hash of what lies below the levels of the row behind it
+  abbrev pub hash_on_top : Option (List ℕ) → List (List ℕ) → Option (List ℕ)
+  hash_on_top below [] = below
+  hash_on_top None (hash ∷ row) = Some (fold_of digest (hash ∷ row))
+  hash_on_top (Some value) (hash ∷ row) = Some (fold_of digest ((hash ∷ row) ++ value ∷ []))
+
+  -- the tree hash of the entries from that number on; None where there are none
+  abbrev pub IsHashFrom : List (List ℕ) → ℕ → Option (List ℕ) → Type 0
+  IsHashFrom entries start None = start ≡ length entries
+  IsHashFrom entries start (Some hash) = (start < length entries) × (hash ≡ mth digest (drop start entries))
