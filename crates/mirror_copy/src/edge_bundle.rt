@@ -75,8 +75,8 @@ fn edge_bundle_at_place<H: TreeHash, S: Source + Drop>(
         (λ bytes. HasLeaves H.digest (length row.now) bytes.items row.now)) }
     ensures taken { IfOk result (λ found. IfSome found
         (λ bytes. PartOf (MayGive S.may_answer places.old) path.now bytes.items)) }
-    ensures honest { IfOk result (λ found. IfNone found ((entries : List (List ℕ)) → AreShort entries
-        → HasTrueLeaves H.digest entries path.now row.now
+    ensures honest { IfOk result (λ found. IfNone found ((entries : List (List ℕ))
+        → AreShort entries → HasTrueLeaves H.digest entries path.now row.now
         → ¬ IsTruePlace H.digest entries S.may_answer places.old places.new index)) }
 {
     let Some(bytes) = get_partial::<S>(alloc, places, index, path)? else {
@@ -105,8 +105,8 @@ fn edge_bundle_at_places<H: TreeHash, S: Source + Drop>(
         (λ bytes. HasLeaves H.digest (length row.now) bytes.items row.now)) }
     ensures taken { IfOk result (λ found. IfSome found
         (λ bytes. PartOf (MayGive S.may_answer places.old) path.now bytes.items)) }
-    ensures honest { IfOk result (λ found. IfNone found ((entries : List (List ℕ)) → AreShort entries
-        → HasTrueLeaves H.digest entries path.now row.now
+    ensures honest { IfOk result (λ found. IfNone found ((entries : List (List ℕ))
+        → AreShort entries → HasTrueLeaves H.digest entries path.now row.now
         → ¬ HasTruePlace H.digest entries S.may_answer places.old places.new)) }
 {
     let first = places.first();
