@@ -1,5 +1,5 @@
 -- A bringing from its beginning.
-use Rattle.std.proofs.Common.{◌≡◌, inl, inr, ℕ, ◌<◌, List, length, get_or, Option, IsFalse, sym, subst, ap, ◌∙◌}
+use Rattle.std.proofs.Common.{◌≡◌, ◌⊎◌, inl, inr, ℕ, ◌<◌, List, length, get_or, Option, IsFalse, sym, subst, ap, ◌∙◌}
 use Rattle.tlog_tiles.specs.declared.paths.Path.{Path}
 use Rattle.mirror_model.specs.Heads.{IsHead}
 use Rattle.mirror_folders.specs.Shelf.{Put}
@@ -43,7 +43,7 @@ module _ {S : Type 0} (may : S → Path → Option (List ℕ) → Type 0) (faile
   blames_failed : (so : Path → Type 0) (x y z : Places S) (e : BringFault) → y.list.items ≡ x.list.items →
       IsFalse y.has_failed → AsksPlaces may failed asked so y z → BlamesPlaces z e → BlamesFailed may failed asked x z e
   blames_failed so x y z BadCheckpoint list none p h = absurd h
-  blames_failed so x y z CopyDamaged list none p h = tt
+  blames_failed so x y z CopyDamaged list none p h = absurd h
   blames_failed so x y z NotLarger list none p h = absurd h
   blames_failed so x y z Contradiction list none p h = tt
   blames_failed so x y z Collision list none p h = tt
@@ -55,6 +55,24 @@ module _ {S : Type 0} (may : S → Path → Option (List ℕ) → Type 0) (faile
   blames_failed so x y z CopyInUse list none p h = absurd h
   blames_failed so x y z ShelfFault list none p h = tt
   blames_failed so x y z OutOfMemory list none p h = tt
+
+  blames_none : (x z : Places S) (e : BringFault) → IsOfNoPlace e → BlamesFailed may failed asked x z e
+  blames_none x z BadCheckpoint h = absurd h
+  blames_none x z CopyDamaged h = absurd h
+  blames_none x z NotLarger h = absurd h
+  blames_none x z Contradiction h = tt
+  blames_none x z Collision h = tt
+  blames_none x z NoFile h = absurd h
+  blames_none x z Source h = absurd h
+  blames_none x z CopyInUse h = absurd h
+  blames_none x z ShelfFault h = tt
+  blames_none x z OutOfMemory h = tt
+
+  -- a fault that comes where the tip is read
+  pub blames_tip : {P : Type 0} (x z : Places S) (e : BringFault) → ((e ≡ CopyDamaged) × P) ⊎ IsOfNoPlace e →
+      BlamesFailed may failed asked x z e
+  blames_tip x z e (inl h) = subst (λ (f : BringFault). BlamesFailed may failed asked x z f) (sym h.0) tt
+  blames_tip x z e (inr h) = blames_none x z e h
 
   pub blames_from : (so : Path → Type 0) (x y z : Places S) (digest : List ℕ → List ℕ) (n : ℕ) (tip : Tip)
       (puts : Option (List Put)) (e : BringFault) → y.list.items ≡ x.list.items → IsFalse y.has_failed →
@@ -78,6 +96,11 @@ module _ (digest : List ℕ → List ℕ) (origin note : List ℕ) (puts : Optio
   refuses_none CopyInUse h = absurd h
   refuses_none ShelfFault h = tt
   refuses_none OutOfMemory h = tt
+
+  -- a fault that comes where the tip is read
+  pub refuses_tip : {P : Type 0} (e : BringFault) → ((e ≡ CopyDamaged) × P) ⊎ IsOfNoPlace e → RefusesNote digest origin note puts e
+  refuses_tip e (inl h) = subst (λ (f : BringFault). RefusesNote digest origin note puts f) (sym h.0) tt
+  refuses_tip e (inr h) = refuses_none e h
 
   refuses_places : {S : Type 0} (places : Places S) (e : BringFault) → BlamesPlaces places e → RefusesNote digest origin note puts e
   refuses_places places BadCheckpoint h = absurd h

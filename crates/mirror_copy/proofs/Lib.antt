@@ -23,3 +23,7 @@ pub mod TipTruth
 pub mod OnePlace
 pub mod Spared
 pub mod Cutting
+pub mod TrueAnswers
+pub mod TrueEdges
+pub mod Damages
+pub mod OneHonest

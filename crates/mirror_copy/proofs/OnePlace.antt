@@ -10,7 +10,7 @@ use Rattle.tlog_tiles.specs.declared.paths.Path.TheVariants.{Entries, Tile}
 use Rattle.mirror_sources.specs.Told.{AddsTold, KeepsTold}
 use Rattle.mirror_folders.specs.Shelf.{Put, TellsRead}
 use Rattle.mirror_copy.specs.PlaceGets.{AsksPlaces}
-use Rattle.mirror_copy.specs.Suffices.{HasTruePlace, OneIsHonest}
+use Rattle.mirror_copy.specs.Suffices.{HasTruePlace, IsTruePlace, OneIsHonest}
 use Rattle.mirror_copy.specs.Taken.{FilesAreClear, IsLeafTile, MayGive, MayTake, PartOf, PutsTaken, WasPut}
 use Rattle.mirror_copy.specs.declared.places.Places.{Places}
 use Rattle.mirror_copy.proofs.Earlier.{kept_then}
@@ -40,26 +40,33 @@ put_read (Some puts) path bytes s = (
 
 module _ {S : Type 0} (may : S → Path → Option (List ℕ) → Type 0) (failed : S → ℕ) (asked : S → Option (List Path)) where
   -- a place that answers in a call answers in a part of it
-  pub place_between : (digest : List ℕ → List ℕ) (entries : List (List ℕ)) (so also last : Path → Type 0) (x y z w : Places S) →
+  pub true_between : (digest : List ℕ → List ℕ) (entries : List (List ℕ)) (so also last : Path → Type 0) (x y z w : Places S) →
       AsksPlaces may failed asked so x y → AsksPlaces may failed asked also y z → AsksPlaces may failed asked last z w →
-      HasTruePlace digest entries may x w → HasTruePlace digest entries may y z
-  place_between digest entries so also last x y z w p q r t =
-      let a = p.each t.index t.none in
-      let b = q.each t.index t.none in
-      let c = r.each t.index t.none in
+      (index : ℕ) → IsTruePlace digest entries may x w index → IsTruePlace digest entries may y z index
+  true_between digest entries so also last x y z w p q r index t =
+      let a = p.each index t.none in
+      let b = q.each index t.none in
+      let c = r.each index t.none in
       let first = a.more in
       let second = b.more in
       let third = c.more in
       let same = t.answers in
       let few = t.asked in
       record {
-        index = t.index;
         none = t.none;
         listed = let lt = t.listed in omega (arith, lt, p.count);
         gives = λ path within answer h. t.gives path within answer (a.later.stays path answer h);
         asked = omega (arith, first, second, third, same, few);
         answers = omega (arith, first, second, third, same);
       }
+
+  pub place_between : (digest : List ℕ → List ℕ) (entries : List (List ℕ)) (so also last : Path → Type 0) (x y z w : Places S) →
+      AsksPlaces may failed asked so x y → AsksPlaces may failed asked also y z → AsksPlaces may failed asked last z w →
+      HasTruePlace digest entries may x w → HasTruePlace digest entries may y z
+  place_between digest entries so also last x y z w p q r t = record {
+    index = t.index;
+    place = true_between digest entries so also last x y z w p q r t.index t.place;
+  }
 
   pub given_before : (so : Path → Type 0) (x y : Places S) (path : Path) (bytes : List ℕ) → AsksPlaces may failed asked so x y →
       MayGive may y path bytes → MayGive may x path bytes

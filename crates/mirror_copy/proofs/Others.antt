@@ -22,7 +22,7 @@ use Rattle.mirror_copy.proofs.TipReads.{stands_has, stands_one}
 -- a fault of no place is one of a bringing
 pub of_no_place : {S : Type 0} (places : Places S) (e : BringFault) → IsOfNoPlace e → BlamesPlaces places e
 of_no_place places BadCheckpoint h = absurd h
-of_no_place places CopyDamaged h = tt
+of_no_place places CopyDamaged h = absurd h
 of_no_place places NotLarger h = absurd h
 of_no_place places Contradiction h = tt
 of_no_place places Collision h = tt
@@ -123,6 +123,12 @@ in_use_later digest origin places tip n x y e kept t (inr (inr h)) is =
     absurd (subst (λ (f : BringFault). BlamesPlaces places f) is h)
 
 -- a fault of no place is not CopyInUse
-pub not_in_use : (digest : List ℕ → List ℕ) (origin : List ℕ) (x : Option (List Put)) (e : BringFault) → IsOfNoPlace e →
+not_in_use : (digest : List ℕ → List ℕ) (origin : List ℕ) (x : Option (List Put)) (e : BringFault) → IsOfNoPlace e →
     e ≡ CopyInUse → IsInUse digest origin x
 not_in_use digest origin x e h is = absurd (subst (λ (f : BringFault). IsOfNoPlace f) is h)
+
+-- neither is one that comes where the tip is read
+pub tip_not_in_use : (digest : List ℕ → List ℕ) (origin : List ℕ) (x : Option (List Put)) {P : Type 0} (e : BringFault) →
+    ((e ≡ CopyDamaged) × P) ⊎ IsOfNoPlace e → e ≡ CopyInUse → IsInUse digest origin x
+tip_not_in_use digest origin x e (inl h) is = absurd (cc (h.0, is))
+tip_not_in_use digest origin x e (inr h) is = not_in_use digest origin x e h is

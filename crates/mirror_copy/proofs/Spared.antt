@@ -1,6 +1,6 @@
 -- Faults that do not come while one place is honest.
 use Rattle.std.proofs.Common.{◌≡◌, ℕ, ◌+◌, ◌-◌, ◌*◌, ◌/◌, ◌^◌, ◌<◌, ◌≤◌, All, List, [], length, map, take, drop, get_or}
-use Rattle.std.proofs.Common.{inl, inr, Result, Ok, Err, IfErr, refl, sym, ap, subst, ◌∙◌, arith, length-take}
+use Rattle.std.proofs.Common.{inl, inr, Option, Result, Ok, Err, IfErr, refl, sym, ap, subst, ◌∙◌, arith, length-take}
 use Rattle.std.proofs.Math.Nat.{div-mul-le_self}
 use Rattle.std.proofs.lemmas.Nat.{mul-le}
 use Rattle.std.specs.List.{Contains}
@@ -11,18 +11,21 @@ use Rattle.tlog_shape.proofs.Levels.{level_next, level_positive}
 use Rattle.tlog_hash.specs.Tree.{joins, leaf_hash, mth, strings}
 use Rattle.tlog_hash.specs.Rows.{level_row, part, ranges}
 use Rattle.tlog_hash.proofs.Folds.{length-ranges}
+use Rattle.tlog_hash.proofs.LeafRanges.{rows_of_leaves}
 use Rattle.tlog_tiles.specs.declared.paths.Path.TheVariants.{Entries, Tile}
 use Rattle.tlog_tiles.proofs.EdgeLemmas.{hashes_of}
 use Rattle.mirror_model.specs.Strings.{IsDigest}
 use Rattle.mirror_model.proofs.RowLaws.{get_or-ranges}
 use Rattle.mirror_model.proofs.TrueItems.{tile_end}
 use Rattle.log_reader.specs.EdgeRows.{Edge, HasWidths, row_at}
-use Rattle.log_reader.specs.Verified.{Verifies}
+use Rattle.log_reader.specs.Verified.{HasLeaves, Verifies}
 use Rattle.log_reader.specs.declared.verify.FullFile.TheVariants as kind
 use Rattle.mirror_copy.specs.Conflicts.{IsNoConflict}
-use Rattle.mirror_copy.specs.Faults.{IsOfNoPlace}
+use Rattle.mirror_folders.specs.Shelf.{Put}
+use Rattle.mirror_copy.specs.Faults.{BlamesLast, IsOfNoPlace}
 use Rattle.mirror_copy.specs.Suffices.{IsEdgeTrue, IsFileUnder, IsNoLack, IsSpared, IsTileHash, IsTileRow}
 use Rattle.mirror_copy.specs.Taken.{AreEntriesClear, IsRowClear}
+use Rattle.mirror_copy.specs.TrueAnswers.{HasTrueLeaves}
 use Rattle.mirror_copy.specs.declared.fault.BringFault.{BringFault}
 use Rattle.mirror_copy.specs.declared.fault.BringFault.TheVariants.{BadCheckpoint, CopyDamaged, NotLarger}
 use Rattle.mirror_copy.specs.declared.fault.BringFault.TheVariants.{Contradiction, Collision, NoFile, Source, CopyInUse}
@@ -59,6 +62,30 @@ pub spared_answer : {T : Type 0} (r : Result T BringFault) (Q : BringFault → T
     IfErr r IsOfNoPlace → IfErr r IsNoConflict → IfErr r Q
 spared_answer (Ok x) Q f h n = tt
 spared_answer (Err e) Q f h n = f e (spared_shelf e h n)
+
+pub no_lack : (e : BringFault) → IsOfNoPlace e → IsNoLack e
+no_lack BadCheckpoint h = absurd h
+no_lack CopyDamaged h = absurd h
+no_lack NotLarger h = absurd h
+no_lack Contradiction h = (λ e. cc, λ e. cc)
+no_lack Collision h = (λ e. cc, λ e. cc)
+no_lack NoFile h = absurd h
+no_lack Source h = absurd h
+no_lack CopyInUse h = absurd h
+no_lack ShelfFault h = (λ e. cc, λ e. cc)
+no_lack OutOfMemory h = (λ e. cc, λ e. cc)
+
+-- the same of the last step
+pub spared_last : {T : Type 0} (r : Result T BringFault) (Q : BringFault → Type 0) → ((e : BringFault) → IsSpared e → Q e) →
+    (found : Option (List ℕ)) (puts : Option (List Put)) → IfErr r (BlamesLast found puts) → IfErr r IsNoConflict → IfErr r Q
+spared_last (Ok x) Q f found puts h n = tt
+spared_last (Err e) Q f found puts (inl h) n = f e (subst (λ (e : BringFault). IsSpared e) (sym h.0) tt)
+spared_last (Err e) Q f found puts (inr h) n = f e (spared_shelf e h n)
+
+pub err_weaker : {T : Type 0} (r : Result T BringFault) (P Q : BringFault → Type 0) → ((e : BringFault) → P e → Q e) →
+    IfErr r P → IfErr r Q
+err_weaker (Ok x) P Q f h = tt
+err_weaker (Err e) P Q f h = f e h
 
 module _ (digest : List ℕ → List ℕ) (entries : List (List ℕ)) (size : ℕ) (upto : size ≤ length entries) where
   abbrev log : List (List ℕ)
@@ -101,6 +128,28 @@ module _ (digest : List ℕ → List ℕ) (entries : List (List ℕ)) (size : �
     record { level_fits = omega arith; some = omega arith; upto = omega arith; within = ends_within 0 index hash is },
     hash_log 0 index hash is,
   )
+
+  -- the partial bundle at a true edge
+  pub true_leaves : (edge : Edge) → HasWidths edge → IsEdgeTrue digest log edge → (index width : ℕ) →
+      index ≡ edge_index_of edge.size 0 → width ≡ length (row_at edge 0) → 1 ≤ width →
+      HasTrueLeaves digest entries (Entries index width) (row_at edge 0)
+  true_leaves edge widths is index width at wide some =
+      let n = edge.size in
+      let w : length (row_at edge 0) ≡ width_of n 0 = widths 0 (omega arith) in
+      let sum : 256 * index + width ≡ n = omega (arith, at, wide, w, hashes_of n 0) in
+      let fits : 256 * index + width ≤ length log = omega (arith, sum, is.size_is) in
+      let row : row_at edge 0 ≡ level_row digest log 0 (256 * index) width =
+      is.rows_are 0 (omega arith) ∙ (λ i. level_row digest log 0 (256 * sym at i) ((sym w ∙ sym wide) i)) in (
+        wide,
+        record {
+          level_fits = omega arith;
+          some = some;
+          upto = omega (arith, wide, w);
+          within = omega (arith, fits, log_upto);
+        },
+        row ∙ (rows_of_leaves digest width (256 * index) log fits
+            ∙ ap (map (leaf_hash digest)) (part_log (256 * index) width fits)),
+      )
 
 module _ (digest : List ℕ → List ℕ) (hash : IsDigest digest) (log : List (List ℕ)) where
   -- a full tile that verifies under a true hash is true
@@ -175,3 +224,16 @@ module _ (digest : List ℕ → List ℕ) (hash : IsDigest digest) (log : List (
         whole = inr (sum ∙ ap (λ m. m / 256 ^ level) is.size_is);
         is = is.rows_are level low ∙ ap (λ k. level_row digest log level (256 * edge_index_of n level) k) (sym w);
       }
+
+  -- the partial bundle at a true edge
+  pub edge_bundle_true : (edge : Edge) → HasWidths edge → IsEdgeTrue digest log edge → (index width : ℕ) (bytes : List ℕ)
+      (row : List (List ℕ)) → index ≡ edge_index_of edge.size 0 → row ≡ row_at edge 0 → width ≡ length row →
+      (v : HasLeaves digest width bytes row) → AreEntriesClear digest log v.entries →
+      v.entries ≡ part (256 * index) width log
+  edge_bundle_true edge widths is index width bytes row at row_is wide v clean =
+      let w : width ≡ width_of edge.size 0 = wide ∙ (ap length row_is ∙ widths 0 (omega arith)) in
+      let sum : 256 * index + width ≡ edge.size = omega (arith, at, w, hashes_of edge.size 0) in
+      let there : row_at edge 0 ≡ level_row digest log 0 (256 * index) width =
+      is.rows_are 0 (omega arith) ∙ (λ i. level_row digest log 0 (256 * sym at i) (sym w i)) in
+      true_entries digest hash log (strings digest v.entries) clean index width v.entries (omega (arith, sum, is.size_is))
+      (sym v.row_is ∙ (row_is ∙ there)) (λ y c. c)

@@ -89,13 +89,30 @@ pub not_all_in_vain : (digest : List ℕ → List ℕ) → IsDigest digest → (
     ((k : ℕ) (d : Place S) → k < length old.list.items → IsAskedInVain (may (get_or old.list.items k d).source)
     (get_or old.list.items k d).failures (get_or new.list.items k d).failures path
     (λ bytes. (row : List (List ℕ)) × Verifies digest kind hash bytes row)) → ⊥
-not_all_in_vain digest is_digest entries short kind path hash is may old new t vain =
-    elim (not_in_vain digest is_digest entries short (may (get_or old.list.items t.index t.none).source) t.gives kind path hash
-    is (get_or old.list.items t.index t.none).failures (get_or new.list.items t.index t.none).failures
-    (vain t.index t.none t.listed)) [
+not_all_in_vain digest is_digest entries short kind path hash is may old new h vain =
+    let t = h.place in
+    elim (not_in_vain digest is_digest entries short (may (get_or old.list.items h.index t.none).source) t.gives kind path hash
+    is (get_or old.list.items h.index t.none).failures (get_or new.list.items h.index t.none).failures
+    (vain h.index t.none t.listed)) [
       | inl rose ↦ omega (arith, rose, t.answers)
       | inr many ↦ omega (arith, many, t.asked)
     ]
+
+-- a place that gives true files alone, before what was kept in mind of the call
+pub place_noted : (digest : List ℕ → List ℕ) (entries : List (List ℕ)) {S : Type 0}
+    (may : S → Path → Option (List ℕ) → Type 0) (old mid new : Places S) → new.list.items ≡ mid.list.items →
+    HasTruePlace digest entries may old new → HasTruePlace digest entries may old mid
+place_noted digest entries {S} may old mid new same h = record {
+  index = h.index;
+  place = record {
+    none = h.place.none;
+    listed = h.place.listed;
+    gives = h.place.gives;
+    asked = h.place.asked;
+    answers = subst (λ (l : List (Place S)). (get_or l h.index h.place.none).failures
+        ≡ (get_or old.list.items h.index h.place.none).failures) same h.place.answers;
+  };
+}
 
 -- the same, after the path was kept in mind
 pub lacks_none : (digest : List ℕ → List ℕ) → IsDigest digest → (entries : List (List ℕ)) → AreShort entries →
@@ -105,15 +122,6 @@ pub lacks_none : (digest : List ℕ → List ℕ) → IsDigest digest → (entri
     ((k : ℕ) (d : Place S) → k < length old.list.items → IsAskedInVain (may (get_or old.list.items k d).source)
     (get_or old.list.items k d).failures (get_or mid.list.items k d).failures path
     (λ bytes. (row : List (List ℕ)) × Verifies digest kind hash bytes row)) → ⊥
-lacks_none digest is_digest entries short kind path hash is {S} may old mid new same t vain =
+lacks_none digest is_digest entries short kind path hash is may old mid new same t vain =
     not_all_in_vain digest is_digest entries short kind path hash is may old mid
-    (record {
-      index = t.index;
-      none = t.none;
-      listed = t.listed;
-      gives = t.gives;
-      asked = t.asked;
-      answers = subst (λ (l : List (Place S)). (get_or l t.index t.none).failures
-          ≡ (get_or old.list.items t.index t.none).failures) same t.answers;
-    })
-    vain
+    (place_noted digest entries may old mid new same t) vain

@@ -121,7 +121,7 @@ module _ (digest : List ℕ → List ℕ) (hash : IsDigest digest) (origin note 
       nil_from_length row (long ∙ none)
       ∙ ap (λ w. level_row digest entries level (256 * edge_index_of n level) w) (sym none)
 
-  row_read : (level : ℕ) (row : List (List ℕ)) → level ≤ 7 → IsRowRead (Some held) n level row →
+  pub row_read : (level : ℕ) (row : List (List ℕ)) → level ≤ 7 → IsRowRead (Some held) n level row →
       row ≡ level_row digest entries level (256 * edge_index_of n level) (width_of n level)
   row_read level row upto r = elim (cases_lt 0 (width_of n level)) [
     | inl some ↦ row_true level (width_of n level) r.bytes row r.is_row upto (λ e. omega arith) refl

@@ -1,6 +1,7 @@
 -- The tip of the first entries of a log, beside true rows and bundles of the log.
 use Rattle.std.proofs.Common.{◌≡◌, ℕ, ◌+◌, ◌-◌, ◌*◌, ◌/◌, ◌^◌, ◌≤◌, List, [], ◌++◌, length, take, drop, get_or}
 use Rattle.std.proofs.Common.{inl, inr, refl, sym, ap, ◌∙◌, arith, length-append}
+use Rattle.std.specs.Prelude.{IfNone, IsNone, None, Option, Some}
 use Rattle.std.proofs.Math.Nat.{div-mul-le_self}
 use Rattle.std.proofs.lemmas.Nat.{le-div}
 use Rattle.std.proofs.lemmas.List.{take_at}
@@ -15,6 +16,10 @@ use Rattle.mirror_copy.specs.Growing.{Tip}
 use Rattle.mirror_copy.specs.Suffices.{IsTipOf, IsTileRow}
 use Rattle.mirror_copy.proofs.Prefixes.{level_row_front, part_front}
 use Rattle.mirror_copy.proofs.TrueRows.{count_row, take_row}
+
+pub of_none : {T P : Type 0} (o : Option T) → IsNone o → IfNone o P → P
+of_none None none h = h
+of_none (Some x) none h = absurd (cc none)
 
 module _ (digest : List ℕ → List ℕ) (tip : Tip) (log : List (List ℕ)) (t : IsTipOf digest tip log) where
   abbrev m : ℕ

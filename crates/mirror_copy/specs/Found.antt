@@ -11,6 +11,7 @@ use Rattle.mirror_copy.specs.Copies.{IsCopy}
 use Rattle.log_reader.specs.EdgeRows.{Edge, row_at}
 use Rattle.mirror_copy.specs.Growing.{IsKnown, Tip}
 use Rattle.mirror_copy.specs.Moments.{CopyStays, IsBroughtTo, KeepsCopy}
+use Rattle.mirror_copy.specs.Taken.{PartOf, WasPut}
 use Rattle.mirror_folders.specs.Shelf.{TellsRead}
 
 -- the answer is what stands at the path of a partial file, where something was put there; where nothing was, it may be
@@ -26,6 +27,8 @@ pub record IsRowRead (puts : Option (List Put)) (n level : ℕ) (row : List (Lis
   pub is_row : IsRow (width_of n level) bytes row
   pub stands : 1 ≤ width_of n level →
       TellsPartial puts (Tile level (edge_index_of n level) (width_of n level)) (Some bytes)
+  pub taken : 1 ≤ width_of n level →
+      PartOf (WasPut puts) (Tile level (edge_index_of n level) (width_of n level)) bytes
 
 -- the rows are those of the edge of n entries as they stand on the shelf
 pub record IsEdgeRead (puts : Option (List Put)) (n : ℕ) (edge : Edge) : Type 0 where

@@ -11,3 +11,6 @@ pub mod Found
 pub mod AskedForCopy
 pub mod Suffices
 pub mod Taken
+pub mod TrueAnswers
+pub mod OneHonest
+pub mod Damaged

@@ -41,15 +41,20 @@ module _ (digest : List ℕ → List ℕ) (entries : List (List ℕ)) where
       (path : Path) → IsWithin (length entries) path → (answer : Option (List ℕ)) → may path answer →
       IsTrueAnswer digest entries path answer
 
--- one of the places gives true files of a log of the entries alone, and it did not fail, and was not given up
-pub record HasTruePlace (digest : List ℕ → List ℕ) (entries : List (List ℕ)) {S : Type 0}
-    (may : S → Path → Option (List ℕ) → Type 0) (old new : Places S) : Type 0 where
-  pub index : ℕ
+-- the place of that index gives true files of a log of the entries alone, and it did not fail, and was not given up
+pub record IsTruePlace (digest : List ℕ → List ℕ) (entries : List (List ℕ)) {S : Type 0}
+    (may : S → Path → Option (List ℕ) → Type 0) (old new : Places S) (index : ℕ) : Type 0 where
   pub none : Place S
   pub listed : index < length old.list.items
   pub gives : GivesTrueFiles digest entries (may (get_or old.list.items index none).source)
   pub asked : (get_or old.list.items index none).failures < 8
   pub answers : (get_or new.list.items index none).failures ≡ (get_or old.list.items index none).failures
+
+-- one of the places does
+pub record HasTruePlace (digest : List ℕ → List ℕ) (entries : List (List ℕ)) {S : Type 0}
+    (may : S → Path → Option (List ℕ) → Type 0) (old new : Places S) : Type 0 where
+  pub index : ℕ
+  pub place : IsTruePlace digest entries may old new index
 
 -- the fault is not that a file was to be had from nowhere
 abbrev pub IsNoLack : BringFault → Type 0

@@ -1,16 +1,19 @@
 -- Which files a bringing may take from its places and its shelf, and when the strings that are hashed of them do not clash with
 -- those of a log.
-use Rattle.std.specs.Prelude.{◌≡◌, ◌⊎◌, ℕ, ◌<◌, ◌≤◌, All, Contains, List, ◌++◌, length, get_or, Option, Some, None, ⊤}
+use Rattle.std.specs.Prelude.{◌≡◌, ◌⊎◌, ℕ, ◌<◌, ◌≤◌, All, Contains, List, ◌++◌, length, map, get_or, Option, Some, None, ⊤}
 use Rattle.std.specs.FinSet as set
+use Rattle.tlog_shape.specs.Edge.{edge_index_of, width_of}
 use Rattle.tlog_hash.specs.Tree.{joins, strings}
 use Rattle.tlog_tiles.specs.declared.paths.Path.{Path}
 use Rattle.tlog_tiles.specs.declared.paths.Path.TheVariants.{Checkpoint, Tile, Entries}
 use Rattle.tlog_tiles.specs.Bundle.{IsBundle}
 use Rattle.tlog_tiles.specs.Row.{IsRow}
 use Rattle.node_store.specs.Strings.{NoClash}
+use Rattle.mirror_model.specs.Edge.{edge_levels, edge_strings}
 use Rattle.mirror_sources.specs.Files.{full_of}
 use Rattle.mirror_sources.specs.Told.{AddsTold}
 use Rattle.mirror_folders.specs.Shelf.{Put}
+use Rattle.log_reader.specs.EdgeRows.{Edge, row_at}
 use Rattle.mirror_copy.specs.declared.place.Place.{Place}
 use Rattle.mirror_copy.specs.declared.places.Places.{Places}
 
@@ -33,6 +36,17 @@ pub record IsFirstOf (full bytes : List ℕ) : Type 0 where
 -- the bytes may be taken at the path, or are the first of what may be taken at the path of the full file
 abbrev pub PartOf : (Path → List ℕ → Type 0) → Path → List ℕ → Type 0
 PartOf take path bytes = take path bytes ⊎ ((full : List ℕ) × take (full_of path) full × IsFirstOf full bytes)
+
+-- the row of a level of the edge of n entries is that of bytes that may be taken, where the level has one
+pub record IsRowFrom (take : Path → List ℕ → Type 0) (n level : ℕ) (row : List (List ℕ)) : Type 0 where
+  pub bytes : List ℕ
+  pub is_row : IsRow (width_of n level) bytes row
+  pub taken : 1 ≤ width_of n level → PartOf take (Tile level (edge_index_of n level) (width_of n level)) bytes
+
+-- so is each row of the edge
+pub record IsEdgeFrom (take : Path → List ℕ → Type 0) (n : ℕ) (edge : Edge) : Type 0 where
+  pub size_is : edge.size ≡ n
+  pub rows_are : (level : ℕ) → level ≤ 7 → IsRowFrom take n level (row_at edge level)
 
 module _ {S : Type 0} (may : S → Path → Option (List ℕ) → Type 0) where
   -- one of the places may give the bytes at the path
@@ -66,3 +80,12 @@ module _ (digest : List ℕ → List ℕ) (log : List (List ℕ)) where
         take (Tile level index 256) bytes → IsRow 256 bytes row → IsRowClear row
     pub bundle : (index width : ℕ) (bytes : List ℕ) (entries : List (List ℕ)) →
         PartOf take (Entries index width) bytes → IsBundle width bytes entries → AreEntriesClear entries
+
+  -- the same of what leads from the rows of an edge to their root
+  abbrev pub IsEdgeClear : Edge → Type 0
+  IsEdgeClear edge = NoClash digest
+      (set.from_list (strings digest log ++ edge_strings digest (map (row_at edge) (edge_levels edge.size))))
+
+  -- so it is of each edge of as many entries whose rows may be taken
+  abbrev pub EdgesAreClear : (Path → List ℕ → Type 0) → Type 0
+  EdgesAreClear take = (edge : Edge) → IsEdgeFrom take (length log) edge → IsEdgeClear edge

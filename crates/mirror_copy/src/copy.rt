@@ -1,5 +1,6 @@
 //! A copy on a shelf, brought to a checkpoint.
-ghost use Rattle.std.specs.Prelude.{◌≡◌, ◌↔◌, ◌⊎◌, ◌<◌, ◌^◌, ℕ, None, Some, [], IfErr, IfOk, IfSome, IsTrue, List, OnOk, length};
+ghost use Rattle.std.specs.Prelude.{◌≡◌, ◌↔◌, ◌⊎◌, ◌<◌, ◌^◌, ℕ, None, Some, [], IfErr, IfOk, IfSome, IsTrue, List, OnOk, length, take};
+ghost use Rattle.tlog_hash.specs.Tree.{mth};
 ghost use Rattle.mirror_model.specs.Heads.{IsHead};
 ghost use Rattle.mirror_sources.specs.Told.{KeepsTold};
 ghost use Rattle.mirror_export.specs.Since.{since_paths};
@@ -9,8 +10,13 @@ ghost use Rattle.mirror_copy.specs.Asked.{IsEdgeTile, MayBeAsked};
 ghost use Rattle.mirror_copy.specs.AskedForCopy.{AsksForCopy, BlamesFailed, IsInUse, RefusesNote};
 ghost use Rattle.mirror_copy.specs.Faults.{BlamesFrom, BlamesPlaces, BlamesRun, CountsShelf, IsOfNoPlace, IsOtherThen};
 ghost use Rattle.mirror_copy.specs.PlaceGets.{AsksPlaces};
+ghost use Rattle.mirror_copy.specs.Damaged.{IsDamaged};
 ghost use Rattle.mirror_copy.specs.Found.{BringsFromTip};
-ghost use Rattle.mirror_copy.specs.declared.fault.BringFault.TheVariants.{CopyInUse};
+ghost use Rattle.mirror_copy.specs.OneHonest.{IsHonestFor, IsHonestNote, IsShelfOrMemory};
+ghost use Rattle.mirror_copy.specs.Suffices.{HasTruePlace, IsNoLack, IsSpared, IsTipOf};
+ghost use Rattle.mirror_copy.specs.Taken.{IsEdgeFrom, MayTake};
+ghost use Rattle.mirror_copy.specs.TrueAnswers.{IsRootOf};
+ghost use Rattle.mirror_copy.specs.declared.fault.BringFault.TheVariants.{CopyDamaged, CopyInUse};
 ghost use Rattle.mirror_copy.specs.Moments.{CopyStays, HadSize, IsBroughtTo, KeepsCopy};
 
 use crate::fault::BringFault;
@@ -68,6 +74,11 @@ fn find_new_edge<H: TreeHash, D: ReadableShelf, S: Source + Drop>(
     ensures blames { IfErr result (BlamesPlaces places.new) }
     ensures leads { IfOk result
         (λ edge. LeadsTo H.digest candidate.now.size candidate.now.root edge) }
+    ensures taken { IfOk result (λ edge. IsEdgeFrom
+        (MayTake S.may_answer places.old (D.puts shelf.old)) candidate.now.size edge) }
+    ensures suffices { IfErr result (λ e. (entries : List (List ℕ))
+        → IsRootOf H.digest entries candidate.now.size candidate.now.root
+        → HasTruePlace H.digest entries S.may_answer places.old places.new → IsNoLack e) }
     ensures expected { OnOk result (IfSome (D.expected shelf.new)
         (λ all. all ≡ length (since_paths tip.now.size candidate.now.size))) }
 {
@@ -91,6 +102,7 @@ fn put_empty<H: TreeHash, D: ReadableShelf>(
         (D.puts shelf.old)) ⊎ IsOfNoPlace e) }
     ensures conflict { IfErr result (λ e. IsConflict e → KeepsTold (D.puts shelf.old)
         (D.puts shelf.new)) }
+    ensures honest { IfErr result (λ e. candidate.now.root ≡ mth H.digest [] → IsSpared e) }
     ensures brings { BringsFromTip H.digest origin.now candidate.now.note.now tip.now
         (D.puts shelf.old) (D.puts shelf.new) result }
 {
@@ -118,6 +130,10 @@ fn bring_larger<H: TreeHash, D: ReadableShelf, S: Source + Drop>(
     ensures blames { IfErr result (BlamesRun H.digest places.new tip.now (D.puts shelf.old)) }
     ensures conflict { IfErr result (λ e. IsConflict e → KeepsTold (D.puts shelf.old)
         (D.puts shelf.new)) }
+    ensures honest { IfErr result (λ e. (entries : List (List ℕ))
+        → IsHonestFor H.digest S.may_answer (D.puts shelf.old) places.old places.new entries
+        candidate.now.size candidate.now.root
+        → IsTipOf H.digest tip.now (take candidate.now.size entries) → IsSpared e) }
     ensures brings { BringsFromTip H.digest origin.now candidate.now.note.now tip.now
         (D.puts shelf.old) (D.puts shelf.new) result }
 {
@@ -144,6 +160,10 @@ fn bring_from<H: TreeHash, D: ReadableShelf, S: Source + Drop>(
         (D.puts shelf.old)) }
     ensures conflict { IfErr result (λ e. IsConflict e → KeepsTold (D.puts shelf.old)
         (D.puts shelf.new)) }
+    ensures honest { IfErr result (λ e. (entries : List (List ℕ))
+        → IsHonestFor H.digest S.may_answer (D.puts shelf.old) places.old places.new entries
+        candidate.now.size candidate.now.root
+        → IsTipOf H.digest tip.now (take candidate.now.size entries) → IsSpared e) }
     ensures brings { BringsFromTip H.digest origin.now candidate.now.note.now tip.now
         (D.puts shelf.old) (D.puts shelf.new) result }
 {
@@ -200,6 +220,10 @@ pub fn bring_copy<H: TreeHash, D: ReadableShelf, S: Source + Drop>(
     ensures refuses { IfErr result (RefusesNote H.digest origin.now note.now (D.puts shelf.old)) }
     ensures in_use { IfErr result (λ e. e ≡ CopyInUse
         → IsInUse H.digest origin.now (D.puts shelf.old)) }
+    ensures damaged { IfErr result (λ e. e ≡ CopyDamaged
+        → IsDamaged H.digest origin.now (D.puts shelf.old)) }
+    ensures suffices { IsHonestNote H.digest S.may_answer (D.puts shelf.old) places.old places.new
+        origin.now note.now → IfErr result IsShelfOrMemory }
     ensures had { IfOk result (λ size. HadSize H.digest origin.now (D.puts shelf.old) size) }
     ensures conflict { IfErr result (λ e. IsConflict e → KeepsTold (D.puts shelf.old)
         (D.puts shelf.new)) }

@@ -1,5 +1,5 @@
 //! The partial bundle at the edge.
-ghost use Rattle.std.specs.Prelude.{◌≡◌, ◌*◌, ◌^◌, ◌<◌, ◌≤◌, ℕ, List, IfErr, IfOk, IfSome, IsTrue, Some, length, option_map};
+ghost use Rattle.std.specs.Prelude.{◌≡◌, ◌*◌, ◌^◌, ◌<◌, ◌≤◌, ℕ, List, IfErr, IfNone, IfOk, IfSome, IsTrue, Some, length, option_map, take};
 ghost use Rattle.tlog_shape.specs.Edge.{edge_index_of};
 ghost use Rattle.mirror_sources.specs.Told.{KeepsTold};
 ghost use Rattle.mirror_copy.specs.Asked.{IsEdgeBundle, IsPathOrFull};
@@ -10,6 +10,10 @@ ghost use Rattle.log_reader.specs.Verified.{HasLeaves};
 ghost use Rattle.mirror_copy.specs.Growing.{IsKnown};
 ghost use Rattle.log_reader.specs.EdgeRows.{HasWidths};
 ghost use Rattle.mirror_copy.specs.Edges.{BringsEdgeBundle};
+ghost use Rattle.mirror_copy.specs.Suffices.{HasTruePlace, IsEdgeTrue, IsNoLack, IsSpared, IsTipOf, IsTruePlace, OneIsHonest};
+ghost use Rattle.mirror_copy.specs.Taken.{MayGive, MayTake, PartOf};
+ghost use Rattle.mirror_copy.specs.TrueAnswers.{HasTrueLeaves};
+ghost use Rattle.mirror_model.specs.TrueLaws.{AreShort};
 
 use crate::fault::BringFault;
 use crate::keep::keep;
@@ -37,6 +41,8 @@ pub(crate) fn accept_edge_bundle<H: TreeHash>(
         (λ bytes. HasLeaves H.digest (length row.now) bytes.items row.now)) }
     ensures given { IfOk result (λ found. IfSome found (λ bytes. option_map
         (λ v. v.items) given ≡ Some bytes.items)) }
+    ensures none { IfOk result (λ found. IfNone found (IfSome given
+        (λ bytes. ¬ HasLeaves H.digest (length row.now) bytes.items row.now))) }
 {
     let Some(bytes) = given else {
         return Ok(None);
@@ -67,6 +73,11 @@ fn edge_bundle_at_place<H: TreeHash, S: Source + Drop>(
         places.old places.new }
     ensures found { IfOk result (λ found. IfSome found
         (λ bytes. HasLeaves H.digest (length row.now) bytes.items row.now)) }
+    ensures taken { IfOk result (λ found. IfSome found
+        (λ bytes. PartOf (MayGive S.may_answer places.old) path.now bytes.items)) }
+    ensures honest { IfOk result (λ found. IfNone found ((entries : List (List ℕ))
+        → AreShort entries → HasTrueLeaves H.digest entries path.now row.now
+        → ¬ IsTruePlace H.digest entries S.may_answer places.old places.new index)) }
 {
     let Some(bytes) = get_partial::<S>(alloc, places, index, path)? else {
         return Ok(None);
@@ -92,6 +103,11 @@ fn edge_bundle_at_places<H: TreeHash, S: Source + Drop>(
         places.old places.new }
     ensures found { IfOk result (λ found. IfSome found
         (λ bytes. HasLeaves H.digest (length row.now) bytes.items row.now)) }
+    ensures taken { IfOk result (λ found. IfSome found
+        (λ bytes. PartOf (MayGive S.may_answer places.old) path.now bytes.items)) }
+    ensures honest { IfOk result (λ found. IfNone found ((entries : List (List ℕ))
+        → AreShort entries → HasTrueLeaves H.digest entries path.now row.now
+        → ¬ HasTruePlace H.digest entries S.may_answer places.old places.new)) }
 {
     let first = places.first();
     for turn in 0..places.len() {
@@ -120,6 +136,11 @@ fn find_edge_bundle<H: TreeHash, D: ReadableShelf, S: Source + Drop>(
     ensures asks { AsksPlaces S.may_answer S.failed S.asked (IsPathOrFull path.now)
         places.old places.new }
     ensures blames { IfErr result (BlamesPlaces places.new) }
+    ensures taken { IfOk result (λ bytes. PartOf
+        (MayTake S.may_answer places.old (D.puts shelf.old)) path.now bytes.items) }
+    ensures suffices { IfErr result (λ e. (entries : List (List ℕ)) → AreShort entries
+        → HasTrueLeaves H.digest entries path.now row.now
+        → HasTruePlace H.digest entries S.may_answer places.old places.new → IsNoLack e) }
 {
     let given = read_partial(alloc, shelf, path)?;
     if let Some(found) = accept_edge_bundle::<H>(alloc, row, given)? {
@@ -146,6 +167,10 @@ pub(crate) fn bring_edge_bundle<H: TreeHash, D: ReadableShelf, S: Source + Drop>
     ensures asks { AsksPlaces S.may_answer S.failed S.asked (IsEdgeBundle edge.now.size)
         places.old places.new }
     ensures blames { IfErr result (BlamesPlaces places.new) }
+    ensures honest { IfErr result (λ e. (entries : List (List ℕ)) (size : ℕ)
+        → OneIsHonest H.digest entries size S.may_answer (D.puts shelf.old) places.old places.new
+        → IsTipOf H.digest tip.now (take size entries)
+        → IsEdgeTrue H.digest (take size entries) edge.now → IsSpared e) }
     ensures early { ConflictPutsNothing (edge_index_of edge.now.size 0 * 256) tip.now.size
         (D.puts shelf.old)
         (D.puts shelf.new) result }

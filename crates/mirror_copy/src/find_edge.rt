@@ -1,20 +1,24 @@
 //! The edge rows of a tree, all from the shelf or all from one place.
-ghost use Rattle.std.specs.Prelude.{◌≡◌, ◌<◌, ◌≤◌, IfErr, IfOk, IfSome, length};
-ghost use Rattle.tlog_shape.specs.Edge.{edge_index_of, width_of};
+ghost use Rattle.std.specs.Prelude.{◌≡◌, ◌<◌, ◌≤◌, ℕ, List, IfErr, IfNone, IfOk, IfSome, length, option_map};
 ghost use Rattle.mirror_sources.specs.Told.{KeepsTold};
 ghost use Rattle.mirror_copy.specs.Asked.{IsEdgeTile};
 ghost use Rattle.mirror_copy.specs.Faults.{BlamesPlaces, CountsShelf, IsOfNoPlace};
 ghost use Rattle.mirror_copy.specs.PlaceGets.{AsksPlaces};
 ghost use Rattle.mirror_copy.specs.Conflicts.{IsNoConflict};
-ghost use Rattle.log_reader.specs.EdgeRows.{IsEdgeOf, LeadsTo};
+ghost use Rattle.log_reader.specs.EdgeRows.{LeadsTo};
+ghost use Rattle.mirror_copy.specs.Damaged.{IsEdgeWrong, IsRowWrong};
 ghost use Rattle.mirror_copy.specs.Found.{IsEdgeRead, IsRowRead};
+ghost use Rattle.mirror_copy.specs.Suffices.{HasTruePlace, IsNoLack, IsTruePlace};
+ghost use Rattle.mirror_copy.specs.Taken.{IsEdgeFrom, IsRowFrom, MayGive, MayTake};
+ghost use Rattle.mirror_copy.specs.TrueAnswers.{FindsTrueEdge, FindsTrueRow, IsRootOf};
 
 use crate::fault::BringFault;
 use crate::place::Wrong;
 use crate::place_files::get_partial;
 use crate::places::{Places, in_turn};
+use crate::row::row_of;
 use crate::shelf_files::read_partial;
-use log_reader::{EdgeRows, edge_path, leads_to, row_given};
+use log_reader::{EdgeRows, edge_path, leads_to};
 use mirror_folders::ReadableShelf;
 use mirror_sources::Source;
 use std::alloc::{AllocError, Global};
@@ -34,8 +38,10 @@ fn row_at_place<S: Source + Drop>(
     requires level { level ≤ 7 }
     ensures asks { AsksPlaces S.may_answer S.failed S.asked (IsEdgeTile size)
         places.old places.new }
-    ensures row { IfOk result (λ found. IfSome found
-        (λ row. length row.items ≡ width_of size level)) }
+    ensures taken { IfOk result (λ found. IfSome found
+        (λ row. IsRowFrom (MayGive S.may_answer places.old) size level row.items)) }
+    ensures honest { IfOk result (λ found. FindsTrueRow S.may_answer places.old places.new index
+        size level (option_map (λ row. row.items) found)) }
 {
     let width = edge_width(size, level);
     if width == 0 {
@@ -45,7 +51,7 @@ fn row_at_place<S: Source + Drop>(
     let Some(bytes) = get_partial(alloc, places, index, &path)? else {
         return Ok(None);
     };
-    let row = row_given(alloc, width, Some(bytes))?;
+    let row = row_of(alloc, width, &bytes)?;
     if row.is_none() {
         places.note_wrong(index, &path, Wrong::False);
     }
@@ -62,7 +68,10 @@ fn rows_at_place<S: Source + Drop>(
     requires { index < length places.old.list.items }
     ensures asks { AsksPlaces S.may_answer S.failed S.asked (IsEdgeTile size)
         places.old places.new }
-    ensures edge { IfOk result (λ found. IfSome found (λ edge. IsEdgeOf size edge)) }
+    ensures taken { IfOk result (λ found. IfSome found
+        (λ edge. IsEdgeFrom (MayGive S.may_answer places.old) size edge)) }
+    ensures honest { IfOk result (λ found. FindsTrueEdge S.may_answer places.old places.new index
+        size found) }
 {
     let mut rows = Vec::new(alloc);
     for level in 0..8u32 {
@@ -88,13 +97,17 @@ fn row_on_shelf<D: ReadableShelf>(
     ensures same { KeepsTold (D.puts shelf.old) (D.puts shelf.new) }
     ensures row { IfOk result (λ found. IfSome found
         (λ row. IsRowRead (D.puts shelf.old) size level row.items)) }
+    ensures none { IfOk result (λ found. IfNone found
+        (IsRowWrong (D.puts shelf.old) size level)) }
 {
     let width = edge_width(size, level);
     if width == 0 {
         return Ok(Some(Vec::new(alloc)));
     }
-    let given = read_partial(alloc, shelf, &edge_path(size, level))?;
-    Ok(row_given(alloc, width, given)?)
+    let Some(bytes) = read_partial(alloc, shelf, &edge_path(size, level))? else {
+        return Ok(None);
+    };
+    Ok(row_of(alloc, width, &bytes)?)
 }
 
 // The edge rows on the shelf, up to the first that is not there.
@@ -109,6 +122,8 @@ fn rows_on_shelf<D: ReadableShelf>(
     ensures same { KeepsTold (D.puts shelf.old) (D.puts shelf.new) }
     ensures edge { IfOk result (λ found. IfSome found
         (λ edge. IsEdgeRead (D.puts shelf.old) size edge)) }
+    ensures none { IfOk result (λ found. IfNone found
+        ((level : ℕ) × IsRowWrong (D.puts shelf.old) size level)) }
 {
     let mut rows = Vec::new(alloc);
     for level in 0..8u32 {
@@ -133,6 +148,8 @@ pub(crate) fn edge_on_shelf<H: TreeHash, D: ReadableShelf>(
     ensures same { KeepsTold (D.puts shelf.old) (D.puts shelf.new) }
     ensures read { IfOk result (λ found. IfSome found
         (λ edge. IsEdgeRead (D.puts shelf.old) size edge)) }
+    ensures none { IfOk result (λ found. IfNone found
+        (IsEdgeWrong (D.puts shelf.old) size H.digest root.now)) }
     ensures leads { IfOk result (λ found. IfSome found
         (λ edge. LeadsTo H.digest size root.now edge)) }
 {
@@ -169,6 +186,11 @@ fn edge_at_place<H: TreeHash, S: Source + Drop>(
         places.old places.new }
     ensures leads { IfOk result (λ found. IfSome found
         (λ edge. LeadsTo H.digest size root.now edge)) }
+    ensures taken { IfOk result (λ found. IfSome found
+        (λ edge. IsEdgeFrom (MayGive S.may_answer places.old) size edge)) }
+    ensures honest { IfOk result (λ found. IfNone found ((entries : List (List ℕ))
+        → IsRootOf H.digest entries size root.now
+        → ¬ IsTruePlace H.digest entries S.may_answer places.old places.new index)) }
 {
     let Some(edge) = rows_at_place::<S>(alloc, places, index, size)? else {
         return Ok(None);
@@ -193,6 +215,11 @@ fn edge_at_places<H: TreeHash, S: Source + Drop>(
         places.old places.new }
     ensures leads { IfOk result (λ found. IfSome found
         (λ edge. LeadsTo H.digest size root.now edge)) }
+    ensures taken { IfOk result (λ found. IfSome found
+        (λ edge. IsEdgeFrom (MayGive S.may_answer places.old) size edge)) }
+    ensures honest { IfOk result (λ found. IfNone found ((entries : List (List ℕ))
+        → IsRootOf H.digest entries size root.now
+        → ¬ HasTruePlace H.digest entries S.may_answer places.old places.new)) }
 {
     let first = places.first();
     for turn in 0..places.len() {
@@ -220,6 +247,11 @@ pub(crate) fn find_edge<H: TreeHash, D: ReadableShelf, S: Source + Drop>(
         places.old places.new }
     ensures blames { IfErr result (BlamesPlaces places.new) }
     ensures leads { IfOk result (λ edge. LeadsTo H.digest size root.now edge) }
+    ensures taken { IfOk result (λ edge. IsEdgeFrom
+        (MayTake S.may_answer places.old (D.puts shelf.old)) size edge) }
+    ensures suffices { IfErr result (λ e. (entries : List (List ℕ))
+        → IsRootOf H.digest entries size root.now
+        → HasTruePlace H.digest entries S.may_answer places.old places.new → IsNoLack e) }
 {
     if let Some(edge) = edge_on_shelf::<H, D>(alloc, shelf, size, root)? {
         return Ok(edge);

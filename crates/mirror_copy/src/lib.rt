@@ -22,6 +22,7 @@ mod place;
 mod place_files;
 mod places;
 mod read_tip;
+mod row;
 mod shelf_files;
 mod tip;
 mod to_edge;

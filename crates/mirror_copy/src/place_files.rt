@@ -1,8 +1,10 @@
 //! The files of the edge, as a place has them.
-ghost use Rattle.std.specs.Prelude.{◌≡◌, ◌<◌, length};
+ghost use Rattle.std.specs.Prelude.{◌≡◌, ◌<◌, IfOk, IfSome, length, option_map};
 ghost use Rattle.mirror_sources.specs.Files.{full_of};
 ghost use Rattle.mirror_copy.specs.Asked.{IsPathOrFull};
 ghost use Rattle.mirror_copy.specs.PlaceGets.{AsksPlaces};
+ghost use Rattle.mirror_copy.specs.Taken.{MayGive, PartOf};
+ghost use Rattle.mirror_copy.specs.TrueAnswers.{FindsPart, FindsTrue};
 
 use crate::part::{full_of, part_of};
 use crate::place::{PlaceAnswer, Wrong};
@@ -19,8 +21,12 @@ fn get_part<S: Source + Drop>(
     path: &Path,
 ) -> Result<Option<Vec<u8>>, AllocError>
     requires { index < length places.old.list.items }
-    ensures { AsksPlaces S.may_answer S.failed S.asked (λ p. p ≡ full_of path.now)
+    ensures asks { AsksPlaces S.may_answer S.failed S.asked (λ p. p ≡ full_of path.now)
         places.old places.new }
+    ensures taken { IfOk result (λ found. IfSome found
+        (λ bytes. PartOf (MayGive S.may_answer places.old) path.now bytes.items)) }
+    ensures honest { IfOk result (λ found. FindsPart S.may_answer places.old places.new index
+        path.now (option_map (λ v. v.items) found)) }
 {
     let full_path = full_of(path);
     match places.get(index, &full_path)? {
@@ -48,8 +54,12 @@ pub(crate) fn get_partial<S: Source + Drop>(
     path: &Path,
 ) -> Result<Option<Vec<u8>>, AllocError>
     requires { index < length places.old.list.items }
-    ensures { AsksPlaces S.may_answer S.failed S.asked (IsPathOrFull path.now)
+    ensures asks { AsksPlaces S.may_answer S.failed S.asked (IsPathOrFull path.now)
         places.old places.new }
+    ensures taken { IfOk result (λ found. IfSome found
+        (λ bytes. PartOf (MayGive S.may_answer places.old) path.now bytes.items)) }
+    ensures honest { IfOk result (λ found. FindsTrue S.may_answer places.old places.new index
+        path.now (option_map (λ v. v.items) found)) }
 {
     match places.get(index, path)? {
         PlaceAnswer::File(bytes) => Ok(Some(bytes)),

@@ -1,8 +1,10 @@
 //! The tip of the copy on a shelf.
-ghost use Rattle.std.specs.Prelude.{◌≡◌, IfErr, IfOk};
+ghost use Rattle.std.specs.Prelude.{◌≡◌, ◌⊎◌, IfErr, IfOk};
 ghost use Rattle.mirror_sources.specs.Told.{KeepsTold};
 ghost use Rattle.mirror_copy.specs.Conflicts.{IsNoConflict};
 ghost use Rattle.log_reader.specs.EdgeRows.{HasWidths};
+ghost use Rattle.mirror_copy.specs.Damaged.{IsBundleWrong, IsDamaged};
+ghost use Rattle.mirror_copy.specs.declared.fault.BringFault.TheVariants.{CopyDamaged};
 ghost use Rattle.mirror_copy.specs.Faults.{CountsShelf, IsOfNoPlace};
 ghost use Rattle.mirror_copy.specs.Found.{IsBundleRead, IsTipRead};
 
@@ -27,7 +29,8 @@ fn bundle_on_shelf<H: TreeHash, D: ReadableShelf>(
     requires { HasWidths edge.now }
     ensures fault { IfErr result IsNoConflict }
     ensures counted { CountsShelf (D.failed shelf.old) (D.failed shelf.new) result }
-    ensures places { IfErr result IsOfNoPlace }
+    ensures damaged { IfErr result (λ e. ((e ≡ CopyDamaged)
+        × IsBundleWrong H.digest (D.puts shelf.old) edge.now) ⊎ IsOfNoPlace e) }
     ensures same { KeepsTold (D.puts shelf.old) (D.puts shelf.new) }
     ensures bundle { IfOk result (λ bytes. IsBundleRead
         (D.puts shelf.old) edge.now.size bytes.items) }
@@ -57,7 +60,8 @@ pub(crate) fn read_tip<H: TreeHash, D: ReadableShelf>(
 ) -> Result<CopyTip, BringFault>
     ensures fault { IfErr result IsNoConflict }
     ensures counted { CountsShelf (D.failed shelf.old) (D.failed shelf.new) result }
-    ensures places { IfErr result IsOfNoPlace }
+    ensures damaged { IfErr result (λ e. ((e ≡ CopyDamaged)
+        × IsDamaged H.digest origin.now (D.puts shelf.old)) ⊎ IsOfNoPlace e) }
     ensures same { KeepsTold (D.puts shelf.old) (D.puts shelf.new) }
     ensures tip { IfOk result (λ tip. IsTipRead H.digest origin.now (D.puts shelf.old) tip) }
 {

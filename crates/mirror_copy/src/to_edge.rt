@@ -1,5 +1,5 @@
 //! A copy brought to a larger checkpoint.
-ghost use Rattle.std.specs.Prelude.{◌≡◌, ◌↔◌, ◌^◌, ◌<◌, ◌≤◌, ℕ, IfErr, IsTrue, List, length};
+ghost use Rattle.std.specs.Prelude.{◌≡◌, ◌↔◌, ◌^◌, ◌<◌, ◌≤◌, ℕ, IfErr, IsTrue, List, length, take};
 ghost use Rattle.tlog_shape.specs.Edge.{edge_index_of, width_of};
 ghost use Rattle.mirror_copy.specs.Conflicts.{ConflictPutsNothing, IsNoConflict};
 ghost use Rattle.mirror_copy.specs.Asked.{IsEdgeBundleOrNew};
@@ -8,6 +8,7 @@ ghost use Rattle.mirror_copy.specs.PlaceGets.{AsksPlaces};
 ghost use Rattle.mirror_copy.specs.Growing.{IsKnown};
 ghost use Rattle.log_reader.specs.EdgeRows.{HasWidths, RowIsTrue};
 ghost use Rattle.mirror_copy.specs.Edges.{BringsToEdge, PutsEdgeTile, PutsEdgeTiles};
+ghost use Rattle.mirror_copy.specs.Suffices.{IsEdgeTrue, IsSpared, IsTipOf, OneIsHonest};
 
 use crate::edge::bring_levels;
 use crate::edge_bundle::bring_edge_bundle;
@@ -108,6 +109,10 @@ pub(crate) fn bring_to_edge<H: TreeHash, D: ReadableShelf, S: Source + Drop>(
     ensures asks { AsksPlaces S.may_answer S.failed S.asked
         (IsEdgeBundleOrNew edge.now.size tip.now.size) places.old places.new }
     ensures blames { IfErr result (BlamesRun H.digest places.new tip.now (D.puts shelf.old)) }
+    ensures honest { IfErr result (λ e. (entries : List (List ℕ)) (size : ℕ)
+        → OneIsHonest H.digest entries size S.may_answer (D.puts shelf.old) places.old places.new
+        → IsTipOf H.digest tip.now (take size entries)
+        → IsEdgeTrue H.digest (take size entries) edge.now → IsSpared e) }
     ensures early { ConflictPutsNothing 0 tip.now.size (D.puts shelf.old)
         (D.puts shelf.new) result }
     ensures brings { (known : List (List ℕ)) → IsKnown H.digest tip.now 0 known

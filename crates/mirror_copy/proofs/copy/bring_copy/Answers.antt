@@ -1,9 +1,12 @@
 use Rattle.std.proofs.lemmas.Result.{err_from_is_err_and}
 use Rattle.mirror_copy.specs.Asked.{MayBeAsked}
 use Rattle.mirror_copy.specs.AskedForCopy.{AsksFiles, AsksNothing}
-use Rattle.mirror_copy.proofs.Begun.{asks_begun, begun_then, blames_from, refuses_from, refuses_none}
+use Rattle.std.proofs.Common.{take}
+use Rattle.mirror_copy.proofs.Damages.{not_damaged_later, tip_damaged}
+use Rattle.mirror_copy.proofs.OneHonest.{ended_for, read_fails}
+use Rattle.mirror_copy.proofs.Begun.{asks_begun, begun_then, blames_from, blames_tip, refuses_from, refuses_tip}
 use Rattle.mirror_copy.proofs.Growth.{kept_same}
-use Rattle.mirror_copy.proofs.Others.{in_use_later, not_in_use}
+use Rattle.mirror_copy.proofs.Others.{in_use_later, tip_not_in_use}
 use Rattle.mirror_copy.proofs.Stays.{stays_same}
 use Rattle.mirror_copy.proofs.WholeMoments.{had_size, whole_same}
 use Rattle.mirror_copy.proofs.copy.bring_copy.Goals as goal
@@ -91,8 +94,8 @@ returns-in_default-clause-refuses g c = rw c.in_default.is at c.in_ok-head.ensur
 pub returns-in_err-tip-clause-refuses : goal.returns-in_err-tip-clause-refuses
 returns-in_err-tip-clause-refuses g c =
     let p = err_from_is_err_and c.from_residual-in_err-tip.result c.from_residual-in_err-tip.ensures.1 in
-    rw (p.1, p.2) (refuses_none g.H.TreeHash.digest c.args.origin.now c.args.note.now (g.D.Shelf.puts c.args.shelf.now)
-    c.in_err-tip.field-0.0 c.in_err-tip.ensures.places)
+    rw (p.1, p.2) (refuses_tip g.H.TreeHash.digest c.args.origin.now c.args.note.now (g.D.Shelf.puts c.args.shelf.now)
+    c.in_err-tip.field-0.0 c.in_err-tip.ensures.damaged)
 
 pub returns-in_err-done-clause-refuses : goal.returns-in_err-done-clause-refuses
 returns-in_err-done-clause-refuses g c =
@@ -107,8 +110,8 @@ returns-in_err-done-clause-refuses g c =
 pub returns-in_err-tip-clause-in_use : goal.returns-in_err-tip-clause-in_use
 returns-in_err-tip-clause-in_use g c =
     let p = err_from_is_err_and c.from_residual-in_err-tip.result c.from_residual-in_err-tip.ensures.1 in
-    rw (p.1, p.2) (not_in_use g.H.TreeHash.digest c.args.origin.now (g.D.Shelf.puts c.args.shelf.now)
-    c.in_err-tip.field-0.0 c.in_err-tip.ensures.places)
+    rw (p.1, p.2) (tip_not_in_use g.H.TreeHash.digest c.args.origin.now (g.D.Shelf.puts c.args.shelf.now)
+    c.in_err-tip.field-0.0 c.in_err-tip.ensures.damaged)
 
 pub returns-in_err-done-clause-in_use : goal.returns-in_err-done-clause-in_use
 returns-in_err-done-clause-in_use g c =
@@ -116,3 +119,44 @@ returns-in_err-done-clause-in_use g c =
     rw (p.1, p.2) (in_use_later g.H.TreeHash.digest c.args.origin.now c.bring_from-done.new.places c.in_ok-tip.tip
     c.in-Some.head.0 (g.D.Shelf.puts c.args.shelf.now) (g.D.Shelf.puts c.read_tip.new.shelf) c.in_err-done.field-0.0
     c.read_tip.ensures.same c.in_ok-tip.ensures.tip c.in_err-done.ensures.blames)
+
+pub returns-in_default-clause-suffices : goal.returns-in_default-clause-suffices
+returns-in_default-clause-suffices g c = λ h.
+    let none = rw c.in_default.is at c.in_ok-head.ensures.none in absurd (none h.size h.root h.is_head)
+
+pub returns-in_err-tip-clause-suffices : goal.returns-in_err-tip-clause-suffices
+returns-in_err-tip-clause-suffices g c = λ h.
+    let p = err_from_is_err_and c.from_residual-in_err-tip.result c.from_residual-in_err-tip.ensures.1 in
+    rw (p.1, p.2) (read_fails g.H.TreeHash.digest c.args.origin.now (take h.size h.entries) (g.D.Shelf.puts c.args.shelf.now)
+    c.in_err-tip.field-0.0 h.holds c.in_err-tip.ensures.damaged c.in_err-tip.ensures.fault)
+
+pub returns-in_err-done-clause-suffices : goal.returns-in_err-done-clause-suffices
+returns-in_err-done-clause-suffices g c = λ h.
+    let p = err_from_is_err_and c.from_residual-in_err-done.result c.from_residual-in_err-done.ensures.1 in
+    let digest = g.H.TreeHash.digest in
+    let origin = c.args.origin.now in
+    let tip = c.in_ok-tip.tip in
+    let head = c.in-Some.head in
+    let x = g.D.Shelf.puts c.args.shelf.now in
+    let y = g.D.Shelf.puts c.read_tip.new.shelf in
+    rw (p.1, p.2) (ended_for digest g.S.Source.may_answer origin c.args.note.now x y c.args.places.now c.begin.new.self
+    c.bring_from-done.new.places c.begin.ensures.list c.read_tip.ensures.same tip c.in_ok-tip.ensures.tip head.0 head.1
+    (rw c.in-Some.is at c.in_ok-head.ensures.found) c.in_err-done.field-0.0 c.in_err-done.ensures.blames
+    c.in_err-done.ensures.honest h)
+
+pub returns-in_err-tip-clause-damaged : goal.returns-in_err-tip-clause-damaged
+returns-in_err-tip-clause-damaged g c =
+    let p = err_from_is_err_and c.from_residual-in_err-tip.result c.from_residual-in_err-tip.ensures.1 in
+    rw (p.1, p.2) (tip_damaged c.in_err-tip.field-0.0 c.in_err-tip.ensures.damaged)
+
+pub returns-in_err-done-clause-damaged : goal.returns-in_err-done-clause-damaged
+returns-in_err-done-clause-damaged g c =
+    let p = err_from_is_err_and c.from_residual-in_err-done.result c.from_residual-in_err-done.ensures.1 in
+    rw (p.1, p.2) (not_damaged_later g.H.TreeHash.digest c.bring_from-done.new.places c.in-Some.head.0 c.in_ok-tip.tip
+    (g.D.Shelf.puts c.read_tip.new.shelf) c.in_err-done.field-0.0 c.in_err-done.ensures.blames)
+
+pub returns-in_err-tip-clause-blames : goal.returns-in_err-tip-clause-blames
+returns-in_err-tip-clause-blames g c =
+    let p = err_from_is_err_and c.from_residual-in_err-tip.result c.from_residual-in_err-tip.ensures.1 in
+    rw (p.1, p.2) (blames_tip g.S.Source.may_answer g.S.Source.failed g.S.Source.asked c.args.places.now c.begin.new.self
+    c.in_err-tip.field-0.0 c.in_err-tip.ensures.damaged)

@@ -1,4 +1,7 @@
 use Rattle.mirror_copy.specs.Asked.{MayBeAsked}
+use Rattle.std.proofs.Common.{◌≡◌, take, ap, ◌∙◌, arith}
+use Rattle.tlog_hash.specs.Tree.{mth}
+use Rattle.mirror_copy.proofs.Spared.{err_weaker}
 use Rattle.mirror_copy.proofs.Asking.{asks_same}
 use Rattle.mirror_copy.proofs.Stays.{stays_same}
 use Rattle.mirror_copy.proofs.WholeMoments.{whole_same}
@@ -15,3 +18,10 @@ returns-clause-brings g c = λ before kept t. (
 pub returns-then-is_none-clause-asks : goal.returns-then-is_none-clause-asks
 returns-then-is_none-clause-asks g c =
     asks_same g.S.Source.may_answer g.S.Source.failed g.S.Source.asked (MayBeAsked c.args.tip.now.size c.args.candidate.now.size) c.args.places.now
+
+pub returns-then-is_none-clause-honest : goal.returns-then-is_none-clause-honest
+returns-then-is_none-clause-honest g c =
+    let digest = g.H.TreeHash.digest in
+    let none : c.args.candidate.now.size ≡ 0 = omega arith in
+    err_weaker c.put_empty.result _ _ (λ e so entries h t.
+    so (h.root_is ∙ ap (λ n. mth digest (take n entries)) none)) c.put_empty.ensures.honest

@@ -3,7 +3,10 @@ use Rattle.std.proofs.lemmas.Result.{err_from_is_err_and}
 use Rattle.mirror_model.specs.Heads.{IsHead}
 use Rattle.mirror_copy.specs.Asked.{IsEdgeTile, IsEdgeBundleOrNew, MayBeAsked}
 use Rattle.mirror_copy.specs.PlaceGets.{AsksPlaces}
-use Rattle.mirror_copy.proofs.Asking.{asks_weaker, larger_asks}
+use Rattle.mirror_copy.proofs.OneHonest.{edge_had}
+use Rattle.mirror_copy.proofs.OnePlace.{honest_between, puts_none}
+use Rattle.mirror_copy.proofs.Spared.{err_weaker, spared}
+use Rattle.mirror_copy.proofs.Asking.{asks_same, asks_weaker, larger_asks}
 use Rattle.mirror_copy.proofs.Earlier.{conflict_keeps, conflict_later, kept_then}
 use Rattle.mirror_copy.proofs.Others.{later_blames}
 use Rattle.mirror_copy.proofs.Stays.{larger_stays, stays_later, stays_same}
@@ -78,3 +81,33 @@ returns-clause-blames g c =
     later_blames g.H.TreeHash.digest c.bring_to_edge-done.new.places c.args.tip.now (g.D.Shelf.puts c.args.shelf.now)
     (g.D.Shelf.puts c.find_new_edge.new.shelf) c.bring_to_edge-done.result c.find_new_edge.ensures.same
     c.bring_to_edge-done.ensures.blames
+
+pub returns-in_err-edge-clause-honest : goal.returns-in_err-edge-clause-honest
+returns-in_err-edge-clause-honest g c =
+    let p = err_from_is_err_and c.from_residual.result c.from_residual.ensures.1 in
+    rw (p.1, p.2) (λ entries h t.
+    spared c.in_err-edge.field-0.0
+    (c.in_err-edge.ensures.suffices entries (record { short = h.one.short; upto = h.one.upto; root_is = h.root_is }) h.one.place)
+    c.in_err-edge.ensures.fault)
+
+pub returns-clause-honest : goal.returns-clause-honest
+returns-clause-honest g c =
+    let may = g.S.Source.may_answer in
+    let failed = g.S.Source.failed in
+    let asked = g.S.Source.asked in
+    let digest = g.H.TreeHash.digest in
+    let n = c.args.candidate.now.size in
+    let edge = c.in_ok-edge.edge in
+    let tile = IsEdgeTile n in
+    let x = c.args.places.now in
+    let y = c.find_new_edge.new.places in
+    let z = c.bring_to_edge-done.new.places in
+    let a = g.D.Shelf.puts c.args.shelf.now in
+    let b = g.D.Shelf.puts c.find_new_edge.new.shelf in
+    err_weaker c.bring_to_edge-done.result _ _ (λ e so entries h t.
+    so entries n
+    (honest_between may failed asked digest entries n tile (IsEdgeBundleOrNew edge.size c.args.tip.now.size) tile x y z z a b
+    c.find_new_edge.ensures.asks c.bring_to_edge-done.ensures.asks (asks_same may failed asked tile z)
+    (puts_none may failed asked x a b c.find_new_edge.ensures.same) h.one) t
+    (edge_had digest g.met.H.TreeHash.digest_length may a x z entries n c.args.candidate.now.root (omega arith) h edge
+    c.in_ok-edge.ensures.leads c.in_ok-edge.ensures.taken)) c.bring_to_edge-done.ensures.honest

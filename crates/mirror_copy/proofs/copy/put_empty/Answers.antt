@@ -1,4 +1,8 @@
-use Rattle.std.proofs.Common.{rules, ◌≡◌, []}
+use Rattle.std.proofs.Common.{rules, ◌≡◌, [], sym, ◌∙◌}
+use Rattle.std.specs.Prelude.{IsFalse}
+use Rattle.std.proofs.lemmas.Bool.{false≢true}
+use Rattle.tlog_hash.proofs.Trees.{mth-none}
+use Rattle.mirror_copy.proofs.Spared.{spared_last}
 use Rattle.mirror_copy.proofs.Earlier.{kept_then}
 use Rattle.mirror_copy.proofs.Growth.{left_none}
 use Rattle.mirror_copy.proofs.Others.{last_empty}
@@ -41,3 +45,13 @@ returns-clause-blames g c =
     let y = g.D.Shelf.puts c.expect_new.new.shelf in
     last_empty g.H.TreeHash.digest c.args.tip.now x y c.put_last.result
     (λ known is. left_none g.H.TreeHash.digest c.args.tip.now.size known x y c.expect_new.ensures.same) c.put_last.ensures.blames
+
+pub returns-then-not-is_empty_root-clause-honest : goal.returns-then-not-is_empty_root-clause-honest
+returns-then-not-is_empty_root-clause-honest g c = λ root.
+    let no : IsFalse c.is_empty_root.result = search rules in
+    false≢true (sym no ∙ c.is_empty_root.ensures.1 (root ∙ mth-none g.H.TreeHash.digest))
+
+pub returns-clause-honest : goal.returns-clause-honest
+returns-clause-honest g c =
+    spared_last c.put_last.result _ (λ e so root. so) c.args.tip.now.checkpoint
+    (g.D.Shelf.puts c.expect_new.new.shelf) c.put_last.ensures.blames c.put_last.ensures.fault

@@ -1,4 +1,4 @@
-use Rattle.std.proofs.Common.{rules, ◌≡◌, ◌⊎◌, ◌≤◌, ℕ, List, [], ◌∷◌, length, take, subst, ap, ◌∙◌, arith}
+use Rattle.std.proofs.Common.{rules, ◌≡◌, ◌⊎◌, ◌+◌, ◌*◌, ◌≤◌, ℕ, List, [], ◌∷◌, length, take, refl, subst, sym, ap, ◌∙◌, arith}
 use Rattle.std.proofs.lemmas.Result.{err_from_is_err_and}
 use Rattle.tlog_shape.specs.Edge.{edge_index_of, width_of}
 use Rattle.tlog_tiles.specs.declared.paths.Path.TheVariants.{Entries}
@@ -7,6 +7,13 @@ use Rattle.mirror_copy.specs.Standing.{TellsStands}
 use Rattle.log_reader.specs.Verified.{HasLeaves}
 use Rattle.log_reader.specs.EdgeRows.{row_at}
 use Rattle.mirror_copy.specs.Asked.{IsEdgeBundle, IsPathOrFull}
+use Rattle.std.specs.Prelude.{IsFalse, IsNone}
+use Rattle.tlog_tiles.specs.Bundle.{IsBundle}
+use Rattle.tlog_tiles.proofs.EdgeLemmas.{hashes_of}
+use Rattle.mirror_copy.specs.Suffices.{IsTileRow}
+use Rattle.mirror_copy.specs.TrueAnswers.{HasTrueLeaves}
+use Rattle.mirror_copy.proofs.Spared.{edge_bundle_true, edge_row_true, spared, spared_answer, true_leaves}
+use Rattle.mirror_copy.proofs.TipTruth.{bundle_begins, of_none, row_begins}
 use Rattle.mirror_copy.proofs.Asking.{asks_same, asks_weaker}
 use Rattle.mirror_copy.proofs.NewFulls.{edge_bundle_asked}
 use Rattle.mirror_copy.proofs.Growth.{kept_same, left_none}
@@ -111,3 +118,56 @@ returns-clause-asks g c =
     (IsEdgeBundle c.args.edge.now.size)
     (edge_bundle_asked c.args.edge.now.size c.edge_index-index.result (length c.row-row.result.now) at wide some)
     c.args.places.now c.find_edge_bundle.new.places c.find_edge_bundle.ensures.asks
+
+pub returns-then-is_none-clause-honest : goal.returns-then-is_none-clause-honest
+returns-then-is_none-clause-honest g c = λ entries size h t is.
+    let digest = g.H.TreeHash.digest in
+    let log = take size entries in
+    let edge = c.args.edge.now in
+    let at : c.edge_index-index.result ≡ edge_index_of edge.size 0 =
+    c.edge_index-index.ensures ∙ ap (λ n. edge_index_of n 0) c.size.ensures in
+    let there = edge_row_true digest g.met.H.TreeHash.digest_length log edge c.requires.widths is 0 (omega arith) in
+    let row = subst (λ (r : List (List ℕ)). IsTileRow digest log 0 (edge_index_of edge.size 0) r) (sym c.row-row.ensures) there in
+    let none : IsNone c.first_new.result = search rules in
+    row_begins digest c.args.tip.now log t 0 c.edge_index-index.result c.row-row.result.now (omega arith)
+    (subst (λ i. IsTileRow digest log 0 i c.row-row.result.now) (sym at) row) (of_none c.first_new.result none c.first_new.ensures.none) ⊥
+    (of_none c.first_new.result none c.first_new.ensures.differs)
+
+pub returns-in_err-bytes-clause-honest : goal.returns-in_err-bytes-clause-honest
+returns-in_err-bytes-clause-honest g c =
+    let p = err_from_is_err_and c.from_residual.result c.from_residual.ensures.1 in
+    rw (p.1, p.2) (λ entries size h t is.
+    let digest = g.H.TreeHash.digest in
+    let edge = c.args.edge.now in
+    let index = c.edge_index-index.result in
+    let row = c.row-row.result.now in
+    let at : index ≡ edge_index_of edge.size 0 = c.edge_index-index.ensures ∙ ap (λ n. edge_index_of n 0) c.size.ensures in
+    let some : 1 ≤ length row = search rules in
+    let leaves = subst (λ (r : List (List ℕ)). HasTrueLeaves digest entries (Entries index (length row)) r) (sym c.row-row.ensures)
+    (true_leaves digest entries size h.upto edge c.requires.widths is index (length row) at (ap length c.row-row.ensures) some) in
+    spared c.in_err-bytes.field-0.0 (c.in_err-bytes.ensures.suffices entries h.short leaves h.place) c.in_err-bytes.ensures.fault)
+
+pub returns-then-not-goes_on-clause-honest : goal.returns-then-not-goes_on-clause-honest
+returns-then-not-goes_on-clause-honest g c = λ entries size h t is.
+    let digest = g.H.TreeHash.digest in
+    let log = take size entries in
+    let edge = c.args.edge.now in
+    let index = c.edge_index-index.result in
+    let row = c.row-row.result.now in
+    let bytes = c.in_ok-bytes.bytes.items in
+    let v = c.in_ok-bytes.ensures.found in
+    let at : index ≡ edge_index_of edge.size 0 = c.edge_index-index.ensures ∙ ap (λ n. edge_index_of n 0) c.size.ensures in
+    let clean = h.clear.bundle index (length row) bytes v.entries c.in_ok-bytes.ensures.taken v.is_bundle in
+    let true = edge_bundle_true digest g.met.H.TreeHash.digest_length log edge c.requires.widths is index (length row) bytes row at
+    c.row-row.ensures refl v clean in
+    let no : IsFalse c.goes_on.result = search rules in
+    let there = subst (λ (b : List ℕ). IsBundle (length row) b v.entries) (sym c.deref.ensures.value) v.is_bundle in
+    let larger = c.requires.larger in
+    let wide : length row ≡ width_of edge.size 0 = ap length c.row-row.ensures ∙ c.requires.widths 0 (omega arith) in
+    let sum : 256 * index + length row ≡ edge.size = omega (arith, at, wide, hashes_of edge.size 0) in
+    bundle_begins digest c.args.tip.now log t index (length row) c.deref.result.now v.entries there true
+    (c.goes_on.ensures.other no) (omega (arith, sum, larger)) ⊥ (c.goes_on.ensures.differs no)
+
+pub returns-clause-honest : goal.returns-clause-honest
+returns-clause-honest g c =
+    spared_answer c.keep.result _ (λ e so entries size h t is. so) c.keep.ensures.places c.keep.ensures.fault

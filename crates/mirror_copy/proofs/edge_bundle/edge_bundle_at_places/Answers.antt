@@ -1,18 +1,66 @@
-use Rattle.mirror_copy.specs.Asked.{IsPathOrFull}
-use Rattle.mirror_copy.proofs.Asking.{asks_then}
+use Rattle.std.proofs.Common.{◌≡◌, ◌<◌, inl, inr, subst, sym, arith, length}
+use Rattle.std.proofs.lemmas.Bool.{cases_lt}
+use Rattle.mirror_copy.specs.Asked.{IsAskedInTurn, IsPathOrFull}
+use Rattle.mirror_copy.specs.Suffices.{IsTruePlace}
+use Rattle.mirror_copy.specs.Taken.{MayGive}
+use Rattle.mirror_copy.proofs.Asking.{asks_same, asks_then, turn_of, turn_one}
+use Rattle.mirror_copy.proofs.OnePlace.{given_before, true_between}
+use Rattle.mirror_copy.proofs.ShelfReads.{part_weaker}
 use Rattle.mirror_copy.proofs.edge_bundle.edge_bundle_at_places.Goals as goal
 
 pub returns-in_err-found-clause-asks : goal.returns-in_err-found-clause-asks
 returns-in_err-found-clause-asks g c =
     asks_then g.S.Source.may_answer g.S.Source.failed g.S.Source.asked (IsPathOrFull c.args.path.now) c.args.places.now c.loop-turn.places
-    c.edge_bundle_at_place.new.places c.loop-turn.invariant c.edge_bundle_at_place.ensures.asks
+    c.edge_bundle_at_place.new.places c.loop-turn.invariant.asks c.edge_bundle_at_place.ensures.asks
 
 pub returns-in-Some-clause-asks : goal.returns-in-Some-clause-asks
 returns-in-Some-clause-asks g c =
     asks_then g.S.Source.may_answer g.S.Source.failed g.S.Source.asked (IsPathOrFull c.args.path.now) c.args.places.now c.loop-turn.places
-    c.edge_bundle_at_place.new.places c.loop-turn.invariant c.edge_bundle_at_place.ensures.asks
+    c.edge_bundle_at_place.new.places c.loop-turn.invariant.asks c.edge_bundle_at_place.ensures.asks
+
+pub returns-in-Some-clause-taken : goal.returns-in-Some-clause-taken
+returns-in-Some-clause-taken g c =
+    let may = g.S.Source.may_answer in
+    let x = c.args.places.now in
+    let y = c.loop-turn.places in
+    part_weaker (MayGive may y) (MayGive may x)
+    (λ path bytes given. given_before may g.S.Source.failed g.S.Source.asked (IsPathOrFull c.args.path.now) x y path bytes
+    c.loop-turn.invariant.asks given) c.args.path.now c.in-Some.found.items (rw c.in-Some.is at c.in_ok-found.ensures.taken)
 
 pub loop-turn-preserved : goal.loop-turn-preserved
 loop-turn-preserved g c =
-    asks_then g.S.Source.may_answer g.S.Source.failed g.S.Source.asked (IsPathOrFull c.args.path.now) c.args.places.now c.loop-turn.places
-    c.edge_bundle_at_place.new.places c.loop-turn.invariant c.edge_bundle_at_place.ensures.asks
+    let may = g.S.Source.may_answer in
+    let failed = g.S.Source.failed in
+    let asked = g.S.Source.asked in
+    let digest = g.H.TreeHash.digest in
+    let so = IsPathOrFull c.args.path.now in
+    let x = c.args.places.now in
+    let y = c.loop-turn.places in
+    let z = c.edge_bundle_at_place.new.places in
+    let before = c.loop-turn.invariant.asks in
+    let now = c.edge_bundle_at_place.ensures.asks in
+    record {
+      asks = asks_then may failed asked so x y z before now;
+      honest = λ turn k lt is entries short leaves t. elim (cases_lt turn c.loop-turn.turn) [
+        | inl less ↦ c.loop-turn.invariant.honest turn k less is entries short leaves
+            (true_between may failed asked digest entries so so so x x y z (asks_same may failed asked so x) before now k t)
+        | inr more ↦
+            let this : turn ≡ c.loop-turn.turn = omega arith in
+            let at : c.in_turn-index.result ≡ k = turn_one c.first-first.result c.loop-turn.turn c.in_turn-index.result k
+            c.in_turn-index.ensures.turn (subst (λ t. IsAskedInTurn c.first-first.result t k) this is) in
+            let none = rw c.in-None.is at c.in_ok-found.ensures.honest in
+            none entries short leaves (subst (λ j. IsTruePlace digest entries may y z j) (sym at)
+            (true_between may failed asked digest entries so so so x y z z before now (asks_same may failed asked so z) k t))
+      ];
+    }
+
+pub returns-clause-honest : goal.returns-clause-honest
+returns-clause-honest g c = λ entries short leaves t.
+    let n = length c.args.places.now.list.items in
+    let long = c.len-turn-end.ensures in
+    let past = c.loop-turn-test.false in
+    let lt : t.index < n = t.place.listed in
+    let within : c.first-first.result < n = c.first-first.ensures (omega arith) in
+    let turn = turn_of c.first-first.result t.index n lt within in
+    let before = turn.1 in
+    c.loop-turn.invariant.honest turn.0 t.index (omega arith) turn.2 entries short leaves t.place

@@ -1,7 +1,9 @@
-use Rattle.std.proofs.Common.{subst}
+use Rattle.std.proofs.Common.{inr, subst}
 use Rattle.mirror_copy.specs.Asked.{IsEdgeTile}
 use Rattle.mirror_copy.specs.Faults.{CountsFault}
 use Rattle.mirror_copy.proofs.Asking.{asks_noted}
+use Rattle.mirror_copy.specs.Taken.{MayGive, MayTake}
+use Rattle.mirror_copy.proofs.TrueEdges.{edge_weaker}
 use Rattle.mirror_copy.proofs.find_edge.find_edge.Goals as goal
 
 pub returns-in-None-clause-counted : goal.returns-in-None-clause-counted
@@ -13,3 +15,10 @@ pub returns-in-None-clause-asks : goal.returns-in-None-clause-asks
 returns-in-None-clause-asks g c =
     asks_noted g.S.Source.may_answer g.S.Source.failed g.S.Source.asked (IsEdgeTile c.args.size) c.args.places.now
     c.edge_at_places.new.places c.lacks.new.self c.edge_at_places.ensures.asks c.lacks.ensures.asks
+
+pub returns-in-Some-2-clause-taken : goal.returns-in-Some-2-clause-taken
+returns-in-Some-2-clause-taken g c =
+    let may = g.S.Source.may_answer in
+    let x = c.args.places.now in
+    edge_weaker (MayGive may x) (MayTake may x (g.D.Shelf.puts c.args.shelf.now)) (λ path bytes given. inr given) c.args.size
+    c.in-Some-2.edge (rw c.in-Some-2.is at c.in_ok-edge-2.ensures.taken)

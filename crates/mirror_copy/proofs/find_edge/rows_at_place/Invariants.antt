@@ -1,14 +1,21 @@
+use Rattle.std.proofs.Common.{◌≡◌, ◌*◌, ◌<◌, ◌≤◌, ℕ, [], length, get_or}
+use Rattle.tlog_shape.specs.Edge.{edge_index_of, width_of}
+use Rattle.tlog_hash.specs.Rows.{level_row}
+use Rattle.log_reader.proofs.RowLists.{items_of}
 use Rattle.mirror_copy.specs.Asked.{IsEdgeTile}
 use Rattle.mirror_copy.specs.PlaceGets.{AsksPlaces}
-use Rattle.std.proofs.Common.{◌≡◌, ◌<◌, ℕ, [], length, get_or}
-use Rattle.tlog_shape.specs.Edge.{width_of}
-use Rattle.log_reader.proofs.RowLists.{items_of}
+use Rattle.mirror_copy.specs.Taken.{IsRowFrom, MayGive}
+use Rattle.mirror_copy.specs.TrueAnswers.{OfTruePlace}
 use Rattle.mirror_copy.proofs.find_edge.rows_at_place.Given as goal
 
--- the rows so far have their widths
+-- the rows so far are of bytes that the place gave, and true where it gives true files alone
 abbrev pub invariant-loop-level : goal.invariant-loop-level
 invariant-loop-level g l = record {
   asks : AsksPlaces g.S.Source.may_answer g.S.Source.failed g.S.Source.asked (IsEdgeTile l.size) l.fn.places l.places;
   count : length l.rows.items ≡ l.level;
-  widths : (k : ℕ) → k < l.level → length (get_or (items_of l.rows.items) k []) ≡ width_of l.size k;
+  taken : (k : ℕ) → k < l.level →
+      IsRowFrom (MayGive g.S.Source.may_answer l.fn.places) l.size k (get_or (items_of l.rows.items) k []);
+  honest : OfTruePlace g.S.Source.may_answer l.fn.places l.places l.index (λ digest entries. l.size ≤ length entries →
+      (k : ℕ) → k < l.level → get_or (items_of l.rows.items) k []
+      ≡ level_row digest entries k (256 * edge_index_of l.size k) (width_of l.size k));
 }

@@ -1,4 +1,4 @@
-use Rattle.std.proofs.Common.{◌∙◌}
+use Rattle.std.proofs.Common.{ℕ, List, [], get_or, sym, subst, ◌∙◌, arith}
 use Rattle.mirror_copy.specs.Found.{IsRowRead}
 use Rattle.mirror_copy.proofs.Earlier.{kept_then}
 use Rattle.log_reader.proofs.RowLists.{count_more, rows_more}
@@ -22,3 +22,11 @@ loop-level-preserved g c =
           (row_before x y c.args.size level c.in-Some.row.items c.loop-level.invariant.same
           (rw c.in-Some.is at c.in_ok-row.ensures.row));
     }
+
+pub returns-clause-edge : goal.returns-clause-edge
+returns-clause-edge g c = record {
+  size_is = c.new.ensures.size;
+  rows_are = λ level upto.
+      subst (λ (rs : List (List (List ℕ))). IsRowRead (g.D.Shelf.puts c.args.shelf.now) c.args.size level (get_or rs level []))
+      (sym c.new.ensures.rows) (c.loop-level.invariant.rows level (omega arith));
+}

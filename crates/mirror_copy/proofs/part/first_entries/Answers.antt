@@ -1,4 +1,4 @@
-use Rattle.std.proofs.Common.{◌≡◌, ℕ, List, Some, length, take, ap, ◌∙◌, arith}
+use Rattle.std.proofs.Common.{◌≡◌, ℕ, List, Some, take, ap, ◌∙◌, arith}
 use Rattle.tlog_tiles.specs.Bundle.{bundle_text}
 use Rattle.mirror_copy.proofs.Cutting.{none_read, one_read, read_more, read_whole}
 use Rattle.mirror_copy.proofs.part.first_entries.Goals as goal

@@ -1,4 +1,4 @@
-use Rattle.std.proofs.Common.{◌≡◌, ◌*◌, ℕ, List, Some, length, take, ap, ◌∙◌, arith}
+use Rattle.std.proofs.Common.{◌*◌, ℕ, List, Some, length, take, ap, ◌∙◌, arith}
 use Rattle.tlog_tiles.proofs.RowLemmas.{length-row_text}
 use Rattle.mirror_copy.proofs.Cutting.{front_row}
 use Rattle.mirror_copy.proofs.part.first_hashes.Goals as goal

@@ -1,12 +1,7 @@
-use Rattle.std.proofs.Common.{◌≡◌, ◌≤◌, ◌*◌, ℕ, List, Some, Bor, length, option_map, take, sym, subst, ap, ◌∙◌, arith}
-use Rattle.tlog_tiles.specs.Bundle.{bundle_text}
+use Rattle.std.proofs.Common.{◌≤◌, ◌*◌, ℕ, List, Some, ap, ◌∙◌, arith}
 use Rattle.tlog_tiles.specs.Row.{row_text}
-use Rattle.tlog_tiles.specs.Tiles.{IsWithin}
-use Rattle.tlog_tiles.specs.declared.paths.Path.TheVariants.{Entries, Tile}
 use Rattle.tlog_hash.specs.Rows.{level_row, part}
-use Rattle.tlog_tiles.proofs.TileLemmas.{length-part, served_is_read}
-use Rattle.mirror_sources.specs.Files.{full_of}
-use Rattle.mirror_sources.specs.Honest.{true_bytes}
+use Rattle.tlog_tiles.proofs.TileLemmas.{served_is_read}
 use Rattle.mirror_copy.proofs.Cutting.{bundle_cut}
 use Rattle.mirror_copy.proofs.TrueRows.{take_row}
 use Rattle.mirror_copy.proofs.part.part_of.Goals as goal

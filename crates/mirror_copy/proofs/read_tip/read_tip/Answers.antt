@@ -1,5 +1,7 @@
-use Rattle.std.proofs.Common.{subst}
+use Rattle.std.proofs.Common.{inl, refl, subst, sym}
 use Rattle.mirror_model.specs.Heads.{IsHead}
+use Rattle.std.proofs.lemmas.Result.{err_from_is_err_and}
+use Rattle.mirror_copy.proofs.Damages.{damaged_bundle, damaged_edge, damaged_head}
 use Rattle.mirror_copy.proofs.WholeMoments.{empty_read, tip_made}
 use Rattle.mirror_copy.proofs.read_tip.read_tip.Goals as goal
 
@@ -21,3 +23,43 @@ returns-clause-tip g c =
     (rw c.in-Some.is at c.in_ok-checkpoint.ensures.answer) is_head (rw c.in-Some-3.is at c.in_ok-edge.ensures.read)
     c.in_ok-bundle.ensures.bundle c.new.result c.new.ensures.size c.new.ensures.rows c.new.ensures.bundle
     c.new.ensures.checkpoint
+
+pub returns-in_err-bundle-clause-damaged : goal.returns-in_err-bundle-clause-damaged
+returns-in_err-bundle-clause-damaged g c =
+    let p = err_from_is_err_and c.from_residual-in_err-bundle.result c.from_residual-in_err-bundle.ensures.1 in
+    let origin = c.args.origin.now in
+    let head = c.in-Some-2.head in
+    let is_head = subst (λ b. IsHead b origin head.0 head.1) c.deref.ensures.value
+    (rw c.in-Some-2.is at c.in_ok-head.ensures.found) in
+    rw (p.1, p.2) (damaged_bundle g.H.TreeHash.digest g.met.H.TreeHash.digest_length origin (g.D.Shelf.puts c.args.shelf.now)
+    (g.D.Shelf.puts c.read.new.self) c.in_ok-checkpoint.ensures.same c.in-Some.checkpoint.items
+    (rw c.in-Some.is at c.in_ok-checkpoint.ensures.answer) head.0 head.1 is_head c.in-Some-3.edge
+    (rw c.in-Some-3.is at c.in_ok-edge.ensures.read) (rw c.in-Some-3.is at c.in_ok-edge.ensures.leads)
+    (g.D.Shelf.puts c.edge_on_shelf.new.shelf) c.in_ok-edge.ensures.same c.in_err-bundle.field-0.0
+    c.in_err-bundle.ensures.damaged)
+
+pub returns-in_default-2-clause-damaged : goal.returns-in_default-2-clause-damaged
+returns-in_default-2-clause-damaged g c =
+    let origin = c.args.origin.now in
+    let none = rw c.in_default-2.is at c.in_ok-head.ensures.none in
+    inl (
+      refl,
+      damaged_head g.H.TreeHash.digest g.met.H.TreeHash.digest_length origin (g.D.Shelf.puts c.args.shelf.now)
+          (g.D.Shelf.puts c.read.new.self) c.in_ok-checkpoint.ensures.same c.in-Some.checkpoint.items
+          (rw c.in-Some.is at c.in_ok-checkpoint.ensures.answer)
+          (λ size root head. none size root (subst (λ b. IsHead b origin size root) (sym c.deref.ensures.value) head)),
+    )
+
+pub returns-in_default-3-clause-damaged : goal.returns-in_default-3-clause-damaged
+returns-in_default-3-clause-damaged g c =
+    let origin = c.args.origin.now in
+    let head = c.in-Some-2.head in
+    let is_head = subst (λ b. IsHead b origin head.0 head.1) c.deref.ensures.value
+    (rw c.in-Some-2.is at c.in_ok-head.ensures.found) in
+    inl (
+      refl,
+      damaged_edge g.H.TreeHash.digest g.met.H.TreeHash.digest_length origin (g.D.Shelf.puts c.args.shelf.now)
+          (g.D.Shelf.puts c.read.new.self) c.in_ok-checkpoint.ensures.same c.in-Some.checkpoint.items
+          (rw c.in-Some.is at c.in_ok-checkpoint.ensures.answer) head.0 head.1 is_head
+          (rw c.in_default-3.is at c.in_ok-edge.ensures.none),
+    )

@@ -1,8 +1,11 @@
 use Rattle.std.proofs.Common.{refl}
 use Rattle.std.proofs.lemmas.Result.{err_from_is_err_and}
+use Rattle.mirror_copy.specs.Asked.{IsEdgeBundle, IsNewFull}
+use Rattle.mirror_copy.proofs.OnePlace.{honest_between}
+use Rattle.mirror_copy.proofs.Spared.{spared_last, spared_shelf}
 use Rattle.mirror_copy.proofs.EdgeRows.{edge_known, edge_left}
 use Rattle.mirror_copy.proofs.Growth.{kept_same}
-use Rattle.mirror_copy.proofs.Asking.{to_edge_asks}
+use Rattle.mirror_copy.proofs.Asking.{asks_same, to_edge_asks}
 use Rattle.mirror_copy.proofs.Others.{last_blames}
 use Rattle.mirror_copy.proofs.Finishing.{copy_brought, ends_brought, left_put, true_rows}
 use Rattle.mirror_copy.proofs.to_edge.bring_to_edge.Goals as goal
@@ -83,3 +86,34 @@ returns-clause-blames g c =
     let q = c.in_ok-put_edge_tiles.ensures.puts l.next l.size_is (true_rows digest tip edge known c.requires.widths x y z e l) in
     left_put digest tip edge known c.requires.widths x y z e l w w q.gathers (kept_same w))
     c.put_last.ensures.blames
+
+pub returns-in_err-bring_levels-clause-honest : goal.returns-in_err-bring_levels-clause-honest
+returns-in_err-bring_levels-clause-honest g c =
+    let p = err_from_is_err_and c.from_residual.result c.from_residual.ensures.1 in
+    rw (p.1, p.2) (λ entries size h t is. c.in_err-bring_levels.ensures.honest entries size h t is)
+
+pub returns-in_err-bring_edge_bundle-clause-honest : goal.returns-in_err-bring_edge_bundle-clause-honest
+returns-in_err-bring_edge_bundle-clause-honest g c =
+    let p = err_from_is_err_and c.from_residual-in_err-bring_edge_bundle.result c.from_residual-in_err-bring_edge_bundle.ensures.1 in
+    let may = g.S.Source.may_answer in
+    let failed = g.S.Source.failed in
+    let asked = g.S.Source.asked in
+    let new = IsNewFull c.args.tip.now.size in
+    let z = c.bring_edge_bundle.new.places in
+    rw (p.1, p.2) (λ entries size h t is.
+    c.in_err-bring_edge_bundle.ensures.honest entries size
+    (honest_between may failed asked g.H.TreeHash.digest entries size new (IsEdgeBundle c.args.edge.now.size) new c.args.places.now
+    c.bring_levels.new.places z z (g.D.Shelf.puts c.args.shelf.now) (g.D.Shelf.puts c.bring_levels.new.shelf)
+    c.bring_levels.ensures.asks c.bring_edge_bundle.ensures.asks (asks_same may failed asked new z) c.bring_levels.ensures.taken h)
+    t is)
+
+pub returns-in_err-put_edge_tiles-clause-honest : goal.returns-in_err-put_edge_tiles-clause-honest
+returns-in_err-put_edge_tiles-clause-honest g c =
+    let p = err_from_is_err_and c.from_residual-in_err-put_edge_tiles.result c.from_residual-in_err-put_edge_tiles.ensures.1 in
+    rw (p.1, p.2) (λ entries size h t is.
+    spared_shelf c.in_err-put_edge_tiles.field-0.0 c.in_err-put_edge_tiles.ensures.places c.in_err-put_edge_tiles.ensures.fault)
+
+pub returns-clause-honest : goal.returns-clause-honest
+returns-clause-honest g c =
+    spared_last c.put_last.result _ (λ e so entries size h t is. so) c.args.tip.now.checkpoint
+    (g.D.Shelf.puts c.put_edge_tiles.new.shelf) c.put_last.ensures.blames c.put_last.ensures.fault
