@@ -13,7 +13,6 @@ use Rattle.mirror_folders.specs.declared.shelf.ShelfError.{ShelfError}
 use Rattle.mirror_folders.specs.declared.shelf.ShelfError.TheVariants as shelf
 use Rattle.mirror_copy.proofs.WholeMoments.{copy_found}
 use Rattle.mirror_copy.specs.AskedForCopy.{BlamesFailed, IsInUse, RefusesNote}
-use Rattle.mirror_copy.specs.Copies.{IsCopy}
 use Rattle.mirror_copy.specs.Faults.{IsOtherFound}
 use Rattle.mirror_copy.specs.declared.places.Places.{Places}
 use Rattle.mirror_copy.specs.declared.fault.BringFault.{BringFault}

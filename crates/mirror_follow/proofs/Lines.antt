@@ -1,6 +1,6 @@
 -- The lines of forks: their order, and whose checkpoints they have.
 use Rattle.std.proofs.Common.{Result, Ok, Err, IfOk, OnOk, zero, suc}
-use Rattle.std.proofs.Common.{◌≡◌, ◌≢◌, ◌⊎◌, inl, inr, ℕ, ◌+◌, ◌<◌, ◌≤◌, List, [], ◌∷◌, ◌++◌, length, get_or, take, drop, All, Contains, Option, Some, None, IfSome, refl, sym, ap, subst, ◌∙◌, arith}
+use Rattle.std.proofs.Common.{◌≡◌, ◌≢◌, inl, inr, ℕ, ◌<◌, ◌≤◌, List, [], ◌∷◌, ◌++◌, length, get_or, take, drop, All, Contains, Option, Some, None, IfSome, refl, sym, ap, subst, ◌∙◌, arith}
 use Rattle.std.proofs.Common.{Ordering, Less, Equal, Greater, nat_cmp}
 use Rattle.std.specs.Cmp.{IsTotalOrder, then_total, on_total, nat_cmp_total}
 use Rattle.std.specs.Cmp.Lexicographic.{slice_cmp, nat_list_cmp_total}
@@ -9,9 +9,9 @@ use Rattle.std.specs.List.{AllByRecursion, insert}
 use Rattle.std.specs.List.Sorted.{IsStrictlySortedBy}
 use Rattle.std.specs.Ordering.{ordering_reverse, ordering_then}
 use Rattle.std.proofs.lemmas.Cmp.{by_ranked, ranked}
-use Rattle.std.proofs.lemmas.List.Elements.{All-append, All-cons, All-drop, All-nil, All-push, All-take, All-weaker, Contains-append_left, Contains-push}
+use Rattle.std.proofs.lemmas.List.Elements.{All-append, All-cons, All-drop, All-nil, All-take, All-weaker, Contains-append_left, Contains-push}
 use Rattle.tlog_proof.specs.declared.proof.Proof.{Proof}
-use Rattle.mirror_model.specs.Forks.{Point, point_cmp}
+use Rattle.mirror_model.specs.Forks.{point_cmp}
 use Rattle.mirror_follow.specs.Adding.{AddsFork, AddsLine, AddsLinesOf, AddsOther, IsForkLine, IsPlaceOf}
 use Rattle.mirror_follow.specs.Lines.{AreLines, HasCandidate, HasSmallFirst, IsFirst, IsFirstOrListed, IsListed, fork_line_cmp}
 use Rattle.mirror_follow.specs.Says.{IsOnePoint}

@@ -9,7 +9,7 @@ use Rattle.mirror_sources.specs.Told.{KeepsTold}
 use Rattle.mirror_folders.specs.Shelf.{Put, HasPut, Stands, TellsRead}
 use Rattle.mirror_copy.specs.Copies.{IsCopy}
 use Rattle.mirror_copy.specs.Moments.{CopyStays, HadSize, InTheEnd, IsBroughtTo, IsGrownCopy}
-use Rattle.mirror_copy.proofs.Stays.{stays_same, stays_then}
+use Rattle.mirror_copy.proofs.Stays.{stays_same}
 use Rattle.mirror_export.proofs.AllFiles.{files_are_all}
 use Rattle.mirror_copy.proofs.TipReads.{stands_one}
 use Rattle.mirror_copy.proofs.WholeMoments.{copy_found, none_found}

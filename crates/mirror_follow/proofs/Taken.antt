@@ -5,7 +5,6 @@ use Rattle.std.specs.List.Sorted.{IsSorted}
 use Rattle.std.proofs.lemmas.Bool.{cases_lt}
 use Rattle.std.proofs.lemmas.List.{take_all, take_more}
 use Rattle.std.proofs.lemmas.List.Elements.{All-contains, All-nil, All-push, All-weaker, Contains-append_left, Contains-push}
-use Rattle.mirror_model.specs.Forks.{Point}
 use Rattle.tlog_proof.specs.declared.proof.Proof.{Proof}
 use Rattle.mirror_follow.specs.Agreeing.{Agrees}
 use Rattle.mirror_follow.specs.Candidates.{turn_cmp}
@@ -13,7 +12,7 @@ use Rattle.mirror_follow.specs.Gathering.{note_of}
 use Rattle.mirror_follow.specs.Lines.{AreLines, IsFirstOrListed, IsListed}
 use Rattle.mirror_follow.specs.Says.{IsInLine, IsInSomeLine, IsNoteUpTo, IsOnePoint}
 use Rattle.mirror_follow.specs.Shown.{AreFork, ShowsTurn, point_of}
-use Rattle.mirror_follow.specs.Standing.{IsCopyNow, IsSame, KnowsAfter, size_of_copy}
+use Rattle.mirror_follow.specs.Standing.{IsSame, KnowsAfter}
 use Rattle.mirror_follow.specs.Taken.{AddsLacked, HasTaken, HasTakenRun, IsAbove, IsAdded, IsAgreed, IsBeyond, IsGrown, IsLacked, IsLargerThan, IsNextOf, IsNoted, IsOneOf, IsReached, IsRepeat, IsReported, IsUnder, KeepsFirst, KeepsLines, MarksReached, SaysTurn, or_agreed}
 use Rattle.mirror_follow.specs.declared.candidate.Candidate.{Candidate}
 use Rattle.mirror_follow.specs.declared.report.ForkLine.{ForkLine}

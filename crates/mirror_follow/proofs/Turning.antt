@@ -1,5 +1,5 @@
 -- A run of turns, turn by turn.
-use Rattle.std.proofs.Common.{◌≡◌, ◌≢◌, ◌⊎◌, inl, inr, ℕ, List, [], Option, Some, None, IfErr, IfSome, Result, Ok, Err, ap, refl, sym, subst, ◌∙◌}
+use Rattle.std.proofs.Common.{◌≡◌, ◌≢◌, ℕ, List, [], Option, IfSome, refl, sym, subst, ◌∙◌}
 use Rattle.std.proofs.lemmas.List.Elements.{All-nil}
 use Rattle.mirror_folders.specs.Shelf.{Put}
 use Rattle.mirror_follow.specs.Blame.{CountsFollowFault, IsOfTheRun}
@@ -12,7 +12,6 @@ use Rattle.mirror_follow.specs.declared.fault.FollowFault.TheVariants.{Source, S
 use Rattle.mirror_follow.specs.declared.fault.FollowFault.TheVariants as fault
 use Rattle.mirror_follow.specs.declared.report.Run.{Run}
 use Rattle.mirror_follow.specs.declared.report.Turn.{Turn}
-use Rattle.mirror_follow.specs.declared.report.Turn.TheVariants as turn
 use Rattle.mirror_follow.proofs.Standing.{head_after, known_after}
 
 module _ (digest : List ℕ → List ℕ) (origin : List ℕ) where

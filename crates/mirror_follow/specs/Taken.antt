@@ -1,13 +1,13 @@
 -- What is known of the candidates that had their turn.
 use Rattle.std.specs.Prelude.{◌≡◌, ◌≢◌, ◌⊎◌, ℕ, ◌-◌, ◌<◌, ◌≤◌, Bool, true, false, List, [], ◌∷◌, ◌++◌, All, Contains}
-use Rattle.std.specs.Prelude.{IfSome, Option, None, Some, ⊤, slice_index_or, length}
+use Rattle.std.specs.Prelude.{IfSome, Option, None, Some, ⊤, slice_index_or}
 use Rattle.mirror_follow.specs.Agreeing.{Agrees}
 use Rattle.mirror_follow.specs.Gathering.{note_of}
 use Rattle.mirror_follow.specs.Adding.{AddsFork}
 use Rattle.mirror_follow.specs.Lines.{AreLines, IsFirstOrListed, IsListed}
-use Rattle.mirror_follow.specs.Says.{IsInLine, IsInSomeLine, IsNoteUpTo, IsOnePoint}
+use Rattle.mirror_follow.specs.Says.{IsInSomeLine, IsNoteUpTo, IsOnePoint}
 use Rattle.mirror_follow.specs.Shown.{point_of}
-use Rattle.mirror_follow.specs.Standing.{IsSame, KnowsAfter, size_of_copy}
+use Rattle.mirror_follow.specs.Standing.{IsSame, size_of_copy}
 use Rattle.mirror_follow.specs.declared.candidate.Candidate.{Candidate}
 use Rattle.mirror_follow.specs.declared.report.ForkLine.{ForkLine}
 use Rattle.mirror_follow.specs.declared.report.Run.{Run}

@@ -90,7 +90,11 @@ fn copy_of(alloc: Global, candidate: &Candidate) -> Result<Candidate, AllocError
 fn cmp_points(first: &Candidate, second: &Candidate) -> Ordering
     ensures { result ≡ point_cmp (point_of first.now) (point_of second.now) }
 {
-    first.size.0.cmp(&second.size.0).then(first.root.cmp(&second.root))
+    first
+        .size
+        .0
+        .cmp(&second.size.0)
+        .then(first.root.cmp(&second.root))
 }
 
 // Whether the first point comes before the second: by size, and then by root.

@@ -1,5 +1,5 @@
 use Rattle.mirror_follow.proofs.Kept.{follows_candidates, follows_none}
-use Rattle.std.proofs.Common.{◌∙◌, ◌<◌, ℕ, List, Option, IfOk, length, option_map, subst, sym}
+use Rattle.std.proofs.Common.{◌∙◌, ℕ, List, Option, IfOk, option_map, subst, sym}
 use Rattle.std.specs.Prelude.{⊤}
 use Rattle.std.specs.List.Sorted.{IsSorted}
 use Rattle.std.proofs.lemmas.Result.{err_from_is_err_and}

@@ -1,4 +1,4 @@
-use Rattle.std.proofs.Common.{◌≡◌, ◌<◌, Some, map, take}
+use Rattle.std.proofs.Common.{◌≡◌, Some, map, take}
 use Rattle.std.specs.List.Sorted.{IsSorted}
 use Rattle.mirror_follow.specs.Blame.{AsksAny, PlaceFails}
 use Rattle.mirror_follow.specs.Candidates.{turn_cmp}
