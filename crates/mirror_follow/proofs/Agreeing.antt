@@ -1,5 +1,5 @@
 -- Where two points agree, the first entries of a list with the second have the first.
-use Rattle.std.proofs.Common.{◌≡◌, inl, inr, ℕ, ◌<◌, ◌≤◌, List, [], length, take, Some, None, true, sym, ap, subst, ◌∙◌, arith, take-append-drop, take_all, length-take}
+use Rattle.std.proofs.Common.{◌≡◌, inl, inr, ℕ, ◌≤◌, List, [], length, take, Some, None, sym, ap, ◌∙◌, arith, take-append-drop, take_all, length-take}
 use Rattle.tlog_hash.specs.Tree.{mth}
 use Rattle.tlog_hash.proofs.Trees.{mth-none}
 use Rattle.tlog_proof.specs.declared.proof.Proof.TheVariants.{Inclusion, Consistency}

@@ -1,48 +1,44 @@
 -- Faults of turns, and of a whole call.
-use Rattle.std.proofs.Common.{◌≡◌, ◌≢◌, ◌⊎◌, inl, inr, ℕ, ◌<◌, List, Option, Some, None, IfErr, IfOk, IfSome, Result, Ok, Err, ap, refl, sym, subst, ◌∙◌}
+use Rattle.std.proofs.Common.{◌≡◌, ◌≢◌, ◌⊎◌, inl, inr, ℕ, ◌+◌, ◌<◌, ◌≤◌, List, [], ◌∷◌, ◌++◌, length, get_or, take, Option, Some, None, IfErr, IfOk, OnOk, Result, Ok, Err, ap, refl, sym, subst, ◌∙◌, arith, length-take}
+use Rattle.std.specs.Prelude.{⊤}
+use Rattle.std.specs.List.Sorted.{IsSorted}
+use Rattle.std.proofs.lemmas.List.{take_all, take_more}
 use Rattle.signed_note.specs.Keys.{Key}
 use Rattle.tlog_tiles.specs.declared.paths.Path.{Path}
-use Rattle.mirror_copy.specs.declared.places.Places.{Places}
-use Rattle.mirror_copy.specs.AskedForCopy.{BlamesFailed}
-use Rattle.mirror_copy.specs.declared.fault.BringFault.{BringFault}
-use Rattle.mirror_copy.specs.declared.fault.BringFault.TheVariants as bring
+use Rattle.tlog_tiles.specs.declared.paths.Path.TheVariants.{Checkpoint}
+use Rattle.mirror_model.specs.Heads.{IsHead}
+use Rattle.mirror_model.proofs.HeadNotes.{head_once}
+use Rattle.mirror_folders.specs.Shelf.{Put, TellsRead}
 use Rattle.mirror_folders.specs.declared.shelf.ShelfError.{ShelfError}
 use Rattle.mirror_folders.specs.declared.shelf.ShelfError.TheVariants as shelf
+use Rattle.mirror_copy.proofs.WholeMoments.{copy_found}
+use Rattle.mirror_copy.specs.AskedForCopy.{BlamesFailed, IsInUse, RefusesNote}
+use Rattle.mirror_copy.specs.Faults.{IsOtherFound}
+use Rattle.mirror_copy.specs.declared.places.Places.{Places}
+use Rattle.mirror_copy.specs.declared.fault.BringFault.{BringFault}
+use Rattle.mirror_copy.specs.declared.fault.BringFault.TheVariants as bring
+use Rattle.mirror_follow.specs.Asking.{option_or}
 use Rattle.mirror_follow.specs.Blame.{AsksAny, CountsFollow, CountsFollowFault, PlaceFails, by_shelf, of_candidates}
-use Rattle.mirror_follow.specs.Ending.{EndsFor, EndsRun, IsOfEmpty, IsPassedOver, KeepsFault, PassesOver, RefusesGiven}
-use Rattle.mirror_follow.specs.Ending.{BlamesPlace, fault_after, or_fault}
-use Rattle.mirror_follow.specs.GatheredFrom.{GiveNoneFor}
-use Rattle.mirror_follow.specs.Standing.{IsCopyNow, KnowsAfter}
+use Rattle.mirror_follow.specs.Candidates.{turn_cmp}
+use Rattle.mirror_follow.specs.Ending.{BlamesPlace, EndsFor, EndsRun, GivesNoneBy, HadNone, HasFalseRoot, IsFaultOf, IsFirstFault, IsOfEmpty, IsOfOtherRun, KeepsFault, LacksCandidates, RefusesGiven, fault_after, or_fault}
+use Rattle.mirror_follow.specs.GatheredFrom.{AreCandidates, GiveNoneFor}
+use Rattle.mirror_follow.specs.Gathering.{note_of}
+use Rattle.mirror_follow.specs.Shown.{ShowsTurn}
+use Rattle.mirror_follow.specs.Standing.{HasStanding, HoldsNoCopy, HoldsNoSmaller, IsCopyNow, IsCopyOfRun, IsFoundCopy, KnowsAfter, StandsAs}
+use Rattle.mirror_follow.specs.Taken.{HasTakenRun, IsGrown, SaysTurn}
 use Rattle.mirror_follow.specs.declared.candidate.Candidate.{Candidate}
 use Rattle.mirror_follow.specs.declared.fault.CandidateFault.{CandidateFault}
 use Rattle.mirror_follow.specs.declared.fault.CandidateFault.TheVariants as none
 use Rattle.mirror_follow.specs.declared.fault.FollowFault.{FollowFault}
-use Rattle.mirror_follow.specs.declared.fault.FollowFault.TheVariants.{ShelfFault}
 use Rattle.mirror_follow.specs.declared.fault.FollowFault.TheVariants as fault
 use Rattle.mirror_follow.specs.declared.report.Run.{Run}
 use Rattle.mirror_follow.specs.declared.report.Turn.{Turn}
 use Rattle.mirror_follow.specs.declared.report.Turn.TheVariants as turn
 use Rattle.mirror_follow.proofs.Blame.{fails_brought, fails_later, fails_then}
+use Rattle.mirror_follow.proofs.Standing.{checkpoint_one}
+use Rattle.mirror_follow.proofs.TurnOrder.{element}
 
 -- ---- the first fault of a run
-
-or_passed : (first : Option FollowFault) (f : FollowFault) → IsPassedOver f → IfSome first IsPassedOver →
-    IfSome (or_fault first f) IsPassedOver
-or_passed None f is h = is
-or_passed (Some g) f is h = h
-
-pub passed_after : (first : Option FollowFault) (t : Turn) → PassesOver t → IfSome first IsPassedOver →
-    IfSome (fault_after first t) IsPassedOver
-passed_after first turn.Agrees is h = h
-passed_after first turn.Brought is h = h
-passed_after first (turn.Forks proof) is h = h
-passed_after first turn.Contradicts is h = or_passed first fault.Contradiction tt h
-passed_after first (turn.NotHad f) is h = or_passed first f is h
-
--- a fault is kept
-or_some : (first : Option FollowFault) (f : FollowFault) → or_fault first f ≢ None
-or_some None f e = cc e
-or_some (Some g) f e = cc e
 
 not_now : (candidate : Candidate) (copy : Option Candidate) → IsCopyNow candidate copy → copy ≢ None
 not_now candidate copy n e = cc (n.is, e)
@@ -98,69 +94,213 @@ fails_now may failed asked x y z first last p q before now e = elim (now e) [
   | inr fails ↦ fails_later may failed asked x y z p q fails
 ]
 
--- after the turn of a candidate the copy is not empty, or a fault is kept
-pub keeps_fault : (candidate : Candidate) (run next : Run) (t : Turn) → (run.copy ≡ None → IsOfEmpty t) →
-    KnowsAfter candidate t run.copy next.copy → next.first_fault ≡ fault_after run.first_fault t → KeepsFault next
-keeps_fault candidate run next turn.Agrees empty knows is none f = empty (sym knows ∙ none)
-keeps_fault candidate run next turn.Brought empty knows is none f = not_now candidate next.copy knows none
-keeps_fault candidate run next (turn.Forks proof) empty knows is none f = empty (sym knows ∙ none)
-keeps_fault candidate run next turn.Contradicts empty knows is none f =
-    or_some run.first_fault fault.Contradiction (sym is ∙ f)
-keeps_fault candidate run next (turn.NotHad g) empty knows is none f = or_some run.first_fault g (sym is ∙ f)
+-- ---- the fault of the first candidate
+
+module _ (digest : List ℕ → List ℕ) where
+  -- the fault of a candidate is kept, if it is the first
+  or_kept : (done : List Candidate) (c : Candidate) (first : Option FollowFault) (f : FollowFault) →
+      IsFaultOf digest c f → IsFirstFault digest done first → IsFirstFault digest (done ++ c ∷ []) (or_fault first f)
+  or_kept [] c None f is h = is
+  or_kept [] c (Some g) f is h = absurd (cc h)
+  or_kept (x ∷ xs) c None f is h = absurd h
+  or_kept (x ∷ xs) c (Some g) f is h = h
+
+  kept_by : (done : List Candidate) (c : Candidate) (first last : Option FollowFault) (f : FollowFault) →
+      last ≡ or_fault first f → IsFaultOf digest c f → IsFirstFault digest done first →
+      IsFirstFault digest (done ++ c ∷ []) last
+  kept_by done c first last f e is h = subst (IsFirstFault digest (done ++ c ∷ [])) (sym e) (or_kept done c first f is h)
+
+  -- after the turn of a candidate
+  pub keeps_fault : (done : List Candidate) (c : Candidate) (run next : Run) (t : Turn) →
+      (run.copy ≡ None → IsOfEmpty digest c t) → KnowsAfter c t run.copy next.copy →
+      next.first_fault ≡ fault_after run.first_fault t → KeepsFault digest done run →
+      KeepsFault digest (done ++ c ∷ []) next
+  keeps_fault done c run next turn.Agrees empty knows is h none = absurd (empty (sym knows ∙ none))
+  keeps_fault done c run next turn.Brought empty knows is h none = absurd (not_now c next.copy knows none)
+  keeps_fault done c run next (turn.Forks proof) empty knows is h none = absurd (empty (sym knows ∙ none))
+  keeps_fault done c run next turn.Contradicts empty knows is h none =
+      kept_by done c run.first_fault next.first_fault fault.Contradiction is (empty (sym knows ∙ none))
+      (h (sym knows ∙ none))
+  keeps_fault done c run next (turn.NotHad f) empty knows is h none =
+      kept_by done c run.first_fault next.first_fault f is (empty (sym knows ∙ none)) (h (sym knows ∙ none))
+
+  -- one that has no turn, since it repeats another
+  first_again : (done : List Candidate) (c : Candidate) (first : Option FollowFault) → 0 < length done →
+      IsFirstFault digest done first → IsFirstFault digest (done ++ c ∷ []) first
+  first_again [] c first some h = absurd (omega (arith, some))
+  first_again (x ∷ xs) c None some h = h
+  first_again (x ∷ xs) c (Some g) some h = h
+
+  pub keeps_again : (cs : List Candidate) (i : ℕ) → 0 < i → i < length cs → (run : Run) →
+      KeepsFault digest (take i cs) run → KeepsFault digest (take (i + 1) cs) run
+  keeps_again cs i some lt run h none =
+      let x = element cs i lt in
+      let n = length-take i cs in
+      subst (λ l. IsFirstFault digest l run.first_fault)
+      (sym (take_more cs i x.0 lt ∙ ap (λ (y : Candidate). take i cs ++ y ∷ []) (sym x.1)))
+      (first_again (take i cs) x.0 run.first_fault (omega (arith, n, some, lt)) (h none))
+
+  pub keeps_at : {T E : Type 0} (r : Result T E) (cs : List Candidate) (i : ℕ) (x : Candidate) → i < length cs →
+      x ≡ get_or cs i x → (run next : Run) →
+      OnOk r ((done : List Candidate) → KeepsFault digest done run → KeepsFault digest (done ++ x ∷ []) next) →
+      OnOk r (KeepsFault digest (take i cs) run → KeepsFault digest (take (i + 1) cs) next)
+  keeps_at (Ok t) cs i x lt is run next h = λ before.
+      subst (λ l. KeepsFault digest l next)
+      (sym (take_more cs i x lt ∙ ap (λ (y : Candidate). take i cs ++ y ∷ []) (sym is))) (h (take i cs) before)
+  keeps_at (Err e) cs i x lt is run next h = tt
+
+  pub keeps_all : (cs : List Candidate) (i : ℕ) (run : Run) → length cs ≤ i → KeepsFault digest (take i cs) run →
+      KeepsFault digest cs run
+  keeps_all cs i run le h = subst (λ l. KeepsFault digest l run) (take_all i cs le) h
+
+  -- what is known of the turn of a candidate where the copy is empty
+  pub empty_says : {E : Type 0} (r : Result Turn E) (c : Candidate) → IfOk r (IsOfEmpty digest c) →
+      IfOk r (SaysTurn digest None c)
+  empty_says (Err e) c h = tt
+  empty_says (Ok turn.Agrees) c h = absurd h
+  empty_says (Ok turn.Brought) c h = tt
+  empty_says (Ok (turn.Forks proof)) c h = absurd h
+  empty_says (Ok turn.Contradicts) c h = tt
+  empty_says (Ok (turn.NotHad f)) c h = tt
+
+  pub empty_shows : {E : Type 0} (r : Result Turn E) (c : Candidate) → IfOk r (IsOfEmpty digest c) →
+      IfOk r (ShowsTurn digest None c)
+  empty_shows (Err e) c h = tt
+  empty_shows (Ok turn.Agrees) c h = tt
+  empty_shows (Ok turn.Brought) c h = tt
+  empty_shows (Ok (turn.Forks proof)) c h = tt
+  empty_shows (Ok turn.Contradicts) c h = tt
+  empty_shows (Ok (turn.NotHad f)) c h = tt
 
 -- ---- faults that end a run
 
-pub ends_shelf : (e : ShelfError) → EndsRun (by_shelf e)
-ends_shelf shelf.Failed = tt
-ends_shelf shelf.OutOfMemory = tt
+pub ends_shelf : (A B : Type 0) (e : ShelfError) → EndsRun A B (by_shelf e)
+ends_shelf A B shelf.Failed = tt
+ends_shelf A B shelf.OutOfMemory = tt
 
-passed_counts : (n : ℕ) (e : FollowFault) → IsPassedOver e → CountsFollowFault n n e
-passed_counts n fault.NoCheckpoint is = refl
-passed_counts n (fault.Head f) is = refl
-passed_counts n fault.CopyDamaged is = refl
-passed_counts n fault.CopyInUse is = refl
-passed_counts n fault.ShelfFault is = absurd is
-passed_counts n fault.Contradiction is = refl
-passed_counts n fault.Collision is = refl
-passed_counts n fault.NoFile is = refl
-passed_counts n fault.Source is = refl
-passed_counts n fault.OutOfMemory is = refl
+-- what such a fault says, said otherwise
+pub ends_so : (A B C D : Type 0) (e : FollowFault) → (A → C) → (B → D) → EndsRun A B e → EndsRun C D e
+ends_so A B C D fault.NoCheckpoint f g is = is
+ends_so A B C D (fault.Head h) f g is = is
+ends_so A B C D fault.CopyDamaged f g is = f is
+ends_so A B C D fault.CopyInUse f g is = g is
+ends_so A B C D fault.ShelfFault f g is = tt
+ends_so A B C D fault.Contradiction f g is = is
+ends_so A B C D fault.Collision f g is = is
+ends_so A B C D fault.NoFile f g is = is
+ends_so A B C D fault.Source f g is = is
+ends_so A B C D fault.OutOfMemory f g is = tt
+
+pub ends_if : {T : Type 0} (r : Result T FollowFault) (A B C D : Type 0) → (A → C) → (B → D) → IfErr r (EndsRun A B) →
+    IfErr r (EndsRun C D)
+ends_if (Ok t) A B C D f g is = tt
+ends_if (Err e) A B C D f g is = ends_so A B C D e f g is
+
+module _ (digest : List ℕ → List ℕ) (origin : List ℕ) where
+  -- a bringing to a candidate ends since the copy is another: then none of fewer entries stood
+  pub no_smaller : (note : List ℕ) (n : ℕ) (root : List ℕ) (x : Option (List Put)) (e : BringFault) →
+      IsHead note origin n root → RefusesNote digest origin note x e →
+      (e ≡ bring.CopyInUse → IsInUse digest origin x) → IsOfOtherRun e → HoldsNoSmaller digest origin n x
+  no_smaller note n root x bring.BadCheckpoint head refuses in_use other = absurd (refuses n root head)
+  no_smaller note n root x bring.NotLarger head r in_use other = λ held is old_note entries copy.
+      let size : n ≡ r.size = (head_once note origin origin n r.size root r.root head r.is_head).size_is in
+      let had : r.had ≡ length entries = r.had_is.copy held is old_note entries copy in
+      let upto : r.size ≤ r.had = r.upto in omega (arith, size, had, upto)
+  no_smaller note n root x bring.CopyInUse head refuses in_use other = λ held is old_note entries copy.
+      absurd ((in_use refl).no_copy held is old_note entries copy)
+  no_smaller note n root x bring.CopyDamaged head refuses in_use other = absurd other
+  no_smaller note n root x bring.Contradiction head refuses in_use other = absurd other
+  no_smaller note n root x bring.Collision head refuses in_use other = absurd other
+  no_smaller note n root x bring.NoFile head refuses in_use other = absurd other
+  no_smaller note n root x bring.Source head refuses in_use other = absurd other
+  no_smaller note n root x bring.ShelfFault head refuses in_use other = absurd other
+  no_smaller note n root x bring.OutOfMemory head refuses in_use other = absurd other
+
+  -- so the copy that the run knows does not stand, where it is smaller
+  pub none_stands : (copy : Candidate) (n : ℕ) (x : Option (List Put)) → copy.size.0 < n →
+      HoldsNoSmaller digest origin n x → HasStanding digest origin (Some copy) x → ⊥
+  none_stands copy n x lt none s =
+      let le : n ≤ length (s.entries ++ s.under.more) =
+      none s.held s.puts_are (note_of copy) (s.entries ++ s.under.more) s.under.copy in
+      let size : copy.size.0 ≡ length (s.entries ++ s.under.more) = s.under.size_is in omega (arith, le, size, lt)
+
+  -- nor does it where another checkpoint was read
+  pub none_found : (copy : Candidate) (x : Option (List Put)) → IsOtherFound (Some (note_of copy)) x →
+      HasStanding digest origin (Some copy) x → ⊥
+  none_found copy x o s =
+      found o.now (subst (λ p. TellsRead p Checkpoint o.now) s.puts_are o.now_is) o.other
+    where
+      found : (now : Option (List ℕ)) → TellsRead (Some s.held) Checkpoint now → now ≢ Some (note_of copy) → ⊥
+      found None none other =
+          copy_found digest origin (note_of copy) (s.entries ++ s.under.more) s.held None s.under.copy none refl
+      found (Some bytes) there other =
+          other (ap Some
+          (checkpoint_one digest origin (note_of copy) (s.entries ++ s.under.more) s.held s.under.copy bytes there))
+
+  -- where the copy that a run knows does not stand, none stood at first
+  pub none_first : (first x : Option (List Put)) (copy : Option Candidate) → (HasStanding digest origin copy x → ⊥) →
+      IsCopyOfRun digest origin first x copy → HoldsNoCopy digest origin first
+  none_first first x copy none known held is note entries stood =
+      stands copy x none (known.some held is note entries stood)
+    where
+      stands : (copy : Option Candidate) (x : Option (List Put)) → (HasStanding digest origin copy x → ⊥) →
+          StandsAs digest origin copy entries x → ⊥
+      stands None x none s = s
+      stands (Some c) None none s = s
+      stands (Some c) (Some now) none s = none (record { held = now; puts_are = refl; entries = entries; under = s })
 
 -- ---- faults of a report
 
+-- a report ends with the fault of the first candidate, or since memory was refused
 abbrev Reported : Run → FollowFault → Type 0
-Reported run e =
-    ((run.copy ≡ None) × (run.first_fault ≡ None)) ⊎ ((e ≡ fault.OutOfMemory) ⊎ (run.first_fault ≡ Some e))
+Reported run e = (e ≡ fault.OutOfMemory) ⊎ ((run.copy ≡ None) × (e ≡ option_or run.first_fault fault.NoCheckpoint))
 
--- a report ends by what a candidate was not had for, or since memory was refused
-of_report : (run : Run) (e : FollowFault) → KeepsFault run → IfSome run.first_fault IsPassedOver → Reported run e →
-    (e ≡ fault.OutOfMemory) ⊎ IsPassedOver e
-of_report run e keeps passed (inl none) = absurd (keeps none.0 none.1)
-of_report run e keeps passed (inr (inl memory)) = inl memory
-of_report run e keeps passed (inr (inr first)) = inr (subst (λ f. IfSome f IsPassedOver) first passed)
+-- the fault of the first candidate
+first_fault_of : (digest : List ℕ → List ℕ) (c : Candidate) (cs : List Candidate) (first : Option FollowFault)
+    (e : FollowFault) → IsFirstFault digest (c ∷ cs) first → e ≡ option_or first fault.NoCheckpoint → IsFaultOf digest c e
+first_fault_of digest c cs None e h is = absurd h
+first_fault_of digest c cs (Some f) e h is = subst (IsFaultOf digest c) (sym is) h
 
-pub report_counts : (n m : ℕ) (run : Run) {T : Type 0} (r : Result T FollowFault) → m ≡ n → KeepsFault run →
-    IfSome run.first_fault IsPassedOver → IfErr r (λ e. Reported run e) → CountsFollow n m r
-report_counts n m run (Ok x) same keeps passed h = same
-report_counts n m run (Err e) same keeps passed h =
+first_is_source : (first : Option FollowFault) → option_or first fault.NoCheckpoint ≡ fault.Source → first ≡ Some fault.Source
+first_is_source None e = absurd (cc e)
+first_is_source (Some f) e = ap Some e
+
+fault_counts : (digest : List ℕ → List ℕ) (c : Candidate) (n : ℕ) (e : FollowFault) → IsFaultOf digest c e →
+    CountsFollowFault n n e
+fault_counts digest c n fault.NoCheckpoint is = refl
+fault_counts digest c n (fault.Head f) is = refl
+fault_counts digest c n fault.CopyDamaged is = refl
+fault_counts digest c n fault.CopyInUse is = refl
+fault_counts digest c n fault.ShelfFault is = absurd is
+fault_counts digest c n fault.Contradiction is = refl
+fault_counts digest c n fault.Collision is = refl
+fault_counts digest c n fault.NoFile is = refl
+fault_counts digest c n fault.Source is = refl
+fault_counts digest c n fault.OutOfMemory is = refl
+
+pub report_counts : (digest : List ℕ → List ℕ) (n m : ℕ) (cs : List Candidate) (run : Run) {T : Type 0}
+    (r : Result T FollowFault) → m ≡ n → 0 < length cs → KeepsFault digest cs run → IfErr r (λ e. Reported run e) →
+    CountsFollow n m r
+report_counts digest n m cs run (Ok x) same some keeps h = same
+report_counts digest n m cs run (Err e) same some keeps (inl memory) =
+    subst (λ k. CountsFollowFault n k e) (sym same) (subst (λ f. CountsFollowFault n n f) (sym memory) refl)
+report_counts digest n m [] run (Err e) same some keeps (inr first) = absurd (omega (arith, some))
+report_counts digest n m (c ∷ cs) run (Err e) same some keeps (inr first) =
     subst (λ k. CountsFollowFault n k e) (sym same)
-    (elim (of_report run e keeps passed h) [
-      | inl memory ↦ subst (λ f. CountsFollowFault n n f) (sym memory) refl
-      | inr is ↦ passed_counts n e is
-    ])
+    (fault_counts digest c n e (first_fault_of digest c cs run.first_fault e (keeps first.0) first.1))
 
-module _ {S : Type 0} (may : S → Path → Option (List ℕ) → Type 0) (origin : List ℕ) (keys : List Key) (x y : Places S) where
-  abbrev pub Ends : Option (List ℕ) → FollowFault → Type 0
-  Ends given e = EndsFor may origin keys x y given e
+module _ (digest : List ℕ → List ℕ) {S : Type 0} (may : S → Path → Option (List ℕ) → Type 0) (origin : List ℕ)
+    (keys : List Key) (puts : Option (List Put)) (x y : Places S) where
+  abbrev Ends : Option (List ℕ) → FollowFault → Type 0
+  Ends given e = EndsFor digest may origin keys puts x y given e
 
-  -- a fault that ends the run says nothing of the candidates
-  pub ends_run : (given : Option (List ℕ)) (e : FollowFault) → EndsRun e → Ends given e
+  pub ends_run : (given : Option (List ℕ)) (e : FollowFault) → EndsRun ⊤ (HoldsNoCopy digest origin puts) e → Ends given e
   ends_run given fault.NoCheckpoint is = absurd is
   ends_run given (fault.Head f) is = absurd is
   ends_run None fault.CopyDamaged is = tt
   ends_run (Some note) fault.CopyDamaged is = tt
-  ends_run None fault.CopyInUse is = tt
-  ends_run (Some note) fault.CopyInUse is = tt
+  ends_run None fault.CopyInUse is = is
+  ends_run (Some note) fault.CopyInUse is = is
   ends_run None fault.ShelfFault is = tt
   ends_run (Some note) fault.ShelfFault is = tt
   ends_run given fault.Contradiction is = absurd is
@@ -170,51 +310,106 @@ module _ {S : Type 0} (may : S → Path → Option (List ℕ) → Type 0) (origi
   ends_run None fault.OutOfMemory is = tt
   ends_run (Some note) fault.OutOfMemory is = tt
 
-  ends_passed : (given : Option (List ℕ)) (e : FollowFault) → IsPassedOver e → (e ≡ fault.Source → PlaceFails x y) →
+  -- there is no candidate
+  none_given : (e : FollowFault) → GivesNoneBy may origin keys x y e → Ends None e
+  none_given fault.NoCheckpoint h = h
+  none_given (fault.Head f) h = h
+  none_given fault.CopyDamaged h = tt
+  none_given fault.CopyInUse h = absurd h
+  none_given fault.ShelfFault h = tt
+  none_given fault.Contradiction h = absurd h
+  none_given fault.Collision h = h
+  none_given fault.NoFile h = absurd h
+  none_given fault.Source h = (h.0, inl h.1)
+  none_given fault.OutOfMemory h = tt
+
+  one_given : (note : List ℕ) (e : FollowFault) → RefusesGiven origin keys note e → Ends (Some note) e
+  one_given note fault.NoCheckpoint h = h
+  one_given note (fault.Head f) h = h
+  one_given note fault.CopyDamaged h = tt
+  one_given note fault.CopyInUse h = absurd h
+  one_given note fault.ShelfFault h = tt
+  one_given note fault.Contradiction h = absurd h
+  one_given note fault.Collision h = h
+  one_given note fault.NoFile h = absurd h
+  one_given note fault.Source h = absurd h
+  one_given note fault.OutOfMemory h = tt
+
+  pub ends_lacking : (given : Option (List ℕ)) (e : FollowFault) → LacksCandidates may origin keys x y given e →
       Ends given e
-  ends_passed given fault.NoCheckpoint is fails = absurd is
-  ends_passed given (fault.Head f) is fails = absurd is
-  ends_passed given fault.CopyDamaged is fails = absurd is
-  ends_passed given fault.CopyInUse is fails = absurd is
-  ends_passed given fault.ShelfFault is fails = absurd is
-  ends_passed None fault.Contradiction is fails = tt
-  ends_passed (Some note) fault.Contradiction is fails = tt
-  ends_passed None fault.Collision is fails = tt
-  ends_passed (Some note) fault.Collision is fails = tt
-  ends_passed None fault.NoFile is fails = tt
-  ends_passed (Some note) fault.NoFile is fails = tt
-  ends_passed None fault.Source is fails = fails refl
-  ends_passed (Some note) fault.Source is fails = fails refl
-  ends_passed given fault.OutOfMemory is fails = absurd is
+  ends_lacking None e h = none_given e h
+  ends_lacking (Some note) e h = one_given note e h
 
-  -- no place gives a candidate
-  pub ends_none : (e : CandidateFault) → GiveNoneFor may origin keys x y e → (e ≡ none.Source → PlaceFails x y) →
-      Ends None (of_candidates e)
-  ends_none none.NoCheckpoint h fails = h
-  ends_none (none.Head f) h fails = h
-  ends_none none.Source h fails = fails refl
-  ends_none none.OutOfMemory h fails = tt
+  -- the candidates were not had
+  module _ (given : Option (List ℕ)) (c : Candidate) (cs : List Candidate)
+      (gathered : AreCandidates may origin keys x y given (c ∷ cs)) (rising : IsSorted turn_cmp (c ∷ cs))
+      (empty : TellsRead puts Checkpoint None) where
+    none_had : (so : Candidate → Type 0) → so c → HadNone digest may origin keys puts x y given so
+    none_had so is = record {
+      first = c;
+      others = cs;
+      gathered = gathered;
+      rising = rising;
+      is_so = is;
+      empty = empty;
+    }
 
-  -- the note that was given is no candidate
-  pub ends_given : (note : List ℕ) (e : FollowFault) → RefusesGiven origin keys note e → Ends (Some note) e
-  ends_given note fault.NoCheckpoint is = is
-  ends_given note (fault.Head f) is = is
-  ends_given note fault.CopyDamaged is = tt
-  ends_given note fault.CopyInUse is = tt
-  ends_given note fault.ShelfFault is = tt
-  ends_given note fault.Contradiction is = tt
-  ends_given note fault.Collision is = tt
-  ends_given note fault.NoFile is = tt
-  ends_given note fault.Source is = absurd is
-  ends_given note fault.OutOfMemory is = tt
+    ends_source : (g : Option (List ℕ)) → HadNone digest may origin keys puts x y g (λ first. ⊤) → PlaceFails x y →
+        Ends g fault.Source
+    ends_source None had fails = (fails, inr had)
+    ends_source (Some note) had fails = (fails, had)
+
+    ends_first : (e : FollowFault) → IsFaultOf digest c e → (e ≡ fault.Source → PlaceFails x y) → Ends given e
+    ends_first fault.NoCheckpoint is fails = absurd is
+    ends_first (fault.Head f) is fails = absurd is
+    ends_first fault.CopyDamaged is fails = absurd is
+    ends_first fault.CopyInUse is fails = absurd is
+    ends_first fault.ShelfFault is fails = absurd is
+    ends_first fault.Contradiction is fails = contradicts given (none_had (HasFalseRoot digest) is)
+      where
+        contradicts : (g : Option (List ℕ)) → HadNone digest may origin keys puts x y g (HasFalseRoot digest) →
+            Ends g fault.Contradiction
+        contradicts None had = had
+        contradicts (Some note) had = had
+    ends_first fault.Collision is fails = absurd is
+    ends_first fault.NoFile is fails = lacks given (none_had (λ first. ⊤) tt)
+      where
+        lacks : (g : Option (List ℕ)) → HadNone digest may origin keys puts x y g (λ first. ⊤) → Ends g fault.NoFile
+        lacks None had = had
+        lacks (Some note) had = had
+    ends_first fault.Source is fails = ends_source given (none_had (λ first. ⊤) tt) (fails refl)
+    ends_first fault.OutOfMemory is fails = absurd is
 
   -- the report of a run ends with a fault
-  pub ends_report : (given : Option (List ℕ)) (run : Run) {T : Type 0} (r : Result T FollowFault) → KeepsFault run →
-      IfSome run.first_fault IsPassedOver → (run.first_fault ≡ Some fault.Source → PlaceFails x y) →
-      IfErr r (λ e. Reported run e) → IfErr r (Ends given)
-  ends_report given run (Ok x) keeps passed fails h = tt
-  ends_report given run (Err e) keeps passed fails (inl none) = absurd (keeps none.0 none.1)
-  ends_report given run (Err e) keeps passed fails (inr (inl memory)) =
+  pub ends_report : (given : Option (List ℕ)) (cs : List Candidate) (run : Run) {T : Type 0} (r : Result T FollowFault) →
+      0 < length cs → AreCandidates may origin keys x y given cs → IsSorted turn_cmp cs →
+      (run.copy ≡ None → TellsRead puts Checkpoint None) → KeepsFault digest cs run →
+      (run.first_fault ≡ Some fault.Source → PlaceFails x y) → IfErr r (λ e. Reported run e) → IfErr r (Ends given)
+  ends_report given cs run (Ok x) some gathered rising empty keeps fails h = tt
+  ends_report given cs run (Err e) some gathered rising empty keeps fails (inl memory) =
       subst (Ends given) (sym memory) (ends_run given fault.OutOfMemory tt)
-  ends_report given run (Err e) keeps passed fails (inr (inr first)) =
-      ends_passed given e (subst (λ f. IfSome f IsPassedOver) first passed) (λ is. fails (first ∙ ap Some is))
+  ends_report given [] run (Err e) some gathered rising empty keeps fails (inr first) = absurd (omega (arith, some))
+  ends_report given (c ∷ cs) run (Err e) some gathered rising empty keeps fails (inr first) =
+      ends_first given c cs gathered rising (empty first.0) e
+      (first_fault_of digest c cs run.first_fault e (keeps first.0) first.1)
+      (λ is. fails (first_is_source run.first_fault (sym first.1 ∙ is)))
+
+-- the copy was empty where a run ends with none
+pub was_empty : (digest : List ℕ → List ℕ) (origin : List ℕ) (x : Option (List Put)) (first : Option Candidate)
+    (cs : List Candidate) (run : Run) → HasTakenRun digest first cs run → IsFoundCopy origin x first → run.copy ≡ None →
+    TellsRead x Checkpoint None
+was_empty digest origin x first cs run h found none =
+    none_found_first first (subst (λ o. IsGrown first o) none h.taken.grown) found
+  where
+    none_found_first : (first : Option Candidate) → IsGrown first None → IsFoundCopy origin x first → TellsRead x Checkpoint None
+    none_found_first None grown found = found
+    none_found_first (Some f) grown found = absurd grown
+
+-- why there is no candidate: the shelf did not fail
+pub none_of_places : {S : Type 0} (may : S → Path → Option (List ℕ) → Type 0) (origin : List ℕ) (keys : List Key)
+    (x y : Places S) (e : CandidateFault) → GiveNoneFor may origin keys x y e → (e ≡ none.Source → PlaceFails x y) →
+    GivesNoneBy may origin keys x y (of_candidates e)
+none_of_places may origin keys x y none.NoCheckpoint h fails = h
+none_of_places may origin keys x y (none.Head f) h fails = h
+none_of_places may origin keys x y none.Source h fails = (fails refl, h)
+none_of_places may origin keys x y none.OutOfMemory h fails = tt

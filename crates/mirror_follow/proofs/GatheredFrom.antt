@@ -1,5 +1,5 @@
 -- The candidates that the places of a run give, place by place.
-use Rattle.std.proofs.Common.{◌≡◌, ◌≢◌, inl, inr, ℕ, ◌+◌, ◌<◌, ◌≤◌, List, [], ◌∷◌, ◌++◌, All, Option, Some, None, refl, sym, subst, ◌∙◌, ap, arith}
+use Rattle.std.proofs.Common.{◌≡◌, ◌≢◌, inl, inr, ℕ, ◌+◌, ◌<◌, List, [], ◌∷◌, ◌++◌, All, Option, Some, None, refl, sym, subst, ◌∙◌, ap, arith}
 use Rattle.std.proofs.Common.{Global, Vec, Result, Ok, Err, map, get_or, length, length-append}
 use Rattle.std.specs.List.{Contains}
 use Rattle.std.specs.List.Sorted.{IsPermutation}
@@ -17,7 +17,7 @@ use Rattle.mirror_copy.specs.declared.places.Places.{Places}
 use Rattle.mirror_follow.specs.Asking.{option_or}
 use Rattle.mirror_follow.specs.Blame.{AsksAny, MayGive, PlaceFails}
 use Rattle.mirror_follow.specs.GatheredFrom.{AnswerEach, AreCandidates, GathersFrom, GiveCandidates, GiveNone, GiveNoneFor, MayAnswer}
-use Rattle.mirror_follow.specs.Gathering.{AreCandidatesOf, Gathers, Gave, IsFirstReason, IsGiven, IsNote, IsReason, note_of}
+use Rattle.mirror_follow.specs.Gathering.{AreCandidatesOf, Gathers, IsFirstReason, IsGiven, IsNote, IsReason, note_of}
 use Rattle.mirror_follow.specs.declared.answer.PlaceAnswer.{PlaceAnswer}
 use Rattle.mirror_follow.specs.declared.answer.PlaceAnswer.TheVariants.{File, NotFound, Failed}
 use Rattle.mirror_follow.specs.declared.candidate.Candidate.{Candidate}

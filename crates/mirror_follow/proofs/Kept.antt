@@ -8,8 +8,6 @@ use Rattle.std.proofs.lemmas.List.Sorted.{All-permutation}
 use Rattle.signed_note.specs.Keys.{Key}
 use Rattle.mirror_sources.specs.Told.{KeepsTold}
 use Rattle.mirror_folders.specs.Shelf.{Put}
-use Rattle.mirror_copy.proofs.Earlier.{kept_then}
-use Rattle.mirror_copy.proofs.Growth.{kept_same}
 use Rattle.mirror_follow.specs.Candidates.{IsCandidate, IsCandidateOf, turn_cmp}
 use Rattle.mirror_follow.specs.GatheredFrom.{IsOnly}
 use Rattle.mirror_follow.specs.Gathering.{Gathers, IsGiven, note_of}
@@ -19,12 +17,6 @@ use Rattle.mirror_follow.specs.declared.fault.CandidateFault.{CandidateFault}
 use Rattle.mirror_follow.specs.Runs.{FollowsCandidates, KeepsCopies}
 use Rattle.mirror_follow.specs.Standing.{IsHeadOf}
 use Rattle.mirror_follow.proofs.Runs.{no_run, two_runs}
-
-pub kept_once : (x : Option (List Put)) → KeepsTold x x
-kept_once x = kept_same x
-
-pub kept_twice : (x y z : Option (List Put)) → KeepsTold x y → KeepsTold y z → KeepsTold x z
-kept_twice x y z first second = kept_then x y z first second
 
 -- the candidates that were gathered open
 pub all_open : (origin : List ℕ) (keys : List Key) (answers : List PlaceAnswer) (gathered candidates : List Candidate)

@@ -18,3 +18,4 @@ pub mod Settled
 pub mod Agreeing
 pub mod Noted
 pub mod Split
+pub mod Lines

@@ -1,11 +1,12 @@
 -- The note of the copy in the end.
-use Rattle.std.proofs.Common.{◌≡◌, ◌⊎◌, inl, inr, ℕ, List, [], length, Option, Some, None, Result, Ok, Err, IfOk, Bool, sym, ap, subst, ◌∙◌}
+use Rattle.std.proofs.Common.{◌≡◌, ◌⊎◌, inl, inr, ℕ, List, [], length, Option, Some, None, Result, Ok, Err, IfOk, Bool, sym, subst, ◌∙◌}
 use Rattle.std.specs.List.Sorted.{IsSorted}
 use Rattle.mirror_folders.specs.Shelf.{Put}
 use Rattle.mirror_follow.specs.Candidates.{turn_cmp}
 use Rattle.mirror_follow.specs.Gathering.{note_of}
+use Rattle.mirror_follow.specs.Lines.{AreLines}
 use Rattle.mirror_follow.specs.Says.{HasLeastInTheEnd, HasLeastNote, IsNoteOfOne, IsNoteUpTo, IsOldNote, Says, SettlesEach}
-use Rattle.mirror_follow.specs.Standing.{HadCopy, IsCopyOfRun, IsCopyRead, StandsUnder}
+use Rattle.mirror_follow.specs.Standing.{HadCopy, IsCopyOfRun, IsCopyRead, IsFoundCopy, StandsUnder}
 use Rattle.mirror_follow.specs.Taken.{HasTaken, HasTakenRun, IsGrown, IsOneOf}
 use Rattle.mirror_follow.specs.declared.candidate.Candidate.{Candidate}
 use Rattle.mirror_follow.specs.declared.report.Followed.{Followed}
@@ -91,16 +92,22 @@ pub says_by : (digest : List ℕ → List ℕ) (origin : List ℕ) (so : List Ca
     IfOk r (λ f. (c : Candidate) × (run.copy ≡ Some c) × (f.size ≡ c.size.0) × (f.root ≡ c.root)) →
     IfOk r (λ f. (digest : List ℕ → List ℕ) (first : Option Candidate) →
     HasTakenRun digest first candidates run → SettlesEach digest candidates f) →
-    HasTakenRun digest first candidates run → HadCopy digest origin x first → IsCopyOfRun digest origin x w run.copy →
+    IfOk r (λ f. (digest : List ℕ → List ℕ) (first : Option Candidate) →
+    HasTakenRun digest first candidates run → AreLines first candidates f.forks.items) →
+    HasTakenRun digest first candidates run → IsFoundCopy origin x first → HadCopy digest origin x first → IsCopyOfRun digest origin x w run.copy →
     so candidates → IsSorted turn_cmp candidates → IfOk r (Says digest origin so x w)
-says_by digest origin so x w first candidates run (Err e) copy settles h had k gathered rising = tt
-says_by digest origin so x w first candidates run (Ok f) copy settles h had k gathered rising = record {
+says_by digest origin so x w first candidates run (Err e) copy settles lines h found had k gathered rising = tt
+says_by digest origin so x w first candidates run (Ok f) copy settles lines h found had k gathered rising = record {
   candidates = candidates;
   gathered = gathered;
   rising = rising;
   settles = settles digest first h;
+  first = first;
+  found = found;
+  lines = lines digest first h;
   noted = noted digest origin candidates f copy.0 copy.2 copy.3 first run.forks.items run.not_had.items run.behind
       run.is_reached
-      (subst (λ o. HasTaken digest first candidates o run.forks.items run.not_had.items run.behind run.is_reached) copy.1 h)
+      (subst (λ o. HasTaken digest first candidates o run.forks.items run.not_had.items run.behind run.is_reached) copy.1
+      h.taken)
       x w had (subst (λ o. IsCopyOfRun digest origin x w o) copy.1 k);
 }

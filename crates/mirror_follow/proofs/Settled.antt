@@ -1,18 +1,16 @@
 -- What a report says of each candidate.
-use Rattle.std.proofs.Common.{◌≡◌, ◌⊎◌, inl, inr, ℕ, ◌<◌, ◌≤◌, ◌↔◌, Bool, true, false, cond, List, [], ◌∷◌, length, All, Contains, Option, Some, None, refl, sym, ap, subst, ◌∙◌, arith, true≢false}
+use Rattle.std.proofs.Common.{◌≡◌, ◌⊎◌, inl, inr, ℕ, ◌<◌, ◌≤◌, Bool, true, false, cond, List, [], ◌∷◌, length, All, Contains, Option, Some, None, refl, sym, ap, subst, ◌∙◌, arith, true≢false}
 use Rattle.std.specs.List.Sorted.{IsPermutation}
-use Rattle.std.proofs.lemmas.List.{nil_from_length}
 use Rattle.std.proofs.lemmas.List.Elements.{All-contains}
-use Rattle.std.proofs.lemmas.List.Sorted.{All-permutation, Contains-permutation, length_permutation}
-use Rattle.mirror_model.specs.Forks.{Point}
+use Rattle.std.proofs.lemmas.List.Sorted.{All-permutation, Contains-permutation}
 use Rattle.mirror_follow.specs.Agreeing.{Agrees}
 use Rattle.mirror_follow.specs.Says.{IsBehind, IsInSomeLine, IsLarger, IsOnePoint, IsSettled, SettlesEach, point_of_copy}
 use Rattle.mirror_follow.specs.Shown.{point_of}
-use Rattle.mirror_follow.specs.Taken.{HasTaken, IsAgreed, IsBehindTest, IsBeyond, IsLacked, IsLeft, IsReached, IsReported, IsSplit, IsUnder, KeepsFirst, SplitsLacked}
+use Rattle.mirror_follow.specs.Taken.{HasTaken, IsAgreed, IsBehindTest, IsBeyond, IsLacked, IsLeft, IsReached, IsReported, IsSplit, KeepsFirst, SplitsLacked}
 use Rattle.mirror_follow.specs.declared.candidate.Candidate.{Candidate}
 use Rattle.mirror_follow.specs.declared.report.Followed.{Followed}
 use Rattle.mirror_follow.specs.declared.report.ForkLine.{ForkLine}
-use Rattle.mirror_follow.proofs.Taken.{in_some_line, lines_kept, one_then}
+use Rattle.mirror_follow.proofs.Taken.{in_some_line, lines_kept}
 
 pair_same : (a b : Candidate) → IsOnePoint a b → ◌≡◌ {A = ℕ × List ℕ} (a.size.0, a.root) (b.size.0, b.root)
 pair_same a b p = λ i. (p.0 i, p.1 i)

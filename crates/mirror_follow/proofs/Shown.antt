@@ -1,19 +1,17 @@
 -- Forks of two candidates, and the lines that tell of them.
-use Rattle.std.proofs.Common.{◌≡◌, ◌≢◌, ◌⊎◌, inl, inr, ℕ, ◌<◌, ◌≤◌, List, [], ◌∷◌, take, drop, Option, Some, None, IfOk, IfSome, OnOk, Ok, Err, Result, refl, sym, subst, ◌∙◌, ap, arith}
+use Rattle.std.proofs.Common.{◌≡◌, ◌≢◌, ◌⊎◌, inl, inr, ℕ, ◌≤◌, List, [], ◌∷◌, take, drop, Option, Some, None, IfOk, IfSome, OnOk, Ok, Err, Result, refl, sym, subst, ◌∙◌, arith}
 use Rattle.std.proofs.lemmas.Bool.{cases_lt}
 use Rattle.std.proofs.lemmas.List.Elements.{All-append, All-cons, All-drop, All-take}
 use Rattle.std.specs.List.{insert}
 use Rattle.tlog_proof.specs.declared.proof.Proof.{Proof}
-use Rattle.mirror_model.specs.Forks.{Point}
 use Rattle.mirror_follow.specs.Forks.{ShowsFork}
-use Rattle.mirror_follow.specs.Shown.{AreFork, IsLine, ShowsEach, ShowsLarger, ShowsLine, ShowsTurn, point_of}
+use Rattle.mirror_follow.specs.Shown.{AreFork, IsLine, ShowsEach, ShowsLine, ShowsTurn, point_of}
 use Rattle.mirror_follow.specs.Standing.{IsSame}
 use Rattle.mirror_follow.specs.declared.candidate.Candidate.{Candidate}
 use Rattle.mirror_follow.specs.declared.report.Followed.{Followed}
 use Rattle.mirror_follow.specs.declared.report.ForkLine.{ForkLine}
 use Rattle.mirror_follow.specs.declared.report.Run.{Run}
 use Rattle.mirror_follow.specs.declared.report.Turn.{Turn}
-use Rattle.mirror_follow.specs.declared.report.Turn.TheVariants as turn
 
 same_point : (a b : Candidate) → IsSame a b → point_of a ≡ point_of b
 same_point a b s = λ i. record { size = sym s.size_is i; root = sym s.root_is i }

@@ -1,11 +1,10 @@
 -- Candidates that were not had become lines of forks, and larger ones.
-use Rattle.std.proofs.Common.{◌≡◌, ◌⊎◌, inl, inr, ℕ, ◌+◌, ◌<◌, ◌≤◌, List, [], ◌∷◌, ◌++◌, length, get_or, take, All, Contains, Result, Ok, Err, OnOk, refl, sym, ap, subst, ◌∙◌, arith}
+use Rattle.std.proofs.Common.{◌≡◌, inl, inr, ℕ, ◌+◌, ◌<◌, ◌≤◌, List, [], ◌∷◌, ◌++◌, length, get_or, take, All, Contains, Result, Ok, Err, OnOk, refl, sym, ap, subst, ◌∙◌, arith}
 use Rattle.std.specs.List.{insert}
 use Rattle.std.proofs.lemmas.List.{take_all, take_more}
 use Rattle.std.proofs.lemmas.List.Elements.{All-push, Contains-append_left, Contains-append_right, Contains-push}
 use Rattle.std.proofs.lemmas.List.Sorted.{Contains-permutation, IsPermutation-insert}
 use Rattle.mirror_follow.specs.Says.{IsInLine, IsInSomeLine, IsOnePoint}
-use Rattle.mirror_follow.specs.Shown.{IsLine}
 use Rattle.mirror_follow.specs.Standing.{IsSame}
 use Rattle.mirror_follow.specs.Taken.{HasLineOf, IsLeft, IsSplit, KeepsLines, SplitsLacked}
 use Rattle.mirror_follow.specs.declared.candidate.Candidate.{Candidate}

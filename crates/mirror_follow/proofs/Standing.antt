@@ -9,12 +9,12 @@ use Rattle.mirror_sources.specs.Told.{KeepsTold}
 use Rattle.mirror_folders.specs.Shelf.{Put, HasPut, Stands, TellsRead}
 use Rattle.mirror_copy.specs.Copies.{IsCopy}
 use Rattle.mirror_copy.specs.Moments.{CopyStays, HadSize, InTheEnd, IsBroughtTo, IsGrownCopy}
-use Rattle.mirror_copy.proofs.Stays.{stays_same, stays_then}
+use Rattle.mirror_copy.proofs.Stays.{stays_same}
 use Rattle.mirror_export.proofs.AllFiles.{files_are_all}
 use Rattle.mirror_copy.proofs.TipReads.{stands_one}
 use Rattle.mirror_copy.proofs.WholeMoments.{copy_found, none_found}
 use Rattle.mirror_follow.specs.Gathering.{note_of}
-use Rattle.mirror_follow.specs.Standing.{HadCopy, HasCopy, IsCopyNow, IsCopyOfRun, IsFollowed, IsHeadOf, IsSame, KnowsAfter, StandsAfter, StandsAs, StandsOrNone, StandsUnder, size_of_copy}
+use Rattle.mirror_follow.specs.Standing.{HadCopy, HasCopy, IsCopyNow, IsCopyOfRun, IsFollowed, IsFoundCopy, IsHeadOf, IsSame, KnowsAfter, StandsAfter, StandsAs, StandsOrNone, StandsUnder, size_of_copy}
 use Rattle.mirror_follow.specs.declared.candidate.Candidate.{Candidate}
 use Rattle.mirror_follow.specs.declared.report.Followed.{Followed}
 use Rattle.mirror_follow.specs.declared.report.Turn.{Turn}
@@ -144,13 +144,13 @@ module _ (digest : List ℕ → List ℕ) (origin : List ℕ) where
   -- ---- the copy that is read first
 
   -- the checkpoint of a copy is its note
-  checkpoint_one : (note : List ℕ) (entries : List (List ℕ)) (held : List Put) → IsCopy digest origin note entries held →
+  pub checkpoint_one : (note : List ℕ) (entries : List (List ℕ)) (held : List Put) → IsCopy digest origin note entries held →
       (bytes : List ℕ) → Stands held Checkpoint bytes → bytes ≡ note
   checkpoint_one note entries held copy bytes there =
       stands_one held Checkpoint bytes note there
       (copy.holds Checkpoint ((files_are_all (length entries) Checkpoint).1 tt))
 
-  pub known_first : (x y : Option (List Put)) (c : Candidate) → IsHeadOf origin c → TellsRead x Checkpoint (Some (note_of c)) →
+  known_first : (x y : Option (List Put)) (c : Candidate) → IsHeadOf origin c → TellsRead x Checkpoint (Some (note_of c)) →
       KeepsTold x y → Known x y (Some c)
   known_first x y c head there kept = record {
     some = λ held is note entries copy.
@@ -172,7 +172,7 @@ module _ (digest : List ℕ → List ℕ) (origin : List ℕ) where
           head copy'.is_head in
           record { more = []; copy = copy'; size_is = once.size_is; root_is = once.root_is }
 
-  pub known_none : (x y : Option (List Put)) → TellsRead x Checkpoint None → KeepsTold x y → Known x y None
+  known_none : (x y : Option (List Put)) → TellsRead x Checkpoint None → KeepsTold x y → Known x y None
   known_none x y there kept = record {
     some = λ held is note entries copy.
         absurd (copy_found digest origin note entries held None copy (subst (λ o. TellsRead o Checkpoint None) is there) refl);
@@ -180,7 +180,7 @@ module _ (digest : List ℕ → List ℕ) (origin : List ℕ) where
         none_end (Some held) y none (subst (λ o. CopyStays digest origin o y) is (stays_same digest origin x y kept));
   }
 
-  pub had_first : (x : Option (List Put)) (c : Candidate) → IsHeadOf origin c → TellsRead x Checkpoint (Some (note_of c)) →
+  had_first : (x : Option (List Put)) (c : Candidate) → IsHeadOf origin c → TellsRead x Checkpoint (Some (note_of c)) →
       HadSize digest origin x c.size.0
   had_first x c head there = record {
     copy = λ held is note entries copy.
@@ -193,7 +193,7 @@ module _ (digest : List ℕ → List ℕ) (origin : List ℕ) where
   }
 
   -- the copy that was read is the one that was there
-  pub read_first : (x : Option (List Put)) (c : Candidate) → IsHeadOf origin c → TellsRead x Checkpoint (Some (note_of c)) →
+  read_first : (x : Option (List Put)) (c : Candidate) → IsHeadOf origin c → TellsRead x Checkpoint (Some (note_of c)) →
       HadCopy digest origin x (Some c)
   read_first x c head there = record {
     some = λ held is note entries copy.
@@ -207,19 +207,33 @@ module _ (digest : List ℕ → List ℕ) (origin : List ℕ) where
         absurd (cc (none_found held (Some (note_of c)) (subst (λ o. TellsRead o Checkpoint (Some (note_of c))) is there) none));
   }
 
-  pub read_none : (x : Option (List Put)) → TellsRead x Checkpoint None → HadCopy digest origin x None
+  read_none : (x : Option (List Put)) → TellsRead x Checkpoint None → HadCopy digest origin x None
   read_none x there = record {
     some = λ held is note entries copy.
         absurd (copy_found digest origin note entries held None copy (subst (λ o. TellsRead o Checkpoint None) is there) refl);
     none = λ held is none. refl;
   }
 
-  pub had_none : (x : Option (List Put)) → TellsRead x Checkpoint None → HadSize digest origin x 0
+  had_none : (x : Option (List Put)) → TellsRead x Checkpoint None → HadSize digest origin x 0
   had_none x there = record {
     copy = λ held is note entries copy.
         absurd (copy_found digest origin note entries held None copy (subst (λ o. TellsRead o Checkpoint None) is there) refl);
     none = λ held is none. refl;
   }
+
+  pub known_found : (x y : Option (List Put)) (copy : Option Candidate) → IsFoundCopy origin x copy → KeepsTold x y →
+      Known x y copy
+  known_found x y None f kept = known_none x y f kept
+  known_found x y (Some c) f kept = known_first x y c f.1 f.0 kept
+
+  pub had_found : (x : Option (List Put)) (copy : Option Candidate) → IsFoundCopy origin x copy →
+      HadSize digest origin x (size_of_copy copy)
+  had_found x None f = had_none x f
+  had_found x (Some c) f = had_first x c f.1 f.0
+
+  pub read_found : (x : Option (List Put)) (copy : Option Candidate) → IsFoundCopy origin x copy → HadCopy digest origin x copy
+  read_found x None f = read_none x f
+  read_found x (Some c) f = read_first x c f.1 f.0
 
   -- ---- the answer
 

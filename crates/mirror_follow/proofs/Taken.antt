@@ -1,24 +1,25 @@
 -- What is known of the candidates, turn by turn.
 use Rattle.std.proofs.Common.{◌≡◌, ◌≢◌, ◌⊎◌, inl, inr, ℕ, ◌+◌, ◌<◌, ◌≤◌, Bool, true, false, List, [], ◌∷◌, ◌++◌, length, get_or, take, All, Contains, Option, Some, None, refl, sym, ap, subst, ◌∙◌, arith, true≢false}
-use Rattle.std.proofs.Common.{Result, Ok, Err, IfOk, OnOk}
+use Rattle.std.proofs.Common.{Result, Ok, Err, IfOk, IfSome, OnOk}
 use Rattle.std.specs.List.Sorted.{IsSorted}
 use Rattle.std.proofs.lemmas.Bool.{cases_lt}
 use Rattle.std.proofs.lemmas.List.{take_all, take_more}
-use Rattle.std.proofs.lemmas.List.Elements.{All-contains, All-nil, All-push, Contains-append_left, Contains-push}
-use Rattle.mirror_model.specs.Forks.{Point}
+use Rattle.std.proofs.lemmas.List.Elements.{All-contains, All-nil, All-push, All-weaker, Contains-append_left, Contains-push}
 use Rattle.tlog_proof.specs.declared.proof.Proof.{Proof}
 use Rattle.mirror_follow.specs.Agreeing.{Agrees}
 use Rattle.mirror_follow.specs.Candidates.{turn_cmp}
 use Rattle.mirror_follow.specs.Gathering.{note_of}
+use Rattle.mirror_follow.specs.Lines.{AreLines, IsFirstOrListed, IsListed}
 use Rattle.mirror_follow.specs.Says.{IsInLine, IsInSomeLine, IsNoteUpTo, IsOnePoint}
 use Rattle.mirror_follow.specs.Shown.{AreFork, ShowsTurn, point_of}
-use Rattle.mirror_follow.specs.Standing.{IsCopyNow, IsSame, KnowsAfter, size_of_copy}
-use Rattle.mirror_follow.specs.Taken.{AddsLacked, HasTaken, HasTakenRun, IsAbove, IsAdded, IsAgreed, IsBeyond, IsFirst, IsGrown, IsLacked, IsLargerThan, IsNextOf, IsNoted, IsOneOf, IsReached, IsRepeat, IsReported, IsUnder, KeepsFirst, KeepsLines, MarksReached, SaysTurn, or_agreed}
+use Rattle.mirror_follow.specs.Standing.{IsSame, KnowsAfter}
+use Rattle.mirror_follow.specs.Taken.{AddsLacked, HasTaken, HasTakenRun, IsAbove, IsAdded, IsAgreed, IsBeyond, IsGrown, IsLacked, IsLargerThan, IsNextOf, IsNoted, IsOneOf, IsReached, IsRepeat, IsReported, IsUnder, KeepsFirst, KeepsLines, MarksReached, SaysTurn, or_agreed}
 use Rattle.mirror_follow.specs.declared.candidate.Candidate.{Candidate}
 use Rattle.mirror_follow.specs.declared.report.ForkLine.{ForkLine}
 use Rattle.mirror_follow.specs.declared.report.Run.{Run}
 use Rattle.mirror_follow.specs.declared.report.Turn.{Turn}
 use Rattle.mirror_follow.specs.declared.report.Turn.TheVariants as turn
+use Rattle.mirror_follow.proofs.Lines.{lines_forked, lines_more, lines_none, listed_more, listed_now}
 use Rattle.mirror_follow.proofs.TurnOrder.{again, element, next_of, note_itself, note_upto}
 
 -- ---- points
@@ -411,33 +412,97 @@ module _ (digest : List ℕ → List ℕ) (first : Option Candidate) where
     fork_noted None proof s = tt
     fork_noted (Some held) proof s = λ one. absurd (fork_apart digest held c proof s one)
 
-    pub taken_turn : (run next : Run) (t : Turn) → HasTakenRun digest first done run → IsNextOf done c →
+    abbrev TakenRun : List Candidate → Run → Type 0
+    TakenRun cs run = Taken cs run.copy run.forks.items run.not_had.items run.behind run.is_reached
+
+    turned : (run next : Run) (t : Turn) → TakenRun done run → IsNextOf done c →
         KnowsAfter c t run.copy next.copy → IsAdded c t run next → SaysTurn digest run.copy c t →
-        ShowsTurn digest run.copy c t → HasTakenRun digest first More next
-    taken_turn run next turn.Agrees h is knows (forks, lacked, behind, marks) says shows =
+        ShowsTurn digest run.copy c t → TakenRun More next
+    turned run next turn.Agrees h is knows (forks, lacked, behind, marks) says shows =
         taken_as More run.copy next.copy run.forks.items next.forks.items run.not_had.items next.not_had.items
         (or_agreed run.behind c) next.behind next.is_reached next.is_reached knows (ap (λ v. v.items) forks)
         (ap (λ v. v.items) lacked) behind refl
         (taken_agreed run.copy run.forks.items run.not_had.items run.behind run.is_reached next.is_reached h says.0 says.1 marks)
-    taken_turn run next turn.Brought h is knows (forks, lacked, behind, marks) says shows =
+    turned run next turn.Brought h is knows (forks, lacked, behind, marks) says shows =
         taken_as More (Some knows.now) next.copy run.forks.items next.forks.items run.not_had.items next.not_had.items
         run.behind next.behind true next.is_reached knows.is (ap (λ v. v.items) forks) (ap (λ v. v.items) lacked) behind marks
         (taken_brought knows.now knows.same run.copy run.forks.items run.not_had.items run.behind run.is_reached h is says)
-    taken_turn run next (turn.Forks proof) h is knows (forks, lacked, behind, marks) says shows =
+    turned run next (turn.Forks proof) h is knows (forks, adds, lacked, behind, marks) says shows =
         taken_as More run.copy next.copy next.forks.items next.forks.items run.not_had.items next.not_had.items
         run.behind next.behind run.is_reached next.is_reached knows refl (ap (λ v. v.items) lacked) behind marks
         (taken_forked run.copy run.forks.items next.forks.items run.not_had.items run.behind run.is_reached h
         (fork_noted run.copy proof shows) (forks says).0 (forks says).1)
-    taken_turn run next turn.Contradicts h is knows (forks, lacked, behind, marks) says shows =
+    turned run next turn.Contradicts h is knows (forks, lacked, behind, marks) says shows =
         taken_as More run.copy next.copy run.forks.items next.forks.items (run.not_had.items ++ lacked.added ∷ [])
         next.not_had.items run.behind next.behind run.is_reached next.is_reached knows (ap (λ v. v.items) forks) lacked.is
         behind marks
         (taken_lacked run.copy run.forks.items run.not_had.items lacked.added run.behind run.is_reached h lacked.same says)
-    taken_turn run next (turn.NotHad fault) h is knows (forks, lacked, behind, marks) says shows =
+    turned run next (turn.NotHad fault) h is knows (forks, lacked, behind, marks) says shows =
         taken_as More run.copy next.copy run.forks.items next.forks.items (run.not_had.items ++ lacked.added ∷ [])
         next.not_had.items run.behind next.behind run.is_reached next.is_reached knows (ap (λ v. v.items) forks) lacked.is
         behind marks
         (taken_lacked run.copy run.forks.items run.not_had.items lacked.added run.behind run.is_reached h lacked.same says)
+
+    -- ---- the lines, and the candidates that were not had
+
+    all_listed : (lacked : List Candidate) → All (IsListed done) lacked → All (IsListed More) lacked
+    all_listed lacked all = All-weaker (IsListed done) (IsListed More) (listed_more done c) lacked all
+
+    still_listed : (old new : List Candidate) → new ≡ old → All (IsListed done) old → All (IsListed More) new
+    still_listed old new e all = subst (All (IsListed More)) (sym e) (all_listed old all)
+
+    one_listed : (old new : List Candidate) → AddsLacked c old new → All (IsListed done) old → All (IsListed More) new
+    one_listed old new adds all =
+        subst (All (IsListed More)) (sym adds.is)
+        (All-push (IsListed More) old adds.added (all_listed old all) (listed_now done c adds.added adds.same))
+
+    still_lines : (old new : List ForkLine) → new ≡ old → AreLines first done old → AreLines first More new
+    still_lines old new e l = subst (AreLines first More) (sym e) (lines_more first done c old l)
+
+    apart_from : (copy : Option Candidate) (proof : Option Proof) → ShowsTurn digest copy c (turn.Forks proof) →
+        IfSome copy (λ held. IsOnePoint held c → ⊥)
+    apart_from None proof shows = tt
+    apart_from (Some held) proof shows = λ one. fork_apart digest held c proof shows (one_back held c one)
+
+    known_copy : (copy : Option Candidate) → IsOneOf first done copy → IfSome copy (IsFirstOrListed first done)
+    known_copy None o = tt
+    known_copy (Some held) o = o
+
+    lines_turned : (run next : Run) (t : Turn) → HasTakenRun digest first done run → IsAdded c t run next →
+        SaysTurn digest run.copy c t → ShowsTurn digest run.copy c t → AreLines first More next.forks.items
+    lines_turned run next turn.Agrees h (forks, lacked, behind, marks) says shows =
+        still_lines run.forks.items next.forks.items (ap (λ v. v.items) forks) h.lines
+    lines_turned run next turn.Brought h (forks, lacked, behind, marks) says shows =
+        still_lines run.forks.items next.forks.items (ap (λ v. v.items) forks) h.lines
+    lines_turned run next (turn.Forks proof) h (forks, adds, lacked, behind, marks) says shows =
+        lines_forked first done c run.copy run.forks.items next.forks.items says adds
+        (apart_from run.copy proof shows) (known_copy run.copy h.taken.one_of) h.lines
+    lines_turned run next turn.Contradicts h (forks, lacked, behind, marks) says shows =
+        still_lines run.forks.items next.forks.items (ap (λ v. v.items) forks) h.lines
+    lines_turned run next (turn.NotHad fault) h (forks, lacked, behind, marks) says shows =
+        still_lines run.forks.items next.forks.items (ap (λ v. v.items) forks) h.lines
+
+    listed_turned : (run next : Run) (t : Turn) → HasTakenRun digest first done run → IsAdded c t run next →
+        All (IsListed More) next.not_had.items
+    listed_turned run next turn.Agrees h (forks, lacked, behind, marks) =
+        still_listed run.not_had.items next.not_had.items (ap (λ v. v.items) lacked) h.listed
+    listed_turned run next turn.Brought h (forks, lacked, behind, marks) =
+        still_listed run.not_had.items next.not_had.items (ap (λ v. v.items) lacked) h.listed
+    listed_turned run next (turn.Forks proof) h (forks, adds, lacked, behind, marks) =
+        still_listed run.not_had.items next.not_had.items (ap (λ v. v.items) lacked) h.listed
+    listed_turned run next turn.Contradicts h (forks, lacked, behind, marks) =
+        one_listed run.not_had.items next.not_had.items lacked h.listed
+    listed_turned run next (turn.NotHad fault) h (forks, lacked, behind, marks) =
+        one_listed run.not_had.items next.not_had.items lacked h.listed
+
+    pub taken_turn : (run next : Run) (t : Turn) → HasTakenRun digest first done run → IsNextOf done c →
+        KnowsAfter c t run.copy next.copy → IsAdded c t run next → SaysTurn digest run.copy c t →
+        ShowsTurn digest run.copy c t → HasTakenRun digest first More next
+    taken_turn run next t h is knows added says shows = record {
+      taken = turned run next t h.taken is knows added says shows;
+      lines = lines_turned run next t h added says shows;
+      listed = listed_turned run next t h added;
+    }
 
 -- a copy that is brought to a larger candidate
 pub larger_above : (copy : Option Candidate) (c : Candidate) → IsLargerThan copy c → IsAbove copy c
@@ -459,44 +524,30 @@ due_agrees digest copy c due le which as_copy as_none same = elim (cases_lt c.si
 ]
 
 -- what a turn says, by the copy that the run knows
-module _ (digest : List ℕ → List ℕ) {E : Type 0} (r : Result Turn E) (copy : Option Candidate) (c : Candidate) where
-  says_so : IsLargerThan copy c → IfOk r (λ t. IsLargerThan copy c → SaysTurn digest copy c t) →
+module _ (digest : List ℕ → List ℕ) {E : Type 0} (r : Result Turn E) (copy : Option Candidate) (c held : Candidate)
+    (is : copy ≡ Some held) where
+  pub says_held : IfOk r (SaysTurn digest (Some held) c) → IfOk r (SaysTurn digest copy c)
+  says_held h = subst (λ o. IfOk r (SaysTurn digest o c)) (sym is) h
+
+  pub says_noted : IsNoted (Some held) c → IfOk r (λ t. IsNoted (Some held) c → SaysTurn digest (Some held) c t) →
       IfOk r (SaysTurn digest copy c)
-  says_so lt h = so r h
+  says_noted noted h = says_held (so r h)
     where
-      so : (r : Result Turn E) → IfOk r (λ t. IsLargerThan copy c → SaysTurn digest copy c t) →
-          IfOk r (SaysTurn digest copy c)
-      so (Ok t) h = h lt
+      so : (r : Result Turn E) → IfOk r (λ t. IsNoted (Some held) c → SaysTurn digest (Some held) c t) →
+          IfOk r (SaysTurn digest (Some held) c)
+      so (Ok t) h = h noted
       so (Err e) h = tt
-
-  pub says_none : copy ≡ None → IfOk r (λ t. IsLargerThan copy c → SaysTurn digest copy c t) →
-      IfOk r (SaysTurn digest copy c)
-  says_none is h = says_so (subst (λ o. IsLargerThan o c) (sym is) tt) h
-
-  module _ (held : Candidate) (is : copy ≡ Some held) where
-    pub says_larger : held.size.0 < c.size.0 → IfOk r (λ t. IsLargerThan copy c → SaysTurn digest copy c t) →
-        IfOk r (SaysTurn digest copy c)
-    says_larger lt h = says_so (subst (λ o. IsLargerThan o c) (sym is) lt) h
-
-    pub says_held : IfOk r (SaysTurn digest (Some held) c) → IfOk r (SaysTurn digest copy c)
-    says_held h = subst (λ o. IfOk r (SaysTurn digest o c)) (sym is) h
-
-    pub says_noted : IsNoted (Some held) c → IfOk r (λ t. IsNoted (Some held) c → SaysTurn digest (Some held) c t) →
-        IfOk r (SaysTurn digest copy c)
-    says_noted noted h = says_held (so r h)
-      where
-        so : (r : Result Turn E) → IfOk r (λ t. IsNoted (Some held) c → SaysTurn digest (Some held) c t) →
-            IfOk r (SaysTurn digest (Some held) c)
-        so (Ok t) h = h noted
-        so (Err e) h = tt
 
 module _ (digest : List ℕ → List ℕ) (first : Option Candidate) where
   -- the run before its first turn
-  pub taken_begin : (run : Run) → run.copy ≡ first → run.not_had.items ≡ [] → run.behind ≡ None →
-      run.is_reached ≡ false → HasTakenRun digest first [] run
-  taken_begin run is none no_first not_yet =
-      subst (λ o. HasTaken digest first [] o run.forks.items run.not_had.items run.behind run.is_reached) (sym is)
-      (taken_none digest first run.forks.items run.not_had.items run.behind run.is_reached none no_first not_yet)
+  pub taken_begin : (run : Run) → run.copy ≡ first → run.forks.items ≡ [] → run.not_had.items ≡ [] →
+      run.behind ≡ None → run.is_reached ≡ false → HasTakenRun digest first [] run
+  taken_begin run is no_line none no_first not_yet = record {
+    taken = subst (λ o. HasTaken digest first [] o run.forks.items run.not_had.items run.behind run.is_reached) (sym is)
+        (taken_none digest first run.forks.items run.not_had.items run.behind run.is_reached none no_first not_yet);
+    lines = lines_none first run.forks.items no_line;
+    listed = subst (All (IsListed [])) (sym none) (All-nil (IsListed []));
+  }
 
   module _ (cs : List Candidate) (rises : IsSorted turn_cmp cs) (i : ℕ) (lt : i < length cs) where
     more : (x : Candidate) → x ≡ get_or cs i x → take i cs ++ x ∷ [] ≡ take (i + 1) cs
@@ -517,8 +568,12 @@ module _ (digest : List ℕ → List ℕ) (first : Option Candidate) where
         let x = element cs i lt in
         let a = again cs rises i x.0 lt x.1 r in
         subst (λ l. HasTakenRun digest first l run) (more x.0 x.1)
-        (taken_again digest first (take i cs) x.0 run.copy run.forks.items run.not_had.items run.behind run.is_reached h
-        a.one a.listed a.same a.note)
+        (record {
+          taken = taken_again digest first (take i cs) x.0 run.copy run.forks.items run.not_had.items run.behind
+              run.is_reached h.taken a.one a.listed a.same a.note;
+          lines = lines_more first (take i cs) x.0 run.forks.items h.lines;
+          listed = all_listed digest first (take i cs) x.0 run.not_had.items h.listed;
+        })
 
   -- after the turns of all
   pub taken_all : (cs : List Candidate) (i : ℕ) (run : Run) → length cs ≤ i → HasTakenRun digest first (take i cs) run →

@@ -1,9 +1,8 @@
 -- A run of turns, turn by turn.
-use Rattle.std.proofs.Common.{◌≡◌, ◌≢◌, ◌⊎◌, inl, inr, ℕ, List, [], Option, Some, None, IfErr, IfSome, Result, Ok, Err, ap, refl, sym, subst, ◌∙◌}
+use Rattle.std.proofs.Common.{◌≡◌, ◌≢◌, ℕ, List, [], Option, IfSome, refl, sym, subst, ◌∙◌}
 use Rattle.std.proofs.lemmas.List.Elements.{All-nil}
 use Rattle.mirror_folders.specs.Shelf.{Put}
 use Rattle.mirror_follow.specs.Blame.{CountsFollowFault, IsOfTheRun}
-use Rattle.mirror_follow.specs.Ending.{IsPassedOver, PassesOver, fault_after}
 use Rattle.mirror_follow.specs.Shown.{ShowsEach, ShowsLine}
 use Rattle.mirror_follow.specs.Standing.{IsCopyOfRun, IsHeadOf, KnowsAfter, StandsAfter, size_of_copy}
 use Rattle.mirror_follow.specs.Turning.{ContinuesRun, IsRunFrom}
@@ -13,38 +12,33 @@ use Rattle.mirror_follow.specs.declared.fault.FollowFault.TheVariants.{Source, S
 use Rattle.mirror_follow.specs.declared.fault.FollowFault.TheVariants as fault
 use Rattle.mirror_follow.specs.declared.report.Run.{Run}
 use Rattle.mirror_follow.specs.declared.report.Turn.{Turn}
-use Rattle.mirror_follow.specs.declared.report.Turn.TheVariants as turn
-use Rattle.mirror_follow.proofs.Ending.{passed_after}
 use Rattle.mirror_follow.proofs.Standing.{head_after, known_after}
 
 module _ (digest : List ℕ → List ℕ) (origin : List ℕ) where
   -- the run before its first turn
   pub run_first : (x : Option (List Put)) (copy : Option Candidate) (run : Run) → run.copy ≡ copy →
-      IfSome copy (IsHeadOf origin) → run.had ≡ size_of_copy copy → run.first_fault ≡ None →
+      IfSome copy (IsHeadOf origin) → run.had ≡ size_of_copy copy →
       run.forks.items ≡ [] → IsRunFrom digest origin x x copy run
-  run_first x copy run is head had_is none empty = record {
+  run_first x copy run is head had_is empty = record {
     known = λ first k. subst (λ o. IsCopyOfRun digest origin first x o) (sym is) k;
     head = subst (λ o. IfSome o (IsHeadOf origin)) (sym is) head;
     had_is = had_is;
-    passed = subst (λ f. IfSome f IsPassedOver) (sym none) tt;
     shows = subst (λ l. ShowsEach digest l) (sym empty) (All-nil (ShowsLine digest));
   }
 
   -- a candidate that has no turn
   pub run_same : (x : Option (List Put)) (run : Run) → ContinuesRun digest origin x x run run
-  run_same x run = record { known = λ first k. k; head = λ h. h; had_is = refl; passed = λ h. h; shows = λ h. h }
+  run_same x run = record { known = λ first k. k; head = λ h. h; had_is = refl; shows = λ h. h }
 
   -- one turn of a candidate
   pub run_turned : (x y : Option (List Put)) (candidate : Candidate) (run next : Run) (t : Turn) →
       IsHeadOf origin candidate → StandsAfter digest origin candidate x y t →
       KnowsAfter candidate t run.copy next.copy → next.had ≡ run.had →
-      next.first_fault ≡ fault_after run.first_fault t → PassesOver t →
       (ShowsEach digest run.forks.items → ShowsEach digest next.forks.items) → ContinuesRun digest origin x y run next
-  run_turned x y candidate run next t head stands knows had_is fault passes shows = record {
+  run_turned x y candidate run next t head stands knows had_is shows = record {
     known = λ first k. known_after digest origin candidate first x y run.copy next.copy t head k stands knows;
     head = λ h. head_after origin candidate run.copy next.copy t head knows h;
     had_is = had_is;
-    passed = λ h. subst (λ f. IfSome f IsPassedOver) (sym fault) (passed_after run.first_fault t passes h);
     shows = shows;
   }
 
@@ -56,7 +50,6 @@ module _ (digest : List ℕ → List ℕ) (origin : List ℕ) where
     known = λ first k. n.known first (r.known first k);
     head = n.head r.head;
     had_is = n.had_is ∙ r.had_is;
-    passed = n.passed r.passed;
     shows = n.shows r.shows;
   }
 

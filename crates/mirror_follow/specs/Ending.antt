@@ -1,13 +1,21 @@
 -- Why following ends with a fault.
-use Rattle.std.specs.Prelude.{◌≡◌, ◌≢◌, ◌⊎◌, ℕ, List, Option, Some, None, Err, ⊤}
+use Rattle.std.specs.Prelude.{◌≡◌, ◌≢◌, ◌⊎◌, ℕ, List, [], ◌∷◌, Option, Some, None, Err, ⊤}
+use Rattle.std.specs.List.Sorted.{IsSorted}
 use Rattle.signed_note.specs.Keys.{Key}
 use Rattle.tlog_tiles.specs.declared.paths.Path.{Path}
+use Rattle.tlog_tiles.specs.declared.paths.Path.TheVariants.{Checkpoint}
+use Rattle.mirror_folders.specs.Shelf.{Put, TellsRead}
 use Rattle.mirror_copy.specs.declared.places.Places.{Places}
+use Rattle.mirror_copy.specs.declared.fault.BringFault.{BringFault}
+use Rattle.mirror_copy.specs.declared.fault.BringFault.TheVariants as bring
 use Rattle.mirror_model.specs.Refusals.{ReadsHead}
 use Rattle.mirror_model.specs.declared.fault.TakeFault.{TakeFault}
 use Rattle.mirror_model.specs.declared.fault.TakeFault.TheVariants as take
 use Rattle.mirror_follow.specs.Blame.{PlaceFails}
-use Rattle.mirror_follow.specs.GatheredFrom.{GiveNone}
+use Rattle.mirror_follow.specs.Candidates.{turn_cmp}
+use Rattle.mirror_follow.specs.GatheredFrom.{AreCandidates, GiveNone}
+use Rattle.mirror_follow.specs.Standing.{HoldsNoCopy}
+use Rattle.mirror_follow.specs.declared.candidate.Candidate.{Candidate}
 use Rattle.mirror_follow.specs.declared.fault.CandidateFault.TheVariants as candidate
 use Rattle.mirror_follow.specs.declared.fault.FollowFault.{FollowFault}
 use Rattle.mirror_follow.specs.declared.fault.FollowFault.TheVariants.{NoCheckpoint, Head, CopyDamaged, CopyInUse}
@@ -19,47 +27,56 @@ use Rattle.mirror_follow.specs.declared.report.Turn.TheVariants as turn
 
 -- ---- faults of turns
 
--- a fault by which a turn ends the run
-abbrev pub EndsRun : FollowFault → Type 0
-EndsRun NoCheckpoint = ⊥
-EndsRun (Head fault) = ⊥
-EndsRun CopyDamaged = ⊤
-EndsRun CopyInUse = ⊤
-EndsRun ShelfFault = ⊤
-EndsRun Contradiction = ⊥
-EndsRun Collision = ⊥
-EndsRun NoFile = ⊥
-EndsRun Source = ⊥
-EndsRun OutOfMemory = ⊤
+-- a fault by which a turn ends the run, and what it says: of a copy that is damaged, and of one that another run has changed
+abbrev pub EndsRun : Type 0 → Type 0 → FollowFault → Type 0
+EndsRun damaged in_use NoCheckpoint = ⊥
+EndsRun damaged in_use (Head fault) = ⊥
+EndsRun damaged in_use CopyDamaged = damaged
+EndsRun damaged in_use CopyInUse = in_use
+EndsRun damaged in_use ShelfFault = ⊤
+EndsRun damaged in_use Contradiction = ⊥
+EndsRun damaged in_use Collision = ⊥
+EndsRun damaged in_use NoFile = ⊥
+EndsRun damaged in_use Source = ⊥
+EndsRun damaged in_use OutOfMemory = ⊤
 
--- a fault for which a candidate was not had, and the run goes on
-abbrev pub IsPassedOver : FollowFault → Type 0
-IsPassedOver NoCheckpoint = ⊥
-IsPassedOver (Head fault) = ⊥
-IsPassedOver CopyDamaged = ⊥
-IsPassedOver CopyInUse = ⊥
-IsPassedOver ShelfFault = ⊥
-IsPassedOver Contradiction = ⊤
-IsPassedOver Collision = ⊤
-IsPassedOver NoFile = ⊤
-IsPassedOver Source = ⊤
-IsPassedOver OutOfMemory = ⊥
+-- a bringing ended since the copy is another than the one that was found
+abbrev pub IsOfOtherRun : BringFault → Type 0
+IsOfOtherRun bring.BadCheckpoint = ⊤
+IsOfOtherRun bring.CopyDamaged = ⊥
+IsOfOtherRun bring.NotLarger = ⊤
+IsOfOtherRun bring.Contradiction = ⊥
+IsOfOtherRun bring.Collision = ⊥
+IsOfOtherRun bring.NoFile = ⊥
+IsOfOtherRun bring.Source = ⊥
+IsOfOtherRun bring.CopyInUse = ⊤
+IsOfOtherRun bring.ShelfFault = ⊥
+IsOfOtherRun bring.OutOfMemory = ⊥
 
--- where a candidate was not had, it was for such a fault
-abbrev pub PassesOver : Turn → Type 0
-PassesOver turn.Agrees = ⊤
-PassesOver turn.Brought = ⊤
-PassesOver (turn.Forks proof) = ⊤
-PassesOver turn.Contradicts = ⊤
-PassesOver (turn.NotHad fault) = IsPassedOver fault
+-- the candidate is of no entries, and its root is not the hash of the empty list
+abbrev pub HasFalseRoot : (List ℕ → List ℕ) → Candidate → Type 0
+HasFalseRoot digest candidate = (candidate.size.0 ≡ 0) × (candidate.root ≢ digest [])
+
+-- a fault for which an empty copy was not brought to the candidate, and the run goes on
+abbrev pub IsFaultOf : (List ℕ → List ℕ) → Candidate → FollowFault → Type 0
+IsFaultOf digest candidate NoCheckpoint = ⊥
+IsFaultOf digest candidate (Head fault) = ⊥
+IsFaultOf digest candidate CopyDamaged = ⊥
+IsFaultOf digest candidate CopyInUse = ⊥
+IsFaultOf digest candidate ShelfFault = ⊥
+IsFaultOf digest candidate Contradiction = HasFalseRoot digest candidate
+IsFaultOf digest candidate Collision = ⊥
+IsFaultOf digest candidate NoFile = ⊤
+IsFaultOf digest candidate Source = ⊤
+IsFaultOf digest candidate OutOfMemory = ⊥
 
 -- what comes of the turn of a candidate where the copy is empty: it is brought to it, or the candidate was not had
-abbrev pub IsOfEmpty : Turn → Type 0
-IsOfEmpty turn.Agrees = ⊥
-IsOfEmpty turn.Brought = ⊤
-IsOfEmpty (turn.Forks proof) = ⊥
-IsOfEmpty turn.Contradicts = ⊤
-IsOfEmpty (turn.NotHad fault) = ⊤
+abbrev pub IsOfEmpty : (List ℕ → List ℕ) → Candidate → Turn → Type 0
+IsOfEmpty digest candidate turn.Agrees = ⊥
+IsOfEmpty digest candidate turn.Brought = ⊤
+IsOfEmpty digest candidate (turn.Forks proof) = ⊥
+IsOfEmpty digest candidate turn.Contradicts = HasFalseRoot digest candidate
+IsOfEmpty digest candidate (turn.NotHad fault) = IsFaultOf digest candidate fault
 
 -- the first fault, after one more
 abbrev pub or_fault : Option FollowFault → FollowFault → Option FollowFault
@@ -78,9 +95,15 @@ fault_after first (turn.NotHad fault) = or_fault first fault
 abbrev pub BlamesPlace : {S : Type 0} → Places S → Places S → Option FollowFault → Option FollowFault → Type 0
 BlamesPlace old new first last = last ≡ Some Source → (first ≡ Some Source) ⊎ PlaceFails old new
 
--- where the copy of a run is empty, a fault is kept
-abbrev pub KeepsFault : Run → Type 0
-KeepsFault run = run.copy ≡ None → run.first_fault ≢ None
+-- the fault is that of the first candidate; none where there is no candidate
+abbrev pub IsFirstFault : (List ℕ → List ℕ) → List Candidate → Option FollowFault → Type 0
+IsFirstFault digest [] fault = fault ≡ None
+IsFirstFault digest (candidate ∷ others) None = ⊥
+IsFirstFault digest (candidate ∷ others) (Some fault) = IsFaultOf digest candidate fault
+
+-- where the copy of a run is empty, the fault of the first of these candidates is kept
+abbrev pub KeepsFault : (List ℕ → List ℕ) → List Candidate → Run → Type 0
+KeepsFault digest done run = run.copy ≡ None → IsFirstFault digest done run.first_fault
 
 -- ---- faults of a whole call
 
@@ -101,19 +124,52 @@ RefusesGiven origin keys note NoFile = ⊥
 RefusesGiven origin keys note Source = ⊥
 RefusesGiven origin keys note OutOfMemory = ⊤
 
-module _ {S : Type 0} (may : S → Path → Option (List ℕ) → Type 0) (origin : List ℕ) (keys : List Key) (old new : Places S) where
+-- why the places give no candidate
+abbrev pub GivesNoneBy : {S : Type 0} → (S → Path → Option (List ℕ) → Type 0) → List ℕ → List Key → Places S →
+    Places S → FollowFault → Type 0
+GivesNoneBy may origin keys old new NoCheckpoint = GiveNone may origin keys old new candidate.NoCheckpoint
+GivesNoneBy may origin keys old new (Head fault) = GiveNone may origin keys old new (candidate.Head fault)
+GivesNoneBy may origin keys old new CopyDamaged = ⊥
+GivesNoneBy may origin keys old new CopyInUse = ⊥
+GivesNoneBy may origin keys old new ShelfFault = ⊥
+GivesNoneBy may origin keys old new Contradiction = ⊥
+GivesNoneBy may origin keys old new Collision = ⊥
+GivesNoneBy may origin keys old new NoFile = ⊥
+GivesNoneBy may origin keys old new Source = PlaceFails old new × GiveNone may origin keys old new candidate.Source
+GivesNoneBy may origin keys old new OutOfMemory = ⊤
+
+-- why there is no candidate, where that note was given, or none was
+abbrev pub LacksCandidates : {S : Type 0} → (S → Path → Option (List ℕ) → Type 0) → List ℕ → List Key →
+    Places S → Places S → Option (List ℕ) → FollowFault → Type 0
+LacksCandidates may origin keys old new None fault = GivesNoneBy may origin keys old new fault
+LacksCandidates may origin keys old new (Some note) fault = RefusesGiven origin keys note fault
+
+module _ (digest : List ℕ → List ℕ) {S : Type 0} (may : S → Path → Option (List ℕ) → Type 0) (origin : List ℕ)
+    (keys : List Key) (puts : Option (List Put)) (old new : Places S) where
+  -- there are candidates, and the first of them is so. The shelf had no checkpoint
+  pub record HadNone (given : Option (List ℕ)) (so : Candidate → Type 0) : Type 0 where
+    pub first : Candidate
+    pub others : List Candidate
+    pub gathered : AreCandidates may origin keys old new given (first ∷ others)
+    pub rising : IsSorted turn_cmp (first ∷ others)
+    pub is_so : so first
+    pub empty : TellsRead puts Checkpoint None
+
   -- what a fault says, where that note was given, or none was. NoCheckpoint and Head: the given note is no candidate, or
-  -- no place gives one, for the reason of the first. Source: a place failed
+  -- no place gives one, for the reason of the first. CopyInUse: the shelf recorded no copy. Contradiction, NoFile and
+  -- Source: the copy was empty, and this is the fault of the greatest candidate. Collision never comes
   abbrev pub EndsFor : Option (List ℕ) → FollowFault → Type 0
   EndsFor None NoCheckpoint = GiveNone may origin keys old new candidate.NoCheckpoint
   EndsFor None (Head fault) = GiveNone may origin keys old new (candidate.Head fault)
   EndsFor (Some note) NoCheckpoint = ⊥
   EndsFor (Some note) (Head fault) = IsRefused origin keys note fault
   EndsFor given CopyDamaged = ⊤
-  EndsFor given CopyInUse = ⊤
+  EndsFor given CopyInUse = HoldsNoCopy digest origin puts
   EndsFor given ShelfFault = ⊤
-  EndsFor given Contradiction = ⊤
-  EndsFor given Collision = ⊤
-  EndsFor given NoFile = ⊤
-  EndsFor given Source = PlaceFails old new
+  EndsFor given Contradiction = HadNone given (HasFalseRoot digest)
+  EndsFor given Collision = ⊥
+  EndsFor given NoFile = HadNone given (λ first. ⊤)
+  EndsFor None Source =
+      PlaceFails old new × (GiveNone may origin keys old new candidate.Source ⊎ HadNone None (λ first. ⊤))
+  EndsFor (Some note) Source = PlaceFails old new × HadNone (Some note) (λ first. ⊤)
   EndsFor given OutOfMemory = ⊤

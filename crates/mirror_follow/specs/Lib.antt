@@ -12,5 +12,7 @@ pub mod Renoting
 pub mod Turning
 pub mod Ending
 pub mod Agreeing
+pub mod Lines
 pub mod Says
+pub mod Adding
 pub mod Taken

@@ -13,7 +13,9 @@ use Rattle.mirror_copy.specs.Moments.{InTheEnd}
 use Rattle.mirror_follow.specs.Agreeing.{Agrees}
 use Rattle.mirror_follow.specs.Candidates.{turn_cmp}
 use Rattle.mirror_follow.specs.Gathering.{note_of}
+use Rattle.mirror_follow.specs.Lines.{AreLines}
 use Rattle.mirror_follow.specs.Shown.{point_of}
+use Rattle.mirror_follow.specs.Standing.{IsFoundCopy}
 use Rattle.mirror_follow.specs.declared.candidate.Candidate.{Candidate}
 use Rattle.mirror_follow.specs.declared.report.Followed.{Followed}
 use Rattle.mirror_follow.specs.declared.report.ForkLine.{ForkLine}
@@ -117,11 +119,14 @@ module _ (digest : List ℕ → List ℕ) where
       pub none : (held : List Put) → old ≡ Some held → ¬ HasPut held Checkpoint →
           InTheEnd new (HasLeastNote followed None [])
 
-  -- what an answer says of the candidates that were gathered so
+  -- what an answer says of the candidates that were gathered so, and of the copy that was found first
   pub record Says (origin : List ℕ) (so : List Candidate → Type 0) (old new : Option (List Put)) (followed : Followed)
       : Type 0 where
     pub candidates : List Candidate
     pub gathered : so candidates
     pub rising : IsSorted turn_cmp candidates
     pub settles : SettlesEach candidates followed
+    pub first : Option Candidate
+    pub found : IsFoundCopy origin old first
+    pub lines : AreLines first candidates followed.forks.items
     pub noted : HasLeastInTheEnd origin candidates old new followed

@@ -1,8 +1,8 @@
 -- The copy of a run: what stands on the shelf while candidates have their turn, and in the end.
-use Rattle.std.specs.Prelude.{◌≡◌, ℕ, List, [], ◌++◌, length, Option, Some, None}
+use Rattle.std.specs.Prelude.{◌≡◌, ℕ, ◌≤◌, List, [], ◌++◌, length, Option, Some, None}
 use Rattle.tlog_hash.specs.Tree.{mth}
 use Rattle.tlog_tiles.specs.declared.paths.Path.TheVariants.{Checkpoint}
-use Rattle.mirror_folders.specs.Shelf.{Put, HasPut}
+use Rattle.mirror_folders.specs.Shelf.{Put, HasPut, TellsRead}
 use Rattle.mirror_model.specs.Heads.{IsHead}
 use Rattle.mirror_copy.specs.Copies.{IsCopy}
 use Rattle.mirror_copy.specs.Moments.{CopyStays, HadSize, InTheEnd, IsBroughtTo}
@@ -21,6 +21,11 @@ abbrev pub size_of_copy : Option Candidate → ℕ
 size_of_copy None = 0
 size_of_copy (Some copy) = copy.size.0
 
+-- the shelf answers this for its checkpoint: that of the copy, and None where there is none
+abbrev pub IsFoundCopy : List ℕ → Option (List Put) → Option Candidate → Type 0
+IsFoundCopy origin puts None = TellsRead puts Checkpoint None
+IsFoundCopy origin puts (Some copy) = TellsRead puts Checkpoint (Some (note_of copy)) × IsHeadOf origin copy
+
 -- the copy has that note and that number of entries
 abbrev pub IsCopyRead : List ℕ → ℕ → Option Candidate → Type 0
 IsCopyRead note size None = ⊥
@@ -33,6 +38,29 @@ module _ (digest : List ℕ → List ℕ) (origin : List ℕ) where
     pub copy : IsCopy digest origin (note_of candidate) (entries ++ more) puts
     pub size_is : candidate.size.0 ≡ length (entries ++ more)
     pub root_is : candidate.root ≡ mth digest (entries ++ more)
+
+  -- the copy that the run knows stands
+  pub record IsStanding (copy : Candidate) (puts : Option (List Put)) : Type 0 where
+    pub held : List Put
+    pub puts_are : puts ≡ Some held
+    pub entries : List (List ℕ)
+    pub under : StandsUnder copy entries held
+
+  abbrev pub HasStanding : Option Candidate → Option (List Put) → Type 0
+  HasStanding None puts = ⊥
+  HasStanding (Some copy) puts = IsStanding copy puts
+
+  -- the shelf recorded no copy
+  abbrev pub HoldsNoCopy : Option (List Put) → Type 0
+  HoldsNoCopy puts =
+      (held : List Put) → puts ≡ Some held → (note : List ℕ) (entries : List (List ℕ)) →
+      ¬ IsCopy digest origin note entries held
+
+  -- nor one of fewer entries than n
+  abbrev pub HoldsNoSmaller : ℕ → Option (List Put) → Type 0
+  HoldsNoSmaller n puts =
+      (held : List Put) → puts ≡ Some held → (note : List ℕ) (entries : List (List ℕ)) →
+      IsCopy digest origin note entries held → n ≤ length entries
 
   -- a copy stands in the end as the run knows it
   abbrev pub StandsAs : Option Candidate → List (List ℕ) → Option (List Put) → Type 0

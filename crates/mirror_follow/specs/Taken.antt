@@ -1,11 +1,13 @@
 -- What is known of the candidates that had their turn.
 use Rattle.std.specs.Prelude.{◌≡◌, ◌≢◌, ◌⊎◌, ℕ, ◌-◌, ◌<◌, ◌≤◌, Bool, true, false, List, [], ◌∷◌, ◌++◌, All, Contains}
-use Rattle.std.specs.Prelude.{Option, None, Some, ⊤, slice_index_or, length}
+use Rattle.std.specs.Prelude.{IfSome, Option, None, Some, ⊤, slice_index_or}
 use Rattle.mirror_follow.specs.Agreeing.{Agrees}
 use Rattle.mirror_follow.specs.Gathering.{note_of}
-use Rattle.mirror_follow.specs.Says.{IsInLine, IsInSomeLine, IsNoteUpTo, IsOnePoint}
+use Rattle.mirror_follow.specs.Adding.{AddsFork}
+use Rattle.mirror_follow.specs.Lines.{AreLines, IsFirstOrListed, IsListed}
+use Rattle.mirror_follow.specs.Says.{IsInSomeLine, IsNoteUpTo, IsOnePoint}
 use Rattle.mirror_follow.specs.Shown.{point_of}
-use Rattle.mirror_follow.specs.Standing.{IsSame, KnowsAfter, size_of_copy}
+use Rattle.mirror_follow.specs.Standing.{IsSame, size_of_copy}
 use Rattle.mirror_follow.specs.declared.candidate.Candidate.{Candidate}
 use Rattle.mirror_follow.specs.declared.report.ForkLine.{ForkLine}
 use Rattle.mirror_follow.specs.declared.report.Run.{Run}
@@ -68,7 +70,7 @@ IsAdded candidate turn.Brought old new =
     (new.forks ≡ old.forks) × (new.not_had ≡ old.not_had) × (new.behind ≡ old.behind) × (new.is_reached ≡ true)
 IsAdded candidate (turn.Forks proof) old new =
     (old.copy ≢ None → KeepsLines old.forks.items new.forks.items × IsInSomeLine new.forks.items candidate)
-    × (new.not_had ≡ old.not_had) × (new.behind ≡ old.behind) × (new.is_reached ≡ old.is_reached)
+    × IfSome old.copy (λ copy. AddsFork copy candidate old.forks.items new.forks.items) × (new.not_had ≡ old.not_had) × (new.behind ≡ old.behind) × (new.is_reached ≡ old.is_reached)
 IsAdded candidate turn.Contradicts old new =
     (new.forks ≡ old.forks) × AddsLacked candidate old.not_had.items new.not_had.items × (new.behind ≡ old.behind)
     × (new.is_reached ≡ old.is_reached)
@@ -148,14 +150,9 @@ IsGrown (Some first) (Some copy) =
     × (first.size.0 ≡ copy.size.0 → IsNoteUpTo (note_of copy) (note_of first))
 
 -- the copy is the first one, or one of the candidates
-abbrev pub IsFirst : Option Candidate → Candidate → Type 0
-IsFirst None copy = ⊥
-IsFirst (Some first) copy = IsSame first copy
-
 abbrev pub IsOneOf : Option Candidate → List Candidate → Option Candidate → Type 0
 IsOneOf first done None = ⊤
-IsOneOf first done (Some copy) =
-    IsFirst first copy ⊎ ((candidate : Candidate) × Contains done candidate × IsSame candidate copy)
+IsOneOf first done (Some copy) = IsFirstOrListed first done copy
 
 -- what is known of the first candidate: it agreed, or it is reported, or a candidate has the copy's size
 abbrev pub KeepsFirst : List Candidate → List ForkLine → List Candidate → Option (ℕ × List ℕ) → Bool → Type 0
@@ -192,7 +189,8 @@ module _ (digest : List ℕ → List ℕ) where
     pub grown : IsGrown first copy
     pub one_of : IsOneOf first done copy
 
-  -- the same of a run
-  abbrev pub HasTakenRun : Option Candidate → List Candidate → Run → Type 0
-  HasTakenRun first done run =
-      HasTaken first done run.copy run.forks.items run.not_had.items run.behind run.is_reached
+  -- the same of a run, and of its lines. Each candidate that was not had is one of them
+  pub record HasTakenRun (first : Option Candidate) (done : List Candidate) (run : Run) : Type 0 where
+    pub taken : HasTaken first done run.copy run.forks.items run.not_had.items run.behind run.is_reached
+    pub lines : AreLines first done run.forks.items
+    pub listed : All (IsListed done) run.not_had.items

@@ -1,7 +1,6 @@
 -- A run of turns: what each turn keeps, and what they come to.
 use Rattle.std.specs.Prelude.{◌≡◌, ℕ, List, Option, IfSome}
 use Rattle.mirror_folders.specs.Shelf.{Put}
-use Rattle.mirror_follow.specs.Ending.{IsPassedOver}
 use Rattle.mirror_follow.specs.Shown.{ShowsEach}
 use Rattle.mirror_follow.specs.Standing.{IsCopyOfRun, IsHeadOf, size_of_copy}
 use Rattle.mirror_follow.specs.declared.candidate.Candidate.{Candidate}
@@ -14,7 +13,6 @@ module _ (digest : List ℕ → List ℕ) (origin : List ℕ) (old new : Option 
         IsCopyOfRun digest origin first new next.copy
     pub head : IfSome run.copy (IsHeadOf origin) → IfSome next.copy (IsHeadOf origin)
     pub had_is : next.had ≡ run.had
-    pub passed : IfSome run.first_fault IsPassedOver → IfSome next.first_fault IsPassedOver
     pub shows : ShowsEach digest run.forks.items → ShowsEach digest next.forks.items
 
   -- a run over that copy
@@ -23,5 +21,4 @@ module _ (digest : List ℕ → List ℕ) (origin : List ℕ) (old new : Option 
         IsCopyOfRun digest origin first new run.copy
     pub head : IfSome run.copy (IsHeadOf origin)
     pub had_is : run.had ≡ size_of_copy copy
-    pub passed : IfSome run.first_fault IsPassedOver
     pub shows : ShowsEach digest run.forks.items

@@ -47,7 +47,7 @@ pub enum FollowFault {
     /// The greatest candidate is of no entries, and its root is not the hash of the empty list.
     #[error("Contradiction")]
     Contradiction,
-    /// A bundle of the greatest candidate collides with that of the copy.
+    /// A bundle of a candidate collides with that of the copy. `follow` passes over such a candidate, and never answers this.
     #[error("Collision")]
     Collision,
     /// No place gave a file of the greatest candidate.

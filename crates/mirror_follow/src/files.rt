@@ -1,5 +1,5 @@
 //! Files of a log, read into memory for a proof.
-ghost use Rattle.std.specs.Prelude.{◌<◌, IfErr, length};
+ghost use Rattle.std.specs.Prelude.{◌<◌, IfErr, length, ⊤};
 ghost use Rattle.mirror_sources.specs.Told.{KeepsTold};
 ghost use Rattle.mirror_follow.specs.Blame.{AsksAny, CountsFollow};
 ghost use Rattle.mirror_follow.specs.Ending.{EndsRun};
@@ -99,14 +99,14 @@ pub(crate) fn proof_paths(alloc: Global, first: u64, size: u64) -> Result<Vec<Pa
 }
 
 // Reads the file at a path from the shelf, or the full one that it gave way to.
-#[tactic(auto, using(crate::proofs::Kept::kept_twice))]
+#[tactic(auto, using(log_reader::proofs::Kept::kept_twice))]
 fn read_file<D: ReadableShelf>(
     shelf: &mut D,
     path: &Path,
 ) -> Result<Option<(Path, Vec<u8>)>, FollowFault>
     ensures same { KeepsTold (D.puts shelf.old) (D.puts shelf.new) }
     ensures counted { CountsFollow (D.failed shelf.old) (D.failed shelf.new) result }
-    ensures ends { IfErr result EndsRun }
+    ensures ends { IfErr result (EndsRun ⊤ ⊥) }
 {
     match shelf.read(path)? {
         Some(bytes) => return Ok(Some((*path, bytes))),
@@ -120,7 +120,7 @@ fn read_file<D: ReadableShelf>(
 }
 
 /// Reads those of the files that the shelf has.
-#[tactic(auto, using(crate::proofs::Kept::kept_twice, crate::proofs::Kept::kept_once))]
+#[tactic(auto, using(log_reader::proofs::Kept::kept_twice, log_reader::proofs::Kept::kept_once))]
 pub(crate) fn read_files<D: ReadableShelf>(
     alloc: Global,
     shelf: &mut D,
@@ -128,7 +128,7 @@ pub(crate) fn read_files<D: ReadableShelf>(
 ) -> Result<ReadFiles, FollowFault>
     ensures same { KeepsTold (D.puts shelf.old) (D.puts shelf.new) }
     ensures counted { CountsFollow (D.failed shelf.old) (D.failed shelf.new) result }
-    ensures ends { IfErr result EndsRun }
+    ensures ends { IfErr result (EndsRun ⊤ ⊥) }
 {
     let mut read = ReadFiles::new(alloc);
     for path in paths {

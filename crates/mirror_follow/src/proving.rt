@@ -1,16 +1,15 @@
 //! Proofs of forks.
-ghost use Rattle.std.specs.Prelude.{◌≡◌, ◌↔◌, ◌<◌, IfErr, IfOk, IfSome, IsTrue, None, Some};
+ghost use Rattle.std.specs.Prelude.{◌≡◌, ◌↔◌, ◌<◌, IfErr, IfOk, IfSome, IsTrue, None, Some, ⊤};
 ghost use Rattle.std.specs.List.{AllByRecursion};
 ghost use Rattle.tlog_text.specs.Hash.{Is32Bytes};
 ghost use Rattle.tlog_proof.specs.Text.{HasHashes};
 ghost use Rattle.mirror_sources.specs.Told.{KeepsTold};
-ghost use Rattle.mirror_copy.specs.Moments.{HadSize};
 ghost use Rattle.mirror_follow.specs.Agreeing.{Agrees};
 ghost use Rattle.mirror_follow.specs.Blame.{AsksAny, CountsFollow, IsOfTheRun};
 ghost use Rattle.mirror_follow.specs.Checked.{HasFirstRoot, IsCheckedFork};
 ghost use Rattle.mirror_follow.specs.Ending.{EndsRun};
 ghost use Rattle.mirror_follow.specs.Shown.{ShowsLarger, point_of};
-ghost use Rattle.mirror_follow.specs.Standing.{HadCopy, IsCopyOfRun, IsHeadOf, size_of_copy};
+ghost use Rattle.mirror_follow.specs.Standing.{IsFoundCopy, IsHeadOf};
 
 use crate::candidate::Candidate;
 use crate::fault::FollowFault;
@@ -159,7 +158,7 @@ pub(crate) fn ask_proof<H: TreeHash, S: Source + Drop>(
 // The fault that a read of the shelf's files ends by.
 fn of_copy(fault: ReadFault) -> FollowFault
     ensures run { IsOfTheRun result }
-    ensures ends { EndsRun result }
+    ensures ends { EndsRun ⊤ ⊥ result }
 {
     match fault {
         ReadFault::OutOfMemory => FollowFault::OutOfMemory,
@@ -176,7 +175,7 @@ pub(crate) fn read_proof<H: TreeHash, D: ReadableShelf>(
 ) -> Result<Option<Proof>, FollowFault>
     ensures same { KeepsTold (D.puts shelf.old) (D.puts shelf.new) }
     ensures counted { CountsFollow (D.failed shelf.old) (D.failed shelf.new) result }
-    ensures ends { IfErr result EndsRun }
+    ensures ends { IfErr result (EndsRun ⊤ ⊥) }
     ensures proof { IfOk result (λ found. IfSome found
         (λ proof. ShowsLarger H.digest smaller.now copy.now (Some proof))) }
     ensures agrees { IfOk result (λ found. found ≡ None → 0 < smaller.now.size.0
@@ -220,7 +219,7 @@ fn edge_files(alloc: Global, size: u64) -> Result<Vec<Path>, AllocError> {
 }
 
 // Whether the edge of a copy of that size and root is on the shelf.
-#[tactic(auto, using(crate::proofs::Kept::kept_twice))]
+#[tactic(auto, using(log_reader::proofs::Kept::kept_twice))]
 fn judge_files<H: TreeHash, D: ReadableShelf>(
     alloc: Global,
     shelf: &mut D,
@@ -229,7 +228,7 @@ fn judge_files<H: TreeHash, D: ReadableShelf>(
 ) -> Result<(), FollowFault>
     ensures same { KeepsTold (D.puts shelf.old) (D.puts shelf.new) }
     ensures counted { CountsFollow (D.failed shelf.old) (D.failed shelf.new) result }
-    ensures ends { IfErr result EndsRun }
+    ensures ends { IfErr result (EndsRun ⊤ ⊥) }
 {
     let paths = edge_files(alloc, size)?;
     let mut files = read_files::<D>(alloc, shelf, &paths)?;
@@ -241,7 +240,7 @@ fn judge_files<H: TreeHash, D: ReadableShelf>(
 
 /// The checkpoint of the copy on the shelf, if any. Its edge rows lead to its root, and the partial bundle at the edge has
 /// the leaf hashes of the lowest row. No signature is looked at.
-#[tactic(auto, using(crate::proofs::Kept::kept_twice))]
+#[tactic(auto, using(log_reader::proofs::Kept::kept_twice))]
 pub(crate) fn judge_copy<H: TreeHash, D: ReadableShelf>(
     alloc: Global,
     origin: &str,
@@ -249,13 +248,9 @@ pub(crate) fn judge_copy<H: TreeHash, D: ReadableShelf>(
 ) -> Result<Option<Candidate>, FollowFault>
     ensures same { KeepsTold (D.puts shelf.old) (D.puts shelf.new) }
     ensures counted { CountsFollow (D.failed shelf.old) (D.failed shelf.new) result }
-    ensures ends { IfErr result EndsRun }
+    ensures ends { IfErr result (EndsRun ⊤ ⊥) }
     ensures head { IfOk result (λ copy. IfSome copy (IsHeadOf origin.now)) }
-    ensures copy { IfOk result (IsCopyOfRun H.digest origin.now (D.puts shelf.old)
-        (D.puts shelf.new)) }
-    ensures read { IfOk result (HadCopy H.digest origin.now (D.puts shelf.old)) }
-    ensures had { IfOk result
-        (λ copy. HadSize H.digest origin.now (D.puts shelf.old) (size_of_copy copy)) }
+    ensures found { IfOk result (IsFoundCopy origin.now (D.puts shelf.old)) }
 {
     let Some(note) = shelf.read(&Path::Checkpoint)? else {
         return Ok(None);

@@ -1,8 +1,13 @@
 //! What a run of turns comes to: the forks that were seen, and what could not be had.
-ghost use Rattle.std.specs.Prelude.{◌≡◌, ◌≢◌, ◌⊎◌, ◌↔◌, ◌∷◌, ◌++◌, ◌≤◌, [], ℕ, IfErr, IfOk, IfSome, IsFalse, IsTrue, List, None, OnOk, Option, Some, false, if◌then◌else◌, length, true};
+ghost use Rattle.std.specs.Prelude.{◌≡◌, ◌≢◌, ◌⊎◌, ◌↔◌, ◌∷◌, ◌++◌, ◌≤◌, [], ℕ, All, Contains, IfErr, IfNone, IfOk, IfSome, IsFalse, IsTrue, List, None, OnOk, Option, Some, false, if◌then◌else◌, true};
+ghost use Rattle.std.specs.declared.cmp.Ordering.TheVariants.{Less};
+ghost use Rattle.mirror_model.specs.Forks.{point_cmp};
+ghost use Rattle.mirror_follow.specs.Adding.{AddsFork, AddsLine, AddsLinesOf, AddsOther, IsForkLine, IsPlaceOf};
+ghost use Rattle.mirror_follow.specs.Asking.{option_or};
 ghost use Rattle.mirror_follow.specs.Ending.{fault_after, or_fault};
+ghost use Rattle.mirror_follow.specs.Lines.{AreLines, IsFirstOrListed, IsListed, fork_line_cmp};
 ghost use Rattle.mirror_follow.specs.Says.{IsInLine, IsInSomeLine, IsOnePoint, SettlesEach};
-ghost use Rattle.mirror_follow.specs.Shown.{AreFork, IsLine, ShowsEach, ShowsLine, ShowsTurn};
+ghost use Rattle.mirror_follow.specs.Shown.{AreFork, IsLine, ShowsEach, ShowsLine, ShowsTurn, point_of};
 ghost use Rattle.mirror_follow.specs.Standing.{IsSame, KnowsAfter, size_of_copy};
 ghost use Rattle.mirror_follow.specs.Taken.{AddsLacked, HasLineOf, HasTakenRun, IsAdded, IsBehindTest, KeepsLines, MarksReached, SplitsLacked, or_agreed};
 ghost use Rattle.mirror_follow.specs.declared.candidate.Candidate.{Candidate};
@@ -10,7 +15,7 @@ ghost use Rattle.mirror_follow.specs.declared.candidate.Candidate.{Candidate};
 use crate::candidate::Candidate;
 use crate::fault::FollowFault;
 use std::alloc::{AllocError, Global};
-use std::cmp::Reverse;
+use std::cmp::{Ordering, Reverse};
 use tlog_hash::Hash;
 use tlog_proof::Proof;
 
@@ -81,12 +86,24 @@ fn copy_of(alloc: Global, candidate: &Candidate) -> Result<Candidate, AllocError
     })
 }
 
+// The order of checkpoints: by size, and then by root.
+fn cmp_points(first: &Candidate, second: &Candidate) -> Ordering
+    ensures { result ≡ point_cmp (point_of first.now) (point_of second.now) }
+{
+    first
+        .size
+        .0
+        .cmp(&second.size.0)
+        .then(first.root.cmp(&second.root))
+}
+
 // Whether the first point comes before the second: by size, and then by root.
 fn is_before(first: &Candidate, second: &Candidate) -> bool
     ensures before { IsTrue result → first.now.size.0 ≤ second.now.size.0 }
     ensures after { IsFalse result → second.now.size.0 ≤ first.now.size.0 }
+    ensures less { IsTrue result ↔ (point_cmp (point_of first.now) (point_of second.now) ≡ Less) }
 {
-    first.size.0 < second.size.0 || (first.size.0 == second.size.0 && first.root < second.root)
+    cmp_points(first, second) == Ordering::Less
 }
 
 /// Whether two candidates have one size and root.
@@ -124,6 +141,7 @@ fn fork_of(
     ensures shows { IfOk result (λ line. (digest : List ℕ → List ℕ)
         → AreFork digest first.now second.now proof → ShowsLine digest line) }
     ensures both { IfOk result (λ line. IsInLine first.now line × IsInLine second.now line) }
+    ensures has { IfOk result (IsForkLine first.now second.now) }
 {
     if is_before(first, second) {
         return line_of(alloc, first, second, proof);
@@ -131,42 +149,26 @@ fn fork_of(
     line_of(alloc, second, first, proof)
 }
 
-// Whether the first line comes before the second.
-fn is_line_before(first: &ForkLine, second: &ForkLine) -> bool {
-    is_before(&first.small, &second.small)
-        || (is_same_point(&first.small, &second.small) && is_before(&first.large, &second.large))
+// The order of lines: by the smaller checkpoint, and then by the larger one.
+fn cmp_lines(first: &ForkLine, second: &ForkLine) -> Ordering
+    ensures { result ≡ fork_line_cmp first.now second.now }
+{
+    cmp_points(&first.small, &second.small).then(cmp_points(&first.large, &second.large))
 }
 
-// Where the line belongs among lines that rise.
-fn place_in(lines: &[ForkLine], line: &ForkLine) -> usize
-    ensures { result ≤ length lines.now }
+// Where the line belongs among lines that rise; None if one of the same two points is there.
+fn place_in(lines: &[ForkLine], line: &ForkLine) -> Option<usize>
+    ensures place { IfSome result (IsPlaceOf line.now lines.now) }
+    ensures there { IfNone result (HasLineOf lines.now line.now) }
 {
     for i in 0..lines.len() {
-        if is_line_before(line, &lines[i]) {
-            return i;
+        match cmp_lines(line, &lines[i]) {
+            Ordering::Less => return Some(i),
+            Ordering::Equal => return None,
+            Ordering::Greater => {}
         }
     }
-    lines.len()
-}
-
-// Whether two lines have the same two points.
-fn is_same_line(first: &ForkLine, second: &ForkLine) -> bool
-    ensures { IsTrue result → IsOnePoint first.now.small second.now.small
-        × IsOnePoint first.now.large second.now.large }
-{
-    is_same_point(&first.small, &second.small) && is_same_point(&first.large, &second.large)
-}
-
-// Whether a line of the same two points is among them.
-fn has_line(lines: &[ForkLine], line: &ForkLine) -> bool
-    ensures { IsTrue result → HasLineOf lines.now line.now }
-{
-    for there in lines {
-        if is_same_line(line, there) {
-            return true;
-        }
-    }
-    false
+    Some(lines.len())
 }
 
 // Adds a line where it belongs, if it is not there yet.
@@ -175,19 +177,20 @@ fn add_line(lines: &mut Vec<ForkLine>, line: ForkLine) -> Result<(), AllocError>
         → ShowsLine digest line → ShowsEach digest lines.new.items) }
     ensures kept { OnOk result (KeepsLines lines.old.items lines.new.items) }
     ensures has { OnOk result (HasLineOf lines.new.items line) }
+    ensures adds { OnOk result (AddsLine line lines.old.items lines.new.items) }
 {
-    if has_line(lines.as_slice(), &line) {
-        return Ok(());
+    match place_in(lines.as_slice(), &line) {
+        Some(at) => lines.insert(at, line)?,
+        None => drop(line),
     }
-    let at = place_in(lines.as_slice(), &line);
-    lines.insert(at, line)?;
     Ok(())
 }
 
 // A candidate of the same size and another root.
 fn other_of<'a>(candidates: &'a [Candidate], candidate: &Candidate) -> Option<&'a Candidate>
-    ensures { IfSome result (λ other. (other.now.size.0 ≡ candidate.now.size.0)
+    ensures other { IfSome result (λ other. (other.now.size.0 ≡ candidate.now.size.0)
         × (other.now.root ≢ candidate.now.root)) }
+    ensures listed { IfSome result (λ other. Contains candidates.now other.now) }
 {
     for other in candidates {
         if other.size.0 == candidate.size.0 && other.root != candidate.root {
@@ -286,6 +289,8 @@ impl Run {
         ensures lines { OnOk result (self.old.copy ≢ None
             → KeepsLines self.old.forks.items self.new.forks.items
             × IsInSomeLine self.new.forks.items candidate.now) }
+        ensures adds { OnOk result (IfSome self.old.copy (λ copy. AddsFork copy candidate.now
+            self.old.forks.items self.new.forks.items)) }
         ensures not_had { self.new.not_had ≡ self.old.not_had }
         ensures behind { self.new.behind ≡ self.old.behind }
         ensures reached { self.new.is_reached ≡ self.old.is_reached }
@@ -342,6 +347,7 @@ fn add_equal(
         → ShowsEach digest forks.new.items) }
     ensures kept { OnOk result (KeepsLines forks.old.items forks.new.items) }
     ensures has { OnOk result (IsInSomeLine forks.new.items second.now) }
+    ensures adds { OnOk result (AddsOther first.now second.now forks.old.items forks.new.items) }
 {
     let line = fork_of(alloc, first, second, None)?;
     add_line(forks, line)
@@ -362,6 +368,8 @@ fn is_larger(
         → IsInSomeLine forks.new.items candidate.now) }
     ensures larger { IfOk result (λ larger. larger ≡ true
         → copy.now.size.0 ≡ candidate.now.size.0 → copy.now.root ≡ candidate.now.root) }
+    ensures lines { OnOk result (AddsLinesOf copy.now candidates.now candidate.now
+        forks.old.items forks.new.items) }
 {
     if copy.size.0 == candidate.size.0 && copy.root != candidate.root {
         add_equal(alloc, copy, candidate, forks)?;
@@ -391,6 +399,8 @@ fn split_one(
         → SplitsLacked copy.now lines done forks.old.items larger.old.items
         → SplitsLacked copy.now lines (done ++ candidate.now ∷ []) forks.new.items
         larger.new.items) }
+    ensures lines { OnOk result (AddsLinesOf copy.now candidates.now candidate.now
+        forks.old.items forks.new.items) }
 {
     let is_left = is_larger(alloc, copy, candidates, candidate, forks)?;
     if is_left {
@@ -413,6 +423,10 @@ fn split_not_had(
         → ShowsEach digest forks.new.items) }
     ensures split { IfOk result (λ larger. SplitsLacked copy.now forks.old.items not_had.now
         forks.new.items larger.items) }
+    ensures lines { OnOk result ((first : Option Candidate)
+        → IsFirstOrListed first candidates.now copy.now → All (IsListed candidates.now) not_had.now
+        → AreLines first candidates.now forks.old.items
+        → AreLines first candidates.now forks.new.items) }
 {
     let mut larger = Vec::new(alloc);
     for candidate in not_had {
@@ -448,8 +462,11 @@ pub(crate) fn report(
         → ShowsEach digest run.forks.items → ShowsEach digest f.forks.items) }
     ensures settles { IfOk result (λ f. (digest : List ℕ → List ℕ) (first : Option Candidate)
         → HasTakenRun digest first candidates.now run → SettlesEach digest candidates.now f) }
-    ensures fault { IfErr result (λ e. ((run.copy ≡ None) × (run.first_fault ≡ None))
-        ⊎ ((e ≡ FollowFault.OutOfMemory) ⊎ (run.first_fault ≡ Some e))) }
+    ensures lines { IfOk result (λ f. (digest : List ℕ → List ℕ) (first : Option Candidate)
+        → HasTakenRun digest first candidates.now run
+        → AreLines first candidates.now f.forks.items) }
+    ensures fault { IfErr result (λ e. (e ≡ FollowFault.OutOfMemory) ⊎ ((run.copy ≡ None)
+        × (e ≡ option_or run.first_fault FollowFault.NoCheckpoint))) }
 {
     let Run {
         copy,

@@ -1,20 +1,20 @@
 //! A copy that follows its places.
-ghost use Rattle.std.specs.Prelude.{◌≡◌, ◌≢◌, ◌⊎◌, ◌↔◌, ◌∷◌, ◌+◌, ◌++◌, ◌<◌, ◌≤◌, [], ℕ, All, IfErr, IfOk, IfSome, IsFalse, IsTrue, List, None, OnOk, Option, Some, length, map, option_map, take};
+ghost use Rattle.std.specs.Prelude.{◌≡◌, ◌≢◌, ◌⊎◌, ◌↔◌, ◌∷◌, ◌+◌, ◌++◌, ◌<◌, ◌≤◌, [], ℕ, All, IfErr, IfOk, IfSome, IsFalse, IsTrue, List, None, OnOk, Option, Some, length, map, option_map, take, ⊤};
 ghost use Rattle.std.specs.List.Sorted.{IsSorted};
 ghost use Rattle.mirror_sources.specs.Told.{KeepsTold};
 ghost use Rattle.mirror_folders.specs.Shelf.{Put};
-ghost use Rattle.mirror_copy.specs.Faults.{CountsFault};
+ghost use Rattle.mirror_copy.specs.Faults.{CountsFault, IsOtherFound};
 ghost use Rattle.mirror_copy.specs.Moments.{CopyStays, KeepsCopy};
 ghost use Rattle.mirror_follow.specs.Blame.{AsksAny, CountsFollow, IsGivenOrMayGive, PlaceFails};
 ghost use Rattle.mirror_follow.specs.Candidates.{IsCandidate, turn_cmp};
-ghost use Rattle.mirror_follow.specs.Ending.{BlamesPlace, EndsFor, EndsRun, IsOfEmpty, KeepsFault, PassesOver, RefusesGiven};
+ghost use Rattle.mirror_follow.specs.Ending.{BlamesPlace, EndsFor, EndsRun, HasFalseRoot, IsOfEmpty, IsOfOtherRun, KeepsFault, LacksCandidates, RefusesGiven};
 ghost use Rattle.mirror_follow.specs.Gathering.{note_of};
 ghost use Rattle.mirror_follow.specs.GatheredFrom.{AreCandidates, IsOnly};
 ghost use Rattle.mirror_follow.specs.Runs.{FollowsCandidates, KeepsCopies};
 ghost use Rattle.mirror_follow.specs.Says.{IsNoteUpTo, IsOnePoint, Says};
 ghost use Rattle.mirror_follow.specs.Shown.{ShowsLine, ShowsTurn};
 ghost use Rattle.mirror_follow.specs.Renoting.{PutsNoteOver};
-ghost use Rattle.mirror_follow.specs.Standing.{IsFollowed, IsHeadOf, StandsAfter};
+ghost use Rattle.mirror_follow.specs.Standing.{HasStanding, HoldsNoCopy, HoldsNoSmaller, IsCopyOfRun, IsFollowed, IsHeadOf, StandsAfter};
 ghost use Rattle.mirror_follow.specs.Taken.{HasTakenRun, IsLargerThan, IsNextOf, IsNoted, IsRepeat, SaysTurn};
 ghost use Rattle.mirror_follow.specs.Turning.{ContinuesRun, IsRunFrom};
 ghost use Rattle.mirror_follow.specs.declared.candidate.Candidate.{Candidate};
@@ -41,9 +41,7 @@ fn turn_of(fault: BringFault) -> Result<Turn, FollowFault>
     ensures counted { (old new : ℕ) → CountsFault old new fault → CountsFollow old new result }
     ensures source { IfOk result (λ turn. turn ≡ Turn.NotHad FollowFault.Source
         → fault ≡ BringFault.Source) }
-    ensures passes { IfOk result PassesOver }
-    ensures ends { IfErr result EndsRun }
-    ensures empty { IfOk result IsOfEmpty }
+    ensures ends { IfErr result (EndsRun ⊤ (IsOfOtherRun fault)) }
     ensures shows { IfOk result (λ turn. (digest : List ℕ → List ℕ) (copy : Option Candidate)
         (candidate : Candidate) → ShowsTurn digest copy candidate turn) }
     ensures says { IfOk result (λ turn. (digest : List ℕ → List ℕ) (copy : Option Candidate)
@@ -73,6 +71,7 @@ fn bring<H: TreeHash, D: ReadableShelf, S: Source + Drop>(
     places: &mut Places<S>,
     candidate: &Candidate,
 ) -> Result<Turn, FollowFault>
+    requires { IsHeadOf origin.now candidate.now }
     ensures keeps { KeepsCopy H.digest origin.now (note_of candidate.now) (D.puts shelf.old)
         (D.puts shelf.new) }
     ensures counted { CountsFollow (D.failed shelf.old) (D.failed shelf.new) result }
@@ -81,9 +80,8 @@ fn bring<H: TreeHash, D: ReadableShelf, S: Source + Drop>(
     ensures asks { AsksAny S.may_answer S.failed S.asked places.old places.new }
     ensures source { IfOk result (λ turn. turn ≡ Turn.NotHad FollowFault.Source
         → PlaceFails places.old places.new) }
-    ensures passes { IfOk result PassesOver }
-    ensures ends { IfErr result EndsRun }
-    ensures empty { IfOk result IsOfEmpty }
+    ensures ends { IfErr result (EndsRun ⊤ (HoldsNoSmaller H.digest origin.now
+        candidate.now.size.0 (D.puts shelf.old))) }
     ensures shows { IfOk result (λ turn. (digest : List ℕ → List ℕ) (copy : Option Candidate)
         (candidate : Candidate) → ShowsTurn digest copy candidate turn) }
     ensures says { IfOk result (λ turn. (digest : List ℕ → List ℕ) (copy : Option Candidate)
@@ -100,38 +98,35 @@ fn bring<H: TreeHash, D: ReadableShelf, S: Source + Drop>(
 fn contradict<H: TreeHash, S: Source + Drop>(
     alloc: Global,
     places: &mut Places<S>,
-    run: &Run,
+    copy: &Candidate,
     candidate: &Candidate,
 ) -> Result<Turn, AllocError>
+    requires { copy.now.size.0 < candidate.now.size.0 }
     ensures after { IfOk result (λ turn. (digest : List ℕ → List ℕ) (origin : List ℕ)
         (old new : Option (List Put)) → CopyStays digest origin old new
         → StandsAfter digest origin candidate.now old new turn) }
     ensures asks { AsksAny S.may_answer S.failed S.asked places.old places.new }
     ensures source { IfOk result (λ turn. turn ≢ Turn.NotHad FollowFault.Source) }
-    ensures passes { IfOk result PassesOver }
-    ensures empty { run.now.copy ≡ None → IfOk result IsOfEmpty }
-    ensures shows { IfOk result (ShowsTurn H.digest run.now.copy candidate.now) }
-    ensures says { IfOk result (λ turn. IsLargerThan run.now.copy candidate.now
-        → SaysTurn H.digest run.now.copy candidate.now turn) }
+    ensures shows { IfOk result (ShowsTurn H.digest (Some copy.now) candidate.now) }
+    ensures says { IfOk result (SaysTurn H.digest (Some copy.now) candidate.now) }
 {
-    let Some(copy) = &run.copy else {
-        return Ok(Turn::Contradicts);
-    };
     match ask_proof::<H, S>(alloc, places, copy, candidate)? {
         Some(proof) => Ok(Turn::Forks(Some(proof))),
         None => Ok(Turn::Contradicts),
     }
 }
 
-// The turn of a larger candidate, or of any where the copy is empty.
+// The turn of a candidate that is larger than the copy.
 fn take_larger<H: TreeHash, D: ReadableShelf, S: Source + Drop>(
     alloc: Global,
     origin: &str,
     shelf: &mut D,
     places: &mut Places<S>,
-    run: &Run,
+    copy: &Candidate,
     candidate: &Candidate,
 ) -> Result<Turn, FollowFault>
+    requires head { IsHeadOf origin.now candidate.now }
+    requires larger { copy.now.size.0 < candidate.now.size.0 }
     ensures keeps { KeepsCopy H.digest origin.now (note_of candidate.now) (D.puts shelf.old)
         (D.puts shelf.new) }
     ensures counted { CountsFollow (D.failed shelf.old) (D.failed shelf.new) result }
@@ -140,18 +135,67 @@ fn take_larger<H: TreeHash, D: ReadableShelf, S: Source + Drop>(
     ensures asks { AsksAny S.may_answer S.failed S.asked places.old places.new }
     ensures source { IfOk result (λ turn. turn ≡ Turn.NotHad FollowFault.Source
         → PlaceFails places.old places.new) }
-    ensures passes { IfOk result PassesOver }
-    ensures ends { IfErr result EndsRun }
-    ensures empty { run.now.copy ≡ None → IfOk result IsOfEmpty }
-    ensures shows { IfOk result (ShowsTurn H.digest run.now.copy candidate.now) }
-    ensures says { IfOk result (λ turn. IsLargerThan run.now.copy candidate.now
-        → SaysTurn H.digest run.now.copy candidate.now turn) }
+    ensures ends { IfErr result (EndsRun ⊤ (¬ HasStanding H.digest origin.now (Some copy.now)
+        (D.puts shelf.old))) }
+    ensures shows { IfOk result (ShowsTurn H.digest (Some copy.now) candidate.now) }
+    ensures says { IfOk result (SaysTurn H.digest (Some copy.now) candidate.now) }
 {
     let turn = bring::<H, D, S>(alloc, origin, shelf, places, candidate)?;
     match turn {
-        Turn::Contradicts => Ok(contradict::<H, S>(alloc, places, run, candidate)?),
+        Turn::Contradicts => Ok(contradict::<H, S>(alloc, places, copy, candidate)?),
         turn => Ok(turn),
     }
+}
+
+// Whether a candidate is of no entries, and its root is not the hash of the empty list.
+fn has_false_root<H: TreeHash>(candidate: &Candidate) -> bool
+    ensures { IsTrue result ↔ HasFalseRoot H.digest candidate.now }
+{
+    candidate.size.0 == 0 && candidate.root != H::empty()
+}
+
+// What comes of bringing an empty copy to a candidate. Rows and bundles contradict no empty copy: if some did, another run has put a
+// checkpoint.
+fn over_none(turn: Turn) -> Result<Turn, FollowFault>
+    ensures same { IfOk result (λ now. now ≡ turn) }
+    ensures empty { IfOk result (λ now. (digest : List ℕ → List ℕ) (candidate : Candidate)
+        → IsOfEmpty digest candidate now) }
+    ensures ends { IfErr result (λ e. e ≡ FollowFault.CopyInUse) }
+{
+    match turn {
+        Turn::Brought => Ok(Turn::Brought),
+        Turn::NotHad(FollowFault::NoFile) => Ok(Turn::NotHad(FollowFault::NoFile)),
+        Turn::NotHad(FollowFault::Source) => Ok(Turn::NotHad(FollowFault::Source)),
+        _ => Err(FollowFault::CopyInUse),
+    }
+}
+
+// The turn of a candidate where the copy is empty.
+fn take_first<H: TreeHash, D: ReadableShelf, S: Source + Drop>(
+    alloc: Global,
+    origin: &str,
+    shelf: &mut D,
+    places: &mut Places<S>,
+    candidate: &Candidate,
+) -> Result<Turn, FollowFault>
+    requires { IsHeadOf origin.now candidate.now }
+    ensures keeps { KeepsCopy H.digest origin.now (note_of candidate.now) (D.puts shelf.old)
+        (D.puts shelf.new) }
+    ensures counted { CountsFollow (D.failed shelf.old) (D.failed shelf.new) result }
+    ensures after { IfOk result (λ turn. StandsAfter H.digest origin.now candidate.now
+        (D.puts shelf.old) (D.puts shelf.new) turn) }
+    ensures asks { AsksAny S.may_answer S.failed S.asked places.old places.new }
+    ensures source { IfOk result (λ turn. turn ≡ Turn.NotHad FollowFault.Source
+        → PlaceFails places.old places.new) }
+    ensures ends { IfErr result (EndsRun ⊤ (¬ HasStanding H.digest origin.now None
+        (D.puts shelf.old))) }
+    ensures empty { IfOk result (IsOfEmpty H.digest candidate.now) }
+{
+    if has_false_root::<H>(candidate) {
+        return Ok(Turn::Contradicts);
+    }
+    let turn = bring::<H, D, S>(alloc, origin, shelf, places, candidate)?;
+    over_none(turn)
 }
 
 // The root that a candidate of the copy's size has to have, or of no entries.
@@ -183,7 +227,6 @@ fn compare_root<H: TreeHash>(copy: &Candidate, candidate: &Candidate) -> Turn
     ensures after { (digest : List ℕ → List ℕ) (origin : List ℕ)
         (old new : Option (List Put)) → CopyStays digest origin old new
         → StandsAfter digest origin candidate.now old new result }
-    ensures passes { PassesOver result }
     ensures shows { ShowsTurn H.digest (Some copy.now) candidate.now result }
     ensures source { result ≢ Turn.NotHad FollowFault.Source }
     ensures says { IsNoted (Some copy.now) candidate.now
@@ -210,8 +253,7 @@ fn take_smaller<H: TreeHash, D: ReadableShelf>(
         → StandsAfter digest origin candidate.now old new turn) }
     ensures shows { IfOk result (ShowsTurn H.digest (Some copy.now) candidate.now) }
     ensures source { IfOk result (λ turn. turn ≢ Turn.NotHad FollowFault.Source) }
-    ensures passes { IfOk result PassesOver }
-    ensures ends { IfErr result EndsRun }
+    ensures ends { IfErr result (EndsRun ⊤ ⊥) }
     ensures says { IfOk result (λ turn. IsNoted (Some copy.now) candidate.now
         → SaysTurn H.digest (Some copy.now) candidate.now turn) }
 {
@@ -256,7 +298,8 @@ fn put_note<D: ReadableShelf>(
     ensures puts { PutsNoteOver (D.puts shelf.old) (D.puts shelf.new) (note_of copy.now)
         (note_of candidate.now) result }
     ensures counted { CountsFollow (D.failed shelf.old) (D.failed shelf.new) result }
-    ensures ends { IfErr result EndsRun }
+    ensures ends { IfErr result (EndsRun ⊤ (IsOtherFound (Some (note_of copy.now))
+        (D.puts shelf.old))) }
 {
     let Some(there) = shelf.read(&Path::Checkpoint)? else {
         return Err(FollowFault::CopyInUse);
@@ -285,11 +328,11 @@ fn renote<H: TreeHash, D: ReadableShelf>(
     ensures counted { CountsFollow (D.failed shelf.old) (D.failed shelf.new) result }
     ensures after { IfOk result (λ turn. StandsAfter H.digest origin.now candidate.now
         (D.puts shelf.old) (D.puts shelf.new) turn) }
-    ensures passes { IfOk result PassesOver }
     ensures source { IfOk result (λ turn. turn ≢ Turn.NotHad FollowFault.Source) }
     ensures shows { IfOk result (ShowsTurn H.digest (Some copy.now) candidate.now) }
     ensures says { IfOk result (SaysTurn H.digest (Some copy.now) candidate.now) }
-    ensures ends { IfErr result EndsRun }
+    ensures ends { IfErr result (EndsRun ⊤ (¬ HasStanding H.digest origin.now (Some copy.now)
+        (D.puts shelf.old))) }
 {
     put_note(shelf, copy, candidate)?;
     Ok(Turn::Brought)
@@ -311,8 +354,8 @@ fn compare<H: TreeHash, D: ReadableShelf>(
         (D.puts shelf.old) (D.puts shelf.new) turn) }
     ensures shows { IfOk result (ShowsTurn H.digest (Some copy.now) candidate.now) }
     ensures source { IfOk result (λ turn. turn ≢ Turn.NotHad FollowFault.Source) }
-    ensures passes { IfOk result PassesOver }
-    ensures ends { IfErr result EndsRun }
+    ensures ends { IfErr result (EndsRun ⊤ (¬ HasStanding H.digest origin.now (Some copy.now)
+        (D.puts shelf.old))) }
     ensures says { IfOk result (λ turn. IsNoted (Some copy.now) candidate.now
         → SaysTurn H.digest (Some copy.now) candidate.now turn) }
 {
@@ -339,13 +382,13 @@ fn turn_for<H: TreeHash, D: ReadableShelf, S: Source + Drop>(
     ensures asks { AsksAny S.may_answer S.failed S.asked places.old places.new }
     ensures source { IfOk result (λ turn. turn ≡ Turn.NotHad FollowFault.Source
         → PlaceFails places.old places.new) }
-    ensures passes { IfOk result PassesOver }
-    ensures ends { IfErr result EndsRun }
-    ensures empty { run.now.copy ≡ None → IfOk result IsOfEmpty }
+    ensures ends { IfErr result (EndsRun ⊤ (¬ HasStanding H.digest origin.now run.now.copy
+        (D.puts shelf.old))) }
+    ensures empty { run.now.copy ≡ None → IfOk result (IsOfEmpty H.digest candidate.now) }
     ensures says { IfOk result (SaysTurn H.digest run.now.copy candidate.now) }
 {
     let Some(copy) = &run.copy else {
-        return take_larger::<H, D, S>(alloc, origin, shelf, places, run, candidate);
+        return take_first::<H, D, S>(alloc, origin, shelf, places, candidate);
     };
     if has_lesser_note(copy, candidate) {
         return renote::<H, D>(origin, shelf, copy, candidate);
@@ -353,7 +396,7 @@ fn turn_for<H: TreeHash, D: ReadableShelf, S: Source + Drop>(
     if candidate.size.0 <= copy.size.0 {
         return compare::<H, D>(alloc, origin, shelf, copy, candidate);
     }
-    take_larger::<H, D, S>(alloc, origin, shelf, places, run, candidate)
+    take_larger::<H, D, S>(alloc, origin, shelf, places, copy, candidate)
 }
 
 // Lets a candidate have its turn.
@@ -375,8 +418,10 @@ fn take_turn<H: TreeHash, D: ReadableShelf, S: Source + Drop>(
     ensures asks { AsksAny S.may_answer S.failed S.asked places.old places.new }
     ensures source { OnOk result (BlamesPlace places.old places.new run.old.first_fault
         run.new.first_fault) }
-    ensures ends { IfErr result EndsRun }
-    ensures fault { OnOk result (KeepsFault run.new) }
+    ensures ends { IfErr result (EndsRun ⊤ (¬ HasStanding H.digest origin.now run.old.copy
+        (D.puts shelf.old))) }
+    ensures fault { OnOk result ((done : List Candidate) → KeepsFault H.digest done run.old
+        → KeepsFault H.digest (done ++ candidate.now ∷ []) run.new) }
     ensures taken { OnOk result ((first : Option Candidate) (done : List Candidate)
         → IsNextOf done candidate.now → HasTakenRun H.digest first done run.old
         → HasTakenRun H.digest first (done ++ candidate.now ∷ []) run.new) }
@@ -420,8 +465,10 @@ fn take_turn_at<H: TreeHash, D: ReadableShelf, S: Source + Drop>(
     ensures asks { AsksAny S.may_answer S.failed S.asked places.old places.new }
     ensures source { OnOk result (BlamesPlace places.old places.new run.old.first_fault
         run.new.first_fault) }
-    ensures ends { IfErr result EndsRun }
-    ensures fault { OnOk result ((0 < i → KeepsFault run.old) → KeepsFault run.new) }
+    ensures ends { IfErr result (EndsRun ⊤ (¬ HasStanding H.digest origin.now run.old.copy
+        (D.puts shelf.old))) }
+    ensures fault { OnOk result (KeepsFault H.digest (take i candidates.now) run.old
+        → KeepsFault H.digest (take (i + 1) candidates.now) run.new) }
     ensures taken { OnOk result ((first : Option Candidate) → IsSorted turn_cmp candidates.now
         → HasTakenRun H.digest first (take i candidates.now) run.old
         → HasTakenRun H.digest first (take (i + 1) candidates.now) run.new) }
@@ -451,8 +498,10 @@ fn take_turns<H: TreeHash, D: ReadableShelf, S: Source + Drop>(
     ensures asks { AsksAny S.may_answer S.failed S.asked places.old places.new }
     ensures source { IfOk result (λ run. run.first_fault ≡ Some FollowFault.Source
         → PlaceFails places.old places.new) }
-    ensures ends { IfErr result EndsRun }
-    ensures fault { IfOk result (λ run. 0 < length candidates.now → KeepsFault run) }
+    ensures ends { IfErr result (EndsRun ⊤ ((first : Option (List Put))
+        → IsCopyOfRun H.digest origin.now first (D.puts shelf.old) copy
+        → HoldsNoCopy H.digest origin.now first)) }
+    ensures fault { IfOk result (KeepsFault H.digest candidates.now) }
     ensures taken { IfOk result (λ run. IsSorted turn_cmp candidates.now
         → HasTakenRun H.digest copy candidates.now run) }
 {
@@ -509,8 +558,8 @@ fn candidates_of<S: Source + Drop>(
         (map (λ k. key k) keys.now) places.old places.new (option_map (λ v. v.items) given)
         candidates.items) }
     ensures rising { IfOk result (λ candidates. IsSorted turn_cmp candidates.items) }
-    ensures ends { IfErr result (EndsFor S.may_answer origin.now (map (λ k. key k) keys.now)
-        places.old places.new (option_map (λ v. v.items) given)) }
+    ensures ends { IfErr result (LacksCandidates S.may_answer origin.now
+        (map (λ k. key k) keys.now) places.old places.new (option_map (λ v. v.items) given)) }
     ensures shelf { IfErr result (λ e. e ≢ FollowFault.ShelfFault) }
 {
     match given {
@@ -543,7 +592,8 @@ fn candidates_of<S: Source + Drop>(
 ///   lacks or is false. `ShelfFault`: the shelf failed. `CopyInUse`: another run put a checkpoint meanwhile.
 /// - `Head`: the given note is no candidate, or the first place's, where no place gives one. `NoCheckpoint`, `Source`: no place gives
 ///   a candidate, and the first has none, or failed.
-/// - Where the copy was empty and still is, the fault of the greatest candidate: `NoFile`, `Source`, `Contradiction` or `Collision`.
+/// - Where the copy was empty and still is, the fault of the greatest candidate: `NoFile`; `Source`, if a place failed; `Contradiction`,
+///   if it has no entries, and its root is not the hash of the empty list.
 /// - `OutOfMemory`: memory was refused.
 #[tactic(auto, using(crate::proofs::Kept::heads_open))]
 pub fn follow<H: TreeHash, D: ReadableShelf, S: Source + Drop>(
@@ -564,8 +614,9 @@ pub fn follow<H: TreeHash, D: ReadableShelf, S: Source + Drop>(
         (map (λ k. key k) keys.now) places.old places.new (option_map (λ v. v.items) given))
         (D.puts shelf.old) (D.puts shelf.new)) }
     ensures counted { CountsFollow (D.failed shelf.old) (D.failed shelf.new) result }
-    ensures ends { IfErr result (EndsFor S.may_answer origin.now (map (λ k. key k) keys.now)
-        places.old places.new (option_map (λ v. v.items) given)) }
+    ensures ends { IfErr result (EndsFor H.digest S.may_answer origin.now
+        (map (λ k. key k) keys.now) (D.puts shelf.old) places.old places.new
+        (option_map (λ v. v.items) given)) }
 {
     let copy = judge_copy::<H, D>(alloc, origin, shelf)?;
     let candidates = candidates_of::<S>(alloc, origin, keys, places, given)?;

@@ -1,5 +1,5 @@
 -- What a run says of its note, of the copy, of the output and of the evidence.
-use Rattle.std.proofs.Common.{◌≡◌, ℕ, List, IfOk, Option, Some, None, Result, Ok, Err, sym, subst}
+use Rattle.std.proofs.Common.{◌≡◌, ℕ, List, IfErr, IfOk, Option, Some, None, Result, Ok, Err, sym, subst, ◌∙◌}
 use Rattle.std.specs.Io.KnownBytes.{Keeps}
 use Rattle.std.proofs.lemmas.List.Elements.{All-weaker}
 use Rattle.std.proofs.lemmas.Option.{none-some}
@@ -8,15 +8,17 @@ use Rattle.tlog_tiles.specs.declared.paths.Path.{Path}
 use Rattle.mirror_folders.specs.Shelf.{Put}
 use Rattle.mirror_copy.specs.declared.places.Places.{Places}
 use Rattle.mirror_follow.specs.Blame.{CountsFollowFault, IsGivenOrMayGive}
+use Rattle.mirror_follow.specs.Ending.{EndsFor}
 use Rattle.mirror_follow.specs.Runs.{FollowsCandidates}
 use Rattle.mirror_follow.specs.GatheredFrom.{AreCandidates}
 use Rattle.mirror_follow.specs.Gathering.{note_of}
 use Rattle.mirror_follow.specs.Says.{Says}
 use Rattle.mirror_follow.specs.declared.candidate.Candidate.{Candidate}
 use Rattle.mirror_follow.specs.declared.fault.FollowFault.{FollowFault}
+use Rattle.mirror_follow.specs.declared.fault.FollowFault.TheVariants as following
 use Rattle.mirror_follow.specs.declared.report.Followed.{Followed}
 use Rattle.program_files.specs.Named.{HasContents, NamedFile}
-use Rattle.program_follow.specs.Following.{AreRunCandidates, CopyFollowed, CountsRun, Follows, FollowsIn, IsNoteOf}
+use Rattle.program_follow.specs.Following.{AreRunCandidates, CopyFollowed, CountsRun, EndsFollowing, Follows, FollowsIn, IsNoteOf}
 use Rattle.program_follow.specs.Following.{PrintsSettled, ReadsNote, TellsDone}
 use Rattle.program_follow.specs.declared.fault.FollowRunFault.{FollowRunFault}
 use Rattle.program_follow.specs.declared.fault.FollowRunFault.TheVariants.{File, OutOfMemory, Follow, WriteFault, Evidence}
@@ -109,9 +111,40 @@ says_printed digest origin keys may places left_places files name given held put
         gathered = record { given = given; reads = reads; are = says.gathered };
         rising = says.rising;
         settles = says.settles;
+        first = says.first;
+        found = says.found;
+        lines = says.lines;
         noted = says.noted;
       };
       text = tells.whole.text;
     }
 says_printed digest origin keys may places left_places files name given held put forks done told left old new
     (Err fault) reads says tells = tt
+
+-- ---- why following ends
+
+module _ (digest : List ℕ → List ℕ) {S : Type 0} (may : S → Path → Option (List ℕ) → Type 0) (origin : List ℕ)
+    (keys : List Key) (held : Option (List Put)) (x y : Places S) (told : Option (List NamedFile)) (name : Option (List ℕ))
+    (given : Option (List ℕ)) (reads : ReadsNote told name (Ok given)) where
+  memory_ends : (g : Option (List ℕ)) → EndsFor digest may origin keys held x y g following.OutOfMemory
+  memory_ends None = tt
+  memory_ends (Some note) = tt
+
+  pub ends_so : (fault : FollowFault) → EndsFor digest may origin keys held x y given fault →
+      EndsFollowing digest may origin keys held x y told name fault
+  ends_so fault ends = record { given = given; reads = reads; ends = ends }
+
+  -- the text was refused memory, after the copy was followed
+  pub ends_told : (forks : Option (List ℕ)) (done : Followed) (from left : Option (List NamedFile)) (old new : Option (List ℕ))
+      (r : Result ℕ FollowRunFault) → TellsDone forks done from left old new r →
+      IfErr r (λ e. (fault : FollowFault) → e ≡ Follow fault →
+      EndsFollowing digest may origin keys held x y told name fault)
+  ends_told forks done from left old new (Ok status) tells = tt
+  ends_told forks done from left old new (Err (File f)) tells = λ fault e. absurd tells
+  ends_told forks done from left old new (Err OutOfMemory) tells = λ fault e. absurd tells
+  ends_told forks done from left old new (Err (Follow f)) tells = λ fault e.
+      let same : f ≡ fault = cc in
+      ends_so fault
+      (subst (λ g. EndsFor digest may origin keys held x y given g) (sym tells.fault_is ∙ same) (memory_ends given))
+  ends_told forks done from left old new (Err WriteFault) tells = λ fault e. absurd cc
+  ends_told forks done from left old new (Err (Evidence f)) tells = λ fault e. absurd cc

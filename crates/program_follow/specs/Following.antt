@@ -7,6 +7,7 @@ use Rattle.signed_note.specs.Keys.{Key}
 use Rattle.mirror_folders.specs.Shelf.{Put}
 use Rattle.mirror_copy.specs.declared.places.Places.{Places}
 use Rattle.mirror_follow.specs.Blame.{CountsFollowFault, MayGive}
+use Rattle.mirror_follow.specs.Ending.{EndsFor}
 use Rattle.mirror_follow.specs.GatheredFrom.{AreCandidates}
 use Rattle.mirror_follow.specs.Runs.{FollowsCandidates}
 use Rattle.mirror_follow.specs.Says.{Says}
@@ -57,6 +58,14 @@ pub record AreRunCandidates {S : Type 0} (may : S → Path → Option (List ℕ)
   pub given : Option (List ℕ)
   pub reads : ReadsNote told name (Ok given)
   pub are : AreCandidates may origin keys old new given candidates
+
+-- a fault of following comes for its reason, where the note is that of the named file, if one is named
+pub record EndsFollowing (digest : List ℕ → List ℕ) {S : Type 0} (may : S → Path → Option (List ℕ) → Type 0)
+    (origin : List ℕ) (keys : List Key) (held : Option (List Put)) (old new : Places S) (told : Option (List NamedFile))
+    (name : Option (List ℕ)) (fault : FollowFault) : Type 0 where
+  pub given : Option (List ℕ)
+  pub reads : ReadsNote told name (Ok given)
+  pub ends : EndsFor digest may origin keys held old new given fault
 
 -- what was printed says of each candidate how it was settled
 pub record PrintsSettled (digest : List ℕ → List ℕ) (origin : List ℕ) (so : List Candidate → Type 0)

@@ -1,13 +1,15 @@
 //! The command `follow`: a copy in a folder, brought to the newest checkpoint of some places.
-ghost use Rattle.std.specs.Prelude.{◌≡◌, ◌⊎◌, All, IfOk, map, option_map};
+ghost use Rattle.std.specs.Prelude.{◌≡◌, ◌⊎◌, All, IfErr, IfOk, map, option_map};
 ghost use Rattle.tlog_text.specs.Answers.{seen};
 ghost use Rattle.mirror_follow.specs.Blame.{CountsFollow, IsGivenOrMayGive};
+ghost use Rattle.mirror_follow.specs.Ending.{EndsFor};
 ghost use Rattle.mirror_follow.specs.GatheredFrom.{AreCandidates};
+ghost use Rattle.mirror_follow.specs.declared.fault.FollowFault.{FollowFault};
 ghost use Rattle.mirror_follow.specs.Runs.{FollowsCandidates};
 ghost use Rattle.mirror_follow.specs.Says.{Says};
 ghost use Rattle.mirror_follow.specs.Shown.{ShowsLine};
 ghost use Rattle.mirror_follow.specs.Standing.{IsFollowed};
-ghost use Rattle.program_follow.specs.Following.{AreRunCandidates, CountsRun, Follows, FollowsIn, IsNoteOf, PrintsSettled};
+ghost use Rattle.program_follow.specs.Following.{AreRunCandidates, CountsRun, EndsFollowing, Follows, FollowsIn, IsNoteOf, PrintsSettled};
 ghost use Rattle.program_follow.specs.Following.{ReadsGiven, ReadsNote, TellsDone};
 
 use crate::evidence::write_evidence;
@@ -73,6 +75,9 @@ fn follow_told<H: TreeHash, D: ToldFolders, S: Source + Drop>(
         (AreCandidates S.may_answer following.now.origin.now (map (λ k. key k) keys.now)
         places.old places.new (option_map (λ v. v.items) given))
         (D.puts folders.old) (D.puts folders.new)) }
+    ensures ends { IfErr result (EndsFor H.digest S.may_answer following.now.origin.now
+        (map (λ k. key k) keys.now) (D.puts folders.old) places.old places.new
+        (option_map (λ v. v.items) given)) }
     ensures counted { CountsFollow (D.failed folders.old) (D.failed folders.new) result }
 {
     if following.progress {
@@ -105,6 +110,10 @@ fn follow_into<H: TreeHash, D: ToldFolders, S: Source + Drop>(
         (AreCandidates S.may_answer following.now.origin.now (map (λ k. key k) keys.now)
         places.old places.new (option_map (λ v. v.items) given))
         (D.held folders.old following.now.folder.now) (D.puts folders.new)) }
+    ensures ends { IfErr result (λ e. (fault : FollowFault) → e ≡ FollowRunFault.Follow fault
+        → EndsFor H.digest S.may_answer following.now.origin.now (map (λ k. key k) keys.now)
+        (D.held folders.old following.now.folder.now) places.old places.new
+        (option_map (λ v. v.items) given) fault) }
     ensures counted { CountsRun (D.failed folders.old) (D.failed folders.new) result }
 {
     match folders.open(following.folder) {
@@ -183,6 +192,10 @@ pub fn run_follow<H: TreeHash, F: NamedFiles, D: ToldFolders, S: Source + Drop, 
         (option_map (λ name. name.now) following.now.checkpoint))
         (D.held folders.old following.now.folder.now) (D.puts folders.new)
         (W.contents output.old) (W.contents output.new)) }
+    ensures ends { IfErr result (λ e. (fault : FollowFault) → e ≡ FollowRunFault.Follow fault
+        → EndsFollowing H.digest S.may_answer following.now.origin.now (map (λ k. key k) keys.now)
+        (D.held folders.old following.now.folder.now) places.old places.new (F.puts files.old)
+        (option_map (λ name. name.now) following.now.checkpoint) fault) }
     ensures given { ReadsGiven (F.puts files.old)
         (option_map (λ name. name.now) following.now.checkpoint) result }
     ensures counted { CountsRun (D.failed folders.old) (D.failed folders.new) result }

@@ -1,5 +1,6 @@
-use Rattle.std.proofs.Common.{refl, subst}
-use Rattle.mirror_follow.specs.Taken.{HasTaken, IsBehindTest, SplitsLacked}
+use Rattle.std.proofs.Common.{All, refl, subst, sym}
+use Rattle.mirror_follow.specs.Lines.{IsListed}
+use Rattle.mirror_follow.specs.Taken.{HasTaken, IsBehindTest, IsOneOf, SplitsLacked}
 use Rattle.mirror_follow.proofs.Settled.{settles}
 use Rattle.mirror_follow.proofs.report.report.Goals as goal
 
@@ -11,7 +12,7 @@ returns-clause-settles c = λ digest first h.
     let larger = c.sort_unstable.new.self in
     settles digest first c.args.candidates.now copy run.forks.items run.not_had.items run.behind run.is_reached
     (subst (λ o. HasTaken digest first c.args.candidates.now o run.forks.items run.not_had.items run.behind run.is_reached)
-    c.in-Some.is h)
+    c.in-Some.is h.taken)
     (record {
       size = copy.size.0;
       root = copy.root;
@@ -28,3 +29,9 @@ returns-clause-settles c = λ digest first h.
     (subst (λ l. IsBehindTest c.is_behind-is_behind.result run.is_reached l c.deref-3.result.now) c.deref-2.ensures.value
     c.is_behind-is_behind.ensures))
     c.point_if-behind.ensures
+
+pub returns-clause-lines : goal.returns-clause-lines
+returns-clause-lines c = λ digest first h.
+    let candidates = c.args.candidates.now in
+    c.in_ok-larger.ensures.lines first (subst (λ o. IsOneOf first candidates o) c.in-Some.is h.taken.one_of)
+    (subst (All (IsListed candidates)) (sym c.deref.ensures.value) h.listed) h.lines

@@ -1,4 +1,6 @@
-use Rattle.std.proofs.Common.{arith, take}
+use Rattle.std.proofs.Common.{arith, subst, sym, take}
+use Rattle.std.proofs.lemmas.List.Elements.{All-get_or}
+use Rattle.mirror_follow.specs.Lines.{IsListed}
 use Rattle.mirror_follow.proofs.Split.{split_at}
 use Rattle.mirror_follow.proofs.report.split_not_had.Goals as goal
 
@@ -11,4 +13,9 @@ loop-candidate-preserved c =
       split = split_at c.args.copy.now lines lacked i c.candidate-item.result c.split_one.new.forks.items
           c.split_one.new.larger.items (omega (arith, c.loop-candidate-test.true)) c.candidate-item.is
           (c.in_ok-split_one.ensures.split lines (take i lacked) c.loop-candidate.invariant.split);
+      lines = λ first known all before.
+          c.in_ok-split_one.ensures.lines first known
+          (subst (IsListed c.args.candidates.now) (sym c.candidate-item.is)
+          (All-get_or (IsListed c.args.candidates.now) lacked i c.candidate-item.result (omega (arith, c.loop-candidate-test.true)) all))
+          (c.loop-candidate.invariant.lines first known all before);
     }

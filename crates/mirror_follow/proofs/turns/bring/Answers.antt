@@ -1,5 +1,10 @@
+use Rattle.std.proofs.Common.{subst}
+use Rattle.std.specs.Prelude.{⊤}
+use Rattle.mirror_copy.specs.AskedForCopy.{RefusesNote}
+use Rattle.mirror_follow.specs.Ending.{IsOfOtherRun}
+use Rattle.mirror_follow.specs.Standing.{HoldsNoSmaller}
 use Rattle.mirror_follow.proofs.Blame.{any_copied}
-use Rattle.mirror_follow.proofs.Ending.{turned_fails}
+use Rattle.mirror_follow.proofs.Ending.{ends_if, no_smaller, turned_fails}
 use Rattle.mirror_follow.proofs.Taken.{larger_above}
 use Rattle.mirror_follow.proofs.turns.bring.Goals as goal
 
@@ -25,3 +30,15 @@ returns-in-Err-clause-source g c =
 
 pub returns-in-Ok-clause-says : goal.returns-in-Ok-clause-says
 returns-in-Ok-clause-says g c = λ digest copy candidate lt. larger_above copy candidate lt
+
+pub returns-in-Err-clause-ends : goal.returns-in-Err-clause-ends
+returns-in-Err-clause-ends g c =
+    let digest = g.H.TreeHash.digest in
+    let origin = c.args.origin.now in
+    let candidate = c.args.candidate.now in
+    let x = g.D.Shelf.puts c.args.shelf.now in
+    ends_if c.turn_of.result ⊤ (IsOfOtherRun c.in-Err.fault) ⊤ (HoldsNoSmaller digest origin candidate.size.0 x) (λ t. t)
+    (no_smaller digest origin candidate.note.items candidate.size.0 candidate.root x c.in-Err.fault c.requires
+    (subst (λ note. RefusesNote digest origin note x c.in-Err.fault) c.deref.ensures.value c.in-Err.ensures.refuses)
+    c.in-Err.ensures.in_use)
+    c.turn_of.ensures.ends

@@ -1,4 +1,3 @@
-use Rattle.std.proofs.Common.{IfOk}
 use Rattle.mirror_copy.proofs.WholeMoments.{whole_same}
 use Rattle.mirror_follow.proofs.Standing.{after_same}
 use Rattle.mirror_follow.proofs.turns.compare.Goals as goal

@@ -1,18 +1,23 @@
 use Rattle.mirror_follow.proofs.Kept.{follows_candidates, follows_none}
-use Rattle.std.proofs.Common.{◌∙◌, ◌<◌, ℕ, List, Option, IfOk, length, option_map, subst, sym}
+use Rattle.std.proofs.Common.{◌∙◌, ℕ, List, Option, IfOk, option_map, subst, sym}
+use Rattle.std.specs.Prelude.{⊤}
 use Rattle.std.specs.List.Sorted.{IsSorted}
 use Rattle.std.proofs.lemmas.Result.{err_from_is_err_and}
 use Rattle.mirror_copy.specs.Moments.{HadSize}
 use Rattle.mirror_follow.specs.Candidates.{turn_cmp}
+use Rattle.mirror_folders.specs.Shelf.{Put}
+use Rattle.mirror_follow.specs.Ending.{KeepsFault}
+use Rattle.mirror_follow.specs.Lines.{AreLines}
 use Rattle.mirror_follow.specs.Says.{SettlesEach}
+use Rattle.mirror_follow.specs.Standing.{HoldsNoCopy, IsCopyOfRun}
 use Rattle.mirror_follow.specs.Taken.{HasTakenRun}
 use Rattle.mirror_follow.specs.declared.candidate.Candidate.{Candidate}
 use Rattle.mirror_follow.proofs.Blame.{fails_later}
-use Rattle.mirror_follow.proofs.Ending.{ends_report, ends_run, report_counts}
+use Rattle.mirror_follow.proofs.Ending.{ends_lacking, ends_report, ends_run, ends_so, report_counts, was_empty}
 use Rattle.mirror_follow.proofs.Noted.{says_by}
 use Rattle.mirror_follow.proofs.GatheredFrom.{candidates_later}
 use Rattle.mirror_follow.proofs.Shown.{reported_forks}
-use Rattle.mirror_follow.proofs.Standing.{followed_by}
+use Rattle.mirror_follow.proofs.Standing.{followed_by, had_found, known_found, read_found}
 use Rattle.mirror_follow.proofs.Turning.{counts_same}
 use Rattle.mirror_follow.proofs.turns.follow.Goals as goal
 
@@ -42,22 +47,40 @@ returns-clause-brought g c =
     let run = c.in_ok-run.ensures.run in
     followed_by digest origin x (g.D.Shelf.puts c.take_turns.new.shelf) c.in_ok-run.run'.copy c.in_ok-run.run'.had c.report.result
     c.report.ensures.copy c.report.ensures.had
-    (subst (λ n. HadSize digest origin x n) (sym run.had_is) c.in_ok-copy.ensures.had)
-    (run.known x c.in_ok-copy.ensures.copy)
+    (subst (λ n. HadSize digest origin x n) (sym run.had_is) (had_found digest origin x c.in_ok-copy.copy c.in_ok-copy.ensures.found))
+    (run.known x (known_found digest origin x (g.D.Shelf.puts c.judge_copy.new.shelf) c.in_ok-copy.copy
+    c.in_ok-copy.ensures.found c.judge_copy.ensures.same))
 
 pub returns-clause-counted : goal.returns-clause-counted
 returns-clause-counted g c =
-    report_counts (g.D.Shelf.failed c.args.shelf.now) (g.D.Shelf.failed c.take_turns.new.shelf) c.in_ok-run.run' c.report.result
-    (c.in_ok-run.ensures.counted ∙ c.in_ok-copy.ensures.counted) (c.in_ok-run.ensures.fault
-    (subst (λ (l : List Candidate). 0 < length l) (sym c.deref.ensures.value) c.in_ok-candidates.ensures.some))
-    c.in_ok-run.ensures.run.passed c.report.ensures.fault
+    let digest = g.H.TreeHash.digest in
+    report_counts digest (g.D.Shelf.failed c.args.shelf.now) (g.D.Shelf.failed c.take_turns.new.shelf)
+    c.in_ok-candidates.candidates.items c.in_ok-run.run' c.report.result
+    (c.in_ok-run.ensures.counted ∙ c.in_ok-copy.ensures.counted) c.in_ok-candidates.ensures.some
+    (subst (λ (l : List Candidate). KeepsFault digest l c.in_ok-run.run') c.deref.ensures.value c.in_ok-run.ensures.fault)
+    c.report.ensures.fault
 
 pub returns-clause-ends : goal.returns-clause-ends
 returns-clause-ends g c =
-    ends_report g.S.Source.may_answer c.args.origin.now _ c.args.places.now c.take_turns.new.places _ c.in_ok-run.run'
-    c.report.result (c.in_ok-run.ensures.fault
-    (subst (λ (l : List Candidate). 0 < length l) (sym c.deref.ensures.value) c.in_ok-candidates.ensures.some))
-    c.in_ok-run.ensures.run.passed (λ e. fails_later g.S.Source.may_answer g.S.Source.failed g.S.Source.asked
+    let digest = g.H.TreeHash.digest in
+    let origin = c.args.origin.now in
+    let x = g.D.Shelf.puts c.args.shelf.now in
+    let copy = c.in_ok-copy.copy in
+    let candidates = c.in_ok-candidates.candidates.items in
+    let rising = c.in_ok-candidates.ensures.rising in
+    let run = c.in_ok-run.run' in
+    ends_report digest g.S.Source.may_answer origin _ x c.args.places.now c.take_turns.new.places
+    (option_map (λ v. v.items) c.args.given) candidates run c.report.result c.in_ok-candidates.ensures.some
+    (candidates_later origin _ g.S.Source.may_answer g.S.Source.failed g.S.Source.asked c.args.places.now
+    c.candidates_of.new.places c.take_turns.new.places (option_map (λ v. v.items) c.args.given)
+    candidates c.take_turns.ensures.asks c.in_ok-candidates.ensures.gathered)
+    rising
+    (was_empty digest origin x copy candidates run
+    (subst (λ (l : List Candidate). HasTakenRun digest copy l run) c.deref.ensures.value
+    (c.in_ok-run.ensures.taken (subst (IsSorted turn_cmp) (sym c.deref.ensures.value) rising)))
+    c.in_ok-copy.ensures.found)
+    (subst (λ (l : List Candidate). KeepsFault digest l run) c.deref.ensures.value c.in_ok-run.ensures.fault)
+    (λ e. fails_later g.S.Source.may_answer g.S.Source.failed g.S.Source.asked
     c.args.places.now c.candidates_of.new.places c.take_turns.new.places c.candidates_of.ensures.asks
     c.take_turns.ensures.asks (c.in_ok-run.ensures.source e)) c.report.ensures.fault
 
@@ -69,20 +92,35 @@ returns-in_err-candidates-clause-counted g c =
 
 pub returns-in_err-copy-clause-ends : goal.returns-in_err-copy-clause-ends
 returns-in_err-copy-clause-ends g c =
+    let digest = g.H.TreeHash.digest in
+    let origin = c.args.origin.now in
+    let x = g.D.Shelf.puts c.args.shelf.now in
+    let e = c.in_err-copy.field-0.0 in
     let p = err_from_is_err_and c.from_residual.result c.from_residual.ensures.1 in
-    rw (p.1, p.2) (ends_run g.S.Source.may_answer c.args.origin.now _ c.args.places.now c.args.places.now _
-    c.in_err-copy.field-0.0 c.in_err-copy.ensures.ends)
+    rw (p.1, p.2) (ends_run digest g.S.Source.may_answer origin _ x c.args.places.now c.args.places.now _ e
+    (ends_so ⊤ ⊥ ⊤ (HoldsNoCopy digest origin x) e (λ t. t) (λ b. absurd b) c.in_err-copy.ensures.ends))
 
 pub returns-in_err-candidates-clause-ends : goal.returns-in_err-candidates-clause-ends
 returns-in_err-candidates-clause-ends g c =
     let p = err_from_is_err_and c.from_residual-in_err-candidates.result c.from_residual-in_err-candidates.ensures.1 in
-    rw (p.1, p.2) c.in_err-candidates.ensures.ends
+    rw (p.1, p.2) (ends_lacking g.H.TreeHash.digest g.S.Source.may_answer c.args.origin.now _
+    (g.D.Shelf.puts c.args.shelf.now) c.args.places.now c.candidates_of.new.places
+    (option_map (λ v. v.items) c.args.given) c.in_err-candidates.field-0.0 c.in_err-candidates.ensures.ends)
 
 pub returns-in_err-run-clause-ends : goal.returns-in_err-run-clause-ends
 returns-in_err-run-clause-ends g c =
+    let digest = g.H.TreeHash.digest in
+    let origin = c.args.origin.now in
+    let x = g.D.Shelf.puts c.args.shelf.now in
+    let y = g.D.Shelf.puts c.judge_copy.new.shelf in
+    let copy = c.in_ok-copy.copy in
+    let e = c.in_err-run.field-0.0 in
     let p = err_from_is_err_and c.from_residual-in_err-run.result c.from_residual-in_err-run.ensures.1 in
-    rw (p.1, p.2) (ends_run g.S.Source.may_answer c.args.origin.now _ c.args.places.now c.take_turns.new.places _
-    c.in_err-run.field-0.0 c.in_err-run.ensures.ends)
+    rw (p.1, p.2) (ends_run digest g.S.Source.may_answer origin _ x c.args.places.now c.take_turns.new.places _ e
+    (ends_so ⊤ ((first : Option (List Put)) → IsCopyOfRun digest origin first y copy → HoldsNoCopy digest origin first)
+    ⊤ (HoldsNoCopy digest origin x) e (λ t. t)
+    (λ none. none x (known_found digest origin x y copy c.in_ok-copy.ensures.found c.judge_copy.ensures.same))
+    c.in_err-run.ensures.ends))
 
 pub returns-clause-forks : goal.returns-clause-forks
 returns-clause-forks g c =
@@ -101,9 +139,15 @@ returns-clause-says g c =
     (subst (λ (l : List Candidate). IfOk c.report.result
     (λ f. (digest : List ℕ → List ℕ) (first : Option Candidate) → HasTakenRun digest first l run → SettlesEach digest l f))
     c.deref-2.ensures.value c.report.ensures.settles)
+    (subst (λ (l : List Candidate). IfOk c.report.result
+    (λ f. (digest : List ℕ → List ℕ) (first : Option Candidate) → HasTakenRun digest first l run →
+    AreLines first l f.forks.items))
+    c.deref-2.ensures.value c.report.ensures.lines)
     (subst (λ (l : List Candidate). HasTakenRun digest copy l run) c.deref.ensures.value
     (c.in_ok-run.ensures.taken (subst (IsSorted turn_cmp) (sym c.deref.ensures.value) rising)))
-    c.in_ok-copy.ensures.read (c.in_ok-run.ensures.run.known x c.in_ok-copy.ensures.copy)
+    c.in_ok-copy.ensures.found (read_found digest origin x copy c.in_ok-copy.ensures.found)
+    (c.in_ok-run.ensures.run.known x (known_found digest origin x (g.D.Shelf.puts c.judge_copy.new.shelf) copy
+    c.in_ok-copy.ensures.found c.judge_copy.ensures.same))
     (candidates_later origin _ g.S.Source.may_answer g.S.Source.failed g.S.Source.asked c.args.places.now
     c.candidates_of.new.places c.take_turns.new.places (option_map (λ v. v.items) c.args.given)
     c.in_ok-candidates.candidates.items c.take_turns.ensures.asks c.in_ok-candidates.ensures.gathered)

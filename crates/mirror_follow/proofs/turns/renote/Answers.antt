@@ -1,4 +1,9 @@
-use Rattle.std.proofs.Common.{inr, sym}
+use Rattle.std.proofs.Common.{Some, inr, sym}
+use Rattle.std.specs.Prelude.{⊤}
+use Rattle.std.proofs.lemmas.Result.{err_from_is_err_and}
+use Rattle.mirror_copy.specs.Faults.{IsOtherFound}
+use Rattle.mirror_follow.specs.Standing.{HasStanding}
+use Rattle.mirror_follow.proofs.Ending.{ends_so, none_found}
 use Rattle.mirror_copy.proofs.WholeMoments.{whole_same}
 use Rattle.mirror_follow.proofs.Renoted.{head_as, note_brought, note_keeps}
 use Rattle.mirror_follow.proofs.turns.renote.Goals as goal
@@ -24,3 +29,13 @@ returns-clause-after g c =
 
 pub returns-clause-says : goal.returns-clause-says
 returns-clause-says g c = inr ((sym c.requires.size, sym c.requires.root), c.requires.less)
+
+pub returns-in_err-put_note-clause-ends : goal.returns-in_err-put_note-clause-ends
+returns-in_err-put_note-clause-ends g c =
+    let digest = g.H.TreeHash.digest in
+    let origin = c.args.origin.now in
+    let copy = c.args.copy.now in
+    let x = g.D.Shelf.puts c.args.shelf.now in
+    let p = err_from_is_err_and c.from_residual.result c.from_residual.ensures.1 in
+    rw (p.1, p.2) (ends_so ⊤ (IsOtherFound (Some copy.note.items) x) ⊤ (HasStanding digest origin (Some copy) x → ⊥)
+    c.in_err-put_note.field-0.0 (λ t. t) (none_found digest origin copy x) c.in_err-put_note.ensures.ends)

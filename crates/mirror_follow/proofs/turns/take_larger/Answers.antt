@@ -1,4 +1,9 @@
+use Rattle.std.proofs.Common.{Some}
+use Rattle.std.specs.Prelude.{⊤}
+use Rattle.std.proofs.lemmas.Result.{err_from_is_err_and}
+use Rattle.mirror_follow.specs.Standing.{HasStanding, HoldsNoSmaller}
 use Rattle.mirror_follow.proofs.Blame.{any_then}
+use Rattle.mirror_follow.proofs.Ending.{ends_so, none_stands}
 use Rattle.mirror_follow.proofs.turns.take_larger.Goals as goal
 
 pub returns-in_err-contradict-in-Contradicts-clause-asks : goal.returns-in_err-contradict-in-Contradicts-clause-asks
@@ -10,3 +15,22 @@ pub returns-in_ok-contradict-in-Contradicts-clause-asks : goal.returns-in_ok-con
 returns-in_ok-contradict-in-Contradicts-clause-asks g c =
     any_then g.S.Source.may_answer g.S.Source.failed g.S.Source.asked c.args.places.now c.bring.new.places c.contradict.new.places
     c.bring.ensures.asks c.contradict.ensures.asks
+
+pub returns-in_err-turn-clause-ends : goal.returns-in_err-turn-clause-ends
+returns-in_err-turn-clause-ends g c =
+    let digest = g.H.TreeHash.digest in
+    let origin = c.args.origin.now in
+    let copy = c.args.copy.now in
+    let n = c.args.candidate.now.size.0 in
+    let x = g.D.Shelf.puts c.args.shelf.now in
+    let p = err_from_is_err_and c.from_residual.result c.from_residual.ensures.1 in
+    rw (p.1, p.2) (ends_so ⊤ (HoldsNoSmaller digest origin n x) ⊤ (HasStanding digest origin (Some copy) x → ⊥)
+    c.in_err-turn.field-0.0 (λ t. t) (none_stands digest origin copy n x c.requires.larger) c.in_err-turn.ensures.ends)
+
+pub returns-in_default-clause-shows : goal.returns-in_default-clause-shows
+returns-in_default-clause-shows g c =
+    c.in_ok-turn.ensures.shows g.H.TreeHash.digest (Some c.args.copy.now) c.args.candidate.now
+
+pub returns-in_default-clause-says : goal.returns-in_default-clause-says
+returns-in_default-clause-says g c =
+    c.in_ok-turn.ensures.says g.H.TreeHash.digest (Some c.args.copy.now) c.args.candidate.now c.requires.larger

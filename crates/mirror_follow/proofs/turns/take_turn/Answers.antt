@@ -7,13 +7,13 @@ pub returns-clause-run : goal.returns-clause-run
 returns-clause-run g c =
     run_turned g.H.TreeHash.digest c.args.origin.now (g.D.Shelf.puts c.args.shelf.now) (g.D.Shelf.puts c.turn_for.new.shelf)
     c.args.candidate.now c.args.run.now c.add.new.self c.in_ok-turn.turn
-    c.requires.head c.in_ok-turn.ensures.after c.in_ok-add.ensures.copy c.add.ensures.had c.in_ok-add.ensures.fault
-    c.in_ok-turn.ensures.passes (c.in_ok-add.ensures.shows g.H.TreeHash.digest c.in_ok-turn.ensures.shows)
+    c.requires.head c.in_ok-turn.ensures.after c.in_ok-add.ensures.copy c.add.ensures.had
+    (c.in_ok-add.ensures.shows g.H.TreeHash.digest c.in_ok-turn.ensures.shows)
 
 pub returns-clause-fault : goal.returns-clause-fault
 returns-clause-fault g c =
-    keeps_fault c.args.candidate.now c.args.run.now c.add.new.self c.in_ok-turn.turn c.in_ok-turn.ensures.empty
-    c.in_ok-add.ensures.copy c.in_ok-add.ensures.fault
+    λ done keeps. keeps_fault g.H.TreeHash.digest done c.args.candidate.now c.args.run.now c.add.new.self c.in_ok-turn.turn
+    c.in_ok-turn.ensures.empty c.in_ok-add.ensures.copy c.in_ok-add.ensures.fault keeps
 
 pub returns-clause-source : goal.returns-clause-source
 returns-clause-source g c =

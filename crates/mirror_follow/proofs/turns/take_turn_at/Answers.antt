@@ -1,7 +1,8 @@
 use Rattle.mirror_follow.proofs.Blame.{any_same}
 use Rattle.std.proofs.Common.{map, sym, true≢false, ◌∙◌}
-use Rattle.mirror_copy.proofs.Growth.{kept_same}
+use Rattle.log_reader.proofs.Kept.{kept_once}
 use Rattle.mirror_follow.specs.Gathering.{note_of}
+use Rattle.mirror_follow.proofs.Ending.{keeps_again, keeps_at}
 use Rattle.mirror_follow.proofs.Runs.{listed_note, no_run, one_run}
 use Rattle.mirror_follow.proofs.Taken.{taken_repeat, turn_ok}
 use Rattle.mirror_follow.proofs.Turning.{run_same}
@@ -10,7 +11,7 @@ use Rattle.mirror_follow.proofs.turns.take_turn_at.Goals as goal
 pub returns-then-is_repeated-clause-keeps : goal.returns-then-is_repeated-clause-keeps
 returns-then-is_repeated-clause-keeps g c =
     let x = g.D.Shelf.puts c.args.shelf.now in
-    no_run g.H.TreeHash.digest c.args.origin.now (map note_of c.args.candidates.now) x x (kept_same x)
+    no_run g.H.TreeHash.digest c.args.origin.now (map note_of c.args.candidates.now) x x (kept_once x)
 
 pub returns-then-is_repeated-clause-run : goal.returns-then-is_repeated-clause-run
 returns-then-is_repeated-clause-run g c = run_same _ _ (g.D.Shelf.puts c.args.shelf.now) c.args.run.now
@@ -35,3 +36,13 @@ returns-clause-taken g c =
     turn_ok g.H.TreeHash.digest c.take_turn.result c.args.candidates.now c.args.i c.requires.within c.index-candidates-i.result
     c.index-candidates-i.is (λ r. true≢false (sym (c.is_repeated.ensures.is.1 r) ∙ c.if-is_repeated.false)) c.args.run.now
     c.take_turn.new.run c.take_turn.ensures.taken
+
+pub returns-then-is_repeated-clause-fault : goal.returns-then-is_repeated-clause-fault
+returns-then-is_repeated-clause-fault g c =
+    keeps_again g.H.TreeHash.digest c.args.candidates.now c.args.i (c.is_repeated.ensures.some c.if-is_repeated.true)
+    c.requires.within c.args.run.now
+
+pub returns-clause-fault : goal.returns-clause-fault
+returns-clause-fault g c =
+    keeps_at g.H.TreeHash.digest c.take_turn.result c.args.candidates.now c.args.i c.index-candidates-i.result
+    c.requires.within c.index-candidates-i.is c.args.run.now c.take_turn.new.run c.take_turn.ensures.fault

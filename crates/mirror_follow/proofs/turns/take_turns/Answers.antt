@@ -1,7 +1,11 @@
-use Rattle.std.proofs.Common.{arith, map, refl, ◌∙◌}
-use Rattle.mirror_copy.proofs.Growth.{kept_same}
+use Rattle.std.proofs.Common.{arith, map, refl, List, Option, ◌∙◌}
+use Rattle.std.specs.Prelude.{⊤}
+use Rattle.log_reader.proofs.Kept.{kept_once}
 use Rattle.mirror_follow.proofs.Blame.{any_same, any_then}
-use Rattle.mirror_follow.proofs.Ending.{fails_now}
+use Rattle.std.proofs.lemmas.Result.{err_from_is_err_and}
+use Rattle.mirror_follow.proofs.Ending.{ends_so, fails_now, keeps_all, none_first}
+use Rattle.mirror_folders.specs.Shelf.{Put}
+use Rattle.mirror_follow.specs.Standing.{HasStanding, HoldsNoCopy, IsCopyOfRun}
 use Rattle.mirror_follow.specs.Gathering.{note_of}
 use Rattle.mirror_follow.proofs.Runs.{no_run, two_runs}
 use Rattle.mirror_follow.proofs.Taken.{taken_all, taken_begin}
@@ -11,16 +15,15 @@ use Rattle.mirror_follow.proofs.turns.take_turns.Goals as goal
 pub loop-i-init : goal.loop-i-init
 loop-i-init g c =
     let x = g.D.Shelf.puts c.args.shelf.now in record {
-      keeps = no_run g.H.TreeHash.digest c.args.origin.now (map note_of c.args.candidates.now) x x (kept_same x);
+      keeps = no_run g.H.TreeHash.digest c.args.origin.now (map note_of c.args.candidates.now) x x (kept_once x);
       counted = refl;
       run = run_first g.H.TreeHash.digest c.args.origin.now x c.args.copy c.new-run.result c.new-run.ensures.copy
-          c.requires.copy c.new-run.ensures.had c.new-run.ensures.fault
-          c.new-run.ensures.forks;
-      fault = λ lt. absurd (omega (arith, lt));
+          c.requires.copy c.new-run.ensures.had c.new-run.ensures.forks;
+      fault = λ none. c.new-run.ensures.fault;
       asks = any_same g.S.Source.may_answer g.S.Source.failed g.S.Source.asked c.args.places.now;
       source = λ e. absurd (cc (c.new-run.ensures.fault, e));
       taken = λ rises. taken_begin g.H.TreeHash.digest c.args.copy c.new-run.result c.new-run.ensures.copy
-          c.new-run.ensures.not_had c.new-run.ensures.behind c.new-run.ensures.reached;
+          c.new-run.ensures.forks c.new-run.ensures.not_had c.new-run.ensures.behind c.new-run.ensures.reached;
     }
 
 pub returns-in_err-take_turn_at-clause-keeps : goal.returns-in_err-take_turn_at-clause-keeps
@@ -39,7 +42,7 @@ loop-i-preserved g c = record {
       (g.D.Shelf.puts c.args.shelf.now) (g.D.Shelf.puts c.loop-i.shelf) (g.D.Shelf.puts c.take_turn_at.new.shelf)
       c.args.copy c.loop-i.run c.take_turn_at.new.run c.loop-i.invariant.run c.in_ok-take_turn_at.ensures.run;
   taken = λ rises. c.in_ok-take_turn_at.ensures.taken c.args.copy rises (c.loop-i.invariant.taken rises);
-  fault = λ lt. c.in_ok-take_turn_at.ensures.fault c.loop-i.invariant.fault;
+  fault = c.in_ok-take_turn_at.ensures.fault c.loop-i.invariant.fault;
   asks = any_then g.S.Source.may_answer g.S.Source.failed g.S.Source.asked c.args.places.now c.loop-i.places
       c.take_turn_at.new.places c.loop-i.invariant.asks c.take_turn_at.ensures.asks;
   source = fails_now g.S.Source.may_answer g.S.Source.failed g.S.Source.asked c.args.places.now c.loop-i.places
@@ -56,3 +59,22 @@ pub returns-clause-taken : goal.returns-clause-taken
 returns-clause-taken g c =
     λ rises. taken_all g.H.TreeHash.digest c.args.copy c.args.candidates.now c.loop-i.i c.loop-i.run
     (omega (arith, c.loop-i-test.false)) (c.loop-i.invariant.taken rises)
+
+pub returns-clause-fault : goal.returns-clause-fault
+returns-clause-fault g c =
+    keeps_all g.H.TreeHash.digest c.args.candidates.now c.loop-i.i c.loop-i.run (omega (arith, c.loop-i-test.false))
+    c.loop-i.invariant.fault
+
+pub returns-in_err-take_turn_at-clause-ends : goal.returns-in_err-take_turn_at-clause-ends
+returns-in_err-take_turn_at-clause-ends g c =
+    let digest = g.H.TreeHash.digest in
+    let origin = c.args.origin.now in
+    let x = g.D.Shelf.puts c.args.shelf.now in
+    let y = g.D.Shelf.puts c.loop-i.shelf in
+    let run = c.loop-i.run in
+    let p = err_from_is_err_and c.from_residual.result c.from_residual.ensures.1 in
+    rw (p.1, p.2) (ends_so ⊤ (HasStanding digest origin run.copy y → ⊥) ⊤
+    ((first : Option (List Put)) → IsCopyOfRun digest origin first x c.args.copy → HoldsNoCopy digest origin first)
+    c.in_err-take_turn_at.field-0.0 (λ t. t)
+    (λ none first known. none_first digest origin first y run.copy none (c.loop-i.invariant.run.known first known))
+    c.in_err-take_turn_at.ensures.ends)

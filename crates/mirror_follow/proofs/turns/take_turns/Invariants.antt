@@ -1,4 +1,4 @@
-use Rattle.std.proofs.Common.{◌≡◌, ◌<◌, Some, map, take}
+use Rattle.std.proofs.Common.{◌≡◌, Some, map, take}
 use Rattle.std.specs.List.Sorted.{IsSorted}
 use Rattle.mirror_follow.specs.Blame.{AsksAny, PlaceFails}
 use Rattle.mirror_follow.specs.Candidates.{turn_cmp}
@@ -16,7 +16,7 @@ invariant-loop-i g l = record {
       (g.D.Shelf.puts l.shelf);
   counted : g.D.Shelf.failed l.shelf ≡ g.D.Shelf.failed l.initial.shelf;
   run : IsRunFrom g.H.TreeHash.digest l.origin (g.D.Shelf.puts l.initial.shelf) (g.D.Shelf.puts l.shelf) l.fn.copy l.run;
-  fault : 0 < l.i → KeepsFault l.run;
+  fault : KeepsFault g.H.TreeHash.digest (take l.i l.candidates) l.run;
   asks : AsksAny g.S.Source.may_answer g.S.Source.failed g.S.Source.asked l.initial.places l.places;
   taken : IsSorted turn_cmp l.candidates → HasTakenRun g.H.TreeHash.digest l.fn.copy (take l.i l.candidates) l.run;
   source : l.run.first_fault ≡ Some Source → PlaceFails l.initial.places l.places;

@@ -1,5 +1,9 @@
 use Rattle.mirror_follow.proofs.Blame.{any_same}
-use Rattle.mirror_follow.proofs.Taken.{says_held, says_larger, says_none, says_noted}
+use Rattle.std.proofs.Common.{IfOk, subst, sym}
+use Rattle.mirror_follow.specs.Shown.{ShowsTurn}
+use Rattle.mirror_follow.specs.Taken.{SaysTurn}
+use Rattle.mirror_follow.proofs.Ending.{empty_says, empty_shows}
+use Rattle.mirror_follow.proofs.Taken.{says_held, says_noted}
 use Rattle.mirror_follow.proofs.turns.turn_for.Goals as goal
 
 pub returns-then-has_lesser_note-clause-asks : goal.returns-then-has_lesser_note-clause-asks
@@ -10,8 +14,17 @@ returns-then-candidate-copy-clause-asks g c = any_same g.S.Source.may_answer g.S
 
 pub returns-in_default-clause-says : goal.returns-in_default-clause-says
 returns-in_default-clause-says g c =
-    says_none g.H.TreeHash.digest c.take_larger.result c.args.run.now.copy c.args.candidate.now c.in_default.is
-    c.take_larger.ensures.says
+    let digest = g.H.TreeHash.digest in
+    let candidate = c.args.candidate.now in
+    subst (λ o. IfOk c.take_first.result (SaysTurn digest o candidate)) (sym c.in_default.is)
+    (empty_says digest c.take_first.result candidate c.take_first.ensures.empty)
+
+pub returns-in_default-clause-shows : goal.returns-in_default-clause-shows
+returns-in_default-clause-shows g c =
+    let digest = g.H.TreeHash.digest in
+    let candidate = c.args.candidate.now in
+    subst (λ o. IfOk c.take_first.result (ShowsTurn digest o candidate)) (sym c.in_default.is)
+    (empty_shows digest c.take_first.result candidate c.take_first.ensures.empty)
 
 pub returns-then-has_lesser_note-clause-says : goal.returns-then-has_lesser_note-clause-says
 returns-then-has_lesser_note-clause-says g c =
@@ -25,5 +38,5 @@ returns-then-candidate-copy-clause-says g c =
 
 pub returns-clause-says : goal.returns-clause-says
 returns-clause-says g c =
-    says_larger g.H.TreeHash.digest c.take_larger-2.result c.args.run.now.copy c.args.candidate.now c.in-Some.copy c.in-Some.is
-    c.if-candidate-copy.false c.take_larger-2.ensures.says
+    says_held g.H.TreeHash.digest c.take_larger.result c.args.run.now.copy c.args.candidate.now c.in-Some.copy c.in-Some.is
+    c.take_larger.ensures.says

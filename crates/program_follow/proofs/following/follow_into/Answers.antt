@@ -1,3 +1,5 @@
+use Rattle.std.proofs.Common.{◌≡◌, option_map, subst}
+use Rattle.mirror_follow.specs.Ending.{EndsFor}
 use Rattle.program_follow.proofs.following.follow_into.Goals as goal
 
 pub returns-in-Ok-follow_told-clause-follows : goal.returns-in-Ok-follow_told-clause-follows
@@ -10,3 +12,11 @@ returns-in-Err-follow_told-clause-follows g c = rw (← c.in-Ok.ensures.opened) 
 
 pub returns-in-Ok-follow_told-clause-says : goal.returns-in-Ok-follow_told-clause-says
 returns-in-Ok-follow_told-clause-says g c = rw (← c.in-Ok.ensures.opened) c.in-Ok-follow_told.ensures.says
+
+pub returns-in-Err-clause-ends : goal.returns-in-Err-clause-ends
+returns-in-Err-clause-ends g c = λ fault e. absurd cc
+
+pub returns-in-Err-follow_told-clause-ends : goal.returns-in-Err-follow_told-clause-ends
+returns-in-Err-follow_told-clause-ends g c = λ fault e.
+    let same : c.in-Err-follow_told.fault ≡ fault = cc in
+    rw (← same) (rw (← c.in-Ok.ensures.opened) c.in-Err-follow_told.ensures.ends)

@@ -1,7 +1,7 @@
 use Rattle.std.proofs.Common.{option_map, refl}
 use Rattle.std.proofs.KnownBytes.{Keeps-refl}
 use Rattle.program_follow.specs.Following.{IsNoteOf}
-use Rattle.program_follow.proofs.Noted.{follows_ended, follows_told, note_had, says_printed, told_counts}
+use Rattle.program_follow.proofs.Noted.{ends_so, ends_told, follows_ended, follows_told, note_had, says_printed, told_counts}
 use Rattle.program_follow.proofs.following.run_follow.Goals as goal
 
 pub returns-in-Ok-follow_into-clause-follows : goal.returns-in-Ok-follow_into-clause-follows
@@ -33,3 +33,14 @@ pub returns-in-Ok-follow_into-clause-says : goal.returns-in-Ok-follow_into-claus
 returns-in-Ok-follow_into-clause-says g c =
     says_printed _ _ _ _ _ _ _ _ (option_map (λ v. v.items) c.in-Ok.given) _ _ _ c.in-Ok-follow_into.done _ _ _ _
     c.tell_done.result c.in-Ok.ensures c.in-Ok-follow_into.ensures.says c.tell_done.ensures.tells
+
+pub returns-in-Ok-follow_into-clause-ends : goal.returns-in-Ok-follow_into-clause-ends
+returns-in-Ok-follow_into-clause-ends g c =
+    ends_told g.H.TreeHash.digest g.S.Source.may_answer _ _ _ c.args.places.now c.follow_into.new.places _ _
+    (option_map (λ v. v.items) c.in-Ok.given) c.in-Ok.ensures _ c.in-Ok-follow_into.done _ _ _ _ c.tell_done.result
+    c.tell_done.ensures.tells
+
+pub returns-in-Err-follow_into-clause-ends : goal.returns-in-Err-follow_into-clause-ends
+returns-in-Err-follow_into-clause-ends g c = λ fault e.
+    ends_so g.H.TreeHash.digest g.S.Source.may_answer _ _ _ c.args.places.now c.follow_into.new.places _ _
+    (option_map (λ v. v.items) c.in-Ok.given) c.in-Ok.ensures fault (c.in-Err-follow_into.ensures.ends fault e)
