@@ -1,4 +1,4 @@
-use Rattle.std.proofs.Common.{◌≤◌, subst, arith}
+use Rattle.std.proofs.Common.{◌≤◌, subst}
 use Rattle.copy_reader.proofs.WholeCopies.{files_later}
 use Rattle.program_monitor.proofs.WholeSteps.{answers_written}
 use Rattle.program_monitor.proofs.copied.write_range.Goals as goal
