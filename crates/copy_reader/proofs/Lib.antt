@@ -1,2 +1,4 @@
 pub mod HeadNotes
 pub mod ShelfSources
+pub mod WholeCopies
+pub mod WholeLaws

@@ -8,7 +8,8 @@ use Rattle.mirror_sources.specs.Told.{KeepsTold}
 use Rattle.mirror_folders.specs.Shelf.{Put, TellsRead}
 use Rattle.copy_reader.specs.ShelfSources.{MayGive}
 
-told_before : (x y : Option (List Put)) (path : Path) (answer : Option (List ℕ)) → KeepsTold x y →
+-- what is read of a shelf that kept what was put was there before
+pub told_before : (x y : Option (List Put)) (path : Path) (answer : Option (List ℕ)) → KeepsTold x y →
     TellsRead y path answer → TellsRead x path answer
 told_before None y path None k told = tt
 told_before None y path (Some bytes) k told = tt

@@ -9,6 +9,7 @@ use Rattle.mirror_model.specs.Origin.{IsOrigin}
 use Rattle.mirror_model.specs.Refusals.{ReadsHead}
 use Rattle.mirror_model.specs.declared.fault.TakeFault.{TakeFault}
 use Rattle.log_reader.specs.Ways.{Reader}
+use Rattle.copy_reader.specs.WholeCopies.{IsDamaged}
 use Rattle.copy_reader.specs.declared.fault.CopyFault.{CopyFault}
 use Rattle.copy_reader.specs.declared.fault.CopyFault.TheVariants.{Origin, Head, CopyDamaged, ShelfFault, OutOfMemory}
 
@@ -33,16 +34,17 @@ module _ (origin : List ℕ) (keys : List Key) (held : Option (List Put)) where
   abbrev pub IsEmptyCopy : Type 0
   IsEmptyCopy = TellsRead held Checkpoint None
 
+module _ (digest : List ℕ → List ℕ) (origin : List ℕ) (keys : List Key) (held : Option (List Put)) where
   -- why a copy is not read
   abbrev pub IsRefused : CopyFault → Type 0
   IsRefused (Origin fault) = ¬ IsOrigin origin
-  IsRefused (Head fault) = RefusesCheckpoint fault
-  IsRefused (CopyDamaged path) = ⊤
+  IsRefused (Head fault) = RefusesCheckpoint origin keys held fault
+  IsRefused (CopyDamaged path) = IsDamaged digest origin held
   IsRefused ShelfFault = ⊤
   IsRefused OutOfMemory = ⊤
 
   -- what each answer of opening a copy says of the shelf
   abbrev pub OpensCopy : Result (Option Reader) CopyFault → Type 0
-  OpensCopy (Ok (Some reader)) = HasCheckpoint reader.edge.size reader.root
-  OpensCopy (Ok None) = IsEmptyCopy
+  OpensCopy (Ok (Some reader)) = HasCheckpoint origin keys held reader.edge.size reader.root
+  OpensCopy (Ok None) = IsEmptyCopy origin keys held
   OpensCopy (Err fault) = IsRefused fault

@@ -1,5 +1,6 @@
 pub mod ShelfSources
 pub mod Faults
+pub mod WholeCopies
 pub mod Copies
 pub mod Shown
 pub mod Proofs

@@ -1,8 +1,11 @@
 //! A bundle of a copy.
-ghost use Rattle.std.specs.Prelude.{◌≡◌, ◌*◌, ◌<◌, IfOk};
+ghost use Rattle.std.specs.Prelude.{◌≡◌, ◌*◌, ◌<◌, IfOk, length};
+ghost use Rattle.tlog_tiles.specs.Tiles.{bundle_bytes};
 ghost use Rattle.mirror_sources.specs.Told.{KeepsTold};
+ghost use Rattle.log_reader.specs.Holding.{row_width};
 ghost use Rattle.log_reader.specs.Ways.{IsShownBundle};
 ghost use Rattle.copy_reader.specs.Faults.{CountsRead};
+ghost use Rattle.copy_reader.specs.WholeCopies.{IsShelfFailure, ReadsCopyOf};
 
 use crate::fault::CopyFault;
 use crate::shelf_source::ShelfSource;
@@ -35,6 +38,10 @@ pub fn read_bundle<H: TreeHash, D: ReadableShelf>(
         (λ bytes. IsShownBundle H.digest reader.old.edge index bytes.items) }
     ensures same { KeepsTold (D.puts shelf.old) (D.puts shelf.new) }
     ensures counted { CountsRead (D.failed shelf.old) (D.failed shelf.new) result }
+    ensures honest { ReadsCopyOf IsShelfFailure H.digest reader.old reader.new
+        (D.puts shelf.old) result
+        (λ entries bytes. bytes.items
+        ≡ bundle_bytes entries index (row_width (length entries) 0 index)) }
 {
     let mut files = ShelfSource::new(shelf);
     Ok(reader.bundle(alloc, &mut files, index)?)

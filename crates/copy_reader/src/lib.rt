@@ -10,6 +10,7 @@
 
 mod bundle;
 mod fault;
+mod laws;
 mod opened;
 mod proof_text;
 mod proving;
@@ -19,6 +20,7 @@ mod status;
 
 pub use bundle::read_bundle;
 pub use fault::CopyFault;
+pub use laws::whole_copies_law;
 pub use opened::{open_reader, open_shelf};
 pub use proof_text::read_proof_text;
 pub use root::read_root;

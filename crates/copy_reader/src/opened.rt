@@ -1,8 +1,10 @@
 //! A copy opened: its checkpoint, and a reader of its log.
-ghost use Rattle.std.specs.Prelude.{◌≡◌, IfOk, map};
+ghost use Rattle.std.specs.Prelude.{◌≡◌, IfErr, IfOk, map};
 ghost use Rattle.mirror_sources.specs.Told.{KeepsTold};
 ghost use Rattle.copy_reader.specs.Copies.{OpensCopy};
 ghost use Rattle.copy_reader.specs.Faults.{CountsCopy, CountsRead};
+ghost use Rattle.copy_reader.specs.WholeCopies.{IsOfShelf, OpensWhole, ReadsCopyLog};
+ghost use Rattle.log_reader.specs.Holding.{IsReaderOf};
 
 use crate::fault::CopyFault;
 use crate::shelf_source::ShelfSource;
@@ -35,6 +37,8 @@ pub fn open_reader<H: TreeHash, D: ReadableShelf>(
     ensures root { IfOk result (λ reader. reader.root ≡ root.now) }
     ensures same { KeepsTold (D.puts shelf.old) (D.puts shelf.new) }
     ensures counted { CountsRead (D.failed shelf.old) (D.failed shelf.new) result }
+    ensures honest { ReadsCopyLog H.digest size root.now (D.puts shelf.old) result
+        (λ entries reader. IsReaderOf H.digest entries reader) }
 {
     let mut files = ShelfSource::new(shelf);
     Ok(LogReader::open(alloc, &mut files, size, root)?)
@@ -59,9 +63,12 @@ pub fn open_shelf<H: TreeHash, D: ReadableShelf>(
     origin: &str,
     keys: &[Box<dyn Verifier>],
 ) -> Result<Option<LogReader<H>>, CopyFault>
-    ensures answer { OpensCopy origin.now (map (λ k. key k) keys.now) (D.puts shelf.old) result }
+    ensures answer { OpensCopy H.digest origin.now (map (λ k. key k) keys.now)
+        (D.puts shelf.old) result }
     ensures same { KeepsTold (D.puts shelf.old) (D.puts shelf.new) }
     ensures counted { CountsCopy (D.failed shelf.old) (D.failed shelf.new) result }
+    ensures fault { IfErr result IsOfShelf }
+    ensures honest { IfOk result (OpensWhole H.digest origin.now (D.puts shelf.old)) }
 {
     let Some(note) = shelf.read(&Path::Checkpoint)? else {
         return Ok(None);

@@ -1,10 +1,13 @@
 //! Earlier roots of a copy.
-ghost use Rattle.std.specs.Prelude.{◌≡◌, ◌≤◌, IfOk};
+ghost use Rattle.std.specs.Prelude.{◌≡◌, ◌≤◌, IfOk, take};
+ghost use Rattle.tlog_hash.specs.Tree.{mth};
 ghost use Rattle.mirror_sources.specs.Source.{StaysWithin};
 ghost use Rattle.mirror_sources.specs.Told.{KeepsTold};
 ghost use Rattle.log_reader.specs.Faults.{CountsFailure};
+ghost use Rattle.log_reader.specs.Holding.{ReadsOf};
 ghost use Rattle.copy_reader.specs.Faults.{CountsRead};
 ghost use Rattle.copy_reader.specs.Shown.{IsRootOf};
+ghost use Rattle.copy_reader.specs.WholeCopies.{IsShelfFailure, ReadsCopyOf};
 
 use crate::fault::CopyFault;
 use crate::shelf_source::ShelfSource;
@@ -29,6 +32,8 @@ fn root_of<H: TreeHash, S: Source>(
     ensures later { StaysWithin (S.may_answer files.old) (S.may_answer files.new) }
     ensures kept { KeepsTold (S.files files.old) (S.files files.new) }
     ensures counted { CountsFailure (S.failed files.old) (S.failed files.new) result }
+    ensures honest { ReadsOf H.digest reader.old reader.new (S.may_answer files.old) result
+        (λ entries root. root ≡ mth H.digest (take size entries)) }
 {
     let root = reader.root();
     if size == reader.size() {
@@ -61,6 +66,9 @@ pub fn read_root<H: TreeHash, D: ReadableShelf>(
     ensures root { reader.new.root ≡ reader.old.root }
     ensures same { KeepsTold (D.puts shelf.old) (D.puts shelf.new) }
     ensures counted { CountsRead (D.failed shelf.old) (D.failed shelf.new) result }
+    ensures honest { ReadsCopyOf IsShelfFailure H.digest reader.old reader.new
+        (D.puts shelf.old) result
+        (λ entries root. root ≡ mth H.digest (take size entries)) }
 {
     let mut files = ShelfSource::new(shelf);
     Ok(root_of(alloc, reader, &mut files, size)?)

@@ -19,9 +19,12 @@ use Rattle.copy_server.specs.CopyHeads.{CopyHead, IsCopyHead}
 use Rattle.copy_reader.specs.Faults.{CountsRead}
 use Rattle.copy_reader.specs.declared.fault.CopyFault.{CopyFault}
 use Rattle.copy_reader.specs.declared.fault.CopyFault.TheVariants as copy
-use Rattle.copy_server.specs.Faults.{by_body}
+use Rattle.copy_reader.specs.WholeCopies.{IsDamaged}
+use Rattle.copy_server.specs.Asking.{AsksNoProof}
+use Rattle.copy_server.specs.Faults.{BlamesCopy, by_body}
 use Rattle.copy_server.specs.declared.fault.CopyAnswerFault.{CopyAnswerFault}
 use Rattle.copy_server.specs.declared.fault.CopyAnswerFault.TheVariants.{Http, CopyDamaged, ShelfFault}
+use Rattle.copy_server.proofs.Blaming.{blamed}
 use Rattle.copy_server.proofs.CopyBodies.{one_copy_head}
 
 -- the bytes under the checkpoint that was read, or that there are none, are those of the copy, while what was put is kept
@@ -96,20 +99,26 @@ module _ {X : Type 0} (old new : Option (List ℕ)) (digest : List ℕ → List 
   answers_whole (Some bytes) (Some puts) request reply r asks is w = whole puts bytes reply r (is bytes asks) w
 
   error : (puts : List Put) (bytes : List ℕ) (fault : CopyAnswerFault) (r : Result X CopyAnswerFault) →
-      WritesError fault old new r → AnswersFromCopy digest origin puts bytes old new r
-  error puts bytes fault (Ok x) w = absurd w
-  error puts bytes fault (Err (Http ReadFault)) w = absurd w
-  error puts bytes fault (Err (Http WriteFault)) w = (server_error, inr refl, w)
-  error puts bytes fault (Err (Http OutOfMemory)) w = w
-  error puts bytes fault (Err (CopyDamaged path)) w = w.1
-  error puts bytes fault (Err ShelfFault) w = w.1
+      WritesError fault old new r →
+      ((path : Path) → fault ≡ CopyDamaged path → AsksNoProof bytes → IsDamaged digest origin (Some puts)) →
+      AnswersFromCopy digest origin puts bytes old new r
+  error puts bytes fault (Ok x) w blames = absurd w
+  error puts bytes fault (Err (Http ReadFault)) w blames = absurd w
+  error puts bytes fault (Err (Http WriteFault)) w blames = (server_error, inr refl, w)
+  error puts bytes fault (Err (Http OutOfMemory)) w blames = w
+  error puts bytes fault (Err (CopyDamaged path)) w blames = (w.1, blames path w.0)
+  error puts bytes fault (Err ShelfFault) w blames = w.1
 
-  pub answers_error : (known : Option (List ℕ)) (held : Option (List Put)) (fault : CopyAnswerFault)
-      (r : Result X CopyAnswerFault) → WritesError fault old new r →
+  pub answers_error : (known : Option (List ℕ)) (held : Option (List Put)) (request : Request) (body : CopyFault)
+      (fault : CopyAnswerFault) (r : Result X CopyAnswerFault) → IfSome known (λ bytes. IsRequestOf bytes request) →
+      ((bytes : List ℕ) → IsRequestOf bytes request → AsksNoProof bytes → BlamesCopy digest origin held body) →
+      fault ≡ by_body body → WritesError fault old new r →
       IfSome known (λ bytes. IfSome held (λ puts. AnswersFromCopy digest origin puts bytes old new r))
-  answers_error None held fault r w = tt
-  answers_error (Some bytes) None fault r w = tt
-  answers_error (Some bytes) (Some puts) fault r w = error puts bytes fault r w
+  answers_error None held request body fault r asks blames e w = tt
+  answers_error (Some bytes) None request body fault r asks blames e w = tt
+  answers_error (Some bytes) (Some puts) request body fault r asks blames e w =
+      error puts bytes fault r w
+      (λ path is none. blamed digest origin (Some puts) body path (blames bytes asks none) (sym e ∙ is))
 
 counts_some : (T : Type 0) (a b : ℕ) (fault : CopyFault) → CountsRead {T = T} a b (Err fault) →
     (b ≡ a) ⊎ (b ≡ one_more a)

@@ -1,7 +1,6 @@
 -- What a copy has of each resource that is no proof is what the mirror of its view has.
 use Rattle.std.proofs.Common.{◌≡◌, ℕ, ◌≤◌, ◌^◌, List, [], ◌∷◌, length, Option, Some, None, refl, sym, ap, subst, ◌∙◌, inl, inr, arith}
 use Rattle.std.specs.FinSet as set
-use Rattle.std.specs.Prelude.{⊤}
 use Rattle.tlog_hash.specs.Tree.{mth, strings}
 use Rattle.tlog_tiles.specs.declared.paths.Path.{Path}
 use Rattle.tlog_tiles.specs.declared.paths.Path.TheVariants.{Checkpoint, Tile, Entries}
@@ -23,7 +22,7 @@ use Rattle.mirror_server.specs.Response.{IsBody}
 use Rattle.mirror_server.specs.declared.resource.Resource.{Resource}
 use Rattle.mirror_server.specs.declared.resource.Resource.TheVariants.{File, Status, Forks, Missing, Proof}
 use Rattle.copy_reader.specs.Statuses.{copy_status}
-use Rattle.copy_server.specs.Bodies.{head_point, IsBodyAt, IsCopyBody}
+use Rattle.copy_server.specs.Bodies.{head_point, IsBodyAt, IsCopyBody, IsNoProof}
 use Rattle.copy_server.specs.CopyHeads.{copy_head, CopyHead, IsCopyHead}
 use Rattle.copy_server.specs.CopyLaws.{copy_view}
 use Rattle.copy_server.specs.GivenFiles.{IsFileGiven, IsFileRead, IsTaken, of_width}
@@ -32,14 +31,6 @@ use Rattle.copy_server.proofs.OneViews.{one_served, one_size, one_status}
 use Rattle.copy_server.proofs.ShelfFiles.{stands_has, stands_one}
 use Rattle.copy_server.proofs.TrueFiles.{bundle_taken, first_bundle, first_tile, tile_taken}
 use Rattle.copy_server.proofs.Widths.{widest_there, within_upto}
-
--- the resource is no proof
-abbrev pub IsNoProof : Resource → Type 0
-IsNoProof (File path) = ⊤
-IsNoProof Status = ⊤
-IsNoProof Forks = ⊤
-IsNoProof (Missing size root) = ⊤
-IsNoProof (Proof ask) = ⊥
 
 -- what stands at the checkpoint's path is one head at most
 pub one_copy_head : (origin : List ℕ) (puts : List Put) (a b : Option CopyHead) → IsCopyHead origin (Some puts) a →
@@ -85,7 +76,7 @@ module _ (digest : List ℕ → List ℕ) (hash : IsDigest digest) (origin note 
           stands_one puts (of_width path widest) file (served_bytes digest note entries (of_width path widest))
               (subst (λ k. Stands puts (of_width path k) file) same read.stands) stands,
         )
-        | inr none ↦ absurd (none (stands_has puts (of_width path widest) _ stands))
+        | inr other ↦ absurd (other.0 (stands_has puts (of_width path widest) _ stands))
       ]
 
   given_tile : (level index width : ℕ) (body : List ℕ) → IsFileGiven (Some puts) n (Tile level index width) body →

@@ -4,6 +4,8 @@ pub mod FirstEntries
 pub mod ShelfFiles
 pub mod OneViews
 pub mod TrueFiles
+pub mod WholeFiles
 pub mod CopyBodies
 pub mod MirrorAnswers
+pub mod Blaming
 pub mod Answering

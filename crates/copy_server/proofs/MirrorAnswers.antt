@@ -10,12 +10,13 @@ use Rattle.mirror_server.specs.Response.{found, HasRequest, IsBody, IsFoundBy, I
 use Rattle.mirror_server.specs.Response.{other_method, not_there, is_there, silent, refused, replied}
 use Rattle.mirror_server.specs.declared.resource.Resource.{Resource}
 use Rattle.mirror_server.specs.declared.resource.Resource.TheVariants.{File, Status, Forks, Missing, Proof}
-use Rattle.copy_server.specs.Bodies.{IsCopyBody}
-use Rattle.copy_server.specs.CopyLaws.{AsksNoProof, CopiesAnswerAsMirrors, empty, IsViewOf, whole}
-use Rattle.copy_server.proofs.CopyBodies.{from_copy, from_empty, IsNoProof, to_copy, to_empty}
+use Rattle.copy_server.specs.Bodies.{IsCopyBody, IsNoProof}
+use Rattle.copy_server.specs.CopyLaws.{CopiesAnswerAsMirrors, empty, IsViewOf, whole}
+use Rattle.copy_server.specs.Asking.{AsksNoProof}
+use Rattle.copy_server.proofs.CopyBodies.{from_copy, from_empty, to_copy, to_empty}
 
 -- a target that names no proof names something else
-no_proof : (target : List ℕ) (r : Resource) → Names target r → ((ask : Ask) → Names target (Proof ask) → ⊥) → IsNoProof r
+pub no_proof : (target : List ℕ) (r : Resource) → Names target r → ((ask : Ask) → Names target (Proof ask) → ⊥) → IsNoProof r
 no_proof target (File path) names none = tt
 no_proof target Status names none = tt
 no_proof target Forks names none = tt

@@ -1,14 +1,32 @@
 -- The bytes that a copy has of each resource: what a mirror has that holds the copy's checkpoint, complete, and no other.
-use Rattle.std.specs.Prelude.{◌≡◌, ℕ, List, [], Option, Some, None}
+use Rattle.std.specs.Prelude.{◌≡◌, ℕ, List, [], Option, Some, None, ⊤}
 use Rattle.tlog_tiles.specs.declared.paths.Path.TheVariants.{Checkpoint, Tile, Entries}
 use Rattle.mirror_folders.specs.Shelf.{Put}
 use Rattle.mirror_model.specs.Forks.{Point}
+use Rattle.mirror_server.specs.declared.request.Request.{Request}
+use Rattle.mirror_server.specs.declared.request.Request.TheVariants.{Nothing, Unreadable, OtherMethod, Unknown, Get}
 use Rattle.mirror_server.specs.declared.resource.Resource.{Resource}
 use Rattle.mirror_server.specs.declared.resource.Resource.TheVariants.{File, Status, Forks, Missing, Proof}
 use Rattle.copy_reader.specs.Statuses.{copy_status}
 use Rattle.copy_server.specs.CopyHeads.{CopyHead, IsCopyHead}
 use Rattle.copy_server.specs.GivenFiles.{IsFileGiven}
 use Rattle.copy_server.specs.GivenProofs.{IsProofGiven}
+
+-- the resource is no proof
+abbrev pub IsNoProof : Resource → Type 0
+IsNoProof (File path) = ⊤
+IsNoProof Status = ⊤
+IsNoProof Forks = ⊤
+IsNoProof (Missing size root) = ⊤
+IsNoProof (Proof ask) = ⊥
+
+-- the request is for no proof
+abbrev pub WantsNoProof : Request → Type 0
+WantsNoProof Nothing = ⊤
+WantsNoProof Unreadable = ⊤
+WantsNoProof OtherMethod = ⊤
+WantsNoProof Unknown = ⊤
+WantsNoProof (Get resource) = IsNoProof resource
 
 -- the size and root of a checkpoint
 abbrev pub head_point : CopyHead → Point

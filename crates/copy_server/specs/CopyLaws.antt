@@ -1,9 +1,7 @@
 -- What is answered from a copy is what a mirror answers that holds the copy's checkpoint, complete, and no other.
 use Rattle.std.specs.Prelude.{◌≡◌, ℕ, List, [], ◌∷◌, length, Some, ⊤}
 use Rattle.std.specs.FinSet as set
-use Rattle.httparse.specs.Grammar.{RequestHead}
 use Rattle.tlog_hash.specs.Tree.{mth, strings}
-use Rattle.tlog_proof.specs.declared.proof.Ask.{Ask}
 use Rattle.tlog_tiles.specs.declared.paths.Path.TheVariants.{Checkpoint}
 use Rattle.node_store.specs.Strings.{NoClash}
 use Rattle.mirror_export.specs.SinceLaws.{HoldsLog}
@@ -12,9 +10,8 @@ use Rattle.mirror_model.specs.Heads.{IsHead}
 use Rattle.mirror_model.specs.Strings.{IsDigest}
 use Rattle.mirror_model.specs.TrueLaws.{AreShort}
 use Rattle.mirror_model.specs.View.{nothing, View}
-use Rattle.mirror_server.specs.Resource.{Names}
-use Rattle.mirror_server.specs.Response.{HasRequest, Response, ResponseBy}
-use Rattle.mirror_server.specs.declared.resource.Resource.TheVariants.{Proof}
+use Rattle.mirror_server.specs.Response.{Response, ResponseBy}
+use Rattle.copy_server.specs.Asking.{AsksNoProof}
 use Rattle.copy_server.specs.Bodies.{IsCopyBody}
 
 -- the view of a mirror that holds one note, and the strings of the tree of those entries
@@ -34,10 +31,6 @@ pub data IsViewOf (digest : List ℕ → List ℕ) (origin : List ℕ) (puts : L
       IsHead note origin (length entries) (mth digest entries) → HoldsLog digest note entries puts →
       NoClash digest (set.from_list (strings digest entries)) →
       IsViewOf digest origin puts (copy_view digest origin note entries)
-
--- the bytes ask for no proof
-abbrev pub AsksNoProof : List ℕ → Type 0
-AsksNoProof bytes = (h : RequestHead) → HasRequest bytes h → (ask : Ask) → ¬ Names h.target (Proof ask)
 
 -- what is answered from a copy to bytes that ask for no proof is what a mirror of its view answers
 abbrev pub CopiesAnswerAsMirrors : Type 0

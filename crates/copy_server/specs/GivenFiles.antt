@@ -48,10 +48,13 @@ IsFirstOf (Entries index width) file bytes = IsFirstEntries width file bytes
 abbrev pub IsTaken : Path → ℕ → List ℕ → List ℕ → Type 0
 IsTaken path width file bytes = ((width ≡ path_width path) × (bytes ≡ file)) ⊎ IsFirstOf path file bytes
 
--- the file of that width stands at the place; where it is not the widest that the log has there, that one does not stand
+-- the file of that width stands at the place. It is the widest that the log has there; where that does not stand, the path's
+-- own, or the full one
 pub record IsFileRead (held : Option (List Put)) (path : Path) (widest width : ℕ) (file : List ℕ) : Type 0 where
   pub stands : TellsRead held (of_width path width) (Some file)
-  pub preferred : (width ≡ widest) ⊎ TellsRead held (of_width path widest) None
+  pub preferred :
+      (width ≡ widest)
+      ⊎ (TellsRead held (of_width path widest) None × ((width ≡ path_width path) ⊎ (width ≡ 256)))
 
 -- the bytes that a copy of n entries gives for a path
 pub record IsFileGiven (held : Option (List Put)) (n : ℕ) (path : Path) (bytes : List ℕ) : Type 0 where

@@ -1,12 +1,14 @@
 //! The bytes of what is asked for.
-ghost use Rattle.std.specs.Prelude.{◌≡◌, ◌↔◌, ℕ, List, [], IfNone, IfOk, IfSome, IsTrue, None, Option, Some, option_map};
+ghost use Rattle.std.specs.Prelude.{◌≡◌, ◌↔◌, ℕ, List, [], IfErr, IfNone, IfOk, IfSome, IsTrue, None, Option, Some, length, option_map};
 ghost use Rattle.mirror_folders.specs.Shelf.{Put};
 ghost use Rattle.mirror_server.specs.Answered.{IsBodyFor};
 ghost use Rattle.mirror_server.specs.declared.request.Request.TheVariants as Request;
 ghost use Rattle.mirror_sources.specs.Told.{KeepsTold};
-ghost use Rattle.copy_server.specs.Bodies.{IsBodyAt, IsCopyBody};
+ghost use Rattle.copy_server.specs.Bodies.{IsBodyAt, IsCopyBody, IsNoProof, WantsNoProof};
 ghost use Rattle.copy_server.specs.CopyHeads.{copy_head};
 ghost use Rattle.copy_reader.specs.Faults.{CountsRead};
+ghost use Rattle.copy_reader.specs.WholeCopies.{HasFilesOf, IsShelfFailure};
+ghost use Rattle.copy_server.specs.Faults.{BlamesCopy};
 
 use crate::checkpoint::read_checkpoint;
 use crate::file::read_file;
@@ -55,11 +57,13 @@ fn held_body<H: TreeHash, D: ReadableShelf>(
         resource.now body)) }
     ensures same { KeepsTold (D.puts shelf.old) (D.puts shelf.new) }
     ensures counted { CountsRead (D.failed shelf.old) (D.failed shelf.new) result }
+    ensures honest { IsNoProof resource.now → (entries : List (List ℕ)) → length entries ≡ head.1
+        → HasFilesOf H.digest entries (D.puts shelf.old) → IfErr result IsShelfFailure }
 {
     let (note, size, root) = head;
     match *resource {
         Resource::File(Path::Checkpoint) => Ok(Some(note)),
-        Resource::File(path) => read_file::<D>(alloc, shelf, size, &path),
+        Resource::File(path) => read_file::<H, D>(alloc, shelf, size, &path),
         Resource::Status => {
             Ok(Some(status_text(alloc, origin, &Some((size, root)))?.into_bytes()))
         }
@@ -98,7 +102,7 @@ fn missing_body(alloc: Global, size: u64, root: &Hash, asked: u64, hash: &Hash) 
 ///
 /// `CopyDamaged` where a file that is wanted is missing or false. `ShelfFault` where the shelf failed, which it counts.
 /// `OutOfMemory` where memory was refused.
-#[tactic(auto, using(crate::proofs::Answering::copy_body_at, log_reader::proofs::Kept::kept_twice))]
+#[tactic(auto, using(crate::proofs::Answering::copy_body_at, crate::proofs::Blaming::body_blames, log_reader::proofs::Kept::kept_twice))]
 fn copy_body<H: TreeHash, D: ReadableShelf>(
     alloc: Global,
     shelf: &mut D,
@@ -110,6 +114,8 @@ fn copy_body<H: TreeHash, D: ReadableShelf>(
         (option_map (λ body. body.items) o))) }
     ensures same { KeepsTold (D.puts shelf.old) (D.puts shelf.new) }
     ensures counted { CountsRead (D.failed shelf.old) (D.failed shelf.new) result }
+    ensures blames { IsNoProof resource.now
+        → IfErr result (BlamesCopy H.digest origin.now (D.puts shelf.old)) }
 {
     match read_checkpoint::<D>(alloc, shelf, origin)? {
         Some(head) => held_body::<H, D>(alloc, shelf, origin, head, resource),
@@ -133,6 +139,8 @@ pub(crate) fn requested_body<H: TreeHash, D: ReadableShelf>(
         (option_map (λ body. body.items) o))) }
     ensures same { KeepsTold (D.puts shelf.old) (D.puts shelf.new) }
     ensures counted { CountsRead (D.failed shelf.old) (D.failed shelf.new) result }
+    ensures blames { WantsNoProof request.now
+        → IfErr result (BlamesCopy H.digest origin.now (D.puts shelf.old)) }
 {
     match request {
         Request::Get(resource) => copy_body::<H, D>(alloc, shelf, origin, resource),

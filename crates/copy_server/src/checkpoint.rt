@@ -1,8 +1,9 @@
 //! The checkpoint of a copy.
-ghost use Rattle.std.specs.Prelude.{◌≡◌, IfOk, option_map};
+ghost use Rattle.std.specs.Prelude.{◌≡◌, ℕ, IfErr, IfOk, List, option_map};
 ghost use Rattle.mirror_sources.specs.Told.{KeepsTold};
 ghost use Rattle.copy_server.specs.CopyHeads.{IsCopyHead, copy_head};
 ghost use Rattle.copy_reader.specs.Faults.{CountsRead};
+ghost use Rattle.copy_server.specs.Faults.{BlamesCopy};
 
 use copy_reader::CopyFault;
 use log_reader::head_of;
@@ -12,6 +13,7 @@ use tlog_hash::Hash;
 use tlog_tiles::Path;
 
 /// The checkpoint that stands on the shelf: its note, its size and its root. None where the copy is empty.
+#[tactic(auto, using(crate::proofs::Blaming::bad_head))]
 pub(crate) fn read_checkpoint<D: ReadableShelf>(
     alloc: Global,
     shelf: &mut D,
@@ -21,6 +23,8 @@ pub(crate) fn read_checkpoint<D: ReadableShelf>(
         (option_map (λ head. copy_head head.0.items head.1 head.2) found)) }
     ensures same { KeepsTold (D.puts shelf.old) (D.puts shelf.new) }
     ensures counted { CountsRead (D.failed shelf.old) (D.failed shelf.new) result }
+    ensures blames { (digest : List ℕ → List ℕ)
+        → IfErr result (BlamesCopy digest origin.now (D.puts shelf.old)) }
 {
     let Some(note) = shelf.read(&Path::Checkpoint)? else {
         return Ok(None);

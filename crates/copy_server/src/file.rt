@@ -1,16 +1,18 @@
 //! A tile or a bundle of a copy.
-ghost use Rattle.std.specs.Prelude.{◌≡◌, IfNone, IfOk, IfSome, Some, option_map};
+ghost use Rattle.std.specs.Prelude.{◌≡◌, ◌⊎◌, IfErr, IfNone, IfOk, IfSome, List, None, Some, length, option_map, ℕ};
 ghost use Rattle.tlog_tiles.specs.Tiles.{IsWithin};
 ghost use Rattle.mirror_folders.specs.Shelf.{TellsRead};
 ghost use Rattle.mirror_sources.specs.Told.{KeepsTold};
 ghost use Rattle.copy_reader.specs.Faults.{CountsRead};
-ghost use Rattle.copy_server.specs.GivenFiles.{IsFileGiven, IsFileRead, of_width};
+ghost use Rattle.copy_reader.specs.WholeCopies.{HasFilesOf, IsShelfFailure};
+ghost use Rattle.copy_server.specs.GivenFiles.{IsFileGiven, IsFileRead, of_width, path_width};
 
 use crate::cut::take_part;
 use crate::width::{own_width, widest_if_within, with_width};
 use copy_reader::CopyFault;
 use mirror_folders::ReadableShelf;
 use std::alloc::Global;
+use tlog_hash::TreeHash;
 use tlog_tiles::Path;
 
 // The file of that width at a path's place.
@@ -22,6 +24,7 @@ fn read_width<D: ReadableShelf>(
     ensures told { IfOk result (λ o. TellsRead (D.puts shelf.old) (of_width path.now width)
         (option_map (λ found. found.1.items) o)) }
     ensures width { IfOk result (λ o. IfSome o (λ found. found.0 ≡ width)) }
+    ensures fault { IfErr result IsShelfFailure }
     ensures same { KeepsTold (D.puts shelf.old) (D.puts shelf.new) }
     ensures counted { CountsRead (D.failed shelf.old) (D.failed shelf.new) result }
 {
@@ -39,6 +42,11 @@ fn read_other<D: ReadableShelf>(
 ) -> Result<Option<(u32, Vec<u8>)>, CopyFault>
     ensures told { IfOk result (λ o. IfSome o (λ found. TellsRead (D.puts shelf.old)
         (of_width path.now found.0) (Some found.1.items))) }
+    ensures width { IfOk result (λ o. IfSome o
+        (λ found. (found.0 ≡ path_width path.now) ⊎ (found.0 ≡ 256))) }
+    ensures none { IfOk result
+        (λ o. IfNone o (TellsRead (D.puts shelf.old) (of_width path.now 256) None)) }
+    ensures fault { IfErr result IsShelfFailure }
     ensures same { KeepsTold (D.puts shelf.old) (D.puts shelf.new) }
     ensures counted { CountsRead (D.failed shelf.old) (D.failed shelf.new) result }
 {
@@ -56,6 +64,10 @@ fn read_widest<D: ReadableShelf>(
 ) -> Result<Option<(u32, Vec<u8>)>, CopyFault>
     ensures read { IfOk result (λ o. IfSome o (λ found. IsFileRead (D.puts shelf.old)
         path.now widest found.0 found.1.items)) }
+    ensures none { IfOk result
+        (λ o. IfNone o (TellsRead (D.puts shelf.old) (of_width path.now widest) None
+        × TellsRead (D.puts shelf.old) (of_width path.now 256) None)) }
+    ensures fault { IfErr result IsShelfFailure }
     ensures same { KeepsTold (D.puts shelf.old) (D.puts shelf.new) }
     ensures counted { CountsRead (D.failed shelf.old) (D.failed shelf.new) result }
 {
@@ -71,7 +83,7 @@ fn read_widest<D: ReadableShelf>(
 /// # Errors
 ///
 /// `CopyDamaged` where neither its file nor a wider one stands, or the wider one has too few hashes or entries.
-pub(crate) fn read_file<D: ReadableShelf>(
+pub(crate) fn read_file<H: TreeHash, D: ReadableShelf>(
     alloc: Global,
     shelf: &mut D,
     size: u64,
@@ -82,6 +94,8 @@ pub(crate) fn read_file<D: ReadableShelf>(
     ensures none { IfOk result (λ o. IfNone o (¬ IsWithin size path.now)) }
     ensures same { KeepsTold (D.puts shelf.old) (D.puts shelf.new) }
     ensures counted { CountsRead (D.failed shelf.old) (D.failed shelf.new) result }
+    ensures honest { (entries : List (List ℕ)) → length entries ≡ size
+        → HasFilesOf H.digest entries (D.puts shelf.old) → IfErr result IsShelfFailure }
 {
     let Some(widest) = widest_if_within(size, path) else {
         return Ok(None);

@@ -3,7 +3,7 @@ use Rattle.std.specs.Prelude.{◌≡◌, ◌≢◌, ℕ, ◌<◌, ◌≤◌, Lis
 use Rattle.signed_note.specs.Keys.{Key}
 use Rattle.mirror_folders.specs.Shelf.{Put}
 use Rattle.mirror_trees.specs.Marked.{point_of}
-use Rattle.tlog_mirror.specs.Compared.{compared_point, compared_text}
+use Rattle.tlog_mirror.specs.Compared.{IsCompared, compared_point, compared_text}
 use Rattle.tlog_mirror.specs.declared.compare.Compared.{Compared}
 use Rattle.tlog_mirror.specs.declared.compare.Compared.TheVariants.{Same, Fork, Larger}
 use Rattle.mirror_model.specs.Origin.{IsOrigin}
@@ -17,6 +17,9 @@ use Rattle.program_reports.specs.declared.fault.ReportFault.TheVariants.{Nothing
 use Rattle.program_reports.specs.declared.fault.ReportFault.TheVariants.{Proof as Refused, OutOfMemory}
 use Rattle.copy_reader.specs.Copies.{HasCheckpoint, IsEmptyCopy, IsRefused}
 use Rattle.copy_reader.specs.Shown.{IsRootOf}
+use Rattle.copy_reader.specs.WholeCopies.{HasFilesOf, HoldsWhole}
+use Rattle.log_reader.specs.Holding.{IsReaderOf}
+use Rattle.log_reader.specs.Ways.{Reader}
 use Rattle.copy_reader.specs.declared.fault.CopyFault.{CopyFault}
 use Rattle.copy_reader.specs.declared.fault.CopyFault.TheVariants.{Origin, Head, CopyDamaged, ShelfFault}
 use Rattle.copy_reader.specs.declared.fault.CopyFault.TheVariants.{OutOfMemory as NoMemory}
@@ -41,13 +44,19 @@ abbrev pub heads_of : Option (List (ℕ × List ℕ)) → ℕ → List ℕ → L
 heads_of None size root = (size, root) ∷ []
 heads_of (Some heads) size root = heads
 
-module _ (digest : List ℕ → List ℕ) (size : ℕ) (root : List ℕ) (given : Option (List (ℕ × List ℕ))) where
-  -- the report on the heads that are given
+module _ (digest : List ℕ → List ℕ) (size : ℕ) (root : List ℕ) (given : Option (List (ℕ × List ℕ)))
+    (IsLog : List (List ℕ) → Type 0) where
+  -- the report on the heads that are given; with the entries of such a log they are compared as a mirror compares them
   pub record IsComparisonOf (report : Printout) : Type 0 where
     pub compared : List Compared
     pub are : AreCompared digest size root (heads_of given size root) compared
+    pub whole : (entries : List (List ℕ)) → IsLog entries → All (IsCompared digest entries) compared
     pub text : printed report ≡ compared_text compared
     pub status : report.status ≡ compare_status compared
+
+-- the reader reads the log of these entries, and the shelf has its files
+abbrev pub IsLogRead : (List ℕ → List ℕ) → Reader → Option (List Put) → List (List ℕ) → Type 0
+IsLogRead digest reader held entries = IsReaderOf digest entries reader × HasFilesOf digest entries held
 
 -- why no mirror of the origin is made, to which the files' checkpoints would belong
 abbrev pub IsNoMirror : List ℕ → CopyFault → Type 0
@@ -74,12 +83,12 @@ module _ (origin : List ℕ) (keys : List Key) (files : Option (List NamedFile))
       pub checkpoint : HasCheckpoint origin keys held size root
       pub given : Option (List (ℕ × List ℕ))
       pub gives : GivesHeads (Ok given)
-      pub is : IsComparisonOf digest size root given report
+      pub is : IsComparisonOf digest size root given (HoldsWhole digest origin held) report
 
     -- what each answer of the reporter says
     abbrev pub ReportsCompared : Result Printout CopyAskFault → Type 0
     ReportsCompared (Ok report) = TellsCompared report
-    ReportsCompared (Err (asking.Copy fault)) = IsRefused origin keys held fault
+    ReportsCompared (Err (asking.Copy fault)) = IsRefused digest origin keys held fault
     ReportsCompared (Err (asking.Heads fault)) = ReadsHeads origin keys files names (Err fault)
     ReportsCompared (Err (asking.Ask (Report NothingComplete))) = IsEmptyCopy origin keys held
     ReportsCompared (Err (asking.Ask (Report (Refused fault)))) = ⊥

@@ -1,5 +1,5 @@
 -- What `prove` reports of a copy.
-use Rattle.std.specs.Prelude.{◌≡◌, ℕ, ◌<◌, ◌≤◌, List, Option, Result, Ok, Err, ⊤}
+use Rattle.std.specs.Prelude.{◌≡◌, ◌⊎◌, ℕ, ◌<◌, ◌≤◌, List, Option, Result, Ok, Err, ⊤}
 use Rattle.signed_note.specs.Keys.{Key}
 use Rattle.tlog_proof.specs.declared.make.ProofFault.{ProofFault}
 use Rattle.tlog_proof.specs.declared.make.ProofFault.TheVariants as proving
@@ -69,7 +69,7 @@ module _ (digest : List ℕ → List ℕ) (origin : List ℕ) (keys : List Key) 
     -- what each answer of the reporter says
     abbrev pub ReportsProof : Result Printout CopyAskFault → Type 0
     ReportsProof (Ok report) = TellsProof report
-    ReportsProof (Err (asking.Copy fault)) = IsRefused origin keys held fault
+    ReportsProof (Err (asking.Copy fault)) = IsRefused digest origin keys held fault ⊎ IsReadFault fault
     ReportsProof (Err (asking.Heads fault)) = ⊥
     ReportsProof (Err (asking.Ask (Report NothingComplete))) = IsEmptyCopy origin keys held
     ReportsProof (Err (asking.Ask (Report (Refused fault)))) = RefusesAsk fault

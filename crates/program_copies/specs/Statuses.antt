@@ -37,9 +37,10 @@ module _ (origin : List ℕ) (keys : List Key) (held : Option (List Put)) where
     pub has : HasPoint point
     pub is : IsStatusOf origin point report
 
+module _ (digest : List ℕ → List ℕ) (origin : List ℕ) (keys : List Key) (held : Option (List Put)) where
   -- what each answer of the reporter says
   abbrev pub ReportsStatus : Result Printout CopyAskFault → Type 0
-  ReportsStatus (Ok report) = TellsStatus report
-  ReportsStatus (Err (Copy fault)) = IsRefused origin keys held fault
+  ReportsStatus (Ok report) = TellsStatus origin keys held report
+  ReportsStatus (Err (Copy fault)) = IsRefused digest origin keys held fault
   ReportsStatus (Err (Heads fault)) = ⊥
   ReportsStatus (Err (Ask fault)) = ⊥

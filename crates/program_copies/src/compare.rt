@@ -1,13 +1,14 @@
 //! Checkpoints compared with a copy.
-ghost use Rattle.std.specs.Prelude.{◌≡◌, ◌↔◌, IfErr, IfOk, IsTrue, map, option_map};
+ghost use Rattle.std.specs.Prelude.{◌≡◌, ◌↔◌, ⊤, All, IfErr, IfOk, IsTrue, map, option_map};
 ghost use Rattle.tlog_text.specs.Answers.{seen};
 ghost use Rattle.mirror_sources.specs.Told.{KeepsTold};
 ghost use Rattle.copy_reader.specs.Copies.{LeavesPuts};
 ghost use Rattle.copy_reader.specs.Faults.{CountsRead};
-ghost use Rattle.tlog_mirror.specs.Compared.{compared_point, compared_text};
+ghost use Rattle.copy_reader.specs.WholeCopies.{IsShelfFailure, ReadsCopyOf};
+ghost use Rattle.tlog_mirror.specs.Compared.{IsCompared, compared_point, compared_text};
 ghost use Rattle.program_reports.specs.Comparisons.{compare_status};
 ghost use Rattle.program_reports.specs.Reports.{printed};
-ghost use Rattle.program_copies.specs.Comparisons.{AreCompared, GivesHeads, IsComparedTo, IsComparisonOf, ReportsCompared, heads_of};
+ghost use Rattle.program_copies.specs.Comparisons.{AreCompared, GivesHeads, IsComparedTo, IsComparisonOf, IsLogRead, ReportsCompared, heads_of};
 ghost use Rattle.std.specs.Io.KnownBytes.{Keeps};
 ghost use Rattle.program_copies.specs.Printed.{CountsAsk, HasStatus, IsStatus, IsWriteFault, Prints};
 
@@ -48,6 +49,8 @@ fn compare_one<H: TreeHash, D: ReadableShelf>(
     ensures root { reader.new.root ≡ reader.old.root }
     ensures same { KeepsTold (D.puts shelf.old) (D.puts shelf.new) }
     ensures counted { CountsRead (D.failed shelf.old) (D.failed shelf.new) result }
+    ensures honest { ReadsCopyOf IsShelfFailure H.digest reader.old reader.new
+        (D.puts shelf.old) result (IsCompared H.digest) }
 {
     if size > reader.size() {
         return Ok(Compared::Larger { size, root: *root });
@@ -76,6 +79,9 @@ fn compare_all<H: TreeHash, D: ReadableShelf>(
         reader.old.root heads.now compared.items) }
     ensures same { KeepsTold (D.puts shelf.old) (D.puts shelf.new) }
     ensures counted { CountsRead (D.failed shelf.old) (D.failed shelf.new) result }
+    ensures honest { ReadsCopyOf IsShelfFailure H.digest reader.old reader.new
+        (D.puts shelf.old) result
+        (λ entries compared. All (IsCompared H.digest entries) compared.items) }
 {
     let mut compared = Vec::new(alloc);
     for head in heads {
@@ -121,9 +127,12 @@ fn compare_report<H: TreeHash, D: ReadableShelf>(
     given: Option<Vec<(u64, Hash)>>,
 ) -> Result<Report, CopyFault>
     ensures report { IfOk result (IsComparisonOf H.digest reader.old.edge.size reader.old.root
-        (option_map (λ v. v.items) given)) }
+        (option_map (λ v. v.items) given)
+        (IsLogRead H.digest reader.old (D.puts shelf.old))) }
     ensures same { KeepsTold (D.puts shelf.old) (D.puts shelf.new) }
     ensures counted { CountsRead (D.failed shelf.old) (D.failed shelf.new) result }
+    ensures honest { ReadsCopyOf IsShelfFailure H.digest reader.old reader.new
+        (D.puts shelf.old) result (λ _ _. ⊤) }
 {
     let heads = heads_or_own::<H>(alloc, reader, given)?;
     let compared = compare_all::<H, D>(alloc, shelf, reader, &heads)?;

@@ -1,8 +1,9 @@
 //! A copy in a folder, opened.
-ghost use Rattle.std.specs.Prelude.{OnOk, map};
+ghost use Rattle.std.specs.Prelude.{IfOk, OnOk, map};
 ghost use Rattle.mirror_sources.specs.Told.{KeepsTold};
 ghost use Rattle.copy_reader.specs.Copies.{LeavesPuts, OpensCopy};
 ghost use Rattle.copy_reader.specs.Faults.{CountsCopy};
+ghost use Rattle.copy_reader.specs.WholeCopies.{OpensWhole};
 
 use copy_reader::{CopyFault, open_shelf};
 use log_reader::LogReader;
@@ -33,13 +34,14 @@ pub fn open_copy<H: TreeHash, D: NamedFolders>(
     keys: &[Box<dyn Verifier>],
     folder: &str,
 ) -> Result<Option<LogReader<H>>, CopyFault>
-    ensures answer { OpensCopy origin.now (map (λ k. key k) keys.now)
+    ensures answer { OpensCopy H.digest origin.now (map (λ k. key k) keys.now)
         (D.held folders.old folder.now) result }
     ensures opened { OnOk result (KeepsTold (D.held folders.old folder.now)
         (D.puts folders.new)) }
     ensures kept { LeavesPuts (D.held folders.old folder.now) (D.puts folders.old)
         (D.puts folders.new) }
     ensures counted { CountsCopy (D.failed folders.old) (D.failed folders.new) result }
+    ensures honest { IfOk result (OpensWhole H.digest origin.now (D.held folders.old folder.now)) }
 {
     match check_origin(alloc, origin) {
         Ok(()) => {}

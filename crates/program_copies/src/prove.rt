@@ -90,7 +90,7 @@ fn ask_reader<H: TreeHash, D: ReadableShelf>(
 }
 
 // The report on the copy in the folder.
-#[tactic(auto, using(log_reader::proofs::Kept::kept_twice, crate::proofs::Reading::read_refused))]
+#[tactic(auto, using(log_reader::proofs::Kept::kept_twice))]
 fn told_proof<H: TreeHash, D: NamedFolders>(
     folders: &mut D,
     alloc: Global,

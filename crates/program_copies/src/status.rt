@@ -53,7 +53,7 @@ fn told_status<H: TreeHash, D: NamedFolders>(
     keys: &[Box<dyn Verifier>],
     folder: &str,
 ) -> Result<Report, CopyAskFault>
-    ensures answer { ReportsStatus origin.now (map (λ k. key k) keys.now)
+    ensures answer { ReportsStatus H.digest origin.now (map (λ k. key k) keys.now)
         (D.held folders.old folder.now) result }
     ensures status { IfOk result HasStatus }
     ensures kept { LeavesPuts (D.held folders.old folder.now) (D.puts folders.old)
@@ -94,7 +94,7 @@ pub fn status_copy<H: TreeHash, D: NamedFolders, W: Write>(
     folder: &str,
     output: &mut W,
 ) -> Result<u8, CopyAskFault>
-    ensures answer { Prints (ReportsStatus origin.now (map (λ k. key k) keys.now)
+    ensures answer { Prints (ReportsStatus H.digest origin.now (map (λ k. key k) keys.now)
         (D.held folders.old folder.now)) (W.contents output.old) (W.contents output.new) result }
     ensures status { IfOk result IsStatus }
     ensures quiet { IfErr result

@@ -316,7 +316,7 @@ module _ (digest : List ℕ → List ℕ) (keys : List Key) (key_bytes : List �
   DoesAskCopy c Reports (Err other) = ⊥
 
   abbrev pub DoesCopyStatus : CopyArgs → Result ℕ RunFault → Type 0
-  DoesCopyStatus c = DoesAskCopy c (ReportsStatus c.log.origin.now keys (old.held c.folder.now))
+  DoesCopyStatus c = DoesAskCopy c (ReportsStatus digest c.log.origin.now keys (old.held c.folder.now))
 
   abbrev pub DoesCopyCompare : CopyCompareWords → Result ℕ RunFault → Type 0
   DoesCopyCompare c =

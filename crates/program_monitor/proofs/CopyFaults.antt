@@ -3,25 +3,26 @@ use Rattle.std.proofs.Common.{◌≡◌, ℕ, List, Option, Result, Err}
 use Rattle.signed_note.specs.Keys.{Key}
 use Rattle.mirror_folders.specs.Shelf.{Put}
 use Rattle.copy_reader.specs.Copies.{IsRefused}
+use Rattle.copy_reader.specs.WholeCopies.{IsOfShelf, IsShelfFailure}
 use Rattle.copy_reader.specs.Faults.{CountsFault as CountsRefused, CountsRead}
 use Rattle.copy_reader.specs.declared.fault.CopyFault.{CopyFault}
 use Rattle.copy_reader.specs.declared.fault.CopyFault.TheVariants.{Origin, Head, CopyDamaged, ShelfFault, OutOfMemory}
-use Rattle.program_monitor.specs.Copied.{by_copy, CountsFault, IsOfFiles, RefusesCopy}
+use Rattle.program_monitor.specs.Copied.{by_copy, CountsFault, IsOfFiles, IsUndamaged, RefusesCopy}
 use Rattle.program_monitor.specs.declared.fault.CopyEntriesFault.{CopyEntriesFault}
 
-refuses : (origin : List ℕ) (keys : List Key) (held : Option (List Put)) (fault : CopyFault) →
-    IsRefused origin keys held fault → RefusesCopy origin keys held (by_copy fault)
-refuses origin keys held (Origin f) h = tt
-refuses origin keys held (Head f) h = h
-refuses origin keys held (CopyDamaged path) h = tt
-refuses origin keys held ShelfFault h = tt
-refuses origin keys held OutOfMemory h = tt
+module _ (digest : List ℕ → List ℕ) (origin : List ℕ) (keys : List Key) (held : Option (List Put)) where
+  refuses : (fault : CopyFault) → IsOfShelf fault → IsRefused digest origin keys held fault →
+      RefusesCopy digest origin keys held (by_copy fault)
+  refuses (Origin f) is h = absurd is
+  refuses (Head f) is h = h
+  refuses (CopyDamaged path) is h = h
+  refuses ShelfFault is h = tt
+  refuses OutOfMemory is h = tt
 
--- why it is not opened
-pub refuses_copy : (origin : List ℕ) (keys : List Key) (held : Option (List Put)) (fault : CopyFault)
-    (answer : CopyEntriesFault) → answer ≡ by_copy fault → IsRefused origin keys held fault →
-    RefusesCopy origin keys held answer
-refuses_copy origin keys held fault answer e h = rw e (refuses origin keys held fault h)
+  -- why it is not opened
+  pub refuses_copy : (fault : CopyFault) (answer : CopyEntriesFault) → answer ≡ by_copy fault → IsOfShelf fault →
+      IsRefused digest origin keys held fault → RefusesCopy digest origin keys held answer
+  refuses_copy fault answer e is h = rw e (refuses fault is h)
 
 counts : (old new : ℕ) (fault : CopyFault) → CountsRefused old new fault → CountsFault old new (by_copy fault)
 counts old new (Origin f) h = h
@@ -58,3 +59,15 @@ read_files T old new OutOfMemory h = tt
 pub of_files : (T : Type 0) (old new : ℕ) (fault : CopyFault) (answer : CopyEntriesFault) → answer ≡ by_copy fault →
     CountsRead {T = T} old new (Err fault) → IsOfFiles answer
 of_files T old new fault answer e h = rw e (read_files T old new fault h)
+
+undamaged : (fault : CopyFault) → IsShelfFailure fault → IsUndamaged (by_copy fault)
+undamaged (Origin f) h = absurd h
+undamaged (Head f) h = absurd h
+undamaged (CopyDamaged path) h = absurd h
+undamaged ShelfFault h = tt
+undamaged OutOfMemory h = tt
+
+-- where the shelf failed, or memory was refused, no file is called missing or false
+pub undamaged_answer : (fault : CopyFault) (answer : CopyEntriesFault) → answer ≡ by_copy fault → IsShelfFailure fault →
+    IsUndamaged answer
+undamaged_answer fault answer e h = rw e (undamaged fault h)

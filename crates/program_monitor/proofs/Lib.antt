@@ -3,4 +3,5 @@ pub mod Cuts
 pub mod ShownBundles
 pub mod CopyFaults
 pub mod CopySteps
+pub mod WholeSteps
 pub mod ServedSteps

@@ -8,8 +8,10 @@ use Rattle.mirror_folders.specs.Shelf.{Put, TellsRead}
 use Rattle.log_reader.specs.EdgeRows.{Edge, hash_of_edge}
 use Rattle.log_reader.specs.Ways.{HasEdgeHashes}
 use Rattle.copy_reader.specs.Copies.{HasCheckpoint, RefusesCheckpoint}
+use Rattle.copy_reader.specs.WholeCopies.{IsDamaged, IsWholeCopy}
 use Rattle.copy_reader.specs.declared.fault.CopyFault.{CopyFault}
 use Rattle.copy_reader.specs.declared.fault.CopyFault.TheVariants as copy
+use Rattle.program_monitor.specs.Served.{WritesAll, WritesFirst}
 use Rattle.program_monitor.specs.Shown.{WritesShown, WritesSomeShown}
 use Rattle.program_monitor.specs.declared.fault.CopyEntriesFault.{CopyEntriesFault}
 use Rattle.program_monitor.specs.declared.fault.CopyEntriesFault.TheVariants.{NothingComplete, Head, CopyDamaged, ShelfFault}
@@ -61,18 +63,36 @@ IsOfWriting Backwards = ⊥
 IsOfWriting WriteFault = ⊤
 IsOfWriting OutOfMemory = ⊤
 
--- why a copy is not opened, of what the folder holds
-abbrev pub RefusesCopy : List ℕ → List Key → Option (List Put) → CopyEntriesFault → Type 0
-RefusesCopy origin keys held NothingComplete = TellsRead held Checkpoint None
-RefusesCopy origin keys held (Head fault) = RefusesCheckpoint origin keys held fault
-RefusesCopy origin keys held (CopyDamaged path) = ⊤
-RefusesCopy origin keys held ShelfFault = ⊤
-RefusesCopy origin keys held NoSuchSize = ⊥
-RefusesCopy origin keys held Backwards = ⊥
-RefusesCopy origin keys held WriteFault = ⊥
-RefusesCopy origin keys held OutOfMemory = ⊤
+-- the fault says of no file that it is missing or false
+abbrev pub IsUndamaged : CopyEntriesFault → Type 0
+IsUndamaged NothingComplete = ⊤
+IsUndamaged (Head fault) = ⊤
+IsUndamaged (CopyDamaged path) = ⊥
+IsUndamaged ShelfFault = ⊤
+IsUndamaged NoSuchSize = ⊤
+IsUndamaged Backwards = ⊤
+IsUndamaged WriteFault = ⊤
+IsUndamaged OutOfMemory = ⊤
+
+-- entries of a list were written, or the first of them, and then no file was called missing or false
+abbrev pub EndsWritten : {T : Type 0} → List (List ℕ) → Bool → ℕ → ℕ → (old new : Option (List ℕ)) →
+    Result T CopyEntriesFault → Type 0
+EndsWritten entries base64 from to old new (Ok x) = WritesAll entries base64 from to old new
+EndsWritten entries base64 from to old new (Err fault) =
+    IsUndamaged fault × WritesFirst entries base64 from to old new
 
 module _ (digest : List ℕ → List ℕ) (origin : List ℕ) (keys : List Key) (held : Option (List Put)) where
+  -- why a copy is not opened, of what the folder holds
+  abbrev pub RefusesCopy : CopyEntriesFault → Type 0
+  RefusesCopy NothingComplete = TellsRead held Checkpoint None
+  RefusesCopy (Head fault) = RefusesCheckpoint origin keys held fault
+  RefusesCopy (CopyDamaged path) = IsDamaged digest origin held
+  RefusesCopy ShelfFault = ⊤
+  RefusesCopy NoSuchSize = ⊥
+  RefusesCopy Backwards = ⊥
+  RefusesCopy WriteFault = ⊥
+  RefusesCopy OutOfMemory = ⊤
+
   -- the note that stands as the checkpoint opens under the keys, and the edge leads to its root
   pub record IsOpenCopy (edge : Edge) : Type 0 where
     pub root : List ℕ
@@ -81,13 +101,15 @@ module _ (digest : List ℕ → List ℕ) (origin : List ℕ) (keys : List Key) 
     pub leads : hash_of_edge digest edge ≡ root
 
   module _ (from to : ℕ) (base64 : Bool) (old new : Option (List ℕ)) where
-    -- the copy's entries from FROM up to TO were written
+    -- the copy's entries from FROM up to TO were written; those of a whole copy are its log's
     pub record WritesCopied : Type 0 where
       pub edge : Edge
       pub opened : IsOpenCopy edge
       pub rises : from ≤ to
       pub within : to ≤ edge.size
       pub written : WritesShown digest edge base64 from to old new
+      pub whole : (note : List ℕ) (entries : List (List ℕ)) → IsWholeCopy digest origin note entries held →
+          WritesAll entries base64 from to old new
 
     -- the copy has so many entries, and the writing of them ended early
     pub record WritesSomeCopied : Type 0 where
@@ -96,6 +118,8 @@ module _ (digest : List ℕ → List ℕ) (origin : List ℕ) (keys : List Key) 
       pub rises : from ≤ to
       pub within : to ≤ edge.size
       pub written : WritesSomeShown digest edge base64 from to old new
+      pub whole : (note : List ℕ) (entries : List (List ℕ)) → IsWholeCopy digest origin note entries held →
+          WritesFirst entries base64 from to old new
 
     -- the copy has fewer than TO entries
     pub record HasFewerCopied : Type 0 where
@@ -113,9 +137,9 @@ module _ (digest : List ℕ → List ℕ) (origin : List ℕ) (keys : List Key) 
     -- what each answer of the command says of what the folder held, and of what was written
     abbrev pub AnswersCopied : {T : Type 0} → Result T CopyEntriesFault → Type 0
     AnswersCopied (Ok x) = WritesCopied
-    AnswersCopied (Err NothingComplete) = RefusesCopy origin keys held NothingComplete × Keeps old new
-    AnswersCopied (Err (Head fault)) = RefusesCopy origin keys held (Head fault) × Keeps old new
-    AnswersCopied (Err (CopyDamaged path)) = Keeps old new ⊎ WritesSomeCopied
+    AnswersCopied (Err NothingComplete) = RefusesCopy NothingComplete × Keeps old new
+    AnswersCopied (Err (Head fault)) = RefusesCopy (Head fault) × Keeps old new
+    AnswersCopied (Err (CopyDamaged path)) = (Keeps old new ⊎ WritesSomeCopied) × IsDamaged digest origin held
     AnswersCopied (Err ShelfFault) = Keeps old new ⊎ WritesSomeCopied
     AnswersCopied (Err NoSuchSize) = HasFewerCopied × Keeps old new
     AnswersCopied (Err Backwards) = HasBackwardsCopied × Keeps old new

@@ -1,9 +1,11 @@
 //! The command `entries` over a copy: entries of the log in a folder, each verified before it is written.
-ghost use Rattle.std.specs.Prelude.{◌≡◌, ◌<◌, ◌≤◌, IfErr, OnErr, OnOk, map};
+ghost use Rattle.std.specs.Prelude.{◌≡◌, ◌<◌, ◌≤◌, ℕ, List, IfErr, OnErr, OnOk, map};
 ghost use Rattle.mirror_sources.specs.Told.{KeepsTold};
 ghost use Rattle.log_reader.specs.Ways.{HasEdgeHashes};
 ghost use Rattle.copy_reader.specs.Copies.{LeavesPuts};
-ghost use Rattle.program_monitor.specs.Copied.{AnswersCopied, CountsCopy, IsOfWriting};
+ghost use Rattle.copy_reader.specs.WholeCopies.{HasFilesOf};
+ghost use Rattle.log_reader.specs.Holding.{IsReaderOf};
+ghost use Rattle.program_monitor.specs.Copied.{AnswersCopied, CountsCopy, EndsWritten, IsOfWriting};
 ghost use Rattle.program_monitor.specs.Shown.{WritesShown, WritesSomeShown};
 
 use crate::cutting::CutFault;
@@ -34,6 +36,9 @@ fn write_copied<H: TreeHash, D: ReadableShelf, W: Write>(
     ensures err { OnErr result (WritesSomeShown H.digest reader.old.edge range.now.base64
         range.now.from range.now.to (W.contents output.old) (W.contents output.new)) }
     ensures fault { IfErr result IsOfWriting }
+    ensures honest { (entries : List (List ℕ)) → IsReaderOf H.digest entries reader.old
+        → HasFilesOf H.digest entries (D.puts shelf.old) → EndsWritten entries range.now.base64
+        range.now.from range.now.to (W.contents output.old) (W.contents output.new) result }
     ensures same { KeepsTold (D.puts shelf.old) (D.puts shelf.new) }
     ensures counted { CountsCopy (D.failed shelf.old) (D.failed shelf.new) result }
 {

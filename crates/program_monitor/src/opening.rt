@@ -1,8 +1,11 @@
 //! A copy, opened, and its bundles.
-ghost use Rattle.std.specs.Prelude.{◌≡◌, ◌*◌, ◌<◌, IfErr, IfOk, map};
+ghost use Rattle.std.specs.Prelude.{◌≡◌, ◌*◌, ◌<◌, IfErr, IfOk, Some, length, map};
+ghost use Rattle.tlog_tiles.specs.Tiles.{bundle_bytes};
 ghost use Rattle.mirror_sources.specs.Told.{KeepsTold};
 ghost use Rattle.log_reader.specs.Ways.{IsShownBundle};
-ghost use Rattle.program_monitor.specs.Copied.{CountsCopy, IsOfFiles, IsOpenCopy, RefusesCopy};
+ghost use Rattle.copy_reader.specs.WholeCopies.{OpensWhole, ReadsCopyOf};
+ghost use Rattle.program_monitor.specs.Copied.{CountsCopy, IsOfFiles, IsOpenCopy, IsUndamaged, RefusesCopy};
+ghost use Rattle.program_monitor.specs.Texts.{bundle_width};
 
 use crate::fault::{CopyEntriesFault, fault_of};
 use copy_reader::{open_shelf, read_bundle};
@@ -22,8 +25,10 @@ pub(crate) fn open_copy<H: TreeHash, D: ReadableShelf>(
 ) -> Result<LogReader<H>, CopyEntriesFault>
     ensures open { IfOk result (λ reader. IsOpenCopy H.digest origin.now (map (λ k. key k) keys.now)
         (D.puts shelf.old) reader.edge) }
-    ensures refused { IfErr result (RefusesCopy origin.now (map (λ k. key k) keys.now)
+    ensures refused { IfErr result (RefusesCopy H.digest origin.now (map (λ k. key k) keys.now)
         (D.puts shelf.old)) }
+    ensures whole { IfOk result
+        (λ reader. OpensWhole H.digest origin.now (D.puts shelf.old) (Some reader)) }
     ensures same { KeepsTold (D.puts shelf.old) (D.puts shelf.new) }
     ensures counted { CountsCopy (D.failed shelf.old) (D.failed shelf.new) result }
 {
@@ -52,6 +57,9 @@ pub(crate) fn bundle_on<H: TreeHash, D: ReadableShelf>(
     ensures same { KeepsTold (D.puts shelf.old) (D.puts shelf.new) }
     ensures counted { CountsCopy (D.failed shelf.old) (D.failed shelf.new) result }
     ensures fault { IfErr result IsOfFiles }
+    ensures honest { ReadsCopyOf IsUndamaged H.digest reader.old reader.new (D.puts shelf.old)
+        result (λ entries bytes. bytes.items
+        ≡ bundle_bytes entries index (bundle_width (length entries) index)) }
 {
     match read_bundle::<H, D>(alloc, shelf, reader, index) {
         Ok(bytes) => Ok(bytes),

@@ -1,7 +1,8 @@
 use Rattle.std.proofs.Common.{map}
-use Rattle.std.specs.Prelude.{option_map}
+use Rattle.std.specs.Prelude.{option_map, ⊤}
+use Rattle.program_reports.specs.declared.reports.Report.{Report as Printout}
 use Rattle.program_copies.proofs.Given.{given_fault, given_counts}
-use Rattle.program_copies.proofs.Reading.{opened_checkpoint}
+use Rattle.program_copies.proofs.Reading.{compared_whole, opened_checkpoint, read_refused}
 use Rattle.program_copies.proofs.compare.told_compared.Goals as goal
 
 pub returns-in-Err-given_heads-clause-answer : goal.returns-in-Err-given_heads-clause-answer
@@ -17,8 +18,17 @@ pub returns-in-Ok-compare_report-clause-answer : goal.returns-in-Ok-compare_repo
 returns-in-Ok-compare_report-clause-answer g c = record {
   size = c.in-Some.reader.edge.size;
   root = c.in-Some.reader.root;
-  checkpoint = opened_checkpoint _ _ _ c.in-Ok.opened c.in-Some.reader c.in-Ok.ensures.answer c.in-Some.is;
+  checkpoint = opened_checkpoint g.H.TreeHash.digest _ _ _ c.in-Ok.opened c.in-Some.reader c.in-Ok.ensures.answer c.in-Some.is;
   given = option_map (λ v. v.items) c.in-Ok-given_heads.given;
   gives = c.in-Ok-given_heads.ensures;
-  is = c.in-Ok-compare_report.ensures.report;
+  is = compared_whole g.H.TreeHash.digest c.args.origin.now (g.D.NamedFolders.held c.args.folders.now c.args.folder.now)
+      (g.D.Shelf.puts c.open_copy.new.folders) c.in-Some.reader _ _ _ c.in-Ok-compare_report.report
+      c.in-Ok.ensures.opened (rw c.in-Some.is at c.in-Ok.ensures.honest) c.in-Ok-compare_report.ensures.report;
 }
+
+pub returns-clause-answer : goal.returns-clause-answer
+returns-clause-answer g c =
+    read_refused {T = Printout} g.H.TreeHash.digest c.args.origin.now _
+    (g.D.NamedFolders.held c.args.folders.now c.args.folder.now) (g.D.Shelf.puts c.open_copy.new.folders) c.in-Some.reader _
+    (λ entries report. ⊤) _ _ c.in-Err-compare_report.fault c.in-Ok.ensures.opened (rw c.in-Some.is at c.in-Ok.ensures.honest)
+    c.in-Err-compare_report.ensures.counted c.in-Err-compare_report.ensures.honest

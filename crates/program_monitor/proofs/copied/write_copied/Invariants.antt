@@ -1,5 +1,8 @@
-use Rattle.std.proofs.Common.{◌≡◌, ◌-◌, ◌≤◌}
+use Rattle.std.proofs.Common.{◌≡◌, ◌-◌, ◌≤◌, List, ℕ}
 use Rattle.mirror_sources.specs.Told.{KeepsTold}
+use Rattle.log_reader.specs.Holding.{IsReaderOf}
+use Rattle.copy_reader.specs.WholeCopies.{HasFilesOf}
+use Rattle.program_monitor.specs.Served.{WritesAll}
 use Rattle.program_monitor.specs.Shown.{WritesShown}
 use Rattle.program_monitor.proofs.copied.write_copied.Given as goal
 
@@ -13,6 +16,10 @@ invariant-loop-at g l = record {
   edge : l.reader.edge ≡ l.fn.reader.edge;
   written : WritesShown g.H.TreeHash.digest l.fn.reader.edge l.range.base64 l.range.from l.at
       (g.W.Write.contents l.fn.output) (g.W.Write.contents l.output);
+  honest : (entries : List (List ℕ)) → IsReaderOf g.H.TreeHash.digest entries l.fn.reader →
+      HasFilesOf g.H.TreeHash.digest entries (g.D.Shelf.puts l.fn.shelf) →
+      IsReaderOf g.H.TreeHash.digest entries l.reader
+      × WritesAll entries l.range.base64 l.range.from l.at (g.W.Write.contents l.fn.output) (g.W.Write.contents l.output);
 }
 
 abbrev pub decreases-loop-at : goal.decreases-loop-at
