@@ -31,3 +31,6 @@ returns-in-Err-clause-runs g c = λ words is. inl record {
 
 pub returns-in-Err-clause-ends : goal.returns-in-Err-clause-ends
 returns-in-Err-clause-ends g c = nothing_done _ _
+
+pub returns-in-Ok-clause-same : goal.returns-in-Ok-clause-same
+returns-in-Ok-clause-same g c = c.run_command.ensures.same

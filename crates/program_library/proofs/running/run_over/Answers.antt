@@ -24,3 +24,6 @@ returns-in-Err-clause-answer g c =
 
 pub returns-in-Err-clause-quiet : goal.returns-in-Err-clause-quiet
 returns-in-Err-clause-quiet g c = λ other. keeps_itself _
+
+pub returns-in-Ok-clause-same : goal.returns-in-Ok-clause-same
+returns-in-Ok-clause-same g c = c.run_line-answer.ensures.same
