@@ -1,5 +1,5 @@
 -- A source that holds a whole log under a checkpoint that opens (C2SP tlog-tiles). Contracts of private functions alone cite
--- `IsTrueRow` and `IsTruePart`.
+-- `IsTrueRow`.
 use Rattle.std.specs.Prelude.{◌≡◌, ℕ, ◌+◌, ◌*◌, ◌^◌, ◌≤◌, List, length, Option, Some}
 use Rattle.signed_note.specs.Keys.{Key}
 use Rattle.tlog_hash.specs.Rows.{level_row}

@@ -64,7 +64,8 @@ pub(crate) fn audit_bundle<H: TreeHash, S: Source>(
     ensures absent { IfErr result (IsForAbsence (S.may_answer source.old)) }
     ensures covers { OnOk result (CoversTile H.digest 0 index hash.now (S.may_answer source.old)
         (S.may_answer source.new) (S.asked source.old) (S.asked source.new)) }
-    ensures honest { (entries : List (List ℕ)) → IsSourceOf H.digest entries (S.may_answer source.old)
+    ensures honest { (entries : List (List ℕ))
+        → IsSourceOf H.digest entries (S.may_answer source.old)
         → IsTileHash H.digest entries 0 index hash.now → IfErr result IsFailure }
 {
     let path = Path::Entries { index, width: 256 };

@@ -25,7 +25,8 @@ pub(crate) fn audit_levels<H: TreeHash, S: Source>(
     ensures absent { IfErr result (IsForAbsence (S.may_answer source.old)) }
     ensures covers { OnOk result (CoversLevels H.digest edge.now 1 (S.may_answer source.old)
         (S.may_answer source.new) (S.asked source.old) (S.asked source.new)) }
-    ensures honest { (entries : List (List ℕ)) → IsSourceOf H.digest entries (S.may_answer source.old)
+    ensures honest { (entries : List (List ℕ))
+        → IsSourceOf H.digest entries (S.may_answer source.old)
         → edge.now.size ≡ length entries
         → ((level : ℕ) → level ≤ 7 → RowIsTrue H.digest edge.now entries level)
         → IfErr result IsFailure }

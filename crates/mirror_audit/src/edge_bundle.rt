@@ -43,7 +43,8 @@ pub(crate) fn audit_edge_bundle<H: TreeHash, S: Source>(
     ensures absent { IfErr result (IsForAbsence (S.may_answer source.old)) }
     ensures covers { OnOk result (CoversEdgeBundle H.digest edge.now (S.may_answer source.old)
         (S.may_answer source.new) (S.asked source.old) (S.asked source.new)) }
-    ensures honest { (entries : List (List ℕ)) → IsSourceOf H.digest entries (S.may_answer source.old)
+    ensures honest { (entries : List (List ℕ))
+        → IsSourceOf H.digest entries (S.may_answer source.old)
         → edge.now.size ≡ length entries → RowIsTrue H.digest edge.now entries 0
         → IfErr result IsFailure }
 {

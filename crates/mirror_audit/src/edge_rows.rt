@@ -94,7 +94,8 @@ pub(crate) fn read_edge<H: TreeHash, S: Source>(
     ensures given { IfOk result (λ edge. AreRowsGiven size (row_at edge) 8
         (S.may_answer source.old) (S.may_answer source.new) (S.asked source.old)
         (S.asked source.new)) }
-    ensures honest { (entries : List (List ℕ)) → IsSourceOf H.digest entries (S.may_answer source.old)
+    ensures honest { (entries : List (List ℕ))
+        → IsSourceOf H.digest entries (S.may_answer source.old)
         → length entries ≡ size → mth H.digest entries ≡ root.now → GivesTrue result
         (λ edge. (level : ℕ) → level ≤ 7 → RowIsTrue H.digest edge entries level) }
 {

@@ -69,7 +69,8 @@ fn audit_edge<H: TreeHash, S: Source>(
     ensures absent { IfErr result (IsForAbsence (S.may_answer source.old)) }
     ensures covers { OnOk result (CoversLog H.digest edge.now (S.may_answer source.old)
         (S.may_answer source.new) (S.asked source.old) (S.asked source.new)) }
-    ensures honest { (entries : List (List ℕ)) → IsSourceOf H.digest entries (S.may_answer source.old)
+    ensures honest { (entries : List (List ℕ))
+        → IsSourceOf H.digest entries (S.may_answer source.old)
         → edge.now.size ≡ length entries
         → ((level : ℕ) → level ≤ 7 → RowIsTrue H.digest edge.now entries level)
         → IfErr result IsFailure }
@@ -90,7 +91,8 @@ fn audit_tree<H: TreeHash, S: Source>(
     ensures given { OnOk result (IsTreeGiven H.digest size root.now
         (S.may_answer source.old) (S.may_answer source.new) (S.asked source.old)
         (S.asked source.new)) }
-    ensures honest { (entries : List (List ℕ)) → IsSourceOf H.digest entries (S.may_answer source.old)
+    ensures honest { (entries : List (List ℕ))
+        → IsSourceOf H.digest entries (S.may_answer source.old)
         → length entries ≡ size → mth H.digest entries ≡ root.now → IfErr result IsFailure }
 {
     let edge = read_edge::<H, S>(alloc, source, size, root)?;

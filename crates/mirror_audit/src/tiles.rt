@@ -58,7 +58,8 @@ fn audit_tile<H: TreeHash, S: Source>(
     ensures absent { IfErr result (IsForAbsence (S.may_answer source.old)) }
     ensures covers { OnOk result (CoversTile H.digest level index hash.now (S.may_answer source.old)
         (S.may_answer source.new) (S.asked source.old) (S.asked source.new)) }
-    ensures honest { (entries : List (List ℕ)) → IsSourceOf H.digest entries (S.may_answer source.old)
+    ensures honest { (entries : List (List ℕ))
+        → IsSourceOf H.digest entries (S.may_answer source.old)
         → IsTileHash H.digest entries level index hash.now → IfErr result IsFailure }
 {
     if level == 0 {
@@ -90,7 +91,8 @@ pub(crate) fn audit_row<H: TreeHash, S: Source>(
     ensures covers { OnOk result (CoversRow H.digest level index row.now (length row.now)
         (S.may_answer source.old)
         (S.may_answer source.new) (S.asked source.old) (S.asked source.new)) }
-    ensures honest { (entries : List (List ℕ)) → IsSourceOf H.digest entries (S.may_answer source.old)
+    ensures honest { (entries : List (List ℕ))
+        → IsSourceOf H.digest entries (S.may_answer source.old)
         → IsTrueRow H.digest entries level index row.now → IfErr result IsFailure }
 {
     let width = row.len() as u64;
